@@ -1,0 +1,19 @@
+//! The tables of a node as plain lists, and how a fact changes them. It knows no rule and sends
+//! nothing.
+#![tactic(auto)]
+
+mod client;
+mod counting;
+mod noting;
+mod parts;
+mod queues;
+mod reading;
+mod server;
+
+pub use client::{is_a_response, make_client, place_of_active, place_of_client};
+pub use counting::one_more;
+pub use noting::note;
+pub use parts::{packets, part_bytes, part_of};
+pub use queues::{count_replies, is_same_owner};
+pub use reading::{body, read_message};
+pub use server::{place_of_request, place_of_server, place_of_slot};

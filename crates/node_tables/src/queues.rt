@@ -1,0 +1,114 @@
+//! The receive ring and the queue of posted packets, as events change them.
+ghost use Rattle.std.specs.Prelude.{◌≡◌, OnOk};
+ghost use Rattle.std.specs.List.{position};
+ghost use Rattle.rpc_laws.specs.Queues.{ring_after, queued_after, same_owner, is_queued, is_reply, replies};
+
+use rpc_base::{Event, Listed, NoMemory, Octets, Owner, Peer};
+use rpc_laws::{Arrival, Queued};
+use std::alloc::Global;
+
+fn push_arrival(
+    alloc: Global,
+    ring: &mut Listed<Arrival>,
+    peer: Peer,
+    bytes: &[u8],
+) -> Result<(), NoMemory>
+    ensures { OnOk result (ring.new ≡ ring_after (Event.Arrived peer) bytes.now ring.old) }
+{
+    let bytes = Octets::copy(alloc, bytes)?;
+    ring.push(Arrival { peer, bytes })
+}
+
+/// The ring after an event of its node.
+pub fn change_ring(
+    alloc: Global,
+    ring: &mut Listed<Arrival>,
+    event: &Event,
+    bytes: &[u8],
+) -> Result<(), NoMemory>
+    ensures { OnOk result (ring.new ≡ ring_after event.now bytes.now ring.old) }
+{
+    match event {
+        Event::Arrived { peer } => push_arrival(alloc, ring, *peer, bytes)?,
+        Event::Took { .. } => ring.drop_front(),
+        Event::Again { .. } => ring.drop_front(),
+        Event::Dropped { .. } => ring.drop_front(),
+        _ => {}
+    }
+    Ok(())
+}
+
+/// Whether two owners are one.
+pub fn is_same_owner(left: Owner, right: Owner) -> bool
+    ensures { result ≡ same_owner left right }
+{
+    match left {
+        Owner::Ask { session, request } => match right {
+            Owner::Ask {
+                session: other,
+                request: number,
+            } => { session.0 == other.0 && request.get() == number.get() }
+            _ => false,
+        },
+        Owner::Reply { session, request } => match right {
+            Owner::Reply {
+                session: other,
+                request: number,
+            } => { session.0 == other.0 && request.get() == number.get() }
+            _ => false,
+        },
+        Owner::Control => false,
+    }
+}
+
+// Where the owner's packet of this number stands in the queue.
+fn place_of(queued: &Listed<Queued>, owner: Owner, number: u16) -> Option<usize>
+    ensures { result ≡ position (is_queued owner number) queued.now }
+{
+    queued.as_slice().iter().position(|entry| is_same_owner(entry.owner, owner)
+        && entry.number == number)
+}
+
+fn take_out(queued: &mut Listed<Queued>, owner: Owner, number: u16)
+    ensures { queued.new ≡ queued_after (Event.Flushed owner number) queued.old }
+{
+    if let Some(place) = place_of(queued, owner, number) {
+        queued.remove_at(place);
+    }
+}
+
+/// The queue after an event of its node.
+pub fn change_queued(queued: &mut Listed<Queued>, event: &Event) -> Result<(), NoMemory>
+    ensures { OnOk result (queued.new ≡ queued_after event.now queued.old) }
+{
+    match event {
+        Event::Posted { owner, number } => queued.push(Queued {
+            owner: *owner,
+            number: *number,
+        })?,
+        Event::Sent { owner, number, .. } => take_out(queued, *owner, *number),
+        Event::Flushed { owner, number } => take_out(queued, *owner, *number),
+        _ => {}
+    }
+    Ok(())
+}
+
+fn is_a_reply(owner: Owner) -> bool
+    ensures { result ≡ is_reply owner }
+{
+    match owner {
+        Owner::Reply { .. } => true,
+        _ => false,
+    }
+}
+
+/// How many replies are queued.
+pub fn count_replies(queued: &Listed<Queued>) -> usize
+    ensures { result ≡ replies queued.now }
+{
+    queued
+        .as_slice()
+        .iter()
+        .filter(|entry| is_a_reply(entry.owner))
+        .count()
+}

@@ -1,0 +1,12 @@
+pub mod Bodies
+pub mod Bytes
+pub mod Faults
+pub mod Heads
+pub mod KindBytes
+pub mod Lengths
+pub mod NewHeads
+pub mod PartsLemmas
+pub mod RangeTests
+pub mod ReadBack
+pub mod Readings
+pub mod Rows

@@ -1,0 +1,6 @@
+pub mod Header
+pub mod Laws
+pub mod Parts
+pub mod Ranges
+pub mod Reading
+pub mod Refusals

@@ -1,0 +1,25 @@
+//! The 16 bytes that head every datagram: the packets, their ranges and lengths, reading and
+//! writing. It knows nothing of sessions, calls or queues.
+#![tactic(auto)]
+
+mod decoding;
+mod encoding;
+mod laws;
+mod layout;
+mod packet;
+mod parts;
+mod range_test;
+mod ranges;
+
+pub use decoding::decode;
+pub use encoding::encode;
+pub use laws::{every_packet_has_one_head, no_bytes_spell_two_packets};
+pub use layout::{HEAD_BYTES, MAGIC};
+pub use packet::{
+    ACCEPTED, BadPacket, ControlHeader, ControlKind, GONE, Kind, MessageHeader, NO_ROOM, Packet,
+};
+pub use parts::{MOST_MESSAGE_BYTES, PART_BYTES, count, part_len};
+pub use range_test::is_in_range;
+
+#[cfg(test)]
+mod tests;

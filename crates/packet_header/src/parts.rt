@@ -1,0 +1,25 @@
+//! How a message is cut into packets.
+ghost use Rattle.std.specs.Prelude.{◌≡◌, ◌<◌};
+ghost use Rattle.packet_header.specs.Parts.{packet_count, part_size};
+
+/// The bytes of a message that one packet carries at most.
+pub const PART_BYTES: u32 = 1024;
+
+/// The bytes of the largest message.
+pub const MOST_MESSAGE_BYTES: u32 = 1_048_576;
+
+/// How many packets carry a message of `size` bytes. An empty message takes one.
+pub fn count(size: u32) -> u32
+    ensures { result ≡ packet_count size }
+{
+    size.div_ceil(PART_BYTES).max(1)
+}
+
+/// The bytes of part `index`, counted from 0, of a message of `size` bytes. All parts but the last
+/// are full. `index` is below `count(size)`.
+pub fn part_len(size: u32, index: u32) -> u32
+    requires { index < packet_count size }
+    ensures { result ≡ part_size size index }
+{
+    (size - PART_BYTES * index).min(PART_BYTES)
+}

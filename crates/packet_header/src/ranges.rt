@@ -1,0 +1,106 @@
+//! The ranges of the fields: a row for each kind of packet.
+ghost use Rattle.std.specs.Prelude.{◌≡◌};
+ghost use Rattle.packet_header.specs.Ranges.{control_row, message_row, sessions, span, within};
+
+use crate::layout::NO_SESSION;
+use crate::packet::{ControlKind, GONE, Kind, NO_ROOM};
+use crate::parts::{MOST_MESSAGE_BYTES, count};
+
+/// The greatest number of a packet: a request and a response of 1,024 packets each, where the
+/// response's first answers the request's last.
+const LAST_NUMBER: u32 = 2046;
+
+/// The greatest number of a CR: the last of 1,024 request packets is answered by a response.
+const LAST_CR: u32 = 1022;
+
+/// The most credits of a session, in packets.
+const MOST_CREDITS: u32 = 256;
+
+/// The numbers from `lowest` to `highest`, both among them.
+#[derive(Clone, Copy)]
+pub struct Span {
+    pub lowest: u32,
+    pub highest: u32,
+}
+
+impl Span {
+    pub fn new(lowest: u32, highest: u32) -> Span
+        ensures { result ≡ span lowest highest }
+    {
+        Span { lowest, highest }
+    }
+
+    /// The numbers of sessions.
+    pub fn sessions() -> Span
+        ensures { result ≡ sessions }
+    {
+        Span::new(0, u32::from(NO_SESSION) - 1)
+    }
+
+    pub fn contains(&self, number: u32) -> bool
+        ensures { result ≡ within self.now number }
+    {
+        self.lowest <= number && number <= self.highest
+    }
+}
+
+/// The ranges of a message header's fields that differ from kind to kind.
+#[derive(Clone, Copy)]
+pub struct MessageRow {
+    pub types: Span,
+    pub sizes: Span,
+    pub numbers: Span,
+}
+
+impl MessageRow {
+    /// The row of a kind. A request's numbers depend on the size of its message.
+    pub fn of(kind: Kind, size: u32) -> MessageRow
+        ensures { result ≡ message_row kind size }
+    {
+        let any = Span::new(0, u32::from(u8::MAX));
+        let none = Span::new(0, 0);
+        let all = Span::new(0, MOST_MESSAGE_BYTES);
+        let (types, sizes, numbers) = match kind {
+            Kind::Request => (any, all, Span::new(0, count(size) - 1)),
+            Kind::Rfr => (none, none, Span::new(1, LAST_NUMBER)),
+            Kind::Cr => (none, none, Span::new(0, LAST_CR)),
+            Kind::Response => (any, all, Span::new(0, LAST_NUMBER)),
+        };
+        MessageRow {
+            types,
+            sizes,
+            numbers,
+        }
+    }
+}
+
+/// The ranges of a control header's fields that differ from kind to kind.
+#[derive(Clone, Copy)]
+pub struct ControlRow {
+    /// Whether there is a server session.
+    pub has_server: bool,
+    pub credits: Span,
+    /// The status that tells a refusal, and 0 where the kind has none. Status 0 is always in range.
+    pub refusal: u8,
+}
+
+impl ControlRow {
+    /// The row of a kind. A ConnectReply has a server session unless it is a refusal.
+    pub fn of(kind: ControlKind, status: u8) -> ControlRow
+        ensures { result ≡ control_row kind status }
+    {
+        let some = Span::new(1, MOST_CREDITS);
+        let none = Span::new(0, 0);
+        let (has_server, credits, refusal) = match kind {
+            ControlKind::ConnectRequest => (false, some, 0),
+            ControlKind::ConnectReply => (status != NO_ROOM, some, NO_ROOM),
+            ControlKind::DisconnectRequest => (true, none, 0),
+            ControlKind::DisconnectReply => (true, none, GONE),
+        };
+        ControlRow {
+            has_server,
+            credits,
+            refusal,
+        }
+    }
+}

@@ -1,0 +1,10 @@
+use Rattle.std.proofs.Common.{Some, sym, refl, ap}
+use Rattle.rpc_laws.specs.declared.tables.Outgoing.{Outgoing}
+use Rattle.rpc_laws.proofs.TablesLemmas.{find-found, find-missing}
+use Rattle.plain_node.proofs.packets.call_packet.Goals as goal
+
+pub returns-in-None : goal.returns-in-None
+returns-in-None c = rw (find-missing _ _ (sym c.in-None.ensures)) refl
+
+pub returns-in_ok-out-in-Some : goal.returns-in_ok-out-in-Some
+returns-in_ok-out-in-Some c = rw (find-found _ _ _ (sym c.in-Some.ensures), c.at.ensures) (ap (λ (o : Outgoing). Some o) c.in_ok-out-in-Some.ensures)

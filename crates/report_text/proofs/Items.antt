@@ -1,0 +1,38 @@
+-- Putting the text of one item after another on a page.
+use Rattle.std.proofs.Common.{◌≡◌, ℕ, ◌+◌, ◌<◌, List, [], ◌∷◌, ◌++◌, Option, length, get_or, take, drop, sym, ap, subst, ◌∙◌, append-nil, take-append-drop}
+use Rattle.std.proofs.lemmas.List.{take_more}
+use Rattle.std.proofs.lemmas.Grind.{flat_map-append}
+use Rattle.std.specs.Prelude.{flat_map}
+use Rattle.report_text.specs.Page.{Puts, Breaks}
+use Rattle.report_text.proofs.Putting.{puts-then, puts-breaks, breaks-further}
+
+-- the items up to x have the text of those before, and its own
+pub flat_map-more : {X : Type 0} (f : X → List ℕ) (xs : List X) (i : ℕ) (d x : X) → i < length xs → get_or xs i d ≡ x
+    → flat_map f (take (i + 1) xs) ≡ flat_map f (take i xs) ++ f x
+flat_map-more f xs i d x below is =
+    ap (flat_map f) (take_more xs i d below) ∙ flat_map-append f (take i xs) (get_or xs i d ∷ [])
+    ∙ ap (λ y. flat_map f (take i xs) ++ (f y ++ [])) is ∙ ap (λ l. flat_map f (take i xs) ++ l) (append-nil (f x))
+
+-- all items: those up to x, and the rest
+pub flat_map-around : {X : Type 0} (f : X → List ℕ) (xs : List X) (i : ℕ) (d x : X) → i < length xs → get_or xs i d ≡ x
+    → (flat_map f (take i xs) ++ f x) ++ flat_map f (drop (i + 1) xs) ≡ flat_map f xs
+flat_map-around f xs i d x below is =
+    ap (λ l. l ++ flat_map f (drop (i + 1) xs)) (sym (flat_map-more f xs i d x below is))
+    ∙ sym (flat_map-append f (take (i + 1) xs) (drop (i + 1) xs)) ∙ ap (flat_map f) (take-append-drop (i + 1) xs)
+
+-- the item x was put after those before it
+pub puts-item : {X : Type 0} (f : X → List ℕ) (xs : List X) (i : ℕ) (d x : X) → i < length xs → get_or xs i d ≡ x
+    → (a b c : List ℕ) (old mid new : Option (List ℕ)) (before between after : ℕ)
+    → Puts a b old mid before between (flat_map f (take i xs)) → Puts b c mid new between after (f x)
+    → Puts a c old new before after (flat_map f (take (i + 1) xs))
+puts-item f xs i d x below is a b c old mid new before between after first second =
+    rw (flat_map-more f xs i d x below is) (puts-then a b c old mid new before between after _ _ first second)
+
+-- a fault came in the item x
+pub breaks-item : {X : Type 0} (f : X → List ℕ) (xs : List X) (i : ℕ) (d x : X) → i < length xs → get_or xs i d ≡ x
+    → (a b : List ℕ) (old mid new : Option (List ℕ)) (before between after : ℕ)
+    → Puts a b old mid before between (flat_map f (take i xs)) → Breaks b mid new between after (f x)
+    → Breaks a old new before after (flat_map f xs)
+breaks-item f xs i d x below is a b old mid new before between after first second =
+    subst (Breaks a old new before after) (flat_map-around f xs i d x below is)
+    (breaks-further a old new before after _ (flat_map f (drop (i + 1) xs)) (puts-breaks a b old mid new before between after _ _ first second))

@@ -1,0 +1,15 @@
+-- one text, and then the other
+use Rattle.std.proofs.lemmas.Result.{err_from_is_err_and}
+use Rattle.report_text.specs.Text.{line_text}
+use Rattle.report_text.proofs.Putting.{breaks-further, fills-then}
+use Rattle.report_text.proofs.line.put_line.Goals as goal
+
+pub returns-in_err-put_fact : goal.returns-in_err-put_fact
+unfolding line_text
+returns-in_err-put_fact g c =
+    let p = err_from_is_err_and c.from_residual.result c.from_residual.ensures.1 in
+    rw p.1 (breaks-further _ _ _ _ _ _ _ c.in_err-put_fact.ensures)
+
+pub returns : goal.returns
+unfolding line_text
+returns g c = fills-then _ _ _ _ _ _ _ _ _ _ _ _ c.in_ok-put_fact.ensures c.put_word.ensures

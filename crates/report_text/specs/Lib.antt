@@ -1,0 +1,4 @@
+pub mod Names
+pub mod Page
+pub mod Shape
+pub mod Text

@@ -1,0 +1,18 @@
+-- Text goes to a page, which gathers it, and from there to a sink.
+use Rattle.std.specs.Prelude.{◌≡◌, ℕ, List, ◌++◌, Option, Result, MatchResult}
+use Rattle.rpc_outside.specs.Writing.{Wrote, Broke}
+
+-- the page held `held`, text was put, the front of both went to the sink, and the page holds the rest
+pub record Puts (held now_held : List ℕ) (old new : Option (List ℕ)) (before after : ℕ) (text : List ℕ) : Type 0 where
+  pub moved : List ℕ
+  pub whole : held ++ text ≡ moved ++ now_held
+  pub wrote : Wrote old new before after moved
+
+-- a front of what the page held and of the text went to the sink, and a fault came
+pub record Breaks (held : List ℕ) (old new : Option (List ℕ)) (before after : ℕ) (text : List ℕ) : Type 0 where
+  pub broke : Broke old new before after (held ++ text)
+
+-- the text was put, or a fault came
+abbrev pub Fills : {T E : Type 0} → List ℕ → List ℕ → Option (List ℕ) → Option (List ℕ) → ℕ → ℕ → Result T E → List ℕ → Type 0
+Fills held now_held old new before after result text =
+    MatchResult result (λ _. Puts held now_held old new before after text) (λ _. Breaks held old new before after text)

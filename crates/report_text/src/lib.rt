@@ -1,0 +1,15 @@
+//! The text of a report: a line for each fact of a history. It knows nothing of how facts come about.
+#![tactic(auto)]
+
+mod events;
+mod line;
+mod names;
+mod octets;
+mod page;
+mod pieces;
+mod report;
+mod shape;
+#[cfg(test)]
+mod tests;
+
+pub use report::print_facts;

@@ -1,0 +1,91 @@
+//! A page on which text is gathered, so that a long report goes to its sink in large pieces.
+ghost use Rattle.std.specs.Prelude.{◌≡◌, ℕ, ◌+◌, ◌≤◌, [], ◌++◌, length, OnOk};
+ghost use Rattle.rpc_outside.specs.Writing.{Prints};
+ghost use Rattle.report_text.specs.Page.{Fills};
+
+use rpc_outside::{Failed, Sink, write_all};
+use std::marker::Model;
+
+/// Bytes of a page.
+const SIZE: usize = 4096;
+
+/// Text that did not go to the sink yet. Contracts see it as the list of its bytes.
+#[derive(Drop)]
+pub struct Page {
+    bytes: [u8; SIZE],
+    len: usize,
+}
+
+impl Model for Page {
+    ghost use Rattle.std.specs.Prelude.{ℕ, ◌≤◌, List, take};
+
+    ghost Value = { List ℕ };
+
+    ghost view = { λ p. take p.len p.bytes };
+
+    ghost invariant = { λ p. p.len ≤ 4096 };
+}
+
+impl Page {
+    /// An empty page.
+    pub fn new() -> Page
+        ensures { result ≡ [] }
+    {
+        Page {
+            bytes: [0; SIZE],
+            len: 0,
+        }
+    }
+
+    /// Lends the text.
+    fn text(&self) -> &[u8]
+        ensures { result.now ≡ self.now }
+    {
+        &self.bytes[..self.len]
+    }
+
+    /// How many more bytes fit.
+    fn room(&self) -> usize
+        ensures { result + length self.now ≡ 4096 }
+    {
+        SIZE - self.len
+    }
+
+    /// Puts a piece that fits at the end.
+    fn add(&mut self, piece: &[u8])
+        requires { length self.old + length piece.now ≤ 4096 }
+        ensures { self.new ≡ self.old ++ piece.now }
+    {
+        let end = self.len + piece.len();
+        self.bytes[self.len..end].copy_from_slice(piece);
+        self.len = end;
+    }
+
+    fn clear(&mut self)
+        ensures { self.new ≡ [] }
+    {
+        self.len = 0;
+    }
+}
+
+/// Writes what the page holds to the sink, and empties the page.
+pub fn flush<K: Sink>(sink: &mut K, page: &mut Page) -> Result<(), Failed>
+    ensures written { Prints (K.written sink.old) (K.written sink.new) (K.faults sink.old) (K.faults sink.new) result page.old }
+    ensures emptied { OnOk result (page.new ≡ []) }
+{
+    write_all(sink, page.text())?;
+    page.clear();
+    Ok(())
+}
+
+/// Puts a piece on the page. One that doesn't fit goes to the sink, after what the page holds.
+pub fn put<K: Sink>(sink: &mut K, page: &mut Page, piece: &[u8]) -> Result<(), Failed>
+    ensures { Fills page.old page.new (K.written sink.old) (K.written sink.new) (K.faults sink.old) (K.faults sink.new) result piece.now }
+{
+    if piece.len() <= page.room() {
+        page.add(piece);
+        return Ok(());
+    }
+    flush(sink, page)?;
+    write_all(sink, piece)
+}

@@ -1,0 +1,25 @@
+//! The plain values that every other crate speaks of: numbers with names, limits, owners of
+//! packets, and the facts of a history. It knows nothing of packets, buffers or time.
+#![tactic(auto)]
+
+mod event;
+mod fact;
+mod limits;
+mod listed;
+mod memory;
+mod numbers;
+mod octets;
+mod owner;
+mod request;
+mod state;
+
+pub use event::Event;
+pub use fact::{Fact, Who};
+pub use limits::Limits;
+pub use listed::Listed;
+pub use memory::NoMemory;
+pub use numbers::{CallNo, NodeId, Peer, Place, SessionNo};
+pub use octets::Octets;
+pub use owner::Owner;
+pub use request::RequestNo;
+pub use state::{DropReason, SessionState};

@@ -1,0 +1,3 @@
+pub mod QueuesLemmas
+pub mod RunLemmas
+pub mod TablesLemmas

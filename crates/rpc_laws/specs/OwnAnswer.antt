@@ -1,0 +1,72 @@
+-- A handler runs on the bytes of a call, and a call ends with its own handler's answer.
+use Rattle.std.specs.Prelude.{ℕ, ◌≡◌, ◌<◌, List, [], ◌∷◌, length, Contains}
+use Rattle.rpc_base.specs.declared.event.Event.{Event}
+use Rattle.rpc_base.specs.declared.event.Event.TheVariants.{PairedClient, PairedServer, Asked, Begun, Ran, DoneOk, DoneTooSmall}
+use Rattle.rpc_base.specs.declared.fact.Fact.{Fact}
+use Rattle.rpc_base.specs.declared.fact.Who.{Who}
+use Rattle.rpc_base.specs.declared.fact.Who.TheVariants.{Node, Net}
+use Rattle.rpc_laws.specs.Facts.{plain, with_bytes, with_two}
+use Rattle.rpc_laws.specs.Service.{answer_to}
+
+-- (n, s) and (m, t) are ends of one session, by the facts so far
+pub record AreEnds (past : List Fact) (n s m t : ℕ) : Type 0 where
+  pub limit : ℕ
+  pub credits : ℕ
+  pub client : Contains past (plain n (PairedClient s m t limit))
+  pub server : Contains past (plain m (PairedServer t n s credits))
+
+-- request r of server session t of node m is call c of node n, of this type, room and bytes
+pub record IsCallOf (past : List Fact) (n c m t r req_type room : ℕ) (ask : List ℕ) : Type 0 where
+  pub session : ℕ
+  pub ends : AreEnds past n session m t
+  pub asked : Contains past (with_bytes n (Asked c session req_type room) ask)
+  pub begun : Contains past (plain n (Begun c r))
+
+-- the handler ran for call c of node n, and answered with these bytes
+pub record IsAnswerTo (past : List Fact) (n c room : ℕ) (answer : List ℕ) : Type 0 where
+  pub node : ℕ
+  pub session : ℕ
+  pub request : ℕ
+  pub req_type : ℕ
+  pub ask : List ℕ
+  pub call : IsCallOf past n c node session request req_type room ask
+  pub ran : Contains past (with_two node (Ran session request req_type) ask answer)
+
+-- a Ran is of a call, on its own bytes, and its answer is the service's
+pub record OwnRun (past : List Fact) (m t r req_type : ℕ) (ask answer : List ℕ) : Type 0 where
+  pub node : ℕ
+  pub call : ℕ
+  pub room : ℕ
+  pub own : IsCallOf past node call m t r req_type room ask
+  pub right : answer ≡ answer_to req_type ask
+
+-- a call that ended Ok has its handler's answer
+pub record OwnEnd (past : List Fact) (n c : ℕ) (answer : List ℕ) : Type 0 where
+  pub room : ℕ
+  pub own : IsAnswerTo past n c room answer
+
+-- a call that ended TooSmall has an answer of that size, above its room
+pub record OwnSize (past : List Fact) (n c size : ℕ) : Type 0 where
+  pub room : ℕ
+  pub answer : List ℕ
+  pub own : IsAnswerTo past n c room answer
+  pub sized : length answer ≡ size
+  pub above : room < size
+
+abbrev pub OwnEvent : List Fact → ℕ → Event → List ℕ → List ℕ → Type 0
+OwnEvent past n (Ran t r req_type) first second = OwnRun past n t r req_type first second
+OwnEvent past n (DoneOk c) first second = OwnEnd past n c first
+OwnEvent past n (DoneTooSmall c size) first second = OwnSize past n c size
+OwnEvent past n _ first second = Unit {0}
+
+abbrev pub OwnAt : List Fact → Who → Event → List ℕ → List ℕ → Type 0
+OwnAt past (Node n) e first second = OwnEvent past n e first second
+OwnAt past Net e first second = Unit {0}
+
+-- a claim at each fact, about the facts before it, the newest first
+abbrev pub AtEach : (List Fact → Fact → Type 0) → List Fact → List Fact → Type 0
+AtEach P past [] = Unit {0}
+AtEach P past (f ∷ h) = P past f × AtEach P (f ∷ past) h
+
+abbrev pub Own : List Fact → Type 0
+Own h = AtEach (λ past f. OwnAt past f.who f.event f.first f.second) [] h

@@ -1,0 +1,52 @@
+-- Server sessions with the newest request of each slot, as the facts of a node leave them.
+use Rattle.std.specs.Prelude.{ℕ, ◌+◌, ◌%◌, ◌==◌, Bool, Option, Some, None, List, [], ◌∷◌, ◌++◌, if◌then◌else◌}
+use Rattle.std.specs.List.{list_any}
+use Rattle.packet_header.specs.declared.packet.MessageHeader.{MessageHeader}
+use Rattle.rpc_base.specs.declared.event.Event.{Event}
+use Rattle.rpc_base.specs.declared.event.Event.TheVariants.{PairedServer, Took, Ran}
+use Rattle.rpc_base.specs.declared.owner.Owner.TheVariants.{Reply}
+use Rattle.rpc_laws.specs.declared.tables.Served.{Served}
+use Rattle.rpc_laws.specs.declared.tables.Server.{Server}
+use Rattle.rpc_laws.specs.Tables.{at_first, without_first}
+
+abbrev pub is_server : ℕ → Server → Bool
+is_server number v = v.way.number == number
+
+abbrev pub is_request : ℕ → Served → Bool
+is_request r q = q.number == r
+
+-- the newest request of the slot of r
+abbrev pub in_slot_of : ℕ → Served → Bool
+in_slot_of r q = q.number % 8 == r % 8
+
+abbrev pub server_end : ℕ → ℕ → ℕ → ℕ → Server
+server_end number peer other credits =
+    record { way = record { number = number; peer = peer; other = other }; credits = credits; slots = [] }
+
+-- a request begins with its first packet
+abbrev pub first_packet : ℕ → MessageHeader → List ℕ → Served
+first_packet r h body =
+    record { number = r; req_type = h.req_type; size = h.size; taken = 1; ask = body; answer = None }
+
+-- one more packet in turn; the bytes of a request are the bodies of its packets, joined
+abbrev pub next_packet : List ℕ → Served → Served
+next_packet body q = record q { taken = q.taken + 1; ask = q.ask ++ body }
+
+-- Took: the newest request of its slot goes on, or r begins in its place
+abbrev pub took_packet : ℕ → Option MessageHeader → List ℕ → List Served → List Served
+took_packet r None body slots = slots
+took_packet r (Some h) body slots =
+    if list_any (is_request r) slots then at_first (is_request r) (next_packet body) slots
+    else without_first (in_slot_of r) slots ++ first_packet r h body ∷ []
+
+abbrev pub answered : List ℕ → Served → Served
+answered bytes q = record q { answer = Some bytes }
+
+-- answer is the fact's; head and body are those of the packet at the front of the ring
+abbrev pub servers_after : Event → List ℕ → Option MessageHeader → List ℕ → List Server → List Server
+servers_after (PairedServer t peer s credits) answer head body xs = xs ++ server_end t peer s credits ∷ []
+servers_after (Took (Reply t r) k) answer head body xs =
+    at_first (is_server t) (λ v. record v { slots = took_packet r head body v.slots }) xs
+servers_after (Ran t r y) answer head body xs =
+    at_first (is_server t) (λ v. record v { slots = at_first (is_request r) (answered answer) v.slots }) xs
+servers_after _ answer head body xs = xs

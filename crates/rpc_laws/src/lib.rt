@@ -1,0 +1,14 @@
+//! The definitions over histories: what lists, sessions, calls and requests a history leaves, by
+//! which rules a node acts, and the laws that its histories keep. It runs nothing.
+#![tactic(auto)]
+
+mod history;
+mod rows;
+mod tables;
+
+pub use history::History;
+pub use rows::{ClientRow, ServerRow};
+pub use tables::{
+    Arrival, Asking, Call, Client, InFlight, Lists, Outgoing, Progress, Queued, Served, Server,
+    Stage, Timed, Way,
+};

@@ -1,0 +1,134 @@
+//! What a history leaves at a node: its lists and tables, as plain data that definitions speak of.
+use packet_header::Packet;
+use rpc_base::{CallNo, Listed, NodeId, Octets, Owner, Peer, RequestNo, SessionNo};
+
+/// A datagram as it arrived.
+#[derive(Debug, Drop)]
+pub struct Arrival {
+    pub peer: Peer,
+    pub bytes: Octets,
+}
+
+/// A packet that was posted and is neither sent nor flushed.
+#[derive(Clone, Copy, Debug, PartialEq, Eq)]
+pub struct Queued {
+    pub owner: Owner,
+    pub number: u16,
+}
+
+/// What never changes of one end of a session: its number here, the peer, and its number there.
+#[derive(Clone, Copy, Debug, PartialEq, Eq)]
+pub struct Way {
+    pub number: SessionNo,
+    pub peer: Peer,
+    pub other: SessionNo,
+}
+
+/// What never changes of a call: its number, its type, the room for its answer in bytes, and its own
+/// bytes.
+#[derive(Debug, Drop)]
+pub struct Asking {
+    pub number: CallNo,
+    pub req_type: u8,
+    pub room: u32,
+    pub ask: Octets,
+}
+
+/// How far an active call has come.
+#[derive(Debug, Drop)]
+pub struct Progress {
+    pub request: RequestNo,
+    /// Replies taken in turn.
+    pub got: u64,
+    /// One more than the number of the packet posted last.
+    pub posted: u64,
+    /// The size of the answer, known from its first packet on.
+    pub answer: Option<u32>,
+    /// The bytes of the answer taken so far.
+    pub parts: Octets,
+}
+
+/// A call that isn't over. It waits where it has no progress.
+#[derive(Debug, Drop)]
+pub struct Call {
+    pub what: Asking,
+    pub progress: Option<Progress>,
+}
+
+/// A client session with its calls that aren't over.
+#[derive(Debug, Drop)]
+pub struct Client {
+    pub way: Way,
+    pub limit: u16,
+    pub free: u64,
+    /// How many requests began in each of its eight slots.
+    pub turns: Listed<u64>,
+    pub calls: Listed<Call>,
+}
+
+/// The newest request of a slot of a server session.
+#[derive(Debug, Drop)]
+pub struct Served {
+    pub number: RequestNo,
+    pub req_type: u8,
+    pub size: u32,
+    /// Client packets taken in turn.
+    pub taken: u64,
+    /// The bytes of the request taken so far.
+    pub ask: Octets,
+    /// The handler's answer, once it ran.
+    pub answer: Option<Octets>,
+}
+
+/// A server session with the newest request of each slot.
+#[derive(Debug, Drop)]
+pub struct Server {
+    pub way: Way,
+    pub credits: u16,
+    pub slots: Listed<Served>,
+}
+
+/// The lists and tables of a node.
+#[derive(Debug, Drop)]
+pub struct Lists {
+    pub me: NodeId,
+    /// The length of its receive ring.
+    pub room: u32,
+    /// How many calls were accepted.
+    pub asked: u64,
+    pub ring: Listed<Arrival>,
+    pub queued: Listed<Queued>,
+    pub clients: Listed<Client>,
+    pub servers: Listed<Server>,
+}
+
+/// A node's lists and its clock in microseconds.
+#[derive(Debug, Drop)]
+pub struct Timed {
+    pub lists: Lists,
+    pub clock: u64,
+}
+
+/// A packet to be sent: to whom, what, and with which body.
+#[derive(Debug, Drop)]
+pub struct Outgoing {
+    pub peer: Peer,
+    pub packet: Packet,
+    pub body: Octets,
+}
+
+/// A copy of a datagram on its way.
+#[derive(Debug, Drop)]
+pub struct InFlight {
+    pub from: NodeId,
+    pub to: NodeId,
+    pub bytes: Octets,
+}
+
+/// The nodes of a script, the copies in flight and the clock of the world.
+#[derive(Debug, Drop)]
+pub struct Stage {
+    pub nodes: Listed<Timed>,
+    pub flight: Listed<InFlight>,
+    pub clock: u64,
+}

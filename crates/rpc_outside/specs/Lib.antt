@@ -1,0 +1,4 @@
+pub mod CallLog
+pub mod Faults
+pub mod Memory
+pub mod Writing

@@ -1,0 +1,23 @@
+//! What the library meets at its edges: where bytes come from and where they go. Each trait has a form in
+//! memory, which fails exactly where it is told to. It knows nothing of packets, scripts or reports.
+#![tactic(auto)]
+
+mod calls;
+mod copying;
+mod edges;
+mod failed;
+mod firm;
+mod memory;
+mod sink;
+mod source;
+#[cfg(test)]
+mod tests;
+mod writing;
+
+pub use edges::{IoSink, IoSource};
+pub use failed::Failed;
+pub use firm::{FirmSink, FirmSource};
+pub use memory::{MemSink, MemSource};
+pub use sink::Sink;
+pub use source::Source;
+pub use writing::write_all;

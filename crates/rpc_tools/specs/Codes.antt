@@ -1,0 +1,12 @@
+-- The exit codes of the statuses, in their order.
+use Rattle.std.specs.Prelude.{ℕ}
+use Rattle.rpc_tools.specs.declared.status.Status.{Status}
+use Rattle.rpc_tools.specs.declared.status.Status.TheVariants.{Done, Usage, BadScript, ReadFault, WriteFault, NoMemory}
+
+abbrev pub code_of : Status → ℕ
+code_of Done = 0
+code_of Usage = 1
+code_of (BadScript bad) = 2
+code_of ReadFault = 3
+code_of WriteFault = 4
+code_of NoMemory = 5

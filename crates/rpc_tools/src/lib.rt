@@ -1,0 +1,11 @@
+//! The tools of the program: words, a source and a sink in, a status out.
+#![tactic(auto)]
+
+mod reading;
+mod simulation;
+mod status;
+mod tools;
+
+pub use simulation::sim;
+pub use status::Status;
+pub use tools::run;

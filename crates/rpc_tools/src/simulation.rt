@@ -1,0 +1,53 @@
+//! A simulation: a script is read, run over a modelled network, and its history reported.
+ghost use Rattle.std.specs.Prelude.{ℕ};
+ghost use Rattle.rpc_tools.specs.Outcomes.{RunsBytes, RunsScript, Simulates};
+
+use crate::reading::{Input, read_all};
+use crate::status::Status;
+use rpc_outside::{Sink, Source};
+use rpc_world::World;
+use sim_script::{BadScript, BadWhy, ReadError, Script, print, read};
+use std::alloc::Global;
+
+fn run_script<K: Sink>(alloc: Global, script: &Script, sink: &mut K) -> Status
+    ensures { RunsScript result script.now (K.written sink.old) (K.written sink.new) (K.faults sink.old) (K.faults sink.new) }
+{
+    if let Some(line) = World::later(script) {
+        return Status::BadScript(BadScript {
+            line,
+            why: BadWhy::Later,
+        });
+    }
+    let Ok(world) = World::run(alloc, script) else {
+        return Status::NoMemory;
+    };
+    match print(world.history(), sink) {
+        Ok(()) => Status::Done,
+        Err(_) => Status::WriteFault,
+    }
+}
+
+fn run_bytes<K: Sink>(alloc: Global, bytes: &[u8], sink: &mut K) -> Status
+    ensures { RunsBytes result bytes.now (K.written sink.old) (K.written sink.new) (K.faults sink.old) (K.faults sink.new) }
+{
+    match read(alloc, bytes) {
+        Ok(script) => run_script(alloc, &script, sink),
+        Err(ReadError::Bad(bad)) => Status::BadScript(bad),
+        Err(ReadError::NoMemory) => Status::NoMemory,
+    }
+}
+
+/// Reads the source to its end, runs the script and writes the report of its history.
+pub fn sim<S: Source, K: Sink>(alloc: Global, source: &mut S, sink: &mut K) -> Status
+    ensures { Simulates result (S.left source.old) (S.left source.new) (S.faults source.old) (S.faults source.new) (K.written sink.old) (K.written sink.new) (K.faults sink.old) (K.faults sink.new) }
+{
+    match read_all(alloc, source) {
+        Input::Whole(bytes) => run_bytes(alloc, bytes.bytes(), sink),
+        Input::TooLong => Status::BadScript(BadScript {
+            line: 0,
+            why: BadWhy::TooLong,
+        }),
+        Input::Fault => Status::ReadFault,
+        Input::Memory => Status::NoMemory,
+    }
+}

@@ -1,0 +1,54 @@
+//! How a run of the program ended.
+ghost use Rattle.std.specs.Prelude.{◌≡◌, ◌++◌, Some, codes};
+ghost use Rattle.rpc_tools.specs.Codes.{code_of};
+ghost use Rattle.script_grammar.specs.Shown.{bad_text};
+
+use sim_script::BadScript;
+use std::fmt;
+
+/// How a run ended.
+#[derive(Clone, Copy, Debug, PartialEq, Eq)]
+pub enum Status {
+    /// All was done and written.
+    Done,
+    /// The words are not in the grammar of the command line.
+    Usage,
+    /// The script is bad, or has a command that isn't served yet.
+    BadScript(BadScript),
+    /// The source failed.
+    ReadFault,
+    /// The sink failed; a front of the report was written.
+    WriteFault,
+    /// There was no memory.
+    NoMemory,
+}
+
+impl Status {
+    /// The exit code, from 0 for `Done` on in the order written.
+    pub fn code(&self) -> u8
+        ensures { result ≡ code_of self.now }
+    {
+        match self {
+            Status::Done => 0,
+            Status::Usage => 1,
+            Status::BadScript(_) => 2,
+            Status::ReadFault => 3,
+            Status::WriteFault => 4,
+            Status::NoMemory => 5,
+        }
+    }
+}
+
+/// The line that a user reads on standard error.
+impl fmt::Display for Status {
+    fn fmt<W: fmt::Write>(&self, f: &mut fmt::Formatter<W>) -> fmt::Result {
+        match self {
+            Status::Done => f.write_str("done"),
+            Status::Usage => f.write_str("usage: erpc sim < SCRIPT > REPORT"),
+            Status::BadScript(bad) => write!(f, "bad script: {bad}"),
+            Status::ReadFault => f.write_str("the script could not be read to its end"),
+            Status::WriteFault => f.write_str("the report could not be written"),
+            Status::NoMemory => f.write_str("out of memory"),
+        }
+    }
+}

@@ -1,0 +1,14 @@
+pub mod Ask
+pub mod Commands
+pub mod Conditions
+pub mod Lines
+pub mod Numbers
+pub mod Reader
+pub mod Reading
+pub mod Rest
+pub mod Rules
+pub mod Script
+pub mod ScriptLines
+pub mod Shown
+pub mod Told
+pub mod Words

@@ -1,0 +1,11 @@
+-- What `read` may answer of a script: what the grammar says of it, or, at any time, that memory ran out.
+use Rattle.std.specs.Prelude.{◌≡◌, List, Result, Ok, Err}
+use Rattle.script_grammar.specs.declared.bad.BadScript.{BadScript}
+use Rattle.script_grammar.specs.declared.bad.ReadError.{ReadError}
+use Rattle.script_grammar.specs.declared.bad.ReadError.TheVariants.{Bad, NoMemory}
+use Rattle.script_grammar.specs.declared.line.Line.{Line}
+
+abbrev pub IsReading : Result (List Line) ReadError → Result (List Line) BadScript → Type 0
+IsReading (Ok lines) said = said ≡ Ok lines
+IsReading (Err (Bad bad)) said = said ≡ Err bad
+IsReading (Err NoMemory) said = Unit {0}

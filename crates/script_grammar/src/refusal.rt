@@ -1,0 +1,53 @@
+//! Why a line was not read.
+ghost use Rattle.std.specs.Prelude.{◌≡◌};
+
+use crate::bad::BadWhy;
+use rpc_base::NoMemory;
+use std::alloc::{AllocError, AllocFailed};
+
+/// A line is bad, or there is no memory for its command.
+#[derive(Clone, Copy, Debug, PartialEq, Eq)]
+pub enum Refusal {
+    Why(BadWhy),
+    NoMemory,
+}
+
+impl From<BadWhy> for Refusal {
+    ghost use Rattle.script_grammar.specs.declared.refusal.Refusal.{Refusal};
+
+    ghost from_gives = { λ why refusal. refusal ≡ Refusal.Why why };
+
+    fn from(why: BadWhy) -> Self {
+        Refusal::Why(why)
+    }
+}
+
+impl From<NoMemory> for Refusal {
+    ghost use Rattle.script_grammar.specs.declared.refusal.Refusal.{Refusal};
+
+    ghost from_gives = { λ _ refusal. refusal ≡ Refusal.NoMemory };
+
+    fn from(_error: NoMemory) -> Self {
+        Refusal::NoMemory
+    }
+}
+
+impl From<AllocError> for Refusal {
+    ghost use Rattle.script_grammar.specs.declared.refusal.Refusal.{Refusal};
+
+    ghost from_gives = { λ _ refusal. refusal ≡ Refusal.NoMemory };
+
+    fn from(_error: AllocError) -> Self {
+        Refusal::NoMemory
+    }
+}
+
+impl<T: Drop> From<AllocFailed<T>> for Refusal {
+    ghost use Rattle.script_grammar.specs.declared.refusal.Refusal.{Refusal};
+
+    ghost from_gives = { λ _ refusal. refusal ≡ Refusal.NoMemory };
+
+    fn from(_error: AllocFailed<T>) -> Self {
+        Refusal::NoMemory
+    }
+}

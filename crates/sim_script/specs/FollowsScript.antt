@@ -1,0 +1,121 @@
+-- Which histories follow a script: the joining of one group of facts for each command.
+use Rattle.std.specs.Prelude.{ℕ, ◌≡◌, ◌+◌, ◌%◌, ◌≤◌, ◌<◌, nat_lt, Bool, Option, Some, List, [], ◌∷◌, ◌++◌, length, map, sum_by, slice_get, if◌then◌else◌}
+use Rattle.std.specs.Bool.{MatchBool}
+use Rattle.std.specs.List.{remove, range_with_len, slice_set}
+use Rattle.rpc_base.specs.declared.event.Event.{Event}
+use Rattle.rpc_base.specs.declared.event.Event.TheVariants.{Made, PairedClient, PairedServer, Missed, Carried, Lost, Repeated}
+use Rattle.rpc_base.specs.declared.fact.Fact.{Fact}
+use Rattle.rpc_laws.specs.declared.tables.InFlight.{InFlight}
+use Rattle.rpc_laws.specs.declared.tables.Lists.{Lists}
+use Rattle.rpc_laws.specs.declared.tables.Stage.{Stage}
+use Rattle.rpc_laws.specs.declared.tables.Timed.{Timed}
+use Rattle.rpc_laws.specs.Deliveries.{Delivers}
+use Rattle.rpc_laws.specs.Facts.{plain, of_net}
+use Rattle.rpc_laws.specs.Groups.{Asks}
+use Rattle.rpc_laws.specs.InFlight.{flight_after_all, flight_after_net}
+use Rattle.rpc_laws.specs.NodeLists.{after, new_node}
+use Rattle.rpc_laws.specs.PollOrder.{Poll}
+use Rattle.rpc_laws.specs.Steps.{Rel, Goes}
+use Rattle.script_grammar.specs.declared.line.AskBytes.{AskBytes}
+use Rattle.script_grammar.specs.declared.line.AskBytes.TheVariants.{Given, Count}
+use Rattle.script_grammar.specs.declared.line.Command.{Command}
+use Rattle.script_grammar.specs.declared.line.Command.TheVariants.{Node, Pair, Call, Poll as PollNode, Arrive, Lose, Repeat}
+use Rattle.script_grammar.specs.declared.line.Line.{Line}
+
+-- the bytes that a call sends: those given, or so many of which byte j is j mod 256
+abbrev pub ask_bytes : AskBytes → List ℕ
+ask_bytes (Given bytes) = bytes
+ask_bytes (Count n) = map (λ j. j % 256) (range_with_len 0 n)
+
+-- a step of node n; what it sent is in flight
+pub record AtNode (P : Rel) (n : ℕ) (s : Stage) (x : List Fact) (t : Stage) : Type 0 where
+  pub before : Timed
+  pub now : Timed
+  pub is_node : slice_get s.nodes n ≡ Some before
+  pub step : P before x now
+  pub left : t ≡ record { nodes = slice_set s.nodes n now; flight = flight_after_all s.flight x; clock = s.clock }
+
+-- node R: the next node is made, with a ring of R places
+pub record Makes (ring : ℕ) (s : Stage) (x : List Fact) (t : Stage) : Type 0 where
+  pub facts : x ≡ plain (length s.nodes) (Made ring) ∷ []
+  pub left : t ≡ record s { nodes = s.nodes ++ new_node (length s.nodes) ring ∷ [] }
+
+-- the credits of the sessions of a node
+abbrev pub shares : Lists → ℕ
+shares s = sum_by (λ x. x.limit) s.clients + sum_by (λ v. v.credits) s.servers
+
+-- a node after one fact
+abbrev pub noted : Timed → Fact → Timed
+noted s f = record { lists = after s.lists f; clock = s.clock }
+
+-- pair A B: where both have room and a number left, A gets a client session and B a server session,
+-- each with the other's number
+pub record Pairs (a b credits : ℕ) (s : Stage) (x : List Fact) (t : Stage) : Type 0 where
+  pub client : Timed
+  pub server : Timed
+  pub is_client : slice_get s.nodes a ≡ Some client
+  pub is_server : slice_get s.nodes b ≡ Some server
+  pub client_room : shares client.lists + credits ≤ client.lists.room
+  pub server_room : shares server.lists + credits ≤ server.lists.room
+  pub client_number : length client.lists.clients < 65535
+  pub server_number : length server.lists.servers < 65535
+  pub at_client : Fact
+  pub at_server : Fact
+  pub for_client : at_client ≡ plain client.lists.me (PairedClient (length client.lists.clients) b (length server.lists.servers) credits)
+  pub for_server : at_server ≡ plain server.lists.me (PairedServer (length server.lists.servers) a (length client.lists.clients) credits)
+  pub facts : x ≡ at_client ∷ at_server ∷ []
+  pub left : t ≡ record s { nodes = slice_set (slice_set s.nodes a (noted client at_client)) b (noted server at_server) }
+
+-- an event of the network alone
+pub record OfNet (e : Event) (s : Stage) (x : List Fact) (t : Stage) : Type 0 where
+  pub facts : x ≡ of_net e ∷ []
+  pub left : t ≡ record s { flight = flight_after_net e s.flight }
+
+-- the event, where copy i is there
+abbrev pub or_missed : List InFlight → ℕ → Event → Event
+or_missed copies i e = if nat_lt i (length copies) then e else Missed i
+
+-- copy i is taken out of flight and delivered
+pub record Carries (i : ℕ) (s : Stage) (x : List Fact) (t : Stage) : Type 0 where
+  pub copy : InFlight
+  pub is_copy : slice_get s.flight i ≡ Some copy
+  pub delivered : List Fact
+  pub facts : x ≡ of_net (Carried i) ∷ delivered
+  pub arrives : AtNode (Delivers copy.from copy.bytes) copy.to (record s { flight = remove s.flight i }) delivered t
+
+-- arrive I
+abbrev pub Arrives : ℕ → Stage → List Fact → Stage → Type 0
+Arrives i s x t = MatchBool (nat_lt i (length s.flight)) (Carries i s x t) (OfNet (Missed i) s x t)
+
+-- what a command does. (The commands that aren't named here aren't served yet.)
+abbrev pub Does : Command → Stage → List Fact → Stage → Type 0
+Does (Node ring) s x t = Makes ring s x t
+Does (Pair a b credits) s x t = Pairs a b credits s x t
+Does (Call n session y ask room) s x t = AtNode (Asks session y (ask_bytes ask) room) n s x t
+Does (PollNode n) s x t = AtNode (Poll s.clock) n s x t
+Does (Arrive i) s x t = Arrives i s x t
+Does (Lose i) s x t = OfNet (or_missed s.flight i (Lost i)) s x t
+Does (Repeat i) s x t = OfNet (or_missed s.flight i (Repeated i)) s x t
+Does _ s x t = ⊥
+
+-- one group, and then the others
+pub record Joins (P Q : Stage → List Fact → Stage → Type 0) (s : Stage) (h : List Fact) (t : Stage) : Type 0 where
+  pub between : Stage
+  pub group : List Fact
+  pub rest : List Fact
+  pub joined : h ≡ group ++ rest
+  pub does : P s group between
+  pub follows : Q between rest t
+
+-- from s, h follows the lines and leaves t
+abbrev pub FollowsFrom : List Line → Stage → List Fact → Stage → Type 0
+FollowsFrom [] s h t = (h ≡ []) × (t ≡ s)
+FollowsFrom (line ∷ lines) s h t = Joins (Does line.command) (FollowsFrom lines) s h t
+
+-- no node, nothing in flight, and the clock at 0
+abbrev pub empty_stage : Stage
+empty_stage = record { nodes = []; flight = []; clock = 0 }
+
+-- h follows the script
+abbrev pub Follows : List Line → List Fact → Type 0
+Follows script h = (end : Stage) × FollowsFrom script empty_stage h end

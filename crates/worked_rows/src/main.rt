@@ -1,0 +1,91 @@
+//! The worked rows: each script of the folder is run in memory, and its report compared with what stands
+//! beside it, a whole report or lines that come in this order, each as often as it stands there.
+#![tactic(auto)]
+
+use rpc_outside::{MemSink, MemSource};
+use rpc_tools::{Status, run};
+use std::alloc::Global;
+use std::rt::Files;
+use std::{fs, io};
+
+/// The cases with a whole report.
+const WHOLE: [&str; 1] = ["one_echo"];
+
+/// The cases with lines of a report.
+const LINES: [&str; 1] = ["repeated_packets"];
+
+/// More bytes than the report of a case has.
+const ROOM: u32 = 1 << 20;
+
+// The report of a script; an error where the run did not end well.
+fn report_of(alloc: Global, script: Vec<u8>) -> io::Result<String> {
+    let mut words = Vec::new(alloc);
+    words.push(String::from_str(alloc, "sim")?)?;
+    let mut source = MemSource::new(script, Vec::new(alloc));
+    let Ok(mut sink) = MemSink::new(alloc, ROOM, Vec::new(alloc)) else {
+        return Err(io::Error::from(io::ErrorKind::OutOfMemory));
+    };
+    let status = run(alloc, words.as_slice(), &mut source, &mut sink);
+    if status != Status::Done {
+        return Err(io::Error::from(io::ErrorKind::InvalidInput));
+    }
+    match str::from_utf8(sink.bytes()) {
+        Ok(text) => Ok(String::from_str(alloc, text)?),
+        Err(_) => Err(io::Error::from(io::ErrorKind::InvalidData)),
+    }
+}
+
+fn count_of(text: &str, wanted: &str) -> usize {
+    text.lines().filter(|line| *line == wanted).count()
+}
+
+// Whether the lines stand in the report in this order, each as often as among them.
+fn has_lines(report: &str, wanted: &str) -> bool {
+    let mut rest = report.lines();
+    for line in wanted.lines() {
+        if !rest.any(|told| told == line) {
+            return false;
+        }
+        if count_of(report, line) != count_of(wanted, line) {
+            return false;
+        }
+    }
+    true
+}
+
+fn run_case(rt: &(impl Files + AllocGlobal), name: &str) -> io::Result<String> {
+    let script = format!(in rt.alloc(); "{name}.script")?;
+    report_of(rt.alloc(), fs::read(rt, script.as_str())?)
+}
+
+fn is_whole(rt: &(impl Files + AllocGlobal), name: &str) -> io::Result<bool> {
+    let report = run_case(rt, name)?;
+    let path = format!(in rt.alloc(); "{name}.report")?;
+    let wanted = fs::read_to_string(rt, path.as_str())?;
+    Ok(report.as_str() == wanted.as_str())
+}
+
+fn is_in_order(rt: &(impl Files + AllocGlobal), name: &str) -> io::Result<bool> {
+    let report = run_case(rt, name)?;
+    let path = format!(in rt.alloc(); "{name}.lines")?;
+    let wanted = fs::read_to_string(rt, path.as_str())?;
+    Ok(has_lines(report.as_str(), wanted.as_str()))
+}
+
+fn tell(rt: &impl Print, name: &str, outcome: io::Result<bool>) -> io::Result<()> {
+    match outcome {
+        Ok(true) => println!(rt; "{name}: as expected"),
+        Ok(false) => println!(rt; "{name}: another report"),
+        Err(_) => println!(rt; "{name}: could not be run"),
+    }
+}
+
+fn main(rt: HostRuntime) -> io::Result<()> {
+    for name in WHOLE {
+        tell(&rt, name, is_whole(&rt, name))?;
+    }
+    for name in LINES {
+        tell(&rt, name, is_in_order(&rt, name))?;
+    }
+    println!(rt; "{} cases", WHOLE.len() + LINES.len())
+}
