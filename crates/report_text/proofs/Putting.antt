@@ -74,3 +74,17 @@ pub prints-page : {T E : Type 0} (empty held : List ℕ) (old mid new : Option (
 prints-page empty held old mid new before between after result text none first second =
     let same : text ≡ first.moved ++ held = ap (λ l. l ++ text) (sym none) ∙ first.whole in
     rw same (prints-then old mid new before between after result first.moved held first.wrote second)
+
+-- what was put, and what the page then held, was written
+pub puts-flushed : (a b : List ℕ) (old mid new : Option (List ℕ)) (before between after : ℕ) (text : List ℕ)
+    → Puts a b old mid before between text → Wrote mid new between after b → Puts a [] old new before after text
+puts-flushed a b old mid new before between after text p w = record {
+  moved = p.moved ++ b;
+  whole = p.whole ∙ sym (append-nil (p.moved ++ b));
+  wrote = wrote-then old mid new before between after p.moved b p.wrote w;
+}
+
+pub breaks-flushed : (a b : List ℕ) (old mid new : Option (List ℕ)) (before between after : ℕ) (text : List ℕ)
+    → Puts a b old mid before between text → Broke mid new between after b → Breaks a old new before after text
+breaks-flushed a b old mid new before between after text p w =
+    record { broke = rw p.whole (wrote-broke old mid new before between after p.moved b p.wrote w) }

@@ -9,8 +9,8 @@ use crate::events::{shape_for, tail_for};
 use crate::octets::put_more_bytes;
 use crate::page::Page;
 use crate::pieces::{
-    put_datagram, put_ending, put_entry, put_four, put_number, put_pair, put_reason, put_state,
-    put_three, put_two, put_word,
+    put_datagram, put_ending, put_entry, put_four, put_last, put_number, put_pair, put_reason,
+    put_state, put_three, put_two, put_word,
 };
 use crate::shape::{Shape, Tail};
 use rpc_base::{Fact, Who};
@@ -104,5 +104,5 @@ pub fn put_line<K: Sink>(sink: &mut K, page: &mut Page, fact: &Fact) -> Result<(
     ensures { Fills page.old page.new (K.written sink.old) (K.written sink.new) (K.faults sink.old) (K.faults sink.new) result (line_text fact.now) }
 {
     put_fact(sink, page, fact)?;
-    put_word(sink, page, "\n")
+    put_last(sink, page, "\n")
 }

@@ -4,7 +4,7 @@ ghost use Rattle.report_text.specs.Names.{owner_text, state_text, reason_text};
 ghost use Rattle.report_text.specs.Page.{Fills};
 
 use crate::names::{reason_word, state_word};
-use crate::page::{Page, put};
+use crate::page::{Page, flush, put};
 use crate::shape::Pair;
 use itoa::Buffer;
 use rpc_base::{DropReason, Owner, SessionState};
@@ -15,6 +15,15 @@ pub fn put_word<K: Sink>(sink: &mut K, page: &mut Page, word: &str) -> Result<()
     ensures { Fills page.old page.new (K.written sink.old) (K.written sink.new) (K.faults sink.old) (K.faults sink.new) result (word.now) }
 {
     put(sink, page, word.as_bytes())
+}
+
+/// Puts the last word of a line, and passes the line on to the sink.
+pub fn put_last<K: Sink>(sink: &mut K, page: &mut Page, word: &str) -> Result<(), Failed>
+    ensures { Fills page.old page.new (K.written sink.old) (K.written sink.new) (K.faults sink.old) (K.faults sink.new) result (word.now) }
+{
+    put_word(sink, page, word)?;
+    flush(sink, page)?;
+    Ok(())
 }
 
 /// Puts a number in decimal.

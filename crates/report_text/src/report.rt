@@ -6,7 +6,7 @@ ghost use Rattle.report_text.specs.Text.{line_text, text};
 
 use crate::line::put_line;
 use crate::page::{Page, flush};
-use crate::pieces::{put_pair, put_word};
+use crate::pieces::{put_last, put_pair};
 use rpc_base::Fact;
 use rpc_outside::{Failed, Sink};
 
@@ -24,7 +24,7 @@ fn put_lines<K: Sink>(sink: &mut K, page: &mut Page, facts: &[Fact]) -> Result<(
 fn put_facts<K: Sink>(sink: &mut K, page: &mut Page, facts: &[Fact]) -> Result<(), Failed>
     ensures { Fills page.old page.new (K.written sink.old) (K.written sink.new) (K.faults sink.old) (K.faults sink.new) result (codes "erpc-report 1\n" ++ flat_map line_text facts.now) }
 {
-    put_word(sink, page, "erpc-report 1\n")?;
+    put_last(sink, page, "erpc-report 1\n")?;
     put_lines(sink, page, facts)
 }
 
@@ -33,7 +33,7 @@ fn put_end<K: Sink>(sink: &mut K, page: &mut Page, count: u64) -> Result<(), Fai
     ensures { Fills page.old page.new (K.written sink.old) (K.written sink.new) (K.faults sink.old) (K.faults sink.new) result (codes "end " ++ decimal count ++ codes "\n") }
 {
     put_pair(sink, page, &("end ", count))?;
-    put_word(sink, page, "\n")
+    put_last(sink, page, "\n")
 }
 
 /// Puts a report.
@@ -44,7 +44,7 @@ fn put_report<K: Sink>(sink: &mut K, page: &mut Page, facts: &[Fact]) -> Result<
     put_end(sink, page, facts.len() as u64)
 }
 
-/// Writes the report of these facts, in large pieces. It takes no memory. `Failed` comes only where the sink
+/// Writes the report of these facts, a piece a line. It takes no memory. `Failed` comes only where the sink
 /// counts one more fault; a front of the report was then written.
 pub fn print_facts<K: Sink>(facts: &[Fact], sink: &mut K) -> Result<(), Failed>
     ensures { Prints (K.written sink.old) (K.written sink.new) (K.faults sink.old) (K.faults sink.new) result (text facts.now) }

@@ -214,7 +214,7 @@ fn a_long_line_goes_out_whole(rt: HostRuntime) -> Result<(), Fail> {
     assert_eq!(rt; sink.bytes().len(), 14 + 12 + 6000 + 1 + 6);
     assert!(rt; sink.bytes().ends_with(b"6161\nend 1\n"));
     assert_eq!(rt; print_facts(&notes.facts, &mut FirmSink::new()), Ok(()));
-    let mut faulty = MemSink::new(alloc, 10_000, vec![in alloc; 1]?)?;
+    let mut faulty = MemSink::new(alloc, 10_000, vec![in alloc; 2]?)?;
     assert_eq!(rt; print_facts(&notes.facts, &mut faulty), Err(Failed));
     assert!(rt;
         faulty

@@ -3,6 +3,9 @@ use Rattle.std.specs.Prelude.{ℕ, ◌≡◌, ◌<◌, ◌⊎◌, Option, Some, 
 use Rattle.std.specs.Io.KnownBytes.{Keeps}
 use Rattle.rpc_base.specs.declared.fact.Fact.{Fact}
 use Rattle.report_text.specs.Text.{text}
+use Rattle.rpc_laws.specs.AtMostOnce.{Once}
+use Rattle.rpc_laws.specs.BufferSafety.{SendsItsOwn}
+use Rattle.rpc_laws.specs.OwnAnswer.{Own}
 use Rattle.rpc_outside.specs.Faults.{HasRisen, IsQuiet}
 use Rattle.rpc_outside.specs.Writing.{Wrote, Broke}
 use Rattle.rpc_tools.specs.declared.reading.Input.{Input}
@@ -21,10 +24,15 @@ pub record Untouched (old new : Option (List ℕ)) (before after : ℕ) : Type 0
   pub kept : Keeps old new
   pub quiet : after ≡ before
 
--- the report of a history that follows the script was written
+-- the report of a history that follows the script was written. In that history no request runs twice, and
+-- no call begins or ends twice; each handler ran on its call's bytes, and each call ended with its own
+-- handler's answer; and each packet that was sent is its owner's
 pub record Reports (script : List Line) (old new : Option (List ℕ)) (before after : ℕ) : Type 0 where
   pub history : List Fact
   pub follows : Follows script history
+  pub once : Once history
+  pub own : Own history
+  pub sends_own : SendsItsOwn history
   pub wrote : Wrote old new before after (text history)
 
 -- a front of such a report was written, and the sink failed

@@ -9,3 +9,6 @@ mod tools;
 pub use simulation::sim;
 pub use status::Status;
 pub use tools::run;
+
+#[cfg(test)]
+mod tests;

@@ -1,2 +1,4 @@
 pub mod LaterLemmas
 pub mod PairLemmas
+pub mod ServedLaws
+pub mod ToldLemmas

@@ -11,8 +11,8 @@ ghost use Rattle.std.specs.List.{list_any, range_with_len};
 ghost use Rattle.rpc_world.specs.Performed.{Performed, PairsEnd};
 
 use crate::network::{launch, note_of_net, perform_net};
-use packet_header::MOST_MESSAGE_BYTES;
 use node_tables::note;
+use packet_header::MOST_MESSAGE_BYTES;
 use plain_node::{deliver, poll};
 use rpc_base::{CallNo, Event, Fact, Listed, NoMemory, NodeId, Octets, Peer, SessionNo, Who};
 use rpc_laws::{InFlight, Lists, Stage, Timed};

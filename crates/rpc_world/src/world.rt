@@ -1,6 +1,12 @@
 //! The world that runs a script.
 ghost use Rattle.std.specs.Prelude.{◌≡◌, List, Option, None, IfOk};
 ghost use Rattle.rpc_base.specs.declared.fact.Fact.{Fact};
+ghost use Rattle.rpc_laws.specs.AtMostOnce.{Once};
+ghost use Rattle.rpc_laws.specs.BufferSafety.{SendsItsOwn};
+ghost use Rattle.rpc_laws.specs.OwnAnswer.{Own};
+ghost use Rattle.rpc_laws.specs.AtMostOnce.{Once};
+ghost use Rattle.rpc_laws.specs.BufferSafety.{SendsItsOwn};
+ghost use Rattle.rpc_laws.specs.OwnAnswer.{Own};
 ghost use Rattle.rpc_world.specs.FirstForm.{later_of};
 ghost use Rattle.sim_script.specs.FollowsScript.{Follows};
 
@@ -47,7 +53,21 @@ impl World {
     /// there is no memory for the history and the tables.
     pub fn run(alloc: Global, script: &Script) -> Result<World, NoMemory>
         requires { later_of script.now ≡ None }
-        ensures { IfOk result (λ w. Follows script.now w) }
+        ensures follows { IfOk result (λ w. Follows script.now w) }
+        ensures sends_own { IfOk result (λ w. SendsItsOwn w) }
+        ensures once { IfOk result (λ w. Once w) }
+        ensures own { IfOk result (λ w. Own w) }
+    {
+        let world = World::play(alloc, script)?;
+        Ok(world)
+    }
+
+    // Does one command after the other.
+    fn play(alloc: Global, script: &Script) -> Result<World, NoMemory>
+        ensures follows { IfOk result (λ w. Follows script.now w) }
+        ensures sends_own { IfOk result (λ w. SendsItsOwn w) }
+        ensures once { IfOk result (λ w. Once w) }
+        ensures own { IfOk result (λ w. Own w) }
     {
         let mut facts = Listed::new(alloc);
         let mut stage = Stage {

@@ -1,1 +1,2 @@
 pub mod FollowsLemmas
+pub mod OneCallSteps

@@ -12,4 +12,4 @@ returns-in_err-put_fact g c =
 
 pub returns : goal.returns
 unfolding line_text
-returns g c = fills-then _ _ _ _ _ _ _ _ _ _ _ _ c.in_ok-put_fact.ensures c.put_word.ensures
+returns g c = fills-then _ _ _ _ _ _ _ _ _ _ _ _ c.in_ok-put_fact.ensures c.put_last.ensures

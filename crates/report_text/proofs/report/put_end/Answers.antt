@@ -9,4 +9,4 @@ returns-in_err-put_pair g c =
     rw p.1 (breaks-further _ _ _ _ _ _ _ c.in_err-put_pair.ensures)
 
 pub returns : goal.returns
-returns g c = fills-then _ _ _ _ _ _ _ _ _ _ _ _ c.in_ok-put_pair.ensures c.put_word.ensures
+returns g c = fills-then _ _ _ _ _ _ _ _ _ _ _ _ c.in_ok-put_pair.ensures c.put_last.ensures

@@ -1,6 +1,6 @@
 use Rattle.std.proofs.Common.{take}
 use Rattle.sim_script.specs.FollowsScript.{FollowsFrom, empty_stage}
-use Rattle.rpc_world.proofs.world.World.run.Given as goal
+use Rattle.rpc_world.proofs.world.World.play.Given as goal
 
 abbrev pub invariant-loop-line : goal.invariant-loop-line
 invariant-loop-line l = FollowsFrom (take l.line-index l.line-items) empty_stage l.facts l.stage

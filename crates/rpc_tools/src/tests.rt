@@ -1,0 +1,76 @@
+//! Faults of the outside: the source's second read, the sink's second write, and words that are no tool.
+use crate::status::Status;
+use crate::tools::run;
+use rpc_outside::{FirmSink, FirmSource, MemSink, MemSource};
+use sim_script::{BadScript, BadWhy};
+use std::alloc::{AllocError, Global};
+use std::test::Fail;
+
+const SCRIPT: &str =
+    "erpc-sim 1\nnode ring=32\nnode ring=32\npair 0 1 credits=1\ncall 0 0 1 68656c6c6f room=64\npoll 0\narrive 0\npoll 1\narrive 0\npoll 0\n";
+
+/// The first line of the report of the script above.
+const FIRST_LINE: &str = "erpc-report 1\n";
+
+const ROOM: u32 = 4096;
+
+fn bad_at(line: u32, why: BadWhy) -> Status {
+    Status::BadScript(BadScript { line, why })
+}
+
+fn words(alloc: Global, list: &[&str]) -> Result<Vec<String>, AllocError> {
+    let mut words = Vec::new(alloc);
+    for word in list {
+        words.push(String::from_str(alloc, word)?)?;
+    }
+    Ok(words)
+}
+
+fn source(alloc: Global, script: &str, fails: &[u64]) -> Result<MemSource, AllocError> {
+    let bytes = Vec::from_slice(alloc, script.as_bytes())?;
+    Ok(MemSource::new(bytes, Vec::from_slice(alloc, fails)?))
+}
+
+#[test]
+fn each_fault_has_its_status_and_leaves_a_front(rt: HostRuntime) -> Result<(), Fail> {
+    let alloc = rt.alloc();
+    let none: &[u64] = &[];
+    let second: &[u64] = &[1];
+    let unserved = "erpc-sim 1\nnode ring=32\nnode ring=32\ntick 1\n";
+    let cases = [
+        (SCRIPT, second, none, Status::ReadFault, ""),
+        (SCRIPT, none, second, Status::WriteFault, FIRST_LINE),
+        ("", none, none, bad_at(1, BadWhy::First), ""),
+        (unserved, none, none, bad_at(4, BadWhy::Later), ""),
+    ];
+    let sim = words(alloc, &["sim"])?;
+    for (script, reads, writes, wanted, written) in cases {
+        let mut source = source(alloc, script, reads)?;
+        let mut sink = MemSink::new(alloc, ROOM, Vec::from_slice(alloc, writes)?)?;
+        assert_eq!(rt; run(alloc, sim.as_slice(), &mut source, &mut sink), wanted);
+        assert_eq!(rt; sink.bytes(), written.as_bytes());
+    }
+    Ok(())
+}
+
+#[test]
+fn the_words_are_sim_alone(rt: HostRuntime) -> Result<(), Fail> {
+    let alloc = rt.alloc();
+    let bytes = Vec::from_slice(alloc, SCRIPT.as_bytes())?;
+    let mut source = FirmSource::new(bytes);
+    let mut sink = FirmSink::new();
+    for list in [&["sim", "x"][..], &["Sim"][..], &[][..]] {
+        let words = words(alloc, list)?;
+        assert_eq!(rt;
+            run(alloc, words.as_slice(), &mut source, &mut sink),
+            Status::Usage
+        );
+    }
+    let sim = words(alloc, &["sim"])?;
+    assert_eq!(rt;
+        run(alloc, sim.as_slice(), &mut source, &mut sink),
+        Status::Done
+    );
+    assert_eq!(rt; Status::Done.code(), 0);
+    Ok(())
+}
