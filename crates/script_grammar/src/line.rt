@@ -34,7 +34,7 @@ pub enum Command {
         node: NodeId,
         session: SessionNo,
     },
-    /// Sets the rate of a client session in bytes a second, 0 for none.
+    /// Sets the rate of a client session in bytes per millisecond, 0 for none.
     Rate {
         node: NodeId,
         session: SessionNo,
