@@ -4,7 +4,7 @@ ghost use Rattle.std.specs.List.{position, list_any};
 ghost use Rattle.packet_header.specs.declared.packet.MessageHeader.{MessageHeader};
 ghost use Rattle.rpc_laws.specs.Calls.{is_call, is_active, asking, begun, moved, posted_up_to, took_reply, is_response};
 ghost use Rattle.rpc_laws.specs.Sessions.{is_client, has_call, client_end, turned, begins, posts, takes, ends, clients_after, no_turns};
-ghost use Rattle.rpc_laws.specs.Tables.{at_first, without_first};
+ghost use Rattle.rpc_base.specs.Tables.{at_first, without_first};
 
 use crate::counting::one_more;
 use packet_header::{Kind, MessageHeader};

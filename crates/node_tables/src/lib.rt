@@ -14,6 +14,6 @@ pub use client::{is_a_response, make_client, place_of_active, place_of_client};
 pub use counting::one_more;
 pub use noting::note;
 pub use parts::{packets, part_bytes, part_of};
-pub use queues::{count_replies, is_same_owner};
+pub use queues::count_replies;
 pub use reading::{body, read_message};
 pub use server::{place_of_request, place_of_server, place_of_slot};

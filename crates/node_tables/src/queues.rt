@@ -1,7 +1,7 @@
 //! The receive ring and the queue of posted packets, as events change them.
 ghost use Rattle.std.specs.Prelude.{◌≡◌, OnOk};
 ghost use Rattle.std.specs.List.{position};
-ghost use Rattle.rpc_laws.specs.Queues.{ring_after, queued_after, same_owner, is_queued, is_reply, replies};
+ghost use Rattle.rpc_laws.specs.Queues.{ring_after, queued_after, is_queued, is_reply, replies};
 
 use rpc_base::{Event, Listed, NoMemory, Octets, Owner, Peer};
 use rpc_laws::{Arrival, Queued};
@@ -38,35 +38,11 @@ pub fn change_ring(
     Ok(())
 }
 
-/// Whether two owners are one.
-pub fn is_same_owner(left: Owner, right: Owner) -> bool
-    ensures { result ≡ same_owner left right }
-{
-    match left {
-        Owner::Ask { session, request } => match right {
-            Owner::Ask {
-                session: other,
-                request: number,
-            } => { session.0 == other.0 && request.get() == number.get() }
-            _ => false,
-        },
-        Owner::Reply { session, request } => match right {
-            Owner::Reply {
-                session: other,
-                request: number,
-            } => { session.0 == other.0 && request.get() == number.get() }
-            _ => false,
-        },
-        Owner::Control => false,
-    }
-}
-
 // Where the owner's packet of this number stands in the queue.
 fn place_of(queued: &Listed<Queued>, owner: Owner, number: u16) -> Option<usize>
     ensures { result ≡ position (is_queued owner number) queued.now }
 {
-    queued.as_slice().iter().position(|entry| is_same_owner(entry.owner, owner)
-        && entry.number == number)
+    queued.as_slice().iter().position(|entry| entry.owner.is_same(owner) && entry.number == number)
 }
 
 fn take_out(queued: &mut Listed<Queued>, owner: Owner, number: u16)

@@ -2,7 +2,7 @@
 ghost use Rattle.std.specs.Prelude.{◌≡◌, ◌++◌, ◌∷◌, [], OnOk};
 ghost use Rattle.std.specs.List.{position};
 ghost use Rattle.rpc_laws.specs.Requests.{is_server, is_request, in_slot_of, first_packet, next_packet, took_packet, answered, servers_after};
-ghost use Rattle.rpc_laws.specs.Tables.{at_first, without_first};
+ghost use Rattle.rpc_base.specs.Tables.{at_first, without_first};
 
 use crate::counting::one_more;
 use packet_header::MessageHeader;

@@ -6,9 +6,7 @@ ghost use Rattle.rpc_laws.specs.ClientTable.{is_cr, is_same_size, is_of_turn, pr
 ghost use Rattle.rpc_laws.specs.Queues.{is_queued};
 ghost use Rattle.rpc_laws.specs.Sessions.{is_client};
 
-use node_tables::{
-    is_a_response, is_same_owner, packets, part_bytes, place_of_active, place_of_client,
-};
+use node_tables::{is_a_response, packets, part_bytes, place_of_active, place_of_client};
 use packet_header::{Kind, MessageHeader};
 use rpc_base::{DropReason, Listed, Owner, Peer};
 use rpc_laws::{Asking, Call, Client, ClientRow, Progress, Queued};
@@ -49,8 +47,7 @@ fn fits_turn(what: &Asking, answer: Option<u32>, head: &MessageHeader, body_len:
 fn is_still_queued(queued: &Listed<Queued>, owner: Owner, number: u16) -> bool
     ensures { result ≡ list_any (is_queued owner number) queued.now }
 {
-    queued.as_slice().iter().any(|entry| is_same_owner(entry.owner, owner)
-        && entry.number == number)
+    queued.as_slice().iter().any(|entry| entry.owner.is_same(owner) && entry.number == number)
 }
 
 /// The call whose reply a packet is, by the session that it names.

@@ -5,7 +5,8 @@ ghost use Rattle.std.specs.List.{find, list_any};
 ghost use Rattle.node_tables.specs.Noted.{Noted, Makes};
 ghost use Rattle.rpc_laws.specs.Facts.{plain, with_two};
 ghost use Rattle.rpc_laws.specs.PollOrder.{asks_facts, replies_facts, handling_by, Handles};
-ghost use Rattle.rpc_laws.specs.Queues.{replies, same_owner};
+ghost use Rattle.rpc_laws.specs.Queues.{replies};
+ghost use Rattle.rpc_base.specs.Owners.{same_owner};
 ghost use Rattle.rpc_laws.specs.Requests.{is_request, is_server, in_slot_of};
 ghost use Rattle.rpc_laws.specs.ServerTable.{is_last, took_facts, joined, whole_ask, flushes, flushes_older, served_facts};
 ghost use Rattle.rpc_laws.specs.ClientTable.{reply_facts};
@@ -16,9 +17,7 @@ use crate::client_table::{owner_of_reply, row_of_reply};
 use crate::ending::{end_by, note_ending};
 use crate::server_table::{is_an_rfr, row_of_request};
 use crate::service::answer;
-use node_tables::{
-    body, is_same_owner, note, place_of_request, place_of_server, place_of_slot, read_message,
-};
+use node_tables::{body, note, place_of_request, place_of_server, place_of_slot, read_message};
 use packet_header::{Kind, MessageHeader, count};
 use rpc_base::{Event, Fact, Listed, NoMemory, Octets, Owner, Peer, RequestNo};
 use rpc_laws::{ClientRow, Lists, Queued, Served, Server, ServerRow, Timed};
@@ -158,7 +157,7 @@ fn has_queued(queued: &Listed<Queued>, owner: Owner) -> bool
     queued
         .as_slice()
         .iter()
-        .any(|entry| is_same_owner(entry.owner, owner))
+        .any(|entry| entry.owner.is_same(owner))
 }
 
 // Whether the newest request of the slot has a reply queued.

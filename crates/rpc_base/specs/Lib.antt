@@ -1,2 +1,5 @@
+pub mod Least
 pub mod Lends
 pub mod Limits
+pub mod Owners
+pub mod Tables

@@ -5,5 +5,4 @@ pub mod RunLemmas
 pub mod RunsLaws
 pub mod RunsLemmas
 pub mod ServantLemmas
-pub mod TablesLemmas
 pub mod TurnsLemmas

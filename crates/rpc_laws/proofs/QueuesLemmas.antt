@@ -3,7 +3,8 @@ use Rattle.std.proofs.Common.{◌≡◌, ℕ, Bool, true, false, ◌||◌, cond,
 use Rattle.std.specs.List.{list_any}
 use Rattle.rpc_base.specs.declared.owner.Owner.{Owner}
 use Rattle.rpc_laws.specs.declared.tables.Queued.{Queued}
-use Rattle.rpc_laws.specs.Queues.{same_owner, put, numbers_of}
+use Rattle.rpc_base.specs.Owners.{same_owner}
+use Rattle.rpc_laws.specs.Queues.{put, numbers_of}
 
 none-cons : (o : Owner) (q : Queued) (qs : List Queued) (b : Bool) → (list_any (λ q. same_owner q.owner o) qs ≡ false → numbers_of o qs ≡ []) → (b || list_any (λ q. same_owner q.owner o) qs) ≡ false → cond b (put q.number (numbers_of o qs)) (numbers_of o qs) ≡ []
 none-cons o q qs true ih h = cc

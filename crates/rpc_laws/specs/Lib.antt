@@ -18,4 +18,3 @@ pub mod ServerTable
 pub mod Service
 pub mod Sessions
 pub mod Steps
-pub mod Tables

@@ -43,7 +43,7 @@ can_post c = has_postable c.what c.progress
 abbrev pub next_packet : ℕ → Option Progress → Option Event
 next_packet session progress = option_map (λ p. Posted (Ask session p.request) p.posted) progress
 
--- the oldest active call that may posts its next packet, where a credit is free
+-- the oldest active call that may post posts its next packet, where a credit is free
 abbrev pub posting : Client → Option Event
 posting x =
     if x.free == 0 then None

@@ -6,7 +6,8 @@ use Rattle.rpc_base.specs.declared.owner.Owner.{Owner}
 use Rattle.rpc_base.specs.declared.owner.Owner.TheVariants.{Ask, Reply, Control}
 use Rattle.rpc_laws.specs.declared.tables.Arrival.{Arrival}
 use Rattle.rpc_laws.specs.declared.tables.Queued.{Queued}
-use Rattle.rpc_laws.specs.Tables.{without_first}
+use Rattle.rpc_base.specs.Owners.{same_owner}
+use Rattle.rpc_base.specs.Tables.{without_first}
 
 -- the message datagrams that arrived, less the front one at each Took, Again and Dropped
 abbrev pub ring_after : Event → List ℕ → List Arrival → List Arrival
@@ -15,12 +16,6 @@ ring_after (Took owner k) bytes ring = drop 1 ring
 ring_after (Again owner k) bytes ring = drop 1 ring
 ring_after (Dropped why) bytes ring = drop 1 ring
 ring_after _ bytes ring = ring
-
--- whether two owners are one
-abbrev pub same_owner : Owner → Owner → Bool
-same_owner (Ask s r) (Ask session request) = s == session && r == request
-same_owner (Reply t r) (Reply session request) = t == session && r == request
-same_owner _ _ = false
 
 abbrev pub is_queued : Owner → ℕ → Queued → Bool
 is_queued owner k q = same_owner q.owner owner && q.number == k

@@ -7,7 +7,7 @@ use Rattle.rpc_base.specs.declared.event.Event.TheVariants.{PairedServer, Took, 
 use Rattle.rpc_base.specs.declared.owner.Owner.TheVariants.{Reply}
 use Rattle.rpc_laws.specs.declared.tables.Served.{Served}
 use Rattle.rpc_laws.specs.declared.tables.Server.{Server}
-use Rattle.rpc_laws.specs.Tables.{at_first, without_first}
+use Rattle.rpc_base.specs.Tables.{at_first, without_first}
 
 abbrev pub is_server : ℕ → Server → Bool
 is_server number v = v.way.number == number

@@ -7,7 +7,7 @@ use Rattle.rpc_base.specs.declared.owner.Owner.TheVariants.{Ask}
 use Rattle.packet_header.specs.declared.packet.MessageHeader.{MessageHeader}
 use Rattle.rpc_laws.specs.declared.tables.Asking.{Asking}
 use Rattle.rpc_laws.specs.declared.tables.Client.{Client}
-use Rattle.rpc_laws.specs.Tables.{at_first, without_first}
+use Rattle.rpc_base.specs.Tables.{at_first, without_first}
 use Rattle.rpc_laws.specs.Calls.{is_call, is_active, asking, begun, moved, posted_up_to, took_reply}
 
 abbrev pub is_client : ℕ → Client → Bool

@@ -10,5 +10,5 @@ pub use history::History;
 pub use rows::{ClientRow, ServerRow};
 pub use tables::{
     Arrival, Asking, Call, Client, InFlight, Lists, Outgoing, Progress, Queued, Served, Server,
-    Stage, Timed, Way,
+    Timed, Way,
 };

@@ -124,11 +124,3 @@ pub struct InFlight {
     pub to: NodeId,
     pub bytes: Octets,
 }
-
-/// The nodes of a script, the copies in flight and the clock of the world.
-#[derive(Debug, Drop)]
-pub struct Stage {
-    pub nodes: Listed<Timed>,
-    pub flight: Listed<InFlight>,
-    pub clock: u64,
-}

@@ -1,5 +1,5 @@
 use Rattle.std.proofs.Common.{sym, ◌∙◌}
-use Rattle.rpc_laws.proofs.TablesLemmas.{without_first-found, without_first-missing}
+use Rattle.rpc_base.proofs.TablesLemmas.{without_first-found, without_first-missing}
 use Rattle.node_tables.proofs.queues.take_out.Goals as goal
 
 pub returns-in-Some : goal.returns-in-Some

@@ -1,5 +1,5 @@
 use Rattle.std.proofs.Common.{sym}
-use Rattle.rpc_laws.proofs.TablesLemmas.{at_first-found, at_first-missing}
+use Rattle.rpc_base.proofs.TablesLemmas.{at_first-found, at_first-missing}
 use Rattle.node_tables.proofs.server.answer_on.Goals as goal
 
 pub returns-in-None : goal.returns-in-None

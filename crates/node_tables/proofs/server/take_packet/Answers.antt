@@ -1,5 +1,5 @@
 use Rattle.std.proofs.Common.{sym}
-use Rattle.rpc_laws.proofs.TablesLemmas.{at_first-found, any-found, any-missing}
+use Rattle.rpc_base.proofs.TablesLemmas.{at_first-found, any-found, any-missing}
 use Rattle.node_tables.proofs.server.take_packet.Goals as goal
 
 pub returns-in_ok-begin_request-in-None : goal.returns-in_ok-begin_request-in-None

@@ -1,6 +1,6 @@
 use Rattle.std.proofs.Common.{sym, refl, ◌∙◌}
 use Rattle.rpc_laws.proofs.QueuesLemmas.{numbers_of-none}
-use Rattle.rpc_laws.proofs.TablesLemmas.{find-found, find-missing}
+use Rattle.rpc_base.proofs.TablesLemmas.{find-found, find-missing}
 use Rattle.plain_node.proofs.handling.has_reply_queued.Goals as goal
 
 pub returns-in-None : goal.returns-in-None

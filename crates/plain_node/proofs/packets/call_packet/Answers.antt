@@ -1,6 +1,6 @@
 use Rattle.std.proofs.Common.{Some, sym, refl, ap}
 use Rattle.rpc_laws.specs.declared.tables.Outgoing.{Outgoing}
-use Rattle.rpc_laws.proofs.TablesLemmas.{find-found, find-missing}
+use Rattle.rpc_base.proofs.TablesLemmas.{find-found, find-missing}
 use Rattle.plain_node.proofs.packets.call_packet.Goals as goal
 
 pub returns-in-None : goal.returns-in-None

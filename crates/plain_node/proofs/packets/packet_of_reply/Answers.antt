@@ -1,5 +1,5 @@
 use Rattle.std.proofs.Common.{sym, refl}
-use Rattle.rpc_laws.proofs.TablesLemmas.{find-found, find-missing}
+use Rattle.rpc_base.proofs.TablesLemmas.{find-found, find-missing}
 use Rattle.plain_node.proofs.packets.packet_of_reply.Goals as goal
 
 pub returns-in-None : goal.returns-in-None

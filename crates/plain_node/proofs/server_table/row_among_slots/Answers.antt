@@ -1,5 +1,5 @@
 use Rattle.std.proofs.Common.{sym}
-use Rattle.rpc_laws.proofs.TablesLemmas.{find-found, find-missing}
+use Rattle.rpc_base.proofs.TablesLemmas.{find-found, find-missing}
 use Rattle.plain_node.proofs.server_table.row_among_slots.Goals as goal
 
 pub returns-in-None : goal.returns-in-None

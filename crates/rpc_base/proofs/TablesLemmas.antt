@@ -3,7 +3,7 @@ use Rattle.std.proofs.Common.{◌≡◌, ℕ, zero, suc, ◌+◌, ◌<◌, ◌�
 use Rattle.std.specs.List.{slice_get, position, position_or_len, remove, find, list_any, slice_set}
 use Rattle.std.proofs.lemmas.List.Folds.{find_at}
 use Rattle.std.proofs.Math.Numerals.{one-add}
-use Rattle.rpc_laws.specs.Tables.{at_first, without_first}
+use Rattle.rpc_base.specs.Tables.{at_first, without_first}
 
 at_first-cons : {A : Type 0} (p : A → Bool) (f : A → A) (y : A) (ys : List A) (i : ℕ) (x : A) (b : Bool) → ((j : ℕ) → j ≡ position_or_len p ys → slice_get ys j ≡ Some x → at_first p f ys ≡ slice_set ys j (f x)) → i ≡ cond (not b) (1 + position_or_len p ys) 0 → slice_get (y ∷ ys) i ≡ Some x → cond b (f y ∷ ys) (y ∷ at_first p f ys) ≡ slice_set (y ∷ ys) i (f x)
 at_first-cons p f y ys i x true ih e h = let g = rw e at h in rw e (cc)
