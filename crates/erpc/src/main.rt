@@ -1,8 +1,9 @@
 //! The program: it makes the real ends, calls the top call, and tells how that ended.
 #![tactic(auto)]
 
-use rpc_outside::{IoSink, IoSource};
+use rpc_outside::{IoSink, IoSource, Kept, Source};
 use rpc_tools::{Status, run};
+use script_help::Explanation;
 use std::alloc::AllocError;
 use std::env;
 use std::io::{self, BufWriter};
@@ -19,28 +20,38 @@ fn words_of(rt: &(impl Env + AllocGlobal)) -> io::Result<Vec<String>> {
 }
 
 // The report goes out in large pieces.
-fn run_words(rt: &HostRuntime, words: &[String]) -> Status {
-    let mut source = IoSource::new(rt.stdin());
+fn run_words<S: Source>(rt: &HostRuntime, words: &[String], source: &mut S) -> Status {
     let Ok(writer) = BufWriter::new(rt.alloc(), rt.stdout()) else {
         return Status::NoMemory;
     };
     let mut sink = IoSink::new(writer);
-    let status = run(rt.alloc(), words, &mut source, &mut sink);
+    let status = run(rt.alloc(), words, source, &mut sink);
     match sink.flush() {
         Ok(()) => status,
         Err(_) => Status::WriteFault,
     }
 }
 
+// One line on standard error; for a bad script with what was expected in place of its bad line.
+fn complain(rt: &HostRuntime, status: Status, script: Option<&[u8]>) {
+    let _ = match (status, script) {
+        (Status::BadScript(bad), Some(bytes)) => {
+            eprintln!(rt; "erpc: {}", Explanation::of(bytes, bad))
+        }
+        _ => eprintln!(rt; "erpc: {status}"),
+    };
+}
+
 fn main(rt: HostRuntime) -> ExitCode {
+    let mut source = Kept::new(rt.alloc(), IoSource::new(rt.stdin()));
     let status = match words_of(&rt) {
-        Ok(words) => run_words(&rt, words.as_slice()),
+        Ok(words) => run_words(&rt, words.as_slice(), &mut source),
         Err(error) if error.kind() == io::ErrorKind::OutOfMemory => Status::NoMemory,
         // A word that is no text is in no line of the grammar.
         Err(_) => Status::Usage,
     };
     if status != Status::Done {
-        let _ = eprintln!(rt; "erpc: {status}");
+        complain(&rt, status, source.bytes());
     }
     ExitCode::from(status.code())
 }

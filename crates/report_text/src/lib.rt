@@ -2,6 +2,7 @@
 #![tactic(auto)]
 
 mod events;
+mod law;
 mod line;
 mod names;
 mod octets;
@@ -12,4 +13,5 @@ mod shape;
 #[cfg(test)]
 mod tests;
 
+pub use law::text_tells;
 pub use report::print_facts;

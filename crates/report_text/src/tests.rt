@@ -1,7 +1,8 @@
 //! The report of a whole small history, and a report that is longer than a page.
 use super::*;
 use rpc_base::{
-    CallNo, Event, Fact, NoMemory, NodeId, Octets, Owner, Peer, RequestNo, SessionNo, Who,
+    CallNo, DropReason, Event, Fact, NoMemory, NodeId, Octets, Owner, Peer, RequestNo, SessionNo,
+    SessionState, Who,
 };
 use rpc_outside::{Failed, FirmSink, MemSink};
 use std::alloc::Global;
@@ -221,5 +222,346 @@ fn a_long_line_goes_out_whole(rt: HostRuntime) -> Result<(), Fail> {
             .bytes()
             .starts_with(b"erpc-report 1\n0 arrived 1 6161")
     );
+    Ok(())
+}
+
+const S: SessionNo = SessionNo(1);
+
+const T: SessionNo = SessionNo(2);
+
+const P: Peer = Peer(3);
+
+const C: CallNo = CallNo(4);
+
+/// Request 13 is the second one of slot 5.
+fn request() -> RequestNo {
+    RequestNo::of(5, 1)
+}
+
+fn slot() -> Owner {
+    Owner::Reply {
+        session: T,
+        request: request(),
+    }
+}
+
+fn call() -> Owner {
+    Owner::Ask {
+        session: S,
+        request: request(),
+    }
+}
+
+/// The report of one event.
+fn told(
+    alloc: Global,
+    who: Who,
+    event: Event,
+    first: &[u8],
+    second: &[u8],
+) -> Result<String, Fail> {
+    let mut notes = Notes {
+        alloc,
+        facts: Vec::new(alloc),
+    };
+    notes.note(who, event, first, second)?;
+    let mut sink = MemSink::new(alloc, 4096, Vec::new(alloc))?;
+    print_facts(&notes.facts, &mut sink)?;
+    Ok(String::from_str(alloc, str::from_utf8(sink.bytes())?)?)
+}
+
+/// A report of one line.
+fn report(alloc: Global, line: &str) -> Result<String, Fail> {
+    Ok(format!(in alloc; "erpc-report 1\n{line}\nend 1\n")?)
+}
+
+/// The same of node 0.
+fn at_node_0(alloc: Global, line: &str) -> Result<String, Fail> {
+    let line = format!(in alloc; "0 {line}")?;
+    report(alloc, line.as_str())
+}
+
+#[test]
+fn each_event_of_sessions_has_its_line(rt: HostRuntime) -> Result<(), Fail> {
+    let state = SessionState::Spent;
+    let table = [
+        (Event::Made { ring: 32 }, "made ring 32"),
+        (
+            Event::Opened {
+                session: S,
+                peer: P,
+                credits: 9,
+            },
+            "opened 1 peer 3 credits 9",
+        ),
+        (
+            Event::PairedClient {
+                session: S,
+                peer: P,
+                server: T,
+                credits: 9,
+            },
+            "paired client 1 peer 3 with 2 credits 9",
+        ),
+        (
+            Event::PairedServer {
+                session: T,
+                peer: P,
+                client: S,
+                credits: 9,
+            },
+            "paired server 2 peer 3 with 1 credits 9",
+        ),
+        (
+            Event::NconnectRing {
+                shares: 30,
+                credits: 9,
+                ring: 32,
+            },
+            "nconnect ring 30 9 32",
+        ),
+        (Event::NconnectNumbers, "nconnect numbers"),
+        (
+            Event::Accepted {
+                session: T,
+                peer: P,
+                client: S,
+                credits: 9,
+            },
+            "accepted 2 peer 3 for 1 credits 9",
+        ),
+        (
+            Event::Declined {
+                peer: P,
+                client: S,
+                credits: 9,
+            },
+            "declined peer 3 for 1 credits 9",
+        ),
+        (
+            Event::Starved {
+                peer: P,
+                client: S,
+                credits: 9,
+            },
+            "starved peer 3 for 1 credits 9",
+        ),
+        (
+            Event::Connected {
+                session: S,
+                server: T,
+            },
+            "connected 1 with 2",
+        ),
+        (Event::FailedNoRoom { session: S }, "failed 1 noroom"),
+        (Event::FailedNoAnswer { session: S }, "failed 1 noanswer"),
+        (Event::Closing { session: S }, "closing 1"),
+        (Event::NcloseState { session: S, state }, "nclose 1 spent"),
+        (
+            Event::NcloseBusy {
+                session: S,
+                calls: 7,
+            },
+            "nclose 1 busy 7",
+        ),
+        (Event::ClosedHeard { session: S }, "closed 1 heard"),
+        (Event::ClosedUnheard { session: S }, "closed 1 unheard"),
+        (Event::Ended { session: T }, "ended 2"),
+        (Event::Broken { session: S }, "broken 1"),
+        (
+            Event::Rated {
+                session: S,
+                rate: 70,
+            },
+            "rated 1 70",
+        ),
+        (Event::Nrate { session: S, state }, "nrate 1 spent"),
+        (
+            Event::NcallTooLarge {
+                session: S,
+                len: 1_048_577,
+            },
+            "ncall 1 toolarge 1048577",
+        ),
+        (Event::NcallState { session: S, state }, "ncall 1 spent"),
+    ];
+    for (event, line) in table {
+        assert_eq!(rt;
+            told(rt.alloc(), ZERO, event, b"", b"")?,
+            at_node_0(rt.alloc(), line)?
+        );
+    }
+    Ok(())
+}
+
+#[test]
+fn each_event_of_calls_has_its_line(rt: HostRuntime) -> Result<(), Fail> {
+    let table = [
+        (
+            Event::Begun {
+                call: C,
+                request: request(),
+            },
+            "begun 4 as 13",
+        ),
+        (
+            Event::Posted {
+                owner: call(),
+                number: 6,
+            },
+            "posted c 1 13 6",
+        ),
+        (
+            Event::Flushed {
+                owner: slot(),
+                number: 6,
+            },
+            "flushed s 2 13 6",
+        ),
+        (Event::Heard, "heard"),
+        (
+            Event::Took {
+                owner: call(),
+                number: 6,
+            },
+            "took c 1 13 6",
+        ),
+        (
+            Event::Again {
+                owner: slot(),
+                number: 6,
+            },
+            "again s 2 13 6",
+        ),
+        (
+            Event::Dropped {
+                reason: DropReason::NoSession,
+            },
+            "dropped nosession",
+        ),
+        (
+            Event::Given {
+                session: T,
+                request: request(),
+            },
+            "given 2 13",
+        ),
+        (
+            Event::Worked {
+                session: T,
+                request: request(),
+            },
+            "worked 2 13",
+        ),
+        (
+            Event::Rolled {
+                call: C,
+                posted: 8,
+                got: 6,
+            },
+            "rolled 4 8 6",
+        ),
+        (
+            Event::DoneTooSmall { call: C, size: 9 },
+            "done 4 toosmall 9",
+        ),
+        (Event::DonePeerLost { call: C }, "done 4 peerlost"),
+        (Event::Polled { now: 5000 }, "polled 5000"),
+        (Event::Missed { number: 6 }, "missed 6"),
+    ];
+    for (event, line) in table {
+        assert_eq!(rt;
+            told(rt.alloc(), ZERO, event, b"", b"")?,
+            at_node_0(rt.alloc(), line)?
+        );
+    }
+    Ok(())
+}
+
+#[test]
+fn each_event_with_bytes_shows_them(rt: HostRuntime) -> Result<(), Fail> {
+    let control = Owner::Control;
+    let table: [(Event, &[u8], &[u8], &str); 9] = [
+        (
+            Event::Asked {
+                call: C,
+                session: S,
+                req_type: 5,
+                room: 64,
+            },
+            b"\x0a",
+            b"",
+            "asked 4 on 1 type 5 room 64 0a",
+        ),
+        (
+            Event::Sent {
+                peer: P,
+                owner: call(),
+                number: 6,
+            },
+            b"\x0a",
+            b"\x0b",
+            "sent 3 c 1 13 6 0a 0b",
+        ),
+        (
+            Event::Sent {
+                peer: P,
+                owner: control,
+                number: 0,
+            },
+            b"\x0a",
+            b"",
+            "sent 3 k 0 0 0 0a -",
+        ),
+        (Event::Unsent { peer: P }, b"\x0a", b"", "unsent 3 0a"),
+        (
+            Event::Arrived { peer: P },
+            b"\x0a\xff",
+            b"",
+            "arrived 3 0aff",
+        ),
+        (
+            Event::Overflowed { peer: P },
+            b"\x0a",
+            b"",
+            "overflowed 3 0a",
+        ),
+        (Event::Bad { peer: P }, b"", b"", "bad 3 -"),
+        (
+            Event::Ran {
+                session: T,
+                request: request(),
+                req_type: 5,
+            },
+            b"\x0a",
+            b"\x0b",
+            "ran 2 13 type 5 0a 0b",
+        ),
+        (Event::DoneOk { call: C }, b"\x0a", b"", "done 4 ok 0a"),
+    ];
+    for (event, first, second, line) in table {
+        assert_eq!(rt;
+            told(rt.alloc(), ZERO, event, first, second)?,
+            at_node_0(rt.alloc(), line)?
+        );
+    }
+    Ok(())
+}
+
+#[test]
+fn each_event_of_the_network_has_its_line(rt: HostRuntime) -> Result<(), Fail> {
+    let table = [
+        (Event::Carried { copy: 6 }, "net carried 6"),
+        (Event::Lost { copy: 6 }, "net lost 6"),
+        (Event::Repeated { copy: 6 }, "net repeated 6"),
+        (Event::Missed { number: 6 }, "net missed 6"),
+        (Event::Ticked { by: 6 }, "net ticked 6"),
+    ];
+    for (event, line) in table {
+        assert_eq!(rt;
+            told(rt.alloc(), Who::Net, event, b"", b"")?,
+            report(rt.alloc(), line)?
+        );
+    }
     Ok(())
 }

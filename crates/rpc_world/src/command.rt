@@ -11,11 +11,12 @@ ghost use Rattle.std.specs.List.{list_any, range_with_len};
 ghost use Rattle.rpc_world.specs.Performed.{Performed, PairsEnd};
 
 use crate::network::{launch, note_of_net, perform_net};
+use network_model::{Copy, Stage};
 use node_tables::note;
 use packet_header::MOST_MESSAGE_BYTES;
 use plain_node::{deliver, poll};
 use rpc_base::{CallNo, Event, Fact, Listed, NoMemory, NodeId, Octets, Peer, SessionNo, Who};
-use rpc_laws::{InFlight, Lists, Stage, Timed};
+use rpc_laws::{Lists, Timed};
 use sim_script::{AskBytes, Command};
 use std::alloc::{AllocError, Global};
 
@@ -71,7 +72,7 @@ fn poll_node(
     let before = facts.len();
     let now = stage.clock;
     poll(alloc, stage.nodes.at_mut(place), facts, now)?;
-    launch(alloc, &mut stage.flight, &facts.as_slice()[before..])?;
+    launch(&mut stage.flight, &facts.as_slice()[before..])?;
     Ok(())
 }
 
@@ -79,7 +80,7 @@ fn deliver_to(
     alloc: Global,
     stage: &mut Stage,
     facts: &mut Listed<Fact>,
-    copy: &InFlight,
+    copy: &Copy,
 ) -> Result<(), NoMemory>
     ensures { OnOk result
         (Performed (AtNode (Delivers copy.now.from copy.now.bytes) copy.now.to) stage.old stage.new facts.old facts.new) }
@@ -96,7 +97,7 @@ fn deliver_to(
         Peer(copy.from.0),
         copy.bytes.bytes(),
     )?;
-    launch(alloc, &mut stage.flight, &facts.as_slice()[before..])?;
+    launch(&mut stage.flight, &facts.as_slice()[before..])?;
     Ok(())
 }
 
@@ -109,12 +110,10 @@ fn arrive(
 ) -> Result<(), NoMemory>
     ensures { OnOk result (Performed (Arrives copy) stage.old stage.new facts.old facts.new) }
 {
-    let place = copy as usize;
-    if place >= stage.flight.len() {
+    let Some(taken) = stage.flight.carry(copy) else {
         perform_net(alloc, stage, facts, &Event::Missed { number: copy })?;
         return Ok(());
-    }
-    let taken = stage.flight.remove_at(place);
+    };
     note_of_net(alloc, facts, &Event::Carried { copy })?;
     deliver_to(alloc, stage, facts, &taken)?;
     Ok(())
@@ -243,7 +242,7 @@ fn ask_on(
         ask,
         room,
     )?;
-    launch(alloc, &mut stage.flight, &facts.as_slice()[before..])?;
+    launch(&mut stage.flight, &facts.as_slice()[before..])?;
     Ok(())
 }
 

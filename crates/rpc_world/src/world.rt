@@ -9,8 +9,9 @@ ghost use Rattle.sim_script.specs.FollowsScript.{Follows};
 
 use crate::command::execute;
 use crate::form::{Form, serve};
+use network_model::{Net, Stage};
 use rpc_base::{Listed, NoMemory};
-use rpc_laws::{History, Stage};
+use rpc_laws::History;
 use sim_script::Script;
 use std::alloc::Global;
 use std::marker::Model;
@@ -66,7 +67,7 @@ impl World {
         let mut facts = Listed::new(alloc);
         let mut stage = Stage {
             nodes: Listed::new(alloc),
-            flight: Listed::new(alloc),
+            flight: Net::new(alloc),
             clock: 0,
         };
         for line in script.lines() {

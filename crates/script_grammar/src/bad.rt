@@ -31,8 +31,7 @@ pub enum BadWhy {
     Node,
     /// A pair or a connect of a node with itself.
     Same,
-    /// Text that was not there at the first reading. `read` never answers it; it is for those who read a
-    /// script in parts.
+    /// A command that isn't served yet. `read` never answers it: the world tells which commands it serves.
     Later,
 }
 

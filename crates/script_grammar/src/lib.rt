@@ -16,6 +16,7 @@ mod verb;
 
 pub use bad::{BadScript, BadWhy, ReadError};
 pub use line::{AskBytes, Command, Line};
+pub use numbers::number;
 pub use reading::read;
 pub use script::Script;
 

@@ -47,11 +47,12 @@ fn whole_texts_are_bad(rt: HostRuntime) {
 
 #[test]
 fn lines_after_two_nodes_are_bad(rt: HostRuntime) -> Result<(), Fail> {
-    let table: [(&[u8], BadWhy); 43] = [
+    let table: [(&[u8], BadWhy); 55] = [
         (b"poke 0", BadWhy::Word),
         (b"POLL 0", BadWhy::Word),
         (b" poll 0", BadWhy::Word),
         (b" ", BadWhy::Word),
+        (b"poll\t0", BadWhy::Word),
         (b"poll", BadWhy::Shape),
         (b"poll ", BadWhy::Shape),
         (b"poll  0", BadWhy::Shape),
@@ -69,19 +70,30 @@ fn lines_after_two_nodes_are_bad(rt: HostRuntime) -> Result<(), Fail> {
         (b"poll 0\r", BadWhy::Number),
         (b"poll x", BadWhy::Number),
         (b"pair 0 1 credits=0", BadWhy::Number),
+        (b"pair 0 1 credits=257", BadWhy::Number),
+        (b"connect 0 1 credits=0", BadWhy::Number),
         (b"connect 0 1 credits=257", BadWhy::Number),
         (b"disconnect 0 65535", BadWhy::Number),
+        (b"rate 0 65535 0", BadWhy::Number),
         (b"rate 0 0 4294967296", BadWhy::Number),
+        (b"call 0 65535 0 - room=0", BadWhy::Number),
         (b"call 0 0 256 - room=0", BadWhy::Number),
         (b"call 0 0 0 x room=1048577", BadWhy::Number),
+        (b"arrive 4294967296", BadWhy::Number),
         (b"arrive 99999999999999999999999", BadWhy::Number),
+        (b"lose 4294967296", BadWhy::Number),
+        (b"repeat 4294967296", BadWhy::Number),
+        (b"tick -1", BadWhy::Number),
         (b"tick 1000000001", BadWhy::Number),
+        (b"work 0 4294967296", BadWhy::Number),
         (b"settle 0", BadWhy::Number),
+        (b"settle 01", BadWhy::Number),
         (b"settle 1000001", BadWhy::Number),
         (b"call 9 0 0 6 room=0", BadWhy::Hex),
         (b"call 0 0 0 6A room=0", BadWhy::Hex),
         (b"call 0 0 0 6g room=0", BadWhy::Hex),
         (b"call 0 0 0 -- room=0", BadWhy::Hex),
+        (b"call 0 0 0 -00 room=0", BadWhy::Hex),
         (b"call 0 0 0 * room=0", BadWhy::Hex),
         (b"call 0 0 0 *01 room=0", BadWhy::Hex),
         (b"call 0 0 0 *2097153 room=0", BadWhy::Hex),
@@ -118,6 +130,10 @@ fn limits_stand_at_their_edges(rt: HostRuntime) -> Result<(), Fail> {
     let mut more = padded(rt.alloc(), TWO_NODES, most)?;
     more.extend_from_slice(b"# a comment without its line feed")?;
     check_bad(&rt, rt.alloc(), more.as_slice(), 100_001, BadWhy::Lines);
+    let feeds = padded(rt.alloc(), TWO_NODES, most + 1)?;
+    check_bad(&rt, rt.alloc(), feeds.as_slice(), 100_001, BadWhy::Lines);
+    let earlier = padded(rt.alloc(), b"erpc-sim 1\nnode\n", most)?;
+    check_bad(&rt, rt.alloc(), earlier.as_slice(), 2, BadWhy::Shape);
     let long = padded(rt.alloc(), b"", 16_777_217)?;
     check_bad(&rt, rt.alloc(), long.as_slice(), 0, BadWhy::TooLong);
     let longest = padded(rt.alloc(), b"", 16_777_216)?;

@@ -1,7 +1,7 @@
 -- A history that follows some lines, and one line more.
 use Rattle.std.proofs.Common.{◌≡◌, List, [], ◌∷◌, ◌++◌, refl, sym, subst, ap, ◌∙◌, append_assoc, append-nil}
 use Rattle.rpc_base.specs.declared.fact.Fact.{Fact}
-use Rattle.rpc_laws.specs.declared.tables.Stage.{Stage}
+use Rattle.network_model.specs.declared.stage.Stage.{Stage}
 use Rattle.script_grammar.specs.declared.line.Line.{Line}
 use Rattle.sim_script.specs.FollowsScript.{Does, Joins, FollowsFrom}
 

@@ -7,7 +7,7 @@ use Rattle.rpc_base.specs.declared.event.Event.TheVariants.{Missed, Carried, Los
 use Rattle.rpc_base.specs.declared.fact.Fact.{Fact}
 use Rattle.rpc_laws.specs.declared.tables.InFlight.{InFlight}
 use Rattle.rpc_laws.specs.declared.tables.Lists.{Lists}
-use Rattle.rpc_laws.specs.declared.tables.Stage.{Stage}
+use Rattle.network_model.specs.declared.stage.Stage.{Stage}
 use Rattle.rpc_laws.specs.declared.tables.Timed.{Timed}
 use Rattle.rpc_laws.specs.Deliveries.{Delivers}
 use Rattle.rpc_laws.specs.Facts.{of_net}

@@ -3,5 +3,5 @@
 
 mod report;
 
-pub use report::print;
+pub use report::{print, report_tells};
 pub use script_grammar::{AskBytes, BadScript, BadWhy, Command, Line, ReadError, Script, read};

@@ -9,7 +9,7 @@ use std::rt::Files;
 use std::{fs, io};
 
 /// The cases with a whole report.
-const WHOLE: [&str; 1] = ["one_echo"];
+const WHOLE: [&str; 2] = ["one_echo", "every_served_command"];
 
 /// The cases with lines of a report.
 const LINES: [&str; 1] = ["repeated_packets"];

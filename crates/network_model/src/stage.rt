@@ -1,0 +1,12 @@
+//! What a script works on.
+use crate::net::Net;
+use rpc_base::Listed;
+use rpc_laws::Timed;
+
+/// The nodes of a script, the copies in flight and the clock of the world in microseconds.
+#[derive(Debug, Drop)]
+pub struct Stage {
+    pub nodes: Listed<Timed>,
+    pub flight: Net,
+    pub clock: u64,
+}

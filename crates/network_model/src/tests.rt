@@ -1,0 +1,33 @@
+//! One walk through the calls, beside what each leaves in flight.
+use crate::{Copy, Net};
+use rpc_base::NodeId;
+use std::test::Fail;
+
+const ZERO: NodeId = NodeId(0);
+
+const ONE: NodeId = NodeId(1);
+
+/// Sender and last byte of a copy.
+fn shown(copy: Option<Copy>) -> Option<(u8, u8)> {
+    let copy = copy?;
+    let last = copy.bytes.bytes().last()?;
+    Some((copy.from.0, *last))
+}
+
+#[test]
+fn copies_are_numbered_from_the_front(rt: HostRuntime) -> Result<(), Fail> {
+    let mut net = Net::new(rt.alloc());
+    net.send(ZERO, ONE, b"head", b"a")?;
+    net.send(ONE, ZERO, b"head", b"b")?;
+    net.send(ZERO, ONE, b"head", b"c")?;
+    assert_eq!(rt; net.len(), 3);
+    assert_eq!(rt; (net.repeat(1)?, net.repeat(4)?), (true, false));
+    assert_eq!(rt; shown(net.lose(1)), Some((1, b'b')));
+    assert_eq!(rt; shown(net.carry(0)), Some((0, b'a')));
+    assert_eq!(rt; shown(net.carry(1)), Some((1, b'b')));
+    assert_eq!(rt; shown(net.carry(1)), None);
+    assert_eq!(rt; shown(net.lose(1)), None);
+    assert_eq!(rt; shown(net.carry(0)), Some((0, b'c')));
+    assert_eq!(rt; net.len(), 0);
+    Ok(())
+}

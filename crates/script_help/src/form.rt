@@ -1,0 +1,144 @@
+//! The form of each command: "Scripts" of docs/FORMATS.md, row by row.
+
+/// One word of a command after its first.
+#[derive(Clone, Copy, Debug, PartialEq, Eq)]
+pub enum Field {
+    /// The number of a node.
+    Node,
+    /// A number in a range, after its key.
+    Number {
+        key: &'static str,
+        low: u32,
+        high: u32,
+    },
+    /// The bytes of a call.
+    Ask,
+}
+
+/// What a command looks like.
+#[derive(Clone, Copy, Debug)]
+pub struct Form {
+    pub name: &'static str,
+    pub usage: &'static str,
+    pub fields: &'static [Field],
+}
+
+const CREDITS: Field = Field::Number {
+    key: "credits=",
+    low: 1,
+    high: 256,
+};
+
+const SESSION: Field = Field::Number {
+    key: "",
+    low: 0,
+    high: 65_534,
+};
+
+const ANY: Field = Field::Number {
+    key: "",
+    low: 0,
+    high: u32::MAX,
+};
+
+const FORMS: [Form; 13] = [
+    Form {
+        name: "node",
+        usage: "node ring=R",
+        fields: &[Field::Number {
+            key: "ring=",
+            low: 32,
+            high: 4_096,
+        }],
+    },
+    Form {
+        name: "pair",
+        usage: "pair A B credits=C",
+        fields: &[Field::Node, Field::Node, CREDITS],
+    },
+    Form {
+        name: "connect",
+        usage: "connect A B credits=C",
+        fields: &[Field::Node, Field::Node, CREDITS],
+    },
+    Form {
+        name: "disconnect",
+        usage: "disconnect A S",
+        fields: &[Field::Node, SESSION],
+    },
+    Form {
+        name: "rate",
+        usage: "rate A S B",
+        fields: &[Field::Node, SESSION, ANY],
+    },
+    Form {
+        name: "call",
+        usage: "call A S Y ASK room=R",
+        fields: &[
+            Field::Node,
+            SESSION,
+            Field::Number {
+                key: "",
+                low: 0,
+                high: 255,
+            },
+            Field::Ask,
+            Field::Number {
+                key: "room=",
+                low: 0,
+                high: 1_048_576,
+            },
+        ],
+    },
+    Form {
+        name: "poll",
+        usage: "poll A",
+        fields: &[Field::Node],
+    },
+    Form {
+        name: "arrive",
+        usage: "arrive I",
+        fields: &[ANY],
+    },
+    Form {
+        name: "lose",
+        usage: "lose I",
+        fields: &[ANY],
+    },
+    Form {
+        name: "repeat",
+        usage: "repeat I",
+        fields: &[ANY],
+    },
+    Form {
+        name: "tick",
+        usage: "tick T",
+        fields: &[Field::Number {
+            key: "",
+            low: 0,
+            high: 1_000_000_000,
+        }],
+    },
+    Form {
+        name: "work",
+        usage: "work A J",
+        fields: &[Field::Node, ANY],
+    },
+    Form {
+        name: "settle",
+        usage: "settle K",
+        fields: &[Field::Number {
+            key: "",
+            low: 1,
+            high: 1_000_000,
+        }],
+    },
+];
+
+/// The form of the command with this name, if there is one.
+pub fn form_of(name: &[u8]) -> Option<Form> {
+    FORMS
+        .iter()
+        .copied()
+        .find(|form| form.name.as_bytes() == name)
+}
