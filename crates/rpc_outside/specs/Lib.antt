@@ -1,4 +1,9 @@
 pub mod CallLog
 pub mod Faults
 pub mod Memory
+pub mod PlainAnswer
+pub mod PlainLaws
+pub mod PlainStands
+pub mod Recording
+pub mod Served
 pub mod Writing

@@ -1,0 +1,6 @@
+-- What a service served.
+use Rattle.std.specs.Prelude.{ℕ, List}
+
+-- the inline requests that were served so far, in order: their types and bytes
+abbrev pub Served : Type 0
+Served = List (ℕ × List ℕ)
