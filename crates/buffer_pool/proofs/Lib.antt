@@ -1,0 +1,4 @@
+pub mod LowestLemmas
+pub mod PoolLemmas
+pub mod TreeLemmas
+pub mod UsesLemmas

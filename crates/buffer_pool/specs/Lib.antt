@@ -1,0 +1,4 @@
+pub mod Pool
+pub mod Tree
+pub mod Uses
+pub mod Lending

@@ -1,0 +1,12 @@
+//! The buffer that holds a message: its bytes and the headers of its packets, in one block of
+//! memory. It knows nothing of sessions, of places in a pool, or of what a header says.
+#![tactic(auto)]
+
+mod block;
+mod buffer;
+
+pub use block::MOST_CAPACITY;
+pub use buffer::MsgBuf;
+
+#[cfg(test)]
+mod tests;
