@@ -1,1 +1,3 @@
+pub mod LeastLemmas
 pub mod TablesLemmas
+pub mod TakingLemmas

@@ -3,3 +3,4 @@ pub mod Lends
 pub mod Limits
 pub mod Owners
 pub mod Tables
+pub mod Taking

@@ -1,0 +1,3 @@
+pub mod MentionsLemmas
+pub mod RingsLemmas
+pub mod TurningLemmas

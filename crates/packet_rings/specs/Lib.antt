@@ -1,0 +1,4 @@
+pub mod Entries
+pub mod Mentions
+pub mod Rings
+pub mod Values

@@ -1,0 +1,150 @@
+//! The longest datagram, a full ring, and which entry of an owner is flushed.
+ghost use Rattle.std.specs.Prelude.{◌≤◌, length};
+
+use crate::{Datagram, Entry, MOST_DATAGRAM_BYTES, RxRing, TxRing};
+use rpc_base::{NoMemory, Owner, Peer, Place, RequestNo, SessionNo};
+use std::alloc::Global;
+use std::test::Fail;
+
+/// The client's call of slot 0 in session 4.
+fn ask() -> Owner {
+    Owner::Ask {
+        session: SessionNo(4),
+        request: RequestNo::of(0, 0),
+    }
+}
+
+/// The next request of the same slot.
+fn next_ask() -> Owner {
+    Owner::Ask {
+        session: SessionNo(4),
+        request: RequestNo::of(0, 1),
+    }
+}
+
+/// The server's slot of the same numbers.
+fn reply() -> Owner {
+    Owner::Reply {
+        session: SessionNo(4),
+        request: RequestNo::of(0, 0),
+    }
+}
+
+fn entry(owner: Owner, number: u16, place: u32) -> Entry {
+    Entry {
+        owner,
+        number,
+        place: Some(Place(place)),
+        peer: Peer(1),
+    }
+}
+
+#[test]
+fn a_datagram_holds_1040_bytes(rt: HostRuntime) {
+    let bytes = [0x5a; MOST_DATAGRAM_BYTES + 1];
+    for (len, fits) in [(0, true), (1, true), (1040, true), (1041, false)] {
+        match Datagram::of(Peer(3), &bytes[..len]) {
+            Some(datagram) => {
+                assert!(rt; fits, "at {len}");
+                assert_eq!(rt; datagram.peer(), Peer(3));
+                assert_eq!(rt; datagram.bytes(), &bytes[..len]);
+            }
+            None => assert!(rt; !fits, "at {len}"),
+        }
+    }
+}
+
+fn first_byte(datagram: Option<&Datagram>) -> Option<u8> {
+    datagram.and_then(|it| it.bytes().first().copied())
+}
+
+#[test]
+fn a_full_ring_hands_the_datagram_back(rt: HostRuntime) -> Result<(), Fail> {
+    let mut ring = RxRing::new(rt.alloc(), 1)?;
+    for (byte, back) in [(5, None), (6, Some(6))] {
+        let Some(datagram) = Datagram::of(Peer(0), &[byte]) else {
+            continue;
+        };
+        let handed_back = ring.push(datagram).err();
+        assert_eq!(rt; first_byte(handed_back.as_ref()), back);
+        assert_eq!(rt; ring.len(), 1);
+        assert_eq!(rt; first_byte(ring.front()), Some(5));
+    }
+    assert_eq!(rt; first_byte(ring.pop().as_ref()), Some(5));
+    assert!(rt; ring.pop().is_none());
+    Ok(())
+}
+
+#[test]
+fn the_least_number_is_flushed_first(rt: HostRuntime) -> Result<(), Fail> {
+    let mut ring = TxRing::new(rt.alloc(), 3)?;
+    ring.push(entry(ask(), 1, 10));
+    ring.push(entry(reply(), 0, 11));
+    ring.push(entry(ask(), 0, 12));
+    assert_eq!(rt; ring.len(), 3);
+    assert_eq!(rt; ring.least(ask()), Some(0));
+    assert_eq!(rt; ring.least(next_ask()), None);
+    assert!(rt; ring.holds(ask(), 1));
+    assert!(rt; !ring.holds(reply(), 1));
+    assert_eq!(rt; ring.flush(ask()), Some(entry(ask(), 0, 12)));
+    assert_eq!(rt; ring.flush(ask()), Some(entry(ask(), 1, 10)));
+    assert_eq!(rt; ring.flush(ask()), None);
+    assert_eq!(rt; ring.front().copied(), Some(entry(reply(), 0, 11)));
+    assert_eq!(rt; ring.pop(), Some(entry(reply(), 0, 11)));
+    assert_eq!(rt; ring.pop(), None);
+    Ok(())
+}
+
+/// A ring of eight with these entries.
+fn filled(alloc: Global, entries: &[Entry]) -> Result<TxRing, NoMemory>
+    requires { length entries.now ≤ 8 }
+{
+    let mut ring = TxRing::new(alloc, 8)?;
+    for entry in entries {
+        ring.push(*entry);
+    }
+    Ok(ring)
+}
+
+#[test]
+fn the_others_keep_their_order(rt: HostRuntime) -> Result<(), Fail> {
+    let entries = [
+        entry(ask(), 2, 0),
+        entry(next_ask(), 1, 1),
+        entry(ask(), 1, 2),
+        entry(reply(), 1, 3),
+        entry(ask(), 1, 4),
+        entry(reply(), 0, 5),
+        entry(next_ask(), 0, 6),
+        entry(ask(), 0, 7),
+    ];
+    // the owners that are flushed, the place of the last entry flushed, and the places left
+    let table: [(&[Owner], Option<u32>, &[u32]); 9] = [
+        (&[reply()], Some(5), &[0, 1, 2, 3, 4, 6, 7]),
+        (&[reply(), ask()], Some(7), &[0, 1, 2, 3, 4, 6]),
+        (&[ask(), ask()], Some(2), &[0, 1, 3, 4, 5, 6]),
+        (&[ask(), ask(), ask()], Some(4), &[0, 1, 3, 5, 6]),
+        (&[ask(), ask(), ask(), ask()], Some(0), &[1, 3, 5, 6]),
+        (&[ask(), ask(), ask(), ask(), ask()], None, &[1, 3, 5, 6]),
+        (&[next_ask()], Some(6), &[0, 1, 2, 3, 4, 5, 7]),
+        (
+            &[next_ask(), reply(), next_ask()],
+            Some(1),
+            &[0, 2, 3, 4, 7],
+        ),
+        (&[reply(), reply(), reply()], None, &[0, 1, 2, 4, 6, 7]),
+    ];
+    for (owners, taken, left) in table {
+        let mut ring = filled(rt.alloc(), &entries)?;
+        let mut last = None;
+        for owner in owners {
+            last = ring.flush(*owner);
+        }
+        assert_eq!(rt; last.and_then(|it| it.place).map(|it| it.0), taken);
+        for place in left {
+            assert_eq!(rt; ring.pop().and_then(|it| it.place), Some(Place(*place)));
+        }
+        assert_eq!(rt; ring.pop(), None);
+    }
+    Ok(())
+}

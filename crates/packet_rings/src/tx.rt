@@ -1,0 +1,114 @@
+//! The transmit ring.
+ghost use Rattle.std.specs.Prelude.{◌≡◌, ◌<◌, ◌≤◌, ◌↔◌, [], ◌∷◌, ◌++◌, ◌+◌, ℕ, false, length, drop, slice_get, option_copied, IfOk, IfSome, IfNone, IsNone, IsTrue};
+ghost use Rattle.std.specs.List.{list_any, filter, Contains};
+ghost use Rattle.rpc_base.specs.Least.{least_number, least, without_least};
+ghost use Rattle.packet_rings.specs.Entries.{is_of, is_not_of, is_entry, number_of, NoneLower};
+ghost use Rattle.packet_rings.specs.Mentions.{mentions};
+ghost use Rattle.rpc_base.specs.Taking.{TakenOut};
+ghost use Rattle.packet_rings.specs.Rings.{ring};
+
+use crate::entry::Entry;
+use crate::least::{least_of, take_least};
+use circular_buffer::HeapCircularBuffer;
+use rpc_base::{NoMemory, Owner};
+use std::alloc::Global;
+use std::marker::Model;
+
+/// The packets that were posted and are neither sent nor flushed, the oldest in front, in a ring of
+/// fixed size.
+#[derive(Drop)]
+pub struct TxRing {
+    entries: HeapCircularBuffer<Entry>,
+}
+
+impl Model for TxRing {
+    ghost use Rattle.std.specs.Prelude.{◌^◌, ◌<◌, ◌≤◌, length};
+    ghost use Rattle.packet_rings.specs.Values.{EntryValue};
+    ghost use Rattle.packet_rings.specs.Rings.{Ring, ring};
+
+    ghost Value = { Ring EntryValue };
+
+    ghost view = { λ r. ring r.entries.items r.entries.capacity };
+
+    ghost invariant = { λ r. (length r.entries.items ≤ r.entries.capacity) × (r.entries.capacity < 2 ^ 32) };
+}
+
+impl TxRing {
+    /// An empty ring of `size` entries, whose memory is taken here. A ring of size 0 takes no entry.
+    /// `NoMemory` comes only where there is no memory for it.
+    pub fn new(alloc: Global, size: u32) -> Result<TxRing, NoMemory>
+        ensures { IfOk result (λ r. r ≡ ring [] size) }
+    {
+        let entries = HeapCircularBuffer::with_capacity(alloc, size as usize)?;
+        Ok(TxRing { entries })
+    }
+
+    /// How many entries wait.
+    pub fn len(&self) -> u32
+        ensures len { result ≡ length self.now.items }
+        ensures within { result ≤ self.now.size }
+    {
+        self.entries.len() as u32
+    }
+
+    /// Puts an entry at the back of a ring that isn't full.
+    pub fn push(&mut self, entry: Entry)
+        requires room { length self.old.items < self.old.size }
+        ensures { self.new ≡ ring (self.old.items ++ entry ∷ []) self.old.size }
+    {
+        // There is room, so the ring gives up nothing.
+        let _none = self.entries.push_back(entry);
+    }
+
+    /// Lends the oldest entry. None exactly where the ring is empty.
+    pub fn front(&self) -> Option<&Entry>
+        ensures { option_copied result ≡ slice_get self.now.items 0 }
+    {
+        self.entries.front()
+    }
+
+    /// Takes the oldest entry out. None exactly where the ring is empty.
+    pub fn pop(&mut self) -> Option<Entry>
+        ensures front { result ≡ slice_get self.old.items 0 }
+        ensures rest { self.new ≡ ring (drop 1 self.old.items) self.old.size }
+    {
+        self.entries.pop_front()
+    }
+
+    /// The least number among that owner's entries. None exactly where it has no entry.
+    pub fn least(&self, owner: Owner) -> Option<u16>
+        ensures least { result ≡ least_number (is_of owner) number_of self.now.items }
+        ensures none { IsNone result ↔ (list_any (is_of owner) self.now.items ≡ false) }
+        ensures held { IfSome result (λ n. IsTrue (list_any (is_entry owner n) self.now.items)) }
+        ensures lowest { IfSome result (λ n. NoneLower owner n self.now.items) }
+    {
+        least_of(&self.entries, &owner)
+    }
+
+    /// Tells whether that owner's packet of this number waits.
+    pub fn holds(&self, owner: Owner, number: u16) -> bool
+        ensures { result ≡ list_any (is_entry owner number) self.now.items }
+    {
+        self.entries.iter().any(|entry| entry.owner.is_same(owner) && entry.number == number)
+    }
+
+    /// Takes out that owner's entry of least number, among equals the one nearest to the front. The
+    /// others keep their order. None exactly where the owner has no entry.
+    pub fn flush(&mut self, owner: Owner) -> Option<Entry>
+        ensures taken { result ≡ least (is_of owner) number_of self.old.items }
+        ensures left { self.new ≡ ring (without_least (is_of owner) number_of self.old.items) self.old.size }
+        ensures none { IsNone result ↔ (list_any (is_of owner) self.old.items ≡ false) }
+        ensures unchanged { IfNone result (self.new ≡ self.old) }
+        ensures listed { IfSome result (λ e. Contains self.old.items e × IsTrue (is_of owner e)) }
+        ensures lowest { IfSome result (λ e. NoneLower owner e.number self.old.items) }
+        // Of equals it stood nearest to the front, and what stood before and after it is left in order.
+        ensures nearest { IfSome result (λ e. TakenOut (is_entry owner e.number) e self.old.items self.new.items) }
+        ensures others { filter (is_not_of owner) self.new.items ≡ filter (is_not_of owner) self.old.items }
+        ensures fewer { IfSome result (λ _. length self.new.items + 1 ≡ length self.old.items) }
+        // It takes away the one place that it names.
+        ensures places { IfSome result (λ e. (p : ℕ) →
+            mentions p self.old.items ≡ mentions p (e ∷ []) + mentions p self.new.items) }
+    {
+        take_least(&mut self.entries, &owner)
+    }
+}
