@@ -1,16 +1,16 @@
 -- The words of the line of an event, and the event that such words tell.
-use Rattle.std.proofs.Common.{◌≡◌, ℕ, suc, zero, ◌+◌, Bool, true, false, ◌&&◌, cond, List, [], ◌∷◌, ◌++◌, refl, ap, ◌∙◌, append_assoc}
-use Rattle.std.specs.Prelude.{◌<◌, ◌==◌, ◌^◌, codes, decimal}
+use Rattle.std.proofs.Common.{◌≡◌, ℕ, ◌+◌, cond, List, [], ◌∷◌, ◌++◌, refl, ap, ◌∙◌, append_assoc}
+use Rattle.std.specs.Prelude.{codes, decimal}
 use Rattle.rpc_base.specs.declared.event.Event.{Event}
 use Rattle.rpc_base.specs.declared.event.Event.TheVariants.{Made, Opened, PairedClient, PairedServer, NconnectRing, NconnectNumbers, Accepted, Declined, Starved, Connected, FailedNoRoom, FailedNoAnswer, Closing, NcloseState, NcloseBusy, ClosedHeard, ClosedUnheard, Ended, Broken, Rated, Nrate, Asked, NcallTooLarge, NcallState, Begun, Posted, Flushed, Sent, Unsent, Arrived, Overflowed, Bad, Heard, Took, Again, Dropped, Given, Worked, Ran, Rolled, DoneOk, DoneTooSmall, DonePeerLost, Polled, Missed, Carried, Lost, Repeated, Ticked}
 use Rattle.rpc_base.specs.declared.owner.Owner.{Owner}
 use Rattle.rpc_base.specs.declared.owner.Owner.TheVariants.{Ask, Reply, Control}
 use Rattle.report_text.specs.Names.{owner_text, state_text, reason_text, bytes_text}
-use Rattle.report_text.specs.Ranges.{OwnerFits, EventFits}
+use Rattle.report_text.specs.Ranges.{EventFits}
 use Rattle.report_text.specs.Shape.{tail_of}
 use Rattle.report_text.specs.Text.{event_text}
 use Rattle.report_text.specs.Told.{NoOthers}
-use Rattle.report_text.proofs.LineWords.{joined, IsWord, AllWords, same, word}
+use Rattle.report_text.proofs.LineWords.{joined, AllWords, same, word}
 use Rattle.report_text.proofs.WordsBack.{value, number-word, number-back, bytes_of, bytes-word, bytes-back, state_of, state-word, state-back, not-busy, not-toolarge, reason_of, reason-word, reason-back}
 
 -- the words of the line of an event

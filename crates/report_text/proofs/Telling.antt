@@ -1,16 +1,16 @@
 -- A report is read back: each line tells its fact, and so the whole tells the history.
-use Rattle.std.proofs.Common.{◌≡◌, ℕ, ◌<◌, ◌≤◌, Bool, true, false, cond, List, [], ◌∷◌, ◌++◌, length, refl, sym, ap, ap₂, subst, ◌∙◌, append_assoc, true≢false, arith, codes, decimal, flat_map}
+use Rattle.std.proofs.Common.{◌≡◌, ℕ, true, false, cond, List, [], ◌∷◌, ◌++◌, length, refl, sym, ap, ap₂, subst, ◌∙◌, append_assoc, true≢false, arith, codes, decimal, flat_map}
 use Rattle.std.specs.List.{AllByRecursion}
 use Rattle.rpc_base.specs.declared.event.Event.{Event}
 use Rattle.rpc_base.specs.declared.event.Event.TheVariants.{Heard}
 use Rattle.rpc_base.specs.declared.fact.Fact.{Fact}
 use Rattle.rpc_base.specs.declared.fact.Who.{Who}
 use Rattle.rpc_base.specs.declared.fact.Who.TheVariants.{Node, Net}
-use Rattle.report_text.specs.Ranges.{WhoFits, EventFits, FactFits}
+use Rattle.report_text.specs.Ranges.{WhoFits, FactFits}
 use Rattle.report_text.specs.Text.{who_text, event_text, line_text, text}
 use Rattle.report_text.specs.Told.{IsTold, AllTold}
 use Rattle.report_text.proofs.EventWords.{event_words, words-text, words-words, told_of, told-back, Tale}
-use Rattle.report_text.proofs.LineWords.{free, IsWord, joined, joined-other, free-joined, same, split}
+use Rattle.report_text.proofs.LineWords.{free, IsWord, joined-other, free-joined, same, split}
 use Rattle.report_text.proofs.WordsBack.{value, number-word, number-back, number-other}
 
 who_of : List ℕ → Who

@@ -1,5 +1,5 @@
 -- What a word tells: a number, bytes, a state or a reason.
-use Rattle.std.proofs.Common.{◌≡◌, if◌then◌else◌, tests, ne_eqb, ℕ, suc, zero, ◌+◌, ◌*◌, ◌-◌, ◌/◌, ◌%◌, ◌<◌, ◌≤◌, ◌^◌, Bool, true, false, not, ◌&&◌, ◌==◌, cond, nat_lt, List, [], ◌∷◌, ◌++◌, refl, sym, ap, ap₂, ◌∙◌, arith, codes, decimal, flat_map}
+use Rattle.std.proofs.Common.{◌≡◌, if◌then◌else◌, tests, ne_eqb, ℕ, ◌+◌, ◌*◌, ◌-◌, ◌/◌, ◌%◌, ◌<◌, ◌≤◌, ◌^◌, true, false, ◌==◌, cond, nat_lt, List, [], ◌∷◌, refl, ap₂, arith, codes, decimal, flat_map}
 use Rattle.std.proofs.lemmas.Fmt.{digits_decimal, digits_value-decimal}
 use Rattle.std.proofs.lemmas.Str.Parse.{IsNumeralModel, numerals_by_value, tells_digits, digit_from_value}
 use Rattle.std.specs.Str.Parse.{digits_value, AllDigits}

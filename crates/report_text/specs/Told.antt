@@ -1,5 +1,5 @@
 -- Which bytes of a fact its line shows.
-use Rattle.std.specs.Prelude.{ℕ, ◌≡◌, List, [], ◌∷◌}
+use Rattle.std.specs.Prelude.{ℕ, ◌≡◌, List, []}
 use Rattle.std.specs.List.{AllByRecursion}
 use Rattle.rpc_base.specs.declared.fact.Fact.{Fact}
 use Rattle.report_text.specs.declared.shape.Tail.{Tail}

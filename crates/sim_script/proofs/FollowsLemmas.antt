@@ -1,9 +1,9 @@
 -- A history that follows some lines, and one line more.
-use Rattle.std.proofs.Common.{◌≡◌, List, [], ◌∷◌, ◌++◌, refl, sym, subst, ap, ◌∙◌, append_assoc, append-nil}
+use Rattle.std.proofs.Common.{List, [], ◌∷◌, ◌++◌, refl, sym, subst, append_assoc, append-nil}
 use Rattle.rpc_base.specs.declared.fact.Fact.{Fact}
 use Rattle.network_model.specs.declared.stage.Stage.{Stage}
 use Rattle.script_grammar.specs.declared.line.Line.{Line}
-use Rattle.sim_script.specs.FollowsScript.{Does, Joins, FollowsFrom}
+use Rattle.sim_script.specs.FollowsScript.{Does, FollowsFrom}
 
 follows-one : (line : Line) (t u : Stage) (x : List Fact) → Does line.command t x u → FollowsFrom (line ∷ []) t x u
 follows-one line t u x d =

@@ -1,5 +1,5 @@
 -- Which histories follow a script: the joining of one group of facts for each command.
-use Rattle.std.specs.Prelude.{ℕ, ◌≡◌, ◌+◌, ◌%◌, ◌≤◌, ◌<◌, nat_lt, Bool, Option, Some, List, [], ◌∷◌, ◌++◌, length, map, sum_by, slice_get, if◌then◌else◌}
+use Rattle.std.specs.Prelude.{ℕ, ◌≡◌, ◌+◌, ◌%◌, ◌≤◌, ◌<◌, nat_lt, Some, List, [], ◌∷◌, ◌++◌, length, map, sum_by, slice_get, if◌then◌else◌}
 use Rattle.std.specs.Bool.{MatchBool}
 use Rattle.std.specs.List.{remove, range_with_len, slice_set}
 use Rattle.rpc_base.specs.declared.event.Event.{Event}
@@ -15,7 +15,7 @@ use Rattle.rpc_laws.specs.Groups.{Asks}
 use Rattle.rpc_laws.specs.InFlight.{flight_after_all, flight_after_net}
 use Rattle.rpc_laws.specs.NodeLists.{after, new_node}
 use Rattle.rpc_laws.specs.PollOrder.{Poll}
-use Rattle.rpc_laws.specs.Steps.{Rel, Goes}
+use Rattle.rpc_laws.specs.Steps.{Rel}
 use Rattle.script_grammar.specs.declared.line.AskBytes.{AskBytes}
 use Rattle.script_grammar.specs.declared.line.AskBytes.TheVariants.{Given, Count}
 use Rattle.script_grammar.specs.declared.line.Command.{Command}
