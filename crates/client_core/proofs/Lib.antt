@@ -1,0 +1,5 @@
+mod CallsLemmas
+mod PacketLemmas
+mod PoolLemmas
+mod SessionLemmas
+mod ShownLemmas

@@ -1,0 +1,5 @@
+pub mod KeepsPool
+pub mod Posting
+pub mod Session
+pub mod Shown
+pub mod Watching

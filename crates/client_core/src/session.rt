@@ -1,0 +1,262 @@
+//! A client session.
+ghost use Rattle.std.specs.Prelude.{◌≡◌, ◌<◌, ◌≤◌, ◌+◌, ◌^◌, ◌==◌, ◌↔◌, ◌⊎◌, ℕ, [], ◌∷◌, false, length, option_map, IfErr, IfNone, IfSome, IsNone, IsTrue, OnErr, OnOk};
+ghost use Rattle.std.specs.List.{list_any};
+ghost use Rattle.buffer_pool.specs.Pool.{Pool, spare_of};
+ghost use Rattle.rpc_laws.specs.Posting.{beginning, posting};
+ghost use Rattle.session_slots.specs.Slots.{lowest_free};
+ghost use Rattle.client_core.specs.KeepsPool.{CanHold, IsHeld, KeepsPool, MayHold, held_at, held_for, released_at};
+ghost use Rattle.client_core.specs.Posting.{IsPacketOf, Starts, call_of, next_entry, posted, sent_at};
+ghost use Rattle.client_core.specs.Session.{IsSession, can_post, enqueued, new_session};
+ghost use Rattle.client_core.specs.Shown.{IsSpelled, asked, begun_event, packet_of, paired, posted_event, shown, stepped};
+ghost use Rattle.client_core.specs.Watching.{is_after, next_told};
+
+use crate::active::Active;
+use crate::call::ActiveCall;
+use crate::calls::Calls;
+use buffer_pool::BufferPool;
+use credit_book::CreditBook;
+use packet_header::{HEAD_BYTES, Packet, encode};
+use packet_rings::Entry;
+use rpc_base::{CallNo, Peer, Place, RequestNo, SessionNo};
+use session_slots::{SlotTable, Waiting};
+use std::alloc::Global;
+use std::marker::Model;
+
+/// The calls of one client session. Contracts see its numbers, its credits, its slots with the calls
+/// that wait for one, and its active calls, oldest first.
+#[derive(Drop)]
+pub struct ClientSession {
+    number: SessionNo,
+    server: SessionNo,
+    credits: CreditBook,
+    slots: SlotTable,
+    calls: Calls,
+    waiting: u64,
+}
+
+impl Model for ClientSession {
+    ghost use Rattle.std.specs.Prelude.{◌≡◌, length};
+    ghost use Rattle.client_core.specs.Session.{Session, IsSession};
+
+    ghost Value = { Session };
+
+    ghost view = { λ s. record { number = s.number; server = s.server; credits = s.credits; slots = s.slots; active = s.calls } };
+
+    ghost invariant = { λ s. (s.waiting ≡ length s.slots.waiting) × IsSession (record { number = s.number; server = s.server; credits = s.credits; slots = s.slots; active = s.calls }) };
+}
+
+impl ClientSession {
+    /// A session with no call, by its number here and at the server, each below 65,535. All its
+    /// `credits`, 1 to 256, are free. It takes no memory yet; `enqueue` takes its own from `alloc`.
+    pub fn new(alloc: Global, session: SessionNo, server: SessionNo, credits: u16) -> ClientSession
+        requires session { session < 65535 }
+        requires server { server < 65535 }
+        requires some { 1 ≤ credits }
+        requires most { credits ≤ 256 }
+        ensures session { result ≡ new_session session server credits }
+        ensures keeps_pool { (pool : Pool) → KeepsPool pool result.active }
+        ensures step { (pool : Pool) → (peer : ℕ) → paired session server peer credits ≡ shown pool peer result ∷ [] }
+    {
+        ClientSession {
+            number: session,
+            server,
+            credits: CreditBook::new(credits),
+            slots: SlotTable::new(alloc),
+            calls: Calls::new(),
+            waiting: 0,
+        }
+    }
+
+    /// The session's number here.
+    pub fn session(&self) -> SessionNo
+        ensures { result ≡ self.now.number }
+    {
+        self.number
+    }
+
+    /// The session's number at the server.
+    pub fn server(&self) -> SessionNo
+        ensures { result ≡ self.now.server }
+    {
+        self.server
+    }
+
+    /// How many credits are free.
+    pub fn free(&self) -> u16
+        ensures free { result ≡ self.now.credits.free }
+        ensures sound { IsSession self.now }
+    {
+        self.credits.free()
+    }
+
+    /// How many calls are active or wait.
+    pub fn pending(&self) -> u64
+        ensures pending { result ≡ length self.now.active + length self.now.slots.waiting }
+        ensures sound { IsSession self.now }
+    {
+        self.calls.len() as u64 + self.waiting
+    }
+
+    /// How many calls `enqueue` has taken, 0 to 2^45.
+    pub fn asked(&self) -> u64
+        ensures asked { result ≡ self.now.slots.taken }
+        ensures sound { IsSession self.now }
+    {
+        self.slots.taken()
+    }
+
+    /// The call waits behind all others. Its request has at most 1,048,576 bytes, and fewer than 2^45
+    /// calls were taken before. Err is want of memory alone, and hands the call back.
+    pub fn enqueue(&mut self, w: Waiting) -> Result<(), Waiting>
+        requires message { w.req.len ≤ 1048576 }
+        requires turns { self.old.slots.taken < 2 ^ 45 }
+        ensures waits { OnOk result (self.new ≡ enqueued w self.old) }
+        ensures step { OnOk result ((pool : Pool) → (peer : ℕ) → asked w (shown pool peer self.old) ≡ shown pool peer self.new ∷ []) }
+        ensures unchanged { OnErr result (self.new ≡ self.old) }
+        ensures handed_back { IfErr result (λ back. back ≡ w) }
+    {
+        self.slots.wait(w)?;
+        self.waiting += 1;
+        Ok(())
+    }
+
+    /// The call that waited longest begins in the lowest free slot, and its buffers go into the pool,
+    /// which has to have two empty places. None comes exactly where no call waits or no slot is free.
+    pub fn begin(&mut self, pool: &mut BufferPool) -> Option<(CallNo, RequestNo)>
+        requires keeps_pool { KeepsPool pool.old self.old.active }
+        requires spare { 2 ≤ spare_of pool.old }
+        ensures none { IsNone result ↔ ((self.old.slots.waiting ≡ []) ⊎ (lowest_free self.old.slots ≡ None)) }
+        ensures unchanged { IfNone result ((self.new ≡ self.old) × (pool.new ≡ pool.old)) }
+        ensures turn { (peer : ℕ) → beginning (shown pool.old peer self.old) ≡ option_map begun_event result }
+        // As the call Begun of the definitions, where no active call has this call's number already.
+        ensures step { IfSome result (λ b. (peer : ℕ) → list_any (λ c. c.call == b.0) self.old.active ≡ false →
+            stepped (begun_event b) (shown pool.old peer self.old) ≡ shown pool.new peer self.new ∷ []) }
+        ensures starts { IfSome result (λ b. Starts b.0 b.1 self.old self.new pool.old pool.new) }
+        ensures keeps_pool { KeepsPool pool.new self.new.active }
+    {
+        let Some((request, waiting)) = self.slots.begin() else {
+            return None;
+        };
+        let call = ActiveCall::start(request, waiting, pool);
+        let begun = (call.call, request);
+        self.waiting -= 1;
+        self.calls.push(call);
+        Some(begun)
+    }
+
+    /// Whether one reference more can be counted to each active call's request, as `post` wants it.
+    pub fn can_hold(&self, pool: &BufferPool) -> bool
+        requires keeps_pool { KeepsPool pool.now self.now.active }
+        ensures { IsTrue result ↔ CanHold pool.now self.now.active }
+    {
+        self.calls.can_hold(pool)
+    }
+
+    /// The oldest active call that may post posts its next packet, where a credit is free: it takes
+    /// the credit, and a reference to the place of its bytes if it has any. None comes exactly where no
+    /// call has a packet to post or no credit is free.
+    pub fn post(&mut self, pool: &mut BufferPool, peer: Peer) -> Option<Entry>
+        requires keeps_pool { KeepsPool pool.old self.old.active }
+        requires can_hold { CanHold pool.old self.old.active }
+        ensures entry { result ≡ next_entry peer self.old }
+        ensures none { IsNone result ↔ ((self.old.credits.free ≡ 0) ⊎ (list_any can_post self.old.active ≡ false)) }
+        ensures session { self.new ≡ posted self.old }
+        ensures turn { posting (shown pool.old peer self.old) ≡ option_map posted_event result }
+        ensures step { IfSome result (λ e. stepped (posted_event e) (shown pool.old peer self.old) ≡ shown pool.new peer self.new ∷ []) }
+        ensures pool { pool.new ≡ held_for result pool.old }
+        ensures stands { IfSome result (λ e. IsPacketOf (call_of self.new e) e) }
+        ensures held { IfSome result (λ e. IsHeld pool.new e.place) }
+        ensures keeps_pool { KeepsPool pool.new self.new.active }
+    {
+        if self.credits.free() == 0 {
+            return None;
+        }
+        let Some(call) = self.calls.post_next() else {
+            return None;
+        };
+        let entry = call.next_entry(self.number, peer);
+        hold(pool, entry.place);
+        self.credits.charge(call.request.slot());
+        Some(entry)
+    }
+
+    /// The active call of least number, above `after` if that is given. None comes exactly where there is
+    /// none. So the calls are told one by one, in the order of their numbers.
+    pub fn active(&self, after: Option<CallNo>) -> Option<Active>
+        ensures told { result ≡ next_told after self.now }
+        ensures none { IsNone result ↔ (list_any (is_after after) self.now.active ≡ false) }
+    {
+        match self.calls.least(&after) {
+            Some(call) => Some(call.told()),
+            None => None,
+        }
+    }
+
+    /// An entry that was posted is sent: its reference is given up. Where it is the call's packet whose
+    /// answer is wanted next, the call's clock starts anew at `now`, in microseconds.
+    pub fn sent(&mut self, pool: &mut BufferPool, entry: &Entry, now: u64)
+        requires keeps_pool { KeepsPool pool.old self.old.active }
+        requires held { IsHeld pool.old entry.now.place }
+        ensures session { self.new ≡ sent_at entry.now now self.old }
+        ensures shown { (peer : ℕ) → shown pool.new peer self.new ≡ shown pool.old peer self.old }
+        ensures pool { pool.new ≡ released_at entry.now.place pool.old }
+        ensures keeps_pool { KeepsPool pool.new self.new.active }
+    {
+        release(pool, entry.place);
+        self.calls.mark(self.number, entry.owner, entry.number, now);
+    }
+
+    /// An entry that was posted is taken out unsent: its reference is given up.
+    pub fn flushed(&mut self, pool: &mut BufferPool, entry: &Entry)
+        requires keeps_pool { KeepsPool pool.old self.old.active }
+        requires held { IsHeld pool.old entry.now.place }
+        ensures session { self.new ≡ self.old }
+        ensures shown { (peer : ℕ) → shown pool.new peer self.new ≡ shown pool.old peer self.old }
+        ensures pool { pool.new ≡ released_at entry.now.place pool.old }
+        ensures keeps_pool { KeepsPool pool.new self.new.active }
+    {
+        release(pool, entry.place);
+    }
+
+    /// Writes the header of an entry that was posted, and lends its body.
+    pub fn packet<'a>(
+        &self,
+        pool: &'a BufferPool,
+        entry: &Entry,
+        head: &mut [u8; HEAD_BYTES],
+    ) -> &'a [u8]
+        requires keeps_pool { KeepsPool pool.now self.now.active }
+        requires posted { IsPacketOf (call_of self.now entry.now) entry.now }
+        ensures { IsSpelled (packet_of pool.now self.now entry.now) head.new result.now }
+    {
+        let Some(call) = self.calls.of_owner(self.number, entry.owner) else {
+            unreachable!()
+        };
+        let header = call.head(self.server, entry.number);
+        encode(&Packet::Message(header), head);
+        match entry.place {
+            None => &[],
+            Some(place) => pool.get(place).packet(u32::from(entry.number)).1,
+        }
+    }
+}
+
+// Adds a reference to a place, if there is one.
+fn hold(pool: &mut BufferPool, place: Option<Place>)
+    requires { MayHold pool.old place }
+    ensures { pool.new ≡ held_at place pool.old }
+{
+    if let Some(place) = place {
+        pool.hold(place);
+    }
+}
+
+// Gives up the reference to a place, if there is one.
+fn release(pool: &mut BufferPool, place: Option<Place>)
+    requires { IsHeld pool.old place }
+    ensures { pool.new ≡ released_at place pool.old }
+{
+    if let Some(place) = place {
+        pool.release(place);
+    }
+}

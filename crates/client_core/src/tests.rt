@@ -1,0 +1,176 @@
+//! One session of three credits, with a call of two packets and a call of one.
+ghost use Rattle.std.specs.Prelude.{◌≡◌, ◌≤◌, [], length, IfOk, IfSome};
+ghost use Rattle.client_core.specs.KeepsPool.{IsHeld, KeepsPool};
+ghost use Rattle.client_core.specs.Posting.{IsPacketOf, call_of};
+
+use crate::{Active, ClientSession};
+use buffer_pool::BufferPool;
+use message_buffer::MsgBuf;
+use packet_header::HEAD_BYTES;
+use packet_rings::Entry;
+use rpc_base::{CallNo, NoMemory, Owner, Peer, Place, RequestNo, SessionNo};
+use session_slots::Waiting;
+use std::alloc::Global;
+use std::test::Fail;
+
+const PEER: Peer = Peer(4);
+
+/// A call that asks these bytes.
+fn make_call(alloc: Global, call: u64, ask: &[u8]) -> Result<Waiting, NoMemory>
+    requires { length ask.now ≤ 2000 }
+    ensures { IfOk result (λ w. w.req.len ≡ length ask.now) }
+{
+    let size = ask.len() as u32;
+    let mut req = MsgBuf::new(alloc, size)?;
+    req.set_len(size);
+    req.write(0, ask);
+    let resp = MsgBuf::new(alloc, 10)?;
+    Ok(Waiting {
+        call: CallNo(call),
+        tag: 7,
+        req_type: 9,
+        req,
+        resp,
+    })
+}
+
+/// The session with its two calls waiting: call 20 asks 1,030 bytes, and call 21 one byte.
+fn make_session(alloc: Global) -> Result<ClientSession, NoMemory>
+    ensures { IfOk result (λ s. s.active ≡ []) }
+{
+    let mut session = ClientSession::new(alloc, SessionNo(3), SessionNo(0x0506), 3);
+    let older = make_call(alloc, 20, &[0xAA; 1030])?;
+    if session.enqueue(older).is_err() {
+        return Err(NoMemory);
+    }
+    let newer = make_call(alloc, 21, &[0xBB])?;
+    if session.enqueue(newer).is_err() {
+        return Err(NoMemory);
+    }
+    Ok(session)
+}
+
+/// A call that begins, if there is room.
+fn begin_one(session: &mut ClientSession, pool: &mut BufferPool) -> Option<(CallNo, RequestNo)>
+    requires { KeepsPool pool.old session.old.active }
+    ensures { KeepsPool pool.new session.new.active }
+{
+    if pool.spare() < 2 {
+        return None;
+    }
+    session.begin(pool)
+}
+
+/// The next entry.
+fn post_one(session: &mut ClientSession, pool: &mut BufferPool) -> Option<Entry>
+    requires { KeepsPool pool.old session.old.active }
+    ensures keeps_pool { KeepsPool pool.new session.new.active }
+    ensures stands { IfSome result (λ e. IsPacketOf (call_of session.new e) e) }
+    ensures held { IfSome result (λ e. IsHeld pool.new e.place) }
+{
+    if !session.can_hold(pool) {
+        return None;
+    }
+    session.post(pool, PEER)
+}
+
+/// The next entry, with the length of its body and the body's first byte. Its header is written to
+/// `head`. It is sent if that is wanted, and else taken out.
+fn post_and_give(
+    session: &mut ClientSession,
+    pool: &mut BufferPool,
+    head: &mut [u8; HEAD_BYTES],
+    is_sent: bool,
+) -> Option<(Entry, usize, Option<u8>)>
+    requires { KeepsPool pool.old session.old.active }
+    ensures { KeepsPool pool.new session.new.active }
+{
+    let Some(entry) = post_one(session, pool) else {
+        return None;
+    };
+    let body = session.packet(pool, &entry, head);
+    let len = body.len();
+    let first = body.first().copied();
+    if is_sent {
+        session.sent(pool, &entry, 50);
+    } else {
+        session.flushed(pool, &entry);
+    }
+    Some((entry, len, first))
+}
+
+/// The entry of a packet of the first request of a slot, 0 or 1.
+fn entry(slot: u8, number: u16, place: u32) -> Entry
+    requires { slot ≤ 1 }
+{
+    Entry {
+        owner: Owner::Ask {
+            session: SessionNo(3),
+            request: RequestNo::of(slot, 0),
+        },
+        number,
+        place: Some(Place(place)),
+        peer: PEER,
+    }
+}
+
+#[test]
+fn calls_begin_and_post_oldest_first(rt: HostRuntime) -> Result<(), Fail> {
+    let alloc = rt.alloc();
+    let mut pool = BufferPool::new(alloc, 8)?;
+    let mut session = make_session(alloc)?;
+    assert!(rt; session.session() == SessionNo(3) && session.server() == SessionNo(0x0506));
+    assert_eq!(rt;
+        (session.asked(), session.pending(), session.free()),
+        (2, 2, 3)
+    );
+    assert!(rt; session.active(None).is_none());
+    assert!(rt; begin_one(&mut session, &mut pool) == Some((CallNo(20), RequestNo::of(0, 0))));
+    assert!(rt; begin_one(&mut session, &mut pool) == Some((CallNo(21), RequestNo::of(1, 0))));
+    assert!(rt; begin_one(&mut session, &mut pool).is_none());
+    assert_eq!(rt;
+        (session.asked(), session.pending(), pool.spare()),
+        (2, 2, 4)
+    );
+    assert!(rt; post_one(&mut session, &mut pool) == Some(entry(0, 0, 0)));
+    assert!(rt; post_one(&mut session, &mut pool) == Some(entry(0, 1, 0)));
+    assert!(rt; post_one(&mut session, &mut pool) == Some(entry(1, 0, 2)));
+    assert!(rt; post_one(&mut session, &mut pool).is_none());
+    assert_eq!(rt; session.free(), 0);
+    let older = Active {
+        call: CallNo(20),
+        request: RequestNo::of(0, 0),
+        got: 0,
+        posted: 2,
+    };
+    assert!(rt; session.active(None) == Some(older));
+    let newer = Active {
+        call: CallNo(21),
+        request: RequestNo::of(1, 0),
+        got: 0,
+        posted: 1,
+    };
+    assert!(rt; session.active(Some(CallNo(20))) == Some(newer));
+    assert!(rt; session.active(Some(CallNo(21))).is_none());
+    Ok(())
+}
+
+#[test]
+fn an_entry_stands_for_its_packet(rt: HostRuntime) -> Result<(), Fail> {
+    let alloc = rt.alloc();
+    let mut pool = BufferPool::new(alloc, 8)?;
+    let mut session = make_session(alloc)?;
+    assert!(rt; begin_one(&mut session, &mut pool).is_some());
+    assert!(rt; begin_one(&mut session, &mut pool).is_some());
+    let mut head = [0; HEAD_BYTES];
+    let first = post_and_give(&mut session, &mut pool, &mut head, true);
+    assert!(rt; first == Some((entry(0, 0, 0), 1024, Some(0xAA))));
+    assert_eq!(rt; head, [0xE1, 0, 9, 0, 4, 6, 5, 6, 0, 0, 0, 0, 0, 0, 0, 0]);
+    let second = post_and_give(&mut session, &mut pool, &mut head, false);
+    assert!(rt; second == Some((entry(0, 1, 0), 6, Some(0xAA))));
+    assert_eq!(rt; head, [0xE1, 0, 9, 0, 4, 6, 5, 6, 0, 1, 0, 0, 0, 0, 0, 0]);
+    let third = post_and_give(&mut session, &mut pool, &mut head, true);
+    assert!(rt; third == Some((entry(1, 0, 2), 1, Some(0xBB))));
+    assert_eq!(rt; head, [0xE1, 0, 9, 0, 0, 1, 5, 6, 0, 0, 0, 0, 0, 0, 0, 1]);
+    Ok(())
+}
