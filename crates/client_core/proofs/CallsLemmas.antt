@@ -37,7 +37,7 @@ module _ {A : Type 0} (p : A → Bool) where
   found-passes [] x e = cc
   found-passes (y ∷ ys) x e = passes-cons y x (find p ys) (p y) refl (found-passes ys x) e
 
-  counted-cons : (y : A) (ys : List A) (b : Bool) → p y ≡ b → count_by p (y ∷ ys) ≡ cond b 1 0 + count_by p ys
+  pub counted-cons : (y : A) (ys : List A) (b : Bool) → p y ≡ b → count_by p (y ∷ ys) ≡ cond b 1 0 + count_by p ys
   counted-cons y ys b t = sum_by-cons (λ x. cond (p x) 1 0) y ys ∙ ap (λ c. cond c 1 0 + count_by p ys) t
 
   missing-cons : (y : A) (ys : List A) (b : Bool) → p y ≡ b → (find p ys ≡ None → count_by p ys ≡ 0) → cond b (Some y) (find p ys) ≡ None → count_by p (y ∷ ys) ≡ 0
@@ -58,7 +58,7 @@ module _ {A : Type 0} (p q : A → Bool) where
       omega (arith, counted-cons q y ys true first)
   some-cons y c ys false t ih e = omega (arith, ih e, counted-cons q y ys (q y) refl)
 
-  some-counted : (xs : List A) (c : A) → find p xs ≡ Some c → q c ≡ true → 1 ≤ count_by q xs
+  pub some-counted : (xs : List A) (c : A) → find p xs ≡ Some c → q c ≡ true → 1 ≤ count_by q xs
   some-counted [] c e t = cc
   some-counted (y ∷ ys) c e t = some-cons y c ys (p y) t (λ g. some-counted ys c g t) e
 

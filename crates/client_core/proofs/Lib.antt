@@ -1,5 +1,18 @@
-mod CallsLemmas
+mod AnswerLemmas
+mod CallLemmas
+pub mod CallsLemmas
+mod ChangedLemmas
+mod CreditLemmas
+pub mod EndedLemmas
+mod EntryLemmas
+mod LostLemmas
+pub mod OneCallLemmas
+pub mod OutcomeLemmas
 mod PacketLemmas
+mod PartLemmas
+mod PlacesLemmas
 mod PoolLemmas
+mod SentLemmas
 mod SessionLemmas
-mod ShownLemmas
+pub mod ShownLemmas
+mod TakenLemmas

@@ -2,7 +2,7 @@
 use Rattle.std.proofs.Common.{◌≡◌, ℕ, ◌<◌, ◌≤◌, Bool, true, false, cond, ltb, Option, Some, None, List, [], length, refl, ◌∙◌, arith, ltb-true}
 use Rattle.std.specs.Prelude.{IfSome}
 use Rattle.std.proofs.lemmas.List.{length-take-le}
-use Rattle.packet_header.specs.Header.{HasHead}
+use Rattle.packet_header.specs.Header.{HasHead, MessageInRange}
 use Rattle.packet_header.specs.Parts.{packet_count, part}
 use Rattle.packet_header.specs.declared.packet.Kind.TheVariants.{Request, Rfr}
 use Rattle.packet_header.specs.declared.packet.Packet.TheVariants.{Message}
@@ -51,7 +51,7 @@ message-length None size h = absurd h
 message-length (Some b) size h = length-take-le b.len b.store (omega (arith, h.0, h.1)) ∙ h.0
 
 -- the packet of an entry, by what is sent of it
-spelled-cases : (peer other size : ℕ) (ask : List ℕ) (c : ActiveCall) (k : ℕ) (head body : List ℕ) (b : Bool) → HasHead (Message (cond b (record { kind = Request; req_type = c.req_type; size = size; session = other; number = k; request = c.request }) (record { kind = Rfr; req_type = 0; size = 0; session = other; number = k; request = c.request }))) head → body ≡ cond b (part ask k) [] → IsSpelled (Some (cond b (record {
+spelled-cases : (peer other size : ℕ) (ask : List ℕ) (c : ActiveCall) (k : ℕ) (head body : List ℕ) (b : Bool) → HasHead (Message (cond b (record { kind = Request; req_type = c.req_type; size = size; session = other; number = k; request = c.request }) (record { kind = Rfr; req_type = 0; size = 0; session = other; number = k; request = c.request }))) head → body ≡ cond b (part ask k) [] → MessageInRange (cond b (record { kind = Request; req_type = c.req_type; size = size; session = other; number = k; request = c.request }) (record { kind = Rfr; req_type = 0; size = 0; session = other; number = k; request = c.request })) → IsSpelled (Some (cond b (record {
   peer = peer;
   packet = Message (record { kind = Request; req_type = c.req_type; size = size; session = other; number = k; request = c.request });
   body = part ask k;
@@ -60,13 +60,13 @@ spelled-cases : (peer other size : ℕ) (ask : List ℕ) (c : ActiveCall) (k : �
   packet = Message (record { kind = Rfr; req_type = 0; size = 0; session = other; number = k; request = c.request });
   body = [];
 }))) head body
-spelled-cases peer other size ask c k head body true h e = (h, e)
-spelled-cases peer other size ask c k head body false h e = (h, e)
+spelled-cases peer other size ask c k head body true h e r = (h, e, r)
+spelled-cases peer other size ask c k head body false h e r = (h, e, r)
 
-pub spelled : (pool : Pool) (s : Session) (e : EntryValue) (c : ActiveCall) (head body : List ℕ) → call_of s e ≡ Some c → HasSize c.len (buf_at pool c.ask) → HasHead (Message (head_of s.server e.number c)) head → body ≡ cond (ltb e.number (packet_count c.len)) (part (message_in (buf_at pool c.ask)) e.number) [] → IsSpelled (packet_of pool s e) head body
-spelled pool s e c head body is size h same =
+pub spelled : (pool : Pool) (s : Session) (e : EntryValue) (c : ActiveCall) (head body : List ℕ) → call_of s e ≡ Some c → HasSize c.len (buf_at pool c.ask) → HasHead (Message (head_of s.server e.number c)) head → body ≡ cond (ltb e.number (packet_count c.len)) (part (message_in (buf_at pool c.ask)) e.number) [] → MessageInRange (head_of s.server e.number c) → IsSpelled (packet_of pool s e) head body
+spelled pool s e c head body is size h same range =
     let long : length (message_in (buf_at pool c.ask)) ≡ c.len = message-length (buf_at pool c.ask) c.len size in
-    rw (is, long) (spelled-cases e.peer s.server c.len (message_in (buf_at pool c.ask)) c e.number head body (ltb e.number (packet_count c.len)) h same)
+    rw (is, long) (spelled-cases e.peer s.server c.len (message_in (buf_at pool c.ask)) c e.number head body (ltb e.number (packet_count c.len)) h same range)
 
 -- the body of an entry without a place, and of one with a place
 none-cases : (k n : ℕ) (q : ℕ) (b : Bool) (xs : List ℕ) → None ≡ cond b (Some q) None → [] ≡ cond b xs []

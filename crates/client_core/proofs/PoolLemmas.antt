@@ -72,10 +72,10 @@ all-each P Q [] step ps = tt
 all-each P Q (x ∷ xs) step ps = (step x ps.0, all-each P Q xs step ps.1)
 
 -- how often calls name a place
-names-cons : (p : ℕ) (c : ActiveCall) (cs : List ActiveCall) → names p (c ∷ cs) ≡ cond (eqb c.ask p) 1 0 + cond (eqb c.answer p) 1 0 + names p cs
+pub names-cons : (p : ℕ) (c : ActiveCall) (cs : List ActiveCall) → names p (c ∷ cs) ≡ cond (eqb c.ask p) 1 0 + cond (eqb c.answer p) 1 0 + names p cs
 names-cons p c cs = sum_by-cons _ c cs
 
-unnamed-cases : (a p : ℕ) (b : Bool) → eqb a p ≡ b → cond {A = ℕ} b 1 0 ≡ 0 → a ≢ p
+pub unnamed-cases : (a p : ℕ) (b : Bool) → eqb a p ≡ b → cond {A = ℕ} b 1 0 ≡ 0 → a ≢ p
 unnamed-cases a p true t e = absurd (omega arith)
 unnamed-cases a p false t e = eqb-false a p t
 

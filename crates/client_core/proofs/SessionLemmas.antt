@@ -28,7 +28,7 @@ mark-same : {B : Type 0} (g : ActiveCall → B) (number now : ℕ) (c : ActiveCa
 mark-same g number now c same = mark-cases g now c _ same
 
 mark-turn : (now : ℕ) (c : ActiveCall) (b : Bool) → IsInTurn c → IsInTurn (cond b (record c { mark = now }) c)
-mark-turn now c true turn = record { len = turn.len; size = turn.size; answered = turn.answered; known = turn.known }
+mark-turn now c true turn = record { len = turn.len; size = turn.size; answered = turn.answered; known = turn.known; rolls = turn.rolls }
 mark-turn now c false turn = turn
 
 pub marked-session : (s : Session) (p : ActiveCall → Bool) (number now : ℕ) → IsSession s → IsSession (record s { active = at_first p (marked number now) s.active })
@@ -46,7 +46,7 @@ marked-session s p number now h = record {
 }
 
 posted-turn : (c : ActiveCall) → IsInTurn c → can_post c ≡ true → IsInTurn (one_posted c)
-posted-turn c turn more = record { len = turn.len; size = turn.size; answered = omega (arith, turn.answered); known = omega (arith, ltb-true c.posted (known_of c) more) }
+posted-turn c turn more = record { len = turn.len; size = turn.size; answered = omega (arith, turn.answered); known = omega (arith, ltb-true c.posted (known_of c) more); rolls = turn.rolls }
 
 -- the slot of a call is its own
 own-slot : (s : Session) (c : ActiveCall) → IsSession s → find can_post s.active ≡ Some c → call_in (c.request % 8) s.active ≡ Some c
@@ -84,7 +84,7 @@ posted-session s c h e balanced = record {
 -- a call that begins is in turn
 pub started-turn : (old new : Slots) (request : ℕ) (w : Waiting) (c : ActiveCall) (ask answer : ℕ) → Begins request w old new → AllByRecursion (λ x. IsMessage x.req.len) old.waiting → c ≡ started w request ask answer → IsInTurn c
 started-turn old new request w c ask answer begins messages is =
-    rw is (record { len = all-front (λ x. IsMessage x.req.len) old.waiting w messages begins.oldest; size = tt; answered = omega arith; known = omega arith })
+    rw is (record { len = all-front (λ x. IsMessage x.req.len) old.waiting w messages begins.oldest; size = tt; answered = omega arith; known = omega arith; rolls = omega arith })
 
 -- the lowest free slot is one of them, and is free
 none_of : {A : Type 0} (o : Option A) → is_none o ≡ true → o ≡ None
@@ -166,11 +166,11 @@ module _ (s : Session) (r call : ℕ) (c : ActiveCall) (h : IsSession s) (same :
   }
 
 -- a call is its owner's
-own-owner : (session : ℕ) (c : ActiveCall) → is_owner session (Ask session c.request) c ≡ true
+pub own-owner : (session : ℕ) (c : ActiveCall) → is_owner session (Ask session c.request) c ≡ true
 own-owner session c = rw (eq-eqb session session refl, eq-eqb c.request c.request refl) refl
 
 -- a call that posts is the only one of its owner
-owner-slot : (session r : ℕ) (x : ActiveCall) → is_owner session (Ask session r) x ≡ true → is_in_slot (r % 8) x ≡ true
+pub owner-slot : (session r : ℕ) (x : ActiveCall) → is_owner session (Ask session r) x ≡ true → is_in_slot (r % 8) x ≡ true
 owner-slot session r x passes =
     let same : x.request ≡ r = eqb-true x.request r (and_parts _ _ passes).1 in
     eq-eqb (x.request % 8) (r % 8) (ap (λ n. n % 8) same)

@@ -18,7 +18,7 @@ use Rattle.rpc_laws.specs.Posting.{beginning, can_post as may_post, holds_slot, 
 use Rattle.client_core.specs.declared.call.ActiveCall.{ActiveCall}
 use Rattle.client_core.specs.Session.{Session, IsSession, begun_as, can_post, enqueued, is_in_slot}
 use Rattle.client_core.specs.KeepsPool.{HasSize, IsKept, KeepsPool, held_at, released_at}
-use Rattle.client_core.specs.Posting.{entry_of, marked, next_entry, one_posted, started}
+use Rattle.client_core.specs.Posting.{entry_of, next_entry, one_posted, started}
 use Rattle.client_core.specs.Shown.{asked, begun_event, posted_event, shown, shown_active, shown_waiting, stepped}
 use Rattle.client_core.proofs.PacketLemmas.{message-length}
 use Rattle.packet_header.specs.Parts.{packet_count}
@@ -33,19 +33,19 @@ module _ {A B : Type 0} (g : A → B) where
   found-cons p q x xs true ih = refl
   found-cons p q x xs false ih = ih
 
-  found-shown : (p : B → Bool) (q : A → Bool) (xs : List A) → AllByRecursion (λ x. p (g x) ≡ q x) xs → find p (map g xs) ≡ option_map g (find q xs)
+  pub found-shown : (p : B → Bool) (q : A → Bool) (xs : List A) → AllByRecursion (λ x. p (g x) ≡ q x) xs → find p (map g xs) ≡ option_map g (find q xs)
   found-shown p q [] same = refl
   found-shown p q (x ∷ xs) same = rw same.0 (found-cons p q x xs (q x) (found-shown p q xs same.1))
 
-  none-shown : (p : B → Bool) (xs : List A) → ((x : A) → p (g x) ≡ false) → find p (map g xs) ≡ None
+  pub none-shown : (p : B → Bool) (xs : List A) → ((x : A) → p (g x) ≡ false) → find p (map g xs) ≡ None
   none-shown p [] fails = refl
   none-shown p (x ∷ xs) fails = rw (fails x) (none-shown p xs fails)
 
-  any-shown : (p : B → Bool) (q : A → Bool) (xs : List A) → ((x : A) → p (g x) ≡ q x) → list_any p (map g xs) ≡ list_any q xs
+  pub any-shown : (p : B → Bool) (q : A → Bool) (xs : List A) → ((x : A) → p (g x) ≡ q x) → list_any p (map g xs) ≡ list_any q xs
   any-shown p q [] same = refl
   any-shown p q (x ∷ xs) same = rw (same x) (ap (λ b. q x || b) (any-shown p q xs same))
 
-  any-none : (p : B → Bool) (xs : List A) → ((x : A) → p (g x) ≡ false) → list_any p (map g xs) ≡ false
+  pub any-none : (p : B → Bool) (xs : List A) → ((x : A) → p (g x) ≡ false) → list_any p (map g xs) ≡ false
   any-none p [] fails = refl
   any-none p (x ∷ xs) fails = rw (fails x) (any-none p xs fails)
 
@@ -63,7 +63,7 @@ module _ {A B : Type 0} (g : A → B) where
     changed-cons x xs true same ih e = let is : x ≡ c = cc in rw is (ap (λ y. y ∷ (map g xs ++ rest)) same)
     changed-cons x xs false same ih e = ap (λ ys. g x ∷ ys) (ih e)
 
-    changed-shown : (xs : List A) → ((x : A) → p (g x) ≡ q x) → f (g c) ≡ g (h c) → find q xs ≡ Some c → at_first p f (map g xs ++ rest) ≡ map g (at_first q h xs) ++ rest
+    pub changed-shown : (xs : List A) → ((x : A) → p (g x) ≡ q x) → f (g c) ≡ g (h c) → find q xs ≡ Some c → at_first p f (map g xs ++ rest) ≡ map g (at_first q h xs) ++ rest
     changed-shown [] tests same e = cc
     changed-shown (x ∷ xs) tests same e = rw (tests x) (changed-cons x xs (q x) same (changed-shown xs tests same) e)
 
@@ -83,7 +83,7 @@ module _ {A : Type 0} (p q : A → Bool) (f : A → A) (c : A) where
   same-cons x xs true t mine yours ih e g = let is : x ≡ c = cc in same-later x xs (q x) t is refl yours
   same-cons x xs false t mine yours ih e g = other-later x xs (q x) refl t mine (ih e) g
 
-  same-first : (xs : List A) → p c ≡ true → q c ≡ true → find p xs ≡ Some c → find q xs ≡ Some c → at_first p f xs ≡ at_first q f xs
+  pub same-first : (xs : List A) → p c ≡ true → q c ≡ true → find p xs ≡ Some c → find q xs ≡ Some c → at_first p f xs ≡ at_first q f xs
   same-first [] mine yours e g = refl
   same-first (x ∷ xs) mine yours e g = same-cons x xs (p x) refl mine yours (same-first xs mine yours) e g
 
@@ -92,7 +92,7 @@ held-same : (pool : Pool) (place : Option ℕ) (calls : List ActiveCall) → map
 held-same pool None calls = refl
 held-same pool (Some p) calls = refl
 
-released-same : (pool : Pool) (place : Option ℕ) (calls : List ActiveCall) → map (shown_active (released_at place pool)) calls ≡ map (shown_active pool) calls
+pub released-same : (pool : Pool) (place : Option ℕ) (calls : List ActiveCall) → map (shown_active (released_at place pool)) calls ≡ map (shown_active pool) calls
 released-same pool None calls = refl
 released-same pool (Some p) calls = refl
 
@@ -118,28 +118,20 @@ posting-shown pool peer s keeps =
     rw found (posting-cases pool s.number peer _ (find can_post s.active))
 
 -- posting is the step Posted
-pub posting-step : (pool : Pool) (peer : ℕ) (place : Option ℕ) (s : Session) (c : ActiveCall) → IsSession s → find can_post s.active ≡ Some c → can_post c ≡ true → limit_of (charged (c.request % 8) s.credits) ≡ limit_of s.credits → stepped (posted_event (entry_of s.number peer c)) (shown pool peer s) ≡ shown (held_at place pool) peer (record s { credits = charged (c.request % 8) s.credits; active = at_first can_post one_posted s.active }) ∷ []
-posting-step pool peer place s c h e more limit =
+pub posting-step : (clock : ℕ) (pool : Pool) (peer : ℕ) (place : Option ℕ) (s : Session) (c : ActiveCall) → IsSession s → find can_post s.active ≡ Some c → can_post c ≡ true → limit_of (charged (c.request % 8) s.credits) ≡ limit_of s.credits → stepped clock (posted_event (entry_of s.number peer c)) (shown pool peer s) ≡ shown (held_at place pool) peer (record s { credits = charged (c.request % 8) s.credits; active = at_first can_post one_posted s.active }) ∷ []
+posting-step clock pool peer place s c h e more limit =
     let own = request-call s c h e in
     let firsts = same-first can_post (λ x. eqb x.request c.request) one_posted c s.active more (eq-eqb c.request c.request refl) e own in
     let calls = changed-shown (shown_active pool) (is_active c.request) (λ x. eqb x.request c.request) (moved (posted_up_to c.posted)) one_posted c (map shown_waiting s.slots.waiting) s.active (λ x. refl) refl own in
     rw (eq-eqb s.number s.number refl, calls, limit, firsts, held-same pool place (at_first (λ x. eqb x.request c.request) one_posted s.active)) refl
 
--- sending and flushing change nothing of what is shown
-mark-shown : (pool : Pool) (number now : ℕ) (c : ActiveCall) (b : Bool) → shown_active pool (cond b (record c { mark = now }) c) ≡ shown_active pool c
-mark-shown pool number now c true = refl
-mark-shown pool number now c false = refl
-
-pub sent-shown : (pool : Pool) (peer : ℕ) (place : Option ℕ) (p : ActiveCall → Bool) (number now : ℕ) (s : Session) → shown (released_at place pool) peer (record s { active = at_first p (marked number now) s.active }) ≡ shown pool peer s
-sent-shown pool peer place p number now s =
-    rw (released-same pool place (at_first p (marked number now) s.active), unchanged-shown (shown_active pool) p (marked number now) s.active (λ c. mark-shown pool number now c _)) refl
-
+-- flushing changes nothing of what is shown
 pub flushed-shown : (pool : Pool) (peer : ℕ) (place : Option ℕ) (s : Session) → shown (released_at place pool) peer s ≡ shown pool peer s
 flushed-shown pool peer place s = rw (released-same pool place s.active) refl
 
 -- waiting is the step Asked
-pub enqueue-step : (pool : Pool) (peer : ℕ) (w : Waiting) (s : Session) → asked w (shown pool peer s) ≡ shown pool peer (enqueued w s) ∷ []
-enqueue-step pool peer w s =
+pub enqueue-step : (clock : ℕ) (pool : Pool) (peer : ℕ) (w : Waiting) (s : Session) → asked clock w (shown pool peer s) ≡ shown pool peer (enqueued w s) ∷ []
+enqueue-step clock pool peer w s =
     let more = map-append shown_waiting s.slots.waiting (w ∷ []) in
     let joined = append_assoc (map (shown_active pool) s.active) (map shown_waiting s.slots.waiting) (shown_waiting w ∷ []) in
     rw (eq-eqb s.number s.number refl, more, joined) refl
@@ -244,8 +236,8 @@ module _ (pool : Pool) (peer p q : ℕ) (w : Waiting) (first : lowest_empty pool
       rw (ask, none) refl
 
   -- beginning is the step Begun
-  pub beginning-step : (s : Session) (r : ℕ) (new : Slots) → KeepsPool pool s.active → Begins r w s.slots new → HasSize w.req.len (buf_at (filled q w.resp (filled p w.req pool)) p) → list_any (λ c. eqb c.call w.call) s.active ≡ false → stepped (begun_event (w.call, r)) (shown pool peer s) ≡ shown (filled q w.resp (filled p w.req pool)) peer (record s { slots = begun_slots r w.call s.slots; active = s.active ++ started w r p q ∷ [] }) ∷ []
-  beginning-step s r new keeps begins has fresh =
+  pub beginning-step : (clock : ℕ) (s : Session) (r : ℕ) (new : Slots) → KeepsPool pool s.active → Begins r w s.slots new → HasSize w.req.len (buf_at (filled q w.resp (filled p w.req pool)) p) → list_any (λ c. eqb c.call w.call) s.active ≡ false → stepped clock (begun_event (w.call, r)) (shown pool peer s) ≡ shown (filled q w.resp (filled p w.req pool)) peer (record s { slots = begun_slots r w.call s.slots; active = s.active ++ started w r p q ∷ [] }) ∷ []
+  beginning-step clock s r new keeps begins has fresh =
       let front = front-shown s.slots.waiting w begins.oldest in
       let unlisted = any-shown (shown_active pool) (is_call w.call) (λ c. eqb c.call w.call) s.active (λ c. refl) ∙ fresh in
       let own : is_call w.call (shown_waiting w) ≡ true = eq-eqb w.call w.call refl in

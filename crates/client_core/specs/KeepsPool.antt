@@ -11,17 +11,21 @@ abbrev pub HasSize : ℕ → Option Buffer → Type 0
 HasSize size None = ⊥
 HasSize size (Some b) = (b.len ≡ size) × (size ≤ capacity_of b)
 
--- the buffer for an answer has this room
-abbrev pub HasRoom : ℕ → Option Buffer → Type 0
-HasRoom room None = ⊥
-HasRoom room (Some b) = capacity_of b ≡ room
+-- the answer's size is told: it is the buffer's length, and fits the room
+abbrev pub IsTold : (room len : ℕ) → Option ℕ → Type 0
+IsTold room len size = IfSome size (λ n. (len ≡ n) × (n ≤ room))
+
+-- the buffer for an answer has this room, and the answer's length once that is told
+abbrev pub HasRoom : ℕ → Option ℕ → Option Buffer → Type 0
+HasRoom room size None = ⊥
+HasRoom room size (Some b) = (capacity_of b ≡ room) × IsTold room b.len size
 
 -- the pool has the call's two buffers, and no entry names that of the answer
 pub record IsKept (pool : Pool) (c : ActiveCall) : Type 0 where
   pub ask : IsFull pool c.ask
   pub answer : IsFull pool c.answer
   pub size : HasSize c.len (buf_at pool c.ask)
-  pub room : HasRoom c.room (buf_at pool c.answer)
+  pub room : HasRoom c.room c.size (buf_at pool c.answer)
   pub unnamed : refs_of pool c.answer ≡ 0
 
 -- how often calls name a place

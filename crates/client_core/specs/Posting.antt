@@ -1,5 +1,5 @@
 -- What a session begins and posts next, and what becomes of it.
-use Rattle.std.specs.Prelude.{◌≡◌, ℕ, ◌+◌, ◌%◌, ◌<◌, ◌==◌, nat_lt, Bool, [], ◌∷◌, ◌++◌, Option, Some, None, option_map, if◌then◌else◌}
+use Rattle.std.specs.Prelude.{◌≡◌, ℕ, ◌+◌, ◌%◌, ◌<◌, ◌==◌, nat_lt, Bool, [], ◌∷◌, ◌++◌, Option, Some, None, option_and_then, option_map, if◌then◌else◌}
 use Rattle.std.specs.List.{find}
 use Rattle.rpc_base.specs.declared.owner.Owner.{Owner}
 use Rattle.rpc_base.specs.declared.owner.Owner.TheVariants.{Ask}
@@ -52,9 +52,13 @@ pub record Starts (call request : ℕ) (old new : Session) (before after : Pool)
 abbrev pub place_of : ActiveCall → ℕ → Option ℕ
 place_of c k = if nat_lt k (packet_count c.len) then Some c.ask else None
 
--- the entry of a call's next packet
+-- the entry of packet k of a call
+abbrev pub entry_at : (session peer k : ℕ) → ActiveCall → EntryValue
+entry_at session peer k c = record { owner = Ask session c.request; number = k; place = place_of c k; peer = peer }
+
+-- that of its next packet
 abbrev pub entry_of : (session peer : ℕ) → ActiveCall → EntryValue
-entry_of session peer c = record { owner = Ask session c.request; number = c.posted; place = place_of c c.posted; peer = peer }
+entry_of session peer c = entry_at session peer c.posted c
 
 -- the header of packet k of a call
 abbrev pub head_of : (server k : ℕ) → ActiveCall → MessageHeader
@@ -98,6 +102,14 @@ marked number now c = if c.got == number then record c { mark = now } else c
 -- an entry was sent
 abbrev pub sent_at : EntryValue → ℕ → Session → Session
 sent_at e now s = record s { active = at_first (is_owner s.number e.owner) (marked e.number now) s.active }
+
+-- the entry of packet k of a call, where the call posted it
+abbrev pub entry_if : (session peer k : ℕ) → ActiveCall → Option EntryValue
+entry_if session peer k c = if nat_lt k c.posted then Some (entry_at session peer k c) else None
+
+-- that of the active call with this request number
+abbrev pub posted_entry : (peer request k : ℕ) → Session → Option EntryValue
+posted_entry peer request k s = option_and_then (entry_if s.number peer k) (find (λ c. c.request == request) s.active)
 
 -- the entry is a packet that the call posted
 abbrev pub IsPacketOf : Option ActiveCall → EntryValue → Type 0

@@ -55,6 +55,7 @@ pub record IsInTurn (c : ActiveCall) : Type 0 where
   pub size : IfSome c.size IsMessage
   pub answered : c.got ≤ c.posted
   pub known : c.posted ≤ known_of c
+  pub rolls : c.rolls ≤ 8
 
 -- each slot has its active call and no other, and the slot's unanswered packets are that call's
 pub record IsSession (s : Session) : Type 0 where

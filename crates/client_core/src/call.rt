@@ -1,21 +1,29 @@
 //! What a session keeps of an active call.
 ghost use Rattle.std.specs.Prelude.{◌≡◌, ◌≤◌, ◌<◌, Some};
 ghost use Rattle.packet_header.specs.Header.{MessageInRange};
-ghost use Rattle.packet_header.specs.Parts.{packet_count};
+ghost use Rattle.packet_header.specs.Parts.{packet_count, part_size};
 ghost use Rattle.packet_header.specs.declared.packet.Kind.TheVariants.{Request};
 ghost use Rattle.buffer_pool.specs.Pool.{filled, lowest_empty, spare_of};
 ghost use Rattle.rpc_base.specs.declared.owner.Owner.TheVariants.{Ask};
 ghost use Rattle.client_core.specs.Session.{IsInTurn, IsMessage, can_post, known_of};
 ghost use Rattle.client_core.specs.Watching.{is_after, told};
+ghost use Rattle.rpc_laws.specs.Calls.{is_response};
+ghost use Rattle.rpc_laws.specs.ClientTable.{is_cr, is_of_turn, is_same_size};
 ghost use Rattle.client_core.specs.KeepsPool.{IsKept};
-ghost use Rattle.client_core.specs.Posting.{entry_of, head_of, marked, place_of, started};
+ghost use Rattle.client_core.specs.Replies.{call_row, end_of, replied, size_told};
+ghost use Rattle.client_core.specs.Timeouts.{call_timer, rolled_call};
+ghost use Rattle.client_core.specs.Posting.{entry_at, entry_of, head_of, marked, place_of, started};
 
 use crate::active::Active;
 use buffer_pool::BufferPool;
-use packet_header::{Kind, MessageHeader, count};
+use packet_header::{Kind, MessageHeader, PART_BYTES, count};
 use packet_rings::Entry;
-use rpc_base::{CallNo, Owner, Peer, Place, RequestNo, SessionNo};
+use rpc_base::{CallNo, DropReason, Owner, Peer, Place, RequestNo, SessionNo};
+use rpc_laws::{ClientRow, EndRow, TimerRow};
 use session_slots::Waiting;
+
+/// How often a call is rolled back without a reply before its session breaks.
+pub const MOST_ROLLS: u8 = 8;
 
 /// A call that began and isn't over. What posting and the client table read of its buffers stands
 /// here, so that they read no buffer.
@@ -136,6 +144,100 @@ impl ActiveCall {
         }
     }
 
+    /// What the client table says of a reply to the call. `is_waiting` tells whether the call's packet of
+    /// the reply's number is queued.
+    pub fn row(&self, head: &MessageHeader, body_len: usize, is_waiting: bool) -> ClientRow
+        ensures { result ≡ call_row is_waiting head.now body_len self.now }
+    {
+        if head.number < self.got {
+            return ClientRow::Drops(DropReason::Past);
+        }
+        if head.number > self.got || head.number >= self.posted {
+            return ClientRow::Drops(DropReason::Ahead);
+        }
+        if !self.is_of_turn(head, body_len) {
+            return ClientRow::Drops(DropReason::Mismatch);
+        }
+        if is_waiting {
+            return ClientRow::Drops(DropReason::Queued);
+        }
+        ClientRow::Takes
+    }
+
+    // Before the last packet of the request a CR answers; from then on the parts of the answer.
+    fn is_of_turn(&self, head: &MessageHeader, body_len: usize) -> bool
+        ensures { result ≡ is_of_turn (packet_count self.now.len) self.now.req_type self.now.size head.now body_len }
+    {
+        let next = u32::from(head.number) + 1;
+        let asked = count(self.len);
+        if next < asked {
+            return is_a_cr(head.kind);
+        }
+        is_a_response(head.kind)
+            && head.req_type == self.req_type
+            && is_as_told(self.size, head.size)
+            && body_len == part_bytes(head.size, next - asked)
+    }
+
+    /// How the call stands once this reply to it was taken.
+    pub fn end_row(&self, head: &MessageHeader) -> EndRow
+        requires { IsInTurn self.now }
+        ensures { result ≡ end_of head.now self.now }
+    {
+        let Some(size) = told_by(self.size, head) else {
+            return EndRow::GoesOn;
+        };
+        if self.size.is_none() && self.room < size {
+            return EndRow::EndsTooSmall(size);
+        }
+        if u32::from(self.got) + 1 == count(self.len) + count(size) - 1 {
+            return EndRow::EndsOk;
+        }
+        EndRow::GoesOn
+    }
+
+    /// The call once this reply to it was taken at `now`: one more in turn, no rollback since, and the
+    /// mark is now. The first part of the answer tells its size.
+    pub fn replied(self, head: &MessageHeader, now: u64) -> ActiveCall
+        requires { self.got < self.posted }
+        ensures { result ≡ replied now head.now self }
+    {
+        ActiveCall {
+            got: self.got + 1,
+            rolls: 0,
+            mark: now,
+            size: told_by(self.size, head),
+            ..self
+        }
+    }
+
+    /// What the timer rule says of the call at `now`, with this timeout, both in microseconds.
+    /// `is_waiting` tells whether the call's packet `got` is queued.
+    pub fn timer(&self, now: u64, is_waiting: bool, timeout: u64) -> TimerRow
+        ensures { result ≡ call_timer now timeout is_waiting self.now }
+    {
+        if self.got >= self.posted || is_waiting || now.saturating_sub(self.mark) < timeout {
+            return TimerRow::Waits;
+        }
+        if self.rolls < MOST_ROLLS {
+            return TimerRow::RollsBack;
+        }
+        TimerRow::Breaks
+    }
+
+    /// The call once it was rolled back: its packets from the first unanswered one on are to be posted
+    /// again.
+    pub fn rolled(self) -> ActiveCall
+        requires { self.rolls < 8 }
+        ensures { result ≡ rolled_call self }
+    {
+        ActiveCall {
+            posted: self.got,
+            rolls: self.rolls + 1,
+            ..self
+        }
+    }
+
     /// Where the bytes of the call's packet are. A request for a part of the answer has none.
     pub fn place_of(&self, number: u16) -> Option<Place>
         ensures { result ≡ place_of self.now number }
@@ -147,16 +249,23 @@ impl ActiveCall {
         }
     }
 
+    /// The entry of one of the call's packets.
+    pub fn entry(&self, session: SessionNo, number: u16, peer: Peer) -> Entry
+        ensures { result ≡ entry_at session peer number self.now }
+    {
+        Entry {
+            owner: self.owner(session),
+            number,
+            place: self.place_of(number),
+            peer,
+        }
+    }
+
     /// The entry of the call's next packet.
     pub fn next_entry(&self, session: SessionNo, peer: Peer) -> Entry
         ensures { result ≡ entry_of session peer self.now }
     {
-        Entry {
-            owner: self.owner(session),
-            number: self.posted,
-            place: self.place_of(self.posted),
-            peer,
-        }
+        self.entry(session, self.posted, peer)
     }
 
     /// The header of a packet that the call posted: a part of the request, and from then on a request
@@ -181,6 +290,54 @@ impl ActiveCall {
             }
         }
     }
+}
+
+fn is_a_cr(kind: Kind) -> bool
+    ensures { result ≡ is_cr kind }
+{
+    match kind {
+        Kind::Cr => true,
+        _ => false,
+    }
+}
+
+/// Whether a packet is a part of an answer.
+pub fn is_a_response(kind: Kind) -> bool
+    ensures { result ≡ is_response kind }
+{
+    match kind {
+        Kind::Response => true,
+        _ => false,
+    }
+}
+
+// Every later part of an answer has the size that its first one told.
+fn is_as_told(told: Option<u32>, size: u32) -> bool
+    ensures { result ≡ is_same_size told size }
+{
+    match told {
+        None => true,
+        Some(told) => told == size,
+    }
+}
+
+// The size of the answer, as far as it is told once this reply came.
+fn told_by(size: Option<u32>, head: &MessageHeader) -> Option<u32>
+    ensures { result ≡ size_told size head.now }
+{
+    if is_a_response(head.kind) {
+        Some(head.size)
+    } else {
+        size
+    }
+}
+
+// The bytes of a part of a message, 0 past its end.
+fn part_bytes(size: u32, index: u32) -> usize
+    requires { index ≤ 65536 }
+    ensures { result ≡ part_size size index }
+{
+    size.saturating_sub(PART_BYTES * index).min(PART_BYTES) as usize
 }
 
 // The header of a part of a request.

@@ -1,17 +1,19 @@
 //! The list of a session's active calls.
-ghost use Rattle.std.specs.Prelude.{◌≡◌, ◌<◌, ◌≤◌, [], ◌∷◌, ◌++◌, ◌&&◌, ◌==◌, ◌↔◌, IsTrue, Some, length, option_copied, position, slice_get, slice_set, IfNone};
-ghost use Rattle.std.specs.List.{AllByRecursion, find};
-ghost use Rattle.rpc_base.specs.Tables.{at_first};
+ghost use Rattle.std.specs.Prelude.{◌≡◌, ◌<◌, ◌≤◌, [], ◌∷◌, ◌++◌, ◌&&◌, ◌==◌, ◌↔◌, IsTrue, None, Some, length, option_copied, position, slice_get, slice_set, IfNone};
+ghost use Rattle.std.specs.List.{AllByRecursion, find, remove};
+ghost use Rattle.rpc_base.specs.Tables.{at_first, without_first};
 ghost use Rattle.rpc_base.specs.Least.{least, least_number, smaller};
 ghost use Rattle.client_core.specs.Watching.{call_number, is_after};
 ghost use Rattle.client_core.specs.KeepsPool.{CanHold, KeepsPool};
 ghost use Rattle.client_core.specs.Session.{IsInTurn, can_post};
 ghost use Rattle.client_core.specs.Posting.{is_owner, marked, one_posted};
+ghost use Rattle.client_core.specs.Replies.{IsUnheld, is_request};
+ghost use Rattle.client_core.specs.Timeouts.{is_numbered};
 
 use crate::call::ActiveCall;
 use arrayvec::ArrayVec;
 use buffer_pool::BufferPool;
-use rpc_base::{CallNo, Owner, SessionNo};
+use rpc_base::{CallNo, Owner, RequestNo, SessionNo};
 use std::marker::Model;
 
 /// As many calls as a session has slots, which lie in the session itself. Contracts see the list.
@@ -77,6 +79,14 @@ impl Calls {
         self.items.as_mut_slice()[i] = call;
     }
 
+    // Takes call `i` out, which has to be there.
+    fn take_out(&mut self, i: usize)
+        requires { i < length self.old }
+        ensures { self.new ≡ remove self.old i }
+    {
+        self.items.remove(i);
+    }
+
     fn next_to_post(&self) -> Option<usize>
         ensures { result ≡ position can_post self.now }
     {
@@ -124,6 +134,60 @@ impl Calls {
         }
     }
 
+    fn place_of_request(&self, request: RequestNo) -> Option<usize>
+        ensures { result ≡ position (is_request request) self.now }
+    {
+        self.as_slice()
+            .iter()
+            .position(|call| call.request.get() == request.get())
+    }
+
+    fn place_of_number(&self, number: CallNo) -> Option<usize>
+        ensures { result ≡ position (is_numbered number) self.now }
+    {
+        self.as_slice()
+            .iter()
+            .position(|call| call.call.0 == number.0)
+    }
+
+    /// The active call with this request number, if there is one.
+    pub fn of_request(&self, request: RequestNo) -> Option<ActiveCall>
+        ensures { result ≡ find (is_request request) self.now }
+    {
+        let Some(at) = self.place_of_request(request) else {
+            return None;
+        };
+        Some(self.at(at))
+    }
+
+    /// The active call with this number, if there is one.
+    pub fn of_number(&self, number: CallNo) -> Option<ActiveCall>
+        ensures { result ≡ find (is_numbered number) self.now }
+    {
+        let Some(at) = self.place_of_number(number) else {
+            return None;
+        };
+        Some(self.at(at))
+    }
+
+    /// Puts `call` in the place of the call with this request number, if there is one.
+    pub fn replace(&mut self, request: RequestNo, call: ActiveCall)
+        ensures { self.new ≡ at_first (is_request request) (λ c. call) self.old }
+    {
+        if let Some(at) = self.place_of_request(request) {
+            self.set(at, call);
+        }
+    }
+
+    /// The call with this request number is taken out.
+    pub fn remove(&mut self, request: RequestNo)
+        ensures { self.new ≡ without_first (is_request request) self.old }
+    {
+        if let Some(at) = self.place_of_request(request) {
+            self.take_out(at);
+        }
+    }
+
     /// The call whose packets are this owner's in the session, if there is one.
     pub fn of_owner(&self, session: SessionNo, owner: Owner) -> Option<&ActiveCall>
         ensures { option_copied result ≡ find (is_owner session owner) self.now }
@@ -140,6 +204,19 @@ impl Calls {
     {
         for call in self.as_slice() {
             if pool.refs(call.ask) == u32::MAX {
+                return false;
+            }
+        }
+        true
+    }
+
+    /// Whether no reference is left to any call's request.
+    pub fn are_unheld(&self, pool: &BufferPool) -> bool
+        requires { KeepsPool pool.now self.now }
+        ensures { IsTrue result ↔ AllByRecursion (IsUnheld pool.now) self.now }
+    {
+        for call in self.as_slice() {
+            if pool.refs(call.ask) > 0 {
                 return false;
             }
         }
@@ -167,6 +244,13 @@ impl Calls {
             return None;
         };
         self.numbered(after, number)
+    }
+
+    /// The call of least number, if there is one.
+    pub fn next(&self) -> Option<ActiveCall>
+        ensures { result ≡ least (is_after None) call_number self.now }
+    {
+        self.least(&None).copied()
     }
 
     fn numbered(&self, after: &Option<CallNo>, number: u64) -> Option<&ActiveCall>

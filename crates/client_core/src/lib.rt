@@ -5,9 +5,11 @@
 mod active;
 mod call;
 mod calls;
+mod outcome;
 mod session;
 
 pub use active::Active;
+pub use outcome::{Done, Outcome, Reply, Timer};
 pub use session::ClientSession;
 
 #[cfg(test)]

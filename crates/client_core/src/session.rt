@@ -1,14 +1,21 @@
-//! A client session.
-ghost use Rattle.std.specs.Prelude.{◌≡◌, ◌<◌, ◌≤◌, ◌+◌, ◌^◌, ◌==◌, ◌↔◌, ◌⊎◌, ℕ, [], ◌∷◌, false, length, option_map, IfErr, IfNone, IfSome, IsNone, IsTrue, OnErr, OnOk};
+//! A client session: its calls begin and post here. What replies and timeouts do to them stands in the
+//! modules below.
+ghost use Rattle.std.specs.Prelude.{◌≡◌, ◌<◌, ◌≤◌, ◌+◌, ◌^◌, ◌↔◌, ◌⊎◌, ℕ, [], ◌∷◌, false, length, option_map, IfErr, IfNone, IfSome, IsNone, IsTrue, OnErr, OnOk};
 ghost use Rattle.std.specs.List.{list_any};
 ghost use Rattle.buffer_pool.specs.Pool.{Pool, spare_of};
+ghost use Rattle.credit_book.specs.Credits.{limit_of};
 ghost use Rattle.rpc_laws.specs.Posting.{beginning, posting};
 ghost use Rattle.session_slots.specs.Slots.{lowest_free};
 ghost use Rattle.client_core.specs.KeepsPool.{CanHold, IsHeld, KeepsPool, MayHold, held_at, held_for, released_at};
 ghost use Rattle.client_core.specs.Posting.{IsPacketOf, Starts, call_of, next_entry, posted, sent_at};
 ghost use Rattle.client_core.specs.Session.{IsSession, can_post, enqueued, new_session};
-ghost use Rattle.client_core.specs.Shown.{IsSpelled, asked, begun_event, packet_of, paired, posted_event, shown, stepped};
+ghost use Rattle.client_core.specs.Shown.{IsSpelled, asked, begun_event, packet_of, paired, posted_event, sent_event, shown, stepped};
+ghost use Rattle.client_core.specs.Timeouts.{is_numbered};
 ghost use Rattle.client_core.specs.Watching.{is_after, next_told};
+
+mod conditions;
+mod reply;
+mod timeout;
 
 use crate::active::Active;
 use crate::call::ActiveCall;
@@ -55,7 +62,7 @@ impl ClientSession {
         requires most { credits ≤ 256 }
         ensures session { result ≡ new_session session server credits }
         ensures keeps_pool { (pool : Pool) → KeepsPool pool result.active }
-        ensures step { (pool : Pool) → (peer : ℕ) → paired session server peer credits ≡ shown pool peer result ∷ [] }
+        ensures step { (pool : Pool) → (clock peer : ℕ) → paired clock session server peer credits ≡ shown pool peer result ∷ [] }
     {
         ClientSession {
             number: session,
@@ -89,6 +96,22 @@ impl ClientSession {
         self.credits.free()
     }
 
+    /// How many credits there are in all, 1 to 256: those that are free, and those of the unanswered packets
+    /// of the eight slots.
+    pub fn limit(&self) -> u16
+        ensures { result ≡ limit_of self.now.credits }
+    {
+        let mut limit = self.credits.free();
+        limit += self.credits.unanswered(0);
+        limit += self.credits.unanswered(1);
+        limit += self.credits.unanswered(2);
+        limit += self.credits.unanswered(3);
+        limit += self.credits.unanswered(4);
+        limit += self.credits.unanswered(5);
+        limit += self.credits.unanswered(6);
+        limit + self.credits.unanswered(7)
+    }
+
     /// How many calls are active or wait.
     pub fn pending(&self) -> u64
         ensures pending { result ≡ length self.now.active + length self.now.slots.waiting }
@@ -111,7 +134,7 @@ impl ClientSession {
         requires message { w.req.len ≤ 1048576 }
         requires turns { self.old.slots.taken < 2 ^ 45 }
         ensures waits { OnOk result (self.new ≡ enqueued w self.old) }
-        ensures step { OnOk result ((pool : Pool) → (peer : ℕ) → asked w (shown pool peer self.old) ≡ shown pool peer self.new ∷ []) }
+        ensures step { OnOk result ((pool : Pool) → (clock peer : ℕ) → asked clock w (shown pool peer self.old) ≡ shown pool peer self.new ∷ []) }
         ensures unchanged { OnErr result (self.new ≡ self.old) }
         ensures handed_back { IfErr result (λ back. back ≡ w) }
     {
@@ -129,8 +152,8 @@ impl ClientSession {
         ensures unchanged { IfNone result ((self.new ≡ self.old) × (pool.new ≡ pool.old)) }
         ensures turn { (peer : ℕ) → beginning (shown pool.old peer self.old) ≡ option_map begun_event result }
         // As the call Begun of the definitions, where no active call has this call's number already.
-        ensures step { IfSome result (λ b. (peer : ℕ) → list_any (λ c. c.call == b.0) self.old.active ≡ false →
-            stepped (begun_event b) (shown pool.old peer self.old) ≡ shown pool.new peer self.new ∷ []) }
+        ensures step { IfSome result (λ b. (clock peer : ℕ) → list_any (is_numbered b.0) self.old.active ≡ false →
+            stepped clock (begun_event b) (shown pool.old peer self.old) ≡ shown pool.new peer self.new ∷ []) }
         ensures starts { IfSome result (λ b. Starts b.0 b.1 self.old self.new pool.old pool.new) }
         ensures keeps_pool { KeepsPool pool.new self.new.active }
     {
@@ -162,7 +185,7 @@ impl ClientSession {
         ensures none { IsNone result ↔ ((self.old.credits.free ≡ 0) ⊎ (list_any can_post self.old.active ≡ false)) }
         ensures session { self.new ≡ posted self.old }
         ensures turn { posting (shown pool.old peer self.old) ≡ option_map posted_event result }
-        ensures step { IfSome result (λ e. stepped (posted_event e) (shown pool.old peer self.old) ≡ shown pool.new peer self.new ∷ []) }
+        ensures step { IfSome result (λ e. (clock : ℕ) → stepped clock (posted_event e) (shown pool.old peer self.old) ≡ shown pool.new peer self.new ∷ []) }
         ensures pool { pool.new ≡ held_for result pool.old }
         ensures stands { IfSome result (λ e. IsPacketOf (call_of self.new e) e) }
         ensures held { IfSome result (λ e. IsHeld pool.new e.place) }
@@ -198,7 +221,7 @@ impl ClientSession {
         requires keeps_pool { KeepsPool pool.old self.old.active }
         requires held { IsHeld pool.old entry.now.place }
         ensures session { self.new ≡ sent_at entry.now now self.old }
-        ensures shown { (peer : ℕ) → shown pool.new peer self.new ≡ shown pool.old peer self.old }
+        ensures step { (peer : ℕ) → stepped now (sent_event entry.now) (shown pool.old peer self.old) ≡ shown pool.new peer self.new ∷ [] }
         ensures pool { pool.new ≡ released_at entry.now.place pool.old }
         ensures keeps_pool { KeepsPool pool.new self.new.active }
     {

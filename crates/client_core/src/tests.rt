@@ -3,6 +3,9 @@ ghost use Rattle.std.specs.Prelude.{◌≡◌, ◌≤◌, [], length, IfOk, IfSo
 ghost use Rattle.client_core.specs.KeepsPool.{IsHeld, KeepsPool};
 ghost use Rattle.client_core.specs.Posting.{IsPacketOf, call_of};
 
+mod replies;
+mod timeouts;
+
 use crate::{Active, ClientSession};
 use buffer_pool::BufferPool;
 use message_buffer::MsgBuf;
@@ -15,16 +18,17 @@ use std::test::Fail;
 
 const PEER: Peer = Peer(4);
 
-/// A call that asks these bytes.
-fn make_call(alloc: Global, call: u64, ask: &[u8]) -> Result<Waiting, NoMemory>
-    requires { length ask.now ≤ 2000 }
+/// A call that asks these bytes and has this room for the answer.
+fn make_call(alloc: Global, call: u64, ask: &[u8], room: u32) -> Result<Waiting, NoMemory>
+    requires ask { length ask.now ≤ 2000 }
+    requires room { room ≤ 2000 }
     ensures { IfOk result (λ w. w.req.len ≡ length ask.now) }
 {
     let size = ask.len() as u32;
     let mut req = MsgBuf::new(alloc, size)?;
     req.set_len(size);
     req.write(0, ask);
-    let resp = MsgBuf::new(alloc, 10)?;
+    let resp = MsgBuf::new(alloc, room)?;
     Ok(Waiting {
         call: CallNo(call),
         tag: 7,
@@ -39,11 +43,11 @@ fn make_session(alloc: Global) -> Result<ClientSession, NoMemory>
     ensures { IfOk result (λ s. s.active ≡ []) }
 {
     let mut session = ClientSession::new(alloc, SessionNo(3), SessionNo(0x0506), 3);
-    let older = make_call(alloc, 20, &[0xAA; 1030])?;
+    let older = make_call(alloc, 20, &[0xAA; 1030], 10)?;
     if session.enqueue(older).is_err() {
         return Err(NoMemory);
     }
-    let newer = make_call(alloc, 21, &[0xBB])?;
+    let newer = make_call(alloc, 21, &[0xBB], 10)?;
     if session.enqueue(newer).is_err() {
         return Err(NoMemory);
     }

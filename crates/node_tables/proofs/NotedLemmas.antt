@@ -11,7 +11,7 @@ use Rattle.node_tables.specs.Noted.{Noted, Makes, NotesOne}
 
 goes-then : (a b c : Timed) (x y : List Fact) → Goes a x b → Goes b y c → Goes a (x ++ y) c
 goes-then a b c x y p q =
-    q ∙ rw p (rw (after_all-append a.lists x y) refl)
+    q ∙ rw p (rw (after_all-append a.clock a.lists x y) refl)
 
 pub noted-then : (a b c : Timed) (x y f g h : List Fact) → Noted x a b f g → Noted y b c g h → Noted (x ++ y) a c f h
 noted-then a b c x y f g h p q = record {
@@ -20,7 +20,7 @@ noted-then a b c x y f g h p q = record {
 }
 
 pub me-noted : (a b : Timed) (x f g : List Fact) → Noted x a b f g → b.lists.me ≡ a.lists.me
-me-noted a b x f g p = ap (λ (t : Timed). t.lists.me) p.goes ∙ me-after_all a.lists x
+me-noted a b x f g p = ap (λ (t : Timed). t.lists.me) p.goes ∙ me-after_all a.clock a.lists x
 
 -- one fact more
 pub noted-more : (a b c : Timed) (x f g h : List Fact) (e : Event) (first second : List ℕ) → Noted x a b f g → Noted (with_two b.lists.me e first second ∷ []) b c g h → Noted (x ++ with_two a.lists.me e first second ∷ []) a c f h

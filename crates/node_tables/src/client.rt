@@ -3,12 +3,15 @@ ghost use Rattle.std.specs.Prelude.{◌≡◌, ◌<◌, ◌%◌, ℕ, List, leng
 ghost use Rattle.std.specs.List.{position, list_any};
 ghost use Rattle.packet_header.specs.declared.packet.MessageHeader.{MessageHeader};
 ghost use Rattle.rpc_laws.specs.Calls.{is_call, is_active, asking, begun, moved, posted_up_to, took_reply, is_response};
-ghost use Rattle.rpc_laws.specs.Sessions.{is_client, has_call, client_end, turned, begins, posts, takes, ends, clients_after, no_turns};
+ghost use Rattle.rpc_laws.specs.Sessions.{is_client, has_call, client_end, turned, begins, asks, posts, takes, ends, clients_after, no_turns};
 ghost use Rattle.rpc_base.specs.Tables.{at_first, without_first};
 
 use crate::counting::one_more;
+use crate::timing::{break_on, roll_on, send_on};
 use packet_header::{Kind, MessageHeader};
-use rpc_base::{CallNo, Event, Listed, NoMemory, Octets, Owner, Peer, RequestNo, SessionNo};
+use rpc_base::{
+    CallNo, Event, Listed, NoMemory, Octets, Owner, Peer, RequestNo, SessionNo, SessionState,
+};
 use rpc_laws::{Asking, Call, Client, Progress, Way};
 use std::alloc::Global;
 
@@ -22,7 +25,8 @@ pub fn place_of_client(clients: &Listed<Client>, session: SessionNo) -> Option<u
         .position(|client| client.way.number.0 == session.0)
 }
 
-fn place_of_call(calls: &Listed<Call>, number: CallNo) -> Option<usize>
+/// Where the call stands among those of its session.
+pub fn place_of_call(calls: &Listed<Call>, number: CallNo) -> Option<usize>
     ensures { result ≡ position (is_call number) calls.now }
 {
     calls
@@ -60,8 +64,8 @@ fn holds_call(client: &Client, number: CallNo) -> bool
         .any(|call| call.what.number.0 == number.0)
 }
 
-// The session that has this call.
-fn place_of_holder(clients: &Listed<Client>, number: CallNo) -> Option<usize>
+/// Where the session that has this call stands in the table.
+pub fn place_of_holder(clients: &Listed<Client>, number: CallNo) -> Option<usize>
     ensures { result ≡ position (has_call number) clients.now }
 {
     clients
@@ -77,16 +81,19 @@ pub fn make_client(alloc: Global, way: Way, credits: u16) -> Result<Client, NoMe
     let turns = Vec::from_slice(alloc, &[0u64; 8])?;
     Ok(Client {
         way,
+        state: SessionState::Connected,
         limit: credits,
         free: u64::from(credits),
+        asked: 0,
         turns: Listed::from(turns),
         calls: Listed::new(alloc),
     })
 }
 
 fn ask(client: &mut Client, what: Asking) -> Result<(), NoMemory>
-    ensures { OnOk result (client.new ≡ record client.old { calls = asking what client.old.calls }) }
+    ensures { OnOk result (client.new ≡ asks what client.old) }
 {
+    client.asked = one_more(client.asked)?;
     client.calls.push(Call {
         what,
         progress: None,
@@ -112,6 +119,8 @@ fn begin_call(alloc: Global, calls: &mut Listed<Call>, number: CallNo, request: 
             request,
             got: 0,
             posted: 0,
+            rolls: 0,
+            mark: 0,
             answer: None,
             parts: Octets::from(Vec::new(alloc)),
         });
@@ -167,13 +176,16 @@ pub fn is_a_response(kind: Kind) -> bool
 
 fn count_taken(
     progress: &mut Progress,
+    clock: u64,
     head: &Option<MessageHeader>,
     body: &[u8],
 ) -> Result<(), NoMemory>
-    ensures { OnOk result (progress.new ≡ took_reply head.now body.now progress.old) }
+    ensures { OnOk result (progress.new ≡ took_reply clock head.now body.now progress.old) }
 {
     if let Some(head) = head {
         progress.got = one_more(progress.got)?;
+        progress.rolls = 0;
+        progress.mark = clock;
         if is_a_response(head.kind) {
             progress.answer = Some(head.size);
             progress.parts.append(body)?;
@@ -182,29 +194,35 @@ fn count_taken(
     Ok(())
 }
 
-fn take_part(call: &mut Call, head: &Option<MessageHeader>, body: &[u8]) -> Result<(), NoMemory>
-    ensures { OnOk result (call.new ≡ moved (took_reply head.now body.now) call.old) }
+fn take_part(
+    call: &mut Call,
+    clock: u64,
+    head: &Option<MessageHeader>,
+    body: &[u8],
+) -> Result<(), NoMemory>
+    ensures { OnOk result (call.new ≡ moved (took_reply clock head.now body.now) call.old) }
 {
     match &mut call.progress {
         None => Ok(()),
-        Some(progress) => count_taken(progress, head, body),
+        Some(progress) => count_taken(progress, clock, head, body),
     }
 }
 
 fn take_packet(
     calls: &mut Listed<Call>,
+    clock: u64,
     request: RequestNo,
     head: &Option<MessageHeader>,
     body: &[u8],
 ) -> Result<(), NoMemory>
     ensures { OnOk result
-        (calls.new ≡ at_first (is_active request) (moved (took_reply head.now body.now)) calls.old) }
+        (calls.new ≡ at_first (is_active request) (moved (took_reply clock head.now body.now)) calls.old) }
 {
     match place_of_active(calls, request) {
         None => Ok(()),
         Some(place) => {
             let call = calls.at_mut(place);
-            take_part(call, head, body)?;
+            take_part(call, clock, head, body)?;
             Ok(())
         }
     }
@@ -220,20 +238,21 @@ fn end_call(calls: &mut Listed<Call>, number: CallNo)
 
 fn take(
     client: &mut Client,
+    clock: u64,
     request: RequestNo,
     head: &Option<MessageHeader>,
     body: &[u8],
 ) -> Result<(), NoMemory>
-    ensures { OnOk result (client.new ≡ takes request head.now body.now client.old) }
+    ensures { OnOk result (client.new ≡ takes clock request head.now body.now client.old) }
 {
     client.free = one_more(client.free)?;
-    take_packet(&mut client.calls, request, head, body)?;
+    take_packet(&mut client.calls, clock, request, head, body)?;
     Ok(())
 }
 
 fn ask_on(clients: &mut Listed<Client>, session: SessionNo, what: Asking) -> Result<(), NoMemory>
     ensures { OnOk result
-        (clients.new ≡ at_first (is_client session) (λ x. record x { calls = asking what x.calls }) clients.old) }
+        (clients.new ≡ at_first (is_client session) (asks what) clients.old) }
 {
     match place_of_client(clients, session) {
         None => Ok(()),
@@ -278,17 +297,18 @@ fn post_on(clients: &mut Listed<Client>, session: SessionNo, request: RequestNo,
 fn take_on(
     clients: &mut Listed<Client>,
     session: SessionNo,
+    clock: u64,
     request: RequestNo,
     head: &Option<MessageHeader>,
     body: &[u8],
 ) -> Result<(), NoMemory>
-    ensures { OnOk result (clients.new ≡ at_first (is_client session) (takes request head.now body.now) clients.old) }
+    ensures { OnOk result (clients.new ≡ at_first (is_client session) (takes clock request head.now body.now) clients.old) }
 {
     match place_of_client(clients, session) {
         None => Ok(()),
         Some(place) => {
             let client = clients.at_mut(place);
-            take(client, request, head, body)?;
+            take(client, clock, request, head, body)?;
             Ok(())
         }
     }
@@ -306,17 +326,18 @@ fn end_on(clients: &mut Listed<Client>, number: CallNo)
     }
 }
 
-/// The client sessions after an event of their node. `bytes` are the fact's, `head` and `body` those of
+/// The client sessions after an event of their node at this clock. `bytes` are the fact's, `head` and `body` those of
 /// the packet at the front of the ring.
 pub fn change_clients(
     alloc: Global,
     clients: &mut Listed<Client>,
+    clock: u64,
     event: &Event,
     bytes: &[u8],
     head: &Option<MessageHeader>,
     body: &[u8],
 ) -> Result<(), NoMemory>
-    ensures { OnOk result (clients.new ≡ clients_after event.now bytes.now head.now body.now clients.old) }
+    ensures { OnOk result (clients.new ≡ clients_after clock event.now bytes.now head.now body.now clients.old) }
 {
     match event {
         Event::PairedClient {
@@ -358,15 +379,32 @@ pub fn change_clients(
             post_on(clients, *session, *request, *number);
             Ok(())
         }
+        Event::Sent {
+            owner: Owner::Ask { session, request },
+            number,
+            ..
+        } => {
+            send_on(clients, *session, clock, *request, *number);
+            Ok(())
+        }
         Event::Took {
             owner: Owner::Ask { session, request },
             ..
-        } => { take_on(clients, *session, *request, head, body) }
+        } => { take_on(clients, *session, clock, *request, head, body) }
+        Event::Rolled { call, posted, got } => roll_on(clients, *call, *posted, *got),
+        Event::Broken { session } => {
+            break_on(clients, *session);
+            Ok(())
+        }
         Event::DoneOk { call } => {
             end_on(clients, *call);
             Ok(())
         }
         Event::DoneTooSmall { call, .. } => {
+            end_on(clients, *call);
+            Ok(())
+        }
+        Event::DonePeerLost { call } => {
             end_on(clients, *call);
             Ok(())
         }

@@ -26,15 +26,16 @@ fn count_asked(asked: u64, event: &Event) -> Result<u64, NoMemory>
 fn change(
     alloc: Global,
     lists: &mut Lists,
+    clock: u64,
     event: &Event,
     first: &[u8],
     second: &[u8],
 ) -> Result<(), NoMemory>
-    ensures { OnOk result (lists.new ≡ after lists.old (with_two lists.old.me event.now first.now second.now)) }
+    ensures { OnOk result (lists.new ≡ after clock lists.old (with_two lists.old.me event.now first.now second.now)) }
 {
     let head = read_front(&lists.ring);
     let body = body_in_front(&lists.ring);
-    change_clients(alloc, &mut lists.clients, event, first, &head, body)?;
+    change_clients(alloc, &mut lists.clients, clock, event, first, &head, body)?;
     change_servers(alloc, &mut lists.servers, event, second, &head, body)?;
     lists.asked = count_asked(lists.asked, event)?;
     change_queued(&mut lists.queued, event)?;
@@ -42,7 +43,7 @@ fn change(
     Ok(())
 }
 
-/// Notes a fact of the node, with up to two pieces of bytes.
+/// Notes a fact of the node at its clock, with up to two pieces of bytes.
 pub fn note(
     alloc: Global,
     node: &mut Timed,
@@ -55,7 +56,7 @@ pub fn note(
         (Noted (with_two node.old.lists.me event.now first.now second.now ∷ []) node.old node.new facts.old facts.new) }
 {
     let who = Who::Node(node.lists.me);
-    change(alloc, &mut node.lists, event, first, second)?;
+    change(alloc, &mut node.lists, node.clock, event, first, second)?;
     let first = Octets::copy(alloc, first)?;
     let second = Octets::copy(alloc, second)?;
     facts.push(Fact {

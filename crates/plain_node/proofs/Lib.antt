@@ -1,1 +1,3 @@
 pub mod PollLemmas
+pub mod RollLemmas
+pub mod WatchLemmas

@@ -7,6 +7,7 @@ use Rattle.packet_header.specs.Reading.{message_of, body_of}
 use Rattle.packet_header.specs.declared.packet.MessageHeader.{MessageHeader}
 use Rattle.rpc_laws.specs.declared.tables.Arrival.{Arrival}
 use Rattle.rpc_laws.specs.PollOrder.{Handles, HandlesAll, PostsAll, SendsAll, Closes, Poll, raised, handling_by}
+use Rattle.rpc_laws.specs.GoBackN.{WatchesAll}
 use Rattle.rpc_laws.specs.Queues.{replies}
 use Rattle.rpc_laws.specs.Steps.{Then}
 use Rattle.node_tables.specs.Noted.{Noted, Makes}
@@ -26,8 +27,8 @@ handles-by a b f g front head bytes body room is_front same reads cut p = record
   };
 }
 
-pub polls-by : (now clock : ℕ) (a b : Timed) (f g : List Fact) → clock ≡ max a.clock now → Makes (Then HandlesAll (Then PostsAll (Then SendsAll Closes))) (record a { clock = clock }) b f g → Makes (Poll now) a b f g
-polls-by now clock a b f g e p =
-    let P : ℕ → Type 0 = λ m. Makes (Then HandlesAll (Then PostsAll (Then SendsAll Closes))) (record a { clock = m }) b f g in
-    let q : Makes (Then HandlesAll (Then PostsAll (Then SendsAll Closes))) (raised now a) b f g = subst P e p in
+pub polls-by : (timeout now clock : ℕ) (a b : Timed) (f g : List Fact) → clock ≡ max a.clock now → Makes (Then HandlesAll (Then (WatchesAll timeout) (Then PostsAll (Then SendsAll Closes)))) (record a { clock = clock }) b f g → Makes (Poll timeout now) a b f g
+polls-by timeout now clock a b f g e p =
+    let P : ℕ → Type 0 = λ m. Makes (Then HandlesAll (Then (WatchesAll timeout) (Then PostsAll (Then SendsAll Closes)))) (record a { clock = m }) b f g in
+    let q : Makes (Then HandlesAll (Then (WatchesAll timeout) (Then PostsAll (Then SendsAll Closes)))) (raised now a) b f g = subst P e p in
     record { noted = q.noted; grew = q.grew; step = q.step }

@@ -1,14 +1,14 @@
 //! The client rule, row by row: what a CR or Response does.
 ghost use Rattle.std.specs.Prelude.{◌≡◌, ℕ, length, Some, IfOk};
 ghost use Rattle.std.specs.List.{find, list_any};
-ghost use Rattle.rpc_laws.specs.Calls.{is_active};
+ghost use Rattle.rpc_laws.specs.Calls.{asked_packets, is_active};
 ghost use Rattle.rpc_laws.specs.ClientTable.{is_cr, is_same_size, is_of_turn, progress_row, active_row, call_row, client_row};
 ghost use Rattle.rpc_laws.specs.Queues.{is_queued};
-ghost use Rattle.rpc_laws.specs.Sessions.{is_client};
+ghost use Rattle.rpc_laws.specs.Sessions.{is_client, is_connected};
 
 use node_tables::{is_a_response, packets, part_bytes, place_of_active, place_of_client};
 use packet_header::{Kind, MessageHeader};
-use rpc_base::{DropReason, Listed, Owner, Peer};
+use rpc_base::{DropReason, Listed, Owner, Peer, SessionState};
 use rpc_laws::{Asking, Call, Client, ClientRow, Progress, Queued};
 
 fn is_a_cr(kind: Kind) -> bool
@@ -31,7 +31,7 @@ fn is_as_told(answer: Option<u32>, size: u32) -> bool
 
 // Before the last packet of the request a CR answers; from then on the parts of the answer.
 fn fits_turn(what: &Asking, answer: Option<u32>, head: &MessageHeader, body_len: usize) -> bool
-    ensures { result ≡ is_of_turn what.now answer head.now body_len }
+    ensures { result ≡ is_of_turn (asked_packets what.now) what.now.req_type answer head.now body_len }
 {
     let next = u64::from(head.number) + 1;
     let asked = packets(what.ask.len());
@@ -113,6 +113,17 @@ fn row_among_calls(
     }
 }
 
+// Whether packets of calls are taken in this state.
+fn takes_packets(state: SessionState) -> bool
+    ensures { result ≡ is_connected state }
+{
+    match state {
+        SessionState::Connected => true,
+        SessionState::Spent => true,
+        _ => false,
+    }
+}
+
 fn row_at_client(
     queued: &Listed<Queued>,
     client: &Client,
@@ -122,6 +133,9 @@ fn row_at_client(
 ) -> ClientRow
     ensures { result ≡ client_row queued.now (Some client.now) peer head.now body_len }
 {
+    if !takes_packets(client.state) {
+        return ClientRow::Drops(DropReason::NoSession);
+    }
     if client.way.peer.0 != peer.0 {
         return ClientRow::Drops(DropReason::WrongPeer);
     }

@@ -3,8 +3,8 @@ ghost use Rattle.std.specs.Prelude.{◌≡◌, ℕ, Some, is_none, IfOk, OnOk};
 ghost use Rattle.std.specs.List.{find};
 ghost use Rattle.plain_node.specs.Endings.{ending_facts};
 ghost use Rattle.node_tables.specs.Noted.{Noted};
-ghost use Rattle.rpc_laws.specs.Calls.{is_active};
-ghost use Rattle.rpc_laws.specs.ClientTable.{ending, progress_ending, call_ending, client_ending};
+ghost use Rattle.rpc_laws.specs.Calls.{asked_packets, is_active};
+ghost use Rattle.rpc_laws.specs.ClientTable.{end_facts, end_row, progress_ending, call_ending, client_ending};
 ghost use Rattle.rpc_laws.specs.Sessions.{is_client};
 
 use node_tables::{is_a_response, note, one_more, packets, place_of_active, place_of_client};
@@ -25,7 +25,7 @@ pub enum Ending {
 }
 
 fn end_of_answer(what: &Asking, is_first: bool, got: u64, size: u32, parts: Octets) -> Ending
-    ensures { (me : ℕ) → ending_facts me result ≡ ending me what.now is_first got (Some size) parts }
+    ensures { (me : ℕ) → ending_facts me result ≡ end_facts me what.now.number parts (end_row is_first (asked_packets what.now) what.now.room got (Some size)) }
 {
     if is_first && what.room < size {
         return Ending::TooSmall {
@@ -43,7 +43,7 @@ fn end_of_answer(what: &Asking, is_first: bool, got: u64, size: u32, parts: Octe
 }
 
 fn end_of(what: &Asking, is_first: bool, got: u64, answer: Option<u32>, parts: Octets) -> Ending
-    ensures { (me : ℕ) → ending_facts me result ≡ ending me what.now is_first got answer parts }
+    ensures { (me : ℕ) → ending_facts me result ≡ end_facts me what.now.number parts (end_row is_first (asked_packets what.now) what.now.room got answer) }
 {
     match answer {
         None => Ending::Open,

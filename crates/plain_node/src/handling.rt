@@ -1,22 +1,23 @@
 //! The packet in front of the ring is handled: by the server rule where it asks, by the client rule
 //! where it replies.
-ghost use Rattle.std.specs.Prelude.{◌≡◌, ◌<◌, ◌∷◌, ◌++◌, [], ℕ, false, length, Some, if◌then◌else◌, IfOk, OnOk};
-ghost use Rattle.std.specs.List.{find, list_any};
+ghost use Rattle.std.specs.Prelude.{◌≡◌, ◌<◌, ◌∷◌, ◌++◌, [], ℕ, length, map, Some, if◌then◌else◌, IfOk, OnOk};
+ghost use Rattle.std.specs.List.{find};
 ghost use Rattle.node_tables.specs.Noted.{Noted, Makes};
 ghost use Rattle.rpc_laws.specs.Facts.{plain, with_two};
 ghost use Rattle.rpc_laws.specs.PollOrder.{asks_facts, replies_facts, handling_by, Handles};
 ghost use Rattle.rpc_laws.specs.Queues.{replies};
-ghost use Rattle.rpc_base.specs.Owners.{same_owner};
-ghost use Rattle.rpc_laws.specs.Requests.{is_request, is_server, in_slot_of};
-ghost use Rattle.rpc_laws.specs.ServerTable.{is_last, took_facts, joined, whole_ask, flushes, flushes_older, served_facts};
+ghost use Rattle.rpc_laws.specs.Requests.{is_request, is_server};
+ghost use Rattle.rpc_laws.specs.ServerTable.{is_last, took_facts, joined, whole_ask, flushes_older, served_facts};
 ghost use Rattle.rpc_laws.specs.ClientTable.{reply_facts};
 ghost use Rattle.rpc_laws.specs.Sessions.{is_client};
 ghost use Rattle.rpc_laws.specs.Service.{answer_to};
 
 use crate::client_table::{owner_of_reply, row_of_reply};
 use crate::ending::{end_by, note_ending};
+use crate::rolling::flush_events;
 use crate::server_table::{is_an_rfr, row_of_request};
 use crate::service::answer;
+use crate::watching::note_all;
 use node_tables::{body, note, place_of_request, place_of_server, place_of_slot, read_message};
 use packet_header::{Kind, MessageHeader, count};
 use rpc_base::{Event, Fact, Listed, NoMemory, Octets, Owner, Peer, RequestNo};
@@ -151,43 +152,48 @@ fn repeat(
     Ok(())
 }
 
-fn has_queued(queued: &Listed<Queued>, owner: Owner) -> bool
-    ensures { result ≡ list_any (λ q. same_owner q.owner owner) queued.now }
-{
-    queued
-        .as_slice()
-        .iter()
-        .any(|entry| entry.owner.is_same(owner))
-}
-
-// Whether the newest request of the slot has a reply queued.
-fn has_reply_queued(queued: &Listed<Queued>, server: &Server, request: RequestNo) -> bool
-    ensures { result ≡ false → (me : ℕ) → flushes_older me queued.now (Some server.now) request ≡ [] }
+// The events by which the queued replies of the slot's newest request are taken out.
+fn older_events_at(
+    alloc: Global,
+    queued: &Listed<Queued>,
+    server: &Server,
+    request: RequestNo,
+) -> Result<Listed<Event>, NoMemory>
+    ensures { IfOk result
+        (λ e. (me : ℕ) → map (plain me) e ≡ flushes_older me queued.now (Some server.now) request) }
 {
     match place_of_slot(&server.slots, request) {
-        None => false,
+        None => Ok(Listed::new(alloc)),
         Some(place) => {
             let owner = Owner::Reply {
                 session: server.way.number,
                 request: server.slots.at(place).number,
             };
-            has_queued(queued, owner)
+            let events = flush_events(alloc, queued, &owner)?;
+            Ok(events)
         }
     }
 }
 
-fn has_older_queued(lists: &Lists, head: &MessageHeader) -> bool
-    ensures { result ≡ false
-        → (me : ℕ) → flushes_older me lists.now.queued (find (is_server head.now.session) lists.now.servers) head.now.request ≡ [] }
+fn older_events(
+    alloc: Global,
+    lists: &Lists,
+    head: &MessageHeader,
+) -> Result<Listed<Event>, NoMemory>
+    ensures { IfOk result
+        (λ e. (me : ℕ) → map (plain me) e ≡ flushes_older me lists.now.queued (find (is_server head.now.session) lists.now.servers) head.now.request) }
 {
     match place_of_server(&lists.servers, head.session) {
-        None => false,
-        Some(place) => has_reply_queued(&lists.queued, lists.servers.at(place), head.request),
+        None => Ok(Listed::new(alloc)),
+        Some(place) => {
+            let server = lists.servers.at(place);
+            let events = older_events_at(alloc, &lists.queued, server, head.request)?;
+            Ok(events)
+        }
     }
 }
 
-// A request begins. These nodes have no room for one that begins while its slot's older one has replies
-// queued.
+// A request begins: the older one of its slot sends no reply any more.
 fn begin(
     alloc: Global,
     node: &mut Timed,
@@ -198,9 +204,8 @@ fn begin(
     ensures { OnOk result
         (Noted (flushes_older node.old.lists.me node.old.lists.queued (find (is_server head.now.session) node.old.lists.servers) head.now.request ++ took_facts node.old.lists.me head.now body.now) node.old node.new facts.old facts.new) }
 {
-    if has_older_queued(&node.lists, head) {
-        return Err(NoMemory);
-    }
+    let older = older_events(alloc, &node.lists, head)?;
+    note_all(alloc, node, facts, older.as_slice())?;
     take_packet(alloc, node, facts, head, body)?;
     Ok(())
 }

@@ -9,9 +9,11 @@ mod handling;
 mod packets;
 mod polling;
 mod posting;
+mod rolling;
 mod sending;
 mod server_table;
 mod service;
+mod watching;
 
 pub use delivery::deliver;
 pub use polling::poll;

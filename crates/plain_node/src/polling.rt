@@ -9,6 +9,7 @@ ghost use Rattle.rpc_laws.specs.Steps.{NotesAll};
 use crate::handling::handle;
 use crate::posting::{next_begun, next_posted};
 use crate::sending::send_front;
+use crate::watching::watch;
 use node_tables::{count_replies, note};
 use rpc_base::{Event, Fact, Listed, NoMemory, Owner};
 use rpc_laws::{Lists, Timed};
@@ -160,18 +161,21 @@ fn close(alloc: Global, node: &mut Timed, facts: &mut Listed<Fact>) -> Result<()
     Ok(())
 }
 
-/// Polls the node at the moment `now` in microseconds: handles the packets of its ring, posts what its
-/// sessions may post, sends what is queued, and ends with a Polled. Its clock doesn't fall.
+/// Polls the node at the moment `now` in microseconds: handles the packets of its ring, looks at the
+/// calls that wait longer than `timeout`, posts what its sessions may post, sends what is queued, and ends
+/// with a Polled. Its clock doesn't fall.
 pub fn poll(
     alloc: Global,
     node: &mut Timed,
     facts: &mut Listed<Fact>,
+    timeout: u64,
     now: u64,
 ) -> Result<(), NoMemory>
-    ensures { OnOk result (Makes (Poll now) node.old node.new facts.old facts.new) }
+    ensures { OnOk result (Makes (Poll timeout now) node.old node.new facts.old facts.new) }
 {
     node.clock = node.clock.max(now);
     handle_all(alloc, node, facts)?;
+    watch(alloc, node, facts, timeout)?;
     serve_sessions(alloc, node, facts)?;
     send_all(alloc, node, facts)?;
     close(alloc, node, facts)?;

@@ -38,7 +38,7 @@ asking a calls = calls ++ record { what = a; progress = None } ∷ []
 
 -- Begun as r: nothing is posted, nothing taken
 abbrev pub begun : ℕ → Call → Call
-begun r c = record c { progress = Some (record { request = r; got = 0; posted = 0; answer = None; parts = [] }) }
+begun r c = record c { progress = Some (record { request = r; got = 0; posted = 0; rolls = 0; mark = 0; answer = None; parts = [] }) }
 
 abbrev pub moved : (Progress → Progress) → Call → Call
 moved change c = record c { progress = option_map change c.progress }
@@ -51,9 +51,21 @@ abbrev pub is_response : Kind → Bool
 is_response Response = true
 is_response _ = false
 
--- Took: one more reply in turn. A Response adds its part, and the first one tells the answer's size
-abbrev pub took_reply : Option MessageHeader → List ℕ → Progress → Progress
-took_reply None body p = p
-took_reply (Some h) body p =
+-- one more reply in turn. A Response adds its part, and the first one tells the answer's size
+abbrev pub with_reply : MessageHeader → List ℕ → Progress → Progress
+with_reply h body p =
     if is_response h.kind then record p { got = p.got + 1; answer = Some h.size; parts = p.parts ++ body }
     else record p { got = p.got + 1 }
+
+-- Took, at this clock: the reply is there, no rollback came since, and the mark is now
+abbrev pub took_reply : ℕ → Option MessageHeader → List ℕ → Progress → Progress
+took_reply clock None body p = p
+took_reply clock (Some h) body p = record (with_reply h body p) { rolls = 0; mark = clock }
+
+-- Sent k, at this clock: the mark is now where k is the packet whose answer is wanted next
+abbrev pub sent_packet : ℕ → ℕ → Progress → Progress
+sent_packet clock k p = if p.got == k then record p { mark = clock } else p
+
+-- Rolled back to got
+abbrev pub rolled_back : ℕ → Progress → Progress
+rolled_back got p = record p { posted = got; rolls = p.rolls + 1 }

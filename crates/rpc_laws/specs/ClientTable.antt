@@ -11,15 +11,17 @@ use Rattle.rpc_base.specs.declared.owner.Owner.TheVariants.{Ask}
 use Rattle.rpc_base.specs.declared.state.DropReason.TheVariants.{NoSession, WrongPeer, NoCall, Past, Ahead, Mismatch, Queued as StillQueued}
 use Rattle.rpc_laws.specs.declared.rows.ClientRow.{ClientRow}
 use Rattle.rpc_laws.specs.declared.rows.ClientRow.TheVariants.{Drops, Takes}
+use Rattle.rpc_laws.specs.declared.rows.EndRow.{EndRow}
+use Rattle.rpc_laws.specs.declared.rows.EndRow.TheVariants.{GoesOn, EndsOk, EndsTooSmall}
 use Rattle.rpc_laws.specs.declared.tables.Asking.{Asking}
 use Rattle.rpc_laws.specs.declared.tables.Call.{Call}
 use Rattle.rpc_laws.specs.declared.tables.Client.{Client}
 use Rattle.rpc_laws.specs.declared.tables.Progress.{Progress}
 use Rattle.rpc_laws.specs.declared.tables.Queued.{Queued}
-use Rattle.rpc_laws.specs.Calls.{is_active, is_response, asked_packets, known_packets, took_reply}
+use Rattle.rpc_laws.specs.Calls.{is_active, is_response, asked_packets, known_packets, with_reply}
 use Rattle.rpc_laws.specs.Facts.{plain, with_bytes}
 use Rattle.rpc_laws.specs.Queues.{is_queued}
-use Rattle.rpc_laws.specs.Sessions.{is_client}
+use Rattle.rpc_laws.specs.Sessions.{is_connected}
 
 abbrev pub is_cr : Kind → Bool
 is_cr Cr = true
@@ -31,18 +33,24 @@ is_same_size None size = true
 is_same_size (Some told) size = told == size
 
 -- before the last packet of the request a CR answers; from then on the parts of the answer
-abbrev pub is_of_turn : Asking → Option ℕ → MessageHeader → ℕ → Bool
-is_of_turn a answer h body_len =
-    if nat_lt (h.number + 1) (asked_packets a) then is_cr h.kind
-    else is_response h.kind && (h.req_type == a.req_type) && is_same_size answer h.size && (body_len == part_size h.size (h.number + 1 - asked_packets a))
+abbrev pub is_of_turn : (asked req_type : ℕ) → Option ℕ → MessageHeader → ℕ → Bool
+is_of_turn asked req_type answer h body_len =
+    if nat_lt (h.number + 1) asked then is_cr h.kind
+    else is_response h.kind && (h.req_type == req_type) && is_same_size answer h.size && (body_len == part_size h.size (h.number + 1 - asked))
+
+-- for a call that asks by so many packets, has taken `got` replies and posted its packets below `posted`;
+-- is_waiting: its packet of the reply's number is queued
+abbrev pub turn_row : Bool → (asked req_type got posted : ℕ) → Option ℕ → MessageHeader → ℕ → ClientRow
+turn_row is_waiting asked req_type got posted answer h body_len =
+    if nat_lt h.number got then Drops Past
+    else (if nat_lt got h.number || nat_le posted h.number then Drops Ahead
+    else (if not (is_of_turn asked req_type answer h body_len) then Drops Mismatch
+    else (if is_waiting then Drops StillQueued
+    else Takes)))
 
 abbrev pub progress_row : List Queued → Asking → Progress → MessageHeader → ℕ → ClientRow
 progress_row queued a p h body_len =
-    if nat_lt h.number p.got then Drops Past
-    else (if nat_lt p.got h.number || nat_le p.posted h.number then Drops Ahead
-    else (if not (is_of_turn a p.answer h body_len) then Drops Mismatch
-    else (if list_any (is_queued (Ask h.session h.request) h.number) queued then Drops StillQueued
-    else Takes)))
+    turn_row (list_any (is_queued (Ask h.session h.request) h.number) queued) (asked_packets a) a.req_type p.got p.posted p.answer h body_len
 
 abbrev pub active_row : List Queued → Asking → Option Progress → MessageHeader → ℕ → ClientRow
 active_row queued a None h body_len = Drops NoCall
@@ -55,24 +63,31 @@ call_row queued (Some c) h body_len = active_row queued c.what c.progress h body
 abbrev pub client_row : List Queued → Option Client → ℕ → MessageHeader → ℕ → ClientRow
 client_row queued None peer h body_len = Drops NoSession
 client_row queued (Some x) peer h body_len =
-    if not (x.way.peer == peer) then Drops WrongPeer
-    else call_row queued (find (is_active h.request) x.calls) h body_len
+    if not (is_connected x.state) then Drops NoSession
+    else (if not (x.way.peer == peer) then Drops WrongPeer
+    else call_row queued (find (is_active h.request) x.calls) h body_len)
 
 -- the end of a call: TooSmall where its answer's first packet tells a size above its room, Ok where the
 -- last packet was taken
-abbrev pub ending : ℕ → Asking → Bool → ℕ → Option ℕ → List ℕ → List Fact
-ending me a is_first got None parts = []
-ending me a is_first got (Some size) parts =
-    if is_first && nat_lt a.room size then plain me (DoneTooSmall a.number size) ∷ []
-    else (if got == known_packets (asked_packets a) (Some size) then with_bytes me (DoneOk a.number) parts ∷ []
-    else [])
+abbrev pub end_row : Bool → (asked room got : ℕ) → Option ℕ → EndRow
+end_row is_first asked room got None = GoesOn
+end_row is_first asked room got (Some size) =
+    if is_first && nat_lt room size then EndsTooSmall size
+    else (if got == known_packets asked (Some size) then EndsOk
+    else GoesOn)
+
+abbrev pub end_facts : (me number : ℕ) → List ℕ → EndRow → List Fact
+end_facts me number parts GoesOn = []
+end_facts me number parts EndsOk = with_bytes me (DoneOk number) parts ∷ []
+end_facts me number parts (EndsTooSmall size) = plain me (DoneTooSmall number size) ∷ []
 
 abbrev pub ending_of : ℕ → Asking → Progress → Progress → List Fact
-ending_of me a before now = ending me a (is_none before.answer) now.got now.answer now.parts
+ending_of me a before now =
+    end_facts me a.number now.parts (end_row (is_none before.answer) (asked_packets a) a.room now.got now.answer)
 
 abbrev pub progress_ending : ℕ → Asking → MessageHeader → List ℕ → Option Progress → List Fact
 progress_ending me a h body None = []
-progress_ending me a h body (Some p) = ending_of me a p (took_reply (Some h) body p)
+progress_ending me a h body (Some p) = ending_of me a p (with_reply h body p)
 
 abbrev pub call_ending : ℕ → MessageHeader → List ℕ → Option Call → List Fact
 call_ending me h body None = []

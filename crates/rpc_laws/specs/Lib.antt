@@ -5,6 +5,7 @@ pub mod ClientTable
 pub mod Deliveries
 pub mod Facts
 pub mod Front
+pub mod GoBackN
 pub mod Groups
 pub mod InFlight
 pub mod NodeLists

@@ -15,20 +15,21 @@ abbrev pub asked_after : Event → ℕ → ℕ
 asked_after (Asked c s y room) n = n + 1
 asked_after _ n = n
 
-abbrev pub after : Lists → Fact → Lists
-after s f = record {
+-- a fact that happened at this clock
+abbrev pub after : ℕ → Lists → Fact → Lists
+after clock s f = record {
   me = s.me;
   room = s.room;
   asked = asked_after f.event s.asked;
   ring = ring_after f.event f.first s.ring;
   queued = queued_after f.event s.queued;
-  clients = clients_after f.event f.first (front_header s.ring) (front_body s.ring) s.clients;
+  clients = clients_after clock f.event f.first (front_header s.ring) (front_body s.ring) s.clients;
   servers = servers_after f.event f.second (front_header s.ring) (front_body s.ring) s.servers;
 }
 
-abbrev pub after_all : Lists → List Fact → Lists
-after_all s [] = s
-after_all s (f ∷ fs) = after_all (after s f) fs
+abbrev pub after_all : ℕ → Lists → List Fact → Lists
+after_all clock s [] = s
+after_all clock s (f ∷ fs) = after_all clock (after clock s f) fs
 
 -- a node as it is made: its lists are empty
 abbrev pub new_lists : ℕ → ℕ → Lists

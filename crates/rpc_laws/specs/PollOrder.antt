@@ -1,4 +1,5 @@
--- A poll: the packets of the ring in order of arrival, posting, sending, and the Polled that ends it.
+-- A poll: the packets of the ring in order of arrival, the timers, posting, sending, and the Polled that
+-- ends it.
 use Rattle.std.specs.Prelude.{ℕ, ◌≡◌, ◌⊎◌, ◌<◌, ◌≤◌, max, Bool, Option, Some, None, List, [], ◌∷◌, length, slice_get, if◌then◌else◌}
 use Rattle.std.specs.List.{find}
 use Rattle.packet_header.specs.Header.{HasHead, InRange}
@@ -22,6 +23,7 @@ use Rattle.rpc_laws.specs.Requests.{is_server}
 use Rattle.rpc_laws.specs.ServerTable.{server_row, served_facts}
 use Rattle.rpc_laws.specs.Sessions.{is_client}
 use Rattle.rpc_laws.specs.Steps.{Rel, Goes, Then, Until, Visits, NotesAll}
+use Rattle.rpc_laws.specs.GoBackN.{WatchesAll}
 
 abbrev pub asks_facts : Lists → ℕ → MessageHeader → List ℕ → List Fact
 asks_facts s peer h body =
@@ -88,5 +90,6 @@ pub record Closes (s : Timed) (x : List Fact) (t : Timed) : Type 0 where
 abbrev pub raised : ℕ → Timed → Timed
 raised now s = record s { clock = max s.clock now }
 
-abbrev pub Poll : ℕ → Rel
-Poll now s x t = Then HandlesAll (Then PostsAll (Then SendsAll Closes)) (raised now s) x t
+abbrev pub Poll : (timeout now : ℕ) → Rel
+Poll timeout now s x t =
+    Then HandlesAll (Then (WatchesAll timeout) (Then PostsAll (Then SendsAll Closes))) (raised now s) x t

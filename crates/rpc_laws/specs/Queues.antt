@@ -1,11 +1,13 @@
 -- The receive ring of a node, and the packets that it posted and that are neither sent nor flushed.
-use Rattle.std.specs.Prelude.{ℕ, Bool, true, false, ◌&&◌, ◌==◌, List, [], ◌∷◌, ◌++◌, drop, count_by, nat_le, if◌then◌else◌}
+use Rattle.std.specs.Prelude.{ℕ, Bool, true, false, ◌&&◌, ◌==◌, List, [], ◌∷◌, ◌++◌, drop, map, count_by, nat_le, if◌then◌else◌}
 use Rattle.rpc_base.specs.declared.event.Event.{Event}
 use Rattle.rpc_base.specs.declared.event.Event.TheVariants.{Arrived, Took, Again, Dropped, Posted, Sent, Flushed}
+use Rattle.rpc_base.specs.declared.fact.Fact.{Fact}
 use Rattle.rpc_base.specs.declared.owner.Owner.{Owner}
 use Rattle.rpc_base.specs.declared.owner.Owner.TheVariants.{Ask, Reply, Control}
 use Rattle.rpc_laws.specs.declared.tables.Arrival.{Arrival}
 use Rattle.rpc_laws.specs.declared.tables.Queued.{Queued}
+use Rattle.rpc_laws.specs.Facts.{plain}
 use Rattle.rpc_base.specs.Owners.{same_owner}
 use Rattle.rpc_base.specs.Tables.{without_first}
 
@@ -44,3 +46,7 @@ put n (m ∷ ms) = if nat_le n m then n ∷ m ∷ ms else m ∷ put n ms
 abbrev pub numbers_of : Owner → List Queued → List ℕ
 numbers_of owner [] = []
 numbers_of owner (q ∷ qs) = if same_owner q.owner owner then put q.number (numbers_of owner qs) else numbers_of owner qs
+
+-- an owner's queued packets are taken out unsent, in ascending number
+abbrev pub flush_facts : ℕ → List Queued → Owner → List Fact
+flush_facts me queued owner = map (λ k. plain me (Flushed owner k)) (numbers_of owner queued)

@@ -1,11 +1,11 @@
 -- The server rule: what a Request or RFR does at a node. The first row that holds decides.
-use Rattle.std.specs.Prelude.{ℕ, ◌+◌, ◌==◌, nat_lt, nat_le, Bool, true, false, not, ◌&&◌, ◌||◌, Option, Some, None, List, [], ◌∷◌, ◌++◌, length, map, if◌then◌else◌}
+use Rattle.std.specs.Prelude.{ℕ, ◌+◌, ◌==◌, nat_lt, nat_le, Bool, true, false, not, ◌&&◌, ◌||◌, Option, Some, None, List, [], ◌∷◌, ◌++◌, length, if◌then◌else◌}
 use Rattle.std.specs.List.{find, list_any}
 use Rattle.packet_header.specs.Parts.{packet_count}
 use Rattle.packet_header.specs.declared.packet.Kind.{Kind}
 use Rattle.packet_header.specs.declared.packet.Kind.TheVariants.{Rfr}
 use Rattle.packet_header.specs.declared.packet.MessageHeader.{MessageHeader}
-use Rattle.rpc_base.specs.declared.event.Event.TheVariants.{Posted, Flushed, Took, Again, Dropped, Ran}
+use Rattle.rpc_base.specs.declared.event.Event.TheVariants.{Posted, Took, Again, Dropped, Ran}
 use Rattle.rpc_base.specs.declared.fact.Fact.{Fact}
 use Rattle.rpc_base.specs.declared.owner.Owner.TheVariants.{Reply}
 use Rattle.rpc_base.specs.declared.state.DropReason.TheVariants.{NoSession, WrongPeer, Old, NotFirst, Unserved, Mismatch, Ahead, Beyond}
@@ -15,7 +15,7 @@ use Rattle.rpc_laws.specs.declared.tables.Served.{Served}
 use Rattle.rpc_laws.specs.declared.tables.Server.{Server}
 use Rattle.rpc_laws.specs.declared.tables.Queued.{Queued}
 use Rattle.rpc_laws.specs.Facts.{plain, with_two}
-use Rattle.rpc_laws.specs.Queues.{numbers_of}
+use Rattle.rpc_laws.specs.Queues.{flush_facts}
 use Rattle.rpc_laws.specs.Requests.{is_server, is_request, in_slot_of}
 use Rattle.rpc_laws.specs.Service.{is_served, answer_to}
 
@@ -78,8 +78,7 @@ took_facts me h ask =
 -- the queued replies of a request are taken out
 abbrev pub flushes : ℕ → List Queued → ℕ → Option Served → List Fact
 flushes me queued session None = []
-flushes me queued session (Some l) =
-    map (λ k. plain me (Flushed (Reply session l.number) k)) (numbers_of (Reply session l.number) queued)
+flushes me queued session (Some l) = flush_facts me queued (Reply session l.number)
 
 -- those of the newest request of a slot
 abbrev pub flushes_older : ℕ → List Queued → Option Server → ℕ → List Fact

@@ -1,20 +1,29 @@
--- Client sessions with their calls, as the facts of a node leave them.
-use Rattle.std.specs.Prelude.{ℕ, ◌+◌, ◌-◌, ◌%◌, ◌==◌, Bool, Option, List, [], ◌∷◌, ◌++◌, slice_index, slice_set}
+-- Client sessions with their calls, as the facts of a node leave them. The calls of a session stand in the
+-- order of their numbers: those that are active, and then those that wait.
+use Rattle.std.specs.Prelude.{ℕ, ◌+◌, ◌-◌, ◌%◌, ◌==◌, Bool, true, false, Option, List, [], ◌∷◌, ◌++◌, slice_index, slice_set}
 use Rattle.std.specs.List.{list_any}
 use Rattle.rpc_base.specs.declared.event.Event.{Event}
-use Rattle.rpc_base.specs.declared.event.Event.TheVariants.{PairedClient, Asked, Begun, Posted, Took, DoneOk, DoneTooSmall}
+use Rattle.rpc_base.specs.declared.event.Event.TheVariants.{PairedClient, Asked, Begun, Posted, Sent, Took, Rolled, Broken, DoneOk, DoneTooSmall, DonePeerLost}
 use Rattle.rpc_base.specs.declared.owner.Owner.TheVariants.{Ask}
+use Rattle.rpc_base.specs.declared.state.SessionState.{SessionState}
+use Rattle.rpc_base.specs.declared.state.SessionState.TheVariants.{Connected, Spent, Broken as IsBroken}
 use Rattle.packet_header.specs.declared.packet.MessageHeader.{MessageHeader}
 use Rattle.rpc_laws.specs.declared.tables.Asking.{Asking}
 use Rattle.rpc_laws.specs.declared.tables.Client.{Client}
 use Rattle.rpc_base.specs.Tables.{at_first, without_first}
-use Rattle.rpc_laws.specs.Calls.{is_call, is_active, asking, begun, moved, posted_up_to, took_reply}
+use Rattle.rpc_laws.specs.Calls.{is_call, is_active, asking, begun, moved, posted_up_to, rolled_back, sent_packet, took_reply}
 
 abbrev pub is_client : ℕ → Client → Bool
 is_client number x = x.way.number == number
 
 abbrev pub has_call : ℕ → Client → Bool
 has_call number x = list_any (is_call number) x.calls
+
+-- whether packets of calls are taken: the session is Connected, also where it is spent
+abbrev pub is_connected : SessionState → Bool
+is_connected Connected = true
+is_connected Spent = true
+is_connected _ = false
 
 -- eight slots in which no request began
 abbrev pub no_turns : List ℕ
@@ -23,8 +32,10 @@ no_turns = 0 ∷ 0 ∷ 0 ∷ 0 ∷ 0 ∷ 0 ∷ 0 ∷ 0 ∷ []
 abbrev pub client_end : ℕ → ℕ → ℕ → ℕ → Client
 client_end number peer other credits = record {
   way = record { number = number; peer = peer; other = other };
+  state = Connected;
   limit = credits;
   free = credits;
+  asked = 0;
   turns = no_turns;
   calls = [];
 }
@@ -36,28 +47,51 @@ turned slot turns = slice_set turns slot (slice_index turns slot + 1)
 abbrev pub begins : ℕ → ℕ → Client → Client
 begins number r x = record x { turns = turned (r % 8) x.turns; calls = at_first (is_call number) (begun r) x.calls }
 
+-- Asked
+abbrev pub asks : Asking → Client → Client
+asks a x = record x { asked = x.asked + 1; calls = asking a x.calls }
+
 -- Posted takes one credit
 abbrev pub posts : ℕ → ℕ → Client → Client
 posts r k x = record x { free = x.free - 1; calls = at_first (is_active r) (moved (posted_up_to k)) x.calls }
 
+abbrev pub sends : (clock r k : ℕ) → Client → Client
+sends clock r k x = record x { calls = at_first (is_active r) (moved (sent_packet clock k)) x.calls }
+
 -- Took gives one credit back
-abbrev pub takes : ℕ → Option MessageHeader → List ℕ → Client → Client
-takes r head body x = record x {
+abbrev pub takes : (clock r : ℕ) → Option MessageHeader → List ℕ → Client → Client
+takes clock r head body x = record x {
   free = x.free + 1;
-  calls = at_first (is_active r) (moved (took_reply head body)) x.calls;
+  calls = at_first (is_active r) (moved (took_reply clock head body)) x.calls;
 }
+
+-- Rolled gives back the credits of the packets that were posted and not answered
+abbrev pub rolls : (number posted got : ℕ) → Client → Client
+rolls number posted got x = record x {
+  free = x.free + (posted - got);
+  calls = at_first (is_call number) (moved (rolled_back got)) x.calls;
+}
+
+-- Broken: a broken session has no credits
+abbrev pub breaks : Client → Client
+breaks x = record x { state = IsBroken; free = 0 }
 
 abbrev pub ends : ℕ → Client → Client
 ends number x = record x { calls = without_first (is_call number) x.calls }
 
--- bytes are the fact's; head and body those of the packet at the front of the ring
-abbrev pub clients_after : Event → List ℕ → Option MessageHeader → List ℕ → List Client → List Client
-clients_after (PairedClient s peer t credits) bytes head body xs = xs ++ client_end s peer t credits ∷ []
-clients_after (Asked c s y room) bytes head body xs =
-    at_first (is_client s) (λ x. record x { calls = asking (record { number = c; req_type = y; room = room; ask = bytes }) x.calls }) xs
-clients_after (Begun c r) bytes head body xs = at_first (has_call c) (begins c r) xs
-clients_after (Posted (Ask s r) k) bytes head body xs = at_first (is_client s) (posts r k) xs
-clients_after (Took (Ask s r) k) bytes head body xs = at_first (is_client s) (takes r head body) xs
-clients_after (DoneOk c) bytes head body xs = at_first (has_call c) (ends c) xs
-clients_after (DoneTooSmall c size) bytes head body xs = at_first (has_call c) (ends c) xs
-clients_after _ bytes head body xs = xs
+-- the event happened at this clock; bytes are the fact's, head and body those of the packet at the front
+-- of the ring
+abbrev pub clients_after : ℕ → Event → List ℕ → Option MessageHeader → List ℕ → List Client → List Client
+clients_after clock (PairedClient s peer t credits) bytes head body xs = xs ++ client_end s peer t credits ∷ []
+clients_after clock (Asked c s y room) bytes head body xs =
+    at_first (is_client s) (asks (record { number = c; req_type = y; room = room; ask = bytes })) xs
+clients_after clock (Begun c r) bytes head body xs = at_first (has_call c) (begins c r) xs
+clients_after clock (Posted (Ask s r) k) bytes head body xs = at_first (is_client s) (posts r k) xs
+clients_after clock (Sent peer (Ask s r) k) bytes head body xs = at_first (is_client s) (sends clock r k) xs
+clients_after clock (Took (Ask s r) k) bytes head body xs = at_first (is_client s) (takes clock r head body) xs
+clients_after clock (Rolled c posted got) bytes head body xs = at_first (has_call c) (rolls c posted got) xs
+clients_after clock (Broken s) bytes head body xs = at_first (is_client s) breaks xs
+clients_after clock (DoneOk c) bytes head body xs = at_first (has_call c) (ends c) xs
+clients_after clock (DoneTooSmall c size) bytes head body xs = at_first (has_call c) (ends c) xs
+clients_after clock (DonePeerLost c) bytes head body xs = at_first (has_call c) (ends c) xs
+clients_after clock _ bytes head body xs = xs

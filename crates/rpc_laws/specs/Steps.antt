@@ -10,9 +10,9 @@ use Rattle.rpc_laws.specs.NodeLists.{after_all}
 abbrev pub Rel : Type 1
 Rel = Timed → List Fact → Timed → Type 0
 
--- the facts x change the lists as they say, and leave the clock
+-- the facts x happen at the node's clock, change the lists as they say, and leave the clock
 abbrev pub Goes : Timed → List Fact → Timed → Type 0
-Goes s x t = t ≡ record { lists = after_all s.lists x; clock = s.clock }
+Goes s x t = t ≡ record { lists = after_all s.clock s.lists x; clock = s.clock }
 
 -- P, and then Q
 pub record Then (P Q : Rel) (s : Timed) (x : List Fact) (t : Timed) : Type 0 where

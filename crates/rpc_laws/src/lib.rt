@@ -7,7 +7,7 @@ mod rows;
 mod tables;
 
 pub use history::History;
-pub use rows::{ClientRow, ServerRow};
+pub use rows::{ClientRow, EndRow, ServerRow, TimerRow};
 pub use tables::{
     Arrival, Asking, Call, Client, InFlight, Lists, Outgoing, Progress, Queued, Served, Server,
     Timed, Way,

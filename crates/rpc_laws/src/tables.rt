@@ -1,6 +1,6 @@
 //! What a history leaves at a node: its lists and tables, as plain data that definitions speak of.
 use packet_header::Packet;
-use rpc_base::{CallNo, Listed, NodeId, Octets, Owner, Peer, RequestNo, SessionNo};
+use rpc_base::{CallNo, Listed, NodeId, Octets, Owner, Peer, RequestNo, SessionNo, SessionState};
 
 /// A datagram as it arrived.
 #[derive(Debug, Drop)]
@@ -40,8 +40,12 @@ pub struct Progress {
     pub request: RequestNo,
     /// Replies taken in turn.
     pub got: u64,
-    /// One more than the number of the packet posted last.
+    /// One more than the number of the packet posted last, or `got` after a rollback.
     pub posted: u64,
+    /// Rollbacks since the last reply was taken, or since the call began.
+    pub rolls: u64,
+    /// The clock, in microseconds, when a reply was taken last or packet `got` was sent last.
+    pub mark: u64,
     /// The size of the answer, known from its first packet on.
     pub answer: Option<u32>,
     /// The bytes of the answer taken so far.
@@ -59,8 +63,11 @@ pub struct Call {
 #[derive(Debug, Drop)]
 pub struct Client {
     pub way: Way,
+    pub state: SessionState,
     pub limit: u16,
     pub free: u64,
+    /// How many calls were accepted on it.
+    pub asked: u64,
     /// How many requests began in each of its eight slots.
     pub turns: Listed<u64>,
     pub calls: Listed<Call>,

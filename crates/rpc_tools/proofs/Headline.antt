@@ -1,10 +1,10 @@
 -- A simulation whose script is served and that met no fault and no want of memory is Done.
-use Rattle.std.proofs.Common.{◌≡◌, ◌≢◌, ℕ, ◌<◌, ◌≤◌, ◌⊎◌, inl, inr, Option, Some, None, List, [], ◌∷◌, Result, Ok, Err, refl, sym, ap, subst, ◌∙◌, arith}
+use Rattle.std.proofs.Common.{◌≡◌, ◌≢◌, ℕ, inl, inr, Option, Some, None, List, Ok, refl, subst, arith}
 use Rattle.rpc_outside.specs.Faults.{HasRisen, IsQuiet}
 use Rattle.rpc_tools.specs.declared.status.Status.{Status}
 use Rattle.rpc_tools.specs.declared.status.Status.TheVariants.{Done, Usage, BadScript, ReadFault, WriteFault, NoMemory}
-use Rattle.rpc_tools.specs.Outcomes.{Simulates, Reports, IsRefused, IsLater, Succeeds}
-use Rattle.rpc_world.specs.FirstForm.{later_of}
+use Rattle.rpc_tools.specs.Outcomes.{Simulates, Reports, IsRefused, Succeeds}
+use Rattle.rpc_world.specs.Served.{later_of}
 use Rattle.script_grammar.specs.declared.bad.BadScript.{BadScript as Bad}
 use Rattle.script_grammar.specs.declared.line.Line.{Line}
 use Rattle.script_grammar.specs.Script.{script_of}

@@ -1,5 +1,5 @@
 -- What a source gave, chunk by chunk.
-use Rattle.std.proofs.Common.{◌≡◌, ℕ, ◌+◌, ◌<◌, ◌≤◌, Option, Some, None, IfSome, List, [], ◌∷◌, ◌++◌, length, Result, Ok, Err, nat_lt, true, if◌then◌else◌, inl, refl, sym, ap, ◌∙◌, arith, rules, tests, append-nil, length-append}
+use Rattle.std.proofs.Common.{◌≡◌, ℕ, ◌<◌, Option, Some, None, IfSome, List, [], length, Result, Err, nat_lt, true, if◌then◌else◌, inl, refl, sym, ap, ◌∙◌, arith, rules, tests, append-nil, length-append}
 use Rattle.std.specs.Io.KnownBytes.{Consumes, IsAtEnd}
 use Rattle.rpc_tools.specs.Outcomes.{Drained, IsRefused}
 use Rattle.script_grammar.specs.declared.bad.BadScript.{BadScript as Bad}

@@ -1,23 +1,26 @@
 -- What each status of a simulation says of its source, its sink and the script.
-use Rattle.std.specs.Prelude.{ℕ, ◌≡◌, ◌<◌, ◌⊎◌, Option, Some, None, IfSome, List, [], ◌∷◌, Result, Ok, Err, length}
+use Rattle.std.specs.Prelude.{ℕ, ◌≡◌, ◌<◌, ◌⊎◌, Option, Some, None, IfSome, List, [], Ok, Err, length}
 use Rattle.std.specs.Io.KnownBytes.{Keeps}
+use Rattle.node_laws.specs.CreditBalance.{Credit}
+use Rattle.node_laws.specs.EndedCalls.{EndsClean}
 use Rattle.rpc_base.specs.declared.fact.Fact.{Fact}
 use Rattle.report_text.specs.Text.{text}
 use Rattle.rpc_laws.specs.AtMostOnce.{Once}
 use Rattle.rpc_laws.specs.BufferSafety.{SendsItsOwn}
 use Rattle.rpc_laws.specs.OwnAnswer.{Own}
-use Rattle.rpc_outside.specs.Faults.{HasRisen, IsQuiet}
+use Rattle.rpc_outside.specs.Faults.{HasRisen}
 use Rattle.rpc_outside.specs.Writing.{Wrote, Broke}
 use Rattle.rpc_tools.specs.declared.reading.Input.{Input}
 use Rattle.rpc_tools.specs.declared.reading.Input.TheVariants.{Whole, TooLong, Fault, Memory}
 use Rattle.rpc_tools.specs.declared.status.Status.{Status}
 use Rattle.rpc_tools.specs.declared.status.Status.TheVariants.{Done, Usage, BadScript, ReadFault, WriteFault, NoMemory}
-use Rattle.rpc_world.specs.FirstForm.{later_of}
+use Rattle.rpc_world.specs.Served.{later_of}
 use Rattle.script_grammar.specs.declared.bad.BadScript.{BadScript as Bad}
 use Rattle.script_grammar.specs.declared.bad.BadWhy.TheVariants.{Later}
 use Rattle.script_grammar.specs.declared.line.Line.{Line}
 use Rattle.script_grammar.specs.Script.{script_of}
 use Rattle.sim_script.specs.FollowsScript.{Follows}
+use Rattle.world_laws.specs.Laws.{EachNode, KeepsRing}
 
 -- nothing was written, and no fault came
 pub record Untouched (old new : Option (List ℕ)) (before after : ℕ) : Type 0 where
@@ -26,13 +29,18 @@ pub record Untouched (old new : Option (List ℕ)) (before after : ℕ) : Type 0
 
 -- the report of a history that follows the script was written. In that history no request runs twice, and
 -- no call begins or ends twice; each handler ran on its call's bytes, and each call ended with its own
--- handler's answer; and each packet that was sent is its owner's
+-- handler's answer; each packet that was sent is its owner's; and at every moment of each node the
+-- unanswered packets and free credits of a live session make its limit, no packet of a call that is over
+-- is queued, and the receive ring isn't longer than its room
 pub record Reports (script : List Line) (old new : Option (List ℕ)) (before after : ℕ) : Type 0 where
   pub history : List Fact
   pub follows : Follows script history
   pub once : Once history
   pub own : Own history
   pub sends_own : SendsItsOwn history
+  pub credit : EachNode Credit history
+  pub ends_clean : EachNode (EndsClean []) history
+  pub ring : EachNode KeepsRing history
   pub wrote : Wrote old new before after (text history)
 
 -- a front of such a report was written, and the sink failed

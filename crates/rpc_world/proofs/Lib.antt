@@ -1,4 +1,3 @@
-pub mod LaterLemmas
 pub mod PairLemmas
 pub mod ServedLaws
-pub mod ToldLemmas
+pub mod StageLemmas

@@ -1,2 +1,2 @@
-pub mod FirstForm
 pub mod Performed
+pub mod Served

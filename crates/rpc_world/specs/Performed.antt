@@ -1,11 +1,13 @@
 -- What a command did to the world.
-use Rattle.std.specs.Prelude.{◌≡◌, ◌≤◌, ℕ, List, [], ◌∷◌, ◌++◌}
+use Rattle.std.specs.Prelude.{◌≡◌, ℕ, Bool, true, false, Option, Some, None, List, [], ◌∷◌, ◌++◌, slice_get}
+use Rattle.std.specs.List.{list_all}
 use Rattle.rpc_base.specs.declared.event.Event.{Event}
 use Rattle.rpc_base.specs.declared.fact.Fact.{Fact}
 use Rattle.network_model.specs.declared.stage.Stage.{Stage}
 use Rattle.rpc_laws.specs.declared.tables.Timed.{Timed}
 use Rattle.rpc_laws.specs.Facts.{plain}
-use Rattle.node_tables.specs.Noted.{Noted}
+use Rattle.rpc_laws.specs.Groups.{pair_refusal}
+use Rattle.sim_script.specs.FollowsScript.{PairsBy, PairsEnds, Round, is_polled}
 
 -- the facts grew by a group by which P leads from the old stage to the new one
 pub record Performed (P : Stage → List Fact → Stage → Type 0) (old new : Stage) (before now : List Fact) : Type 0 where
@@ -13,13 +15,28 @@ pub record Performed (P : Stage → List Fact → Stage → Type 0) (old new : S
   pub grew : now ≡ before ++ group
   pub does : P old group new
 
--- a node with no session and a ring of at least so many places
-pub record Fresh (credits : ℕ) (t : Timed) : Type 0 where
-  pub clients : t.lists.clients ≡ []
-  pub servers : t.lists.servers ≡ []
-  pub room : credits ≤ t.lists.room
+-- both ends of a pair were made
+pub record TakesEnds (a b credits : ℕ) (s : Stage) (x : List Fact) (t : Stage) : Type 0 where
+  pub client : Timed
+  pub server : Timed
+  pub is_client : slice_get s.nodes a ≡ Some client
+  pub is_server : slice_get s.nodes b ≡ Some server
+  pub ends : PairsEnds a b credits client server s x t
 
--- one end of a pair was made at such a node
-pub record PairsEnd (credits : ℕ) (e : Event) (old new : Timed) (before now : List Fact) : Type 0 where
-  pub fresh : Fresh credits old
-  pub noted : Noted (plain old.lists.me e ∷ []) old new before now
+-- whether a node takes no end of a pair: then why was noted, and otherwise nothing
+abbrev pub NotesRefusal : Bool → Option Event → ℕ → List Fact → List Fact → Type 0
+NotesRefusal true refusal me before now = (e : Event) × (refusal ≡ Some e) × (now ≡ before ++ plain me e ∷ [])
+NotesRefusal false refusal me before now = (refusal ≡ None) × (now ≡ before)
+
+-- the server's node was asked for its end, where the client's node takes its own
+pub record AsksServer (a b credits : ℕ) (s : Stage) (x : List Fact) (t : Stage) : Type 0 where
+  pub client : Timed
+  pub server : Timed
+  pub is_client : slice_get s.nodes a ≡ Some client
+  pub is_server : slice_get s.nodes b ≡ Some server
+  pub pairs : PairsBy None (pair_refusal credits server.lists) a b credits client server s x t
+
+-- a round was made, and it is quiet exactly where its only facts are Polled
+pub record MakesRound (is_quiet : Bool) (old new : Stage) (before now : List Fact) : Type 0 where
+  pub made : Performed Round old new before now
+  pub quiet : is_quiet ≡ list_all (λ f. is_polled f.event) made.group

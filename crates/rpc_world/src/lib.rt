@@ -1,9 +1,14 @@
 //! The world of a simulation: nodes over a modelled network, as a script commands them.
 #![tactic(auto)]
 
+mod calling;
 mod command;
-mod form;
+mod making;
 mod network;
+mod pairing;
+mod serving;
+mod settling;
+mod stepping;
 mod world;
 
 pub use world::World;

@@ -1,14 +1,18 @@
 //! The world that runs a script.
-ghost use Rattle.std.specs.Prelude.{◌≡◌, List, Option, None, IfOk};
+ghost use Rattle.std.specs.Prelude.{◌≡◌, List, [], None, IfOk};
+ghost use Rattle.node_laws.specs.CreditBalance.{Credit};
+ghost use Rattle.node_laws.specs.EndedCalls.{EndsClean};
 ghost use Rattle.rpc_base.specs.declared.fact.Fact.{Fact};
 ghost use Rattle.rpc_laws.specs.AtMostOnce.{Once};
 ghost use Rattle.rpc_laws.specs.BufferSafety.{SendsItsOwn};
 ghost use Rattle.rpc_laws.specs.OwnAnswer.{Own};
-ghost use Rattle.rpc_world.specs.FirstForm.{later_of};
+ghost use Rattle.rpc_world.specs.Served.{later_of};
+ghost use Rattle.script_grammar.specs.Conditions.{IsScript};
 ghost use Rattle.sim_script.specs.FollowsScript.{Follows};
+ghost use Rattle.world_laws.specs.Laws.{EachNode, KeepsRing};
 
 use crate::command::execute;
-use crate::form::{Form, serve};
+use crate::serving::is_served;
 use network_model::{Net, Stage};
 use rpc_base::{Listed, NoMemory};
 use rpc_laws::History;
@@ -33,21 +37,14 @@ impl World {
     pub fn later(script: &Script) -> Option<u32>
         ensures { result ≡ later_of script.now }
     {
-        let mut form = Form {
-            nodes: 0,
-            paired: false,
-            asked: false,
-        };
-        for line in script.lines() {
-            match serve(form, &line.command) {
-                None => return Some(line.number),
-                Some(next) => form = next,
-            }
-        }
-        None
+        let line = script
+            .lines()
+            .iter()
+            .find(|line| !is_served(&line.command))?;
+        Some(line.number)
     }
 
-    /// Runs a script: two nodes over one network, all of whose commands are served. `NoMemory` comes where
+    /// Runs a script: its nodes over one network, by commands that are all served. `NoMemory` comes where
     /// there is no memory for the history and the tables.
     pub fn run(alloc: Global, script: &Script) -> Result<World, NoMemory>
         requires { later_of script.now ≡ None }
@@ -55,6 +52,10 @@ impl World {
         ensures sends_own { IfOk result (λ w. SendsItsOwn w) }
         ensures once { IfOk result (λ w. Once w) }
         ensures own { IfOk result (λ w. Own w) }
+        // At every moment of each node.
+        ensures credit { IfOk result (λ w. EachNode Credit w) }
+        ensures ends_clean { IfOk result (λ w. EachNode (EndsClean []) w) }
+        ensures ring { IfOk result (λ w. EachNode KeepsRing w) }
     {
         let world = World::play(alloc, script)?;
         Ok(world)
@@ -62,7 +63,8 @@ impl World {
 
     // Does one command after the other.
     fn play(alloc: Global, script: &Script) -> Result<World, NoMemory>
-        ensures { IfOk result (λ w. Follows script.now w) }
+        ensures follows { IfOk result (λ w. Follows script.now w) }
+        ensures script { IfOk result (λ w. IsScript script.now) }
     {
         let mut facts = Listed::new(alloc);
         let mut stage = Stage {

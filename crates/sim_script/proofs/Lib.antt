@@ -1,2 +1,1 @@
 pub mod FollowsLemmas
-pub mod OneCallSteps

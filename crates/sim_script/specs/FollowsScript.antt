@@ -1,25 +1,25 @@
 -- Which histories follow a script: the joining of one group of facts for each command.
-use Rattle.std.specs.Prelude.{ℕ, ◌≡◌, ◌+◌, ◌%◌, ◌≤◌, ◌<◌, nat_lt, Some, List, [], ◌∷◌, ◌++◌, length, map, sum_by, slice_get, if◌then◌else◌}
+use Rattle.std.specs.Prelude.{ℕ, zero, suc, ◌≡◌, ◌+◌, ◌%◌, nat_lt, Bool, true, false, Option, Some, None, List, [], ◌∷◌, ◌++◌, length, map, slice_get, if◌then◌else◌}
 use Rattle.std.specs.Bool.{MatchBool}
-use Rattle.std.specs.List.{remove, range_with_len, slice_set}
+use Rattle.std.specs.List.{list_all, remove, range_with_len, slice_set}
 use Rattle.rpc_base.specs.declared.event.Event.{Event}
-use Rattle.rpc_base.specs.declared.event.Event.TheVariants.{Made, PairedClient, PairedServer, Missed, Carried, Lost, Repeated}
+use Rattle.rpc_base.specs.declared.event.Event.TheVariants.{Made, PairedClient, PairedServer, Missed, Carried, Lost, Polled, Repeated, Ticked}
 use Rattle.rpc_base.specs.declared.fact.Fact.{Fact}
 use Rattle.rpc_laws.specs.declared.tables.InFlight.{InFlight}
-use Rattle.rpc_laws.specs.declared.tables.Lists.{Lists}
 use Rattle.network_model.specs.declared.stage.Stage.{Stage}
 use Rattle.rpc_laws.specs.declared.tables.Timed.{Timed}
 use Rattle.rpc_laws.specs.Deliveries.{Delivers}
 use Rattle.rpc_laws.specs.Facts.{plain, of_net}
-use Rattle.rpc_laws.specs.Groups.{Asks}
+use Rattle.rpc_laws.specs.Groups.{Asks, pair_refusal}
 use Rattle.rpc_laws.specs.InFlight.{flight_after_all, flight_after_net}
 use Rattle.rpc_laws.specs.NodeLists.{after, new_node}
 use Rattle.rpc_laws.specs.PollOrder.{Poll}
 use Rattle.rpc_laws.specs.Steps.{Rel}
+use Rattle.rpc_laws.specs.GoBackN.{usual_timeout}
 use Rattle.script_grammar.specs.declared.line.AskBytes.{AskBytes}
 use Rattle.script_grammar.specs.declared.line.AskBytes.TheVariants.{Given, Count}
 use Rattle.script_grammar.specs.declared.line.Command.{Command}
-use Rattle.script_grammar.specs.declared.line.Command.TheVariants.{Node, Pair, Call, Poll as PollNode, Arrive, Lose, Repeat}
+use Rattle.script_grammar.specs.declared.line.Command.TheVariants.{Node, Pair, Call, Poll as PollNode, Arrive, Lose, Repeat, Tick, Settle}
 use Rattle.script_grammar.specs.declared.line.Line.{Line}
 
 -- the bytes that a call sends: those given, or so many of which byte j is j mod 256
@@ -40,31 +40,32 @@ pub record Makes (ring : ℕ) (s : Stage) (x : List Fact) (t : Stage) : Type 0 w
   pub facts : x ≡ plain (length s.nodes) (Made ring) ∷ []
   pub left : t ≡ record s { nodes = s.nodes ++ new_node (length s.nodes) ring ∷ [] }
 
--- the credits of the sessions of a node
-abbrev pub shares : Lists → ℕ
-shares s = sum_by (λ x. x.limit) s.clients + sum_by (λ v. v.credits) s.servers
-
 -- a node after one fact
 abbrev pub noted : Timed → Fact → Timed
-noted s f = record { lists = after s.lists f; clock = s.clock }
+noted s f = record { lists = after s.clock s.lists f; clock = s.clock }
 
--- pair A B: where both have room and a number left, A gets a client session and B a server session,
--- each with the other's number
-pub record Pairs (a b credits : ℕ) (s : Stage) (x : List Fact) (t : Stage) : Type 0 where
-  pub client : Timed
-  pub server : Timed
-  pub is_client : slice_get s.nodes a ≡ Some client
-  pub is_server : slice_get s.nodes b ≡ Some server
-  pub client_room : shares client.lists + credits ≤ client.lists.room
-  pub server_room : shares server.lists + credits ≤ server.lists.room
-  pub client_number : length client.lists.clients < 65535
-  pub server_number : length server.lists.servers < 65535
+-- A gets a client session and B a server session, each with the other's number
+pub record PairsEnds (a b credits : ℕ) (client server : Timed) (s : Stage) (x : List Fact) (t : Stage) : Type 0 where
   pub at_client : Fact
   pub at_server : Fact
   pub for_client : at_client ≡ plain client.lists.me (PairedClient (length client.lists.clients) b (length server.lists.servers) credits)
   pub for_server : at_server ≡ plain server.lists.me (PairedServer (length server.lists.servers) a (length client.lists.clients) credits)
   pub facts : x ≡ at_client ∷ at_server ∷ []
   pub left : t ≡ record s { nodes = slice_set (slice_set s.nodes a (noted client at_client)) b (noted server at_server) }
+
+-- the first refusal is noted at its node, and nothing changes
+abbrev pub PairsBy : Option Event → Option Event → (a b credits : ℕ) → (client server : Timed) → Stage → List Fact → Stage → Type 0
+PairsBy (Some e) at_server a b credits client server s x t = (x ≡ plain client.lists.me e ∷ []) × (t ≡ s)
+PairsBy None (Some e) a b credits client server s x t = (x ≡ plain server.lists.me e ∷ []) × (t ≡ s)
+PairsBy None None a b credits client server s x t = PairsEnds a b credits client server s x t
+
+-- pair A B: both are asked for room and a number, A first
+pub record Pairs (a b credits : ℕ) (s : Stage) (x : List Fact) (t : Stage) : Type 0 where
+  pub client : Timed
+  pub server : Timed
+  pub is_client : slice_get s.nodes a ≡ Some client
+  pub is_server : slice_get s.nodes b ≡ Some server
+  pub pairs : PairsBy (pair_refusal credits client.lists) (pair_refusal credits server.lists) a b credits client server s x t
 
 -- an event of the network alone
 pub record OfNet (e : Event) (s : Stage) (x : List Fact) (t : Stage) : Type 0 where
@@ -87,16 +88,14 @@ pub record Carries (i : ℕ) (s : Stage) (x : List Fact) (t : Stage) : Type 0 wh
 abbrev pub Arrives : ℕ → Stage → List Fact → Stage → Type 0
 Arrives i s x t = MatchBool (nat_lt i (length s.flight)) (Carries i s x t) (OfNet (Missed i) s x t)
 
--- what a command does. (The commands that aren't named here aren't served yet.)
-abbrev pub Does : Command → Stage → List Fact → Stage → Type 0
-Does (Node ring) s x t = Makes ring s x t
-Does (Pair a b credits) s x t = Pairs a b credits s x t
-Does (Call n session y ask room) s x t = AtNode (Asks session y (ask_bytes ask) room) n s x t
-Does (PollNode n) s x t = AtNode (Poll s.clock) n s x t
-Does (Arrive i) s x t = Arrives i s x t
-Does (Lose i) s x t = OfNet (or_missed s.flight i (Lost i)) s x t
-Does (Repeat i) s x t = OfNet (or_missed s.flight i (Repeated i)) s x t
-Does _ s x t = ⊥
+-- tick T: the world's clock goes on
+pub record Ticks (by : ℕ) (s : Stage) (x : List Fact) (t : Stage) : Type 0 where
+  pub facts : x ≡ of_net (Ticked by) ∷ []
+  pub left : t ≡ record s { clock = s.clock + by }
+
+-- a poll of node n at the world's clock
+abbrev pub PollsNode : ℕ → Stage → List Fact → Stage → Type 0
+PollsNode n s x t = AtNode (Poll usual_timeout s.clock) n s x t
 
 -- one group, and then the others
 pub record Joins (P Q : Stage → List Fact → Stage → Type 0) (s : Stage) (h : List Fact) (t : Stage) : Type 0 where
@@ -106,6 +105,55 @@ pub record Joins (P Q : Stage → List Fact → Stage → Type 0) (s : Stage) (h
   pub joined : h ≡ group ++ rest
   pub does : P s group between
   pub follows : Q between rest t
+
+-- P, so many times
+abbrev pub Times : (Stage → List Fact → Stage → Type 0) → ℕ → Stage → List Fact → Stage → Type 0
+Times P zero s x t = (x ≡ []) × (t ≡ s)
+Times P (suc n) s x t = Joins (Times P n) P s x t
+
+-- the first n nodes are polled, in order
+abbrev pub PollsFirst : ℕ → Stage → List Fact → Stage → Type 0
+PollsFirst zero s x t = (x ≡ []) × (t ≡ s)
+PollsFirst (suc n) s x t = Joins (PollsFirst n) (PollsNode n) s x t
+
+-- a round carries copy 0 as many times as copies were in flight at its start, and then polls each node
+abbrev pub Round : Stage → List Fact → Stage → Type 0
+Round s x t = Joins (Times (Carries 0) (length s.flight)) (λ u. PollsFirst (length u.nodes) u) s x t
+
+abbrev pub is_polled : Event → Bool
+is_polled (Polled now) = true
+is_polled _ = false
+
+-- after a round whose only facts are Polled there is no other
+abbrev pub Unless : Bool → (Stage → List Fact → Stage → Type 0) → Stage → List Fact → Stage → Type 0
+Unless true P s x t = (x ≡ []) × (t ≡ s)
+Unless false P s x t = P s x t
+
+pub record RoundAnd (P : Stage → List Fact → Stage → Type 0) (s : Stage) (x : List Fact) (t : Stage) : Type 0 where
+  pub between : Stage
+  pub round : List Fact
+  pub rest : List Fact
+  pub joined : x ≡ round ++ rest
+  pub makes : Round s round between
+  pub goes_on : Unless (list_all (λ f. is_polled f.event) round) P between rest t
+
+-- settle K: at most K rounds
+abbrev pub Settles : ℕ → Stage → List Fact → Stage → Type 0
+Settles zero s x t = (x ≡ []) × (t ≡ s)
+Settles (suc k) s x t = RoundAnd (Settles k) s x t
+
+-- what a command does. (The commands that aren't named here aren't served yet.)
+abbrev pub Does : Command → Stage → List Fact → Stage → Type 0
+Does (Node ring) s x t = Makes ring s x t
+Does (Pair a b credits) s x t = Pairs a b credits s x t
+Does (Call n session y ask room) s x t = AtNode (Asks session y (ask_bytes ask) room) n s x t
+Does (PollNode n) s x t = PollsNode n s x t
+Does (Arrive i) s x t = Arrives i s x t
+Does (Lose i) s x t = OfNet (or_missed s.flight i (Lost i)) s x t
+Does (Repeat i) s x t = OfNet (or_missed s.flight i (Repeated i)) s x t
+Does (Tick by) s x t = Ticks by s x t
+Does (Settle rounds) s x t = Settles rounds s x t
+Does _ s x t = ⊥
 
 -- from s, h follows the lines and leaves t
 abbrev pub FollowsFrom : List Line → Stage → List Fact → Stage → Type 0

@@ -9,10 +9,17 @@ use std::rt::Files;
 use std::{fs, io};
 
 /// The cases with a whole report.
-const WHOLE: [&str; 2] = ["one_echo", "every_served_command"];
+const WHOLE: [&str; 4] = ["one_echo", "every_served_command", "late_copy", "refusals"];
 
 /// The cases with lines of a report.
-const LINES: [&str; 1] = ["repeated_packets"];
+const LINES: [&str; 6] = [
+    "repeated_packets",
+    "older_reply_flushed",
+    "empty_message",
+    "ninth_call",
+    "nine_timeouts",
+    "small_room",
+];
 
 /// More bytes than the report of a case has.
 const ROOM: u32 = 1 << 20;

@@ -38,7 +38,7 @@ returns-clause-turn c = λ peer.
     rw (← c.self.view_is, ap (λ x. x.call) c.start-call.ensures.call) (call-begins c.args.pool.now peer _ _ _ _ c.self.invariant.1 c.in-Some.ensures.begins)
 
 pub returns-clause-step : goal.returns-clause-step
-returns-clause-step c = λ peer fresh.
+returns-clause-step c = λ clock peer fresh.
     let is = c.start-call.ensures.call in
     let begins = c.in-Some.ensures.begins in
     let keeps = rw (← c.self.view_is) at c.requires.keeps_pool in
@@ -46,4 +46,4 @@ returns-clause-step c = λ peer fresh.
     let size = rw (ap (λ x. x.len) is) at kept.size in
     let unlisted = rw (← c.self.view_is, ap (λ x. x.call) is) at fresh in
     rw (← c.self.view_is, c.push.ensures, c.start-call.ensures.pool, begins.table, is)
-    (beginning-step c.args.pool.now peer _ _ _ c.start-call.ensures.ask c.start-call.ensures.answer (the_view c.self.inside) _ _ keeps begins size unlisted)
+    (beginning-step c.args.pool.now peer _ _ _ c.start-call.ensures.ask c.start-call.ensures.answer clock (the_view c.self.inside) _ _ keeps begins size unlisted)

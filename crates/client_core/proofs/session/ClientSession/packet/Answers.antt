@@ -38,7 +38,7 @@ returns-in-None c =
     let number : c.entry.inside.number ≡ c.args.entry.now.number = ap (λ e. e.number) c.entry.view_is in
     let head = rw (c.head-header.ensures.head, server, number) at c.encode.ensures in
     let body = no-body c.in-Some.call.now c.entry.inside.number (part (message_in (buf_at c.args.pool.now c.in-Some.call.now.ask)) c.entry.inside.number) (sym c.in-None.is ∙ posted.1) in
-    spelled c.args.pool.now c.args.self.now c.args.entry.now c.in-Some.call.now c.encode.new.out _ is kept.size head (rw number at body)
+    spelled c.args.pool.now c.args.self.now c.args.entry.now c.in-Some.call.now c.encode.new.out _ is kept.size head (rw number at body) (rw (c.head-header.ensures.head, server, number) at c.head-header.ensures.in_range)
 
 pub returns-in-Some-place : goal.returns-in-Some-place
 returns-in-Some-place c =
@@ -50,4 +50,4 @@ returns-in-Some-place c =
     let head = rw (c.head-header.ensures.head, server, number) at c.encode.ensures in
     let part_is = rw c.from.ensures at c.packet.ensures.part in
     let body = part-body c.args.pool.now c.in-Some.call.now c.entry.inside.number c.in-Some-place.place c.get.result.now c.packet.result.1.now (sym c.in-Some-place.is ∙ posted.1) c.get.ensures part_is in
-    spelled c.args.pool.now c.args.self.now c.args.entry.now c.in-Some.call.now c.encode.new.out _ is kept.size head (rw number at body)
+    spelled c.args.pool.now c.args.self.now c.args.entry.now c.in-Some.call.now c.encode.new.out _ is kept.size head (rw number at body) (rw (c.head-header.ensures.head, server, number) at c.head-header.ensures.in_range)

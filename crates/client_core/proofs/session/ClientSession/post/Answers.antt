@@ -50,12 +50,12 @@ returns-clause-turn c =
     posting-shown c.args.pool.now c.args.peer c.args.self.now c.requires.keeps_pool ∙ ap (option_map posted_event) (sym (returns-clause-entry c))
 
 pub returns-clause-step : goal.returns-clause-step
-returns-clause-step c =
+returns-clause-step c = λ clock.
     let charged_is : c.charge.new.self ≡ charged (c.in-Some.call.request % 8) c.self.inside.credits = c.charge.ensures.charged ∙ ap (λ n. charged n c.self.inside.credits) c.slot.ensures in
     let found = sym c.in-Some.ensures.call in
     let more = found-passes can_post c.self.inside.calls c.in-Some.call found in
     rw (← c.self.view_is, c.next_entry-entry.ensures, c.hold.ensures, charged_is, c.post_next.ensures.calls)
-    (posting-step c.args.pool.now c.args.peer c.entry.inside.place _ c.in-Some.call c.self.invariant.1 found more (rw charged_is at c.charge.ensures.limit))
+    (posting-step clock c.args.pool.now c.args.peer c.entry.inside.place _ c.in-Some.call c.self.invariant.1 found more (rw charged_is at c.charge.ensures.limit))
 
 pub returns-in_default-clause-none : goal.returns-in_default-clause-none
 returns-in_default-clause-none c = rw (← returns-in_default-clause-entry c) at (nothing-posted c.args.self.now c.args.peer)

@@ -1,11 +1,20 @@
-use Rattle.rpc_world.proofs.ServedLaws.{follows-sends-own, follows-own, follows-once}
+use Rattle.rpc_world.proofs.ServedLaws.{follows-sends-own, follows-own, follows-once, follows-credit, follows-ends-clean, follows-ring}
 use Rattle.rpc_world.proofs.world.World.run.Goals as goal
 
 pub returns-clause-sends_own : goal.returns-clause-sends_own
-returns-clause-sends_own c = follows-sends-own _ _ c.in_ok-world.ensures c.requires
+returns-clause-sends_own c = follows-sends-own _ _ c.in_ok-world.ensures.script c.in_ok-world.ensures.follows
 
 pub returns-clause-once : goal.returns-clause-once
-returns-clause-once c = follows-once _ _ c.in_ok-world.ensures c.requires
+returns-clause-once c = follows-once _ _ c.in_ok-world.ensures.script c.in_ok-world.ensures.follows
 
 pub returns-clause-own : goal.returns-clause-own
-returns-clause-own c = follows-own _ _ c.in_ok-world.ensures c.requires
+returns-clause-own c = follows-own _ _ c.in_ok-world.ensures.script c.in_ok-world.ensures.follows
+
+pub returns-clause-credit : goal.returns-clause-credit
+returns-clause-credit c = follows-credit _ _ c.in_ok-world.ensures.script c.in_ok-world.ensures.follows
+
+pub returns-clause-ends_clean : goal.returns-clause-ends_clean
+returns-clause-ends_clean c = follows-ends-clean _ _ c.in_ok-world.ensures.script c.in_ok-world.ensures.follows
+
+pub returns-clause-ring : goal.returns-clause-ring
+returns-clause-ring c = follows-ring _ _ c.in_ok-world.ensures.script c.in_ok-world.ensures.follows

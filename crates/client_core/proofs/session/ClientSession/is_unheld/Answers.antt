@@ -1,0 +1,9 @@
+use Rattle.std.proofs.Common.{sym}
+use Rattle.client_core.specs.KeepsPool.{IsKept}
+use Rattle.client_core.specs.Replies.{is_request}
+use Rattle.client_core.proofs.CallsLemmas.{found-holds}
+use Rattle.client_core.proofs.session.ClientSession.is_unheld.Goals as goal
+
+pub refs-requires : goal.refs-requires
+refs-requires c =
+    (found-holds (is_request c.args.request) (IsKept c.args.pool.now) c.self.inside.calls c.in-Some.call (rw (← c.self.view_is) at c.requires.keeps_pool).kept (sym c.in-Some.ensures)).ask

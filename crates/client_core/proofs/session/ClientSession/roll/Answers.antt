@@ -1,0 +1,37 @@
+use Rattle.std.proofs.Common.{◌≡◌, ◌-◌, refl, sym, ap, ◌∙◌, arith}
+use Rattle.credit_book.specs.Credits.{rolled}
+use Rattle.client_core.specs.Replies.{is_request}
+use Rattle.client_core.specs.Timeouts.{is_numbered, rolled_call}
+use Rattle.client_core.specs.contracts.session.ClientSession.{the_view}
+use Rattle.std.proofs.lemmas.Bool.{eqb-true}
+use Rattle.client_core.proofs.CallLemmas.{rolled-turn}
+use Rattle.client_core.proofs.CallsLemmas.{found-passes}
+use Rattle.client_core.proofs.LostLemmas.{roll-step}
+use Rattle.client_core.proofs.ChangedLemmas.{same-change}
+use Rattle.client_core.proofs.OneCallLemmas.{by-request, changed-session, own-turn}
+use Rattle.client_core.proofs.session.ClientSession.roll.Goals as goal
+
+pub invariant_of-self : goal.invariant_of-self
+invariant_of-self c =
+    let numbered = sym c.in-Some.ensures in
+    let few = rw (← c.self.view_is, ← c.in-Some.ensures) at c.requires.few in
+    let found = by-request _ (is_numbered c.args.call) c.in-Some.call c.self.invariant.1 numbered in
+    let turn = rolled-turn c.in-Some.call (own-turn _ (is_numbered c.args.call) c.in-Some.call c.self.invariant.1 numbered) few in
+    let credits = c.roll.ensures.rolled ∙ ap (λ n. rolled n c.self.inside.credits) c.slot.ensures in
+    let none : 0 ≡ c.in-Some.call.got - c.in-Some.call.got = omega arith in
+    rw (c.replace.ensures, c.rolled.ensures)
+    (c.self.invariant.0, changed-session _ (is_request c.in-Some.call.request) c.in-Some.call c.self.invariant.1 found (rolled_call c.in-Some.call) refl refl turn c.roll.new.self c.roll.ensures.balanced 0 (ap (λ b. b.unanswered) credits) none)
+
+pub returns-clause-session : goal.returns-clause-session
+returns-clause-session c =
+    let found = by-request _ (is_numbered c.args.call) c.in-Some.call c.self.invariant.1 (sym c.in-Some.ensures) in
+    let credits = c.roll.ensures.rolled ∙ ap (λ n. rolled n c.self.inside.credits) c.slot.ensures in
+    rw (← c.self.view_is, ← c.in-Some.ensures, c.replace.ensures, c.rolled.ensures, credits, same-change (is_request c.in-Some.call.request) c.in-Some.call rolled_call c.self.inside.calls found) refl
+
+pub returns-clause-step : goal.returns-clause-step
+returns-clause-step c =
+    let found = by-request _ (is_numbered c.args.call) c.in-Some.call c.self.invariant.1 (sym c.in-Some.ensures) in
+    let own = eqb-true c.in-Some.call.call c.args.call (found-passes (is_numbered c.args.call) c.self.inside.calls c.in-Some.call (sym c.in-Some.ensures)) in
+    let credits = c.roll.ensures.rolled ∙ ap (λ n. rolled n c.self.inside.credits) c.slot.ensures in
+    rw (← c.self.view_is, ← c.in-Some.ensures, c.replace.ensures, c.rolled.ensures, credits, same-change (is_request c.in-Some.call.request) c.in-Some.call rolled_call c.self.inside.calls found)
+    (λ pool clock peer. roll-step pool clock peer c.args.call c.in-Some.call (the_view c.self.inside) c.self.invariant.1 (sym c.in-Some.ensures) own)

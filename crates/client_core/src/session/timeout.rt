@@ -1,0 +1,109 @@
+//! Timeouts: a call is rolled back, and the calls of a session that lost its peer end.
+ghost use Rattle.std.specs.Prelude.{◌≡◌, ◌<◌, ◌↔◌, ℕ, List, [], ◌∷◌, IfNone, IfSome, IsNone, IsSome, Some};
+ghost use Rattle.std.specs.List.{AllByRecursion, list_any};
+ghost use Rattle.rpc_base.specs.declared.owner.Owner.TheVariants.{Ask};
+ghost use Rattle.buffer_pool.specs.Pool.{Pool};
+ghost use Rattle.rpc_laws.specs.declared.tables.Queued.{Queued};
+ghost use Rattle.rpc_laws.specs.GoBackN.{row_of};
+ghost use Rattle.rpc_laws.specs.Queues.{is_queued};
+ghost use Rattle.client_core.specs.KeepsPool.{KeepsPool};
+ghost use Rattle.client_core.specs.Losing.{GivesUp, Loses, next_lost};
+ghost use Rattle.client_core.specs.Replies.{IsUnheld};
+ghost use Rattle.client_core.specs.Shown.{IsAlone, done_event, rolled_event, shown, shown_active, shown_broken, stepped};
+ghost use Rattle.client_core.specs.Timeouts.{after_roll, call_numbered, call_timer, timer_told};
+
+use super::ClientSession;
+use super::reply::returned;
+use crate::call::ActiveCall;
+use crate::outcome::{Done, Outcome, Timer};
+use buffer_pool::BufferPool;
+use rpc_base::CallNo;
+use rpc_laws::TimerRow;
+
+impl ClientSession {
+    /// What an active call's clock says at `now`, with this timeout, both in microseconds. `queued`
+    /// tells whether the call's packet `got` is queued.
+    pub fn check(&self, call: CallNo, now: u64, queued: bool, timeout: u64) -> Timer
+        requires active { IsSome (call_numbered call self.now) }
+        ensures told { IfSome (call_numbered call self.now) (λ c. result ≡ timer_told (call_timer now timeout queued c) c) }
+        // As the timer rule says of what is shown, whatever else is queued.
+        ensures rule { IfSome (call_numbered call self.now) (λ c. (queue : List Queued) → list_any (is_queued (Ask self.now.number c.request) c.got) queue ≡ queued →
+            (pool : Pool) → IfSome (shown_active pool c).progress (λ p. row_of now timeout self.now.number queue p ≡ call_timer now timeout queued c)) }
+    {
+        let Some(call) = self.calls.of_number(call) else {
+            unreachable!()
+        };
+        told(call.timer(now, queued, timeout), &call)
+    }
+
+    /// An active call is rolled back, of which no packet is queued any more and which was rolled back
+    /// fewer than eight times without a reply: the credits of its unanswered packets come back, and those
+    /// packets are to be posted again.
+    pub fn roll(&mut self, call: CallNo)
+        requires active { IsSome (call_numbered call self.old) }
+        requires few { IfSome (call_numbered call self.old) (λ c. c.rolls < 8) }
+        ensures session { IfSome (call_numbered call self.old) (λ c. self.new ≡ after_roll c self.old) }
+        ensures step { IfSome (call_numbered call self.old) (λ c. (pool : Pool) → (clock peer : ℕ) →
+            stepped clock (rolled_event c) (shown pool peer self.old) ≡ shown pool peer self.new ∷ []) }
+    {
+        let Some(call) = self.calls.of_number(call) else {
+            unreachable!()
+        };
+        self.credits.roll(call.request.slot());
+        self.calls.replace(call.request, call.rolled());
+    }
+
+    /// The next call of a session that lost its peer, of which no packet is queued any more: the active
+    /// calls end in the order of their numbers, and then those that wait, oldest first. None comes
+    /// exactly where no call is left.
+    pub fn lose(&mut self, pool: &mut BufferPool) -> Option<Done>
+        requires keeps_pool { KeepsPool pool.old self.old.active }
+        requires unheld { AllByRecursion (IsUnheld pool.old) self.old.active }
+        ensures none { IsNone result ↔ ((self.old.active ≡ []) × (self.old.slots.waiting ≡ [])) }
+        ensures unchanged { IfNone result ((self.new ≡ self.old) × (pool.new ≡ pool.old)) }
+        // As the fact Done of the definitions, where no other active call has this call's number.
+        ensures step { IfSome result (λ d. IsAlone d.call self.old → (clock peer : ℕ) →
+            stepped clock (done_event d) (shown_broken pool.old peer self.old) ≡ shown_broken pool.new peer self.new ∷ []) }
+        ensures loses { IfSome result (λ d. Loses (next_lost self.old) d self.old self.new pool.old pool.new) }
+        ensures keeps_pool { KeepsPool pool.new self.new.active }
+    {
+        if let Some(call) = self.calls.next() {
+            return Some(self.end(pool, call, Outcome::PeerLost));
+        }
+        self.give_up()
+    }
+
+    // The call that waited longest is given up.
+    fn give_up(&mut self) -> Option<Done>
+        ensures none { IsNone result ↔ (self.old.slots.waiting ≡ []) }
+        ensures unchanged { IfNone result (self.new ≡ self.old) }
+        ensures given_up { IfSome result (λ d. GivesUp d self.old self.new) }
+    {
+        let Some(waiting) = self.slots.drain() else {
+            return None;
+        };
+        self.waiting -= 1;
+        Some(Done {
+            call: waiting.call,
+            session: self.number,
+            tag: waiting.tag,
+            outcome: Outcome::PeerLost,
+            req: waiting.req,
+            resp: returned(Outcome::PeerLost, waiting.resp),
+        })
+    }
+}
+
+fn told(row: TimerRow, call: &ActiveCall) -> Timer
+    ensures { result ≡ timer_told row call.now }
+{
+    match row {
+        TimerRow::Waits => Timer::Quiet,
+        TimerRow::RollsBack => Timer::Roll {
+            request: call.request,
+            posted: call.posted,
+            got: call.got,
+        },
+        TimerRow::Breaks => Timer::Lost,
+    }
+}

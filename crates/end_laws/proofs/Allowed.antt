@@ -1,0 +1,186 @@
+-- What the rules alone say of a fact of a node, by the node's lists before it.
+use Rattle.std.proofs.Common.{◌≡◌, ◌<◌, ◌≤◌, ℕ, true, false, List, [], ◌∷◌, length, Option, Some, None, slice_get}
+use Rattle.std.specs.List.{find, list_any}
+use Rattle.packet_header.specs.Header.{HasHead, InRange}
+use Rattle.packet_header.specs.Parts.{packet_count}
+use Rattle.packet_header.specs.declared.packet.Kind.{Kind}
+use Rattle.packet_header.specs.declared.packet.Kind.TheVariants.{Request, Rfr, Cr, Response}
+use Rattle.packet_header.specs.declared.packet.MessageHeader.{MessageHeader}
+use Rattle.rpc_base.specs.declared.event.Event.{Event}
+use Rattle.rpc_base.specs.declared.event.Event.TheVariants.{Made, PairedClient, PairedServer, Asked, Begun, Posted, Sent, Arrived, Took, Ran, DoneOk, DoneTooSmall}
+use Rattle.rpc_base.specs.declared.fact.Fact.{Fact}
+use Rattle.rpc_base.specs.declared.fact.Who.TheVariants.{Node}
+use Rattle.rpc_base.specs.declared.owner.Owner.{Owner}
+use Rattle.rpc_base.specs.declared.owner.Owner.TheVariants.{Ask, Reply, Control}
+use Rattle.rpc_laws.specs.declared.tables.Arrival.{Arrival}
+use Rattle.rpc_laws.specs.declared.tables.Call.{Call}
+use Rattle.rpc_laws.specs.declared.tables.Client.{Client}
+use Rattle.rpc_laws.specs.declared.tables.InFlight.{InFlight}
+use Rattle.rpc_laws.specs.declared.tables.Lists.{Lists}
+use Rattle.rpc_laws.specs.declared.tables.Outgoing.{Outgoing}
+use Rattle.rpc_laws.specs.declared.tables.Progress.{Progress}
+use Rattle.rpc_laws.specs.declared.tables.Served.{Served}
+use Rattle.rpc_laws.specs.declared.tables.Server.{Server}
+use Rattle.rpc_laws.specs.Calls.{is_active, is_waiting, asked_packets, known_packets}
+use Rattle.rpc_laws.specs.ClientTable.{is_of_turn}
+use Rattle.rpc_laws.specs.Front.{front_header, front_body}
+use Rattle.rpc_laws.specs.NodeLists.{after}
+use Rattle.rpc_laws.specs.Packets.{outgoing}
+use Rattle.rpc_laws.specs.Posting.{next_turn}
+use Rattle.rpc_laws.specs.Requests.{is_server, is_request, in_slot_of}
+use Rattle.rpc_laws.specs.ServerTable.{is_past_end}
+use Rattle.rpc_laws.specs.Service.{answer_to}
+use Rattle.rpc_laws.specs.Sessions.{is_client}
+
+-- the oldest waiting call of a session begins with the next number of its slot
+pub record MayBegin (l : Lists) (c r : ℕ) : Type 0 where
+  pub session : ℕ
+  pub client : Client
+  pub is_there : slice_get l.clients session ≡ Some client
+  pub call : Call
+  pub waits : find is_waiting client.calls ≡ Some call
+  pub number : c ≡ call.what.number
+  pub slot : ℕ
+  pub low : slot < 8
+  pub next : r ≡ next_turn client.turns slot
+
+-- the packet that is sent is its owner's
+pub record MaySend (l : Lists) (peer : ℕ) (owner : Owner) (k : ℕ) (head body : List ℕ) : Type 0 where
+  pub is_front : slice_get l.queued 0 ≡ Some (record { owner = owner; number = k })
+  pub out : Outgoing
+  pub own : outgoing l (record { owner = owner; number = k }) ≡ Some out
+  pub to_peer : peer ≡ out.peer
+  pub in_range : InRange out.packet
+  pub has_head : HasHead out.packet head
+  pub long : length head ≡ 16
+  pub whole : body ≡ out.body
+
+-- the front of the ring is a message
+pub record Fronts (l : Lists) (front : Arrival) (h : MessageHeader) : Type 0 where
+  pub is_front : slice_get l.ring 0 ≡ Some front
+  pub reads : front_header l.ring ≡ Some h
+
+-- the front of the ring is the reply that an active call wants next
+pub record MayTakeReply (l : Lists) (session r : ℕ) : Type 0 where
+  pub front : Arrival
+  pub header : MessageHeader
+  pub is_front : Fronts l front header
+  pub of_session : session ≡ header.session
+  pub of_request : r ≡ header.request
+  pub client : Client
+  pub found : find (is_client session) l.clients ≡ Some client
+  pub of_peer : front.peer ≡ client.way.peer
+  pub call : Call
+  pub active : find (is_active r) client.calls ≡ Some call
+  pub progress : Progress
+  pub is_progress : call.progress ≡ Some progress
+  pub in_turn : header.number ≡ progress.got
+  pub of_turn : is_of_turn (asked_packets call.what) call.what.req_type progress.answer header (length (front_body l.ring)) ≡ true
+
+-- a packet that goes on with a request
+abbrev pub GoesOn : Kind → Served → MessageHeader → Type 0
+GoesOn Request q h = (h.req_type ≡ q.req_type) × (h.size ≡ q.size)
+GoesOn Rfr q h = (packet_count q.size ≤ h.number) × (is_past_end q.size q.answer h.number ≡ false)
+GoesOn Cr q h = ⊥
+GoesOn Response q h = ⊥
+
+-- a packet that is taken: the first of a request, or the next one of the newest
+abbrev pub TakesOf : Option Served → List Served → MessageHeader → Type 0
+TakesOf None slots h = (h.kind ≡ Request) × (h.number ≡ 0) × (list_any (is_request h.request) slots ≡ false) × ((q : Served) → find (in_slot_of h.request) slots ≡ Some q → q.number < h.request)
+TakesOf (Some q) slots h = (find (is_request h.request) slots ≡ Some q) × (h.number ≡ q.taken) × GoesOn h.kind q h
+
+-- the front of the ring is the packet that a server session wants next
+pub record MayTakeAsk (l : Lists) (session r k : ℕ) : Type 0 where
+  pub front : Arrival
+  pub header : MessageHeader
+  pub is_front : Fronts l front header
+  pub of_session : session ≡ header.session
+  pub of_request : r ≡ header.request
+  pub of_number : k ≡ header.number
+  pub server : Server
+  pub found : find (is_server session) l.servers ≡ Some server
+  pub of_peer : front.peer ≡ server.way.peer
+  pub going : Option Served
+  pub takes : TakesOf going server.slots header
+
+-- the packet with number k of request r was taken
+pub record WasTaken (l : Lists) (session r k : ℕ) : Type 0 where
+  pub server : Server
+  pub found : find (is_server session) l.servers ≡ Some server
+  pub request : Served
+  pub in_slot : find (in_slot_of r) server.slots ≡ Some request
+  pub number : request.number ≡ r
+  pub was_taken : k < request.taken
+
+-- a request runs when its last packet was taken
+pub record MayRun (l : Lists) (session r req_type : ℕ) (ask answer : List ℕ) : Type 0 where
+  pub server : Server
+  pub found : find (is_server session) l.servers ≡ Some server
+  pub request : Served
+  pub is_there : find (is_request r) server.slots ≡ Some request
+  pub of_type : req_type ≡ request.req_type
+  pub own : ask ≡ request.ask
+  pub whole : request.taken ≡ packet_count request.size
+  pub right : answer ≡ answer_to req_type ask
+
+-- a call whose answer's size is known
+pub record HasSize (l : Lists) (c size : ℕ) (call : Call) (progress : Progress) : Type 0 where
+  pub session : ℕ
+  pub request : ℕ
+  pub client : Client
+  pub found : find (is_client session) l.clients ≡ Some client
+  pub active : find (is_active request) client.calls ≡ Some call
+  pub is_progress : call.progress ≡ Some progress
+  pub number : c ≡ call.what.number
+  pub answer : progress.answer ≡ Some size
+
+-- a call ends well when all parts of its answer are there
+pub record MayEnd (l : Lists) (c : ℕ) (bytes : List ℕ) : Type 0 where
+  pub size : ℕ
+  pub call : Call
+  pub progress : Progress
+  pub has : HasSize l c size call progress
+  pub all : progress.got ≡ known_packets (asked_packets call.what) (Some size)
+  pub whole : bytes ≡ progress.parts
+
+-- a call ends for want of room when its answer's size is known and above its room
+pub record MayFail (l : Lists) (c size : ℕ) : Type 0 where
+  pub call : Call
+  pub progress : Progress
+  pub has : HasSize l c size call progress
+  pub above : call.what.room < size
+
+abbrev pub MayPost : Lists → Owner → ℕ → Type 0
+MayPost l (Ask s r) k = Unit {0}
+MayPost l (Reply t r) k = WasTaken l t r k
+MayPost l Control k = ⊥
+
+abbrev pub MayTake : Lists → Owner → ℕ → Type 0
+MayTake l (Ask s r) k = MayTakeReply l s r
+MayTake l (Reply t r) k = MayTakeAsk l t r k
+MayTake l Control k = ⊥
+
+-- hand is the copy that is to be delivered. Nodes and ends of sessions are made in another way
+abbrev pub May : Option InFlight → Lists → Event → List ℕ → List ℕ → Type 0
+May hand l (Made ring) first second = ⊥
+May hand l (PairedClient s peer t credits) first second = ⊥
+May hand l (PairedServer t peer s credits) first second = ⊥
+May hand l (Asked c s req_type room) first second = (c ≡ l.asked) × (second ≡ [])
+May hand l (Begun c r) first second = MayBegin l c r × (first ≡ []) × (second ≡ [])
+May hand l (Posted owner k) first second = MayPost l owner k
+May hand l (Sent peer owner k) first second = MaySend l peer owner k first second
+May hand l (Arrived peer) first second = hand ≡ Some (record { from = peer; to = l.me; bytes = first })
+May hand l (Took owner k) first second = MayTake l owner k
+May hand l (Ran t r req_type) first second = MayRun l t r req_type first second
+May hand l (DoneOk c) first second = MayEnd l c first
+May hand l (DoneTooSmall c size) first second = MayFail l c size
+May hand l _ first second = Unit {0}
+
+pub record IsAllowed (hand : Option InFlight) (l : Lists) (f : Fact) : Type 0 where
+  pub who : f.who ≡ Node l.me
+  pub may : May hand l f.event f.first f.second
+
+-- each of a node's facts is allowed
+abbrev pub Walks : Option InFlight → ℕ → Lists → List Fact → Type 0
+Walks hand clock l [] = Unit {0}
+Walks hand clock l (f ∷ x) = IsAllowed hand l f × Walks hand clock (after clock l f) x

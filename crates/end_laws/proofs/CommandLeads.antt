@@ -1,0 +1,217 @@
+-- Each command leads from a moment that fits the stage to one that fits the next.
+use Rattle.std.proofs.Common.{◌≡◌, ◌≤◌, ◌+◌, ℕ, zero, suc, max, nat_lt, Bool, true, false, cond, List, [], ◌∷◌, ◌++◌, length, Option, Some, slice_get, refl, sym, ap, ◌∙◌, subst, arith}
+use Rattle.std.specs.Prelude.{is_none}
+use Rattle.std.specs.Bool.{MatchBool}
+use Rattle.std.specs.List.{find, list_all, remove}
+use Rattle.std.proofs.lemmas.List.{length-append}
+use Rattle.packet_header.specs.Reading.{message_of}
+use Rattle.rpc_base.specs.declared.event.Event.{Event}
+use Rattle.rpc_base.specs.declared.event.Event.TheVariants.{Made, NcallTooLarge, Arrived, Overflowed, Bad, Missed, Carried, Lost, Repeated, Ticked}
+use Rattle.rpc_base.specs.declared.fact.Fact.{Fact}
+use Rattle.rpc_base.specs.declared.state.SessionState.{SessionState}
+use Rattle.rpc_base.specs.declared.state.SessionState.TheVariants.{Connected}
+use Rattle.network_model.specs.declared.stage.Stage.{Stage}
+use Rattle.rpc_laws.specs.declared.tables.InFlight.{InFlight}
+use Rattle.rpc_laws.specs.declared.tables.Lists.{Lists}
+use Rattle.rpc_laws.specs.declared.tables.Timed.{Timed}
+use Rattle.rpc_laws.specs.Facts.{plain, with_bytes, of_net}
+use Rattle.rpc_laws.specs.GoBackN.{usual_timeout}
+use Rattle.rpc_laws.specs.Groups.{Asks, ask_fact, ask_by_state, state_of}
+use Rattle.rpc_laws.specs.InFlight.{flight_after_net}
+use Rattle.rpc_laws.specs.NodeLists.{after, after_all, new_lists, new_node}
+use Rattle.rpc_laws.specs.PollOrder.{Poll}
+use Rattle.rpc_laws.specs.Sessions.{is_client}
+use Rattle.sim_script.specs.FollowsScript.{AtNode as StageNode, Makes, OfNet, or_missed, Carries, Arrives, Ticks, PollsNode, Joins, Times, PollsFirst, Round, Unless, Settles, is_polled}
+use Rattle.end_laws.specs.Moments.{Moment, moved}
+use Rattle.end_laws.proofs.Allowed.{Walks}
+use Rattle.end_laws.proofs.CallSteps.{asks-fine, delivers-fine}
+use Rattle.end_laws.proofs.Courses.{over, in_net, made}
+use Rattle.end_laws.proofs.Leads.{NodeFits, Fits, Leads, Leading, NodeStep, leads-none, leads-append, step-leads}
+use Rattle.end_laws.proofs.ListLemmas.{Placed, add-placed, add-keeps, add-last}
+use Rattle.end_laws.proofs.ReplySteps.{poll-fine}
+use Rattle.end_laws.proofs.SlotLemmas.{Sound, sound-stays}
+
+-- a fact of the network
+pub net-leads : (s : Stage) (w : Moment) (e : Event) (clock : ℕ) (flight : List InFlight) → Fits s w → (moved w (of_net e)).clock ≡ clock → (moved w (of_net e)).flight ≡ flight → s.clock ≤ clock → Leads w (of_net e ∷ []) (record { nodes = s.nodes; flight = flight; clock = clock })
+net-leads s w e clock flight f c g le =
+    let u = moved w (of_net e) in
+    record {
+      end = u;
+      course = in_net w (of_net e) [] u refl (over u);
+      fits = record {
+        clock = c;
+        flight = g;
+        size = f.size;
+        nodes = λ j z is. let k = f.nodes j z is in record { is_node = k.is_node; me = k.me; late = (let late = k.late in omega arith); sound = k.sound };
+      };
+    }
+
+self-le : (n : ℕ) → n ≤ n
+self-le n = omega arith
+
+or-missed-leads : (b : Bool) (s : Stage) (w : Moment) (i : ℕ) (e : Event) (x : List Fact) (t : Stage) → Fits s w → ((x : List Fact) (t : Stage) → OfNet e s x t → Leads w x t) → OfNet (cond b e (Missed i)) s x t → Leads w x t
+or-missed-leads true s w i e x t f k h = k x t h
+or-missed-leads false s w i e x t f k h = rw (h.facts, h.left) (net-leads s w (Missed i) s.clock s.flight f f.clock f.flight (self-le s.clock))
+
+pub missed-leads : (i : ℕ) → Leading (OfNet (Missed i))
+missed-leads i s w x t f h = rw (h.facts, h.left) (net-leads s w (Missed i) s.clock s.flight f f.clock f.flight (self-le s.clock))
+
+pub lose-leads : (i : ℕ) → Leading (λ s. OfNet (or_missed s.flight i (Lost i)) s)
+lose-leads i s w x t f h =
+    or-missed-leads (nat_lt i (length s.flight)) s w i (Lost i) x t f
+    (λ x t k. rw (k.facts, k.left) (net-leads s w (Lost i) s.clock (remove s.flight i) f f.clock (ap (λ (c : List InFlight). remove c i) f.flight) (self-le s.clock))) h
+
+pub repeat-leads : (i : ℕ) → Leading (λ s. OfNet (or_missed s.flight i (Repeated i)) s)
+repeat-leads i s w x t f h =
+    or-missed-leads (nat_lt i (length s.flight)) s w i (Repeated i) x t f
+    (λ x t k. rw (k.facts, k.left) (net-leads s w (Repeated i) s.clock (flight_after_net (Repeated i) s.flight) f f.clock (ap (flight_after_net (Repeated i)) f.flight) (self-le s.clock))) h
+
+pub tick-leads : (by : ℕ) → Leading (Ticks by)
+tick-leads by s w x t f h =
+    let le : s.clock ≤ s.clock + by = omega arith in
+    rw (h.facts, h.left) (net-leads s w (Ticked by) (s.clock + by) s.flight f (ap (λ c. c + by) f.clock) f.flight le)
+
+-- a node is made
+pub made-leads : (ring : ℕ) → Leading (Makes ring)
+made-leads ring s w x t f h =
+    let u = moved w (plain (length w.nodes) (Made ring)) in
+    let me = f.size in
+    let facts : x ≡ plain (length w.nodes) (Made ring) ∷ [] = h.facts ∙ ap (λ n. plain n (Made ring) ∷ []) (sym me) in
+    let left : t ≡ record s { nodes = s.nodes ++ new_node (length w.nodes) ring ∷ [] } = h.left ∙ ap (λ n. record s { nodes = s.nodes ++ new_node n ring ∷ [] }) (sym me) in
+    let now : List Lists = w.nodes ++ new_lists (length w.nodes) ring ∷ [] in
+    let new : NodeFits s.clock now (length s.nodes) (new_node (length w.nodes) ring) = record { is_node = ap (slice_get now) (sym me) ∙ add-last w.nodes (new_lists (length w.nodes) ring); me = me; late = omega arith; sound = tt } in
+    let nodes : Placed (NodeFits s.clock now) (s.nodes ++ new_node (length w.nodes) ring ∷ []) = add-placed (NodeFits s.clock now) s.nodes (new_node (length w.nodes) ring) new (λ j z is. let k = f.nodes j z is in record { is_node = add-keeps w.nodes _ j z.lists k.is_node; me = k.me; late = k.late; sound = k.sound }) in
+    rw (facts, left) (record {
+      end = u;
+      course = made w ring [] u (over u);
+      fits = record {
+        clock = f.clock;
+        flight = f.flight;
+        size = length-append w.nodes (new_lists (length w.nodes) ring ∷ []) ∙ (ap (λ n. n + 1) me ∙ sym (length-append s.nodes (new_node (length w.nodes) ring ∷ [])));
+        nodes = nodes;
+      };
+    })
+
+-- the clock is read by none of these
+ask-clock : (state : SessionState) (c d session req_type room : ℕ) (ask : List ℕ) (l : Lists) → after c l (ask_by_state state session req_type room ask l) ≡ after d l (ask_by_state state session req_type room ask l)
+ask-clock Connected c d session req_type room ask l = refl
+ask-clock _ c d session req_type room ask l = refl
+
+fact-clock : (b : Bool) (c d session req_type room : ℕ) (ask : List ℕ) (l : Lists) (state : SessionState) → after c l (cond b (plain l.me (NcallTooLarge session (length ask))) (ask_by_state state session req_type room ask l)) ≡ after d l (cond b (plain l.me (NcallTooLarge session (length ask))) (ask_by_state state session req_type room ask l))
+fact-clock true c d session req_type room ask l state = refl
+fact-clock false c d session req_type room ask l state = ask-clock state c d session req_type room ask l
+
+delivery-clock : (a b : Bool) (c d peer : ℕ) (bytes : List ℕ) (l : Lists) → after c l (with_bytes l.me (cond a (Bad peer) (cond b (Arrived peer) (Overflowed peer))) bytes) ≡ after d l (with_bytes l.me (cond a (Bad peer) (cond b (Arrived peer) (Overflowed peer))) bytes)
+delivery-clock true b c d peer bytes l = refl
+delivery-clock false true c d peer bytes l = refl
+delivery-clock false false c d peer bytes l = refl
+
+-- one fact that doesn't read the clock
+one-walk : (hand : Option InFlight) (c d : ℕ) (l : Lists) (x : List Fact) (f : Fact) → x ≡ f ∷ [] → Walks hand c l x → Walks hand d l x
+one-walk hand c d l x f e h =
+    let k : Walks hand c l (f ∷ []) = subst (λ (y : List Fact). Walks hand c l y) e h in
+    rw e (k.0, tt)
+
+one-after : (c d : ℕ) (l : Lists) (x : List Fact) (f : Fact) → x ≡ f ∷ [] → after c l f ≡ after d l f → after_all c l x ≡ after_all d l x
+one-after c d l x f e h = rw e h
+
+pub call-leads : (n session req_type : ℕ) (ask : List ℕ) (room : ℕ) → Leading (StageNode (Asks session req_type ask room) n)
+call-leads n session req_type ask room s w x t f h =
+    let fit = f.nodes n h.before h.is_node in
+    let k = asks-fine Sound sound-stays w.hand session req_type ask room h.before x h.now fit.sound h.step in
+    let same = one-after h.before.clock s.clock h.before.lists x (ask_fact session req_type room ask h.before.lists) h.step.facts (fact-clock (nat_lt 1048576 (length ask)) h.before.clock s.clock session req_type room ask h.before.lists (state_of (find (is_client session) h.before.lists.clients))) in
+    let late = fit.late in
+    let clock = k.clock in
+    step-leads s w n h.before h.now x t f (record {
+      is_node = h.is_node;
+      walks = one-walk w.hand h.before.clock s.clock h.before.lists x _ h.step.facts k.walks;
+      lists = k.lists ∙ same;
+      late = omega arith;
+      sound = k.inv;
+    }) h.left
+
+poll-step : (s : Stage) (w : Moment) (n : ℕ) (before now : Timed) (x : List Fact) → slice_get s.nodes n ≡ Some before → Sound before.lists → Poll usual_timeout s.clock before x now → max before.clock s.clock ≡ s.clock → NodeStep s w n before now x
+poll-step s w n before now x is sound p m =
+    let k = poll-fine w.hand usual_timeout (record { lists = before.lists; clock = max before.clock s.clock }) x now sound p in
+    let at = k.clock in
+    record {
+      is_node = is;
+      walks = subst (λ (c : ℕ). Walks w.hand c before.lists x) m k.walks;
+      lists = k.lists ∙ ap (λ (c : ℕ). after_all c before.lists x) m;
+      late = omega arith;
+      sound = k.inv;
+    }
+
+pub poll-leads : (n : ℕ) → Leading (PollsNode n)
+poll-leads n s w x t f h =
+    let fit = f.nodes n h.before h.is_node in
+    let late = fit.late in
+    let m : max h.before.clock s.clock ≡ s.clock = omega arith in
+    step-leads s w n h.before h.now x t f (poll-step s w n h.before h.now x h.is_node fit.sound h.step m) h.left
+
+-- a copy is carried to its node
+carry-net : (s : Stage) (w : Moment) (i : ℕ) → Fits s w → Fits (record s { flight = remove s.flight i }) (moved w (of_net (Carried i)))
+carry-net s w i f = record {
+  clock = f.clock;
+  flight = ap (λ (c : List InFlight). remove c i) f.flight;
+  size = f.size;
+  nodes = λ j z is. let k = f.nodes j z is in record { is_node = k.is_node; me = k.me; late = k.late; sound = k.sound };
+}
+
+pub carry-leads : (i : ℕ) → Leading (Carries i)
+carry-leads i s w x t f h =
+    let u = moved w (of_net (Carried i)) in
+    let g = carry-net s w i f in
+    let a = h.arrives in
+    let copy = h.copy in
+    let fit = g.nodes copy.to a.before a.is_node in
+    let hand : Option InFlight = Some (record { from = copy.from; to = a.before.lists.me; bytes = copy.bytes }) in
+    let is_hand : u.hand ≡ hand = ap (λ (c : List InFlight). slice_get c i) f.flight ∙ (h.is_copy ∙ ap (λ (n : ℕ). Some (record { from = copy.from; to = n; bytes = copy.bytes })) (sym fit.me)) in
+    let k = delivers-fine Sound sound-stays copy.from copy.bytes a.before h.delivered a.now fit.sound a.step in
+    let same = one-after a.before.clock s.clock a.before.lists h.delivered _ a.step.facts (delivery-clock (is_none (message_of copy.bytes)) (nat_lt (length a.before.lists.ring) a.before.lists.room) a.before.clock s.clock copy.from copy.bytes a.before.lists) in
+    let late = fit.late in
+    let clock = k.clock in
+    let walks : Walks u.hand s.clock a.before.lists h.delivered = subst (λ (o : Option InFlight). Walks o s.clock a.before.lists h.delivered) (sym is_hand) (one-walk hand a.before.clock s.clock a.before.lists h.delivered _ a.step.facts k.walks) in
+    let l = step-leads (record s { flight = remove s.flight i }) u copy.to a.before a.now h.delivered t g (record {
+      is_node = a.is_node;
+      walks = walks;
+      lists = k.lists ∙ same;
+      late = omega arith;
+      sound = k.inv;
+    }) a.left in
+    rw h.facts (record { end = l.end; course = in_net w (of_net (Carried i)) h.delivered l.end refl l.course; fits = l.fits })
+
+arrive-by : (i : ℕ) (b : Bool) (s : Stage) (w : Moment) (x : List Fact) (t : Stage) → Fits s w → MatchBool b (Carries i s x t) (OfNet (Missed i) s x t) → Leads w x t
+arrive-by i true s w x t f h = carry-leads i s w x t f h
+arrive-by i false s w x t f h = missed-leads i s w x t f h
+
+pub arrive-leads : (i : ℕ) → Leading (Arrives i)
+arrive-leads i s w x t f h = arrive-by i (nat_lt i (length s.flight)) s w x t f h
+
+-- one group, and then others
+pub joins-lead : (P Q : Stage → List Fact → Stage → Type 0) → Leading P → Leading Q → Leading (Joins P Q)
+joins-lead P Q p q s w x t f h =
+    let l = p s w h.group h.between f h.does in
+    rw h.joined (leads-append h.between w h.group h.rest t l (q h.between l.end h.rest t l.fits h.follows))
+
+times-lead : (P : Stage → List Fact → Stage → Type 0) → Leading P → (n : ℕ) → Leading (Times P n)
+times-lead P p zero s w x t f h = leads-none s t w x f h.0 h.1
+times-lead P p (suc n) s w x t f h = joins-lead (Times P n) P (times-lead P p n) p s w x t f h
+
+polls-lead : (n : ℕ) → Leading (PollsFirst n)
+polls-lead zero s w x t f h = leads-none s t w x f h.0 h.1
+polls-lead (suc n) s w x t f h = joins-lead (PollsFirst n) (PollsNode n) (polls-lead n) (poll-leads n) s w x t f h
+
+round-leads : Leading Round
+round-leads s w x t f h =
+    joins-lead (Times (Carries 0) (length s.flight)) (λ u. PollsFirst (length u.nodes) u) (times-lead (Carries 0) (carry-leads 0) (length s.flight)) (λ u. polls-lead (length u.nodes) u) s w x t f h
+
+unless-leads : (b : Bool) (P : Stage → List Fact → Stage → Type 0) → Leading P → Leading (Unless b P)
+unless-leads true P p s w x t f h = leads-none s t w x f h.0 h.1
+unless-leads false P p s w x t f h = p s w x t f h
+
+pub settles-lead : (k : ℕ) → Leading (Settles k)
+settles-lead zero s w x t f h = leads-none s t w x f h.0 h.1
+settles-lead (suc k) s w x t f h =
+    let l = round-leads s w h.round h.between f h.makes in
+    rw h.joined (leads-append h.between w h.round h.rest t l (unless-leads (list_all (λ f. is_polled f.event) h.round) (Settles k) (settles-lead k) h.between l.end h.rest t l.fits h.goes_on))

@@ -1,0 +1,248 @@
+-- What is known of both ends of each session: who is at the ends, which calls were asked, and which began.
+use Rattle.std.proofs.Common.{◌≡◌, ◌<◌, ◌≤◌, ◌+◌, ◌-◌, ◌*◌, ◌==◌, ◌&&◌, ℕ, Bool, true, false, cond, List, [], ◌∷◌, length, take, Option, Some, None, refl, arith, eq-eqb, Contains}
+use Rattle.std.specs.Prelude.{◌%◌, IfSome}
+use Rattle.std.specs.List.{AllByRecursion}
+use Rattle.std.proofs.lemmas.Bool.{eqb-true, and_parts}
+use Rattle.std.proofs.lemmas.List.Elements.{Contains-append_right}
+use Rattle.packet_header.specs.Parts.{part}
+use Rattle.packet_header.specs.Reading.{message_of, body_of}
+use Rattle.packet_header.specs.declared.packet.Kind.{Kind}
+use Rattle.packet_header.specs.declared.packet.Kind.TheVariants.{Request, Rfr, Cr, Response}
+use Rattle.packet_header.specs.declared.packet.MessageHeader.{MessageHeader}
+use Rattle.rpc_base.specs.declared.event.Event.TheVariants.{Asked, Begun, Ran}
+use Rattle.rpc_base.specs.declared.fact.Fact.{Fact}
+use Rattle.rpc_laws.specs.declared.tables.Asking.{Asking}
+use Rattle.rpc_laws.specs.declared.tables.Call.{Call}
+use Rattle.rpc_laws.specs.declared.tables.Client.{Client}
+use Rattle.rpc_laws.specs.declared.tables.Lists.{Lists}
+use Rattle.rpc_laws.specs.declared.tables.Progress.{Progress}
+use Rattle.rpc_laws.specs.declared.tables.Served.{Served}
+use Rattle.rpc_laws.specs.declared.tables.Server.{Server}
+use Rattle.rpc_laws.specs.declared.tables.Way.{Way}
+use Rattle.rpc_laws.specs.Calls.{asked_packets}
+use Rattle.rpc_laws.specs.Facts.{plain, with_bytes, with_two}
+use Rattle.rpc_laws.specs.OwnAnswer.{AreEnds}
+use Rattle.rpc_laws.specs.Posting.{next_turn}
+use Rattle.rpc_laws.specs.Service.{answer_to}
+use Rattle.end_laws.specs.Genuine.{Travels}
+use Rattle.end_laws.specs.Moments.{Moment}
+use Rattle.end_laws.proofs.ListLemmas.{Placed}
+
+-- the client end of a session
+pub record End : Type 0 where
+  pub home : ℕ
+  pub client : ℕ
+
+-- a call and its session
+pub record Asker : Type 0 where
+  pub session : ℕ
+  pub what : Asking
+
+-- a call that began, and the way of its session
+pub record Begin : Type 0 where
+  pub way : Way
+  pub what : Asking
+
+-- at most one entry for three numbers
+abbrev pub Log : Type 0 → Type 0
+Log A = ℕ → ℕ → ℕ → Option A
+
+-- ends by server node and session; asks by node and call; starts by client node, session and request
+pub record Known : Type 0 where
+  pub past : List Fact
+  pub ends : Log End
+  pub asks : Log Asker
+  pub starts : Log Begin
+
+-- one entry more
+abbrev pub added : {A : Type 0} → Log A → ℕ → ℕ → ℕ → A → Log A
+added g a b c x i j k = cond (i == a && (j == b && k == c)) (Some x) (g i j k)
+
+module _ {A : Type 0} (g : Log A) (a b c : ℕ) (x : A) where
+  pub added-here : added g a b c x a b c ≡ Some x
+  added-here = rw (eq-eqb a a refl, eq-eqb b b refl, eq-eqb c c refl) refl
+
+  keys-same : (i j k : ℕ) → (i == a && (j == b && k == c)) ≡ true → (i ≡ a) × (j ≡ b) × (k ≡ c)
+  keys-same i j k t =
+      let one = and_parts (i == a) (j == b && k == c) t in
+      let two = and_parts (j == b) (k == c) one.1 in
+      (eqb-true i a one.0, eqb-true j b two.0, eqb-true k c two.1)
+
+  keeps-by : (i j k : ℕ) (y : A) (t : Bool) → (i == a && (j == b && k == c)) ≡ t → g a b c ≡ None → g i j k ≡ Some y → cond t (Some x) (g i j k) ≡ Some y
+  keeps-by i j k y true e none h =
+      let s = keys-same i j k e in
+      let i_is : i ≡ a = s.0 in
+      let j_is : j ≡ b = s.1 in
+      let k_is : k ≡ c = s.2 in
+      let again : g i j k ≡ g a b c = cc in
+      cc
+  keeps-by i j k y false e none h = h
+
+  pub added-keeps : (i j k : ℕ) (y : A) → g a b c ≡ None → g i j k ≡ Some y → added g a b c x i j k ≡ Some y
+  added-keeps i j k y none h = keeps-by i j k y _ refl none h
+
+  none-by : (i j k : ℕ) (t : Bool) → (i == a && (j == b && k == c)) ≡ t → ((i ≡ a) → (j ≡ b) → (k ≡ c) → ⊥) → g i j k ≡ None → cond t (Some x) (g i j k) ≡ None
+  none-by i j k true e other h = let s = keys-same i j k e in absurd (other s.0 s.1 s.2)
+  none-by i j k false e other h = h
+
+  pub added-none : (i j k : ℕ) → ((i ≡ a) → (j ≡ b) → (k ≡ c) → ⊥) → g i j k ≡ None → added g a b c x i j k ≡ None
+  added-none i j k other h = none-by i j k _ refl other h
+
+  case-by : (Q : ℕ → ℕ → ℕ → A → Type 0) (i j k : ℕ) (y : A) (t : Bool) → (i == a && (j == b && k == c)) ≡ t → Q a b c x → (g i j k ≡ Some y → Q i j k y) → cond t (Some x) (g i j k) ≡ Some y → Q i j k y
+  case-by Q i j k y true e here others h =
+      let s = keys-same i j k e in
+      let same : x ≡ y = cc in
+      rw (s.0, s.1, s.2, ← same) here
+  case-by Q i j k y false e here others h = others h
+
+  -- a claim of each entry
+  pub added-case : (Q : ℕ → ℕ → ℕ → A → Type 0) → Q a b c x → ((i j k : ℕ) (y : A) → g i j k ≡ Some y → Q i j k y) → (i j k : ℕ) (y : A) → added g a b c x i j k ≡ Some y → Q i j k y
+  added-case Q here others i j k y h = case-by Q i j k y _ refl here (others i j k y) h
+
+-- what is known stays known
+pub record Later (j k : Known) : Type 0 where
+  pub past : (f : Fact) → Contains j.past f → Contains k.past f
+  pub ends : (a b c : ℕ) (x : End) → j.ends a b c ≡ Some x → k.ends a b c ≡ Some x
+  pub asks : (a b c : ℕ) (x : Asker) → j.asks a b c ≡ Some x → k.asks a b c ≡ Some x
+  pub starts : (a b c : ℕ) (x : Begin) → j.starts a b c ≡ Some x → k.starts a b c ≡ Some x
+
+pub contains-here : (f : Fact) (past : List Fact) → Contains (f ∷ past) f
+contains-here f past = (0, omega arith, refl)
+
+pub contains-more : (f g : Fact) (past : List Fact) → Contains past g → Contains (f ∷ past) g
+contains-more f g past h = Contains-append_right (f ∷ []) past g h
+
+-- one fact more
+abbrev pub noting : Known → Fact → Known
+noting k f = record { past = f ∷ k.past; ends = k.ends; asks = k.asks; starts = k.starts }
+
+pub later-noting : (k : Known) (f : Fact) → Later k (noting k f)
+later-noting k f = record { past = λ g h. contains-more f g k.past h; ends = λ a b c x h. h; asks = λ a b c x h. h; starts = λ a b c x h. h }
+
+abbrev pub answer_of : Asking → List ℕ
+answer_of a = answer_to a.req_type a.ask
+
+-- the handler ran for a request
+abbrev pub HasRun : Known → (node session request : ℕ) → Asking → Type 0
+HasRun k node session request a = Contains k.past (with_two node (Ran session request a.req_type) a.ask (answer_of a))
+
+-- a Request is a part of a call that began
+pub record SaysRequest (k : Known) (from to : ℕ) (h : MessageHeader) (body : List ℕ) : Type 0 where
+  pub session : ℕ
+  pub start : Begin
+  pub begun : k.starts from session h.request ≡ Some start
+  pub way : start.way ≡ record { number = session; peer = to; other = h.session }
+  pub end : k.ends to h.session 0 ≡ Some (record { home = from; client = session })
+  pub req_type : h.req_type ≡ start.what.req_type
+  pub size : h.size ≡ length start.what.ask
+  pub piece : body ≡ part start.what.ask h.number
+
+-- a Response is a part of the answer to a call that began
+pub record SaysResponse (k : Known) (from to : ℕ) (h : MessageHeader) (body : List ℕ) : Type 0 where
+  pub start : Begin
+  pub begun : k.starts to h.session h.request ≡ Some start
+  pub peer : from ≡ start.way.peer
+  pub ran : HasRun k from start.way.other h.request start.what
+  pub size : h.size ≡ length (answer_of start.what)
+  pub piece : body ≡ part (answer_of start.what) (h.number + 1 - asked_packets start.what)
+
+abbrev pub Says : Kind → Known → (from to : ℕ) → MessageHeader → List ℕ → Type 0
+Says Request k from to h body = SaysRequest k from to h body
+Says Rfr k from to h body = Unit {0}
+Says Cr k from to h body = Unit {0}
+Says Response k from to h body = SaysResponse k from to h body
+
+-- what a datagram says is so
+abbrev pub Speaks : Known → (from to : ℕ) → List ℕ → Type 0
+Speaks k from to bytes = IfSome (message_of bytes) (λ h. Says h.kind k from to h (body_of bytes))
+
+-- the parts of an answer that a call has taken
+pub record HasParts (k : Known) (way : Way) (a : Asking) (request got : ℕ) (parts : List ℕ) (size : ℕ) : Type 0 where
+  pub ran : HasRun k way.peer way.other request a
+  pub sized : size ≡ length (answer_of a)
+  pub reached : asked_packets a ≤ got
+  pub taken : parts ≡ take (1024 * (got + 1 - asked_packets a)) (answer_of a)
+
+abbrev pub GoodAnswer : Known → Way → Asking → (request got : ℕ) → List ℕ → Option ℕ → Type 0
+GoodAnswer k way a request got parts None = (parts ≡ []) × (got < asked_packets a)
+GoodAnswer k way a request got parts (Some size) = HasParts k way a request got parts size
+
+pub record GoodProgress (k : Known) (n : ℕ) (way : Way) (a : Asking) (p : Progress) : Type 0 where
+  pub begun : k.starts n way.number p.request ≡ Some (record { way = way; what = a })
+  pub answer : GoodAnswer k way a p.request p.got p.parts p.answer
+
+pub record GoodCall (k : Known) (n : ℕ) (way : Way) (c : Call) : Type 0 where
+  pub logged : k.asks n c.what.number 0 ≡ Some (record { session = way.number; what = c.what })
+  pub progress : IfSome c.progress (GoodProgress k n way c.what)
+
+-- no request with such a number, or a later one of its slot, has begun
+abbrev pub IsFresh : Known → ℕ → ℕ → List ℕ → Type 0
+IsFresh k n s turns = (r : ℕ) → next_turn turns (r % 8) ≤ r → k.starts n s r ≡ None
+
+pub record GoodClient (k : Known) (n i : ℕ) (x : Client) : Type 0 where
+  pub number : x.way.number ≡ i
+  pub end : k.ends x.way.peer x.way.other 0 ≡ Some (record { home = n; client = i })
+  pub eight : length x.turns ≡ 8
+  pub fresh : IsFresh k n i x.turns
+  pub calls : AllByRecursion (GoodCall k n x.way) x.calls
+
+-- the answer of a request that ran
+pub record GoodRun (k : Known) (m t r : ℕ) (a : Asking) (answer : List ℕ) : Type 0 where
+  pub right : answer ≡ answer_of a
+  pub ran : HasRun k m t r a
+
+-- a request in its slot is of a call that began
+pub record GoodServed (k : Known) (m : ℕ) (way : Way) (q : Served) : Type 0 where
+  pub start : Begin
+  pub begun : k.starts way.peer way.other q.number ≡ Some start
+  pub way_is : start.way ≡ record { number = way.other; peer = m; other = way.number }
+  pub req_type : q.req_type ≡ start.what.req_type
+  pub size : q.size ≡ length start.what.ask
+  pub ask : q.ask ≡ take (1024 * q.taken) start.what.ask
+  pub answer : IfSome q.answer (GoodRun k m way.number q.number start.what)
+
+pub record GoodServer (k : Known) (m t : ℕ) (v : Server) : Type 0 where
+  pub number : v.way.number ≡ t
+  pub end : k.ends m t 0 ≡ Some (record { home = v.way.peer; client = v.way.other })
+  pub slots : AllByRecursion (GoodServed k m v.way) v.slots
+
+-- of what a node has not made nothing is known
+pub record GoodNode (k : Known) (n : ℕ) (l : Lists) : Type 0 where
+  pub clients : Placed (GoodClient k n) l.clients
+  pub servers : Placed (GoodServer k n) l.servers
+  pub no_asks : (c : ℕ) → l.asked ≤ c → k.asks n c 0 ≡ None
+  pub no_ends : (t : ℕ) → length l.servers ≤ t → k.ends n t 0 ≡ None
+  pub no_starts : (s r : ℕ) → length l.clients ≤ s → k.starts n s r ≡ None
+
+-- what is known was noted
+pub record TrueStart (past : List Fact) (n s r : ℕ) (b : Begin) : Type 0 where
+  pub number : b.way.number ≡ s
+  pub ends : AreEnds past n s b.way.peer b.way.other
+  pub asked : Contains past (with_bytes n (Asked b.what.number s b.what.req_type b.what.room) b.what.ask)
+  pub begun : Contains past (plain n (Begun b.what.number r))
+
+pub record TrueAsk (past : List Fact) (n c zero : ℕ) (a : Asker) : Type 0 where
+  pub number : a.what.number ≡ c
+  pub asked : Contains past (with_bytes n (Asked c a.session a.what.req_type a.what.room) a.what.ask)
+
+abbrev pub TrueEnd : List Fact → ℕ → ℕ → ℕ → End → Type 0
+TrueEnd past m t zero e = AreEnds past e.home e.client m t
+
+pub record IsTrue (k : Known) : Type 0 where
+  pub ends : (a b c : ℕ) (x : End) → k.ends a b c ≡ Some x → TrueEnd k.past a b c x
+  pub asks : (a b c : ℕ) (x : Asker) → k.asks a b c ≡ Some x → TrueAsk k.past a b c x
+  pub starts : (a b c : ℕ) (x : Begin) → k.starts a b c ≡ Some x → TrueStart k.past a b c x
+
+-- of nodes that aren't made nothing is known
+pub record Unmade (k : Known) (count : ℕ) : Type 0 where
+  pub asks : (n c : ℕ) → count ≤ n → k.asks n c 0 ≡ None
+  pub ends : (n t : ℕ) → count ≤ n → k.ends n t 0 ≡ None
+  pub starts : (n s r : ℕ) → count ≤ n → k.starts n s r ≡ None
+
+pub record Good (w : Moment) : Type 0 where
+  pub known : Known
+  pub past : known.past ≡ w.past
+  pub nodes : Placed (GoodNode known) w.nodes
+  pub travels : Travels (Speaks known) w
+  pub is_true : IsTrue known
+  pub unmade : Unmade known (length w.nodes)

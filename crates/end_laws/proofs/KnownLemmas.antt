@@ -1,0 +1,98 @@
+-- What is said of calls and requests stays so while more becomes known.
+use Rattle.std.proofs.Common.{ℕ, List, ◌∷◌, Option, Some, None}
+use Rattle.std.specs.Prelude.{IfSome}
+use Rattle.packet_header.specs.Reading.{message_of, body_of}
+use Rattle.packet_header.specs.declared.packet.Kind.{Kind}
+use Rattle.packet_header.specs.declared.packet.Kind.TheVariants.{Request, Rfr, Cr, Response}
+use Rattle.packet_header.specs.declared.packet.MessageHeader.{MessageHeader}
+use Rattle.rpc_base.specs.declared.fact.Fact.{Fact}
+use Rattle.rpc_laws.specs.declared.tables.Asking.{Asking}
+use Rattle.rpc_laws.specs.declared.tables.Call.{Call}
+use Rattle.rpc_laws.specs.declared.tables.Progress.{Progress}
+use Rattle.rpc_laws.specs.declared.tables.Served.{Served}
+use Rattle.rpc_laws.specs.declared.tables.Server.{Server}
+use Rattle.rpc_laws.specs.declared.tables.Way.{Way}
+use Rattle.rpc_laws.specs.OwnAnswer.{AreEnds}
+use Rattle.end_laws.proofs.Known.{Known, Later, SaysRequest, SaysResponse, Says, Speaks, GoodAnswer, GoodProgress, GoodCall, GoodRun, GoodServed, GoodServer, Begin, Asker, TrueStart, TrueAsk, IsTrue, noting, contains-more}
+use Rattle.end_laws.proofs.ListLemmas.{all-map}
+
+pub if-map : {A : Type 0} (P Q : A → Type 0) (o : Option A) → ((x : A) → P x → Q x) → IfSome o P → IfSome o Q
+if-map P Q None f h = tt
+if-map P Q (Some x) f h = f x h
+
+module _ (j k : Known) (later : Later j k) where
+  says-request : (from to : ℕ) (h : MessageHeader) (body : List ℕ) → SaysRequest j from to h body → SaysRequest k from to h body
+  says-request from to h body s = record {
+    session = s.session;
+    start = s.start;
+    begun = later.starts from s.session h.request s.start s.begun;
+    way = s.way;
+    end = later.ends to h.session 0 _ s.end;
+    req_type = s.req_type;
+    size = s.size;
+    piece = s.piece;
+  }
+
+  says-response : (from to : ℕ) (h : MessageHeader) (body : List ℕ) → SaysResponse j from to h body → SaysResponse k from to h body
+  says-response from to h body s = record {
+    start = s.start;
+    begun = later.starts to h.session h.request s.start s.begun;
+    peer = s.peer;
+    ran = later.past _ s.ran;
+    size = s.size;
+    piece = s.piece;
+  }
+
+  says-later : (kind : Kind) (from to : ℕ) (h : MessageHeader) (body : List ℕ) → Says kind j from to h body → Says kind k from to h body
+  says-later Request from to h body s = says-request from to h body s
+  says-later Rfr from to h body s = tt
+  says-later Cr from to h body s = tt
+  says-later Response from to h body s = says-response from to h body s
+
+  pub speaks-later : (from to : ℕ) (bytes : List ℕ) → Speaks j from to bytes → Speaks k from to bytes
+  speaks-later from to bytes s = if-map _ _ (message_of bytes) (λ h. says-later h.kind from to h (body_of bytes)) s
+
+  parts-later : (way : Way) (a : Asking) (request got : ℕ) (parts : List ℕ) (answer : Option ℕ) → GoodAnswer j way a request got parts answer → GoodAnswer k way a request got parts answer
+  parts-later way a request got parts None h = h
+  parts-later way a request got parts (Some size) h = record { ran = later.past _ h.ran; sized = h.sized; reached = h.reached; taken = h.taken }
+
+  pub progress-later : (n : ℕ) (way : Way) (a : Asking) (p : Progress) → GoodProgress j n way a p → GoodProgress k n way a p
+  progress-later n way a p h = record {
+    begun = later.starts n way.number p.request _ h.begun;
+    answer = parts-later way a p.request p.got p.parts p.answer h.answer;
+  }
+
+  pub call-later : (n : ℕ) (way : Way) (c : Call) → GoodCall j n way c → GoodCall k n way c
+  call-later n way c h = record { logged = later.asks n c.what.number 0 _ h.logged; progress = if-map _ _ c.progress (progress-later n way c.what) h.progress }
+
+  pub served-later : (m : ℕ) (way : Way) (q : Served) → GoodServed j m way q → GoodServed k m way q
+  served-later m way q h = record {
+    start = h.start;
+    begun = later.starts way.peer way.other q.number h.start h.begun;
+    way_is = h.way_is;
+    req_type = h.req_type;
+    size = h.size;
+    ask = h.ask;
+    answer = if-map (GoodRun j m way.number q.number h.start.what) (GoodRun k m way.number q.number h.start.what) q.answer (λ a g. record { right = g.right; ran = later.past _ g.ran }) h.answer;
+  }
+
+  pub server-later : (m t : ℕ) (v : Server) → GoodServer j m t v → GoodServer k m t v
+  server-later m t v h = record { number = h.number; end = later.ends m t 0 _ h.end; slots = all-map _ _ v.slots (served-later m v.way) h.slots }
+
+-- what was noted stays noted
+module _ (f : Fact) (past : List Fact) where
+  pub ends-more : (n s m t : ℕ) → AreEnds past n s m t → AreEnds (f ∷ past) n s m t
+  ends-more n s m t e = record { limit = e.limit; credits = e.credits; client = contains-more f _ past e.client; server = contains-more f _ past e.server }
+
+  pub start-more : (n s r : ℕ) (b : Begin) → TrueStart past n s r b → TrueStart (f ∷ past) n s r b
+  start-more n s r b t = record { number = t.number; ends = ends-more n s b.way.peer b.way.other t.ends; asked = contains-more f _ past t.asked; begun = contains-more f _ past t.begun }
+
+  pub ask-more : (n c i : ℕ) (a : Asker) → TrueAsk past n c i a → TrueAsk (f ∷ past) n c i a
+  ask-more n c i a t = record { number = t.number; asked = contains-more f _ past t.asked }
+
+pub true-noting : (k : Known) (f : Fact) → IsTrue k → IsTrue (noting k f)
+true-noting k f t = record {
+  ends = λ a b c x h. ends-more f k.past x.home x.client a b (t.ends a b c x h);
+  asks = λ a b c x h. ask-more f k.past a b c x (t.asks a b c x h);
+  starts = λ a b c x h. start-more f k.past a b c x (t.starts a b c x h);
+}

@@ -1,0 +1,175 @@
+-- What is sent spells the packet of its owner.
+use Rattle.std.proofs.Common.{◌≡◌, ◌<◌, ◌+◌, ◌-◌, ℕ, nat_lt, Bool, true, false, cond, List, [], ◌∷◌, ◌++◌, length, Option, Some, None, slice_get, refl, sym, ap, ◌∙◌, subst, arith}
+use Rattle.std.specs.Prelude.{option_map}
+use Rattle.std.specs.List.{find, slice_set, AllByRecursion}
+use Rattle.std.proofs.lemmas.Bool.{eqb-true}
+use Rattle.packet_header.specs.Header.{HasLength, MessageLength}
+use Rattle.packet_header.specs.Parts.{packet_count, part}
+use Rattle.packet_header.specs.declared.packet.Kind.TheVariants.{Request, Rfr, Cr, Response}
+use Rattle.packet_header.specs.declared.packet.Packet.TheVariants.{Message}
+use Rattle.packet_header.proofs.Heads.{spells-append}
+use Rattle.packet_header.proofs.PartsLemmas.{length-part, packet_count_above, response_length}
+use Rattle.rpc_base.proofs.TakingLemmas.{find-passes}
+use Rattle.rpc_base.specs.declared.event.Event.{Event}
+use Rattle.rpc_base.specs.declared.event.Event.TheVariants.{Sent}
+use Rattle.rpc_base.specs.declared.fact.Fact.{Fact}
+use Rattle.rpc_base.specs.declared.fact.Who.{Who}
+use Rattle.rpc_base.specs.declared.fact.Who.TheVariants.{Node, Net}
+use Rattle.rpc_base.specs.declared.owner.Owner.{Owner}
+use Rattle.rpc_base.specs.declared.owner.Owner.TheVariants.{Ask, Reply, Control}
+use Rattle.rpc_laws.specs.declared.tables.Asking.{Asking}
+use Rattle.rpc_laws.specs.declared.tables.Call.{Call}
+use Rattle.rpc_laws.specs.declared.tables.Client.{Client}
+use Rattle.rpc_laws.specs.declared.tables.InFlight.{InFlight}
+use Rattle.rpc_laws.specs.declared.tables.Lists.{Lists}
+use Rattle.rpc_laws.specs.declared.tables.Outgoing.{Outgoing}
+use Rattle.rpc_laws.specs.declared.tables.Served.{Served}
+use Rattle.rpc_laws.specs.declared.tables.Server.{Server}
+use Rattle.rpc_laws.specs.declared.tables.Way.{Way}
+use Rattle.rpc_laws.specs.BufferSafety.{EachFact, SpellsOwn, SentRight, RightAt, changed, nodes_at}
+use Rattle.rpc_laws.specs.Calls.{is_active, asked_packets}
+use Rattle.rpc_laws.specs.NodeLists.{after, new_lists}
+use Rattle.rpc_laws.specs.Packets.{client_packet, call_packet, ask_packet, request_packet, reply_packet, owner_packet}
+use Rattle.rpc_laws.specs.Requests.{is_server, is_request, in_slot_of}
+use Rattle.rpc_laws.specs.Sessions.{is_client}
+use Rattle.end_laws.specs.Moments.{Moment, moved}
+use Rattle.end_laws.proofs.Allowed.{May, MaySend, IsAllowed}
+use Rattle.end_laws.proofs.Courses.{AtNode, Ends, Course, over, in_net, made, at_node, pairs, client_fact, server_fact, paired, noted_at, moved-node}
+use Rattle.end_laws.proofs.ListLemmas.{Placed, all-found, all-map, all-at, all-add, set-other, set-placed, add-placed, find-add}
+use Rattle.end_laws.proofs.QueueLemmas.{TakenRight, SlotRight, Stood, QueueRight, RightNode, slots-right, queue-after, queued-right}
+use Rattle.end_laws.proofs.SlotLemmas.{Apart, sound-stays, slot-of-request}
+
+abbrev pub HasBody : Outgoing → Type 0
+HasBody out = HasLength out.packet (16 + length out.body)
+
+-- a client packet
+client-length : (b : Bool) (way : Way) (a : Asking) (r k : ℕ) → HasBody (cond b (record { peer = way.peer; packet = Message (record { kind = Request; req_type = a.req_type; size = length a.ask; session = way.other; number = k; request = r }); body = part a.ask k }) (record { peer = way.peer; packet = Message (record { kind = Rfr; req_type = 0; size = 0; session = way.other; number = k; request = r }); body = [] }))
+client-length true way a r k = ap (λ n. 16 + n) (length-part a.ask k)
+client-length false way a r k = refl
+
+call-length : (way : Way) (r k : ℕ) (c : Option Call) (out : Outgoing) → call_packet way r k c ≡ Some out → HasBody out
+call-length way r k None out h = cc
+call-length way r k (Some c) out h =
+    let same : client_packet way c.what r k ≡ out = cc in
+    subst HasBody same (client-length (nat_lt k (asked_packets c.what)) way c.what r k)
+
+ask-length : (r k : ℕ) (x : Option Client) (out : Outgoing) → ask_packet r k x ≡ Some out → HasBody out
+ask-length r k None out h = cc
+ask-length r k (Some x) out h = call-length x.way r k (find (is_active r) x.calls) out h
+
+-- a server packet
+some-is : (a b : Outgoing) → Some a ≡ Some b → a ≡ b
+some-is a b e = cc
+
+reply-length : (way : Way) (q : Served) (k : ℕ) (b : Bool) (answer : Option (List ℕ)) (out : Outgoing) → nat_lt (k + 1) (packet_count q.size) ≡ b → q.answer ≡ answer → k < q.taken → SlotRight q → cond b (Some (record { peer = way.peer; packet = Message (record { kind = Cr; req_type = 0; size = 0; session = way.other; number = k; request = q.number }); body = [] })) (option_map (λ answer. record { peer = way.peer; packet = Message (record { kind = Response; req_type = q.req_type; size = length answer; session = way.other; number = k; request = q.number }); body = part answer (k + 1 - packet_count q.size) }) answer) ≡ Some out → HasBody out
+reply-length way q k true answer out t e lt right h =
+    subst HasBody (some-is _ out h) refl
+reply-length way q k false None out t e lt right h = cc
+reply-length way q k false (Some a) out t e lt right h =
+    let taken : TakenRight q.taken q.size (Some a) = subst (λ (o : Option (List ℕ)). TakenRight q.taken q.size o) e right in
+    let high = taken.1 in
+    let above = packet_count_above (length a) in
+    let low : k + 1 - packet_count q.size < packet_count (length a) = omega arith in
+    subst HasBody (some-is _ out h) (subst (λ (n : ℕ). MessageLength Response (length a) k (16 + n)) (sym (length-part a (k + 1 - packet_count q.size))) (response_length (length a) (k + 1 - packet_count q.size) k low))
+
+request-length : (l : Lists) (t r k : ℕ) (v : Server) (q : Option Served) (out : Outgoing) → RightNode l → Stood l.servers t r k → find (is_server t) l.servers ≡ Some v → find (is_request r) v.slots ≡ q → request_packet v.way k q ≡ Some out → HasBody out
+request-length l t r k v None out i s is at h = cc
+request-length l t r k v (Some q) out i s is at h =
+    let apart : Apart v.slots = all-found (λ v. Apart v.slots) (is_server t) l.servers v i.sound is in
+    let slots : AllByRecursion SlotRight v.slots = all-found (λ v. AllByRecursion SlotRight v.slots) (is_server t) l.servers v i.slots is in
+    let found = s.found in
+    let same : s.server ≡ v = cc in
+    let in_slot : find (in_slot_of r) v.slots ≡ Some s.request = subst (λ (z : Server). find (in_slot_of r) z.slots ≡ Some s.request) same s.in_slot in
+    let also = slot-of-request r v.slots q apart at in
+    let same_request : s.request ≡ q = cc in
+    let number : r ≡ s.request.number = sym (eqb-true q.number r (find-passes (is_request r) v.slots q at)) ∙ ap (λ (z : Served). z.number) (sym same_request) in
+    let lt : k < q.taken = subst (λ (z : Served). k < z.taken) same_request (s.was_taken number) in
+    reply-length v.way q k _ q.answer out refl refl lt (all-found SlotRight (is_request r) v.slots q slots at) h
+
+server-length : (l : Lists) (t r k : ℕ) (v : Option Server) (out : Outgoing) → RightNode l → Stood l.servers t r k → find (is_server t) l.servers ≡ v → reply_packet r k v ≡ Some out → HasBody out
+server-length l t r k None out i s is h = cc
+server-length l t r k (Some v) out i s is h = request-length l t r k v _ out i s is refl h
+
+pub owner-length : (l : Lists) (o : Owner) (k : ℕ) (out : Outgoing) → RightNode l → QueueRight l.servers o k → owner_packet l o k ≡ Some out → HasBody out
+owner-length l (Ask s r) k out i q h = ask-length r k (find (is_client s) l.clients) out h
+owner-length l (Reply t r) k out i q h = server-length l t r k _ out i q refl h
+owner-length l Control k out i q h = cc
+
+spells-own : (nodes : List Lists) (n : ℕ) (l : Lists) (peer : ℕ) (o : Owner) (k : ℕ) (head body : List ℕ) → slice_get nodes n ≡ Some l → RightNode l → MaySend l peer o k head body → SpellsOwn nodes n peer o k head body
+spells-own nodes n l peer o k head body is i m =
+    let right = all-at (λ q. QueueRight l.servers q.owner q.number) l.queued 0 _ i.queue m.is_front in
+    let long = owner-length l o k m.out i right m.own in
+    record {
+      lists = l;
+      is_node = is;
+      out = m.out;
+      own = m.own;
+      to_peer = m.to_peer;
+      long = m.long;
+      spells = rw m.whole (spells-append m.out.packet head m.out.body m.in_range m.has_head m.long long);
+      whole = m.whole;
+    }
+
+pub sent-right : (nodes : List Lists) (n : ℕ) (hand : Option InFlight) (l : Lists) (e : Event) (first second : List ℕ) → slice_get nodes n ≡ Some l → RightNode l → May hand l e first second → SentRight nodes n e first second
+sent-right nodes n hand l (Sent peer o k) first second is i m = spells-own nodes n l peer o k first second is i m
+sent-right nodes n hand l _ first second is i m = tt
+
+-- a node stays right by its own facts
+right-after : (hand : Option InFlight) (clock : ℕ) (l : Lists) (f : Fact) → RightNode l → IsAllowed hand l f → RightNode (after clock l f)
+right-after hand clock l f i a = record {
+  sound = sound-stays clock l f i.sound;
+  slots = slots-right hand l f.event f.first f.second a.may i.slots;
+  queue = all-map _ _ _ (λ q. queue-after hand l f.event f.first f.second q.owner q.number i.sound a.may) (queued-right hand l f.event f.first f.second a.may i.queue);
+}
+
+server-added : (xs : List Server) (y : Server) (o : Owner) (k : ℕ) → QueueRight xs o k → QueueRight (xs ++ y ∷ []) o k
+server-added xs y (Ask s r) k h = tt
+server-added xs y Control k h = tt
+server-added xs y (Reply t r) k h = record { server = h.server; found = find-add (is_server t) xs y h.server h.found; request = h.request; in_slot = h.in_slot; reached = h.reached; was_taken = h.was_taken }
+
+right-served : (clock m n credits : ℕ) (client server : Lists) → RightNode server → RightNode (after clock server (server_fact n m credits client server))
+right-served clock m n credits client server i = record {
+  sound = sound-stays clock server (server_fact n m credits client server) i.sound;
+  slots = all-add (λ v. AllByRecursion SlotRight v.slots) server.servers _ i.slots tt;
+  queue = all-map _ _ _ (λ q. server-added server.servers _ q.owner q.number) i.queue;
+}
+
+abbrev pub AllRight : Moment → Type 0
+AllRight w = Placed (λ n l. RightNode l) w.nodes
+
+pub right-noted : (w : Moment) (n : ℕ) (l : Lists) (f : Fact) → AtNode w n l f → AllRight w → AllRight (moved w f)
+right-noted w n l f a i =
+    let k : AllRight (noted_at w n l f) = set-placed (λ n l. RightNode l) w.nodes n l (after w.clock l f) a.is_node (right-after w.hand w.clock l f (i n l a.is_node) a.allowed) (λ j z ne is. i j z is) in
+    subst AllRight (sym (moved-node w n l f a)) k
+
+pub right-net : (w : Moment) (f : Fact) → f.who ≡ Net → AllRight w → AllRight (moved w f)
+right-net w f who i = subst (λ (p : Who). Placed (λ n l. RightNode l) (nodes_at w.clock p w.nodes f)) (sym who) i
+
+pub right-made : (w : Moment) (ring : ℕ) → AllRight w → Placed (λ n l. RightNode l) (w.nodes ++ new_lists (length w.nodes) ring ∷ [])
+right-made w ring i = add-placed (λ n l. RightNode l) w.nodes (new_lists (length w.nodes) ring) (record { sound = tt; slots = tt; queue = tt }) i
+
+pub right-paired : (w : Moment) (n m credits : ℕ) (client server : Lists) → Ends w n m client server → AllRight w → AllRight (paired w n m credits client server)
+right-paired w n m credits client server e i =
+    let one : Fact = client_fact n m credits client server in
+    let other : Fact = server_fact n m credits client server in
+    let nodes1 : List Lists = slice_set w.nodes n (after w.clock client one) in
+    let was = i n client e.is_client in
+    let placed1 : Placed (λ n l. RightNode l) nodes1 = set-placed (λ n l. RightNode l) w.nodes n client (after w.clock client one) e.is_client (record { sound = was.sound; slots = was.slots; queue = was.queue }) (λ j z ne is. i j z is) in
+    let at : slice_get nodes1 m ≡ Some server = set-other w.nodes n m (after w.clock client one) (λ k. e.two (sym k)) ∙ e.is_server in
+    let placed2 = set-placed (λ n l. RightNode l) nodes1 m server (after w.clock server other) at (right-served w.clock m n credits client server (placed1 m server at)) (λ j z ne is. placed1 j z is) in
+    let first : changed w.clock (slice_get w.nodes n) n w.nodes one ≡ nodes1 = ap (λ (o : Option Lists). changed w.clock o n w.nodes one) e.is_client in
+    let all : (paired w n m credits client server).nodes ≡ slice_set nodes1 m (after w.clock server other) = ap (λ (ns : List Lists). changed w.clock (slice_get ns m) m ns other) first ∙ ap (λ (o : Option Lists). changed w.clock o m nodes1 other) at in
+    subst (λ (ns : List Lists). Placed (λ n l. RightNode l) ns) (sym all) placed2
+
+right-at : (w : Moment) (n : ℕ) (l : Lists) (f : Fact) → AtNode w n l f → AllRight w → RightAt w.nodes f.who f.event f.first f.second
+right-at w n l f a i =
+    subst (λ (p : Who). RightAt w.nodes p f.event f.first f.second) (sym (a.allowed.who ∙ ap Node a.me)) (sent-right w.nodes n w.hand l f.event f.first f.second a.is_node (i n l a.is_node) a.allowed.may)
+
+pub course-sends : (w : Moment) (h : List Fact) (u : Moment) → Course w h u → AllRight w → EachFact (λ nodes f. RightAt nodes f.who f.event f.first f.second) w.clock w.nodes h
+course-sends _ _ _ (over w) i = tt
+course-sends _ _ _ (in_net w f h u who c) i =
+    (subst (λ (p : Who). RightAt w.nodes p f.event f.first f.second) (sym who) tt, course-sends (moved w f) h u c (right-net w f who i))
+course-sends _ _ _ (made w ring h u c) i = (tt, course-sends _ h u c (right-made w ring i))
+course-sends _ _ _ (at_node w n l f h u a c) i = (right-at w n l f a i, course-sends (moved w f) h u c (right-noted w n l f a i))
+course-sends _ _ _ (pairs w n m credits client server h u e c) i =
+    (tt, (tt, course-sends (paired w n m credits client server) h u c (right-paired w n m credits client server e i)))

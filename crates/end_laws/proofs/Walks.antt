@@ -1,0 +1,76 @@
+-- Steps of a node whose facts are allowed, one after another.
+use Rattle.std.proofs.Common.{◌≡◌, ℕ, zero, suc, List, [], ◌∷◌, ◌++◌, Option, refl, sym, ap, subst, ◌∙◌}
+use Rattle.rpc_base.specs.declared.fact.Fact.{Fact}
+use Rattle.rpc_laws.specs.declared.tables.InFlight.{InFlight}
+use Rattle.rpc_laws.specs.declared.tables.Lists.{Lists}
+use Rattle.rpc_laws.specs.declared.tables.Timed.{Timed}
+use Rattle.rpc_laws.specs.GoBackN.{Each}
+use Rattle.rpc_laws.specs.NodeLists.{after, after_all}
+use Rattle.rpc_laws.specs.Steps.{Rel, Goes, Then, Chain, Until, Visits, none, more}
+use Rattle.rpc_laws.proofs.RunLemmas.{after_all-append}
+use Rattle.end_laws.proofs.Allowed.{Walks}
+
+pub walks-append : (hand : Option InFlight) (clock : ℕ) (l : Lists) (x y : List Fact) → Walks hand clock l x → Walks hand clock (after_all clock l x) y → Walks hand clock l (x ++ y)
+walks-append hand clock l [] y h k = k
+walks-append hand clock l (f ∷ x) y h k = (h.0, walks-append hand clock (after clock l f) x y h.1 k)
+
+-- what stays of a node's lists, whatever their facts
+abbrev pub Stays : (Lists → Type 0) → Type 0
+Stays Inv = (clock : ℕ) (l : Lists) (f : Fact) → Inv l → Inv (after clock l f)
+
+-- a step's facts are allowed at the node's clock, and leave the lists that they say
+pub record Walked (Inv : Lists → Type 0) (hand : Option InFlight) (s : Timed) (x : List Fact) (t : Timed) : Type 0 where
+  pub walks : Walks hand s.clock s.lists x
+  pub lists : t.lists ≡ after_all s.clock s.lists x
+  pub clock : t.clock ≡ s.clock
+  pub inv : Inv t.lists
+
+abbrev pub Fine : (Lists → Type 0) → Option InFlight → Rel → Type 0
+Fine Inv hand P = (s : Timed) (x : List Fact) (t : Timed) → Inv s.lists → P s x t → Walked Inv hand s x t
+
+pub stays-all : (Inv : Lists → Type 0) → Stays Inv → (clock : ℕ) (l : Lists) (x : List Fact) → Inv l → Inv (after_all clock l x)
+stays-all Inv stays clock l [] i = i
+stays-all Inv stays clock l (f ∷ x) i = stays-all Inv stays clock (after clock l f) x (stays clock l f i)
+
+-- a step that goes by its facts
+pub walked-goes : (Inv : Lists → Type 0) → Stays Inv → (hand : Option InFlight) (s : Timed) (x : List Fact) (t : Timed) → Inv s.lists → Walks hand s.clock s.lists x → Goes s x t → Walked Inv hand s x t
+walked-goes Inv stays hand s x t i w g = record {
+  walks = w;
+  lists = ap (λ (u : Timed). u.lists) g;
+  clock = ap (λ (u : Timed). u.clock) g;
+  inv = rw g (stays-all Inv stays s.clock s.lists x i);
+}
+
+pub walked-none : (Inv : Lists → Type 0) (hand : Option InFlight) (s : Timed) (x : List Fact) (t : Timed) → Inv s.lists → x ≡ [] → t ≡ s → Walked Inv hand s x t
+walked-none Inv hand s x t i e f = rw (e, f) (record { walks = tt; lists = refl; clock = refl; inv = i })
+
+pub walked-append : (Inv : Lists → Type 0) (hand : Option InFlight) (s t u : Timed) (x y : List Fact) → Walked Inv hand s x t → Walked Inv hand t y u → Walked Inv hand s (x ++ y) u
+walked-append Inv hand s t u x y w v = record {
+  walks = walks-append hand s.clock s.lists x y w.walks (subst (λ c. Walks hand c (after_all s.clock s.lists x) y) w.clock (subst (λ l. Walks hand t.clock l y) w.lists v.walks));
+  lists = v.lists ∙ (ap (λ c. after_all c t.lists y) w.clock ∙ (ap (λ l. after_all s.clock l y) w.lists ∙ sym (after_all-append s.clock s.lists x y)));
+  clock = v.clock ∙ w.clock;
+  inv = v.inv;
+}
+
+module _ (Inv : Lists → Type 0) (hand : Option InFlight) where
+  pub fine-then : (P Q : Rel) → Fine Inv hand P → Fine Inv hand Q → Fine Inv hand (Then P Q)
+  fine-then P Q p q s x t i h =
+      let w = p s h.front h.between i h.first in
+      rw h.joined (walked-append Inv hand s h.between t h.front h.back w (q h.between h.back t w.inv h.second))
+
+  pub fine-chain : (P : Rel) → Fine Inv hand P → Fine Inv hand (Chain P)
+  fine-chain P p s x t i none = walked-none Inv hand s [] s i refl refl
+  fine-chain P p s x t i (more c y u h) =
+      let w = fine-chain P p s _ _ i c in
+      walked-append Inv hand s _ u _ y w (p _ y u w.inv h)
+
+  pub fine-until : (P : Rel) (Over : Timed → Type 0) → Fine Inv hand P → Fine Inv hand (Until P Over)
+  fine-until P Over p s x t i h = fine-chain P p s x t i h.steps
+
+  pub fine-visits : (P : ℕ → Rel) → ((n : ℕ) → Fine Inv hand (P n)) → (n : ℕ) → Fine Inv hand (Visits P n)
+  fine-visits P p zero s x t i h = walked-none Inv hand s x t i h.0 h.1
+  fine-visits P p (suc n) s x t i h = fine-then (Visits P n) (P n) (fine-visits P p n) (p n) s x t i h
+
+  pub fine-each : (P : ℕ → Rel) → ((n : ℕ) → Fine Inv hand (P n)) → (ns : List ℕ) → Fine Inv hand (Each P ns)
+  fine-each P p [] s x t i h = walked-none Inv hand s x t i h.0 h.1
+  fine-each P p (n ∷ ns) s x t i h = fine-then (P n) (Each P ns) (p n) (fine-each P p ns) s x t i h

@@ -1,0 +1,4 @@
+pub mod Genuine
+pub mod Moments
+pub mod TwoEnds
+pub mod TwoNodes

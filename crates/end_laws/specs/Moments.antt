@@ -1,0 +1,58 @@
+-- What the facts of a history so far leave: the clock, the lists of all nodes, and the copies in flight.
+use Rattle.std.specs.Prelude.{ℕ, Option, None, List, [], ◌∷◌, slice_get}
+use Rattle.rpc_base.specs.declared.event.Event.{Event}
+use Rattle.rpc_base.specs.declared.event.Event.TheVariants.{Carried}
+use Rattle.rpc_base.specs.declared.fact.Fact.{Fact}
+use Rattle.rpc_base.specs.declared.fact.Who.{Who}
+use Rattle.rpc_base.specs.declared.fact.Who.TheVariants.{Node, Net}
+use Rattle.rpc_laws.specs.declared.tables.InFlight.{InFlight}
+use Rattle.rpc_laws.specs.declared.tables.Lists.{Lists}
+use Rattle.rpc_laws.specs.BufferSafety.{clock_after, nodes_after}
+use Rattle.rpc_laws.specs.InFlight.{flight_after}
+
+-- the clock of the world, the lists of each node, the copies in flight, the copy that was taken out of flight
+-- last to be delivered, and the facts so far, the newest first
+pub record Moment : Type 0 where
+  pub clock : ℕ
+  pub nodes : List Lists
+  pub flight : List InFlight
+  pub hand : Option InFlight
+  pub past : List Fact
+
+-- Carried takes the copy of its number
+abbrev pub hand_of : Event → List InFlight → Option InFlight → Option InFlight
+hand_of (Carried i) copies hand = slice_get copies i
+hand_of _ copies hand = hand
+
+-- no fact of a node takes one
+abbrev pub hand_after : Who → Event → List InFlight → Option InFlight → Option InFlight
+hand_after (Node n) e copies hand = hand
+hand_after Net e copies hand = hand_of e copies hand
+
+-- the moment after one fact more
+abbrev pub moved : Moment → Fact → Moment
+moved w f = record {
+  clock = clock_after f.who f.event w.clock;
+  nodes = nodes_after w.clock w.nodes f;
+  flight = flight_after w.flight f;
+  hand = hand_after f.who f.event w.flight w.hand;
+  past = f ∷ w.past;
+}
+
+-- before the first fact
+abbrev pub first_moment : Moment
+first_moment = record { clock = 0; nodes = []; flight = []; hand = None; past = [] }
+
+-- the world's clock and the nodes' lists that some facts leave, the newest first
+abbrev pub clock_left : List Fact → ℕ
+clock_left [] = 0
+clock_left (f ∷ past) = clock_after f.who f.event (clock_left past)
+
+abbrev pub nodes_left : List Fact → List Lists
+nodes_left [] = []
+nodes_left (f ∷ past) = nodes_after (clock_left past) (nodes_left past) f
+
+-- a claim at each moment of a history, before its first fact and after each
+abbrev pub Always : (Moment → Type 0) → Moment → List Fact → Type 0
+Always P w [] = P w
+Always P w (f ∷ h) = P w × Always P (moved w f) h

@@ -1,0 +1,46 @@
+-- What the two ends of a session hold is of one call: the server's requests, and the answers that calls take.
+use Rattle.std.specs.Prelude.{ℕ, ◌≡◌, ◌+◌, ◌-◌, ◌*◌, Some, List, length, take, slice_get, IfSome, Contains}
+use Rattle.std.specs.List.{AllByRecursion}
+use Rattle.rpc_base.specs.declared.event.Event.TheVariants.{Ran}
+use Rattle.rpc_base.specs.declared.fact.Fact.{Fact}
+use Rattle.rpc_laws.specs.declared.tables.Asking.{Asking}
+use Rattle.rpc_laws.specs.declared.tables.Lists.{Lists}
+use Rattle.rpc_laws.specs.declared.tables.Progress.{Progress}
+use Rattle.rpc_laws.specs.declared.tables.Served.{Served}
+use Rattle.rpc_laws.specs.declared.tables.Way.{Way}
+use Rattle.rpc_laws.specs.Calls.{asked_packets}
+use Rattle.rpc_laws.specs.Facts.{with_two}
+use Rattle.rpc_laws.specs.OwnAnswer.{IsCallOf}
+use Rattle.end_laws.specs.Moments.{Moment, Always, first_moment}
+
+-- the request in a slot of a server session is a call that its client end began with this number: of its type
+-- and size, with its parts taken in turn. Its answer is that of its run
+pub record IsOfCall (past : List Fact) (m : ℕ) (way : Way) (q : Served) : Type 0 where
+  pub call : ℕ
+  pub room : ℕ
+  pub ask : List ℕ
+  pub own : IsCallOf past way.peer call m way.number q.number q.req_type room ask
+  pub size : q.size ≡ length ask
+  pub parts : q.ask ≡ take (1024 * q.taken) ask
+  pub answer : IfSome q.answer (λ answer. Contains past (with_two m (Ran way.number q.number q.req_type) ask answer))
+
+-- what a call has taken of an answer are the first parts of the answer that its own request's run gave
+pub record IsOfRun (past : List Fact) (way : Way) (a : Asking) (p : Progress) (size : ℕ) : Type 0 where
+  pub answer : List ℕ
+  pub ran : Contains past (with_two way.peer (Ran way.other p.request a.req_type) a.ask answer)
+  pub sized : size ≡ length answer
+  pub parts : p.parts ≡ take (1024 * (p.got + 1 - asked_packets a)) answer
+
+-- an active call was asked and began on its session, and what it took is of its own run
+pub record IsOfSession (past : List Fact) (n : ℕ) (way : Way) (a : Asking) (p : Progress) : Type 0 where
+  pub own : IsCallOf past n a.number way.peer way.other p.request a.req_type a.room a.ask
+  pub answer : IfSome p.answer (IsOfRun past way a p)
+
+-- so it is for each request in a slot of a server session, and for each active call of a client session
+pub record TwoEnds (w : Moment) : Type 0 where
+  pub servers : (m : ℕ) (l : Lists) → slice_get w.nodes m ≡ Some l → AllByRecursion (λ v. AllByRecursion (IsOfCall w.past m v.way) v.slots) l.servers
+  pub clients : (n : ℕ) (l : Lists) → slice_get w.nodes n ≡ Some l → AllByRecursion (λ x. AllByRecursion (λ c. IfSome c.progress (IsOfSession w.past n x.way c.what)) x.calls) l.clients
+
+-- so it is at each moment
+abbrev pub AllTwoEnds : List Fact → Type 0
+AllTwoEnds h = Always TwoEnds first_moment h

@@ -1,0 +1,42 @@
+//! Laws of every history that follows a script, whatever the network loses, repeats and holds back, over any
+//! number of nodes and sessions. Each pairing of the script is of two nodes, as in every `Script`.
+ghost use Rattle.std.specs.Prelude.{List};
+ghost use Rattle.end_laws.specs.Genuine.{AllGenuine};
+ghost use Rattle.end_laws.specs.TwoEnds.{AllTwoEnds};
+ghost use Rattle.end_laws.specs.TwoNodes.{PairsTwoNodes};
+ghost use Rattle.rpc_base.specs.declared.fact.Fact.{Fact};
+ghost use Rattle.rpc_laws.specs.BufferSafety.{SendsItsOwn};
+ghost use Rattle.rpc_laws.specs.OwnAnswer.{Own};
+ghost use Rattle.script_grammar.specs.Conditions.{IsScript};
+ghost use Rattle.script_grammar.specs.declared.line.Line.{Line};
+ghost use Rattle.sim_script.specs.FollowsScript.{Follows};
+
+/// Each datagram that a history sends is a packet of its owner's own bytes, and goes to its peer.
+pub fn sends_its_own()
+    ensures { (script : List Line) (h : List Fact) → PairsTwoNodes script → Follows script h → SendsItsOwn h }
+{}
+
+/// At every moment each datagram in flight, and each in a node's ring, was sent by its sender to that node,
+/// as the packet that its owner had then.
+pub fn all_genuine()
+    ensures { (script : List Line) (h : List Fact) → PairsTwoNodes script → Follows script h → AllGenuine h }
+{}
+
+/// Each run of a handler is of a call that was asked and began before, on that call's own type and bytes, and
+/// gives the service's answer. Each call that ends well has the answer of a run of its own request, and one
+/// that ends for want of room has such an answer's size, which is above its room.
+pub fn answers_own()
+    ensures { (script : List Line) (h : List Fact) → PairsTwoNodes script → Follows script h → Own h }
+{}
+
+/// At every moment the request in each slot of a server session is a call that the session's client end began
+/// with that number, of its type and size and with its first parts taken, and its answer is that of its run.
+/// What an active call has taken of an answer are the first parts of the answer of its own request's run.
+pub fn two_ends()
+    ensures { (script : List Line) (h : List Fact) → PairsTwoNodes script → Follows script h → AllTwoEnds h }
+{}
+
+/// Each pairing of a `Script` is of two nodes, so these laws are of all its histories.
+pub fn scripts_pair_two_nodes()
+    ensures { (script : List Line) → IsScript script → PairsTwoNodes script }
+{}

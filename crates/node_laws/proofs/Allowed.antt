@@ -1,0 +1,156 @@
+-- What each fact needs of the lists before it.
+use Rattle.std.specs.Prelude.{ℕ, ◌≡◌, ◌≤◌, ◌<◌, true, false, Option, Some, None, List, [], ◌∷◌, length}
+use Rattle.std.specs.List.{find, list_any}
+use Rattle.packet_header.specs.Parts.{packet_count}
+use Rattle.packet_header.specs.declared.packet.MessageHeader.{MessageHeader}
+use Rattle.rpc_base.specs.Owners.{same_owner}
+use Rattle.rpc_base.specs.declared.event.Event.{Event}
+use Rattle.rpc_base.specs.declared.event.Event.TheVariants.{PairedClient, Asked, Begun, Posted, Arrived, Took, Ran, Worked, Rolled, DoneOk, DoneTooSmall, DonePeerLost}
+use Rattle.rpc_base.specs.declared.fact.Fact.{Fact}
+use Rattle.rpc_base.specs.declared.owner.Owner.{Owner}
+use Rattle.rpc_base.specs.declared.owner.Owner.TheVariants.{Ask, Reply}
+use Rattle.rpc_laws.specs.declared.tables.Call.{Call}
+use Rattle.rpc_laws.specs.declared.tables.Client.{Client}
+use Rattle.rpc_laws.specs.declared.tables.Lists.{Lists}
+use Rattle.rpc_laws.specs.declared.tables.Progress.{Progress}
+use Rattle.rpc_laws.specs.declared.tables.Queued.{Queued}
+use Rattle.rpc_laws.specs.declared.tables.Served.{Served}
+use Rattle.rpc_laws.specs.declared.tables.Server.{Server}
+use Rattle.rpc_laws.specs.Calls.{asked_packets, known_packets}
+use Rattle.rpc_laws.specs.ClientTable.{is_of_turn}
+use Rattle.rpc_laws.specs.Front.{front_header, front_body}
+use Rattle.rpc_laws.specs.NodeLists.{after}
+use Rattle.rpc_laws.specs.Posting.{is_taken, next_turn}
+use Rattle.rpc_laws.specs.Queues.{is_queued}
+use Rattle.rpc_laws.specs.Requests.{is_server, is_request, in_slot_of}
+use Rattle.rpc_laws.specs.Sessions.{is_client, is_connected}
+use Rattle.node_laws.proofs.Valid.{Place, Active}
+
+-- no packet of this owner is queued
+abbrev pub NoneQueued : Owner → List Queued → Type 0
+NoneQueued owner queued = list_any (λ q. same_owner q.owner owner) queued ≡ false
+
+-- a call is asked on a session that is there, with the next number
+pub record MayAsk (s : Lists) (number session : ℕ) : Type 0 where
+  pub next : number ≡ s.asked
+  pub client : Client
+  pub found : find (is_client session) s.clients ≡ Some client
+
+-- a waiting call begins with the next number of a free slot
+pub record MayBegin (s : Lists) (number request : ℕ) : Type 0 where
+  pub session : ℕ
+  pub client : Client
+  pub call : Call
+  pub slot : ℕ
+  pub place : Place s.clients session client call
+  pub same : number ≡ call.what.number
+  pub waits : call.progress ≡ None
+  pub below : slot < 8
+  pub is_free : is_taken client.calls slot ≡ false
+  pub next : request ≡ next_turn client.turns slot
+
+-- the next packet of an active call, where a credit is free
+pub record MayPost (s : Lists) (session request number : ℕ) : Type 0 where
+  pub client : Client
+  pub call : Call
+  pub progress : Progress
+  pub active : Active s.clients session client call progress
+  pub same : request ≡ progress.request
+  pub turn : number ≡ progress.posted
+  pub more : progress.posted < known_packets (asked_packets call.what) progress.answer
+  pub credit : 0 < client.free
+
+-- the answer to the oldest unanswered packet of an active call, which isn't queued
+pub record MayTake (s : Lists) (session request number : ℕ) : Type 0 where
+  pub client : Client
+  pub call : Call
+  pub progress : Progress
+  pub active : Active s.clients session client call progress
+  pub connected : is_connected client.state ≡ true
+  pub same : progress.request ≡ request
+  pub header : MessageHeader
+  pub front : front_header s.ring ≡ Some header
+  pub numbered : header.number ≡ number
+  pub turn : number ≡ progress.got
+  pub posted : progress.got < progress.posted
+  pub fits : is_of_turn (asked_packets call.what) call.what.req_type progress.answer header (length (front_body s.ring)) ≡ true
+  pub unqueued : list_any (is_queued (Ask session request) number) s.queued ≡ false
+
+-- an active call with no queued packet is rolled back as far as it is posted
+pub record MayRoll (s : Lists) (number posted got : ℕ) : Type 0 where
+  pub session : ℕ
+  pub client : Client
+  pub call : Call
+  pub progress : Progress
+  pub active : Active s.clients session client call progress
+  pub same : number ≡ call.what.number
+  pub from : posted ≡ progress.posted
+  pub back : got ≡ progress.got
+  pub unqueued : NoneQueued (Ask session progress.request) s.queued
+
+-- an active call with no unanswered packet ends
+pub record MayEnd (s : Lists) (number : ℕ) : Type 0 where
+  pub session : ℕ
+  pub client : Client
+  pub call : Call
+  pub progress : Progress
+  pub active : Active s.clients session client call progress
+  pub same : number ≡ call.what.number
+  pub whole : progress.got ≡ progress.posted
+
+-- a call of a broken session, with no queued packet, ends
+pub record MayLose (s : Lists) (number : ℕ) : Type 0 where
+  pub session : ℕ
+  pub client : Client
+  pub call : Call
+  pub place : Place s.clients session client call
+  pub same : number ≡ call.what.number
+  pub broken : is_connected client.state ≡ false
+  pub unqueued : (p : Progress) → call.progress ≡ Some p → NoneQueued (Ask session p.request) s.queued
+
+-- a number greater than that of the newest request of its slot
+abbrev pub Newer : ℕ → Option Served → Type 0
+Newer r None = Unit {0}
+Newer r (Some l) = l.number < r
+
+-- a packet of a request that stands in its slot, or that is newer
+pub record MayServe (s : Lists) (session request : ℕ) : Type 0 where
+  pub server : Server
+  pub found : find (is_server session) s.servers ≡ Some server
+  pub newer : list_any (is_request request) server.slots ≡ false → Newer request (find (in_slot_of request) server.slots)
+
+-- a handler runs once all packets of its request are taken, and where it didn't
+pub record MayRun (s : Lists) (session request : ℕ) : Type 0 where
+  pub server : Server
+  pub found : find (is_server session) s.servers ≡ Some server
+  pub served : Served
+  pub is_served : find (is_request request) server.slots ≡ Some served
+  pub unanswered : served.answer ≡ None
+  pub whole : packet_count served.size ≤ served.taken
+
+-- what an event needs of the lists before it; the others need nothing
+abbrev pub Allowed : Lists → Event → Type 0
+Allowed s (PairedClient session peer server credits) = session ≡ length s.clients
+Allowed s (Asked call session req_type room) = MayAsk s call session
+Allowed s (Begun call request) = MayBegin s call request
+Allowed s (Posted (Ask session request) number) = MayPost s session request number
+Allowed s (Arrived peer) = length s.ring < s.room
+Allowed s (Took (Ask session request) number) = MayTake s session request number
+Allowed s (Took (Reply session request) number) = MayServe s session request
+Allowed s (Ran session request req_type) = MayRun s session request
+Allowed s (Worked session request) = ⊥
+Allowed s (Rolled call posted got) = MayRoll s call posted got
+Allowed s (DoneOk call) = MayEnd s call
+Allowed s (DoneTooSmall call size) = MayEnd s call
+Allowed s (DonePeerLost call) = MayLose s call
+Allowed s _ = Unit {0}
+
+-- facts that happen at one clock, each allowed
+abbrev pub AllAllowed : ℕ → Lists → List Fact → Type 0
+AllAllowed clock s [] = Unit {0}
+AllAllowed clock s (f ∷ fs) = Allowed s f.event × AllAllowed clock (after clock s f) fs
+
+-- allowed facts, each at a clock of its own, lead from lists to lists
+abbrev pub Leads : Lists → List Fact → Lists → Type 0
+Leads s [] t = t ≡ s
+Leads s (f ∷ fs) t = (clock : ℕ) × Allowed s f.event × Leads (after clock s f) fs t

@@ -1,0 +1,123 @@
+-- What the rows of the server rule tell: which packet begins a request, and which goes on with it.
+use Rattle.std.proofs.Common.{◌≡◌, ◌+◌, ◌≤◌, Bool, true, false, not, ◌&&◌, ◌||◌, cond, ltb, Option, Some, None, refl, arith}
+use Rattle.std.specs.Prelude.{◌==◌}
+use Rattle.std.proofs.lemmas.Bool.{eqb-true, ltb-true, ltb-false, and_parts, or_parts, not-false, not-true}
+use Rattle.packet_header.specs.Parts.{packet_count}
+use Rattle.packet_header.specs.declared.packet.MessageHeader.{MessageHeader}
+use Rattle.rpc_base.specs.declared.state.DropReason.{DropReason}
+use Rattle.rpc_base.specs.declared.state.DropReason.TheVariants.{Old, NotFirst, Unserved, Mismatch, Ahead, Beyond}
+use Rattle.rpc_laws.specs.declared.rows.ServerRow.{ServerRow}
+use Rattle.rpc_laws.specs.declared.rows.ServerRow.TheVariants.{Drops, Begins, Takes, Repeats}
+use Rattle.rpc_laws.specs.declared.tables.Served.{Served}
+use Rattle.rpc_laws.specs.ServerTable.{is_rfr, new_row, own_row, slot_row, is_past_end, is_last}
+use Rattle.rpc_laws.specs.Service.{is_served}
+use Rattle.node_laws.proofs.Allowed.{Newer}
+
+-- rows that aren't a beginning, and rows that aren't a taking
+pub not-begins : (b : Bool) (x r : ServerRow) → (x ≡ Begins → ⊥) → cond b x r ≡ Begins → (b ≡ false) × (r ≡ Begins)
+not-begins true x r h e = absurd (h e)
+not-begins false x r h e = (refl, e)
+
+pub not-takes : (b : Bool) (x r : ServerRow) → (x ≡ Takes → ⊥) → cond b x r ≡ Takes → (b ≡ false) × (r ≡ Takes)
+not-takes true x r h e = absurd (h e)
+not-takes false x r h e = (refl, e)
+
+pub drops-begins : (why : DropReason) → Drops why ≡ Begins → ⊥
+drops-begins why e = cc
+
+pub drops-takes : (why : DropReason) → Drops why ≡ Takes → ⊥
+drops-takes why e = cc
+
+repeats-begins : Repeats ≡ Begins → ⊥
+repeats-begins e = cc
+
+repeats-takes : Repeats ≡ Takes → ⊥
+repeats-takes e = cc
+
+takes-begins : Takes ≡ Begins → ⊥
+takes-begins e = cc
+
+begins-takes : Begins ≡ Takes → ⊥
+begins-takes e = cc
+
+-- a new number begins with its first packet
+new-first : (h : MessageHeader) → new_row h ≡ Begins → h.number ≡ 0
+new-first h e =
+    let one = not-begins (is_rfr h.kind || not (h.number == 0)) (Drops NotFirst) _ (drops-begins NotFirst) e in
+    let other = (or_parts (is_rfr h.kind) (not (h.number == 0)) one.0).1 in
+    eqb-true h.number 0 (not-false (h.number == 0) other)
+
+new-takes : (h : MessageHeader) → new_row h ≡ Takes → ⊥
+new-takes h e =
+    let one = not-takes (is_rfr h.kind || not (h.number == 0)) (Drops NotFirst) _ (drops-takes NotFirst) e in
+    let two = not-takes (not (is_served h.req_type)) (Drops Unserved) Begins (drops-takes Unserved) one.1 in
+    begins-takes two.1
+
+own-begins : (l : Served) (h : MessageHeader) → own_row l h ≡ Begins → ⊥
+own-begins l h e =
+    let one = not-begins _ (Drops Mismatch) _ (drops-begins Mismatch) e in
+    let two = not-begins (ltb l.taken h.number) (Drops Ahead) _ (drops-begins Ahead) one.1 in
+    let three = not-begins (ltb h.number l.taken) Repeats _ repeats-begins two.1 in
+    let four = not-begins (is_rfr h.kind && is_past_end l.size l.answer h.number) (Drops Beyond) Takes (drops-begins Beyond) three.1 in
+    takes-begins four.1
+
+-- the next packet of a request: of its turn, and a Request has the size told
+pub record Next (l : Served) (h : MessageHeader) : Type 0 where
+  pub turn : h.number ≡ l.taken
+  pub sized : is_rfr h.kind ≡ false → h.size ≡ l.size
+
+sized-by : (rfr low typed same : Bool) → cond rfr low (not (typed && same)) ≡ false → rfr ≡ false → same ≡ true
+sized-by true low typed same e f = cc
+sized-by false low typed same e f = (and_parts typed same (not-false (typed && same) e)).1
+
+own-next : (l : Served) (h : MessageHeader) → own_row l h ≡ Takes → Next l h
+own-next l h e =
+    let one = not-takes _ (Drops Mismatch) _ (drops-takes Mismatch) e in
+    let two = not-takes (ltb l.taken h.number) (Drops Ahead) _ (drops-takes Ahead) one.1 in
+    let three = not-takes (ltb h.number l.taken) Repeats _ repeats-takes two.1 in
+    let low = ltb-false l.taken h.number two.0 in
+    let high = ltb-false h.number l.taken three.0 in
+    record {
+      turn = omega arith;
+      sized = λ f. eqb-true h.size l.size (sized-by (is_rfr h.kind) (ltb h.number (packet_count l.size)) (h.req_type == l.req_type) (h.size == l.size) one.0 f);
+    }
+
+-- a row that begins or takes, by the newest request of the slot
+pub record Starts (o : Option Served) (h : MessageHeader) : Type 0 where
+  pub first : h.number ≡ 0
+  pub newer : Newer h.request o
+
+pub starts-slot : (o : Option Served) (h : MessageHeader) → slot_row o h ≡ Begins → Starts o h
+starts-slot None h e = record { first = new-first h e; newer = tt }
+starts-slot (Some l) h e =
+    let one = not-begins (ltb h.request l.number) (Drops Old) _ (drops-begins Old) e in
+    by (ltb l.number h.request) refl one.1
+  where
+    by : (b : Bool) → ltb l.number h.request ≡ b → cond b (new_row h) (own_row l h) ≡ Begins → Starts (Some l) h
+    by true t k = record { first = new-first h k; newer = ltb-true l.number h.request t }
+    by false t k = absurd (own-begins l h k)
+
+-- a packet that goes on with the request that stands in its slot
+pub record Continues (o : Option Served) (h : MessageHeader) : Type 0 where
+  pub served : Served
+  pub is_served : o ≡ Some served
+  pub own : served.number ≡ h.request
+  pub next : Next served h
+
+pub continues-slot : (o : Option Served) (h : MessageHeader) → slot_row o h ≡ Takes → Continues o h
+continues-slot None h e = absurd (new-takes h e)
+continues-slot (Some l) h e =
+    let one = not-takes (ltb h.request l.number) (Drops Old) _ (drops-takes Old) e in
+    let low = ltb-false h.request l.number one.0 in
+    by (ltb l.number h.request) refl low one.1
+  where
+    by : (b : Bool) → ltb l.number h.request ≡ b → l.number ≤ h.request → cond b (new_row h) (own_row l h) ≡ Takes → Continues (Some l) h
+    by true t low k = absurd (new-takes h k)
+    by false t low k =
+        let high = ltb-false l.number h.request t in
+        record { served = l; is_served = refl; own = omega arith; next = own-next l h k }
+
+pub last-parts : (h : MessageHeader) → is_last h ≡ true → (is_rfr h.kind ≡ false) × (h.number + 1 ≡ packet_count h.size)
+last-parts h e =
+    let parts = and_parts (not (is_rfr h.kind)) (h.number + 1 == packet_count h.size) e in
+    (not-true (is_rfr h.kind) parts.0, eqb-true (h.number + 1) (packet_count h.size) parts.1)

@@ -1,0 +1,209 @@
+-- Allowed facts keep what holds of a node's lists at every moment.
+use Rattle.std.proofs.Common.{◌≡◌, ℕ, ◌+◌, ◌-◌, ◌*◌, ◌%◌, ◌≤◌, ◌<◌, Bool, true, false, cond, leb, Option, Some, None, List, [], ◌∷◌, length, drop, refl, ap, ◌∙◌, arith}
+use Rattle.std.specs.Prelude.{◌==◌, count_by, sum_by}
+use Rattle.std.specs.List.{AllByRecursion, find}
+use Rattle.std.proofs.lemmas.Bool.Decides.{nat_tests}
+use Rattle.std.proofs.lemmas.List.{length-append}
+use Rattle.std.proofs.lemmas.List.Sums.{sum_by_push}
+use Rattle.packet_header.specs.declared.packet.MessageHeader.{MessageHeader}
+use Rattle.rpc_base.specs.Tables.{at_first}
+use Rattle.rpc_base.specs.declared.event.Event.{Event}
+use Rattle.rpc_base.specs.declared.event.Event.TheVariants.{PairedClient, PairedServer, Asked, Begun, Posted, Sent, Arrived, Took, Ran, Again, Dropped, Rolled, Broken, DoneOk, DoneTooSmall, DonePeerLost}
+use Rattle.rpc_base.specs.declared.fact.Fact.{Fact}
+use Rattle.rpc_base.specs.declared.owner.Owner.TheVariants.{Ask, Reply}
+use Rattle.rpc_laws.specs.declared.tables.Arrival.{Arrival}
+use Rattle.rpc_laws.specs.declared.tables.Call.{Call}
+use Rattle.rpc_laws.specs.declared.tables.Client.{Client}
+use Rattle.rpc_laws.specs.declared.tables.Lists.{Lists}
+use Rattle.rpc_laws.specs.Calls.{is_call, is_active, moved, begun, posted_up_to, sent_packet, took_reply, rolled_back}
+use Rattle.rpc_laws.specs.Front.{front_header, front_body}
+use Rattle.rpc_laws.specs.NodeLists.{after, asked_after, new_lists}
+use Rattle.rpc_laws.specs.Posting.{is_taken}
+use Rattle.rpc_laws.specs.Queues.{ring_after}
+use Rattle.rpc_laws.specs.Requests.{is_server, is_request, server_end, took_packet, answered, servers_after}
+use Rattle.rpc_laws.specs.Sessions.{is_client, has_call, client_end, asks, begins, posts, sends, takes, rolls, breaks, ends, clients_after}
+use Rattle.node_laws.proofs.Allowed.{Allowed, MayBegin, MayPost, MayTake, MayRoll, MayEnd, MayLose}
+use Rattle.node_laws.proofs.ChangeLemmas.{sound-made, sound-asks, sound-begins, sound-posts, sound-takes, sound-rolls, sound-sends, sound-breaks, sound-ends}
+use Rattle.node_laws.proofs.NumberLemmas.{numbered-push, numbered-kept, by_number}
+use Rattle.node_laws.proofs.ServerLemmas.{sound-took, sound-ran}
+use Rattle.node_laws.proofs.TableLemmas.{all-push, all-kept, all-changed, sum-grown, sum-fewer}
+use Rattle.node_laws.proofs.Valid.{NumberedFrom, unanswered_of, Sound, SoundServer, holders, to_come, Valid}
+
+-- sessions stay sound
+module _ (clock : ℕ) (s : Lists) (v : Valid s) where
+  slot-of : (r slot turn : ℕ) → slot < 8 → r ≡ slot + 8 * turn → slot ≡ r % 8
+  slot-of r slot turn h e = omega arith
+
+  begun-sound : (number r : ℕ) → MayBegin s number r → AllByRecursion Sound (at_first (has_call number) (begins number r) s.clients)
+  begun-sound number r a =
+      let own = by_number s a.session a.client a.call v a.place in
+      let client : find (has_call number) s.clients ≡ Some a.client = rw a.same own.client in
+      let call : find (is_call number) a.client.calls ≡ Some a.call = rw a.same own.call in
+      let slot = slot-of r a.slot _ a.below a.next in
+      let free : is_taken a.client.calls (r % 8) ≡ false = rw slot at a.is_free in
+      all-changed (has_call number) (begins number r) Sound s.clients a.client client (λ h. sound-begins number r a.client a.call h call a.waits free) v.sound
+
+  posted-sound : (session r k : ℕ) → MayPost s session r k → AllByRecursion Sound (at_first (is_client session) (posts r k) s.clients)
+  posted-sound session r k a =
+      all-changed (is_client session) (posts r k) Sound s.clients a.client a.active.place.client (λ h. sound-posts r k a.client a.active.place.test a.call a.progress h a.active.place.call a.active.active a.same a.turn a.more a.credit) v.sound
+
+  took-sound : (session r k : ℕ) → MayTake s session r k → AllByRecursion Sound (at_first (is_client session) (takes clock r (front_header s.ring) (front_body s.ring)) s.clients)
+  took-sound session r k a =
+      let turn : a.header.number ≡ a.progress.got = a.numbered ∙ a.turn in
+      rw a.front (all-changed (is_client session) (takes clock r (Some a.header) (front_body s.ring)) Sound s.clients a.client a.active.place.client (λ h. sound-takes clock r a.header (front_body s.ring) (length (front_body s.ring)) a.client a.active.place.test a.call a.progress h a.active.place.call a.active.active a.same turn a.posted a.fits) v.sound)
+
+  rolled-sound : (number posted got : ℕ) → MayRoll s number posted got → AllByRecursion Sound (at_first (has_call number) (rolls number posted got) s.clients)
+  rolled-sound number posted got a =
+      let own = by_number s a.session a.client a.call v a.active.place in
+      let client : find (has_call number) s.clients ≡ Some a.client = rw a.same own.client in
+      let call : find (is_call number) a.client.calls ≡ Some a.call = rw a.same own.call in
+      all-changed (has_call number) (rolls number posted got) Sound s.clients a.client client (λ h. sound-rolls number posted got a.client a.call a.progress h call a.active.active a.from a.back) v.sound
+
+  ended-sound : (number : ℕ) → MayEnd s number → AllByRecursion Sound (at_first (has_call number) (ends number) s.clients)
+  ended-sound number a =
+      let own = by_number s a.session a.client a.call v a.active.place in
+      let client : find (has_call number) s.clients ≡ Some a.client = rw a.same own.client in
+      let call : find (is_call number) a.client.calls ≡ Some a.call = rw a.same own.call in
+      let here : unanswered_of a.call.progress ≡ a.progress.posted - a.progress.got = ap unanswered_of a.active.active in
+      let whole = a.whole in
+      all-changed (has_call number) (ends number) Sound s.clients a.client client (λ h. sound-ends number a.client a.call h call (λ _. omega arith)) v.sound
+
+  lost-sound : (number : ℕ) → MayLose s number → AllByRecursion Sound (at_first (has_call number) (ends number) s.clients)
+  lost-sound number a =
+      let own = by_number s a.session a.client a.call v a.place in
+      let client : find (has_call number) s.clients ≡ Some a.client = rw a.same own.client in
+      let call : find (is_call number) a.client.calls ≡ Some a.call = rw a.same own.call in
+      let broken = a.broken in
+      all-changed (has_call number) (ends number) Sound s.clients a.client client (λ h. sound-ends number a.client a.call h call (λ t. cc)) v.sound
+
+sound-after : (clock : ℕ) (e : Event) (bytes : List ℕ) (s : Lists) → Valid s → Allowed s e → AllByRecursion Sound (clients_after clock e bytes (front_header s.ring) (front_body s.ring) s.clients)
+sound-after clock (PairedClient n peer t credits) bytes s v a =
+    all-push Sound s.clients (client_end n peer t credits) v.sound (sound-made n peer t credits)
+sound-after clock (Asked c n y room) bytes s v a =
+    all-kept (is_client n) (asks (record { number = c; req_type = y; room = room; ask = bytes })) Sound s.clients (λ x h _. sound-asks (record { number = c; req_type = y; room = room; ask = bytes }) x h) v.sound
+sound-after clock (Begun c r) bytes s v a = begun-sound clock s v c r a
+sound-after clock (Posted (Ask n r) k) bytes s v a = posted-sound clock s v n r k a
+sound-after clock (Sent peer (Ask n r) k) bytes s v a =
+    all-kept (is_client n) (sends clock r k) Sound s.clients (λ x h _. sound-sends clock r k x h) v.sound
+sound-after clock (Took (Ask n r) k) bytes s v a = took-sound clock s v n r k a
+sound-after clock (Rolled c posted got) bytes s v a = rolled-sound clock s v c posted got a
+sound-after clock (Broken n) bytes s v a =
+    all-kept (is_client n) breaks Sound s.clients (λ x h _. sound-breaks x h) v.sound
+sound-after clock (DoneOk c) bytes s v a = ended-sound clock s v c a
+sound-after clock (DoneTooSmall c size) bytes s v a = ended-sound clock s v c a
+sound-after clock (DonePeerLost c) bytes s v a = lost-sound clock s v c a
+sound-after clock _ bytes s v a = v.sound
+
+-- sessions keep their numbers
+numbered-after : (clock : ℕ) (e : Event) (bytes : List ℕ) (head : Option MessageHeader) (body : List ℕ) (s : Lists) → NumberedFrom 0 s.clients → Allowed s e → NumberedFrom 0 (clients_after clock e bytes head body s.clients)
+numbered-after clock (PairedClient n peer t credits) bytes head body s h a =
+    numbered-push 0 s.clients (client_end n peer t credits) h (omega arith)
+numbered-after clock (Asked c n y room) bytes head body s h a =
+    numbered-kept (is_client n) (asks (record { number = c; req_type = y; room = room; ask = bytes })) (λ x. refl) 0 s.clients h
+numbered-after clock (Begun c r) bytes head body s h a = numbered-kept (has_call c) (begins c r) (λ x. refl) 0 s.clients h
+numbered-after clock (Posted (Ask n r) k) bytes head body s h a =
+    numbered-kept (is_client n) (posts r k) (λ x. refl) 0 s.clients h
+numbered-after clock (Sent peer (Ask n r) k) bytes head body s h a =
+    numbered-kept (is_client n) (sends clock r k) (λ x. refl) 0 s.clients h
+numbered-after clock (Took (Ask n r) k) bytes head body s h a =
+    numbered-kept (is_client n) (takes clock r head body) (λ x. refl) 0 s.clients h
+numbered-after clock (Rolled c posted got) bytes head body s h a =
+    numbered-kept (has_call c) (rolls c posted got) (λ x. refl) 0 s.clients h
+numbered-after clock (Broken n) bytes head body s h a = numbered-kept (is_client n) breaks (λ x. refl) 0 s.clients h
+numbered-after clock (DoneOk c) bytes head body s h a = numbered-kept (has_call c) (ends c) (λ x. refl) 0 s.clients h
+numbered-after clock (DoneTooSmall c size) bytes head body s h a =
+    numbered-kept (has_call c) (ends c) (λ x. refl) 0 s.clients h
+numbered-after clock (DonePeerLost c) bytes head body s h a =
+    numbered-kept (has_call c) (ends c) (λ x. refl) 0 s.clients h
+numbered-after clock _ bytes head body s h a = h
+
+-- no number is given out twice
+module _ (number : ℕ) where
+  -- the calls of that number on a session
+  abbrev holds : Client → ℕ
+  holds x = count_by (is_call number) x.calls
+
+  -- whether a call has it
+  abbrev one : Call → ℕ
+  one c = cond (is_call number c) 1 0
+
+  same-call : (p : Call → Bool) (f : Call → Call) → ((c : Call) → (f c).what ≡ c.what) → (calls : List Call) → sum_by one (at_first p f calls) ≤ sum_by one calls + 0
+  same-call p f same calls = sum-grown p f one 0 calls (λ c. rw (same c) (omega arith))
+
+  fewer-call : (n : ℕ) (x : Client) → holds (ends n x) ≤ holds x + 0
+  fewer-call n x = let fewer = sum-fewer (is_call n) one x.calls in omega arith
+
+  asked-call : (asked n y room : ℕ) (bytes : List ℕ) (x : Client) → holds (asks (record { number = n; req_type = y; room = room; ask = bytes }) x) ≤ holds x + cond (n == number) 1 0
+  asked-call asked n y room bytes x =
+      let push = sum_by_push one x.calls (record { what = record { number = n; req_type = y; room = room; ask = bytes }; progress = None }) in
+      omega arith
+
+  given : (asked c n m : ℕ) → c ≡ asked → n + cond (leb asked number) 1 0 ≤ 1 → m ≤ n + cond (c == number) 1 0 → m + cond (leb (asked + 1) number) 1 0 ≤ 1
+  given asked c n m e once h = grind (arith, nat_tests)
+
+  kept : (n m k : ℕ) → n + k ≤ 1 → m ≤ n + 0 → m + k ≤ 1
+  kept n m k once h = omega arith
+
+  once-after : (clock : ℕ) (e : Event) (bytes : List ℕ) (head : Option MessageHeader) (body : List ℕ) (s : Lists) → holders number s.clients + to_come s.asked number ≤ 1 → Allowed s e → holders number (clients_after clock e bytes head body s.clients) + to_come (asked_after e s.asked) number ≤ 1
+  once-after clock (PairedClient n peer t credits) bytes head body s h a =
+      let push = sum_by_push holds s.clients (client_end n peer t credits) in
+      kept (holders number s.clients) _ (to_come s.asked number) h (omega arith)
+  once-after clock (Asked c n y room) bytes head body s h a =
+      given s.asked c (holders number s.clients) _ a.next h (sum-grown (is_client n) (asks (record { number = c; req_type = y; room = room; ask = bytes })) holds (cond (c == number) 1 0) s.clients (asked-call s.asked c y room bytes))
+  once-after clock (Begun c r) bytes head body s h a =
+      kept (holders number s.clients) _ (to_come s.asked number) h (sum-grown (has_call c) (begins c r) holds 0 s.clients (λ x. same-call (is_call c) (begun r) (λ d. refl) x.calls))
+  once-after clock (Posted (Ask n r) k) bytes head body s h a =
+      kept (holders number s.clients) _ (to_come s.asked number) h (sum-grown (is_client n) (posts r k) holds 0 s.clients (λ x. same-call (is_active r) (moved (posted_up_to k)) (λ d. refl) x.calls))
+  once-after clock (Sent peer (Ask n r) k) bytes head body s h a =
+      kept (holders number s.clients) _ (to_come s.asked number) h (sum-grown (is_client n) (sends clock r k) holds 0 s.clients (λ x. same-call (is_active r) (moved (sent_packet clock k)) (λ d. refl) x.calls))
+  once-after clock (Took (Ask n r) k) bytes head body s h a =
+      kept (holders number s.clients) _ (to_come s.asked number) h (sum-grown (is_client n) (takes clock r head body) holds 0 s.clients (λ x. same-call (is_active r) (moved (took_reply clock head body)) (λ d. refl) x.calls))
+  once-after clock (Rolled c posted got) bytes head body s h a =
+      kept (holders number s.clients) _ (to_come s.asked number) h (sum-grown (has_call c) (rolls c posted got) holds 0 s.clients (λ x. same-call (is_call c) (moved (rolled_back got)) (λ d. refl) x.calls))
+  once-after clock (Broken n) bytes head body s h a =
+      kept (holders number s.clients) _ (to_come s.asked number) h (sum-grown (is_client n) breaks holds 0 s.clients (λ x. omega arith))
+  once-after clock (DoneOk c) bytes head body s h a =
+      kept (holders number s.clients) _ (to_come s.asked number) h (sum-grown (has_call c) (ends c) holds 0 s.clients (fewer-call c))
+  once-after clock (DoneTooSmall c size) bytes head body s h a =
+      kept (holders number s.clients) _ (to_come s.asked number) h (sum-grown (has_call c) (ends c) holds 0 s.clients (fewer-call c))
+  once-after clock (DonePeerLost c) bytes head body s h a =
+      kept (holders number s.clients) _ (to_come s.asked number) h (sum-grown (has_call c) (ends c) holds 0 s.clients (fewer-call c))
+  once-after clock _ bytes head body s h a = h
+
+-- the ring fits
+shorter : (ring : List Arrival) (room : ℕ) → length ring ≤ room → length (drop 1 ring) ≤ room
+shorter [] room h = h
+shorter (d ∷ ds) room h = omega arith
+
+fits-after : (e : Event) (bytes : List ℕ) (s : Lists) → length s.ring ≤ s.room → Allowed s e → length (ring_after e bytes s.ring) ≤ s.room
+fits-after (Arrived peer) bytes s h a = omega (arith, a, length-append s.ring (record { peer = peer; bytes = bytes } ∷ []))
+fits-after (Took owner k) bytes s h a = shorter s.ring s.room h
+fits-after (Again owner k) bytes s h a = shorter s.ring s.room h
+fits-after (Dropped why) bytes s h a = shorter s.ring s.room h
+fits-after _ bytes s h a = h
+
+-- server sessions stay sound
+served-after : (e : Event) (answer : List ℕ) (head : Option MessageHeader) (body : List ℕ) (s : Lists) → AllByRecursion SoundServer s.servers → Allowed s e → AllByRecursion SoundServer (servers_after e answer head body s.servers)
+served-after (PairedServer t peer n credits) answer head body s h a =
+    all-push SoundServer s.servers (server_end t peer n credits) h (record { apart = λ slot. omega arith; whole = tt })
+served-after (Took (Reply t r) k) answer head body s h a =
+    all-kept (is_server t) (λ v. record v { slots = took_packet r head body v.slots }) SoundServer s.servers (λ v k _. sound-took r head body v k) h
+served-after (Ran t r y) answer head body s h a =
+    all-changed (is_server t) (λ v. record v { slots = at_first (is_request r) (answered answer) v.slots }) SoundServer s.servers a.server a.found (λ k. sound-ran r answer a.server a.served k a.is_served a.whole) h
+served-after _ answer head body s h a = h
+
+pub valid_after : (clock : ℕ) (s : Lists) (f : Fact) → Valid s → Allowed s f.event → Valid (after clock s f)
+valid_after clock s f v a = record {
+  numbered = numbered-after clock f.event f.first (front_header s.ring) (front_body s.ring) s v.numbered a;
+  once = λ number. once-after number clock f.event f.first (front_header s.ring) (front_body s.ring) s (v.once number) a;
+  sound = sound-after clock f.event f.first s v a;
+  fits = fits-after f.event f.first s v.fits a;
+  served = served-after f.event f.second (front_header s.ring) (front_body s.ring) s v.served a;
+}
+
+one-cond : (b : Bool) → 0 + cond b 1 0 ≤ 1
+one-cond true = omega arith
+one-cond false = omega arith
+
+pub valid_new : (me ring : ℕ) → Valid (new_lists me ring)
+valid_new me ring = record { numbered = tt; once = λ number. one-cond (leb 0 number); sound = tt; fits = omega arith; served = tt }

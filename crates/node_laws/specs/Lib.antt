@@ -1,0 +1,6 @@
+pub mod CallHistory
+pub mod CreditBalance
+pub mod EndedCalls
+pub mod Laws
+pub mod NodeRun
+pub mod RingLimit

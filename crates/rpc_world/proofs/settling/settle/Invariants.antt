@@ -1,0 +1,5 @@
+use Rattle.rpc_world.proofs.StageLemmas.{Goes}
+use Rattle.rpc_world.proofs.settling.settle.Given as goal
+
+abbrev pub invariant-rounds : goal.invariant-rounds
+invariant-rounds l = Goes l.rounds l.i l.initial.stage l.stage l.initial.facts l.facts

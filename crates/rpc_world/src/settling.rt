@@ -1,0 +1,76 @@
+//! `settle K`: rounds, until nothing happens any more.
+ghost use Rattle.std.specs.Prelude.{◌≡◌, length, IfOk, OnOk};
+ghost use Rattle.std.specs.List.{list_all};
+ghost use Rattle.sim_script.specs.FollowsScript.{Carries, PollsFirst, Settles, Times, is_polled};
+ghost use Rattle.rpc_world.specs.Performed.{Performed, MakesRound};
+
+use crate::stepping::{carry_first, poll_node};
+use network_model::Stage;
+use rpc_base::{Event, Fact, Listed, NoMemory, NodeId};
+use std::alloc::Global;
+
+// Delivering a copy sends nothing, so there is a copy 0 in each turn.
+fn carry_all(alloc: Global, stage: &mut Stage, facts: &mut Listed<Fact>) -> Result<(), NoMemory>
+    ensures { OnOk result
+        (Performed (Times (Carries 0) (length stage.old.flight)) stage.old stage.new facts.old facts.new) }
+{
+    let count = stage.flight.len();
+    'copies: for i in 0..count {
+        carry_first(alloc, stage, facts)?;
+    }
+    Ok(())
+}
+
+fn poll_all(alloc: Global, stage: &mut Stage, facts: &mut Listed<Fact>) -> Result<(), NoMemory>
+    ensures { OnOk result
+        (Performed (PollsFirst (length stage.old.nodes)) stage.old stage.new facts.old facts.new) }
+{
+    let count = u8::try_from(stage.nodes.len()).map_err(|_| NoMemory)?;
+    'nodes: for i in 0..count {
+        poll_node(alloc, stage, facts, NodeId(i))?;
+    }
+    Ok(())
+}
+
+fn is_polled(event: &Event) -> bool
+    ensures { result ≡ is_polled event.now }
+{
+    match event {
+        Event::Polled { .. } => true,
+        _ => false,
+    }
+}
+
+fn are_polled(facts: &[Fact]) -> bool
+    ensures { result ≡ list_all (λ f. is_polled f.event) facts.now }
+{
+    facts.iter().all(|fact| is_polled(&fact.event))
+}
+
+// Carries each copy that is in flight, polls each node, and tells whether there was nothing but polls.
+fn make_round(alloc: Global, stage: &mut Stage, facts: &mut Listed<Fact>) -> Result<bool, NoMemory>
+    ensures { IfOk result
+        (λ is_quiet. MakesRound is_quiet stage.old stage.new facts.old facts.new) }
+{
+    let before = facts.len();
+    carry_all(alloc, stage, facts)?;
+    poll_all(alloc, stage, facts)?;
+    Ok(are_polled(&facts.as_slice()[before..]))
+}
+
+/// `settle K`: makes at most that many rounds, and none after one in which there was nothing but polls.
+pub fn settle(
+    alloc: Global,
+    stage: &mut Stage,
+    facts: &mut Listed<Fact>,
+    rounds: u32,
+) -> Result<(), NoMemory>
+    ensures { OnOk result (Performed (Settles rounds) stage.old stage.new facts.old facts.new) }
+{
+    'rounds: for i in 0..rounds {
+        if make_round(alloc, stage, facts)? {
+            return Ok(());
+        }
+    }
+    Ok(())
+}

@@ -1,0 +1,93 @@
+//! Steps of the nodes: a poll, and a copy that is taken out of flight and delivered.
+ghost use Rattle.std.specs.Prelude.{◌≡◌, OnOk};
+ghost use Rattle.rpc_laws.specs.Deliveries.{Delivers};
+ghost use Rattle.sim_script.specs.FollowsScript.{AtNode, Arrives, Carries, PollsNode};
+ghost use Rattle.rpc_world.specs.Performed.{Performed};
+
+use crate::network::{launch, note_of_net, perform_net};
+use network_model::{Copy, Stage};
+use plain_node::{deliver, poll};
+use rpc_base::{Event, Fact, Listed, NoMemory, NodeId, Peer};
+use std::alloc::Global;
+
+/// A node's timeout in microseconds.
+const USUAL_TIMEOUT: u64 = 5000;
+
+/// `poll A`: polls the node at the world's clock.
+pub fn poll_node(
+    alloc: Global,
+    stage: &mut Stage,
+    facts: &mut Listed<Fact>,
+    node: NodeId,
+) -> Result<(), NoMemory>
+    ensures { OnOk result (Performed (PollsNode node) stage.old stage.new facts.old facts.new) }
+{
+    let place = usize::from(node.0);
+    if place >= stage.nodes.len() {
+        return Err(NoMemory);
+    }
+    let before = facts.len();
+    let now = stage.clock;
+    poll(alloc, stage.nodes.at_mut(place), facts, USUAL_TIMEOUT, now)?;
+    launch(&mut stage.flight, &facts.as_slice()[before..])?;
+    Ok(())
+}
+
+fn deliver_to(
+    alloc: Global,
+    stage: &mut Stage,
+    facts: &mut Listed<Fact>,
+    copy: &Copy,
+) -> Result<(), NoMemory>
+    ensures { OnOk result
+        (Performed (AtNode (Delivers copy.now.from copy.now.bytes) copy.now.to) stage.old stage.new facts.old facts.new) }
+{
+    let place = usize::from(copy.to.0);
+    if place >= stage.nodes.len() {
+        return Err(NoMemory);
+    }
+    let before = facts.len();
+    deliver(
+        alloc,
+        stage.nodes.at_mut(place),
+        facts,
+        Peer(copy.from.0),
+        copy.bytes.bytes(),
+    )?;
+    launch(&mut stage.flight, &facts.as_slice()[before..])?;
+    Ok(())
+}
+
+/// `arrive I`: takes the copy out of flight and delivers it.
+pub fn arrive(
+    alloc: Global,
+    stage: &mut Stage,
+    facts: &mut Listed<Fact>,
+    copy: u32,
+) -> Result<(), NoMemory>
+    ensures { OnOk result (Performed (Arrives copy) stage.old stage.new facts.old facts.new) }
+{
+    let Some(taken) = stage.flight.carry(copy) else {
+        perform_net(alloc, stage, facts, &Event::Missed { number: copy })?;
+        return Ok(());
+    };
+    note_of_net(alloc, facts, &Event::Carried { copy })?;
+    deliver_to(alloc, stage, facts, &taken)?;
+    Ok(())
+}
+
+/// Carries copy 0, which has to be in flight: where it isn't, that ends as want of memory.
+pub fn carry_first(
+    alloc: Global,
+    stage: &mut Stage,
+    facts: &mut Listed<Fact>,
+) -> Result<(), NoMemory>
+    ensures { OnOk result (Performed (Carries 0) stage.old stage.new facts.old facts.new) }
+{
+    let Some(taken) = stage.flight.carry(0) else {
+        return Err(NoMemory);
+    };
+    note_of_net(alloc, facts, &Event::Carried { copy: 0 })?;
+    deliver_to(alloc, stage, facts, &taken)?;
+    Ok(())
+}

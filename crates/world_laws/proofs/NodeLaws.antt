@@ -1,0 +1,115 @@
+-- What each run of a node keeps, each node of a history keeps: the Made before its run changes none of it.
+use Rattle.std.proofs.Common.{◌≡◌, ◌+◌, ◌&&◌, ◌||◌, ℕ, Bool, true, false, cond, List, [], ◌∷◌, Option, Some, None, slice_get, refl, sym, ap, ◌∙◌, arith, eqb}
+use Rattle.std.specs.List.{list_any}
+use Rattle.std.proofs.lemmas.List.Sums.{sum_by-cons}
+use Rattle.node_laws.proofs.CreditLaws.{credit}
+use Rattle.node_laws.proofs.EndedLaws.{ended}
+use Rattle.node_laws.proofs.OnceLaws.{once}
+use Rattle.node_laws.proofs.RingLaws.{ring_within}
+use Rattle.node_laws.specs.CreditBalance.{Credit}
+use Rattle.node_laws.specs.EndedCalls.{queued_by, asks_on, begins_as, BeganAs, EndsClean}
+use Rattle.node_laws.specs.RingLimit.{RingWithin}
+use Rattle.network_model.specs.declared.stage.Stage.{Stage}
+use Rattle.rpc_base.specs.declared.event.Event.{Event}
+use Rattle.rpc_base.specs.declared.event.Event.TheVariants.{Made}
+use Rattle.rpc_base.specs.declared.fact.Fact.{Fact}
+use Rattle.rpc_laws.specs.declared.tables.Timed.{Timed}
+use Rattle.rpc_laws.specs.AtMostOnce.{is_at, runs_request, works_request, begins_call, ends_call, times, Once}
+use Rattle.rpc_laws.specs.Facts.{plain}
+use Rattle.rpc_laws.specs.GoBackN.{usual_timeout}
+use Rattle.rpc_laws.specs.Queues.{queued_after}
+use Rattle.world_laws.specs.Laws.{CreditBalances, EndedCallsAreNotQueued, FollowsRuns, HappensAtMostOnce, RingFits}
+use Rattle.world_laws.specs.NodeFacts.{facts_of, IsRun, RunAt, RunsOf, ring_of}
+use Rattle.world_laws.proofs.ScriptLaws.{script-runs}
+
+-- each node's facts are its Made and a run
+pub runs : FollowsRuns
+runs script h two few f = script-runs script h f.0 two few f.1
+
+-- a claim of the facts of every node: it is of no facts, and of each run with its Made
+of-run : (P : List Fact → Type 0) → P [] → ((n : ℕ) (facts : List Fact) (t : Timed) → IsRun n facts t → P facts) → (n : ℕ) (facts : List Fact) (o : Option Timed) → RunAt n facts o → P facts
+of-run P none each n facts (Some t) r = each n facts t r
+of-run P none each n facts None r = rw r none
+
+of-node : (P : List Fact → Type 0) → P [] → ((n : ℕ) (facts : List Fact) (t : Timed) → IsRun n facts t → P facts) → (h : List Fact) (end : Stage) → RunsOf h end → (n : ℕ) → P (facts_of n h)
+of-node P none each h end r n = of-run P none each n (facts_of n h) (slice_get end.nodes n) (r n)
+
+-- credit
+pub credit-balances : CreditBalances
+credit-balances script h two few f =
+    of-node Credit tt
+    (λ n facts t r. let kept : Credit r.later = credit n r.ring usual_timeout r.later t r.run in rw r.made (tt, kept)) h f.0 (runs script h two few f)
+
+-- the receive ring
+pub ring-fits : RingFits
+ring-fits script h two few f =
+    of-node (λ facts. RingWithin (ring_of facts) [] facts) (omega arith)
+    (λ n facts t r. let kept : RingWithin r.ring [] r.later = ring_within n r.ring usual_timeout r.later t r.run in rw r.made (omega arith, kept)) h f.0 (runs script h two few f)
+
+-- calls that are over: the same is told by other facts that came before
+record SamePast (past other : List Fact) : Type 0 where
+  queued : queued_by past ≡ queued_by other
+  asked : (c s : ℕ) → list_any (λ f. asks_on c s f.event) past ≡ list_any (λ f. asks_on c s f.event) other
+  begun : (c r : ℕ) → list_any (λ f. begins_as c r f.event) past ≡ list_any (λ f. begins_as c r f.event) other
+
+same-next : (past other : List Fact) (f : Fact) → SamePast past other → SamePast (f ∷ past) (f ∷ other)
+same-next past other f s = record {
+  queued = ap (queued_after f.event) s.queued;
+  asked = λ c n. ap (λ (b : Bool). asks_on c n f.event || b) (s.asked c n);
+  begun = λ c r. ap (λ (b : Bool). begins_as c r f.event || b) (s.begun c r);
+}
+
+ends-other : (past other g : List Fact) → SamePast past other → EndsClean past g → EndsClean other g
+ends-other past other [] s e = tt
+ends-other past other (f ∷ g) s e =
+    (λ c n r ends began. let old : BeganAs past c n r = record { asked = s.asked c n ∙ began.asked; begun = s.begun c r ∙ began.begun } in let back = e.0 c n r ends old in record { unqueued = rw (← s.queued) back.unqueued; unposted = back.unposted }, ends-other (f ∷ past) (f ∷ other) g (same-next past other f s) e.1)
+
+made-past : (n ring : ℕ) → SamePast [] (plain n (Made ring) ∷ [])
+made-past n ring = record { queued = refl; asked = λ c s. refl; begun = λ c r. refl }
+
+pub ended-clean : EndedCallsAreNotQueued
+ended-clean script h two few f =
+    of-node (EndsClean []) tt
+    (λ n facts t r. let kept : EndsClean [] r.later = ended n r.ring usual_timeout r.later t r.run in rw r.made ((λ c s q ends began. cc), ends-other [] (plain n (Made r.ring) ∷ []) r.later (made-past n r.ring) kept)) h f.0 (runs script h two few f)
+
+-- at most once: what is counted of a node is counted over its facts
+count-here : (n : ℕ) (test : Event → Bool) (f : Fact) (h : List Fact) (b : Bool) → is_at n f.who ≡ b → times n test h ≡ times n test (facts_of n h) → cond (b && test f.event) 1 0 + times n test h ≡ times n test (cond b (f ∷ facts_of n h) (facts_of n h))
+count-here n test f h true at same = sym (sum_by-cons (λ e. cond (is_at n e.who && test e.event) 1 0) f (facts_of n h) ∙ (ap (λ (b : Bool). cond (b && test f.event) 1 0 + times n test (facts_of n h)) at ∙ ap (λ (k : ℕ). cond (test f.event) 1 0 + k) (sym same)))
+count-here n test f h false at same = omega arith
+
+times-own : (n : ℕ) (test : Event → Bool) (h : List Fact) → times n test h ≡ times n test (facts_of n h)
+times-own n test [] = refl
+times-own n test (f ∷ h) =
+    sum_by-cons (λ e. cond (is_at n e.who && test e.event) 1 0) f h ∙ count-here n test f h (is_at n f.who) refl (times-own n test h)
+
+-- a Made is none of what is counted
+both-false : (a b : Bool) → b ≡ false → ◌≡◌ {A = ℕ} (cond (a && b) 1 0) 0
+both-false true b e = rw e refl
+both-false false b e = refl
+
+made-none : (n m ring : ℕ) (test : Event → Bool) (g : List Fact) → test (Made ring) ≡ false → times m test (plain n (Made ring) ∷ g) ≡ times m test g
+made-none n m ring test g e =
+    let cons : times m test (plain n (Made ring) ∷ g) ≡ cond (eqb n m && test (Made ring)) 1 0 + times m test g = sum_by-cons (λ f. cond (is_at m f.who && test f.event) 1 0) (plain n (Made ring)) g in
+    let no = both-false (eqb n m) (test (Made ring)) e in
+    omega arith
+
+once-nothing : Once []
+once-nothing = record { ran = λ m t r. omega arith; worked = λ m t r. omega arith; begun = λ n c. omega arith; done = λ n c. omega arith }
+
+made-once : (n ring : ℕ) (g : List Fact) → Once g → Once (plain n (Made ring) ∷ g)
+made-once n ring g o = record {
+  ran = λ m t r. rw (made-none n m ring (runs_request t r) g refl) (o.ran m t r);
+  worked = λ m t r. rw (made-none n m ring (works_request t r) g refl) (o.worked m t r);
+  begun = λ m c. rw (made-none n m ring (begins_call c) g refl) (o.begun m c);
+  done = λ m c. rw (made-none n m ring (ends_call c) g refl) (o.done m c);
+}
+
+pub once-each : HappensAtMostOnce
+once-each script h two few f =
+    let each = of-node Once once-nothing (λ n facts t r. let kept : Once r.later = once n r.ring usual_timeout r.later t r.run in rw r.made (made-once n r.ring r.later kept)) h f.0 (runs script h two few f) in
+    record {
+      ran = λ m t r. rw (times-own m (runs_request t r) h) ((each m).ran m t r);
+      worked = λ m t r. rw (times-own m (works_request t r) h) ((each m).worked m t r);
+      begun = λ n c. rw (times-own n (begins_call c) h) ((each n).begun n c);
+      done = λ n c. rw (times-own n (ends_call c) h) ((each n).done n c);
+    }

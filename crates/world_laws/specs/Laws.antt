@@ -1,0 +1,48 @@
+-- The laws of each node in the histories that follow a script.
+use Rattle.std.specs.Prelude.{ℕ, List, []}
+use Rattle.end_laws.specs.TwoNodes.{PairsTwoNodes}
+use Rattle.node_laws.specs.CreditBalance.{Credit}
+use Rattle.node_laws.specs.EndedCalls.{EndsClean}
+use Rattle.node_laws.specs.RingLimit.{RingWithin}
+use Rattle.rpc_base.specs.declared.fact.Fact.{Fact}
+use Rattle.rpc_laws.specs.AtMostOnce.{Once}
+use Rattle.script_grammar.specs.declared.line.Line.{Line}
+use Rattle.sim_script.specs.FollowsScript.{Follows}
+use Rattle.world_laws.specs.FewCredits.{PairsFewCredits}
+use Rattle.world_laws.specs.NodeFacts.{facts_of, ring_of, RunsOf}
+
+-- of every history that follows a script in which each pairing is of two nodes and has 1 to 256 credits
+abbrev pub OfEveryHistory : (List Fact → Type 0) → Type 0
+OfEveryHistory P = (script : List Line) (h : List Fact) → PairsTwoNodes script → PairsFewCredits script → Follows script h → P h
+
+-- of each node of a history: of the facts of each number
+abbrev pub EachNode : (List Fact → Type 0) → List Fact → Type 0
+EachNode P h = (n : ℕ) → P (facts_of n h)
+
+-- of every node of every such history
+abbrev pub OfEveryNode : (List Fact → Type 0) → Type 0
+OfEveryNode P = OfEveryHistory (EachNode P)
+
+-- the receive ring is never longer than the one that the node was made with
+abbrev pub KeepsRing : List Fact → Type 0
+KeepsRing facts = RingWithin (ring_of facts) [] facts
+
+-- each node's facts are its Made and a run that leaves it as it is at the end; no other number has facts
+abbrev pub FollowsRuns : Type 0
+FollowsRuns = (script : List Line) (h : List Fact) → PairsTwoNodes script → PairsFewCredits script → (f : Follows script h) → RunsOf h f.0
+
+-- no request runs twice at a node, and no call begins or ends twice
+abbrev pub HappensAtMostOnce : Type 0
+HappensAtMostOnce = OfEveryHistory Once
+
+-- at every moment of a node's facts its sessions are in balance
+abbrev pub CreditBalances : Type 0
+CreditBalances = OfEveryNode Credit
+
+-- at each end of a call its packets are handed back
+abbrev pub EndedCallsAreNotQueued : Type 0
+EndedCallsAreNotQueued = OfEveryNode (EndsClean [])
+
+-- a node's ring is never longer than the one that it was made with
+abbrev pub RingFits : Type 0
+RingFits = OfEveryNode KeepsRing

@@ -1,0 +1,3 @@
+pub mod FewCredits
+pub mod Laws
+pub mod NodeFacts

@@ -1,0 +1,39 @@
+//! Laws of every history that follows a script, of each of its nodes. Each pairing of the script is of two
+//! nodes and has 1 to 256 credits, as in every `Script`.
+ghost use Rattle.std.specs.Prelude.{List};
+ghost use Rattle.rpc_base.specs.declared.fact.Fact.{Fact};
+ghost use Rattle.script_grammar.specs.Conditions.{IsScript};
+ghost use Rattle.script_grammar.specs.declared.line.Line.{Line};
+ghost use Rattle.world_laws.specs.FewCredits.{PairsFewCredits};
+ghost use Rattle.world_laws.specs.Laws.{CreditBalances, EndedCallsAreNotQueued, FollowsRuns, HappensAtMostOnce, RingFits};
+
+/// The facts of each node are its `Made` and a run of that node, which leaves it as the history does.
+pub fn follows_runs()
+    ensures { FollowsRuns }
+{}
+
+/// No request runs twice at a node, and no call begins or ends twice.
+pub fn happens_at_most_once()
+    ensures { HappensAtMostOnce }
+{}
+
+/// At every moment, the unanswered packets of a live client session of a node and its free credits make its
+/// limit.
+pub fn credit_balances()
+    ensures { CreditBalances }
+{}
+
+/// At the end of a call none of its packets is queued at its node, and none is posted there later.
+pub fn ended_calls_are_not_queued()
+    ensures { EndedCallsAreNotQueued }
+{}
+
+/// At no moment is the receive ring of a node longer than its room.
+pub fn ring_fits()
+    ensures { RingFits }
+{}
+
+/// Each pairing of a `Script` has 1 to 256 credits, so these laws are of all its histories.
+pub fn scripts_pair_few()
+    ensures { (script : List Line) → IsScript script → PairsFewCredits script }
+{}

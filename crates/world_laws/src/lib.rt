@@ -1,0 +1,9 @@
+//! The laws of one node's facts, of every node in every history that follows a script. It runs nothing.
+#![tactic(auto)]
+
+mod laws;
+
+pub use laws::{
+    credit_balances, ended_calls_are_not_queued, follows_runs, happens_at_most_once, ring_fits,
+    scripts_pair_few,
+};
