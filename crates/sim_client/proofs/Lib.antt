@@ -1,0 +1,3 @@
+pub mod AscendsLemmas
+pub mod EndLemmas
+pub mod TimerLemmas
