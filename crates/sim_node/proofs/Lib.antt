@@ -1,0 +1,6 @@
+pub mod ApartLemmas
+pub mod AsideLemmas
+pub mod GroupLemmas
+pub mod HearLemmas
+pub mod PostLemmas
+pub mod SendLemmas

@@ -1,0 +1,3 @@
+pub mod Apart
+pub mod Aside
+pub mod Hearing

@@ -1,0 +1,129 @@
+//! The node as its users have it.
+ghost use Rattle.std.specs.Prelude.{◌≡◌, ◌<◌, ◌≤◌, ◌∷◌, [], None, length, OnOk};
+ghost use Rattle.node_tables.specs.Noted.{Noted};
+ghost use Rattle.rpc_laws.specs.Deliveries.{delivery_facts};
+ghost use Rattle.rpc_laws.specs.Facts.{plain};
+ghost use Rattle.rpc_laws.specs.Groups.{pair_refusal};
+ghost use Rattle.rpc_laws.specs.NodeLists.{new_node};
+
+use crate::delivery::deliver;
+use crate::pairing::{pair_client, pair_server};
+use crate::tables::Tables;
+use rpc_base::{Event, Fact, Listed, NoMemory, NodeId, Peer, SessionNo};
+use std::alloc::Global;
+use std::marker::Model;
+
+/// A node with real client ends. Contracts see its lists and its clock. Once memory ran out in the midst
+/// of a step it takes no other step, and each ends as want of memory.
+#[derive(Drop)]
+pub struct Node {
+    is_cut: bool,
+    tables: Tables,
+}
+
+impl Model for Node {
+    ghost use Rattle.std.specs.Prelude.{◌≡◌, false};
+    ghost use Rattle.rpc_laws.specs.declared.tables.Timed.{Timed};
+    ghost use Rattle.sim_node.specs.Apart.{IsApart};
+
+    ghost Value = { Timed };
+
+    ghost view = { λ n. n.tables };
+
+    ghost invariant = { λ n. n.is_cut ≡ false → IsApart n.tables };
+}
+
+impl Node {
+    /// Node `me`, whose ring has so much room. Its lists are empty.
+    pub fn new(alloc: Global, me: NodeId, ring: u32) -> Node
+        ensures { result ≡ new_node me ring }
+    {
+        Node {
+            is_cut: false,
+            tables: Tables::new(alloc, me, ring),
+        }
+    }
+
+    /// How many client sessions there are: the number of the next one.
+    pub fn next_client(&self) -> usize
+        ensures { result ≡ length self.now.lists.clients }
+    {
+        self.tables.clients.len()
+    }
+
+    /// How many server sessions there are: the number of the next one.
+    pub fn next_server(&self) -> usize
+        ensures { result ≡ length self.now.lists.servers }
+    {
+        self.tables.servers.len()
+    }
+
+    /// Takes a datagram from a peer: into the ring where it is a packet of a call and there is room.
+    pub fn deliver(
+        &mut self,
+        alloc: Global,
+        facts: &mut Listed<Fact>,
+        peer: Peer,
+        bytes: &[u8],
+    ) -> Result<(), NoMemory>
+        ensures { OnOk result
+            (Noted (delivery_facts self.old.lists peer bytes.now) self.old self.new facts.old facts.new) }
+    {
+        if self.is_cut {
+            return Err(NoMemory);
+        }
+        self.is_cut = true;
+        deliver(alloc, &mut self.tables, facts, peer, bytes)?;
+        self.is_cut = false;
+        Ok(())
+    }
+
+    /// Takes the client end of a pair, whose other end has number `other` at the peer.
+    pub fn pair_client(
+        &mut self,
+        alloc: Global,
+        facts: &mut Listed<Fact>,
+        peer: Peer,
+        other: SessionNo,
+        credits: u16,
+    ) -> Result<(), NoMemory>
+        requires fits { pair_refusal credits self.old.lists ≡ None }
+        requires some { 1 ≤ credits }
+        requires most { credits ≤ 256 }
+        requires other { other < 65535 }
+        ensures { OnOk result
+            (Noted (plain self.old.lists.me (Event.PairedClient (length self.old.lists.clients) peer other credits) ∷ []) self.old self.new facts.old facts.new) }
+    {
+        if self.is_cut {
+            return Err(NoMemory);
+        }
+        self.is_cut = true;
+        pair_client(alloc, &mut self.tables, facts, peer, other, credits)?;
+        self.is_cut = false;
+        Ok(())
+    }
+
+    /// Takes the server end of a pair, whose other end has number `client` at the peer.
+    pub fn pair_server(
+        &mut self,
+        alloc: Global,
+        facts: &mut Listed<Fact>,
+        peer: Peer,
+        client: SessionNo,
+        credits: u16,
+    ) -> Result<(), NoMemory>
+        requires fits { pair_refusal credits self.old.lists ≡ None }
+        requires some { 1 ≤ credits }
+        requires most { credits ≤ 256 }
+        ensures { OnOk result
+            (Noted (plain self.old.lists.me (Event.PairedServer (length self.old.lists.servers) peer client credits) ∷ []) self.old self.new facts.old facts.new) }
+    {
+        if self.is_cut {
+            return Err(NoMemory);
+        }
+        self.is_cut = true;
+        pair_server(alloc, &mut self.tables, facts, peer, client, credits)?;
+        self.is_cut = false;
+        Ok(())
+    }
+}

@@ -1,0 +1,87 @@
+//! Noting a fact: it goes into the history, and the node's lists change as it says.
+ghost use Rattle.std.specs.Prelude.{◌≡◌, ◌∷◌, [], OnOk, IfOk};
+ghost use Rattle.node_tables.specs.Noted.{Noted};
+ghost use Rattle.rpc_laws.specs.Facts.{with_two};
+ghost use Rattle.rpc_laws.specs.NodeLists.{asked_after};
+ghost use Rattle.sim_node.specs.Apart.{IsApart};
+ghost use Rattle.sim_node.specs.Aside.{aside, LeavesClients, NotedAside};
+
+use crate::tables::Tables;
+use node_tables::{
+    body_in_front, change_queued, change_ring, change_servers, one_more, read_front,
+};
+use rpc_base::{Event, Fact, Listed, NoMemory, Octets, Who};
+use std::alloc::Global;
+
+fn count_asked(asked: u64, event: &Event) -> Result<u64, NoMemory>
+    ensures { IfOk result (λ n. n ≡ asked_after event.now asked) }
+{
+    match event {
+        Event::Asked { .. } => one_more(asked),
+        _ => Ok(asked),
+    }
+}
+
+// The tables read the packet in front of the ring, so the ring is changed last.
+fn change(
+    alloc: Global,
+    node: &mut Tables,
+    event: &Event,
+    first: &[u8],
+    second: &[u8],
+) -> Result<(), NoMemory>
+    ensures { OnOk result (node.new ≡ aside (with_two node.old.lists.me event.now first.now second.now) node.old) }
+{
+    let head = read_front(&node.ring);
+    let body = body_in_front(&node.ring);
+    change_servers(alloc, &mut node.servers, event, second, &head, body)?;
+    node.asked = count_asked(node.asked, event)?;
+    change_queued(&mut node.queued, event)?;
+    change_ring(alloc, &mut node.ring, event, first)?;
+    Ok(())
+}
+
+/// Notes a fact of the node with up to two pieces of bytes, and changes all its lists but that of the
+/// client ends.
+pub fn note_aside(
+    alloc: Global,
+    node: &mut Tables,
+    facts: &mut Listed<Fact>,
+    event: &Event,
+    first: &[u8],
+    second: &[u8],
+) -> Result<(), NoMemory>
+    ensures { OnOk result
+        (NotedAside (with_two node.old.lists.me event.now first.now second.now) node.old node.new facts.old facts.new) }
+{
+    let who = Who::Node(node.me);
+    change(alloc, node, event, first, second)?;
+    let first = Octets::copy(alloc, first)?;
+    let second = Octets::copy(alloc, second)?;
+    facts.push(Fact {
+        who,
+        event: *event,
+        first,
+        second,
+    })?;
+    Ok(())
+}
+
+/// Notes a fact of an event that changes no client end.
+pub fn note(
+    alloc: Global,
+    node: &mut Tables,
+    facts: &mut Listed<Fact>,
+    event: &Event,
+    first: &[u8],
+    second: &[u8],
+) -> Result<(), NoMemory>
+    requires leaves { LeavesClients event.now }
+    requires apart { IsApart node.old }
+    ensures noted { OnOk result
+        (Noted (with_two node.old.lists.me event.now first.now second.now ∷ []) node.old node.new facts.old facts.new) }
+    ensures apart { OnOk result (IsApart node.new) }
+{
+    note_aside(alloc, node, facts, event, first, second)?;
+    Ok(())
+}

@@ -1,0 +1,77 @@
+//! The ends of pairs.
+ghost use Rattle.std.specs.Prelude.{◌≡◌, ◌<◌, ◌≤◌, ◌∷◌, [], None, length, OnOk};
+ghost use Rattle.node_tables.specs.Noted.{Noted};
+ghost use Rattle.rpc_laws.specs.Facts.{plain};
+ghost use Rattle.rpc_laws.specs.Groups.{pair_refusal};
+ghost use Rattle.sim_node.specs.Apart.{IsApart};
+
+use crate::noting::{note, note_aside};
+use crate::tables::Tables;
+use rpc_base::{Event, Fact, Listed, NoMemory, Peer, SessionNo};
+use rpc_laws::Way;
+use sim_client::ClientEnd;
+use std::alloc::Global;
+
+/// The node takes the client end of a pair, whose other end has number `other` at the peer.
+pub fn pair_client(
+    alloc: Global,
+    node: &mut Tables,
+    facts: &mut Listed<Fact>,
+    peer: Peer,
+    other: SessionNo,
+    credits: u16,
+) -> Result<(), NoMemory>
+    requires fits { pair_refusal credits node.old.lists ≡ None }
+    requires some { 1 ≤ credits }
+    requires most { credits ≤ 256 }
+    requires other { other < 65535 }
+    requires apart { IsApart node.old }
+    ensures noted { OnOk result
+        (Noted (plain node.old.lists.me (Event.PairedClient (length node.old.lists.clients) peer other credits) ∷ []) node.old node.new facts.old facts.new) }
+    ensures apart { OnOk result (IsApart node.new) }
+{
+    let session = SessionNo(node.clients.len() as u16);
+    let way = Way {
+        number: session,
+        peer,
+        other,
+    };
+    let end = ClientEnd::new(alloc, way, credits)?;
+    node.clients.push(end)?;
+    let event = Event::PairedClient {
+        session,
+        peer,
+        server: other,
+        credits,
+    };
+    note_aside(alloc, node, facts, &event, &[], &[])?;
+    Ok(())
+}
+
+/// The node takes the server end of a pair, whose other end has number `client` at the peer.
+pub fn pair_server(
+    alloc: Global,
+    node: &mut Tables,
+    facts: &mut Listed<Fact>,
+    peer: Peer,
+    client: SessionNo,
+    credits: u16,
+) -> Result<(), NoMemory>
+    requires fits { pair_refusal credits node.old.lists ≡ None }
+    requires some { 1 ≤ credits }
+    requires most { credits ≤ 256 }
+    requires apart { IsApart node.old }
+    ensures noted { OnOk result
+        (Noted (plain node.old.lists.me (Event.PairedServer (length node.old.lists.servers) peer client credits) ∷ []) node.old node.new facts.old facts.new) }
+    ensures apart { OnOk result (IsApart node.new) }
+{
+    let session = SessionNo(node.servers.len() as u16);
+    let event = Event::PairedServer {
+        session,
+        peer,
+        client,
+        credits,
+    };
+    note(alloc, node, facts, &event, &[], &[])?;
+    Ok(())
+}
