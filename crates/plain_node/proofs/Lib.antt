@@ -1,3 +1,4 @@
 pub mod PollLemmas
+pub mod QuietLemmas
 pub mod RollLemmas
 pub mod WatchLemmas

@@ -3,6 +3,7 @@
 ghost use Rattle.std.specs.Prelude.{◌≡◌, ℕ, Some, map, slice_get, IfOk, OnOk};
 ghost use Rattle.std.specs.List.{find, list_any};
 ghost use Rattle.node_tables.specs.Noted.{Noted, Makes};
+ghost use Rattle.plain_node.specs.Due.{is_due, has_due, any_due};
 ghost use Rattle.rpc_laws.specs.Calls.{is_call};
 ghost use Rattle.rpc_laws.specs.Facts.{plain};
 ghost use Rattle.rpc_laws.specs.GoBackN.{row_of, row_facts, call_facts, client_facts, numbers_in, Each, Watches, WatchesSession, WatchesAll};
@@ -21,6 +22,61 @@ fn is_in_queue(queued: &Listed<Queued>, owner: Owner, number: u64) -> bool
         && u64::from(entry.number) == number)
 }
 
+fn has_timed_out(
+    clock: u64,
+    timeout: u64,
+    session: SessionNo,
+    queued: &Listed<Queued>,
+    progress: &Progress,
+) -> bool
+    ensures { result ≡ is_due clock timeout session queued.now (Some progress.now) }
+{
+    let owner = Owner::Ask {
+        session,
+        request: progress.request,
+    };
+    progress.got < progress.posted
+        && !is_in_queue(queued, owner, progress.got)
+        && timeout <= clock.saturating_sub(progress.mark)
+}
+
+// Whether a call with this progress has timed out.
+fn is_due(
+    clock: u64,
+    timeout: u64,
+    session: SessionNo,
+    queued: &Listed<Queued>,
+    progress: &Option<Progress>,
+) -> bool
+    ensures { result ≡ is_due clock timeout session queued.now progress.now }
+{
+    match progress {
+        None => false,
+        Some(progress) => has_timed_out(clock, timeout, session, queued, progress),
+    }
+}
+
+fn has_due(clock: u64, timeout: u64, queued: &Listed<Queued>, client: &Client) -> bool
+    ensures { result ≡ has_due clock timeout queued.now client.now }
+{
+    client.calls.as_slice().iter().any(|call| is_due(
+        clock,
+        timeout,
+        client.way.number,
+        queued,
+        &call.progress,
+    ))
+}
+
+fn any_due(clock: u64, timeout: u64, queued: &Listed<Queued>, clients: &Listed<Client>) -> bool
+    ensures { result ≡ any_due clock timeout queued.now clients.now }
+{
+    clients
+        .as_slice()
+        .iter()
+        .any(|client| has_due(clock, timeout, queued, client))
+}
+
 // The first row of the timer rule that holds of a call with this progress.
 fn row_of(
     clock: u64,
@@ -31,14 +87,7 @@ fn row_of(
 ) -> TimerRow
     ensures { result ≡ row_of clock timeout session queued.now progress.now }
 {
-    let owner = Owner::Ask {
-        session,
-        request: progress.request,
-    };
-    let has_timed_out = progress.got < progress.posted
-        && !is_in_queue(queued, owner, progress.got)
-        && timeout <= clock.saturating_sub(progress.mark);
-    if !has_timed_out {
+    if !has_timed_out(clock, timeout, session, queued, progress) {
         return TimerRow::Waits;
     }
     if progress.rolls < 8 {
@@ -213,8 +262,7 @@ fn watch_session(
     Ok(())
 }
 
-/// Looks at the calls of all sessions, in the order of their numbers, at the node's clock.
-pub fn watch(
+fn watch_each(
     alloc: Global,
     node: &mut Timed,
     facts: &mut Listed<Fact>,
@@ -227,5 +275,23 @@ pub fn watch(
     'sessions: for i in 0..count {
         watch_session(alloc, node, facts, timeout, i)?;
     }
+    Ok(())
+}
+
+/// Looks at the calls of all sessions, in the order of their numbers, at the node's clock. Where none has
+/// timed out, as at most polls, one pass over the calls shows it, and no call is looked up by its number.
+pub fn watch(
+    alloc: Global,
+    node: &mut Timed,
+    facts: &mut Listed<Fact>,
+    timeout: u64,
+) -> Result<(), NoMemory>
+    ensures { OnOk result
+        (Makes (WatchesAll timeout) node.old node.new facts.old facts.new) }
+{
+    if !any_due(node.clock, timeout, &node.lists.queued, &node.lists.clients) {
+        return Ok(());
+    }
+    watch_each(alloc, node, facts, timeout)?;
     Ok(())
 }
