@@ -12,6 +12,7 @@ mod PacketLemmas
 mod PartLemmas
 mod PlacesLemmas
 mod PoolLemmas
+pub mod RollLemmas
 mod SentLemmas
 mod SessionLemmas
 pub mod ShownLemmas

@@ -103,6 +103,28 @@ fn post_and_give(
     Some((entry, len, first))
 }
 
+/// The entry of a posted packet of the first request of a slot, and whether it is held. If it is, it is
+/// sent at 50 microseconds.
+fn look_and_send(
+    session: &mut ClientSession,
+    pool: &mut BufferPool,
+    slot: u8,
+    number: u16,
+) -> Option<(Entry, bool)>
+    requires slot { slot ≤ 1 }
+    requires keeps_pool { KeepsPool pool.old session.old.active }
+    ensures { KeepsPool pool.new session.new.active }
+{
+    let Some(entry) = session.entry(RequestNo::of(slot, 0), number, PEER) else {
+        return None;
+    };
+    let is_held = session.is_held(pool, &entry);
+    if is_held {
+        session.sent(pool, &entry, 50);
+    }
+    Some((entry, is_held))
+}
+
 /// The entry of a packet of the first request of a slot, 0 or 1.
 fn entry(slot: u8, number: u16, place: u32) -> Entry
     requires { slot ≤ 1 }
@@ -118,6 +140,18 @@ fn entry(slot: u8, number: u16, place: u32) -> Entry
     }
 }
 
+/// What is told of an active call that has the first request of a slot, 0 or 1.
+fn active(call: u64, slot: u8, got: u16, posted: u16) -> Active
+    requires { slot ≤ 1 }
+{
+    Active {
+        call: CallNo(call),
+        request: RequestNo::of(slot, 0),
+        got,
+        posted,
+    }
+}
+
 #[test]
 fn calls_begin_and_post_oldest_first(rt: HostRuntime) -> Result<(), Fail> {
     let alloc = rt.alloc();
@@ -128,6 +162,7 @@ fn calls_begin_and_post_oldest_first(rt: HostRuntime) -> Result<(), Fail> {
         (session.asked(), session.pending(), session.free()),
         (2, 2, 3)
     );
+    assert_eq!(rt; session.limit(), 3);
     assert!(rt; session.active(None).is_none());
     assert!(rt; begin_one(&mut session, &mut pool) == Some((CallNo(20), RequestNo::of(0, 0))));
     assert!(rt; begin_one(&mut session, &mut pool) == Some((CallNo(21), RequestNo::of(1, 0))));
@@ -140,21 +175,9 @@ fn calls_begin_and_post_oldest_first(rt: HostRuntime) -> Result<(), Fail> {
     assert!(rt; post_one(&mut session, &mut pool) == Some(entry(0, 1, 0)));
     assert!(rt; post_one(&mut session, &mut pool) == Some(entry(1, 0, 2)));
     assert!(rt; post_one(&mut session, &mut pool).is_none());
-    assert_eq!(rt; session.free(), 0);
-    let older = Active {
-        call: CallNo(20),
-        request: RequestNo::of(0, 0),
-        got: 0,
-        posted: 2,
-    };
-    assert!(rt; session.active(None) == Some(older));
-    let newer = Active {
-        call: CallNo(21),
-        request: RequestNo::of(1, 0),
-        got: 0,
-        posted: 1,
-    };
-    assert!(rt; session.active(Some(CallNo(20))) == Some(newer));
+    assert_eq!(rt; (session.free(), session.limit()), (0, 3));
+    assert!(rt; session.active(None) == Some(active(20, 0, 0, 2)));
+    assert!(rt; session.active(Some(CallNo(20))) == Some(active(21, 1, 0, 1)));
     assert!(rt; session.active(Some(CallNo(21))).is_none());
     Ok(())
 }
@@ -176,5 +199,20 @@ fn an_entry_stands_for_its_packet(rt: HostRuntime) -> Result<(), Fail> {
     let third = post_and_give(&mut session, &mut pool, &mut head, true);
     assert!(rt; third == Some((entry(1, 0, 2), 1, Some(0xBB))));
     assert_eq!(rt; head, [0xE1, 0, 9, 0, 0, 1, 5, 6, 0, 0, 0, 0, 0, 0, 0, 1]);
+    Ok(())
+}
+
+#[test]
+fn a_posted_packet_is_held_until_it_is_sent(rt: HostRuntime) -> Result<(), Fail> {
+    let alloc = rt.alloc();
+    let mut pool = BufferPool::new(alloc, 8)?;
+    let mut session = make_session(alloc)?;
+    assert!(rt; begin_one(&mut session, &mut pool).is_some());
+    assert!(rt; look_and_send(&mut session, &mut pool, 0, 0).is_none());
+    assert!(rt; post_one(&mut session, &mut pool) == Some(entry(0, 0, 0)));
+    assert!(rt; look_and_send(&mut session, &mut pool, 0, 0) == Some((entry(0, 0, 0), true)));
+    assert!(rt; look_and_send(&mut session, &mut pool, 0, 0) == Some((entry(0, 0, 0), false)));
+    assert!(rt; look_and_send(&mut session, &mut pool, 0, 1).is_none());
+    assert!(rt; look_and_send(&mut session, &mut pool, 1, 0).is_none());
     Ok(())
 }

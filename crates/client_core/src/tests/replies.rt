@@ -12,7 +12,7 @@ use std::test::Fail;
 
 /// What a datagram did.
 #[derive(Clone, Copy, Debug, PartialEq, Eq)]
-enum Told {
+pub enum Told {
     /// It is no packet of a call in this session, or an entry of its call is still out.
     Nothing,
     Dropped(DropReason),
@@ -22,7 +22,12 @@ enum Told {
 }
 
 /// A datagram arrives at 70 microseconds.
-fn arrive(session: &mut ClientSession, pool: &mut BufferPool, datagram: &[u8], queued: bool) -> Told
+pub fn arrive(
+    session: &mut ClientSession,
+    pool: &mut BufferPool,
+    datagram: &[u8],
+    queued: bool,
+) -> Told
     requires { KeepsPool pool.old session.old.active }
     ensures { KeepsPool pool.new session.new.active }
 {
@@ -72,7 +77,7 @@ pub fn begin_both(session: &mut ClientSession, pool: &mut BufferPool)
 }
 
 /// A reply to session 3: its kind, type, size, number and request's last byte, and so many bytes after it.
-fn datagram(
+pub fn datagram(
     alloc: Global,
     kind: u8,
     req_type: u8,

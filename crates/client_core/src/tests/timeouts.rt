@@ -3,10 +3,11 @@ ghost use Rattle.std.specs.Prelude.{IfSome, IsSome};
 ghost use Rattle.client_core.specs.KeepsPool.{KeepsPool};
 ghost use Rattle.client_core.specs.Timeouts.{call_numbered};
 
-use super::make_session;
-use super::replies::begin_both;
+use super::replies::{Told, arrive, begin_both, datagram};
+use super::{active, entry, make_session, post_and_give, post_one};
 use crate::{ClientSession, Done, Outcome, Timer};
 use buffer_pool::BufferPool;
+use packet_header::HEAD_BYTES;
 use rpc_base::{CallNo, RequestNo};
 use std::test::Fail;
 
@@ -26,6 +27,24 @@ fn look(session: &ClientSession, now: u64) -> Option<Timer> {
         return None;
     };
     Some(session.check(call, now, false, 5000))
+}
+
+/// The call of least number is rolled back, if it has timed out; its packets are not queued.
+fn roll_one(session: &mut ClientSession, pool: &BufferPool, now: u64) -> bool
+    requires { KeepsPool pool.now session.old.active }
+    ensures { KeepsPool pool.now session.new.active }
+{
+    let Some(call) = first_active(session) else {
+        return false;
+    };
+    match session.check(call, now, false, 5000) {
+        Timer::Roll { .. } => {
+            session.roll(call);
+            true
+        }
+        Timer::Quiet => false,
+        Timer::Lost => false,
+    }
 }
 
 /// The next call that is lost.
@@ -65,6 +84,51 @@ fn a_call_times_out_after_its_timeout(rt: HostRuntime) -> Result<(), Fail> {
         got: 0,
     };
     assert!(rt; look(&session, 5050) == Some(roll));
+    Ok(())
+}
+
+#[test]
+fn a_call_that_timed_out_posts_its_packets_again(rt: HostRuntime) -> Result<(), Fail> {
+    let alloc = rt.alloc();
+    let mut pool = BufferPool::new(alloc, 8)?;
+    let mut session = make_session(alloc)?;
+    begin_both(&mut session, &mut pool);
+    assert!(rt; !roll_one(&mut session, &pool, 5049));
+    assert_eq!(rt; session.free(), 0);
+    assert!(rt; roll_one(&mut session, &pool, 5050));
+    assert_eq!(rt; (session.free(), session.limit()), (2, 3));
+    assert!(rt; session.active(None) == Some(active(20, 0, 0, 0)));
+    assert!(rt; session.active(Some(CallNo(20))) == Some(active(21, 1, 0, 1)));
+    let mut head = [0; HEAD_BYTES];
+    let first = post_and_give(&mut session, &mut pool, &mut head, true);
+    assert!(rt; first == Some((entry(0, 0, 0), 1024, Some(0xAA))));
+    assert_eq!(rt; head, [0xE1, 0, 9, 0, 4, 6, 5, 6, 0, 0, 0, 0, 0, 0, 0, 0]);
+    let second = post_and_give(&mut session, &mut pool, &mut head, true);
+    assert!(rt; second == Some((entry(0, 1, 0), 6, Some(0xAA))));
+    assert_eq!(rt; head, [0xE1, 0, 9, 0, 4, 6, 5, 6, 0, 1, 0, 0, 0, 0, 0, 0]);
+    assert!(rt; post_one(&mut session, &mut pool).is_none());
+    assert!(rt; session.active(None) == Some(active(20, 0, 0, 2)));
+    assert_eq!(rt; session.free(), 0);
+    Ok(())
+}
+
+#[test]
+fn an_answered_packet_is_not_posted_again(rt: HostRuntime) -> Result<(), Fail> {
+    let alloc = rt.alloc();
+    let mut pool = BufferPool::new(alloc, 8)?;
+    let mut session = make_session(alloc)?;
+    begin_both(&mut session, &mut pool);
+    // A CR to packet 0 of request 0 comes at 70 microseconds.
+    let credit = datagram(alloc, 2, 0, 0, 0, 0, 0)?;
+    assert!(rt; arrive(&mut session, &mut pool, &credit, false) == Told::Took);
+    assert_eq!(rt; session.free(), 1);
+    assert!(rt; !roll_one(&mut session, &pool, 5069));
+    assert!(rt; roll_one(&mut session, &pool, 5070));
+    assert_eq!(rt; (session.free(), session.limit()), (2, 3));
+    assert!(rt; session.active(None) == Some(active(20, 0, 1, 1)));
+    assert!(rt; post_one(&mut session, &mut pool) == Some(entry(0, 1, 0)));
+    assert!(rt; post_one(&mut session, &mut pool).is_none());
+    assert_eq!(rt; session.free(), 1);
     Ok(())
 }
 
