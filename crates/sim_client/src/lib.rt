@@ -5,3 +5,6 @@
 mod end;
 
 pub use end::ClientEnd;
+
+#[cfg(test)]
+mod tests;
