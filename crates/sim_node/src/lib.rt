@@ -5,6 +5,7 @@
 mod asking;
 mod clients;
 mod delivery;
+mod flushing;
 mod handling;
 mod hearing;
 mod node;
