@@ -1,7 +1,7 @@
 -- The session of an event stands at its place, and stays apart from the others.
 use Rattle.std.proofs.Common.{◌≡◌, ℕ, zero, suc, ◌+◌, ◌≤◌, Bool, true, false, ◌||◌, cond, eqb, Some, List, [], ◌∷◌, refl, ap, ◌∙◌, arith}
 use Rattle.std.specs.Prelude.{◌==◌, count_by, slice_get, slice_set}
-use Rattle.std.specs.List.{find, list_any}
+use Rattle.std.specs.List.{AllByRecursion, find, list_any}
 use Rattle.std.proofs.lemmas.Bool.{eq-eqb, ne_eqb}
 use Rattle.std.proofs.lemmas.List.Sums.{sum_by-cons}
 use Rattle.rpc_base.specs.Tables.{at_first}
@@ -9,6 +9,7 @@ use Rattle.rpc_laws.specs.declared.tables.Call.{Call}
 use Rattle.rpc_laws.specs.declared.tables.Client.{Client}
 use Rattle.rpc_laws.specs.Calls.{is_call}
 use Rattle.rpc_laws.specs.Sessions.{is_client, has_call}
+use Rattle.sim_client.specs.Ends.{Ascends}
 use Rattle.sim_node.specs.Apart.{NumberedFrom, Apart}
 
 module _ {A : Type 0} (p : A → Bool) where
@@ -69,10 +70,11 @@ numbered-there f n (suc k) m (y ∷ ys) x h e s =
     let other : eqb y.way.number m ≡ false = ne_eqb y.way.number m (λ t. omega arith) in
     rw other (ap (λ (zs : List Client). y ∷ zs) (numbered-there f (suc n) k m ys x h.1 e (omega arith)))
 
--- a change of a session that keeps its number and adds no call
+-- a change of a session that keeps its number and the order of its calls, and adds no call
 pub record Keeps (f : Client → Client) : Type 0 where
   pub number : (x : Client) → (f x).way.number ≡ x.way.number
   pub calls : (n : ℕ) → (x : Client) → cond (has_call n (f x)) 1 0 ≤ cond (has_call n x) 1 0
+  pub ascends : (x : Client) → Ascends x.calls → Ascends (f x).calls
 
 module _ (p : Client → Bool) (f : Client → Client) (k : Keeps f) where
   kept-cons : (n : ℕ) (y : Client) (ys : List Client) (b : Bool) → y.way.number ≡ n → NumberedFrom (suc n) ys → NumberedFrom (suc n) (at_first p f ys) → NumberedFrom n (cond b (f y ∷ ys) (y ∷ at_first p f ys))
@@ -93,10 +95,19 @@ module _ (p : Client → Bool) (f : Client → Client) (k : Keeps f) where
   fewer n [] = omega arith
   fewer n (y ∷ ys) = fewer-cons n y ys (p y) (fewer n ys)
 
+  ascends-cons : (y : Client) (ys : List Client) (b : Bool) → Ascends y.calls → AllByRecursion (λ x. Ascends x.calls) ys → AllByRecursion (λ x. Ascends x.calls) (at_first p f ys) → AllByRecursion (λ x. Ascends x.calls) (cond b (f y ∷ ys) (y ∷ at_first p f ys))
+  ascends-cons y ys true here rest after = (k.ascends y here, rest)
+  ascends-cons y ys false here rest after = (here, after)
+
+  ascends-kept : (xs : List Client) → AllByRecursion (λ x. Ascends x.calls) xs → AllByRecursion (λ x. Ascends x.calls) (at_first p f xs)
+  ascends-kept [] h = tt
+  ascends-kept (y ∷ ys) h = ascends-cons y ys (p y) h.0 h.1 (ascends-kept ys h.1)
+
   pub apart-kept : (asked : ℕ) (xs : List Client) → Apart asked xs → Apart asked (at_first p f xs)
   apart-kept asked xs h = record {
     numbered = numbered-kept 0 xs h.numbered;
     once = λ n. let one = h.once n in let less = fewer n xs in omega arith;
+    ascends = ascends-kept xs h.ascends;
   }
 
 -- calls change and keep their numbers

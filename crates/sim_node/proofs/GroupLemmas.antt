@@ -15,6 +15,7 @@ use Rattle.rpc_laws.specs.Facts.{plain}
 use Rattle.rpc_laws.specs.Groups.{pair_refusal, shares}
 use Rattle.rpc_laws.specs.Sessions.{has_call, client_end}
 use Rattle.node_tables.specs.Noted.{Noted}
+use Rattle.sim_client.specs.Ends.{Ascends}
 use Rattle.sim_node.specs.Apart.{NumberedFrom, Apart, IsApart}
 use Rattle.sim_node.specs.Aside.{NotedAside}
 use Rattle.sim_node.proofs.ApartLemmas.{counted-cons, there-counted}
@@ -39,11 +40,16 @@ counted-push number [] y t = omega (arith, counted-cons (has_call number) y [] f
 counted-push number (x ∷ xs) y t =
     omega (arith, counted-cons (has_call number) x (xs ++ y ∷ []) (has_call number x) refl, counted-cons (has_call number) x xs (has_call number x) refl, counted-push number xs y t)
 
+ascends-push : (xs : List Client) (y : Client) → AllByRecursion (λ x. Ascends x.calls) xs → Ascends y.calls → AllByRecursion (λ x. Ascends x.calls) (xs ++ y ∷ [])
+ascends-push [] y h up = (up, tt)
+ascends-push (x ∷ xs) y h up = (h.0, ascends-push xs y h.1 up)
+
 apart-push : (asked : ℕ) (xs : List Client) (y : Client) → Apart asked xs → y.way.number ≡ length xs → y.calls ≡ [] → Apart asked (xs ++ y ∷ [])
 apart-push asked xs y h number none = record {
   numbered = numbered-push 0 xs y h.numbered (omega arith);
   once = λ n. let one = h.once n in
       let same = counted-push n xs y (ap (λ (cs : List Call). list_any (is_call n) cs) none) in omega arith;
+  ascends = ascends-push xs y h.ascends (rw none tt);
 }
 
 pub paired-client : (a s c : Timed) (ys : List Client) (f g : List Fact) (session peer other credits : ℕ) (x : Client) → a ≡ s → IsApart s → session ≡ length s.lists.clients → x ≡ client_end session peer other credits → ys ≡ a.lists.clients ++ x ∷ [] → NotedAside (plain a.lists.me (PairedClient session peer other credits)) (with_clients ys a) c f g → Noted (plain s.lists.me (PairedClient (length s.lists.clients) peer other credits) ∷ []) s c f g × IsApart c

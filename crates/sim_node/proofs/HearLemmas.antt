@@ -34,6 +34,7 @@ use Rattle.rpc_laws.specs.PollOrder.{replies_facts}
 use Rattle.rpc_laws.specs.Queues.{is_queued}
 use Rattle.rpc_laws.specs.Sessions.{is_client, has_call, ends, takes, clients_after}
 use Rattle.node_tables.specs.Noted.{Noted}
+use Rattle.sim_client.proofs.AscendsLemmas.{ascends-changed, ascends-without}
 use Rattle.sim_node.specs.Apart.{Apart, IsApart}
 use Rattle.sim_node.specs.Aside.{NotedAside}
 use Rattle.sim_node.specs.Hearing.{RepliesAt}
@@ -54,6 +55,7 @@ takes-keeps : (clock r : ℕ) (head : Option MessageHeader) (body : List ℕ) �
 takes-keeps clock r head body = record {
   number = λ x. refl;
   calls = λ n x. le-of (has_call n (takes clock r head body x)) (has_call n x) (any-same (is_active r) (moved (took_reply clock head body)) (λ d. refl) n x.calls);
+  ascends = λ x. ascends-changed (is_active r) (moved (took_reply clock head body)) (λ d. refl) x.calls;
 }
 
 module _ (p : Call → Bool) (n : ℕ) where
@@ -72,7 +74,11 @@ module _ (p : Call → Bool) (n : ℕ) where
   any-less (c ∷ cs) = less-cons c cs (p c) (is_call n c) refl (any-less cs)
 
 pub ends-keeps : (number : ℕ) → Keeps (ends number)
-ends-keeps number = record { number = λ x. refl; calls = λ n x. any-less (is_call number) n x.calls }
+ends-keeps number = record {
+  number = λ x. refl;
+  calls = λ n x. any-less (is_call number) n x.calls;
+  ascends = λ x. ascends-without (is_call number) x.calls;
+}
 
 -- the event of the first fact
 abbrev front-event : Event → List Fact → Event

@@ -17,6 +17,7 @@ use Rattle.rpc_laws.specs.Facts.{plain}
 use Rattle.rpc_laws.specs.Steps.{NotesNext}
 use Rattle.node_tables.specs.Noted.{Makes, NotesOne}
 use Rattle.sim_client.specs.Ends.{begun_event, posted_event}
+use Rattle.sim_client.proofs.AscendsLemmas.{ascends-changed}
 use Rattle.sim_node.specs.Apart.{Apart, IsApart, BeginsAt, PostsNext, PostsAt}
 use Rattle.sim_node.specs.Aside.{NotedAside}
 use Rattle.sim_node.proofs.AsideLemmas.{with_clients, noted-with}
@@ -36,12 +37,14 @@ begins-keeps : (c r : ℕ) → Keeps (begins c r)
 begins-keeps c r = record {
   number = λ x. refl;
   calls = λ n x. le-of (has_call n (begins c r x)) (has_call n x) (any-same (is_call c) (begun r) (λ d. refl) n x.calls);
+  ascends = λ x. ascends-changed (is_call c) (begun r) (λ d. refl) x.calls;
 }
 
 posts-keeps : (r k : ℕ) → Keeps (posts r k)
 posts-keeps r k = record {
   number = λ x. refl;
   calls = λ n x. le-of (has_call n (posts r k x)) (has_call n x) (any-same (is_active r) (moved (posted_up_to k)) (λ d. refl) n x.calls);
+  ascends = λ x. ascends-changed (is_active r) (moved (posted_up_to k)) (λ d. refl) x.calls;
 }
 
 at-begins : (i asked : ℕ) (b : ℕ × ℕ) (xs ys : List Client) → Apart asked xs → BeginsAt i (Some b) xs ys → ys ≡ at_first (has_call b.0) (begins b.0 b.1) xs

@@ -21,6 +21,7 @@ use Rattle.rpc_laws.specs.Packets.{ask_packet, call_packet, client_packet, outgo
 use Rattle.rpc_laws.specs.PollOrder.{Sends}
 use Rattle.rpc_laws.specs.Sessions.{is_client, has_call, sends}
 use Rattle.node_tables.specs.Noted.{Makes}
+use Rattle.sim_client.proofs.AscendsLemmas.{ascends-changed}
 use Rattle.sim_node.specs.Apart.{IsApart}
 use Rattle.sim_node.specs.Aside.{NotedAside}
 use Rattle.sim_node.proofs.ApartLemmas.{Keeps, apart-kept, any-same, le-of}
@@ -30,6 +31,7 @@ sends-keeps : (clock r k : ℕ) → Keeps (sends clock r k)
 sends-keeps clock r k = record {
   number = λ x. refl;
   calls = λ n x. le-of (has_call n (sends clock r k x)) (has_call n x) (any-same (is_active r) (moved (sent_packet clock k)) (λ d. refl) n x.calls);
+  ascends = λ x. ascends-changed (is_active r) (moved (sent_packet clock k)) (λ d. refl) x.calls;
 }
 
 -- a packet of a call goes to the peer of its session

@@ -1,11 +1,13 @@
 -- What holds of a node's client sessions at every moment, so that the session of an event stands at its
--- place: sessions are numbered in order, and no two of them have a call of the same number.
+-- place: sessions are numbered in order, no two of them have a call of the same number, and the calls of each
+-- stand in the order of their numbers.
 use Rattle.std.specs.Prelude.{ℕ, suc, ◌≡◌, ◌+◌, ◌≤◌, nat_le, Option, Some, None, List, [], ◌∷◌, count_by, slice_get, slice_set, option_and_then, if◌then◌else◌}
+use Rattle.std.specs.List.{AllByRecursion}
 use Rattle.rpc_laws.specs.declared.tables.Client.{Client}
 use Rattle.rpc_laws.specs.declared.tables.Timed.{Timed}
 use Rattle.rpc_laws.specs.Posting.{beginning, posting}
 use Rattle.rpc_laws.specs.Sessions.{has_call, begins, posts}
-use Rattle.sim_client.specs.Ends.{begun_event, posted_event}
+use Rattle.sim_client.specs.Ends.{Ascends, begun_event, posted_event}
 
 -- sessions are numbered in order
 abbrev pub NumberedFrom : ℕ → List Client → Type 0
@@ -16,10 +18,12 @@ NumberedFrom n (x ∷ xs) = (x.way.number ≡ n) × NumberedFrom (suc n) xs
 abbrev pub to_come : ℕ → ℕ → ℕ
 to_come asked number = if nat_le asked number then 1 else 0
 
--- a call number stands in at most one session, and in none before it is given out
+-- a call number stands in at most one session, and in none before it is given out. The calls of a session
+-- stand in the order of their numbers
 pub record Apart (asked : ℕ) (clients : List Client) : Type 0 where
   pub numbered : NumberedFrom 0 clients
   pub once : (number : ℕ) → count_by (has_call number) clients + to_come asked number ≤ 1
+  pub ascends : AllByRecursion (λ x. Ascends x.calls) clients
 
 abbrev pub IsApart : Timed → Type 0
 IsApart s = Apart s.lists.asked s.lists.clients
