@@ -123,7 +123,7 @@ set-twice [] i x y = refl
 set-twice (z ∷ xs) zero x y = refl
 set-twice (z ∷ xs) (suc i) x y = ap (λ (zs : List Client). z ∷ zs) (set-twice xs i x y)
 
-get-set : (xs : List Client) (i : ℕ) (w x : Client) → slice_get xs i ≡ Some w → slice_get (slice_set xs i x) i ≡ Some x
+pub get-set : (xs : List Client) (i : ℕ) (w x : Client) → slice_get xs i ≡ Some w → slice_get (slice_set xs i x) i ≡ Some x
 get-set [] i w x e = cc
 get-set (z ∷ xs) zero w x e = refl
 get-set (z ∷ xs) (suc i) w x e = get-set xs i w x e

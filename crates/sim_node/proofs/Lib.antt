@@ -4,4 +4,7 @@ pub mod FlushLemmas
 pub mod GroupLemmas
 pub mod HearLemmas
 pub mod PostLemmas
+pub mod QuietLemmas
+pub mod RollLemmas
 pub mod SendLemmas
+pub mod WalkLemmas

@@ -1,3 +1,4 @@
 pub mod Apart
 pub mod Aside
 pub mod Hearing
+pub mod Watching

@@ -13,13 +13,16 @@ mod noting;
 mod packets;
 mod pairing;
 mod posting;
+mod rolling;
 mod sending;
 mod server_table;
 mod service;
 mod serving;
 mod tables;
+mod watching;
 
 pub use handling::handle_all;
 pub use node::Node;
 pub use posting::serve_sessions;
 pub use sending::send_all;
+pub use watching::watch;
