@@ -1,8 +1,10 @@
 pub mod ApartLemmas
 pub mod AsideLemmas
 pub mod FlushLemmas
+pub mod GatherLemmas
 pub mod GroupLemmas
 pub mod HearLemmas
+pub mod NextLemmas
 pub mod PostLemmas
 pub mod QuietLemmas
 pub mod RollLemmas

@@ -1,5 +1,5 @@
 -- Numbers of a session of which no call is active: looking at them notes nothing, and they stay so.
-use Rattle.std.proofs.Common.{◌≡◌, ℕ, zero, suc, ◌<◌, ◌≤◌, Bool, true, false, ◌&&◌, ◌||◌, cond, eqb, ltb, Option, Some, None, List, [], ◌∷◌, ◌++◌, refl, sym, ap, subst, ◌∙◌, arith}
+use Rattle.std.proofs.Common.{◌≡◌, ℕ, zero, suc, ◌<◌, ◌≤◌, Bool, true, false, ◌&&◌, ◌||◌, cond, eqb, ltb, Option, Some, None, List, [], ◌∷◌, ◌++◌, refl, sym, ap, ◌∙◌, arith}
 use Rattle.std.specs.Prelude.{is_some, map, option_and_then, option_map, slice_get}
 use Rattle.std.specs.List.{AllByRecursion, find, flat_map, list_any}
 use Rattle.std.proofs.lemmas.Bool.{eq-eqb, eqb-true, ne_eqb}
@@ -20,13 +20,14 @@ use Rattle.rpc_laws.specs.declared.tables.Timed.{Timed}
 use Rattle.rpc_laws.specs.Calls.{is_call, moved, rolled_back}
 use Rattle.rpc_laws.specs.Facts.{plain}
 use Rattle.rpc_laws.specs.Front.{front_header, front_body}
-use Rattle.rpc_laws.specs.GoBackN.{Watches, break_facts, call_facts, client_facts, flushes_of, progress_facts, row_facts, row_of}
+use Rattle.rpc_laws.specs.GoBackN.{Watches, call_facts, client_facts, flushes_of, progress_facts, row_facts, row_of}
 use Rattle.rpc_laws.specs.NodeLists.{after, after_all}
 use Rattle.rpc_laws.specs.Queues.{numbers_of}
 use Rattle.rpc_laws.specs.Sessions.{breaks, clients_after, ends, has_call, is_client, rolls}
 use Rattle.sim_client.specs.Ends.{Ascends, is_above}
-use Rattle.sim_node.specs.Watching.{calls_at, calls_in, number_at}
+use Rattle.sim_node.specs.Watching.{calls_at, calls_in}
 use Rattle.sim_node.proofs.ApartLemmas.{found-any}
+use Rattle.sim_node.proofs.NextLemmas.{both, is_next}
 
 abbrev pub has_number : ℕ → Call → Bool
 has_number m c = is_call m c && is_some c.progress
@@ -37,9 +38,6 @@ any_active i m xs = list_any (has_number m) (calls_at i xs)
 abbrev pub above : Option ℕ → ℕ → Bool
 above None m = true
 above (Some n) m = ltb n m
-
-abbrev pub is_next : Option ℕ → Call → Bool
-is_next after c = is_some c.progress && is_above after c
 
 -- they give nothing
 module _ (clock timeout me : ℕ) (queued : List Queued) (m : ℕ) where
@@ -145,10 +143,6 @@ some-next after n (Some x) e = next-call after n x.calls (find (is_next after) x
 next-above : (after : Option ℕ) (c : Call) → is_above after c ≡ above after c.what.number
 next-above None c = refl
 next-above (Some n) c = refl
-
-both : (a b : Bool) → (a && b) ≡ true → (a ≡ true) × (b ≡ true)
-both true b e = (refl, e)
-both false b e = cc
 
 pub next-passes : (after : Option ℕ) (n : ℕ) (cs : List Call) → Next after n cs → (above after n ≡ true) × (list_any (has_number n) cs ≡ true)
 next-passes after n cs next =

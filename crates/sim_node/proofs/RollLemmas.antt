@@ -1,41 +1,40 @@
 -- A call that is rolled back, and a session that breaks, from what its end does to what the node notes.
-use Rattle.std.proofs.Common.{◌≡◌, ℕ, zero, suc, ◌+◌, ◌<◌, ◌≤◌, Bool, true, false, ◌&&◌, cond, eqb, ltb, Option, Some, None, List, [], ◌∷◌, ◌++◌, refl, sym, ap, subst, ◌∙◌, arith, append_assoc, append-nil}
-use Rattle.std.specs.Prelude.{IfNone, IfSome, count_by, filter, is_some, map, option_and_then, option_map, slice_get, slice_set}
-use Rattle.std.specs.List.{AllByRecursion, find, flat_map, list_any}
-use Rattle.std.proofs.lemmas.Bool.{eq-eqb, eqb-true, ne_eqb}
-use Rattle.std.proofs.lemmas.Bool.Decides.{nat_tests}
+use Rattle.std.proofs.Common.{◌≡◌, ℕ, true, false, Option, Some, None, List, [], ◌∷◌, ◌++◌, refl, sym, ap, subst, ◌∙◌, arith}
+use Rattle.std.specs.Prelude.{IfNone, IfSome, map, option_and_then, slice_get, slice_set}
+use Rattle.std.specs.List.{flat_map, list_any}
+use Rattle.std.proofs.lemmas.Bool.{eq-eqb, eqb-true}
 use Rattle.std.proofs.lemmas.List.{map-append}
 use Rattle.rpc_base.specs.Tables.{at_first, without_first}
-use Rattle.rpc_base.specs.declared.event.Event.{Event}
-use Rattle.rpc_base.specs.declared.event.Event.TheVariants.{Flushed, Rolled, Broken, DonePeerLost}
+use Rattle.rpc_base.specs.declared.event.Event.TheVariants.{Rolled, Broken, DonePeerLost}
 use Rattle.rpc_base.specs.declared.fact.Fact.{Fact}
 use Rattle.rpc_base.specs.declared.owner.Owner.{Owner}
 use Rattle.rpc_base.specs.declared.owner.Owner.TheVariants.{Ask}
 use Rattle.client_core.specs.declared.active.Active.{Active}
-use Rattle.client_core.proofs.CallsLemmas.{found-holds, found-passes}
+use Rattle.client_core.proofs.CallsLemmas.{found-passes}
 use Rattle.rpc_laws.specs.declared.rows.TimerRow.{TimerRow}
-use Rattle.rpc_laws.specs.declared.rows.TimerRow.TheVariants.{Waits, RollsBack, Breaks}
+use Rattle.rpc_laws.specs.declared.rows.TimerRow.TheVariants.{RollsBack}
 use Rattle.rpc_laws.specs.declared.tables.Call.{Call}
 use Rattle.rpc_laws.specs.declared.tables.Client.{Client}
 use Rattle.rpc_laws.specs.declared.tables.Lists.{Lists}
-use Rattle.rpc_laws.specs.declared.tables.Progress.{Progress}
 use Rattle.rpc_laws.specs.declared.tables.Queued.{Queued}
 use Rattle.rpc_laws.specs.declared.tables.Timed.{Timed}
 use Rattle.rpc_laws.specs.Calls.{is_call, moved, rolled_back}
 use Rattle.rpc_laws.specs.Facts.{plain}
-use Rattle.rpc_laws.specs.GoBackN.{Watches, break_facts, client_facts, flushes_of, progress_facts, row_facts, row_of}
+use Rattle.rpc_laws.specs.GoBackN.{Watches, break_facts, client_facts, row_facts, row_of}
 use Rattle.rpc_laws.specs.NodeLists.{after, after_all}
 use Rattle.rpc_laws.specs.Queues.{flush_facts, numbers_of}
 use Rattle.rpc_laws.specs.Sessions.{breaks, ends, has_call, is_client, rolls}
 use Rattle.node_tables.specs.Noted.{Makes, Noted}
 use Rattle.node_tables.proofs.NotedLemmas.{me-noted, noted-nothing, noted-then}
-use Rattle.sim_client.specs.Ends.{Ascends, is_above, next_above, progress_of, told_call, told_of}
+use Rattle.sim_client.specs.Ends.{progress_of}
 use Rattle.sim_client.proofs.AscendsLemmas.{ascends-changed}
 use Rattle.sim_node.specs.Apart.{Apart, ChangesAt, IsApart}
 use Rattle.sim_node.specs.Aside.{NotedAside}
-use Rattle.sim_node.specs.Watching.{ActiveAt, LooksAt, Loses, LosesAt, LosesOne, RowAt, calls_at, calls_in, first_number, flushed, lost, next_at, number_at, rolled}
+use Rattle.sim_node.proofs.NextLemmas.{some-same}
+use Rattle.sim_node.proofs.GatherLemmas.{flushes}
+use Rattle.sim_node.specs.Watching.{ActiveAt, Loses, LosesAt, LosesOne, RowAt, calls_at, calls_in, first_number, flushed, lost, rolled}
 use Rattle.sim_node.proofs.ApartLemmas.{Keeps, any-same, apart-kept, found-any, le-of, numbered-above, numbered-there, only-there}
-use Rattle.sim_node.proofs.AsideLemmas.{told, with_clients, noted-with}
+use Rattle.sim_node.proofs.AsideLemmas.{with_clients, noted-with}
 use Rattle.sim_node.proofs.HearLemmas.{ends-keeps, get-set}
 use Rattle.sim_node.proofs.PostLemmas.{set-own}
 
@@ -75,9 +74,6 @@ changed-told n i asked h xs ys keeps apart q has =
     let one = apart.once n in
     let e : ys ≡ at_first (has_call n) h xs = q.changed ∙ sym (only-there (has_call n) h xs i q.client (omega arith) q.place has) in
     (e, rw e (apart-kept (has_call n) h keeps asked xs apart))
-
-some-same : {A : Type 0} (x y : A) → Some x ≡ Some y → x ≡ y
-some-same x y h = cc
 
 module _ (i : ℕ) (a s c : Timed) (ys : List Client) (f g : List Fact) (view : a ≡ s) (known : IsApart s) where
   here : IsApart a
@@ -187,143 +183,6 @@ ending-on i start s t f g h end p u k q =
 pub ending-over : (i : ℕ) (start s : Timed) (f g : List Fact) → Ending i start s f g → calls_at i s.lists.clients ≡ [] → Noted (map (lost start.lists.me) (calls_at i start.lists.clients)) start s f g
 ending-over i start s f g end none = end s g (rw none (noted-nothing s g))
 
--- the packets of all calls
-module _ (F : Call → List Fact) where
-  abbrev pub from : Option ℕ → List Call → List Fact
-  from after cs = flat_map F (filter (is_above after) cs)
-
-  pub from-all : (cs : List Call) → from None cs ≡ flat_map F cs
-  from-all [] = refl
-  from-all (c ∷ cs) = ap (λ fs. F c ++ fs) (from-all cs)
-
-module _ (F : Call → List Fact) (idle : (c : Call) → is_some c.progress ≡ false → F c ≡ []) where
-  over-cons : (after : Option ℕ) (c : Call) (cs : List Call) (d u : Bool) → is_some c.progress ≡ d → (find (λ e. is_some e.progress && is_above after e) cs ≡ None → from F after cs ≡ []) → cond (d && u) (Some c) (find (λ e. is_some e.progress && is_above after e) cs) ≡ None → flat_map F (cond u (c ∷ filter (is_above after) cs) (filter (is_above after) cs)) ≡ []
-  over-cons after c cs true true t ih e = cc
-  over-cons after c cs true false t ih e = ih e
-  over-cons after c cs false true t ih e = rw (idle c t) (ih e)
-  over-cons after c cs false false t ih e = ih e
-
-  pub from-over : (after : Option ℕ) (cs : List Call) → find (λ e. is_some e.progress && is_above after e) cs ≡ None → from F after cs ≡ []
-  from-over after [] e = refl
-  from-over after (c ∷ cs) e = over-cons after c cs (is_some c.progress) (is_above after c) refl (from-over after cs) e
-
-  above-more : (after : Option ℕ) (c d : Call) → is_above after c ≡ true → c.what.number < d.what.number → is_above after d ≡ true
-  above-more None c d up more = refl
-  above-more (Some n) c d up more = grind (arith, nat_tests)
-
-  all-pass : (q : Call → Bool) (k : ℕ) (cs : List Call) → ((d : Call) → k < d.what.number → q d ≡ true) → AllByRecursion (λ d. k < d.what.number) cs → filter q cs ≡ cs
-  all-pass q k [] h all = refl
-  all-pass q k (c ∷ cs) h all = rw (h c all.0) (ap (λ (ds : List Call). c ∷ ds) (all-pass q k cs h all.1))
-
-  lower : (n e : ℕ) → e ≤ n → ltb n e ≡ false
-  lower n e low = grind (arith, nat_tests)
-
-  higher : (n e : ℕ) → n < e → ltb n e ≡ true
-  higher n e low = grind (arith, nat_tests)
-
-  next-cons : (after : Option ℕ) (c d : Call) (cs : List Call) (b u : Bool) → is_some c.progress ≡ b → is_above after c ≡ u → Ascends (c ∷ cs) → (find (λ e. is_some e.progress && is_above after e) cs ≡ Some d → from F after cs ≡ F d ++ from F (Some d.what.number) cs) → cond (b && u) (Some c) (find (λ e. is_some e.progress && is_above after e) cs) ≡ Some d → flat_map F (cond u (c ∷ filter (is_above after) cs) (filter (is_above after) cs)) ≡ F d ++ from F (Some d.what.number) (c ∷ cs)
-  next-cons after c d cs true true t up order ih e =
-      let same : c ≡ d = cc in
-      let all = all-pass (is_above after) c.what.number cs (λ x more. above-more after c x up more) order.0 in
-      let own = all-pass (is_above (Some c.what.number)) c.what.number cs (λ x more. higher c.what.number x.what.number more) order.0 in
-      subst (λ (x : Call). F c ++ from F after cs ≡ F x ++ from F (Some x.what.number) (c ∷ cs)) same (rw (lower c.what.number c.what.number (omega arith), all, own) refl)
-  next-cons after c d cs true false t up order ih e =
-      let low = found-holds (λ e. is_some e.progress && is_above after e) (λ x. c.what.number < x.what.number) cs d order.0 e in
-      rw (lower d.what.number c.what.number (omega arith)) (ih e)
-  next-cons after c d cs false true t up order ih e =
-      let low = found-holds (λ e. is_some e.progress && is_above after e) (λ x. c.what.number < x.what.number) cs d order.0 e in
-      rw (lower d.what.number c.what.number (omega arith), idle c t) (ih e)
-  next-cons after c d cs false false t up order ih e =
-      let low = found-holds (λ e. is_some e.progress && is_above after e) (λ x. c.what.number < x.what.number) cs d order.0 e in
-      rw (lower d.what.number c.what.number (omega arith)) (ih e)
-
-  pub from-next : (after : Option ℕ) (cs : List Call) (d : Call) → Ascends cs → find (λ e. is_some e.progress && is_above after e) cs ≡ Some d → from F after cs ≡ F d ++ from F (Some d.what.number) cs
-  from-next after [] d order e = cc
-  from-next after (c ∷ cs) d order e =
-      next-cons after c d cs (is_some c.progress) (is_above after c) refl refl order (λ h. from-next after cs d order.1 h) e
-
--- what is told of the next active call
-abbrev pub is_next : Option ℕ → Call → Bool
-is_next after c = is_some c.progress && is_above after c
-
-pub record Told (after : Option ℕ) (cs : List Call) (a : Active) : Type 0 where
-  pub call : Call
-  pub found : find (is_next after) cs ≡ Some call
-  pub progress : Progress
-  pub is_active : call.progress ≡ Some progress
-  pub told : a ≡ told_of call.what.number progress
-
-both : (a b : Bool) → (a && b) ≡ true → a ≡ true
-both true b e = refl
-both false b e = cc
-
-module _ (after : Option ℕ) (cs : List Call) where
-  none-by : (c : Call) (o : Option Progress) → c.progress ≡ o → is_some c.progress ≡ true → None ≡ option_map (told_of c.what.number) o → find (is_next after) cs ≡ None
-  none-by c None own active e = let no : false ≡ true = ap is_some (sym own) ∙ active in cc
-  none-by c (Some p) own active e = cc
-
-  told-none-of : (o : Option Call) → find (is_next after) cs ≡ o → None ≡ option_and_then told_call o → find (is_next after) cs ≡ None
-  told-none-of None found e = found
-  told-none-of (Some c) found e =
-      none-by c c.progress refl (both (is_some c.progress) (is_above after c) (found-passes (is_next after) cs c found)) e
-
-  pub told-none : (o : Option Active) → o ≡ None → o ≡ option_and_then told_call (find (is_next after) cs) → find (is_next after) cs ≡ None
-  told-none o none e = told-none-of (find (is_next after) cs) refl (sym none ∙ e)
-
-  some-by : (a : Active) (c : Call) (o : Option Progress) → c.progress ≡ o → find (is_next after) cs ≡ Some c → Some a ≡ option_map (told_of c.what.number) o → Told after cs a
-  some-by a c None own found e = cc
-  some-by a c (Some p) own found e = record { call = c; found = found; progress = p; is_active = own; told = some-same a (told_of c.what.number p) e }
-
-  told-some-of : (a : Active) (o : Option Call) → find (is_next after) cs ≡ o → Some a ≡ option_and_then told_call o → Told after cs a
-  told-some-of a None found e = cc
-  told-some-of a (Some c) found e = some-by a c c.progress refl found e
-
-  pub told-some : (a : Active) (o : Option Active) → o ≡ Some a → o ≡ option_and_then told_call (find (is_next after) cs) → Told after cs a
-  told-some a o some e = told-some-of a (find (is_next after) cs) refl (sym some ∙ e)
-
-  own-cons : (c d : Call) (ds : List Call) (b : Bool) → AllByRecursion (λ e. c.what.number < e.what.number) ds → (find (is_next after) ds ≡ Some d → find (is_call d.what.number) ds ≡ Some d) → cond b (Some c) (find (is_next after) ds) ≡ Some d → find (is_call d.what.number) (c ∷ ds) ≡ Some d
-  own-cons c d ds true all ih e =
-      let same : c ≡ d = cc in
-      rw (eq-eqb c.what.number d.what.number (ap (λ (x : Call). x.what.number) same)) e
-  own-cons c d ds false all ih e =
-      let low = found-holds (is_next after) (λ x. c.what.number < x.what.number) ds d all e in
-      let other : eqb c.what.number d.what.number ≡ false = ne_eqb c.what.number d.what.number (λ t. omega arith) in
-      rw other (ih e)
-
-own-found : (after : Option ℕ) (cs : List Call) (d : Call) → Ascends cs → find (is_next after) cs ≡ Some d → find (is_call d.what.number) cs ≡ Some d
-own-found after [] d order e = cc
-own-found after (c ∷ cs) d order e =
-    own-cons after cs c d cs (is_next after c) order.0 (own-found after cs d order.1) e
-
--- the packets of all calls, while they are gathered
-abbrev pub flushes : (me session : ℕ) → List Queued → Call → List Fact
-flushes me session queued c = flushes_of me session queued c.progress
-
-idle-flushes : (me session : ℕ) (queued : List Queued) (c : Call) (o : Option Progress) → c.progress ≡ o → is_some o ≡ false → flushes me session queued c ≡ []
-idle-flushes me session queued c None own e = rw own refl
-idle-flushes me session queued c (Some p) own e = cc
-
-module _ (me session : ℕ) (queued : List Queued) (cs : List Call) where
-  pub packets-start : (ps : List Queued) → ps ≡ [] → map (flushed me) ps ++ from (flushes me session queued) None cs ≡ flat_map (flushes me session queued) cs
-  packets-start ps e = rw e (from-all (flushes me session queued) cs)
-
-  module _ (after : Option ℕ) (ps : List Queued) (sum : map (flushed me) ps ++ from (flushes me session queued) after cs ≡ flat_map (flushes me session queued) cs) where
-    idle : (c : Call) → is_some c.progress ≡ false → flushes me session queued c ≡ []
-    idle c e = idle-flushes me session queued c c.progress refl e
-
-    pub packets-over : (o : Option Active) → o ≡ None → o ≡ option_and_then told_call (find (is_next after) cs) → map (flushed me) ps ≡ flat_map (flushes me session queued) cs
-    packets-over o none e =
-        let over = from-over (flushes me session queued) idle after cs (told-none after cs o none e) in
-        sym (append-nil (map (flushed me) ps)) ∙ ap (λ fs. map (flushed me) ps ++ fs) (sym over) ∙ sum
-
-    pub packets-more : (a : Active) (o : Option Active) (n : ℕ) (more : List Queued) → Ascends cs → o ≡ Some a → o ≡ option_and_then told_call (find (is_next after) cs) → n ≡ session → map (flushed me) more ≡ map (flushed me) ps ++ flush_facts me queued (Ask n a.request) → map (flushed me) more ++ from (flushes me session queued) (Some a.call) cs ≡ flat_map (flushes me session queued) cs
-    packets-more a o n more order some e number pushed =
-        let t = told-some after cs a o some e in
-        let next = from-next (flushes me session queued) idle after cs t.call order t.found in
-        let own : flushes me session queued t.call ≡ flush_facts me queued (Ask session t.progress.request) = ap (λ (o : Option Progress). flushes_of me session queued o) t.is_active in
-        let all : map (flushed me) ps ++ (flush_facts me queued (Ask session t.progress.request) ++ from (flushes me session queued) (Some t.call.what.number) cs) ≡ flat_map (flushes me session queued) cs = ap (λ fs. map (flushed me) ps ++ (fs ++ from (flushes me session queued) (Some t.call.what.number) cs)) (sym own) ∙ ap (λ fs. map (flushed me) ps ++ fs) (sym next) ∙ sum in
-        ap (λ fs. fs ++ from (flushes me session queued) (Some a.call) cs) pushed ∙ ap (λ k. map (flushed me) ps ++ flush_facts me queued (Ask k a.request) ++ from (flushes me session queued) (Some a.call) cs) number ∙ ap (λ (b : Active). map (flushed me) ps ++ flush_facts me queued (Ask session b.request) ++ from (flushes me session queued) (Some b.call) cs) t.told ∙ append_assoc (map (flushed me) ps) (flush_facts me queued (Ask session t.progress.request)) (from (flushes me session queued) (Some t.call.what.number) cs) ∙ all
-
 -- a rollback, whole
 pub active-still : (i : ℕ) (a : Active) (s t : Timed) (me : ℕ) (ps : List Queued) (f g : List Fact) → Noted (map (flushed me) ps) s t f g → ActiveAt i a s.lists.clients → ActiveAt i a t.lists.clients
 active-still i a s t me ps f g p active = subst (λ (xs : List Client). ActiveAt i a xs) (sym (same-clients s t me ps f g p)) active
@@ -369,60 +228,9 @@ module _ (timeout i : ℕ) (a : Active) (s : Timed) (active : ActiveAt i a s.lis
       let number : active.call.what.number ≡ a.call = eqb-true active.call.what.number a.call (found-passes (is_call a.call) x.calls active.call active.found) in
       rw (active.place, active.found, active.is_active, number, is) refl
 
-  pub watch-waits : (row : TimerRow) (f : List Fact) → row ≡ Waits → RowAt timeout i a.call row s → Makes (Watches timeout i a.call) s s f f
-  watch-waits row f e at =
-      let waits : RowAt timeout i a.call Waits s = rw e at at in
-      record { noted = []; grew = sym (append-nil f); step = record { facts = sym (row-facts Waits waits); goes = refl } }
-
   pub watch-rolls : (row : TimerRow) (t : Timed) (f g : List Fact) → row ≡ RollsBack → RowAt timeout i a.call row s → ((x : Client) → slice_get s.lists.clients i ≡ Some x → Noted (rolled s.lists.me x.way.number s.lists.queued a) s t f g) → Makes (Watches timeout i a.call) s t f g
   watch-rolls row t f g e at noted =
       let rolls_back : RowAt timeout i a.call RollsBack s = rw e at at in
       let n = noted active.client active.place in
       let same : rolled s.lists.me active.client.way.number s.lists.queued a ≡ row_facts s.lists.me s.lists.queued active.client a.call active.progress RollsBack = ap (λ (b : Active). flush_facts s.lists.me s.lists.queued (Ask active.client.way.number b.request) ++ plain s.lists.me (Rolled a.call b.posted b.got) ∷ []) active.told in
       record { noted = rolled s.lists.me active.client.way.number s.lists.queued a; grew = n.grew; step = record { facts = same ∙ sym (row-facts RollsBack rolls_back); goes = n.goes } }
-
-  pub watch-breaks : (row : TimerRow) (t : Timed) (f g : List Fact) → row ≡ Breaks → RowAt timeout i a.call row s → ((x : Client) → slice_get s.lists.clients i ≡ Some x → Noted (break_facts s.lists.me s.lists.queued x) s t f g) → Makes (Watches timeout i a.call) s t f g
-  watch-breaks row t f g e at noted =
-      let broke : RowAt timeout i a.call Breaks s = rw e at at in
-      let n = noted active.client active.place in
-      record { noted = break_facts s.lists.me s.lists.queued active.client; grew = n.grew; step = record { facts = sym (row-facts Breaks broke); goes = n.goes } }
-
--- the next active call of a session, as it is told
-pub ascends-in : (xs : List Client) (i : ℕ) → AllByRecursion (λ x. Ascends x.calls) xs → Ascends (calls_at i xs)
-ascends-in [] i h = tt
-ascends-in (x ∷ xs) zero h = h.0
-ascends-in (x ∷ xs) (suc i) h = ascends-in xs i h.1
-
-looks-none-in : (after : Option ℕ) (w : Option Client) (o : Option Active) → o ≡ None → o ≡ option_and_then told_call (option_and_then (next_above after) w) → option_map (λ c. c.what.number) (option_and_then (next_above after) w) ≡ None
-looks-none-in after None o none e = refl
-looks-none-in after (Some x) o none e =
-    ap (λ (k : Option Call). option_map (λ c. c.what.number) k) (told-none after x.calls o none e)
-
-active-in : (after : Option ℕ) (i : ℕ) (xs : List Client) (w : Option Client) (a : Active) (o : Option Active) → slice_get xs i ≡ w → Ascends (calls_in w) → o ≡ Some a → o ≡ option_and_then told_call (option_and_then (next_above after) w) → ActiveAt i a xs × (option_map (λ c. c.what.number) (option_and_then (next_above after) w) ≡ Some a.call)
-active-in after i xs None a o place order some e = let no : Some a ≡ None = sym some ∙ e in cc
-active-in after i xs (Some x) a o place order some e =
-    let t = told-some after x.calls a o some e in
-    let call : a.call ≡ t.call.what.number = ap (λ (b : Active). b.call) t.told in
-    let found : find (is_call t.call.what.number) x.calls ≡ Some t.call = own-found after x.calls t.call order t.found in (
-      record {
-        client = x;
-        place = place;
-        call = t.call;
-        found = ap (λ n. find (is_call n) x.calls) call ∙ found;
-        progress = t.progress;
-        is_active = t.is_active;
-        told = t.told ∙ ap (λ n. told_of n t.progress) (sym call);
-      },
-      ap (λ (k : Option Call). option_map (λ c. c.what.number) k) t.found ∙ ap (λ n. Some n) (sym call),
-    )
-
-module _ (after : Option ℕ) (i : ℕ) (b s : Timed) (view : b ≡ s) where
-  pub looks-none : (o : Option Active) (f : List Fact) → o ≡ None → o ≡ option_and_then told_call (next_at after i b.lists.clients) → (timeout : ℕ) → LooksAt timeout i after None s s f f
-  looks-none o f none e timeout =
-      (ap (λ (z : Timed). number_at after i z.lists.clients) (sym view) ∙ looks-none-in after (slice_get b.lists.clients i) o none e, refl, refl)
-
-  pub looks-some : (a : Active) (o : Option Active) → IsApart s → o ≡ Some a → o ≡ option_and_then told_call (next_at after i b.lists.clients) → ActiveAt i a s.lists.clients × (number_at after i s.lists.clients ≡ Some a.call)
-  looks-some a o known some e =
-      let h : IsApart b = rw view known in
-      let it = active-in after i b.lists.clients (slice_get b.lists.clients i) a o refl (ascends-in b.lists.clients i h.ascends) some e in
-      (subst (λ (z : Timed). ActiveAt i a z.lists.clients) view it.0, subst (λ (z : Timed). number_at after i z.lists.clients ≡ Some a.call) view it.1)

@@ -1,9 +1,9 @@
 -- The active calls of a session are looked at, one after another: those between them are idle, so that all
 -- calls that the session had were looked at.
-use Rattle.std.proofs.Common.{◌≡◌, ℕ, zero, suc, ◌<◌, ◌≤◌, Bool, true, false, ◌||◌, cond, eqb, ltb, Option, Some, None, List, [], ◌∷◌, ◌++◌, refl, sym, ap, subst, ◌∙◌, append-nil, arith}
+use Rattle.std.proofs.Common.{◌≡◌, ℕ, ◌<◌, ◌≤◌, Bool, true, false, ◌||◌, cond, ltb, Option, Some, None, List, [], ◌∷◌, refl, sym, ap, ◌∙◌, append-nil, arith}
 use Rattle.std.specs.Prelude.{filter, map, slice_get}
-use Rattle.std.specs.List.{AllByRecursion, find, list_any}
-use Rattle.std.proofs.lemmas.Bool.{eq-eqb, eqb-true, ne_eqb}
+use Rattle.std.specs.List.{AllByRecursion, list_any}
+use Rattle.std.proofs.lemmas.Bool.{eqb-true}
 use Rattle.std.proofs.lemmas.Bool.Decides.{nat_tests}
 use Rattle.rpc_base.specs.declared.fact.Fact.{Fact}
 use Rattle.rpc_laws.specs.declared.tables.Call.{Call}
@@ -15,10 +15,10 @@ use Rattle.rpc_laws.specs.Steps.{Rel}
 use Rattle.node_tables.specs.Noted.{Makes}
 use Rattle.node_tables.proofs.NotedLemmas.{makes-then}
 use Rattle.sim_client.specs.Ends.{Ascends}
-use Rattle.sim_node.specs.Apart.{Apart, IsApart}
+use Rattle.sim_node.specs.Apart.{IsApart}
 use Rattle.sim_node.specs.Watching.{LooksAt, calls_at, calls_in, number_at}
-use Rattle.sim_node.proofs.RollLemmas.{ascends-in}
-use Rattle.sim_node.proofs.QuietLemmas.{Next, above, any_active, has_number, idle-below, idle-past, idle-unlisted, idle-watch, idle-watched, next-passes, none-next, some-next}
+use Rattle.sim_node.proofs.NextLemmas.{ascends-in}
+use Rattle.sim_node.proofs.QuietLemmas.{Next, above, any_active, idle-below, idle-past, idle-unlisted, idle-watch, idle-watched, next-passes, none-next, some-next}
 
 abbrev pub numbers : List Call → List ℕ
 numbers cs = map (λ c. c.what.number) cs

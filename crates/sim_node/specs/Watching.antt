@@ -1,6 +1,6 @@
 -- What is looked at of a session's active calls when the timers are, and what their rows do.
-use Rattle.std.specs.Prelude.{ℕ, ◌≡◌, ◌&&◌, Bool, true, false, Option, Some, None, IfSome, is_some, option_and_then, option_map, List, [], ◌∷◌, ◌++◌, slice_get}
-use Rattle.std.specs.List.{find, list_any}
+use Rattle.std.specs.Prelude.{ℕ, ◌≡◌, Bool, true, false, Option, Some, None, IfSome, option_and_then, option_map, List, [], ◌∷◌, ◌++◌, slice_get}
+use Rattle.std.specs.List.{find}
 use Rattle.rpc_base.specs.declared.event.Event.TheVariants.{Flushed, Rolled, DonePeerLost}
 use Rattle.rpc_base.specs.declared.fact.Fact.{Fact}
 use Rattle.rpc_base.specs.declared.owner.Owner.TheVariants.{Ask}
@@ -17,7 +17,7 @@ use Rattle.rpc_laws.specs.GoBackN.{Watches, row_of}
 use Rattle.rpc_laws.specs.Queues.{flush_facts}
 use Rattle.rpc_laws.specs.Sessions.{ends}
 use Rattle.node_tables.specs.Noted.{Makes, Noted}
-use Rattle.sim_client.specs.Ends.{next_above, progress_of, told_call, told_of}
+use Rattle.sim_client.specs.Ends.{next_above, progress_of, told_of}
 use Rattle.sim_node.specs.Apart.{ChangesAt}
 
 -- the first active call of session i above a number

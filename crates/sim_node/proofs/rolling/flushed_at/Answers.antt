@@ -1,4 +1,3 @@
-use Rattle.std.proofs.Common.{◌∙◌}
 use Rattle.sim_node.proofs.PostLemmas.{set-own}
 use Rattle.sim_node.proofs.rolling.flushed_at.Goals as goal
 

@@ -1,4 +1,3 @@
-use Rattle.sim_node.proofs.RollLemmas.{ending-on, ending-over}
 use Rattle.sim_node.proofs.rolling.lose_all.Goals as goal
 
 pub calls-init : goal.calls-init

@@ -1,6 +1,6 @@
 use Rattle.std.proofs.Common.{ap}
 use Rattle.rpc_laws.specs.declared.tables.Way.{Way}
-use Rattle.sim_node.proofs.RollLemmas.{packets-start, packets-more, packets-over}
+use Rattle.sim_node.proofs.GatherLemmas.{packets-start, packets-more, packets-over}
 use Rattle.sim_node.proofs.rolling.packets_of.Goals as goal
 
 pub calls-init : goal.calls-init

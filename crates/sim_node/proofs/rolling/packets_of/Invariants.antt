@@ -1,7 +1,7 @@
 use Rattle.std.proofs.Common.{ℕ, ◌≡◌, ◌++◌, map}
 use Rattle.std.specs.List.{flat_map}
 use Rattle.sim_node.specs.Watching.{flushed}
-use Rattle.sim_node.proofs.RollLemmas.{flushes, from}
+use Rattle.sim_node.proofs.GatherLemmas.{flushes, from}
 use Rattle.sim_node.proofs.rolling.packets_of.Given as goal
 
 abbrev pub invariant-calls : goal.invariant-calls

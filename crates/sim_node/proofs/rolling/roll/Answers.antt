@@ -1,4 +1,4 @@
-use Rattle.std.proofs.Common.{ap, ◌∙◌}
+use Rattle.std.proofs.Common.{ap}
 use Rattle.rpc_laws.specs.declared.tables.Way.{Way}
 use Rattle.sim_node.proofs.RollLemmas.{active-still, rolled-whole}
 use Rattle.sim_node.proofs.rolling.roll.Goals as goal

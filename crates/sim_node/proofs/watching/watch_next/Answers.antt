@@ -1,4 +1,4 @@
-use Rattle.sim_node.proofs.RollLemmas.{looks-none, looks-some}
+use Rattle.sim_node.proofs.NextLemmas.{looks-none, looks-some}
 use Rattle.sim_node.proofs.watching.watch_next.Goals as goal
 
 pub watch_call-requires-clause-active : goal.watch_call-requires-clause-active
