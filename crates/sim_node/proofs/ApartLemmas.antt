@@ -76,15 +76,17 @@ pub record Keeps (f : Client → Client) : Type 0 where
   pub calls : (n : ℕ) → (x : Client) → cond (has_call n (f x)) 1 0 ≤ cond (has_call n x) 1 0
   pub ascends : (x : Client) → Ascends x.calls → Ascends (f x).calls
 
+-- a change that keeps the number of a session
+module _ (p : Client → Bool) (f : Client → Client) (number : (x : Client) → (f x).way.number ≡ x.way.number) where
+  changed-cons : (n : ℕ) (y : Client) (ys : List Client) (b : Bool) → y.way.number ≡ n → NumberedFrom (suc n) ys → NumberedFrom (suc n) (at_first p f ys) → NumberedFrom n (cond b (f y ∷ ys) (y ∷ at_first p f ys))
+  changed-cons n y ys true here rest after = (number y ∙ here, rest)
+  changed-cons n y ys false here rest after = (here, after)
+
+  pub numbered-changed : (n : ℕ) (xs : List Client) → NumberedFrom n xs → NumberedFrom n (at_first p f xs)
+  numbered-changed n [] h = tt
+  numbered-changed n (y ∷ ys) h = changed-cons n y ys (p y) h.0 h.1 (numbered-changed (suc n) ys h.1)
+
 module _ (p : Client → Bool) (f : Client → Client) (k : Keeps f) where
-  kept-cons : (n : ℕ) (y : Client) (ys : List Client) (b : Bool) → y.way.number ≡ n → NumberedFrom (suc n) ys → NumberedFrom (suc n) (at_first p f ys) → NumberedFrom n (cond b (f y ∷ ys) (y ∷ at_first p f ys))
-  kept-cons n y ys true here rest after = (k.number y ∙ here, rest)
-  kept-cons n y ys false here rest after = (here, after)
-
-  numbered-kept : (n : ℕ) (xs : List Client) → NumberedFrom n xs → NumberedFrom n (at_first p f xs)
-  numbered-kept n [] h = tt
-  numbered-kept n (y ∷ ys) h = kept-cons n y ys (p y) h.0 h.1 (numbered-kept (suc n) ys h.1)
-
   fewer-cons : (n : ℕ) (y : Client) (ys : List Client) (b : Bool) → count_by (has_call n) (at_first p f ys) ≤ count_by (has_call n) ys → count_by (has_call n) (cond b (f y ∷ ys) (y ∷ at_first p f ys)) ≤ count_by (has_call n) (y ∷ ys)
   fewer-cons n y ys true ih =
       omega (arith, counted-cons (has_call n) (f y) ys (has_call n (f y)) refl, counted-cons (has_call n) y ys (has_call n y) refl, k.calls n y)
@@ -105,7 +107,7 @@ module _ (p : Client → Bool) (f : Client → Client) (k : Keeps f) where
 
   pub apart-kept : (asked : ℕ) (xs : List Client) → Apart asked xs → Apart asked (at_first p f xs)
   apart-kept asked xs h = record {
-    numbered = numbered-kept 0 xs h.numbered;
+    numbered = numbered-changed p f k.number 0 xs h.numbered;
     once = λ n. let one = h.once n in let less = fewer n xs in omega arith;
     ascends = ascends-kept xs h.ascends;
   }

@@ -1,24 +1,29 @@
 -- The ends of pairs, and calls that are asked.
 use Rattle.std.proofs.Common.{◌≡◌, ℕ, suc, ◌+◌, ◌≤◌, ◌<◌, Bool, true, false, ◌||◌, cond, leb, ltb, Some, None, List, [], ◌∷◌, ◌++◌, length, refl, sym, ap, subst, ◌∙◌, arith}
-use Rattle.std.specs.Prelude.{count_by, slice_get}
-use Rattle.std.specs.List.{AllByRecursion, list_any}
+use Rattle.std.specs.Prelude.{◌==◌, count_by, slice_get}
+use Rattle.std.specs.List.{AllByRecursion, find, list_any, position}
 use Rattle.std.proofs.lemmas.Bool.{eq-eqb}
 use Rattle.std.proofs.lemmas.Bool.Decides.{nat_tests}
-use Rattle.rpc_base.specs.declared.event.Event.TheVariants.{PairedClient, NconnectNumbers, NconnectRing}
+use Rattle.rpc_base.specs.declared.event.Event.TheVariants.{Asked, PairedClient, NconnectNumbers, NconnectRing}
 use Rattle.rpc_base.specs.declared.fact.Fact.{Fact}
+use Rattle.rpc_base.specs.Tables.{at_first}
 use Rattle.rpc_laws.specs.declared.tables.Call.{Call}
 use Rattle.rpc_laws.specs.declared.tables.Client.{Client}
 use Rattle.rpc_laws.specs.declared.tables.Lists.{Lists}
 use Rattle.rpc_laws.specs.declared.tables.Timed.{Timed}
-use Rattle.rpc_laws.specs.Calls.{is_call}
-use Rattle.rpc_laws.specs.Facts.{plain}
-use Rattle.rpc_laws.specs.Groups.{pair_refusal, shares}
-use Rattle.rpc_laws.specs.Sessions.{has_call, client_end}
+use Rattle.rpc_base.proofs.TablesLemmas.{find-found, find-missing}
+use Rattle.rpc_base.specs.declared.state.SessionState.{SessionState}
+use Rattle.rpc_base.specs.declared.state.SessionState.TheVariants.{Unknown}
+use Rattle.rpc_laws.specs.declared.tables.Asking.{Asking}
+use Rattle.rpc_laws.specs.Calls.{is_call, asking}
+use Rattle.rpc_laws.specs.Facts.{plain, with_bytes}
+use Rattle.rpc_laws.specs.Groups.{ask_by_state, pair_refusal, shares, state_of}
+use Rattle.rpc_laws.specs.Sessions.{is_client, has_call, asks, client_end}
 use Rattle.node_tables.specs.Noted.{Noted}
 use Rattle.sim_client.specs.Ends.{Ascends}
-use Rattle.sim_node.specs.Apart.{NumberedFrom, Apart, IsApart}
+use Rattle.sim_node.specs.Apart.{NumberedFrom, Apart, IsApart, to_come}
 use Rattle.sim_node.specs.Aside.{NotedAside}
-use Rattle.sim_node.proofs.ApartLemmas.{counted-cons, there-counted}
+use Rattle.sim_node.proofs.ApartLemmas.{counted-cons, there-counted, numbered-changed}
 use Rattle.sim_node.proofs.AsideLemmas.{with_clients, noted-with}
 
 -- there are numbers left where nothing refuses an end
@@ -85,3 +90,101 @@ module _ (asked : ℕ) (xs : List Client) (h : Apart asked xs) (i : ℕ) (x : Cl
 
   pub calls-below : AllByRecursion (λ c. c.what.number < asked) x.calls
   calls-below = below-all x.calls given
+
+-- a call is asked on a session: its number was to come, and is given out now
+module _ (a : Asking) where
+  asked-any : (m : ℕ) (x : Client) → has_call m (asks a x) ≡ (list_any (is_call m) x.calls || a.number == m)
+  asked-any m x = any-push m x.calls
+    where
+      any-push : (m : ℕ) (cs : List Call) → list_any (is_call m) (asking a cs) ≡ (list_any (is_call m) cs || a.number == m)
+      any-push m [] = or-false (a.number == m)
+        where
+          or-false : (b : Bool) → (b || false) ≡ (false || b)
+          or-false true = refl
+          or-false false = refl
+      any-push m (c ∷ cs) = push-by (list_any (is_call m) cs) (is_call m c) (any-push m cs)
+        where
+          push-by : {d : Bool} (e b : Bool) → d ≡ (e || a.number == m) → (b || d) ≡ ((b || e) || a.number == m)
+          push-by e true t = refl
+          push-by e false t = t
+
+  or-most : (b d : Bool) → cond (b || d) 1 0 ≤ cond b 1 0 + cond d 1 0
+  or-most true d = omega arith
+  or-most false d = omega arith
+
+  module _ (p : Client → Bool) (m : ℕ) where
+    one-more : (x : Client) → cond (has_call m (asks a x)) 1 0 ≤ cond (has_call m x) 1 0 + cond (a.number == m) 1 0
+    one-more x = rw (asked-any m x) (or-most (list_any (is_call m) x.calls) (a.number == m))
+
+    more-cons : (y : Client) (ys : List Client) (b : Bool) → count_by (has_call m) (at_first p (asks a) ys) ≤ count_by (has_call m) ys + cond (a.number == m) 1 0 → count_by (has_call m) (cond b (asks a y ∷ ys) (y ∷ at_first p (asks a) ys)) ≤ count_by (has_call m) (y ∷ ys) + cond (a.number == m) 1 0
+    more-cons y ys true ih =
+        omega (arith, counted-cons (has_call m) (asks a y) ys (has_call m (asks a y)) refl, counted-cons (has_call m) y ys (has_call m y) refl, one-more y)
+    more-cons y ys false ih =
+        omega (arith, counted-cons (has_call m) y (at_first p (asks a) ys) (has_call m y) refl, counted-cons (has_call m) y ys (has_call m y) refl)
+
+    more : (xs : List Client) → count_by (has_call m) (at_first p (asks a) xs) ≤ count_by (has_call m) xs + cond (a.number == m) 1 0
+    more [] = omega arith
+    more (y ∷ ys) = more-cons y ys (p y) (more ys)
+
+    given-out : to_come (a.number + 1) m + cond (a.number == m) 1 0 ≤ to_come a.number m
+    given-out = given-by (leb (a.number + 1) m) (leb a.number m) (a.number == m) refl refl refl
+      where
+        given-by : (b d e : Bool) → leb (a.number + 1) m ≡ b → leb a.number m ≡ d → (a.number == m) ≡ e → cond b 1 0 + cond e 1 0 ≤ cond d 1 0
+        given-by true true true s t u = absurd (grind (arith, nat_tests))
+        given-by true true false s t u = omega arith
+        given-by true false e s t u = absurd (grind (arith, nat_tests))
+        given-by false true true s t u = omega arith
+        given-by false true false s t u = omega arith
+        given-by false false true s t u = absurd (grind (arith, nat_tests))
+        given-by false false false s t u = omega arith
+
+  -- it stands behind the other calls of its session, all of lower numbers
+  all-push : (n : ℕ) (cs : List Call) → AllByRecursion (λ c. n < c.what.number) cs → n < a.number → AllByRecursion (λ c. n < c.what.number) (asking a cs)
+  all-push n [] h less = (less, tt)
+  all-push n (c ∷ cs) h less = (h.0, all-push n cs h.1 less)
+
+  ascends-asked : (cs : List Call) → Ascends cs → AllByRecursion (λ c. c.what.number < a.number) cs → Ascends (asking a cs)
+  ascends-asked [] up below = (tt, tt)
+  ascends-asked (c ∷ cs) up below = (all-push c.what.number cs up.0 below.0, ascends-asked cs up.1 below.1)
+
+  module _ (p : Client → Bool) where
+    ascends-cons : (y : Client) (ys : List Client) (b : Bool) → Ascends y.calls → AllByRecursion (λ c. c.what.number < a.number) y.calls → AllByRecursion (λ x. Ascends x.calls) ys → AllByRecursion (λ x. Ascends x.calls) (at_first p (asks a) ys) → AllByRecursion (λ x. Ascends x.calls) (cond b (asks a y ∷ ys) (y ∷ at_first p (asks a) ys))
+    ascends-cons y ys true up below rest after = (ascends-asked y.calls up below, rest)
+    ascends-cons y ys false up below rest after = (up, after)
+
+    ascends-all : (xs : List Client) → AllByRecursion (λ x. Ascends x.calls) xs → ((i : ℕ) (x : Client) → slice_get xs i ≡ Some x → AllByRecursion (λ c. c.what.number < a.number) x.calls) → AllByRecursion (λ x. Ascends x.calls) (at_first p (asks a) xs)
+    ascends-all [] h below = tt
+    ascends-all (y ∷ ys) h below =
+        ascends-cons y ys (p y) h.0 (below 0 y refl) h.1 (ascends-all ys h.1 (λ i x e. below (suc i) x e))
+
+  pub apart-asked : (p : Client → Bool) (xs : List Client) → Apart a.number xs → Apart (a.number + 1) (at_first p (asks a) xs)
+  apart-asked p xs h = record {
+    numbered = numbered-changed p (asks a) (λ x. refl) 0 xs h.numbered;
+    once = λ m. let one = h.once m in let some = more p m xs in let out = given-out p m in omega arith;
+    ascends = ascends-all p xs h.ascends (λ i x at. calls-below a.number xs h i x at);
+  }
+
+pub asked-told : (a s c : Timed) (ys : List Client) (f g : List Fact) (session n y room : ℕ) (bytes : List ℕ) → a ≡ s → IsApart s → n ≡ a.lists.asked → ys ≡ at_first (is_client session) (asks (record { number = n; req_type = y; room = room; ask = bytes })) a.lists.clients → NotedAside (with_bytes a.lists.me (Asked n session y room) bytes) (with_clients ys a) c f g → Noted (with_bytes s.lists.me (Asked s.lists.asked session y room) bytes ∷ []) s c f g × IsApart c
+asked-told a s c ys f g session n y room bytes view known number asked aside =
+    let noted : Noted (with_bytes a.lists.me (Asked n session y room) bytes ∷ []) a c f g = noted-with a (with_clients ys a) c ys (with_bytes a.lists.me (Asked n session y room) bytes) f g refl asked aside in
+    let told : Noted (with_bytes a.lists.me (Asked a.lists.asked session y room) bytes ∷ []) a c f g = subst (λ m. Noted (with_bytes a.lists.me (Asked m session y room) bytes ∷ []) a c f g) number noted in
+    let h : Apart a.lists.asked a.lists.clients = rw view known in
+    let at : Apart n a.lists.clients = rw number h in
+    let apart : Apart (n + 1) ys = rw asked (apart-asked (record { number = n; req_type = y; room = room; ask = bytes }) (is_client session) a.lists.clients at) in
+    let next : Apart (a.lists.asked + 1) ys = rw number at apart in
+    (subst (λ (z : Timed). Noted (with_bytes z.lists.me (Asked z.lists.asked session y room) bytes ∷ []) z c f g) view told, rw aside.rest next)
+
+-- the state that a session is found in decides
+module _ (a s c : Timed) (f g : List Fact) (session y room : ℕ) (bytes : List ℕ) (view : a ≡ s) where
+  asked-by : (state : SessionState) → state ≡ state_of (find (is_client session) a.lists.clients) → Noted (ask_by_state state session y room bytes s.lists ∷ []) s c f g → Noted (ask_by_state (state_of (find (is_client session) s.lists.clients)) session y room bytes s.lists ∷ []) s c f g
+  asked-by state found p =
+      let same : state ≡ state_of (find (is_client session) s.lists.clients) = found ∙ ap (λ (z : Timed). state_of (find (is_client session) z.lists.clients)) view in
+      subst (λ (t : SessionState). Noted (ask_by_state t session y room bytes s.lists ∷ []) s c f g) same p
+
+  pub asked-unknown : position (is_client session) a.lists.clients ≡ None → Noted (ask_by_state Unknown session y room bytes s.lists ∷ []) s c f g → Noted (ask_by_state (state_of (find (is_client session) s.lists.clients)) session y room bytes s.lists ∷ []) s c f g
+  asked-unknown missing =
+      asked-by Unknown (sym (ap state_of (find-missing (is_client session) a.lists.clients missing)))
+
+  pub asked-there : (state : SessionState) (i : ℕ) (x : Client) → position (is_client session) a.lists.clients ≡ Some i → slice_get a.lists.clients i ≡ Some x → state ≡ state_of (Some x) → Noted (ask_by_state state session y room bytes s.lists ∷ []) s c f g → Noted (ask_by_state (state_of (find (is_client session) s.lists.clients)) session y room bytes s.lists ∷ []) s c f g
+  asked-there state i x place at is =
+      asked-by state (is ∙ sym (ap state_of (find-found (is_client session) a.lists.clients i place ∙ at)))

@@ -5,6 +5,7 @@ pub mod GatherLemmas
 pub mod GroupLemmas
 pub mod HearLemmas
 pub mod NextLemmas
+pub mod PollLemmas
 pub mod PostLemmas
 pub mod QuietLemmas
 pub mod RollLemmas

@@ -12,6 +12,7 @@ mod node;
 mod noting;
 mod packets;
 mod pairing;
+mod polling;
 mod posting;
 mod rolling;
 mod sending;
@@ -21,8 +22,7 @@ mod serving;
 mod tables;
 mod watching;
 
-pub use handling::handle_all;
 pub use node::Node;
-pub use posting::serve_sessions;
-pub use sending::send_all;
-pub use watching::watch;
+
+#[cfg(test)]
+mod tests;

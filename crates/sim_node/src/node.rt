@@ -1,13 +1,16 @@
 //! The node as its users have it.
-ghost use Rattle.std.specs.Prelude.{◌≡◌, ◌<◌, ◌≤◌, ◌∷◌, [], None, length, OnOk};
-ghost use Rattle.node_tables.specs.Noted.{Noted};
+ghost use Rattle.std.specs.Prelude.{◌≡◌, ◌<◌, ◌≤◌, ◌∷◌, [], None, length, IfOk, OnOk};
+ghost use Rattle.node_tables.specs.Noted.{Makes, Noted};
 ghost use Rattle.rpc_laws.specs.Deliveries.{delivery_facts};
 ghost use Rattle.rpc_laws.specs.Facts.{plain};
-ghost use Rattle.rpc_laws.specs.Groups.{pair_refusal};
+ghost use Rattle.rpc_laws.specs.Groups.{Asks, pair_refusal, shares};
 ghost use Rattle.rpc_laws.specs.NodeLists.{new_node};
+ghost use Rattle.rpc_laws.specs.PollOrder.{Poll};
 
+use crate::asking::ask;
 use crate::delivery::deliver;
-use crate::pairing::{pair_client, pair_server};
+use crate::pairing::{pair_client, pair_server, shares};
+use crate::polling::poll;
 use crate::tables::Tables;
 use rpc_base::{Event, Fact, Listed, NoMemory, NodeId, Peer, SessionNo};
 use std::alloc::Global;
@@ -42,6 +45,28 @@ impl Node {
             is_cut: false,
             tables: Tables::new(alloc, me, ring),
         }
+    }
+
+    /// The number of the node.
+    pub fn me(&self) -> NodeId
+        ensures { result ≡ self.now.lists.me }
+    {
+        self.tables.me
+    }
+
+    /// The length of its receive ring, in packets.
+    pub fn ring(&self) -> u32
+        ensures { result ≡ self.now.lists.room }
+    {
+        self.tables.room
+    }
+
+    /// The credits of the live sessions. `NoMemory` comes where their sum doesn't fit 32 bits, which the
+    /// rule of pairs never lets happen.
+    pub fn shares(&self) -> Result<u32, NoMemory>
+        ensures { IfOk result (λ r. r ≡ shares self.now.lists) }
+    {
+        shares(&self.tables)
     }
 
     /// How many client sessions there are: the number of the next one.
@@ -123,6 +148,59 @@ impl Node {
         }
         self.is_cut = true;
         pair_server(alloc, &mut self.tables, facts, peer, client, credits)?;
+        self.is_cut = false;
+        Ok(())
+    }
+
+    /// Asks a session a call of these bytes, with that room in bytes for its answer. A call of more than
+    /// 1,048,576 bytes is refused, then one on a session that isn't Connected; a refusal is noted too.
+    pub fn ask(
+        &mut self,
+        alloc: Global,
+        facts: &mut Listed<Fact>,
+        session: SessionNo,
+        req_type: u8,
+        bytes: &[u8],
+        room: u32,
+    ) -> Result<(), NoMemory>
+        requires room { room ≤ 1048576 }
+        ensures { OnOk result
+            (Makes (Asks session req_type bytes.now room) self.old self.new facts.old facts.new) }
+    {
+        if self.is_cut {
+            return Err(NoMemory);
+        }
+        self.is_cut = true;
+        ask(
+            alloc,
+            &mut self.tables,
+            facts,
+            session,
+            req_type,
+            bytes,
+            room,
+        )?;
+        self.is_cut = false;
+        Ok(())
+    }
+
+    /// Polls the node at the moment `now` in microseconds: handles the packets of its ring, looks at the
+    /// calls that wait longer than `timeout`, posts what its sessions may post, sends what is queued, and
+    /// ends with a Polled. Its clock doesn't fall.
+    pub fn poll(
+        &mut self,
+        alloc: Global,
+        facts: &mut Listed<Fact>,
+        timeout: u64,
+        now: u64,
+    ) -> Result<(), NoMemory>
+        ensures { OnOk result (Makes (Poll timeout now) self.old self.new facts.old facts.new) }
+    {
+        if self.is_cut {
+            return Err(NoMemory);
+        }
+        self.is_cut = true;
+        poll(alloc, &mut self.tables, facts, timeout, now)?;
         self.is_cut = false;
         Ok(())
     }

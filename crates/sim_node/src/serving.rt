@@ -1,23 +1,25 @@
 //! A packet that asks is handled, by the server rule.
-ghost use Rattle.std.specs.Prelude.{◌≡◌, ◌<◌, ◌∷◌, ◌++◌, [], ℕ, false, length, Some, if◌then◌else◌, IfOk, OnOk};
-ghost use Rattle.std.specs.List.{find, list_any};
+ghost use Rattle.std.specs.Prelude.{◌≡◌, ◌∷◌, ◌++◌, [], ℕ, List, Some, if◌then◌else◌, IfOk, OnOk};
+ghost use Rattle.std.specs.List.{find};
 ghost use Rattle.node_tables.specs.Noted.{Noted};
 ghost use Rattle.rpc_laws.specs.Facts.{plain, with_two};
 ghost use Rattle.rpc_laws.specs.PollOrder.{asks_facts};
-ghost use Rattle.rpc_base.specs.Owners.{same_owner};
-ghost use Rattle.rpc_laws.specs.Requests.{is_request, is_server, in_slot_of};
-ghost use Rattle.rpc_laws.specs.ServerTable.{is_last, took_facts, joined, whole_ask, flushes, flushes_older, served_facts};
+ghost use Rattle.rpc_laws.specs.Requests.{is_request, is_server};
+ghost use Rattle.rpc_laws.specs.ServerTable.{is_last, took_facts, joined, whole_ask, flushes_older};
+ghost use Rattle.rpc_laws.specs.declared.tables.Queued.{Queued};
 ghost use Rattle.sim_node.specs.Apart.{IsApart};
+ghost use Rattle.sim_node.specs.Older.{flushes_named};
 ghost use Rattle.rpc_laws.specs.Service.{answer_to};
 
+use crate::flushing::flush;
 use crate::noting::note;
 use crate::server_table::{is_an_rfr, row_of_request};
 use crate::service::answer;
 use crate::tables::Tables;
 use node_tables::{place_of_request, place_of_server, place_of_slot};
 use packet_header::{MessageHeader, count};
-use rpc_base::{Event, Fact, Listed, NoMemory, Octets, Owner, Peer, RequestNo};
-use rpc_laws::{Queued, Served, Server, ServerRow};
+use rpc_base::{Event, Fact, Listed, NoMemory, Octets, Owner, Peer, RequestNo, SessionNo};
+use rpc_laws::{Served, Server, ServerRow};
 use std::alloc::Global;
 
 fn owner_of_ask(head: &MessageHeader) -> Owner
@@ -154,43 +156,51 @@ fn repeat(
     Ok(())
 }
 
-fn has_queued(queued: &Listed<Queued>, owner: Owner) -> bool
-    ensures { result ≡ list_any (λ q. same_owner q.owner owner) queued.now }
-{
-    queued
-        .as_slice()
-        .iter()
-        .any(|entry| entry.owner.is_same(owner))
-}
-
-// Whether the newest request of the slot has a reply queued.
-fn has_reply_queued(queued: &Listed<Queued>, server: &Server, request: RequestNo) -> bool
-    ensures { result ≡ false → (me : ℕ) → flushes_older me queued.now (Some server.now) request ≡ [] }
+// The newest request of the slot, by its session and its number.
+fn older_in(server: &Server, request: RequestNo) -> Option<(SessionNo, RequestNo)>
+    ensures { (me : ℕ) → (queued : List Queued) → flushes_older me queued (Some server.now) request ≡ flushes_named me queued result }
 {
     match place_of_slot(&server.slots, request) {
-        None => false,
-        Some(place) => {
+        None => None,
+        Some(place) => Some((server.way.number, server.slots.at(place).number)),
+    }
+}
+
+fn older_request(servers: &Listed<Server>, head: &MessageHeader) -> Option<(SessionNo, RequestNo)>
+    ensures { (me : ℕ) → (queued : List Queued) → flushes_older me queued (find (is_server head.now.session) servers.now) head.now.request ≡ flushes_named me queued result }
+{
+    match place_of_server(servers, head.session) {
+        None => None,
+        Some(place) => older_in(servers.at(place), head.request),
+    }
+}
+
+// The older request of the packet's slot sends no reply any more.
+fn flush_older(
+    alloc: Global,
+    node: &mut Tables,
+    facts: &mut Listed<Fact>,
+    head: &MessageHeader,
+) -> Result<(), NoMemory>
+    requires apart { IsApart node.old }
+    ensures apart { OnOk result (IsApart node.new) }
+    ensures noted { OnOk result
+        (Noted (flushes_older node.old.lists.me node.old.lists.queued (find (is_server head.now.session) node.old.lists.servers) head.now.request) node.old node.new facts.old facts.new) }
+{
+    match older_request(&node.servers, head) {
+        None => Ok(()),
+        Some(older) => {
             let owner = Owner::Reply {
-                session: server.way.number,
-                request: server.slots.at(place).number,
+                session: older.0,
+                request: older.1,
             };
-            has_queued(queued, owner)
+            flush(alloc, node, facts, &owner)?;
+            Ok(())
         }
     }
 }
 
-fn has_older_queued(servers: &Listed<Server>, queued: &Listed<Queued>, head: &MessageHeader) -> bool
-    ensures { result ≡ false
-        → (me : ℕ) → flushes_older me queued.now (find (is_server head.now.session) servers.now) head.now.request ≡ [] }
-{
-    match place_of_server(servers, head.session) {
-        None => false,
-        Some(place) => has_reply_queued(queued, servers.at(place), head.request),
-    }
-}
-
-// A request begins. These nodes have no room for one that begins while its slot's older one has replies
-// queued.
+// A request begins: the older one of its slot sends no reply any more.
 fn begin(
     alloc: Global,
     node: &mut Tables,
@@ -203,9 +213,7 @@ fn begin(
     ensures noted { OnOk result
         (Noted (flushes_older node.old.lists.me node.old.lists.queued (find (is_server head.now.session) node.old.lists.servers) head.now.request ++ took_facts node.old.lists.me head.now body.now) node.old node.new facts.old facts.new) }
 {
-    if has_older_queued(&node.servers, &node.queued, head) {
-        return Err(NoMemory);
-    }
+    flush_older(alloc, node, facts, head)?;
     take_packet(alloc, node, facts, head, body)?;
     Ok(())
 }
