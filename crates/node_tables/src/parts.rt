@@ -1,6 +1,6 @@
 //! How a message is cut into packets, at lengths in memory.
 ghost use Rattle.std.specs.Prelude.{◌≡◌, ◌≤◌, ◌<◌, ◌^◌, length, take, drop};
-ghost use Rattle.packet_header.specs.Parts.{packet_count, part, part_size};
+ghost use Rattle.packet_header.specs.Parts.{packet_count, part};
 
 use packet_header::PART_BYTES;
 
@@ -10,16 +10,6 @@ pub fn packets(len: usize) -> u64
     ensures small { result ≤ 2 ^ 54 }
 {
     (len as u64).div_ceil(u64::from(PART_BYTES)).max(1)
-}
-
-/// The bytes of part `index` of a message of `size` bytes, 0 past its end.
-pub fn part_bytes(size: u32, index: u64) -> u64
-    requires { index < 2 ^ 32 }
-    ensures { result ≡ part_size size index }
-{
-    u64::from(size)
-        .saturating_sub(u64::from(PART_BYTES) * index)
-        .min(u64::from(PART_BYTES))
 }
 
 fn from(message: &[u8], at: usize) -> &[u8]

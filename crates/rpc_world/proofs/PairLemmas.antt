@@ -1,5 +1,5 @@
 -- Two nodes are paired, or the first refusal is noted.
-use Rattle.std.proofs.Common.{◌≡◌, ◌≢◌, ◌<◌, ℕ, zero, suc, Bool, true, false, Option, Some, None, List, [], ◌∷◌, ◌++◌, length, refl, sym, ap, ◌∙◌, append_assoc, arith}
+use Rattle.std.proofs.Common.{◌≡◌, ◌≢◌, ◌<◌, ℕ, zero, suc, Bool, true, false, Option, Some, None, List, [], ◌∷◌, ◌++◌, length, refl, sym, ap, subst, ◌∙◌, append_assoc, arith}
 use Rattle.std.specs.List.{slice_get, slice_set}
 use Rattle.rpc_base.specs.declared.event.Event.TheVariants.{PairedClient, PairedServer}
 use Rattle.rpc_base.specs.declared.fact.Fact.{Fact}
@@ -22,20 +22,20 @@ some-same : {A : Type 0} (x y : A) (o : Option A) → o ≡ Some x → o ≡ Som
 some-same x y o p q = cc
 
 -- the numbers are those of the tables of these nodes
-pub ends-by : (a b credits p q : ℕ) (s : Stage) (asked client client2 answers server server2 : Timed) (f g h : List Fact) → b ≢ a → slice_get s.nodes a ≡ Some asked → slice_get s.nodes b ≡ Some answers → slice_get s.nodes a ≡ Some client → slice_get (slice_set s.nodes a client2) b ≡ Some server → p ≡ length asked.lists.clients → q ≡ length answers.lists.servers → Noted (plain client.lists.me (PairedClient p b q credits) ∷ []) client client2 f g → Noted (plain server.lists.me (PairedServer q a p credits) ∷ []) server server2 g h → Performed (TakesEnds a b credits) s (record s { nodes = slice_set (slice_set s.nodes a client2) b server2 }) f h
+pub ends-by : (a b credits p q : ℕ) (s : Stage) (asked client client2 answers server server2 : Timed) (f g h : List Fact) → b ≢ a → slice_get s.nodes a ≡ Some asked → slice_get s.nodes b ≡ Some answers → slice_get s.nodes a ≡ Some client → slice_get (slice_set s.nodes a client2) b ≡ Some server → p ≡ length asked.lists.clients → q ≡ length answers.lists.servers → Noted (plain client.lists.me (PairedClient (length client.lists.clients) b q credits) ∷ []) client client2 f g → Noted (plain server.lists.me (PairedServer (length server.lists.servers) a p credits) ∷ []) server server2 g h → Performed (TakesEnds a b credits) s (record s { nodes = slice_set (slice_set s.nodes a client2) b server2 }) f h
 ends-by a b credits p q s asked client client2 answers server server2 f g h other was_a was_b is_a is_b is_p is_q m n =
     let same_a : asked ≡ client = some-same _ _ _ was_a is_a in
     let found_b : slice_get s.nodes b ≡ Some server = sym (slice_get-set_other s.nodes a b client2 other) ∙ is_b in
     let same_b : answers ≡ server = some-same _ _ _ was_b found_b in
     let long_a : p ≡ length client.lists.clients = is_p ∙ ap (λ (x : Timed). length x.lists.clients) same_a in
     let long_b : q ≡ length server.lists.servers = is_q ∙ ap (λ (x : Timed). length x.lists.servers) same_b in
-    let at_client = plain client.lists.me (PairedClient p b q credits) in
-    let at_server = plain server.lists.me (PairedServer q a p credits) in
+    let at_client = plain client.lists.me (PairedClient (length client.lists.clients) b q credits) in
+    let at_server = plain server.lists.me (PairedServer (length server.lists.servers) a p credits) in
     let ends : PairsEnds a b credits client server s (at_client ∷ at_server ∷ []) (record s { nodes = slice_set (slice_set s.nodes a client2) b server2 }) = record {
       at_client = at_client;
       at_server = at_server;
-      for_client = rw (long_a, long_b) refl;
-      for_server = rw (long_a, long_b) refl;
+      for_client = rw long_b refl;
+      for_server = rw long_a refl;
       facts = refl;
       left = ap (λ (t : Timed). record s { nodes = slice_set (slice_set s.nodes a t) b server2 }) m.goes ∙ ap (λ (t : Timed). record s { nodes = slice_set (slice_set s.nodes a (noted client at_client)) b t }) n.goes;
     } in
@@ -98,3 +98,14 @@ client-agrees a b credits s t client false f g h is_a _ (is, same_facts) made =
       grew = made.grew ∙ ap (λ (x : List Fact). x ++ made.group) same_facts;
       does = record { client = d.client; server = d.server; is_client = d.is_client; is_server = d.is_server; pairs = rw none d.pairs };
     }
+
+-- a stage as it is seen
+pub seen-at : (s t : Stage) (i : ℕ) (x : Timed) → s ≡ t → slice_get s.nodes i ≡ Some x → slice_get t.nodes i ≡ Some x
+seen-at s t i x view at = ap (λ (z : Stage). slice_get z.nodes i) (sym view) ∙ at
+
+pub seen-long : (s t : Stage) (n : ℕ) → s ≡ t → n < length s.nodes → n < length t.nodes
+seen-long s t n view less = subst (λ (z : Stage). n < length z.nodes) view less
+
+pub ends-seen : (a b credits : ℕ) (s t u : Stage) (f g : List Fact) → s ≡ t → Performed (TakesEnds a b credits) s u f g → Performed (TakesEnds a b credits) t u f g
+ends-seen a b credits s t u f g view p =
+    subst (λ (z : Stage). Performed (TakesEnds a b credits) z u f g) view p

@@ -15,6 +15,10 @@ pub record Performed (P : Stage → List Fact → Stage → Type 0) (old new : S
   pub grew : now ≡ before ++ group
   pub does : P old group new
 
+-- nothing refuses node n an end of a pair with these credits
+abbrev pub TakesEnd : (n credits : ℕ) → Stage → Type 0
+TakesEnd n credits s = (x : Timed) → slice_get s.nodes n ≡ Some x → pair_refusal credits x.lists ≡ None
+
 -- both ends of a pair were made
 pub record TakesEnds (a b credits : ℕ) (s : Stage) (x : List Fact) (t : Stage) : Type 0 where
   pub client : Timed

@@ -8,16 +8,16 @@ use crate::calling::call_on;
 use crate::making::make_node;
 use crate::network::{note_of_net, perform_net};
 use crate::pairing::pair;
+use crate::running::Running;
 use crate::settling::settle;
 use crate::stepping::{arrive, poll_node};
-use network_model::Stage;
 use rpc_base::{Event, Fact, Listed, NoMemory};
 use sim_script::Command;
 use std::alloc::Global;
 
 fn lose(
     alloc: Global,
-    stage: &mut Stage,
+    stage: &mut Running,
     facts: &mut Listed<Fact>,
     copy: u32,
 ) -> Result<(), NoMemory>
@@ -33,7 +33,7 @@ fn lose(
 
 fn repeat(
     alloc: Global,
-    stage: &mut Stage,
+    stage: &mut Running,
     facts: &mut Listed<Fact>,
     copy: u32,
 ) -> Result<(), NoMemory>
@@ -47,7 +47,12 @@ fn repeat(
     }
 }
 
-fn tick(alloc: Global, stage: &mut Stage, facts: &mut Listed<Fact>, by: u32) -> Result<(), NoMemory>
+fn tick(
+    alloc: Global,
+    stage: &mut Running,
+    facts: &mut Listed<Fact>,
+    by: u32,
+) -> Result<(), NoMemory>
     ensures { OnOk result (Performed (Ticks by) stage.old stage.new facts.old facts.new) }
 {
     stage.clock = stage.clock.checked_add(u64::from(by)).ok_or(NoMemory)?;
@@ -59,7 +64,7 @@ fn tick(alloc: Global, stage: &mut Stage, facts: &mut Listed<Fact>, by: u32) -> 
 /// it beforehand.
 pub fn execute(
     alloc: Global,
-    stage: &mut Stage,
+    stage: &mut Running,
     facts: &mut Listed<Fact>,
     command: &Command,
 ) -> Result<(), NoMemory>

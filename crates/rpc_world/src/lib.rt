@@ -6,6 +6,7 @@ mod command;
 mod making;
 mod network;
 mod pairing;
+mod running;
 mod serving;
 mod settling;
 mod stepping;

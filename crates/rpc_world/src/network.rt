@@ -5,7 +5,8 @@ ghost use Rattle.rpc_laws.specs.InFlight.{flight_after, flight_after_all, flight
 ghost use Rattle.sim_script.specs.FollowsScript.{OfNet};
 ghost use Rattle.rpc_world.specs.Performed.{Performed};
 
-use network_model::{Net, Stage};
+use crate::running::Running;
+use network_model::Net;
 use rpc_base::{Event, Fact, Listed, NoMemory, NodeId, Octets, Who};
 use std::alloc::Global;
 
@@ -82,7 +83,7 @@ pub fn launch(flight: &mut Net, facts: &[Fact]) -> Result<(), NoMemory>
 /// The network does something that only changes the copies in flight.
 pub fn perform_net(
     alloc: Global,
-    stage: &mut Stage,
+    stage: &mut Running,
     facts: &mut Listed<Fact>,
     event: &Event,
 ) -> Result<(), NoMemory>

@@ -4,13 +4,13 @@ ghost use Rattle.std.specs.List.{list_all};
 ghost use Rattle.sim_script.specs.FollowsScript.{Carries, PollsFirst, Settles, Times, is_polled};
 ghost use Rattle.rpc_world.specs.Performed.{Performed, MakesRound};
 
+use crate::running::Running;
 use crate::stepping::{carry_first, poll_node};
-use network_model::Stage;
 use rpc_base::{Event, Fact, Listed, NoMemory, NodeId};
 use std::alloc::Global;
 
 // Delivering a copy sends nothing, so there is a copy 0 in each turn.
-fn carry_all(alloc: Global, stage: &mut Stage, facts: &mut Listed<Fact>) -> Result<(), NoMemory>
+fn carry_all(alloc: Global, stage: &mut Running, facts: &mut Listed<Fact>) -> Result<(), NoMemory>
     ensures { OnOk result
         (Performed (Times (Carries 0) (length stage.old.flight)) stage.old stage.new facts.old facts.new) }
 {
@@ -21,7 +21,7 @@ fn carry_all(alloc: Global, stage: &mut Stage, facts: &mut Listed<Fact>) -> Resu
     Ok(())
 }
 
-fn poll_all(alloc: Global, stage: &mut Stage, facts: &mut Listed<Fact>) -> Result<(), NoMemory>
+fn poll_all(alloc: Global, stage: &mut Running, facts: &mut Listed<Fact>) -> Result<(), NoMemory>
     ensures { OnOk result
         (Performed (PollsFirst (length stage.old.nodes)) stage.old stage.new facts.old facts.new) }
 {
@@ -48,7 +48,11 @@ fn are_polled(facts: &[Fact]) -> bool
 }
 
 // Carries each copy that is in flight, polls each node, and tells whether there was nothing but polls.
-fn make_round(alloc: Global, stage: &mut Stage, facts: &mut Listed<Fact>) -> Result<bool, NoMemory>
+fn make_round(
+    alloc: Global,
+    stage: &mut Running,
+    facts: &mut Listed<Fact>,
+) -> Result<bool, NoMemory>
     ensures { IfOk result
         (λ is_quiet. MakesRound is_quiet stage.old stage.new facts.old facts.new) }
 {
@@ -61,7 +65,7 @@ fn make_round(alloc: Global, stage: &mut Stage, facts: &mut Listed<Fact>) -> Res
 /// `settle K`: makes at most that many rounds, and none after one in which there was nothing but polls.
 pub fn settle(
     alloc: Global,
-    stage: &mut Stage,
+    stage: &mut Running,
     facts: &mut Listed<Fact>,
     rounds: u32,
 ) -> Result<(), NoMemory>

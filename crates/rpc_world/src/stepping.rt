@@ -5,8 +5,8 @@ ghost use Rattle.sim_script.specs.FollowsScript.{AtNode, Arrives, Carries, Polls
 ghost use Rattle.rpc_world.specs.Performed.{Performed};
 
 use crate::network::{launch, note_of_net, perform_net};
-use network_model::{Copy, Stage};
-use plain_node::{deliver, poll};
+use crate::running::Running;
+use network_model::Copy;
 use rpc_base::{Event, Fact, Listed, NoMemory, NodeId, Peer};
 use std::alloc::Global;
 
@@ -16,7 +16,7 @@ const USUAL_TIMEOUT: u64 = 5000;
 /// `poll A`: polls the node at the world's clock.
 pub fn poll_node(
     alloc: Global,
-    stage: &mut Stage,
+    stage: &mut Running,
     facts: &mut Listed<Fact>,
     node: NodeId,
 ) -> Result<(), NoMemory>
@@ -28,14 +28,15 @@ pub fn poll_node(
     }
     let before = facts.len();
     let now = stage.clock;
-    poll(alloc, stage.nodes.at_mut(place), facts, USUAL_TIMEOUT, now)?;
+    let polled = stage.nodes.at_mut(place);
+    polled.poll(alloc, facts, USUAL_TIMEOUT, now)?;
     launch(&mut stage.flight, &facts.as_slice()[before..])?;
     Ok(())
 }
 
 fn deliver_to(
     alloc: Global,
-    stage: &mut Stage,
+    stage: &mut Running,
     facts: &mut Listed<Fact>,
     copy: &Copy,
 ) -> Result<(), NoMemory>
@@ -47,13 +48,8 @@ fn deliver_to(
         return Err(NoMemory);
     }
     let before = facts.len();
-    deliver(
-        alloc,
-        stage.nodes.at_mut(place),
-        facts,
-        Peer(copy.from.0),
-        copy.bytes.bytes(),
-    )?;
+    let receiver = stage.nodes.at_mut(place);
+    receiver.deliver(alloc, facts, Peer(copy.from.0), copy.bytes.bytes())?;
     launch(&mut stage.flight, &facts.as_slice()[before..])?;
     Ok(())
 }
@@ -61,7 +57,7 @@ fn deliver_to(
 /// `arrive I`: takes the copy out of flight and delivers it.
 pub fn arrive(
     alloc: Global,
-    stage: &mut Stage,
+    stage: &mut Running,
     facts: &mut Listed<Fact>,
     copy: u32,
 ) -> Result<(), NoMemory>
@@ -79,7 +75,7 @@ pub fn arrive(
 /// Carries copy 0, which has to be in flight: where it isn't, that ends as want of memory.
 pub fn carry_first(
     alloc: Global,
-    stage: &mut Stage,
+    stage: &mut Running,
     facts: &mut Listed<Fact>,
 ) -> Result<(), NoMemory>
     ensures { OnOk result (Performed (Carries 0) stage.old stage.new facts.old facts.new) }

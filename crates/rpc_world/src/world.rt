@@ -12,8 +12,8 @@ ghost use Rattle.sim_script.specs.FollowsScript.{Follows};
 ghost use Rattle.world_laws.specs.Laws.{EachNode, KeepsRing};
 
 use crate::command::execute;
+use crate::running::Running;
 use crate::serving::is_served;
-use network_model::{Net, Stage};
 use rpc_base::{Listed, NoMemory};
 use rpc_laws::History;
 use sim_script::Script;
@@ -67,11 +67,7 @@ impl World {
         ensures script { IfOk result (λ w. IsScript script.now) }
     {
         let mut facts = Listed::new(alloc);
-        let mut stage = Stage {
-            nodes: Listed::new(alloc),
-            flight: Net::new(alloc),
-            clock: 0,
-        };
+        let mut stage = Running::new(alloc);
         for line in script.lines() {
             execute(alloc, &mut stage, &mut facts, &line.command)?;
         }

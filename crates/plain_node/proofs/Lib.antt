@@ -1,4 +1,0 @@
-pub mod PollLemmas
-pub mod QuietLemmas
-pub mod RollLemmas
-pub mod WatchLemmas
