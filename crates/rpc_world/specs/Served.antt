@@ -1,24 +1,17 @@
 -- Which scripts are served: those whose commands all are.
-use Rattle.std.specs.Prelude.{ℕ, ◌==◌, ◌&&◌, nat_le, Bool, true, false, not, Option, option_map, find, List, length}
-use Rattle.script_grammar.specs.declared.line.AskBytes.{AskBytes}
-use Rattle.script_grammar.specs.declared.line.AskBytes.TheVariants.{Given, Count}
+use Rattle.std.specs.Prelude.{ℕ, ◌==◌, Bool, true, false, not, Option, option_map, find, List}
 use Rattle.script_grammar.specs.declared.line.Command.{Command}
 use Rattle.script_grammar.specs.declared.line.Command.TheVariants.{Node, Pair, Connect, Disconnect, Rate, Call, Poll, Arrive, Lose, Repeat, Tick, Work, Settle}
 use Rattle.script_grammar.specs.declared.line.Line.{Line}
 
--- how many bytes a call sends
-abbrev pub ask_length : AskBytes → ℕ
-ask_length (Given bytes) = length bytes
-ask_length (Count n) = n
-
--- a call is served where its type is 1 and its bytes are at most one packet's
+-- a call is served where its type is 1
 abbrev pub is_served : Command → Bool
 is_served (Node ring) = true
 is_served (Pair a b credits) = true
 is_served (Connect a b credits) = false
 is_served (Disconnect n session) = false
 is_served (Rate n session rate) = false
-is_served (Call n session req_type ask room) = req_type == 1 && nat_le (ask_length ask) 1024
+is_served (Call n session req_type ask room) = req_type == 1
 is_served (Poll n) = true
 is_served (Arrive i) = true
 is_served (Lose i) = true

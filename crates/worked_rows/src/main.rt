@@ -12,13 +12,16 @@ use std::{fs, io};
 const WHOLE: [&str; 4] = ["one_echo", "every_served_command", "late_copy", "refusals"];
 
 /// The cases with lines of a report.
-const LINES: [&str; 6] = [
+const LINES: [&str; 9] = [
     "repeated_packets",
     "older_reply_flushed",
     "empty_message",
     "ninth_call",
     "nine_timeouts",
     "small_room",
+    "packet_edge",
+    "out_of_turn",
+    "overflow_by_a_repeat",
 ];
 
 /// More bytes than the report of a case has.
