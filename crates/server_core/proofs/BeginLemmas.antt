@@ -1,0 +1,173 @@
+-- A request begins: what is kept and shown of its session, and the reply to its first packet.
+use Rattle.std.proofs.Common.{◌≡◌, ℕ, ◌+◌, ◌%◌, ◌<◌, ◌≤◌, Bool, true, false, cond, ltb, Option, Some, None, List, [], ◌∷◌, ◌++◌, refl, sym, ap, ◌∙◌, arith}
+use Rattle.std.specs.Prelude.{IfSome, map, option_map}
+use Rattle.std.specs.List.{find}
+use Rattle.std.specs.Option.{option_or}
+use Rattle.std.proofs.lemmas.Bool.{and_parts, eq-eqb, eqb-true}
+use Rattle.std.proofs.lemmas.List.{map-append}
+use Rattle.std.proofs.lemmas.List.Folds.{find-append}
+use Rattle.message_buffer.specs.Buffer.{Buffer, bytes_of, capacity_of}
+use Rattle.buffer_pool.specs.Pool.{Pool, buf_at, filled, held, lowest_empty, refs_of}
+use Rattle.buffer_pool.proofs.PoolLemmas.{held_refs}
+use Rattle.packet_header.specs.Parts.{packet_count}
+use Rattle.packet_header.specs.declared.packet.MessageHeader.{MessageHeader}
+use Rattle.packet_header.proofs.PartsLemmas.{packet_count_above}
+use Rattle.rpc_base.specs.declared.owner.Owner.TheVariants.{Reply}
+use Rattle.rpc_base.specs.Tables.{without_first}
+use Rattle.rpc_laws.specs.declared.tables.Served.{Served}
+use Rattle.rpc_outside.specs.declared.service.Mode.{Mode}
+use Rattle.rpc_outside.specs.declared.service.Mode.TheVariants.{Inline}
+use Rattle.rpc_laws.specs.declared.tables.Server.{Server}
+use Rattle.rpc_laws.specs.Requests.{in_slot_of}
+use Rattle.server_core.specs.declared.slot.SlotRequest.{SlotRequest}
+use Rattle.server_core.specs.declared.slot.Stored.{Stored}
+use Rattle.server_core.specs.KeepsPool.{KeepsPool}
+use Rattle.server_core.specs.Replies.{IsHeld, IsReplyTo, entry_at, is_owner, place_of, request_of}
+use Rattle.server_core.specs.Serving.{begun, first_taken, given_up, with_slots}
+use Rattle.server_core.specs.Session.{IsInTurn, IsMessage, IsSession, Session, is_in_slot, newest}
+use Rattle.server_core.specs.Shown.{shown, shown_request, way_of}
+use Rattle.server_core.specs.Steps.{AreInline, IsReply, begun_with, first_shown}
+use Rattle.server_core.proofs.ChangedLemmas.{map-without, none-counted}
+use Rattle.server_core.proofs.GivenLemmas.{given-keeps, given-same}
+use Rattle.server_core.proofs.ListLemmas.{all-append, all-without, count-fewer, found-own}
+use Rattle.server_core.proofs.PlaceLemmas.{IsBeside, beside-answered, beside-asked, beside-held, lowest-empty, put-behind}
+use Rattle.server_core.proofs.PoolLemmas.{empty-other, map-off, names-empty, one-filled}
+use Rattle.server_core.proofs.SlotLemmas.{none-left}
+
+-- the replies of a request are found by their owner
+owner-slot : (n r : ℕ) (x : SlotRequest) → is_owner n (Reply n r) x ≡ true → is_in_slot (r % 8) x ≡ true
+owner-slot n r x passes =
+    eq-eqb (x.number % 8) (r % 8) (ap (λ k. k % 8) (eqb-true x.number r (and_parts _ _ passes).1))
+
+by-owner : (s : Session) (d : SlotRequest) → IsSession s → newest d.number s ≡ Some d → find (is_owner s.number (Reply s.number d.number)) s.slots ≡ Some d
+by-owner s d h found =
+    let fewer = count-fewer (is_owner s.number (Reply s.number d.number)) (is_in_slot (d.number % 8)) (owner-slot s.number d.number) s.slots in
+    let own : is_owner s.number (Reply s.number d.number) d ≡ true = rw (eq-eqb s.number s.number refl, eq-eqb d.number d.number refl) refl in
+    found-own (is_in_slot (d.number % 8)) (is_owner s.number (Reply s.number d.number)) s.slots d (omega (arith, fewer, h.apart (d.number % 8))) found own
+
+held-cases : (pool : Pool) (o : Option Stored) (b : Bool) → IfSome o (λ a. 0 < refs_of pool a.place) → IsHeld pool (cond b None (option_map (λ a. a.place) o))
+held-cases pool o true some = tt
+held-cases pool None false some = tt
+held-cases pool (Some a) false some = some
+
+-- the entry of the reply to a packet that was taken stands for it
+pub reply-stands : (s : Session) (d : SlotRequest) (k : ℕ) → IsSession s → newest d.number s ≡ Some d → k < d.taken → IsReplyTo (request_of s (entry_at s.number s.peer k d)) (entry_at s.number s.peer k d)
+reply-stands s d k h found below = rw (by-owner s d h found) (below, refl)
+
+-- the reply to a packet that was taken
+pub is-reply : (pool : Pool) (s : Session) (d : SlotRequest) (k : ℕ) → IsSession s → newest d.number s ≡ Some d → k < d.taken → IsHeld pool (place_of d k) → IsReply d.number k s pool (entry_at s.number s.peer k d)
+is-reply pool s d k h found below some = record {
+  owner = refl;
+  number = refl;
+  peer = refl;
+  stands = reply-stands s d k h found below;
+  is_held = some;
+}
+
+-- a credit return needs no reference
+pub return-held : (pool : Pool) (d : SlotRequest) (k : ℕ) → ltb (k + 1) (packet_count d.size) ≡ true → IsHeld pool (place_of d k)
+return-held pool d k early = rw early tt
+
+pub answer-held : (pool : Pool) (d : SlotRequest) (a : Stored) (k : ℕ) → d.answer ≡ Some a → 0 < refs_of pool a.place → IsHeld pool (place_of d k)
+answer-held pool d a k is some = held-cases pool d.answer _ (rw is some)
+
+-- the newest request of a slot, once one begins there
+or-none : {A : Type 0} (o : Option A) (y : A) → o ≡ None → option_or o (Some y) ≡ Some y
+or-none None y e = refl
+or-none (Some x) y e = cc
+
+pub begun-newest : (s : Session) (d : SlotRequest) → IsSession s → newest d.number (with_slots (begun d s.slots) s) ≡ Some d
+begun-newest s d h =
+    let none = none-counted (is_in_slot (d.number % 8)) (without_first (is_in_slot (d.number % 8)) s.slots) (none-left s h (d.number % 8)) in
+    let last : find (is_in_slot (d.number % 8)) (d ∷ []) ≡ Some d = rw (eq-eqb (d.number % 8) (d.number % 8) refl) refl in
+    find-append (is_in_slot (d.number % 8)) (without_first (is_in_slot (d.number % 8)) s.slots) (d ∷ []) ∙ ap (λ o. option_or (find (is_in_slot (d.number % 8)) (without_first (is_in_slot (d.number % 8)) s.slots)) o) last ∙ or-none _ d none
+
+-- it is in turn
+pub first-turn : (h : MessageHeader) (p : ℕ) → IsMessage h.size → 1 < packet_count h.size → IsInTurn (first_taken h p None)
+first-turn h p size many = record { size = size; some = omega arith; come = many }
+
+pub whole-turn : (h : MessageHeader) (p : ℕ) (a : Stored) → IsMessage h.size → packet_count h.size ≡ 1 → IsMessage a.size → IsInTurn (first_taken h p (Some a))
+whole-turn h p a size one answer = record {
+  size = size;
+  some = omega arith;
+  come = record { answer = answer; whole = omega (arith, one); known = omega (arith, one, packet_count_above a.size) };
+}
+
+-- the bytes of a request that begins go to the lowest empty place
+module _ (pool : Pool) (s : Session) (head : MessageHeader) (p : ℕ) (b : Buffer) (keeps : KeepsPool pool s.slots) where
+  abbrev rest : List SlotRequest
+  rest = without_first (is_in_slot (head.request % 8)) s.slots
+
+  abbrev given : Pool
+  given = given_up (newest head.request s) pool
+
+  module _ (lowest : lowest_empty given ≡ Some p) (there : buf_at (filled p b given) p ≡ Some b) (len : b.len ≡ head.size) (room : b.len ≤ capacity_of b) where
+    given-kept : KeepsPool given rest
+    given-kept = given-keeps (is_in_slot (head.request % 8)) pool s.slots keeps
+
+    asked-beside : IsBeside (filled p b given) (first_taken head p None) rest
+    asked-beside = beside-asked given p b (first_taken head p None) rest given-kept lowest there refl refl (len, omega (arith, room, len))
+
+    asked-same : map (shown_request (filled p b given)) rest ≡ map (shown_request pool) rest
+    asked-same = map-off p given (filled p b given) (one-filled p b given) rest (names-empty given p rest (lowest-empty given p lowest) given-kept.kept) ∙ given-same (is_in_slot (head.request % 8)) pool s.slots keeps
+
+    shown-behind : (after : Pool) (d : SlotRequest) (x : Served) → d.number ≡ head.request → map (shown_request after) rest ≡ map (shown_request pool) rest → shown_request after d ≡ x → shown after (with_slots (begun d s.slots) s) ≡ begun_with x (shown pool s)
+    shown-behind after d x number same is =
+        let gone = map-without (shown_request pool) (is_in_slot (head.request % 8)) (in_slot_of head.request) (λ y. refl) s.slots in
+        let all = map-append (shown_request after) (without_first (is_in_slot (head.request % 8)) s.slots) (d ∷ []) in
+        let own : x.number ≡ head.request = ap (λ y. y.number) (sym is) ∙ number in
+        let at : without_first (is_in_slot (d.number % 8)) s.slots ≡ rest = ap (λ n. without_first (is_in_slot (n % 8)) s.slots) number in
+        let there_too : without_first (in_slot_of head.request) (shown pool s).slots ≡ without_first (in_slot_of x.number) (shown pool s).slots = ap (λ n. without_first (in_slot_of n) (shown pool s).slots) (sym own) in
+        let slots : map (shown_request after) (begun d s.slots) ≡ without_first (in_slot_of x.number) (shown pool s).slots ++ x ∷ [] =
+        ap (λ ys. map (shown_request after) (ys ++ d ∷ [])) at ∙ all ∙ ap (λ ys. ys ++ shown_request after d ∷ []) (same ∙ gone ∙ there_too) ∙ ap (λ y. without_first (in_slot_of x.number) (shown pool s).slots ++ y ∷ []) is in
+        let whole : List Served → Server = λ ys. record { way = way_of s; credits = s.credits; slots = ys } in
+        ap whole slots
+
+    pub first-keeps : KeepsPool (filled p b given) (begun (first_taken head p None) s.slots)
+    first-keeps = put-behind (filled p b given) (first_taken head p None) rest asked-beside
+
+    pub first-shows : shown (filled p b given) (with_slots (begun (first_taken head p None) s.slots) s) ≡ begun_with (first_shown head (bytes_of b) None) (shown pool s)
+    first-shows = shown-behind (filled p b given) (first_taken head p None) (first_shown head (bytes_of b) None) refl asked-same (rw there refl)
+
+    -- and its answer goes to the next one, where it is held
+    module _ (q : ℕ) (e : Buffer) (a : Stored) (next : lowest_empty (filled p b given) ≡ Some q) (here : buf_at (filled q e (filled p b given)) q ≡ Some e) (place : a.place ≡ q) (size : a.size ≡ e.len) (fits : e.len ≤ capacity_of e) where
+      answered-beside : IsBeside (filled q e (filled p b given)) (first_taken head p (Some a)) rest
+      answered-beside = beside-answered (filled p b given) q e (first_taken head p None) (first_taken head p (Some a)) a rest asked-beside refl next here refl refl refl place (sym size, omega (arith, size, fits))
+
+      held-beside : IsBeside (held a.place (filled q e (filled p b given))) (first_taken head p (Some a)) rest
+      held-beside = beside-held (filled q e (filled p b given)) (first_taken head p (Some a)) a rest answered-beside refl
+
+      answered-same : map (shown_request (filled q e (filled p b given))) rest ≡ map (shown_request pool) rest
+      answered-same = map-off q (filled p b given) (filled q e (filled p b given)) (one-filled q e (filled p b given)) rest (names-empty (filled p b given) q rest (lowest-empty (filled p b given) q next) asked-beside.others.kept) ∙ asked-same
+
+      ask-there : buf_at (filled q e (filled p b given)) p ≡ Some b
+      ask-there = (one-filled q e (filled p b given)).other_bufs p (empty-other (filled p b given) q p asked-beside.own.ask (lowest-empty (filled p b given) q next)) ∙ there
+
+      answer-there : buf_at (filled q e (filled p b given)) a.place ≡ Some e
+      answer-there = rw place here
+
+      pub whole-keeps : KeepsPool (held a.place (filled q e (filled p b given))) (begun (first_taken head p (Some a)) s.slots)
+      whole-keeps = put-behind (held a.place (filled q e (filled p b given))) (first_taken head p (Some a)) rest held-beside
+
+      pub whole-shows : shown (held a.place (filled q e (filled p b given))) (with_slots (begun (first_taken head p (Some a)) s.slots) s) ≡ begun_with (first_shown head (bytes_of b) (Some (bytes_of e))) (shown pool s)
+      whole-shows = shown-behind (held a.place (filled q e (filled p b given))) (first_taken head p (Some a)) (first_shown head (bytes_of b) (Some (bytes_of e))) refl answered-same (rw (ask-there, answer-there) refl)
+
+      pub whole-held : 0 < refs_of (held a.place (filled q e (filled p b given))) a.place
+      whole-held = let counted = held_refs (filled q e (filled p b given)) a.place (answered-beside.own.answer).full in omega (arith, counted.1)
+
+-- all requests are of types that are handled in the event loop
+pub begun-inline : (mode_of : ℕ → Mode) (slots : List SlotRequest) (d : SlotRequest) → mode_of d.req_type ≡ Inline → AreInline mode_of slots → AreInline mode_of (begun d slots)
+begun-inline mode_of slots d new all =
+    all-append (λ x. mode_of x.req_type ≡ Inline) (without_first (is_in_slot (d.number % 8)) slots) d (all-without (is_in_slot (d.number % 8)) d (λ x. mode_of x.req_type ≡ Inline) slots all) new
+
+-- the reply to a packet that was taken before
+pub is-reply-of : (pool : Pool) (s : Session) (q : SlotRequest) (r k : ℕ) → IsSession s → newest r s ≡ Some q → q.number ≡ r → k < q.taken → IsHeld pool (place_of q k) → IsReply r k s pool (entry_at s.number s.peer k q)
+is-reply-of pool s q r k h found same below some =
+    let own = is-reply pool s q k h (ap (λ n. newest n s) same ∙ found) below some in
+    record {
+      owner = ap (λ n. Reply s.number n) same;
+      number = refl;
+      peer = refl;
+      stands = own.stands;
+      is_held = some;
+    }

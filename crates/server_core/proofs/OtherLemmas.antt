@@ -1,0 +1,154 @@
+-- The places that a session doesn't name stay as they were.
+use Rattle.std.proofs.Common.{◌≡◌, ◌≢◌, ℕ, ◌%◌, ◌≤◌, Bool, true, false, cond, Option, Some, None, List, [], ◌∷◌, refl, sym, ap, ◌∙◌, arith}
+use Rattle.std.specs.Prelude.{option_map}
+use Rattle.std.specs.List.{find}
+use Rattle.std.proofs.lemmas.List.Sums.{sum_by-append}
+use Rattle.message_buffer.specs.Buffer.{Buffer}
+use Rattle.buffer_pool.specs.Uses.{is_empty}
+use Rattle.buffer_pool.specs.Pool.{Pool, buf_at, changed, emptied, filled, held, lowest_empty, use_at}
+use Rattle.packet_header.specs.declared.packet.MessageHeader.{MessageHeader}
+use Rattle.rpc_base.specs.Tables.{without_first}
+use Rattle.server_core.specs.declared.slot.SlotRequest.{SlotRequest}
+use Rattle.server_core.specs.declared.slot.Stored.{Stored}
+use Rattle.server_core.specs.KeepsPool.{LeavesOthers, answer_names, names, own_names}
+use Rattle.server_core.specs.Replies.{held_at, place_of}
+use Rattle.server_core.specs.Serving.{begun, first_taken, given_up, gone_on, next_taken, without_answer}
+use Rattle.server_core.specs.Session.{Session, is_in_slot, newest}
+use Rattle.server_core.proofs.ListLemmas.{sum-changed, sum-without}
+use Rattle.server_core.proofs.PlaceLemmas.{lowest-empty}
+use Rattle.server_core.proofs.PoolLemmas.{ChangesOne, names-cons, one-changed, one-emptied, one-filled, one-held, other-ask, unnamed-cases, unnamed-one}
+
+-- one place is as it was
+pub record IsSame (p : ℕ) (pool new : Pool) : Type 0 where
+  pub use_is : use_at new p ≡ use_at pool p
+  pub buf_is : buf_at new p ≡ buf_at pool p
+
+pub same-kept : (p : ℕ) (pool : Pool) → IsSame p pool pool
+same-kept p pool = record { use_is = refl; buf_is = refl }
+
+pub same-one : (p k : ℕ) (pool new : Pool) → ChangesOne k pool new → p ≢ k → IsSame p pool new
+same-one p k pool new one other = record { use_is = one.other_uses p other; buf_is = one.other_bufs p other }
+
+pub same-then : (p : ℕ) (a b c : Pool) → IsSame p a b → IsSame p b c → IsSame p a c
+same-then p a b c first second = record { use_is = second.use_is ∙ first.use_is; buf_is = second.buf_is ∙ first.buf_is }
+
+-- a place with a use isn't the lowest empty one
+pub not-lowest : (pool : Pool) (p k : ℕ) → is_empty (use_at pool p) ≡ false → lowest_empty pool ≡ Some k → p ≢ k
+not-lowest pool p k used lowest = λ same.
+    let empty : is_empty (use_at pool p) ≡ true = ap (λ n. is_empty (use_at pool n)) same ∙ lowest-empty pool k lowest in cc
+
+pub still-used : (p : ℕ) (pool new : Pool) → IsSame p pool new → is_empty (use_at pool p) ≡ false → is_empty (use_at new p) ≡ false
+still-used p pool new same used = ap is_empty same.use_is ∙ used
+
+-- the places of a request that doesn't name this one
+pub ask-away : (p : ℕ) (q : SlotRequest) → own_names p q ≡ 0 → p ≢ q.ask
+ask-away p q e = λ same. other-ask p q e (sym same)
+
+pub answer-away : (p : ℕ) (q : SlotRequest) (a : Stored) → own_names p q ≡ 0 → q.answer ≡ Some a → p ≢ a.place
+answer-away p q a e is = λ same.
+    let none : answer_names p (Some a) ≡ 0 = ap (answer_names p) (sym is) ∙ omega (arith, e) in
+    unnamed-cases a.place p _ refl none (sym same)
+
+-- one place of a session's requests
+pub found-names : (p : ℕ) (test : SlotRequest → Bool) (slots : List SlotRequest) (q : SlotRequest) → find test slots ≡ Some q → names p slots ≡ 0 → own_names p q ≡ 0
+found-names p test slots q e none = omega (arith, sum-without test q (own_names p) slots e, none)
+
+less-cons : (p : ℕ) (test : SlotRequest → Bool) (y : SlotRequest) (ys : List SlotRequest) (b : Bool) → names p (without_first test ys) ≤ names p ys → names p (cond b ys (y ∷ without_first test ys)) ≤ names p (y ∷ ys)
+less-cons p test y ys true ih = omega (arith, names-cons p y ys)
+less-cons p test y ys false ih = omega (arith, names-cons p y ys, names-cons p y (without_first test ys), ih)
+
+names-less : (p : ℕ) (test : SlotRequest → Bool) (slots : List SlotRequest) → names p (without_first test slots) ≤ names p slots
+names-less p test [] = omega arith
+names-less p test (y ∷ ys) = less-cons p test y ys (test y) (names-less p test ys)
+
+-- the older request of a slot is given up
+module _ (p : ℕ) (pool : Pool) where
+  answer-same : (q : SlotRequest) (o : Option Stored) → own_names p q ≡ 0 → q.answer ≡ o → IsSame p (emptied q.ask pool) (without_answer o (emptied q.ask pool))
+  answer-same q None e is = same-kept p (emptied q.ask pool)
+  answer-same q (Some a) e is = same-one p a.place (emptied q.ask pool) (emptied a.place (emptied q.ask pool)) (one-emptied a.place (emptied q.ask pool)) (answer-away p q a e is)
+
+  pub given-cases : (test : SlotRequest → Bool) (slots : List SlotRequest) (o : Option SlotRequest) → find test slots ≡ o → names p slots ≡ 0 → IsSame p pool (given_up o pool)
+  given-cases test slots None e none = same-kept p pool
+  given-cases test slots (Some q) e none =
+      let own = found-names p test slots q e none in
+      same-then p pool (emptied q.ask pool) (given_up (Some q) pool) (same-one p q.ask pool (emptied q.ask pool) (one-emptied q.ask pool) (ask-away p q own)) (answer-same q q.answer own refl)
+
+-- a request begins
+begun-names : (p : ℕ) (slots : List SlotRequest) (d : SlotRequest) → names p slots ≡ 0 → own_names p d ≡ 0 → names p (begun d slots) ≡ 0
+begun-names p slots d none own =
+    omega (arith, sum_by-append (own_names p) (without_first (is_in_slot (d.number % 8)) slots) (d ∷ []), names-cons p d [], names-less p (is_in_slot (d.number % 8)) slots, none, own)
+
+module _ (pool : Pool) (s : Session) (head : MessageHeader) (k : ℕ) (b : Buffer) (lowest : lowest_empty (given_up (newest head.request s) pool) ≡ Some k) where
+  abbrev given : Pool
+  given = given_up (newest head.request s) pool
+
+  given-same : (p : ℕ) → names p s.slots ≡ 0 → IsSame p pool given
+  given-same p none = given-cases p pool (is_in_slot (head.request % 8)) s.slots (newest head.request s) refl none
+
+  asked-away : (p : ℕ) → names p s.slots ≡ 0 → is_empty (use_at pool p) ≡ false → p ≢ k
+  asked-away p none used = not-lowest given p k (still-used p pool given (given-same p none) used) lowest
+
+  asked-same : (p : ℕ) → names p s.slots ≡ 0 → is_empty (use_at pool p) ≡ false → IsSame p pool (filled k b given)
+  asked-same p none used =
+      same-then p pool given (filled k b given) (given-same p none) (same-one p k given (filled k b given) (one-filled k b given) (asked-away p none used))
+
+  pub first-others : LeavesOthers s.slots (begun (first_taken head k None) s.slots) pool (filled k b given)
+  first-others = λ p none used.
+      let same = asked-same p none used in
+      let off = unnamed-one k p (λ e. asked-away p none used (sym e)) in
+      (begun-names p s.slots (first_taken head k None) none (omega (arith, off)), same.use_is, same.buf_is)
+
+  module _ (j : ℕ) (e : Buffer) (a : Stored) (next : lowest_empty (filled k b given) ≡ Some j) (place : a.place ≡ j) where
+    pub whole-others : LeavesOthers s.slots (begun (first_taken head k (Some a)) s.slots) pool (held a.place (filled j e (filled k b given)))
+    whole-others = λ p none used.
+        let first = asked-same p none used in
+        let away = not-lowest (filled k b given) p j (still-used p pool (filled k b given) first used) next in
+        let apart : p ≢ a.place = λ e. away (e ∙ place) in
+        let second = same-then p pool (filled k b given) (filled j e (filled k b given)) first (same-one p j (filled k b given) (filled j e (filled k b given)) (one-filled j e (filled k b given)) away) in
+        let same = same-then p pool (filled j e (filled k b given)) (held a.place (filled j e (filled k b given))) second (same-one p a.place (filled j e (filled k b given)) (held a.place (filled j e (filled k b given))) (one-held a.place (filled j e (filled k b given))) apart) in
+        let off = unnamed-one k p (λ e. asked-away p none used (sym e)) in
+        let out = unnamed-one a.place p (λ e. apart (sym e)) in
+        (begun-names p s.slots (first_taken head k (Some a)) none (omega (arith, off, out)), same.use_is, same.buf_is)
+
+-- a request goes on
+gone-names : (p : ℕ) (slots : List SlotRequest) (q d : SlotRequest) → find (is_in_slot (d.number % 8)) slots ≡ Some q → names p slots ≡ 0 → own_names p d ≡ 0 → names p (gone_on d slots) ≡ 0
+gone-names p slots q d e none own = omega (arith, sum-changed (is_in_slot (d.number % 8)) q (own_names p) (λ x. d) slots e, none, own)
+
+held-same : (p : ℕ) (pool : Pool) (q : SlotRequest) (o : Option Stored) (b : Bool) → own_names p q ≡ 0 → q.answer ≡ o → IsSame p pool (held_at (cond b None (option_map (λ a. a.place) o)) pool)
+held-same p pool q o true own is = same-kept p pool
+held-same p pool q None false own is = same-kept p pool
+held-same p pool q (Some a) false own is = same-one p a.place pool (held a.place pool) (one-held a.place pool) (answer-away p q a own is)
+
+module _ (pool : Pool) (s : Session) (q : SlotRequest) (r : ℕ) (found : newest r s ≡ Some q) where
+  own-none : (p : ℕ) → names p s.slots ≡ 0 → own_names p q ≡ 0
+  own-none p none = found-names p (is_in_slot (r % 8)) s.slots q found none
+
+  -- a place of its answer is held
+  pub held-others : (k : ℕ) → LeavesOthers s.slots s.slots pool (held_at (place_of q k) pool)
+  held-others k = λ p none used.
+      let same = held-same p pool q q.answer _ (own-none p none) refl in
+      (none, same.use_is, same.buf_is)
+
+  -- its bytes are written
+  pub part-others : (b : Buffer) → LeavesOthers s.slots s.slots pool (changed q.ask b pool)
+  part-others b = λ p none used.
+      let same = same-one p q.ask pool (changed q.ask b pool) (one-changed q.ask b pool) (ask-away p q (own-none p none)) in
+      (none, same.use_is, same.buf_is)
+
+  pub next-others : q.number ≡ r → (k : ℕ) → LeavesOthers s.slots (gone_on (next_taken q.answer q) s.slots) pool (held_at (place_of q k) pool)
+  next-others number k = λ p none used.
+      let own = own-none p none in
+      let same = held-same p pool q q.answer _ own refl in
+      let at : find (is_in_slot (q.number % 8)) s.slots ≡ Some q = ap (λ n. newest n s) number ∙ found in
+      (gone-names p s.slots q (next_taken q.answer q) at none own, same.use_is, same.buf_is)
+
+  pub last-others : q.number ≡ r → q.answer ≡ None → (j : ℕ) → (b : Buffer) → (a : Stored) → lowest_empty pool ≡ Some j → a.place ≡ j → LeavesOthers s.slots (gone_on (next_taken (Some a) q) s.slots) pool (held a.place (filled j b pool))
+  last-others number none_yet j b a lowest place = λ p none used.
+      let own = own-none p none in
+      let away = not-lowest pool p j used lowest in
+      let apart : p ≢ a.place = λ e. away (e ∙ place) in
+      let first = same-one p j pool (filled j b pool) (one-filled j b pool) away in
+      let same = same-then p pool (filled j b pool) (held a.place (filled j b pool)) first (same-one p a.place (filled j b pool) (held a.place (filled j b pool)) (one-held a.place (filled j b pool)) apart) in
+      let out = unnamed-one a.place p (λ e. apart (sym e)) in
+      let at : find (is_in_slot (q.number % 8)) s.slots ≡ Some q = ap (λ n. newest n s) number ∙ found in
+      (gone-names p s.slots q (next_taken (Some a) q) at none (omega (arith, own, out)), same.use_is, same.buf_is)

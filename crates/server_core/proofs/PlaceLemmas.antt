@@ -1,0 +1,231 @@
+-- A request beside the others of its session: what becomes of its places.
+use Rattle.std.proofs.Common.{◌≡◌, ◌≢◌, ℕ, ◌+◌, ◌<◌, ◌≤◌, Bool, true, false, cond, eqb, ltb, ltb-true, Option, Some, None, List, [], ◌∷◌, ◌++◌, length, take, drop, get_or, refl, sym, ap, ◌∙◌, inl, inr, arith}
+use Rattle.std.specs.Prelude.{IfSome, map, position}
+use Rattle.std.specs.List.{AllByRecursion, find, position_or_len}
+use Rattle.std.proofs.lemmas.Bool.{cases_eq, cases_lt}
+use Rattle.std.proofs.lemmas.List.{get_or_past, length-append, length-take-le, length-drop}
+use Rattle.std.proofs.lemmas.List.Sums.{passes_at_first, sum_by-append, sum_by-set}
+use Rattle.message_buffer.specs.Buffer.{Buffer, overwritten, written}
+use Rattle.buffer_pool.specs.declared.usage.Use.TheVariants.{Empty, Full}
+use Rattle.buffer_pool.specs.Uses.{is_empty, is_full, refs_in}
+use Rattle.buffer_pool.specs.Pool.{Pool, buf_at, changed, emptied, filled, held, lowest_empty, spare_of, use_at}
+use Rattle.buffer_pool.proofs.PoolLemmas.{changed_own, held_refs}
+use Rattle.rpc_base.specs.Tables.{at_first, without_first}
+use Rattle.server_core.specs.declared.slot.Stored.{Stored}
+use Rattle.server_core.specs.declared.slot.SlotRequest.{SlotRequest}
+use Rattle.server_core.specs.KeepsPool.{HasSize, IsKept, IsStored, KeepsPool, answer_names, names, own_names}
+use Rattle.server_core.specs.Serving.{without_answer, without_buffers}
+use Rattle.server_core.specs.Shown.{shown_request}
+use Rattle.server_core.proofs.ListLemmas.{all-append, all-without, found-holds, sum-changed, sum-without}
+use Rattle.server_core.proofs.PoolLemmas.{empty-other, keeps-off, map-off, named-one, names-cons, names-empty, one-changed, one-emptied, one-filled, one-held, unnamed-one}
+
+-- the lowest empty place is one of the pool's, and empty
+found-at : (n m i : ℕ) (b : Bool) → ltb n m ≡ b → cond b (Some n) None ≡ Some i → (i ≡ n) × (n < m)
+found-at n m i true t e = let same : i ≡ n = cc in (same, ltb-true n m t)
+found-at n m i false t e = cc
+
+position-at : {A : Type 0} (p : A → Bool) (xs : List A) (i : ℕ) (d : A) → position p xs ≡ Some i → (i < length xs) × (p (get_or xs i d) ≡ true)
+position-at p xs i d e =
+    let (same, within) = found-at (position_or_len p xs) (length xs) i _ refl e in
+    (rw same within, rw same (passes_at_first p xs d within))
+
+pub lowest-within : (pool : Pool) (p : ℕ) → lowest_empty pool ≡ Some p → p < length pool.uses
+lowest-within pool p e = (position-at is_empty pool.uses p Empty e).0
+
+pub lowest-empty : (pool : Pool) (p : ℕ) → lowest_empty pool ≡ Some p → is_empty (use_at pool p) ≡ true
+lowest-empty pool p e = (position-at is_empty pool.uses p Empty e).1
+
+-- a filled place was one of the spare ones
+pub spare-filled : (s : Pool) (p : ℕ) (buf : Buffer) → lowest_empty s ≡ Some p → spare_of (filled p buf s) + 1 ≡ spare_of s
+spare-filled s p buf e =
+    let one = sum_by-set (λ u. cond (is_empty u) 1 0) s.uses p (Full 0) Empty (lowest-within s p e) in
+    let was : cond {A = ℕ} (is_empty (get_or s.uses p Empty)) 1 0 ≡ 1 = ap (λ b. cond {A = ℕ} b 1 0) (lowest-empty s p e) in
+    omega (arith, one, was)
+
+-- a request that isn't among the others, each with its places
+pub record IsBeside (pool : Pool) (q : SlotRequest) (rest : List SlotRequest) : Type 0 where
+  pub own : IsKept pool q
+  pub others : KeepsPool pool rest
+  pub apart : (p : ℕ) → own_names p q + names p rest ≤ 1
+
+-- the request that a test finds, taken out
+pub taken-out : (pool : Pool) (test : SlotRequest → Bool) (slots : List SlotRequest) (q : SlotRequest) → find test slots ≡ Some q → KeepsPool pool slots → IsBeside pool q (without_first test slots)
+taken-out pool test slots q e keeps = record {
+  own = found-holds test (IsKept pool) slots q keeps.kept e;
+  others = record {
+    kept = all-without test q (IsKept pool) slots keeps.kept;
+    apart = λ p. omega (arith, sum-without test q (own_names p) slots e, keeps.apart p);
+  };
+  apart = λ p. omega (arith, sum-without test q (own_names p) slots e, keeps.apart p);
+}
+
+-- put back where it was, as another
+module _ (test : SlotRequest → Bool) (q d : SlotRequest) where
+  back-cons : (P : SlotRequest → Type 0) (y : SlotRequest) (ys : List SlotRequest) (b : Bool) → P d → (find test ys ≡ Some q → AllByRecursion P (without_first test ys) → AllByRecursion P (at_first test (λ x. d) ys)) → cond b (Some y) (find test ys) ≡ Some q → AllByRecursion P (cond b ys (y ∷ without_first test ys)) → AllByRecursion P (cond b (d ∷ ys) (y ∷ at_first test (λ x. d) ys))
+  back-cons P y ys true new ih e all = (new, all)
+  back-cons P y ys false new ih e all = (all.0, ih e all.1)
+
+  pub all-back : (P : SlotRequest → Type 0) (slots : List SlotRequest) → P d → find test slots ≡ Some q → AllByRecursion P (without_first test slots) → AllByRecursion P (at_first test (λ x. d) slots)
+  all-back P [] new e all = cc
+  all-back P (y ∷ ys) new e all = back-cons P y ys (test y) new (all-back P ys new) e all
+
+  pub put-back : (pool : Pool) (slots : List SlotRequest) → find test slots ≡ Some q → IsBeside pool d (without_first test slots) → KeepsPool pool (at_first test (λ x. d) slots)
+  put-back pool slots e beside = record {
+    kept = all-back (IsKept pool) slots beside.own e beside.others.kept;
+    apart = λ p. omega (arith, sum-changed test q (own_names p) (λ x. d) slots e, sum-without test q (own_names p) slots e, beside.apart p);
+  }
+
+-- put behind the others
+pub put-behind : (pool : Pool) (d : SlotRequest) (rest : List SlotRequest) → IsBeside pool d rest → KeepsPool pool (rest ++ d ∷ [])
+put-behind pool d rest beside = record {
+  kept = all-append (IsKept pool) rest d beside.others.kept beside.own;
+  apart = λ p. omega (arith, sum_by-append (own_names p) rest (d ∷ []), names-cons p d [], beside.apart p);
+}
+
+-- a request's own places are no one else's
+own-ask : (q : SlotRequest) → 1 ≤ own_names q.ask q
+own-ask q = omega (arith, named-one q.ask q.ask refl)
+
+pub ask-apart : (pool : Pool) (q : SlotRequest) (rest : List SlotRequest) → IsBeside pool q rest → names q.ask rest ≡ 0
+ask-apart pool q rest beside = omega (arith, beside.apart q.ask, own-ask q)
+
+answer-named : (p : ℕ) (q : SlotRequest) (a : Stored) → q.answer ≡ Some a → a.place ≡ p → own_names p q ≡ cond {A = ℕ} (eqb q.ask p) 1 0 + 1
+answer-named p q a is same = ap (λ o. cond {A = ℕ} (eqb q.ask p) 1 0 + answer_names p o) is ∙ ap (λ n. cond {A = ℕ} (eqb q.ask p) 1 0 + n) (named-one a.place p same)
+
+pub answer-apart : (pool : Pool) (q : SlotRequest) (a : Stored) (rest : List SlotRequest) → IsBeside pool q rest → q.answer ≡ Some a → (names a.place rest ≡ 0) × (q.ask ≢ a.place)
+answer-apart pool q a rest beside is =
+    let named = answer-named a.place q a is refl in
+    (omega (arith, beside.apart a.place, named), λ same. absurd (omega (arith, beside.apart a.place, named, named-one q.ask a.place same)))
+
+-- a request with the same places, size and answer
+pub beside-as : (pool : Pool) (q d : SlotRequest) (rest : List SlotRequest) → d.ask ≡ q.ask → d.size ≡ q.size → d.answer ≡ q.answer → IsBeside pool q rest → IsBeside pool d rest
+beside-as pool q d rest ask size answer beside = record {
+  own = record {
+    ask = rw ask beside.own.ask;
+    size = rw (ask, size) beside.own.size;
+    unnamed = rw ask beside.own.unnamed;
+    answer = rw answer beside.own.answer;
+  };
+  others = beside.others;
+  apart = λ p. rw (ask, answer) (beside.apart p);
+}
+
+-- its bytes are put in the lowest empty place
+pub beside-asked : (pool : Pool) (p : ℕ) (b : Buffer) (d : SlotRequest) (rest : List SlotRequest) → KeepsPool pool rest → lowest_empty pool ≡ Some p → buf_at (filled p b pool) p ≡ Some b → d.ask ≡ p → d.answer ≡ None → HasSize d.size (Some b) → IsBeside (filled p b pool) d rest
+beside-asked pool p b d rest keeps lowest there ask none size =
+    let free = names-empty pool p rest (lowest-empty pool p lowest) keeps.kept in
+    let own = changed_own pool.uses p (Full 0) Empty (lowest-within pool p lowest) in
+    record {
+      own = record {
+        ask = rw ask (ap is_full own);
+        size = rw (ask, there) size;
+        unnamed = rw ask (ap refs_in own);
+        answer = rw none tt;
+      };
+      others = keeps-off p pool (filled p b pool) (one-filled p b pool) rest free keeps;
+      apart = λ r. rw (ask, none) (elim (cases_eq p r) [
+        | inl here ↦ omega (arith, named-one p r here, rw here at free)
+        | inr away ↦ omega (arith, unnamed-one p r away, keeps.apart r)
+      ]);
+    }
+
+-- its answer is put in the lowest empty place
+pub beside-answered : (pool : Pool) (p : ℕ) (b : Buffer) (q d : SlotRequest) (a : Stored) (rest : List SlotRequest) → IsBeside pool q rest → q.answer ≡ None → lowest_empty pool ≡ Some p → buf_at (filled p b pool) p ≡ Some b → d.ask ≡ q.ask → d.size ≡ q.size → d.answer ≡ Some a → a.place ≡ p → HasSize a.size (Some b) → IsBeside (filled p b pool) d rest
+beside-answered pool p b q d a rest beside none lowest there ask size answer place fits =
+    let empty = lowest-empty pool p lowest in
+    let free = names-empty pool p rest empty beside.others.kept in
+    let other = empty-other pool p q.ask beside.own.ask empty in
+    let own = changed_own pool.uses p (Full 0) Empty (lowest-within pool p lowest) in
+    let one = one-filled p b pool in
+    record {
+      own = record {
+        ask = rw ask (ap is_full (one.other_uses q.ask other) ∙ beside.own.ask);
+        size = rw (ask, size, one.other_bufs q.ask other) beside.own.size;
+        unnamed = rw ask (ap refs_in (one.other_uses q.ask other) ∙ beside.own.unnamed);
+        answer = rw answer (record { full = rw place (ap is_full own); size = rw (place, there) fits });
+      };
+      others = keeps-off p pool (filled p b pool) one rest free beside.others;
+      apart = λ r. rw (ask, answer, place) (elim (cases_eq p r) [
+        | inl here ↦ omega (arith, named-one p r here, rw here at free, unnamed-one q.ask r (λ same. other (same ∙ sym here)))
+        | inr away ↦ omega (arith, unnamed-one p r away, beside.apart r)
+      ]);
+    }
+
+-- its answer is held
+pub beside-held : (pool : Pool) (q : SlotRequest) (a : Stored) (rest : List SlotRequest) → IsBeside pool q rest → q.answer ≡ Some a → IsBeside (held a.place pool) q rest
+beside-held pool q a rest beside is =
+    let (free, other) = answer-apart pool q a rest beside is in
+    let one = one-held a.place pool in
+    let stored : IsStored pool a = rw is at beside.own.answer in
+    record {
+      own = record {
+        ask = ap is_full (one.other_uses q.ask other) ∙ beside.own.ask;
+        size = beside.own.size;
+        unnamed = ap refs_in (one.other_uses q.ask other) ∙ beside.own.unnamed;
+        answer = rw is (record { full = (held_refs pool a.place stored.full).0; size = stored.size });
+      };
+      others = keeps-off a.place pool (held a.place pool) one rest free beside.others;
+      apart = beside.apart;
+    }
+
+-- a part of it is written
+overwritten-length : (at : ℕ) (from store : List ℕ) → at + length from ≤ length store → length (overwritten at from store) ≡ length store
+overwritten-length at from store within =
+    let front = length-take-le at store (omega (arith, within)) in
+    let back = length-drop (at + length from) store in
+    omega (arith, length-append (take at store) (from ++ drop (at + length from) store), length-append from (drop (at + length from) store), front, back, within)
+
+answer-written : (pool : Pool) (p : ℕ) (b : Buffer) (o : Option Stored) → ((a : Stored) → o ≡ Some a → p ≢ a.place) → IfSome o (IsStored pool) → IfSome o (IsStored (changed p b pool))
+answer-written pool p b None other kept = tt
+answer-written pool p b (Some a) other kept = record {
+  full = kept.full;
+  size = rw ((one-changed p b pool).other_bufs a.place (λ same. other a refl (sym same))) kept.size;
+}
+
+pub buffer-within : (bufs : List (Option Buffer)) (p : ℕ) (b : Buffer) → get_or bufs p None ≡ Some b → p < length bufs
+buffer-within bufs p b e = elim (cases_lt p (length bufs)) [
+  | inl within ↦ within
+  | inr past ↦ (let none = get_or_past bufs p None past in absurd (some-none b (sym e ∙ none)))
+]
+  where
+    some-none : (b : Buffer) → Some b ≡ None → ⊥
+    some-none b e = cc
+
+pub beside-written : (pool : Pool) (at : ℕ) (body : List ℕ) (b : Buffer) (q : SlotRequest) (rest : List SlotRequest) → IsBeside pool q rest → buf_at pool q.ask ≡ Some b → at + length body ≤ b.len → IsBeside (changed q.ask (written at body b) pool) q rest
+beside-written pool at body b q rest beside there within =
+    let one = one-changed q.ask (written at body b) pool in
+    let own = changed_own pool.bufs q.ask (Some (written at body b)) None (buffer-within pool.bufs q.ask b there) in
+    let size : HasSize q.size (Some b) = rw there at beside.own.size in
+    let same = overwritten-length at body b.store (omega (arith, size.0, size.1, within)) in
+    record {
+      own = record {
+        ask = beside.own.ask;
+        size = rw own (size.0, omega (arith, same, size.1));
+        unnamed = beside.own.unnamed;
+        answer = answer-written pool q.ask (written at body b) q.answer (λ a is. (answer-apart pool q a rest beside is).1) beside.own.answer;
+      };
+      others = keeps-off q.ask pool (changed q.ask (written at body b) pool) one rest (ask-apart pool q rest beside) beside.others;
+      apart = beside.apart;
+    }
+
+-- it is given up, and its places are empty
+module _ (pool : Pool) (q : SlotRequest) (rest : List SlotRequest) (beside : IsBeside pool q rest) where
+  asked-up : KeepsPool (emptied q.ask pool) rest
+  asked-up = keeps-off q.ask pool (emptied q.ask pool) (one-emptied q.ask pool) rest (ask-apart pool q rest beside) beside.others
+
+  asked-same : map (shown_request (emptied q.ask pool)) rest ≡ map (shown_request pool) rest
+  asked-same = map-off q.ask pool (emptied q.ask pool) (one-emptied q.ask pool) rest (ask-apart pool q rest beside)
+
+  answer-up : (o : Option Stored) → ((a : Stored) → o ≡ Some a → names a.place rest ≡ 0) → KeepsPool (without_answer o (emptied q.ask pool)) rest
+  answer-up None free = asked-up
+  answer-up (Some a) free = keeps-off a.place (emptied q.ask pool) (emptied a.place (emptied q.ask pool)) (one-emptied a.place (emptied q.ask pool)) rest (free a refl) asked-up
+
+  answer-same : (o : Option Stored) → ((a : Stored) → o ≡ Some a → names a.place rest ≡ 0) → map (shown_request (without_answer o (emptied q.ask pool))) rest ≡ map (shown_request pool) rest
+  answer-same None free = asked-same
+  answer-same (Some a) free = map-off a.place (emptied q.ask pool) (emptied a.place (emptied q.ask pool)) (one-emptied a.place (emptied q.ask pool)) rest (free a refl) ∙ asked-same
+
+  pub gone-keeps : KeepsPool (without_buffers q pool) rest
+  gone-keeps = answer-up q.answer (λ a is. (answer-apart pool q a rest beside is).0)
+
+  pub gone-same : map (shown_request (without_buffers q pool)) rest ≡ map (shown_request pool) rest
+  gone-same = answer-same q.answer (λ a is. (answer-apart pool q a rest beside is).0)

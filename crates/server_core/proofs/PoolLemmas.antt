@@ -1,0 +1,149 @@
+-- What a session's places are in the pool, before and after a call of the session.
+use Rattle.std.proofs.Common.{◌≡◌, ◌≢◌, ℕ, ◌+◌, ◌-◌, ◌<◌, Bool, true, false, cond, eqb, Option, Some, None, List, [], ◌∷◌, length, get_or, set, refl, ap, ◌∙◌, inl, inr, arith}
+use Rattle.std.specs.Prelude.{IfSome, map, option_map}
+use Rattle.std.specs.List.{AllByRecursion}
+use Rattle.std.proofs.lemmas.Bool.{cases_eq, eq-eqb, eqb-false, ne_eqb}
+use Rattle.std.proofs.lemmas.List.Sums.{sum_by-cons}
+use Rattle.message_buffer.specs.Buffer.{Buffer}
+use Rattle.buffer_pool.specs.declared.usage.Use.{Use}
+use Rattle.buffer_pool.specs.declared.usage.Use.TheVariants.{Empty, Full, Lent}
+use Rattle.buffer_pool.specs.Uses.{is_empty, is_full, refs_in}
+use Rattle.buffer_pool.specs.Pool.{Pool, IsFull, buf_at, changed, emptied, filled, held, refs_of, released, use_at}
+use Rattle.buffer_pool.proofs.PoolLemmas.{changed_other, changed_own, full_within}
+use Rattle.server_core.specs.declared.slot.Stored.{Stored}
+use Rattle.server_core.specs.declared.slot.SlotRequest.{SlotRequest}
+use Rattle.server_core.specs.KeepsPool.{IsKept, IsStored, KeepsPool, answer_names, names, own_names}
+use Rattle.server_core.specs.Replies.{IsHeld, released_at}
+use Rattle.server_core.specs.Shown.{answer_in, shown_request}
+
+-- one place of a pool changed, and each other is as it was
+pub record ChangesOne (p : ℕ) (pool new : Pool) : Type 0 where
+  pub other_uses : (q : ℕ) → q ≢ p → use_at new q ≡ use_at pool q
+  pub other_bufs : (q : ℕ) → q ≢ p → buf_at new q ≡ buf_at pool q
+
+pub one-held : (p : ℕ) (pool : Pool) → ChangesOne p pool (held p pool)
+one-held p pool = record { other_uses = λ q n. changed_other pool.uses p q _ Empty n; other_bufs = λ q n. refl }
+
+pub one-filled : (p : ℕ) (b : Buffer) (pool : Pool) → ChangesOne p pool (filled p b pool)
+one-filled p b pool = record { other_uses = λ q n. changed_other pool.uses p q _ Empty n; other_bufs = λ q n. changed_other pool.bufs p q _ None n }
+
+pub one-emptied : (p : ℕ) (pool : Pool) → ChangesOne p pool (emptied p pool)
+one-emptied p pool = record { other_uses = λ q n. changed_other pool.uses p q _ Empty n; other_bufs = λ q n. changed_other pool.bufs p q _ None n }
+
+pub one-changed : (p : ℕ) (b : Buffer) (pool : Pool) → ChangesOne p pool (changed p b pool)
+one-changed p b pool = record { other_uses = λ q n. refl; other_bufs = λ q n. changed_other pool.bufs p q _ None n }
+
+-- how often requests name a place
+pub names-cons : (p : ℕ) (q : SlotRequest) (qs : List SlotRequest) → names p (q ∷ qs) ≡ own_names p q + names p qs
+names-cons p q qs = sum_by-cons (own_names p) q qs
+
+pub unnamed-cases : (a p : ℕ) (b : Bool) → eqb a p ≡ b → cond {A = ℕ} b 1 0 ≡ 0 → a ≢ p
+unnamed-cases a p true t e = absurd (omega arith)
+unnamed-cases a p false t e = eqb-false a p t
+
+pub other-ask : (p : ℕ) (q : SlotRequest) → own_names p q ≡ 0 → q.ask ≢ p
+other-ask p q e = unnamed-cases q.ask p _ refl (omega (arith, e))
+
+pub unnamed-one : (a p : ℕ) → a ≢ p → cond {A = ℕ} (eqb a p) 1 0 ≡ 0
+unnamed-one a p other = ap (λ b. cond {A = ℕ} b 1 0) (ne_eqb a p other)
+
+pub named-one : (a p : ℕ) → a ≡ p → cond {A = ℕ} (eqb a p) 1 0 ≡ 1
+named-one a p same = ap (λ b. cond {A = ℕ} b 1 0) (eq-eqb a p same)
+
+-- where a place that a request doesn't name changed, the request is kept and shown as before
+module _ (p : ℕ) (pool new : Pool) (one : ChangesOne p pool new) where
+  answer-off : (o : Option Stored) → answer_names p o ≡ 0 → IfSome o (IsStored pool) → IfSome o (IsStored new)
+  answer-off None e kept = tt
+  answer-off (Some a) e kept =
+      let other = unnamed-cases a.place p _ refl e in
+      record { full = ap is_full (one.other_uses a.place other) ∙ kept.full; size = rw (one.other_bufs a.place other) kept.size }
+
+  pub kept-off : (q : SlotRequest) → own_names p q ≡ 0 → IsKept pool q → IsKept new q
+  kept-off q e kept =
+      let other = other-ask p q e in
+      record {
+        ask = ap is_full (one.other_uses q.ask other) ∙ kept.ask;
+        size = rw (one.other_bufs q.ask other) kept.size;
+        unnamed = ap refs_in (one.other_uses q.ask other) ∙ kept.unnamed;
+        answer = answer-off q.answer (omega (arith, e)) kept.answer;
+      }
+
+  shown-answer : (o : Option Stored) → answer_names p o ≡ 0 → option_map (answer_in new) o ≡ option_map (answer_in pool) o
+  shown-answer None e = refl
+  shown-answer (Some a) e = rw (one.other_bufs a.place (unnamed-cases a.place p _ refl e)) refl
+
+  pub shown-off : (q : SlotRequest) → own_names p q ≡ 0 → shown_request new q ≡ shown_request pool q
+  shown-off q e =
+      rw (one.other_bufs q.ask (other-ask p q e), shown-answer q.answer (omega (arith, e))) refl
+
+  all-off : (qs : List SlotRequest) → names p qs ≡ 0 → AllByRecursion (IsKept pool) qs → AllByRecursion (IsKept new) qs
+  all-off [] e all = tt
+  all-off (q ∷ qs) e all =
+      let sum = names-cons p q qs in
+      (kept-off q (omega (arith, sum, e)) all.0, all-off qs (omega (arith, sum, e)) all.1)
+
+  pub keeps-off : (qs : List SlotRequest) → names p qs ≡ 0 → KeepsPool pool qs → KeepsPool new qs
+  keeps-off qs e keeps = record { kept = all-off qs e keeps.kept; apart = keeps.apart }
+
+  pub map-off : (qs : List SlotRequest) → names p qs ≡ 0 → map (shown_request new) qs ≡ map (shown_request pool) qs
+  map-off [] e = refl
+  map-off (q ∷ qs) e =
+      let sum = names-cons p q qs in
+      rw (shown-off q (omega (arith, sum, e)), map-off qs (omega (arith, sum, e))) refl
+
+-- a place is not both full and empty
+full-empty : (u : Use) → is_full u ≡ true → is_empty u ≡ true → ⊥
+full-empty Empty full empty = cc
+full-empty (Full refs) full empty = cc
+full-empty Lent full empty = cc
+
+pub empty-other : (pool : Pool) (p q : ℕ) → IsFull pool q → is_empty (use_at pool p) ≡ true → q ≢ p
+empty-other pool p q full empty = λ same. full-empty (use_at pool p) (rw same at full) empty
+
+-- no request names an empty place
+answer-empty : (pool : Pool) (p : ℕ) (o : Option Stored) → is_empty (use_at pool p) ≡ true → IfSome o (IsStored pool) → answer_names p o ≡ 0
+answer-empty pool p None empty kept = refl
+answer-empty pool p (Some a) empty kept = unnamed-one a.place p (empty-other pool p a.place kept.full empty)
+
+pub own-empty : (pool : Pool) (p : ℕ) (q : SlotRequest) → is_empty (use_at pool p) ≡ true → IsKept pool q → own_names p q ≡ 0
+own-empty pool p q empty kept =
+    omega (arith, unnamed-one q.ask p (empty-other pool p q.ask kept.ask empty), answer-empty pool p q.answer empty kept.answer)
+
+pub names-empty : (pool : Pool) (p : ℕ) (qs : List SlotRequest) → is_empty (use_at pool p) ≡ true → AllByRecursion (IsKept pool) qs → names p qs ≡ 0
+names-empty pool p [] empty kept = refl
+names-empty pool p (q ∷ qs) empty kept =
+    omega (arith, names-cons p q qs, names-empty pool p qs empty kept.1, own-empty pool p q empty kept.0)
+
+-- a place that isn't named for a request is released: no request's bytes are there
+full-cases : (uses : List Use) (p q : ℕ) (u : Use) → is_full u ≡ true → is_full (get_or uses q Empty) ≡ true → is_full (get_or (set uses p u) q Empty) ≡ true
+full-cases uses p q u full was =
+    elim (cases_eq q p) [
+      | inl same ↦ (let within : p < length uses = rw same at (full_within uses q was) in rw same (ap is_full (changed_own uses p u Empty within) ∙ full))
+      | inr other ↦ ap is_full (changed_other uses p q u Empty other) ∙ was
+    ]
+
+answer-used : (pool : Pool) (p : ℕ) (u : Use) (o : Option Stored) → is_full u ≡ true → IfSome o (IsStored pool) → IfSome o (IsStored (record { uses = set pool.uses p u; bufs = pool.bufs }))
+answer-used pool p u None full kept = tt
+answer-used pool p u (Some a) full kept =
+    record { full = full-cases pool.uses p a.place u full kept.full; size = kept.size }
+
+kept-used : (pool : Pool) (p : ℕ) (u : Use) (q : SlotRequest) → is_full u ≡ true → q.ask ≢ p → IsKept pool q → IsKept (record { uses = set pool.uses p u; bufs = pool.bufs }) q
+kept-used pool p u q full other kept = record {
+  ask = full-cases pool.uses p q.ask u full kept.ask;
+  size = kept.size;
+  unnamed = ap refs_in (changed_other pool.uses p q.ask u Empty other) ∙ kept.unnamed;
+  answer = answer-used pool p u q.answer full kept.answer;
+}
+
+ask-other : (pool : Pool) (p : ℕ) (q : SlotRequest) → IsKept pool q → 0 < refs_of pool p → q.ask ≢ p
+ask-other pool p q kept some = λ same. let there : refs_of pool p ≡ 0 = rw (← same) kept.unnamed in absurd (omega (arith, there, some))
+
+all-released : (pool : Pool) (p : ℕ) (qs : List SlotRequest) → 0 < refs_of pool p → AllByRecursion (IsKept pool) qs → AllByRecursion (IsKept (released p pool)) qs
+all-released pool p [] some all = tt
+all-released pool p (q ∷ qs) some all =
+    (kept-used pool p (Full (refs_of pool p - 1)) q refl (ask-other pool p q all.0 some) all.0, all-released pool p qs some all.1)
+
+-- releasing keeps the pool, and changes no bytes
+pub keeps-released : (pool : Pool) (place : Option ℕ) (qs : List SlotRequest) → IsHeld pool place → KeepsPool pool qs → KeepsPool (released_at place pool) qs
+keeps-released pool None qs some keeps = keeps
+keeps-released pool (Some p) qs some keeps = record { kept = all-released pool p qs some keeps.kept; apart = keeps.apart }

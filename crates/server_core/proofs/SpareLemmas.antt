@@ -1,0 +1,105 @@
+-- A session's places are taken from the spare ones, and given back.
+use Rattle.std.proofs.Common.{◌≡◌, ℕ, ◌+◌, ◌*◌, ◌%◌, ◌≤◌, Bool, true, false, cond, Option, Some, None, List, [], ◌∷◌, length, refl, ap, ◌∙◌, arith}
+use Rattle.std.specs.Prelude.{IfSome, option_map}
+use Rattle.std.specs.List.{find}
+use Rattle.std.proofs.lemmas.List.Sums.{sum_by-append, sum_by-cons, sum_by-set}
+use Rattle.message_buffer.specs.Buffer.{Buffer}
+use Rattle.buffer_pool.specs.declared.usage.Use.{Use}
+use Rattle.buffer_pool.specs.declared.usage.Use.TheVariants.{Empty, Full, Lent}
+use Rattle.buffer_pool.specs.Uses.{is_empty, is_full}
+use Rattle.buffer_pool.specs.Pool.{Pool, IsFull, emptied, filled, held, lowest_empty, refs_of, spare_of, use_at}
+use Rattle.buffer_pool.proofs.PoolLemmas.{changed_own, full_within}
+use Rattle.packet_header.specs.declared.packet.MessageHeader.{MessageHeader}
+use Rattle.rpc_base.specs.Tables.{without_first}
+use Rattle.server_core.specs.declared.slot.SlotRequest.{SlotRequest}
+use Rattle.server_core.specs.declared.slot.Stored.{Stored}
+use Rattle.server_core.specs.KeepsPool.{IsKept, IsStored, KeepsPool, KeepsSpare, answer_places, own_places, places}
+use Rattle.server_core.specs.Replies.{held_at, place_of}
+use Rattle.server_core.specs.Serving.{begun, first_taken, given_up, gone_on, next_taken, without_answer}
+use Rattle.server_core.specs.Session.{IsSession, Session, is_in_slot, newest}
+use Rattle.server_core.proofs.ChangedLemmas.{without-none}
+use Rattle.server_core.proofs.GivenLemmas.{answer-full}
+use Rattle.server_core.proofs.ListLemmas.{found-holds, sum-changed, sum-without}
+use Rattle.server_core.proofs.PlaceLemmas.{lowest-within, spare-filled, taken-out}
+use Rattle.server_core.proofs.SlotLemmas.{most-slots}
+
+full-used : (u : Use) → is_full u ≡ true → cond {A = ℕ} (is_empty u) 1 0 ≡ 0
+full-used Empty full = cc
+full-used (Full refs) full = refl
+full-used Lent full = cc
+
+spare-emptied : (pool : Pool) (p : ℕ) → IsFull pool p → spare_of (emptied p pool) ≡ spare_of pool + 1
+spare-emptied pool p full =
+    omega (arith, sum_by-set (λ u. cond {A = ℕ} (is_empty u) 1 0) pool.uses p Empty Empty (full_within pool.uses p full), full-used (use_at pool p) full)
+
+spare-held : (pool : Pool) (p : ℕ) → IsFull pool p → spare_of (held p pool) ≡ spare_of pool
+spare-held pool p full =
+    omega (arith, sum_by-set (λ u. cond {A = ℕ} (is_empty u) 1 0) pool.uses p (Full (refs_of pool p + 1)) Empty (full_within pool.uses p full), full-used (use_at pool p) full)
+
+-- the older request of a slot is given up
+spare-answer : (pool : Pool) (o : Option Stored) → IfSome o (λ a. IsFull pool a.place) → spare_of (without_answer o pool) ≡ spare_of pool + answer_places o
+spare-answer pool None full = omega arith
+spare-answer pool (Some a) full = spare-emptied pool a.place full
+
+given-cases : (test : SlotRequest → Bool) (pool : Pool) (slots : List SlotRequest) (o : Option SlotRequest) → KeepsPool pool slots → find test slots ≡ o → spare_of (given_up o pool) + places (without_first test slots) ≡ spare_of pool + places slots
+given-cases test pool slots None keeps e = rw (without-none test slots e) refl
+given-cases test pool slots (Some q) keeps e =
+    let beside = taken-out pool test slots q e keeps in
+    let asked = spare-emptied pool q.ask beside.own.ask in
+    let answer = spare-answer (emptied q.ask pool) q.answer (answer-full pool q (without_first test slots) beside) in
+    omega (arith, asked, answer, sum-without test q own_places slots e)
+
+-- a request begins
+begun-places : (slots : List SlotRequest) (d : SlotRequest) → places (begun d slots) ≡ places (without_first (is_in_slot (d.number % 8)) slots) + own_places d
+begun-places slots d =
+    omega (arith, sum_by-append own_places (without_first (is_in_slot (d.number % 8)) slots) (d ∷ []), sum_by-cons own_places d [])
+
+module _ (pool : Pool) (s : Session) (head : MessageHeader) (k : ℕ) (b : Buffer) (keeps : KeepsPool pool s.slots) (lowest : lowest_empty (given_up (newest head.request s) pool) ≡ Some k) where
+  abbrev given : Pool
+  given = given_up (newest head.request s) pool
+
+  pub first-spare : KeepsSpare s.slots (begun (first_taken head k None) s.slots) pool (filled k b given)
+  first-spare =
+      omega (arith, given-cases (is_in_slot (head.request % 8)) pool s.slots (newest head.request s) keeps refl, spare-filled given k b lowest, begun-places s.slots (first_taken head k None))
+
+  pub whole-spare : (j : ℕ) (e : Buffer) (a : Stored) → lowest_empty (filled k b given) ≡ Some j → a.place ≡ j → KeepsSpare s.slots (begun (first_taken head k (Some a)) s.slots) pool (held a.place (filled j e (filled k b given)))
+  whole-spare j e a next place =
+      let full : IsFull (filled j e (filled k b given)) a.place = rw place (ap is_full (changed_own (filled k b given).uses j (Full 0) Empty (lowest-within (filled k b given) j next))) in
+      omega (arith, given-cases (is_in_slot (head.request % 8)) pool s.slots (newest head.request s) keeps refl, spare-filled given k b lowest, spare-filled (filled k b given) j e next, spare-held (filled j e (filled k b given)) a.place full, begun-places s.slots (first_taken head k (Some a)))
+
+-- a request goes on
+held-cases : (pool : Pool) (o : Option Stored) (b : Bool) → IfSome o (IsStored pool) → spare_of (held_at (cond b None (option_map (λ a. a.place) o)) pool) ≡ spare_of pool
+held-cases pool o true kept = refl
+held-cases pool None false kept = refl
+held-cases pool (Some a) false kept = spare-held pool a.place kept.full
+
+module _ (pool : Pool) (s : Session) (q : SlotRequest) (r : ℕ) (keeps : KeepsPool pool s.slots) (found : newest r s ≡ Some q) where
+  own-kept : IsKept pool q
+  own-kept = found-holds (is_in_slot (r % 8)) (IsKept pool) s.slots q keeps.kept found
+
+  pub held-spare : (k : ℕ) → KeepsSpare s.slots s.slots pool (held_at (place_of q k) pool)
+  held-spare k = ap (λ n. n + places s.slots) (held-cases pool q.answer _ own-kept.answer)
+
+  pub next-spare : q.number ≡ r → (k : ℕ) → KeepsSpare s.slots (gone_on (next_taken q.answer q) s.slots) pool (held_at (place_of q k) pool)
+  next-spare number k =
+      let at : find (is_in_slot (q.number % 8)) s.slots ≡ Some q = ap (λ n. newest n s) number ∙ found in
+      omega (arith, held-spare k, sum-changed (is_in_slot (q.number % 8)) q own_places (λ x. next_taken q.answer q) s.slots at)
+
+  pub last-spare : q.number ≡ r → q.answer ≡ None → (j : ℕ) (b : Buffer) (a : Stored) → lowest_empty pool ≡ Some j → a.place ≡ j → KeepsSpare s.slots (gone_on (next_taken (Some a) q) s.slots) pool (held a.place (filled j b pool))
+  last-spare number none j b a lowest place =
+      let at : find (is_in_slot (q.number % 8)) s.slots ≡ Some q = ap (λ n. newest n s) number ∙ found in
+      let full : IsFull (filled j b pool) a.place = rw place (ap is_full (changed_own pool.uses j (Full 0) Empty (lowest-within pool j lowest))) in
+      let own : own_places q ≡ 1 = ap (λ o. 1 + answer_places o) none in
+      omega (arith, spare-filled pool j b lowest, spare-held (filled j b pool) a.place full, sum-changed (is_in_slot (q.number % 8)) q own_places (λ x. next_taken (Some a) q) s.slots at, own)
+
+-- a session has at most sixteen places
+answer-most : (o : Option Stored) → answer_places o ≤ 1
+answer-most None = omega arith
+answer-most (Some a) = omega arith
+
+twice-most : (slots : List SlotRequest) → places slots ≤ 2 * length slots
+twice-most [] = omega arith
+twice-most (q ∷ qs) = omega (arith, sum_by-cons own_places q qs, answer-most q.answer, twice-most qs)
+
+pub places-most : (s : Session) → IsSession s → places s.slots ≤ 16
+places-most s h = omega (arith, twice-most s.slots, most-slots s h)

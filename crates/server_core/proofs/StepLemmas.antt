@@ -1,0 +1,139 @@
+-- A packet that is taken is the step of the definitions over histories.
+use Rattle.std.proofs.Common.{◌≡◌, ℕ, ◌+◌, ◌*◌, ◌%◌, ◌<◌, ◌≤◌, false, eqb, Option, Some, None, List, [], ◌∷◌, ◌++◌, length, take, refl, sym, ap, ◌∙◌, inl, inr, arith}
+use Rattle.std.specs.Prelude.{IfSome, option_map}
+use Rattle.std.specs.List.{find}
+use Rattle.std.proofs.lemmas.Bool.{cases_lt, eq-eqb, eqb-true, leb-false}
+use Rattle.std.proofs.lemmas.List.{append-nil, length-take-le, take_all}
+use Rattle.message_buffer.specs.Buffer.{Buffer, bytes_of}
+use Rattle.buffer_pool.specs.Pool.{Pool, buf_at}
+use Rattle.packet_header.specs.Parts.{packet_count, part_size}
+use Rattle.packet_header.specs.declared.packet.MessageHeader.{MessageHeader}
+use Rattle.packet_header.proofs.PartsLemmas.{front-whole}
+use Rattle.rpc_base.specs.Tables.{without_first}
+use Rattle.rpc_laws.specs.declared.tables.Server.{Server}
+use Rattle.rpc_laws.specs.Requests.{answered, first_packet, in_slot_of, is_request, next_packet}
+use Rattle.server_core.specs.declared.slot.SlotRequest.{SlotRequest}
+use Rattle.server_core.specs.declared.slot.Stored.{Stored}
+use Rattle.server_core.specs.KeepsPool.{IsKept}
+use Rattle.server_core.specs.Rows.{is_past}
+use Rattle.server_core.specs.Serving.{IsFirstPart, next_taken}
+use Rattle.server_core.specs.Session.{HasCome, IsInTurn, IsSession, Session, is_in_slot, newest}
+use Rattle.server_core.specs.Shown.{message_in, shown, shown_request}
+use Rattle.server_core.specs.Steps.{asked_with, begun_with, bytes_with, first_shown, gone_on_as, grown, ran, took}
+use Rattle.server_core.proofs.ChangedLemmas.{any-without, at_first-agree, at_first-last, at_first-twice, none-any, some-any}
+use Rattle.server_core.proofs.ListLemmas.{found-own, found-passes, found-shown}
+use Rattle.server_core.proofs.RowLemmas.{message-length}
+use Rattle.server_core.proofs.SlotLemmas.{by-number}
+
+-- no request has a number greater than the newest of its slot
+none-cases : (s : Session) (r : ℕ) (o : Option SlotRequest) → IsSession s → IfSome (newest r s) (λ q. q.number < r) → find (λ x. eqb x.number r) s.slots ≡ o → o ≡ None
+none-cases s r None h newer e = refl
+none-cases s r (Some q) h newer e =
+    let same = eqb-true q.number r (found-passes (λ x. eqb x.number r) s.slots q e) in
+    let slot = found-own (λ x. eqb x.number r) (is_in_slot (r % 8)) s.slots q (h.apart (r % 8)) e (eq-eqb (q.number % 8) (r % 8) (ap (λ n. n % 8) same)) in
+    let less : q.number < r = rw slot at newer in
+    absurd (omega (arith, less, same))
+
+pub none-shown : (pool : Pool) (s : Session) (r : ℕ) → IsSession s → IfSome (newest r s) (λ q. q.number < r) → find (is_request r) (shown pool s).slots ≡ None
+none-shown pool s r h newer =
+    found-shown (shown_request pool) (is_request r) (λ x. eqb x.number r) (λ x. refl) s.slots ∙ ap (option_map (shown_request pool)) (none-cases s r _ h newer refl)
+
+-- a request that begins
+pub took-begun : (v : Server) (h : MessageHeader) (body : List ℕ) → find (is_request h.request) v.slots ≡ None → took h body v ≡ begun_with (first_packet h.request h body) v ∷ []
+took-begun v h body none =
+    rw (eq-eqb v.way.number v.way.number refl, none-any (is_request h.request) v.slots none) refl
+
+pub ran-begun : (v : Server) (h : MessageHeader) (body answer : List ℕ) → find (is_request h.request) v.slots ≡ None → ran h body answer v ≡ begun_with (answered answer (first_packet h.request h body)) v ∷ []
+ran-begun v h body answer none =
+    let rest = any-without (is_request h.request) (in_slot_of h.request) v.slots (none-any (is_request h.request) v.slots none) in
+    let last = at_first-last (is_request h.request) (answered answer) (first_packet h.request h body) (without_first (in_slot_of h.request) v.slots) rest (eq-eqb h.request h.request refl) in
+    rw (took-begun v h body none, eq-eqb v.way.number v.way.number refl, last) refl
+
+pub asked-begun : (v : Server) (h : MessageHeader) (body : List ℕ) → find (is_request h.request) v.slots ≡ None → asked_with h body v ≡ body
+asked-begun v h body none = rw none refl
+
+-- its bytes
+pub first-bytes : (size : ℕ) (body : List ℕ) (b : Buffer) → IsFirstPart size body b → length body ≡ part_size size 0 → take 1024 (bytes_of b) ≡ body
+first-bytes size body b first long = elim (cases_lt 1024 size) [
+  | inl more ↦ (let full : length body ≡ 1024 = omega (arith, long, more) in ap (λ n. take n (bytes_of b)) (sym full) ∙ first.bytes)
+  | inr last ↦ (
+      let whole : length body ≡ size = omega (arith, long, last) in
+      let len : length (bytes_of b) ≡ size = length-take-le b.len b.store (omega (arith, first.len, first.room)) ∙ first.len in
+      take_all 1024 (bytes_of b) (omega (arith, len, last)) ∙ sym (take_all (length body) (bytes_of b) (omega (arith, len, whole))) ∙ first.bytes)
+]
+
+pub first-took : (h : MessageHeader) (body : List ℕ) (b : Buffer) → IsFirstPart h.size body b → length body ≡ part_size h.size 0 → first_packet h.request h body ≡ first_shown h (bytes_of b) None
+first-took h body b first long = rw (first-bytes h.size body b first long) refl
+
+pub first-ran : (h : MessageHeader) (body answer : List ℕ) (b : Buffer) → IsFirstPart h.size body b → length body ≡ part_size h.size 0 → answered answer (first_packet h.request h body) ≡ first_shown h (bytes_of b) (Some answer)
+first-ran h body answer b first long = rw (first-bytes h.size body b first long) refl
+
+-- a request that goes on
+module _ (pool : Pool) (s : Session) (q : SlotRequest) (head : MessageHeader) (sound : IsSession s) (found : newest head.request s ≡ Some q) (same : q.number ≡ head.request) where
+  own-shown : find (is_request head.request) (shown pool s).slots ≡ Some (shown_request pool q)
+  own-shown =
+      found-shown (shown_request pool) (is_request head.request) (λ x. eqb x.number head.request) (λ x. refl) s.slots ∙ ap (option_map (shown_request pool)) (by-number s head.request q sound found same)
+
+  took-next : (body : List ℕ) → took head body (shown pool s) ≡ gone_on_as head.request (next_packet body) (shown pool s) ∷ []
+  took-next body =
+      rw (eq-eqb s.number s.number refl, some-any (is_request head.request) (shown pool s).slots (shown_request pool q) own-shown) refl
+
+  module _ (body bytes : List ℕ) (joined : (shown_request pool q).ask ++ body ≡ bytes) where
+    agree : next_packet body (shown_request pool q) ≡ grown bytes (shown_request pool q)
+    agree = rw joined refl
+
+    pub took-gone : took head body (shown pool s) ≡ gone_on_as q.number (grown bytes) (shown pool s) ∷ []
+    took-gone =
+        let slots = at_first-agree (is_request head.request) (next_packet body) (grown bytes) (shown_request pool q) (shown pool s).slots agree own-shown in
+        rw (took-next body, slots, same) refl
+
+    pub ran-gone : (answer : List ℕ) → ran head body answer (shown pool s) ≡ gone_on_as q.number (λ x. answered answer (grown bytes x)) (shown pool s) ∷ []
+    ran-gone answer =
+        let twice = at_first-twice (is_request head.request) (next_packet body) (answered answer) (shown pool s).slots (λ x. refl) in
+        let slots = at_first-agree (is_request head.request) (λ x. answered answer (next_packet body x)) (λ x. answered answer (grown bytes x)) (shown_request pool q) (shown pool s).slots (ap (answered answer) agree) own-shown in
+        rw (took-next body, eq-eqb s.number s.number refl, twice, slots, same) refl
+
+    pub asked-gone : asked_with head body (shown pool s) ≡ bytes
+    asked-gone = rw own-shown joined
+
+-- no bytes come with an RFR
+no-bytes : (body : List ℕ) → length body ≡ 0 → body ≡ []
+no-bytes [] e = refl
+no-bytes (x ∷ xs) e = absurd (omega (arith, e))
+
+pub more-bytes : (pool : Pool) (q : SlotRequest) (body : List ℕ) → IsKept pool q → packet_count q.size ≤ q.taken → length body ≡ 0 → (shown_request pool q).ask ++ body ≡ bytes_with pool q
+more-bytes pool q body kept behind none =
+    let long = message-length (buf_at pool q.ask) q.size kept.size in
+    let before = front-whole (message_in (buf_at pool q.ask)) q.taken (omega (arith, ap packet_count long, behind)) in
+    let after = front-whole (message_in (buf_at pool q.ask)) (q.taken + 1) (omega (arith, ap packet_count long, behind)) in
+    rw (no-bytes body none) (append-nil (take (1024 * q.taken) (message_in (buf_at pool q.ask))) ∙ before ∙ sym after)
+
+-- the bytes of a whole request
+pub whole-bytes : (pool : Pool) (q : SlotRequest) (b : Buffer) → IsKept pool q → buf_at pool q.ask ≡ Some b → packet_count q.size ≤ q.taken + 1 → bytes_of b ≡ bytes_with pool q
+whole-bytes pool q b kept there behind =
+    let long : length (bytes_of b) ≡ q.size = ap (λ o. length (message_in o)) (sym there) ∙ message-length (buf_at pool q.ask) q.size kept.size in
+    rw there (sym (front-whole (bytes_of b) (q.taken + 1) (omega (arith, ap packet_count long, behind))))
+
+-- the counts of a request with one packet more
+more-cases : (size taken : ℕ) (o : Option Stored) → HasCome size taken o → is_past size o taken ≡ false → HasCome size (taken + 1) o
+more-cases size taken None come there = cc
+more-cases size taken (Some a) come there = record {
+  answer = come.answer;
+  whole = omega (arith, come.whole);
+  known = omega (arith, leb-false (packet_count size + packet_count a.size) (taken + 1) there);
+}
+
+pub more-turn : (q : SlotRequest) → IsInTurn q → is_past q.size q.answer q.taken ≡ false → IsInTurn (next_taken q.answer q)
+more-turn q turn there = record { size = turn.size; some = omega arith; come = more-cases q.size q.taken q.answer turn.come there }
+
+none-yet : (size taken : ℕ) (o : Option Stored) → HasCome size taken o → taken < packet_count size → o ≡ None
+none-yet size taken None come early = refl
+none-yet size taken (Some a) come early = absurd (omega (arith, come.whole, early))
+
+pub no-answer : (q : SlotRequest) → IsInTurn q → q.taken < packet_count q.size → q.answer ≡ None
+no-answer q turn early = none-yet q.size q.taken q.answer turn.come early
+
+pub part-turn : (q : SlotRequest) → IsInTurn q → q.taken + 1 < packet_count q.size → IsInTurn (next_taken q.answer q)
+part-turn q turn early =
+    let none = no-answer q turn (omega (arith, early)) in
+    record { size = turn.size; some = omega arith; come = rw none early }

@@ -1,0 +1,180 @@
+-- A packet more of a request is taken: what is kept and shown of its session, and the reply.
+use Rattle.std.proofs.Common.{◌≡◌, ◌≢◌, ℕ, ◌+◌, ◌*◌, ◌%◌, ◌<◌, ◌≤◌, Bool, true, false, cond, eqb, Option, Some, None, List, ◌++◌, length, take, refl, sym, ap, ◌∙◌, arith}
+use Rattle.std.specs.Prelude.{IfSome, map, option_map}
+use Rattle.std.specs.List.{find}
+use Rattle.std.proofs.lemmas.Bool.{eq-eqb}
+use Rattle.message_buffer.specs.Buffer.{Buffer, bytes_of, capacity_of, written}
+use Rattle.buffer_pool.specs.Pool.{Pool, buf_at, changed, filled, held, lowest_empty, refs_of}
+use Rattle.buffer_pool.proofs.PoolLemmas.{changed_own, held_refs}
+use Rattle.packet_header.specs.Parts.{packet_count, part_size}
+use Rattle.packet_header.proofs.PartsLemmas.{packet_count_above}
+use Rattle.rpc_base.specs.Tables.{at_first, without_first}
+use Rattle.rpc_laws.specs.declared.tables.Served.{Served}
+use Rattle.rpc_laws.specs.declared.tables.Server.{Server}
+use Rattle.rpc_laws.specs.Requests.{answered, is_request}
+use Rattle.rpc_outside.specs.declared.service.Mode.{Mode}
+use Rattle.rpc_outside.specs.declared.service.Mode.TheVariants.{Inline}
+use Rattle.server_core.specs.declared.slot.SlotRequest.{SlotRequest}
+use Rattle.server_core.specs.declared.slot.Stored.{Stored}
+use Rattle.server_core.specs.KeepsPool.{HasSize, IsKept, IsStored, KeepsPool}
+use Rattle.server_core.specs.Replies.{CanHold, IsHeld, MayHold, held_at, place_of}
+use Rattle.server_core.specs.Serving.{gone_on, next_taken, with_slots}
+use Rattle.server_core.specs.Session.{IsInTurn, IsMessage, IsSession, Session, is_in_slot, newest}
+use Rattle.server_core.specs.Shown.{answer_in, message_in, shown, shown_request, way_of}
+use Rattle.server_core.specs.Steps.{AreInline, bytes_with, gone_on_as, grown}
+use Rattle.server_core.proofs.ChangedLemmas.{found-put, map-back, map-whole, same-first, self-first}
+use Rattle.server_core.proofs.ListLemmas.{all-without, found-holds}
+use Rattle.server_core.proofs.PartLemmas.{before-same, with-next}
+use Rattle.server_core.proofs.PlaceLemmas.{IsBeside, all-back, answer-apart, ask-apart, beside-answered, beside-as, beside-held, beside-written, buffer-within, lowest-empty, put-back, taken-out}
+use Rattle.server_core.proofs.PoolLemmas.{empty-other, map-off, names-empty, one-changed, one-filled}
+use Rattle.server_core.proofs.SlotLemmas.{by-number}
+
+-- the answer of a request is held for a reply that has a part of it
+module _ (pool : Pool) (q : SlotRequest) where
+  beside-cases : (rest : List SlotRequest) (o : Option Stored) (b : Bool) → q.answer ≡ o → IsBeside pool q rest → IsBeside (held_at (cond b None (option_map (λ a. a.place) o)) pool) q rest
+  beside-cases rest o true e beside = beside
+  beside-cases rest None false e beside = beside
+  beside-cases rest (Some a) false e beside = beside-held pool q a rest beside e
+
+  pub beside-held-at : (rest : List SlotRequest) (k : ℕ) → IsBeside pool q rest → IsBeside (held_at (place_of q k) pool) q rest
+  beside-held-at rest k beside = beside-cases rest q.answer _ refl beside
+
+  may-cases : (o : Option Stored) (b : Bool) → IfSome o (IsStored pool) → IfSome o (λ a. refs_of pool a.place < 4294967295) → MayHold pool (cond b None (option_map (λ a. a.place) o))
+  may-cases o true kept few = tt
+  may-cases None false kept few = tt
+  may-cases (Some a) false kept few = (kept.full, few)
+
+  pub may-hold : (k : ℕ) → IsKept pool q → CanHold pool q → MayHold pool (place_of q k)
+  may-hold k kept few = may-cases q.answer _ kept.answer few
+
+  is-cases : (o : Option Stored) (b : Bool) → IfSome o (IsStored pool) → IsHeld (held_at (cond b None (option_map (λ a. a.place) o)) pool) (cond b None (option_map (λ a. a.place) o))
+  is-cases o true kept = tt
+  is-cases None false kept = tt
+  is-cases (Some a) false kept = omega (arith, (held_refs pool a.place kept.full).1)
+
+  pub is-held-at : (k : ℕ) → IsKept pool q → IsHeld (held_at (place_of q k) pool) (place_of q k)
+  is-held-at k kept = is-cases q.answer _ kept.answer
+
+-- holding changes no bytes
+pub held-map : (pool : Pool) (place : Option ℕ) (qs : List SlotRequest) → map (shown_request (held_at place pool)) qs ≡ map (shown_request pool) qs
+held-map pool None qs = refl
+held-map pool (Some p) qs = refl
+
+held-one : (pool : Pool) (place : Option ℕ) (q : SlotRequest) → shown_request (held_at place pool) q ≡ shown_request pool q
+held-one pool None q = refl
+held-one pool (Some p) q = refl
+
+pub held-shown : (pool : Pool) (place : Option ℕ) (s : Session) → shown (held_at place pool) s ≡ shown pool s
+held-shown pool place s =
+    let whole : List Served → Server = λ ys. record { way = way_of s; credits = s.credits; slots = ys } in
+    ap whole (held-map pool place s.slots)
+
+-- a request of the session, and what becomes of it
+module _ (pool : Pool) (s : Session) (q : SlotRequest) (h : IsSession s) (found : newest q.number s ≡ Some q) (keeps : KeepsPool pool s.slots) where
+  abbrev same_number : SlotRequest → Bool
+  same_number x = eqb x.number q.number
+
+  abbrev rest : List SlotRequest
+  rest = without_first same_number s.slots
+
+  pub by-own : find same_number s.slots ≡ Some q
+  by-own = by-number s q.number q h found refl
+
+  pub own-beside : IsBeside pool q rest
+  own-beside = taken-out pool same_number s.slots q by-own keeps
+
+  gone-same : (d : SlotRequest) → d.number ≡ q.number → gone_on d s.slots ≡ at_first same_number (λ x. d) s.slots
+  gone-same d number =
+      ap (λ n. at_first (is_in_slot (n % 8)) (λ x. d) s.slots) number ∙ same-first (is_in_slot (q.number % 8)) same_number (λ x. d) q s.slots (eq-eqb (q.number % 8) (q.number % 8) refl) (eq-eqb q.number q.number refl) found by-own
+
+  pub gone-keeps : (after : Pool) (d : SlotRequest) → d.number ≡ q.number → IsBeside after d rest → KeepsPool after (gone_on d s.slots)
+  gone-keeps after d number beside = rw (gone-same d number) (put-back same_number q d after s.slots by-own beside)
+
+  pub gone-shows : (after : Pool) (d : SlotRequest) (change : Served → Served) → d.number ≡ q.number → map (shown_request after) rest ≡ map (shown_request pool) rest → shown_request after d ≡ change (shown_request pool q) → shown after (with_slots (gone_on d s.slots) s) ≡ gone_on_as q.number change (shown pool s)
+  gone-shows after d change number same new =
+      let whole : List Served → Server = λ ys. record { way = way_of s; credits = s.credits; slots = ys } in
+      ap whole (ap (λ qs. map (shown_request after) qs) (gone-same d number) ∙ map-back (shown_request pool) same_number (is_request q.number) (λ x. refl) (shown_request after) q d change new s.slots by-own same)
+
+  pub gone-newest : (d : SlotRequest) → d.number ≡ q.number → newest d.number (with_slots (gone_on d s.slots) s) ≡ Some d
+  gone-newest d number =
+      found-put (is_in_slot (d.number % 8)) d (eq-eqb (d.number % 8) (d.number % 8) refl) q s.slots (rw number found)
+
+  pub gone-inline : (mode_of : ℕ → Mode) (d : SlotRequest) → d.number ≡ q.number → d.req_type ≡ q.req_type → AreInline mode_of s.slots → AreInline mode_of (gone_on d s.slots)
+  gone-inline mode_of d number same all =
+      rw (gone-same d number) (all-back same_number q d (λ x. mode_of x.req_type ≡ Inline) s.slots (rw same (found-holds same_number (λ x. mode_of x.req_type ≡ Inline) s.slots q all by-own)) by-own (all-without same_number q (λ x. mode_of x.req_type ≡ Inline) s.slots all))
+
+  -- a packet that was taken is answered once more
+  pub again-keeps : (k : ℕ) → KeepsPool (held_at (place_of q k) pool) s.slots
+  again-keeps k = rw (self-first same_number q s.slots by-own) at (put-back same_number q q (held_at (place_of q k) pool) s.slots by-own (beside-held-at pool q rest k own-beside))
+
+  -- one packet more
+  pub next-keeps : KeepsPool (held_at (place_of q q.taken) pool) (gone_on (next_taken q.answer q) s.slots)
+  next-keeps = gone-keeps (held_at (place_of q q.taken) pool) (next_taken q.answer q) refl (beside-as (held_at (place_of q q.taken) pool) q (next_taken q.answer q) rest refl refl refl (beside-held-at pool q rest q.taken own-beside))
+
+  pub next-shows : shown (held_at (place_of q q.taken) pool) (with_slots (gone_on (next_taken q.answer q) s.slots) s) ≡ gone_on_as q.number (grown (bytes_with pool q)) (shown pool s)
+  next-shows = gone-shows (held_at (place_of q q.taken) pool) (next_taken q.answer q) (grown (bytes_with pool q)) refl (held-map pool (place_of q q.taken) rest) (held-one pool (place_of q q.taken) (next_taken q.answer q))
+
+  -- the last packet
+  module _ (p : ℕ) (b : Buffer) (a : Stored) (none : q.answer ≡ None) (lowest : lowest_empty pool ≡ Some p) (there : buf_at (filled p b pool) p ≡ Some b) (place : a.place ≡ p) (size : a.size ≡ b.len) (fits : b.len ≤ capacity_of b) where
+    last-beside : IsBeside (filled p b pool) (next_taken (Some a) q) rest
+    last-beside = beside-answered pool p b q (next_taken (Some a) q) a rest own-beside none lowest there refl refl refl place (sym size, omega (arith, size, fits))
+
+    pub last-keeps : KeepsPool (held a.place (filled p b pool)) (gone_on (next_taken (Some a) q) s.slots)
+    last-keeps = gone-keeps (held a.place (filled p b pool)) (next_taken (Some a) q) refl (beside-held (filled p b pool) (next_taken (Some a) q) a rest last-beside refl)
+
+    pub last-held : 0 < refs_of (held a.place (filled p b pool)) a.place
+    last-held = omega (arith, (held_refs (filled p b pool) a.place last-beside.own.answer.full).1)
+
+    ask-there : buf_at (filled p b pool) q.ask ≡ buf_at pool q.ask
+    ask-there = (one-filled p b pool).other_bufs q.ask (empty-other pool p q.ask own-beside.own.ask (lowest-empty pool p lowest))
+
+    answer-there : buf_at (filled p b pool) a.place ≡ Some b
+    answer-there = rw place there
+
+    pub last-shows : shown (held a.place (filled p b pool)) (with_slots (gone_on (next_taken (Some a) q) s.slots) s) ≡ gone_on_as q.number (λ x. answered (bytes_of b) (grown (bytes_with pool q) x)) (shown pool s)
+    last-shows =
+        let same = map-off p pool (filled p b pool) (one-filled p b pool) rest (names-empty pool p rest (lowest-empty pool p lowest) own-beside.others.kept) in
+        gone-shows (held a.place (filled p b pool)) (next_taken (Some a) q) (λ x. answered (bytes_of b) (grown (bytes_with pool q) x)) refl same (rw (ask-there, answer-there) refl)
+
+  -- a part is written
+  module _ (body : List ℕ) (b : Buffer) (there : buf_at pool q.ask ≡ Some b) (within : q.taken < packet_count q.size) (long : length body ≡ part_size q.size q.taken) where
+    own-size : HasSize q.size (Some b)
+    own-size = rw there at own-beside.own.size
+
+    pub part-fits : 1024 * q.taken + length body ≤ b.len
+    part-fits = omega (arith, long, within, own-size.0)
+
+    abbrev after_part : Pool
+    after_part = changed q.ask (written (1024 * q.taken) body b) pool
+
+    own-written : buf_at after_part q.ask ≡ Some (written (1024 * q.taken) body b)
+    own-written = changed_own pool.bufs q.ask (Some (written (1024 * q.taken) body b)) None (buffer-within pool.bufs q.ask b there)
+
+    pub part-keeps : KeepsPool after_part s.slots
+    part-keeps = rw (self-first same_number q s.slots by-own) at (put-back same_number q q after_part s.slots by-own (beside-written pool (1024 * q.taken) body b q rest own-beside there part-fits))
+
+    pub part-bytes : bytes_with after_part q ≡ take (1024 * q.taken) (message_in (buf_at pool q.ask)) ++ body
+    part-bytes = rw (own-written, there) (with-next q.taken q.size body b own-size.0 own-size.1 within long)
+
+    same-answer : (o : Option Stored) → ((a : Stored) → o ≡ Some a → q.ask ≢ a.place) → option_map (answer_in after_part) o ≡ option_map (answer_in pool) o
+    same-answer None other = refl
+    same-answer (Some a) other =
+        ap (λ x. Some (message_in x)) ((one-changed q.ask (written (1024 * q.taken) body b) pool).other_bufs a.place (λ e. other a refl (sym e)))
+
+    same-own : shown_request after_part q ≡ shown_request pool q
+    same-own =
+        let before = before-same (1024 * q.taken) body b part-fits (omega (arith, own-size.0, own-size.1)) in
+        rw (own-written, there, before, same-answer q.answer (λ a is. (answer-apart pool q a rest own-beside is).1)) refl
+
+    pub part-shows : shown after_part s ≡ shown pool s
+    part-shows =
+        let whole : List Served → Server = λ ys. record { way = way_of s; credits = s.credits; slots = ys } in
+        ap whole (map-whole (shown_request pool) (shown_request after_part) same_number q same-own s.slots by-own (map-off q.ask pool after_part (one-changed q.ask (written (1024 * q.taken) body b) pool) rest (ask-apart pool q rest own-beside)))
+
+-- the counts of the request then
+pub last-turn : (q : SlotRequest) (a : Stored) → IsMessage q.size → IsMessage a.size → q.taken + 1 ≡ packet_count q.size → IsInTurn (next_taken (Some a) q)
+last-turn q a size answer last = record {
+  size = size;
+  some = omega arith;
+  come = record { answer = answer; whole = omega (arith, last); known = omega (arith, last, packet_count_above a.size) };
+}

@@ -1,0 +1,29 @@
+use Rattle.std.proofs.Common.{◌≡◌, ◌≢◌, Some, None, sym, ap, ◌∙◌}
+use Rattle.server_core.specs.contracts.session.ServerSession.{the_view}
+use Rattle.server_core.specs.KeepsPool.{IsKept}
+use Rattle.server_core.specs.Session.{is_in_slot, newest}
+use Rattle.server_core.proofs.AskedLemmas.{asked-none, asked-own}
+use Rattle.server_core.proofs.ListLemmas.{found-holds}
+use Rattle.server_core.proofs.session.ServerSession.asked.Goals as goal
+
+pub returns-in_default : goal.returns-in_default
+returns-in_default c =
+    let none : newest c.args.request (the_view c.self.inside) ≡ None = rw c.slot.ensures at (sym c.in_default.ensures) in
+    rw (← c.self.view_is) (asked-none c.args.pool.now (the_view c.self.inside) c.args.request c.self.invariant (rw none tt))
+
+pub returns-then-get : goal.returns-then-get
+returns-then-get c =
+    let slot : newest c.args.request (the_view c.self.inside) ≡ Some c.in-Some.newest = rw c.slot.ensures at (sym c.in-Some.ensures) in
+    let away : c.in-Some.newest.number ≢ c.args.request = λ same. c.if-get.true (c.get.ensures.value ∙ same ∙ sym c.get-2.ensures.value) in
+    rw (← c.self.view_is) (asked-none c.args.pool.now (the_view c.self.inside) c.args.request c.self.invariant (rw slot away))
+
+pub get-requires-3 : goal.get-requires-3
+get-requires-3 c =
+    let keeps = rw (← c.self.view_is) at c.requires.keeps_pool in
+    (found-holds (is_in_slot c.slot.result) (IsKept c.args.pool.now) c.self.inside.slots c.in-Some.newest keeps.kept (sym c.in-Some.ensures)).ask
+
+pub returns : goal.returns
+returns c =
+    let slot : newest c.args.request (the_view c.self.inside) ≡ Some c.in-Some.newest = rw c.slot.ensures at (sym c.in-Some.ensures) in
+    let same : c.in-Some.newest.number ≡ c.args.request = sym c.get.ensures.value ∙ c.if-get.false ∙ c.get-2.ensures.value in
+    rw (← c.self.view_is, c.first_packets.ensures, c.bytes.ensures.message) (asked-own c.args.pool.now (the_view c.self.inside) c.args.request c.in-Some.newest c.get-3.result.now c.self.invariant slot same c.get-3.ensures)

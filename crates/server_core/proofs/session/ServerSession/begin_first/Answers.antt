@@ -1,0 +1,62 @@
+use Rattle.std.proofs.Common.{None, arith}
+use Rattle.std.proofs.lemmas.Bool.{lt-ltb}
+use Rattle.server_core.specs.Serving.{begun, first_taken, with_slots}
+use Rattle.server_core.specs.Session.{newest}
+use Rattle.server_core.specs.contracts.session.ServerSession.{the_view}
+use Rattle.server_core.proofs.BeginLemmas.{begun-inline, begun-newest, first-keeps, first-shows, first-turn, is-reply, return-held}
+use Rattle.server_core.proofs.GivenLemmas.{spare-given}
+use Rattle.server_core.proofs.SlotLemmas.{begun-session, few-left}
+use Rattle.server_core.proofs.OtherLemmas.{first-others}
+use Rattle.server_core.proofs.SpareLemmas.{first-spare}
+use Rattle.server_core.proofs.session.ServerSession.begin_first.Goals as goal
+
+pub put_message-ask-requires : goal.put_message-ask-requires
+put_message-ask-requires c =
+    rw (c.give_up.ensures.pool, c.slot.ensures) (omega (arith, spare-given c.args.pool.now (newest c.args.head.now.request (the_view c.self.inside)), c.requires.spare))
+
+pub push-requires : goal.push-requires
+push-requires c = rw (c.give_up.ensures.slots, c.slot.ensures) (few-left (the_view c.self.inside) c.self.invariant _ (omega arith))
+
+pub invariant_of-self : goal.invariant_of-self
+invariant_of-self c =
+    rw (c.push.ensures, c.give_up.ensures.slots, c.slot.ensures) (begun-session (the_view c.self.inside) (first_taken c.args.head.now c.put_message-ask.result.place None) c.self.invariant (first-turn c.args.head.now c.put_message-ask.result.place c.requires.size c.requires.many))
+
+pub returns-clause-shown : goal.returns-clause-shown
+returns-clause-shown c =
+    let keeps = rw (← c.self.view_is) at c.requires.keeps_pool in
+    let lowest = rw (c.give_up.ensures.pool, c.slot.ensures) at c.put_message-ask.ensures.place in
+    let there = rw (c.put_message-ask.ensures.pool, c.give_up.ensures.pool, c.slot.ensures) at c.put_message-ask.ensures.there in
+    rw (c.push.ensures, c.give_up.ensures.slots, c.put_message-ask.ensures.pool, c.give_up.ensures.pool, c.slot.ensures, ← c.self.view_is)
+    (first-shows c.args.pool.now (the_view c.self.inside) c.args.head.now c.put_message-ask.result.place c.args.ask keeps lowest there c.requires.len c.requires.room)
+
+pub returns-clause-reply : goal.returns-clause-reply
+returns-clause-reply c =
+    let d = first_taken c.args.head.now c.put_message-ask.result.place None in
+    let whole = begun-session (the_view c.self.inside) d c.self.invariant (first-turn c.args.head.now c.put_message-ask.result.place c.requires.size c.requires.many) in
+    rw (c.entry-reply.ensures, c.push.ensures, c.give_up.ensures.slots, c.slot.ensures)
+    (is-reply c.put_message-ask.new.pool (with_slots (begun d c.self.inside.slots) (the_view c.self.inside)) d 0 whole (begun-newest (the_view c.self.inside) d c.self.invariant) (omega arith) (return-held c.put_message-ask.new.pool d 0 (lt-ltb 1 _ c.requires.many)))
+
+pub returns-clause-keeps_pool : goal.returns-clause-keeps_pool
+returns-clause-keeps_pool c =
+    let keeps = rw (← c.self.view_is) at c.requires.keeps_pool in
+    let lowest = rw (c.give_up.ensures.pool, c.slot.ensures) at c.put_message-ask.ensures.place in
+    let there = rw (c.put_message-ask.ensures.pool, c.give_up.ensures.pool, c.slot.ensures) at c.put_message-ask.ensures.there in
+    rw (c.push.ensures, c.give_up.ensures.slots, c.put_message-ask.ensures.pool, c.give_up.ensures.pool, c.slot.ensures)
+    (first-keeps c.args.pool.now (the_view c.self.inside) c.args.head.now c.put_message-ask.result.place c.args.ask keeps lowest there c.requires.len c.requires.room)
+
+pub returns-clause-inline : goal.returns-clause-inline
+returns-clause-inline c = λ mode_of new all.
+    rw (c.push.ensures, c.give_up.ensures.slots, c.slot.ensures) (begun-inline mode_of c.self.inside.slots (first_taken c.args.head.now c.put_message-ask.result.place None) new (rw (← c.self.view_is) at all))
+
+pub returns-clause-others : goal.returns-clause-others
+returns-clause-others c =
+    let lowest = rw (c.give_up.ensures.pool, c.slot.ensures) at c.put_message-ask.ensures.place in
+    rw (c.push.ensures, c.give_up.ensures.slots, c.put_message-ask.ensures.pool, c.give_up.ensures.pool, c.slot.ensures, ← c.self.view_is)
+    (first-others c.args.pool.now (the_view c.self.inside) c.args.head.now c.put_message-ask.result.place c.args.ask lowest)
+
+pub returns-clause-spare : goal.returns-clause-spare
+returns-clause-spare c =
+    let keeps = rw (← c.self.view_is) at c.requires.keeps_pool in
+    let lowest = rw (c.give_up.ensures.pool, c.slot.ensures) at c.put_message-ask.ensures.place in
+    rw (c.push.ensures, c.give_up.ensures.slots, c.put_message-ask.ensures.pool, c.give_up.ensures.pool, c.slot.ensures, ← c.self.view_is)
+    (first-spare c.args.pool.now (the_view c.self.inside) c.args.head.now c.put_message-ask.result.place c.args.ask keeps lowest)

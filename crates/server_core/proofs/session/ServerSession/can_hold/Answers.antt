@@ -1,0 +1,9 @@
+use Rattle.std.proofs.Common.{sym}
+use Rattle.server_core.specs.KeepsPool.{IsKept}
+use Rattle.server_core.specs.Session.{is_in_slot}
+use Rattle.server_core.proofs.ListLemmas.{found-holds}
+use Rattle.server_core.proofs.session.ServerSession.can_hold.Goals as goal
+
+pub can_hold-requires : goal.can_hold-requires
+can_hold-requires c =
+    found-holds (is_in_slot c.slot.result) (IsKept c.args.pool.now) c.self.inside.slots c.in-Some.newest (rw (← c.self.view_is) at c.requires.keeps_pool).kept (sym c.in-Some.ensures)

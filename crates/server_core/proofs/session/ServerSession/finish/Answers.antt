@@ -1,0 +1,21 @@
+use Rattle.std.proofs.Common.{arith}
+use Rattle.server_core.proofs.GivenLemmas.{front-beside, next-front, unheld-rest}
+use Rattle.server_core.proofs.PlaceLemmas.{gone-keeps}
+use Rattle.server_core.proofs.session.ServerSession.finish.Goals as goal
+
+pub empty_buffers-requires-clause-apart : goal.empty_buffers-requires-clause-apart
+empty_buffers-requires-clause-apart c = λ p.
+    let front = next-front c.as_slice-request-items.result.now c.loop-request.request-index c.request-item.result c.loop-request-test.true c.request-item.is in
+    let beside = front-beside c.loop-request.pool c.request-item.result _ (rw front at c.loop-request.invariant.keeps) in
+    omega (arith, beside.apart p)
+
+pub loop-request-preserved : goal.loop-request-preserved
+loop-request-preserved c =
+    let front = next-front c.as_slice-request-items.result.now c.loop-request.request-index c.request-item.result c.loop-request-test.true c.request-item.is in
+    let beside = front-beside c.loop-request.pool c.request-item.result _ (rw front at c.loop-request.invariant.keeps) in
+    let unheld = rw front at c.loop-request.invariant.unheld in
+    rw c.empty_buffers.ensures (record {
+      left = rw front at c.loop-request.invariant.left;
+      keeps = gone-keeps c.loop-request.pool c.request-item.result _ beside;
+      unheld = unheld-rest c.loop-request.pool c.request-item.result _ beside unheld.1;
+    })

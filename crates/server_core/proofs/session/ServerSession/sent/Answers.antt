@@ -1,0 +1,8 @@
+use Rattle.std.proofs.Common.{ap}
+use Rattle.server_core.specs.Replies.{released_at}
+use Rattle.server_core.proofs.PoolLemmas.{keeps-released}
+use Rattle.server_core.proofs.session.ServerSession.sent.Goals as goal
+
+pub returns-clause-keeps_pool : goal.returns-clause-keeps_pool
+returns-clause-keeps_pool c =
+    rw (c.release.ensures, ap (λ e. released_at e.place c.args.pool.now) c.entry.view_is) (keeps-released c.args.pool.now c.args.entry.now.place c.args.self.now.slots c.requires.held c.requires.keeps_pool)

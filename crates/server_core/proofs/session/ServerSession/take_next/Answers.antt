@@ -1,0 +1,66 @@
+use Rattle.std.proofs.Common.{◌<◌, refl, ap, ◌∙◌, arith}
+use Rattle.server_core.specs.Replies.{held_at}
+use Rattle.server_core.specs.Serving.{gone_on, next_taken, with_slots}
+use Rattle.server_core.specs.contracts.session.ServerSession.{the_view}
+use Rattle.server_core.proofs.BeginLemmas.{is-reply}
+use Rattle.server_core.proofs.SlotLemmas.{gone-session}
+use Rattle.server_core.proofs.TakeLemmas.{gone-inline, gone-newest, is-held-at, may-hold, next-keeps, next-shows, own-beside}
+use Rattle.server_core.proofs.OtherLemmas.{next-others}
+use Rattle.server_core.proofs.SpareLemmas.{next-spare}
+use Rattle.server_core.proofs.session.ServerSession.take_next.Goals as goal
+
+pub hold-requires : goal.hold-requires
+hold-requires c =
+    let found = rw (← c.self.view_is) at c.requires.found in
+    let keeps = rw (← c.self.view_is) at c.requires.keeps_pool in
+    let beside = own-beside c.args.pool.now (the_view c.self.inside) c.args.request c.self.invariant found keeps in
+    rw (ap (λ e. e.place) (c.reply.view_is ∙ c.entry-reply.ensures)) (may-hold c.args.pool.now c.args.request c.args.request.taken beside.own c.requires.can_hold)
+
+pub invariant_of-self : goal.invariant_of-self
+invariant_of-self c =
+    let found = rw (← c.self.view_is) at c.requires.found in
+    rw c.replace.ensures (gone-session (the_view c.self.inside) c.args.request (next_taken c.args.request.answer c.args.request) c.self.invariant c.requires.turn refl found)
+
+pub returns-clause-shown : goal.returns-clause-shown
+returns-clause-shown c =
+    let found = rw (← c.self.view_is) at c.requires.found in
+    let keeps = rw (← c.self.view_is) at c.requires.keeps_pool in
+    rw (c.replace.ensures, c.hold.ensures, ap (λ e. held_at e.place c.args.pool.now) (c.reply.view_is ∙ c.entry-reply.ensures), ← c.self.view_is)
+    (next-shows c.args.pool.now (the_view c.self.inside) c.args.request c.self.invariant found keeps)
+
+pub returns-clause-reply : goal.returns-clause-reply
+returns-clause-reply c =
+    let found = rw (← c.self.view_is) at c.requires.found in
+    let keeps = rw (← c.self.view_is) at c.requires.keeps_pool in
+    let d = next_taken c.args.request.answer c.args.request in
+    let beside = own-beside c.args.pool.now (the_view c.self.inside) c.args.request c.self.invariant found keeps in
+    let whole = gone-session (the_view c.self.inside) c.args.request d c.self.invariant c.requires.turn refl found in
+    let below : c.args.request.taken < d.taken = omega arith in
+    rw (c.entry-reply.ensures, c.replace.ensures, c.hold.ensures, ap (λ e. held_at e.place c.args.pool.now) (c.reply.view_is ∙ c.entry-reply.ensures))
+    (is-reply _ (with_slots (gone_on d c.self.inside.slots) (the_view c.self.inside)) d c.args.request.taken whole (gone-newest c.args.pool.now (the_view c.self.inside) c.args.request c.self.invariant found keeps d refl) below (is-held-at c.args.pool.now c.args.request c.args.request.taken beside.own))
+
+pub returns-clause-inline : goal.returns-clause-inline
+returns-clause-inline c = λ mode_of all.
+    let found = rw (← c.self.view_is) at c.requires.found in
+    let keeps = rw (← c.self.view_is) at c.requires.keeps_pool in
+    rw c.replace.ensures (gone-inline c.args.pool.now (the_view c.self.inside) c.args.request c.self.invariant found keeps mode_of (next_taken c.args.request.answer c.args.request) refl refl (rw (← c.self.view_is) at all))
+
+pub returns-clause-keeps_pool : goal.returns-clause-keeps_pool
+returns-clause-keeps_pool c =
+    let found = rw (← c.self.view_is) at c.requires.found in
+    let keeps = rw (← c.self.view_is) at c.requires.keeps_pool in
+    rw (c.replace.ensures, c.hold.ensures, ap (λ e. held_at e.place c.args.pool.now) (c.reply.view_is ∙ c.entry-reply.ensures))
+    (next-keeps c.args.pool.now (the_view c.self.inside) c.args.request c.self.invariant found keeps)
+
+pub returns-clause-others : goal.returns-clause-others
+returns-clause-others c =
+    let found = rw (← c.self.view_is) at c.requires.found in
+    rw (c.replace.ensures, c.hold.ensures, ap (λ e. held_at e.place c.args.pool.now) (c.reply.view_is ∙ c.entry-reply.ensures), ← c.self.view_is)
+    (next-others c.args.pool.now (the_view c.self.inside) c.args.request c.args.request.number found refl c.args.request.taken)
+
+pub returns-clause-spare : goal.returns-clause-spare
+returns-clause-spare c =
+    let found = rw (← c.self.view_is) at c.requires.found in
+    let keeps = rw (← c.self.view_is) at c.requires.keeps_pool in
+    rw (c.replace.ensures, c.hold.ensures, ap (λ e. held_at e.place c.args.pool.now) (c.reply.view_is ∙ c.entry-reply.ensures), ← c.self.view_is)
+    (next-spare c.args.pool.now (the_view c.self.inside) c.args.request c.args.request.number keeps found refl c.args.request.taken)

@@ -1,0 +1,63 @@
+-- What a session needs of the pool that it works on.
+use Rattle.std.specs.Prelude.{◌≡◌, ℕ, ◌+◌, ◌≤◌, ◌==◌, false, if◌then◌else◌, List, sum_by, Option, Some, None, IfSome}
+use Rattle.std.specs.List.{AllByRecursion}
+use Rattle.message_buffer.specs.Buffer.{Buffer, capacity_of}
+use Rattle.buffer_pool.specs.Pool.{Pool, IsFull, buf_at, refs_of, spare_of, use_at}
+use Rattle.buffer_pool.specs.Uses.{is_empty}
+use Rattle.server_core.specs.declared.slot.Stored.{Stored}
+use Rattle.server_core.specs.declared.slot.SlotRequest.{SlotRequest}
+
+-- the buffer of a message of this size
+abbrev pub HasSize : ℕ → Option Buffer → Type 0
+HasSize size None = ⊥
+HasSize size (Some b) = (b.len ≡ size) × (size ≤ capacity_of b)
+
+-- the pool has the buffer of a message
+pub record IsStored (pool : Pool) (a : Stored) : Type 0 where
+  pub full : IsFull pool a.place
+  pub size : HasSize a.size (buf_at pool a.place)
+
+-- the pool has the request's buffer, which no entry names, and that of its answer once there is one
+pub record IsKept (pool : Pool) (q : SlotRequest) : Type 0 where
+  pub ask : IsFull pool q.ask
+  pub size : HasSize q.size (buf_at pool q.ask)
+  pub unnamed : refs_of pool q.ask ≡ 0
+  pub answer : IfSome q.answer (IsStored pool)
+
+-- how often an answer's place is this one
+abbrev pub answer_names : ℕ → Option Stored → ℕ
+answer_names p None = 0
+answer_names p (Some a) = if a.place == p then 1 else 0
+
+-- how often a request names a place
+abbrev pub own_names : ℕ → SlotRequest → ℕ
+own_names p q = (if q.ask == p then 1 else 0) + answer_names p q.answer
+
+abbrev pub names : ℕ → List SlotRequest → ℕ
+names p slots = sum_by (own_names p) slots
+
+-- the pool has the buffers of all requests, each in a place of its own
+pub record KeepsPool (pool : Pool) (slots : List SlotRequest) : Type 0 where
+  pub kept : AllByRecursion (IsKept pool) slots
+  pub apart : (p : ℕ) → names p slots ≤ 1
+
+-- a place with a use that no request of the session named is named by none of it then, and is as it was
+abbrev pub LeavesOthers : (old new : List SlotRequest) → (before after : Pool) → Type 0
+LeavesOthers old new before after =
+    (p : ℕ) → names p old ≡ 0 → is_empty (use_at before p) ≡ false → (names p new ≡ 0) × (use_at after p ≡ use_at before p) × (buf_at after p ≡ buf_at before p)
+
+-- how many places a request names: one, and one more from its answer on
+abbrev pub answer_places : Option Stored → ℕ
+answer_places None = 0
+answer_places (Some a) = 1
+
+abbrev pub own_places : SlotRequest → ℕ
+own_places q = 1 + answer_places q.answer
+
+-- how many those of a session name
+abbrev pub places : List SlotRequest → ℕ
+places slots = sum_by own_places slots
+
+-- what the session names more is less spare, and what it names no more is spare again
+abbrev pub KeepsSpare : (old new : List SlotRequest) → (before after : Pool) → Type 0
+KeepsSpare old new before after = spare_of after + places new ≡ spare_of before + places old

@@ -1,0 +1,96 @@
+-- The replies to the packets of a request: their entries, their headers and what is sent.
+use Rattle.std.specs.Prelude.{◌≡◌, ℕ, ◌+◌, ◌<◌, ◌==◌, ◌&&◌, nat_lt, Bool, List, Option, Some, None, option_and_then, option_map, IfSome, if◌then◌else◌}
+use Rattle.std.specs.List.{find}
+use Rattle.rpc_base.specs.declared.owner.Owner.{Owner}
+use Rattle.rpc_base.specs.declared.owner.Owner.TheVariants.{Ask, Reply, Control}
+use Rattle.rpc_base.specs.Owners.{same_owner}
+use Rattle.packet_header.specs.Parts.{packet_count}
+use Rattle.packet_header.specs.Header.{HasHead, InRange}
+use Rattle.packet_header.specs.declared.packet.Kind.TheVariants.{Cr, Response}
+use Rattle.packet_header.specs.declared.packet.MessageHeader.{MessageHeader}
+use Rattle.buffer_pool.specs.Pool.{Pool, IsFull, held, refs_of, released}
+use Rattle.packet_rings.specs.Values.{EntryValue}
+use Rattle.rpc_laws.specs.declared.tables.Outgoing.{Outgoing}
+use Rattle.rpc_laws.specs.declared.tables.Server.{Server}
+use Rattle.rpc_laws.specs.Packets.{reply_packet}
+use Rattle.server_core.specs.declared.slot.Stored.{Stored}
+use Rattle.server_core.specs.declared.slot.SlotRequest.{SlotRequest}
+use Rattle.server_core.specs.Session.{Session, newest, owner_of}
+use Rattle.server_core.specs.Shown.{shown}
+
+-- where the bytes of a reply are: a credit return has none
+abbrev pub place_of : SlotRequest → ℕ → Option ℕ
+place_of q k = if nat_lt (k + 1) (packet_count q.size) then None else option_map (λ a. a.place) q.answer
+
+-- the entry of the reply to packet k of a request
+abbrev pub entry_at : (session peer k : ℕ) → SlotRequest → EntryValue
+entry_at session peer k q = record { owner = owner_of session q; number = k; place = place_of q k; peer = peer }
+
+-- the size of the answer, once there is one
+abbrev pub answer_size : Option Stored → ℕ
+answer_size None = 0
+answer_size (Some a) = a.size
+
+-- the header of that reply
+abbrev pub head_of : (client k : ℕ) → SlotRequest → MessageHeader
+head_of client k q =
+    if nat_lt (k + 1) (packet_count q.size) then record { kind = Cr; req_type = 0; size = 0; session = client; number = k; request = q.number }
+    else record { kind = Response; req_type = q.req_type; size = answer_size q.answer; session = client; number = k; request = q.number }
+
+-- whether an owner's packets are the replies to a request
+abbrev pub is_owner : ℕ → Owner → SlotRequest → Bool
+is_owner session owner q = same_owner (owner_of session q) owner
+
+-- the request that an entry is a reply to
+abbrev pub request_of : Session → EntryValue → Option SlotRequest
+request_of s e = find (is_owner s.number e.owner) s.slots
+
+-- the entry is the reply to a packet that was taken
+abbrev pub IsReplyTo : Option SlotRequest → EntryValue → Type 0
+IsReplyTo None e = ⊥
+IsReplyTo (Some q) e = (e.number < q.taken) × (e.place ≡ place_of q e.number)
+
+-- the packet of an owner, by the definitions over histories
+abbrev pub owner_reply : Owner → ℕ → Server → Option Outgoing
+owner_reply (Reply session r) k v = if v.way.number == session then reply_packet r k (Some v) else None
+owner_reply (Ask session r) k v = None
+owner_reply Control k v = None
+
+-- the packet that an entry stands for
+abbrev pub packet_of : Pool → Session → EntryValue → Option Outgoing
+packet_of pool s e = owner_reply e.owner e.number (shown pool s)
+
+-- the packet, whose fields are in their ranges, is sent with this header and body
+abbrev pub IsSpelled : Option Outgoing → (head body : List ℕ) → Type 0
+IsSpelled None head body = ⊥
+IsSpelled (Some o) head body = HasHead o.packet head × (body ≡ o.body) × InRange o.packet
+
+-- one reference more to a place, if there is one
+abbrev pub held_at : Option ℕ → Pool → Pool
+held_at None pool = pool
+held_at (Some p) pool = held p pool
+
+-- one reference less to a place, if there is one
+abbrev pub released_at : Option ℕ → Pool → Pool
+released_at None pool = pool
+released_at (Some p) pool = released p pool
+
+-- the place, if there is one, is full and one reference more can be counted
+abbrev pub MayHold : Pool → Option ℕ → Type 0
+MayHold pool place = IfSome place (λ p. IsFull pool p × (refs_of pool p < 4294967295))
+
+-- there is a reference to the place, if there is a place
+abbrev pub IsHeld : Pool → Option ℕ → Type 0
+IsHeld pool place = IfSome place (λ p. 0 < refs_of pool p)
+
+-- one reference more can be counted to the answer
+abbrev pub CanHold : Pool → SlotRequest → Type 0
+CanHold pool q = IfSome q.answer (λ a. refs_of pool a.place < 4294967295)
+
+-- the entry of the reply to packet k of a request, where that was taken
+abbrev pub entry_if : (session peer r k : ℕ) → SlotRequest → Option EntryValue
+entry_if session peer r k q = if q.number == r && nat_lt k q.taken then Some (entry_at session peer k q) else None
+
+-- that of the newest request of its slot, where it has this number
+abbrev pub taken_entry : (r k : ℕ) → Session → Option EntryValue
+taken_entry r k s = option_and_then (entry_if s.number s.peer r k) (newest r s)

@@ -1,0 +1,44 @@
+-- A session as the definitions over histories have it: with the bytes that its places hold.
+use Rattle.std.specs.Prelude.{ℕ, ◌*◌, List, [], map, take, Option, Some, None, option_map}
+use Rattle.rpc_base.specs.declared.event.Event.TheVariants.{PairedServer}
+use Rattle.message_buffer.specs.Buffer.{Buffer, bytes_of}
+use Rattle.buffer_pool.specs.Pool.{Pool, buf_at}
+use Rattle.rpc_laws.specs.declared.tables.Served.{Served}
+use Rattle.rpc_laws.specs.declared.tables.Server.{Server}
+use Rattle.rpc_laws.specs.declared.tables.Way.{Way}
+use Rattle.rpc_laws.specs.Requests.{servers_after}
+use Rattle.server_core.specs.declared.slot.Stored.{Stored}
+use Rattle.server_core.specs.declared.slot.SlotRequest.{SlotRequest}
+use Rattle.server_core.specs.Session.{Session}
+
+-- the message in a buffer
+abbrev pub message_in : Option Buffer → List ℕ
+message_in None = []
+message_in (Some b) = bytes_of b
+
+-- what never changes of the session
+abbrev pub way_of : Session → Way
+way_of s = record { number = s.number; peer = s.peer; other = s.client }
+
+-- the bytes of an answer
+abbrev pub answer_in : Pool → Stored → List ℕ
+answer_in pool a = message_in (buf_at pool a.place)
+
+-- a request: its bytes are those of the packets taken so far
+abbrev pub shown_request : Pool → SlotRequest → Served
+shown_request pool q = record {
+  number = q.number;
+  req_type = q.req_type;
+  size = q.size;
+  taken = q.taken;
+  ask = take (1024 * q.taken) (message_in (buf_at pool q.ask));
+  answer = option_map (answer_in pool) q.answer;
+}
+
+-- the whole session
+abbrev pub shown : Pool → Session → Server
+shown pool s = record { way = way_of s; credits = s.credits; slots = map (shown_request pool) s.slots }
+
+-- the session is opened
+abbrev pub paired : (number client peer credits : ℕ) → List Server
+paired number client peer credits = servers_after (PairedServer number peer client credits) [] None [] []

@@ -1,0 +1,170 @@
+-- What a Request or RFR does to a session, in the words of the definitions over histories.
+use Rattle.std.specs.Prelude.{◌≡◌, ℕ, ◌+◌, ◌*◌, ◌<◌, ◌≤◌, Bool, true, false, List, [], ◌∷◌, ◌++◌, take, Option, Some, None, IfSome}
+use Rattle.std.specs.List.{AllByRecursion}
+use Rattle.rpc_base.specs.Tables.{at_first, without_first}
+use Rattle.rpc_base.specs.declared.event.Event.TheVariants.{Took as TookEvent, Ran as RanEvent}
+use Rattle.rpc_base.specs.declared.owner.Owner.TheVariants.{Reply}
+use Rattle.rpc_base.specs.declared.state.DropReason.TheVariants.{NoMemory}
+use Rattle.packet_header.specs.Header.{MessageInRange, MessageLength}
+use Rattle.packet_header.specs.Parts.{packet_count, part_size}
+use Rattle.packet_header.specs.declared.packet.MessageHeader.{MessageHeader}
+use Rattle.buffer_pool.specs.Pool.{Pool, buf_at}
+use Rattle.packet_rings.specs.Values.{EntryValue}
+use Rattle.rpc_laws.specs.declared.rows.ServerRow.{ServerRow}
+use Rattle.rpc_laws.specs.declared.rows.ServerRow.TheVariants.{Drops, Begins, Takes, Repeats}
+use Rattle.rpc_laws.specs.declared.tables.Server.{Server}
+use Rattle.rpc_laws.specs.declared.tables.Served.{Served as ServedRequest}
+use Rattle.rpc_laws.specs.Requests.{in_slot_of, is_request, servers_after}
+use Rattle.rpc_laws.specs.ServerTable.{is_last, is_rfr, whole_ask}
+use Rattle.rpc_outside.specs.Served.{Served}
+use Rattle.rpc_outside.specs.declared.service.Mode.{Mode}
+use Rattle.rpc_outside.specs.declared.service.Mode.TheVariants.{Inline, Background, Unserved}
+use Rattle.server_core.specs.declared.slot.SlotRequest.{SlotRequest}
+use Rattle.server_core.specs.declared.step.Step.{Step}
+use Rattle.server_core.specs.declared.step.Step.TheVariants.{Took, Again, Ran, Dropped}
+use Rattle.server_core.specs.Replies.{IsHeld, IsReplyTo, request_of}
+use Rattle.server_core.specs.Rows.{is_asking, is_past}
+use Rattle.server_core.specs.Session.{IsMessage, Session, newest}
+use Rattle.server_core.specs.Shown.{message_in}
+
+-- whether requests of a type are handled in the event loop
+abbrev pub is_inline : Mode → Bool
+is_inline Inline = true
+is_inline Background = false
+is_inline Unserved = false
+
+-- a Request or RFR of the session, with the fields and the body of such a packet
+pub record IsAsking (h : MessageHeader) (body_len : ℕ) : Type 0 where
+  pub kind : is_asking h.kind ≡ true
+  pub in_range : MessageInRange h
+  pub body : MessageLength h.kind h.size h.number (16 + body_len)
+
+-- a step that takes a packet, where its memory may be wanting
+abbrev pub HasTaken : (last can_want : Bool) → Step → Type 0
+HasTaken last can_want (Took reply) = last ≡ false
+HasTaken last can_want (Again reply) = ⊥
+HasTaken last can_want (Ran reply) = last ≡ true
+HasTaken last can_want (Dropped why) = (why ≡ NoMemory) × (can_want ≡ true)
+
+abbrev pub IsAgain : Step → Type 0
+IsAgain (Took reply) = ⊥
+IsAgain (Again reply) = Unit {0}
+IsAgain (Ran reply) = ⊥
+IsAgain (Dropped why) = ⊥
+
+-- the step is the row's. Memory is wanted for a request that begins, and for an answer
+abbrev pub IsStepOf : MessageHeader → ServerRow → Step → Type 0
+IsStepOf h (Drops why) step = step ≡ Dropped why
+IsStepOf h Begins step = HasTaken (is_last h) true step
+IsStepOf h Takes step = HasTaken (is_last h) (is_last h) step
+IsStepOf h Repeats step = IsAgain step
+
+-- the session once the packet was taken
+abbrev pub took : MessageHeader → List ℕ → Server → List Server
+took h body v = servers_after (TookEvent (Reply v.way.number h.request) h.number) [] (Some h) body (v ∷ [])
+
+-- and once its request's handler ran, with this answer
+abbrev pub ran : MessageHeader → List ℕ → (answer : List ℕ) → Server → List Server
+ran h body answer v = servers_after (RanEvent v.way.number h.request h.req_type) answer None [] (took h body v)
+
+-- the bytes of its request up to and with this packet
+abbrev pub asked_with : MessageHeader → List ℕ → Server → List ℕ
+asked_with h body v = whole_ask (Some v) h.request body
+
+-- what a step makes of the session, and of the lists of served requests that the service stands for
+abbrev pub Steps : Step → (Served → ℕ → List ℕ → List ℕ) → (stands after : Served → Type 0) → MessageHeader → List ℕ → Server → Server → Type 0
+Steps (Took reply) answer stands after h body v w = took h body v ≡ w ∷ []
+Steps (Again reply) answer stands after h body v w = w ≡ v
+Steps (Ran reply) answer stands after h body v w =
+    (served : Served) → stands served → (ran h body (answer served h.req_type (asked_with h body v)) v ≡ w ∷ []) × after (served ++ (h.req_type, asked_with h body v) ∷ [])
+Steps (Dropped why) answer stands after h body v w = w ≡ v
+
+-- what holds unless a handler ran
+abbrev pub UnlessRan : Step → Type 0 → Type 0
+UnlessRan (Took reply) claim = claim
+UnlessRan (Again reply) claim = claim
+UnlessRan (Ran reply) claim = Unit {0}
+UnlessRan (Dropped why) claim = claim
+
+-- what holds unless a packet was taken
+abbrev pub UnlessTaken : Step → Type 0 → Type 0
+UnlessTaken (Took reply) claim = Unit {0}
+UnlessTaken (Again reply) claim = claim
+UnlessTaken (Ran reply) claim = Unit {0}
+UnlessTaken (Dropped why) claim = claim
+
+-- a claim of the reply, where there is one
+abbrev pub IfReply : Step → (EntryValue → Type 0) → Type 0
+IfReply (Took reply) claim = claim reply
+IfReply (Again reply) claim = claim reply
+IfReply (Ran reply) claim = claim reply
+IfReply (Dropped why) claim = Unit {0}
+
+-- the reply to packet k of request r of the session, whose place is held
+pub record IsReply (r k : ℕ) (s : Session) (pool : Pool) (e : EntryValue) : Type 0 where
+  pub owner : e.owner ≡ Reply s.number r
+  pub number : e.number ≡ k
+  pub peer : e.peer ≡ s.peer
+  pub stands : IsReplyTo (request_of s e) e
+  pub is_held : IsHeld pool e.place
+
+-- a request begins with the packet
+pub record IsBeginning (h : MessageHeader) (body_len : ℕ) (s : Session) : Type 0 where
+  pub kind : is_rfr h.kind ≡ false
+  pub first : h.number ≡ 0
+  pub size : IsMessage h.size
+  pub long : body_len ≡ part_size h.size 0
+  pub newer : IfSome (newest h.request s) (λ q. q.number < h.request)
+
+-- a part of the request: the next one of its message
+pub record IsPart (h : MessageHeader) (body_len : ℕ) (q : SlotRequest) : Type 0 where
+  pub req_type : h.req_type ≡ q.req_type
+  pub size : h.size ≡ q.size
+  pub within : h.number < packet_count q.size
+  pub long : body_len ≡ part_size q.size h.number
+
+-- it asks for the next part of the answer, which is there
+pub record IsMore (h : MessageHeader) (body_len : ℕ) (q : SlotRequest) : Type 0 where
+  pub behind : packet_count q.size ≤ h.number
+  pub there : is_past q.size q.answer h.number ≡ false
+  pub none : body_len ≡ 0
+
+-- the packet is the next one of a request
+pub record IsNext (h : MessageHeader) (body_len : ℕ) (q : SlotRequest) : Type 0 where
+  pub same : q.number ≡ h.request
+  pub in_turn : h.number ≡ q.taken
+  pub part : is_rfr h.kind ≡ false → IsPart h body_len q
+  pub more : is_rfr h.kind ≡ true → IsMore h body_len q
+
+abbrev pub IsNextOf : MessageHeader → ℕ → Option SlotRequest → Type 0
+IsNextOf h body_len None = ⊥
+IsNextOf h body_len (Some q) = IsNext h body_len q
+
+-- all requests of a session are of types that are handled in the event loop
+abbrev pub AreInline : (ℕ → Mode) → List SlotRequest → Type 0
+AreInline mode_of slots = AllByRecursion (λ q. mode_of q.req_type ≡ Inline) slots
+
+-- a request as it begins, with the bytes of its buffer
+abbrev pub first_shown : MessageHeader → List ℕ → Option (List ℕ) → ServedRequest
+first_shown h bytes answer = record { number = h.request; req_type = h.req_type; size = h.size; taken = 1; ask = take 1024 bytes; answer = answer }
+
+-- it stands behind all others, and the older one of its slot is gone
+abbrev pub begun_with : ServedRequest → Server → Server
+begun_with x v = record v { slots = without_first (in_slot_of x.number) v.slots ++ x ∷ [] }
+
+-- a request with one packet more, and these bytes
+abbrev pub grown : List ℕ → ServedRequest → ServedRequest
+grown bytes x = record x { taken = x.taken + 1; ask = bytes }
+
+-- a request of the session goes on
+abbrev pub gone_on_as : ℕ → (ServedRequest → ServedRequest) → Server → Server
+gone_on_as r change v = record v { slots = at_first (is_request r) change v.slots }
+
+-- the bytes of a request with one packet more than were taken
+abbrev pub bytes_with : Pool → SlotRequest → List ℕ
+bytes_with pool q = take (1024 * (q.taken + 1)) (message_in (buf_at pool q.ask))
+
+-- the packet was taken before
+abbrev pub IsTakenBefore : MessageHeader → Option SlotRequest → Type 0
+IsTakenBefore h None = ⊥
+IsTakenBefore h (Some q) = (q.number ≡ h.request) × (h.number < q.taken)

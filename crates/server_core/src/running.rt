@@ -1,0 +1,47 @@
+//! The buffers of a request and of its answer, made before anything else changes: the want of memory
+//! leaves all as it was.
+ghost use Rattle.std.specs.Prelude.{◌≡◌, ◌≤◌, ◌++◌, ◌∷◌, [], length, take, IfOk, OnErr, OnOk};
+ghost use Rattle.message_buffer.specs.Buffer.{bytes_of, capacity_of};
+ghost use Rattle.rpc_outside.specs.declared.service.Mode.TheVariants.{Inline};
+ghost use Rattle.rpc_outside.specs.Served.{Served};
+ghost use Rattle.server_core.specs.Serving.{IsFirstPart};
+ghost use Rattle.server_core.specs.Session.{IsMessage};
+
+use message_buffer::MsgBuf;
+use rpc_base::NoMemory;
+use rpc_outside::Service;
+use std::alloc::Global;
+
+/// A buffer for a message of this size, which begins with these bytes.
+pub fn make_message(alloc: Global, size: u32, first: &[u8]) -> Result<MsgBuf, NoMemory>
+    requires size { IsMessage size }
+    requires first { length first.now ≤ size }
+    ensures { IfOk result (IsFirstPart size first.now) }
+{
+    let mut message = MsgBuf::new(alloc, size)?;
+    message.set_len(size);
+    message.write(0, first);
+    Ok(message)
+}
+
+/// Runs the handler of a type that is handled inline, and gives its answer. Want of memory comes before
+/// it runs.
+pub fn run<V: Service>(
+    alloc: Global,
+    service: &mut V,
+    req_type: u8,
+    ask: &[u8],
+) -> Result<MsgBuf, NoMemory>
+    requires inline { V.mode_of req_type ≡ Inline }
+    requires message { length ask.now ≤ 1048576 }
+    ensures message { IfOk result (λ b. IsMessage b.len × (b.len ≤ capacity_of b)) }
+    ensures answer { IfOk result (λ b. (served : Served) → V.stands service.old served → bytes_of b ≡ V.answer served req_type ask.now) }
+    ensures next { OnOk result ((served : Served) → V.stands service.old served → V.stands service.new (served ++ (req_type, ask.now) ∷ [])) }
+    ensures unchanged { OnErr result (service.new ≡ service.old) }
+{
+    let room = service.room(req_type, ask);
+    let mut answer = MsgBuf::new(alloc, room)?;
+    answer.set_len(room);
+    service.serve(req_type, ask, answer.whole_mut());
+    Ok(answer)
+}

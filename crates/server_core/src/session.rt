@@ -1,0 +1,100 @@
+//! A server session.
+ghost use Rattle.std.specs.Prelude.{◌≡◌, ◌<◌, ◌≤◌, [], ◌∷◌};
+ghost use Rattle.buffer_pool.specs.Pool.{Pool};
+ghost use Rattle.server_core.specs.KeepsPool.{KeepsPool};
+ghost use Rattle.server_core.specs.Session.{IsSession, new_session, owner_in};
+ghost use Rattle.server_core.specs.Shown.{paired, shown};
+
+mod asked;
+mod conditions;
+mod finish;
+mod reply;
+mod request;
+mod taking;
+
+use crate::slots::Slots;
+use rpc_base::{Owner, Peer, SessionNo};
+use std::marker::Model;
+
+/// The newest requests of one server session. Contracts see its numbers, its peer, its credits and the
+/// newest request of each slot, in the order in which they began.
+#[derive(Drop)]
+pub struct ServerSession {
+    number: SessionNo,
+    client: SessionNo,
+    peer: Peer,
+    credits: u16,
+    slots: Slots,
+}
+
+impl Model for ServerSession {
+    ghost use Rattle.server_core.specs.Session.{Session, IsSession};
+
+    ghost Value = { Session };
+
+    ghost view = { λ s. record { number = s.number; client = s.client; peer = s.peer; credits = s.credits; slots = s.slots } };
+
+    ghost invariant = { λ s. IsSession (record { number = s.number; client = s.client; peer = s.peer; credits = s.credits; slots = s.slots }) };
+}
+
+impl ServerSession {
+    /// A session in which no request began, by its number here and at the client, each below 65,535,
+    /// with the client's peer and 1 to 256 credits.
+    pub fn new(session: SessionNo, client: SessionNo, peer: Peer, credits: u16) -> ServerSession
+        requires session { session < 65535 }
+        requires client { client < 65535 }
+        requires some { 1 ≤ credits }
+        requires most { credits ≤ 256 }
+        ensures session { result ≡ new_session session client peer credits }
+        ensures keeps_pool { (pool : Pool) → KeepsPool pool result.slots }
+        ensures step { (pool : Pool) → paired session client peer credits ≡ shown pool result ∷ [] }
+    {
+        ServerSession {
+            number: session,
+            client,
+            peer,
+            credits,
+            slots: Slots::new(),
+        }
+    }
+
+    /// The session's number here.
+    pub fn session(&self) -> SessionNo
+        ensures { result ≡ self.now.number }
+    {
+        self.number
+    }
+
+    /// The session's number at the client.
+    pub fn client(&self) -> SessionNo
+        ensures { result ≡ self.now.client }
+    {
+        self.client
+    }
+
+    /// The client's peer.
+    pub fn peer(&self) -> Peer
+        ensures { result ≡ self.now.peer }
+    {
+        self.peer
+    }
+
+    /// How many credits the session has.
+    pub fn credits(&self) -> u16
+        ensures { result ≡ self.now.credits }
+    {
+        self.credits
+    }
+
+    /// Whose packets the replies to the newest request of a slot, 0 to 7, are. None comes exactly where
+    /// no request began there.
+    pub fn owner(&self, slot: u8) -> Option<Owner>
+        requires { slot < 8 }
+        ensures { result ≡ owner_in slot self.now }
+    {
+        let Some(request) = self.slots.of_slot(slot) else {
+            return None;
+        };
+        Some(request.owner(self.number))
+    }
+}

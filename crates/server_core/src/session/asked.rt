@@ -1,0 +1,41 @@
+//! The bytes of a request, as far as they were taken.
+ghost use Rattle.std.specs.Prelude.{◌≡◌, ◌*◌, take};
+ghost use Rattle.std.specs.List.{find};
+ghost use Rattle.rpc_laws.specs.Requests.{is_request};
+ghost use Rattle.server_core.specs.Asked.{bytes_taken};
+ghost use Rattle.server_core.specs.KeepsPool.{KeepsPool};
+ghost use Rattle.server_core.specs.Shown.{shown};
+
+use super::ServerSession;
+use buffer_pool::BufferPool;
+use packet_header::PART_BYTES;
+use rpc_base::RequestNo;
+
+impl ServerSession {
+    /// The bytes taken so far of the newest request of a slot, where it has this number. There are none
+    /// where another request or none is the newest there.
+    pub fn asked<'a>(&self, pool: &'a BufferPool, request: RequestNo) -> &'a [u8]
+        requires keeps_pool { KeepsPool pool.now self.now.slots }
+        ensures { result.now ≡ bytes_taken (find (is_request request) (shown pool.now self.now).slots) }
+    {
+        let Some(newest) = self.slots.of_slot(request.slot()) else {
+            return &[];
+        };
+        if newest.number.get() != request.get() {
+            return &[];
+        }
+        first_packets(pool.get(newest.ask).bytes(), newest.taken)
+    }
+}
+
+// The bytes of a message's first packets.
+fn first_packets(bytes: &[u8], taken: u16) -> &[u8]
+    ensures { result.now ≡ take (1024 * taken) bytes.now }
+{
+    let end = PART_BYTES as usize * usize::from(taken);
+    if end < bytes.len() {
+        &bytes[..end]
+    } else {
+        bytes
+    }
+}

@@ -1,0 +1,22 @@
+//! The end of a session.
+ghost use Rattle.std.specs.Prelude.{◌≡◌, []};
+ghost use Rattle.std.specs.List.{AllByRecursion};
+ghost use Rattle.server_core.specs.KeepsPool.{KeepsPool};
+ghost use Rattle.server_core.specs.Serving.{IsUnheld, all_given_up};
+
+use super::ServerSession;
+use super::taking::empty_buffers;
+use buffer_pool::BufferPool;
+
+impl ServerSession {
+    /// The session ends, of which no reply is queued: all its buffers leave the pool.
+    pub fn finish(self, pool: &mut BufferPool)
+        requires keeps_pool { KeepsPool pool.old self.slots }
+        requires unheld { AllByRecursion (IsUnheld pool.old) self.slots }
+        ensures { pool.new ≡ all_given_up self.slots pool.old }
+    {
+        for request in self.slots.as_slice() {
+            empty_buffers(pool, request);
+        }
+    }
+}

@@ -1,0 +1,72 @@
+//! The replies to the packets of a request: what they are, and what becomes of their references.
+ghost use Rattle.std.specs.Prelude.{◌≡◌};
+ghost use Rattle.server_core.specs.KeepsPool.{KeepsPool};
+ghost use Rattle.server_core.specs.Replies.{IsHeld, IsReplyTo, IsSpelled, packet_of, released_at, request_of};
+ghost use Rattle.server_core.specs.Shown.{shown};
+
+use super::ServerSession;
+use buffer_pool::BufferPool;
+use packet_header::{HEAD_BYTES, Packet, count, encode};
+use packet_rings::Entry;
+use rpc_base::Place;
+
+impl ServerSession {
+    /// Writes the header of an entry that was posted, and lends its body.
+    pub fn packet<'a>(
+        &self,
+        pool: &'a BufferPool,
+        entry: &Entry,
+        head: &mut [u8; HEAD_BYTES],
+    ) -> &'a [u8]
+        requires keeps_pool { KeepsPool pool.now self.now.slots }
+        requires posted { IsReplyTo (request_of self.now entry.now) entry.now }
+        ensures { IsSpelled (packet_of pool.now self.now entry.now) head.new result.now }
+    {
+        let Some(request) = self.slots.of_owner(self.number, entry.owner) else {
+            unreachable!()
+        };
+        let header = request.head(self.client, entry.number);
+        encode(&Packet::Message(header), head);
+        match entry.place {
+            None => &[],
+            Some(place) => {
+                let part = u32::from(entry.number) + 1 - count(request.size);
+                pool.get(place).packet(part).1
+            }
+        }
+    }
+
+    /// An entry that was posted is sent: its reference is given up.
+    pub fn sent(&mut self, pool: &mut BufferPool, entry: &Entry)
+        requires keeps_pool { KeepsPool pool.old self.old.slots }
+        requires held { IsHeld pool.old entry.now.place }
+        ensures session { self.new ≡ self.old }
+        ensures shown { shown pool.new self.new ≡ shown pool.old self.old }
+        ensures pool { pool.new ≡ released_at entry.now.place pool.old }
+        ensures keeps_pool { KeepsPool pool.new self.new.slots }
+    {
+        release(pool, entry.place);
+    }
+
+    /// An entry that was posted is taken out unsent: its reference is given up.
+    pub fn flushed(&mut self, pool: &mut BufferPool, entry: &Entry)
+        requires keeps_pool { KeepsPool pool.old self.old.slots }
+        requires held { IsHeld pool.old entry.now.place }
+        ensures session { self.new ≡ self.old }
+        ensures shown { shown pool.new self.new ≡ shown pool.old self.old }
+        ensures pool { pool.new ≡ released_at entry.now.place pool.old }
+        ensures keeps_pool { KeepsPool pool.new self.new.slots }
+    {
+        release(pool, entry.place);
+    }
+}
+
+// Gives up the reference to a place, if there is one.
+fn release(pool: &mut BufferPool, place: Option<Place>)
+    requires { IsHeld pool.old place }
+    ensures { pool.new ≡ released_at place pool.old }
+{
+    if let Some(place) = place {
+        pool.release(place);
+    }
+}

@@ -1,0 +1,333 @@
+//! What a packet that is taken does: a request begins or goes on, and its handler runs after its last
+//! packet.
+ghost use Rattle.std.specs.Prelude.{◌≡◌, ℕ, ◌<◌, ◌≤◌, ◌+◌, ◌*◌, ◌++◌, length, map, take, IfSome, None, Some, true};
+ghost use Rattle.std.specs.List.{find};
+ghost use Rattle.rpc_base.specs.Tables.{without_first};
+ghost use Rattle.packet_header.specs.Parts.{packet_count, part_size};
+ghost use Rattle.message_buffer.specs.Buffer.{bytes_of, capacity_of};
+ghost use Rattle.buffer_pool.specs.Pool.{IsFull, buf_at, emptied, filled, lowest_empty, refs_of, spare_of};
+ghost use Rattle.rpc_laws.specs.Requests.{answered};
+ghost use Rattle.rpc_laws.specs.ServerTable.{is_last};
+ghost use Rattle.rpc_outside.specs.declared.service.Mode.{Mode};
+ghost use Rattle.rpc_outside.specs.declared.service.Mode.TheVariants.{Inline};
+ghost use Rattle.server_core.specs.KeepsPool.{IsKept, KeepsPool, KeepsSpare, LeavesOthers, own_names};
+ghost use Rattle.server_core.specs.Replies.{CanHold, MayHold, held_at};
+ghost use Rattle.server_core.specs.Serving.{IsUnheld, given_up, gone_on, next_taken, with_slots, without_answer, without_buffers};
+ghost use Rattle.server_core.specs.Session.{IsInTurn, IsMessage, IsSession, is_in_slot, newest};
+ghost use Rattle.server_core.specs.Shown.{message_in, shown, shown_request};
+ghost use Rattle.server_core.specs.Steps.{AreInline, HasTaken, IfReply, IsBeginning, IsNextOf, IsReply, Steps, UnlessRan, UnlessTaken, begun_with, bytes_with, first_shown, gone_on_as, grown};
+
+use super::ServerSession;
+use crate::running::{make_message, run};
+use crate::slot::{SlotRequest, Stored, is_an_rfr};
+use crate::slots::Slots;
+use crate::step::Step;
+use buffer_pool::BufferPool;
+use message_buffer::MsgBuf;
+use packet_header::{MessageHeader, PART_BYTES, count};
+use packet_rings::Entry;
+use rpc_base::{DropReason, Place};
+use rpc_outside::Service;
+use std::alloc::Global;
+
+impl ServerSession {
+    // A new request begins with this packet, and its handler runs where it is the only one. The buffers
+    // are made first.
+    pub(super) fn begin<V: Service>(
+        &mut self,
+        alloc: Global,
+        pool: &mut BufferPool,
+        service: &mut V,
+        head: &MessageHeader,
+        body: &[u8],
+    ) -> Step
+        requires session { IsSession self.old }
+        requires keeps_pool { KeepsPool pool.old self.old.slots }
+        requires spare { 2 ≤ spare_of pool.old }
+        requires unheld { IfSome (newest head.now.request self.old) (IsUnheld pool.old) }
+        requires beginning { IsBeginning head.now (length body.now) self.old }
+        requires inline { V.mode_of head.now.req_type ≡ Inline }
+        requires all_inline { AreInline V.mode_of self.old.slots }
+        ensures taken { HasTaken (is_last head.now) true result }
+        ensures steps { Steps result V.answer (V.stands service.old) (V.stands service.new) head.now body.now (shown pool.old self.old) (shown pool.new self.new) }
+        ensures reply { IfReply result (IsReply head.now.request head.now.number self.new pool.new) }
+        ensures service { UnlessRan result (service.new ≡ service.old) }
+        ensures session { UnlessTaken result (self.new ≡ self.old) }
+        ensures all_inline { AreInline V.mode_of self.new.slots }
+        ensures spare { KeepsSpare self.old.slots self.new.slots pool.old pool.new }
+        ensures others { LeavesOthers self.old.slots self.new.slots pool.old pool.new }
+        ensures keeps_pool { KeepsPool pool.new self.new.slots }
+    {
+        let Ok(ask) = make_message(alloc, head.size, body) else {
+            return Step::Dropped(DropReason::NoMemory);
+        };
+        if count(head.size) > 1 {
+            let reply = self.begin_first(pool, head, ask);
+            return Step::Took { reply };
+        }
+        let Ok(answer) = run(alloc, service, head.req_type, body) else {
+            return Step::Dropped(DropReason::NoMemory);
+        };
+        let reply = self.begin_whole(pool, head, ask, answer);
+        Step::Ran { reply }
+    }
+
+    // The next packet of a request is taken, and the handler runs after its last one. The buffer of the
+    // answer is made first.
+    pub(super) fn take<V: Service>(
+        &mut self,
+        alloc: Global,
+        pool: &mut BufferPool,
+        service: &mut V,
+        head: &MessageHeader,
+        body: &[u8],
+    ) -> Step
+        requires session { IsSession self.old }
+        requires keeps_pool { KeepsPool pool.old self.old.slots }
+        requires spare { 0 < spare_of pool.old }
+        requires can_hold { IfSome (newest head.now.request self.old) (CanHold pool.old) }
+        requires next { IsNextOf head.now (length body.now) (newest head.now.request self.old) }
+        requires all_inline { AreInline V.mode_of self.old.slots }
+        ensures taken { HasTaken (is_last head.now) (is_last head.now) result }
+        ensures steps { Steps result V.answer (V.stands service.old) (V.stands service.new) head.now body.now (shown pool.old self.old) (shown pool.new self.new) }
+        ensures reply { IfReply result (IsReply head.now.request head.now.number self.new pool.new) }
+        ensures service { UnlessRan result (service.new ≡ service.old) }
+        ensures session { UnlessTaken result (self.new ≡ self.old) }
+        ensures all_inline { AreInline V.mode_of self.new.slots }
+        ensures spare { KeepsSpare self.old.slots self.new.slots pool.old pool.new }
+        ensures others { LeavesOthers self.old.slots self.new.slots pool.old pool.new }
+        ensures keeps_pool { KeepsPool pool.new self.new.slots }
+    {
+        let Some(request) = self.slots.of_slot(head.request.slot()) else {
+            unreachable!()
+        };
+        if is_an_rfr(head.kind) {
+            let reply = self.take_next(pool, request);
+            return Step::Took { reply };
+        }
+        self.write_part(pool, &request, body);
+        if u32::from(request.taken) + 1 < count(request.size) {
+            let reply = self.take_next(pool, request);
+            return Step::Took { reply };
+        }
+        let ask = pool.get(request.ask).bytes();
+        let Ok(answer) = run(alloc, service, head.req_type, ask) else {
+            return Step::Dropped(DropReason::NoMemory);
+        };
+        let reply = self.take_last(pool, request, answer);
+        Step::Ran { reply }
+    }
+
+    // A new request of more packets than this one begins.
+    fn begin_first(&mut self, pool: &mut BufferPool, head: &MessageHeader, ask: MsgBuf) -> Entry
+        requires keeps_pool { KeepsPool pool.old self.old.slots }
+        requires spare { 0 < spare_of pool.old }
+        requires unheld { IfSome (newest head.now.request self.old) (IsUnheld pool.old) }
+        requires size { IsMessage head.now.size }
+        requires many { 1 < packet_count head.now.size }
+        requires len { ask.len ≡ head.now.size }
+        requires room { ask.len ≤ capacity_of ask }
+        ensures shown { shown pool.new self.new ≡ begun_with (first_shown head.now (bytes_of ask) None) (shown pool.old self.old) }
+        ensures inline { (mode_of : ℕ → Mode) → mode_of head.now.req_type ≡ Inline → AreInline mode_of self.old.slots → AreInline mode_of self.new.slots }
+        ensures reply { IsReply head.now.request 0 self.new pool.new result }
+        ensures spare { KeepsSpare self.old.slots self.new.slots pool.old pool.new }
+        ensures others { LeavesOthers self.old.slots self.new.slots pool.old pool.new }
+        ensures keeps_pool { KeepsPool pool.new self.new.slots }
+    {
+        give_up(&mut self.slots, pool, head.request.slot());
+        let ask = put_message(pool, ask);
+        let request = SlotRequest {
+            number: head.request,
+            req_type: head.req_type,
+            size: head.size,
+            taken: 1,
+            ask: ask.place,
+            answer: None,
+        };
+        let reply = request.entry(self.number, 0, self.peer);
+        self.slots.push(request);
+        reply
+    }
+
+    // A new request of this one packet begins, and its answer is there: it is held for the reply.
+    fn begin_whole(
+        &mut self,
+        pool: &mut BufferPool,
+        head: &MessageHeader,
+        ask: MsgBuf,
+        answer: MsgBuf,
+    ) -> Entry
+        requires keeps_pool { KeepsPool pool.old self.old.slots }
+        requires spare { 2 ≤ spare_of pool.old }
+        requires unheld { IfSome (newest head.now.request self.old) (IsUnheld pool.old) }
+        requires size { IsMessage head.now.size }
+        requires one { packet_count head.now.size ≡ 1 }
+        requires len { ask.len ≡ head.now.size }
+        requires room { ask.len ≤ capacity_of ask }
+        requires answer { IsMessage answer.len }
+        requires answer_room { answer.len ≤ capacity_of answer }
+        ensures shown { shown pool.new self.new ≡ begun_with (first_shown head.now (bytes_of ask) (Some (bytes_of answer))) (shown pool.old self.old) }
+        ensures inline { (mode_of : ℕ → Mode) → mode_of head.now.req_type ≡ Inline → AreInline mode_of self.old.slots → AreInline mode_of self.new.slots }
+        ensures reply { IsReply head.now.request 0 self.new pool.new result }
+        ensures spare { KeepsSpare self.old.slots self.new.slots pool.old pool.new }
+        ensures others { LeavesOthers self.old.slots self.new.slots pool.old pool.new }
+        ensures keeps_pool { KeepsPool pool.new self.new.slots }
+    {
+        give_up(&mut self.slots, pool, head.request.slot());
+        let ask = put_message(pool, ask);
+        let answer = put_message(pool, answer);
+        pool.hold(answer.place);
+        let request = SlotRequest {
+            number: head.request,
+            req_type: head.req_type,
+            size: head.size,
+            taken: 1,
+            ask: ask.place,
+            answer: Some(answer),
+        };
+        let reply = request.entry(self.number, 0, self.peer);
+        self.slots.push(request);
+        reply
+    }
+
+    // One packet more of a request is taken, whose bytes stand in its buffer already.
+    fn take_next(&mut self, pool: &mut BufferPool, request: SlotRequest) -> Entry
+        requires keeps_pool { KeepsPool pool.old self.old.slots }
+        requires found { newest request.number self.old ≡ Some request }
+        requires turn { IsInTurn (next_taken request.answer request) }
+        requires can_hold { CanHold pool.old request }
+        ensures shown { shown pool.new self.new ≡ gone_on_as request.number (grown (bytes_with pool.old request)) (shown pool.old self.old) }
+        ensures reply { IsReply request.number request.taken self.new pool.new result }
+        ensures inline { (mode_of : ℕ → Mode) → AreInline mode_of self.old.slots → AreInline mode_of self.new.slots }
+        ensures spare { KeepsSpare self.old.slots self.new.slots pool.old pool.new }
+        ensures others { LeavesOthers self.old.slots self.new.slots pool.old pool.new }
+        ensures keeps_pool { KeepsPool pool.new self.new.slots }
+    {
+        let reply = request.entry(self.number, request.taken, self.peer);
+        hold(pool, reply.place);
+        self.slots.replace(SlotRequest {
+            taken: request.taken + 1,
+            ..request
+        });
+        reply
+    }
+
+    // The last packet of a request is taken, whose bytes stand in its buffer already, and its answer is
+    // there: it is held for the reply.
+    fn take_last(&mut self, pool: &mut BufferPool, request: SlotRequest, answer: MsgBuf) -> Entry
+        requires keeps_pool { KeepsPool pool.old self.old.slots }
+        requires spare { 0 < spare_of pool.old }
+        requires found { newest request.number self.old ≡ Some request }
+        requires none { request.answer ≡ None }
+        requires size { IsMessage request.size }
+        requires last { request.taken + 1 ≡ packet_count request.size }
+        requires answer { IsMessage answer.len }
+        requires answer_room { answer.len ≤ capacity_of answer }
+        ensures shown { shown pool.new self.new ≡ gone_on_as request.number (λ x. answered (bytes_of answer) (grown (bytes_with pool.old request) x)) (shown pool.old self.old) }
+        ensures reply { IsReply request.number request.taken self.new pool.new result }
+        ensures inline { (mode_of : ℕ → Mode) → AreInline mode_of self.old.slots → AreInline mode_of self.new.slots }
+        ensures spare { KeepsSpare self.old.slots self.new.slots pool.old pool.new }
+        ensures others { LeavesOthers self.old.slots self.new.slots pool.old pool.new }
+        ensures keeps_pool { KeepsPool pool.new self.new.slots }
+    {
+        let answer = put_message(pool, answer);
+        pool.hold(answer.place);
+        let number = request.taken;
+        let request = SlotRequest {
+            taken: number + 1,
+            answer: Some(answer),
+            ..request
+        };
+        let reply = request.entry(self.number, number, self.peer);
+        self.slots.replace(request);
+        reply
+    }
+
+    // The bytes of the next packet of a request go to their place in its buffer. What is shown doesn't
+    // change: the packet isn't taken yet.
+    fn write_part(&self, pool: &mut BufferPool, request: &SlotRequest, body: &[u8])
+        requires session { IsSession self.now }
+        requires keeps_pool { KeepsPool pool.old self.now.slots }
+        requires found { newest request.now.number self.now ≡ Some request.now }
+        requires within { request.now.taken < packet_count request.now.size }
+        requires long { length body.now ≡ part_size request.now.size request.now.taken }
+        ensures shown { shown pool.new self.now ≡ shown pool.old self.now }
+        ensures bytes { bytes_with pool.new request.now ≡ take (1024 * request.now.taken) (message_in (buf_at pool.old request.now.ask)) ++ body.now }
+        ensures uses { pool.new.uses ≡ pool.old.uses }
+        ensures others { LeavesOthers self.now.slots self.now.slots pool.old pool.new }
+        ensures keeps_pool { KeepsPool pool.new self.now.slots }
+    {
+        let at = PART_BYTES * u32::from(request.taken);
+        pool.get_mut(request.ask).write(at, body);
+    }
+}
+
+// The newest request of a slot is given up, of which no reply is queued: its buffers leave the pool.
+fn give_up(slots: &mut Slots, pool: &mut BufferPool, slot: u8)
+    requires keeps_pool { KeepsPool pool.old slots.old }
+    requires unheld { IfSome (find (is_in_slot slot) slots.old) (IsUnheld pool.old) }
+    ensures slots { slots.new ≡ without_first (is_in_slot slot) slots.old }
+    ensures pool { pool.new ≡ given_up (find (is_in_slot slot) slots.old) pool.old }
+{
+    let Some(request) = slots.of_slot(slot) else {
+        return;
+    };
+    slots.remove(slot);
+    empty_buffers(pool, &request);
+}
+
+/// Drops the buffers of a request of which no reply is queued: they leave the pool.
+pub(super) fn empty_buffers(pool: &mut BufferPool, request: &SlotRequest)
+    requires kept { IsKept pool.old request.now }
+    requires apart { (p : ℕ) → own_names p request.now ≤ 1 }
+    requires unheld { IsUnheld pool.old request.now }
+    ensures { pool.new ≡ without_buffers request.now pool.old }
+{
+    empty_place(pool, request.ask);
+    empty_answer(pool, request.answer);
+}
+
+// Drops the buffer of a place to which there is no reference.
+fn empty_place(pool: &mut BufferPool, place: Place)
+    requires full { IsFull pool.old place }
+    requires unheld { refs_of pool.old place ≡ 0 }
+    ensures { pool.new ≡ emptied place pool.old }
+{
+    let Ok(_dropped) = pool.take(place) else {
+        unreachable!()
+    };
+}
+
+// Drops the buffer of an answer, if there is one.
+fn empty_answer(pool: &mut BufferPool, answer: Option<Stored>)
+    requires full { IfSome answer (λ a. IsFull pool.old a.place) }
+    requires unheld { IfSome answer (λ a. refs_of pool.old a.place ≡ 0) }
+    ensures { pool.new ≡ without_answer answer pool.old }
+{
+    if let Some(answer) = answer {
+        empty_place(pool, answer.place);
+    }
+}
+
+// Puts a message into the pool, which has an empty place.
+fn put_message(pool: &mut BufferPool, message: MsgBuf) -> Stored
+    requires { 0 < spare_of pool.old }
+    ensures place { lowest_empty pool.old ≡ Some result.place }
+    ensures pool { pool.new ≡ filled result.place message pool.old }
+    ensures there { buf_at pool.new result.place ≡ Some message }
+    ensures size { result.size ≡ message.len }
+{
+    let place = pool.put(message);
+    let size = pool.get(place).len();
+    Stored { place, size }
+}
+
+/// Adds a reference to a place, if there is one.
+pub(super) fn hold(pool: &mut BufferPool, place: Option<Place>)
+    requires { MayHold pool.old place }
+    ensures { pool.new ≡ held_at place pool.old }
+{
+    if let Some(place) = place {
+        pool.hold(place);
+    }
+}

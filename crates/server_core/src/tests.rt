@@ -1,0 +1,275 @@
+//! A server session with the plain service: each row of the server table, and the packets of its replies.
+ghost use Rattle.std.specs.Prelude.{◌≡◌, ◌<◌, ◌≤◌, length};
+ghost use Rattle.packet_header.specs.Parts.{packet_count, part_size};
+ghost use Rattle.rpc_outside.specs.PlainAnswer.{plain_mode};
+ghost use Rattle.server_core.specs.KeepsPool.{KeepsPool};
+ghost use Rattle.server_core.specs.Steps.{AreInline, IsAsking};
+
+use crate::{ServerSession, Step};
+use buffer_pool::BufferPool;
+use packet_header::{HEAD_BYTES, Kind, MessageHeader};
+use packet_rings::Entry;
+use rpc_base::{DropReason, Owner, Peer, Place, RequestNo, SessionNo};
+use rpc_outside::PlainService;
+use std::alloc::Global;
+use std::test::Fail;
+
+const SESSION: SessionNo = SessionNo(5);
+
+const CLIENT: SessionNo = SessionNo(0x0304);
+
+const PEER: Peer = Peer(2);
+
+/// What a step is, but for its reply.
+#[derive(Clone, Copy, Debug, PartialEq, Eq)]
+enum Kept {
+    Took,
+    Again,
+    Ran,
+    Dropped(DropReason),
+    /// The packet wasn't handed in: a condition failed.
+    Refused,
+}
+
+/// A part of a request: of this type and size, its number and the request's.
+fn part(req_type: u8, size: u32, number: u16, request: RequestNo) -> MessageHeader
+    requires size { size ≤ 1048576 }
+    requires number { number < packet_count size }
+    ensures { IsAsking result (part_size size number) }
+{
+    MessageHeader {
+        kind: Kind::Request,
+        req_type,
+        size,
+        session: SESSION,
+        number,
+        request,
+    }
+}
+
+/// A request for a part of the answer.
+fn more(number: u16, request: RequestNo) -> MessageHeader
+    requires least { 1 ≤ number }
+    requires most { number ≤ 2046 }
+    ensures { IsAsking result 0 }
+{
+    MessageHeader {
+        kind: Kind::Rfr,
+        req_type: 0,
+        size: 0,
+        session: SESSION,
+        number,
+        request,
+    }
+}
+
+/// Handles a packet, and sends its reply at once; a second reply is taken out unsent.
+fn handle(
+    alloc: Global,
+    session: &mut ServerSession,
+    pool: &mut BufferPool,
+    service: &mut PlainService,
+    head: MessageHeader,
+    body: &[u8],
+) -> Kept
+    requires keeps_pool { KeepsPool pool.old session.old.slots }
+    requires all_inline { AreInline plain_mode session.old.slots }
+    requires asking { IsAsking head (length body.now) }
+    ensures keeps_pool { KeepsPool pool.new session.new.slots }
+    ensures all_inline { AreInline plain_mode session.new.slots }
+{
+    if pool.spare() < 2
+        || !session.can_hold(pool, head.request)
+        || !session.is_unheld(pool, head.request)
+    {
+        return Kept::Refused;
+    }
+    match session.on_packet(alloc, pool, service, &head, body) {
+        Step::Took { reply } => {
+            session.sent(pool, &reply);
+            Kept::Took
+        }
+        Step::Again { reply } => {
+            session.flushed(pool, &reply);
+            Kept::Again
+        }
+        Step::Ran { reply } => {
+            session.sent(pool, &reply);
+            Kept::Ran
+        }
+        Step::Dropped(reason) => Kept::Dropped(reason),
+    }
+}
+
+/// The entry of the reply to a packet of the first request of slot 1.
+fn reply(number: u16, place: Option<Place>) -> Entry {
+    Entry {
+        owner: Owner::Reply {
+            session: SESSION,
+            request: RequestNo::of(1, 0),
+        },
+        number,
+        place,
+        peer: PEER,
+    }
+}
+
+#[test]
+fn a_new_number_begins_with_packet_0_of_a_served_type(rt: HostRuntime) -> Result<(), Fail> {
+    let alloc = rt.alloc();
+    let mut pool = BufferPool::new(alloc, 8)?;
+    let mut session = ServerSession::new(SESSION, CLIENT, PEER, 4);
+    let mut service = PlainService::new();
+    let (s, p, v) = (&mut session, &mut pool, &mut service);
+    let first = RequestNo::of(1, 0);
+    let not_first = Kept::Dropped(DropReason::NotFirst);
+    let unserved = Kept::Dropped(DropReason::Unserved);
+    assert_eq!(rt; handle(alloc, s, p, v, more(1, first), &[]), not_first);
+    assert_eq!(rt;
+        handle(alloc, s, p, v, part(2, 2000, 1, first), &[8; 976]),
+        not_first
+    );
+    assert_eq!(rt;
+        handle(alloc, s, p, v, part(9, 3, 0, first), &[1; 3]),
+        unserved
+    );
+    assert_eq!(rt;
+        handle(alloc, s, p, v, part(129, 3, 0, first), &[1; 3]),
+        unserved
+    );
+    assert_eq!(rt;
+        handle(alloc, s, p, v, part(2, 3, 0, first), &[1; 3]),
+        Kept::Ran
+    );
+    Ok(())
+}
+
+#[test]
+fn the_newest_number_goes_on(rt: HostRuntime) -> Result<(), Fail> {
+    let alloc = rt.alloc();
+    let mut pool = BufferPool::new(alloc, 8)?;
+    let mut session = ServerSession::new(SESSION, CLIENT, PEER, 4);
+    let mut service = PlainService::new();
+    let (s, p, v) = (&mut session, &mut pool, &mut service);
+    let (older, newer) = (RequestNo::of(1, 0), RequestNo::of(1, 1));
+    let whole = [7; 1024];
+    let rest = [8; 976];
+    let mismatch = Kept::Dropped(DropReason::Mismatch);
+    assert_eq!(rt;
+        handle(alloc, s, p, v, part(2, 2000, 0, newer), &whole),
+        Kept::Took
+    );
+    let late = handle(alloc, s, p, v, part(2, 2000, 0, older), &whole);
+    assert_eq!(rt; late, Kept::Dropped(DropReason::Old));
+    assert_eq!(rt;
+        handle(alloc, s, p, v, part(1, 2000, 1, newer), &rest),
+        mismatch
+    );
+    assert_eq!(rt;
+        handle(alloc, s, p, v, part(2, 1999, 1, newer), &[8; 975]),
+        mismatch
+    );
+    assert_eq!(rt; handle(alloc, s, p, v, more(1, newer), &[]), mismatch);
+    let ahead = handle(alloc, s, p, v, more(2, newer), &[]);
+    assert_eq!(rt; ahead, Kept::Dropped(DropReason::Ahead));
+    assert_eq!(rt;
+        handle(alloc, s, p, v, part(2, 2000, 0, newer), &whole),
+        Kept::Again
+    );
+    Ok(())
+}
+
+#[test]
+fn an_answer_of_two_parts(rt: HostRuntime) -> Result<(), Fail> {
+    let alloc = rt.alloc();
+    let mut pool = BufferPool::new(alloc, 8)?;
+    let mut session = ServerSession::new(SESSION, CLIENT, PEER, 4);
+    let mut service = PlainService::new();
+    let (s, p, v) = (&mut session, &mut pool, &mut service);
+    let first = RequestNo::of(1, 0);
+    let rest = [8; 976];
+    assert_eq!(rt;
+        handle(alloc, s, p, v, part(2, 2000, 0, first), &[7; 1024]),
+        Kept::Took
+    );
+    assert_eq!(rt;
+        handle(alloc, s, p, v, part(2, 2000, 1, first), &rest),
+        Kept::Ran
+    );
+    assert_eq!(rt; handle(alloc, s, p, v, more(2, first), &[]), Kept::Took);
+    let beyond = handle(alloc, s, p, v, more(3, first), &[]);
+    assert_eq!(rt; beyond, Kept::Dropped(DropReason::Beyond));
+    assert_eq!(rt; handle(alloc, s, p, v, more(2, first), &[]), Kept::Again);
+    assert_eq!(rt;
+        handle(alloc, s, p, v, part(2, 2000, 1, first), &rest),
+        Kept::Again
+    );
+    Ok(())
+}
+
+#[test]
+fn a_session_of_its_own(rt: HostRuntime) -> Result<(), Fail> {
+    let alloc = rt.alloc();
+    let mut pool = BufferPool::new(alloc, 8)?;
+    let mut session = ServerSession::new(SESSION, CLIENT, PEER, 4);
+    let mut service = PlainService::new();
+    assert!(rt;
+        session.session() == SESSION && session.client() == CLIENT && session.peer() == PEER
+    );
+    assert!(rt; session.owner(1).is_none());
+    let first = RequestNo::of(1, 0);
+    assert_eq!(rt;
+        handle(
+            alloc,
+            &mut session,
+            &mut pool,
+            &mut service,
+            part(1, 3, 0, first),
+            &[1, 2, 3]
+        ),
+        Kept::Ran
+    );
+    assert!(rt;
+        session.owner(1)
+            == Some(Owner::Reply {
+                session: SESSION,
+                request: first
+            })
+    );
+    assert!(rt; session.entry(first, 1).is_none());
+    assert_eq!(rt; pool.spare(), 6);
+    assert!(rt; session.are_unheld(&pool));
+    session.finish(&mut pool);
+    assert_eq!(rt; pool.spare(), 8);
+    Ok(())
+}
+
+#[test]
+fn a_reply_stands_for_its_packet(rt: HostRuntime) -> Result<(), Fail> {
+    let alloc = rt.alloc();
+    let mut pool = BufferPool::new(alloc, 8)?;
+    let mut session = ServerSession::new(SESSION, CLIENT, PEER, 4);
+    let mut service = PlainService::new();
+    let (s, p, v) = (&mut session, &mut pool, &mut service);
+    let first = RequestNo::of(1, 0);
+    assert_eq!(rt;
+        handle(alloc, s, p, v, part(2, 1025, 0, first), &[7; 1024]),
+        Kept::Took
+    );
+    assert_eq!(rt;
+        handle(alloc, s, p, v, part(2, 1025, 1, first), &[9]),
+        Kept::Ran
+    );
+    let mut head = [0; HEAD_BYTES];
+    let credit = session.entry(first, 0).ok_or("not taken")?;
+    assert!(rt; credit == reply(0, None) && session.is_held(&pool, &credit));
+    assert_eq!(rt; session.packet(&pool, &credit, &mut head).len(), 0);
+    assert_eq!(rt; head, [0xE1, 2, 0, 0, 0, 0, 3, 4, 0, 0, 0, 0, 0, 0, 0, 1]);
+    let answer = session.entry(first, 1).ok_or("not taken")?;
+    assert!(rt; answer == reply(1, Some(Place(1))) && !session.is_held(&pool, &answer));
+    let bytes = session.packet(&pool, &answer, &mut head);
+    assert_eq!(rt; bytes.len(), 1024);
+    assert_eq!(rt; bytes[0], 9);
+    assert_eq!(rt; head, [0xE1, 3, 2, 0, 4, 1, 3, 4, 0, 1, 0, 0, 0, 0, 0, 1]);
+    Ok(())
+}
