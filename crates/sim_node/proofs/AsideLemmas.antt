@@ -1,38 +1,57 @@
--- A fact noted beside the client sessions, together with what it makes of them.
-use Rattle.std.proofs.Common.{◌≡◌, ℕ, List, [], ◌∷◌, refl, ap, ◌∙◌}
+-- A fact noted beside the ends of sessions, together with what it makes of them.
+use Rattle.std.proofs.Common.{◌≡◌, ℕ, List, [], ◌∷◌, refl, ap, ◌∙◌, append_assoc}
 use Rattle.rpc_base.specs.declared.event.Event.{Event}
 use Rattle.rpc_base.specs.declared.fact.Fact.{Fact}
 use Rattle.rpc_laws.specs.declared.tables.Client.{Client}
+use Rattle.rpc_laws.specs.declared.tables.Server.{Server}
 use Rattle.rpc_laws.specs.declared.tables.Timed.{Timed}
 use Rattle.rpc_laws.specs.Facts.{with_two}
 use Rattle.rpc_laws.specs.Front.{front_header, front_body}
 use Rattle.rpc_laws.specs.NodeLists.{after}
+use Rattle.rpc_laws.specs.Requests.{servers_after}
 use Rattle.rpc_laws.specs.Sessions.{clients_after}
 use Rattle.node_tables.specs.Noted.{Noted}
 use Rattle.sim_node.specs.Apart.{IsApart}
-use Rattle.sim_node.specs.Aside.{NotedAside, LeavesClients}
+use Rattle.sim_node.specs.Aside.{NotedAside, LeavesEnds}
 
--- the client sessions after a fact
+-- the client sessions after a fact, and the server sessions
 abbrev pub told : Timed → Fact → List Client
 told a f = clients_after a.clock f.event f.first (front_header a.lists.ring) (front_body a.lists.ring) a.lists.clients
+
+abbrev pub told_servers : Timed → Fact → List Server
+told_servers a f = servers_after f.event f.second (front_header a.lists.ring) (front_body a.lists.ring) a.lists.servers
 
 abbrev pub with_clients : List Client → Timed → Timed
 with_clients xs a = record { lists = record a.lists { clients = xs }; clock = a.clock }
 
-pub noted-with : (a b c : Timed) (xs : List Client) (f : Fact) (x y : List Fact) → b ≡ with_clients xs a → xs ≡ told a f → NotedAside f b c x y → Noted (f ∷ []) a c x y
-noted-with a b c xs f x y same e p =
+abbrev pub with_servers : List Server → Timed → Timed
+with_servers vs a = record { lists = record a.lists { servers = vs }; clock = a.clock }
+
+-- both lists were changed beside
+pub noted-with : (a b c : Timed) (xs : List Client) (vs : List Server) (f : Fact) (x y : List Fact) → b ≡ with_servers vs (with_clients xs a) → xs ≡ told a f → vs ≡ told_servers a f → NotedAside f b c x y → Noted (f ∷ []) a c x y
+noted-with a b c xs vs f x y same e k p =
     let rest = rw same at p.rest in
     record {
       grew = p.grew;
-      goes = rest ∙ ap (λ (zs : List Client). record { lists = record (after a.clock a.lists f) { clients = zs }; clock = a.clock }) e;
+      goes = rest ∙ ap (λ (zs : List Client). record { lists = record (after a.clock a.lists f) { clients = zs; servers = vs }; clock = a.clock }) e ∙ ap (λ (ws : List Server). record { lists = record (after a.clock a.lists f) { servers = ws }; clock = a.clock }) k;
     }
 
-pub noted-alone : (a c : Timed) (e : Event) (first second : List ℕ) (x y : List Fact) → LeavesClients e → NotedAside (with_two a.lists.me e first second) a c x y → Noted (with_two a.lists.me e first second ∷ []) a c x y
+-- two facts, of which all changes were made before the first
+pub noted-two : (a b c : Timed) (xs : List Client) (vs : List Server) (e d : Fact) (f g k : List Fact) → xs ≡ told (record { lists = after a.clock a.lists e; clock = a.clock }) d → vs ≡ told_servers (record { lists = after a.clock a.lists e; clock = a.clock }) d → NotedAside e (with_servers vs (with_clients xs a)) b f g → NotedAside d b c g k → Noted (e ∷ d ∷ []) a c f k
+noted-two a b c xs vs e d f g k same alike p q =
+    let first = p.rest in
+    let second = rw first at q.rest in
+    record {
+      grew = q.grew ∙ rw p.grew (append_assoc f (e ∷ []) (d ∷ []));
+      goes = second ∙ ap (λ (zs : List Client). record { lists = record (after a.clock (after a.clock a.lists e) d) { clients = zs; servers = vs }; clock = a.clock }) same ∙ ap (λ (ws : List Server). record { lists = record (after a.clock (after a.clock a.lists e) d) { servers = ws }; clock = a.clock }) alike;
+    }
+
+pub noted-alone : (a c : Timed) (e : Event) (first second : List ℕ) (x y : List Fact) → LeavesEnds e → NotedAside (with_two a.lists.me e first second) a c x y → Noted (with_two a.lists.me e first second ∷ []) a c x y
 noted-alone a c e first second x y leaves p =
     record {
       grew = p.grew;
-      goes = p.rest ∙ rw (leaves.clients a.clock first (front_header a.lists.ring) (front_body a.lists.ring) a.lists.clients) refl;
+      goes = p.rest ∙ rw (leaves.clients a.clock first (front_header a.lists.ring) (front_body a.lists.ring) a.lists.clients, leaves.servers second (front_header a.lists.ring) (front_body a.lists.ring) a.lists.servers) refl;
     }
 
-pub apart-alone : (a c : Timed) (e : Event) (first second : List ℕ) (x y : List Fact) → LeavesClients e → IsApart a → NotedAside (with_two a.lists.me e first second) a c x y → IsApart c
+pub apart-alone : (a c : Timed) (e : Event) (first second : List ℕ) (x y : List Fact) → LeavesEnds e → IsApart a → NotedAside (with_two a.lists.me e first second) a c x y → IsApart c
 apart-alone a c e first second x y leaves h p = rw (p.rest, leaves.asked a.lists.asked) h

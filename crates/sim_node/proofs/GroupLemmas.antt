@@ -61,7 +61,7 @@ pub paired-client : (a s c : Timed) (ys : List Client) (f g : List Fact) (sessio
 paired-client a s c ys f g session peer other credits x view known number made pushed aside =
     let own : session ≡ length a.lists.clients = number ∙ ap (λ (z : Timed). length z.lists.clients) (sym view) in
     let all : ys ≡ a.lists.clients ++ client_end session peer other credits ∷ [] = rw pushed (ap (λ (z : Client). a.lists.clients ++ z ∷ []) made) in
-    let n : Noted (plain a.lists.me (PairedClient session peer other credits) ∷ []) a c f g = noted-with a (with_clients ys a) c ys (plain a.lists.me (PairedClient session peer other credits)) f g refl all aside in
+    let n : Noted (plain a.lists.me (PairedClient session peer other credits) ∷ []) a c f g = noted-with a (with_clients ys a) c ys a.lists.servers (plain a.lists.me (PairedClient session peer other credits)) f g refl all refl aside in
     let told : Noted (plain a.lists.me (PairedClient (length a.lists.clients) peer other credits) ∷ []) a c f g = subst (λ m. Noted (plain a.lists.me (PairedClient m peer other credits) ∷ []) a c f g) own n in
     let h : IsApart a = rw view known in
     let apart : Apart a.lists.asked ys = rw all (apart-push a.lists.asked a.lists.clients (client_end session peer other credits) h own refl) in
@@ -166,7 +166,7 @@ module _ (a : Asking) where
 
 pub asked-told : (a s c : Timed) (ys : List Client) (f g : List Fact) (session n y room : ℕ) (bytes : List ℕ) → a ≡ s → IsApart s → n ≡ a.lists.asked → ys ≡ at_first (is_client session) (asks (record { number = n; req_type = y; room = room; ask = bytes })) a.lists.clients → NotedAside (with_bytes a.lists.me (Asked n session y room) bytes) (with_clients ys a) c f g → Noted (with_bytes s.lists.me (Asked s.lists.asked session y room) bytes ∷ []) s c f g × IsApart c
 asked-told a s c ys f g session n y room bytes view known number asked aside =
-    let noted : Noted (with_bytes a.lists.me (Asked n session y room) bytes ∷ []) a c f g = noted-with a (with_clients ys a) c ys (with_bytes a.lists.me (Asked n session y room) bytes) f g refl asked aside in
+    let noted : Noted (with_bytes a.lists.me (Asked n session y room) bytes ∷ []) a c f g = noted-with a (with_clients ys a) c ys a.lists.servers (with_bytes a.lists.me (Asked n session y room) bytes) f g refl asked refl aside in
     let told : Noted (with_bytes a.lists.me (Asked a.lists.asked session y room) bytes ∷ []) a c f g = subst (λ m. Noted (with_bytes a.lists.me (Asked m session y room) bytes ∷ []) a c f g) number noted in
     let h : Apart a.lists.asked a.lists.clients = rw view known in
     let at : Apart n a.lists.clients = rw number h in

@@ -1,5 +1,5 @@
 -- A reply, from its session to what the node notes.
-use Rattle.std.proofs.Common.{◌≡◌, ℕ, zero, suc, ◌+◌, ◌≤◌, Bool, true, false, cond, Option, Some, None, List, [], ◌∷◌, refl, sym, ap, subst, ◌∙◌, arith, append_assoc}
+use Rattle.std.proofs.Common.{◌≡◌, ℕ, zero, suc, ◌+◌, ◌≤◌, Bool, true, false, cond, Option, Some, None, List, [], ◌∷◌, refl, sym, ap, subst, ◌∙◌, arith}
 use Rattle.std.specs.Prelude.{count_by, slice_get, slice_set}
 use Rattle.std.specs.List.{find, list_any, position}
 use Rattle.std.proofs.lemmas.Bool.{eq-eqb, eqb-true}
@@ -24,6 +24,7 @@ use Rattle.rpc_laws.specs.declared.rows.EndRow.TheVariants.{GoesOn, EndsOk, Ends
 use Rattle.rpc_laws.specs.declared.tables.Call.{Call}
 use Rattle.rpc_laws.specs.declared.tables.Client.{Client}
 use Rattle.rpc_laws.specs.declared.tables.Progress.{Progress}
+use Rattle.rpc_laws.specs.declared.tables.Server.{Server}
 use Rattle.rpc_laws.specs.declared.tables.Timed.{Timed}
 use Rattle.rpc_laws.specs.Calls.{is_call, is_active, moved, took_reply, asked_packets, with_reply}
 use Rattle.rpc_laws.specs.ClientTable.{call_ending, end_facts, end_row, progress_ending, reply_facts}
@@ -32,6 +33,7 @@ use Rattle.rpc_laws.specs.Front.{front_header, front_body}
 use Rattle.rpc_laws.specs.NodeLists.{after, asked_after}
 use Rattle.rpc_laws.specs.PollOrder.{replies_facts}
 use Rattle.rpc_laws.specs.Queues.{is_queued}
+use Rattle.rpc_laws.specs.Requests.{servers_after}
 use Rattle.rpc_laws.specs.Sessions.{is_client, has_call, ends, takes, clients_after}
 use Rattle.node_tables.specs.Noted.{Noted}
 use Rattle.sim_client.proofs.AscendsLemmas.{ascends-changed, ascends-without}
@@ -39,7 +41,7 @@ use Rattle.sim_node.specs.Apart.{Apart, IsApart}
 use Rattle.sim_node.specs.Aside.{NotedAside}
 use Rattle.sim_node.specs.Hearing.{RepliesAt}
 use Rattle.sim_node.proofs.ApartLemmas.{Keeps, apart-kept, any-same, le-of, only-there, found-any}
-use Rattle.sim_node.proofs.AsideLemmas.{told, with_clients, noted-with}
+use Rattle.sim_node.proofs.AsideLemmas.{told, with_clients, noted-with, noted-two}
 use Rattle.sim_node.proofs.PostLemmas.{set-own}
 
 found-passes-by : (y x : Client) (p : Client → Bool) (o : Option Client) (b : Bool) → p y ≡ b → (o ≡ Some x → p x ≡ true) → cond b (Some y) o ≡ Some x → p x ≡ true
@@ -135,16 +137,6 @@ cond-one : (b : Bool) (x y z : Client) → b ≡ true → cond b (x ∷ []) (y �
 cond-one true x y z t e = cc
 cond-one false x y z t e = cc
 
--- two facts, of which the session's changes were made before
-noted-two : (a b c : Timed) (ys : List Client) (e d : Fact) (f g k : List Fact) → ys ≡ told (record { lists = after a.clock a.lists e; clock = a.clock }) d → NotedAside e (with_clients ys a) b f g → NotedAside d b c g k → Noted (e ∷ d ∷ []) a c f k
-noted-two a b c ys e d f g k same p q =
-    let first = p.rest in
-    let second = rw first at q.rest in
-    record {
-      grew = q.grew ∙ rw p.grew (append_assoc f (e ∷ []) (d ∷ []));
-      goes = second ∙ ap (λ (zs : List Client). record { lists = record (after a.clock (after a.clock a.lists e) d) { clients = zs }; clock = a.clock }) same;
-    }
-
 module _ (a s : Timed) (ys : List Client) (f : List Fact) (peer : ℕ) (h : MessageHeader) (body : List ℕ) (is_waiting : Bool) (place : ℕ) (view : a ≡ s) (known : IsApart s) (front : front_header s.lists.ring ≡ Some h) (after_front : front_body s.lists.ring ≡ body) (here : position (is_client h.session) s.lists.clients ≡ Some place) (waits : is_waiting ≡ list_any (is_queued (Ask h.session h.request) h.number) a.lists.queued) where
   found : position (is_client h.session) a.lists.clients ≡ Some place
   found = rw view here
@@ -185,6 +177,11 @@ module _ (a s : Timed) (ys : List Client) (f : List Fact) (peer : ℕ) (h : Mess
   told-done clock call (TooSmall size) bytes head b xs = refl
   told-done clock call PeerLost bytes head b xs = refl
 
+  servers-done : (call : ℕ) (o : Outcome) (answer : List ℕ) (head : Option MessageHeader) (b : List ℕ) (vs : List Server) → servers_after (end_event call o) answer head b vs ≡ vs
+  servers-done call EndedOk answer head b vs = refl
+  servers-done call (TooSmall size) answer head b vs = refl
+  servers-done call PeerLost answer head b vs = refl
+
   asked-done : (call : ℕ) (o : Outcome) (n : ℕ) → asked_after (end_event call o) n ≡ n
   asked-done call EndedOk n = refl
   asked-done call (TooSmall size) n = refl
@@ -194,7 +191,7 @@ module _ (a s : Timed) (ys : List Client) (f : List Fact) (peer : ℕ) (h : Mess
   dropped why o c g e q aside =
       let p : RepliesAt place a.clock peer h body is_waiting (DroppedReply why) a.lists.clients ys = rw e at q in
       let same : ys ≡ a.lists.clients = p.changed ∙ ap (λ (z : Client). slice_set a.lists.clients place z) (sym (one-same p.client p.later p.step)) ∙ set-own a.lists.clients place p.client p.at in
-      let n : Noted (plain a.lists.me (Dropped why) ∷ []) a c f g = noted-with a (with_clients ys a) c ys (plain a.lists.me (Dropped why)) f g refl same aside in
+      let n : Noted (plain a.lists.me (Dropped why) ∷ []) a c f g = noted-with a (with_clients ys a) c ys a.lists.servers (plain a.lists.me (Dropped why)) f g refl same refl aside in
       let all : Noted (replies_facts a.lists peer h body) a c f g = rw (by-row (DroppedReply why) p) n in
       (subst (λ (z : Timed). Noted (replies_facts z.lists peer h body) z c f g) view all, rw (aside.rest, same) (apart-here (DroppedReply why) p))
 
@@ -203,7 +200,7 @@ module _ (a s : Timed) (ys : List Client) (f : List Fact) (peer : ℕ) (h : Mess
       let p : RepliesAt place a.clock peer h body is_waiting TookReply a.lists.clients ys = rw e at q in
       let later : t TookReply p ≡ p.later = cond-one (is_client p.client.way.number p.client) (t TookReply p) p.client p.later (eq-eqb p.client.way.number p.client.way.number refl) p.step in
       let same : ys ≡ told a took = p.changed ∙ ap (λ (z : Client). slice_set a.lists.clients place z) (sym later) ∙ sym (taken-set TookReply p) in
-      let n : Noted (took ∷ []) a c f g = noted-with a (with_clients ys a) c ys took f g refl same aside in
+      let n : Noted (took ∷ []) a c f g = noted-with a (with_clients ys a) c ys a.lists.servers took f g refl same refl aside in
       let all : Noted (replies_facts a.lists peer h body) a c f g = rw (by-row TookReply p, p.facts refl a.lists.me) n in
       (subst (λ (z : Timed). Noted (replies_facts z.lists peer h body) z c f g) view all, rw (aside.rest, same) (apart-taken TookReply p))
 
@@ -242,7 +239,7 @@ module _ (a s : Timed) (ys : List Client) (f : List Fact) (peer : ℕ) (h : Mess
       let fact : with_bytes b.lists.me event first ≡ done_fact a.lists.me d = rw (me, is_event, is_first) refl in
       let second : NotedAside (done_fact a.lists.me d) b c g k = subst (λ (z : Fact). NotedAside z b c g k) fact two in
       let same : ys ≡ told (record { lists = after a.clock a.lists took; clock = a.clock }) (done_fact a.lists.me d) = ys-is d p ∙ sym (told-done a.clock d.call d.outcome _ _ _ (told a took)) in
-      let n : Noted (took ∷ done_fact a.lists.me d ∷ []) a c f k = noted-two a b c ys took (done_fact a.lists.me d) f g k same one second in
+      let n : Noted (took ∷ done_fact a.lists.me d ∷ []) a c f k = noted-two a b c ys a.lists.servers took (done_fact a.lists.me d) f g k same (sym (servers-done d.call d.outcome _ _ _ a.lists.servers)) one second in
       let all : Noted (replies_facts a.lists peer h body) a c f k = rw (by-row (Ended d) p, p.facts refl a.lists.me) n in
       let apart : IsApart c = rw (second.rest, one.rest, asked-done d.call d.outcome a.lists.asked) (apart-ended d p) in
       (subst (λ (z : Timed). Noted (replies_facts z.lists peer h body) z c f k) view all, apart)

@@ -10,4 +10,5 @@ pub mod PostLemmas
 pub mod QuietLemmas
 pub mod RollLemmas
 pub mod SendLemmas
+pub mod ServeLemmas
 pub mod WalkLemmas

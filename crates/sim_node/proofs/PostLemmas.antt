@@ -68,10 +68,10 @@ posts-told i asked n p xs ys h q same =
     (e, rw e (apart-kept (is_client n) (posts p.0 p.1) (posts-keeps p.0 p.1) asked xs h))
 
 -- from what a client end did
-pub set-own : (xs : List Client) (i : ℕ) (x : Client) → slice_get xs i ≡ Some x → slice_set xs i x ≡ xs
+pub set-own : {A : Type 0} (xs : List A) (i : ℕ) (x : A) → slice_get xs i ≡ Some x → slice_set xs i x ≡ xs
 set-own [] i x e = cc
-set-own (y ∷ ys) zero x e = let same : y ≡ x = cc in ap (λ (z : Client). z ∷ ys) (sym same)
-set-own (y ∷ ys) (suc i) x e = ap (λ (zs : List Client). y ∷ zs) (set-own ys i x e)
+set-own (y ∷ ys) zero x e = let same : y ≡ x = cc in ap (λ z. z ∷ ys) (sym same)
+set-own (y ∷ ys) (suc i) x e = ap (λ zs. y ∷ zs) (set-own ys i x e)
 
 pub begins-at : (i : ℕ) (xs : List Client) (x y : Client) (o : Option (ℕ × ℕ)) → slice_get xs i ≡ Some x → option_map begun_event o ≡ beginning x → IfNone o (y ≡ x) → IfSome o (λ b. y ≡ begins b.0 b.1 x) → BeginsAt i o xs (slice_set xs i y)
 begins-at i xs x y None place next none some =
@@ -113,7 +113,7 @@ module _ (i : ℕ) (a : Timed) (ys : List Client) (f : List Fact) where
         let h : IsApart a = rw view known in
         let at : BeginsAt i (Some b) a.lists.clients ys = rw e at p in
         let told = begins-told i a.lists.asked b a.lists.clients ys h at in
-        let n = noted-with a (with_clients ys a) c ys (plain a.lists.me (Begun b.0 b.1)) f g refl told.0 q in
+        let n = noted-with a (with_clients ys a) c ys a.lists.servers (plain a.lists.me (Begun b.0 b.1)) f g refl told.0 refl q in
         let apart : IsApart c = rw q.rest told.1 in
         let made : Makes (NotesNext (next_begun i)) a c f g = record { noted = plain a.lists.me (Begun b.0 b.1) ∷ []; grew = n.grew; step = record { event = Begun b.0 b.1; is_next = at.0; facts = refl; goes = n.goes } } in
         (subst (λ (z : Timed). Makes (NotesNext (next_begun i)) z c f g) view made, apart)
@@ -125,7 +125,7 @@ module _ (i : ℕ) (a : Timed) (ys : List Client) (f : List Fact) where
         let one : x ≡ at.client = some-same x at.client (sym place ∙ at.place) in
         let number : n ≡ at.client.way.number = same ∙ ap (λ (z : Client). z.way.number) one in
         let told = posts-told i a.lists.asked n b a.lists.clients ys h at number in
-        let d = noted-with a (with_clients ys a) c ys (plain a.lists.me (Posted (Ask n b.0) b.1)) f g refl told.0 q in
+        let d = noted-with a (with_clients ys a) c ys a.lists.servers (plain a.lists.me (Posted (Ask n b.0) b.1)) f g refl told.0 refl q in
         let apart : IsApart c = rw q.rest told.1 in
         let next : next_posted i a.lists ≡ Some (Posted (Ask n b.0) b.1) = ap (λ (o : Option Client). option_and_then posting o) at.place ∙ at.next ∙ ap (λ m. Some (Posted (Ask m b.0) b.1)) (sym number) in
         let made : Makes (NotesNext (next_posted i)) a c f g = record { noted = plain a.lists.me (Posted (Ask n b.0) b.1) ∷ []; grew = d.grew; step = record { event = Posted (Ask n b.0) b.1; is_next = next; facts = refl; goes = d.goes } } in

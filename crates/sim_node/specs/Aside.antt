@@ -1,23 +1,29 @@
--- Noting a fact beside the client sessions, which are changed on their own.
+-- Noting a fact beside the ends of sessions, which are changed on their own.
 use Rattle.std.specs.Prelude.{ℕ, ◌≡◌, Option, List, [], ◌∷◌, ◌++◌}
 use Rattle.packet_header.specs.declared.packet.MessageHeader.{MessageHeader}
 use Rattle.rpc_base.specs.declared.event.Event.{Event}
 use Rattle.rpc_base.specs.declared.fact.Fact.{Fact}
 use Rattle.rpc_laws.specs.declared.tables.Client.{Client}
+use Rattle.rpc_laws.specs.declared.tables.Server.{Server}
 use Rattle.rpc_laws.specs.declared.tables.Timed.{Timed}
 use Rattle.rpc_laws.specs.NodeLists.{after, asked_after}
+use Rattle.rpc_laws.specs.Requests.{servers_after}
 use Rattle.rpc_laws.specs.Sessions.{clients_after}
 
--- a fact changes each list but that of the client sessions
+-- a fact changes each list but those of the client and the server sessions
 abbrev pub aside : Fact → Timed → Timed
-aside f s = record { lists = record (after s.clock s.lists f) { clients = s.lists.clients }; clock = s.clock }
+aside f s = record {
+  lists = record (after s.clock s.lists f) { clients = s.lists.clients; servers = s.lists.servers };
+  clock = s.clock;
+}
 
 -- the fact was noted, and the lists changed so
 pub record NotedAside (f : Fact) (old new : Timed) (before now : List Fact) : Type 0 where
   pub grew : now ≡ before ++ f ∷ []
   pub rest : new ≡ aside f old
 
--- an event that changes no client session, and by which no call number is given out
-pub record LeavesClients (e : Event) : Type 0 where
+-- an event that changes no session, and by which no call number is given out
+pub record LeavesEnds (e : Event) : Type 0 where
   pub clients : (clock : ℕ) → (bytes : List ℕ) → (head : Option MessageHeader) → (body : List ℕ) → (xs : List Client) → clients_after clock e bytes head body xs ≡ xs
+  pub servers : (answer : List ℕ) → (head : Option MessageHeader) → (body : List ℕ) → (vs : List Server) → servers_after e answer head body vs ≡ vs
   pub asked : (n : ℕ) → asked_after e n ≡ n

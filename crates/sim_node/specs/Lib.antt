@@ -1,5 +1,5 @@
 pub mod Apart
 pub mod Aside
 pub mod Hearing
-pub mod Older
+pub mod Serving
 pub mod Watching

@@ -3,7 +3,7 @@ ghost use Rattle.std.specs.Prelude.{◌≡◌, OnOk};
 ghost use Rattle.node_tables.specs.Noted.{Noted};
 ghost use Rattle.rpc_laws.specs.Deliveries.{delivery, delivery_facts};
 ghost use Rattle.sim_node.specs.Apart.{IsApart};
-ghost use Rattle.sim_node.specs.Aside.{LeavesClients};
+ghost use Rattle.sim_node.specs.Aside.{LeavesEnds};
 
 use crate::noting::note;
 use crate::tables::Tables;
@@ -13,7 +13,7 @@ use std::alloc::Global;
 
 fn delivery(node: &Tables, peer: Peer, bytes: &[u8]) -> Event
     ensures value { result ≡ delivery node.now.lists peer bytes.now }
-    ensures leaves { LeavesClients result }
+    ensures leaves { LeavesEnds result }
 {
     if read_message(bytes).is_none() {
         return Event::Bad { peer };

@@ -1,9 +1,9 @@
 //! The packet in front of the ring is handled: by the server rule where it asks, by the client rule where
 //! it replies.
-ghost use Rattle.std.specs.Prelude.{◌≡◌, ◌<◌, ◌≤◌, ◌⊎◌, length, true, false, [], slice_get, Some, IfSome, OnOk};
+ghost use Rattle.std.specs.Prelude.{◌≡◌, ◌<◌, ◌≤◌, ◌+◌, ◌⊎◌, length, true, false, [], slice_get, Some, IfSome, OnOk};
 ghost use Rattle.node_tables.specs.Noted.{Noted, Makes};
-ghost use Rattle.packet_header.specs.Header.{MessageInRange};
-ghost use Rattle.packet_header.specs.Reading.{message_of};
+ghost use Rattle.packet_header.specs.Header.{MessageInRange, MessageLength};
+ghost use Rattle.packet_header.specs.Reading.{body_of, message_of};
 ghost use Rattle.rpc_laws.specs.Front.{front_header, front_body};
 ghost use Rattle.rpc_laws.specs.PollOrder.{handling_by, Handles, HandlesAll};
 ghost use Rattle.rpc_laws.specs.Queues.{replies};
@@ -27,6 +27,7 @@ fn handle_message(
 ) -> Result<(), NoMemory>
     requires apart { IsApart node.old }
     requires in_range { MessageInRange head.now }
+    requires long { MessageLength head.now.kind head.now.size head.now.number (16 + length body.now) }
     requires front { front_header node.old.lists.ring ≡ Some head.now }
     requires front_body { front_body node.old.lists.ring ≡ body.now }
     ensures noted { OnOk result
@@ -41,10 +42,11 @@ fn handle_message(
     }
 }
 
-// The header of a datagram that is a packet of a call.
+// The header of a datagram that is a packet of a call, which is as long as that tells.
 fn read(bytes: &[u8]) -> Option<MessageHeader>
     ensures value { result ≡ message_of bytes.now }
     ensures in_range { IfSome result (λ h. MessageInRange h) }
+    ensures long { IfSome result (λ h. MessageLength h.kind h.size h.number (16 + length (body_of bytes.now))) }
 {
     match decode(bytes) {
         Ok(Packet::Message(head)) => Some(head),

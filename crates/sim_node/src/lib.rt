@@ -1,4 +1,4 @@
-//! A node with real client sessions: it takes datagrams, and polls by the rules of `rpc_laws`. It owns no
+//! A node with real sessions: it takes datagrams, and polls by the rules of `rpc_laws`. It owns no
 //! socket and no clock, and knows nothing of scripts or of other nodes.
 #![tactic(auto)]
 
@@ -10,14 +10,13 @@ mod handling;
 mod hearing;
 mod node;
 mod noting;
-mod packets;
 mod pairing;
 mod polling;
 mod posting;
+mod replying;
 mod rolling;
 mod sending;
-mod server_table;
-mod service;
+mod servers;
 mod serving;
 mod tables;
 mod watching;

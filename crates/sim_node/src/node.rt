@@ -16,7 +16,7 @@ use rpc_base::{Event, Fact, Listed, NoMemory, NodeId, Peer, SessionNo};
 use std::alloc::Global;
 use std::marker::Model;
 
-/// A node with real client ends. Contracts see its lists and its clock. Once memory ran out in the midst
+/// A node with real ends of sessions. Contracts see its lists and its clock. Once memory ran out in the midst
 /// of a step it takes no other step, and each ends as want of memory.
 #[derive(Drop)]
 pub struct Node {
@@ -140,6 +140,7 @@ impl Node {
         requires fits { pair_refusal credits self.old.lists ≡ None }
         requires some { 1 ≤ credits }
         requires most { credits ≤ 256 }
+        requires client { client < 65535 }
         ensures { OnOk result
             (Noted (plain self.old.lists.me (Event.PairedServer (length self.old.lists.servers) peer client credits) ∷ []) self.old self.new facts.old facts.new) }
     {

@@ -1,15 +1,13 @@
 //! Noting a fact: it goes into the history, and the node's lists change as it says.
 ghost use Rattle.std.specs.Prelude.{◌≡◌, ◌∷◌, [], OnOk, IfOk};
 ghost use Rattle.node_tables.specs.Noted.{Noted};
-ghost use Rattle.rpc_laws.specs.Facts.{with_two};
+ghost use Rattle.rpc_laws.specs.Facts.{with_bytes, with_two};
 ghost use Rattle.rpc_laws.specs.NodeLists.{asked_after};
 ghost use Rattle.sim_node.specs.Apart.{IsApart};
-ghost use Rattle.sim_node.specs.Aside.{aside, LeavesClients, NotedAside};
+ghost use Rattle.sim_node.specs.Aside.{aside, LeavesEnds, NotedAside};
 
 use crate::tables::Tables;
-use node_tables::{
-    body_in_front, change_queued, change_ring, change_servers, one_more, read_front,
-};
+use node_tables::{change_queued, change_ring, one_more};
 use rpc_base::{Event, Fact, Listed, NoMemory, Octets, Who};
 use std::alloc::Global;
 
@@ -22,27 +20,17 @@ fn count_asked(asked: u64, event: &Event) -> Result<u64, NoMemory>
     }
 }
 
-// The tables read the packet in front of the ring, so the ring is changed last.
-fn change(
-    alloc: Global,
-    node: &mut Tables,
-    event: &Event,
-    first: &[u8],
-    second: &[u8],
-) -> Result<(), NoMemory>
-    ensures { OnOk result (node.new ≡ aside (with_two node.old.lists.me event.now first.now second.now) node.old) }
+fn change(alloc: Global, node: &mut Tables, event: &Event, first: &[u8]) -> Result<(), NoMemory>
+    ensures { OnOk result (node.new ≡ aside (with_bytes node.old.lists.me event.now first.now) node.old) }
 {
-    let head = read_front(&node.ring);
-    let body = body_in_front(&node.ring);
-    change_servers(alloc, &mut node.servers, event, second, &head, body)?;
     node.asked = count_asked(node.asked, event)?;
     change_queued(&mut node.queued, event)?;
     change_ring(alloc, &mut node.ring, event, first)?;
     Ok(())
 }
 
-/// Notes a fact of the node with up to two pieces of bytes, and changes all its lists but that of the
-/// client ends.
+/// Notes a fact of the node with up to two pieces of bytes, and changes all its lists but those of the ends
+/// of sessions.
 pub fn note_aside(
     alloc: Global,
     node: &mut Tables,
@@ -55,7 +43,7 @@ pub fn note_aside(
         (NotedAside (with_two node.old.lists.me event.now first.now second.now) node.old node.new facts.old facts.new) }
 {
     let who = Who::Node(node.me);
-    change(alloc, node, event, first, second)?;
+    change(alloc, node, event, first)?;
     let first = Octets::copy(alloc, first)?;
     let second = Octets::copy(alloc, second)?;
     facts.push(Fact {
@@ -67,7 +55,7 @@ pub fn note_aside(
     Ok(())
 }
 
-/// Notes a fact of an event that changes no client end.
+/// Notes a fact of an event that changes no session.
 pub fn note(
     alloc: Global,
     node: &mut Tables,
@@ -76,7 +64,7 @@ pub fn note(
     first: &[u8],
     second: &[u8],
 ) -> Result<(), NoMemory>
-    requires leaves { LeavesClients event.now }
+    requires leaves { LeavesEnds event.now }
     requires apart { IsApart node.old }
     ensures noted { OnOk result
         (Noted (with_two node.old.lists.me event.now first.now second.now ∷ []) node.old node.new facts.old facts.new) }

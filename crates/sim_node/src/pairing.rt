@@ -5,11 +5,12 @@ ghost use Rattle.rpc_laws.specs.Facts.{plain};
 ghost use Rattle.rpc_laws.specs.Groups.{live_credits, pair_refusal, shares};
 ghost use Rattle.sim_node.specs.Apart.{IsApart};
 
-use crate::noting::{note, note_aside};
+use crate::noting::note_aside;
 use crate::tables::Tables;
 use rpc_base::{Event, Fact, Listed, NoMemory, Peer, SessionNo};
-use rpc_laws::{Server, Way};
+use rpc_laws::Way;
 use sim_client::ClientEnd;
+use sim_server::ServerEnd;
 use std::alloc::Global;
 
 fn live_credits(end: &ClientEnd) -> u64
@@ -37,12 +38,12 @@ fn shares_of_clients(clients: &[ClientEnd]) -> Result<u64, NoMemory>
     Ok(sum)
 }
 
-fn shares_of_servers(servers: &[Server]) -> Result<u64, NoMemory>
+fn shares_of_servers(servers: &[ServerEnd]) -> Result<u64, NoMemory>
     ensures { IfOk result (λ r. r ≡ sum_by (λ v. v.credits) servers.now) }
 {
     let mut sum = 0;
-    for server in servers {
-        sum = added(sum, u64::from(server.credits))?;
+    for end in servers {
+        sum = added(sum, u64::from(end.credits()))?;
     }
     Ok(sum)
 }
@@ -105,18 +106,26 @@ pub fn pair_server(
     requires fits { pair_refusal credits node.old.lists ≡ None }
     requires some { 1 ≤ credits }
     requires most { credits ≤ 256 }
+    requires client { client < 65535 }
     requires apart { IsApart node.old }
     ensures noted { OnOk result
         (Noted (plain node.old.lists.me (Event.PairedServer (length node.old.lists.servers) peer client credits) ∷ []) node.old node.new facts.old facts.new) }
     ensures apart { OnOk result (IsApart node.new) }
 {
     let session = SessionNo(node.servers.len() as u16);
+    let way = Way {
+        number: session,
+        peer,
+        other: client,
+    };
+    let end = ServerEnd::new(alloc, way, credits)?;
+    node.servers.push(end)?;
     let event = Event::PairedServer {
         session,
         peer,
         client,
         credits,
     };
-    note(alloc, node, facts, &event, &[], &[])?;
+    note_aside(alloc, node, facts, &event, &[], &[])?;
     Ok(())
 }

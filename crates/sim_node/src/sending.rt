@@ -10,10 +10,10 @@ ghost use Rattle.rpc_base.specs.Tables.{at_first};
 ghost use Rattle.sim_node.specs.Apart.{IsApart};
 
 use crate::clients::place_of_end;
-use crate::noting::{note, note_aside};
-use crate::packets::packet_of_reply;
+use crate::noting::note_aside;
+use crate::replying::send_reply;
 use crate::tables::Tables;
-use packet_header::{HEAD_BYTES, encode, is_in_range};
+use packet_header::HEAD_BYTES;
 use rpc_base::{Event, Fact, Listed, NoMemory, Octets, Owner, RequestNo, SessionNo};
 use rpc_laws::Queued;
 use sim_client::ClientEnd;
@@ -88,38 +88,6 @@ fn send_ask(
         number: entry.number,
     };
     note_aside(alloc, node, facts, &event, &head, body.bytes())?;
-    Ok(())
-}
-
-// Sends a reply.
-fn send_reply(
-    alloc: Global,
-    node: &mut Tables,
-    facts: &mut Listed<Fact>,
-    entry: &Queued,
-    session: SessionNo,
-    request: RequestNo,
-) -> Result<(), NoMemory>
-    requires apart { IsApart node.old }
-    requires front { slice_get node.old.lists.queued 0 ≡ Some entry.now }
-    requires owner { entry.now.owner ≡ Owner.Reply session request }
-    ensures makes { OnOk result (Makes Sends node.old node.new facts.old facts.new) }
-    ensures apart { OnOk result (IsApart node.new) }
-{
-    let Some(out) = packet_of_reply(alloc, &node.servers, session, request, entry.number)? else {
-        return Err(NoMemory);
-    };
-    if !is_in_range(&out.packet) {
-        return Err(NoMemory);
-    }
-    let mut head = [0u8; HEAD_BYTES];
-    encode(&out.packet, &mut head);
-    let event = Event::Sent {
-        peer: out.peer,
-        owner: Owner::Reply { session, request },
-        number: entry.number,
-    };
-    note(alloc, node, facts, &event, &head, out.body.bytes())?;
     Ok(())
 }
 

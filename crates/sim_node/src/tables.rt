@@ -1,14 +1,15 @@
-//! The lists of a node, with real client ends.
+//! The lists of a node, with real ends of sessions.
 ghost use Rattle.std.specs.Prelude.{◌≡◌};
 ghost use Rattle.rpc_laws.specs.NodeLists.{new_node};
 
 use rpc_base::{Listed, NodeId};
-use rpc_laws::{Arrival, Queued, Server};
+use rpc_laws::{Arrival, Queued};
 use sim_client::ClientEnd;
+use sim_server::ServerEnd;
 use std::alloc::Global;
 use std::marker::Model;
 
-/// The lists of a node and its clock. Contracts see each client end as the session that it shows.
+/// The lists of a node and its clock. Contracts see each end as the session that it shows.
 #[derive(Drop)]
 pub struct Tables {
     pub me: NodeId,
@@ -21,7 +22,7 @@ pub struct Tables {
     pub ring: Listed<Arrival>,
     pub queued: Listed<Queued>,
     pub clients: Listed<ClientEnd>,
-    pub servers: Listed<Server>,
+    pub servers: Listed<ServerEnd>,
 }
 
 impl Model for Tables {

@@ -1,17 +1,22 @@
-use Rattle.std.proofs.Common.{◌++◌, ℕ, List, subst}
-use Rattle.node_tables.proofs.NotedLemmas.{noted-then, me-noted}
-use Rattle.node_tables.specs.Noted.{Noted}
-use Rattle.rpc_base.specs.declared.fact.Fact.{Fact}
-use Rattle.rpc_laws.specs.declared.tables.Timed.{Timed}
-use Rattle.rpc_laws.specs.ServerTable.{took_facts}
+use Rattle.sim_node.proofs.ServeLemmas.{begun-noted, still}
 use Rattle.sim_node.proofs.serving.begin.Goals as goal
 
--- facts of the node that were told by its number, which no fact changes
-noted-after : (a b c : Timed) (x f g h : List Fact) (y : ℕ → List Fact) → Noted x a b f g → Noted (y b.lists.me) b c g h → Noted (x ++ y a.lists.me) a c f h
-noted-after a b c x f g h y p q =
-    let P : ℕ → Type 0 = λ m. Noted (y m) b c g h in
-    noted-then a b c x _ f g h p (subst P (me-noted a b x f g p) q)
+pub take_packet-requires-clause-place : goal.take_packet-requires-clause-place
+take_packet-requires-clause-place c =
+    let kept = still _ _ c.args.head.now _ _ c.in_ok-flush_older.ensures.noted in rw kept.servers c.requires.place
+
+pub take_packet-requires-clause-there : goal.take_packet-requires-clause-there
+take_packet-requires-clause-there c =
+    let kept = still _ _ c.args.head.now _ _ c.in_ok-flush_older.ensures.noted in rw kept.servers c.requires.there
+
+pub take_packet-requires-clause-front : goal.take_packet-requires-clause-front
+take_packet-requires-clause-front c =
+    let kept = still _ _ c.args.head.now _ _ c.in_ok-flush_older.ensures.noted in rw kept.ring c.requires.front
+
+pub take_packet-requires-clause-front_body : goal.take_packet-requires-clause-front_body
+take_packet-requires-clause-front_body c =
+    let kept = still _ _ c.args.head.now _ _ c.in_ok-flush_older.ensures.noted in rw kept.ring c.requires.front_body
 
 pub returns-clause-noted : goal.returns-clause-noted
 returns-clause-noted c =
-    noted-after _ _ _ _ _ _ _ (λ m. took_facts m c.args.head.now c.args.body.now) c.in_ok-flush_older.ensures.noted c.in_ok-take_packet.ensures.noted
+    begun-noted _ _ _ _ _ _ _ _ _ c.requires.row c.in_ok-flush_older.ensures.noted c.in_ok-take_packet.ensures.noted

@@ -1,9 +1,0 @@
-use Rattle.std.proofs.Common.{sym, refl}
-use Rattle.rpc_base.proofs.TablesLemmas.{find-found, find-missing}
-use Rattle.sim_node.proofs.server_table.row_of_request.Goals as goal
-
-pub returns-in-None : goal.returns-in-None
-returns-in-None c = rw (find-missing _ _ (sym c.in-None.ensures)) refl
-
-pub returns-in-Some : goal.returns-in-Some
-returns-in-Some c = rw (find-found _ _ _ (sym c.in-Some.ensures), c.at.ensures) c.row_at_server.ensures
