@@ -1,5 +1,6 @@
 //! The worked rows: each script of the folder is run in memory, and its report compared with what stands
-//! beside it, a whole report or lines that come in this order, each as often as it stands there.
+//! beside it, a whole report, lines that come in this order, each as often as it stands there, or counts of
+//! lines.
 #![tactic(auto)]
 
 use rpc_outside::{MemSink, MemSource};
@@ -24,8 +25,11 @@ const LINES: [&str; 9] = [
     "overflow_by_a_repeat",
 ];
 
+/// The cases with counts of lines: a number, how the lines begin, and what each has in it.
+const COUNTS: [&str; 1] = ["largest_message"];
+
 /// More bytes than the report of a case has.
-const ROOM: u32 = 1 << 20;
+const ROOM: u32 = 1 << 25;
 
 // The report of a script; an error where the run did not end well.
 fn report_of(alloc: Global, script: Vec<u8>) -> io::Result<String> {
@@ -63,6 +67,27 @@ fn has_lines(report: &str, wanted: &str) -> bool {
     true
 }
 
+// How many lines of a report begin so and have this text in them.
+fn count_of_parts(text: &str, front: &str, part: &str) -> usize {
+    text.lines()
+        .filter(|line| line.starts_with(front) && line.contains(part))
+        .count()
+}
+
+// Whether as many lines of the report as a line of counts tells begin and go on as it says.
+fn has_count(report: &str, wanted: &str) -> bool {
+    let Some((number, shape)) = wanted.split_once(": ") else {
+        return false;
+    };
+    let Some((front, part)) = shape.split_once(" .. ") else {
+        return false;
+    };
+    match number.parse::<usize>() {
+        Ok(count) => count_of_parts(report, front, part) == count,
+        Err(_) => false,
+    }
+}
+
 fn run_case(rt: &(impl Files + AllocGlobal), name: &str) -> io::Result<String> {
     let script = format!(in rt.alloc(); "{name}.script")?;
     report_of(rt.alloc(), fs::read(rt, script.as_str())?)
@@ -82,6 +107,18 @@ fn is_in_order(rt: &(impl Files + AllocGlobal), name: &str) -> io::Result<bool> 
     Ok(has_lines(report.as_str(), wanted.as_str()))
 }
 
+fn is_counted(rt: &(impl Files + AllocGlobal), name: &str) -> io::Result<bool> {
+    let report = run_case(rt, name)?;
+    let path = format!(in rt.alloc(); "{name}.counts")?;
+    let wanted = fs::read_to_string(rt, path.as_str())?;
+    Ok(
+        wanted
+            .as_str()
+            .lines()
+            .all(|line| has_count(report.as_str(), line)),
+    )
+}
+
 fn tell(rt: &impl Print, name: &str, outcome: io::Result<bool>) -> io::Result<()> {
     match outcome {
         Ok(true) => println!(rt; "{name}: as expected"),
@@ -97,5 +134,8 @@ fn main(rt: HostRuntime) -> io::Result<()> {
     for name in LINES {
         tell(&rt, name, is_in_order(&rt, name))?;
     }
-    println!(rt; "{} cases", WHOLE.len() + LINES.len())
+    for name in COUNTS {
+        tell(&rt, name, is_counted(&rt, name))?;
+    }
+    println!(rt; "{} cases", WHOLE.len() + LINES.len() + COUNTS.len())
 }
