@@ -1,5 +1,5 @@
 -- What the rules alone say of a fact of a node, by the node's lists before it.
-use Rattle.std.proofs.Common.{◌≡◌, ◌<◌, ◌≤◌, ℕ, true, false, List, [], ◌∷◌, length, Option, Some, None, slice_get}
+use Rattle.std.proofs.Common.{◌≡◌, ◌<◌, ◌≤◌, ◌⊎◌, ℕ, true, false, List, [], ◌∷◌, length, Option, Some, None, slice_get}
 use Rattle.std.specs.List.{find, list_any}
 use Rattle.packet_header.specs.Header.{HasHead, InRange}
 use Rattle.packet_header.specs.Parts.{packet_count}
@@ -7,7 +7,7 @@ use Rattle.packet_header.specs.declared.packet.Kind.{Kind}
 use Rattle.packet_header.specs.declared.packet.Kind.TheVariants.{Request, Rfr, Cr, Response}
 use Rattle.packet_header.specs.declared.packet.MessageHeader.{MessageHeader}
 use Rattle.rpc_base.specs.declared.event.Event.{Event}
-use Rattle.rpc_base.specs.declared.event.Event.TheVariants.{Made, PairedClient, PairedServer, Asked, Begun, Posted, Sent, Arrived, Took, Ran, DoneOk, DoneTooSmall}
+use Rattle.rpc_base.specs.declared.event.Event.TheVariants.{Made, PairedClient, PairedServer, Asked, Begun, Posted, Sent, Arrived, Took, Given, Ran, DoneOk, DoneTooSmall}
 use Rattle.rpc_base.specs.declared.fact.Fact.{Fact}
 use Rattle.rpc_base.specs.declared.fact.Who.TheVariants.{Node}
 use Rattle.rpc_base.specs.declared.owner.Owner.{Owner}
@@ -16,6 +16,7 @@ use Rattle.rpc_laws.specs.declared.tables.Arrival.{Arrival}
 use Rattle.rpc_laws.specs.declared.tables.Call.{Call}
 use Rattle.rpc_laws.specs.declared.tables.Client.{Client}
 use Rattle.rpc_laws.specs.declared.tables.InFlight.{InFlight}
+use Rattle.rpc_laws.specs.declared.tables.Job.{Job}
 use Rattle.rpc_laws.specs.declared.tables.Lists.{Lists}
 use Rattle.rpc_laws.specs.declared.tables.Outgoing.{Outgoing}
 use Rattle.rpc_laws.specs.declared.tables.Progress.{Progress}
@@ -29,7 +30,7 @@ use Rattle.rpc_laws.specs.Packets.{outgoing}
 use Rattle.rpc_laws.specs.Posting.{next_turn}
 use Rattle.rpc_laws.specs.Requests.{is_server, is_request, in_slot_of}
 use Rattle.rpc_laws.specs.ServerTable.{is_past_end}
-use Rattle.rpc_laws.specs.Service.{answer_to}
+use Rattle.rpc_laws.specs.Service.{is_background, answer_with}
 use Rattle.rpc_laws.specs.Sessions.{is_client}
 
 -- the oldest waiting call of a session begins with the next number of its slot
@@ -86,7 +87,7 @@ GoesOn Response q h = ⊥
 
 -- a packet that is taken: the first of a request, or the next one of the newest
 abbrev pub TakesOf : Option Served → List Served → MessageHeader → Type 0
-TakesOf None slots h = (h.kind ≡ Request) × (h.number ≡ 0) × (list_any (is_request h.request) slots ≡ false) × ((q : Served) → find (in_slot_of h.request) slots ≡ Some q → q.number < h.request)
+TakesOf None slots h = (h.kind ≡ Request) × (h.number ≡ 0) × (list_any (is_request h.request) slots ≡ false) × ((q : Served) → find (in_slot_of h.request) slots ≡ Some q → (q.number < h.request) × (q.working ≡ false))
 TakesOf (Some q) slots h = (find (is_request h.request) slots ≡ Some q) × (h.number ≡ q.taken) × GoesOn h.kind q h
 
 -- the front of the ring is the packet that a server session wants next
@@ -112,16 +113,41 @@ pub record WasTaken (l : Lists) (session r k : ℕ) : Type 0 where
   pub number : request.number ≡ r
   pub was_taken : k < request.taken
 
--- a request runs when its last packet was taken
-pub record MayRun (l : Lists) (session r req_type : ℕ) (ask answer : List ℕ) : Type 0 where
+-- a request stands whole, with no answer, and no worker has it
+pub record IsWhole (l : Lists) (session r : ℕ) : Type 0 where
   pub server : Server
   pub found : find (is_server session) l.servers ≡ Some server
   pub request : Served
   pub is_there : find (is_request r) server.slots ≡ Some request
-  pub of_type : req_type ≡ request.req_type
-  pub own : ask ≡ request.ask
   pub whole : request.taken ≡ packet_count request.size
-  pub right : answer ≡ answer_to req_type ask
+  pub unanswered : request.answer ≡ None
+  pub idle : request.working ≡ false
+
+-- a request becomes a job when its last packet was taken and its type is Background
+pub record MayGive (l : Lists) (session r : ℕ) : Type 0 where
+  pub has : IsWhole l session r
+  pub background : is_background has.request.req_type ≡ true
+
+-- it runs then where its type is another
+pub record MayServe (l : Lists) (session r req_type : ℕ) (ask : List ℕ) : Type 0 where
+  pub has : IsWhole l session r
+  pub of_type : req_type ≡ has.request.req_type
+  pub own : ask ≡ has.request.ask
+  pub inline : is_background req_type ≡ false
+
+-- a job runs when it is the first of those that were worked
+pub record MayFinish (l : Lists) (session r req_type : ℕ) (ask : List ℕ) : Type 0 where
+  pub job : Job
+  pub is_front : slice_get l.jobs.worked 0 ≡ Some job
+  pub of_session : session ≡ job.session
+  pub of_request : r ≡ job.request
+  pub of_type : req_type ≡ job.req_type
+  pub own : ask ≡ job.ask
+
+-- the answer of a run is the service's
+pub record MayRun (l : Lists) (session r req_type : ℕ) (ask answer : List ℕ) : Type 0 where
+  pub source : MayServe l session r req_type ask ⊎ MayFinish l session r req_type ask
+  pub right : answer ≡ answer_with l.total req_type ask
 
 -- a call whose answer's size is known
 pub record HasSize (l : Lists) (c size : ℕ) (call : Call) (progress : Progress) : Type 0 where
@@ -171,6 +197,7 @@ May hand l (Posted owner k) first second = MayPost l owner k
 May hand l (Sent peer owner k) first second = MaySend l peer owner k first second
 May hand l (Arrived peer) first second = hand ≡ Some (record { from = peer; to = l.me; bytes = first })
 May hand l (Took owner k) first second = MayTake l owner k
+May hand l (Given t r) first second = MayGive l t r
 May hand l (Ran t r req_type) first second = MayRun l t r req_type first second
 May hand l (DoneOk c) first second = MayEnd l c first
 May hand l (DoneTooSmall c size) first second = MayFail l c size

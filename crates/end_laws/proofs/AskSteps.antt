@@ -1,6 +1,6 @@
 -- Handling a Request or an RFR notes only what is allowed.
-use Rattle.std.proofs.Common.{◌≡◌, ◌+◌, ◌==◌, ◌&&◌, ℕ, Bool, true, false, not, cond, List, [], ◌∷◌, ◌++◌, Option, Some, None, refl, sym, ap, ◌∙◌, arith}
-use Rattle.std.specs.List.{find, list_any}
+use Rattle.std.proofs.Common.{◌≡◌, ◌<◌, ◌+◌, ◌==◌, ◌&&◌, inl, ℕ, Bool, true, false, not, cond, List, [], ◌∷◌, ◌++◌, Option, Some, None, refl, sym, ap, ◌∙◌, arith}
+use Rattle.std.specs.List.{find, list_any, AllByRecursion}
 use Rattle.std.proofs.lemmas.Bool.{eqb-true}
 use Rattle.std.proofs.Common.{eq-eqb}
 use Rattle.packet_header.specs.Parts.{packet_count}
@@ -8,7 +8,7 @@ use Rattle.packet_header.specs.declared.packet.Kind.{Kind}
 use Rattle.packet_header.specs.declared.packet.Kind.TheVariants.{Request, Rfr, Cr, Response}
 use Rattle.packet_header.specs.declared.packet.MessageHeader.{MessageHeader}
 use Rattle.rpc_base.specs.Tables.{at_first, without_first}
-use Rattle.rpc_base.specs.declared.event.Event.TheVariants.{Posted, Took, Ran}
+use Rattle.rpc_base.specs.declared.event.Event.TheVariants.{Posted, Took, Given, Ran}
 use Rattle.rpc_base.specs.declared.fact.Fact.{Fact}
 use Rattle.rpc_base.specs.declared.owner.Owner.TheVariants.{Reply}
 use Rattle.rpc_base.proofs.TakingLemmas.{find-passes}
@@ -22,10 +22,11 @@ use Rattle.rpc_laws.specs.Front.{front_header, front_body}
 use Rattle.rpc_laws.specs.NodeLists.{after}
 use Rattle.rpc_laws.specs.Requests.{is_server, is_request, in_slot_of, first_packet, next_packet, took_packet, answered}
 use Rattle.rpc_laws.specs.ServerTable.{is_rfr, joined, is_last, took_facts}
-use Rattle.rpc_laws.specs.Service.{answer_to}
-use Rattle.end_laws.proofs.Allowed.{Fronts, GoesOn, TakesOf, Walks}
-use Rattle.end_laws.proofs.ListLemmas.{false-true, find-first}
-use Rattle.end_laws.proofs.SlotLemmas.{Apart, apart-without, apart-took, apart-answered, find-added, find-any, any-find, none-without, slot-of-request}
+use Rattle.rpc_laws.specs.Service.{is_background, answer_with}
+use Rattle.end_laws.proofs.Allowed.{Fronts, GoesOn, TakesOf, IsWhole, Walks}
+use Rattle.end_laws.proofs.ListLemmas.{false-true, find-first, all-found}
+use Rattle.end_laws.proofs.Rights.{SlotRight, Readable, front-right, asked-open}
+use Rattle.end_laws.proofs.SlotLemmas.{with_slots, Apart, apart-without, apart-took, apart-answered, find-added, find-any, any-find, none-without, slot-of-request}
 
 -- a request as its newest packet leaves it
 pub record NewSlot (slots : List Served) (h : MessageHeader) (ask : List ℕ) : Type 0 where
@@ -34,7 +35,12 @@ pub record NewSlot (slots : List Served) (h : MessageHeader) (ask : List ℕ) : 
   pub number : request.number ≡ h.request
   pub taken : request.taken ≡ h.number + 1
   pub own : request.ask ≡ ask
-  pub of_kind : h.kind ≡ Request → (request.req_type ≡ h.req_type) × (request.size ≡ h.size)
+
+-- where that is a part of it, the request has no answer, and no worker has it
+pub record OpenSlot (slots : List Served) (h : MessageHeader) (ask : List ℕ) : Type 0 where
+  pub slot : NewSlot slots h ask
+  pub of_kind : h.kind ≡ Request → (slot.request.req_type ≡ h.req_type) × (slot.request.size ≡ h.size)
+  pub is_open : h.kind ≡ Request → (slot.request.answer ≡ None) × (slot.request.working ≡ false)
 
 self-eqb : (n : ℕ) → (n == n) ≡ true
 self-eqb n = eq-eqb n n refl
@@ -51,19 +57,38 @@ kept-goes Rfr q h g e = cc
 kept-goes Cr q h g e = absurd g
 kept-goes Response q h g e = absurd g
 
-pub took-slot : (going : Option Served) (slots : List Served) (h : MessageHeader) (body : List ℕ) → Apart slots → TakesOf going slots h → NewSlot (took_packet h.request (Some h) body slots) h (joined going body)
-took-slot None slots h body a t =
+-- the parts of a request come before its answer
+part-open : (k : Kind) (q : Served) (h : MessageHeader) → GoesOn k q h → k ≡ Request → h.number ≡ q.taken → h.number < packet_count h.size → SlotRight q → (q.answer ≡ None) × (q.working ≡ false)
+part-open Request q h g e n low s =
+    let size : packet_count h.size ≡ packet_count q.size = ap packet_count g.1 in
+    let lt : q.taken < packet_count q.size = omega arith in
+    asked-open q lt s
+part-open Rfr q h g e n low s = cc
+part-open Cr q h g e n low s = absurd g
+part-open Response q h g e n low s = absurd g
+
+pub took-slot : (going : Option Served) (slots : List Served) (h : MessageHeader) (body : List ℕ) → Apart slots → AllByRecursion SlotRight slots → Readable h body → TakesOf going slots h → OpenSlot (took_packet h.request (Some h) body slots) h (joined going body)
+took-slot None slots h body a right f t =
     let r = h.request in
     let none = none-without r slots a in
     let none_of : list_any (is_request r) (without_first (in_slot_of r) slots) ≡ false = none-of-number r (without_first (in_slot_of r) slots) _ refl none (apart-without (in_slot_of r) slots a) in
     let found : find (is_request r) (without_first (in_slot_of r) slots ++ first_packet r h body ∷ []) ≡ Some (first_packet r h body) = find-added (is_request r) (without_first (in_slot_of r) slots) (first_packet r h body) none_of (self-eqb r) in
     let none_before : list_any (is_request r) slots ≡ false = t.2 in
-    rw none_before (record { request = first_packet r h body; is_there = found; number = refl; taken = ap (λ n. n + 1) (sym t.1); own = refl; of_kind = λ e. (refl, refl) })
-took-slot (Some q) slots h body a t =
+    rw none_before (record {
+      slot = record { request = first_packet r h body; is_there = found; number = refl; taken = ap (λ n. n + 1) (sym t.1); own = refl };
+      of_kind = λ e. (refl, refl);
+      is_open = λ e. (refl, refl);
+    })
+took-slot (Some q) slots h body a right f t =
     let r = h.request in
     let any : list_any (is_request r) slots ≡ true = any-find (is_request r) slots q t.0 in
     let passes : is_request r q ≡ true = find-passes (is_request r) slots q t.0 in
-    rw any (record { request = next_packet body q; is_there = find-first (is_request r) (next_packet body) slots q t.0 passes; number = eqb-true q.number r passes; taken = ap (λ n. n + 1) (sym t.1); own = refl; of_kind = kept-goes h.kind q h t.2 })
+    let here : SlotRight q = all-found SlotRight (is_request r) slots q right t.0 in
+    rw any (record {
+      slot = record { request = next_packet body q; is_there = find-first (is_request r) (next_packet body) slots q t.0 passes; number = eqb-true q.number r passes; taken = ap (λ n. n + 1) (sym t.1); own = refl };
+      of_kind = kept-goes h.kind q h t.2;
+      is_open = λ e. part-open h.kind q h t.2 e t.1 (f.low e) here;
+    })
 
 -- what is known where a packet is taken
 pub record Taking (l : Lists) (front : Arrival) (h : MessageHeader) (v : Server) (going : Option Served) : Type 0 where
@@ -72,12 +97,9 @@ pub record Taking (l : Lists) (front : Arrival) (h : MessageHeader) (v : Server)
   pub of_peer : front.peer ≡ v.way.peer
   pub takes : TakesOf going v.slots h
   pub apart : Apart v.slots
+  pub right : AllByRecursion SlotRight v.slots
 
--- a server session with other requests
-abbrev pub with_slots : (List Served → List Served) → Server → Server
-with_slots change v = record v { slots = change v.slots }
-
-slots-found : (change : List Served → List Served) (t : ℕ) (xs : List Server) (v : Server) → find (is_server t) xs ≡ Some v → find (is_server t) (at_first (is_server t) (with_slots change) xs) ≡ Some (with_slots change v)
+pub slots-found : (change : List Served → List Served) (t : ℕ) (xs : List Server) (v : Server) → find (is_server t) xs ≡ Some v → find (is_server t) (at_first (is_server t) (with_slots change) xs) ≡ Some (with_slots change v)
 slots-found change t xs v h = find-first (is_server t) (with_slots change) xs v h (find-passes (is_server t) xs v h)
 
 -- the packet that answers it is posted
@@ -97,35 +119,47 @@ posts-walk hand clock l h v ask found apart n = (
   tt,
 )
 
--- where it was the last of its request, the handler runs before
-abbrev run_facts : Bool → ℕ → MessageHeader → List ℕ → List Fact
-run_facts last me h ask =
-    cond last (with_two me (Ran h.session h.request h.req_type) ask (answer_to h.req_type ask) ∷ []) [] ++ plain me (Posted (Reply h.session h.request) h.number) ∷ []
+-- the last packet of a request whose type is Background gives a job; where it is another the handler runs
+abbrev bring_facts : (last background : Bool) → ℕ → ℕ → MessageHeader → List ℕ → List Fact
+bring_facts last background me total h ask =
+    cond (last && background) (plain me (Given h.session h.request) ∷ []) (cond last (with_two me (Ran h.session h.request h.req_type) ask (answer_with total h.req_type ask) ∷ []) [] ++ plain me (Posted (Reply h.session h.request) h.number) ∷ [])
 
-runs-walk : (hand : Option InFlight) (clock : ℕ) (l : Lists) (h : MessageHeader) (v : Server) (ask : List ℕ) (last : Bool) → find (is_server h.session) l.servers ≡ Some v → Apart v.slots → NewSlot v.slots h ask → (last ≡ true → (h.kind ≡ Request) × (h.number + 1 ≡ packet_count h.size)) → Walks hand clock l (run_facts last l.me h ask)
-runs-walk hand clock l h v ask false found apart n ends = posts-walk hand clock l h v ask found apart n
-runs-walk hand clock l h v ask true found apart n ends =
+is-whole : (l : Lists) (h : MessageHeader) (v : Server) (ask : List ℕ) → find (is_server h.session) l.servers ≡ Some v → (n : OpenSlot v.slots h ask) → h.kind ≡ Request → h.number + 1 ≡ packet_count h.size → IsWhole l h.session h.request
+is-whole l h v ask found n kind last =
+    let opens = n.is_open kind in
+    record {
+      server = v;
+      found = found;
+      request = n.slot.request;
+      is_there = n.slot.is_there;
+      whole = n.slot.taken ∙ (last ∙ ap packet_count (sym (n.of_kind kind).1));
+      unanswered = opens.0;
+      idle = opens.1;
+    }
+
+brings-walk : (hand : Option InFlight) (clock : ℕ) (l : Lists) (h : MessageHeader) (v : Server) (ask : List ℕ) (last background : Bool) → is_background h.req_type ≡ background → find (is_server h.session) l.servers ≡ Some v → Apart v.slots → OpenSlot v.slots h ask → (last ≡ true → (h.kind ≡ Request) × (h.number + 1 ≡ packet_count h.size)) → Walks hand clock l (bring_facts last background l.me l.total h ask)
+unfolding is-whole
+brings-walk hand clock l h v ask false background t found apart n ends = posts-walk hand clock l h v ask found apart n.slot
+brings-walk hand clock l h v ask true true t found apart n ends =
     let e = ends refl in
-    let same = n.of_kind e.0 in
-    let answer = answer_to h.req_type ask in
+    let mode : is_background n.slot.request.req_type ≡ true = ap is_background (n.of_kind e.0).0 ∙ t in
+    (record { who = refl; may = record { has = is-whole l h v ask found n e.0 e.1; background = mode } }, tt)
+brings-walk hand clock l h v ask true false t found apart n ends =
+    let e = ends refl in
+    let answer = answer_with l.total h.req_type ask in
     let f : Fact = with_two l.me (Ran h.session h.request h.req_type) ask answer in
+    let q = n.slot.request in
     let after_it : find (is_server h.session) (after clock l f).servers ≡ Some (with_slots (at_first (is_request h.request) (answered answer)) v) = slots-found (at_first (is_request h.request) (answered answer)) h.session l.servers v found in
-    let there : find (is_request h.request) (at_first (is_request h.request) (answered answer) v.slots) ≡ Some (answered answer n.request) = find-first (is_request h.request) (answered answer) v.slots n.request n.is_there (find-passes (is_request h.request) v.slots n.request n.is_there) in (
+    let there : find (is_request h.request) (at_first (is_request h.request) (answered answer) v.slots) ≡ Some (answered answer q) = find-first (is_request h.request) (answered answer) v.slots q n.slot.is_there (find-passes (is_request h.request) v.slots q n.slot.is_there) in (
       record {
         who = refl;
         may = record {
-          server = v;
-          found = found;
-          request = n.request;
-          is_there = n.is_there;
-          of_type = sym same.0;
-          own = sym n.own;
-          whole = n.taken ∙ (e.1 ∙ ap packet_count (sym same.1));
+          source = inl (record { has = is-whole l h v ask found n e.0 e.1; of_type = sym (n.of_kind e.0).0; own = sym n.slot.own; inline = t });
           right = refl;
         };
       },
       posts-walk hand clock (after clock l f) h (with_slots (at_first (is_request h.request) (answered answer)) v) ask after_it (apart-answered h.request answer v.slots apart)
-          (record { request = answered answer n.request; is_there = there; number = n.number; taken = n.taken; own = n.own; of_kind = n.of_kind }),
+          (record { request = answered answer q; is_there = there; number = n.slot.number; taken = n.slot.taken; own = n.slot.own }),
     )
 
 is-last : (h : MessageHeader) (k : Kind) (q : Served) → GoesOn k q h → (not (is_rfr k) && (h.number + 1 == packet_count h.size)) ≡ true → (k ≡ Request) × (h.number + 1 ≡ packet_count h.size)
@@ -145,13 +179,13 @@ taken-last None slots h t e = (t.0, last-first h h.kind t.0 e)
 taken-last (Some q) slots h t e = is-last h h.kind q t.2 e
 
 -- a packet is taken
-pub took-walk : (hand : Option InFlight) (clock : ℕ) (l : Lists) (front : Arrival) (h : MessageHeader) (v : Server) (going : Option Served) → Taking l front h v going → Walks hand clock l (took_facts l.me h (joined going (front_body l.ring)))
+pub took-walk : (hand : Option InFlight) (clock : ℕ) (l : Lists) (front : Arrival) (h : MessageHeader) (v : Server) (going : Option Served) → Taking l front h v going → Walks hand clock l (took_facts l.me l.total h (joined going (front_body l.ring)))
 took-walk hand clock l front h v going t =
     let f : Fact = plain l.me (Took (Reply h.session h.request) h.number) in
     let change = took_packet h.request (front_header l.ring) (front_body l.ring) in
     let after_it : find (is_server h.session) (after clock l f).servers ≡ Some (with_slots change v) = slots-found change h.session l.servers v t.found in
-    let slot : NewSlot (took_packet h.request (Some h) (front_body l.ring) v.slots) h (joined going (front_body l.ring)) = took-slot going v.slots h (front_body l.ring) t.apart t.takes in
-    let new : NewSlot (took_packet h.request (front_header l.ring) (front_body l.ring) v.slots) h (joined going (front_body l.ring)) = rw (t.is_front.reads) slot in (
+    let slot : OpenSlot (took_packet h.request (Some h) (front_body l.ring) v.slots) h (joined going (front_body l.ring)) = took-slot going v.slots h (front_body l.ring) t.apart t.right (front-right l h t.is_front.reads) t.takes in
+    let new : OpenSlot (took_packet h.request (front_header l.ring) (front_body l.ring) v.slots) h (joined going (front_body l.ring)) = rw (t.is_front.reads) slot in (
       record {
         who = refl;
         may = record {
@@ -168,5 +202,5 @@ took-walk hand clock l front h v going t =
           takes = t.takes;
         };
       },
-      runs-walk hand clock (after clock l f) h (with_slots change v) (joined going (front_body l.ring)) (is_last h) after_it (apart-took h.request (front_header l.ring) (front_body l.ring) v.slots t.apart) new (taken-last going v.slots h t.takes),
+      brings-walk hand clock (after clock l f) h (with_slots change v) (joined going (front_body l.ring)) (is_last h) (is_background h.req_type) refl after_it (apart-took h.request (front_header l.ring) (front_body l.ring) v.slots t.apart) new (taken-last going v.slots h t.takes),
     )

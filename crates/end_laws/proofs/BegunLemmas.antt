@@ -23,7 +23,7 @@ use Rattle.rpc_laws.specs.Sessions.{is_client, has_call, turned, begins, asks}
 use Rattle.end_laws.proofs.Allowed.{MayBegin}
 use Rattle.end_laws.proofs.GoodLemmas.{SameAt, client-more, length-first}
 use Rattle.end_laws.proofs.Known.{Known, Later, Asker, Begin, GoodCall, GoodClient, GoodNode, TrueStart, TrueAsk, IsTrue, added, added-here, added-keeps, added-none, added-case, contains-here, contains-more}
-use Rattle.end_laws.proofs.KnownLemmas.{call-later, server-later, ends-more, start-more, ask-more}
+use Rattle.end_laws.proofs.KnownLemmas.{call-later, server-later, jobs-later, ends-more, start-more, ask-more}
 use Rattle.end_laws.proofs.ListLemmas.{Placed, first-each, set-first, set-placed, length-slice_set, all-first, all-add, all-found}
 use Rattle.end_laws.proofs.SlotLemmas.{find-any}
 
@@ -38,6 +38,7 @@ with_ask k n c s y room ask = record {
   ends = k.ends;
   asks = added k.asks n c 0 (record { session = s; what = asking_of c y room ask });
   starts = k.starts;
+  runs = k.runs;
 }
 
 module _ (k : Known) (n c s y room : ℕ) (ask : List ℕ) where
@@ -59,16 +60,18 @@ module _ (k : Known) (n c s y room : ℕ) (ask : List ℕ) where
     ends = λ i j m x h. h;
     asks = λ i j m x h. added-keeps k.asks n c 0 entry i j m x none h;
     starts = λ i j m x h. h;
+    runs = λ i j m x h. h;
   }
 
   pub ask-same : (j : ℕ) → (j ≡ n → ⊥) → SameAt k knows j
-  ask-same j ne = record { asks = λ d h. added-none k.asks n c 0 entry j d 0 (λ e x z. ne e) h; ends = λ t h. h; starts = λ t r h. h }
+  ask-same j ne = record { asks = λ d h. added-none k.asks n c 0 entry j d 0 (λ e x z. ne e) h; ends = λ t h. h; starts = λ t r h. h; runs = λ t r h. h }
 
   pub true-ask : IsTrue k → IsTrue knows
   true-ask t = record {
     ends = λ i j m x h. ends-more asked_fact k.past x.home x.client i j (t.ends i j m x h);
     asks = added-case k.asks n c 0 entry (TrueAsk (asked_fact ∷ k.past)) (record { number = refl; asked = contains-here asked_fact k.past }) (λ i j m x h. ask-more asked_fact k.past i j m x (t.asks i j m x h));
     starts = λ i j m x h. start-more asked_fact k.past i j m x (t.starts i j m x h);
+    runs = λ i j m x h. contains-more asked_fact _ k.past (t.runs i j m x h);
   }
 
   ask-client : Later k knows → (i : ℕ) (x : Client) → is_client s x ≡ true → GoodClient k n i x → GoodClient knows n i (asks asked_call x)
@@ -88,6 +91,9 @@ module _ (k : Known) (n c s y room : ℕ) (ask : List ℕ) where
         no_asks = λ d le. added-none k.asks n c 0 entry n d 0 (λ x e z. absurd (omega arith)) (g.no_asks d (omega arith));
         no_ends = λ t le. g.no_ends t le;
         no_starts = λ t r le. g.no_starts t r (omega arith);
+        no_runs = λ t r u. g.no_runs t r u;
+        waiting = jobs-later k knows later n l.jobs.waiting g.waiting;
+        worked = jobs-later k knows later n l.jobs.worked g.worked;
       }
 
 -- one slot has had one more turn
@@ -105,7 +111,7 @@ turned-by turns slot other false t lt =
 
 -- a call begins
 abbrev pub with_begin : Known → (n i c r : ℕ) → Begin → Known
-with_begin k n i c r b = record { past = plain n (Begun c r) ∷ k.past; ends = k.ends; asks = k.asks; starts = added k.starts n i r b }
+with_begin k n i c r b = record { past = plain n (Begun c r) ∷ k.past; ends = k.ends; asks = k.asks; starts = added k.starts n i r b; runs = k.runs }
 
 module _ (k : Known) (n c r : ℕ) (l : Lists) (m : MayBegin l c r) (g : GoodNode k n l) where
   abbrev begun_fact : Fact
@@ -144,10 +150,11 @@ module _ (k : Known) (n c r : ℕ) (l : Lists) (m : MayBegin l c r) (g : GoodNod
     ends = λ i j d x h. h;
     asks = λ i j d x h. h;
     starts = λ i j d x h. added-keeps k.starts n m.session r begin i j d x is-new h;
+    runs = λ i j d x h. h;
   }
 
   pub begin-same : (j : ℕ) → (j ≡ n → ⊥) → SameAt k begins_known j
-  begin-same j ne = record { asks = λ d h. h; ends = λ t h. h; starts = λ s q h. added-none k.starts n m.session r begin j s q (λ e x z. ne e) h }
+  begin-same j ne = record { asks = λ d h. h; ends = λ t h. h; starts = λ s q h. added-none k.starts n m.session r begin j s q (λ e x z. ne e) h; runs = λ t q h. h }
 
   pub true-begin : IsTrue k → IsTrue begins_known
   true-begin t =
@@ -166,6 +173,7 @@ module _ (k : Known) (n c r : ℕ) (l : Lists) (m : MayBegin l c r) (g : GoodNod
         ends = λ i j d x h. ends-more begun_fact k.past x.home x.client i j (t.ends i j d x h);
         asks = λ i j d x h. ask-more begun_fact k.past i j d x (t.asks i j d x h);
         starts = added-case k.starts n m.session r begin (TrueStart (begun_fact ∷ k.past)) new (λ i j d x h. start-more begun_fact k.past i j d x (t.starts i j d x h));
+        runs = λ i j d x h. contains-more begun_fact _ k.past (t.runs i j d x h);
       }
 
   -- no other session has the call
@@ -259,4 +267,7 @@ module _ (k : Known) (n c r : ℕ) (l : Lists) (m : MayBegin l c r) (g : GoodNod
         no_asks = λ d le. g.no_asks d le;
         no_ends = λ t le. g.no_ends t le;
         no_starts = λ s q le. added-none k.starts n m.session r begin n s q (λ x e y. absurd (omega arith)) (g.no_starts s q (omega arith));
+        no_runs = λ t q u. g.no_runs t q u;
+        waiting = jobs-later k begins_known later-begin n l.jobs.waiting g.waiting;
+        worked = jobs-later k begins_known later-begin n l.jobs.worked g.worked;
       }

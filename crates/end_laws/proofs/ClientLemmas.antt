@@ -12,7 +12,7 @@ use Rattle.packet_header.proofs.PartsLemmas.{part-front}
 use Rattle.rpc_base.specs.Tables.{at_first}
 use Rattle.rpc_base.proofs.TakingLemmas.{find-passes}
 use Rattle.rpc_base.specs.declared.event.Event.{Event}
-use Rattle.rpc_base.specs.declared.event.Event.TheVariants.{PairedClient, Asked, Begun, Posted, Sent, Took, Rolled, Broken, DoneOk, DoneTooSmall, DonePeerLost}
+use Rattle.rpc_base.specs.declared.event.Event.TheVariants.{PairedClient, Asked, Begun, Posted, Sent, Took, Ran, Rolled, Broken, DoneOk, DoneTooSmall, DonePeerLost}
 use Rattle.rpc_base.specs.declared.owner.Owner.TheVariants.{Ask, Reply, Control}
 use Rattle.rpc_laws.specs.declared.tables.Arrival.{Arrival}
 use Rattle.rpc_laws.specs.declared.tables.Asking.{Asking}
@@ -27,7 +27,7 @@ use Rattle.rpc_laws.specs.ClientTable.{is_cr, is_same_size, is_of_turn}
 use Rattle.rpc_laws.specs.Front.{front_bytes, front_header, front_body}
 use Rattle.rpc_laws.specs.Sessions.{is_client, has_call, posts, sends, takes, rolls, breaks, ends, clients_after}
 use Rattle.end_laws.proofs.Allowed.{Fronts, MayTakeReply, May}
-use Rattle.end_laws.proofs.Known.{Known, HasRun, Says, Speaks, GoodAnswer, GoodProgress, GoodCall, GoodClient, Begin, answer_of}
+use Rattle.end_laws.proofs.Known.{Known, HasRun, Says, Speaks, GoodAnswer, GoodProgress, GoodCall, GoodClient, Begin, Run}
 use Rattle.end_laws.proofs.ListLemmas.{Placed, first-each, find-at, all-first, all-at, all-without}
 
 -- facts that add nothing to the logs
@@ -35,6 +35,7 @@ abbrev pub is_quiet : Event → Bool
 is_quiet (PairedClient s peer t credits) = false
 is_quiet (Asked c s y room) = false
 is_quiet (Begun c r) = false
+is_quiet (Ran t r y) = false
 is_quiet _ = true
 
 -- a change that leaves request, got, answer and parts
@@ -141,17 +142,26 @@ module _ (k : Known) (n : ℕ) where
   joined-parts : (m : ℕ) (q parts body : List ℕ) → parts ≡ take (1024 * m) q → body ≡ part q m → parts ++ body ≡ take (1024 * (m + 1)) q
   joined-parts m q parts body e f = rw (e, f) (part-front q m)
 
-  response-answer : (way : Way) (a : Asking) (request got size : ℕ) (parts body : List ℕ) (answer : Option ℕ) → asked_packets a ≤ got + 1 → HasRun k way.peer way.other request a → size ≡ length (answer_of a) → body ≡ part (answer_of a) (got + 1 - asked_packets a) → GoodAnswer k way a request got parts answer → GoodAnswer k way a request (got + 1) (parts ++ body) (Some size)
-  response-answer way a request got size parts body None le ran sized piece h =
+  -- the answer of a run is one
+  same-answer : (node session request : ℕ) (a : Asking) (one other : List ℕ) → HasRun k node session request a one → HasRun k node session request a other → one ≡ other
+  same-answer node session request a one other h g = run-answer (record { req_type = a.req_type; ask = a.ask; answer = one }) (record { req_type = a.req_type; ask = a.ask; answer = other }) (sym h ∙ g)
+    where
+      run-answer : (x y : Run) → Some x ≡ Some y → x.answer ≡ y.answer
+      run-answer x y e = let same : x ≡ y = cc in ap (λ (z : Run). z.answer) same
+
+  response-answer : (way : Way) (a : Asking) (request got size : ℕ) (parts body whole : List ℕ) (answer : Option ℕ) → asked_packets a ≤ got + 1 → HasRun k way.peer way.other request a whole → size ≡ length whole → body ≡ part whole (got + 1 - asked_packets a) → GoodAnswer k way a request got parts answer → GoodAnswer k way a request (got + 1) (parts ++ body) (Some size)
+  response-answer way a request got size parts body whole None le ran sized piece h =
       let lt = h.1 in
       let first : got + 1 - asked_packets a ≡ 0 = omega arith in
       let next : got + 1 + 1 - asked_packets a ≡ 0 + 1 = omega arith in
-      let none : parts ≡ take (1024 * 0) (answer_of a) = h.0 in
-      let start : body ≡ part (answer_of a) 0 = piece ∙ ap (part (answer_of a)) first in
-      record { ran = ran; sized = sized; reached = le; taken = joined-parts 0 (answer_of a) parts body none start ∙ ap (λ m. take (1024 * m) (answer_of a)) (sym next) }
-  response-answer way a request got size parts body (Some told) le ran sized piece h =
+      let none : parts ≡ take (1024 * 0) whole = h.0 in
+      let start : body ≡ part whole 0 = piece ∙ ap (part whole) first in
+      record { answer = whole; ran = ran; sized = sized; reached = le; taken = joined-parts 0 whole parts body none start ∙ ap (λ m. take (1024 * m) whole) (sym next) }
+  response-answer way a request got size parts body whole (Some told) le ran sized piece h =
       let next : got + 1 + 1 - asked_packets a ≡ (got + 1 - asked_packets a) + 1 = omega arith in
-      record { ran = ran; sized = sized; reached = le; taken = joined-parts (got + 1 - asked_packets a) (answer_of a) parts body h.taken piece ∙ ap (λ m. take (1024 * m) (answer_of a)) (sym next) }
+      let same : h.answer ≡ whole = same-answer way.peer way.other request a h.answer whole h.ran ran in
+      let taken : parts ≡ take (1024 * (got + 1 - asked_packets a)) whole = subst (λ (x : List ℕ). parts ≡ take (1024 * (got + 1 - asked_packets a)) x) same h.taken in
+      record { answer = whole; ran = ran; sized = sized; reached = le; taken = joined-parts (got + 1 - asked_packets a) whole parts body taken piece ∙ ap (λ m. take (1024 * m) whole) (sym next) }
 
   -- the call's progress by a reply, by its kind
   pub record Answering (way : Way) (a : Asking) (p : Progress) (h : MessageHeader) (from : ℕ) (body : List ℕ) : Type 0 where
@@ -188,11 +198,10 @@ module _ (k : Known) (n : ℕ) where
       let mine : k.starts n h.session h.request ≡ Some (record { way = way; what = a }) = rw (← t.session, ← t.request) (t.good.begun) in
       let told = s.begun in
       let same : s.start ≡ record { way = way; what = a } = cc in
-      let run : HasRun k from way.other h.request a = subst (λ (b : Begin). HasRun k from b.way.other h.request b.what) same s.ran in
-      let ran : HasRun k way.peer way.other p.request a = subst (λ (m : ℕ). HasRun k m way.other p.request a) t.peer (subst (λ (r : ℕ). HasRun k from way.other r a) (sym t.request) run) in
-      let sized : h.size ≡ length (answer_of a) = s.size ∙ ap (λ (b : Begin). length (answer_of b.what)) same in
-      let piece : body ≡ part (answer_of a) (p.got + 1 - asked_packets a) = s.piece ∙ (ap (λ (b : Begin). part (answer_of b.what) (h.number + 1 - asked_packets b.what)) same ∙ ap (λ (m : ℕ). part (answer_of a) (m + 1 - asked_packets a)) in_turn) in
-      record { begun = t.good.begun; answer = response-answer way a p.request p.got h.size p.parts body p.answer next ran sized piece t.good.answer }
+      let run : HasRun k from way.other h.request a s.answer = subst (λ (b : Begin). HasRun k from b.way.other h.request b.what s.answer) same s.ran in
+      let ran : HasRun k way.peer way.other p.request a s.answer = subst (λ (m : ℕ). HasRun k m way.other p.request a s.answer) t.peer (subst (λ (r : ℕ). HasRun k from way.other r a s.answer) (sym t.request) run) in
+      let piece : body ≡ part s.answer (p.got + 1 - asked_packets a) = s.piece ∙ (ap (λ (b : Begin). part s.answer (h.number + 1 - asked_packets b.what)) same ∙ ap (λ (m : ℕ). part s.answer (m + 1 - asked_packets a)) in_turn) in
+      record { begun = t.good.begun; answer = response-answer way a p.request p.got h.size p.parts body s.answer p.answer next ran s.size piece t.good.answer }
 
   -- a reply is taken
   takes-some : (clock : ℕ) (head : Option MessageHeader) (body : List ℕ) (way : Way) (c : Call) (p : Progress) (progress : Option Progress) (h : MessageHeader) (from : ℕ) → c.progress ≡ progress → progress ≡ Some p → head ≡ Some h → Answering way c.what p h from body → Says h.kind k from n h body → is_of_turn (asked_packets c.what) c.what.req_type p.answer h (length body) ≡ true → IfSome (option_map (took_reply clock head body) progress) (GoodProgress k n way c.what)

@@ -21,15 +21,19 @@ use Rattle.rpc_laws.specs.InFlight.{flight_after_net}
 use Rattle.rpc_laws.specs.NodeLists.{after, after_all, new_lists, new_node}
 use Rattle.rpc_laws.specs.PollOrder.{Poll}
 use Rattle.rpc_laws.specs.Sessions.{is_client}
-use Rattle.sim_script.specs.FollowsScript.{AtNode as StageNode, Makes, OfNet, or_missed, Carries, Arrives, Ticks, PollsNode, Joins, Times, PollsFirst, Round, Unless, Settles, is_polled}
+use Rattle.rpc_laws.specs.Steps.{Rel}
+use Rattle.rpc_laws.specs.Working.{Works, WorksAll}
+use Rattle.sim_script.specs.FollowsScript.{AtNode as StageNode, Makes, OfNet, or_missed, Carries, Arrives, Ticks, PollsNode, Joins, Times, PollsFirst, WorksFirst, WorksAndPolls, Round, Unless, Settles, is_polled}
 use Rattle.end_laws.specs.Moments.{Moment, moved}
 use Rattle.end_laws.proofs.Allowed.{Walks}
-use Rattle.end_laws.proofs.CallSteps.{asks-fine, delivers-fine}
+use Rattle.end_laws.proofs.CallSteps.{free-walks, asks-fine, delivers-fine}
 use Rattle.end_laws.proofs.Courses.{over, in_net, made}
 use Rattle.end_laws.proofs.Leads.{NodeFits, Fits, Leads, Leading, NodeStep, leads-none, leads-append, step-leads}
 use Rattle.end_laws.proofs.ListLemmas.{Placed, add-placed, add-keeps, add-last}
+use Rattle.end_laws.proofs.QueueLemmas.{RightNode}
 use Rattle.end_laws.proofs.ReplySteps.{poll-fine}
-use Rattle.end_laws.proofs.SlotLemmas.{Sound, sound-stays}
+use Rattle.end_laws.proofs.SendsLaw.{right-stays, right-new}
+use Rattle.end_laws.proofs.WorkSteps.{WorksSo, all-free, work-clock, work-any, work-all}
 
 -- a fact of the network
 pub net-leads : (s : Stage) (w : Moment) (e : Event) (clock : ℕ) (flight : List InFlight) → Fits s w → (moved w (of_net e)).clock ≡ clock → (moved w (of_net e)).flight ≡ flight → s.clock ≤ clock → Leads w (of_net e ∷ []) (record { nodes = s.nodes; flight = flight; clock = clock })
@@ -42,7 +46,7 @@ net-leads s w e clock flight f c g le =
         clock = c;
         flight = g;
         size = f.size;
-        nodes = λ j z is. let k = f.nodes j z is in record { is_node = k.is_node; me = k.me; late = (let late = k.late in omega arith); sound = k.sound };
+        nodes = λ j z is. let k = f.nodes j z is in record { is_node = k.is_node; me = k.me; late = (let late = k.late in omega arith); right = k.right };
       };
     }
 
@@ -79,8 +83,8 @@ made-leads ring s w x t f h =
     let facts : x ≡ plain (length w.nodes) (Made ring) ∷ [] = h.facts ∙ ap (λ n. plain n (Made ring) ∷ []) (sym me) in
     let left : t ≡ record s { nodes = s.nodes ++ new_node (length w.nodes) ring ∷ [] } = h.left ∙ ap (λ n. record s { nodes = s.nodes ++ new_node n ring ∷ [] }) (sym me) in
     let now : List Lists = w.nodes ++ new_lists (length w.nodes) ring ∷ [] in
-    let new : NodeFits s.clock now (length s.nodes) (new_node (length w.nodes) ring) = record { is_node = ap (slice_get now) (sym me) ∙ add-last w.nodes (new_lists (length w.nodes) ring); me = me; late = omega arith; sound = tt } in
-    let nodes : Placed (NodeFits s.clock now) (s.nodes ++ new_node (length w.nodes) ring ∷ []) = add-placed (NodeFits s.clock now) s.nodes (new_node (length w.nodes) ring) new (λ j z is. let k = f.nodes j z is in record { is_node = add-keeps w.nodes _ j z.lists k.is_node; me = k.me; late = k.late; sound = k.sound }) in
+    let new : NodeFits s.clock now (length s.nodes) (new_node (length w.nodes) ring) = record { is_node = ap (slice_get now) (sym me) ∙ add-last w.nodes (new_lists (length w.nodes) ring); me = me; late = omega arith; right = right-new (length w.nodes) ring } in
+    let nodes : Placed (NodeFits s.clock now) (s.nodes ++ new_node (length w.nodes) ring ∷ []) = add-placed (NodeFits s.clock now) s.nodes (new_node (length w.nodes) ring) new (λ j z is. let k = f.nodes j z is in record { is_node = add-keeps w.nodes _ j z.lists k.is_node; me = k.me; late = k.late; right = k.right }) in
     rw (facts, left) (record {
       end = u;
       course = made w ring [] u (over u);
@@ -118,7 +122,7 @@ one-after c d l x f e h = rw e h
 pub call-leads : (n session req_type : ℕ) (ask : List ℕ) (room : ℕ) → Leading (StageNode (Asks session req_type ask room) n)
 call-leads n session req_type ask room s w x t f h =
     let fit = f.nodes n h.before h.is_node in
-    let k = asks-fine Sound sound-stays w.hand session req_type ask room h.before x h.now fit.sound h.step in
+    let k = asks-fine RightNode right-stays w.hand session req_type ask room h.before x h.now fit.right h.step in
     let same = one-after h.before.clock s.clock h.before.lists x (ask_fact session req_type room ask h.before.lists) h.step.facts (fact-clock (nat_lt 1048576 (length ask)) h.before.clock s.clock session req_type room ask h.before.lists (state_of (find (is_client session) h.before.lists.clients))) in
     let late = fit.late in
     let clock = k.clock in
@@ -127,10 +131,31 @@ call-leads n session req_type ask room s w x t f h =
       walks = one-walk w.hand h.before.clock s.clock h.before.lists x _ h.step.facts k.walks;
       lists = k.lists ∙ same;
       late = omega arith;
-      sound = k.inv;
+      right = k.inv;
     }) h.left
 
-poll-step : (s : Stage) (w : Moment) (n : ℕ) (before now : Timed) (x : List Fact) → slice_get s.nodes n ≡ Some before → Sound before.lists → Poll usual_timeout s.clock before x now → max before.clock s.clock ≡ s.clock → NodeStep s w n before now x
+-- jobs are worked, at whatever clock
+work-step : (P : Rel) (s : Stage) (w : Moment) (n : ℕ) → ((u : Timed) (x : List Fact) (t : Timed) → RightNode u.lists → P u x t → WorksSo w.hand u x t) → (x : List Fact) (t : Stage) → Fits s w → StageNode P n s x t → Leads w x t
+work-step P s w n works x t f h =
+    let fit = f.nodes n h.before h.is_node in
+    let k = works h.before x h.now fit.right h.step in
+    let late = fit.late in
+    let clock = k.walked.clock in
+    step-leads s w n h.before h.now x t f (record {
+      is_node = h.is_node;
+      walks = free-walks w.hand s.clock h.before.lists x (all-free h.before.lists.me x k.all);
+      lists = k.walked.lists ∙ work-clock h.before.lists.me h.before.clock s.clock h.before.lists x k.all;
+      late = omega arith;
+      right = k.walked.inv;
+    }) h.left
+
+pub work-leads : (n i : ℕ) → Leading (StageNode (Works i) n)
+work-leads n i s w x t f h = work-step (Works i) s w n (work-any w.hand i) x t f h
+
+works-lead : (n : ℕ) → Leading (StageNode WorksAll n)
+works-lead n s w x t f h = work-step WorksAll s w n (work-all w.hand) x t f h
+
+poll-step : (s : Stage) (w : Moment) (n : ℕ) (before now : Timed) (x : List Fact) → slice_get s.nodes n ≡ Some before → RightNode before.lists → Poll usual_timeout s.clock before x now → max before.clock s.clock ≡ s.clock → NodeStep s w n before now x
 poll-step s w n before now x is sound p m =
     let k = poll-fine w.hand usual_timeout (record { lists = before.lists; clock = max before.clock s.clock }) x now sound p in
     let at = k.clock in
@@ -139,7 +164,7 @@ poll-step s w n before now x is sound p m =
       walks = subst (λ (c : ℕ). Walks w.hand c before.lists x) m k.walks;
       lists = k.lists ∙ ap (λ (c : ℕ). after_all c before.lists x) m;
       late = omega arith;
-      sound = k.inv;
+      right = k.inv;
     }
 
 pub poll-leads : (n : ℕ) → Leading (PollsNode n)
@@ -147,7 +172,7 @@ poll-leads n s w x t f h =
     let fit = f.nodes n h.before h.is_node in
     let late = fit.late in
     let m : max h.before.clock s.clock ≡ s.clock = omega arith in
-    step-leads s w n h.before h.now x t f (poll-step s w n h.before h.now x h.is_node fit.sound h.step m) h.left
+    step-leads s w n h.before h.now x t f (poll-step s w n h.before h.now x h.is_node fit.right h.step m) h.left
 
 -- a copy is carried to its node
 carry-net : (s : Stage) (w : Moment) (i : ℕ) → Fits s w → Fits (record s { flight = remove s.flight i }) (moved w (of_net (Carried i)))
@@ -155,7 +180,7 @@ carry-net s w i f = record {
   clock = f.clock;
   flight = ap (λ (c : List InFlight). remove c i) f.flight;
   size = f.size;
-  nodes = λ j z is. let k = f.nodes j z is in record { is_node = k.is_node; me = k.me; late = k.late; sound = k.sound };
+  nodes = λ j z is. let k = f.nodes j z is in record { is_node = k.is_node; me = k.me; late = k.late; right = k.right };
 }
 
 pub carry-leads : (i : ℕ) → Leading (Carries i)
@@ -167,7 +192,7 @@ carry-leads i s w x t f h =
     let fit = g.nodes copy.to a.before a.is_node in
     let hand : Option InFlight = Some (record { from = copy.from; to = a.before.lists.me; bytes = copy.bytes }) in
     let is_hand : u.hand ≡ hand = ap (λ (c : List InFlight). slice_get c i) f.flight ∙ (h.is_copy ∙ ap (λ (n : ℕ). Some (record { from = copy.from; to = n; bytes = copy.bytes })) (sym fit.me)) in
-    let k = delivers-fine Sound sound-stays copy.from copy.bytes a.before h.delivered a.now fit.sound a.step in
+    let k = delivers-fine RightNode right-stays copy.from copy.bytes a.before h.delivered a.now fit.right a.step in
     let same = one-after a.before.clock s.clock a.before.lists h.delivered _ a.step.facts (delivery-clock (is_none (message_of copy.bytes)) (nat_lt (length a.before.lists.ring) a.before.lists.room) a.before.clock s.clock copy.from copy.bytes a.before.lists) in
     let late = fit.late in
     let clock = k.clock in
@@ -177,7 +202,7 @@ carry-leads i s w x t f h =
       walks = walks;
       lists = k.lists ∙ same;
       late = omega arith;
-      sound = k.inv;
+      right = k.inv;
     }) a.left in
     rw h.facts (record { end = l.end; course = in_net w (of_net (Carried i)) h.delivered l.end refl l.course; fits = l.fits })
 
@@ -202,9 +227,16 @@ polls-lead : (n : ℕ) → Leading (PollsFirst n)
 polls-lead zero s w x t f h = leads-none s t w x f h.0 h.1
 polls-lead (suc n) s w x t f h = joins-lead (PollsFirst n) (PollsNode n) (polls-lead n) (poll-leads n) s w x t f h
 
+first-works-lead : (n : ℕ) → Leading (WorksFirst n)
+first-works-lead zero s w x t f h = leads-none s t w x f h.0 h.1
+first-works-lead (suc n) s w x t f h = joins-lead (WorksFirst n) (StageNode WorksAll n) (first-works-lead n) (works-lead n) s w x t f h
+
+works-polls-lead : (n : ℕ) → Leading (WorksAndPolls n)
+works-polls-lead n s w x t f h = joins-lead (WorksFirst n) (PollsFirst n) (first-works-lead n) (polls-lead n) s w x t f h
+
 round-leads : Leading Round
 round-leads s w x t f h =
-    joins-lead (Times (Carries 0) (length s.flight)) (λ u. PollsFirst (length u.nodes) u) (times-lead (Carries 0) (carry-leads 0) (length s.flight)) (λ u. polls-lead (length u.nodes) u) s w x t f h
+    joins-lead (Times (Carries 0) (length s.flight)) (λ u. WorksAndPolls (length u.nodes) u) (times-lead (Carries 0) (carry-leads 0) (length s.flight)) (λ u. works-polls-lead (length u.nodes) u) s w x t f h
 
 unless-leads : (b : Bool) (P : Stage → List Fact → Stage → Type 0) → Leading P → Leading (Unless b P)
 unless-leads true P p s w x t f h = leads-none s t w x f h.0 h.1

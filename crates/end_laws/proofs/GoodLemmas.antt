@@ -1,9 +1,9 @@
 -- A node stays as what is known says while more becomes known of others.
-use Rattle.std.proofs.Common.{◌≡◌, ℕ, Bool, true, false, cond, List, [], ◌∷◌, length, Option, None, refl, ap, subst, arith, Contains}
+use Rattle.std.proofs.Common.{◌≡◌, ℕ, Bool, true, false, cond, List, [], ◌∷◌, length, Option, None, refl, ap, arith}
 use Rattle.std.specs.List.{AllByRecursion}
 use Rattle.rpc_base.specs.Tables.{at_first}
 use Rattle.rpc_base.specs.declared.event.Event.{Event}
-use Rattle.rpc_base.specs.declared.event.Event.TheVariants.{PairedClient, PairedServer, Asked, Begun, Posted, Sent, Took, Ran, Rolled, Broken, DoneOk, DoneTooSmall, DonePeerLost}
+use Rattle.rpc_base.specs.declared.event.Event.TheVariants.{PairedClient, PairedServer, Asked, Begun, Posted, Sent, Took, Given, Ran, Rolled, Broken, DoneOk, DoneTooSmall, DonePeerLost}
 use Rattle.rpc_base.specs.declared.fact.Fact.{Fact}
 use Rattle.rpc_base.specs.declared.fact.Who.{Who}
 use Rattle.rpc_base.specs.declared.fact.Who.TheVariants.{Node}
@@ -18,16 +18,20 @@ use Rattle.rpc_laws.specs.Requests.{servers_after}
 use Rattle.rpc_laws.specs.Sessions.{clients_after}
 use Rattle.end_laws.proofs.Allowed.{May}
 use Rattle.end_laws.proofs.ClientLemmas.{is_quiet, clients-quiet}
-use Rattle.end_laws.proofs.Known.{Known, Later, Speaks, GoodClient, GoodNode, Unmade, noting, later-noting, contains-here}
-use Rattle.end_laws.proofs.KnownLemmas.{call-later, server-later}
+use Rattle.end_laws.proofs.JobSteps.{jobs-good}
+use Rattle.end_laws.proofs.Known.{Known, Later, Speaks, GoodClient, GoodNode, Unmade, noting, later-noting}
+use Rattle.end_laws.proofs.KnownLemmas.{call-later, server-later, jobs-later}
 use Rattle.end_laws.proofs.ListLemmas.{all-map}
+use Rattle.end_laws.proofs.QueueLemmas.{RightNode}
 use Rattle.end_laws.proofs.ServerLemmas.{servers-quiet}
+use Rattle.end_laws.proofs.UnrunLemmas.{unrun-back}
 
 -- nothing new is known of a node
 pub record SameAt (j k : Known) (n : ℕ) : Type 0 where
   pub asks : (c : ℕ) → j.asks n c 0 ≡ None → k.asks n c 0 ≡ None
   pub ends : (t : ℕ) → j.ends n t 0 ≡ None → k.ends n t 0 ≡ None
   pub starts : (s r : ℕ) → j.starts n s r ≡ None → k.starts n s r ≡ None
+  pub runs : (t r : ℕ) → j.runs n t r ≡ None → k.runs n t r ≡ None
 
 pub client-more : (j k : Known) → Later j k → (n i : ℕ) (x : Client) → ((r : ℕ) → j.starts n i r ≡ None → k.starts n i r ≡ None) → GoodClient j n i x → GoodClient k n i x
 client-more j k later n i x same g = record {
@@ -45,13 +49,16 @@ node-more j k later n l same g = record {
   no_asks = λ c le. same.asks c (g.no_asks c le);
   no_ends = λ t le. same.ends t (g.no_ends t le);
   no_starts = λ s r le. same.starts s r (g.no_starts s r le);
+  no_runs = λ t r u. same.runs t r (g.no_runs t r u);
+  waiting = jobs-later j k later n l.jobs.waiting g.waiting;
+  worked = jobs-later j k later n l.jobs.worked g.worked;
 }
 
 pub noting-same : (k : Known) (f : Fact) (n : ℕ) → SameAt k (noting k f) n
-noting-same k f n = record { asks = λ c h. h; ends = λ t h. h; starts = λ s r h. h }
+noting-same k f n = record { asks = λ c h. h; ends = λ t h. h; starts = λ s r h. h; runs = λ t r h. h }
 
 pub unmade-noting : (k : Known) (f : Fact) (count : ℕ) → Unmade k count → Unmade (noting k f) count
-unmade-noting k f count u = record { asks = u.asks; ends = u.ends; starts = u.starts }
+unmade-noting k f count u = record { asks = u.asks; ends = u.ends; starts = u.starts; runs = u.runs }
 
 length-cons : {A : Type 0} (p : A → Bool) (f : A → A) (z : A) (zs : List A) (b : Bool) → length (at_first p f zs) ≡ length zs → length (cond b (f z ∷ zs) (z ∷ at_first p f zs)) ≡ length (z ∷ zs)
 length-cons p f z zs true ih = refl
@@ -90,6 +97,7 @@ servers-length hand l (PairedServer t peer s credits) first second head body m =
 servers-length hand l (Took (Ask s r) j) first second head body m = refl
 servers-length hand l (Took (Reply t r) j) first second head body m = length-first _ _ l.servers
 servers-length hand l (Took Control j) first second head body m = refl
+servers-length hand l (Given t r) first second head body m = length-first _ _ l.servers
 servers-length hand l (Ran t r y) first second head body m = length-first _ _ l.servers
 servers-length hand l _ first second head body m = refl
 
@@ -97,20 +105,22 @@ pub own-fact : (f : Fact) (n : ℕ) → f.who ≡ Node n → f ≡ record { who 
 own-fact f n who = ap (λ (p : Who). record { who = p; event = f.event; first = f.first; second = f.second }) who
 
 -- a node stays good by a fact that adds nothing to the logs
-pub node-quiet : (k : Known) (hand : Option InFlight) (clock n : ℕ) (l : Lists) (f : Fact) → f.who ≡ Node n → is_quiet f.event ≡ true → May hand l f.event f.first f.second → AllByRecursion (λ a. Speaks k a.peer n a.bytes) l.ring → GoodNode k n l → GoodNode (noting k f) n (after clock l f)
-node-quiet k hand clock n l f who quiet m ring g =
+pub node-quiet : (k : Known) (hand : Option InFlight) (clock n : ℕ) (l : Lists) (f : Fact) → f.who ≡ Node n → is_quiet f.event ≡ true → May hand l f.event f.first f.second → RightNode l → AllByRecursion (λ a. Speaks k a.peer n a.bytes) l.ring → GoodNode k n l → GoodNode (noting k f) n (after clock l f)
+node-quiet k hand clock n l f who quiet m right ring g =
     let k2 = noting k f in
     let later = later-noting k f in
     let clients = clients-quiet k n hand clock l f.event f.first f.second quiet m ring g.clients in
-    let same : f ≡ record { who = Node n; event = f.event; first = f.first; second = f.second } = own-fact f n who in
-    let noted : Contains k2.past (record { who = Node n; event = f.event; first = f.first; second = f.second }) = subst (λ (x : Fact). Contains (f ∷ k.past) x) same (contains-here f k.past) in
+    let jobs = jobs-good k n hand l f.event f.first f.second m g in
     let count = clients-length clock f.event f.first (front_header l.ring) (front_body l.ring) l.clients quiet in
     let servers = servers-length hand l f.event f.first f.second (front_header l.ring) (front_body l.ring) m in
     let asked = asked-quiet f.event l.asked quiet in
     record {
       clients = λ i x is. client-more k k2 later n i x (λ r h. h) (clients i x is);
-      servers = servers-quiet k k2 n later hand l f.event f.first f.second m noted ring g.servers;
+      servers = servers-quiet k k2 n later hand l f.event f.first f.second quiet m right.slots ring g.servers;
+      waiting = jobs-later k k2 later n _ jobs.0;
+      worked = jobs-later k k2 later n _ jobs.1;
       no_asks = λ c le. g.no_asks c (omega arith);
       no_ends = λ t le. g.no_ends t (omega arith);
       no_starts = λ s r le. g.no_starts s r (omega arith);
+      no_runs = λ t r u. g.no_runs t r (unrun-back hand l f.event f.first f.second t r quiet right.sound m u);
     }

@@ -4,7 +4,7 @@ use Rattle.std.specs.List.{slice_set}
 use Rattle.std.proofs.lemmas.List.{length-append}
 use Rattle.std.proofs.lemmas.Option.{slice_get_within}
 use Rattle.rpc_base.specs.declared.event.Event.{Event}
-use Rattle.rpc_base.specs.declared.event.Event.TheVariants.{Made, PairedClient, Asked, Begun, Sent}
+use Rattle.rpc_base.specs.declared.event.Event.TheVariants.{Made, PairedClient, Asked, Begun, Ran, Sent}
 use Rattle.rpc_base.specs.declared.fact.Fact.{Fact}
 use Rattle.rpc_base.specs.declared.fact.Who.{Who}
 use Rattle.rpc_base.specs.declared.fact.Who.TheVariants.{Node, Net}
@@ -23,6 +23,7 @@ use Rattle.end_laws.proofs.Known.{Known, Later, Speaks, GoodNode, Good, IsTrue, 
 use Rattle.end_laws.proofs.KnownLemmas.{speaks-later, true-noting}
 use Rattle.end_laws.proofs.ListLemmas.{Placed, set-placed, add-placed, length-slice_set, all-at}
 use Rattle.end_laws.proofs.QueueLemmas.{QueueRight, RightNode}
+use Rattle.end_laws.proofs.RanLemmas.{run-of, with_run, later-run, run-same, true-run, is-new, run-node}
 use Rattle.end_laws.proofs.SaysLemmas.{sent-speaks}
 use Rattle.end_laws.proofs.SendsLaw.{AllRight, owner-length}
 use Rattle.end_laws.proofs.TravelLemmas.{SentGives, travels-map, travels-net, travels-node, rings-made}
@@ -58,6 +59,9 @@ good-made w ring g =
       no_asks = λ c le. u.asks count c here;
       no_ends = λ t le. u.ends count t here;
       no_starts = λ s r le. u.starts count s r here;
+      no_runs = λ t r unrun. u.runs count t r here;
+      waiting = tt;
+      worked = tt;
     } in
     let t = travels-map (Speaks k) (Speaks k2) w (speaks-later k k2 (later-noting k f)) g.travels in
     let more : length (w.nodes ++ new_lists count ring ∷ []) ≡ count + 1 = length-append w.nodes (new_lists count ring ∷ []) in
@@ -71,6 +75,7 @@ good-made w ring g =
         asks = λ n c le. u.asks n c (omega arith);
         ends = λ n t le. u.ends n t (omega arith);
         starts = λ n s r le. u.starts n s r (omega arith);
+        runs = λ n t r le. u.runs n t r (omega arith);
       };
     }
 
@@ -106,6 +111,7 @@ good-known w n l f a i g h =
       asks = λ m c le. (h.others m (differs m le)).asks c (u.asks m c (omega arith));
       ends = λ m t le. (h.others m (differs m le)).ends t (u.ends m t (omega arith));
       starts = λ m s r le. (h.others m (differs m le)).starts s r (u.starts m s r (omega arith));
+      runs = λ m t r le. (h.others m (differs m le)).runs t r (u.runs m t r (omega arith));
     } in
     let nodes_are : (moved w f).nodes ≡ slice_set w.nodes n (after w.clock l f) = ap (λ (v : Moment). v.nodes) e in
     record {
@@ -118,8 +124,8 @@ good-known w n l f a i g h =
     }
 
 -- a fact that adds nothing to the logs
-knows-quiet : (w : Moment) (n : ℕ) (l : Lists) (f : Fact) → AtNode w n l f → (g : Good w) → is_quiet f.event ≡ true → NodeKnows w n l f g.known
-knows-quiet w n l f a g quiet =
+knows-quiet : (w : Moment) (n : ℕ) (l : Lists) (f : Fact) → AtNode w n l f → RightNode l → (g : Good w) → is_quiet f.event ≡ true → NodeKnows w n l f g.known
+knows-quiet w n l f a i g quiet =
     let k = g.known in
     let who : f.who ≡ Node n = a.allowed.who ∙ ap Node a.me in
     record {
@@ -128,11 +134,11 @@ knows-quiet w n l f a g quiet =
       later = later-noting k f;
       others = λ i ne. noting-same k f i;
       is_true = true-noting k f g.is_true;
-      here = node-quiet k w.hand w.clock n l f who quiet a.allowed.may (g.travels.rings n l a.is_node) (g.nodes n l a.is_node);
+      here = node-quiet k w.hand w.clock n l f who quiet a.allowed.may i (g.travels.rings n l a.is_node) (g.nodes n l a.is_node);
     }
 
-knows-event : (w : Moment) (n : ℕ) (l : Lists) (e : Event) (first second : List ℕ) → AtNode w n l (record { who = Node n; event = e; first = first; second = second }) → (g : Good w) → NodeKnows w n l (record { who = Node n; event = e; first = first; second = second }) g.known
-knows-event w n l (Asked c s y room) first second a g =
+knows-event : (w : Moment) (n : ℕ) (l : Lists) (e : Event) (first second : List ℕ) → AtNode w n l (record { who = Node n; event = e; first = first; second = second }) → RightNode l → (g : Good w) → NodeKnows w n l (record { who = Node n; event = e; first = first; second = second }) g.known
+knows-event w n l (Asked c s y room) first second a i g =
     let k = g.known in
     let m = a.allowed.may in
     let good = g.nodes n l a.is_node in
@@ -148,7 +154,7 @@ knows-event w n l (Asked c s y room) first second a g =
       here = ask-node k n c s y room first w.clock l m.0 good;
     } in
     subst (λ (f : Fact). NodeKnows w n l f k) plain_fact knows
-knows-event w n l (Begun c r) first second a g =
+knows-event w n l (Begun c r) first second a i g =
     let k = g.known in
     let m = a.allowed.may in
     let good = g.nodes n l a.is_node in
@@ -162,12 +168,26 @@ knows-event w n l (Begun c r) first second a g =
       here = begin-node k n c r l m.0 good w.clock;
     } in
     subst (λ (f : Fact). NodeKnows w n l f k) plain_fact knows
-knows-event w n l (PairedClient s peer t credits) first second a g = absurd a.allowed.may
-knows-event w n l e first second a g = knows-quiet w n l (record { who = Node n; event = e; first = first; second = second }) a g refl
+knows-event w n l (Ran t r y) first second a i g =
+    let k = g.known in
+    let m = a.allowed.may in
+    let good = g.nodes n l a.is_node in
+    let o = run-of k n l t r y first good i m.source in
+    let none : k.runs n t r ≡ None = is-new k n t r y first second l o good i in
+    record {
+      known = with_run k n t r y first second;
+      past = refl;
+      later = later-run k n t r y first second none;
+      others = run-same k n t r y first second;
+      is_true = true-run k n t r y first second g.is_true;
+      here = run-node k n t r y first second l o good i w.clock w.hand m;
+    }
+knows-event w n l (PairedClient s peer t credits) first second a i g = absurd a.allowed.may
+knows-event w n l e first second a i g = knows-quiet w n l (record { who = Node n; event = e; first = first; second = second }) a i g refl
 
 pub good-node : (w : Moment) (n : ℕ) (l : Lists) (f : Fact) → AtNode w n l f → AllRight w → Good w → Good (moved w f)
 good-node w n l f a i g =
     let who : f.who ≡ Node n = a.allowed.who ∙ ap Node a.me in
     let e = own-fact f n who in
     let at : AtNode w n l (record { who = Node n; event = f.event; first = f.first; second = f.second }) = subst (AtNode w n l) e a in
-    good-known w n l f a i g (subst (λ (x : Fact). NodeKnows w n l x g.known) (sym e) (knows-event w n l f.event f.first f.second at g))
+    good-known w n l f a i g (subst (λ (x : Fact). NodeKnows w n l x g.known) (sym e) (knows-event w n l f.event f.first f.second at (i n l a.is_node) g))

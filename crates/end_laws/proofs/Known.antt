@@ -1,7 +1,7 @@
 -- What is known of both ends of each session: who is at the ends, which calls were asked, and which began.
-use Rattle.std.proofs.Common.{◌≡◌, ◌<◌, ◌≤◌, ◌+◌, ◌-◌, ◌*◌, ◌==◌, ◌&&◌, ℕ, Bool, true, false, cond, List, [], ◌∷◌, length, take, Option, Some, None, refl, arith, eq-eqb, Contains}
+use Rattle.std.proofs.Common.{◌≡◌, ◌<◌, ◌≤◌, ◌+◌, ◌-◌, ◌*◌, ◌==◌, ◌&&◌, ◌⊎◌, ℕ, Bool, true, false, cond, List, [], ◌∷◌, length, take, Option, Some, None, refl, arith, eq-eqb, Contains}
 use Rattle.std.specs.Prelude.{◌%◌, IfSome}
-use Rattle.std.specs.List.{AllByRecursion}
+use Rattle.std.specs.List.{find, AllByRecursion}
 use Rattle.std.proofs.lemmas.Bool.{eqb-true, and_parts}
 use Rattle.std.proofs.lemmas.List.Elements.{Contains-append_right}
 use Rattle.packet_header.specs.Parts.{part}
@@ -14,6 +14,7 @@ use Rattle.rpc_base.specs.declared.fact.Fact.{Fact}
 use Rattle.rpc_laws.specs.declared.tables.Asking.{Asking}
 use Rattle.rpc_laws.specs.declared.tables.Call.{Call}
 use Rattle.rpc_laws.specs.declared.tables.Client.{Client}
+use Rattle.rpc_laws.specs.declared.tables.Job.{Job}
 use Rattle.rpc_laws.specs.declared.tables.Lists.{Lists}
 use Rattle.rpc_laws.specs.declared.tables.Progress.{Progress}
 use Rattle.rpc_laws.specs.declared.tables.Served.{Served}
@@ -23,9 +24,10 @@ use Rattle.rpc_laws.specs.Calls.{asked_packets}
 use Rattle.rpc_laws.specs.Facts.{plain, with_bytes, with_two}
 use Rattle.rpc_laws.specs.OwnAnswer.{AreEnds}
 use Rattle.rpc_laws.specs.Posting.{next_turn}
-use Rattle.rpc_laws.specs.Service.{answer_to}
+use Rattle.rpc_laws.specs.Requests.{is_server, in_slot_of}
 use Rattle.end_laws.specs.Genuine.{Travels}
 use Rattle.end_laws.specs.Moments.{Moment}
+use Rattle.end_laws.specs.TwoEnds.{is_away}
 use Rattle.end_laws.proofs.ListLemmas.{Placed}
 
 -- the client end of a session
@@ -43,16 +45,24 @@ pub record Begin : Type 0 where
   pub way : Way
   pub what : Asking
 
+-- a request that ran: its type and bytes, and the answer
+pub record Run : Type 0 where
+  pub req_type : ℕ
+  pub ask : List ℕ
+  pub answer : List ℕ
+
 -- at most one entry for three numbers
 abbrev pub Log : Type 0 → Type 0
 Log A = ℕ → ℕ → ℕ → Option A
 
--- ends by server node and session; asks by node and call; starts by client node, session and request
+-- ends by server node and session; asks by node and call; starts by client node, session and request; runs by
+-- server node, session and request
 pub record Known : Type 0 where
   pub past : List Fact
   pub ends : Log End
   pub asks : Log Asker
   pub starts : Log Begin
+  pub runs : Log Run
 
 -- one entry more
 abbrev pub added : {A : Type 0} → Log A → ℕ → ℕ → ℕ → A → Log A
@@ -105,6 +115,7 @@ pub record Later (j k : Known) : Type 0 where
   pub ends : (a b c : ℕ) (x : End) → j.ends a b c ≡ Some x → k.ends a b c ≡ Some x
   pub asks : (a b c : ℕ) (x : Asker) → j.asks a b c ≡ Some x → k.asks a b c ≡ Some x
   pub starts : (a b c : ℕ) (x : Begin) → j.starts a b c ≡ Some x → k.starts a b c ≡ Some x
+  pub runs : (a b c : ℕ) (x : Run) → j.runs a b c ≡ Some x → k.runs a b c ≡ Some x
 
 pub contains-here : (f : Fact) (past : List Fact) → Contains (f ∷ past) f
 contains-here f past = (0, omega arith, refl)
@@ -114,17 +125,15 @@ contains-more f g past h = Contains-append_right (f ∷ []) past g h
 
 -- one fact more
 abbrev pub noting : Known → Fact → Known
-noting k f = record { past = f ∷ k.past; ends = k.ends; asks = k.asks; starts = k.starts }
+noting k f = record { past = f ∷ k.past; ends = k.ends; asks = k.asks; starts = k.starts; runs = k.runs }
 
 pub later-noting : (k : Known) (f : Fact) → Later k (noting k f)
-later-noting k f = record { past = λ g h. contains-more f g k.past h; ends = λ a b c x h. h; asks = λ a b c x h. h; starts = λ a b c x h. h }
+later-noting k f = record { past = λ g h. contains-more f g k.past h; ends = λ a b c x h. h; asks = λ a b c x h. h; starts = λ a b c x h. h; runs = λ a b c x h. h }
 
-abbrev pub answer_of : Asking → List ℕ
-answer_of a = answer_to a.req_type a.ask
-
--- the handler ran for a request
-abbrev pub HasRun : Known → (node session request : ℕ) → Asking → Type 0
-HasRun k node session request a = Contains k.past (with_two node (Ran session request a.req_type) a.ask (answer_of a))
+-- the handler ran for a request, and gave this answer
+abbrev pub HasRun : Known → (node session request : ℕ) → Asking → List ℕ → Type 0
+HasRun k node session request a answer =
+    k.runs node session request ≡ Some (record { req_type = a.req_type; ask = a.ask; answer = answer })
 
 -- a Request is a part of a call that began
 pub record SaysRequest (k : Known) (from to : ℕ) (h : MessageHeader) (body : List ℕ) : Type 0 where
@@ -142,9 +151,10 @@ pub record SaysResponse (k : Known) (from to : ℕ) (h : MessageHeader) (body : 
   pub start : Begin
   pub begun : k.starts to h.session h.request ≡ Some start
   pub peer : from ≡ start.way.peer
-  pub ran : HasRun k from start.way.other h.request start.what
-  pub size : h.size ≡ length (answer_of start.what)
-  pub piece : body ≡ part (answer_of start.what) (h.number + 1 - asked_packets start.what)
+  pub answer : List ℕ
+  pub ran : HasRun k from start.way.other h.request start.what answer
+  pub size : h.size ≡ length answer
+  pub piece : body ≡ part answer (h.number + 1 - asked_packets start.what)
 
 abbrev pub Says : Kind → Known → (from to : ℕ) → MessageHeader → List ℕ → Type 0
 Says Request k from to h body = SaysRequest k from to h body
@@ -158,10 +168,11 @@ Speaks k from to bytes = IfSome (message_of bytes) (λ h. Says h.kind k from to 
 
 -- the parts of an answer that a call has taken
 pub record HasParts (k : Known) (way : Way) (a : Asking) (request got : ℕ) (parts : List ℕ) (size : ℕ) : Type 0 where
-  pub ran : HasRun k way.peer way.other request a
-  pub sized : size ≡ length (answer_of a)
+  pub answer : List ℕ
+  pub ran : HasRun k way.peer way.other request a answer
+  pub sized : size ≡ length answer
   pub reached : asked_packets a ≤ got
-  pub taken : parts ≡ take (1024 * (got + 1 - asked_packets a)) (answer_of a)
+  pub taken : parts ≡ take (1024 * (got + 1 - asked_packets a)) answer
 
 abbrev pub GoodAnswer : Known → Way → Asking → (request got : ℕ) → List ℕ → Option ℕ → Type 0
 GoodAnswer k way a request got parts None = (parts ≡ []) × (got < asked_packets a)
@@ -186,11 +197,6 @@ pub record GoodClient (k : Known) (n i : ℕ) (x : Client) : Type 0 where
   pub fresh : IsFresh k n i x.turns
   pub calls : AllByRecursion (GoodCall k n x.way) x.calls
 
--- the answer of a request that ran
-pub record GoodRun (k : Known) (m t r : ℕ) (a : Asking) (answer : List ℕ) : Type 0 where
-  pub right : answer ≡ answer_of a
-  pub ran : HasRun k m t r a
-
 -- a request in its slot is of a call that began
 pub record GoodServed (k : Known) (m : ℕ) (way : Way) (q : Served) : Type 0 where
   pub start : Begin
@@ -198,21 +204,39 @@ pub record GoodServed (k : Known) (m : ℕ) (way : Way) (q : Served) : Type 0 wh
   pub way_is : start.way ≡ record { number = way.other; peer = m; other = way.number }
   pub req_type : q.req_type ≡ start.what.req_type
   pub size : q.size ≡ length start.what.ask
-  pub ask : q.ask ≡ take (1024 * q.taken) start.what.ask
-  pub answer : IfSome q.answer (GoodRun k m way.number q.number start.what)
+  pub ask : q.ask ≡ cond (is_away q) [] (take (1024 * q.taken) start.what.ask)
+  pub answer : IfSome q.answer (HasRun k m way.number q.number start.what)
 
 pub record GoodServer (k : Known) (m t : ℕ) (v : Server) : Type 0 where
   pub number : v.way.number ≡ t
   pub end : k.ends m t 0 ≡ Some (record { home = v.way.peer; client = v.way.other })
   pub slots : AllByRecursion (GoodServed k m v.way) v.slots
 
+-- a job is of a call that began, and has its bytes
+pub record GoodJob (k : Known) (m : ℕ) (job : Job) : Type 0 where
+  pub end : End
+  pub is_end : k.ends m job.session 0 ≡ Some end
+  pub start : Begin
+  pub begun : k.starts end.home end.client job.request ≡ Some start
+  pub way_is : start.way ≡ record { number = end.client; peer = m; other = job.session }
+  pub req_type : job.req_type ≡ start.what.req_type
+  pub own : job.ask ≡ start.what.ask
+
+-- no request with such a number, or a later one of its slot, has run
+abbrev pub IsUnrun : List Server → ℕ → ℕ → Type 0
+IsUnrun xs t r =
+    (v : Server) (q : Served) → find (is_server t) xs ≡ Some v → find (in_slot_of r) v.slots ≡ Some q → (q.number < r) ⊎ ((q.number ≡ r) × (q.answer ≡ None))
+
 -- of what a node has not made nothing is known
 pub record GoodNode (k : Known) (n : ℕ) (l : Lists) : Type 0 where
   pub clients : Placed (GoodClient k n) l.clients
   pub servers : Placed (GoodServer k n) l.servers
+  pub waiting : AllByRecursion (GoodJob k n) l.jobs.waiting
+  pub worked : AllByRecursion (GoodJob k n) l.jobs.worked
   pub no_asks : (c : ℕ) → l.asked ≤ c → k.asks n c 0 ≡ None
   pub no_ends : (t : ℕ) → length l.servers ≤ t → k.ends n t 0 ≡ None
   pub no_starts : (s r : ℕ) → length l.clients ≤ s → k.starts n s r ≡ None
+  pub no_runs : (t r : ℕ) → IsUnrun l.servers t r → k.runs n t r ≡ None
 
 -- what is known was noted
 pub record TrueStart (past : List Fact) (n s r : ℕ) (b : Begin) : Type 0 where
@@ -228,16 +252,21 @@ pub record TrueAsk (past : List Fact) (n c zero : ℕ) (a : Asker) : Type 0 wher
 abbrev pub TrueEnd : List Fact → ℕ → ℕ → ℕ → End → Type 0
 TrueEnd past m t zero e = AreEnds past e.home e.client m t
 
+abbrev pub TrueRun : List Fact → ℕ → ℕ → ℕ → Run → Type 0
+TrueRun past m t r x = Contains past (with_two m (Ran t r x.req_type) x.ask x.answer)
+
 pub record IsTrue (k : Known) : Type 0 where
   pub ends : (a b c : ℕ) (x : End) → k.ends a b c ≡ Some x → TrueEnd k.past a b c x
   pub asks : (a b c : ℕ) (x : Asker) → k.asks a b c ≡ Some x → TrueAsk k.past a b c x
   pub starts : (a b c : ℕ) (x : Begin) → k.starts a b c ≡ Some x → TrueStart k.past a b c x
+  pub runs : (a b c : ℕ) (x : Run) → k.runs a b c ≡ Some x → TrueRun k.past a b c x
 
 -- of nodes that aren't made nothing is known
 pub record Unmade (k : Known) (count : ℕ) : Type 0 where
   pub asks : (n c : ℕ) → count ≤ n → k.asks n c 0 ≡ None
   pub ends : (n t : ℕ) → count ≤ n → k.ends n t 0 ≡ None
   pub starts : (n s r : ℕ) → count ≤ n → k.starts n s r ≡ None
+  pub runs : (n t r : ℕ) → count ≤ n → k.runs n t r ≡ None
 
 pub record Good (w : Moment) : Type 0 where
   pub known : Known

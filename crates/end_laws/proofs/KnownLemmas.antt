@@ -1,6 +1,7 @@
 -- What is said of calls and requests stays so while more becomes known.
 use Rattle.std.proofs.Common.{ℕ, List, ◌∷◌, Option, Some, None}
 use Rattle.std.specs.Prelude.{IfSome}
+use Rattle.std.specs.List.{AllByRecursion}
 use Rattle.packet_header.specs.Reading.{message_of, body_of}
 use Rattle.packet_header.specs.declared.packet.Kind.{Kind}
 use Rattle.packet_header.specs.declared.packet.Kind.TheVariants.{Request, Rfr, Cr, Response}
@@ -8,12 +9,13 @@ use Rattle.packet_header.specs.declared.packet.MessageHeader.{MessageHeader}
 use Rattle.rpc_base.specs.declared.fact.Fact.{Fact}
 use Rattle.rpc_laws.specs.declared.tables.Asking.{Asking}
 use Rattle.rpc_laws.specs.declared.tables.Call.{Call}
+use Rattle.rpc_laws.specs.declared.tables.Job.{Job}
 use Rattle.rpc_laws.specs.declared.tables.Progress.{Progress}
 use Rattle.rpc_laws.specs.declared.tables.Served.{Served}
 use Rattle.rpc_laws.specs.declared.tables.Server.{Server}
 use Rattle.rpc_laws.specs.declared.tables.Way.{Way}
 use Rattle.rpc_laws.specs.OwnAnswer.{AreEnds}
-use Rattle.end_laws.proofs.Known.{Known, Later, SaysRequest, SaysResponse, Says, Speaks, GoodAnswer, GoodProgress, GoodCall, GoodRun, GoodServed, GoodServer, Begin, Asker, TrueStart, TrueAsk, IsTrue, noting, contains-more}
+use Rattle.end_laws.proofs.Known.{Known, Later, SaysRequest, SaysResponse, Says, Speaks, GoodAnswer, GoodProgress, GoodCall, HasRun, GoodServed, GoodJob, GoodServer, Begin, Asker, TrueStart, TrueAsk, IsTrue, noting, contains-more}
 use Rattle.end_laws.proofs.ListLemmas.{all-map}
 
 pub if-map : {A : Type 0} (P Q : A → Type 0) (o : Option A) → ((x : A) → P x → Q x) → IfSome o P → IfSome o Q
@@ -38,7 +40,8 @@ module _ (j k : Known) (later : Later j k) where
     start = s.start;
     begun = later.starts to h.session h.request s.start s.begun;
     peer = s.peer;
-    ran = later.past _ s.ran;
+    answer = s.answer;
+    ran = later.runs _ _ _ _ s.ran;
     size = s.size;
     piece = s.piece;
   }
@@ -54,7 +57,7 @@ module _ (j k : Known) (later : Later j k) where
 
   parts-later : (way : Way) (a : Asking) (request got : ℕ) (parts : List ℕ) (answer : Option ℕ) → GoodAnswer j way a request got parts answer → GoodAnswer k way a request got parts answer
   parts-later way a request got parts None h = h
-  parts-later way a request got parts (Some size) h = record { ran = later.past _ h.ran; sized = h.sized; reached = h.reached; taken = h.taken }
+  parts-later way a request got parts (Some size) h = record { answer = h.answer; ran = later.runs _ _ _ _ h.ran; sized = h.sized; reached = h.reached; taken = h.taken }
 
   pub progress-later : (n : ℕ) (way : Way) (a : Asking) (p : Progress) → GoodProgress j n way a p → GoodProgress k n way a p
   progress-later n way a p h = record {
@@ -73,8 +76,22 @@ module _ (j k : Known) (later : Later j k) where
     req_type = h.req_type;
     size = h.size;
     ask = h.ask;
-    answer = if-map (GoodRun j m way.number q.number h.start.what) (GoodRun k m way.number q.number h.start.what) q.answer (λ a g. record { right = g.right; ran = later.past _ g.ran }) h.answer;
+    answer = if-map (HasRun j m way.number q.number h.start.what) (HasRun k m way.number q.number h.start.what) q.answer (λ a g. later.runs _ _ _ _ g) h.answer;
   }
+
+  pub job-later : (m : ℕ) (job : Job) → GoodJob j m job → GoodJob k m job
+  job-later m job h = record {
+    end = h.end;
+    is_end = later.ends m job.session 0 h.end h.is_end;
+    start = h.start;
+    begun = later.starts h.end.home h.end.client job.request h.start h.begun;
+    way_is = h.way_is;
+    req_type = h.req_type;
+    own = h.own;
+  }
+
+  pub jobs-later : (m : ℕ) (jobs : List Job) → AllByRecursion (GoodJob j m) jobs → AllByRecursion (GoodJob k m) jobs
+  jobs-later m jobs h = all-map (GoodJob j m) (GoodJob k m) jobs (job-later m) h
 
   pub server-later : (m t : ℕ) (v : Server) → GoodServer j m t v → GoodServer k m t v
   server-later m t v h = record { number = h.number; end = later.ends m t 0 _ h.end; slots = all-map _ _ v.slots (served-later m v.way) h.slots }
@@ -95,4 +112,5 @@ true-noting k f t = record {
   ends = λ a b c x h. ends-more f k.past x.home x.client a b (t.ends a b c x h);
   asks = λ a b c x h. ask-more f k.past a b c x (t.asks a b c x h);
   starts = λ a b c x h. start-more f k.past a b c x (t.starts a b c x h);
+  runs = λ a b c x h. contains-more f _ k.past (t.runs a b c x h);
 }

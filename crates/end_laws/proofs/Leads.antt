@@ -11,14 +11,14 @@ use Rattle.end_laws.specs.Moments.{Moment}
 use Rattle.end_laws.proofs.Allowed.{Walks}
 use Rattle.end_laws.proofs.Courses.{AtNode, Course, over, at_node, course-append, noted_at, moved-node}
 use Rattle.end_laws.proofs.ListLemmas.{Placed, set-here, set-other, set-placed, length-slice_set}
-use Rattle.end_laws.proofs.SlotLemmas.{Sound}
+use Rattle.end_laws.proofs.QueueLemmas.{RightNode}
 
 -- a node as the moment has it
 pub record NodeFits (clock : ℕ) (nodes : List Lists) (n : ℕ) (t : Timed) : Type 0 where
   pub is_node : slice_get nodes n ≡ Some t.lists
   pub me : t.lists.me ≡ n
   pub late : t.clock ≤ clock
-  pub sound : Sound t.lists
+  pub right : RightNode t.lists
 
 pub record Fits (s : Stage) (w : Moment) : Type 0 where
   pub clock : w.clock ≡ s.clock
@@ -79,7 +79,7 @@ pub record NodeStep (s : Stage) (w : Moment) (n : ℕ) (before now : Timed) (x :
   pub walks : Walks w.hand s.clock before.lists x
   pub lists : now.lists ≡ after_all s.clock before.lists x
   pub late : now.clock ≤ s.clock
-  pub sound : Sound now.lists
+  pub right : RightNode now.lists
 
 me-after : (clock : ℕ) (l : Lists) (x : List Fact) → (after_all clock l x).me ≡ l.me
 me-after clock l [] = refl
@@ -96,9 +96,9 @@ step-leads s w n before now x t f h left =
       is_node = set-here w.nodes n before.lists now.lists fit.is_node;
       me = ap (λ (l : Lists). l.me) h.lists ∙ (me-after s.clock before.lists x ∙ fit.me);
       late = h.late;
-      sound = h.sound;
+      right = h.right;
     } in
-    let others : (j : ℕ) (z : Timed) → (j ≡ n → ⊥) → slice_get s.nodes j ≡ Some z → NodeFits s.clock (slice_set w.nodes n now.lists) j z = λ j z ne is. let k = f.nodes j z is in record { is_node = set-other w.nodes n j now.lists ne ∙ k.is_node; me = k.me; late = k.late; sound = k.sound } in
+    let others : (j : ℕ) (z : Timed) → (j ≡ n → ⊥) → slice_get s.nodes j ≡ Some z → NodeFits s.clock (slice_set w.nodes n now.lists) j z = λ j z ne is. let k = f.nodes j z is in record { is_node = set-other w.nodes n j now.lists ne ∙ k.is_node; me = k.me; late = k.late; right = k.right } in
     let placed : Placed (NodeFits s.clock (slice_set w.nodes n now.lists)) (slice_set s.nodes n now) = set-placed (NodeFits s.clock (slice_set w.nodes n now.lists)) s.nodes n before now h.is_node here others in
     rw left (record {
       end = c.end;

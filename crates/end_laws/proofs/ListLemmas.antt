@@ -105,6 +105,10 @@ module _ {A : Type 0} where
   all-map P Q [] f h = tt
   all-map P Q (x ∷ xs) f h = (f x h.0, all-map P Q xs f h.1)
 
+  pub all-both : (P Q : A → Type 0) (xs : List A) → AllByRecursion P xs → AllByRecursion Q xs → AllByRecursion (λ x. P x × Q x) xs
+  all-both P Q [] h k = tt
+  all-both P Q (x ∷ xs) h k = ((h.0, k.0), all-both P Q xs h.1 k.1)
+
   all-first-step : (P Q : A → Type 0) (p : A → Bool) (f : A → A) (z : A) (zs : List A) (b : Bool) → p z ≡ b → ((x : A) → P x → Q x) → ((x : A) → cond b (Some z) (find p zs) ≡ Some x → P x → Q (f x)) → P z → AllByRecursion Q zs → (((x : A) → find p zs ≡ Some x → P x → Q (f x)) → AllByRecursion Q (at_first p f zs)) → AllByRecursion Q (cond b (f z ∷ zs) (z ∷ at_first p f zs))
   all-first-step P Q p f z zs true t keep change here rest ih = (change z refl here, rest)
   all-first-step P Q p f z zs false t keep change here rest ih = (keep z here, ih change)
@@ -121,6 +125,10 @@ module _ {A : Type 0} where
   pub all-found : (P : A → Type 0) (p : A → Bool) (xs : List A) (x : A) → AllByRecursion P xs → find p xs ≡ Some x → P x
   all-found P p [] x h f = cc
   all-found P p (z ∷ zs) x h f = all-found-cons P p z zs x (p z) f h.0 (all-found P p zs x h.1)
+
+  pub all-append : (P : A → Type 0) (xs ys : List A) → AllByRecursion P xs → AllByRecursion P ys → AllByRecursion P (xs ++ ys)
+  all-append P [] ys h k = k
+  all-append P (x ∷ xs) ys h k = (h.0, all-append P xs ys h.1 k)
 
   pub all-add : (P : A → Type 0) (xs : List A) (y : A) → AllByRecursion P xs → P y → AllByRecursion P (xs ++ y ∷ [])
   all-add P [] y h k = (k, tt)

@@ -6,10 +6,11 @@ use Rattle.std.proofs.lemmas.Option.{slice_get_within}
 use Rattle.rpc_base.specs.declared.fact.Fact.{Fact}
 use Rattle.rpc_base.specs.declared.fact.Who.{Who}
 use Rattle.rpc_base.specs.declared.fact.Who.TheVariants.{Node}
+use Rattle.rpc_outside.specs.PlainAnswer.{total_of}
 use Rattle.rpc_laws.specs.declared.tables.Lists.{Lists}
 use Rattle.rpc_laws.specs.BufferSafety.{changed}
 use Rattle.rpc_laws.specs.NodeLists.{after}
-use Rattle.rpc_laws.specs.OwnAnswer.{AreEnds, OwnEvent, OwnAt, AtEach}
+use Rattle.rpc_laws.specs.OwnAnswer.{AreEnds, served_by, OwnEvent, OwnAt, AtEach}
 use Rattle.rpc_laws.specs.Requests.{server_end}
 use Rattle.rpc_laws.specs.Sessions.{client_end}
 use Rattle.end_laws.specs.Moments.{Moment, moved}
@@ -17,11 +18,13 @@ use Rattle.end_laws.proofs.Courses.{AtNode, Ends, Course, over, in_net, made, at
 use Rattle.end_laws.proofs.GoodLemmas.{SameAt, client-more, node-more}
 use Rattle.end_laws.proofs.GoodSteps.{good-net, good-made, good-node}
 use Rattle.end_laws.proofs.Known.{Known, Later, End, Speaks, GoodClient, GoodServer, GoodNode, Good, TrueEnd, IsTrue, Unmade, added, added-here, added-keeps, added-none, added-case, contains-here, contains-more}
-use Rattle.end_laws.proofs.KnownLemmas.{server-later, speaks-later, ends-more, start-more, ask-more}
+use Rattle.end_laws.proofs.KnownLemmas.{server-later, jobs-later, speaks-later, ends-more, start-more, ask-more}
 use Rattle.end_laws.proofs.ListLemmas.{Placed, set-other, set-placed, add-placed, length-slice_set}
 use Rattle.end_laws.proofs.OwnLemmas.{own-event}
 use Rattle.end_laws.proofs.SendsLaw.{AllRight, right-noted, right-net, right-made, right-paired}
+use Rattle.end_laws.proofs.TotalLemmas.{AllTotals, total-net, total-made, total-noted, total-paired}
 use Rattle.end_laws.proofs.TravelLemmas.{travels-map, travels-paired}
+use Rattle.end_laws.proofs.UnrunLemmas.{unrun-added}
 
 module _ (w : Moment) (n m credits : ℕ) (client server : Lists) (e : Ends w n m client server) (g : Good w) where
   abbrev s : ℕ
@@ -44,7 +47,7 @@ module _ (w : Moment) (n m credits : ℕ) (client server : Lists) (e : Ends w n 
 
   -- the session is known
   abbrev k : Known
-  k = record { past = other ∷ one ∷ g.known.past; ends = added g.known.ends m t 0 entry; asks = g.known.asks; starts = g.known.starts }
+  k = record { past = other ∷ one ∷ g.known.past; ends = added g.known.ends m t 0 entry; asks = g.known.asks; starts = g.known.starts; runs = g.known.runs }
 
   client-good : GoodNode j n client
   client-good = g.nodes n client e.is_client
@@ -61,10 +64,11 @@ module _ (w : Moment) (n m credits : ℕ) (client server : Lists) (e : Ends w n 
     ends = λ a b c x h. added-keeps j.ends m t 0 entry a b c x is-new h;
     asks = λ a b c x h. h;
     starts = λ a b c x h. h;
+    runs = λ a b c x h. h;
   }
 
   others-same : (i : ℕ) → (i ≡ m → ⊥) → SameAt j k i
-  others-same i ne = record { asks = λ c h. h; ends = λ d h. added-none j.ends m t 0 entry i d 0 (λ x y z. ne x) h; starts = λ a r h. h }
+  others-same i ne = record { asks = λ c h. h; ends = λ d h. added-none j.ends m t 0 entry i d 0 (λ x y z. ne x) h; starts = λ a r h. h; runs = λ d r h. h }
 
   true-paired : IsTrue k
   true-paired =
@@ -74,6 +78,7 @@ module _ (w : Moment) (n m credits : ℕ) (client server : Lists) (e : Ends w n 
         ends = added-case j.ends m t 0 entry (TrueEnd k.past) new (λ a b c x h. ends-more other (one ∷ j.past) x.home x.client a b (ends-more one j.past x.home x.client a b (is.ends a b c x h)));
         asks = λ a b c x h. ask-more other (one ∷ j.past) a b c x (ask-more one j.past a b c x (is.asks a b c x h));
         starts = λ a b c x h. start-more other (one ∷ j.past) a b c x (start-more one j.past a b c x (is.starts a b c x h));
+        runs = λ a b c x h. contains-more other _ (one ∷ j.past) (contains-more one _ j.past (is.runs a b c x h));
       }
 
   at-client : GoodNode k n (after w.clock client one)
@@ -92,6 +97,9 @@ module _ (w : Moment) (n m credits : ℕ) (client server : Lists) (e : Ends w n 
         no_asks = client-good.no_asks;
         no_ends = λ d le. (others-same n e.two).ends d (client-good.no_ends d le);
         no_starts = λ i r le. client-good.no_starts i r (omega arith);
+        no_runs = client-good.no_runs;
+        waiting = jobs-later j k later n client.jobs.waiting client-good.waiting;
+        worked = jobs-later j k later n client.jobs.worked client-good.worked;
       }
 
   at-server : GoodNode k m (after w.clock server other)
@@ -104,6 +112,9 @@ module _ (w : Moment) (n m credits : ℕ) (client server : Lists) (e : Ends w n 
         no_asks = server-good.no_asks;
         no_ends = λ d le. added-none j.ends m t 0 entry m d 0 (λ x y z. absurd (omega arith)) (server-good.no_ends d (omega arith));
         no_starts = server-good.no_starts;
+        no_runs = λ d r u. server-good.no_runs d r (unrun-added server.servers (server_end t n s credits) d r u);
+        waiting = jobs-later j k later m server.jobs.waiting server-good.waiting;
+        worked = jobs-later j k later m server.jobs.worked server-good.worked;
       }
 
   pub good-paired : Good (paired w n m credits client server)
@@ -122,6 +133,7 @@ module _ (w : Moment) (n m credits : ℕ) (client server : Lists) (e : Ends w n 
         asks = λ i c le. u.asks i c (omega arith);
         ends = λ i d le. (others-same i (λ x. absurd (omega arith))).ends d (u.ends i d (omega arith));
         starts = λ i a r le. u.starts i a r (omega arith);
+        runs = λ i a r le. u.runs i a r (omega arith);
       } in
       record {
         known = k;
@@ -132,18 +144,20 @@ module _ (w : Moment) (n m credits : ℕ) (client server : Lists) (e : Ends w n 
         unmade = subst (λ (ns : List Lists). Unmade k (length ns)) (sym all) unmade;
       }
 
-own-at : (w : Moment) (n : ℕ) (l : Lists) (f : Fact) → AtNode w n l f → Good w → OwnAt w.past f.who f.event f.first f.second
-own-at w n l f a g =
+own-at : (w : Moment) (n : ℕ) (l : Lists) (f : Fact) → AtNode w n l f → AllRight w → AllTotals w → Good w → OwnAt w.past f.who f.event f.first f.second
+own-at w n l f a i t g =
     let k = g.known in
-    let own : OwnEvent k.past n f.event f.first f.second = own-event k n l (g.nodes n l a.is_node) g.is_true w.hand f.event f.first f.second a.allowed.may in
+    let total : l.total ≡ total_of (served_by n k.past) = t.totals n l a.is_node ∙ ap (λ (p : List Fact). total_of (served_by n p)) (sym g.past) in
+    let own : OwnEvent k.past n f.event f.first f.second = own-event k n l (g.nodes n l a.is_node) g.is_true (i n l a.is_node) total w.hand f.event f.first f.second a.allowed.may in
     let now : OwnEvent w.past n f.event f.first f.second = subst (λ (p : List Fact). OwnEvent p n f.event f.first f.second) g.past own in
     subst (λ (p : Who). OwnAt w.past p f.event f.first f.second) (sym (a.allowed.who ∙ ap Node a.me)) now
 
-pub course-own : (w : Moment) (h : List Fact) (u : Moment) → Course w h u → AllRight w → Good w → AtEach (λ past f. OwnAt past f.who f.event f.first f.second) w.past h
-course-own _ _ _ (over w) i g = tt
-course-own _ _ _ (in_net w f h u who c) i g =
-    (subst (λ (p : Who). OwnAt w.past p f.event f.first f.second) (sym who) tt, course-own (moved w f) h u c (right-net w f who i) (good-net w f who g))
-course-own _ _ _ (made w ring h u c) i g = (tt, course-own _ h u c (right-made w ring i) (good-made w ring g))
-course-own _ _ _ (at_node w n l f h u a c) i g = (own-at w n l f a g, course-own (moved w f) h u c (right-noted w n l f a i) (good-node w n l f a i g))
-course-own _ _ _ (pairs w n m credits client server h u e c) i g =
-    (tt, (tt, course-own (paired w n m credits client server) h u c (right-paired w n m credits client server e i) (good-paired w n m credits client server e g)))
+pub course-own : (w : Moment) (h : List Fact) (u : Moment) → Course w h u → AllRight w → AllTotals w → Good w → AtEach (λ past f. OwnAt past f.who f.event f.first f.second) w.past h
+course-own _ _ _ (over w) i t g = tt
+course-own _ _ _ (in_net w f h u who c) i t g =
+    (subst (λ (p : Who). OwnAt w.past p f.event f.first f.second) (sym who) tt, course-own (moved w f) h u c (right-net w f who i) (total-net w f who t) (good-net w f who g))
+course-own _ _ _ (made w ring h u c) i t g = (tt, course-own _ h u c (right-made w ring i) (total-made w ring t) (good-made w ring g))
+course-own _ _ _ (at_node w n l f h u a c) i t g =
+    (own-at w n l f a i t g, course-own (moved w f) h u c (right-noted w n l f a i) (total-noted w n l f a t) (good-node w n l f a i g))
+course-own _ _ _ (pairs w n m credits client server h u e c) i t g =
+    (tt, (tt, course-own (paired w n m credits client server) h u c (right-paired w n m credits client server e i) (total-paired w n m credits client server e t) (good-paired w n m credits client server e g)))

@@ -7,6 +7,7 @@ use Rattle.rpc_base.proofs.TakingLemmas.{find-passes}
 use Rattle.rpc_base.specs.declared.event.Event.{Event}
 use Rattle.rpc_base.specs.declared.event.Event.TheVariants.{Asked, Begun, Ran, DoneOk, DoneTooSmall}
 use Rattle.rpc_base.specs.declared.fact.Fact.{Fact}
+use Rattle.rpc_outside.specs.PlainAnswer.{total_of}
 use Rattle.rpc_laws.specs.declared.tables.Asking.{Asking}
 use Rattle.rpc_laws.specs.declared.tables.Call.{Call}
 use Rattle.rpc_laws.specs.declared.tables.InFlight.{InFlight}
@@ -15,13 +16,15 @@ use Rattle.rpc_laws.specs.declared.tables.Progress.{Progress}
 use Rattle.rpc_laws.specs.declared.tables.Way.{Way}
 use Rattle.rpc_laws.specs.Calls.{is_active, asked_packets, known_packets}
 use Rattle.rpc_laws.specs.Facts.{plain, with_bytes, with_two}
-use Rattle.rpc_laws.specs.OwnAnswer.{AreEnds, IsCallOf, IsAnswerTo, OwnRun, OwnEnd, OwnSize, OwnEvent}
+use Rattle.rpc_laws.specs.OwnAnswer.{served_by, AreEnds, IsCallOf, IsAnswerTo, OwnRun, OwnEnd, OwnSize, OwnEvent}
 use Rattle.rpc_laws.specs.Requests.{is_request}
 use Rattle.end_laws.proofs.Allowed.{HasSize, MayRun, MayEnd, MayFail, May}
 use Rattle.end_laws.proofs.ClientLemmas.{client-at, if-progress}
-use Rattle.end_laws.proofs.Known.{Known, Begin, HasParts, GoodAnswer, GoodCall, GoodServed, GoodNode, TrueStart, IsTrue, answer_of}
+use Rattle.end_laws.proofs.Known.{Known, Begin, HasParts, GoodAnswer, GoodCall, GoodNode, TrueStart, IsTrue}
 use Rattle.end_laws.proofs.ListLemmas.{all-found}
-use Rattle.end_laws.proofs.ServerLemmas.{server-at}
+use Rattle.end_laws.proofs.QueueLemmas.{RightNode}
+use Rattle.end_laws.proofs.RanLemmas.{run-of}
+use Rattle.end_laws.proofs.TotalLemmas.{answer-right}
 
 module _ (past : List Fact) where
   -- a call that began is one, by any names of its parts
@@ -38,25 +41,20 @@ module _ (past : List Fact) where
       }
 
 module _ (k : Known) (n : ℕ) (l : Lists) (good : GoodNode k n l) (is_true : IsTrue k) where
-  own-run : (t r y : ℕ) (first second : List ℕ) → MayRun l t r y first second → OwnRun k.past n t r y first second
-  own-run t r y first second m =
-      let v = m.server in
-      let at = server-at k n l.servers t v good.servers m.found in
-      let server = good.servers t v at.0 in
-      let q = m.request in
-      let g = all-found (GoodServed k n v.way) (is_request r) v.slots q server.slots m.is_there in
-      let number = eqb-true q.number r (find-passes (is_request r) v.slots q m.is_there) in
+  own-run : RightNode l → l.total ≡ total_of (served_by n k.past) → (t r y : ℕ) (first second : List ℕ) → MayRun l t r y first second → OwnRun k.past n t r y first second
+  own-run right total t r y first second m =
+      let o = run-of k n l t r y first good right m.source in
+      let g = o.good in
+      let v = o.server in
+      let q = o.request in
       let a = g.start.what in
-      let whole = m.whole in
-      let count : packet_count (length a.ask) ≤ q.taken = (let size : packet_count q.size ≡ packet_count (length a.ask) = ap packet_count g.size in omega arith) in
-      let ask : first ≡ a.ask = m.own ∙ (g.ask ∙ front-whole a.ask q.taken count) in
-      let type_is : y ≡ a.req_type = m.of_type ∙ g.req_type in
+      let number : q.number ≡ r = eqb-true q.number r (find-passes (is_request r) v.slots q o.is_there) in
       record {
         node = v.way.peer;
         call = a.number;
         room = a.room;
-        own = call-of k.past v.way.peer v.way.other q.number g.start a.number n t r y first (is_true.starts v.way.peer v.way.other q.number g.start g.begun) refl (ap (λ (w : Way). w.peer) g.way_is) (ap (λ (w : Way). w.other) g.way_is ∙ at.1) number (sym type_is) (sym ask);
-        right = m.right;
+        own = call-of k.past v.way.peer v.way.other q.number g.start a.number n t r y first (is_true.starts v.way.peer v.way.other q.number g.start g.begun) refl (ap (λ (w : Way). w.peer) g.way_is) (ap (λ (w : Way). w.other) g.way_is ∙ o.number) number (sym o.of_type) (sym o.own);
+        right = m.right ∙ answer-right (served_by n k.past) l.total y first total;
       }
 
   parts-of : (way : Way) (a : Asking) (request got size : ℕ) (parts : List ℕ) (answer : Option ℕ) → answer ≡ Some size → GoodAnswer k way a request got parts answer → HasParts k way a request got parts size
@@ -78,11 +76,12 @@ module _ (k : Known) (n : ℕ) (l : Lists) (good : GoodNode k n l) (is_true : Is
       let progress = if-progress k n h.client.way call.what call.progress p h.is_progress g.progress in
       record { way = h.client.way; begun = progress.begun; parts = parts-of h.client.way call.what p.request p.got size p.parts p.answer h.answer progress.answer; number = h.number }
 
-  answer-to : (c size : ℕ) (call : Call) (p : Progress) (answer : List ℕ) → Sized c size call p → answer ≡ answer_of call.what → IsAnswerTo k.past n c call.what.room answer
+  answer-to : (c size : ℕ) (call : Call) (p : Progress) (answer : List ℕ) → (s : Sized c size call p) → answer ≡ s.parts.answer → IsAnswerTo k.past n c call.what.room answer
   answer-to c size call p answer s whole =
       let way = s.way in
       let a = call.what in
       let b : Begin = record { way = way; what = a } in
+      let run = is_true.runs way.peer way.other p.request _ s.parts.ran in
       record {
         node = way.peer;
         session = way.other;
@@ -90,7 +89,7 @@ module _ (k : Known) (n : ℕ) (l : Lists) (good : GoodNode k n l) (is_true : Is
         req_type = a.req_type;
         ask = a.ask;
         call = call-of k.past n way.number p.request b c way.peer way.other p.request a.req_type a.ask (is_true.starts n way.number p.request b s.begun) (sym s.number) refl refl refl refl refl;
-        ran = subst (λ (x : List ℕ). Contains k.past (with_two way.peer (Ran way.other p.request a.req_type) a.ask x)) (sym whole) s.parts.ran;
+        ran = subst (λ (x : List ℕ). Contains k.past (with_two way.peer (Ran way.other p.request a.req_type) a.ask x)) (sym whole) run;
       }
 
   own-end : (c : ℕ) (bytes : List ℕ) → MayEnd l c bytes → OwnEnd k.past n c bytes
@@ -98,19 +97,20 @@ module _ (k : Known) (n : ℕ) (l : Lists) (good : GoodNode k n l) (is_true : Is
       let s = sized c m.size m.call m.progress m.has in
       let a = m.call.what in
       let all : m.progress.got ≡ known_packets (asked_packets a) (Some m.size) = m.all in
-      let count : packet_count m.size ≡ packet_count (length (answer_of a)) = ap packet_count s.parts.sized in
+      let answer = s.parts.answer in
+      let count : packet_count m.size ≡ packet_count (length answer) = ap packet_count s.parts.sized in
       let above = packet_count_above m.size in
-      let enough : packet_count (length (answer_of a)) ≤ m.progress.got + 1 - asked_packets a = omega arith in
-      let whole : bytes ≡ answer_of a = m.whole ∙ (s.parts.taken ∙ front-whole (answer_of a) (m.progress.got + 1 - asked_packets a) enough) in
+      let enough : packet_count (length answer) ≤ m.progress.got + 1 - asked_packets a = omega arith in
+      let whole : bytes ≡ answer = m.whole ∙ (s.parts.taken ∙ front-whole answer (m.progress.got + 1 - asked_packets a) enough) in
       record { room = a.room; own = answer-to c m.size m.call m.progress bytes s whole }
 
   own-size : (c size : ℕ) → MayFail l c size → OwnSize k.past n c size
   own-size c size m =
       let s = sized c size m.call m.progress m.has in
-      record { room = m.call.what.room; answer = answer_of m.call.what; own = answer-to c size m.call m.progress (answer_of m.call.what) s refl; sized = sym s.parts.sized; above = m.above }
+      record { room = m.call.what.room; answer = s.parts.answer; own = answer-to c size m.call m.progress s.parts.answer s refl; sized = sym s.parts.sized; above = m.above }
 
-  pub own-event : (hand : Option InFlight) (e : Event) (first second : List ℕ) → May hand l e first second → OwnEvent k.past n e first second
-  own-event hand (Ran t r y) first second m = own-run t r y first second m
-  own-event hand (DoneOk c) first second m = own-end c first m
-  own-event hand (DoneTooSmall c size) first second m = own-size c size m
-  own-event hand _ first second m = tt
+  pub own-event : RightNode l → l.total ≡ total_of (served_by n k.past) → (hand : Option InFlight) (e : Event) (first second : List ℕ) → May hand l e first second → OwnEvent k.past n e first second
+  own-event right total hand (Ran t r y) first second m = own-run right total t r y first second m
+  own-event right total hand (DoneOk c) first second m = own-end c first m
+  own-event right total hand (DoneTooSmall c size) first second m = own-size c size m
+  own-event right total hand _ first second m = tt

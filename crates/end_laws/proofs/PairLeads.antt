@@ -14,17 +14,17 @@ use Rattle.rpc_laws.specs.Groups.{pair_refusal, shares}
 use Rattle.rpc_laws.specs.InFlight.{flight_after_all}
 use Rattle.rpc_laws.specs.NodeLists.{after}
 use Rattle.script_grammar.specs.declared.line.Command.{Command}
-use Rattle.script_grammar.specs.declared.line.Command.TheVariants.{Node, Pair, Call, Poll, Arrive, Lose, Repeat, Tick, Settle}
+use Rattle.script_grammar.specs.declared.line.Command.TheVariants.{Node, Pair, Call, Poll, Arrive, Lose, Repeat, Tick, Work, Settle}
 use Rattle.script_grammar.specs.declared.line.Line.{Line}
 use Rattle.sim_script.specs.FollowsScript.{ask_bytes, noted, PairsEnds, PairsBy, Pairs, Does, FollowsFrom, Follows, empty_stage}
 use Rattle.end_laws.specs.Moments.{Moment, first_moment}
 use Rattle.end_laws.specs.TwoNodes.{PairsTwo, PairsTwoNodes}
 use Rattle.end_laws.proofs.Allowed.{May}
-use Rattle.end_laws.proofs.CommandLeads.{lose-leads, repeat-leads, tick-leads, made-leads, call-leads, poll-leads, arrive-leads, settles-lead}
+use Rattle.end_laws.proofs.CommandLeads.{lose-leads, repeat-leads, tick-leads, work-leads, made-leads, call-leads, poll-leads, arrive-leads, settles-lead}
 use Rattle.end_laws.proofs.Courses.{Course, over, pairs, client_fact, server_fact, paired}
 use Rattle.end_laws.proofs.Leads.{NodeFits, Fits, Leads, Leading, leads-none, leads-append, step-stays}
 use Rattle.end_laws.proofs.ListLemmas.{Placed, set-here, set-other, set-placed, length-slice_set}
-use Rattle.end_laws.proofs.SlotLemmas.{sound-stays}
+use Rattle.end_laws.proofs.SendsLaw.{right-client, right-served}
 
 -- a refusal leaves all as it is
 pub record IsRefusal (e : Event) : Type 0 where
@@ -51,7 +51,7 @@ refused-leads s w n before e x t f is r facts left =
       walks = (record { who = refl; may = r.may w.hand before.lists }, tt);
       lists = r.same s.clock before.lists;
       late = fit.late;
-      sound = fit.sound;
+      right = fit.right;
     }) (r.unsent before.lists.me s.flight) left)
 
 -- both ends are made
@@ -73,11 +73,11 @@ ends-lead a b credits client server s w x t f two is_client is_server h =
     let all : u.nodes ≡ nodes2 = ap (λ (ns : List Lists). changed w.clock (slice_get ns b) b ns other) first ∙ ap (λ (o : Option Lists). changed w.clock o b nodes1 other) at_b in
     let stage1 : List Timed = slice_set s.nodes a (noted client one) in
     let at_stage : slice_get stage1 b ≡ Some server = set-other s.nodes a b (noted client one) (λ e. two (sym e)) ∙ is_server in
-    let keep : (n : ℕ) (z : Timed) → (n ≡ a → ⊥) → slice_get s.nodes n ≡ Some z → NodeFits s.clock nodes1 n z = λ n z ne is. let k = f.nodes n z is in record { is_node = set-other w.nodes a n (after w.clock c one) ne ∙ k.is_node; me = k.me; late = k.late; sound = k.sound } in
-    let here : NodeFits s.clock nodes1 a (noted client one) = record { is_node = set-here w.nodes a c (after w.clock c one) cf.is_node; me = cf.me; late = cf.late; sound = sound-stays client.clock c one cf.sound } in
+    let keep : (n : ℕ) (z : Timed) → (n ≡ a → ⊥) → slice_get s.nodes n ≡ Some z → NodeFits s.clock nodes1 n z = λ n z ne is. let k = f.nodes n z is in record { is_node = set-other w.nodes a n (after w.clock c one) ne ∙ k.is_node; me = k.me; late = k.late; right = k.right } in
+    let here : NodeFits s.clock nodes1 a (noted client one) = record { is_node = set-here w.nodes a c (after w.clock c one) cf.is_node; me = cf.me; late = cf.late; right = right-client client.clock a b credits c v cf.right } in
     let placed1 : Placed (NodeFits s.clock nodes1) stage1 = set-placed (NodeFits s.clock nodes1) s.nodes a client (noted client one) is_client here keep in
-    let keep2 : (n : ℕ) (z : Timed) → (n ≡ b → ⊥) → slice_get stage1 n ≡ Some z → NodeFits s.clock nodes2 n z = λ n z ne is. let k = placed1 n z is in record { is_node = set-other nodes1 b n (after w.clock v other) ne ∙ k.is_node; me = k.me; late = k.late; sound = k.sound } in
-    let here2 : NodeFits s.clock nodes2 b (noted server other) = record { is_node = set-here nodes1 b v (after w.clock v other) at_b; me = sf.me; late = sf.late; sound = sound-stays server.clock v other sf.sound } in
+    let keep2 : (n : ℕ) (z : Timed) → (n ≡ b → ⊥) → slice_get stage1 n ≡ Some z → NodeFits s.clock nodes2 n z = λ n z ne is. let k = placed1 n z is in record { is_node = set-other nodes1 b n (after w.clock v other) ne ∙ k.is_node; me = k.me; late = k.late; right = k.right } in
+    let here2 : NodeFits s.clock nodes2 b (noted server other) = record { is_node = set-here nodes1 b v (after w.clock v other) at_b; me = sf.me; late = sf.late; right = right-served server.clock b a credits c v sf.right } in
     let placed2 : Placed (NodeFits s.clock nodes2) (slice_set stage1 b (noted server other)) = set-placed (NodeFits s.clock nodes2) stage1 b server (noted server other) at_stage here2 keep2 in
     let facts : x ≡ one ∷ other ∷ [] = h.facts ∙ (ap (λ (z : Fact). z ∷ h.at_server ∷ []) is_one ∙ ap (λ (z : Fact). one ∷ z ∷ []) is_other) in
     let left : t ≡ record s { nodes = slice_set stage1 b (noted server other) } = h.left ∙ (ap (λ (z : Fact). record s { nodes = slice_set (slice_set s.nodes a (noted client z)) b (noted server h.at_server) }) is_one ∙ ap (λ (z : Fact). record s { nodes = slice_set stage1 b (noted server z) }) is_other) in
@@ -112,6 +112,7 @@ does-lead (Arrive i) p = arrive-leads i
 does-lead (Lose i) p = lose-leads i
 does-lead (Repeat i) p = repeat-leads i
 does-lead (Tick by) p = tick-leads by
+does-lead (Work n i) p = work-leads n i
 does-lead (Settle rounds) p = settles-lead rounds
 does-lead _ p = λ s w x t f h. absurd h
 

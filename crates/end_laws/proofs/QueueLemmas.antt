@@ -1,19 +1,13 @@
 -- The replies that a node has queued are packets of its requests.
-use Rattle.std.proofs.Common.{◌≡◌, ◌<◌, ◌≤◌, ◌+◌, ◌==◌, ◌⊎◌, inl, inr, ℕ, Bool, true, false, List, [], ◌∷◌, ◌++◌, length, Option, Some, None, refl, sym, ap, ◌∙◌, subst, arith, leb-false, eq-eqb}
+use Rattle.std.proofs.Common.{◌≡◌, ◌<◌, ◌≤◌, ◌==◌, ◌⊎◌, inl, inr, ℕ, Bool, true, false, List, [], ◌∷◌, ◌++◌, Option, Some, None, refl, sym, ap, ◌∙◌, subst, arith, eq-eqb}
 use Rattle.std.specs.Prelude.{◌%◌}
 use Rattle.std.specs.List.{find, list_any, AllByRecursion}
 use Rattle.std.proofs.lemmas.Bool.{eqb-true}
-use Rattle.packet_header.specs.Parts.{packet_count}
-use Rattle.packet_header.specs.declared.packet.Kind.{Kind}
-use Rattle.packet_header.specs.declared.packet.Kind.TheVariants.{Request, Rfr, Cr, Response}
 use Rattle.packet_header.specs.declared.packet.MessageHeader.{MessageHeader}
-use Rattle.packet_header.proofs.PartsLemmas.{packet_count_above}
-use Rattle.packet_header.proofs.Readings.{message_of-spells}
-use Rattle.packet_header.proofs.Rows.{request-number}
 use Rattle.rpc_base.specs.Tables.{at_first, without_first}
 use Rattle.rpc_base.proofs.TakingLemmas.{find-passes}
 use Rattle.rpc_base.specs.declared.event.Event.{Event}
-use Rattle.rpc_base.specs.declared.event.Event.TheVariants.{PairedServer, Posted, Sent, Took, Ran, Flushed}
+use Rattle.rpc_base.specs.declared.event.Event.TheVariants.{PairedServer, Posted, Sent, Took, Given, Ran, Flushed}
 use Rattle.rpc_base.specs.declared.owner.Owner.{Owner}
 use Rattle.rpc_base.specs.declared.owner.Owner.TheVariants.{Ask, Reply, Control}
 use Rattle.rpc_laws.specs.declared.tables.InFlight.{InFlight}
@@ -22,23 +16,11 @@ use Rattle.rpc_laws.specs.declared.tables.Served.{Served}
 use Rattle.rpc_laws.specs.declared.tables.Server.{Server}
 use Rattle.rpc_laws.specs.Front.{front_header, front_body}
 use Rattle.rpc_laws.specs.Queues.{queued_after, is_queued}
-use Rattle.rpc_laws.specs.Requests.{is_server, is_request, in_slot_of, first_packet, next_packet, took_packet, answered, servers_after}
-use Rattle.rpc_laws.specs.ServerTable.{is_past_end}
-use Rattle.end_laws.proofs.Allowed.{GoesOn, TakesOf, May}
-use Rattle.end_laws.proofs.AskSteps.{with_slots}
+use Rattle.rpc_laws.specs.Requests.{is_server, is_request, in_slot_of, first_packet, next_packet, took_packet, given, answered, servers_after}
+use Rattle.end_laws.proofs.Allowed.{TakesOf, May}
 use Rattle.end_laws.proofs.ListLemmas.{Changed, all-first, all-add, all-without, all-found, find-after, find-without, find-add}
-use Rattle.end_laws.proofs.SlotLemmas.{Apart, Sound, any-find, find-added, none-without}
-
--- how many packets were taken: none above those of the request, and of the answer once it is known
-abbrev pub TakenRight : (taken size : ℕ) → Option (List ℕ) → Type 0
-TakenRight taken size None = taken ≤ packet_count size
-TakenRight taken size (Some a) = (packet_count size ≤ taken) × (taken + 1 ≤ packet_count size + packet_count (length a))
-
-abbrev pub SlotRight : Served → Type 0
-SlotRight q = TakenRight q.taken q.size q.answer
-
-abbrev pub SlotsRight : List Server → Type 0
-SlotsRight xs = AllByRecursion (λ v. AllByRecursion SlotRight v.slots) xs
+use Rattle.end_laws.proofs.Rights.{SlotRight, SlotsRight, Stands, JobsRight, front-right, took-right, given-right, answered-right, run-ready}
+use Rattle.end_laws.proofs.SlotLemmas.{with_slots, Apart, Sound, any-find, find-added, none-without}
 
 -- the request of a queued reply stands in its slot with that packet taken, or a later one does
 pub record Stood (xs : List Server) (t r k : ℕ) : Type 0 where
@@ -58,77 +40,54 @@ pub record RightNode (l : Lists) : Type 0 where
   pub sound : Sound l
   pub slots : SlotsRight l.servers
   pub queue : AllByRecursion (λ e. QueueRight l.servers e.owner e.number) l.queued
+  pub jobs : JobsRight l.servers l.jobs
 
--- one packet more
-next-right : (answer : Option (List ℕ)) (k : Kind) (q : Served) (h : MessageHeader) → q.answer ≡ answer → h.kind ≡ k → h.number ≡ q.taken → (k ≡ Request → h.number < packet_count h.size) → GoesOn k q h → TakenRight q.taken q.size answer → TakenRight (q.taken + 1) q.size answer
-next-right None Request q h e f n low g t =
-    let lt = low refl in
-    let size : packet_count h.size ≡ packet_count q.size = ap packet_count g.1 in
-    omega arith
-next-right None Rfr q h e f n low g t = let past : is_past_end q.size None h.number ≡ false = subst (λ (a : Option (List ℕ)). is_past_end q.size a h.number ≡ false) e g.1 in cc
-next-right None Cr q h e f n low g t = absurd g
-next-right None Response q h e f n low g t = absurd g
-next-right (Some a) Request q h e f n low g t =
-    let lt = low refl in
-    let le = t.0 in
-    let size : packet_count h.size ≡ packet_count q.size = ap packet_count g.1 in
-    absurd (omega arith)
-next-right (Some a) Rfr q h e f n low g t =
-    let past : is_past_end q.size (Some a) h.number ≡ false = subst (λ (o : Option (List ℕ)). is_past_end q.size o h.number ≡ false) e g.1 in
-    let lt : h.number + 1 < packet_count q.size + packet_count (length a) = leb-false _ _ past in
-    let le = t.0 in
-    (omega arith, omega arith)
-next-right (Some a) Cr q h e f n low g t = absurd g
-next-right (Some a) Response q h e f n low g t = absurd g
+-- the request that is found is the one that stands
+pub stands-same : (xs : List Server) (t r : ℕ) (q : Served) → Stands xs t r q → (v : Server) → find (is_server t) xs ≡ Some v → (z : Served) → find (is_request r) v.slots ≡ Some z → q ≡ z
+stands-same xs t r q s v is z at =
+    let found = s.found in
+    let same : s.server ≡ v = cc in
+    let there : find (is_request r) v.slots ≡ Some q = subst (λ (y : Server). find (is_request r) y.slots ≡ Some q) same s.is_there in
+    cc
 
--- a message that is read is in range
-header-low : (l : Lists) (h : MessageHeader) → front_header l.ring ≡ Some h → h.kind ≡ Request → h.number < packet_count h.size
-header-low l h e k = request-number h (message_of-spells h _ e).in_range k
+-- the request of a number changes
+slot-first : (t r : ℕ) (change : Served → Served) (xs : List Server) (q : Served) → Stands xs t r q → SlotsRight xs → (SlotRight q → SlotRight (change q)) → SlotsRight (at_first (is_server t) (with_slots (at_first (is_request r) change)) xs)
+slot-first t r change xs q s h f =
+    all-first (λ v. AllByRecursion SlotRight v.slots) (λ v. AllByRecursion SlotRight v.slots) (is_server t) _ xs (λ v k. k)
+    (λ v is k. all-first SlotRight SlotRight (is_request r) change v.slots (λ z g. g)
+    (λ z at g. subst (λ (y : Served). SlotRight y → SlotRight (change y)) (stands-same xs t r q s v is z at) f g) k) h
 
-took-right : (going : Option Served) (slots : List Served) (h : MessageHeader) (body : List ℕ) → (h.kind ≡ Request → h.number < packet_count h.size) → TakesOf going slots h → AllByRecursion SlotRight slots → AllByRecursion SlotRight (took_packet h.request (Some h) body slots)
-took-right None slots h body low t a =
-    let above = packet_count_above h.size in
-    let one : 1 ≤ packet_count h.size = omega arith in
-    let none : list_any (is_request h.request) slots ≡ false = t.2 in
-    rw none (all-add SlotRight (without_first (in_slot_of h.request) slots) (first_packet h.request h body) (all-without SlotRight (in_slot_of h.request) slots a) one)
-took-right (Some q) slots h body low t a =
-    let any : list_any (is_request h.request) slots ≡ true = any-find (is_request h.request) slots q t.0 in
-    rw any (all-first SlotRight SlotRight (is_request h.request) (next_packet body) slots (λ x k. k)
-    (λ x is k. let same : q ≡ x = cc in next-right x.answer h.kind x h refl refl (t.1 ∙ ap (λ (z : Served). z.taken) same) low (subst (λ (z : Served). GoesOn h.kind z h) same t.2) k) a)
-
-pub slots-right : (hand : Option InFlight) (l : Lists) (e : Event) (first second : List ℕ) → May hand l e first second → SlotsRight l.servers → SlotsRight (servers_after e second (front_header l.ring) (front_body l.ring) l.servers)
-slots-right hand l (PairedServer t peer s credits) first second m h = absurd m
-slots-right hand l (Took (Ask s r) k) first second m h = h
-slots-right hand l (Took Control k) first second m h = h
-slots-right hand l (Took (Reply t r) k) first second m h =
+pub slots-right : (hand : Option InFlight) (l : Lists) (e : Event) (first second : List ℕ) → JobsRight l.servers l.jobs → May hand l e first second → SlotsRight l.servers → SlotsRight (servers_after e second (front_header l.ring) (front_body l.ring) l.servers)
+slots-right hand l (PairedServer t peer s credits) first second j m h = absurd m
+slots-right hand l (Took (Ask s r) k) first second j m h = h
+slots-right hand l (Took Control k) first second j m h = h
+slots-right hand l (Took (Reply t r) k) first second j m h =
     all-first (λ v. AllByRecursion SlotRight v.slots) (λ v. AllByRecursion SlotRight v.slots) (is_server t) _ l.servers (λ v k. k)
-    (λ v is k. let same : m.server ≡ v = cc in
-    rw (m.is_front.reads, m.of_request) (took-right m.going v.slots m.header (front_body l.ring) (header-low l m.header m.is_front.reads) (subst (λ (z : Server). TakesOf m.going z.slots m.header) same m.takes) k)) h
-slots-right hand l (Ran t r y) first second m h =
-    all-first (λ v. AllByRecursion SlotRight v.slots) (λ v. AllByRecursion SlotRight v.slots) (is_server t) _ l.servers (λ v k. k)
-    (λ v is k. all-first SlotRight SlotRight (is_request r) (answered second) v.slots (λ q g. g)
-    (λ q at g. let same : m.server ≡ v = cc in
-    let there : find (is_request r) v.slots ≡ Some m.request = subst (λ (z : Server). find (is_request r) z.slots ≡ Some m.request) same m.is_there in
-    let same_request : m.request ≡ q = cc in
-    let whole : q.taken ≡ packet_count q.size = subst (λ (z : Served). z.taken ≡ packet_count z.size) same_request m.whole in
-    let above = packet_count_above (length second) in
-    (omega arith, omega arith)) k) h
-slots-right hand l _ first second m h = h
+    (λ v is k. let found = m.found in
+    let same : m.server ≡ v = cc in
+    rw (m.is_front.reads, m.of_request) (took-right m.going v.slots m.header (front_body l.ring) (front-right l m.header m.is_front.reads) (subst (λ (z : Server). TakesOf m.going z.slots m.header) same m.takes) k)) h
+slots-right hand l (Given t r) first second j m h =
+    let w = m.has in
+    slot-first t r given l.servers w.request (record { server = w.server; found = w.found; is_there = w.is_there }) h (given-right w.request w.whole w.unanswered)
+slots-right hand l (Ran t r y) first second j m h =
+    let g = run-ready l t r y first h j m.source in
+    slot-first t r (answered second) l.servers g.request g.stands h (answered-right second g.request g.whole)
+slots-right hand l _ first second j m h = h
 
 -- what is found of a session after the first of another number changes
-server-after : (t n : ℕ) (change : List Served → List Served) (xs : List Server) (v : Server) → find (is_server t) xs ≡ Some v → (find (is_server t) (at_first (is_server n) (with_slots change) xs) ≡ Some v) ⊎ Changed (is_server n) (with_slots change) xs v (find (is_server t) (at_first (is_server n) (with_slots change) xs))
+pub server-after : (t n : ℕ) (change : List Served → List Served) (xs : List Server) (v : Server) → find (is_server t) xs ≡ Some v → (find (is_server t) (at_first (is_server n) (with_slots change) xs) ≡ Some v) ⊎ Changed (is_server n) (with_slots change) xs v (find (is_server t) (at_first (is_server n) (with_slots change) xs))
 server-after t n change xs v h = find-after (is_server n) (is_server t) (with_slots change) xs v (λ x. refl) h
 
 -- one request more stands in a slot
-slot-added : (r n : ℕ) (slots : List Served) (h : MessageHeader) (body : List ℕ) (q : Served) (b : Bool) → (r % 8 == n % 8) ≡ b → Apart slots → find (in_slot_of r) slots ≡ Some q → r ≤ q.number → ((z : Served) → find (in_slot_of n) slots ≡ Some z → z.number < n) → (z : Served) × (find (in_slot_of r) (without_first (in_slot_of n) slots ++ first_packet n h body ∷ []) ≡ Some z) × ((z ≡ q) ⊎ (r < z.number))
-slot-added r n slots h body q true t a is le low =
+pub slot-added : (r n : ℕ) (slots : List Served) (h : MessageHeader) (body : List ℕ) (q : Served) (b : Bool) → (r % 8 == n % 8) ≡ b → Apart slots → find (in_slot_of r) slots ≡ Some q → ((z : Served) → find (in_slot_of n) slots ≡ Some z → z.number < n) → (z : Served) × (find (in_slot_of r) (without_first (in_slot_of n) slots ++ first_packet n h body ∷ []) ≡ Some z) × ((z ≡ q) ⊎ (q.number < z.number))
+slot-added r n slots h body q true t a is low =
     let e : r % 8 ≡ n % 8 = eqb-true (r % 8) (n % 8) t in
     let there : find (in_slot_of n) slots ≡ Some q = sym (ap (λ k. find (λ (z : Served). z.number % 8 == k) slots) e) ∙ is in
     let lt = low q there in
     let none : list_any (in_slot_of r) (without_first (in_slot_of n) slots) ≡ false = ap (λ k. list_any (λ (z : Served). z.number % 8 == k) (without_first (in_slot_of n) slots)) e ∙ none-without n slots a in
     let passes : in_slot_of r (first_packet n h body) ≡ true = eq-eqb (n % 8) (r % 8) (sym e) in
-    (first_packet n h body, find-added (in_slot_of r) (without_first (in_slot_of n) slots) (first_packet n h body) none passes, inr (omega arith))
-slot-added r n slots h body q false t a is le low =
+    (first_packet n h body, find-added (in_slot_of r) (without_first (in_slot_of n) slots) (first_packet n h body) none passes, inr lt)
+slot-added r n slots h body q false t a is low =
     let mine : q.number % 8 ≡ r % 8 = eqb-true _ _ (find-passes (in_slot_of r) slots q is) in
     let other : in_slot_of n q ≡ false = ap (λ k. k == n % 8) mine ∙ t in
     (q, find-add (in_slot_of r) (without_first (in_slot_of n) slots) (first_packet n h body) q (find-without (in_slot_of n) (in_slot_of r) slots q is other), inl refl)
@@ -140,15 +99,15 @@ record SlotAfter (slots : List Served) (r k : ℕ) : Type 0 where
   reached : r ≤ request.number
   was_taken : r ≡ request.number → k < request.taken
 
-added-after : (slots : List Served) (r k n : ℕ) (h : MessageHeader) (body : List ℕ) (q : Served) → (a : (z : Served) × (find (in_slot_of r) (without_first (in_slot_of n) slots ++ first_packet n h body ∷ []) ≡ Some z) × ((z ≡ q) ⊎ (r < z.number))) → r ≤ q.number → (r ≡ q.number → k < q.taken) → SlotAfter (without_first (in_slot_of n) slots ++ first_packet n h body ∷ []) r k
+added-after : (slots : List Served) (r k n : ℕ) (h : MessageHeader) (body : List ℕ) (q : Served) → (a : (z : Served) × (find (in_slot_of r) (without_first (in_slot_of n) slots ++ first_packet n h body ∷ []) ≡ Some z) × ((z ≡ q) ⊎ (q.number < z.number))) → r ≤ q.number → (r ≡ q.number → k < q.taken) → SlotAfter (without_first (in_slot_of n) slots ++ first_packet n h body ∷ []) r k
 added-after slots r k n h body q (z, is, inl same) le was = record { request = z; in_slot = is; reached = rw same le; was_taken = rw same was }
 added-after slots r k n h body q (z, is, inr lt) le was = record { request = z; in_slot = is; reached = omega arith; was_taken = λ e. absurd (omega arith) }
 
 took-after : (going : Option Served) (slots : List Served) (h : MessageHeader) (body : List ℕ) (r k : ℕ) (q : Served) → Apart slots → TakesOf going slots h → find (in_slot_of r) slots ≡ Some q → r ≤ q.number → (r ≡ q.number → k < q.taken) → SlotAfter (took_packet h.request (Some h) body slots) r k
 took-after None slots h body r k q a t is le was =
     let none : list_any (is_request h.request) slots ≡ false = t.2 in
-    let low : (z : Served) → find (in_slot_of h.request) slots ≡ Some z → z.number < h.request = t.3 in
-    rw none (added-after slots r k h.request h body q (slot-added r h.request slots h body q _ refl a is le low) le was)
+    let low : (z : Served) → find (in_slot_of h.request) slots ≡ Some z → z.number < h.request = λ z e. (t.3 z e).0 in
+    rw none (added-after slots r k h.request h body q (slot-added r h.request slots h body q _ refl a is low) le was)
 took-after (Some g) slots h body r k q a t is le was =
     let any : list_any (is_request h.request) slots ≡ true = any-find (is_request h.request) slots g t.0 in
     rw any (elim (find-after (is_request h.request) (in_slot_of r) (next_packet body) slots q (λ x. refl) is) [
@@ -156,11 +115,12 @@ took-after (Some g) slots h body r k q a t is le was =
       | inr c ↦ record { request = next_packet body q; in_slot = c.is; reached = le; was_taken = λ e. let lt = was e in omega arith }
     ])
 
-answered-after : (slots : List Served) (n : ℕ) (answer : List ℕ) (r k : ℕ) (q : Served) → find (in_slot_of r) slots ≡ Some q → r ≤ q.number → (r ≡ q.number → k < q.taken) → SlotAfter (at_first (is_request n) (answered answer) slots) r k
-answered-after slots n answer r k q is le was =
-    elim (find-after (is_request n) (in_slot_of r) (answered answer) slots q (λ x. refl) is) [
+-- or the request of a number changes, which keeps its number and its packets
+changed-after : (slots : List Served) (n : ℕ) (change : Served → Served) (r k : ℕ) (q : Served) → ((x : Served) → (change x).number ≡ x.number) → ((x : Served) → (change x).taken ≡ x.taken) → find (in_slot_of r) slots ≡ Some q → r ≤ q.number → (r ≡ q.number → k < q.taken) → SlotAfter (at_first (is_request n) change slots) r k
+changed-after slots n change r k q number taken is le was =
+    elim (find-after (is_request n) (in_slot_of r) change slots q (λ x. ap (λ (m : ℕ). m % 8 == r % 8) (number x)) is) [
       | inl e ↦ record { request = q; in_slot = e; reached = le; was_taken = was }
-      | inr c ↦ record { request = answered answer q; in_slot = c.is; reached = le; was_taken = was }
+      | inr c ↦ record { request = change q; in_slot = c.is; reached = rw (number q) le; was_taken = rw (number q, taken q) was }
     ]
 
 -- the slots of one session change
@@ -182,10 +142,14 @@ stood-after hand l (Took (Reply n p) j) first second t r k i m h =
     let takes : TakesOf m.going v.slots m.header = subst (λ (z : Server). TakesOf m.going z.slots m.header) this m.takes in
     let at : find (in_slot_of r) v.slots ≡ Some h.request = subst (λ (z : Server). find (in_slot_of r) z.slots ≡ Some h.request) (sym same) h.in_slot in
     rw (m.is_front.reads, m.of_request) (took-after m.going v.slots m.header (front_body l.ring) r k h.request apart takes at h.reached h.was_taken))
+stood-after hand l (Given n p) first second t r k i m h =
+    stood-by l.servers t r k n (at_first (is_request p) given) h
+    (λ v is same. let at : find (in_slot_of r) v.slots ≡ Some h.request = subst (λ (z : Server). find (in_slot_of r) z.slots ≡ Some h.request) (sym same) h.in_slot in
+    changed-after v.slots p given r k h.request (λ x. refl) (λ x. refl) at h.reached h.was_taken)
 stood-after hand l (Ran n p y) first second t r k i m h =
     stood-by l.servers t r k n (at_first (is_request p) (answered second)) h
     (λ v is same. let at : find (in_slot_of r) v.slots ≡ Some h.request = subst (λ (z : Server). find (in_slot_of r) z.slots ≡ Some h.request) (sym same) h.in_slot in
-    answered-after v.slots p second r k h.request at h.reached h.was_taken)
+    changed-after v.slots p (answered second) r k h.request (λ x. refl) (λ x. refl) at h.reached h.was_taken)
 stood-after hand l _ first second t r k i m h = h
 
 pub queue-after : (hand : Option InFlight) (l : Lists) (e : Event) (first second : List ℕ) (o : Owner) (k : ℕ) → Sound l → May hand l e first second → QueueRight l.servers o k → QueueRight (servers_after e second (front_header l.ring) (front_body l.ring) l.servers) o k

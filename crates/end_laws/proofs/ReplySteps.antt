@@ -28,7 +28,7 @@ use Rattle.rpc_laws.specs.ClientTable.{is_of_turn, progress_row, active_row, cal
 use Rattle.rpc_laws.specs.Facts.{plain}
 use Rattle.rpc_laws.specs.Front.{front_bytes, front_header, front_body}
 use Rattle.rpc_laws.specs.NodeLists.{after}
-use Rattle.rpc_laws.specs.PollOrder.{Handles, HandlesAll, PostsAll, SendsAll, Closes, handling_by}
+use Rattle.rpc_laws.specs.PollOrder.{FinishesAll, Handles, HandlesAll, PostsAll, SendsAll, Closes, handling_by}
 use Rattle.rpc_laws.specs.GoBackN.{WatchesAll}
 use Rattle.rpc_laws.specs.Queues.{is_queued}
 use Rattle.rpc_laws.specs.Sessions.{is_client, is_connected, takes}
@@ -37,9 +37,11 @@ use Rattle.end_laws.proofs.Allowed.{Fronts, HasSize, Walks}
 use Rattle.end_laws.proofs.CallSteps.{watches-all}
 use Rattle.end_laws.proofs.ListLemmas.{find-first}
 use Rattle.end_laws.proofs.PollSteps.{posts-all, sends-all, closes-fine}
+use Rattle.end_laws.proofs.QueueLemmas.{RightNode}
 use Rattle.end_laws.proofs.RowSteps.{asks-walk}
-use Rattle.end_laws.proofs.SlotLemmas.{Sound, sound-stays}
+use Rattle.end_laws.proofs.SendsLaw.{right-stays}
 use Rattle.end_laws.proofs.Walks.{Fine, walked-goes, fine-then, fine-until}
+use Rattle.end_laws.proofs.WorkSteps.{finishes-all}
 
 -- what is known where a reply is taken
 pub record Replying (l : Lists) (front : Arrival) (h : MessageHeader) (x : Client) (c : Call) (p : Progress) : Type 0 where
@@ -158,9 +160,9 @@ client-walk hand clock l front h None is f = (record { who = refl; may = tt }, t
 client-walk hand clock l front h (Some x) is f = peer-walk hand clock l front h x (is_connected x.state) _ refl f is
 
 -- the front of the ring is handled by its kind
-kind-walk : (hand : Option InFlight) (clock : ℕ) (l : Lists) (front : Arrival) (h : MessageHeader) (k : Kind) → h.kind ≡ k → Fronts l front h → Sound l → Walks hand clock l (handling_by k l front.peer h (front_body l.ring))
-kind-walk hand clock l front h Request e f s = asks-walk hand clock l front h f (rw e tt) s
-kind-walk hand clock l front h Rfr e f s = asks-walk hand clock l front h f (rw e tt) s
+kind-walk : (hand : Option InFlight) (clock : ℕ) (l : Lists) (front : Arrival) (h : MessageHeader) (k : Kind) → h.kind ≡ k → Fronts l front h → RightNode l → Walks hand clock l (handling_by k l front.peer h (front_body l.ring))
+kind-walk hand clock l front h Request e f s = asks-walk hand clock l front h f (rw e tt) s.sound s.slots
+kind-walk hand clock l front h Rfr e f s = asks-walk hand clock l front h f (rw e tt) s.sound s.slots
 kind-walk hand clock l front h Cr e f s = client-walk hand clock l front h _ refl f
 kind-walk hand clock l front h Response e f s = client-walk hand clock l front h _ refl f
 
@@ -169,18 +171,19 @@ front-is [] front h = cc
 front-is (d ∷ ds) front h = let same : d ≡ front = cc in ap (λ (a : Arrival). a.bytes) same
 
 module _ (hand : Option InFlight) where
-  handles-fine : Fine Sound hand Handles
+  handles-fine : Fine RightNode hand Handles
   handles-fine s x t i h =
       let bytes = front-is s.lists.ring h.front h.is_front in
       let reads : front_header s.lists.ring ≡ Some h.header = ap message_of bytes ∙ h.reads in
       let walk = kind-walk hand s.clock s.lists h.front h.header h.header.kind refl (record { is_front = h.is_front; reads = reads }) i in
       let same : handling_by h.header.kind s.lists h.front.peer h.header (front_body s.lists.ring) ≡ x = ap (λ (b : List ℕ). handling_by h.header.kind s.lists h.front.peer h.header (body_of b)) bytes ∙ sym h.facts in
-      walked-goes Sound sound-stays hand s x t i (subst (λ (y : List Fact). Walks hand s.clock s.lists y) same walk) h.goes
+      walked-goes RightNode right-stays hand s x t i (subst (λ (y : List Fact). Walks hand s.clock s.lists y) same walk) h.goes
 
   -- a poll at the node's clock
-  pub poll-fine : (timeout : ℕ) → Fine Sound hand (Then HandlesAll (Then (WatchesAll timeout) (Then PostsAll (Then SendsAll Closes))))
+  pub poll-fine : (timeout : ℕ) → Fine RightNode hand (Then FinishesAll (Then HandlesAll (Then (WatchesAll timeout) (Then PostsAll (Then SendsAll Closes)))))
   poll-fine timeout =
-      fine-then Sound hand HandlesAll _ (fine-until Sound hand Handles _ handles-fine)
-      (fine-then Sound hand (WatchesAll timeout) _ (watches-all Sound sound-stays hand timeout)
-      (fine-then Sound hand PostsAll _ (posts-all Sound sound-stays hand)
-      (fine-then Sound hand SendsAll Closes (sends-all Sound sound-stays hand) (closes-fine Sound sound-stays hand))))
+      fine-then RightNode hand FinishesAll _ (finishes-all hand)
+      (fine-then RightNode hand HandlesAll _ (fine-until RightNode hand Handles _ handles-fine)
+      (fine-then RightNode hand (WatchesAll timeout) _ (watches-all RightNode right-stays hand timeout)
+      (fine-then RightNode hand PostsAll _ (posts-all RightNode right-stays hand)
+      (fine-then RightNode hand SendsAll Closes (sends-all RightNode right-stays hand) (closes-fine RightNode right-stays hand)))))

@@ -1,6 +1,6 @@
 -- The server rule, read backwards: what its rows say of the packet at the front of the ring.
-use Rattle.std.proofs.Common.{◌≡◌, ◌<◌, ◌==◌, ◌&&◌, ◌||◌, ℕ, nat_lt, Bool, true, false, not, cond, List, [], ◌∷◌, ◌++◌, map, Option, Some, None, refl, sym, subst, arith, ltb-true, ltb-false}
-use Rattle.std.specs.List.{find, list_any}
+use Rattle.std.proofs.Common.{◌≡◌, ◌<◌, ◌==◌, ◌&&◌, ◌||◌, ℕ, nat_lt, Bool, true, false, not, cond, List, [], ◌∷◌, ◌++◌, map, Option, Some, None, refl, sym, ap, ◌∙◌, subst, arith, ltb-true, ltb-false}
+use Rattle.std.specs.List.{find, list_any, AllByRecursion}
 use Rattle.std.proofs.lemmas.Bool.{eqb-true, and_parts}
 use Rattle.packet_header.specs.Parts.{packet_count}
 use Rattle.packet_header.specs.declared.packet.Kind.{Kind}
@@ -9,7 +9,7 @@ use Rattle.packet_header.specs.declared.packet.MessageHeader.{MessageHeader}
 use Rattle.rpc_base.specs.declared.event.Event.TheVariants.{Flushed}
 use Rattle.rpc_base.specs.declared.owner.Owner.{Owner}
 use Rattle.rpc_base.specs.declared.owner.Owner.TheVariants.{Reply}
-use Rattle.rpc_base.specs.declared.state.DropReason.TheVariants.{WrongPeer, Old, NotFirst, Unserved, Mismatch, Ahead, Beyond}
+use Rattle.rpc_base.specs.declared.state.DropReason.TheVariants.{WrongPeer, Old, NotFirst, Unserved, Mismatch, Ahead, Beyond, Working, JobsFull}
 use Rattle.rpc_base.proofs.TakingLemmas.{find-passes}
 use Rattle.rpc_laws.specs.declared.rows.ServerRow.{ServerRow}
 use Rattle.rpc_laws.specs.declared.rows.ServerRow.TheVariants.{Drops, Begins, Takes, Repeats}
@@ -20,14 +20,16 @@ use Rattle.rpc_laws.specs.declared.tables.Served.{Served}
 use Rattle.rpc_laws.specs.declared.tables.Server.{Server}
 use Rattle.rpc_laws.specs.Facts.{plain}
 use Rattle.rpc_laws.specs.Front.{front_body}
+use Rattle.rpc_laws.specs.Jobs.{are_full}
 use Rattle.rpc_laws.specs.NodeLists.{after}
 use Rattle.rpc_laws.specs.Queues.{numbers_of}
 use Rattle.rpc_laws.specs.Requests.{is_server, is_request, in_slot_of}
-use Rattle.rpc_laws.specs.ServerTable.{is_rfr, new_row, own_row, slot_row, server_row, joined, is_past_end, took_facts, flushes, served_facts}
+use Rattle.rpc_laws.specs.ServerTable.{is_rfr, makes_job, is_worked_on, new_row, own_row, slot_row, server_row, joined, is_past_end, took_facts, flushes, served_facts}
 use Rattle.rpc_laws.specs.Service.{is_served}
 use Rattle.end_laws.proofs.Allowed.{Fronts, GoesOn, TakesOf, Walks}
 use Rattle.end_laws.proofs.AskSteps.{Taking, took-walk}
 use Rattle.end_laws.proofs.ListLemmas.{all-found}
+use Rattle.end_laws.proofs.Rights.{SlotRight, SlotsRight}
 use Rattle.end_laws.proofs.SlotLemmas.{Apart, Sound, find-any, slot-of-request, request-of-slot}
 
 -- a packet that goes by the server rule
@@ -38,39 +40,52 @@ IsAsk Cr = ⊥
 IsAsk Response = ⊥
 
 -- a new request begins
-new-by : (k : Kind) (a b : Bool) → IsAsk k → cond (is_rfr k || not a) (Drops NotFirst) (cond (not b) (Drops Unserved) Begins) ≡ Begins → (k ≡ Request) × (a ≡ true)
-new-by Request true b i h = (refl, refl)
-new-by Request false b i h = cc
-new-by Rfr a b i h = cc
-new-by Cr a b i h = absurd i
-new-by Response a b i h = absurd i
+new-by : (k : Kind) (a w b f : Bool) → IsAsk k → cond (is_rfr k || not a) (Drops NotFirst) (cond w (Drops Working) (cond (not b) (Drops Unserved) (cond f (Drops JobsFull) Begins))) ≡ Begins → (k ≡ Request) × (a ≡ true) × (w ≡ false)
+new-by Request true true b f i h = cc
+new-by Request true false true true i h = cc
+new-by Request true false true false i h = (refl, refl, refl)
+new-by Request true false false f i h = cc
+new-by Request false w b f i h = cc
+new-by Rfr a w b f i h = cc
+new-by Cr a w b f i h = absurd i
+new-by Response a w b f i h = absurd i
 
-new-not : (a b : Bool) (row : ServerRow) → cond a (Drops NotFirst) (cond b (Drops Unserved) Begins) ≡ row → (row ≡ Takes → ⊥) × (row ≡ Repeats → ⊥)
-new-not true b row h = (λ e. cc, λ e. cc)
-new-not false true row h = (λ e. cc, λ e. cc)
-new-not false false row h = (λ e. cc, λ e. cc)
+new-not : (a w b f : Bool) (row : ServerRow) → cond a (Drops NotFirst) (cond w (Drops Working) (cond b (Drops Unserved) (cond f (Drops JobsFull) Begins))) ≡ row → (row ≡ Takes → ⊥) × (row ≡ Repeats → ⊥)
+new-not true w b f row h = (λ e. cc, λ e. cc)
+new-not false true b f row h = (λ e. cc, λ e. cc)
+new-not false false true f row h = (λ e. cc, λ e. cc)
+new-not false false false true row h = (λ e. cc, λ e. cc)
+new-not false false false false row h = (λ e. cc, λ e. cc)
 
 -- the rows of the number that stands in its slot
-own-takes : (a b c d : Bool) → cond a (Drops Mismatch) (cond b (Drops Ahead) (cond c Repeats (cond d (Drops Beyond) Takes))) ≡ Takes → (a ≡ false) × (b ≡ false) × (c ≡ false) × (d ≡ false)
-own-takes true b c d h = cc
-own-takes false true c d h = cc
-own-takes false false true d h = cc
-own-takes false false false true h = cc
-own-takes false false false false h = (refl, refl, refl, refl)
+abbrev own-cond : (a b c w d f : Bool) → ServerRow
+own-cond a b c w d f = cond a (Drops Mismatch) (cond b (Drops Ahead) (cond c (cond w (Drops Working) Repeats) (cond d (Drops Beyond) (cond f (Drops JobsFull) Takes))))
 
-own-repeats : (a b c d : Bool) → cond a (Drops Mismatch) (cond b (Drops Ahead) (cond c Repeats (cond d (Drops Beyond) Takes))) ≡ Repeats → c ≡ true
-own-repeats true b c d h = cc
-own-repeats false true c d h = cc
-own-repeats false false true d h = refl
-own-repeats false false false true h = cc
-own-repeats false false false false h = cc
+own-takes : (a b c w d f : Bool) → own-cond a b c w d f ≡ Takes → (a ≡ false) × (b ≡ false) × (c ≡ false) × (d ≡ false)
+own-takes true b c w d f h = cc
+own-takes false true c w d f h = cc
+own-takes false false true true d f h = cc
+own-takes false false true false d f h = cc
+own-takes false false false w true f h = cc
+own-takes false false false w false true h = cc
+own-takes false false false w false false h = (refl, refl, refl, refl)
 
-own-begins : (a b c d : Bool) → cond a (Drops Mismatch) (cond b (Drops Ahead) (cond c Repeats (cond d (Drops Beyond) Takes))) ≡ Begins → ⊥
-own-begins true b c d h = cc
-own-begins false true c d h = cc
-own-begins false false true d h = cc
-own-begins false false false true h = cc
-own-begins false false false false h = cc
+own-repeats : (a b c w d f : Bool) → own-cond a b c w d f ≡ Repeats → c ≡ true
+own-repeats true b c w d f h = cc
+own-repeats false true c w d f h = cc
+own-repeats false false true w d f h = refl
+own-repeats false false false w true f h = cc
+own-repeats false false false w false true h = cc
+own-repeats false false false w false false h = cc
+
+own-begins : (a b c w d f : Bool) → own-cond a b c w d f ≡ Begins → ⊥
+own-begins true b c w d f h = cc
+own-begins false true c w d f h = cc
+own-begins false false true true d f h = cc
+own-begins false false true false d f h = cc
+own-begins false false false w true f h = cc
+own-begins false false false w false true h = cc
+own-begins false false false w false false h = cc
 
 not-false : (b : Bool) → not b ≡ false → b ≡ true
 not-false true h = refl
@@ -86,38 +101,41 @@ goes-on Cr q h i a d = absurd i
 goes-on Response q h i a d = absurd i
 
 -- the cases of a slot
-abbrev slot-cond : Bool → Bool → Served → MessageHeader → ServerRow
-slot-cond a b q h = cond a (Drops Old) (cond b (new_row h) (own_row q h))
+abbrev slot-cond : (full a b : Bool) → Served → MessageHeader → ServerRow
+slot-cond full a b q h = cond a (Drops Old) (cond b (new_row q.working full h) (own_row full q h))
 
-own-taken : (q : Served) (h : MessageHeader) → IsAsk h.kind → own_row q h ≡ Takes → (h.number ≡ q.taken) × GoesOn h.kind q h
-own-taken q h i e =
-    let t = own-takes (cond (is_rfr h.kind) (nat_lt h.number (packet_count q.size)) (not (h.req_type == q.req_type && h.size == q.size))) (nat_lt q.taken h.number) (nat_lt h.number q.taken) (is_rfr h.kind && is_past_end q.size q.answer h.number) e in
+not-new : (working full : Bool) (h : MessageHeader) (row : ServerRow) → new_row working full h ≡ row → (row ≡ Takes → ⊥) × (row ≡ Repeats → ⊥)
+not-new working full h row e = new-not (is_rfr h.kind || not (h.number == 0)) working (not (is_served h.req_type)) (makes_job h && full) row e
+
+own-taken : (full : Bool) (q : Served) (h : MessageHeader) → IsAsk h.kind → own_row full q h ≡ Takes → (h.number ≡ q.taken) × GoesOn h.kind q h
+own-taken full q h i e =
+    let t = own-takes (cond (is_rfr h.kind) (nat_lt h.number (packet_count q.size)) (not (h.req_type == q.req_type && h.size == q.size))) (nat_lt q.taken h.number) (nat_lt h.number q.taken) (is_worked_on q h) (is_rfr h.kind && is_past_end q.size q.answer h.number) (makes_job h && full) e in
     let low = ltb-false q.taken h.number t.1 in
     let high = ltb-false h.number q.taken t.2 in
     (omega arith, goes-on h.kind q h i t.0 t.3)
 
-slot-takes : (q : Served) (h : MessageHeader) (a b : Bool) → nat_lt h.request q.number ≡ a → nat_lt q.number h.request ≡ b → IsAsk h.kind → slot-cond a b q h ≡ Takes → (q.number ≡ h.request) × (h.number ≡ q.taken) × GoesOn h.kind q h
-slot-takes q h true b s t i e = cc
-slot-takes q h false true s t i e = absurd ((new-not _ _ (new_row h) refl).0 e)
-slot-takes q h false false s t i e =
+slot-takes : (full : Bool) (q : Served) (h : MessageHeader) (a b : Bool) → nat_lt h.request q.number ≡ a → nat_lt q.number h.request ≡ b → IsAsk h.kind → slot-cond full a b q h ≡ Takes → (q.number ≡ h.request) × (h.number ≡ q.taken) × GoesOn h.kind q h
+slot-takes full q h true b s t i e = cc
+slot-takes full q h false true s t i e = absurd ((not-new q.working full h _ refl).0 e)
+slot-takes full q h false false s t i e =
     let low = ltb-false h.request q.number s in
     let high = ltb-false q.number h.request t in
-    let own = own-taken q h i e in
+    let own = own-taken full q h i e in
     (omega arith, own.0, own.1)
 
-slot-repeats : (q : Served) (h : MessageHeader) (a b : Bool) → nat_lt h.request q.number ≡ a → nat_lt q.number h.request ≡ b → slot-cond a b q h ≡ Repeats → (q.number ≡ h.request) × (h.number < q.taken)
-slot-repeats q h true b s t e = cc
-slot-repeats q h false true s t e = absurd ((new-not _ _ (new_row h) refl).1 e)
-slot-repeats q h false false s t e =
+slot-repeats : (full : Bool) (q : Served) (h : MessageHeader) (a b : Bool) → nat_lt h.request q.number ≡ a → nat_lt q.number h.request ≡ b → slot-cond full a b q h ≡ Repeats → (q.number ≡ h.request) × (h.number < q.taken)
+slot-repeats full q h true b s t e = cc
+slot-repeats full q h false true s t e = absurd ((not-new q.working full h _ refl).1 e)
+slot-repeats full q h false false s t e =
     let low = ltb-false h.request q.number s in
     let high = ltb-false q.number h.request t in
-    let taken = own-repeats _ _ (nat_lt h.number q.taken) _ e in
+    let taken = own-repeats _ _ (nat_lt h.number q.taken) _ _ _ e in
     (omega arith, ltb-true h.number q.taken taken)
 
-slot-begins : (q : Served) (h : MessageHeader) (a b : Bool) → nat_lt h.request q.number ≡ a → nat_lt q.number h.request ≡ b → slot-cond a b q h ≡ Begins → (q.number < h.request) × (new_row h ≡ Begins)
-slot-begins q h true b s t e = cc
-slot-begins q h false true s t e = (ltb-true q.number h.request t, e)
-slot-begins q h false false s t e = absurd (own-begins _ _ _ _ e)
+slot-begins : (full : Bool) (q : Served) (h : MessageHeader) (a b : Bool) → nat_lt h.request q.number ≡ a → nat_lt q.number h.request ≡ b → slot-cond full a b q h ≡ Begins → (q.number < h.request) × (new_row q.working full h ≡ Begins)
+slot-begins full q h true b s t e = cc
+slot-begins full q h false true s t e = (ltb-true q.number h.request t, e)
+slot-begins full q h false false s t e = absurd (own-begins (cond (is_rfr h.kind) (nat_lt h.number (packet_count q.size)) (not (h.req_type == q.req_type && h.size == q.size))) (nat_lt q.taken h.number) (nat_lt h.number q.taken) (is_worked_on q h) (is_rfr h.kind && is_past_end q.size q.answer h.number) (makes_job h && full) e)
 
 -- the number that begins doesn't stand yet
 not-there : (r : ℕ) (slots : List Served) (b : Bool) → list_any (is_request r) slots ≡ b → Apart slots → ((q : Served) → find (in_slot_of r) slots ≡ Some q → q.number < r) → b ≡ false
@@ -128,73 +146,74 @@ not-there r slots true t a low =
     absurd (omega arith)
 not-there r slots false t a low = refl
 
-begins-of : (h : MessageHeader) (slots : List Served) → IsAsk h.kind → Apart slots → new_row h ≡ Begins → ((q : Served) → find (in_slot_of h.request) slots ≡ Some q → q.number < h.request) → TakesOf None slots h
-begins-of h slots i a e low =
-    let n = new-by h.kind (h.number == 0) (is_served h.req_type) i e in
-    (n.0, eqb-true h.number 0 n.1, not-there h.request slots _ refl a low, low)
+begins-of : (working full : Bool) (h : MessageHeader) (slots : List Served) → IsAsk h.kind → Apart slots → new_row working full h ≡ Begins → ((q : Served) → find (in_slot_of h.request) slots ≡ Some q → (q.number < h.request) × (q.working ≡ working)) → TakesOf None slots h
+begins-of working full h slots i a e low =
+    let n = new-by h.kind (h.number == 0) working (is_served h.req_type) (makes_job h && full) i e in
+    (n.0, eqb-true h.number 0 n.1, not-there h.request slots _ refl a (λ q f. (low q f).0), λ q f. ((low q f).0, (low q f).1 ∙ n.2))
 
-pub row-begins : (h : MessageHeader) (slots : List Served) (q : Option Served) → find (in_slot_of h.request) slots ≡ q → IsAsk h.kind → Apart slots → slot_row q h ≡ Begins → TakesOf None slots h
-row-begins h slots None is i a e = begins-of h slots i a e (λ q f. cc)
-row-begins h slots (Some l) is i a e =
-    let s = slot-begins l h _ _ refl refl e in
+pub row-begins : (full : Bool) (h : MessageHeader) (slots : List Served) (q : Option Served) → find (in_slot_of h.request) slots ≡ q → IsAsk h.kind → Apart slots → slot_row full q h ≡ Begins → TakesOf None slots h
+row-begins full h slots None is i a e = begins-of false full h slots i a e (λ q f. cc)
+row-begins full h slots (Some l) is i a e =
+    let s = slot-begins full l h _ _ refl refl e in
     let lt = s.0 in
-    begins-of h slots i a s.1 (λ q f. let same : l ≡ q = cc in subst (λ (z : Served). z.number < h.request) same lt)
+    begins-of l.working full h slots i a s.1 (λ q f. let same : l ≡ q = cc in (subst (λ (z : Served). z.number < h.request) same lt, ap (λ (z : Served). z.working) (sym same)))
 
 -- the rows that go on are of the request that stands there
 pub record Standing (slots : List Served) (h : MessageHeader) (q : Served) : Type 0 where
   pub in_slot : find (in_slot_of h.request) slots ≡ Some q
   pub number : q.number ≡ h.request
 
-pub row-takes : (h : MessageHeader) (slots : List Served) (q : Option Served) → find (in_slot_of h.request) slots ≡ q → IsAsk h.kind → slot_row q h ≡ Takes → (l : Served) × TakesOf (Some l) slots h
-row-takes h slots None is i e = absurd ((new-not _ _ (new_row h) refl).0 e)
-row-takes h slots (Some l) is i e =
-    let s = slot-takes l h _ _ refl refl i e in
+pub row-takes : (full : Bool) (h : MessageHeader) (slots : List Served) (q : Option Served) → find (in_slot_of h.request) slots ≡ q → IsAsk h.kind → slot_row full q h ≡ Takes → (l : Served) × TakesOf (Some l) slots h
+row-takes full h slots None is i e = absurd ((not-new false full h _ refl).0 e)
+row-takes full h slots (Some l) is i e =
+    let s = slot-takes full l h _ _ refl refl i e in
     (l, (request-of-slot h.request slots l is s.0, s.1, s.2))
 
-pub row-repeats : (h : MessageHeader) (slots : List Served) (q : Option Served) → find (in_slot_of h.request) slots ≡ q → slot_row q h ≡ Repeats → (l : Served) × Standing slots h l × (h.number < l.taken)
-row-repeats h slots None is e = absurd ((new-not _ _ (new_row h) refl).1 e)
-row-repeats h slots (Some l) is e =
-    let s = slot-repeats l h _ _ refl refl e in
+pub row-repeats : (full : Bool) (h : MessageHeader) (slots : List Served) (q : Option Served) → find (in_slot_of h.request) slots ≡ q → slot_row full q h ≡ Repeats → (l : Served) × Standing slots h l × (h.number < l.taken)
+row-repeats full h slots None is e = absurd ((not-new false full h _ refl).1 e)
+row-repeats full h slots (Some l) is e =
+    let s = slot-repeats full l h _ _ refl refl e in
     (l, record { in_slot = is; number = s.0 }, s.1)
 
 -- the older replies are flushed first
-flushed-then : (hand : Option InFlight) (clock : ℕ) (l : Lists) (front : Arrival) (h : MessageHeader) (v : Server) (going : Option Served) (owner : Owner) (ks : List ℕ) → Taking l front h v going → Walks hand clock l (map (λ k. plain l.me (Flushed owner k)) ks ++ took_facts l.me h (joined going (front_body l.ring)))
+flushed-then : (hand : Option InFlight) (clock : ℕ) (l : Lists) (front : Arrival) (h : MessageHeader) (v : Server) (going : Option Served) (owner : Owner) (ks : List ℕ) → Taking l front h v going → Walks hand clock l (map (λ k. plain l.me (Flushed owner k)) ks ++ took_facts l.me l.total h (joined going (front_body l.ring)))
 flushed-then hand clock l front h v going owner [] t = took-walk hand clock l front h v going t
 flushed-then hand clock l front h v going owner (k ∷ ks) t = (
   record { who = refl; may = tt },
   flushed-then hand clock (after clock l (plain l.me (Flushed owner k))) front h v going owner ks
-      (record { is_front = record { is_front = t.is_front.is_front; reads = t.is_front.reads }; found = t.found; of_peer = t.of_peer; takes = t.takes; apart = t.apart }),
+      (record { is_front = record { is_front = t.is_front.is_front; reads = t.is_front.reads }; found = t.found; of_peer = t.of_peer; takes = t.takes; apart = t.apart; right = t.right }),
 )
 
-flushes-then : (hand : Option InFlight) (clock : ℕ) (l : Lists) (front : Arrival) (h : MessageHeader) (v : Server) (going : Option Served) (session : ℕ) (old : Option Served) → Taking l front h v going → Walks hand clock l (flushes l.me l.queued session old ++ took_facts l.me h (joined going (front_body l.ring)))
+flushes-then : (hand : Option InFlight) (clock : ℕ) (l : Lists) (front : Arrival) (h : MessageHeader) (v : Server) (going : Option Served) (session : ℕ) (old : Option Served) → Taking l front h v going → Walks hand clock l (flushes l.me l.queued session old ++ took_facts l.me l.total h (joined going (front_body l.ring)))
 flushes-then hand clock l front h v going session None t = took-walk hand clock l front h v going t
 flushes-then hand clock l front h v going session (Some q) t =
     flushed-then hand clock l front h v going (Reply session q.number) (numbers_of (Reply session q.number) l.queued) t
 
 -- the facts of a row
-row-walk : (hand : Option InFlight) (clock : ℕ) (l : Lists) (front : Arrival) (h : MessageHeader) (v : Server) (row : ServerRow) → Fronts l front h → IsAsk h.kind → find (is_server h.session) l.servers ≡ Some v → front.peer ≡ v.way.peer → Apart v.slots → slot_row (find (in_slot_of h.request) v.slots) h ≡ row → Walks hand clock l (served_facts l.me l.queued (Some v) h (front_body l.ring) row)
-row-walk hand clock l front h v (Drops why) f i found peer a e = (record { who = refl; may = tt }, tt)
-row-walk hand clock l front h v Begins f i found peer a e =
-    let t = row-begins h v.slots _ refl i a e in
-    flushes-then hand clock l front h v None v.way.number (find (in_slot_of h.request) v.slots) (record { is_front = f; found = found; of_peer = peer; takes = t; apart = a })
-row-walk hand clock l front h v Takes f i found peer a e =
-    let t = row-takes h v.slots _ refl i e in
+row-walk : (hand : Option InFlight) (clock : ℕ) (l : Lists) (front : Arrival) (h : MessageHeader) (v : Server) (full : Bool) (row : ServerRow) → Fronts l front h → IsAsk h.kind → find (is_server h.session) l.servers ≡ Some v → front.peer ≡ v.way.peer → Apart v.slots → AllByRecursion SlotRight v.slots → slot_row full (find (in_slot_of h.request) v.slots) h ≡ row → Walks hand clock l (served_facts l.me l.total l.queued (Some v) h (front_body l.ring) row)
+row-walk hand clock l front h v full (Drops why) f i found peer a right e = (record { who = refl; may = tt }, tt)
+row-walk hand clock l front h v full Begins f i found peer a right e =
+    let t = row-begins full h v.slots _ refl i a e in
+    flushes-then hand clock l front h v None v.way.number (find (in_slot_of h.request) v.slots) (record { is_front = f; found = found; of_peer = peer; takes = t; apart = a; right = right })
+row-walk hand clock l front h v full Takes f i found peer a right e =
+    let t = row-takes full h v.slots _ refl i e in
     let there : find (is_request h.request) v.slots ≡ Some t.0 = t.1.0 in
-    rw there (took-walk hand clock l front h v (Some t.0) (record { is_front = f; found = found; of_peer = peer; takes = t.1; apart = a }))
-row-walk hand clock l front h v Repeats f i found peer a e =
-    let t = row-repeats h v.slots _ refl e in
+    rw there (took-walk hand clock l front h v (Some t.0) (record { is_front = f; found = found; of_peer = peer; takes = t.1; apart = a; right = right }))
+row-walk hand clock l front h v full Repeats f i found peer a right e =
+    let t = row-repeats full h v.slots _ refl e in
     (record { who = refl; may = tt }, (record { who = refl; may = record { server = v; found = found; request = t.0; in_slot = t.1.in_slot; number = t.1.number; was_taken = t.2 } }, tt))
 
-peer-walk : (hand : Option InFlight) (clock : ℕ) (l : Lists) (front : Arrival) (h : MessageHeader) (v : Server) (b : Bool) → (v.way.peer == front.peer) ≡ b → Fronts l front h → IsAsk h.kind → find (is_server h.session) l.servers ≡ Some v → Apart v.slots → Walks hand clock l (served_facts l.me l.queued (Some v) h (front_body l.ring) (cond (not b) (Drops WrongPeer) (slot_row (find (in_slot_of h.request) v.slots) h)))
-peer-walk hand clock l front h v true t f i found a =
-    row-walk hand clock l front h v (slot_row (find (in_slot_of h.request) v.slots) h) f i found (sym (eqb-true v.way.peer front.peer t)) a refl
-peer-walk hand clock l front h v false t f i found a = (record { who = refl; may = tt }, tt)
+peer-walk : (hand : Option InFlight) (clock : ℕ) (l : Lists) (front : Arrival) (h : MessageHeader) (v : Server) (full b : Bool) → (v.way.peer == front.peer) ≡ b → Fronts l front h → IsAsk h.kind → find (is_server h.session) l.servers ≡ Some v → Apart v.slots → AllByRecursion SlotRight v.slots → Walks hand clock l (served_facts l.me l.total l.queued (Some v) h (front_body l.ring) (cond (not b) (Drops WrongPeer) (slot_row full (find (in_slot_of h.request) v.slots) h)))
+peer-walk hand clock l front h v full true t f i found a right =
+    row-walk hand clock l front h v full (slot_row full (find (in_slot_of h.request) v.slots) h) f i found (sym (eqb-true v.way.peer front.peer t)) a right refl
+peer-walk hand clock l front h v full false t f i found a right = (record { who = refl; may = tt }, tt)
 
-session-walk : (hand : Option InFlight) (clock : ℕ) (l : Lists) (front : Arrival) (h : MessageHeader) (v : Option Server) → find (is_server h.session) l.servers ≡ v → Fronts l front h → IsAsk h.kind → Sound l → Walks hand clock l (served_facts l.me l.queued v h (front_body l.ring) (server_row v front.peer h))
-session-walk hand clock l front h None is f i s = (record { who = refl; may = tt }, tt)
-session-walk hand clock l front h (Some v) is f i s =
-    peer-walk hand clock l front h v _ refl f i is (all-found (λ v. Apart v.slots) (is_server h.session) l.servers v s is)
+session-walk : (hand : Option InFlight) (clock : ℕ) (l : Lists) (front : Arrival) (h : MessageHeader) (full : Bool) (v : Option Server) → find (is_server h.session) l.servers ≡ v → Fronts l front h → IsAsk h.kind → Sound l → SlotsRight l.servers → Walks hand clock l (served_facts l.me l.total l.queued v h (front_body l.ring) (server_row full v front.peer h))
+session-walk hand clock l front h full None is f i s right = (record { who = refl; may = tt }, tt)
+session-walk hand clock l front h full (Some v) is f i s right =
+    peer-walk hand clock l front h v full _ refl f i is (all-found (λ v. Apart v.slots) (is_server h.session) l.servers v s is)
+    (all-found (λ v. AllByRecursion SlotRight v.slots) (is_server h.session) l.servers v right is)
 
 -- a Request or an RFR is handled
-pub asks-walk : (hand : Option InFlight) (clock : ℕ) (l : Lists) (front : Arrival) (h : MessageHeader) → Fronts l front h → IsAsk h.kind → Sound l → Walks hand clock l (served_facts l.me l.queued (find (is_server h.session) l.servers) h (front_body l.ring) (server_row (find (is_server h.session) l.servers) front.peer h))
-asks-walk hand clock l front h f i s = session-walk hand clock l front h _ refl f i s
+pub asks-walk : (hand : Option InFlight) (clock : ℕ) (l : Lists) (front : Arrival) (h : MessageHeader) → Fronts l front h → IsAsk h.kind → Sound l → SlotsRight l.servers → Walks hand clock l (served_facts l.me l.total l.queued (find (is_server h.session) l.servers) h (front_body l.ring) (server_row (are_full l.jobs) (find (is_server h.session) l.servers) front.peer h))
+asks-walk hand clock l front h f i s right = session-walk hand clock l front h (are_full l.jobs) _ refl f i s right

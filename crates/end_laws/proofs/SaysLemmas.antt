@@ -29,7 +29,7 @@ use Rattle.rpc_laws.specs.Requests.{is_server, is_request}
 use Rattle.rpc_laws.specs.Sessions.{is_client}
 use Rattle.end_laws.proofs.Allowed.{MaySend}
 use Rattle.end_laws.proofs.ClientLemmas.{client-at}
-use Rattle.end_laws.proofs.Known.{Known, HasRun, SaysResponse, Says, Speaks, GoodProgress, GoodCall, GoodClient, GoodRun, GoodServed, GoodNode, answer_of}
+use Rattle.end_laws.proofs.Known.{Known, HasRun, SaysResponse, Says, Speaks, GoodProgress, GoodCall, GoodClient, GoodServed, GoodNode}
 use Rattle.end_laws.proofs.ListLemmas.{all-found}
 use Rattle.end_laws.proofs.ServerLemmas.{server-at}
 
@@ -73,21 +73,22 @@ module _ (k : Known) (n : ℕ) where
   ask-says l s r j (Some x) out g is h = call-says s x r j _ out (g.clients s x ((client-at k n l.clients s x g.clients is).0)) refl h
 
   -- a Response is of the answer of its run
-  answer-says : (way : Way) (q : Served) (j : ℕ) (answer : List ℕ) → (g : GoodServed k n way q) → GoodRun k n way.number q.number g.start.what answer → SaysResponse k n way.peer (record { kind = Response; req_type = q.req_type; size = length answer; session = way.other; number = j; request = q.number }) (part answer (j + 1 - packet_count q.size))
+  answer-says : (way : Way) (q : Served) (j : ℕ) (answer : List ℕ) → (g : GoodServed k n way q) → HasRun k n way.number q.number g.start.what answer → SaysResponse k n way.peer (record { kind = Response; req_type = q.req_type; size = length answer; session = way.other; number = j; request = q.number }) (part answer (j + 1 - packet_count q.size))
   answer-says way q j answer g run =
       let a = g.start.what in
       record {
         start = g.start;
         begun = g.begun;
         peer = sym (ap (λ (w : Way). w.peer) g.way_is);
-        ran = subst (λ (t : ℕ). HasRun k n t q.number a) (sym (ap (λ (w : Way). w.other) g.way_is)) run.ran;
-        size = ap length run.right;
-        piece = ap (λ (x : List ℕ). part x (j + 1 - packet_count q.size)) run.right ∙ ap (λ (s : ℕ). part (answer_of a) (j + 1 - packet_count s)) g.size;
+        answer = answer;
+        ran = subst (λ (t : ℕ). HasRun k n t q.number a answer) (sym (ap (λ (w : Way). w.other) g.way_is)) run;
+        size = refl;
+        piece = ap (λ (s : ℕ). part answer (j + 1 - packet_count s)) g.size;
       }
 
-  some-run : (way : Way) (q : Served) (answer : Option (List ℕ)) (a : List ℕ) (what : Asking) → q.answer ≡ answer → answer ≡ Some a → IfSome q.answer (GoodRun k n way.number q.number what) → GoodRun k n way.number q.number what a
+  some-run : (way : Way) (q : Served) (answer : Option (List ℕ)) (a : List ℕ) (what : Asking) → q.answer ≡ answer → answer ≡ Some a → IfSome q.answer (HasRun k n way.number q.number what) → HasRun k n way.number q.number what a
   some-run way q answer a what e f h =
-      subst (λ (o : Option (List ℕ)). IfSome o (GoodRun k n way.number q.number what)) (e ∙ f) h
+      subst (λ (o : Option (List ℕ)). IfSome o (HasRun k n way.number q.number what)) (e ∙ f) h
 
   server-says : (b : Bool) (way : Way) (q : Served) (j : ℕ) (answer : Option (List ℕ)) (out : Outgoing) → q.answer ≡ answer → GoodServed k n way q → cond b (Some (record { peer = way.peer; packet = Message (record { kind = Cr; req_type = 0; size = 0; session = way.other; number = j; request = q.number }); body = [] })) (option_map (λ answer. record { peer = way.peer; packet = Message (record { kind = Response; req_type = q.req_type; size = length answer; session = way.other; number = j; request = q.number }); body = part answer (j + 1 - packet_count q.size) }) answer) ≡ Some out → OutSays out
   server-says true way q j answer out e g h = some-says _ out h tt

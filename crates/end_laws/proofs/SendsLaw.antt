@@ -33,11 +33,14 @@ use Rattle.rpc_laws.specs.Packets.{client_packet, call_packet, ask_packet, reque
 use Rattle.rpc_laws.specs.Requests.{is_server, is_request, in_slot_of}
 use Rattle.rpc_laws.specs.Sessions.{is_client}
 use Rattle.end_laws.specs.Moments.{Moment, moved}
-use Rattle.end_laws.proofs.Allowed.{May, MaySend, IsAllowed}
+use Rattle.end_laws.proofs.Allowed.{May, MaySend}
 use Rattle.end_laws.proofs.Courses.{AtNode, Ends, Course, over, in_net, made, at_node, pairs, client_fact, server_fact, paired, noted_at, moved-node}
+use Rattle.end_laws.proofs.JobLemmas.{jobs-right, jobs-added}
 use Rattle.end_laws.proofs.ListLemmas.{Placed, all-found, all-map, all-at, all-add, set-other, set-placed, add-placed, find-add}
-use Rattle.end_laws.proofs.QueueLemmas.{TakenRight, SlotRight, Stood, QueueRight, RightNode, slots-right, queue-after, queued-right}
+use Rattle.end_laws.proofs.QueueLemmas.{Stood, QueueRight, RightNode, slots-right, queue-after, queued-right}
+use Rattle.end_laws.proofs.Rights.{TakenRight, SlotRight}
 use Rattle.end_laws.proofs.SlotLemmas.{Apart, sound-stays, slot-of-request}
+use Rattle.end_laws.proofs.Walks.{Stays}
 
 abbrev pub HasBody : Outgoing → Type 0
 HasBody out = HasLength out.packet (16 + length out.body)
@@ -66,7 +69,7 @@ reply-length way q k true answer out t e lt right h =
     subst HasBody (some-is _ out h) refl
 reply-length way q k false None out t e lt right h = cc
 reply-length way q k false (Some a) out t e lt right h =
-    let taken : TakenRight q.taken q.size (Some a) = subst (λ (o : Option (List ℕ)). TakenRight q.taken q.size o) e right in
+    let taken : TakenRight q.taken q.size (Some a) = subst (λ (o : Option (List ℕ)). TakenRight q.taken q.size o) e right.taken in
     let high = taken.1 in
     let above = packet_count_above (length a) in
     let low : k + 1 - packet_count q.size < packet_count (length a) = omega arith in
@@ -115,11 +118,12 @@ sent-right nodes n hand l (Sent peer o k) first second is i m = spells-own nodes
 sent-right nodes n hand l _ first second is i m = tt
 
 -- a node stays right by its own facts
-right-after : (hand : Option InFlight) (clock : ℕ) (l : Lists) (f : Fact) → RightNode l → IsAllowed hand l f → RightNode (after clock l f)
-right-after hand clock l f i a = record {
+pub right-stays : Stays RightNode
+right-stays hand clock l f a i = record {
   sound = sound-stays clock l f i.sound;
-  slots = slots-right hand l f.event f.first f.second a.may i.slots;
+  slots = slots-right hand l f.event f.first f.second i.jobs a.may i.slots;
   queue = all-map _ _ _ (λ q. queue-after hand l f.event f.first f.second q.owner q.number i.sound a.may) (queued-right hand l f.event f.first f.second a.may i.queue);
+  jobs = jobs-right hand l f.event f.first f.second i a.may;
 }
 
 server-added : (xs : List Server) (y : Server) (o : Owner) (k : ℕ) → QueueRight xs o k → QueueRight (xs ++ y ∷ []) o k
@@ -127,11 +131,16 @@ server-added xs y (Ask s r) k h = tt
 server-added xs y Control k h = tt
 server-added xs y (Reply t r) k h = record { server = h.server; found = find-add (is_server t) xs y h.server h.found; request = h.request; in_slot = h.in_slot; reached = h.reached; was_taken = h.was_taken }
 
-right-served : (clock m n credits : ℕ) (client server : Lists) → RightNode server → RightNode (after clock server (server_fact n m credits client server))
+-- so it does by a pairing
+pub right-client : (clock n m credits : ℕ) (client server : Lists) → RightNode client → RightNode (after clock client (client_fact n m credits client server))
+right-client clock n m credits client server i = record { sound = i.sound; slots = i.slots; queue = i.queue; jobs = i.jobs }
+
+pub right-served : (clock m n credits : ℕ) (client server : Lists) → RightNode server → RightNode (after clock server (server_fact n m credits client server))
 right-served clock m n credits client server i = record {
   sound = sound-stays clock server (server_fact n m credits client server) i.sound;
   slots = all-add (λ v. AllByRecursion SlotRight v.slots) server.servers _ i.slots tt;
   queue = all-map _ _ _ (λ q. server-added server.servers _ q.owner q.number) i.queue;
+  jobs = jobs-added server.servers _ server.jobs i.jobs;
 }
 
 abbrev pub AllRight : Moment → Type 0
@@ -139,14 +148,17 @@ AllRight w = Placed (λ n l. RightNode l) w.nodes
 
 pub right-noted : (w : Moment) (n : ℕ) (l : Lists) (f : Fact) → AtNode w n l f → AllRight w → AllRight (moved w f)
 right-noted w n l f a i =
-    let k : AllRight (noted_at w n l f) = set-placed (λ n l. RightNode l) w.nodes n l (after w.clock l f) a.is_node (right-after w.hand w.clock l f (i n l a.is_node) a.allowed) (λ j z ne is. i j z is) in
+    let k : AllRight (noted_at w n l f) = set-placed (λ n l. RightNode l) w.nodes n l (after w.clock l f) a.is_node (right-stays w.hand w.clock l f a.allowed (i n l a.is_node)) (λ j z ne is. i j z is) in
     subst AllRight (sym (moved-node w n l f a)) k
 
 pub right-net : (w : Moment) (f : Fact) → f.who ≡ Net → AllRight w → AllRight (moved w f)
 right-net w f who i = subst (λ (p : Who). Placed (λ n l. RightNode l) (nodes_at w.clock p w.nodes f)) (sym who) i
 
+pub right-new : (me ring : ℕ) → RightNode (new_lists me ring)
+right-new me ring = record { sound = tt; slots = tt; queue = tt; jobs = record { waiting = tt; worked = tt; once = λ t r. omega arith } }
+
 pub right-made : (w : Moment) (ring : ℕ) → AllRight w → Placed (λ n l. RightNode l) (w.nodes ++ new_lists (length w.nodes) ring ∷ [])
-right-made w ring i = add-placed (λ n l. RightNode l) w.nodes (new_lists (length w.nodes) ring) (record { sound = tt; slots = tt; queue = tt }) i
+right-made w ring i = add-placed (λ n l. RightNode l) w.nodes (new_lists (length w.nodes) ring) (right-new (length w.nodes) ring) i
 
 pub right-paired : (w : Moment) (n m credits : ℕ) (client server : Lists) → Ends w n m client server → AllRight w → AllRight (paired w n m credits client server)
 right-paired w n m credits client server e i =
@@ -154,7 +166,7 @@ right-paired w n m credits client server e i =
     let other : Fact = server_fact n m credits client server in
     let nodes1 : List Lists = slice_set w.nodes n (after w.clock client one) in
     let was = i n client e.is_client in
-    let placed1 : Placed (λ n l. RightNode l) nodes1 = set-placed (λ n l. RightNode l) w.nodes n client (after w.clock client one) e.is_client (record { sound = was.sound; slots = was.slots; queue = was.queue }) (λ j z ne is. i j z is) in
+    let placed1 : Placed (λ n l. RightNode l) nodes1 = set-placed (λ n l. RightNode l) w.nodes n client (after w.clock client one) e.is_client (right-client w.clock n m credits client server was) (λ j z ne is. i j z is) in
     let at : slice_get nodes1 m ≡ Some server = set-other w.nodes n m (after w.clock client one) (λ k. e.two (sym k)) ∙ e.is_server in
     let placed2 = set-placed (λ n l. RightNode l) nodes1 m server (after w.clock server other) at (right-served w.clock m n credits client server (placed1 m server at)) (λ j z ne is. placed1 j z is) in
     let first : changed w.clock (slice_get w.nodes n) n w.nodes one ≡ nodes1 = ap (λ (o : Option Lists). changed w.clock o n w.nodes one) e.is_client in

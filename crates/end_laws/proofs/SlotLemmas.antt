@@ -7,15 +7,16 @@ use Rattle.std.proofs.Common.{eq-eqb}
 use Rattle.packet_header.specs.declared.packet.MessageHeader.{MessageHeader}
 use Rattle.rpc_base.specs.Tables.{at_first, without_first}
 use Rattle.rpc_base.specs.declared.event.Event.{Event}
-use Rattle.rpc_base.specs.declared.event.Event.TheVariants.{PairedServer, Took, Ran}
+use Rattle.rpc_base.specs.declared.event.Event.TheVariants.{PairedServer, Took, Given, Ran}
 use Rattle.rpc_base.specs.declared.owner.Owner.TheVariants.{Ask, Reply, Control}
+use Rattle.rpc_base.specs.declared.fact.Fact.{Fact}
 use Rattle.rpc_laws.specs.declared.tables.Lists.{Lists}
 use Rattle.rpc_laws.specs.declared.tables.Served.{Served}
 use Rattle.rpc_laws.specs.declared.tables.Server.{Server}
 use Rattle.rpc_laws.specs.Front.{front_header, front_body}
-use Rattle.rpc_laws.specs.Requests.{is_server, is_request, in_slot_of, first_packet, next_packet, took_packet, answered, servers_after}
+use Rattle.rpc_laws.specs.NodeLists.{after}
+use Rattle.rpc_laws.specs.Requests.{is_server, is_request, in_slot_of, first_packet, next_packet, took_packet, given, answered, servers_after}
 use Rattle.end_laws.proofs.ListLemmas.{false-true, all-first, all-add}
-use Rattle.end_laws.proofs.Walks.{Stays}
 
 or-false : (a b : Bool) → (a || b) ≡ false → (a ≡ false) × (b ≡ false)
 or-false true b h = cc
@@ -71,6 +72,10 @@ module _ {A : Type 0} where
   any-find p [] x h = cc
   any-find p (z ∷ zs) x h = any-find-cons p z zs x (p z) h (any-find p zs x)
 
+-- a server session with other requests
+abbrev pub with_slots : (List Served → List Served) → Server → Server
+with_slots change v = record v { slots = change v.slots }
+
 -- no two requests are of one slot
 abbrev pub Apart : List Served → Type 0
 Apart [] = Unit {0}
@@ -125,6 +130,9 @@ apart-took r (Some h) body slots a = apart-took-by r h body slots (list_any (is_
 pub apart-answered : (r : ℕ) (answer : List ℕ) (slots : List Served) → Apart slots → Apart (at_first (is_request r) (answered answer) slots)
 apart-answered r answer slots a = apart-first (is_request r) (answered answer) slots (λ x. refl) a
 
+pub apart-given : (r : ℕ) (slots : List Served) → Apart slots → Apart (at_first (is_request r) given slots)
+apart-given r slots a = apart-first (is_request r) given slots (λ x. refl) a
+
 -- so are the requests of all sessions of a node
 abbrev pub Sound : Lists → Type 0
 Sound l = AllByRecursion (λ v. Apart v.slots) l.servers
@@ -135,11 +143,13 @@ sound-servers (Took (Reply t r) k) answer head body xs h =
     all-first (λ v. Apart v.slots) (λ v. Apart v.slots) (is_server t) _ xs (λ v a. a) (λ v is a. apart-took r head body v.slots a) h
 sound-servers (Took (Ask s r) k) answer head body xs h = h
 sound-servers (Took Control k) answer head body xs h = h
+sound-servers (Given t r) answer head body xs h =
+    all-first (λ v. Apart v.slots) (λ v. Apart v.slots) (is_server t) _ xs (λ v a. a) (λ v is a. apart-given r v.slots a) h
 sound-servers (Ran t r y) answer head body xs h =
     all-first (λ v. Apart v.slots) (λ v. Apart v.slots) (is_server t) _ xs (λ v a. a) (λ v is a. apart-answered r answer v.slots a) h
 sound-servers _ answer head body xs h = h
 
-pub sound-stays : Stays Sound
+pub sound-stays : (clock : ℕ) (l : Lists) (f : Fact) → Sound l → Sound (after clock l f)
 sound-stays clock l f h = sound-servers f.event f.second (front_header l.ring) (front_body l.ring) l.servers h
 
 -- the request of a number is the one of its slot

@@ -18,13 +18,9 @@ use Rattle.end_laws.specs.Genuine.{Travels}
 use Rattle.end_laws.specs.Moments.{Moment, moved, hand_of, hand_after}
 use Rattle.end_laws.proofs.Allowed.{May}
 use Rattle.end_laws.proofs.Courses.{AtNode, Ends, client_fact, server_fact, paired, noted_at, moved-node}
-use Rattle.end_laws.proofs.ListLemmas.{Placed, all-map, all-at, all-add, set-other, set-placed, add-placed}
+use Rattle.end_laws.proofs.ListLemmas.{Placed, all-append, all-map, all-at, all-add, set-other, set-placed, add-placed}
 
 module _ {A : Type 0} (P : A → Type 0) where
-  all-append : (xs ys : List A) → AllByRecursion P xs → AllByRecursion P ys → AllByRecursion P (xs ++ ys)
-  all-append [] ys h k = k
-  all-append (x ∷ xs) ys h k = (h.0, all-append xs ys h.1 k)
-
   all-take : (i : ℕ) (xs : List A) → AllByRecursion P xs → AllByRecursion P (take i xs)
   all-take zero xs h = tt
   all-take (suc i) [] h = tt

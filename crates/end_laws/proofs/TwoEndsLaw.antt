@@ -1,28 +1,36 @@
 -- What the two ends of a session hold is of one call.
-use Rattle.std.proofs.Common.{◌≡◌, ℕ, suc, List, [], ◌∷◌, Option, Some, None, refl, sym, ap, subst, Contains}
+use Rattle.std.proofs.Common.{◌≡◌, ℕ, suc, List, [], ◌∷◌, Option, Some, None, refl, sym, ap, ◌∙◌, subst, Contains}
 use Rattle.std.specs.Prelude.{IfSome}
 use Rattle.std.specs.List.{AllByRecursion}
+use Rattle.std.proofs.lemmas.Bool.{eqb-true}
+use Rattle.rpc_base.proofs.TakingLemmas.{find-passes}
 use Rattle.rpc_base.specs.declared.event.Event.TheVariants.{Ran}
 use Rattle.rpc_base.specs.declared.fact.Fact.{Fact}
 use Rattle.rpc_laws.specs.declared.tables.Asking.{Asking}
 use Rattle.rpc_laws.specs.declared.tables.Call.{Call}
+use Rattle.rpc_laws.specs.declared.tables.Job.{Job}
 use Rattle.rpc_laws.specs.declared.tables.Lists.{Lists}
 use Rattle.rpc_laws.specs.declared.tables.Progress.{Progress}
 use Rattle.rpc_laws.specs.declared.tables.Served.{Served}
+use Rattle.rpc_laws.specs.declared.tables.Server.{Server}
 use Rattle.rpc_laws.specs.declared.tables.Way.{Way}
 use Rattle.rpc_laws.specs.BufferSafety.{changed}
 use Rattle.rpc_laws.specs.Facts.{with_two}
 use Rattle.rpc_laws.specs.NodeLists.{after}
 use Rattle.rpc_laws.specs.OwnAnswer.{IsCallOf}
+use Rattle.rpc_laws.specs.Requests.{is_request}
 use Rattle.end_laws.specs.Moments.{Moment, moved, Always}
-use Rattle.end_laws.specs.TwoEnds.{IsOfCall, IsOfRun, IsOfSession, TwoEnds}
+use Rattle.end_laws.specs.TwoEnds.{HoldsCall, IsOfCall, IsOfJob, IsOfRun, IsOfSession, TwoEnds}
 use Rattle.end_laws.proofs.Courses.{Ends, Course, over, in_net, made, at_node, pairs, client_fact, paired}
 use Rattle.end_laws.proofs.GoodSteps.{good-net, good-made, good-node}
-use Rattle.end_laws.proofs.Known.{Known, Begin, GoodAnswer, GoodProgress, GoodCall, GoodClient, GoodRun, GoodServed, GoodServer, Good, IsTrue, answer_of, contains-more}
+use Rattle.end_laws.proofs.Known.{Known, Begin, GoodAnswer, GoodProgress, GoodCall, GoodClient, HasRun, GoodServed, GoodServer, GoodJob, GoodNode, Good, IsTrue, contains-more}
 use Rattle.end_laws.proofs.KnownLemmas.{if-map, ends-more}
-use Rattle.end_laws.proofs.ListLemmas.{Placed, all-map, all-add, set-placed}
+use Rattle.end_laws.proofs.ListLemmas.{Placed, all-both, all-map, all-found, all-add, set-placed}
 use Rattle.end_laws.proofs.OwnLaw.{good-paired}
 use Rattle.end_laws.proofs.OwnLemmas.{call-of}
+use Rattle.end_laws.proofs.RanLemmas.{job-start}
+use Rattle.end_laws.proofs.Rights.{JobFits}
+use Rattle.end_laws.proofs.ServerLemmas.{server-at}
 use Rattle.end_laws.proofs.SendsLaw.{AllRight, right-noted, right-net, right-made, right-paired}
 
 -- claims of each place are claims of all elements
@@ -31,22 +39,49 @@ placed-all P Q [] f h = tt
 placed-all P Q (x ∷ xs) f h = (f 0 x (h 0 x refl), placed-all (λ i. P (suc i)) Q xs (λ i. f (suc i)) (λ i. h (suc i)))
 
 module _ (k : Known) (is_true : IsTrue k) where
-  served-of : (m : ℕ) (way : Way) (q : Served) → GoodServed k m way q → IsOfCall k.past m way q
-  served-of m way q g =
+  holds-of : (m : ℕ) (way : Way) (q : Served) → (g : GoodServed k m way q) → HoldsCall k.past m way q g.start.what.number g.start.what.room g.start.what.ask
+  holds-of m way q g =
       let a = g.start.what in
       record {
-        call = a.number;
-        room = a.room;
-        ask = a.ask;
         own = call-of k.past way.peer way.other q.number g.start a.number m way.number q.number q.req_type a.ask (is_true.starts way.peer way.other q.number g.start g.begun) refl (ap (λ (w : Way). w.peer) g.way_is) (ap (λ (w : Way). w.other) g.way_is) refl (sym g.req_type) refl;
         size = g.size;
         parts = g.ask;
-        answer = if-map (GoodRun k m way.number q.number a) (λ answer. Contains k.past (with_two m (Ran way.number q.number q.req_type) a.ask answer)) q.answer (λ answer r. subst (λ (y : ℕ). Contains k.past (with_two m (Ran way.number q.number y) a.ask answer)) (sym g.req_type) (subst (λ (x : List ℕ). Contains k.past (with_two m (Ran way.number q.number a.req_type) a.ask x)) (sym r.right) r.ran)) g.answer;
+        answer = if-map (HasRun k m way.number q.number a) (λ answer. Contains k.past (with_two m (Ran way.number q.number q.req_type) a.ask answer)) q.answer (λ answer r. subst (λ (y : ℕ). Contains k.past (with_two m (Ran way.number q.number y) a.ask answer)) (sym g.req_type) (is_true.runs m way.number q.number _ r)) g.answer;
       }
+
+  served-of : (m : ℕ) (way : Way) (q : Served) → GoodServed k m way q → IsOfCall k.past m way q
+  served-of m way q g = record { call = g.start.what.number; room = g.start.what.room; ask = g.start.what.ask; holds = holds-of m way q g }
+
+  -- a job, and the request that stands for it
+  job-of-call : (m : ℕ) (l : Lists) (job : Job) → GoodNode k m l → JobFits l.servers job → GoodJob k m job → IsOfJob k.past m l.servers job
+  job-of-call m l job node fits g =
+      let v = fits.stands.server in
+      let q = fits.request in
+      let at = server-at k m l.servers job.session v node.servers fits.stands.found in
+      let server = node.servers job.session v at.0 in
+      let served = all-found (GoodServed k m v.way) (is_request job.request) v.slots q server.slots fits.stands.is_there in
+      let number : q.number ≡ job.request = eqb-true q.number job.request (find-passes (is_request job.request) v.slots q fits.stands.is_there) in
+      let same : g.start ≡ served.start = job-start k m v q job.session job.request g.end g.is_end g.start g.begun server.end number served in
+      let ask : job.ask ≡ served.start.what.ask = g.own ∙ ap (λ (b : Begin). b.what.ask) same in
+      record {
+        server = v;
+        found = fits.stands.found;
+        request = q;
+        stands = fits.stands.is_there;
+        working = fits.working;
+        of_type = g.req_type ∙ (ap (λ (b : Begin). b.what.req_type) same ∙ sym served.req_type);
+        call = served.start.what.number;
+        room = served.start.what.room;
+        holds = subst (λ (x : List ℕ). HoldsCall k.past m v.way q served.start.what.number served.start.what.room x) (sym ask) (holds-of m v.way q served);
+      }
+
+  jobs-of : (m : ℕ) (l : Lists) (jobs : List Job) → GoodNode k m l → AllByRecursion (JobFits l.servers) jobs → AllByRecursion (GoodJob k m) jobs → AllByRecursion (IsOfJob k.past m l.servers) jobs
+  jobs-of m l jobs node fits good =
+      all-map (λ j. JobFits l.servers j × GoodJob k m j) (IsOfJob k.past m l.servers) jobs (λ j h. job-of-call m l j node h.0 h.1) (all-both (JobFits l.servers) (GoodJob k m) jobs fits good)
 
   run-of : (way : Way) (a : Asking) (p : Progress) (answer : Option ℕ) → GoodAnswer k way a p.request p.got p.parts answer → IfSome answer (IsOfRun k.past way a p)
   run-of way a p None h = tt
-  run-of way a p (Some size) h = record { answer = answer_of a; ran = h.ran; sized = h.sized; parts = h.taken }
+  run-of way a p (Some size) h = record { answer = h.answer; ran = is_true.runs way.peer way.other p.request _ h.ran; sized = h.sized; parts = h.taken }
 
   session-of : (n : ℕ) (way : Way) (a : Asking) (p : Progress) → GoodProgress k n way a p → IsOfSession k.past n way a p
   session-of n way a p g =
@@ -59,12 +94,16 @@ module _ (k : Known) (is_true : IsTrue k) where
   call-is : (n : ℕ) (way : Way) (c : Call) → GoodCall k n way c → IfSome c.progress (IsOfSession k.past n way c.what)
   call-is n way c g = if-map (GoodProgress k n way c.what) (IsOfSession k.past n way c.what) c.progress (session-of n way c.what) g.progress
 
-pub good-ends : (w : Moment) → Good w → TwoEnds w
-good-ends w g =
+pub good-ends : (w : Moment) → AllRight w → Good w → TwoEnds w
+good-ends w i g =
     let k = g.known in
     record {
       servers = λ m l is. subst (λ (past : List Fact). AllByRecursion (λ v. AllByRecursion (IsOfCall past m v.way) v.slots) l.servers) g.past
           (placed-all (GoodServer k m) (λ v. AllByRecursion (IsOfCall k.past m v.way) v.slots) l.servers (λ t v s. all-map (GoodServed k m v.way) (IsOfCall k.past m v.way) v.slots (served-of k g.is_true m v.way) s.slots) ((g.nodes m l is).servers));
+      waiting = λ m l is. subst (λ (past : List Fact). AllByRecursion (IsOfJob past m l.servers) l.jobs.waiting) g.past
+          (let node = g.nodes m l is in jobs-of k g.is_true m l l.jobs.waiting node ((i m l is).jobs.waiting) node.waiting);
+      worked = λ m l is. subst (λ (past : List Fact). AllByRecursion (IsOfJob past m l.servers) l.jobs.worked) g.past
+          (let node = g.nodes m l is in jobs-of k g.is_true m l l.jobs.worked node ((i m l is).jobs.worked) node.worked);
       clients = λ n l is. subst (λ (past : List Fact). AllByRecursion (λ x. AllByRecursion (λ c. IfSome c.progress (IsOfSession past n x.way c.what)) x.calls) l.clients) g.past
           (placed-all (GoodClient k n) (λ x. AllByRecursion (λ c. IfSome c.progress (IsOfSession k.past n x.way c.what)) x.calls) l.clients (λ i x s. all-map (GoodCall k n x.way) (λ c. IfSome c.progress (IsOfSession k.past n x.way c.what)) x.calls (call-is k g.is_true n x.way) s.calls) ((g.nodes n l is).clients));
     }
@@ -74,22 +113,42 @@ module _ (f : Fact) (past : List Fact) where
   more-call : (n c m t r y room : ℕ) (ask : List ℕ) → IsCallOf past n c m t r y room ask → IsCallOf (f ∷ past) n c m t r y room ask
   more-call n c m t r y room ask h = record { session = h.session; ends = ends-more f past n h.session m t h.ends; asked = contains-more f _ past h.asked; begun = contains-more f _ past h.begun }
 
-  more-served : (m : ℕ) (way : Way) (q : Served) → IsOfCall past m way q → IsOfCall (f ∷ past) m way q
-  more-served m way q h = record {
-    call = h.call;
-    room = h.room;
-    ask = h.ask;
-    own = more-call way.peer h.call m way.number q.number q.req_type h.room h.ask h.own;
+  more-holds : (m : ℕ) (way : Way) (q : Served) (call room : ℕ) (ask : List ℕ) → HoldsCall past m way q call room ask → HoldsCall (f ∷ past) m way q call room ask
+  more-holds m way q call room ask h = record {
+    own = more-call way.peer call m way.number q.number q.req_type room ask h.own;
     size = h.size;
     parts = h.parts;
-    answer = if-map (λ a. Contains past (with_two m (Ran way.number q.number q.req_type) h.ask a)) (λ a. Contains (f ∷ past) (with_two m (Ran way.number q.number q.req_type) h.ask a)) q.answer (λ a c. contains-more f _ past c) h.answer;
+    answer = if-map (λ a. Contains past (with_two m (Ran way.number q.number q.req_type) ask a)) (λ a. Contains (f ∷ past) (with_two m (Ran way.number q.number q.req_type) ask a)) q.answer (λ a c. contains-more f _ past c) h.answer;
   }
+
+  more-served : (m : ℕ) (way : Way) (q : Served) → IsOfCall past m way q → IsOfCall (f ∷ past) m way q
+  more-served m way q h = record { call = h.call; room = h.room; ask = h.ask; holds = more-holds m way q h.call h.room h.ask h.holds }
 
   more-session : (n : ℕ) (way : Way) (a : Asking) (p : Progress) → IsOfSession past n way a p → IsOfSession (f ∷ past) n way a p
   more-session n way a p h = record {
     own = more-call n a.number way.peer way.other p.request a.req_type a.room a.ask h.own;
     answer = if-map (IsOfRun past way a p) (IsOfRun (f ∷ past) way a p) p.answer (λ size r. record { answer = r.answer; ran = contains-more f _ past r.ran; sized = r.sized; parts = r.parts }) h.answer;
   }
+
+  more-jobs : (m : ℕ) (servers : List Server) (jobs : List Job) → AllByRecursion (IsOfJob past m servers) jobs → AllByRecursion (IsOfJob (f ∷ past) m servers) jobs
+  more-jobs m servers jobs h =
+      all-map (IsOfJob past m servers) (IsOfJob (f ∷ past) m servers) jobs (λ j k. record {
+        server = k.server;
+        found = k.found;
+        request = k.request;
+        stands = k.stands;
+        working = k.working;
+        call = k.call;
+        room = k.room;
+        of_type = k.of_type;
+        holds = more-holds m k.server.way k.request k.call k.room j.ask k.holds;
+      }) h
+
+  abbrev WaitingOf : List Fact → ℕ → Lists → Type 0
+  WaitingOf p m l = AllByRecursion (IsOfJob p m l.servers) l.jobs.waiting
+
+  abbrev WorkedOf : List Fact → ℕ → Lists → Type 0
+  WorkedOf p m l = AllByRecursion (IsOfJob p m l.servers) l.jobs.worked
 
   abbrev ServersOf : List Fact → ℕ → Lists → Type 0
   ServersOf p m l = AllByRecursion (λ v. AllByRecursion (IsOfCall p m v.way) v.slots) l.servers
@@ -111,14 +170,18 @@ between-ends w n m credits client server e h =
     record {
       servers = subst (λ (ns : List Lists). Placed (ServersOf one w.past (one ∷ w.past)) ns) nodes_are
           (set-placed (ServersOf one w.past (one ∷ w.past)) w.nodes n client (after w.clock client one) e.is_client (more-servers one w.past n client (h.servers n client e.is_client)) (λ i l ne is. more-servers one w.past i l (h.servers i l is)));
+      waiting = subst (λ (ns : List Lists). Placed (WaitingOf one w.past (one ∷ w.past)) ns) nodes_are
+          (set-placed (WaitingOf one w.past (one ∷ w.past)) w.nodes n client (after w.clock client one) e.is_client (more-jobs one w.past n client.servers client.jobs.waiting (h.waiting n client e.is_client)) (λ i l ne is. more-jobs one w.past i l.servers l.jobs.waiting (h.waiting i l is)));
+      worked = subst (λ (ns : List Lists). Placed (WorkedOf one w.past (one ∷ w.past)) ns) nodes_are
+          (set-placed (WorkedOf one w.past (one ∷ w.past)) w.nodes n client (after w.clock client one) e.is_client (more-jobs one w.past n client.servers client.jobs.worked (h.worked n client e.is_client)) (λ i l ne is. more-jobs one w.past i l.servers l.jobs.worked (h.worked i l is)));
       clients = subst (λ (ns : List Lists). Placed (ClientsOf one w.past (one ∷ w.past)) ns) nodes_are
           (set-placed (ClientsOf one w.past (one ∷ w.past)) w.nodes n client (after w.clock client one) e.is_client new (λ i l ne is. more-clients one w.past i l (h.clients i l is)));
     }
 
 pub course-ends : (w : Moment) (h : List Fact) (u : Moment) → Course w h u → AllRight w → Good w → Always TwoEnds w h
-course-ends _ _ _ (over w) i g = good-ends w g
-course-ends _ _ _ (in_net w f h u who c) i g = (good-ends w g, course-ends (moved w f) h u c (right-net w f who i) (good-net w f who g))
-course-ends _ _ _ (made w ring h u c) i g = (good-ends w g, course-ends _ h u c (right-made w ring i) (good-made w ring g))
-course-ends _ _ _ (at_node w n l f h u a c) i g = (good-ends w g, course-ends (moved w f) h u c (right-noted w n l f a i) (good-node w n l f a i g))
+course-ends _ _ _ (over w) i g = good-ends w i g
+course-ends _ _ _ (in_net w f h u who c) i g = (good-ends w i g, course-ends (moved w f) h u c (right-net w f who i) (good-net w f who g))
+course-ends _ _ _ (made w ring h u c) i g = (good-ends w i g, course-ends _ h u c (right-made w ring i) (good-made w ring g))
+course-ends _ _ _ (at_node w n l f h u a c) i g = (good-ends w i g, course-ends (moved w f) h u c (right-noted w n l f a i) (good-node w n l f a i g))
 course-ends _ _ _ (pairs w n m credits client server h u e c) i g =
-    (good-ends w g, (between-ends w n m credits client server e (good-ends w g), course-ends (paired w n m credits client server) h u c (right-paired w n m credits client server e i) (good-paired w n m credits client server e g)))
+    (good-ends w i g, (between-ends w n m credits client server e (good-ends w i g), course-ends (paired w n m credits client server) h u c (right-paired w n m credits client server e i) (good-paired w n m credits client server e g)))

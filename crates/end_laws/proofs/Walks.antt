@@ -8,15 +8,15 @@ use Rattle.rpc_laws.specs.GoBackN.{Each}
 use Rattle.rpc_laws.specs.NodeLists.{after, after_all}
 use Rattle.rpc_laws.specs.Steps.{Rel, Goes, Then, Chain, Until, Visits, none, more}
 use Rattle.rpc_laws.proofs.RunLemmas.{after_all-append}
-use Rattle.end_laws.proofs.Allowed.{Walks}
+use Rattle.end_laws.proofs.Allowed.{IsAllowed, Walks}
 
 pub walks-append : (hand : Option InFlight) (clock : ℕ) (l : Lists) (x y : List Fact) → Walks hand clock l x → Walks hand clock (after_all clock l x) y → Walks hand clock l (x ++ y)
 walks-append hand clock l [] y h k = k
 walks-append hand clock l (f ∷ x) y h k = (h.0, walks-append hand clock (after clock l f) x y h.1 k)
 
--- what stays of a node's lists, whatever their facts
+-- what stays of a node's lists by each fact that is allowed
 abbrev pub Stays : (Lists → Type 0) → Type 0
-Stays Inv = (clock : ℕ) (l : Lists) (f : Fact) → Inv l → Inv (after clock l f)
+Stays Inv = (hand : Option InFlight) (clock : ℕ) (l : Lists) (f : Fact) → IsAllowed hand l f → Inv l → Inv (after clock l f)
 
 -- a step's facts are allowed at the node's clock, and leave the lists that they say
 pub record Walked (Inv : Lists → Type 0) (hand : Option InFlight) (s : Timed) (x : List Fact) (t : Timed) : Type 0 where
@@ -28,9 +28,9 @@ pub record Walked (Inv : Lists → Type 0) (hand : Option InFlight) (s : Timed) 
 abbrev pub Fine : (Lists → Type 0) → Option InFlight → Rel → Type 0
 Fine Inv hand P = (s : Timed) (x : List Fact) (t : Timed) → Inv s.lists → P s x t → Walked Inv hand s x t
 
-pub stays-all : (Inv : Lists → Type 0) → Stays Inv → (clock : ℕ) (l : Lists) (x : List Fact) → Inv l → Inv (after_all clock l x)
-stays-all Inv stays clock l [] i = i
-stays-all Inv stays clock l (f ∷ x) i = stays-all Inv stays clock (after clock l f) x (stays clock l f i)
+stays-all : (Inv : Lists → Type 0) → Stays Inv → (hand : Option InFlight) (clock : ℕ) (l : Lists) (x : List Fact) → Walks hand clock l x → Inv l → Inv (after_all clock l x)
+stays-all Inv stays hand clock l [] w i = i
+stays-all Inv stays hand clock l (f ∷ x) w i = stays-all Inv stays hand clock (after clock l f) x w.1 (stays hand clock l f w.0 i)
 
 -- a step that goes by its facts
 pub walked-goes : (Inv : Lists → Type 0) → Stays Inv → (hand : Option InFlight) (s : Timed) (x : List Fact) (t : Timed) → Inv s.lists → Walks hand s.clock s.lists x → Goes s x t → Walked Inv hand s x t
@@ -38,7 +38,7 @@ walked-goes Inv stays hand s x t i w g = record {
   walks = w;
   lists = ap (λ (u : Timed). u.lists) g;
   clock = ap (λ (u : Timed). u.clock) g;
-  inv = rw g (stays-all Inv stays s.clock s.lists x i);
+  inv = rw g (stays-all Inv stays hand s.clock s.lists x w i);
 }
 
 pub walked-none : (Inv : Lists → Type 0) (hand : Option InFlight) (s : Timed) (x : List Fact) (t : Timed) → Inv s.lists → x ≡ [] → t ≡ s → Walked Inv hand s x t

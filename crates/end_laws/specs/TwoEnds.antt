@@ -1,28 +1,53 @@
--- What the two ends of a session hold is of one call: the server's requests, and the answers that calls take.
-use Rattle.std.specs.Prelude.{ℕ, ◌≡◌, ◌+◌, ◌-◌, ◌*◌, Some, List, length, take, slice_get, IfSome, Contains}
-use Rattle.std.specs.List.{AllByRecursion}
+-- What the two ends of a session hold is of one call: the server's requests and jobs, and the answers that
+-- calls take.
+use Rattle.std.specs.Prelude.{ℕ, ◌≡◌, ◌+◌, ◌-◌, ◌*◌, ◌&&◌, ◌||◌, Bool, true, not, Some, is_none, List, [], length, take, slice_get, if◌then◌else◌, IfSome, Contains}
+use Rattle.std.specs.List.{find, AllByRecursion}
 use Rattle.rpc_base.specs.declared.event.Event.TheVariants.{Ran}
 use Rattle.rpc_base.specs.declared.fact.Fact.{Fact}
 use Rattle.rpc_laws.specs.declared.tables.Asking.{Asking}
+use Rattle.rpc_laws.specs.declared.tables.Job.{Job}
 use Rattle.rpc_laws.specs.declared.tables.Lists.{Lists}
 use Rattle.rpc_laws.specs.declared.tables.Progress.{Progress}
 use Rattle.rpc_laws.specs.declared.tables.Served.{Served}
+use Rattle.rpc_laws.specs.declared.tables.Server.{Server}
 use Rattle.rpc_laws.specs.declared.tables.Way.{Way}
 use Rattle.rpc_laws.specs.Calls.{asked_packets}
 use Rattle.rpc_laws.specs.Facts.{with_two}
 use Rattle.rpc_laws.specs.OwnAnswer.{IsCallOf}
+use Rattle.rpc_laws.specs.Requests.{is_server, is_request}
+use Rattle.rpc_laws.specs.Service.{is_background}
 use Rattle.end_laws.specs.Moments.{Moment, Always, first_moment}
 
--- the request in a slot of a server session is a call that its client end began with this number: of its type
--- and size, with its parts taken in turn. Its answer is that of its run
+-- the bytes of a request went away with a job: its type is Background, and a worker has it or gave its answer
+abbrev pub is_away : Served → Bool
+is_away q = (q.working || not (is_none q.answer)) && is_background q.req_type
+
+-- the request in a slot of a server session is this call, which its client end began with this number: of its
+-- type and size, with its parts taken in turn, until they went away. Its answer is that of its run
+pub record HoldsCall (past : List Fact) (m : ℕ) (way : Way) (q : Served) (call room : ℕ) (ask : List ℕ) : Type 0 where
+  pub own : IsCallOf past way.peer call m way.number q.number q.req_type room ask
+  pub size : q.size ≡ length ask
+  pub parts : q.ask ≡ (if is_away q then [] else take (1024 * q.taken) ask)
+  pub answer : IfSome q.answer (λ answer. Contains past (with_two m (Ran way.number q.number q.req_type) ask answer))
+
 pub record IsOfCall (past : List Fact) (m : ℕ) (way : Way) (q : Served) : Type 0 where
   pub call : ℕ
   pub room : ℕ
   pub ask : List ℕ
-  pub own : IsCallOf past way.peer call m way.number q.number q.req_type room ask
-  pub size : q.size ≡ length ask
-  pub parts : q.ask ≡ take (1024 * q.taken) ask
-  pub answer : IfSome q.answer (λ answer. Contains past (with_two m (Ran way.number q.number q.req_type) ask answer))
+  pub holds : HoldsCall past m way q call room ask
+
+-- a background job is of a request that stands in its slot, and that a worker has: of its type, with the whole
+-- bytes of the call that the slot holds
+pub record IsOfJob (past : List Fact) (m : ℕ) (servers : List Server) (job : Job) : Type 0 where
+  pub server : Server
+  pub found : find (is_server job.session) servers ≡ Some server
+  pub request : Served
+  pub stands : find (is_request job.request) server.slots ≡ Some request
+  pub working : request.working ≡ true
+  pub of_type : job.req_type ≡ request.req_type
+  pub call : ℕ
+  pub room : ℕ
+  pub holds : HoldsCall past m server.way request call room job.ask
 
 -- what a call has taken of an answer are the first parts of the answer that its own request's run gave
 pub record IsOfRun (past : List Fact) (way : Way) (a : Asking) (p : Progress) (size : ℕ) : Type 0 where
@@ -36,9 +61,12 @@ pub record IsOfSession (past : List Fact) (n : ℕ) (way : Way) (a : Asking) (p 
   pub own : IsCallOf past n a.number way.peer way.other p.request a.req_type a.room a.ask
   pub answer : IfSome p.answer (IsOfRun past way a p)
 
--- so it is for each request in a slot of a server session, and for each active call of a client session
+-- so it is for each request in a slot of a server session, for each job that waits or was worked, and for each
+-- active call of a client session
 pub record TwoEnds (w : Moment) : Type 0 where
   pub servers : (m : ℕ) (l : Lists) → slice_get w.nodes m ≡ Some l → AllByRecursion (λ v. AllByRecursion (IsOfCall w.past m v.way) v.slots) l.servers
+  pub waiting : (m : ℕ) (l : Lists) → slice_get w.nodes m ≡ Some l → AllByRecursion (IsOfJob w.past m l.servers) l.jobs.waiting
+  pub worked : (m : ℕ) (l : Lists) → slice_get w.nodes m ≡ Some l → AllByRecursion (IsOfJob w.past m l.servers) l.jobs.worked
   pub clients : (n : ℕ) (l : Lists) → slice_get w.nodes n ≡ Some l → AllByRecursion (λ x. AllByRecursion (λ c. IfSome c.progress (IsOfSession w.past n x.way c.what)) x.calls) l.clients
 
 -- so it is at each moment

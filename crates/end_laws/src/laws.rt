@@ -23,15 +23,18 @@ pub fn all_genuine()
 {}
 
 /// Each run of a handler is of a call that was asked and began before, on that call's own type and bytes, and
-/// gives the service's answer. Each call that ends well has the answer of a run of its own request, and one
-/// that ends for want of room has such an answer's size, which is above its room.
+/// gives the service's answer after what ran inline at its node before. Each call that ends well has the answer
+/// of a run of its own request, and one that ends for want of room has such an answer's size, which is above
+/// its room.
 pub fn answers_own()
     ensures { (script : List Line) (h : List Fact) → PairsTwoNodes script → Follows script h → Own h }
 {}
 
 /// At every moment the request in each slot of a server session is a call that the session's client end began
-/// with that number, of its type and size and with its first parts taken, and its answer is that of its run.
-/// What an active call has taken of an answer are the first parts of the answer of its own request's run.
+/// with that number, of its type and size and with its first parts taken, until they go away with a job, and its
+/// answer is that of its run. Each background job that waits or was worked is of such a request, which a worker
+/// has, and holds the whole bytes of its call. What an active call has taken of an answer are the first parts of
+/// the answer of its own request's run.
 pub fn two_ends()
     ensures { (script : List Line) (h : List Fact) → PairsTwoNodes script → Follows script h → AllTwoEnds h }
 {}

@@ -1,16 +1,17 @@
 -- What each fact needs of the lists before it.
-use Rattle.std.specs.Prelude.{ℕ, ◌≡◌, ◌≤◌, ◌<◌, true, false, Option, Some, None, List, [], ◌∷◌, length}
+use Rattle.std.specs.Prelude.{ℕ, ◌≡◌, ◌≤◌, ◌<◌, ◌⊎◌, true, false, Option, Some, None, List, [], ◌∷◌, length}
 use Rattle.std.specs.List.{find, list_any}
 use Rattle.packet_header.specs.Parts.{packet_count}
 use Rattle.packet_header.specs.declared.packet.MessageHeader.{MessageHeader}
 use Rattle.rpc_base.specs.Owners.{same_owner}
 use Rattle.rpc_base.specs.declared.event.Event.{Event}
-use Rattle.rpc_base.specs.declared.event.Event.TheVariants.{PairedClient, Asked, Begun, Posted, Arrived, Took, Ran, Worked, Rolled, DoneOk, DoneTooSmall, DonePeerLost}
+use Rattle.rpc_base.specs.declared.event.Event.TheVariants.{PairedClient, PairedServer, Asked, Begun, Posted, Arrived, Took, Given, Worked, Ran, Rolled, DoneOk, DoneTooSmall, DonePeerLost}
 use Rattle.rpc_base.specs.declared.fact.Fact.{Fact}
 use Rattle.rpc_base.specs.declared.owner.Owner.{Owner}
 use Rattle.rpc_base.specs.declared.owner.Owner.TheVariants.{Ask, Reply}
 use Rattle.rpc_laws.specs.declared.tables.Call.{Call}
 use Rattle.rpc_laws.specs.declared.tables.Client.{Client}
+use Rattle.rpc_laws.specs.declared.tables.Job.{Job}
 use Rattle.rpc_laws.specs.declared.tables.Lists.{Lists}
 use Rattle.rpc_laws.specs.declared.tables.Progress.{Progress}
 use Rattle.rpc_laws.specs.declared.tables.Queued.{Queued}
@@ -19,12 +20,13 @@ use Rattle.rpc_laws.specs.declared.tables.Server.{Server}
 use Rattle.rpc_laws.specs.Calls.{asked_packets, known_packets}
 use Rattle.rpc_laws.specs.ClientTable.{is_of_turn}
 use Rattle.rpc_laws.specs.Front.{front_header, front_body}
+use Rattle.rpc_laws.specs.Jobs.{is_job}
 use Rattle.rpc_laws.specs.NodeLists.{after}
 use Rattle.rpc_laws.specs.Posting.{is_taken, next_turn}
 use Rattle.rpc_laws.specs.Queues.{is_queued}
 use Rattle.rpc_laws.specs.Requests.{is_server, is_request, in_slot_of}
 use Rattle.rpc_laws.specs.Sessions.{is_client, is_connected}
-use Rattle.node_laws.proofs.Valid.{Place, Active}
+use Rattle.node_laws.proofs.Valid.{request_of, is_due, Place, Active}
 
 -- no packet of this owner is queued
 abbrev pub NoneQueued : Owner → List Queued → Type 0
@@ -113,32 +115,58 @@ abbrev pub Newer : ℕ → Option Served → Type 0
 Newer r None = Unit {0}
 Newer r (Some l) = l.number < r
 
--- a packet of a request that stands in its slot, or that is newer
+-- no reply to the newest request of a slot is queued
+abbrev pub NoneOlder : ℕ → Option Served → List Queued → Type 0
+NoneOlder session None queued = Unit {0}
+NoneOlder session (Some l) queued = NoneQueued (Reply session l.number) queued
+
+-- a packet of a request that stands in its slot, or of one that is newer than what stands there
 pub record MayServe (s : Lists) (session request : ℕ) : Type 0 where
   pub server : Server
   pub found : find (is_server session) s.servers ≡ Some server
+  pub header : MessageHeader
+  pub front : front_header s.ring ≡ Some header
   pub newer : list_any (is_request request) server.slots ≡ false → Newer request (find (in_slot_of request) server.slots)
+  pub clean : list_any (is_request request) server.slots ≡ false → NoneOlder session (find (in_slot_of request) server.slots) s.queued
 
--- a handler runs once all packets of its request are taken, and where it didn't
-pub record MayRun (s : Lists) (session request : ℕ) : Type 0 where
+-- a request that stands in its slot
+pub record Stands (servers : List Server) (session request : ℕ) : Type 0 where
+  pub served : Served
+  pub found : request_of session request servers ≡ Some served
+
+-- a request is run or given to a worker once all its packets are taken, and where neither was done
+pub record MayGive (s : Lists) (session request : ℕ) : Type 0 where
   pub server : Server
   pub found : find (is_server session) s.servers ≡ Some server
   pub served : Served
   pub is_served : find (is_request request) server.slots ≡ Some served
-  pub unanswered : served.answer ≡ None
+  pub due : is_due served ≡ true
   pub whole : packet_count served.size ≤ served.taken
+
+-- a job that waits is worked
+pub record MayWork (s : Lists) (session request : ℕ) : Type 0 where
+  pub job : Job
+  pub found : find (is_job session request) s.jobs.waiting ≡ Some job
+
+-- a job that was worked is finished
+pub record MayFinish (s : Lists) (session request : ℕ) : Type 0 where
+  pub job : Job
+  pub found : find (is_job session request) s.jobs.worked ≡ Some job
 
 -- what an event needs of the lists before it; the others need nothing
 abbrev pub Allowed : Lists → Event → Type 0
 Allowed s (PairedClient session peer server credits) = session ≡ length s.clients
+Allowed s (PairedServer session peer client credits) = session ≡ length s.servers
 Allowed s (Asked call session req_type room) = MayAsk s call session
 Allowed s (Begun call request) = MayBegin s call request
 Allowed s (Posted (Ask session request) number) = MayPost s session request number
+Allowed s (Posted (Reply session request) number) = Stands s.servers session request
 Allowed s (Arrived peer) = length s.ring < s.room
 Allowed s (Took (Ask session request) number) = MayTake s session request number
 Allowed s (Took (Reply session request) number) = MayServe s session request
-Allowed s (Ran session request req_type) = MayRun s session request
-Allowed s (Worked session request) = ⊥
+Allowed s (Given session request) = MayGive s session request
+Allowed s (Worked session request) = MayWork s session request
+Allowed s (Ran session request req_type) = MayGive s session request ⊎ MayFinish s session request
 Allowed s (Rolled call posted got) = MayRoll s call posted got
 Allowed s (DoneOk call) = MayEnd s call
 Allowed s (DoneTooSmall call size) = MayEnd s call

@@ -18,7 +18,7 @@ use Rattle.node_laws.proofs.Allowed.{Allowed, Leads}
 use Rattle.node_laws.proofs.FilterLemmas.{sum-filter}
 use Rattle.node_laws.proofs.RunLaws.{run_leads}
 use Rattle.node_laws.proofs.SpanLemmas.{packets-length}
-use Rattle.node_laws.proofs.Valid.{NumberedFrom, unanswered_of, unanswered_on, Sound, Valid}
+use Rattle.node_laws.proofs.Valid.{NumberedFrom, client_no, unanswered_of, unanswered_on, Sound, Valid}
 use Rattle.node_laws.proofs.ValidLemmas.{valid_after, valid_new}
 
 agrees-after : (clock : ℕ) (f : Fact) (a : Accounts) (s : Lists) → Valid s → Agrees a s → Allowed s f.event → Agrees (accounts_after f.event a) (after clock s f)
@@ -39,14 +39,14 @@ agrees-new me ring = record { sessions = refl; calls = λ n. refl; once = λ num
 abbrev Found : List Client → Client → Type 0
 Found xs y = find (is_client y.way.number) xs ≡ Some y
 
-later-found : (n m : ℕ) (x : Client) (ys zs : List Client) → x.way.number ≡ n → n < m → NumberedFrom m ys → AllByRecursion (Found zs) ys → AllByRecursion (Found (x ∷ zs)) ys
+later-found : (n m : ℕ) (x : Client) (ys zs : List Client) → x.way.number ≡ n → n < m → NumberedFrom client_no m ys → AllByRecursion (Found zs) ys → AllByRecursion (Found (x ∷ zs)) ys
 later-found n m x [] zs e h numbered all = tt
 later-found n m x (y ∷ ys) zs e h numbered all =
     let own = numbered.0 in
     let other : eqb x.way.number y.way.number ≡ false = ne_eqb x.way.number y.way.number (λ i. omega arith) in
     (rw other all.0, later-found n (suc m) x ys zs e (omega arith) numbered.1 all.1)
 
-all-found : (n : ℕ) (xs : List Client) → NumberedFrom n xs → AllByRecursion (Found xs) xs
+all-found : (n : ℕ) (xs : List Client) → NumberedFrom client_no n xs → AllByRecursion (Found xs) xs
 all-found n [] h = tt
 all-found n (x ∷ xs) h =
     let own : eqb x.way.number x.way.number ≡ true = eq-eqb x.way.number x.way.number refl in

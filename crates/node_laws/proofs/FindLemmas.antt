@@ -1,6 +1,6 @@
 -- What is found of those that pass a test, where the first that passes another changes, leaves or is added.
-use Rattle.std.proofs.Common.{◌≡◌, ℕ, zero, suc, ◌≤◌, Bool, true, false, ◌||◌, cond, Option, Some, None, List, [], ◌∷◌, ◌++◌, refl, ap, ◌∙◌, arith}
-use Rattle.std.specs.Prelude.{count_by, slice_get}
+use Rattle.std.proofs.Common.{◌≡◌, ℕ, zero, suc, ◌≤◌, Bool, true, false, ◌||◌, cond, Option, Some, None, List, [], ◌∷◌, ◌++◌, refl, sym, ap, ◌∙◌, arith}
+use Rattle.std.specs.Prelude.{count_by, option_map, slice_get}
 use Rattle.std.specs.List.{AllByRecursion, find, list_any}
 use Rattle.rpc_base.specs.Tables.{at_first, without_first}
 use Rattle.node_laws.proofs.TableLemmas.{counted-cons}
@@ -131,6 +131,26 @@ module _ {A : Type 0} (p q : A → Bool) (x : A) where
   pub this-changed : (f : A → A) (xs : List A) → q x ≡ false → q (f x) ≡ false → find p xs ≡ Some x → find q (at_first p f xs) ≡ find q xs
   this-changed f [] t n e = refl
   this-changed f (y ∷ ys) t n e = new-by f y ys (p y) t n (this-changed f ys t n) e
+
+-- the one that is found is changed
+module _ {A : Type 0} (p : A → Bool) (f : A → A) (same : (x : A) → p (f x) ≡ p x) where
+  mapped-by : (y : A) (ys : List A) (b : Bool) → p (f y) ≡ b → find p (at_first p f ys) ≡ option_map f (find p ys) → find p (cond b (f y ∷ ys) (y ∷ at_first p f ys)) ≡ option_map f (cond b (Some y) (find p ys))
+  mapped-by y ys true t ih = rw t refl
+  mapped-by y ys false t ih = let fails : p y ≡ false = sym (same y) ∙ t in rw fails ih
+
+  pub mapped-found : (xs : List A) → find p (at_first p f xs) ≡ option_map f (find p xs)
+  mapped-found [] = refl
+  mapped-found (y ∷ ys) = mapped-by y ys (p y) (same y) (mapped-found ys)
+
+-- what passes another test is found as before
+module _ {A : Type 0} (p q : A → Bool) (f : A → A) (same : (x : A) → q (f x) ≡ q x) (apart : (x : A) → p x ≡ true → q x ≡ false) where
+  unchanged-by : (y : A) (ys : List A) (b : Bool) → p y ≡ b → find q (at_first p f ys) ≡ find q ys → find q (cond b (f y ∷ ys) (y ∷ at_first p f ys)) ≡ find q (y ∷ ys)
+  unchanged-by y ys true t ih = rw (same y, apart y t) refl
+  unchanged-by y ys false t ih = ap (λ o. cond (q y) (Some y) o) ih
+
+  pub unchanged-found : (xs : List A) → find q (at_first p f xs) ≡ find q xs
+  unchanged-found [] = refl
+  unchanged-found (y ∷ ys) = unchanged-by y ys (p y) refl (unchanged-found ys)
 
 -- an element at a place, where at most one passes
 module _ {A : Type 0} (q : A → Bool) where

@@ -50,7 +50,7 @@ no-more-same qs owner k = omega arith
 pub no-more-join : (qs rs ts : List Queued) → NoMore qs rs → NoMore rs ts → NoMore qs ts
 no-more-join qs rs ts h g owner k = let first = h owner k in let second = g owner k in omega arith
 
-pub flushes-none : (clock : ℕ) (s : Lists) → Flushes clock s []
+unfoldable pub flushes-none : (clock : ℕ) (s : Lists) → Flushes clock s []
 flushes-none clock s = record { queue = s.queued; same = refl; fewer = no-more-same s.queued; allowed = tt }
 
 flushes-join : (clock : ℕ) (s : Lists) (x y : List Fact) (a : Flushes clock s x) → Flushes clock (record s { queued = a.queue }) y → Flushes clock s (x ++ y)

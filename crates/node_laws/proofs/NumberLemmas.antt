@@ -1,6 +1,6 @@
 -- Numbers of sessions and of calls: the session of a number, and the call of a number, stand alone.
 use Rattle.std.proofs.Common.{◌≡◌, ℕ, zero, suc, ◌+◌, ◌≤◌, ◌<◌, Bool, true, false, cond, eqb, leb, Some, List, [], ◌∷◌, ◌++◌, length, refl, ap, ◌∙◌, arith}
-use Rattle.std.specs.Prelude.{count_by, slice_get}
+use Rattle.std.specs.Prelude.{◌==◌, count_by, slice_get}
 use Rattle.std.specs.List.{find}
 use Rattle.std.proofs.lemmas.Bool.{eq-eqb, ne_eqb}
 use Rattle.std.proofs.lemmas.Bool.Decides.{nat_tests}
@@ -15,36 +15,49 @@ use Rattle.node_laws.proofs.TableLemmas.{found-own, found-le, any-counted, some-
 use Rattle.node_laws.proofs.Valid.{NumberedFrom, holders, Valid, Place}
 
 -- sessions
-pub numbered-push : (n : ℕ) (xs : List Client) (y : Client) → NumberedFrom n xs → y.way.number ≡ n + length xs → NumberedFrom n (xs ++ y ∷ [])
-numbered-push n [] y h e = (omega arith, tt)
-numbered-push n (x ∷ xs) y h e = (h.0, numbered-push (suc n) xs y h.1 (omega arith))
+module _ {A : Type 0} (number : A → ℕ) where
+  pub numbered-push : (n : ℕ) (xs : List A) (y : A) → NumberedFrom number n xs → number y ≡ n + length xs → NumberedFrom number n (xs ++ y ∷ [])
+  numbered-push n [] y h e = (omega arith, tt)
+  numbered-push n (x ∷ xs) y h e = (h.0, numbered-push (suc n) xs y h.1 (omega arith))
 
-module _ (p : Client → Bool) (f : Client → Client) (same : (x : Client) → (f x).way.number ≡ x.way.number) where
-  kept-cons : (n : ℕ) (y : Client) (ys : List Client) (b : Bool) → y.way.number ≡ n → NumberedFrom (suc n) ys → NumberedFrom (suc n) (at_first p f ys) → NumberedFrom n (cond b (f y ∷ ys) (y ∷ at_first p f ys))
-  kept-cons n y ys true here rest after = (same y ∙ here, rest)
-  kept-cons n y ys false here rest after = (here, after)
+  module _ (p : A → Bool) (f : A → A) (same : (x : A) → number (f x) ≡ number x) where
+    kept-cons : (n : ℕ) (y : A) (ys : List A) (b : Bool) → number y ≡ n → NumberedFrom number (suc n) ys → NumberedFrom number (suc n) (at_first p f ys) → NumberedFrom number n (cond b (f y ∷ ys) (y ∷ at_first p f ys))
+    kept-cons n y ys true here rest after = (same y ∙ here, rest)
+    kept-cons n y ys false here rest after = (here, after)
 
-  pub numbered-kept : (n : ℕ) (xs : List Client) → NumberedFrom n xs → NumberedFrom n (at_first p f xs)
-  numbered-kept n [] h = tt
-  numbered-kept n (y ∷ ys) h = kept-cons n y ys (p y) h.0 h.1 (numbered-kept (suc n) ys h.1)
+    pub numbered-kept : (n : ℕ) (xs : List A) → NumberedFrom number n xs → NumberedFrom number n (at_first p f xs)
+    numbered-kept n [] h = tt
+    numbered-kept n (y ∷ ys) h = kept-cons n y ys (p y) h.0 h.1 (numbered-kept (suc n) ys h.1)
 
-pub numbered-at : (n k : ℕ) (xs : List Client) (x : Client) → NumberedFrom n xs → slice_get xs k ≡ Some x → x.way.number ≡ n + k
-numbered-at n k [] x h e = cc
-numbered-at n zero (y ∷ ys) x h e =
-    let same : y ≡ x = cc in let number : y.way.number ≡ x.way.number = ap (λ (z : Client). z.way.number) same in let here = h.0 in omega arith
-numbered-at n (suc k) (y ∷ ys) x h e = let rest = numbered-at (suc n) k ys x h.1 e in omega arith
+  pub numbered-at : (n k : ℕ) (xs : List A) (x : A) → NumberedFrom number n xs → slice_get xs k ≡ Some x → number x ≡ n + k
+  numbered-at n k [] x h e = cc
+  numbered-at n zero (y ∷ ys) x h e =
+      let same : y ≡ x = cc in let own : number y ≡ number x = ap number same in let here = h.0 in omega arith
+  numbered-at n (suc k) (y ∷ ys) x h e = let rest = numbered-at (suc n) k ys x h.1 e in omega arith
 
-pub numbered-found : (n k : ℕ) (xs : List Client) (x : Client) → NumberedFrom n xs → slice_get xs k ≡ Some x → find (is_client x.way.number) xs ≡ Some x
-numbered-found n k [] x h e = cc
-numbered-found n zero (y ∷ ys) x h e =
-    let same : y ≡ x = cc in
-    let number : y.way.number ≡ x.way.number = ap (λ (z : Client). z.way.number) same in
-    rw (eq-eqb y.way.number x.way.number number) e
-numbered-found n (suc k) (y ∷ ys) x h e =
-    let number = numbered-at (suc n) k ys x h.1 e in
-    let here = h.0 in
-    let other : eqb y.way.number x.way.number ≡ false = ne_eqb y.way.number x.way.number (λ s. omega arith) in
-    rw other (numbered-found (suc n) k ys x h.1 e)
+  pub numbered-found : (n k : ℕ) (xs : List A) (x : A) → NumberedFrom number n xs → slice_get xs k ≡ Some x → find (λ y. number y == number x) xs ≡ Some x
+  numbered-found n k [] x h e = cc
+  numbered-found n zero (y ∷ ys) x h e =
+      let same : y ≡ x = cc in
+      let own : number y ≡ number x = ap number same in
+      rw (eq-eqb (number y) (number x) own) e
+  numbered-found n (suc k) (y ∷ ys) x h e =
+      let own = numbered-at (suc n) k ys x h.1 e in
+      let here = h.0 in
+      let other : eqb (number y) (number x) ≡ false = ne_eqb (number y) (number x) (λ s. omega arith) in
+      rw other (numbered-found (suc n) k ys x h.1 e)
+
+  -- the session of a number stands at it
+  pub numbered-get : (n k m : ℕ) (xs : List A) → NumberedFrom number n xs → m ≡ n + k → slice_get xs k ≡ find (λ y. number y == m) xs
+  numbered-get n k m [] h e = refl
+  numbered-get n zero m (y ∷ ys) h e =
+      let here = h.0 in
+      let own : eqb (number y) m ≡ true = eq-eqb (number y) m (omega arith) in
+      rw own refl
+  numbered-get n (suc k) m (y ∷ ys) h e =
+      let here = h.0 in
+      let other : eqb (number y) m ≡ false = ne_eqb (number y) m (λ s. omega arith) in
+      rw other (numbered-get (suc n) k m ys h.1 (omega arith))
 
 -- calls
 has-le : (number : ℕ) (x : Client) → cond (has_call number x) 1 0 ≤ count_by (is_call number) x.calls

@@ -2,7 +2,6 @@
 use Rattle.std.proofs.Common.{◌≡◌, ℕ, ◌+◌, ◌≤◌, Bool, true, false, ◌&&◌, cond, leb, List, [], ◌∷◌, arith}
 use Rattle.std.proofs.lemmas.List.Sums.{sum_by-cons}
 use Rattle.rpc_base.specs.declared.event.Event.{Event}
-use Rattle.rpc_base.specs.declared.event.Event.TheVariants.{Worked}
 use Rattle.rpc_base.specs.declared.fact.Fact.{Fact}
 use Rattle.rpc_laws.specs.declared.tables.Lists.{Lists}
 use Rattle.rpc_laws.specs.AtMostOnce.{is_at, runs_request, works_request, begins_call, ends_call, times, Once}
@@ -12,10 +11,10 @@ use Rattle.node_laws.specs.Laws.{HappensAtMostOnce}
 use Rattle.node_laws.proofs.Allowed.{Allowed, Leads}
 use Rattle.node_laws.proofs.BeginLemmas.{begin-spends}
 use Rattle.node_laws.proofs.EndLemmas.{end-spends}
+use Rattle.node_laws.proofs.JobLemmas.{work-spends, run-spends}
 use Rattle.node_laws.proofs.RunLaws.{run_leads}
-use Rattle.node_laws.proofs.ServantLemmas.{to_run, run-spends}
 use Rattle.node_laws.proofs.SpendLemmas.{to_begin, to_end}
-use Rattle.node_laws.proofs.Valid.{Valid}
+use Rattle.node_laws.proofs.Valid.{to_work, to_run, Valid}
 use Rattle.node_laws.proofs.ValidLemmas.{valid_after, valid_new}
 
 -- an event that passes the test takes one
@@ -44,16 +43,11 @@ begun-spends c = record { each = λ clock s f v h a. begin-spends c clock f.even
 done-spends : (c : ℕ) → Spends (ends_call c) (to_end c)
 done-spends c = record { each = λ clock s f v h a. end-spends c clock f.event f.first (front_header s.ring) (front_body s.ring) s v h a }
 
-ran-spends : (t r : ℕ) → Spends (runs_request t r) (λ s. to_run t r s.servers)
-ran-spends t r = record { each = λ clock s f v h a. run-spends t r f.event f.second (front_header s.ring) (front_body s.ring) s v a }
+ran-spends : (t r : ℕ) → Spends (runs_request t r) (to_run t r)
+ran-spends t r = record { each = λ clock s f v h a. run-spends t r s v clock f a }
 
--- no job is worked outside
-no-work : (t r : ℕ) (e : Event) (s : Lists) → Allowed s e → ◌≤◌ (cond (works_request t r e) 1 0 + 0) 0
-no-work t r (Worked n k) s a = absurd a
-no-work t r _ s a = omega arith
-
-worked-spends : (t r : ℕ) → Spends (works_request t r) (λ s. 0)
-worked-spends t r = record { each = λ clock s f v h a. no-work t r f.event s a }
+worked-spends : (t r : ℕ) → Spends (works_request t r) (to_work t r)
+worked-spends t r = record { each = λ clock s f v h a. work-spends t r s v clock f a }
 
 one-come : (b : Bool) → 0 + cond b 1 0 ≤ 1
 one-come true = omega arith
@@ -69,8 +63,8 @@ module _ (me ring : ℕ) (g : List Fact) (t : Lists) (l : Leads (new_lists me ri
 
   run-once : Once g
   run-once = record {
-    ran = λ m n r. once-of (runs_request n r) (λ s. to_run n r s.servers) (ran-spends n r) (omega arith) m;
-    worked = λ m n r. once-of (works_request n r) (λ s. 0) (worked-spends n r) (omega arith) m;
+    ran = λ m n r. once-of (runs_request n r) (to_run n r) (ran-spends n r) (omega arith) m;
+    worked = λ m n r. once-of (works_request n r) (to_work n r) (worked-spends n r) (omega arith) m;
     begun = λ n c. once-of (begins_call c) (to_begin c) (begun-spends c) (one-come (leb 0 c)) n;
     done = λ n c. once-of (ends_call c) (to_end c) (done-spends c) (one-come (leb 0 c)) n;
   }

@@ -20,7 +20,7 @@ use Rattle.node_laws.proofs.LeadsLemmas.{Lawful, lawful-then, lawful-notes, lawf
 use Rattle.node_laws.proofs.NumberLemmas.{numbered-found}
 use Rattle.node_laws.proofs.SpanLemmas.{span}
 use Rattle.node_laws.proofs.TableLemmas.{found-passes}
-use Rattle.node_laws.proofs.Valid.{Valid, Place}
+use Rattle.node_laws.proofs.Valid.{client_no, Valid, Place}
 
 -- the number at a place of numbers that follow one another
 module _ (p : ℕ → Bool) where
@@ -81,7 +81,7 @@ module _ (s : Lists) (e : Event) where
   begins-client : (i : ℕ) → Valid s → (o : Option Client) → slice_get s.clients i ≡ o → option_and_then beginning o ≡ Some e → Allowed s e
   begins-client i v None at h = cc
   begins-client i v (Some x) at h =
-      begins-call x (numbered-found 0 i s.clients x v.numbered at) (find is_waiting x.calls) refl h
+      begins-call x (numbered-found client_no 0 i s.clients x v.numbered at) (find is_waiting x.calls) refl h
 
   posts-call : (x : Client) (c : Call) → find (is_client x.way.number) s.clients ≡ Some x → find can_post x.calls ≡ Some c → 0 < x.free → (o : Option Progress) → c.progress ≡ o → has_postable c.what o ≡ true → next_packet x.way.number o ≡ Some e → Allowed s e
   posts-call x c found call credit None active able h = cc
@@ -119,7 +119,7 @@ module _ (s : Lists) (e : Event) where
   posts-client : (i : ℕ) → Valid s → (o : Option Client) → slice_get s.clients i ≡ o → option_and_then posting o ≡ Some e → Allowed s e
   posts-client i v None at h = cc
   posts-client i v (Some x) at h =
-      posts-free x (numbered-found 0 i s.clients x v.numbered at) (x.free == 0) refl h
+      posts-free x (numbered-found client_no 0 i s.clients x v.numbered at) (x.free == 0) refl h
 
 begun-allowed : (i : ℕ) (s : Lists) (e : Event) → Valid s → next_begun i s ≡ Some e → Allowed s e
 begun-allowed i s e v h = begins-client s e i v (slice_get s.clients i) refl h

@@ -1,58 +1,80 @@
 -- The server rule notes only what is allowed.
-use Rattle.std.proofs.Common.{◌≡◌, ℕ, ◌%◌, ◌<◌, Bool, true, false, not, cond, Option, Some, None, List, [], ◌∷◌, ◌++◌, refl, ap, arith}
-use Rattle.std.specs.Prelude.{◌==◌, is_some}
+use Rattle.std.proofs.Common.{◌≡◌, ℕ, ◌%◌, ◌<◌, Bool, true, false, not, ◌&&◌, cond, Option, Some, None, List, [], ◌∷◌, ◌++◌, refl, ap, ◌∙◌, inl, arith}
+use Rattle.std.specs.Prelude.{◌==◌}
 use Rattle.std.specs.List.{find, list_any}
 use Rattle.std.proofs.lemmas.Bool.{eqb-true, eq-eqb}
 use Rattle.packet_header.specs.Parts.{packet_count}
 use Rattle.packet_header.specs.declared.packet.MessageHeader.{MessageHeader}
 use Rattle.rpc_base.specs.Tables.{at_first, without_first}
-use Rattle.rpc_base.specs.declared.event.Event.TheVariants.{Posted, Took, Ran}
+use Rattle.rpc_base.specs.declared.event.Event.TheVariants.{Posted, Took, Given, Ran}
 use Rattle.rpc_base.specs.declared.owner.Owner.TheVariants.{Reply}
 use Rattle.rpc_base.specs.declared.state.DropReason.TheVariants.{NoSession, WrongPeer}
 use Rattle.rpc_laws.specs.declared.rows.ServerRow.{ServerRow}
 use Rattle.rpc_laws.specs.declared.rows.ServerRow.TheVariants.{Drops, Begins, Takes, Repeats}
 use Rattle.rpc_laws.specs.declared.tables.Lists.{Lists}
-use Rattle.rpc_laws.specs.declared.tables.Queued.{Queued}
 use Rattle.rpc_laws.specs.declared.tables.Served.{Served}
 use Rattle.rpc_laws.specs.declared.tables.Server.{Server}
 use Rattle.rpc_laws.specs.Facts.{plain, with_two}
 use Rattle.rpc_laws.specs.Front.{front_header, front_body}
+use Rattle.rpc_laws.specs.Jobs.{are_full}
 use Rattle.rpc_laws.specs.NodeLists.{after, after_all}
 use Rattle.rpc_laws.specs.PollOrder.{asks_facts}
-use Rattle.rpc_laws.specs.Requests.{is_server, is_request, in_slot_of, first_packet, next_packet, took_packet}
+use Rattle.rpc_laws.specs.Requests.{is_server, is_request, in_slot_of, first_packet, next_packet, took_packet, answered}
 use Rattle.rpc_laws.specs.ServerTable.{slot_row, server_row, is_last, took_facts, flushes, flushes_older, whole_ask, served_facts}
-use Rattle.rpc_laws.specs.Service.{answer_to}
-use Rattle.node_laws.proofs.Allowed.{Newer, MayServe, MayRun, AllAllowed}
+use Rattle.rpc_laws.specs.Service.{is_background, answer_with}
+use Rattle.node_laws.proofs.Allowed.{Newer, NoneOlder, MayServe, Stands, MayGive, AllAllowed}
 use Rattle.node_laws.proofs.FindLemmas.{push-found, none-found, missing-none}
-use Rattle.node_laws.proofs.FlushLemmas.{Flushes, flushes-none, flushes-owner}
+use Rattle.node_laws.proofs.FlushLemmas.{Flushes, no-more-same, flushes-none, flushes-owner}
 use Rattle.node_laws.proofs.LeadsLemmas.{allowed-join}
-use Rattle.node_laws.proofs.RowLemmas.{Starts, starts-slot, Continues, continues-slot, last-parts, not-begins, not-takes, drops-begins, drops-takes}
-use Rattle.node_laws.proofs.ServerLemmas.{RanWhole, few-requests, request-slot}
+use Rattle.node_laws.proofs.LookLemmas.{look-own}
+use Rattle.node_laws.proofs.QueueLemmas.{flushed-none}
+use Rattle.node_laws.proofs.RowLemmas.{Starts, starts-slot, Continues, continues-slot, repeats-slot, last-parts, not-begins, not-takes, not-repeats, drops-begins, drops-takes, drops-repeats}
+use Rattle.node_laws.proofs.ServerLemmas.{few-requests, request-slot}
 use Rattle.node_laws.proofs.TableLemmas.{found-holds, found-own, found-passes, found-changed, found-any, none-counted, sum-fewer}
-use Rattle.node_laws.proofs.Valid.{SoundServer, Valid}
+use Rattle.node_laws.proofs.Valid.{is_due, RunWhole, SoundServer, Valid}
 
 -- a row that holds of a session that is there, with its peer
-pub record Known (o : Option Server) (h : MessageHeader) (row : ServerRow) : Type 0 where
+pub record Known (full : Bool) (o : Option Server) (h : MessageHeader) (row : ServerRow) : Type 0 where
   pub server : Server
   pub is_server : o ≡ Some server
-  pub slot : slot_row (find (in_slot_of h.request) server.slots) h ≡ row
+  pub slot : slot_row full (find (in_slot_of h.request) server.slots) h ≡ row
 
-known-begins : (o : Option Server) (peer : ℕ) (h : MessageHeader) → server_row o peer h ≡ Begins → Known o h Begins
-known-begins None peer h e = absurd (drops-begins NoSession e)
-known-begins (Some v) peer h e =
+known-begins : (full : Bool) (o : Option Server) (peer : ℕ) (h : MessageHeader) → server_row full o peer h ≡ Begins → Known full o h Begins
+known-begins full None peer h e = absurd (drops-begins NoSession e)
+known-begins full (Some v) peer h e =
     let right = not-begins (not (v.way.peer == peer)) (Drops WrongPeer) _ (drops-begins WrongPeer) e in
     record { server = v; is_server = refl; slot = right.1 }
 
-known-takes : (o : Option Server) (peer : ℕ) (h : MessageHeader) → server_row o peer h ≡ Takes → Known o h Takes
-known-takes None peer h e = absurd (drops-takes NoSession e)
-known-takes (Some v) peer h e =
+known-takes : (full : Bool) (o : Option Server) (peer : ℕ) (h : MessageHeader) → server_row full o peer h ≡ Takes → Known full o h Takes
+known-takes full None peer h e = absurd (drops-takes NoSession e)
+known-takes full (Some v) peer h e =
     let right = not-takes (not (v.way.peer == peer)) (Drops WrongPeer) _ (drops-takes WrongPeer) e in
     record { server = v; is_server = refl; slot = right.1 }
 
--- the facts of a packet that is taken
-took-by : (clock : ℕ) (s : Lists) (me : ℕ) (h : MessageHeader) (ask : List ℕ) (b : Bool) → MayServe s h.session h.request → (b ≡ true → MayRun (after clock s (plain me (Took (Reply h.session h.request) h.number))) h.session h.request) → AllAllowed clock s (plain me (Took (Reply h.session h.request) h.number) ∷ (cond b (with_two me (Ran h.session h.request h.req_type) ask (answer_to h.req_type ask) ∷ []) []) ++ plain me (Posted (Reply h.session h.request) h.number) ∷ [])
-took-by clock s me h ask true serve run = (serve, (run refl, (tt, tt)))
-took-by clock s me h ask false serve run = (serve, (tt, tt))
+known-repeats : (full : Bool) (o : Option Server) (peer : ℕ) (h : MessageHeader) → server_row full o peer h ≡ Repeats → Known full o h Repeats
+known-repeats full None peer h e = absurd (drops-repeats NoSession e)
+known-repeats full (Some v) peer h e =
+    let right = not-repeats (not (v.way.peer == peer)) (Drops WrongPeer) _ (drops-repeats WrongPeer) e in
+    record { server = v; is_server = refl; slot = right.1 }
+
+-- a request that stands in its slot
+stands-at : (t r : ℕ) (servers : List Server) (v : Server) (q : Served) → find (is_server t) servers ≡ Some v → find (is_request r) v.slots ≡ Some q → Stands servers t r
+stands-at t r servers v q server served = record { served = q; found = rw (server, served) refl }
+
+-- it does so still after its run
+pub stands-ran : (t r : ℕ) (answer : List ℕ) (servers : List Server) → Stands servers t r → Stands (at_first (is_server t) (λ v. record v { slots = at_first (is_request r) (answered answer) v.slots }) servers) t r
+stands-ran t r answer servers a = record {
+  served = answered answer a.served;
+  found = look-own t r (answered answer) (λ q. refl) servers ∙ rw a.found refl;
+}
+
+-- the facts of a packet that is taken: the last one of a request runs it or gives it
+took-by : (clock : ℕ) (s : Lists) (me total : ℕ) (h : MessageHeader) (ask : List ℕ) (b c : Bool) → MayServe s h.session h.request → (b ≡ true → MayGive (after clock s (plain me (Took (Reply h.session h.request) h.number))) h.session h.request) → Stands (after clock s (plain me (Took (Reply h.session h.request) h.number))).servers h.session h.request → AllAllowed clock s (plain me (Took (Reply h.session h.request) h.number) ∷ cond (b && c) (plain me (Given h.session h.request) ∷ []) ((cond b (with_two me (Ran h.session h.request h.req_type) ask (answer_with total h.req_type ask) ∷ []) []) ++ plain me (Posted (Reply h.session h.request) h.number) ∷ []))
+took-by clock s me total h ask true true serve give stands = (serve, (give refl, tt))
+took-by clock s me total h ask true false serve give stands =
+    let ran = stands-ran h.session h.request (answer_with total h.req_type ask) (after clock s (plain me (Took (Reply h.session h.request) h.number))).servers stands in
+    (serve, (inl (give refl), (ran, tt)))
+took-by clock s me total h ask false c serve give stands = (serve, (stands, tt))
 
 module _ (clock : ℕ) (s : Lists) (v : Server) (sound : SoundServer v) (h : MessageHeader) (front : front_header s.ring ≡ Some h) (found : find (is_server h.session) s.servers ≡ Some v) where
   -- the server session after the packet is taken
@@ -75,8 +97,15 @@ module _ (clock : ℕ) (s : Lists) (v : Server) (sound : SoundServer v) (h : Mes
       let none = missing-by (find (is_request h.request) v.slots) refl newer in
       missing-none (is_request h.request) v.slots none
 
-  may-begin : Newer h.request (find (in_slot_of h.request) v.slots) → MayServe s h.session h.request
-  may-begin newer = record { server = v; found = found; newer = λ _. newer }
+  may-begin : Newer h.request (find (in_slot_of h.request) v.slots) → NoneOlder h.session (find (in_slot_of h.request) v.slots) s.queued → MayServe s h.session h.request
+  may-begin newer clean = record {
+    server = v;
+    found = found;
+    header = h;
+    front = front;
+    newer = λ _. newer;
+    clean = λ _. clean;
+  }
 
   first-found : (b : Bool) → b ≡ false → list_any (is_request h.request) v.slots ≡ false → find (is_request h.request) (cond b (at_first (is_request h.request) (next_packet (front_body s.ring)) v.slots) (without_first (in_slot_of h.request) v.slots ++ first_packet h.request h (front_body s.ring) ∷ [])) ≡ Some (first_packet h.request h (front_body s.ring))
   first-found true t none = cc
@@ -85,8 +114,17 @@ module _ (clock : ℕ) (s : Lists) (v : Server) (sound : SoundServer v) (h : Mes
       let fewer = sum-fewer (in_slot_of h.request) (λ (q : Served). cond (is_request h.request q) 1 0) v.slots in
       push-found (is_request h.request) (without_first (in_slot_of h.request) v.slots) (first_packet h.request h (front_body s.ring)) (none-found (is_request h.request) (without_first (in_slot_of h.request) v.slots) (omega arith)) (eq-eqb h.request h.request refl)
 
-  may-run-first : (me : ℕ) → Starts (find (in_slot_of h.request) v.slots) h → is_last h ≡ true → MayRun (after clock s (plain me (Took (Reply h.session h.request) h.number))) h.session h.request
-  may-run-first me starts last =
+  stands-as : (q : Served) → find (is_request h.request) (took_packet h.request (Some h) (front_body s.ring) v.slots) ≡ Some q → Stands (at_first (is_server h.session) (λ w. record w { slots = took_packet h.request (front_header s.ring) (front_body s.ring) w.slots }) s.servers) h.session h.request
+  stands-as q e =
+      stands-at h.session h.request (at_first (is_server h.session) (λ w. record w { slots = took_packet h.request (front_header s.ring) (front_body s.ring) w.slots }) s.servers) (record v { slots = took_packet h.request (Some h) (front_body s.ring) v.slots }) q next-server e
+
+  stands-first : Newer h.request (find (in_slot_of h.request) v.slots) → Stands (at_first (is_server h.session) (λ w. record w { slots = took_packet h.request (front_header s.ring) (front_body s.ring) w.slots }) s.servers) h.session h.request
+  stands-first newer =
+      let none = missing newer in
+      stands-as (first_packet h.request h (front_body s.ring)) (first-found (list_any (is_request h.request) v.slots) none none)
+
+  may-give-first : (me : ℕ) → Starts (find (in_slot_of h.request) v.slots) h → is_last h ≡ true → MayGive (after clock s (plain me (Took (Reply h.session h.request) h.number))) h.session h.request
+  may-give-first me starts last =
       let parts = last-parts h last in
       let first = starts.first in
       let count = parts.1 in
@@ -96,7 +134,7 @@ module _ (clock : ℕ) (s : Lists) (v : Server) (sound : SoundServer v) (h : Mes
         found = next-server;
         served = first_packet h.request h (front_body s.ring);
         is_served = first-found (list_any (is_request h.request) v.slots) none none;
-        unanswered = refl;
+        due = refl;
         whole = omega arith;
       }
 
@@ -109,23 +147,27 @@ module _ (clock : ℕ) (s : Lists) (v : Server) (sound : SoundServer v) (h : Mes
   may-go-on l e = record {
     server = v;
     found = found;
+    header = h;
+    front = front;
     newer = λ none. let some = found-any (is_request h.request) v.slots l e in cc;
+    clean = λ none. let some = found-any (is_request h.request) v.slots l e in cc;
   }
 
-  none-yet : (l : Served) (o : Option (List ℕ)) → l.answer ≡ o → RanWhole l → l.taken < packet_count l.size → o ≡ None
-  none-yet l None e whole more = refl
-  none-yet l (Some bytes) e whole more =
-      let some : is_some l.answer ≡ true = ap (λ (o : Option (List ℕ)). is_some o) e in
-      let all = whole some in
-      absurd (omega arith)
+  none-yet : (l : Served) (b : Bool) → is_due l ≡ b → RunWhole l → l.taken < packet_count l.size → b ≡ true
+  none-yet l true e whole more = refl
+  none-yet l false e whole more = let all = whole e in absurd (omega arith)
 
   next-found : (l : Served) (b : Bool) → b ≡ true → find (is_request h.request) v.slots ≡ Some l → find (is_request h.request) (cond b (at_first (is_request h.request) (next_packet (front_body s.ring)) v.slots) (without_first (in_slot_of h.request) v.slots ++ first_packet h.request h (front_body s.ring) ∷ [])) ≡ Some (next_packet (front_body s.ring) l)
   next-found l true t e =
       found-changed (is_request h.request) (next_packet (front_body s.ring)) (is_request h.request) l v.slots (found-passes (is_request h.request) v.slots l e) e e
   next-found l false t e = cc
 
-  may-run-next : (me : ℕ) (c : Continues (find (in_slot_of h.request) v.slots) h) → is_last h ≡ true → MayRun (after clock s (plain me (Took (Reply h.session h.request) h.number))) h.session h.request
-  may-run-next me c last =
+  stands-next : (l : Served) → find (is_request h.request) v.slots ≡ Some l → Stands (at_first (is_server h.session) (λ w. record w { slots = took_packet h.request (front_header s.ring) (front_body s.ring) w.slots }) s.servers) h.session h.request
+  stands-next l e =
+      stands-as (next_packet (front_body s.ring) l) (next-found l (list_any (is_request h.request) v.slots) (found-any (is_request h.request) v.slots l e) e)
+
+  may-give-next : (me : ℕ) (c : Continues (find (in_slot_of h.request) v.slots) h) → is_last h ≡ true → MayGive (after clock s (plain me (Took (Reply h.session h.request) h.number))) h.session h.request
+  may-give-next me c last =
       let l = c.served in
       let e : find (is_request h.request) v.slots ≡ Some l = own-found l c.is_served c.own in
       let parts = last-parts h last in
@@ -133,54 +175,67 @@ module _ (clock : ℕ) (s : Lists) (v : Server) (sound : SoundServer v) (h : Mes
       let size : h.size ≡ l.size = c.next.sized parts.0 in
       let counted : packet_count h.size ≡ packet_count l.size = ap packet_count size in
       let turn = c.next.turn in
-      let whole = found-holds (is_request h.request) RanWhole v.slots l sound.whole e in
+      let whole = found-holds (is_request h.request) RunWhole v.slots l sound.whole e in
       record {
         server = record v { slots = took_packet h.request (Some h) (front_body s.ring) v.slots };
         found = next-server;
         served = next_packet (front_body s.ring) l;
         is_served = next-found l (list_any (is_request h.request) v.slots) (found-any (is_request h.request) v.slots l e) e;
-        unanswered = none-yet l l.answer refl whole (omega arith);
+        due = none-yet l (is_due l) refl whole (omega arith);
         whole = omega arith;
       }
 
 -- flushing the older request
-slot-flushes : (clock : ℕ) (s : Lists) (me : ℕ) (queued : List Queued) (session : ℕ) (o : Option Served) → Flushes clock s (flushes me queued session o)
-slot-flushes clock s me queued session None = flushes-none clock s
-slot-flushes clock s me queued session (Some l) = flushes-owner clock s me queued (Reply session l.number)
+slot-flushed : (clock : ℕ) (s : Lists) (me session : ℕ) (o : Option Served) → (a : Flushes clock s (flushes me s.queued session o)) × NoneOlder session o a.queue
+unfolding flushes-owner flushes-none
+slot-flushed clock s me session None = (flushes-none clock s, tt)
+slot-flushed clock s me session (Some l) =
+    (flushes-owner clock s me s.queued (Reply session l.number), flushed-none (Reply session l.number) s.queued s.queued (no-more-same s.queued))
 
-older-flushes : (clock : ℕ) (s : Lists) (me : ℕ) (queued : List Queued) (o : Option Server) (r : ℕ) → Flushes clock s (flushes_older me queued o r)
-older-flushes clock s me queued None r = flushes-none clock s
-older-flushes clock s me queued (Some v) r =
-    slot-flushes clock s me queued v.way.number (find (in_slot_of r) v.slots)
+older-flushed : (clock : ℕ) (s : Lists) (me session r : ℕ) (o : Option Server) (v : Server) → o ≡ Some v → v.way.number ≡ session → (a : Flushes clock s (flushes_older me s.queued o r)) × NoneOlder session (find (in_slot_of r) v.slots) a.queue
+older-flushed clock s me session r None v e same = cc
+older-flushed clock s me session r (Some w) v e same =
+    let own : w ≡ v = cc in
+    rw (own, same) (slot-flushed clock s me session (find (in_slot_of r) v.slots))
 
 module _ (clock : ℕ) (s : Lists) (valid : Valid s) (h : MessageHeader) (front : front_header s.ring ≡ Some h) (peer : ℕ) where
-  begins-allowed : server_row (find (is_server h.session) s.servers) peer h ≡ Begins → AllAllowed clock s (served_facts s.me s.queued (find (is_server h.session) s.servers) h (front_body s.ring) Begins)
-  begins-allowed e =
-      let known = known-begins (find (is_server h.session) s.servers) peer h e in
+  begins-allowed : (full : Bool) → server_row full (find (is_server h.session) s.servers) peer h ≡ Begins → AllAllowed clock s (served_facts s.me s.total s.queued (find (is_server h.session) s.servers) h (front_body s.ring) Begins)
+  begins-allowed full e =
+      let known = known-begins full (find (is_server h.session) s.servers) peer h e in
       let v = known.server in
       let sound = found-holds (is_server h.session) SoundServer s.servers v valid.served known.is_server in
-      let starts = starts-slot (find (in_slot_of h.request) v.slots) h known.slot in
+      let starts = starts-slot full (find (in_slot_of h.request) v.slots) h known.slot in
       let older = flushes_older s.me s.queued (find (is_server h.session) s.servers) h.request in
-      let flushes = older-flushes clock s s.me s.queued (find (is_server h.session) s.servers) h.request in
-      let flushed = record s { queued = flushes.queue } in
-      let took : AllAllowed clock flushed (took_facts s.me h (front_body s.ring)) = took-by clock flushed s.me h (front_body s.ring) (is_last h) (may-begin clock flushed v sound h front known.is_server starts.newer) (may-run-first clock flushed v sound h front known.is_server s.me starts) in
-      let rest : AllAllowed clock (after_all clock s older) (took_facts s.me h (front_body s.ring)) = rw flushes.same took in
-      allowed-join clock s older (took_facts s.me h (front_body s.ring)) flushes.allowed rest
+      let number : v.way.number ≡ h.session = eqb-true v.way.number h.session (found-passes (is_server h.session) s.servers v known.is_server) in
+      let flushes = older-flushed clock s s.me h.session h.request (find (is_server h.session) s.servers) v known.is_server number in
+      let flushed = record s { queued = flushes.0.queue } in
+      let took : AllAllowed clock flushed (took_facts s.me s.total h (front_body s.ring)) = took-by clock flushed s.me s.total h (front_body s.ring) (is_last h) (is_background h.req_type) (may-begin clock flushed v sound h front known.is_server starts.newer flushes.1) (may-give-first clock flushed v sound h front known.is_server s.me starts) (stands-first clock flushed v sound h front known.is_server starts.newer) in
+      let rest : AllAllowed clock (after_all clock s older) (took_facts s.me s.total h (front_body s.ring)) = rw flushes.0.same took in
+      allowed-join clock s older (took_facts s.me s.total h (front_body s.ring)) flushes.0.allowed rest
 
-  takes-allowed : server_row (find (is_server h.session) s.servers) peer h ≡ Takes → AllAllowed clock s (served_facts s.me s.queued (find (is_server h.session) s.servers) h (front_body s.ring) Takes)
-  takes-allowed e =
-      let known = known-takes (find (is_server h.session) s.servers) peer h e in
+  takes-allowed : (full : Bool) → server_row full (find (is_server h.session) s.servers) peer h ≡ Takes → AllAllowed clock s (served_facts s.me s.total s.queued (find (is_server h.session) s.servers) h (front_body s.ring) Takes)
+  takes-allowed full e =
+      let known = known-takes full (find (is_server h.session) s.servers) peer h e in
       let v = known.server in
       let sound = found-holds (is_server h.session) SoundServer s.servers v valid.served known.is_server in
-      let goes = continues-slot (find (in_slot_of h.request) v.slots) h known.slot in
+      let goes = continues-slot full (find (in_slot_of h.request) v.slots) h known.slot in
       let own = own-found clock s v sound h front known.is_server goes.served goes.is_served goes.own in
-      took-by clock s s.me h (whole_ask (find (is_server h.session) s.servers) h.request (front_body s.ring)) (is_last h) (may-go-on clock s v sound h front known.is_server goes.served own) (may-run-next clock s v sound h front known.is_server s.me goes)
+      took-by clock s s.me s.total h (whole_ask (find (is_server h.session) s.servers) h.request (front_body s.ring)) (is_last h) (is_background h.req_type) (may-go-on clock s v sound h front known.is_server goes.served own) (may-give-next clock s v sound h front known.is_server s.me goes) (stands-next clock s v sound h front known.is_server goes.served own)
 
-  served-by : (row : ServerRow) → server_row (find (is_server h.session) s.servers) peer h ≡ row → AllAllowed clock s (served_facts s.me s.queued (find (is_server h.session) s.servers) h (front_body s.ring) row)
-  served-by (Drops why) e = (tt, tt)
-  served-by Begins e = begins-allowed e
-  served-by Takes e = takes-allowed e
-  served-by Repeats e = (tt, (tt, tt))
+  repeats-allowed : (full : Bool) → server_row full (find (is_server h.session) s.servers) peer h ≡ Repeats → AllAllowed clock s (served_facts s.me s.total s.queued (find (is_server h.session) s.servers) h (front_body s.ring) Repeats)
+  repeats-allowed full e =
+      let known = known-repeats full (find (is_server h.session) s.servers) peer h e in
+      let v = known.server in
+      let sound = found-holds (is_server h.session) SoundServer s.servers v valid.served known.is_server in
+      let again = repeats-slot full (find (in_slot_of h.request) v.slots) h known.slot in
+      let own = own-found clock s v sound h front known.is_server again.served again.is_served again.own in
+      (tt, (stands-at h.session h.request s.servers v again.served known.is_server own, tt))
+
+  served-by : (full : Bool) (row : ServerRow) → server_row full (find (is_server h.session) s.servers) peer h ≡ row → AllAllowed clock s (served_facts s.me s.total s.queued (find (is_server h.session) s.servers) h (front_body s.ring) row)
+  served-by full (Drops why) e = (tt, tt)
+  served-by full Begins e = begins-allowed full e
+  served-by full Takes e = takes-allowed full e
+  served-by full Repeats e = repeats-allowed full e
 
   pub asks-allowed : AllAllowed clock s (asks_facts s peer h (front_body s.ring))
-  asks-allowed = served-by (server_row (find (is_server h.session) s.servers) peer h) refl
+  asks-allowed = served-by (are_full s.jobs) (server_row (are_full s.jobs) (find (is_server h.session) s.servers) peer h) refl

@@ -27,7 +27,7 @@ use Rattle.node_laws.proofs.TableLemmas.{found-le, any-counted, none-counted}
 use Rattle.node_laws.proofs.TakenLemmas.{none-taken-after}
 use Rattle.node_laws.proofs.ToldLemmas.{NoneTaken, told-after}
 use Rattle.node_laws.proofs.TellLemmas.{count-new, ToldProgress, ToldCall, Told}
-use Rattle.node_laws.proofs.Valid.{holders, to_come}
+use Rattle.node_laws.proofs.Valid.{client_no, holders, to_come}
 
 -- what is told at a moment
 record Tells (past : List Fact) (s : Lists) : Type 0 where
@@ -127,8 +127,8 @@ module _ (past : List Fact) (s : Lists) (k : Tells past s) where
   tells-at n i x c client call =
       let valid = k.knows.valid in
       let once = valid.once c.what.number in
-      let number : x.way.number ≡ n = numbered-at 0 n s.clients x valid.numbered client ∙ zero-more n in
-      let found : find (is_client n) s.clients ≡ Some x = subst (λ (m : ℕ). find (is_client m) s.clients ≡ Some x) number (numbered-found 0 n s.clients x valid.numbered client) in
+      let number : x.way.number ≡ n = numbered-at client_no 0 n s.clients x valid.numbered client ∙ zero-more n in
+      let found : find (is_client n) s.clients ≡ Some x = subst (λ (m : ℕ). find (is_client m) s.clients ≡ Some x) number (numbered-found client_no 0 n s.clients x valid.numbered client) in
       let part = found-le (is_client n) (λ y. count_by (is_call c.what.number) y.calls) s.clients x found in
       tells-call n x c found (at-found (is_call c.what.number) x.calls i c (omega arith) call (eq-eqb c.what.number c.what.number refl))
     where

@@ -136,6 +136,16 @@ module _ {A : Type 0} (p : A → Bool) (f : A → A) where
   all-changed P (y ∷ ys) x e step all =
       changed-cons P y x ys (p y) step all.0 all.1 (λ g. all-changed P ys x g step all.1) e
 
+  first-cons : (P : A → Type 0) (y : A) (ys : List A) (b : Bool) → ((x : A) → cond b (Some y) (find p ys) ≡ Some x → P x → P (f x)) → P y → AllByRecursion P ys → (((x : A) → find p ys ≡ Some x → P x → P (f x)) → AllByRecursion P (at_first p f ys)) → AllByRecursion P (cond b (f y ∷ ys) (y ∷ at_first p f ys))
+  first-cons P y ys true step here rest after = (step y refl here, rest)
+  first-cons P y ys false step here rest after = (here, after step)
+
+  -- the same, whether one is found or not
+  pub all-first : (P : A → Type 0) (xs : List A) → ((x : A) → find p xs ≡ Some x → P x → P (f x)) → AllByRecursion P xs → AllByRecursion P (at_first p f xs)
+  all-first P [] step all = tt
+  all-first P (y ∷ ys) step all =
+      first-cons P y ys (p y) step all.0 all.1 (λ h. all-first P ys h all.1)
+
   sum-changed-cons : (g : A → ℕ) (y x : A) (ys : List A) (b : Bool) → (find p ys ≡ Some x → sum_by g (at_first p f ys) + g x ≡ sum_by g ys + g (f x)) → cond b (Some y) (find p ys) ≡ Some x → sum_by g (cond b (f y ∷ ys) (y ∷ at_first p f ys)) + g x ≡ sum_by g (y ∷ ys) + g (f x)
   sum-changed-cons g y x ys true ih e =
       let same : y ≡ x = cc in

@@ -25,7 +25,7 @@ use Rattle.node_laws.proofs.LeadsLemmas.{valid_after_all, allowed-join, Lawful, 
 use Rattle.node_laws.proofs.NumberLemmas.{numbered-found, by_number}
 use Rattle.node_laws.proofs.QueueLemmas.{flushed-none}
 use Rattle.node_laws.proofs.TableLemmas.{found-changed, found-passes}
-use Rattle.node_laws.proofs.Valid.{Valid, Place}
+use Rattle.node_laws.proofs.Valid.{client_no, Valid, Place}
 use Rattle.node_laws.proofs.ValidLemmas.{valid_after}
 
 -- a call of a session that broke, and what its calls leave when they end
@@ -109,7 +109,7 @@ module _ (clock timeout : ℕ) (s : Lists) (v : Valid s) where
   client-allowed : (i number : ℕ) (o : Option Client) → slice_get s.clients i ≡ o → AllAllowed clock s (client_facts clock timeout s.me s.queued number o)
   client-allowed i number None e = tt
   client-allowed i number (Some x) e =
-      call-allowed number x (numbered-found 0 i s.clients x v.numbered e) (find (is_call number) x.calls) refl
+      call-allowed number x (numbered-found client_no 0 i s.clients x v.numbered e) (find (is_call number) x.calls) refl
 
 watches-lawful : (timeout i number : ℕ) → Lawful (Watches timeout i number)
 watches-lawful timeout i number s x t v h =

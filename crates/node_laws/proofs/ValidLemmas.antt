@@ -8,9 +8,9 @@ use Rattle.std.proofs.lemmas.List.Sums.{sum_by_push}
 use Rattle.packet_header.specs.declared.packet.MessageHeader.{MessageHeader}
 use Rattle.rpc_base.specs.Tables.{at_first}
 use Rattle.rpc_base.specs.declared.event.Event.{Event}
-use Rattle.rpc_base.specs.declared.event.Event.TheVariants.{PairedClient, PairedServer, Asked, Begun, Posted, Sent, Arrived, Took, Ran, Again, Dropped, Rolled, Broken, DoneOk, DoneTooSmall, DonePeerLost}
+use Rattle.rpc_base.specs.declared.event.Event.TheVariants.{PairedClient, Asked, Begun, Posted, Sent, Arrived, Took, Again, Dropped, Rolled, Broken, DoneOk, DoneTooSmall, DonePeerLost}
 use Rattle.rpc_base.specs.declared.fact.Fact.{Fact}
-use Rattle.rpc_base.specs.declared.owner.Owner.TheVariants.{Ask, Reply}
+use Rattle.rpc_base.specs.declared.owner.Owner.TheVariants.{Ask}
 use Rattle.rpc_laws.specs.declared.tables.Arrival.{Arrival}
 use Rattle.rpc_laws.specs.declared.tables.Call.{Call}
 use Rattle.rpc_laws.specs.declared.tables.Client.{Client}
@@ -20,14 +20,14 @@ use Rattle.rpc_laws.specs.Front.{front_header, front_body}
 use Rattle.rpc_laws.specs.NodeLists.{after, asked_after, new_lists}
 use Rattle.rpc_laws.specs.Posting.{is_taken}
 use Rattle.rpc_laws.specs.Queues.{ring_after}
-use Rattle.rpc_laws.specs.Requests.{is_server, is_request, server_end, took_packet, answered, servers_after}
 use Rattle.rpc_laws.specs.Sessions.{is_client, has_call, client_end, asks, begins, posts, sends, takes, rolls, breaks, ends, clients_after}
 use Rattle.node_laws.proofs.Allowed.{Allowed, MayBegin, MayPost, MayTake, MayRoll, MayEnd, MayLose}
 use Rattle.node_laws.proofs.ChangeLemmas.{sound-made, sound-asks, sound-begins, sound-posts, sound-takes, sound-rolls, sound-sends, sound-breaks, sound-ends}
+use Rattle.node_laws.proofs.JobLemmas.{run-spends}
 use Rattle.node_laws.proofs.NumberLemmas.{numbered-push, numbered-kept, by_number}
-use Rattle.node_laws.proofs.ServerLemmas.{sound-took, sound-ran}
+use Rattle.node_laws.proofs.ServedLemmas.{ends-after, served-after}
 use Rattle.node_laws.proofs.TableLemmas.{all-push, all-kept, all-changed, sum-grown, sum-fewer}
-use Rattle.node_laws.proofs.Valid.{NumberedFrom, unanswered_of, Sound, SoundServer, holders, to_come, Valid}
+use Rattle.node_laws.proofs.Valid.{NumberedFrom, client_no, unanswered_of, Sound, holders, to_come, Valid}
 
 -- sessions stay sound
 module _ (clock : ℕ) (s : Lists) (v : Valid s) where
@@ -95,26 +95,26 @@ sound-after clock (DonePeerLost c) bytes s v a = lost-sound clock s v c a
 sound-after clock _ bytes s v a = v.sound
 
 -- sessions keep their numbers
-numbered-after : (clock : ℕ) (e : Event) (bytes : List ℕ) (head : Option MessageHeader) (body : List ℕ) (s : Lists) → NumberedFrom 0 s.clients → Allowed s e → NumberedFrom 0 (clients_after clock e bytes head body s.clients)
+numbered-after : (clock : ℕ) (e : Event) (bytes : List ℕ) (head : Option MessageHeader) (body : List ℕ) (s : Lists) → NumberedFrom client_no 0 s.clients → Allowed s e → NumberedFrom client_no 0 (clients_after clock e bytes head body s.clients)
 numbered-after clock (PairedClient n peer t credits) bytes head body s h a =
-    numbered-push 0 s.clients (client_end n peer t credits) h (omega arith)
+    numbered-push client_no 0 s.clients (client_end n peer t credits) h (omega arith)
 numbered-after clock (Asked c n y room) bytes head body s h a =
-    numbered-kept (is_client n) (asks (record { number = c; req_type = y; room = room; ask = bytes })) (λ x. refl) 0 s.clients h
-numbered-after clock (Begun c r) bytes head body s h a = numbered-kept (has_call c) (begins c r) (λ x. refl) 0 s.clients h
+    numbered-kept client_no (is_client n) (asks (record { number = c; req_type = y; room = room; ask = bytes })) (λ x. refl) 0 s.clients h
+numbered-after clock (Begun c r) bytes head body s h a = numbered-kept client_no (has_call c) (begins c r) (λ x. refl) 0 s.clients h
 numbered-after clock (Posted (Ask n r) k) bytes head body s h a =
-    numbered-kept (is_client n) (posts r k) (λ x. refl) 0 s.clients h
+    numbered-kept client_no (is_client n) (posts r k) (λ x. refl) 0 s.clients h
 numbered-after clock (Sent peer (Ask n r) k) bytes head body s h a =
-    numbered-kept (is_client n) (sends clock r k) (λ x. refl) 0 s.clients h
+    numbered-kept client_no (is_client n) (sends clock r k) (λ x. refl) 0 s.clients h
 numbered-after clock (Took (Ask n r) k) bytes head body s h a =
-    numbered-kept (is_client n) (takes clock r head body) (λ x. refl) 0 s.clients h
+    numbered-kept client_no (is_client n) (takes clock r head body) (λ x. refl) 0 s.clients h
 numbered-after clock (Rolled c posted got) bytes head body s h a =
-    numbered-kept (has_call c) (rolls c posted got) (λ x. refl) 0 s.clients h
-numbered-after clock (Broken n) bytes head body s h a = numbered-kept (is_client n) breaks (λ x. refl) 0 s.clients h
-numbered-after clock (DoneOk c) bytes head body s h a = numbered-kept (has_call c) (ends c) (λ x. refl) 0 s.clients h
+    numbered-kept client_no (has_call c) (rolls c posted got) (λ x. refl) 0 s.clients h
+numbered-after clock (Broken n) bytes head body s h a = numbered-kept client_no (is_client n) breaks (λ x. refl) 0 s.clients h
+numbered-after clock (DoneOk c) bytes head body s h a = numbered-kept client_no (has_call c) (ends c) (λ x. refl) 0 s.clients h
 numbered-after clock (DoneTooSmall c size) bytes head body s h a =
-    numbered-kept (has_call c) (ends c) (λ x. refl) 0 s.clients h
+    numbered-kept client_no (has_call c) (ends c) (λ x. refl) 0 s.clients h
 numbered-after clock (DonePeerLost c) bytes head body s h a =
-    numbered-kept (has_call c) (ends c) (λ x. refl) 0 s.clients h
+    numbered-kept client_no (has_call c) (ends c) (λ x. refl) 0 s.clients h
 numbered-after clock _ bytes head body s h a = h
 
 -- no number is given out twice
@@ -182,23 +182,15 @@ fits-after (Again owner k) bytes s h a = shorter s.ring s.room h
 fits-after (Dropped why) bytes s h a = shorter s.ring s.room h
 fits-after _ bytes s h a = h
 
--- server sessions stay sound
-served-after : (e : Event) (answer : List ℕ) (head : Option MessageHeader) (body : List ℕ) (s : Lists) → AllByRecursion SoundServer s.servers → Allowed s e → AllByRecursion SoundServer (servers_after e answer head body s.servers)
-served-after (PairedServer t peer n credits) answer head body s h a =
-    all-push SoundServer s.servers (server_end t peer n credits) h (record { apart = λ slot. omega arith; whole = tt })
-served-after (Took (Reply t r) k) answer head body s h a =
-    all-kept (is_server t) (λ v. record v { slots = took_packet r head body v.slots }) SoundServer s.servers (λ v k _. sound-took r head body v k) h
-served-after (Ran t r y) answer head body s h a =
-    all-changed (is_server t) (λ v. record v { slots = at_first (is_request r) (answered answer) v.slots }) SoundServer s.servers a.server a.found (λ k. sound-ran r answer a.server a.served k a.is_served a.whole) h
-served-after _ answer head body s h a = h
-
 pub valid_after : (clock : ℕ) (s : Lists) (f : Fact) → Valid s → Allowed s f.event → Valid (after clock s f)
 valid_after clock s f v a = record {
   numbered = numbered-after clock f.event f.first (front_header s.ring) (front_body s.ring) s v.numbered a;
   once = λ number. once-after number clock f.event f.first (front_header s.ring) (front_body s.ring) s (v.once number) a;
   sound = sound-after clock f.event f.first s v a;
   fits = fits-after f.event f.first s v.fits a;
-  served = served-after f.event f.second (front_header s.ring) (front_body s.ring) s v.served a;
+  ends = ends-after f.event f.second (front_header s.ring) (front_body s.ring) s v.ends a;
+  served = served-after f.event f.second (front_header s.ring) (front_body s.ring) s v a;
+  runs = λ t r. let spent = run-spends t r s v clock f a in let was = v.runs t r in omega arith;
 }
 
 one-cond : (b : Bool) → 0 + cond b 1 0 ≤ 1
@@ -206,4 +198,4 @@ one-cond true = omega arith
 one-cond false = omega arith
 
 pub valid_new : (me ring : ℕ) → Valid (new_lists me ring)
-valid_new me ring = record { numbered = tt; once = λ number. one-cond (leb 0 number); sound = tt; fits = omega arith; served = tt }
+valid_new me ring = record { numbered = tt; ends = tt; once = λ number. one-cond (leb 0 number); sound = tt; fits = omega arith; served = tt; runs = λ t r. omega arith }

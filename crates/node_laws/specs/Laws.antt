@@ -7,6 +7,8 @@ use Rattle.node_laws.specs.CallHistory.{latest_first, TellsTable}
 use Rattle.node_laws.specs.CreditBalance.{Credit}
 use Rattle.node_laws.specs.EndedCalls.{EndsClean}
 use Rattle.node_laws.specs.NodeRun.{NodeRun}
+use Rattle.node_laws.specs.OlderRequests.{BeginsClean}
+use Rattle.node_laws.specs.RequestHistory.{TellsRequests}
 use Rattle.node_laws.specs.RingLimit.{RingWithin}
 
 -- of every run of a node, whatever its number, ring and timeout
@@ -25,9 +27,18 @@ HappensAtMostOnce = OfEveryRun (λ ring g t. Once g)
 abbrev pub EndedCallsAreNotQueued : Type 0
 EndedCallsAreNotQueued = OfEveryRun (λ ring g t. EndsClean [] g)
 
+-- no reply to an older request is queued where a packet of a newer one of its slot is taken, and none is posted
+-- later
+abbrev pub OlderRequestsAreNotQueued : Type 0
+OlderRequestsAreNotQueued = OfEveryRun (λ ring g t. BeginsClean [] g)
+
 -- the table of calls says what the facts tell
 abbrev pub TablesTellTheHistory : Type 0
 TablesTellTheHistory = OfEveryRun (λ ring g t. TellsTable (latest_first [] g) t.lists)
+
+-- the table of requests says what the facts tell
+abbrev pub RequestsTellTheHistory : Type 0
+RequestsTellTheHistory = OfEveryRun (λ ring g t. TellsRequests (latest_first [] g) t.lists)
 
 -- the ring is never longer than its room
 abbrev pub RingFits : Type 0

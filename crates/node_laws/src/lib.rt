@@ -1,10 +1,11 @@
 //! The laws of one node's facts, whatever arrives: what its credits make, what happens at most once,
-//! what a call that is over leaves, and what its tables tell of its history. It runs nothing.
+//! what a call that is over and an older request leave, and what its tables tell of its history. It
+//! runs nothing.
 #![tactic(auto)]
 
 mod laws;
 
 pub use laws::{
-    credit_balances, ended_calls_are_not_queued, happens_at_most_once, ring_fits,
-    tables_tell_the_history,
+    credit_balances, ended_calls_are_not_queued, happens_at_most_once,
+    older_requests_are_not_queued, requests_tell_the_history, ring_fits, tables_tell_the_history,
 };

@@ -1,2 +1,3 @@
 pub mod QueuesLemmas
 pub mod RunLemmas
+pub mod ServerRows

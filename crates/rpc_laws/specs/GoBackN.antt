@@ -8,7 +8,6 @@ use Rattle.rpc_laws.specs.declared.rows.TimerRow.{TimerRow}
 use Rattle.rpc_laws.specs.declared.rows.TimerRow.TheVariants.{Waits, RollsBack, Breaks}
 use Rattle.rpc_laws.specs.declared.tables.Call.{Call}
 use Rattle.rpc_laws.specs.declared.tables.Client.{Client}
-use Rattle.rpc_laws.specs.declared.tables.Lists.{Lists}
 use Rattle.rpc_laws.specs.declared.tables.Progress.{Progress}
 use Rattle.rpc_laws.specs.declared.tables.Queued.{Queued}
 use Rattle.rpc_laws.specs.declared.tables.Timed.{Timed}

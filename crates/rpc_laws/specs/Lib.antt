@@ -8,6 +8,7 @@ pub mod Front
 pub mod GoBackN
 pub mod Groups
 pub mod InFlight
+pub mod Jobs
 pub mod NodeLists
 pub mod OwnAnswer
 pub mod Packets
@@ -19,3 +20,4 @@ pub mod ServerTable
 pub mod Service
 pub mod Sessions
 pub mod Steps
+pub mod Working

@@ -1,12 +1,15 @@
 -- A handler runs on the bytes of a call, and a call ends with its own handler's answer.
-use Rattle.std.specs.Prelude.{ℕ, ◌≡◌, ◌<◌, List, [], ◌∷◌, length, Contains}
+use Rattle.std.specs.Prelude.{ℕ, ◌≡◌, ◌<◌, List, [], ◌∷◌, ◌++◌, length, if◌then◌else◌, Contains}
 use Rattle.rpc_base.specs.declared.event.Event.{Event}
 use Rattle.rpc_base.specs.declared.event.Event.TheVariants.{PairedClient, PairedServer, Asked, Begun, Ran, DoneOk, DoneTooSmall}
 use Rattle.rpc_base.specs.declared.fact.Fact.{Fact}
 use Rattle.rpc_base.specs.declared.fact.Who.{Who}
 use Rattle.rpc_base.specs.declared.fact.Who.TheVariants.{Node, Net}
+use Rattle.rpc_outside.specs.PlainAnswer.{plain_answer}
+use Rattle.rpc_outside.specs.Served.{Served}
+use Rattle.rpc_laws.specs.AtMostOnce.{is_at}
 use Rattle.rpc_laws.specs.Facts.{plain, with_bytes, with_two}
-use Rattle.rpc_laws.specs.Service.{answer_to}
+use Rattle.rpc_laws.specs.Service.{is_inline}
 
 -- (n, s) and (m, t) are ends of one session, by the facts so far
 pub record AreEnds (past : List Fact) (n s m t : ℕ) : Type 0 where
@@ -32,13 +35,23 @@ pub record IsAnswerTo (past : List Fact) (n c room : ℕ) (answer : List ℕ) : 
   pub call : IsCallOf past n c node session request req_type room ask
   pub ran : Contains past (with_two node (Ran session request req_type) ask answer)
 
--- a Ran is of a call, on its own bytes, and its answer is the service's
+-- what a fact serves: a Ran of an Inline type serves its bytes
+abbrev pub ran_inline : Event → List ℕ → Served
+ran_inline (Ran t r req_type) ask = if is_inline req_type then (req_type, ask) ∷ [] else []
+ran_inline _ ask = []
+
+-- the types and the bytes of what ran inline at node m so far, in order; the facts stand with the newest first
+abbrev pub served_by : ℕ → List Fact → Served
+served_by m [] = []
+served_by m (f ∷ past) = served_by m past ++ (if is_at m f.who then ran_inline f.event f.first else [])
+
+-- a Ran is of a call, on its own bytes, and its answer is the service's after what it served so far
 pub record OwnRun (past : List Fact) (m t r req_type : ℕ) (ask answer : List ℕ) : Type 0 where
   pub node : ℕ
   pub call : ℕ
   pub room : ℕ
   pub own : IsCallOf past node call m t r req_type room ask
-  pub right : answer ≡ answer_to req_type ask
+  pub right : answer ≡ plain_answer (served_by m past) req_type ask
 
 -- a call that ended Ok has its handler's answer
 pub record OwnEnd (past : List Fact) (n c : ℕ) (answer : List ℕ) : Type 0 where

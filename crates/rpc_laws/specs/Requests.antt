@@ -1,9 +1,9 @@
 -- Server sessions with the newest request of each slot, as the facts of a node leave them.
-use Rattle.std.specs.Prelude.{ℕ, ◌+◌, ◌%◌, ◌==◌, Bool, Option, Some, None, List, [], ◌∷◌, ◌++◌, if◌then◌else◌}
+use Rattle.std.specs.Prelude.{ℕ, ◌+◌, ◌%◌, ◌==◌, Bool, true, false, Option, Some, None, List, [], ◌∷◌, ◌++◌, if◌then◌else◌}
 use Rattle.std.specs.List.{list_any}
 use Rattle.packet_header.specs.declared.packet.MessageHeader.{MessageHeader}
 use Rattle.rpc_base.specs.declared.event.Event.{Event}
-use Rattle.rpc_base.specs.declared.event.Event.TheVariants.{PairedServer, Took, Ran}
+use Rattle.rpc_base.specs.declared.event.Event.TheVariants.{PairedServer, Took, Given, Ran}
 use Rattle.rpc_base.specs.declared.owner.Owner.TheVariants.{Reply}
 use Rattle.rpc_laws.specs.declared.tables.Served.{Served}
 use Rattle.rpc_laws.specs.declared.tables.Server.{Server}
@@ -26,7 +26,7 @@ server_end number peer other credits =
 -- a request begins with its first packet
 abbrev pub first_packet : ℕ → MessageHeader → List ℕ → Served
 first_packet r h body =
-    record { number = r; req_type = h.req_type; size = h.size; taken = 1; ask = body; answer = None }
+    record { number = r; req_type = h.req_type; size = h.size; taken = 1; ask = body; working = false; answer = None }
 
 -- one more packet in turn; the bytes of a request are the bodies of its packets, joined
 abbrev pub next_packet : List ℕ → Served → Served
@@ -39,14 +39,21 @@ took_packet r (Some h) body slots =
     if list_any (is_request r) slots then at_first (is_request r) (next_packet body) slots
     else without_first (in_slot_of r) slots ++ first_packet r h body ∷ []
 
+-- a worker has the request, with its bytes, from Given on
+abbrev pub given : Served → Served
+given q = record q { ask = []; working = true }
+
+-- until its Ran, which gives the answer
 abbrev pub answered : List ℕ → Served → Served
-answered bytes q = record q { answer = Some bytes }
+answered bytes q = record q { working = false; answer = Some bytes }
 
 -- answer is the fact's; head and body are those of the packet at the front of the ring
 abbrev pub servers_after : Event → List ℕ → Option MessageHeader → List ℕ → List Server → List Server
 servers_after (PairedServer t peer s credits) answer head body xs = xs ++ server_end t peer s credits ∷ []
 servers_after (Took (Reply t r) k) answer head body xs =
     at_first (is_server t) (λ v. record v { slots = took_packet r head body v.slots }) xs
+servers_after (Given t r) answer head body xs =
+    at_first (is_server t) (λ v. record v { slots = at_first (is_request r) given v.slots }) xs
 servers_after (Ran t r y) answer head body xs =
     at_first (is_server t) (λ v. record v { slots = at_first (is_request r) (answered answer) v.slots }) xs
 servers_after _ answer head body xs = xs

@@ -9,6 +9,6 @@ mod tables;
 pub use history::History;
 pub use rows::{ClientRow, EndRow, ServerRow, TimerRow};
 pub use tables::{
-    Arrival, Asking, Call, Client, InFlight, Lists, Outgoing, Progress, Queued, Served, Server,
-    Timed, Way,
+    Arrival, Asking, Call, Client, InFlight, Job, Jobs, Lists, Outgoing, Progress, Queued, Served,
+    Server, Timed, Way,
 };

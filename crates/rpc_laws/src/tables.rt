@@ -81,8 +81,11 @@ pub struct Served {
     pub size: u32,
     /// Client packets taken in turn.
     pub taken: u64,
-    /// The bytes of the request taken so far.
+    /// The bytes of the request taken so far, none where they went with a job.
     pub ask: Octets,
+    /// Whether a worker has it: from when its job was given, with its bytes, until the handler's answer is
+    /// there.
+    pub working: bool,
     /// The handler's answer, once it ran.
     pub answer: Option<Octets>,
 }
@@ -95,6 +98,26 @@ pub struct Server {
     pub slots: Listed<Served>,
 }
 
+/// A request that became a background job, with its type and its bytes.
+#[derive(Debug, Drop)]
+pub struct Job {
+    pub session: SessionNo,
+    pub request: RequestNo,
+    pub req_type: u8,
+    pub ask: Octets,
+}
+
+/// The background jobs of a node that aren't finished.
+#[derive(Debug, Drop)]
+pub struct Jobs {
+    /// How many jobs were given so far.
+    pub given: u64,
+    /// Those that wait to be worked, in the order in which they were given.
+    pub waiting: Listed<Job>,
+    /// Those that were worked, in the order in which they were.
+    pub worked: Listed<Job>,
+}
+
 /// The lists and tables of a node.
 #[derive(Debug, Drop)]
 pub struct Lists {
@@ -103,10 +126,13 @@ pub struct Lists {
     pub room: u32,
     /// How many calls were accepted.
     pub asked: u64,
+    /// What its tallies add up to, modulo 2^64.
+    pub total: u64,
     pub ring: Listed<Arrival>,
     pub queued: Listed<Queued>,
     pub clients: Listed<Client>,
     pub servers: Listed<Server>,
+    pub jobs: Jobs,
 }
 
 /// A node's lists and its clock in microseconds.

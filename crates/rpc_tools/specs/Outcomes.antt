@@ -3,6 +3,7 @@ use Rattle.std.specs.Prelude.{ℕ, ◌≡◌, ◌<◌, ◌⊎◌, Option, Some, 
 use Rattle.std.specs.Io.KnownBytes.{Keeps}
 use Rattle.node_laws.specs.CreditBalance.{Credit}
 use Rattle.node_laws.specs.EndedCalls.{EndsClean}
+use Rattle.node_laws.specs.OlderRequests.{BeginsClean}
 use Rattle.rpc_base.specs.declared.fact.Fact.{Fact}
 use Rattle.report_text.specs.Text.{text}
 use Rattle.rpc_laws.specs.AtMostOnce.{Once}
@@ -20,7 +21,7 @@ use Rattle.script_grammar.specs.declared.bad.BadWhy.TheVariants.{Later}
 use Rattle.script_grammar.specs.declared.line.Line.{Line}
 use Rattle.script_grammar.specs.Script.{script_of}
 use Rattle.sim_script.specs.FollowsScript.{Follows}
-use Rattle.world_laws.specs.Laws.{EachNode, KeepsRing}
+use Rattle.world_laws.specs.Laws.{EachNode, EndTells, KeepsRing}
 
 -- nothing was written, and no fault came
 pub record Untouched (old new : Option (List ℕ)) (before after : ℕ) : Type 0 where
@@ -31,7 +32,8 @@ pub record Untouched (old new : Option (List ℕ)) (before after : ℕ) : Type 0
 -- no call begins or ends twice; each handler ran on its call's bytes, and each call ended with its own
 -- handler's answer; each packet that was sent is its owner's; and at every moment of each node the
 -- unanswered packets and free credits of a live session make its limit, no packet of a call that is over
--- is queued, and the receive ring isn't longer than its room
+-- is queued, no reply to an older request is queued where a packet of a newer one of its slot is taken, and the
+-- receive ring isn't longer than its room. At the end each node's table of requests says what its facts tell
 pub record Reports (script : List Line) (old new : Option (List ℕ)) (before after : ℕ) : Type 0 where
   pub history : List Fact
   pub follows : Follows script history
@@ -40,7 +42,9 @@ pub record Reports (script : List Line) (old new : Option (List ℕ)) (before af
   pub sends_own : SendsItsOwn history
   pub credit : EachNode Credit history
   pub ends_clean : EachNode (EndsClean []) history
+  pub begins_clean : EachNode (BeginsClean []) history
   pub ring : EachNode KeepsRing history
+  pub requests : EndTells script history
   pub wrote : Wrote old new before after (text history)
 
 -- a front of such a report was written, and the sink failed

@@ -5,7 +5,7 @@ use Rattle.std.proofs.Math.Seq.{drop-append_seam}
 use Rattle.std.specs.List.{list_all}
 use Rattle.rpc_base.specs.declared.fact.Fact.{Fact}
 use Rattle.network_model.specs.declared.stage.Stage.{Stage}
-use Rattle.sim_script.specs.FollowsScript.{Carries, Joins, PollsFirst, Round, Settles, Times, Unless, is_polled}
+use Rattle.sim_script.specs.FollowsScript.{Carries, Joins, Round, Settles, Times, Unless, WorksAndPolls, is_polled}
 use Rattle.rpc_world.specs.Performed.{Performed, MakesRound}
 
 -- nothing yet
@@ -20,8 +20,8 @@ performed-joins P Q s t u f g h p q = record {
   does = record { between = t; group = p.group; rest = q.group; joined = refl; does = p.does; follows = q.does };
 }
 
--- the copies in flight are carried, and then the nodes polled
-pub round-by : (s t u : Stage) (f g h : List Fact) → Performed (Times (Carries 0) (length s.flight)) s t f g → Performed (PollsFirst (length t.nodes)) t u g h → Performed Round s u f h
+-- the copies in flight are carried, and then the nodes worked and polled
+pub round-by : (s t u : Stage) (f g h : List Fact) → Performed (Times (Carries 0) (length s.flight)) s t f g → Performed (WorksAndPolls (length t.nodes)) t u g h → Performed Round s u f h
 round-by s t u f g h p q = record {
   group = p.group ++ q.group;
   grew = q.grew ∙ rw p.grew (append_assoc f p.group q.group);
@@ -89,7 +89,7 @@ back-part f x h e =
     ap (λ (y : List Fact). take (length h - length f) y) (ap (drop (length f)) e ∙ drop-append_seam f x) ∙ take_all _ _ long
 
 -- a round, and whether it was quiet, from the facts since it began
-pub makes-round : (quiet : Bool) (s t u : Stage) (f g h all : List Fact) (n : ℕ) → Performed (Times (Carries 0) (length s.flight)) s t f g → Performed (PollsFirst (length t.nodes)) t u g h → n ≡ length f → all ≡ h → quiet ≡ list_all (λ f. is_polled f.event) (take (length all - n) (drop n all)) → MakesRound quiet s u f h
+pub makes-round : (quiet : Bool) (s t u : Stage) (f g h all : List Fact) (n : ℕ) → Performed (Times (Carries 0) (length s.flight)) s t f g → Performed (WorksAndPolls (length t.nodes)) t u g h → n ≡ length f → all ≡ h → quiet ≡ list_all (λ f. is_polled f.event) (take (length all - n) (drop n all)) → MakesRound quiet s u f h
 makes-round quiet s t u f g h all n p q is_n is_all is =
     let made = round-by s t u f g h p q in
     let back : take (length all - n) (drop n all) ≡ made.group = rw (is_n, is_all) (back-part f made.group h made.grew) in

@@ -1,23 +1,23 @@
 -- Which scripts are served: those whose commands all are.
-use Rattle.std.specs.Prelude.{ℕ, ◌==◌, Bool, true, false, not, Option, option_map, find, List}
+use Rattle.std.specs.Prelude.{ℕ, Bool, true, false, not, Option, option_map, find, List}
 use Rattle.script_grammar.specs.declared.line.Command.{Command}
 use Rattle.script_grammar.specs.declared.line.Command.TheVariants.{Node, Pair, Connect, Disconnect, Rate, Call, Poll, Arrive, Lose, Repeat, Tick, Work, Settle}
 use Rattle.script_grammar.specs.declared.line.Line.{Line}
 
--- a call is served where its type is 1
+-- each but connect, disconnect and rate
 abbrev pub is_served : Command → Bool
 is_served (Node ring) = true
 is_served (Pair a b credits) = true
 is_served (Connect a b credits) = false
 is_served (Disconnect n session) = false
 is_served (Rate n session rate) = false
-is_served (Call n session req_type ask room) = req_type == 1
+is_served (Call n session req_type ask room) = true
 is_served (Poll n) = true
 is_served (Arrive i) = true
 is_served (Lose i) = true
 is_served (Repeat i) = true
 is_served (Tick by) = true
-is_served (Work n job) = false
+is_served (Work n job) = true
 is_served (Settle rounds) = true
 
 -- the number of the first line whose command isn't served

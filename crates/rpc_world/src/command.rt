@@ -10,7 +10,7 @@ use crate::network::{note_of_net, perform_net};
 use crate::pairing::pair;
 use crate::running::Running;
 use crate::settling::settle;
-use crate::stepping::{arrive, poll_node};
+use crate::stepping::{arrive, poll_node, work_job};
 use rpc_base::{Event, Fact, Listed, NoMemory};
 use sim_script::Command;
 use std::alloc::Global;
@@ -85,6 +85,7 @@ pub fn execute(
         Command::Lose { copy } => lose(alloc, stage, facts, *copy),
         Command::Repeat { copy } => repeat(alloc, stage, facts, *copy),
         Command::Tick { by } => tick(alloc, stage, facts, *by),
+        Command::Work { node, job } => work_job(alloc, stage, facts, *node, *job),
         Command::Settle { rounds } => settle(alloc, stage, facts, *rounds),
         _ => Err(NoMemory),
     }

@@ -27,6 +27,7 @@ pub fn make_node(
         first,
         second,
     })?;
-    stage.nodes.push(Node::new(alloc, NodeId(number), ring))?;
+    let made = Node::new(alloc, NodeId(number), ring)?;
+    stage.nodes.push(made)?;
     Ok(())
 }

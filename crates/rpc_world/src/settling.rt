@@ -1,11 +1,11 @@
 //! `settle K`: rounds, until nothing happens any more.
 ghost use Rattle.std.specs.Prelude.{◌≡◌, length, IfOk, OnOk};
 ghost use Rattle.std.specs.List.{list_all};
-ghost use Rattle.sim_script.specs.FollowsScript.{Carries, PollsFirst, Settles, Times, is_polled};
+ghost use Rattle.sim_script.specs.FollowsScript.{Carries, PollsFirst, Settles, Times, WorksAndPolls, WorksFirst, is_polled};
 ghost use Rattle.rpc_world.specs.Performed.{Performed, MakesRound};
 
 use crate::running::Running;
-use crate::stepping::{carry_first, poll_node};
+use crate::stepping::{carry_first, poll_node, work_node};
 use rpc_base::{Event, Fact, Listed, NoMemory, NodeId};
 use std::alloc::Global;
 
@@ -21,14 +21,48 @@ fn carry_all(alloc: Global, stage: &mut Running, facts: &mut Listed<Fact>) -> Re
     Ok(())
 }
 
-fn poll_all(alloc: Global, stage: &mut Running, facts: &mut Listed<Fact>) -> Result<(), NoMemory>
-    ensures { OnOk result
-        (Performed (PollsFirst (length stage.old.nodes)) stage.old stage.new facts.old facts.new) }
+// Works the jobs of the first nodes, so many of them, in order.
+fn work_first(
+    alloc: Global,
+    stage: &mut Running,
+    facts: &mut Listed<Fact>,
+    count: u8,
+) -> Result<(), NoMemory>
+    ensures { OnOk result (Performed (WorksFirst count) stage.old stage.new facts.old facts.new) }
 {
-    let count = u8::try_from(stage.nodes.len()).map_err(|_| NoMemory)?;
+    'workers: for i in 0..count {
+        work_node(alloc, stage, facts, NodeId(i))?;
+    }
+    Ok(())
+}
+
+// Polls the first nodes, so many of them, in order.
+fn poll_first(
+    alloc: Global,
+    stage: &mut Running,
+    facts: &mut Listed<Fact>,
+    count: u8,
+) -> Result<(), NoMemory>
+    ensures { OnOk result (Performed (PollsFirst count) stage.old stage.new facts.old facts.new) }
+{
     'nodes: for i in 0..count {
         poll_node(alloc, stage, facts, NodeId(i))?;
     }
+    Ok(())
+}
+
+// Works the jobs of each node, and then polls each.
+fn work_and_poll(
+    alloc: Global,
+    stage: &mut Running,
+    facts: &mut Listed<Fact>,
+) -> Result<(), NoMemory>
+    ensures { OnOk result
+        (Performed (WorksAndPolls (length stage.old.nodes)) stage.old stage.new facts.old facts.new) }
+{
+    let count = u8::try_from(stage.nodes.len()).map_err(|_| NoMemory)?;
+    work_first(alloc, stage, facts, count)?;
+    poll_first(alloc, stage, facts, count)?;
     Ok(())
 }
 
@@ -47,7 +81,8 @@ fn are_polled(facts: &[Fact]) -> bool
     facts.iter().all(|fact| is_polled(&fact.event))
 }
 
-// Carries each copy that is in flight, polls each node, and tells whether there was nothing but polls.
+// Carries each copy that is in flight, works the jobs of each node, polls each, and tells whether there was
+// nothing but polls.
 fn make_round(
     alloc: Global,
     stage: &mut Running,
@@ -58,7 +93,7 @@ fn make_round(
 {
     let before = facts.len();
     carry_all(alloc, stage, facts)?;
-    poll_all(alloc, stage, facts)?;
+    work_and_poll(alloc, stage, facts)?;
     Ok(are_polled(&facts.as_slice()[before..]))
 }
 

@@ -1,6 +1,7 @@
-//! Steps of the nodes: a poll, and a copy that is taken out of flight and delivered.
+//! Steps of the nodes: a poll, jobs that are worked, and a copy that is taken out of flight and delivered.
 ghost use Rattle.std.specs.Prelude.{◌≡◌, OnOk};
 ghost use Rattle.rpc_laws.specs.Deliveries.{Delivers};
+ghost use Rattle.rpc_laws.specs.Working.{Works, WorksAll};
 ghost use Rattle.sim_script.specs.FollowsScript.{AtNode, Arrives, Carries, PollsNode};
 ghost use Rattle.rpc_world.specs.Performed.{Performed};
 
@@ -30,6 +31,48 @@ pub fn poll_node(
     let now = stage.clock;
     let polled = stage.nodes.at_mut(place);
     polled.poll(alloc, facts, USUAL_TIMEOUT, now)?;
+    launch(&mut stage.flight, &facts.as_slice()[before..])?;
+    Ok(())
+}
+
+/// `work A J`: works that waiting job of the node, in the order of giving from 0, or notes that there is none.
+pub fn work_job(
+    alloc: Global,
+    stage: &mut Running,
+    facts: &mut Listed<Fact>,
+    node: NodeId,
+    job: u32,
+) -> Result<(), NoMemory>
+    ensures { OnOk result
+        (Performed (AtNode (Works job) node) stage.old stage.new facts.old facts.new) }
+{
+    let place = usize::from(node.0);
+    if place >= stage.nodes.len() {
+        return Err(NoMemory);
+    }
+    let before = facts.len();
+    let worked = stage.nodes.at_mut(place);
+    worked.work(alloc, facts, job)?;
+    launch(&mut stage.flight, &facts.as_slice()[before..])?;
+    Ok(())
+}
+
+/// Works the jobs of the node that wait, the oldest first, until there is none.
+pub fn work_node(
+    alloc: Global,
+    stage: &mut Running,
+    facts: &mut Listed<Fact>,
+    node: NodeId,
+) -> Result<(), NoMemory>
+    ensures { OnOk result (Performed (AtNode WorksAll node) stage.old stage.new facts.old facts.new) }
+{
+    let place = usize::from(node.0);
+    if place >= stage.nodes.len() {
+        return Err(NoMemory);
+    }
+    let before = facts.len();
+    let worked = stage.nodes.at_mut(place);
+    worked.work_all(alloc, facts)?;
     launch(&mut stage.flight, &facts.as_slice()[before..])?;
     Ok(())
 }

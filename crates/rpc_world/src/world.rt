@@ -2,6 +2,7 @@
 ghost use Rattle.std.specs.Prelude.{◌≡◌, List, [], None, IfOk};
 ghost use Rattle.node_laws.specs.CreditBalance.{Credit};
 ghost use Rattle.node_laws.specs.EndedCalls.{EndsClean};
+ghost use Rattle.node_laws.specs.OlderRequests.{BeginsClean};
 ghost use Rattle.rpc_base.specs.declared.fact.Fact.{Fact};
 ghost use Rattle.rpc_laws.specs.AtMostOnce.{Once};
 ghost use Rattle.rpc_laws.specs.BufferSafety.{SendsItsOwn};
@@ -9,7 +10,7 @@ ghost use Rattle.rpc_laws.specs.OwnAnswer.{Own};
 ghost use Rattle.rpc_world.specs.Served.{later_of};
 ghost use Rattle.script_grammar.specs.Conditions.{IsScript};
 ghost use Rattle.sim_script.specs.FollowsScript.{Follows};
-ghost use Rattle.world_laws.specs.Laws.{EachNode, KeepsRing};
+ghost use Rattle.world_laws.specs.Laws.{EachNode, EndTells, KeepsRing};
 
 use crate::command::execute;
 use crate::running::Running;
@@ -33,7 +34,8 @@ impl Model for World {
 }
 
 impl World {
-    /// The number of the first line of a command that isn't served yet; `None` exactly where there is none.
+    /// The number of the first line that is a `connect`, a `disconnect` or a `rate`, which aren't served yet;
+    /// `None` exactly where there is none.
     pub fn later(script: &Script) -> Option<u32>
         ensures { result ≡ later_of script.now }
     {
@@ -55,7 +57,10 @@ impl World {
         // At every moment of each node.
         ensures credit { IfOk result (λ w. EachNode Credit w) }
         ensures ends_clean { IfOk result (λ w. EachNode (EndsClean []) w) }
+        ensures begins_clean { IfOk result (λ w. EachNode (BeginsClean []) w) }
         ensures ring { IfOk result (λ w. EachNode KeepsRing w) }
+        // Of each node at the end.
+        ensures requests { IfOk result (λ w. EndTells script.now w) }
     {
         let world = World::play(alloc, script)?;
         Ok(world)

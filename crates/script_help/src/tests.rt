@@ -84,11 +84,14 @@ fn reasons_of_the_whole_script_need_no_line(rt: HostRuntime) -> Result<(), Fail>
         (
             2,
             BadWhy::Later,
-            "line 2: Later: tick 1 is not served here yet",
+            "line 2: Later: disconnect 1 0 is not served here yet",
         ),
     ];
     for (line, why, wanted) in cases {
-        let text = format!(in alloc; "{}", Explanation::of(b"\ntick 1", BadScript { line, why }))?;
+        let text = format!(in alloc;
+            "{}",
+            Explanation::of(b"\ndisconnect 1 0", BadScript { line, why })
+        )?;
         assert_eq!(rt; text.as_str(), wanted);
     }
     Ok(())

@@ -1,5 +1,5 @@
--- The newest request of a slot is the one with its number, if there is one.
-use Rattle.std.proofs.Common.{◌≡◌, ◌≢◌, ℕ, ◌+◌, ◌*◌, ◌%◌, eqb, Option, Some, None, List, [], take, refl, sym, ap, ◌∙◌}
+-- The newest request of a slot is the one with its number, if there is one: its bytes, and those of its answer.
+use Rattle.std.proofs.Common.{◌≡◌, ◌≢◌, ℕ, ◌*◌, ◌%◌, eqb, false, Option, Some, None, [], take, refl, ap, ◌∙◌}
 use Rattle.std.specs.Prelude.{IfSome, option_map}
 use Rattle.std.specs.List.{find}
 use Rattle.std.proofs.lemmas.Bool.{eq-eqb, eqb-true}
@@ -7,9 +7,11 @@ use Rattle.message_buffer.specs.Buffer.{Buffer, bytes_of}
 use Rattle.buffer_pool.specs.Pool.{Pool, buf_at}
 use Rattle.rpc_laws.specs.Requests.{is_request}
 use Rattle.server_core.specs.declared.slot.SlotRequest.{SlotRequest}
-use Rattle.server_core.specs.Asked.{bytes_taken}
+use Rattle.server_core.specs.declared.slot.Stored.{Stored}
+use Rattle.server_core.specs.Asked.{bytes_answered, bytes_taken}
+use Rattle.server_core.specs.Finishing.{is_waiting}
 use Rattle.server_core.specs.Session.{IsSession, Session, is_in_slot, newest}
-use Rattle.server_core.specs.Shown.{message_in, shown, shown_request}
+use Rattle.server_core.specs.Shown.{shown, shown_request}
 use Rattle.server_core.proofs.ListLemmas.{found-own, found-passes, found-shown}
 use Rattle.server_core.proofs.SlotLemmas.{by-number}
 
@@ -27,12 +29,46 @@ other-cases s r (Some q) h other e =
     let away : q.number ≢ r = rw slot at other in
     absurd (away same)
 
+pub none-numbered : (pool : Pool) (s : Session) (r : ℕ) → IsSession s → IfSome (newest r s) (λ q. q.number ≢ r) → find (is_request r) (shown pool s).slots ≡ None
+none-numbered pool s r h other = numbered-shown pool s r None (other-cases s r _ h other refl)
+
+pub own-numbered : (pool : Pool) (s : Session) (r : ℕ) (q : SlotRequest) → IsSession s → newest r s ≡ Some q → q.number ≡ r → find (is_request r) (shown pool s).slots ≡ Some (shown_request pool q)
+own-numbered pool s r q h found same = numbered-shown pool s r (Some q) (by-number s r q h found same)
+
 pub asked-none : (pool : Pool) (s : Session) (r : ℕ) → IsSession s → IfSome (newest r s) (λ q. q.number ≢ r) → [] ≡ bytes_taken (find (is_request r) (shown pool s).slots)
 asked-none pool s r h other =
-    let none : find (is_request r) (shown pool s).slots ≡ None = numbered-shown pool s r None (other-cases s r _ h other refl) in
-    rw none refl
+    rw (none-numbered pool s r h other) refl
 
-pub asked-own : (pool : Pool) (s : Session) (r : ℕ) (q : SlotRequest) (b : Buffer) → IsSession s → newest r s ≡ Some q → q.number ≡ r → buf_at pool q.ask ≡ Some b → take (1024 * q.taken) (bytes_of b) ≡ bytes_taken (find (is_request r) (shown pool s).slots)
-asked-own pool s r q b h found same there =
-    let own : find (is_request r) (shown pool s).slots ≡ Some (shown_request pool q) = numbered-shown pool s r (Some q) (by-number s r q h found same) in
-    rw (own, there) refl
+pub asked-own : (pool : Pool) (s : Session) (r : ℕ) (q : SlotRequest) (p : ℕ) (b : Buffer) → IsSession s → newest r s ≡ Some q → q.number ≡ r → q.ask ≡ Some p → buf_at pool p ≡ Some b → take (1024 * q.taken) (bytes_of b) ≡ bytes_taken (find (is_request r) (shown pool s).slots)
+asked-own pool s r q p b h found same is there = rw (own-numbered pool s r q h found same, is, there) refl
+
+-- its bytes went with a job
+pub asked-gone : (pool : Pool) (s : Session) (r : ℕ) (q : SlotRequest) → IsSession s → newest r s ≡ Some q → q.number ≡ r → q.ask ≡ None → [] ≡ bytes_taken (find (is_request r) (shown pool s).slots)
+asked-gone pool s r q h found same is = rw (own-numbered pool s r q h found same, is) refl
+
+-- its answer
+pub answer-none : (pool : Pool) (s : Session) (r : ℕ) → IsSession s → IfSome (newest r s) (λ q. q.number ≢ r) → [] ≡ bytes_answered (find (is_request r) (shown pool s).slots)
+answer-none pool s r h other = rw (none-numbered pool s r h other) refl
+
+pub answer-placed : (o : Option Stored) (p : ℕ) → option_map (λ a. a.place) o ≡ Some p → (a : Stored) × (o ≡ Some a) × (a.place ≡ p)
+answer-placed None p e = cc
+answer-placed (Some a) p e = let same : a.place ≡ p = cc in (a, refl, same)
+
+pub answer-unplaced : (o : Option Stored) → option_map (λ a. a.place) o ≡ None → o ≡ None
+answer-unplaced None e = refl
+answer-unplaced (Some a) e = cc
+
+pub answer-own : (pool : Pool) (s : Session) (r : ℕ) (q : SlotRequest) (p : ℕ) (b : Buffer) → IsSession s → newest r s ≡ Some q → q.number ≡ r → option_map (λ a. a.place) q.answer ≡ Some p → buf_at pool p ≡ Some b → bytes_of b ≡ bytes_answered (find (is_request r) (shown pool s).slots)
+answer-own pool s r q p b h found same is there =
+    let (a, one, place) = answer-placed q.answer p is in
+    rw (own-numbered pool s r q h found same, one, place, there) refl
+
+pub answer-later : (pool : Pool) (s : Session) (r : ℕ) (q : SlotRequest) → IsSession s → newest r s ≡ Some q → q.number ≡ r → q.answer ≡ None → [] ≡ bytes_answered (find (is_request r) (shown pool s).slots)
+answer-later pool s r q h found same is = rw (own-numbered pool s r q h found same, is) refl
+
+-- whether it waits for a worker's answer
+pub waiting-none : (pool : Pool) (s : Session) (r : ℕ) → IsSession s → IfSome (newest r s) (λ q. q.number ≢ r) → is_waiting r (shown pool s) ≡ false
+waiting-none pool s r h other = rw (none-numbered pool s r h other) refl
+
+pub waiting-own : (pool : Pool) (s : Session) (r : ℕ) (q : SlotRequest) → IsSession s → newest r s ≡ Some q → q.number ≡ r → is_waiting r (shown pool s) ≡ q.working
+waiting-own pool s r q h found same = rw (own-numbered pool s r q h found same) refl

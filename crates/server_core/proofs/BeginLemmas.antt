@@ -1,5 +1,5 @@
 -- A request begins: what is kept and shown of its session, and the reply to its first packet.
-use Rattle.std.proofs.Common.{◌≡◌, ℕ, ◌+◌, ◌%◌, ◌<◌, ◌≤◌, Bool, true, false, cond, ltb, Option, Some, None, List, [], ◌∷◌, ◌++◌, refl, sym, ap, ◌∙◌, arith}
+use Rattle.std.proofs.Common.{◌≡◌, ◌≢◌, ℕ, ◌&&◌, ◌+◌, ◌%◌, ◌<◌, ◌≤◌, Bool, true, false, not, cond, ltb, ltb-true, Option, Some, None, List, [], ◌∷◌, ◌++◌, refl, sym, ap, ◌∙◌, arith}
 use Rattle.std.specs.Prelude.{IfSome, map, option_map}
 use Rattle.std.specs.List.{find}
 use Rattle.std.specs.Option.{option_or}
@@ -16,17 +16,18 @@ use Rattle.rpc_base.specs.declared.owner.Owner.TheVariants.{Reply}
 use Rattle.rpc_base.specs.Tables.{without_first}
 use Rattle.rpc_laws.specs.declared.tables.Served.{Served}
 use Rattle.rpc_outside.specs.declared.service.Mode.{Mode}
-use Rattle.rpc_outside.specs.declared.service.Mode.TheVariants.{Inline}
+use Rattle.rpc_outside.specs.declared.service.Mode.TheVariants.{Unserved}
 use Rattle.rpc_laws.specs.declared.tables.Server.{Server}
-use Rattle.rpc_laws.specs.Requests.{in_slot_of}
+use Rattle.rpc_laws.specs.Requests.{given as given_served, in_slot_of}
 use Rattle.server_core.specs.declared.slot.SlotRequest.{SlotRequest}
 use Rattle.server_core.specs.declared.slot.Stored.{Stored}
 use Rattle.server_core.specs.KeepsPool.{KeepsPool}
-use Rattle.server_core.specs.Replies.{IsHeld, IsReplyTo, entry_at, is_owner, place_of, request_of}
-use Rattle.server_core.specs.Serving.{begun, first_taken, given_up, with_slots}
+use Rattle.server_core.specs.Rows.{is_worked_on}
+use Rattle.server_core.specs.Replies.{IsHeld, IsReplyTo, entry_at, has_reply, is_owner, place_of, request_of}
+use Rattle.server_core.specs.Serving.{begun, first_given, first_taken, given_up, with_slots}
 use Rattle.server_core.specs.Session.{IsInTurn, IsMessage, IsSession, Session, is_in_slot, newest}
 use Rattle.server_core.specs.Shown.{shown, shown_request, way_of}
-use Rattle.server_core.specs.Steps.{AreInline, IsReply, begun_with, first_shown}
+use Rattle.server_core.specs.Steps.{AreServed, IsReply, begun_with, first_shown}
 use Rattle.server_core.proofs.ChangedLemmas.{map-without, none-counted}
 use Rattle.server_core.proofs.GivenLemmas.{given-keeps, given-same}
 use Rattle.server_core.proofs.ListLemmas.{all-append, all-without, count-fewer, found-own}
@@ -51,18 +52,36 @@ held-cases pool None false some = tt
 held-cases pool (Some a) false some = some
 
 -- the entry of the reply to a packet that was taken stands for it
-pub reply-stands : (s : Session) (d : SlotRequest) (k : ℕ) → IsSession s → newest d.number s ≡ Some d → k < d.taken → IsReplyTo (request_of s (entry_at s.number s.peer k d)) (entry_at s.number s.peer k d)
-reply-stands s d k h found below = rw (by-owner s d h found) (below, refl)
+pub reply-stands : (s : Session) (d : SlotRequest) (k : ℕ) → IsSession s → newest d.number s ≡ Some d → k < d.taken → is_worked_on d k ≡ false → IsReplyTo (request_of s (entry_at s.number s.peer k d)) (entry_at s.number s.peer k d)
+reply-stands s d k h found below idle = rw (by-owner s d h found) (record { taken = below; there = idle; place_is = refl })
+
+-- no worker has it
+and-false : (a b : Bool) → b ≡ false → (a && b) ≡ false
+and-false true b e = e
+and-false false b e = refl
+
+pub idle-reply : (d : SlotRequest) (k : ℕ) → d.working ≡ false → is_worked_on d k ≡ false
+idle-reply d k idle = and-false _ d.working idle
 
 -- the reply to a packet that was taken
-pub is-reply : (pool : Pool) (s : Session) (d : SlotRequest) (k : ℕ) → IsSession s → newest d.number s ≡ Some d → k < d.taken → IsHeld pool (place_of d k) → IsReply d.number k s pool (entry_at s.number s.peer k d)
-is-reply pool s d k h found below some = record {
+pub is-reply : (pool : Pool) (s : Session) (d : SlotRequest) (k : ℕ) → IsSession s → newest d.number s ≡ Some d → k < d.taken → is_worked_on d k ≡ false → IsHeld pool (place_of d k) → IsReply d.number k s pool (entry_at s.number s.peer k d)
+is-reply pool s d k h found below idle some = record {
   owner = refl;
   number = refl;
   peer = refl;
-  stands = reply-stands s d k h found below;
+  stands = reply-stands s d k h found below idle;
   is_held = some;
 }
+
+reply-parts : (a b : Bool) → (a && not b) ≡ true → (a ≡ true) × (b ≡ false)
+reply-parts true true e = cc
+reply-parts true false e = (refl, refl)
+reply-parts false b e = cc
+
+pub with-reply : (q : SlotRequest) (k : ℕ) → has_reply q k ≡ true → (k < q.taken) × (is_worked_on q k ≡ false)
+with-reply q k e =
+    let parts = reply-parts (ltb k q.taken) (is_worked_on q k) e in
+    (ltb-true k q.taken parts.0, parts.1)
 
 -- a credit return needs no reference
 pub return-held : (pool : Pool) (d : SlotRequest) (k : ℕ) → ltb (k + 1) (packet_count d.size) ≡ true → IsHeld pool (place_of d k)
@@ -84,44 +103,59 @@ begun-newest s d h =
 
 -- it is in turn
 pub first-turn : (h : MessageHeader) (p : ℕ) → IsMessage h.size → 1 < packet_count h.size → IsInTurn (first_taken h p None)
-first-turn h p size many = record { size = size; some = omega arith; come = many }
+first-turn h p size many = record { size = size; some = omega arith; come = (many, refl) }
 
 pub whole-turn : (h : MessageHeader) (p : ℕ) (a : Stored) → IsMessage h.size → packet_count h.size ≡ 1 → IsMessage a.size → IsInTurn (first_taken h p (Some a))
 whole-turn h p a size one answer = record {
   size = size;
   some = omega arith;
-  come = record { answer = answer; whole = omega (arith, one); known = omega (arith, one, packet_count_above a.size) };
+  come = (refl, record { answer = answer; whole = omega (arith, one); known = omega (arith, one, packet_count_above a.size) });
 }
 
--- the bytes of a request that begins go to the lowest empty place
-module _ (pool : Pool) (s : Session) (head : MessageHeader) (p : ℕ) (b : Buffer) (keeps : KeepsPool pool s.slots) where
+pub given-turn : (h : MessageHeader) → IsMessage h.size → packet_count h.size ≡ 1 → IsInTurn (first_given h)
+given-turn h size one = record { size = size; some = omega arith; come = (sym one, refl) }
+
+-- a request begins, and the older one of its slot is given up
+module _ (pool : Pool) (s : Session) (head : MessageHeader) (keeps : KeepsPool pool s.slots) where
   abbrev rest : List SlotRequest
   rest = without_first (is_in_slot (head.request % 8)) s.slots
 
   abbrev given : Pool
   given = given_up (newest head.request s) pool
 
-  module _ (lowest : lowest_empty given ≡ Some p) (there : buf_at (filled p b given) p ≡ Some b) (len : b.len ≡ head.size) (room : b.len ≤ capacity_of b) where
-    given-kept : KeepsPool given rest
-    given-kept = given-keeps (is_in_slot (head.request % 8)) pool s.slots keeps
+  given-kept : KeepsPool given rest
+  given-kept = given-keeps (is_in_slot (head.request % 8)) pool s.slots keeps
 
+  shown-behind : (after : Pool) (d : SlotRequest) (x : Served) → d.number ≡ head.request → map (shown_request after) rest ≡ map (shown_request pool) rest → shown_request after d ≡ x → shown after (with_slots (begun d s.slots) s) ≡ begun_with x (shown pool s)
+  shown-behind after d x number same is =
+      let gone = map-without (shown_request pool) (is_in_slot (head.request % 8)) (in_slot_of head.request) (λ y. refl) s.slots in
+      let all = map-append (shown_request after) (without_first (is_in_slot (head.request % 8)) s.slots) (d ∷ []) in
+      let own : x.number ≡ head.request = ap (λ y. y.number) (sym is) ∙ number in
+      let at : without_first (is_in_slot (d.number % 8)) s.slots ≡ rest = ap (λ n. without_first (is_in_slot (n % 8)) s.slots) number in
+      let there_too : without_first (in_slot_of head.request) (shown pool s).slots ≡ without_first (in_slot_of x.number) (shown pool s).slots = ap (λ n. without_first (in_slot_of n) (shown pool s).slots) (sym own) in
+      let slots : map (shown_request after) (begun d s.slots) ≡ without_first (in_slot_of x.number) (shown pool s).slots ++ x ∷ [] =
+      ap (λ ys. map (shown_request after) (ys ++ d ∷ [])) at ∙ all ∙ ap (λ ys. ys ++ shown_request after d ∷ []) (same ∙ gone ∙ there_too) ∙ ap (λ y. without_first (in_slot_of x.number) (shown pool s).slots ++ y ∷ []) is in
+      let whole : List Served → Server = λ ys. record { way = way_of s; credits = s.credits; slots = ys } in
+      ap whole slots
+
+  -- one of its only packet goes to a worker
+  pub given-keeps-pool : KeepsPool given (begun (first_given head) s.slots)
+  given-keeps-pool = put-behind given (first_given head) rest (record {
+    own = record { ask = tt; answer = tt };
+    others = given-kept;
+    apart = λ r. omega (arith, given-kept.apart r);
+  })
+
+  pub given-shows : shown given (with_slots (begun (first_given head) s.slots) s) ≡ begun_with (given_served (first_shown head [] None)) (shown pool s)
+  given-shows = shown-behind given (first_given head) (given_served (first_shown head [] None)) refl (given-same (is_in_slot (head.request % 8)) pool s.slots keeps) refl
+
+  -- its bytes go to the lowest empty place
+  module _ (p : ℕ) (b : Buffer) (lowest : lowest_empty given ≡ Some p) (there : buf_at (filled p b given) p ≡ Some b) (len : b.len ≡ head.size) (room : b.len ≤ capacity_of b) where
     asked-beside : IsBeside (filled p b given) (first_taken head p None) rest
     asked-beside = beside-asked given p b (first_taken head p None) rest given-kept lowest there refl refl (len, omega (arith, room, len))
 
     asked-same : map (shown_request (filled p b given)) rest ≡ map (shown_request pool) rest
     asked-same = map-off p given (filled p b given) (one-filled p b given) rest (names-empty given p rest (lowest-empty given p lowest) given-kept.kept) ∙ given-same (is_in_slot (head.request % 8)) pool s.slots keeps
-
-    shown-behind : (after : Pool) (d : SlotRequest) (x : Served) → d.number ≡ head.request → map (shown_request after) rest ≡ map (shown_request pool) rest → shown_request after d ≡ x → shown after (with_slots (begun d s.slots) s) ≡ begun_with x (shown pool s)
-    shown-behind after d x number same is =
-        let gone = map-without (shown_request pool) (is_in_slot (head.request % 8)) (in_slot_of head.request) (λ y. refl) s.slots in
-        let all = map-append (shown_request after) (without_first (is_in_slot (head.request % 8)) s.slots) (d ∷ []) in
-        let own : x.number ≡ head.request = ap (λ y. y.number) (sym is) ∙ number in
-        let at : without_first (is_in_slot (d.number % 8)) s.slots ≡ rest = ap (λ n. without_first (is_in_slot (n % 8)) s.slots) number in
-        let there_too : without_first (in_slot_of head.request) (shown pool s).slots ≡ without_first (in_slot_of x.number) (shown pool s).slots = ap (λ n. without_first (in_slot_of n) (shown pool s).slots) (sym own) in
-        let slots : map (shown_request after) (begun d s.slots) ≡ without_first (in_slot_of x.number) (shown pool s).slots ++ x ∷ [] =
-        ap (λ ys. map (shown_request after) (ys ++ d ∷ [])) at ∙ all ∙ ap (λ ys. ys ++ shown_request after d ∷ []) (same ∙ gone ∙ there_too) ∙ ap (λ y. without_first (in_slot_of x.number) (shown pool s).slots ++ y ∷ []) is in
-        let whole : List Served → Server = λ ys. record { way = way_of s; credits = s.credits; slots = ys } in
-        ap whole slots
 
     pub first-keeps : KeepsPool (filled p b given) (begun (first_taken head p None) s.slots)
     first-keeps = put-behind (filled p b given) (first_taken head p None) rest asked-beside
@@ -141,7 +175,7 @@ module _ (pool : Pool) (s : Session) (head : MessageHeader) (p : ℕ) (b : Buffe
       answered-same = map-off q (filled p b given) (filled q e (filled p b given)) (one-filled q e (filled p b given)) rest (names-empty (filled p b given) q rest (lowest-empty (filled p b given) q next) asked-beside.others.kept) ∙ asked-same
 
       ask-there : buf_at (filled q e (filled p b given)) p ≡ Some b
-      ask-there = (one-filled q e (filled p b given)).other_bufs p (empty-other (filled p b given) q p asked-beside.own.ask (lowest-empty (filled p b given) q next)) ∙ there
+      ask-there = (one-filled q e (filled p b given)).other_bufs p (empty-other (filled p b given) q p asked-beside.own.ask.full (lowest-empty (filled p b given) q next)) ∙ there
 
       answer-there : buf_at (filled q e (filled p b given)) a.place ≡ Some e
       answer-there = rw place here
@@ -155,15 +189,15 @@ module _ (pool : Pool) (s : Session) (head : MessageHeader) (p : ℕ) (b : Buffe
       pub whole-held : 0 < refs_of (held a.place (filled q e (filled p b given))) a.place
       whole-held = let counted = held_refs (filled q e (filled p b given)) a.place (answered-beside.own.answer).full in omega (arith, counted.1)
 
--- all requests are of types that are handled in the event loop
-pub begun-inline : (mode_of : ℕ → Mode) (slots : List SlotRequest) (d : SlotRequest) → mode_of d.req_type ≡ Inline → AreInline mode_of slots → AreInline mode_of (begun d slots)
-begun-inline mode_of slots d new all =
-    all-append (λ x. mode_of x.req_type ≡ Inline) (without_first (is_in_slot (d.number % 8)) slots) d (all-without (is_in_slot (d.number % 8)) d (λ x. mode_of x.req_type ≡ Inline) slots all) new
+-- all requests are of types that are served
+pub begun-served : (mode_of : ℕ → Mode) (slots : List SlotRequest) (d : SlotRequest) → mode_of d.req_type ≢ Unserved → AreServed mode_of slots → AreServed mode_of (begun d slots)
+begun-served mode_of slots d new all =
+    all-append (λ x. mode_of x.req_type ≢ Unserved) (without_first (is_in_slot (d.number % 8)) slots) d (all-without (is_in_slot (d.number % 8)) d (λ x. mode_of x.req_type ≢ Unserved) slots all) new
 
 -- the reply to a packet that was taken before
-pub is-reply-of : (pool : Pool) (s : Session) (q : SlotRequest) (r k : ℕ) → IsSession s → newest r s ≡ Some q → q.number ≡ r → k < q.taken → IsHeld pool (place_of q k) → IsReply r k s pool (entry_at s.number s.peer k q)
-is-reply-of pool s q r k h found same below some =
-    let own = is-reply pool s q k h (ap (λ n. newest n s) same ∙ found) below some in
+pub is-reply-of : (pool : Pool) (s : Session) (q : SlotRequest) (r k : ℕ) → IsSession s → newest r s ≡ Some q → q.number ≡ r → k < q.taken → is_worked_on q k ≡ false → IsHeld pool (place_of q k) → IsReply r k s pool (entry_at s.number s.peer k q)
+is-reply-of pool s q r k h found same below idle some =
+    let own = is-reply pool s q k h (ap (λ n. newest n s) same ∙ found) below idle some in
     record {
       owner = ap (λ n. Reply s.number n) same;
       number = refl;

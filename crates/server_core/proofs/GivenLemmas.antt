@@ -1,5 +1,5 @@
 -- The older request of a slot is given up.
-use Rattle.std.proofs.Common.{◌≡◌, ◌≢◌, ℕ, suc, add-one, drop, drop-cons, ◌+◌, ◌<◌, ◌≤◌, Bool, true, false, cond, Option, Some, None, List, [], ◌∷◌, length, get_or, set, refl, sym, ap, ◌∙◌, inl, inr, arith}
+use Rattle.std.proofs.Common.{◌≡◌, ℕ, suc, add-one, drop, drop-cons, ◌+◌, ◌<◌, ◌≤◌, Bool, true, false, cond, Option, Some, None, List, [], ◌∷◌, length, get_or, set, refl, sym, ap, ◌∙◌, inl, inr, arith}
 use Rattle.std.specs.Prelude.{IfSome, map}
 use Rattle.std.specs.List.{AllByRecursion, find}
 use Rattle.std.proofs.lemmas.Bool.{cases_lt}
@@ -7,16 +7,16 @@ use Rattle.std.proofs.lemmas.List.{set_past}
 use Rattle.std.proofs.lemmas.List.Sums.{sum_by-set}
 use Rattle.buffer_pool.specs.declared.usage.Use.TheVariants.{Empty}
 use Rattle.buffer_pool.specs.Uses.{is_empty, is_full, refs_in}
-use Rattle.buffer_pool.specs.Pool.{Pool, IsFull, emptied, refs_of, spare_of}
+use Rattle.buffer_pool.specs.Pool.{Pool, IsFull, emptied, refs_of, spare_of, use_at}
 use Rattle.rpc_base.specs.Tables.{without_first}
 use Rattle.server_core.specs.declared.slot.SlotRequest.{SlotRequest}
 use Rattle.server_core.specs.declared.slot.Stored.{Stored}
-use Rattle.server_core.specs.KeepsPool.{IsKept, IsStored, KeepsPool, answer_names, names, own_names}
-use Rattle.server_core.specs.Serving.{IsUnheld, given_up, without_answer, without_buffers}
+use Rattle.server_core.specs.KeepsPool.{IsAsked, IsKept, IsStored, KeepsPool, answer_names, ask_names, names, own_names}
+use Rattle.server_core.specs.Serving.{IsUnheld, given_up, without_answer, without_ask, without_buffers}
 use Rattle.server_core.specs.Shown.{shown_request}
 use Rattle.server_core.proofs.ChangedLemmas.{without-none}
 use Rattle.server_core.proofs.PlaceLemmas.{IsBeside, answer-apart, ask-apart, gone-keeps, gone-same, taken-out}
-use Rattle.server_core.proofs.PoolLemmas.{ChangesOne, names-cons, one-emptied, unnamed-cases}
+use Rattle.server_core.proofs.PoolLemmas.{ChangesOne, ask-away, names-cons, one-emptied, unnamed-cases}
 
 -- no place fewer is spare
 spare-emptied : (pool : Pool) (p : ℕ) → spare_of pool ≤ spare_of (emptied p pool)
@@ -33,9 +33,13 @@ spare-answer : (pool : Pool) (o : Option Stored) → spare_of pool ≤ spare_of 
 spare-answer pool None = omega arith
 spare-answer pool (Some a) = spare-emptied pool a.place
 
+spare-ask : (pool : Pool) (o : Option ℕ) → spare_of pool ≤ spare_of (without_ask o pool)
+spare-ask pool None = omega arith
+spare-ask pool (Some p) = spare-emptied pool p
+
 pub spare-given : (pool : Pool) (o : Option SlotRequest) → spare_of pool ≤ spare_of (given_up o pool)
 spare-given pool None = omega arith
-spare-given pool (Some q) = omega (arith, spare-emptied pool q.ask, spare-answer (emptied q.ask pool) q.answer)
+spare-given pool (Some q) = omega (arith, spare-ask pool q.ask, spare-answer (without_ask q.ask pool) q.answer)
 
 -- the others keep the pool, and show the same
 module _ (test : SlotRequest → Bool) (pool : Pool) (slots : List SlotRequest) (keeps : KeepsPool pool slots) where
@@ -54,19 +58,28 @@ module _ (test : SlotRequest → Bool) (pool : Pool) (slots : List SlotRequest) 
   given-same = same-cases (find test slots) refl
 
 -- the answer of a request whose bytes are given up is there still
-pub answer-full : (pool : Pool) (q : SlotRequest) (rest : List SlotRequest) → IsBeside pool q rest → IfSome q.answer (λ a. IsFull (emptied q.ask pool) a.place)
+use-kept : (p : ℕ) (o : Option ℕ) (pool : Pool) → ask_names p o ≡ 0 → use_at (without_ask o pool) p ≡ use_at pool p
+use-kept p None pool e = refl
+use-kept p (Some a) pool e = (one-emptied a pool).other_uses p (λ same. ask-away a p e (sym same))
+
+pub answer-full : (pool : Pool) (q : SlotRequest) (rest : List SlotRequest) → IsBeside pool q rest → IfSome q.answer (λ a. IsFull (without_ask q.ask pool) a.place)
 answer-full pool q rest beside = by q.answer (λ a is. (answer-apart pool q a rest beside is).1) beside.own.answer
   where
-    by : (o : Option Stored) → ((a : Stored) → o ≡ Some a → q.ask ≢ a.place) → IfSome o (IsStored pool) → IfSome o (λ a. IsFull (emptied q.ask pool) a.place)
+    by : (o : Option Stored) → ((a : Stored) → o ≡ Some a → ask_names a.place q.ask ≡ 0) → IfSome o (IsStored pool) → IfSome o (λ a. IsFull (without_ask q.ask pool) a.place)
     by None other kept = tt
-    by (Some a) other kept = ap is_full ((one-emptied q.ask pool).other_uses a.place (λ same. other a refl (sym same))) ∙ kept.full
+    by (Some a) other kept = ap is_full (use-kept a.place q.ask pool (other a refl)) ∙ kept.full
 
-pub answer-unheld : (pool : Pool) (q : SlotRequest) (rest : List SlotRequest) → IsBeside pool q rest → IsUnheld pool q → IfSome q.answer (λ a. refs_of (emptied q.ask pool) a.place ≡ 0)
+pub answer-unheld : (pool : Pool) (q : SlotRequest) (rest : List SlotRequest) → IsBeside pool q rest → IsUnheld pool q → IfSome q.answer (λ a. refs_of (without_ask q.ask pool) a.place ≡ 0)
 answer-unheld pool q rest beside unheld = by q.answer (λ a is. (answer-apart pool q a rest beside is).1) unheld
   where
-    by : (o : Option Stored) → ((a : Stored) → o ≡ Some a → q.ask ≢ a.place) → IfSome o (λ a. refs_of pool a.place ≡ 0) → IfSome o (λ a. refs_of (emptied q.ask pool) a.place ≡ 0)
+    by : (o : Option Stored) → ((a : Stored) → o ≡ Some a → ask_names a.place q.ask ≡ 0) → IfSome o (λ a. refs_of pool a.place ≡ 0) → IfSome o (λ a. refs_of (without_ask q.ask pool) a.place ≡ 0)
     by None other none = tt
-    by (Some a) other none = ap refs_in ((one-emptied q.ask pool).other_uses a.place (λ same. other a refl (sym same))) ∙ none
+    by (Some a) other none = ap refs_in (use-kept a.place q.ask pool (other a refl)) ∙ none
+
+-- its own place is full, and no entry names it
+pub ask-full : (pool : Pool) (size : ℕ) (o : Option ℕ) → IfSome o (IsAsked pool size) → IfSome o (IsFull pool) × IfSome o (λ p. refs_of pool p ≡ 0)
+ask-full pool size None kept = (tt, tt)
+ask-full pool size (Some p) kept = (kept.full, kept.unnamed)
 
 -- a request by itself
 pub alone : (pool : Pool) (q : SlotRequest) → IsKept pool q → ((p : ℕ) → own_names p q ≤ 1) → IsBeside pool q []
@@ -99,12 +112,16 @@ unheld-all p pool new (q ∷ qs) one e all =
     (unheld-off p pool new q one (omega (arith, sum, e)) all.0, unheld-all p pool new qs one (omega (arith, sum, e)) all.1)
 
 module _ (pool : Pool) (q : SlotRequest) (rest : List SlotRequest) (beside : IsBeside pool q rest) (unheld : AllByRecursion (IsUnheld pool) rest) where
-  unheld-ask : AllByRecursion (IsUnheld (emptied q.ask pool)) rest
-  unheld-ask = unheld-all q.ask pool (emptied q.ask pool) rest (one-emptied q.ask pool) (ask-apart pool q rest beside) unheld
+  unheld-ask : (o : Option ℕ) → q.ask ≡ o → AllByRecursion (IsUnheld (without_ask o pool)) rest
+  unheld-ask None e = unheld
+  unheld-ask (Some p) e = unheld-all p pool (emptied p pool) rest (one-emptied p pool) (ask-apart pool q p rest beside e) unheld
 
-  unheld-answer : (o : Option Stored) → ((a : Stored) → o ≡ Some a → names a.place rest ≡ 0) → AllByRecursion (IsUnheld (without_answer o (emptied q.ask pool))) rest
-  unheld-answer None free = unheld-ask
-  unheld-answer (Some a) free = unheld-all a.place (emptied q.ask pool) (emptied a.place (emptied q.ask pool)) rest (one-emptied a.place (emptied q.ask pool)) (free a refl) unheld-ask
+  abbrev unasked : Pool
+  unasked = without_ask q.ask pool
+
+  unheld-answer : (o : Option Stored) → ((a : Stored) → o ≡ Some a → names a.place rest ≡ 0) → AllByRecursion (IsUnheld (without_answer o unasked)) rest
+  unheld-answer None free = unheld-ask q.ask refl
+  unheld-answer (Some a) free = unheld-all a.place unasked (emptied a.place unasked) rest (one-emptied a.place unasked) (free a refl) (unheld-ask q.ask refl)
 
   pub unheld-rest : AllByRecursion (IsUnheld (without_buffers q pool)) rest
   unheld-rest = unheld-answer q.answer (λ a is. (answer-apart pool q a rest beside is).0)

@@ -1,4 +1,3 @@
-mod AskedLemmas
 mod BeginLemmas
 mod ChangedLemmas
 mod GivenLemmas
@@ -10,7 +9,9 @@ mod PoolLemmas
 mod ReplyLemmas
 mod RowLemmas
 mod SlotLemmas
+mod TakeLemmas
+pub mod AskedLemmas
+pub mod IdleLemmas
 pub mod SpareLemmas
 pub mod StepLemmas
 pub mod TableLemmas
-mod TakeLemmas

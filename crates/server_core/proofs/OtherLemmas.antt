@@ -10,13 +10,13 @@ use Rattle.packet_header.specs.declared.packet.MessageHeader.{MessageHeader}
 use Rattle.rpc_base.specs.Tables.{without_first}
 use Rattle.server_core.specs.declared.slot.SlotRequest.{SlotRequest}
 use Rattle.server_core.specs.declared.slot.Stored.{Stored}
-use Rattle.server_core.specs.KeepsPool.{LeavesOthers, answer_names, names, own_names}
+use Rattle.server_core.specs.KeepsPool.{LeavesOthers, answer_names, ask_names, names, own_names}
 use Rattle.server_core.specs.Replies.{held_at, place_of}
-use Rattle.server_core.specs.Serving.{begun, first_taken, given_up, gone_on, next_taken, without_answer}
+use Rattle.server_core.specs.Serving.{begun, first_given, first_taken, given_up, gone_on, last_given, next_taken, without_answer, without_ask}
 use Rattle.server_core.specs.Session.{Session, is_in_slot, newest}
 use Rattle.server_core.proofs.ListLemmas.{sum-changed, sum-without}
 use Rattle.server_core.proofs.PlaceLemmas.{lowest-empty}
-use Rattle.server_core.proofs.PoolLemmas.{ChangesOne, names-cons, one-changed, one-emptied, one-filled, one-held, other-ask, unnamed-cases, unnamed-one}
+use Rattle.server_core.proofs.PoolLemmas.{ChangesOne, ask-away as away-ask, names-cons, one-changed, one-emptied, one-filled, one-held, unnamed-cases, unnamed-one}
 
 -- one place is as it was
 pub record IsSame (p : ℕ) (pool new : Pool) : Type 0 where
@@ -41,8 +41,10 @@ pub still-used : (p : ℕ) (pool new : Pool) → IsSame p pool new → is_empty 
 still-used p pool new same used = ap is_empty same.use_is ∙ used
 
 -- the places of a request that doesn't name this one
-pub ask-away : (p : ℕ) (q : SlotRequest) → own_names p q ≡ 0 → p ≢ q.ask
-ask-away p q e = λ same. other-ask p q e (sym same)
+pub ask-away : (p : ℕ) (q : SlotRequest) (a : ℕ) → own_names p q ≡ 0 → q.ask ≡ Some a → p ≢ a
+ask-away p q a e is = λ same.
+    let none : ask_names p (Some a) ≡ 0 = ap (ask_names p) (sym is) ∙ omega (arith, e) in
+    away-ask a p none (sym same)
 
 pub answer-away : (p : ℕ) (q : SlotRequest) (a : Stored) → own_names p q ≡ 0 → q.answer ≡ Some a → p ≢ a.place
 answer-away p q a e is = λ same.
@@ -63,20 +65,30 @@ names-less p test (y ∷ ys) = less-cons p test y ys (test y) (names-less p test
 
 -- the older request of a slot is given up
 module _ (p : ℕ) (pool : Pool) where
-  answer-same : (q : SlotRequest) (o : Option Stored) → own_names p q ≡ 0 → q.answer ≡ o → IsSame p (emptied q.ask pool) (without_answer o (emptied q.ask pool))
-  answer-same q None e is = same-kept p (emptied q.ask pool)
-  answer-same q (Some a) e is = same-one p a.place (emptied q.ask pool) (emptied a.place (emptied q.ask pool)) (one-emptied a.place (emptied q.ask pool)) (answer-away p q a e is)
+  ask-same : (q : SlotRequest) (o : Option ℕ) → own_names p q ≡ 0 → q.ask ≡ o → IsSame p pool (without_ask o pool)
+  ask-same q None e is = same-kept p pool
+  ask-same q (Some a) e is = same-one p a pool (emptied a pool) (one-emptied a pool) (ask-away p q a e is)
+
+  answer-same : (new : Pool) (q : SlotRequest) (o : Option Stored) → own_names p q ≡ 0 → q.answer ≡ o → IsSame p new (without_answer o new)
+  answer-same new q None e is = same-kept p new
+  answer-same new q (Some a) e is = same-one p a.place new (emptied a.place new) (one-emptied a.place new) (answer-away p q a e is)
 
   pub given-cases : (test : SlotRequest → Bool) (slots : List SlotRequest) (o : Option SlotRequest) → find test slots ≡ o → names p slots ≡ 0 → IsSame p pool (given_up o pool)
   given-cases test slots None e none = same-kept p pool
   given-cases test slots (Some q) e none =
       let own = found-names p test slots q e none in
-      same-then p pool (emptied q.ask pool) (given_up (Some q) pool) (same-one p q.ask pool (emptied q.ask pool) (one-emptied q.ask pool) (ask-away p q own)) (answer-same q q.answer own refl)
+      same-then p pool (without_ask q.ask pool) (given_up (Some q) pool) (ask-same q q.ask own refl) (answer-same (without_ask q.ask pool) q q.answer own refl)
 
 -- a request begins
 begun-names : (p : ℕ) (slots : List SlotRequest) (d : SlotRequest) → names p slots ≡ 0 → own_names p d ≡ 0 → names p (begun d slots) ≡ 0
 begun-names p slots d none own =
     omega (arith, sum_by-append (own_names p) (without_first (is_in_slot (d.number % 8)) slots) (d ∷ []), names-cons p d [], names-less p (is_in_slot (d.number % 8)) slots, none, own)
+
+-- one of its only packet goes to a worker
+pub given-others : (pool : Pool) (s : Session) (head : MessageHeader) → LeavesOthers s.slots (begun (first_given head) s.slots) pool (given_up (newest head.request s) pool)
+given-others pool s head = λ p none used.
+    let same = given-cases p pool (is_in_slot (head.request % 8)) s.slots (newest head.request s) refl none in
+    (begun-names p s.slots (first_given head) none refl, same.use_is, same.buf_is)
 
 module _ (pool : Pool) (s : Session) (head : MessageHeader) (k : ℕ) (b : Buffer) (lowest : lowest_empty (given_up (newest head.request s) pool) ≡ Some k) where
   abbrev given : Pool
@@ -130,10 +142,18 @@ module _ (pool : Pool) (s : Session) (q : SlotRequest) (r : ℕ) (found : newest
       (none, same.use_is, same.buf_is)
 
   -- its bytes are written
-  pub part-others : (b : Buffer) → LeavesOthers s.slots s.slots pool (changed q.ask b pool)
-  part-others b = λ p none used.
-      let same = same-one p q.ask pool (changed q.ask b pool) (one-changed q.ask b pool) (ask-away p q (own-none p none)) in
+  pub part-others : (a : ℕ) → q.ask ≡ Some a → (b : Buffer) → LeavesOthers s.slots s.slots pool (changed a b pool)
+  part-others a is b = λ p none used.
+      let same = same-one p a pool (changed a b pool) (one-changed a b pool) (ask-away p q a (own-none p none) is) in
       (none, same.use_is, same.buf_is)
+
+  -- it goes to a worker, with its bytes
+  pub last-given-others : q.number ≡ r → q.answer ≡ None → (a : ℕ) → q.ask ≡ Some a → LeavesOthers s.slots (gone_on (last_given q) s.slots) pool (emptied a pool)
+  last-given-others number none_yet a is = λ p none used.
+      let own = own-none p none in
+      let same = same-one p a pool (emptied a pool) (one-emptied a pool) (ask-away p q a own is) in
+      let at : find (is_in_slot (q.number % 8)) s.slots ≡ Some q = ap (λ n. newest n s) number ∙ found in
+      (gone-names p s.slots q (last_given q) at none (omega (arith, own)), same.use_is, same.buf_is)
 
   pub next-others : q.number ≡ r → (k : ℕ) → LeavesOthers s.slots (gone_on (next_taken q.answer q) s.slots) pool (held_at (place_of q k) pool)
   next-others number k = λ p none used.
@@ -142,13 +162,14 @@ module _ (pool : Pool) (s : Session) (q : SlotRequest) (r : ℕ) (found : newest
       let at : find (is_in_slot (q.number % 8)) s.slots ≡ Some q = ap (λ n. newest n s) number ∙ found in
       (gone-names p s.slots q (next_taken q.answer q) at none own, same.use_is, same.buf_is)
 
-  pub last-others : q.number ≡ r → q.answer ≡ None → (j : ℕ) → (b : Buffer) → (a : Stored) → lowest_empty pool ≡ Some j → a.place ≡ j → LeavesOthers s.slots (gone_on (next_taken (Some a) q) s.slots) pool (held a.place (filled j b pool))
-  last-others number none_yet j b a lowest place = λ p none used.
+  -- its answer is there
+  pub last-others : (d : SlotRequest) → q.number ≡ r → d.number ≡ q.number → d.ask ≡ q.ask → (j : ℕ) → (b : Buffer) → (a : Stored) → d.answer ≡ Some a → lowest_empty pool ≡ Some j → a.place ≡ j → LeavesOthers s.slots (gone_on d s.slots) pool (held a.place (filled j b pool))
+  last-others d number same_number asked j b a is lowest place = λ p none used.
       let own = own-none p none in
       let away = not-lowest pool p j used lowest in
       let apart : p ≢ a.place = λ e. away (e ∙ place) in
       let first = same-one p j pool (filled j b pool) (one-filled j b pool) away in
       let same = same-then p pool (filled j b pool) (held a.place (filled j b pool)) first (same-one p a.place (filled j b pool) (held a.place (filled j b pool)) (one-held a.place (filled j b pool)) apart) in
-      let out = unnamed-one a.place p (λ e. apart (sym e)) in
-      let at : find (is_in_slot (q.number % 8)) s.slots ≡ Some q = ap (λ n. newest n s) number ∙ found in
-      (gone-names p s.slots q (next_taken (Some a) q) at none (omega (arith, own, out)), same.use_is, same.buf_is)
+      let out : answer_names p d.answer ≡ 0 = ap (answer_names p) is ∙ unnamed-one a.place p (λ e. apart (sym e)) in
+      let at : find (is_in_slot (d.number % 8)) s.slots ≡ Some q = ap (λ n. newest n s) (same_number ∙ number) ∙ found in
+      (gone-names p s.slots q d at none (omega (arith, own, out, ap (ask_names p) asked)), same.use_is, same.buf_is)

@@ -1,5 +1,5 @@
 -- A request beside the others of its session: what becomes of its places.
-use Rattle.std.proofs.Common.{◌≡◌, ◌≢◌, ℕ, ◌+◌, ◌<◌, ◌≤◌, Bool, true, false, cond, eqb, ltb, ltb-true, Option, Some, None, List, [], ◌∷◌, ◌++◌, length, take, drop, get_or, refl, sym, ap, ◌∙◌, inl, inr, arith}
+use Rattle.std.proofs.Common.{◌≡◌, ◌≢◌, ℕ, ◌+◌, ◌<◌, ◌≤◌, Bool, true, false, cond, ltb, ltb-true, Option, Some, None, List, [], ◌∷◌, ◌++◌, length, take, drop, get_or, refl, sym, ap, ◌∙◌, inl, inr, arith}
 use Rattle.std.specs.Prelude.{IfSome, map, position}
 use Rattle.std.specs.List.{AllByRecursion, find, position_or_len}
 use Rattle.std.proofs.lemmas.Bool.{cases_eq, cases_lt}
@@ -13,11 +13,11 @@ use Rattle.buffer_pool.proofs.PoolLemmas.{changed_own, held_refs}
 use Rattle.rpc_base.specs.Tables.{at_first, without_first}
 use Rattle.server_core.specs.declared.slot.Stored.{Stored}
 use Rattle.server_core.specs.declared.slot.SlotRequest.{SlotRequest}
-use Rattle.server_core.specs.KeepsPool.{HasSize, IsKept, IsStored, KeepsPool, answer_names, names, own_names}
-use Rattle.server_core.specs.Serving.{without_answer, without_buffers}
+use Rattle.server_core.specs.KeepsPool.{HasSize, IsAsked, IsKept, IsStored, KeepsPool, answer_names, ask_names, names, own_names}
+use Rattle.server_core.specs.Serving.{without_answer, without_ask, without_buffers}
 use Rattle.server_core.specs.Shown.{shown_request}
 use Rattle.server_core.proofs.ListLemmas.{all-append, all-without, found-holds, sum-changed, sum-without}
-use Rattle.server_core.proofs.PoolLemmas.{empty-other, keeps-off, map-off, named-one, names-cons, names-empty, one-changed, one-emptied, one-filled, one-held, unnamed-one}
+use Rattle.server_core.proofs.PoolLemmas.{ask-away, ask-empty, ask-off, keeps-off, map-off, named-one, names-cons, names-empty, one-changed, one-emptied, one-filled, one-held, unnamed-one}
 
 -- the lowest empty place is one of the pool's, and empty
 found-at : (n m i : ℕ) (b : Bool) → ltb n m ≡ b → cond b (Some n) None ≡ Some i → (i ≡ n) × (n < m)
@@ -83,27 +83,29 @@ put-behind pool d rest beside = record {
 }
 
 -- a request's own places are no one else's
-own-ask : (q : SlotRequest) → 1 ≤ own_names q.ask q
-own-ask q = omega (arith, named-one q.ask q.ask refl)
+ask-named : (p : ℕ) (q : SlotRequest) → q.ask ≡ Some p → ask_names p q.ask ≡ 1
+ask-named p q is = ap (ask_names p) is ∙ named-one p p refl
 
-pub ask-apart : (pool : Pool) (q : SlotRequest) (rest : List SlotRequest) → IsBeside pool q rest → names q.ask rest ≡ 0
-ask-apart pool q rest beside = omega (arith, beside.apart q.ask, own-ask q)
+pub ask-apart : (pool : Pool) (q : SlotRequest) (p : ℕ) (rest : List SlotRequest) → IsBeside pool q rest → q.ask ≡ Some p → names p rest ≡ 0
+ask-apart pool q p rest beside is = omega (arith, beside.apart p, ask-named p q is)
 
-answer-named : (p : ℕ) (q : SlotRequest) (a : Stored) → q.answer ≡ Some a → a.place ≡ p → own_names p q ≡ cond {A = ℕ} (eqb q.ask p) 1 0 + 1
-answer-named p q a is same = ap (λ o. cond {A = ℕ} (eqb q.ask p) 1 0 + answer_names p o) is ∙ ap (λ n. cond {A = ℕ} (eqb q.ask p) 1 0 + n) (named-one a.place p same)
+answer-named : (p : ℕ) (q : SlotRequest) (a : Stored) → q.answer ≡ Some a → a.place ≡ p → answer_names p q.answer ≡ 1
+answer-named p q a is same = ap (answer_names p) is ∙ named-one a.place p same
 
-pub answer-apart : (pool : Pool) (q : SlotRequest) (a : Stored) (rest : List SlotRequest) → IsBeside pool q rest → q.answer ≡ Some a → (names a.place rest ≡ 0) × (q.ask ≢ a.place)
+pub answer-apart : (pool : Pool) (q : SlotRequest) (a : Stored) (rest : List SlotRequest) → IsBeside pool q rest → q.answer ≡ Some a → (names a.place rest ≡ 0) × (ask_names a.place q.ask ≡ 0)
 answer-apart pool q a rest beside is =
     let named = answer-named a.place q a is refl in
-    (omega (arith, beside.apart a.place, named), λ same. absurd (omega (arith, beside.apart a.place, named, named-one q.ask a.place same)))
+    (omega (arith, beside.apart a.place, named), omega (arith, beside.apart a.place, named))
+
+pub both-apart : (pool : Pool) (q : SlotRequest) (p : ℕ) (a : Stored) (rest : List SlotRequest) → IsBeside pool q rest → q.ask ≡ Some p → q.answer ≡ Some a → p ≢ a.place
+both-apart pool q p a rest beside asked is =
+    ask-away p a.place (ap (ask_names a.place) (sym asked) ∙ (answer-apart pool q a rest beside is).1)
 
 -- a request with the same places, size and answer
 pub beside-as : (pool : Pool) (q d : SlotRequest) (rest : List SlotRequest) → d.ask ≡ q.ask → d.size ≡ q.size → d.answer ≡ q.answer → IsBeside pool q rest → IsBeside pool d rest
 beside-as pool q d rest ask size answer beside = record {
   own = record {
-    ask = rw ask beside.own.ask;
-    size = rw (ask, size) beside.own.size;
-    unnamed = rw ask beside.own.unnamed;
+    ask = rw (ask, size) beside.own.ask;
     answer = rw answer beside.own.answer;
   };
   others = beside.others;
@@ -111,15 +113,13 @@ beside-as pool q d rest ask size answer beside = record {
 }
 
 -- its bytes are put in the lowest empty place
-pub beside-asked : (pool : Pool) (p : ℕ) (b : Buffer) (d : SlotRequest) (rest : List SlotRequest) → KeepsPool pool rest → lowest_empty pool ≡ Some p → buf_at (filled p b pool) p ≡ Some b → d.ask ≡ p → d.answer ≡ None → HasSize d.size (Some b) → IsBeside (filled p b pool) d rest
+pub beside-asked : (pool : Pool) (p : ℕ) (b : Buffer) (d : SlotRequest) (rest : List SlotRequest) → KeepsPool pool rest → lowest_empty pool ≡ Some p → buf_at (filled p b pool) p ≡ Some b → d.ask ≡ Some p → d.answer ≡ None → HasSize d.size (Some b) → IsBeside (filled p b pool) d rest
 beside-asked pool p b d rest keeps lowest there ask none size =
     let free = names-empty pool p rest (lowest-empty pool p lowest) keeps.kept in
     let own = changed_own pool.uses p (Full 0) Empty (lowest-within pool p lowest) in
     record {
       own = record {
-        ask = rw ask (ap is_full own);
-        size = rw (ask, there) size;
-        unnamed = rw ask (ap refs_in own);
+        ask = rw ask (record { full = ap is_full own; size_is = rw there size; unnamed = ap refs_in own });
         answer = rw none tt;
       };
       others = keeps-off p pool (filled p b pool) (one-filled p b pool) rest free keeps;
@@ -134,19 +134,17 @@ pub beside-answered : (pool : Pool) (p : ℕ) (b : Buffer) (q d : SlotRequest) (
 beside-answered pool p b q d a rest beside none lowest there ask size answer place fits =
     let empty = lowest-empty pool p lowest in
     let free = names-empty pool p rest empty beside.others.kept in
-    let other = empty-other pool p q.ask beside.own.ask empty in
+    let other = ask-empty pool p q.size q.ask empty beside.own.ask in
     let own = changed_own pool.uses p (Full 0) Empty (lowest-within pool p lowest) in
     let one = one-filled p b pool in
     record {
       own = record {
-        ask = rw ask (ap is_full (one.other_uses q.ask other) ∙ beside.own.ask);
-        size = rw (ask, size, one.other_bufs q.ask other) beside.own.size;
-        unnamed = rw ask (ap refs_in (one.other_uses q.ask other) ∙ beside.own.unnamed);
+        ask = rw (ask, size) (ask-off p pool (filled p b pool) one q.size q.ask other beside.own.ask);
         answer = rw answer (record { full = rw place (ap is_full own); size = rw (place, there) fits });
       };
       others = keeps-off p pool (filled p b pool) one rest free beside.others;
       apart = λ r. rw (ask, answer, place) (elim (cases_eq p r) [
-        | inl here ↦ omega (arith, named-one p r here, rw here at free, unnamed-one q.ask r (λ same. other (same ∙ sym here)))
+        | inl here ↦ omega (arith, named-one p r here, rw here at free, rw here at other)
         | inr away ↦ omega (arith, unnamed-one p r away, beside.apart r)
       ]);
     }
@@ -159,9 +157,7 @@ beside-held pool q a rest beside is =
     let stored : IsStored pool a = rw is at beside.own.answer in
     record {
       own = record {
-        ask = ap is_full (one.other_uses q.ask other) ∙ beside.own.ask;
-        size = beside.own.size;
-        unnamed = ap refs_in (one.other_uses q.ask other) ∙ beside.own.unnamed;
+        ask = ask-off a.place pool (held a.place pool) one q.size q.ask other beside.own.ask;
         answer = rw is (record { full = (held_refs pool a.place stored.full).0; size = stored.size });
       };
       others = keeps-off a.place pool (held a.place pool) one rest free beside.others;
@@ -191,41 +187,53 @@ buffer-within bufs p b e = elim (cases_lt p (length bufs)) [
     some-none : (b : Buffer) → Some b ≡ None → ⊥
     some-none b e = cc
 
-pub beside-written : (pool : Pool) (at : ℕ) (body : List ℕ) (b : Buffer) (q : SlotRequest) (rest : List SlotRequest) → IsBeside pool q rest → buf_at pool q.ask ≡ Some b → at + length body ≤ b.len → IsBeside (changed q.ask (written at body b) pool) q rest
-beside-written pool at body b q rest beside there within =
-    let one = one-changed q.ask (written at body b) pool in
-    let own = changed_own pool.bufs q.ask (Some (written at body b)) None (buffer-within pool.bufs q.ask b there) in
-    let size : HasSize q.size (Some b) = rw there at beside.own.size in
+pub beside-written : (pool : Pool) (at : ℕ) (body : List ℕ) (b : Buffer) (q : SlotRequest) (p : ℕ) (rest : List SlotRequest) → IsBeside pool q rest → q.ask ≡ Some p → buf_at pool p ≡ Some b → at + length body ≤ b.len → IsBeside (changed p (written at body b) pool) q rest
+beside-written pool at body b q p rest beside is there within =
+    let one = one-changed p (written at body b) pool in
+    let own = changed_own pool.bufs p (Some (written at body b)) None (buffer-within pool.bufs p b there) in
+    let asked : IsAsked pool q.size p = rw is at beside.own.ask in
+    let size : HasSize q.size (Some b) = rw there at asked.size_is in
     let same = overwritten-length at body b.store (omega (arith, size.0, size.1, within)) in
     record {
       own = record {
-        ask = beside.own.ask;
-        size = rw own (size.0, omega (arith, same, size.1));
-        unnamed = beside.own.unnamed;
-        answer = answer-written pool q.ask (written at body b) q.answer (λ a is. (answer-apart pool q a rest beside is).1) beside.own.answer;
+        ask = rw is (record { full = asked.full; size_is = rw own (size.0, omega (arith, same, size.1)); unnamed = asked.unnamed });
+        answer = answer-written pool p (written at body b) q.answer (λ a e. both-apart pool q p a rest beside is e) beside.own.answer;
       };
-      others = keeps-off q.ask pool (changed q.ask (written at body b) pool) one rest (ask-apart pool q rest beside) beside.others;
+      others = keeps-off p pool (changed p (written at body b) pool) one rest (ask-apart pool q p rest beside is) beside.others;
       apart = beside.apart;
     }
 
 -- it is given up, and its places are empty
 module _ (pool : Pool) (q : SlotRequest) (rest : List SlotRequest) (beside : IsBeside pool q rest) where
-  asked-up : KeepsPool (emptied q.ask pool) rest
-  asked-up = keeps-off q.ask pool (emptied q.ask pool) (one-emptied q.ask pool) rest (ask-apart pool q rest beside) beside.others
+  asked-up : (o : Option ℕ) → q.ask ≡ o → KeepsPool (without_ask o pool) rest
+  asked-up None e = beside.others
+  asked-up (Some p) e = keeps-off p pool (emptied p pool) (one-emptied p pool) rest (ask-apart pool q p rest beside e) beside.others
 
-  asked-same : map (shown_request (emptied q.ask pool)) rest ≡ map (shown_request pool) rest
-  asked-same = map-off q.ask pool (emptied q.ask pool) (one-emptied q.ask pool) rest (ask-apart pool q rest beside)
+  asked-same : (o : Option ℕ) → q.ask ≡ o → map (shown_request (without_ask o pool)) rest ≡ map (shown_request pool) rest
+  asked-same None e = refl
+  asked-same (Some p) e = map-off p pool (emptied p pool) (one-emptied p pool) rest (ask-apart pool q p rest beside e)
 
-  answer-up : (o : Option Stored) → ((a : Stored) → o ≡ Some a → names a.place rest ≡ 0) → KeepsPool (without_answer o (emptied q.ask pool)) rest
-  answer-up None free = asked-up
-  answer-up (Some a) free = keeps-off a.place (emptied q.ask pool) (emptied a.place (emptied q.ask pool)) (one-emptied a.place (emptied q.ask pool)) rest (free a refl) asked-up
+  abbrev unasked : Pool
+  unasked = without_ask q.ask pool
 
-  answer-same : (o : Option Stored) → ((a : Stored) → o ≡ Some a → names a.place rest ≡ 0) → map (shown_request (without_answer o (emptied q.ask pool))) rest ≡ map (shown_request pool) rest
-  answer-same None free = asked-same
-  answer-same (Some a) free = map-off a.place (emptied q.ask pool) (emptied a.place (emptied q.ask pool)) (one-emptied a.place (emptied q.ask pool)) rest (free a refl) ∙ asked-same
+  answer-up : (o : Option Stored) → ((a : Stored) → o ≡ Some a → names a.place rest ≡ 0) → KeepsPool (without_answer o unasked) rest
+  answer-up None free = asked-up q.ask refl
+  answer-up (Some a) free = keeps-off a.place unasked (emptied a.place unasked) (one-emptied a.place unasked) rest (free a refl) (asked-up q.ask refl)
+
+  answer-same : (o : Option Stored) → ((a : Stored) → o ≡ Some a → names a.place rest ≡ 0) → map (shown_request (without_answer o unasked)) rest ≡ map (shown_request pool) rest
+  answer-same None free = asked-same q.ask refl
+  answer-same (Some a) free = map-off a.place unasked (emptied a.place unasked) (one-emptied a.place unasked) rest (free a refl) ∙ asked-same q.ask refl
 
   pub gone-keeps : KeepsPool (without_buffers q pool) rest
   gone-keeps = answer-up q.answer (λ a is. (answer-apart pool q a rest beside is).0)
 
   pub gone-same : map (shown_request (without_buffers q pool)) rest ≡ map (shown_request pool) rest
   gone-same = answer-same q.answer (λ a is. (answer-apart pool q a rest beside is).0)
+
+-- its bytes leave the pool, and it goes on without them
+pub beside-given : (pool : Pool) (q d : SlotRequest) (p : ℕ) (rest : List SlotRequest) → IsBeside pool q rest → q.ask ≡ Some p → q.answer ≡ None → d.ask ≡ None → d.answer ≡ None → IsBeside (emptied p pool) d rest
+beside-given pool q d p rest beside is none asked answer = record {
+  own = record { ask = rw asked tt; answer = rw answer tt };
+  others = keeps-off p pool (emptied p pool) (one-emptied p pool) rest (ask-apart pool q p rest beside is) beside.others;
+  apart = λ r. rw (asked, answer) (omega (arith, beside.others.apart r));
+}

@@ -12,9 +12,9 @@ use Rattle.buffer_pool.specs.Pool.{Pool, IsFull, buf_at, changed, emptied, fille
 use Rattle.buffer_pool.proofs.PoolLemmas.{changed_other, changed_own, full_within}
 use Rattle.server_core.specs.declared.slot.Stored.{Stored}
 use Rattle.server_core.specs.declared.slot.SlotRequest.{SlotRequest}
-use Rattle.server_core.specs.KeepsPool.{IsKept, IsStored, KeepsPool, answer_names, names, own_names}
+use Rattle.server_core.specs.KeepsPool.{IsAsked, IsKept, IsStored, KeepsPool, answer_names, ask_names, names, own_names}
 use Rattle.server_core.specs.Replies.{IsHeld, released_at}
-use Rattle.server_core.specs.Shown.{answer_in, shown_request}
+use Rattle.server_core.specs.Shown.{answer_in, ask_in, shown_request}
 
 -- one place of a pool changed, and each other is as it was
 pub record ChangesOne (p : ℕ) (pool new : Pool) : Type 0 where
@@ -41,8 +41,8 @@ pub unnamed-cases : (a p : ℕ) (b : Bool) → eqb a p ≡ b → cond {A = ℕ} 
 unnamed-cases a p true t e = absurd (omega arith)
 unnamed-cases a p false t e = eqb-false a p t
 
-pub other-ask : (p : ℕ) (q : SlotRequest) → own_names p q ≡ 0 → q.ask ≢ p
-other-ask p q e = unnamed-cases q.ask p _ refl (omega (arith, e))
+pub ask-away : (a p : ℕ) → ask_names p (Some a) ≡ 0 → a ≢ p
+ask-away a p e = unnamed-cases a p _ refl e
 
 pub unnamed-one : (a p : ℕ) → a ≢ p → cond {A = ℕ} (eqb a p) 1 0 ≡ 0
 unnamed-one a p other = ap (λ b. cond {A = ℕ} b 1 0) (ne_eqb a p other)
@@ -58,23 +58,30 @@ module _ (p : ℕ) (pool new : Pool) (one : ChangesOne p pool new) where
       let other = unnamed-cases a.place p _ refl e in
       record { full = ap is_full (one.other_uses a.place other) ∙ kept.full; size = rw (one.other_bufs a.place other) kept.size }
 
-  pub kept-off : (q : SlotRequest) → own_names p q ≡ 0 → IsKept pool q → IsKept new q
-  kept-off q e kept =
-      let other = other-ask p q e in
+  pub ask-off : (size : ℕ) (o : Option ℕ) → ask_names p o ≡ 0 → IfSome o (IsAsked pool size) → IfSome o (IsAsked new size)
+  ask-off size None e kept = tt
+  ask-off size (Some a) e kept =
+      let other = ask-away a p e in
       record {
-        ask = ap is_full (one.other_uses q.ask other) ∙ kept.ask;
-        size = rw (one.other_bufs q.ask other) kept.size;
-        unnamed = ap refs_in (one.other_uses q.ask other) ∙ kept.unnamed;
-        answer = answer-off q.answer (omega (arith, e)) kept.answer;
+        full = ap is_full (one.other_uses a other) ∙ kept.full;
+        size_is = rw (one.other_bufs a other) kept.size_is;
+        unnamed = ap refs_in (one.other_uses a other) ∙ kept.unnamed;
       }
+
+  pub kept-off : (q : SlotRequest) → own_names p q ≡ 0 → IsKept pool q → IsKept new q
+  kept-off q e kept = record { ask = ask-off q.size q.ask (omega (arith, e)) kept.ask; answer = answer-off q.answer (omega (arith, e)) kept.answer }
 
   shown-answer : (o : Option Stored) → answer_names p o ≡ 0 → option_map (answer_in new) o ≡ option_map (answer_in pool) o
   shown-answer None e = refl
   shown-answer (Some a) e = rw (one.other_bufs a.place (unnamed-cases a.place p _ refl e)) refl
 
+  pub shown-ask : (taken : ℕ) (o : Option ℕ) → ask_names p o ≡ 0 → ask_in new taken o ≡ ask_in pool taken o
+  shown-ask taken None e = refl
+  shown-ask taken (Some a) e = rw (one.other_bufs a (ask-away a p e)) refl
+
   pub shown-off : (q : SlotRequest) → own_names p q ≡ 0 → shown_request new q ≡ shown_request pool q
   shown-off q e =
-      rw (one.other_bufs q.ask (other-ask p q e), shown-answer q.answer (omega (arith, e))) refl
+      rw (shown-ask q.taken q.ask (omega (arith, e)), shown-answer q.answer (omega (arith, e))) refl
 
   all-off : (qs : List SlotRequest) → names p qs ≡ 0 → AllByRecursion (IsKept pool) qs → AllByRecursion (IsKept new) qs
   all-off [] e all = tt
@@ -105,9 +112,13 @@ answer-empty : (pool : Pool) (p : ℕ) (o : Option Stored) → is_empty (use_at 
 answer-empty pool p None empty kept = refl
 answer-empty pool p (Some a) empty kept = unnamed-one a.place p (empty-other pool p a.place kept.full empty)
 
+pub ask-empty : (pool : Pool) (p size : ℕ) (o : Option ℕ) → is_empty (use_at pool p) ≡ true → IfSome o (IsAsked pool size) → ask_names p o ≡ 0
+ask-empty pool p size None empty kept = refl
+ask-empty pool p size (Some a) empty kept = unnamed-one a p (empty-other pool p a kept.full empty)
+
 pub own-empty : (pool : Pool) (p : ℕ) (q : SlotRequest) → is_empty (use_at pool p) ≡ true → IsKept pool q → own_names p q ≡ 0
 own-empty pool p q empty kept =
-    omega (arith, unnamed-one q.ask p (empty-other pool p q.ask kept.ask empty), answer-empty pool p q.answer empty kept.answer)
+    omega (arith, ask-empty pool p q.size q.ask empty kept.ask, answer-empty pool p q.answer empty kept.answer)
 
 pub names-empty : (pool : Pool) (p : ℕ) (qs : List SlotRequest) → is_empty (use_at pool p) ≡ true → AllByRecursion (IsKept pool) qs → names p qs ≡ 0
 names-empty pool p [] empty kept = refl
@@ -127,21 +138,23 @@ answer-used pool p u None full kept = tt
 answer-used pool p u (Some a) full kept =
     record { full = full-cases pool.uses p a.place u full kept.full; size = kept.size }
 
-kept-used : (pool : Pool) (p : ℕ) (u : Use) (q : SlotRequest) → is_full u ≡ true → q.ask ≢ p → IsKept pool q → IsKept (record { uses = set pool.uses p u; bufs = pool.bufs }) q
-kept-used pool p u q full other kept = record {
-  ask = full-cases pool.uses p q.ask u full kept.ask;
-  size = kept.size;
-  unnamed = ap refs_in (changed_other pool.uses p q.ask u Empty other) ∙ kept.unnamed;
-  answer = answer-used pool p u q.answer full kept.answer;
-}
+ask-used : (pool : Pool) (p size : ℕ) (u : Use) (o : Option ℕ) → is_full u ≡ true → 0 < refs_of pool p → IfSome o (IsAsked pool size) → IfSome o (IsAsked (record { uses = set pool.uses p u; bufs = pool.bufs }) size)
+ask-used pool p size u None full some kept = tt
+ask-used pool p size u (Some a) full some kept =
+    let other : a ≢ p = λ same. let there : refs_of pool p ≡ 0 = rw (← same) kept.unnamed in absurd (omega (arith, there, some)) in
+    record {
+      full = full-cases pool.uses p a u full kept.full;
+      size_is = kept.size_is;
+      unnamed = ap refs_in (changed_other pool.uses p a u Empty other) ∙ kept.unnamed;
+    }
 
-ask-other : (pool : Pool) (p : ℕ) (q : SlotRequest) → IsKept pool q → 0 < refs_of pool p → q.ask ≢ p
-ask-other pool p q kept some = λ same. let there : refs_of pool p ≡ 0 = rw (← same) kept.unnamed in absurd (omega (arith, there, some))
+kept-used : (pool : Pool) (p : ℕ) (u : Use) (q : SlotRequest) → is_full u ≡ true → 0 < refs_of pool p → IsKept pool q → IsKept (record { uses = set pool.uses p u; bufs = pool.bufs }) q
+kept-used pool p u q full some kept = record { ask = ask-used pool p q.size u q.ask full some kept.ask; answer = answer-used pool p u q.answer full kept.answer }
 
 all-released : (pool : Pool) (p : ℕ) (qs : List SlotRequest) → 0 < refs_of pool p → AllByRecursion (IsKept pool) qs → AllByRecursion (IsKept (released p pool)) qs
 all-released pool p [] some all = tt
 all-released pool p (q ∷ qs) some all =
-    (kept-used pool p (Full (refs_of pool p - 1)) q refl (ask-other pool p q all.0 some) all.0, all-released pool p qs some all.1)
+    (kept-used pool p (Full (refs_of pool p - 1)) q refl some all.0, all-released pool p qs some all.1)
 
 -- releasing keeps the pool, and changes no bytes
 pub keeps-released : (pool : Pool) (place : Option ℕ) (qs : List SlotRequest) → IsHeld pool place → KeepsPool pool qs → KeepsPool (released_at place pool) qs

@@ -1,5 +1,5 @@
 -- The packets of the replies: their headers, and the bodies that the pool has.
-use Rattle.std.proofs.Common.{◌≡◌, ℕ, ◌+◌, ◌-◌, ◌%◌, ◌<◌, ◌≤◌, Bool, true, false, cond, ltb, eqb, Option, Some, None, List, [], length, refl, sym, ap, ◌∙◌, arith, ltb-true}
+use Rattle.std.proofs.Common.{◌≡◌, ℕ, ◌+◌, ◌-◌, ◌%◌, ◌<◌, ◌≤◌, Bool, true, false, ◌&&◌, cond, ltb, eqb, Option, Some, None, List, [], length, refl, sym, ap, ◌∙◌, arith, ltb-true}
 use Rattle.std.specs.Prelude.{count_by, option_map}
 use Rattle.std.specs.List.{find}
 use Rattle.std.proofs.lemmas.Bool.{and_parts, eq-eqb, eqb-true, ltb-false}
@@ -16,6 +16,7 @@ use Rattle.rpc_laws.specs.Requests.{is_request}
 use Rattle.server_core.specs.declared.slot.Stored.{Stored}
 use Rattle.server_core.specs.declared.slot.SlotRequest.{SlotRequest}
 use Rattle.server_core.specs.KeepsPool.{HasSize, IsKept, IsStored, KeepsPool}
+use Rattle.server_core.specs.Rows.{is_worked_on}
 use Rattle.server_core.specs.Replies.{IsReplyTo, IsSpelled, head_of, is_owner, owner_reply, packet_of, place_of, request_of}
 use Rattle.server_core.specs.Session.{HasCome, IsInTurn, IsSession, Session, is_in_slot}
 use Rattle.server_core.specs.Shown.{message_in, shown, shown_request, way_of}
@@ -23,12 +24,16 @@ use Rattle.server_core.proofs.ListLemmas.{count-fewer, found-holds, found-own, f
 use Rattle.server_core.proofs.RowLemmas.{message-length}
 
 -- the answer is there where a packet from the last of the request on was taken
-there-cases : (size taken k : ℕ) (o : Option Stored) → HasCome size taken o → k < taken → packet_count size ≤ k + 1 → (a : Stored) × (o ≡ Some a) × (k + 1 - packet_count size < packet_count a.size)
-there-cases size taken k None come below above = absurd (omega arith)
-there-cases size taken k (Some a) come below above = (a, refl, omega (arith, come.known, below, above))
+last-worked : (n k : ℕ) → k + 1 ≡ n → (eqb (k + 1) n && true) ≡ false → ⊥
+last-worked n k last there = let is = eq-eqb (k + 1) n last in cc
 
-pub answer-there : (q : SlotRequest) (k : ℕ) → IsInTurn q → k < q.taken → packet_count q.size ≤ k + 1 → (a : Stored) × (q.answer ≡ Some a) × (k + 1 - packet_count q.size < packet_count a.size)
-answer-there q k turn below above = there-cases q.size q.taken k q.answer turn.come below above
+there-cases : (size taken k : ℕ) (ask : Option ℕ) (working : Bool) (o : Option Stored) → HasCome size taken ask working o → k < taken → (eqb (k + 1) (packet_count size) && working) ≡ false → packet_count size ≤ k + 1 → (a : Stored) × (o ≡ Some a) × (k + 1 - packet_count size < packet_count a.size)
+there-cases size taken k ask true None come below there above = absurd (last-worked (packet_count size) k (omega (arith, come.0, below, above)) there)
+there-cases size taken k ask false None come below there above = absurd (omega (arith, come.0, below, above))
+there-cases size taken k ask working (Some a) come below there above = (a, refl, omega (arith, come.1.known, below, above))
+
+pub answer-there : (q : SlotRequest) (k : ℕ) → IsInTurn q → k < q.taken → is_worked_on q k ≡ false → packet_count q.size ≤ k + 1 → (a : Stored) × (q.answer ≡ Some a) × (k + 1 - packet_count q.size < packet_count a.size)
+answer-there q k turn below there above = there-cases q.size q.taken k q.ask q.working q.answer turn.come below there above
 
 -- a reply with a place is a part of the answer, and one without is a credit return
 placed-by : (k n p : ℕ) (o : Option Stored) (b : Bool) → ltb (k + 1) n ≡ b → Some p ≡ cond b None (option_map (λ a. a.place) o) → (a : Stored) × (o ≡ Some a) × (p ≡ a.place) × (n ≤ k + 1)
@@ -44,9 +49,9 @@ unplaced-by k n o true t there e = t
 unplaced-by k n None false t there e = let (a, is) = there (ltb-false (k + 1) n t) in cc
 unplaced-by k n (Some a) false t there e = cc
 
-pub unplaced-part : (q : SlotRequest) (k : ℕ) → IsInTurn q → k < q.taken → None ≡ place_of q k → ltb (k + 1) (packet_count q.size) ≡ true
-unplaced-part q k turn below e =
-    unplaced-by k (packet_count q.size) q.answer _ refl (λ above. let there = answer-there q k turn below above in (there.0, there.1)) e
+pub unplaced-part : (q : SlotRequest) (k : ℕ) → IsInTurn q → k < q.taken → is_worked_on q k ≡ false → None ≡ place_of q k → ltb (k + 1) (packet_count q.size) ≡ true
+unplaced-part q k turn below idle e =
+    unplaced-by k (packet_count q.size) q.answer _ refl (λ above. let there = answer-there q k turn below idle above in (there.0, there.1)) e
 
 pub kept-answer : (pool : Pool) (q : SlotRequest) (a : Stored) → IsKept pool q → q.answer ≡ Some a → IsStored pool a
 kept-answer pool q a kept is = rw is at kept.answer
@@ -94,10 +99,10 @@ spelled-part pool s e q a buf head body h found is late there size has same rang
     rw (owned-packet pool s e q h found, late, is, there, long) (rw (late, is) at has, same, rw (late, is) at range)
 
 -- the part of an answer is one of its parts
-pub part-within : (pool : Pool) (q : SlotRequest) (k p : ℕ) (buf : Buffer) → IsKept pool q → IsInTurn q → k < q.taken → Some p ≡ place_of q k → buf_at pool p ≡ Some buf → k + 1 - packet_count q.size < packet_count buf.len
-part-within pool q k p buf kept turn below e at =
+pub part-within : (pool : Pool) (q : SlotRequest) (k p : ℕ) (buf : Buffer) → IsKept pool q → IsInTurn q → k < q.taken → is_worked_on q k ≡ false → Some p ≡ place_of q k → buf_at pool p ≡ Some buf → k + 1 - packet_count q.size < packet_count buf.len
+part-within pool q k p buf kept turn below idle e at =
     let (a, is, same, above) = placed-part q k p e in
-    let (b, there, within) = answer-there q k turn below above in
+    let (b, there, within) = answer-there q k turn below idle above in
     let one : b ≡ a = cc in
     let long = kept-length pool a p buf (kept-answer pool q a kept is) same at in
     rw (long, ← one) within
@@ -107,16 +112,16 @@ placed-cases : (pool : Pool) (s : Session) (e : EntryValue) (p : ℕ) (o : Optio
 placed-cases pool s e p None keeps found posted place = absurd posted
 placed-cases pool s e p (Some q) keeps found posted place =
     let kept = found-holds (is_owner s.number e.owner) (IsKept pool) s.slots q keeps.kept found in
-    let (a, is, same, above) = placed-part q e.number p (sym place ∙ posted.1) in
+    let (a, is, same, above) = placed-part q e.number p (sym place ∙ posted.place_is) in
     rw same (kept-answer pool q a kept is).full
 
 pub placed-full : (pool : Pool) (s : Session) (e : EntryValue) (p : ℕ) → KeepsPool pool s.slots → IsReplyTo (request_of s e) e → e.place ≡ Some p → IsFull pool p
 placed-full pool s e p keeps posted place = placed-cases pool s e p (request_of s e) keeps refl posted place
 
 -- what is sent of an entry without a place, and of one with a place
-pub spelled-unplaced : (pool : Pool) (s : Session) (e : EntryValue) (q : SlotRequest) (head : List ℕ) → IsSession s → request_of s e ≡ Some q → IsInTurn q → e.number < q.taken → None ≡ place_of q e.number → HasHead (Message (head_of s.client e.number q)) head → MessageInRange (head_of s.client e.number q) → IsSpelled (packet_of pool s e) head []
-spelled-unplaced pool s e q head h found turn below place has range =
-    spelled-return pool s e q head [] h found (unplaced-part q e.number turn below place) has refl range
+pub spelled-unplaced : (pool : Pool) (s : Session) (e : EntryValue) (q : SlotRequest) (head : List ℕ) → IsSession s → request_of s e ≡ Some q → IsInTurn q → e.number < q.taken → is_worked_on q e.number ≡ false → None ≡ place_of q e.number → HasHead (Message (head_of s.client e.number q)) head → MessageInRange (head_of s.client e.number q) → IsSpelled (packet_of pool s e) head []
+spelled-unplaced pool s e q head h found turn below idle place has range =
+    spelled-return pool s e q head [] h found (unplaced-part q e.number turn below idle place) has refl range
 
 not-early : (k n : ℕ) (b : Bool) → ltb (k + 1) n ≡ b → n ≤ k + 1 → b ≡ false
 not-early k n true t above = absurd (omega (arith, ltb-true (k + 1) n t, above))

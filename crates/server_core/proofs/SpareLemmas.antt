@@ -13,12 +13,12 @@ use Rattle.packet_header.specs.declared.packet.MessageHeader.{MessageHeader}
 use Rattle.rpc_base.specs.Tables.{without_first}
 use Rattle.server_core.specs.declared.slot.SlotRequest.{SlotRequest}
 use Rattle.server_core.specs.declared.slot.Stored.{Stored}
-use Rattle.server_core.specs.KeepsPool.{IsKept, IsStored, KeepsPool, KeepsSpare, answer_places, own_places, places}
+use Rattle.server_core.specs.KeepsPool.{IsKept, IsStored, KeepsPool, KeepsSpare, answer_places, ask_places, own_places, places}
 use Rattle.server_core.specs.Replies.{held_at, place_of}
-use Rattle.server_core.specs.Serving.{begun, first_taken, given_up, gone_on, next_taken, without_answer}
+use Rattle.server_core.specs.Serving.{begun, first_given, first_taken, given_up, gone_on, last_given, next_taken, without_answer, without_ask}
 use Rattle.server_core.specs.Session.{IsSession, Session, is_in_slot, newest}
 use Rattle.server_core.proofs.ChangedLemmas.{without-none}
-use Rattle.server_core.proofs.GivenLemmas.{answer-full}
+use Rattle.server_core.proofs.GivenLemmas.{answer-full, ask-full}
 use Rattle.server_core.proofs.ListLemmas.{found-holds, sum-changed, sum-without}
 use Rattle.server_core.proofs.PlaceLemmas.{lowest-within, spare-filled, taken-out}
 use Rattle.server_core.proofs.SlotLemmas.{most-slots}
@@ -41,18 +41,26 @@ spare-answer : (pool : Pool) (o : Option Stored) → IfSome o (λ a. IsFull pool
 spare-answer pool None full = omega arith
 spare-answer pool (Some a) full = spare-emptied pool a.place full
 
+spare-ask : (pool : Pool) (o : Option ℕ) → IfSome o (IsFull pool) → spare_of (without_ask o pool) ≡ spare_of pool + ask_places o
+spare-ask pool None full = omega arith
+spare-ask pool (Some p) full = spare-emptied pool p full
+
 given-cases : (test : SlotRequest → Bool) (pool : Pool) (slots : List SlotRequest) (o : Option SlotRequest) → KeepsPool pool slots → find test slots ≡ o → spare_of (given_up o pool) + places (without_first test slots) ≡ spare_of pool + places slots
 given-cases test pool slots None keeps e = rw (without-none test slots e) refl
 given-cases test pool slots (Some q) keeps e =
     let beside = taken-out pool test slots q e keeps in
-    let asked = spare-emptied pool q.ask beside.own.ask in
-    let answer = spare-answer (emptied q.ask pool) q.answer (answer-full pool q (without_first test slots) beside) in
+    let asked = spare-ask pool q.ask (ask-full pool q.size q.ask beside.own.ask).0 in
+    let answer = spare-answer (without_ask q.ask pool) q.answer (answer-full pool q (without_first test slots) beside) in
     omega (arith, asked, answer, sum-without test q own_places slots e)
 
 -- a request begins
 begun-places : (slots : List SlotRequest) (d : SlotRequest) → places (begun d slots) ≡ places (without_first (is_in_slot (d.number % 8)) slots) + own_places d
 begun-places slots d =
     omega (arith, sum_by-append own_places (without_first (is_in_slot (d.number % 8)) slots) (d ∷ []), sum_by-cons own_places d [])
+
+pub first-given-spare : (pool : Pool) (s : Session) (head : MessageHeader) → KeepsPool pool s.slots → KeepsSpare s.slots (begun (first_given head) s.slots) pool (given_up (newest head.request s) pool)
+first-given-spare pool s head keeps =
+    omega (arith, given-cases (is_in_slot (head.request % 8)) pool s.slots (newest head.request s) keeps refl, begun-places s.slots (first_given head))
 
 module _ (pool : Pool) (s : Session) (head : MessageHeader) (k : ℕ) (b : Buffer) (keeps : KeepsPool pool s.slots) (lowest : lowest_empty (given_up (newest head.request s) pool) ≡ Some k) where
   abbrev given : Pool
@@ -85,21 +93,30 @@ module _ (pool : Pool) (s : Session) (q : SlotRequest) (r : ℕ) (keeps : KeepsP
       let at : find (is_in_slot (q.number % 8)) s.slots ≡ Some q = ap (λ n. newest n s) number ∙ found in
       omega (arith, held-spare k, sum-changed (is_in_slot (q.number % 8)) q own_places (λ x. next_taken q.answer q) s.slots at)
 
-  pub last-spare : q.number ≡ r → q.answer ≡ None → (j : ℕ) (b : Buffer) (a : Stored) → lowest_empty pool ≡ Some j → a.place ≡ j → KeepsSpare s.slots (gone_on (next_taken (Some a) q) s.slots) pool (held a.place (filled j b pool))
-  last-spare number none j b a lowest place =
-      let at : find (is_in_slot (q.number % 8)) s.slots ≡ Some q = ap (λ n. newest n s) number ∙ found in
+  pub last-spare : (d : SlotRequest) → q.number ≡ r → d.number ≡ q.number → d.ask ≡ q.ask → q.answer ≡ None → (j : ℕ) (b : Buffer) (a : Stored) → d.answer ≡ Some a → lowest_empty pool ≡ Some j → a.place ≡ j → KeepsSpare s.slots (gone_on d s.slots) pool (held a.place (filled j b pool))
+  last-spare d number same asked none j b a is lowest place =
+      let at : find (is_in_slot (d.number % 8)) s.slots ≡ Some q = ap (λ n. newest n s) (same ∙ number) ∙ found in
       let full : IsFull (filled j b pool) a.place = rw place (ap is_full (changed_own pool.uses j (Full 0) Empty (lowest-within pool j lowest))) in
-      let own : own_places q ≡ 1 = ap (λ o. 1 + answer_places o) none in
-      omega (arith, spare-filled pool j b lowest, spare-held (filled j b pool) a.place full, sum-changed (is_in_slot (q.number % 8)) q own_places (λ x. next_taken (Some a) q) s.slots at, own)
+      omega (arith, spare-filled pool j b lowest, spare-held (filled j b pool) a.place full, sum-changed (is_in_slot (d.number % 8)) q own_places (λ x. d) s.slots at, ap answer_places none, ap answer_places is, ap ask_places asked)
+
+  -- it goes to a worker, with its bytes
+  pub last-given-spare : q.number ≡ r → q.answer ≡ None → (p : ℕ) → q.ask ≡ Some p → IsFull pool p → KeepsSpare s.slots (gone_on (last_given q) s.slots) pool (emptied p pool)
+  last-given-spare number none p is full =
+      let at : find (is_in_slot (q.number % 8)) s.slots ≡ Some q = ap (λ n. newest n s) number ∙ found in
+      omega (arith, spare-emptied pool p full, sum-changed (is_in_slot (q.number % 8)) q own_places (λ x. last_given q) s.slots at, ap answer_places none, ap ask_places is)
 
 -- a session has at most sixteen places
+ask-most : (o : Option ℕ) → ask_places o ≤ 1
+ask-most None = omega arith
+ask-most (Some p) = omega arith
+
 answer-most : (o : Option Stored) → answer_places o ≤ 1
 answer-most None = omega arith
 answer-most (Some a) = omega arith
 
 twice-most : (slots : List SlotRequest) → places slots ≤ 2 * length slots
 twice-most [] = omega arith
-twice-most (q ∷ qs) = omega (arith, sum_by-cons own_places q qs, answer-most q.answer, twice-most qs)
+twice-most (q ∷ qs) = omega (arith, sum_by-cons own_places q qs, ask-most q.ask, answer-most q.answer, twice-most qs)
 
 pub places-most : (s : Session) → IsSession s → places s.slots ≤ 16
 places-most s h = omega (arith, twice-most s.slots, most-slots s h)

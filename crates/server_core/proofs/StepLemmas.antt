@@ -1,6 +1,6 @@
 -- A packet that is taken is the step of the definitions over histories.
-use Rattle.std.proofs.Common.{◌≡◌, ℕ, ◌+◌, ◌*◌, ◌%◌, ◌<◌, ◌≤◌, false, eqb, Option, Some, None, List, [], ◌∷◌, ◌++◌, length, take, refl, sym, ap, ◌∙◌, inl, inr, arith}
-use Rattle.std.specs.Prelude.{IfSome, option_map}
+use Rattle.std.proofs.Common.{◌≡◌, ◌≢◌, ℕ, ◌+◌, ◌%◌, ◌<◌, ◌≤◌, Bool, true, false, eqb, Option, Some, None, List, [], ◌∷◌, ◌++◌, length, take, refl, sym, ap, ◌∙◌, inl, inr, arith}
+use Rattle.std.specs.Prelude.{IfSome, IsSome, option_map}
 use Rattle.std.specs.List.{find}
 use Rattle.std.proofs.lemmas.Bool.{cases_lt, eq-eqb, eqb-true, leb-false}
 use Rattle.std.proofs.lemmas.List.{append-nil, length-take-le, take_all}
@@ -10,16 +10,19 @@ use Rattle.packet_header.specs.Parts.{packet_count, part_size}
 use Rattle.packet_header.specs.declared.packet.MessageHeader.{MessageHeader}
 use Rattle.packet_header.proofs.PartsLemmas.{front-whole}
 use Rattle.rpc_base.specs.Tables.{without_first}
+use Rattle.rpc_laws.specs.Service.{is_mode_background}
 use Rattle.rpc_laws.specs.declared.tables.Server.{Server}
-use Rattle.rpc_laws.specs.Requests.{answered, first_packet, in_slot_of, is_request, next_packet}
+use Rattle.rpc_outside.specs.declared.service.Mode.{Mode}
+use Rattle.rpc_outside.specs.declared.service.Mode.TheVariants.{Inline, Background, Unserved}
+use Rattle.rpc_laws.specs.Requests.{answered, first_packet, given, in_slot_of, is_request, next_packet}
 use Rattle.server_core.specs.declared.slot.SlotRequest.{SlotRequest}
 use Rattle.server_core.specs.declared.slot.Stored.{Stored}
-use Rattle.server_core.specs.KeepsPool.{IsKept}
+use Rattle.server_core.specs.KeepsPool.{IsAsked, IsKept}
 use Rattle.server_core.specs.Rows.{is_past}
 use Rattle.server_core.specs.Serving.{IsFirstPart, next_taken}
 use Rattle.server_core.specs.Session.{HasCome, IsInTurn, IsSession, Session, is_in_slot, newest}
-use Rattle.server_core.specs.Shown.{message_in, shown, shown_request}
-use Rattle.server_core.specs.Steps.{asked_with, begun_with, bytes_with, first_shown, gone_on_as, grown, ran, took}
+use Rattle.server_core.specs.Shown.{ask_in, message_in, shown, shown_request}
+use Rattle.server_core.specs.Steps.{asked_with, begun_with, bytes_with, first_shown, gave, gone_on_as, grown, ran, took}
 use Rattle.server_core.proofs.ChangedLemmas.{any-without, at_first-agree, at_first-last, at_first-twice, none-any, some-any}
 use Rattle.server_core.proofs.ListLemmas.{found-own, found-passes, found-shown}
 use Rattle.server_core.proofs.RowLemmas.{message-length}
@@ -49,6 +52,12 @@ ran-begun v h body answer none =
     let last = at_first-last (is_request h.request) (answered answer) (first_packet h.request h body) (without_first (in_slot_of h.request) v.slots) rest (eq-eqb h.request h.request refl) in
     rw (took-begun v h body none, eq-eqb v.way.number v.way.number refl, last) refl
 
+pub gave-begun : (v : Server) (h : MessageHeader) (body : List ℕ) → find (is_request h.request) v.slots ≡ None → gave h body v ≡ begun_with (given (first_shown h [] None)) v ∷ []
+gave-begun v h body none =
+    let rest = any-without (is_request h.request) (in_slot_of h.request) v.slots (none-any (is_request h.request) v.slots none) in
+    let last = at_first-last (is_request h.request) given (first_packet h.request h body) (without_first (in_slot_of h.request) v.slots) rest (eq-eqb h.request h.request refl) in
+    rw (took-begun v h body none, eq-eqb v.way.number v.way.number refl, last) refl
+
 pub asked-begun : (v : Server) (h : MessageHeader) (body : List ℕ) → find (is_request h.request) v.slots ≡ None → asked_with h body v ≡ body
 asked-begun v h body none = rw none refl
 
@@ -61,6 +70,12 @@ first-bytes size body b first long = elim (cases_lt 1024 size) [
       let len : length (bytes_of b) ≡ size = length-take-le b.len b.store (omega (arith, first.len, first.room)) ∙ first.len in
       take_all 1024 (bytes_of b) (omega (arith, len, last)) ∙ sym (take_all (length body) (bytes_of b) (omega (arith, len, whole))) ∙ first.bytes)
 ]
+
+pub whole-first : (size : ℕ) (body : List ℕ) (b : Buffer) → IsFirstPart size body b → length body ≡ part_size size 0 → packet_count size ≡ 1 → bytes_of b ≡ body
+whole-first size body b first long one =
+    let len : length (bytes_of b) ≡ size = length-take-le b.len b.store (omega (arith, first.len, first.room)) ∙ first.len in
+    let whole : length body ≡ size = omega (arith, long, one) in
+    sym (take_all (length body) (bytes_of b) (omega (arith, len, whole))) ∙ first.bytes
 
 pub first-took : (h : MessageHeader) (body : List ℕ) (b : Buffer) → IsFirstPart h.size body b → length body ≡ part_size h.size 0 → first_packet h.request h body ≡ first_shown h (bytes_of b) None
 first-took h body b first long = rw (first-bytes h.size body b first long) refl
@@ -93,6 +108,11 @@ module _ (pool : Pool) (s : Session) (q : SlotRequest) (head : MessageHeader) (s
         let slots = at_first-agree (is_request head.request) (λ x. answered answer (next_packet body x)) (λ x. answered answer (grown bytes x)) (shown_request pool q) (shown pool s).slots (ap (answered answer) agree) own-shown in
         rw (took-next body, eq-eqb s.number s.number refl, twice, slots, same) refl
 
+    pub gave-gone : gave head body (shown pool s) ≡ gone_on_as q.number (λ x. given (grown [] x)) (shown pool s) ∷ []
+    gave-gone =
+        let twice = at_first-twice (is_request head.request) (next_packet body) given (shown pool s).slots (λ x. refl) in
+        rw (took-next body, eq-eqb s.number s.number refl, twice, same) refl
+
     pub asked-gone : asked_with head body (shown pool s) ≡ bytes
     asked-gone = rw own-shown joined
 
@@ -101,39 +121,72 @@ no-bytes : (body : List ℕ) → length body ≡ 0 → body ≡ []
 no-bytes [] e = refl
 no-bytes (x ∷ xs) e = absurd (omega (arith, e))
 
+more-cases : (pool : Pool) (size taken : ℕ) (o : Option ℕ) → IfSome o (IsAsked pool size) → packet_count size ≤ taken → ask_in pool taken o ≡ ask_in pool (taken + 1) o
+more-cases pool size taken None kept behind = refl
+more-cases pool size taken (Some p) kept behind =
+    let long = message-length (buf_at pool p) size kept.size_is in
+    let before = front-whole (message_in (buf_at pool p)) taken (omega (arith, ap packet_count long, behind)) in
+    let after = front-whole (message_in (buf_at pool p)) (taken + 1) (omega (arith, ap packet_count long, behind)) in
+    before ∙ sym after
+
 pub more-bytes : (pool : Pool) (q : SlotRequest) (body : List ℕ) → IsKept pool q → packet_count q.size ≤ q.taken → length body ≡ 0 → (shown_request pool q).ask ++ body ≡ bytes_with pool q
 more-bytes pool q body kept behind none =
-    let long = message-length (buf_at pool q.ask) q.size kept.size in
-    let before = front-whole (message_in (buf_at pool q.ask)) q.taken (omega (arith, ap packet_count long, behind)) in
-    let after = front-whole (message_in (buf_at pool q.ask)) (q.taken + 1) (omega (arith, ap packet_count long, behind)) in
-    rw (no-bytes body none) (append-nil (take (1024 * q.taken) (message_in (buf_at pool q.ask))) ∙ before ∙ sym after)
+    rw (no-bytes body none) (append-nil (ask_in pool q.taken q.ask) ∙ more-cases pool q.size q.taken q.ask kept.ask behind)
 
 -- the bytes of a whole request
-pub whole-bytes : (pool : Pool) (q : SlotRequest) (b : Buffer) → IsKept pool q → buf_at pool q.ask ≡ Some b → packet_count q.size ≤ q.taken + 1 → bytes_of b ≡ bytes_with pool q
-whole-bytes pool q b kept there behind =
-    let long : length (bytes_of b) ≡ q.size = ap (λ o. length (message_in o)) (sym there) ∙ message-length (buf_at pool q.ask) q.size kept.size in
-    rw there (sym (front-whole (bytes_of b) (q.taken + 1) (omega (arith, ap packet_count long, behind))))
+pub whole-bytes : (pool : Pool) (q : SlotRequest) (p : ℕ) (b : Buffer) → IsKept pool q → q.ask ≡ Some p → buf_at pool p ≡ Some b → packet_count q.size ≤ q.taken + 1 → bytes_of b ≡ bytes_with pool q
+whole-bytes pool q p b kept is there behind =
+    let asked : IsAsked pool q.size p = rw is at kept.ask in
+    let long : length (bytes_of b) ≡ q.size = ap (λ o. length (message_in o)) (sym there) ∙ message-length (buf_at pool p) q.size asked.size_is in
+    rw (is, there) (sym (front-whole (bytes_of b) (q.taken + 1) (omega (arith, ap packet_count long, behind))))
 
 -- the counts of a request with one packet more
-more-cases : (size taken : ℕ) (o : Option Stored) → HasCome size taken o → is_past size o taken ≡ false → HasCome size (taken + 1) o
-more-cases size taken None come there = cc
-more-cases size taken (Some a) come there = record {
-  answer = come.answer;
-  whole = omega (arith, come.whole);
-  known = omega (arith, leb-false (packet_count size + packet_count a.size) (taken + 1) there);
-}
+past-cases : (size taken : ℕ) (ask : Option ℕ) (working : Bool) (o : Option Stored) → HasCome size taken ask working o → is_past size o taken ≡ false → (working ≡ false) × HasCome size (taken + 1) ask working o
+past-cases size taken ask working None come there = cc
+past-cases size taken ask working (Some a) come there = (
+  come.0,
+  (
+    come.0,
+    record {
+      answer = come.1.answer;
+      whole = omega (arith, come.1.whole);
+      known = omega (arith, leb-false (packet_count size + packet_count a.size) (taken + 1) there);
+    },
+  ),
+)
 
-pub more-turn : (q : SlotRequest) → IsInTurn q → is_past q.size q.answer q.taken ≡ false → IsInTurn (next_taken q.answer q)
-more-turn q turn there = record { size = turn.size; some = omega arith; come = more-cases q.size q.taken q.answer turn.come there }
+pub more-turn : (q : SlotRequest) → IsInTurn q → is_past q.size q.answer q.taken ≡ false → (q.working ≡ false) × IsInTurn (next_taken q.answer q)
+more-turn q turn there =
+    let parts = past-cases q.size q.taken q.ask q.working q.answer turn.come there in
+    (parts.0, record { size = turn.size; some = omega arith; come = parts.1 })
 
-none-yet : (size taken : ℕ) (o : Option Stored) → HasCome size taken o → taken < packet_count size → o ≡ None
-none-yet size taken None come early = refl
-none-yet size taken (Some a) come early = absurd (omega (arith, come.whole, early))
+-- a request that takes its own packets
+pub record IsTaking (q : SlotRequest) : Type 0 where
+  pub none : q.answer ≡ None
+  pub idle : q.working ≡ false
+  pub some : IsSome q.ask
 
-pub no-answer : (q : SlotRequest) → IsInTurn q → q.taken < packet_count q.size → q.answer ≡ None
-no-answer q turn early = none-yet q.size q.taken q.answer turn.come early
+taking-cases : (size taken : ℕ) (ask : Option ℕ) (working : Bool) (o : Option Stored) → HasCome size taken ask working o → taken < packet_count size → (o ≡ None) × (working ≡ false) × IsSome ask
+taking-cases size taken ask working (Some a) come early = absurd (omega (arith, come.1.whole, early))
+taking-cases size taken ask true None come early = absurd (omega (arith, come.0, early))
+taking-cases size taken ask false None come early = (refl, refl, come.1)
+
+pub is-taking : (q : SlotRequest) → IsInTurn q → q.taken < packet_count q.size → IsTaking q
+is-taking q turn early =
+    let parts = taking-cases q.size q.taken q.ask q.working q.answer turn.come early in
+    record { none = parts.0; idle = parts.1; some = parts.2 }
 
 pub part-turn : (q : SlotRequest) → IsInTurn q → q.taken + 1 < packet_count q.size → IsInTurn (next_taken q.answer q)
 part-turn q turn early =
-    let none = no-answer q turn (omega (arith, early)) in
-    record { size = turn.size; some = omega arith; come = rw none early }
+    let taking = is-taking q turn (omega (arith, early)) in
+    record { size = turn.size; some = omega arith; come = rw (taking.none, taking.idle) (early, taking.some) }
+
+pub no-some : (o : Option ℕ) → o ≡ None → IsSome o → ⊥
+no-some None is some = cc
+no-some (Some p) is some = cc
+
+-- a type that is served, and not by a worker
+pub is-inline : (mode : Mode) → mode ≢ Unserved → is_mode_background mode ≡ false → mode ≡ Inline
+is-inline Inline served other = refl
+is-inline Background served other = cc
+is-inline Unserved served other = absurd (served refl)

@@ -1,32 +1,32 @@
 -- A packet more of a request is taken: what is kept and shown of its session, and the reply.
-use Rattle.std.proofs.Common.{◌≡◌, ◌≢◌, ℕ, ◌+◌, ◌*◌, ◌%◌, ◌<◌, ◌≤◌, Bool, true, false, cond, eqb, Option, Some, None, List, ◌++◌, length, take, refl, sym, ap, ◌∙◌, arith}
+use Rattle.std.proofs.Common.{◌≡◌, ◌≢◌, ℕ, ◌+◌, ◌*◌, ◌%◌, ◌<◌, ◌≤◌, Bool, true, false, cond, eqb, Option, Some, None, List, ◌++◌, length, [], refl, sym, ap, ◌∙◌, arith}
 use Rattle.std.specs.Prelude.{IfSome, map, option_map}
 use Rattle.std.specs.List.{find}
 use Rattle.std.proofs.lemmas.Bool.{eq-eqb}
 use Rattle.message_buffer.specs.Buffer.{Buffer, bytes_of, capacity_of, written}
-use Rattle.buffer_pool.specs.Pool.{Pool, buf_at, changed, filled, held, lowest_empty, refs_of}
+use Rattle.buffer_pool.specs.Pool.{Pool, buf_at, changed, emptied, filled, held, lowest_empty, refs_of}
 use Rattle.buffer_pool.proofs.PoolLemmas.{changed_own, held_refs}
 use Rattle.packet_header.specs.Parts.{packet_count, part_size}
 use Rattle.packet_header.proofs.PartsLemmas.{packet_count_above}
 use Rattle.rpc_base.specs.Tables.{at_first, without_first}
 use Rattle.rpc_laws.specs.declared.tables.Served.{Served}
 use Rattle.rpc_laws.specs.declared.tables.Server.{Server}
-use Rattle.rpc_laws.specs.Requests.{answered, is_request}
+use Rattle.rpc_laws.specs.Requests.{answered, given, is_request}
 use Rattle.rpc_outside.specs.declared.service.Mode.{Mode}
-use Rattle.rpc_outside.specs.declared.service.Mode.TheVariants.{Inline}
+use Rattle.rpc_outside.specs.declared.service.Mode.TheVariants.{Unserved}
 use Rattle.server_core.specs.declared.slot.SlotRequest.{SlotRequest}
 use Rattle.server_core.specs.declared.slot.Stored.{Stored}
-use Rattle.server_core.specs.KeepsPool.{HasSize, IsKept, IsStored, KeepsPool}
+use Rattle.server_core.specs.KeepsPool.{HasSize, IsAsked, IsKept, IsStored, KeepsPool}
 use Rattle.server_core.specs.Replies.{CanHold, IsHeld, MayHold, held_at, place_of}
-use Rattle.server_core.specs.Serving.{gone_on, next_taken, with_slots}
-use Rattle.server_core.specs.Session.{IsInTurn, IsMessage, IsSession, Session, is_in_slot, newest}
-use Rattle.server_core.specs.Shown.{answer_in, message_in, shown, shown_request, way_of}
-use Rattle.server_core.specs.Steps.{AreInline, bytes_with, gone_on_as, grown}
+use Rattle.server_core.specs.Serving.{gone_on, last_given, next_taken, with_slots, worked}
+use Rattle.server_core.specs.Session.{HasCome, IsInTurn, IsMessage, IsSession, Session, is_in_slot, newest}
+use Rattle.server_core.specs.Shown.{answer_in, ask_in, message_in, shown, shown_request, way_of}
+use Rattle.server_core.specs.Steps.{AreServed, bytes_with, gone_on_as, grown}
 use Rattle.server_core.proofs.ChangedLemmas.{found-put, map-back, map-whole, same-first, self-first}
 use Rattle.server_core.proofs.ListLemmas.{all-without, found-holds}
 use Rattle.server_core.proofs.PartLemmas.{before-same, with-next}
-use Rattle.server_core.proofs.PlaceLemmas.{IsBeside, all-back, answer-apart, ask-apart, beside-answered, beside-as, beside-held, beside-written, buffer-within, lowest-empty, put-back, taken-out}
-use Rattle.server_core.proofs.PoolLemmas.{empty-other, map-off, names-empty, one-changed, one-filled}
+use Rattle.server_core.proofs.PlaceLemmas.{IsBeside, all-back, ask-apart, beside-answered, beside-as, beside-given, beside-held, beside-written, both-apart, buffer-within, lowest-empty, put-back, taken-out}
+use Rattle.server_core.proofs.PoolLemmas.{ask-empty, map-off, names-empty, one-changed, one-emptied, one-filled, shown-ask}
 use Rattle.server_core.proofs.SlotLemmas.{by-number}
 
 -- the answer of a request is held for a reply that has a part of it
@@ -64,6 +64,11 @@ held-one : (pool : Pool) (place : Option ℕ) (q : SlotRequest) → shown_reques
 held-one pool None q = refl
 held-one pool (Some p) q = refl
 
+held-ask : (pool : Pool) (place : Option ℕ) (taken : ℕ) (o : Option ℕ) → ask_in (held_at place pool) taken o ≡ ask_in pool taken o
+held-ask pool None taken o = refl
+held-ask pool (Some p) taken None = refl
+held-ask pool (Some p) taken (Some a) = refl
+
 pub held-shown : (pool : Pool) (place : Option ℕ) (s : Session) → shown (held_at place pool) s ≡ shown pool s
 held-shown pool place s =
     let whole : List Served → Server = λ ys. record { way = way_of s; credits = s.credits; slots = ys } in
@@ -99,9 +104,9 @@ module _ (pool : Pool) (s : Session) (q : SlotRequest) (h : IsSession s) (found 
   gone-newest d number =
       found-put (is_in_slot (d.number % 8)) d (eq-eqb (d.number % 8) (d.number % 8) refl) q s.slots (rw number found)
 
-  pub gone-inline : (mode_of : ℕ → Mode) (d : SlotRequest) → d.number ≡ q.number → d.req_type ≡ q.req_type → AreInline mode_of s.slots → AreInline mode_of (gone_on d s.slots)
-  gone-inline mode_of d number same all =
-      rw (gone-same d number) (all-back same_number q d (λ x. mode_of x.req_type ≡ Inline) s.slots (rw same (found-holds same_number (λ x. mode_of x.req_type ≡ Inline) s.slots q all by-own)) by-own (all-without same_number q (λ x. mode_of x.req_type ≡ Inline) s.slots all))
+  pub gone-served : (mode_of : ℕ → Mode) (d : SlotRequest) → d.number ≡ q.number → d.req_type ≡ q.req_type → AreServed mode_of s.slots → AreServed mode_of (gone_on d s.slots)
+  gone-served mode_of d number same all =
+      rw (gone-same d number) (all-back same_number q d (λ x. mode_of x.req_type ≢ Unserved) s.slots (rw same (found-holds same_number (λ x. mode_of x.req_type ≢ Unserved) s.slots q all by-own)) by-own (all-without same_number q (λ x. mode_of x.req_type ≢ Unserved) s.slots all))
 
   -- a packet that was taken is answered once more
   pub again-keeps : (k : ℕ) → KeepsPool (held_at (place_of q k) pool) s.slots
@@ -114,67 +119,130 @@ module _ (pool : Pool) (s : Session) (q : SlotRequest) (h : IsSession s) (found 
   pub next-shows : shown (held_at (place_of q q.taken) pool) (with_slots (gone_on (next_taken q.answer q) s.slots) s) ≡ gone_on_as q.number (grown (bytes_with pool q)) (shown pool s)
   next-shows = gone-shows (held_at (place_of q q.taken) pool) (next_taken q.answer q) (grown (bytes_with pool q)) refl (held-map pool (place_of q q.taken) rest) (held-one pool (place_of q q.taken) (next_taken q.answer q))
 
-  -- the last packet
-  module _ (p : ℕ) (b : Buffer) (a : Stored) (none : q.answer ≡ None) (lowest : lowest_empty pool ≡ Some p) (there : buf_at (filled p b pool) p ≡ Some b) (place : a.place ≡ p) (size : a.size ≡ b.len) (fits : b.len ≤ capacity_of b) where
-    last-beside : IsBeside (filled p b pool) (next_taken (Some a) q) rest
-    last-beside = beside-answered pool p b q (next_taken (Some a) q) a rest own-beside none lowest there refl refl refl place (sym size, omega (arith, size, fits))
+  -- its answer is there
+  module _ (d : SlotRequest) (number : d.number ≡ q.number) (asked : d.ask ≡ q.ask) (sized : d.size ≡ q.size) (p : ℕ) (b : Buffer) (a : Stored) (none : q.answer ≡ None) (is : d.answer ≡ Some a) (lowest : lowest_empty pool ≡ Some p) (there : buf_at (filled p b pool) p ≡ Some b) (place : a.place ≡ p) (size : a.size ≡ b.len) (fits : b.len ≤ capacity_of b) where
+    last-beside : IsBeside (filled p b pool) d rest
+    last-beside = beside-answered pool p b q d a rest own-beside none lowest there asked sized is place (sym size, omega (arith, size, fits))
 
-    pub last-keeps : KeepsPool (held a.place (filled p b pool)) (gone_on (next_taken (Some a) q) s.slots)
-    last-keeps = gone-keeps (held a.place (filled p b pool)) (next_taken (Some a) q) refl (beside-held (filled p b pool) (next_taken (Some a) q) a rest last-beside refl)
+    pub last-keeps : KeepsPool (held a.place (filled p b pool)) (gone_on d s.slots)
+    last-keeps = gone-keeps (held a.place (filled p b pool)) d number (beside-held (filled p b pool) d a rest last-beside is)
+
+    last-stored : IsStored (filled p b pool) a
+    last-stored = rw is at last-beside.own.answer
 
     pub last-held : 0 < refs_of (held a.place (filled p b pool)) a.place
-    last-held = omega (arith, (held_refs (filled p b pool) a.place last-beside.own.answer.full).1)
+    last-held = omega (arith, (held_refs (filled p b pool) a.place last-stored.full).1)
 
-    ask-there : buf_at (filled p b pool) q.ask ≡ buf_at pool q.ask
-    ask-there = (one-filled p b pool).other_bufs q.ask (empty-other pool p q.ask own-beside.own.ask (lowest-empty pool p lowest))
+    pub last-ask : (taken : ℕ) → ask_in (filled p b pool) taken q.ask ≡ ask_in pool taken q.ask
+    last-ask taken = shown-ask p pool (filled p b pool) (one-filled p b pool) taken q.ask (ask-empty pool p q.size q.ask (lowest-empty pool p lowest) own-beside.own.ask)
 
-    answer-there : buf_at (filled p b pool) a.place ≡ Some b
-    answer-there = rw place there
+    pub last-answer : buf_at (filled p b pool) a.place ≡ Some b
+    last-answer = rw place there
 
+    last-others : map (shown_request (held a.place (filled p b pool))) rest ≡ map (shown_request pool) rest
+    last-others = map-off p pool (filled p b pool) (one-filled p b pool) rest (names-empty pool p rest (lowest-empty pool p lowest) own-beside.others.kept)
+
+    pub last-gone : (change : Served → Served) → shown_request (held a.place (filled p b pool)) d ≡ change (shown_request pool q) → shown (held a.place (filled p b pool)) (with_slots (gone_on d s.slots) s) ≡ gone_on_as q.number change (shown pool s)
+    last-gone change new = gone-shows (held a.place (filled p b pool)) d change number last-others new
+
+  -- with the last packet
+  module _ (p : ℕ) (b : Buffer) (a : Stored) (none : q.answer ≡ None) (idle : q.working ≡ false) (lowest : lowest_empty pool ≡ Some p) (there : buf_at (filled p b pool) p ≡ Some b) (place : a.place ≡ p) (size : a.size ≡ b.len) (fits : b.len ≤ capacity_of b) where
     pub last-shows : shown (held a.place (filled p b pool)) (with_slots (gone_on (next_taken (Some a) q) s.slots) s) ≡ gone_on_as q.number (λ x. answered (bytes_of b) (grown (bytes_with pool q) x)) (shown pool s)
     last-shows =
-        let same = map-off p pool (filled p b pool) (one-filled p b pool) rest (names-empty pool p rest (lowest-empty pool p lowest) own-beside.others.kept) in
-        gone-shows (held a.place (filled p b pool)) (next_taken (Some a) q) (λ x. answered (bytes_of b) (grown (bytes_with pool q) x)) refl same (rw (ask-there, answer-there) refl)
+        let asks = held-ask (filled p b pool) (Some a.place) (q.taken + 1) q.ask ∙ last-ask (next_taken (Some a) q) refl refl refl p b a none refl lowest there place size fits (q.taken + 1) in
+        let bytes = last-answer (next_taken (Some a) q) refl refl refl p b a none refl lowest there place size fits in
+        last-gone (next_taken (Some a) q) refl refl refl p b a none refl lowest there place size fits (λ x. answered (bytes_of b) (grown (bytes_with pool q) x)) (rw (asks, bytes, idle) refl)
+
+  -- from a worker
+  module _ (p : ℕ) (b : Buffer) (a : Stored) (none : q.answer ≡ None) (lowest : lowest_empty pool ≡ Some p) (there : buf_at (filled p b pool) p ≡ Some b) (place : a.place ≡ p) (size : a.size ≡ b.len) (fits : b.len ≤ capacity_of b) where
+    pub worked-shows : shown (held a.place (filled p b pool)) (with_slots (gone_on (worked a q) s.slots) s) ≡ gone_on_as q.number (answered (bytes_of b)) (shown pool s)
+    worked-shows =
+        let asks = held-ask (filled p b pool) (Some a.place) q.taken q.ask ∙ last-ask (worked a q) refl refl refl p b a none refl lowest there place size fits q.taken in
+        let bytes = last-answer (worked a q) refl refl refl p b a none refl lowest there place size fits in
+        last-gone (worked a q) refl refl refl p b a none refl lowest there place size fits (answered (bytes_of b)) (rw (asks, bytes) refl)
+
+  -- it goes to a worker, and its bytes leave the pool
+  module _ (p : ℕ) (is : q.ask ≡ Some p) (none : q.answer ≡ None) where
+    pub given-keeps : KeepsPool (emptied p pool) (gone_on (last_given q) s.slots)
+    given-keeps = gone-keeps (emptied p pool) (last_given q) refl (beside-given pool q (last_given q) p rest own-beside is none refl none)
+
+    pub given-shows : shown (emptied p pool) (with_slots (gone_on (last_given q) s.slots) s) ≡ gone_on_as q.number (λ x. given (grown [] x)) (shown pool s)
+    given-shows =
+        let same = map-off p pool (emptied p pool) (one-emptied p pool) rest (ask-apart pool q p rest own-beside is) in
+        gone-shows (emptied p pool) (last_given q) (λ x. given (grown [] x)) refl same (rw none refl)
 
   -- a part is written
-  module _ (body : List ℕ) (b : Buffer) (there : buf_at pool q.ask ≡ Some b) (within : q.taken < packet_count q.size) (long : length body ≡ part_size q.size q.taken) where
+  module _ (body : List ℕ) (p : ℕ) (b : Buffer) (is : q.ask ≡ Some p) (there : buf_at pool p ≡ Some b) (within : q.taken < packet_count q.size) (long : length body ≡ part_size q.size q.taken) where
+    own-asked : IsAsked pool q.size p
+    own-asked = rw is at own-beside.own.ask
+
     own-size : HasSize q.size (Some b)
-    own-size = rw there at own-beside.own.size
+    own-size = rw there at own-asked.size_is
 
     pub part-fits : 1024 * q.taken + length body ≤ b.len
     part-fits = omega (arith, long, within, own-size.0)
 
     abbrev after_part : Pool
-    after_part = changed q.ask (written (1024 * q.taken) body b) pool
+    after_part = changed p (written (1024 * q.taken) body b) pool
 
-    own-written : buf_at after_part q.ask ≡ Some (written (1024 * q.taken) body b)
-    own-written = changed_own pool.bufs q.ask (Some (written (1024 * q.taken) body b)) None (buffer-within pool.bufs q.ask b there)
+    own-written : buf_at after_part p ≡ Some (written (1024 * q.taken) body b)
+    own-written = changed_own pool.bufs p (Some (written (1024 * q.taken) body b)) None (buffer-within pool.bufs p b there)
 
     pub part-keeps : KeepsPool after_part s.slots
-    part-keeps = rw (self-first same_number q s.slots by-own) at (put-back same_number q q after_part s.slots by-own (beside-written pool (1024 * q.taken) body b q rest own-beside there part-fits))
+    part-keeps = rw (self-first same_number q s.slots by-own) at (put-back same_number q q after_part s.slots by-own (beside-written pool (1024 * q.taken) body b q p rest own-beside is there part-fits))
 
-    pub part-bytes : bytes_with after_part q ≡ take (1024 * q.taken) (message_in (buf_at pool q.ask)) ++ body
-    part-bytes = rw (own-written, there) (with-next q.taken q.size body b own-size.0 own-size.1 within long)
+    pub part-bytes : bytes_with after_part q ≡ ask_in pool q.taken q.ask ++ body
+    part-bytes = rw (is, own-written, there) (with-next q.taken q.size body b own-size.0 own-size.1 within long)
 
-    same-answer : (o : Option Stored) → ((a : Stored) → o ≡ Some a → q.ask ≢ a.place) → option_map (answer_in after_part) o ≡ option_map (answer_in pool) o
+    same-answer : (o : Option Stored) → ((a : Stored) → o ≡ Some a → p ≢ a.place) → option_map (answer_in after_part) o ≡ option_map (answer_in pool) o
     same-answer None other = refl
     same-answer (Some a) other =
-        ap (λ x. Some (message_in x)) ((one-changed q.ask (written (1024 * q.taken) body b) pool).other_bufs a.place (λ e. other a refl (sym e)))
+        ap (λ x. Some (message_in x)) ((one-changed p (written (1024 * q.taken) body b) pool).other_bufs a.place (λ e. other a refl (sym e)))
+
+    same-ask : ask_in after_part q.taken q.ask ≡ ask_in pool q.taken q.ask
+    same-ask =
+        let before = before-same (1024 * q.taken) body b part-fits (omega (arith, own-size.0, own-size.1)) in
+        rw (is, own-written, there) before
 
     same-own : shown_request after_part q ≡ shown_request pool q
-    same-own =
-        let before = before-same (1024 * q.taken) body b part-fits (omega (arith, own-size.0, own-size.1)) in
-        rw (own-written, there, before, same-answer q.answer (λ a is. (answer-apart pool q a rest own-beside is).1)) refl
+    same-own = rw (same-ask, same-answer q.answer (λ a e. both-apart pool q p a rest own-beside is e)) refl
 
     pub part-shows : shown after_part s ≡ shown pool s
     part-shows =
         let whole : List Served → Server = λ ys. record { way = way_of s; credits = s.credits; slots = ys } in
-        ap whole (map-whole (shown_request pool) (shown_request after_part) same_number q same-own s.slots by-own (map-off q.ask pool after_part (one-changed q.ask (written (1024 * q.taken) body b) pool) rest (ask-apart pool q rest own-beside)))
+        ap whole (map-whole (shown_request pool) (shown_request after_part) same_number q same-own s.slots by-own (map-off p pool after_part (one-changed p (written (1024 * q.taken) body b) pool) rest (ask-apart pool q p rest own-beside is)))
 
 -- the counts of the request then
-pub last-turn : (q : SlotRequest) (a : Stored) → IsMessage q.size → IsMessage a.size → q.taken + 1 ≡ packet_count q.size → IsInTurn (next_taken (Some a) q)
-last-turn q a size answer last = record {
+pub last-turn : (q : SlotRequest) (a : Stored) → q.working ≡ false → IsMessage q.size → IsMessage a.size → q.taken + 1 ≡ packet_count q.size → IsInTurn (next_taken (Some a) q)
+last-turn q a idle size answer last = record {
   size = size;
   some = omega arith;
-  come = record { answer = answer; whole = omega (arith, last); known = omega (arith, last, packet_count_above a.size) };
+  come = (idle, record { answer = answer; whole = omega (arith, last); known = omega (arith, last, packet_count_above a.size) });
 }
+
+pub given-turn : (q : SlotRequest) → q.answer ≡ None → IsMessage q.size → q.taken + 1 ≡ packet_count q.size → IsInTurn (last_given q)
+given-turn q none size last = record { size = size; some = omega arith; come = rw none (last, refl) }
+
+-- a request that a worker has
+pub record IsWorkedOn (q : SlotRequest) : Type 0 where
+  pub whole : q.taken ≡ packet_count q.size
+  pub none : q.answer ≡ None
+
+worked-cases : (size taken : ℕ) (ask : Option ℕ) (working : Bool) (o : Option Stored) → HasCome size taken ask working o → working ≡ true → (taken ≡ packet_count size) × (o ≡ None)
+worked-cases size taken ask working (Some a) come is = cc (come.0, is)
+worked-cases size taken ask true None come is = (come.0, refl)
+worked-cases size taken ask false None come is = cc
+
+pub worked-on : (q : SlotRequest) → IsInTurn q → q.working ≡ true → IsWorkedOn q
+worked-on q turn is =
+    let parts = worked-cases q.size q.taken q.ask q.working q.answer turn.come is in
+    record { whole = parts.0; none = parts.1 }
+
+pub worked-turn : (q : SlotRequest) (a : Stored) → IsInTurn q → q.working ≡ true → IsMessage a.size → IsInTurn (worked a q)
+worked-turn q a turn is answer =
+    let on = worked-on q turn is in
+    record {
+      size = turn.size;
+      some = turn.some;
+      come = (refl, record { answer = answer; whole = omega (arith, on.whole); known = omega (arith, on.whole, packet_count_above a.size) });
+    }

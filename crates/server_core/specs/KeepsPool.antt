@@ -17,12 +17,21 @@ pub record IsStored (pool : Pool) (a : Stored) : Type 0 where
   pub full : IsFull pool a.place
   pub size : HasSize a.size (buf_at pool a.place)
 
--- the pool has the request's buffer, which no entry names, and that of its answer once there is one
+-- the pool has the buffer of a request of this size, which no entry names
+pub record IsAsked (pool : Pool) (size p : ℕ) : Type 0 where
+  pub full : IsFull pool p
+  pub size_is : HasSize size (buf_at pool p)
+  pub unnamed : refs_of pool p ≡ 0
+
+-- the pool has the request's buffer unless that went with a job, and the answer's once there is one
 pub record IsKept (pool : Pool) (q : SlotRequest) : Type 0 where
-  pub ask : IsFull pool q.ask
-  pub size : HasSize q.size (buf_at pool q.ask)
-  pub unnamed : refs_of pool q.ask ≡ 0
+  pub ask : IfSome q.ask (IsAsked pool q.size)
   pub answer : IfSome q.answer (IsStored pool)
+
+-- how often a request's place is this one
+abbrev pub ask_names : ℕ → Option ℕ → ℕ
+ask_names p None = 0
+ask_names p (Some a) = if a == p then 1 else 0
 
 -- how often an answer's place is this one
 abbrev pub answer_names : ℕ → Option Stored → ℕ
@@ -31,7 +40,7 @@ answer_names p (Some a) = if a.place == p then 1 else 0
 
 -- how often a request names a place
 abbrev pub own_names : ℕ → SlotRequest → ℕ
-own_names p q = (if q.ask == p then 1 else 0) + answer_names p q.answer
+own_names p q = ask_names p q.ask + answer_names p q.answer
 
 abbrev pub names : ℕ → List SlotRequest → ℕ
 names p slots = sum_by (own_names p) slots
@@ -46,13 +55,17 @@ abbrev pub LeavesOthers : (old new : List SlotRequest) → (before after : Pool)
 LeavesOthers old new before after =
     (p : ℕ) → names p old ≡ 0 → is_empty (use_at before p) ≡ false → (names p new ≡ 0) × (use_at after p ≡ use_at before p) × (buf_at after p ≡ buf_at before p)
 
--- how many places a request names: one, and one more from its answer on
+-- how many places a request names: one unless its bytes went with a job, and one more from its answer on
+abbrev pub ask_places : Option ℕ → ℕ
+ask_places None = 0
+ask_places (Some p) = 1
+
 abbrev pub answer_places : Option Stored → ℕ
 answer_places None = 0
 answer_places (Some a) = 1
 
 abbrev pub own_places : SlotRequest → ℕ
-own_places q = 1 + answer_places q.answer
+own_places q = ask_places q.ask + answer_places q.answer
 
 -- how many those of a session name
 abbrev pub places : List SlotRequest → ℕ

@@ -1,4 +1,5 @@
 pub mod Asked
+pub mod Finishing
 pub mod KeepsPool
 pub mod Replies
 pub mod Rows

@@ -1,5 +1,5 @@
 -- The replies to the packets of a request: their entries, their headers and what is sent.
-use Rattle.std.specs.Prelude.{◌≡◌, ℕ, ◌+◌, ◌<◌, ◌==◌, ◌&&◌, nat_lt, Bool, List, Option, Some, None, option_and_then, option_map, IfSome, if◌then◌else◌}
+use Rattle.std.specs.Prelude.{◌≡◌, ℕ, ◌+◌, ◌<◌, ◌==◌, ◌&&◌, nat_lt, Bool, false, not, List, Option, Some, None, option_and_then, option_map, IfSome, if◌then◌else◌}
 use Rattle.std.specs.List.{find}
 use Rattle.rpc_base.specs.declared.owner.Owner.{Owner}
 use Rattle.rpc_base.specs.declared.owner.Owner.TheVariants.{Ask, Reply, Control}
@@ -15,6 +15,7 @@ use Rattle.rpc_laws.specs.declared.tables.Server.{Server}
 use Rattle.rpc_laws.specs.Packets.{reply_packet}
 use Rattle.server_core.specs.declared.slot.Stored.{Stored}
 use Rattle.server_core.specs.declared.slot.SlotRequest.{SlotRequest}
+use Rattle.server_core.specs.Rows.{is_worked_on}
 use Rattle.server_core.specs.Session.{Session, newest, owner_of}
 use Rattle.server_core.specs.Shown.{shown}
 
@@ -45,10 +46,15 @@ is_owner session owner q = same_owner (owner_of session q) owner
 abbrev pub request_of : Session → EntryValue → Option SlotRequest
 request_of s e = find (is_owner s.number e.owner) s.slots
 
--- the entry is the reply to a packet that was taken
+-- the entry is the reply to a packet of the request that was taken, and no worker has its answer yet
+pub record IsReplyIn (q : SlotRequest) (e : EntryValue) : Type 0 where
+  pub taken : e.number < q.taken
+  pub there : is_worked_on q e.number ≡ false
+  pub place_is : e.place ≡ place_of q e.number
+
 abbrev pub IsReplyTo : Option SlotRequest → EntryValue → Type 0
 IsReplyTo None e = ⊥
-IsReplyTo (Some q) e = (e.number < q.taken) × (e.place ≡ place_of q e.number)
+IsReplyTo (Some q) e = IsReplyIn q e
 
 -- the packet of an owner, by the definitions over histories
 abbrev pub owner_reply : Owner → ℕ → Server → Option Outgoing
@@ -87,9 +93,14 @@ IsHeld pool place = IfSome place (λ p. 0 < refs_of pool p)
 abbrev pub CanHold : Pool → SlotRequest → Type 0
 CanHold pool q = IfSome q.answer (λ a. refs_of pool a.place < 4294967295)
 
--- the entry of the reply to packet k of a request, where that was taken
+-- whether packet k of a request was taken and has its reply: where a worker has the request, that to its last
+-- packet is to come
+abbrev pub has_reply : SlotRequest → ℕ → Bool
+has_reply q k = nat_lt k q.taken && not (is_worked_on q k)
+
+-- the entry of the reply to packet k of a request, where there is one
 abbrev pub entry_if : (session peer r k : ℕ) → SlotRequest → Option EntryValue
-entry_if session peer r k q = if q.number == r && nat_lt k q.taken then Some (entry_at session peer k q) else None
+entry_if session peer r k q = if q.number == r && has_reply q k then Some (entry_at session peer k q) else None
 
 -- that of the newest request of its slot, where it has this number
 abbrev pub taken_entry : (r k : ℕ) → Session → Option EntryValue

@@ -1,20 +1,32 @@
 -- What a packet that is taken makes of its request, of the session and of the pool.
-use Rattle.std.specs.Prelude.{◌≡◌, ℕ, ◌+◌, ◌*◌, ◌%◌, ◌≤◌, List, [], ◌∷◌, ◌++◌, length, take, Option, Some, None, IfSome}
+use Rattle.std.specs.Prelude.{◌≡◌, ℕ, ◌+◌, ◌%◌, ◌≤◌, true, false, List, [], ◌∷◌, ◌++◌, length, take, Option, Some, None, IfSome}
 use Rattle.rpc_base.specs.Tables.{at_first, without_first}
 use Rattle.packet_header.specs.declared.packet.MessageHeader.{MessageHeader}
-use Rattle.message_buffer.specs.Buffer.{Buffer, bytes_of, capacity_of, written}
-use Rattle.buffer_pool.specs.Pool.{Pool, buf_at, changed, emptied, refs_of}
+use Rattle.message_buffer.specs.Buffer.{Buffer, bytes_of, capacity_of}
+use Rattle.buffer_pool.specs.Pool.{Pool, emptied, refs_of}
 use Rattle.server_core.specs.declared.slot.Stored.{Stored}
 use Rattle.server_core.specs.declared.slot.SlotRequest.{SlotRequest}
 use Rattle.server_core.specs.Session.{Session, is_in_slot}
 
 -- a request begins with its first packet, in this place
 abbrev pub first_taken : MessageHeader → ℕ → Option Stored → SlotRequest
-first_taken h ask answer = record { number = h.request; req_type = h.req_type; size = h.size; taken = 1; ask = ask; answer = answer }
+first_taken h ask answer = record { number = h.request; req_type = h.req_type; size = h.size; taken = 1; ask = Some ask; working = false; answer = answer }
+
+-- one of this only packet goes to a worker
+abbrev pub first_given : MessageHeader → SlotRequest
+first_given h = record { number = h.request; req_type = h.req_type; size = h.size; taken = 1; ask = None; working = true; answer = None }
 
 -- one packet more was taken
 abbrev pub next_taken : Option Stored → SlotRequest → SlotRequest
 next_taken answer q = record q { taken = q.taken + 1; answer = answer }
+
+-- the last packet was taken, and the request goes to a worker
+abbrev pub last_given : SlotRequest → SlotRequest
+last_given q = record q { taken = q.taken + 1; ask = None; working = true }
+
+-- the worker's answer is there
+abbrev pub worked : Stored → SlotRequest → SlotRequest
+worked a q = record q { working = false; answer = Some a }
 
 -- a request begins in the place of the older one of its slot, behind all others
 abbrev pub begun : SlotRequest → List SlotRequest → List SlotRequest
@@ -32,8 +44,12 @@ abbrev pub without_answer : Option Stored → Pool → Pool
 without_answer None pool = pool
 without_answer (Some a) pool = emptied a.place pool
 
+abbrev pub without_ask : Option ℕ → Pool → Pool
+without_ask None pool = pool
+without_ask (Some p) pool = emptied p pool
+
 abbrev pub without_buffers : SlotRequest → Pool → Pool
-without_buffers q pool = without_answer q.answer (emptied q.ask pool)
+without_buffers q pool = without_answer q.answer (without_ask q.ask pool)
 
 -- those of the older request of a slot, if there is one
 abbrev pub given_up : Option SlotRequest → Pool → Pool
@@ -48,14 +64,6 @@ all_given_up (q ∷ qs) pool = all_given_up qs (without_buffers q pool)
 -- no entry names the answer
 abbrev pub IsUnheld : Pool → SlotRequest → Type 0
 IsUnheld pool q = IfSome q.answer (λ a. refs_of pool a.place ≡ 0)
-
--- a part of a message is written to its place
-abbrev pub rewritten_at : ℕ → (Buffer → Buffer) → Option Buffer → Pool → Pool
-rewritten_at p f None pool = pool
-rewritten_at p f (Some b) pool = changed p (f b) pool
-
-abbrev pub with_part : ℕ → List ℕ → SlotRequest → Pool → Pool
-with_part k body q pool = rewritten_at q.ask (written (1024 * k) body) (buf_at pool q.ask) pool
 
 -- the buffer of a message of this size that begins with these bytes
 pub record IsFirstPart (size : ℕ) (first : List ℕ) (b : Buffer) : Type 0 where

@@ -1,5 +1,5 @@
 -- The newest requests of one server session as its callers see them, and what always holds of them.
-use Rattle.std.specs.Prelude.{ℕ, ◌+◌, ◌%◌, ◌<◌, ◌≤◌, ◌==◌, Bool, List, [], count_by, Option, Some, None, option_map}
+use Rattle.std.specs.Prelude.{◌≡◌, ℕ, ◌+◌, ◌%◌, ◌<◌, ◌≤◌, ◌==◌, Bool, true, false, List, [], count_by, Option, Some, None, IsSome, option_map}
 use Rattle.std.specs.List.{AllByRecursion, find}
 use Rattle.rpc_base.specs.declared.owner.Owner.{Owner}
 use Rattle.rpc_base.specs.declared.owner.Owner.TheVariants.{Reply}
@@ -34,16 +34,22 @@ pub record IsAnswered (size taken answer_size : ℕ) : Type 0 where
   pub whole : packet_count size ≤ taken
   pub known : taken + 1 ≤ packet_count size + packet_count answer_size
 
--- the answer is there from the last packet of the request on
-abbrev pub HasCome : (size taken : ℕ) → Option Stored → Type 0
-HasCome size taken None = taken < packet_count size
-HasCome size taken (Some a) = IsAnswered size taken a.size
+-- before its answer is there, a request takes its own packets, whose bytes are in the pool; or a worker has
+-- it, with all its bytes
+abbrev pub IsOpen : (size taken : ℕ) → Option ℕ → (working : Bool) → Type 0
+IsOpen size taken ask true = (taken ≡ packet_count size) × (ask ≡ None)
+IsOpen size taken ask false = (taken < packet_count size) × IsSome ask
+
+-- how far a request has come
+abbrev pub HasCome : (size taken : ℕ) → Option ℕ → (working : Bool) → Option Stored → Type 0
+HasCome size taken ask working None = IsOpen size taken ask working
+HasCome size taken ask working (Some a) = (working ≡ false) × IsAnswered size taken a.size
 
 -- the packets of a request are taken in turn
 pub record IsInTurn (q : SlotRequest) : Type 0 where
   pub size : IsMessage q.size
   pub some : 1 ≤ q.taken
-  pub come : HasCome q.size q.taken q.answer
+  pub come : HasCome q.size q.taken q.ask q.working q.answer
 
 -- a slot has one newest request
 pub record IsSession (s : Session) : Type 0 where

@@ -24,6 +24,11 @@ way_of s = record { number = s.number; peer = s.peer; other = s.client }
 abbrev pub answer_in : Pool → Stored → List ℕ
 answer_in pool a = message_in (buf_at pool a.place)
 
+-- the bytes of a request's first packets, none where they went with a job
+abbrev pub ask_in : Pool → ℕ → Option ℕ → List ℕ
+ask_in pool taken None = []
+ask_in pool taken (Some p) = take (1024 * taken) (message_in (buf_at pool p))
+
 -- a request: its bytes are those of the packets taken so far
 abbrev pub shown_request : Pool → SlotRequest → Served
 shown_request pool q = record {
@@ -31,7 +36,8 @@ shown_request pool q = record {
   req_type = q.req_type;
   size = q.size;
   taken = q.taken;
-  ask = take (1024 * q.taken) (message_in (buf_at pool q.ask));
+  ask = ask_in pool q.taken q.ask;
+  working = q.working;
   answer = option_map (answer_in pool) q.answer;
 }
 

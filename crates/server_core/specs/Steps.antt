@@ -1,14 +1,15 @@
--- What a Request or RFR does to a session, in the words of the definitions over histories.
-use Rattle.std.specs.Prelude.{◌≡◌, ℕ, ◌+◌, ◌*◌, ◌<◌, ◌≤◌, Bool, true, false, List, [], ◌∷◌, ◌++◌, take, Option, Some, None, IfSome}
+-- What a Request or RFR, or a finished job, does to a session, in the words of the definitions over histories.
+use Rattle.std.specs.Prelude.{◌≡◌, ◌≢◌, ℕ, ◌+◌, ◌<◌, ◌≤◌, Bool, true, false, List, [], ◌∷◌, ◌++◌, length, take, Option, Some, None, IfSome}
 use Rattle.std.specs.List.{AllByRecursion}
 use Rattle.rpc_base.specs.Tables.{at_first, without_first}
-use Rattle.rpc_base.specs.declared.event.Event.TheVariants.{Took as TookEvent, Ran as RanEvent}
+use Rattle.rpc_base.specs.declared.event.Event.TheVariants.{Took as TookEvent, Given as GivenEvent, Ran as RanEvent}
 use Rattle.rpc_base.specs.declared.owner.Owner.TheVariants.{Reply}
 use Rattle.rpc_base.specs.declared.state.DropReason.TheVariants.{NoMemory}
 use Rattle.packet_header.specs.Header.{MessageInRange, MessageLength}
 use Rattle.packet_header.specs.Parts.{packet_count, part_size}
 use Rattle.packet_header.specs.declared.packet.MessageHeader.{MessageHeader}
-use Rattle.buffer_pool.specs.Pool.{Pool, buf_at}
+use Rattle.message_buffer.specs.Buffer.{bytes_of}
+use Rattle.buffer_pool.specs.Pool.{Pool}
 use Rattle.packet_rings.specs.Values.{EntryValue}
 use Rattle.rpc_laws.specs.declared.rows.ServerRow.{ServerRow}
 use Rattle.rpc_laws.specs.declared.rows.ServerRow.TheVariants.{Drops, Begins, Takes, Repeats}
@@ -18,20 +19,15 @@ use Rattle.rpc_laws.specs.Requests.{in_slot_of, is_request, servers_after}
 use Rattle.rpc_laws.specs.ServerTable.{is_last, is_rfr, whole_ask}
 use Rattle.rpc_outside.specs.Served.{Served}
 use Rattle.rpc_outside.specs.declared.service.Mode.{Mode}
-use Rattle.rpc_outside.specs.declared.service.Mode.TheVariants.{Inline, Background, Unserved}
+use Rattle.rpc_outside.specs.declared.service.Mode.TheVariants.{Unserved}
+use Rattle.worker_board.specs.declared.Parcel.{Parcel}
 use Rattle.server_core.specs.declared.slot.SlotRequest.{SlotRequest}
 use Rattle.server_core.specs.declared.step.Step.{Step}
-use Rattle.server_core.specs.declared.step.Step.TheVariants.{Took, Again, Ran, Dropped}
+use Rattle.server_core.specs.declared.step.Step.TheVariants.{Took, Again, Ran, Give, Dropped}
 use Rattle.server_core.specs.Replies.{IsHeld, IsReplyTo, request_of}
-use Rattle.server_core.specs.Rows.{is_asking, is_past}
+use Rattle.server_core.specs.Rows.{gives_job, is_asking, is_past, is_worked_on}
 use Rattle.server_core.specs.Session.{IsMessage, Session, newest}
-use Rattle.server_core.specs.Shown.{message_in}
-
--- whether requests of a type are handled in the event loop
-abbrev pub is_inline : Mode → Bool
-is_inline Inline = true
-is_inline Background = false
-is_inline Unserved = false
+use Rattle.server_core.specs.Shown.{ask_in}
 
 -- a Request or RFR of the session, with the fields and the body of such a packet
 pub record IsAsking (h : MessageHeader) (body_len : ℕ) : Type 0 where
@@ -40,24 +36,26 @@ pub record IsAsking (h : MessageHeader) (body_len : ℕ) : Type 0 where
   pub body : MessageLength h.kind h.size h.number (16 + body_len)
 
 -- a step that takes a packet, where its memory may be wanting
-abbrev pub HasTaken : (last can_want : Bool) → Step → Type 0
-HasTaken last can_want (Took reply) = last ≡ false
-HasTaken last can_want (Again reply) = ⊥
-HasTaken last can_want (Ran reply) = last ≡ true
-HasTaken last can_want (Dropped why) = (why ≡ NoMemory) × (can_want ≡ true)
+abbrev pub HasTaken : (last job can_want : Bool) → Step → Type 0
+HasTaken last job can_want (Took reply) = last ≡ false
+HasTaken last job can_want (Again reply) = ⊥
+HasTaken last job can_want (Ran reply) = (last ≡ true) × (job ≡ false)
+HasTaken last job can_want (Give parcel) = job ≡ true
+HasTaken last job can_want (Dropped why) = (why ≡ NoMemory) × (can_want ≡ true)
 
 abbrev pub IsAgain : Step → Type 0
 IsAgain (Took reply) = ⊥
 IsAgain (Again reply) = Unit {0}
 IsAgain (Ran reply) = ⊥
+IsAgain (Give parcel) = ⊥
 IsAgain (Dropped why) = ⊥
 
 -- the step is the row's. Memory is wanted for a request that begins, and for an answer
-abbrev pub IsStepOf : MessageHeader → ServerRow → Step → Type 0
-IsStepOf h (Drops why) step = step ≡ Dropped why
-IsStepOf h Begins step = HasTaken (is_last h) true step
-IsStepOf h Takes step = HasTaken (is_last h) (is_last h) step
-IsStepOf h Repeats step = IsAgain step
+abbrev pub IsStepOf : Mode → MessageHeader → ServerRow → Step → Type 0
+IsStepOf mode h (Drops why) step = step ≡ Dropped why
+IsStepOf mode h Begins step = HasTaken (is_last h) (gives_job mode h) true step
+IsStepOf mode h Takes step = HasTaken (is_last h) (gives_job mode h) (is_last h) step
+IsStepOf mode h Repeats step = IsAgain step
 
 -- the session once the packet was taken
 abbrev pub took : MessageHeader → List ℕ → Server → List Server
@@ -66,6 +64,10 @@ took h body v = servers_after (TookEvent (Reply v.way.number h.request) h.number
 -- and once its request's handler ran, with this answer
 abbrev pub ran : MessageHeader → List ℕ → (answer : List ℕ) → Server → List Server
 ran h body answer v = servers_after (RanEvent v.way.number h.request h.req_type) answer None [] (took h body v)
+
+-- and once it was given to a worker
+abbrev pub gave : MessageHeader → List ℕ → Server → List Server
+gave h body v = servers_after (GivenEvent v.way.number h.request) [] None [] (took h body v)
 
 -- the bytes of its request up to and with this packet
 abbrev pub asked_with : MessageHeader → List ℕ → Server → List ℕ
@@ -77,13 +79,32 @@ Steps (Took reply) answer stands after h body v w = took h body v ≡ w ∷ []
 Steps (Again reply) answer stands after h body v w = w ≡ v
 Steps (Ran reply) answer stands after h body v w =
     (served : Served) → stands served → (ran h body (answer served h.req_type (asked_with h body v)) v ≡ w ∷ []) × after (served ++ (h.req_type, asked_with h body v) ∷ [])
+Steps (Give parcel) answer stands after h body v w = gave h body v ≡ w ∷ []
 Steps (Dropped why) answer stands after h body v w = w ≡ v
+
+-- a parcel has the whole request, and room for its answer
+pub record IsParcel (answer : Served → ℕ → List ℕ → List ℕ) (stands : Served → Type 0) (h : MessageHeader) (body : List ℕ) (v : Server) (p : Parcel) : Type 0 where
+  pub session : p.session ≡ v.way.number
+  pub request : p.request ≡ h.request
+  pub req_type : p.req_type ≡ h.req_type
+  pub ask : bytes_of p.ask ≡ asked_with h body v
+  pub room : (served : Served) → stands served → length (answer served p.req_type (bytes_of p.ask)) ≡ p.out.len
+  pub most : IsMessage p.out.len
+
+-- a claim of the parcel, where one is given
+abbrev pub IfGiven : Step → (Parcel → Type 0) → Type 0
+IfGiven (Took reply) claim = Unit {0}
+IfGiven (Again reply) claim = Unit {0}
+IfGiven (Ran reply) claim = Unit {0}
+IfGiven (Give parcel) claim = claim parcel
+IfGiven (Dropped why) claim = Unit {0}
 
 -- what holds unless a handler ran
 abbrev pub UnlessRan : Step → Type 0 → Type 0
 UnlessRan (Took reply) claim = claim
 UnlessRan (Again reply) claim = claim
 UnlessRan (Ran reply) claim = Unit {0}
+UnlessRan (Give parcel) claim = claim
 UnlessRan (Dropped why) claim = claim
 
 -- what holds unless a packet was taken
@@ -91,6 +112,7 @@ abbrev pub UnlessTaken : Step → Type 0 → Type 0
 UnlessTaken (Took reply) claim = Unit {0}
 UnlessTaken (Again reply) claim = claim
 UnlessTaken (Ran reply) claim = Unit {0}
+UnlessTaken (Give parcel) claim = Unit {0}
 UnlessTaken (Dropped why) claim = claim
 
 -- a claim of the reply, where there is one
@@ -98,6 +120,7 @@ abbrev pub IfReply : Step → (EntryValue → Type 0) → Type 0
 IfReply (Took reply) claim = claim reply
 IfReply (Again reply) claim = claim reply
 IfReply (Ran reply) claim = claim reply
+IfReply (Give parcel) claim = Unit {0}
 IfReply (Dropped why) claim = Unit {0}
 
 -- the reply to packet k of request r of the session, whose place is held
@@ -140,13 +163,13 @@ abbrev pub IsNextOf : MessageHeader → ℕ → Option SlotRequest → Type 0
 IsNextOf h body_len None = ⊥
 IsNextOf h body_len (Some q) = IsNext h body_len q
 
--- all requests of a session are of types that are handled in the event loop
-abbrev pub AreInline : (ℕ → Mode) → List SlotRequest → Type 0
-AreInline mode_of slots = AllByRecursion (λ q. mode_of q.req_type ≡ Inline) slots
+-- all requests of a session are of types that are served
+abbrev pub AreServed : (ℕ → Mode) → List SlotRequest → Type 0
+AreServed mode_of slots = AllByRecursion (λ q. mode_of q.req_type ≢ Unserved) slots
 
 -- a request as it begins, with the bytes of its buffer
 abbrev pub first_shown : MessageHeader → List ℕ → Option (List ℕ) → ServedRequest
-first_shown h bytes answer = record { number = h.request; req_type = h.req_type; size = h.size; taken = 1; ask = take 1024 bytes; answer = answer }
+first_shown h bytes answer = record { number = h.request; req_type = h.req_type; size = h.size; taken = 1; ask = take 1024 bytes; working = false; answer = answer }
 
 -- it stands behind all others, and the older one of its slot is gone
 abbrev pub begun_with : ServedRequest → Server → Server
@@ -162,9 +185,14 @@ gone_on_as r change v = record v { slots = at_first (is_request r) change v.slot
 
 -- the bytes of a request with one packet more than were taken
 abbrev pub bytes_with : Pool → SlotRequest → List ℕ
-bytes_with pool q = take (1024 * (q.taken + 1)) (message_in (buf_at pool q.ask))
+bytes_with pool q = ask_in pool (q.taken + 1) q.ask
 
--- the packet was taken before
+-- the packet was taken before, and has its reply
+pub record IsTakenIn (h : MessageHeader) (q : SlotRequest) : Type 0 where
+  pub same : q.number ≡ h.request
+  pub taken : h.number < q.taken
+  pub there : is_worked_on q h.number ≡ false
+
 abbrev pub IsTakenBefore : MessageHeader → Option SlotRequest → Type 0
 IsTakenBefore h None = ⊥
-IsTakenBefore h (Some q) = (q.number ≡ h.request) × (h.number < q.taken)
+IsTakenBefore h (Some q) = IsTakenIn h q

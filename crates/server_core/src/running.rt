@@ -1,8 +1,8 @@
 //! The buffers of a request and of its answer, made before anything else changes: the want of memory
 //! leaves all as it was.
-ghost use Rattle.std.specs.Prelude.{◌≡◌, ◌≤◌, ◌++◌, ◌∷◌, [], length, take, IfOk, OnErr, OnOk};
+ghost use Rattle.std.specs.Prelude.{◌≡◌, ◌≢◌, ◌≤◌, ◌++◌, ◌∷◌, [], length, take, IfOk, OnErr, OnOk};
 ghost use Rattle.message_buffer.specs.Buffer.{bytes_of, capacity_of};
-ghost use Rattle.rpc_outside.specs.declared.service.Mode.TheVariants.{Inline};
+ghost use Rattle.rpc_outside.specs.declared.service.Mode.TheVariants.{Inline, Unserved};
 ghost use Rattle.rpc_outside.specs.Served.{Served};
 ghost use Rattle.server_core.specs.Serving.{IsFirstPart};
 ghost use Rattle.server_core.specs.Session.{IsMessage};
@@ -24,6 +24,24 @@ pub fn make_message(alloc: Global, size: u32, first: &[u8]) -> Result<MsgBuf, No
     Ok(message)
 }
 
+/// A buffer as long as the answer of a type that is served.
+pub fn make_room<V: Service>(
+    alloc: Global,
+    service: &V,
+    req_type: u8,
+    ask: &[u8],
+) -> Result<MsgBuf, NoMemory>
+    requires served { V.mode_of req_type ≢ Unserved }
+    requires message { length ask.now ≤ 1048576 }
+    ensures message { IfOk result (λ b. IsMessage b.len × (b.len ≤ capacity_of b)) }
+    ensures room { IfOk result (λ b. (served : Served) → V.stands service.now served → length (V.answer served req_type ask.now) ≡ b.len) }
+{
+    let room = service.room(req_type, ask);
+    let mut answer = MsgBuf::new(alloc, room)?;
+    answer.set_len(room);
+    Ok(answer)
+}
+
 /// Runs the handler of a type that is handled inline, and gives its answer. Want of memory comes before
 /// it runs.
 pub fn run<V: Service>(
@@ -39,9 +57,7 @@ pub fn run<V: Service>(
     ensures next { OnOk result ((served : Served) → V.stands service.old served → V.stands service.new (served ++ (req_type, ask.now) ∷ [])) }
     ensures unchanged { OnErr result (service.new ≡ service.old) }
 {
-    let room = service.room(req_type, ask);
-    let mut answer = MsgBuf::new(alloc, room)?;
-    answer.set_len(room);
+    let mut answer = make_room(alloc, service, req_type, ask)?;
     service.serve(req_type, ask, answer.whole_mut());
     Ok(answer)
 }

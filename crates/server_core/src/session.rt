@@ -8,6 +8,7 @@ ghost use Rattle.server_core.specs.Shown.{paired, shown};
 mod asked;
 mod conditions;
 mod finish;
+mod giving;
 mod reply;
 mod request;
 mod taking;

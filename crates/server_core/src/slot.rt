@@ -1,12 +1,13 @@
 //! What a session keeps of the newest request of a slot.
-ghost use Rattle.std.specs.Prelude.{◌≡◌, ◌<◌, ◌≤◌, ◌↔◌, IsTrue};
+ghost use Rattle.std.specs.Prelude.{◌≡◌, ◌<◌, ◌≤◌, ◌↔◌, IsTrue, false, option_map};
 ghost use Rattle.packet_header.specs.Header.{MessageInRange};
 ghost use Rattle.packet_header.specs.declared.packet.Kind.TheVariants.{Response};
-ghost use Rattle.rpc_laws.specs.ServerTable.{is_rfr};
+ghost use Rattle.rpc_laws.specs.ServerTable.{is_last, is_rfr};
+ghost use Rattle.rpc_laws.specs.Service.{is_mode_background};
 ghost use Rattle.server_core.specs.KeepsPool.{IsKept};
-ghost use Rattle.server_core.specs.Replies.{CanHold, answer_size, entry_at, head_of, place_of};
-ghost use Rattle.server_core.specs.Rows.{is_mismatch, is_past, own_row};
-ghost use Rattle.server_core.specs.Serving.{IsUnheld};
+ghost use Rattle.server_core.specs.Replies.{CanHold, answer_size, entry_at, has_reply, head_of, place_of};
+ghost use Rattle.server_core.specs.Rows.{gives_job, is_mismatch, is_past, is_worked_on, own_row, repeated_row};
+ghost use Rattle.server_core.specs.Serving.{IsUnheld, first_given};
 ghost use Rattle.server_core.specs.Session.{IsInTurn, IsMessage, owner_of};
 
 use buffer_pool::BufferPool;
@@ -14,6 +15,7 @@ use packet_header::{Kind, MessageHeader, count};
 use packet_rings::Entry;
 use rpc_base::{DropReason, Owner, Peer, Place, RequestNo, SessionNo};
 use rpc_laws::ServerRow;
+use rpc_outside::Mode;
 
 /// A message in the pool.
 #[derive(Clone, Copy, Debug)]
@@ -34,13 +36,30 @@ pub struct SlotRequest {
     pub size: u32,
     /// Client packets taken in turn.
     pub taken: u16,
-    /// Where the pool has the request.
-    pub ask: Place,
+    /// Where the pool has the request. Its bytes go with the job where a worker gets it.
+    pub ask: Option<Place>,
+    /// Whether a worker has it.
+    pub working: bool,
     /// The answer, once the handler ran.
     pub answer: Option<Stored>,
 }
 
 impl SlotRequest {
+    /// A request that begins with its only packet, and that a worker has with its bytes.
+    pub fn given(head: &MessageHeader) -> SlotRequest
+        ensures { result ≡ first_given head.now }
+    {
+        SlotRequest {
+            number: head.request,
+            req_type: head.req_type,
+            size: head.size,
+            taken: 1,
+            ask: None,
+            working: true,
+            answer: None,
+        }
+    }
+
     /// Whose packets the replies to the request are, in the session of this number.
     pub fn owner(&self, session: SessionNo) -> Owner
         ensures { result ≡ owner_of session self.now }
@@ -51,10 +70,11 @@ impl SlotRequest {
         }
     }
 
-    /// What the server table says of a Request or RFR of the request's own number.
-    pub fn row(&self, head: &MessageHeader) -> ServerRow
+    /// What the server table says of a Request or RFR of the request's own number. `mode` is that of its
+    /// type, and `jobs_full` tells whether the node's jobs are full.
+    pub fn row(&self, head: &MessageHeader, mode: Mode, jobs_full: bool) -> ServerRow
         requires { IsInTurn self.now }
-        ensures { result ≡ own_row self.now head.now }
+        ensures { result ≡ own_row mode jobs_full self.now head.now }
     {
         if self.is_mismatch(head) {
             return ServerRow::Drops(DropReason::Mismatch);
@@ -63,12 +83,40 @@ impl SlotRequest {
             return ServerRow::Drops(DropReason::Ahead);
         }
         if head.number < self.taken {
-            return ServerRow::Repeats;
+            return self.repeated_row(head.number);
         }
         if is_an_rfr(head.kind) && self.is_past(head.number) {
             return ServerRow::Drops(DropReason::Beyond);
         }
+        if makes_job(head, mode) && jobs_full {
+            return ServerRow::Drops(DropReason::JobsFull);
+        }
         ServerRow::Takes
+    }
+
+    // That of a packet that was taken before.
+    fn repeated_row(&self, number: u16) -> ServerRow
+        ensures { result ≡ repeated_row self.now number }
+    {
+        if self.is_worked_on(number) {
+            return ServerRow::Drops(DropReason::Working);
+        }
+        ServerRow::Repeats
+    }
+
+    // Whether a worker has the request whose last packet this is.
+    fn is_worked_on(&self, number: u16) -> bool
+        ensures { result ≡ is_worked_on self.now number }
+    {
+        u32::from(number) + 1 == count(self.size) && self.working
+    }
+
+    /// Whether a packet of the request was taken and has its reply. That to the last one is to come where a
+    /// worker has the request.
+    pub fn has_reply(&self, number: u16) -> bool
+        ensures { result ≡ has_reply self.now number }
+    {
+        number < self.taken && !self.is_worked_on(number)
     }
 
     // A part of another message, or a request for a part of the answer before its first one.
@@ -100,6 +148,13 @@ impl SlotRequest {
         if u32::from(number) + 1 < count(self.size) {
             return None;
         }
+        self.answer_place()
+    }
+
+    /// Where the pool has the answer, if it is there.
+    pub fn answer_place(&self) -> Option<Place>
+        ensures { result ≡ option_map (λ a. a.place) self.now.answer }
+    {
         match self.answer {
             None => None,
             Some(answer) => Some(answer.place),
@@ -155,6 +210,7 @@ impl SlotRequest {
     pub fn head(&self, client: SessionNo, number: u16) -> MessageHeader
         requires turn { IsInTurn self.now }
         requires taken { number < self.now.taken }
+        requires there { is_worked_on self.now number ≡ false }
         requires client { client < 65535 }
         ensures head { result ≡ head_of client number self.now }
         ensures in_range { MessageInRange result }
@@ -199,6 +255,27 @@ fn answer_head(
     }
 }
 
+// Whether a packet is the last of its request.
+fn is_last(head: &MessageHeader) -> bool
+    ensures { result ≡ is_last head.now }
+{
+    !is_an_rfr(head.kind) && u32::from(head.number) + 1 == count(head.size)
+}
+
+/// Whether requests of a mode are given to a worker.
+pub fn is_background(mode: Mode) -> bool
+    ensures { result ≡ is_mode_background mode }
+{
+    matches!(mode, Mode::Background)
+}
+
+/// Whether a packet makes a background job: the last one of a request whose mode is Background.
+pub fn makes_job(head: &MessageHeader, mode: Mode) -> bool
+    ensures { result ≡ gives_job mode head.now }
+{
+    is_last(head) && is_background(mode)
+}
+
 /// Whether a packet asks for a part of the answer.
 pub fn is_an_rfr(kind: Kind) -> bool
     ensures { result ≡ is_rfr kind }
@@ -217,7 +294,8 @@ impl Default for SlotRequest {
             req_type: 0,
             size: 0,
             taken: 0,
-            ask: Place(0),
+            ask: None,
+            working: false,
             answer: None,
         }
     }

@@ -1,9 +1,10 @@
 //! What a Request or RFR does.
 use packet_rings::Entry;
 use rpc_base::DropReason;
+use worker_board::Parcel;
 
 /// What a Request or RFR did, by the server table. A reply is to be put into the transmit ring.
-#[derive(Clone, Copy, Debug, PartialEq, Eq)]
+#[derive(Debug, Drop)]
 pub enum Step {
     /// It was taken.
     Took { reply: Entry },
@@ -11,5 +12,7 @@ pub enum Step {
     Again { reply: Entry },
     /// It was taken as the last packet of its request, whose handler ran.
     Ran { reply: Entry },
+    /// It was taken as the last packet of its request, which is to be given to a worker.
+    Give(Parcel),
     Dropped(DropReason),
 }

@@ -3,7 +3,7 @@ ghost use Rattle.std.specs.Prelude.{◌≡◌, ◌<◌, ◌≤◌, length};
 ghost use Rattle.packet_header.specs.Parts.{packet_count, part_size};
 ghost use Rattle.rpc_outside.specs.PlainAnswer.{plain_mode};
 ghost use Rattle.server_core.specs.KeepsPool.{KeepsPool};
-ghost use Rattle.server_core.specs.Steps.{AreInline, IsAsking};
+ghost use Rattle.server_core.specs.Steps.{AreServed, IsAsking};
 
 use crate::{ServerSession, Step};
 use buffer_pool::BufferPool;
@@ -13,6 +13,7 @@ use rpc_base::{DropReason, Owner, Peer, Place, RequestNo, SessionNo};
 use rpc_outside::PlainService;
 use std::alloc::Global;
 use std::test::Fail;
+use worker_board::Parcel;
 
 const SESSION: SessionNo = SessionNo(5);
 
@@ -26,6 +27,7 @@ enum Kept {
     Took,
     Again,
     Ran,
+    Gave,
     Dropped(DropReason),
     /// The packet wasn't handed in: a condition failed.
     Refused,
@@ -63,7 +65,7 @@ fn more(number: u16, request: RequestNo) -> MessageHeader
     }
 }
 
-/// Handles a packet, and sends its reply at once; a second reply is taken out unsent.
+/// Handles a packet where the node's jobs aren't full, as `handle_where` does.
 fn handle(
     alloc: Global,
     session: &mut ServerSession,
@@ -73,10 +75,29 @@ fn handle(
     body: &[u8],
 ) -> Kept
     requires keeps_pool { KeepsPool pool.old session.old.slots }
-    requires all_inline { AreInline plain_mode session.old.slots }
+    requires all_served { AreServed plain_mode session.old.slots }
     requires asking { IsAsking head (length body.now) }
     ensures keeps_pool { KeepsPool pool.new session.new.slots }
-    ensures all_inline { AreInline plain_mode session.new.slots }
+    ensures all_served { AreServed plain_mode session.new.slots }
+{
+    handle_where(alloc, session, pool, service, head, body, false)
+}
+
+/// Handles a packet, and sends its reply at once; a second reply is taken out unsent, and a job is dropped.
+fn handle_where(
+    alloc: Global,
+    session: &mut ServerSession,
+    pool: &mut BufferPool,
+    service: &mut PlainService,
+    head: MessageHeader,
+    body: &[u8],
+    jobs_full: bool,
+) -> Kept
+    requires keeps_pool { KeepsPool pool.old session.old.slots }
+    requires all_served { AreServed plain_mode session.old.slots }
+    requires asking { IsAsking head (length body.now) }
+    ensures keeps_pool { KeepsPool pool.new session.new.slots }
+    ensures all_served { AreServed plain_mode session.new.slots }
 {
     if pool.spare() < 2
         || !session.can_hold(pool, head.request)
@@ -84,7 +105,7 @@ fn handle(
     {
         return Kept::Refused;
     }
-    match session.on_packet(alloc, pool, service, &head, body) {
+    match session.on_packet(alloc, pool, service, &head, body, jobs_full) {
         Step::Took { reply } => {
             session.sent(pool, &reply);
             Kept::Took
@@ -97,8 +118,53 @@ fn handle(
             session.sent(pool, &reply);
             Kept::Ran
         }
+        Step::Give(_parcel) => Kept::Gave,
         Step::Dropped(reason) => Kept::Dropped(reason),
     }
+}
+
+/// Handles a packet that makes a job, and gives the parcel.
+fn give(
+    alloc: Global,
+    session: &mut ServerSession,
+    pool: &mut BufferPool,
+    service: &mut PlainService,
+    head: MessageHeader,
+    body: &[u8],
+) -> Option<Parcel>
+    requires keeps_pool { KeepsPool pool.old session.old.slots }
+    requires all_served { AreServed plain_mode session.old.slots }
+    requires asking { IsAsking head (length body.now) }
+    ensures keeps_pool { KeepsPool pool.new session.new.slots }
+    ensures all_served { AreServed plain_mode session.new.slots }
+{
+    if pool.spare() < 2
+        || !session.can_hold(pool, head.request)
+        || !session.is_unheld(pool, head.request)
+    {
+        return None;
+    }
+    match session.on_packet(alloc, pool, service, &head, body, false) {
+        Step::Give(parcel) => Some(parcel),
+        _ => None,
+    }
+}
+
+/// A job is finished, and its reply is sent at once: the number of the packet that it answers.
+fn finish(session: &mut ServerSession, pool: &mut BufferPool, parcel: Parcel) -> Option<u16>
+    requires keeps_pool { KeepsPool pool.old session.old.slots }
+    requires all_served { AreServed plain_mode session.old.slots }
+    ensures keeps_pool { KeepsPool pool.new session.new.slots }
+    ensures all_served { AreServed plain_mode session.new.slots }
+{
+    if parcel.session != session.session() || parcel.out.len() > 1_048_576 || pool.spare() == 0 {
+        return None;
+    }
+    let Some(reply) = session.on_finished(pool, parcel) else {
+        return None;
+    };
+    session.sent(pool, &reply);
+    Some(reply.number)
 }
 
 /// The entry of the reply to a packet of the first request of slot 1.
@@ -134,7 +200,7 @@ fn a_new_number_begins_with_packet_0_of_a_served_type(rt: HostRuntime) -> Result
         unserved
     );
     assert_eq!(rt;
-        handle(alloc, s, p, v, part(129, 3, 0, first), &[1; 3]),
+        handle(alloc, s, p, v, part(131, 3, 0, first), &[1; 3]),
         unserved
     );
     assert_eq!(rt;
@@ -204,6 +270,101 @@ fn an_answer_of_two_parts(rt: HostRuntime) -> Result<(), Fail> {
         handle(alloc, s, p, v, part(2, 2000, 1, first), &rest),
         Kept::Again
     );
+    Ok(())
+}
+
+#[test]
+fn a_background_request_is_given_and_finished(rt: HostRuntime) -> Result<(), Fail> {
+    let alloc = rt.alloc();
+    let mut pool = BufferPool::new(alloc, 8)?;
+    let mut session = ServerSession::new(SESSION, CLIENT, PEER, 4);
+    let mut service = PlainService::new();
+    let (s, p, v) = (&mut session, &mut pool, &mut service);
+    let (first, newer) = (RequestNo::of(1, 0), RequestNo::of(1, 1));
+    let working = Kept::Dropped(DropReason::Working);
+    assert_eq!(rt;
+        handle(alloc, s, p, v, part(130, 1025, 0, first), &[7; 1024]),
+        Kept::Took
+    );
+    let job = give(alloc, s, p, v, part(130, 1025, 1, first), &[9]).ok_or("not given")?;
+    assert!(rt; job.session == SESSION && job.request == first && job.req_type == 130);
+    assert!(rt; job.ask.bytes().len() == 1025 && job.out.len() == 1025 && p.spare() == 8);
+    assert_eq!(rt;
+        handle(alloc, s, p, v, part(130, 1025, 1, first), &[9]),
+        working
+    );
+    assert_eq!(rt;
+        handle(alloc, s, p, v, part(130, 1025, 0, first), &[7; 1024]),
+        Kept::Again
+    );
+    assert_eq!(rt;
+        handle(alloc, s, p, v, part(2, 3, 0, newer), &[1; 3]),
+        working
+    );
+    let beyond = handle(alloc, s, p, v, more(2, first), &[]);
+    assert_eq!(rt; beyond, Kept::Dropped(DropReason::Beyond));
+    assert_eq!(rt; s.asked(p, first).len(), 0);
+    assert_eq!(rt; finish(s, p, job), Some(1));
+    assert_eq!(rt; s.answer(p, first).len(), 1025);
+    assert_eq!(rt; handle(alloc, s, p, v, more(2, first), &[]), Kept::Took);
+    assert_eq!(rt;
+        handle(alloc, s, p, v, part(130, 1025, 1, first), &[9]),
+        Kept::Again
+    );
+    assert_eq!(rt;
+        handle(alloc, s, p, v, part(2, 3, 0, newer), &[1; 3]),
+        Kept::Ran
+    );
+    Ok(())
+}
+
+#[test]
+fn a_job_waits_while_the_jobs_are_full(rt: HostRuntime) -> Result<(), Fail> {
+    let alloc = rt.alloc();
+    let mut pool = BufferPool::new(alloc, 8)?;
+    let mut session = ServerSession::new(SESSION, CLIENT, PEER, 4);
+    let mut service = PlainService::new();
+    let (s, p, v) = (&mut session, &mut pool, &mut service);
+    let first = RequestNo::of(1, 0);
+    let full = Kept::Dropped(DropReason::JobsFull);
+    assert_eq!(rt;
+        handle_where(alloc, s, p, v, part(129, 3, 0, first), &[1; 3], true),
+        full
+    );
+    assert_eq!(rt;
+        handle_where(alloc, s, p, v, part(129, 1025, 0, first), &[7; 1024], true),
+        Kept::Took
+    );
+    assert_eq!(rt;
+        handle_where(alloc, s, p, v, part(129, 1025, 1, first), &[9], true),
+        full
+    );
+    assert_eq!(rt;
+        handle(alloc, s, p, v, part(129, 1025, 1, first), &[9]),
+        Kept::Gave
+    );
+    let other = RequestNo::of(2, 0);
+    assert_eq!(rt;
+        handle_where(alloc, s, p, v, part(1, 3, 0, other), &[1; 3], true),
+        Kept::Ran
+    );
+    Ok(())
+}
+
+#[test]
+fn a_job_of_another_request_is_dropped(rt: HostRuntime) -> Result<(), Fail> {
+    let alloc = rt.alloc();
+    let mut pool = BufferPool::new(alloc, 8)?;
+    let mut session = ServerSession::new(SESSION, CLIENT, PEER, 4);
+    let mut service = PlainService::new();
+    let (s, p, v) = (&mut session, &mut pool, &mut service);
+    let (older, newer) = (RequestNo::of(1, 0), RequestNo::of(1, 1));
+    let mut job = give(alloc, s, p, v, part(129, 3, 0, newer), &[1; 3]).ok_or("not given")?;
+    job.request = older;
+    assert_eq!(rt; finish(s, p, job), None);
+    assert!(rt; p.spare() == 8 && s.answer(p, older).len() == 0);
+    let again = handle(alloc, s, p, v, part(129, 3, 0, newer), &[1; 3]);
+    assert_eq!(rt; again, Kept::Dropped(DropReason::Working));
     Ok(())
 }
 

@@ -23,6 +23,7 @@ use Rattle.rpc_laws.specs.declared.rows.EndRow.{EndRow}
 use Rattle.rpc_laws.specs.declared.rows.EndRow.TheVariants.{GoesOn, EndsOk, EndsTooSmall}
 use Rattle.rpc_laws.specs.declared.tables.Call.{Call}
 use Rattle.rpc_laws.specs.declared.tables.Client.{Client}
+use Rattle.rpc_laws.specs.declared.tables.Jobs.{Jobs}
 use Rattle.rpc_laws.specs.declared.tables.Progress.{Progress}
 use Rattle.rpc_laws.specs.declared.tables.Server.{Server}
 use Rattle.rpc_laws.specs.declared.tables.Timed.{Timed}
@@ -30,7 +31,8 @@ use Rattle.rpc_laws.specs.Calls.{is_call, is_active, moved, took_reply, asked_pa
 use Rattle.rpc_laws.specs.ClientTable.{call_ending, end_facts, end_row, progress_ending, reply_facts}
 use Rattle.rpc_laws.specs.Facts.{plain, with_bytes}
 use Rattle.rpc_laws.specs.Front.{front_header, front_body}
-use Rattle.rpc_laws.specs.NodeLists.{after, asked_after}
+use Rattle.rpc_laws.specs.Jobs.{jobs_after}
+use Rattle.rpc_laws.specs.NodeLists.{after, asked_after, total_after}
 use Rattle.rpc_laws.specs.PollOrder.{replies_facts}
 use Rattle.rpc_laws.specs.Queues.{is_queued}
 use Rattle.rpc_laws.specs.Requests.{servers_after}
@@ -170,7 +172,7 @@ module _ (a s : Timed) (ys : List Client) (f : List Fact) (peer : ℕ) (h : Mess
     taken-set = taken ∙ at_first-found (is_client h.session) (takes a.clock h.request (Some h) body) a.lists.clients place p.client found p.at
 
     apart-taken : Apart a.lists.asked (told a took)
-    apart-taken = rw taken (apart-kept (is_client h.session) (takes a.clock h.request (Some h) body) (takes-keeps a.clock h.request (Some h) body) a.lists.asked a.lists.clients apart-here)
+    apart-taken = rw taken (apart-kept (is_client h.session) (takes a.clock h.request (Some h) body) (takes-keeps a.clock h.request (Some h) body) a.lists.asked a.lists.clients apart-here.0)
 
   told-done : (clock call : ℕ) (o : Outcome) (bytes : List ℕ) (head : Option MessageHeader) (b : List ℕ) (xs : List Client) → clients_after clock (end_event call o) bytes head b xs ≡ at_first (has_call call) (ends call) xs
   told-done clock call EndedOk bytes head b xs = refl
@@ -182,6 +184,16 @@ module _ (a s : Timed) (ys : List Client) (f : List Fact) (peer : ℕ) (h : Mess
   servers-done call (TooSmall size) answer head b vs = refl
   servers-done call PeerLost answer head b vs = refl
 
+  total-done : (call : ℕ) (o : Outcome) (ask : List ℕ) (n : ℕ) → total_after (end_event call o) ask n ≡ n
+  total-done call EndedOk ask n = refl
+  total-done call (TooSmall size) ask n = refl
+  total-done call PeerLost ask n = refl
+
+  jobs-done : (call : ℕ) (o : Outcome) (vs : List Server) (js : Jobs) → jobs_after (end_event call o) vs js ≡ js
+  jobs-done call EndedOk vs js = refl
+  jobs-done call (TooSmall size) vs js = refl
+  jobs-done call PeerLost vs js = refl
+
   asked-done : (call : ℕ) (o : Outcome) (n : ℕ) → asked_after (end_event call o) n ≡ n
   asked-done call EndedOk n = refl
   asked-done call (TooSmall size) n = refl
@@ -191,7 +203,7 @@ module _ (a s : Timed) (ys : List Client) (f : List Fact) (peer : ℕ) (h : Mess
   dropped why o c g e q aside =
       let p : RepliesAt place a.clock peer h body is_waiting (DroppedReply why) a.lists.clients ys = rw e at q in
       let same : ys ≡ a.lists.clients = p.changed ∙ ap (λ (z : Client). slice_set a.lists.clients place z) (sym (one-same p.client p.later p.step)) ∙ set-own a.lists.clients place p.client p.at in
-      let n : Noted (plain a.lists.me (Dropped why) ∷ []) a c f g = noted-with a (with_clients ys a) c ys a.lists.servers (plain a.lists.me (Dropped why)) f g refl same refl aside in
+      let n : Noted (plain a.lists.me (Dropped why) ∷ []) a c f g = noted-with a (with_clients ys a) c ys a.lists.servers (plain a.lists.me (Dropped why)) f g refl same refl refl refl aside in
       let all : Noted (replies_facts a.lists peer h body) a c f g = rw (by-row (DroppedReply why) p) n in
       (subst (λ (z : Timed). Noted (replies_facts z.lists peer h body) z c f g) view all, rw (aside.rest, same) (apart-here (DroppedReply why) p))
 
@@ -200,9 +212,9 @@ module _ (a s : Timed) (ys : List Client) (f : List Fact) (peer : ℕ) (h : Mess
       let p : RepliesAt place a.clock peer h body is_waiting TookReply a.lists.clients ys = rw e at q in
       let later : t TookReply p ≡ p.later = cond-one (is_client p.client.way.number p.client) (t TookReply p) p.client p.later (eq-eqb p.client.way.number p.client.way.number refl) p.step in
       let same : ys ≡ told a took = p.changed ∙ ap (λ (z : Client). slice_set a.lists.clients place z) (sym later) ∙ sym (taken-set TookReply p) in
-      let n : Noted (took ∷ []) a c f g = noted-with a (with_clients ys a) c ys a.lists.servers took f g refl same refl aside in
+      let n : Noted (took ∷ []) a c f g = noted-with a (with_clients ys a) c ys a.lists.servers took f g refl same refl refl refl aside in
       let all : Noted (replies_facts a.lists peer h body) a c f g = rw (by-row TookReply p, p.facts refl a.lists.me) n in
-      (subst (λ (z : Timed). Noted (replies_facts z.lists peer h body) z c f g) view all, rw (aside.rest, same) (apart-taken TookReply p))
+      (subst (λ (z : Timed). Noted (replies_facts z.lists peer h body) z c f g) view all, rw (aside.rest, same) (apart-taken TookReply p, (apart-here TookReply p).1))
 
   module _ (d : Done) (p : RepliesAt place a.clock peer h body is_waiting (Ended d) a.lists.clients ys) where
     alone-took : took_alone a.clock h body p.client ≡ t (Ended d) p ∷ []
@@ -239,9 +251,9 @@ module _ (a s : Timed) (ys : List Client) (f : List Fact) (peer : ℕ) (h : Mess
       let fact : with_bytes b.lists.me event first ≡ done_fact a.lists.me d = rw (me, is_event, is_first) refl in
       let second : NotedAside (done_fact a.lists.me d) b c g k = subst (λ (z : Fact). NotedAside z b c g k) fact two in
       let same : ys ≡ told (record { lists = after a.clock a.lists took; clock = a.clock }) (done_fact a.lists.me d) = ys-is d p ∙ sym (told-done a.clock d.call d.outcome _ _ _ (told a took)) in
-      let n : Noted (took ∷ done_fact a.lists.me d ∷ []) a c f k = noted-two a b c ys a.lists.servers took (done_fact a.lists.me d) f g k same (sym (servers-done d.call d.outcome _ _ _ a.lists.servers)) one second in
+      let n : Noted (took ∷ done_fact a.lists.me d ∷ []) a c f k = noted-two a b c ys a.lists.servers took (done_fact a.lists.me d) f g k same (sym (servers-done d.call d.outcome _ _ _ a.lists.servers)) (total-done d.call d.outcome _ a.lists.total) (jobs-done d.call d.outcome _ a.lists.jobs) one second in
       let all : Noted (replies_facts a.lists peer h body) a c f k = rw (by-row (Ended d) p, p.facts refl a.lists.me) n in
-      let apart : IsApart c = rw (second.rest, one.rest, asked-done d.call d.outcome a.lists.asked) (apart-ended d p) in
+      let apart : IsApart c = rw (second.rest, one.rest, asked-done d.call d.outcome a.lists.asked) (apart-ended d p, (apart-here (Ended d) p).1) in
       (subst (λ (z : Timed). Noted (replies_facts z.lists peer h body) z c f k) view all, apart)
 
 -- where there is no such session

@@ -1,5 +1,6 @@
 pub mod ApartLemmas
 pub mod AsideLemmas
+pub mod FinishLemmas
 pub mod FlushLemmas
 pub mod GatherLemmas
 pub mod GroupLemmas
@@ -11,4 +12,8 @@ pub mod QuietLemmas
 pub mod RollLemmas
 pub mod SendLemmas
 pub mod ServeLemmas
+pub mod StaffLemmas
+pub mod TakeAtLemmas
+pub mod TakeLemmas
 pub mod WalkLemmas
+pub mod WorkLemmas

@@ -108,5 +108,5 @@ module _ (after : Option ℕ) (i : ℕ) (b s : Timed) (view : b ≡ s) where
   pub looks-some : (a : Active) (o : Option Active) → IsApart s → o ≡ Some a → o ≡ option_and_then told_call (next_at after i b.lists.clients) → ActiveAt i a s.lists.clients × (number_at after i s.lists.clients ≡ Some a.call)
   looks-some a o known some e =
       let h : IsApart b = rw view known in
-      let it = active-in after i b.lists.clients (slice_get b.lists.clients i) a o refl (ascends-in b.lists.clients i h.ascends) some e in
+      let it = active-in after i b.lists.clients (slice_get b.lists.clients i) a o refl (ascends-in b.lists.clients i h.0.ascends) some e in
       (subst (λ (z : Timed). ActiveAt i a z.lists.clients) view it.0, subst (λ (z : Timed). number_at after i z.lists.clients ≡ Some a.call) view it.1)

@@ -112,9 +112,9 @@ module _ (i : ℕ) (a : Timed) (ys : List Client) (f : List Fact) where
     begun-some o e known p q =
         let h : IsApart a = rw view known in
         let at : BeginsAt i (Some b) a.lists.clients ys = rw e at p in
-        let told = begins-told i a.lists.asked b a.lists.clients ys h at in
-        let n = noted-with a (with_clients ys a) c ys a.lists.servers (plain a.lists.me (Begun b.0 b.1)) f g refl told.0 refl q in
-        let apart : IsApart c = rw q.rest told.1 in
+        let told = begins-told i a.lists.asked b a.lists.clients ys h.0 at in
+        let n = noted-with a (with_clients ys a) c ys a.lists.servers (plain a.lists.me (Begun b.0 b.1)) f g refl told.0 refl refl refl q in
+        let apart : IsApart c = rw q.rest (told.1, h.1) in
         let made : Makes (NotesNext (next_begun i)) a c f g = record { noted = plain a.lists.me (Begun b.0 b.1) ∷ []; grew = n.grew; step = record { event = Begun b.0 b.1; is_next = at.0; facts = refl; goes = n.goes } } in
         (subst (λ (z : Timed). Makes (NotesNext (next_begun i)) z c f g) view made, apart)
 
@@ -124,9 +124,9 @@ module _ (i : ℕ) (a : Timed) (ys : List Client) (f : List Fact) where
         let at : PostsNext i b a.lists.clients ys = rw e at p in
         let one : x ≡ at.client = some-same x at.client (sym place ∙ at.place) in
         let number : n ≡ at.client.way.number = same ∙ ap (λ (z : Client). z.way.number) one in
-        let told = posts-told i a.lists.asked n b a.lists.clients ys h at number in
-        let d = noted-with a (with_clients ys a) c ys a.lists.servers (plain a.lists.me (Posted (Ask n b.0) b.1)) f g refl told.0 refl q in
-        let apart : IsApart c = rw q.rest told.1 in
+        let told = posts-told i a.lists.asked n b a.lists.clients ys h.0 at number in
+        let d = noted-with a (with_clients ys a) c ys a.lists.servers (plain a.lists.me (Posted (Ask n b.0) b.1)) f g refl told.0 refl refl refl q in
+        let apart : IsApart c = rw q.rest (told.1, h.1) in
         let next : next_posted i a.lists ≡ Some (Posted (Ask n b.0) b.1) = ap (λ (o : Option Client). option_and_then posting o) at.place ∙ at.next ∙ ap (λ m. Some (Posted (Ask m b.0) b.1)) (sym number) in
         let made : Makes (NotesNext (next_posted i)) a c f g = record { noted = plain a.lists.me (Posted (Ask n b.0) b.1) ∷ []; grew = d.grew; step = record { event = Posted (Ask n b.0) b.1; is_next = next; facts = refl; goes = d.goes } } in
         (subst (λ (z : Timed). Makes (NotesNext (next_posted i)) z c f g) view made, apart)

@@ -69,7 +69,7 @@ module _ (a c s : Timed) (ys : List Client) (f g : List Fact) (entry : Queued) (
   sends-out None same spelled = absurd spelled
   sends-out (Some out) same spelled =
       let to : peer ≡ out.peer = e.to ∙ sym (peer-of x.way r entry.number (find (is_active r) x.calls) out same) in
-      let n = noted-with a (with_clients ys a) c ys a.lists.servers (with_two a.lists.me (Sent peer entry.owner entry.number) head second) f g refl tells refl aside in
+      let n = noted-with a (with_clients ys a) c ys a.lists.servers (with_two a.lists.me (Sent peer entry.owner entry.number) head second) f g refl tells refl refl refl aside in
       let packet : outgoing a.lists entry ≡ Some out = ap (λ (w : Owner). owner_packet a.lists w entry.number) e.owner ∙ ap (λ (o : Option Client). ask_packet r entry.number o) (find-found (is_client session) a.lists.clients place e.found ∙ e.at) ∙ same in
       record {
         noted = with_two a.lists.me (Sent peer entry.owner entry.number) head second ∷ [];
@@ -94,7 +94,7 @@ module _ (a c s : Timed) (ys : List Client) (f g : List Fact) (entry : Queued) (
   pub apart-sent : IsApart s → IsApart c
   apart-sent known =
       let h : IsApart a = rw view known in
-      rw (aside.rest, changed) (apart-kept (is_client session) (sends a.clock r entry.number) (sends-keeps a.clock r entry.number) a.lists.asked a.lists.clients h)
+      rw (aside.rest, changed) (apart-kept (is_client session) (sends a.clock r entry.number) (sends-keeps a.clock r entry.number) a.lists.asked a.lists.clients h.0, h.1)
 
 -- a reply goes to the peer of its session
 server-peer : (to : ℕ) (x out : Outgoing) (y : List ℕ → Outgoing) (b : Bool) (o : Option (List ℕ)) → x.peer ≡ to → ((z : List ℕ) → (y z).peer ≡ to) → cond b (Some x) (option_map y o) ≡ Some out → out.peer ≡ to

@@ -121,7 +121,7 @@ walks-start timeout i s f apart = record {
 
 module _ (timeout i : ℕ) (after : Option ℕ) (start s : Timed) (f g : List Fact) (w : Walks timeout i after start s f g) where
   order : Ascends (calls_at i s.lists.clients)
-  order = ascends-in s.lists.clients i w.apart.ascends
+  order = ascends-in s.lists.clients i w.apart.0.ascends
 
   pub walks-end : number_at after i s.lists.clients ≡ None → Makes (WatchesSession timeout i) start s f g
   walks-end e =
@@ -149,7 +149,7 @@ module _ (timeout i : ℕ) (after : Option ℕ) (start s : Timed) (f g : List Fa
     walks-on apart = record {
       apart = apart;
       known = λ m k. idle-watched i m timeout n s t p.noted p.step (w.known m k);
-      leads = λ u k q. w.leads u k (skip (Watches timeout i) s g after n (next-passes after n (calls_at i s.lists.clients) next).0 between u k (calls_at i start.lists.clients) (ascends-in start.lists.clients i start_apart.ascends) listed (makes-then (Watches timeout i n) (Each (Watches timeout i) (still (Some n) (calls_at i start.lists.clients))) s t u g h k p q));
+      leads = λ u k q. w.leads u k (skip (Watches timeout i) s g after n (next-passes after n (calls_at i s.lists.clients) next).0 between u k (calls_at i start.lists.clients) (ascends-in start.lists.clients i start_apart.0.ascends) listed (makes-then (Watches timeout i n) (Each (Watches timeout i) (still (Some n) (calls_at i start.lists.clients))) s t u g h k p q));
     }
 
 -- one call more, or none is left

@@ -8,6 +8,7 @@ use Rattle.rpc_laws.specs.declared.tables.Timed.{Timed}
 use Rattle.rpc_laws.specs.Posting.{beginning, posting}
 use Rattle.rpc_laws.specs.Sessions.{has_call, begins, posts}
 use Rattle.sim_client.specs.Ends.{Ascends, begun_event, posted_event}
+use Rattle.sim_node.specs.Staffed.{Staffed}
 
 -- sessions are numbered in order
 abbrev pub NumberedFrom : ℕ → List Client → Type 0
@@ -25,8 +26,9 @@ pub record Apart (asked : ℕ) (clients : List Client) : Type 0 where
   pub once : (number : ℕ) → count_by (has_call number) clients + to_come asked number ≤ 1
   pub ascends : AllByRecursion (λ x. Ascends x.calls) clients
 
+-- so it is in a node, whose jobs are its own
 abbrev pub IsApart : Timed → Type 0
-IsApart s = Apart s.lists.asked s.lists.clients
+IsApart s = Apart s.lists.asked s.lists.clients × Staffed s.lists.total s.lists.servers s.lists.jobs
 
 -- session i became f of what it was
 pub record ChangesAt (i : ℕ) (f : Client → Client) (old new : List Client) : Type 0 where

@@ -2,4 +2,6 @@ pub mod Apart
 pub mod Aside
 pub mod Hearing
 pub mod Serving
+pub mod Staffed
 pub mod Watching
+pub mod Working

@@ -3,11 +3,14 @@
 #![tactic(auto)]
 
 mod asking;
+mod brought;
 mod clients;
 mod delivery;
+mod finishing;
 mod flushing;
 mod handling;
 mod hearing;
+mod jobs;
 mod node;
 mod noting;
 mod pairing;
@@ -20,6 +23,7 @@ mod servers;
 mod serving;
 mod tables;
 mod watching;
+mod working;
 
 pub use node::Node;
 

@@ -6,12 +6,14 @@ ghost use Rattle.rpc_laws.specs.Facts.{plain};
 ghost use Rattle.rpc_laws.specs.Groups.{Asks, pair_refusal, shares};
 ghost use Rattle.rpc_laws.specs.NodeLists.{new_node};
 ghost use Rattle.rpc_laws.specs.PollOrder.{Poll};
+ghost use Rattle.rpc_laws.specs.Working.{Works, WorksAll};
 
 use crate::asking::ask;
 use crate::delivery::deliver;
 use crate::pairing::{pair_client, pair_server, shares};
 use crate::polling::poll;
 use crate::tables::Tables;
+use crate::working::{work, work_all};
 use rpc_base::{Event, Fact, Listed, NoMemory, NodeId, Peer, SessionNo};
 use std::alloc::Global;
 use std::marker::Model;
@@ -37,14 +39,15 @@ impl Model for Node {
 }
 
 impl Node {
-    /// Node `me`, whose ring has so much room. Its lists are empty.
-    pub fn new(alloc: Global, me: NodeId, ring: u32) -> Node
-        ensures { result ≡ new_node me ring }
+    /// Node `me`, whose ring has so much room. Its lists are empty, and its workers take 64 jobs.
+    pub fn new(alloc: Global, me: NodeId, ring: u32) -> Result<Node, NoMemory>
+        ensures { IfOk result (λ n. n ≡ new_node me ring) }
     {
-        Node {
+        let tables = Tables::new(alloc, me, ring)?;
+        Ok(Node {
             is_cut: false,
-            tables: Tables::new(alloc, me, ring),
-        }
+            tables,
+        })
     }
 
     /// The number of the node.
@@ -185,8 +188,34 @@ impl Node {
         Ok(())
     }
 
-    /// Polls the node at the moment `now` in microseconds: handles the packets of its ring, looks at the
-    /// calls that wait longer than `timeout`, posts what its sessions may post, sends what is queued, and
+    /// Works waiting job `j`, in the order of giving from 0. Where there is none, that is noted.
+    pub fn work(&mut self, alloc: Global, facts: &mut Listed<Fact>, j: u32) -> Result<(), NoMemory>
+        ensures { OnOk result (Makes (Works j) self.old self.new facts.old facts.new) }
+    {
+        if self.is_cut {
+            return Err(NoMemory);
+        }
+        self.is_cut = true;
+        work(alloc, &mut self.tables, facts, j)?;
+        self.is_cut = false;
+        Ok(())
+    }
+
+    /// Works the jobs that wait, the oldest first, until there is none.
+    pub fn work_all(&mut self, alloc: Global, facts: &mut Listed<Fact>) -> Result<(), NoMemory>
+        ensures { OnOk result (Makes WorksAll self.old self.new facts.old facts.new) }
+    {
+        if self.is_cut {
+            return Err(NoMemory);
+        }
+        self.is_cut = true;
+        work_all(alloc, &mut self.tables, facts)?;
+        self.is_cut = false;
+        Ok(())
+    }
+
+    /// Polls the node at the moment `now` in microseconds: finishes the jobs that were worked, handles the packets
+    /// of its ring, looks at the calls that wait longer than `timeout`, posts what its sessions may post, sends what is queued, and
     /// ends with a Polled. Its clock doesn't fall.
     pub fn poll(
         &mut self,

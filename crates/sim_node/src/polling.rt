@@ -4,6 +4,7 @@ ghost use Rattle.node_tables.specs.Noted.{Makes};
 ghost use Rattle.rpc_laws.specs.PollOrder.{Closes, Poll};
 ghost use Rattle.sim_node.specs.Apart.{IsApart};
 
+use crate::finishing::finish_all;
 use crate::handling::handle_all;
 use crate::noting::note;
 use crate::posting::serve_sessions;
@@ -23,8 +24,8 @@ fn close(alloc: Global, node: &mut Tables, facts: &mut Listed<Fact>) -> Result<(
     Ok(())
 }
 
-/// Polls the node at the moment `now` in microseconds: handles the packets of its ring, looks at the
-/// calls that wait longer than `timeout`, posts what its sessions may post, sends what is queued, and ends
+/// Polls the node at the moment `now` in microseconds: finishes the jobs that were worked, handles the packets of
+/// its ring, looks at the calls that wait longer than `timeout`, posts what its sessions may post, sends what is queued, and ends
 /// with a Polled. Its clock doesn't fall.
 pub fn poll(
     alloc: Global,
@@ -38,6 +39,7 @@ pub fn poll(
     ensures apart { OnOk result (IsApart node.new) }
 {
     node.clock = node.clock.max(now);
+    finish_all(alloc, node, facts)?;
     handle_all(alloc, node, facts)?;
     watch(alloc, node, facts, timeout)?;
     serve_sessions(alloc, node, facts)?;

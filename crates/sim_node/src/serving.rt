@@ -1,5 +1,5 @@
 //! A packet that asks is handled, by the server rule.
-ghost use Rattle.std.specs.Prelude.{◌≡◌, ◌<◌, ◌+◌, ◌∷◌, [], true, length, Some, None, if◌then◌else◌, IfOk, OnOk};
+ghost use Rattle.std.specs.Prelude.{◌≡◌, ◌<◌, ◌+◌, ◌∷◌, [], true, not, length, Some, None, if◌then◌else◌, IfOk, OnOk};
 ghost use Rattle.std.specs.List.{find, position};
 ghost use Rattle.node_tables.specs.Noted.{Noted};
 ghost use Rattle.packet_header.specs.Header.{MessageInRange, MessageLength};
@@ -7,22 +7,28 @@ ghost use Rattle.rpc_laws.specs.Facts.{plain};
 ghost use Rattle.rpc_laws.specs.Front.{front_header, front_body};
 ghost use Rattle.rpc_laws.specs.PollOrder.{asks_facts};
 ghost use Rattle.rpc_laws.specs.Requests.{is_server};
-ghost use Rattle.rpc_laws.specs.ServerTable.{is_last, is_rfr, flushes_older, server_row, took_facts};
+ghost use Rattle.rpc_laws.specs.Jobs.{usual_jobs};
+ghost use Rattle.rpc_laws.specs.ServerTable.{is_last, is_rfr, flushes_older, makes_job, server_row};
 ghost use Rattle.server_core.specs.Rows.{is_asking};
 ghost use Rattle.server_core.specs.Steps.{IsAsking};
 ghost use Rattle.sim_node.specs.Apart.{IsApart};
-ghost use Rattle.sim_node.specs.Serving.{TakesAt, ask_here, row_here, session_of, took_ran};
-ghost use Rattle.sim_server.specs.Ends.{WhereTaken, asked_bytes};
+ghost use Rattle.sim_node.specs.Serving.{TakesAt, ask_here, parts_of, row_here, session_of, taking, took_ran};
+ghost use Rattle.sim_node.specs.declared.brought.Brought;
+ghost use Rattle.sim_server.specs.Ends.{answer_bytes, asked_bytes, is_taken};
 
+use crate::brought::Brought;
 use crate::flushing::flush;
+use crate::jobs::{are_full, give};
 use crate::noting::{note, note_aside};
 use crate::servers::place_of_server;
 use crate::tables::Tables;
 use packet_header::{Kind, MessageHeader, count};
 use rpc_base::{DropReason, Event, Fact, Listed, NoMemory, Octets, Owner, Peer};
 use rpc_laws::ServerRow;
+use rpc_outside::{PlainDuty, PlainService};
 use sim_server::ServerEnd;
 use std::alloc::Global;
+use worker_crew::LocalWorkers;
 
 fn owner_of_ask(head: &MessageHeader) -> Owner
     ensures { result ≡ Owner.Reply head.now.session head.now.request }
@@ -50,43 +56,53 @@ fn is_last(head: &MessageHeader) -> bool
     !is_an_rfr(head.kind) && u32::from(head.number) + 1 == count(head.size)
 }
 
-// The bytes of the packet's request, where it is the last one: the handler ran on them.
-fn asked_whole(
-    alloc: Global,
-    end: &ServerEnd,
-    head: &MessageHeader,
-) -> Result<Option<Octets>, NoMemory>
+// What a packet brought that gave no job: the bytes of its request and the answer where it is the last one.
+fn answered(alloc: Global, end: &ServerEnd, head: &MessageHeader) -> Result<Brought, NoMemory>
     ensures { IfOk result
-        (λ o. o ≡ (if is_last head.now then Some (asked_bytes head.now.request end.now) else None)) }
+        (λ b. b ≡ (if is_last head.now then Brought.Answered (asked_bytes head.now.request end.now) (answer_bytes head.now.request end.now) else Brought.Reply)) }
 {
     if !is_last(head) {
-        return Ok(None);
+        return Ok(Brought::Reply);
     }
     let ask = Octets::copy(alloc, end.ask(head.request))?;
-    Ok(Some(ask))
+    let answer = Octets::copy(alloc, end.answer(head.request))?;
+    Ok(Brought::Answered { ask, answer })
 }
 
-// The session takes a packet. Tells what its handler ran on, if it ran.
+// The session takes a packet. A job that it gives goes to the workers.
 fn take_at(
     alloc: Global,
     servers: &mut Listed<ServerEnd>,
+    service: &mut PlainService,
+    workers: &mut LocalWorkers<PlainDuty>,
     place: usize,
     peer: Peer,
     head: &MessageHeader,
     body: &[u8],
-) -> Result<Option<Octets>, NoMemory>
+) -> Result<Brought, NoMemory>
     requires asking { IsAsking head.now (length body.now) }
     requires there { place < length servers.old }
-    ensures { IfOk result
-        (λ ran. TakesAt place peer head.now body.now ran servers.old servers.new) }
+    requires limit { workers.old.limit ≡ usual_jobs }
+    ensures takes { IfOk result
+        (λ b. TakesAt place peer head.now body.now b (parts_of servers.old service.old workers.old) (parts_of servers.new service.new workers.new)) }
+    ensures limit { workers.new.limit ≡ usual_jobs }
 {
+    let full = are_full(workers);
     let end = servers.at_mut(place);
-    end.on_packet(alloc, peer, head, body)?;
-    let ran = asked_whole(alloc, end, head)?;
-    Ok(ran)
+    match end.on_packet(alloc, service, peer, head, body, full)? {
+        None => {
+            let brought = answered(alloc, end, head)?;
+            Ok(brought)
+        }
+        Some(job) => {
+            give(workers, job)?;
+            Ok(Brought::GaveJob)
+        }
+    }
 }
 
-// The session takes the packet: notes that, and that the handler ran where it is the last of its request.
+// The session takes the packet: notes that, and that the handler ran or a job was given where it is the last
+// one of its request. Tells whether it is answered now.
 fn take_and_run(
     alloc: Global,
     node: &mut Tables,
@@ -95,42 +111,62 @@ fn take_and_run(
     peer: Peer,
     head: &MessageHeader,
     body: &[u8],
-) -> Result<(), NoMemory>
+) -> Result<bool, NoMemory>
     requires place { position (is_server head.now.session) node.old.lists.servers ≡ Some place }
     requires there { place < length node.old.lists.servers }
     requires apart { IsApart node.old }
     requires asking { IsAsking head.now (length body.now) }
     requires front { front_header node.old.lists.ring ≡ Some head.now }
     requires front_body { front_body node.old.lists.ring ≡ body.now }
+    requires taken { is_taken (row_here peer head.now node.old) ≡ true }
     ensures apart { OnOk result (IsApart node.new) }
-    ensures noted { OnOk result (WhereTaken (row_here peer head.now node.old)
-        (Noted (took_ran node.old.lists.me head.now (ask_here (row_here peer head.now node.old) head.now body.now node.old)) node.old node.new facts.old facts.new)) }
+    ensures noted { OnOk result
+        (Noted (took_ran node.old.lists.me node.old.lists.total head.now (ask_here (row_here peer head.now node.old) head.now body.now node.old)) node.old node.new facts.old facts.new) }
+    ensures answered { IfOk result (λ b. b ≡ not (makes_job head.now)) }
 {
     let took = Event::Took {
         owner: owner_of_ask(head),
         number: head.number,
     };
-    let ran = Event::Ran {
-        session: head.session,
-        request: head.request,
-        req_type: head.req_type,
-    };
-    match take_at(alloc, &mut node.servers, place, peer, head, body)? {
-        None => {
+    let brought = take_at(
+        alloc,
+        &mut node.servers,
+        &mut node.service,
+        &mut node.workers,
+        place,
+        peer,
+        head,
+        body,
+    )?;
+    match brought {
+        Brought::Reply => {
             note_aside(alloc, node, facts, &took, &[], &[])?;
-            Ok(())
+            Ok(true)
         }
-        Some(ask) => {
+        Brought::Answered { ask, answer } => {
+            let ran = Event::Ran {
+                session: head.session,
+                request: head.request,
+                req_type: head.req_type,
+            };
+            let (asked, answered) = (ask.bytes(), answer.bytes());
             note_aside(alloc, node, facts, &took, &[], &[])?;
-            // The echo answers with the request's own bytes.
-            let bytes = ask.bytes();
-            note_aside(alloc, node, facts, &ran, bytes, bytes)?;
-            Ok(())
+            note_aside(alloc, node, facts, &ran, asked, answered)?;
+            Ok(true)
+        }
+        Brought::GaveJob => {
+            let given = Event::Given {
+                session: head.session,
+                request: head.request,
+            };
+            note_aside(alloc, node, facts, &took, &[], &[])?;
+            note_aside(alloc, node, facts, &given, &[], &[])?;
+            Ok(false)
         }
     }
 }
 
-// The session takes the packet, and the packet that answers it is posted.
+// The session takes the packet, and the packet that answers it is posted, unless it made a job.
 fn take_packet(
     alloc: Global,
     node: &mut Tables,
@@ -146,11 +182,15 @@ fn take_packet(
     requires asking { IsAsking head.now (length body.now) }
     requires front { front_header node.old.lists.ring ≡ Some head.now }
     requires front_body { front_body node.old.lists.ring ≡ body.now }
+    requires taken { is_taken (row_here peer head.now node.old) ≡ true }
     ensures apart { OnOk result (IsApart node.new) }
-    ensures noted { OnOk result (WhereTaken (row_here peer head.now node.old)
-        (Noted (took_facts node.old.lists.me head.now (ask_here (row_here peer head.now node.old) head.now body.now node.old)) node.old node.new facts.old facts.new)) }
+    ensures noted { OnOk result
+        (Noted (taking node.old head.now (ask_here (row_here peer head.now node.old) head.now body.now node.old)) node.old node.new facts.old facts.new) }
 {
-    take_and_run(alloc, node, facts, place, peer, head, body)?;
+    let is_answered = take_and_run(alloc, node, facts, place, peer, head, body)?;
+    if !is_answered {
+        return Ok(());
+    }
     let posted = Event::Posted {
         owner: owner_of_ask(head),
         number: head.number,
@@ -163,19 +203,22 @@ fn take_packet(
 fn repeat_at(
     alloc: Global,
     servers: &mut Listed<ServerEnd>,
+    service: &mut PlainService,
     place: usize,
     peer: Peer,
     head: &MessageHeader,
     body: &[u8],
+    full: bool,
 ) -> Result<(), NoMemory>
     requires asking { IsAsking head.now (length body.now) }
     requires place { position (is_server head.now.session) servers.old ≡ Some place }
     requires there { place < length servers.old }
-    requires row { server_row (find (is_server head.now.session) servers.old) peer head.now ≡ ServerRow.Repeats }
-    ensures { OnOk result (servers.new ≡ servers.old) }
+    requires row { server_row full (find (is_server head.now.session) servers.old) peer head.now ≡ ServerRow.Repeats }
+    ensures servers { OnOk result (servers.new ≡ servers.old) }
+    ensures service { OnOk result (service.new ≡ service.old) }
 {
     let end = servers.at_mut(place);
-    end.on_packet(alloc, peer, head, body)?;
+    let _none = end.on_packet(alloc, service, peer, head, body, full)?;
     Ok(())
 }
 
@@ -222,7 +265,17 @@ fn repeat(
     ensures noted { OnOk result
         (Noted (asks_facts node.old.lists peer head.now body.now) node.old node.new facts.old facts.new) }
 {
-    repeat_at(alloc, &mut node.servers, place, peer, head, body)?;
+    let full = are_full(&node.workers);
+    repeat_at(
+        alloc,
+        &mut node.servers,
+        &mut node.service,
+        place,
+        peer,
+        head,
+        body,
+        full,
+    )?;
     note_again(alloc, node, facts, head)?;
     Ok(())
 }
@@ -302,7 +355,8 @@ fn serve_at(
     ensures noted { OnOk result
         (Noted (asks_facts node.old.lists peer head.now body.now) node.old node.new facts.old facts.new) }
 {
-    match node.servers.at(place).row(peer, head) {
+    let full = are_full(&node.workers);
+    match node.servers.at(place).row(peer, head, full) {
         ServerRow::Drops(reason) => {
             note(alloc, node, facts, &Event::Dropped { reason }, &[], &[])?;
             Ok(())

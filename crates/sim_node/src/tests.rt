@@ -28,8 +28,8 @@ fn make_two(alloc: Global, room: u32) -> Result<Two, NoMemory>
 {
     let mut of_client = Listed::new(alloc);
     let mut of_server = Listed::new(alloc);
-    let mut client = Node::new(alloc, NodeId(0), 32);
-    let mut server = Node::new(alloc, NodeId(1), 32);
+    let mut client = Node::new(alloc, NodeId(0), 32)?;
+    let mut server = Node::new(alloc, NodeId(1), 32)?;
     client.pair_client(alloc, &mut of_client, Peer(1), SESSION, 1)?;
     server.pair_server(alloc, &mut of_server, Peer(0), SESSION, 1)?;
     client.ask(alloc, &mut of_client, SESSION, 1, b"hello", room)?;

@@ -15,11 +15,12 @@ use Rattle.rpc_laws.specs.InFlight.{flight_after_all, flight_after_net}
 use Rattle.rpc_laws.specs.NodeLists.{after, new_node}
 use Rattle.rpc_laws.specs.PollOrder.{Poll}
 use Rattle.rpc_laws.specs.Steps.{Rel}
+use Rattle.rpc_laws.specs.Working.{Works, WorksAll}
 use Rattle.rpc_laws.specs.GoBackN.{usual_timeout}
 use Rattle.script_grammar.specs.declared.line.AskBytes.{AskBytes}
 use Rattle.script_grammar.specs.declared.line.AskBytes.TheVariants.{Given, Count}
 use Rattle.script_grammar.specs.declared.line.Command.{Command}
-use Rattle.script_grammar.specs.declared.line.Command.TheVariants.{Node, Pair, Call, Poll as PollNode, Arrive, Lose, Repeat, Tick, Settle}
+use Rattle.script_grammar.specs.declared.line.Command.TheVariants.{Node, Pair, Call, Poll as PollNode, Arrive, Lose, Repeat, Tick, Work, Settle}
 use Rattle.script_grammar.specs.declared.line.Line.{Line}
 
 -- the bytes that a call sends: those given, or so many of which byte j is j mod 256
@@ -116,9 +117,19 @@ abbrev pub PollsFirst : ℕ → Stage → List Fact → Stage → Type 0
 PollsFirst zero s x t = (x ≡ []) × (t ≡ s)
 PollsFirst (suc n) s x t = Joins (PollsFirst n) (PollsNode n) s x t
 
--- a round carries copy 0 as many times as copies were in flight at its start, and then polls each node
+-- the waiting jobs of the first n nodes are worked, in order
+abbrev pub WorksFirst : ℕ → Stage → List Fact → Stage → Type 0
+WorksFirst zero s x t = (x ≡ []) × (t ≡ s)
+WorksFirst (suc n) s x t = Joins (WorksFirst n) (AtNode WorksAll n) s x t
+
+-- the jobs of each node that wait are worked, and then each node is polled
+abbrev pub WorksAndPolls : ℕ → Stage → List Fact → Stage → Type 0
+WorksAndPolls n s x t = Joins (WorksFirst n) (PollsFirst n) s x t
+
+-- a round carries copy 0 as many times as copies were in flight at its start, and then works and polls each
+-- node
 abbrev pub Round : Stage → List Fact → Stage → Type 0
-Round s x t = Joins (Times (Carries 0) (length s.flight)) (λ u. PollsFirst (length u.nodes) u) s x t
+Round s x t = Joins (Times (Carries 0) (length s.flight)) (λ u. WorksAndPolls (length u.nodes) u) s x t
 
 abbrev pub is_polled : Event → Bool
 is_polled (Polled now) = true
@@ -152,6 +163,7 @@ Does (Arrive i) s x t = Arrives i s x t
 Does (Lose i) s x t = OfNet (or_missed s.flight i (Lost i)) s x t
 Does (Repeat i) s x t = OfNet (or_missed s.flight i (Repeated i)) s x t
 Does (Tick by) s x t = Ticks by s x t
+Does (Work n i) s x t = AtNode (Works i) n s x t
 Does (Settle rounds) s x t = Settles rounds s x t
 Does _ s x t = ⊥
 

@@ -1,51 +1,40 @@
 -- What the clauses of a server session tell of a server end: its view after a packet, as the definitions
 -- over histories have it.
-use Rattle.std.proofs.Common.{◌≡◌, ℕ, ◌%◌, Bool, true, false, ◌||◌, cond, Option, Some, None, List, [], ◌∷◌, length, refl, subst, sym, ap, ◌∙◌}
-use Rattle.std.specs.Prelude.{map, option_map}
-use Rattle.std.specs.List.{find, list_any}
-use Rattle.std.proofs.lemmas.Bool.{eq-eqb}
+use Rattle.std.proofs.Common.{◌≡◌, ℕ, ◌%◌, ◌^◌, ◌<◌, Bool, true, false, not, ◌&&◌, cond, Option, Some, None, List, [], ◌∷◌, ◌++◌, length, refl, sym, ap, ◌∙◌}
+use Rattle.std.specs.Prelude.{IfSome, option_map}
+use Rattle.std.specs.List.{find}
+use Rattle.std.proofs.lemmas.Bool.{and_parts, eq-eqb, eqb-true}
 use Rattle.std.proofs.lemmas.List.Folds.{find-append}
-use Rattle.rpc_base.specs.Tables.{at_first, without_first}
+use Rattle.rpc_base.specs.Tables.{without_first}
 use Rattle.rpc_base.specs.declared.owner.Owner.{Owner}
 use Rattle.rpc_base.specs.declared.owner.Owner.TheVariants.{Reply}
 use Rattle.packet_header.specs.declared.packet.MessageHeader.{MessageHeader}
+use Rattle.message_buffer.specs.Buffer.{bytes_of}
 use Rattle.buffer_pool.specs.Pool.{Pool}
-use Rattle.rpc_laws.specs.Requests.{answered, first_packet, in_slot_of, is_request, next_packet}
-use Rattle.rpc_laws.specs.ServerTable.{is_last, server_row, whole_ask}
-use Rattle.rpc_laws.specs.Service.{answer_to}
+use Rattle.worker_board.specs.declared.Parcel.{Parcel}
+use Rattle.worker_crew.specs.Jobs.{HasRoom}
+use Rattle.rpc_laws.specs.Jobs.{job_of}
+use Rattle.rpc_laws.specs.PollOrder.{is_working}
+use Rattle.rpc_laws.specs.Requests.{answered, first_packet, given, in_slot_of, is_request, next_packet}
+use Rattle.rpc_laws.specs.ServerTable.{is_last, makes_job, whole_ask}
+use Rattle.rpc_laws.specs.Service.{answer_with, is_background}
 use Rattle.rpc_laws.specs.declared.rows.ServerRow.{ServerRow}
 use Rattle.rpc_laws.specs.declared.rows.ServerRow.TheVariants.{Drops, Begins, Takes, Repeats}
 use Rattle.rpc_laws.specs.declared.tables.Served.{Served as ServedRequest}
 use Rattle.rpc_laws.specs.declared.tables.Server.{Server}
-use Rattle.rpc_outside.specs.Served.{Served}
-use Rattle.rpc_outside.specs.declared.service.Mode.TheVariants.{Inline, Unserved}
-use Rattle.server_core.specs.Asked.{bytes_taken}
-use Rattle.server_core.specs.Rows.{row_of}
-use Rattle.server_core.specs.Session.{IsSession, Session, is_in_slot, owner_in, owner_of}
+use Rattle.rpc_outside.specs.PlainAnswer.{background_answer, plain_answer, plain_mode, total_of, total_with}
+use Rattle.rpc_outside.specs.PlainStands.{PlainStands}
+use Rattle.rpc_outside.proofs.Filling.{one_tally, stands-for}
+use Rattle.server_core.specs.Asked.{bytes_answered, bytes_taken}
+use Rattle.server_core.specs.Session.{Session, is_in_slot, owner_in, owner_of}
 use Rattle.server_core.specs.Shown.{shown, shown_request}
-use Rattle.server_core.specs.Steps.{HasTaken, IsAgain, IsAsking, IsStepOf, Steps, is_inline, ran, took}
+use Rattle.server_core.specs.Steps.{HasTaken, IfGiven, IsAgain, IsParcel, IsStepOf, Steps, UnlessRan, asked_with, gave, ran, took}
 use Rattle.server_core.specs.declared.slot.SlotRequest.{SlotRequest}
 use Rattle.server_core.specs.declared.step.Step.{Step}
-use Rattle.server_core.specs.declared.step.Step.TheVariants.{Took, Again, Ran, Dropped}
-use Rattle.server_core.proofs.StepLemmas.{asked-begun, none-shown}
-use Rattle.server_core.proofs.TableLemmas.{row-begins}
-use Rattle.sim_server.specs.Echo.{echo_answer}
-use Rattle.sim_server.specs.Ends.{WhereTaken, after_row, ask_with, asked_bytes, is_wanting, replied, runs, taken, takes}
-
--- the types that are served are those of the server rule
-pub inline-served : (b : Bool) → is_inline (cond b Inline Unserved) ≡ b
-inline-served true = refl
-inline-served false = refl
-
--- what is found of what is shown
-module _ {A B : Type 0} (g : A → B) (p : B → Bool) (q : A → Bool) (same : (x : A) → p (g x) ≡ q x) where
-  shown-cons : (x : A) (xs : List A) (b : Bool) → find p (map g xs) ≡ option_map g (find q xs) → cond b (Some (g x)) (find p (map g xs)) ≡ option_map g (cond b (Some x) (find q xs))
-  shown-cons x xs true ih = refl
-  shown-cons x xs false ih = ih
-
-  found-shown : (xs : List A) → find p (map g xs) ≡ option_map g (find q xs)
-  found-shown [] = refl
-  found-shown (x ∷ xs) = rw (same x) (shown-cons x xs (q x) (found-shown xs))
+use Rattle.server_core.specs.declared.step.Step.TheVariants.{Took, Again, Ran, Give, Dropped}
+use Rattle.sim_server.specs.Ends.{WhereTaken, after_row, answer_bytes, ask_with, asked_bytes, gives, is_taken, is_wanting, job_given, parcel_of, replied, runs, shown_job, taken, takes, total_after_row}
+use Rattle.sim_server.proofs.ServiceLemmas.{answer-is, by-worker, total-next}
+use Rattle.sim_server.proofs.SlotLemmas.{found-any, found-changed, found-passes, found-shown, none-any, none-without}
 
 -- the number of the newest request of a slot
 abbrev number_of : Option SlotRequest → Option ℕ
@@ -55,7 +44,7 @@ number-shown : (pool : Pool) (o : Option SlotRequest) → option_map (λ l. l.nu
 number-shown pool None = refl
 number-shown pool (Some q) = refl
 
-numbered : (pool : Pool) (s : Session) (r : ℕ) → option_map (λ l. l.number) (find (in_slot_of r) (shown pool s).slots) ≡ number_of (find (is_in_slot (r % 8)) s.slots)
+pub numbered : (pool : Pool) (s : Session) (r : ℕ) → option_map (λ l. l.number) (find (in_slot_of r) (shown pool s).slots) ≡ number_of (find (is_in_slot (r % 8)) s.slots)
 numbered pool s r =
     ap (option_map (λ l. l.number)) (found-shown (shown_request pool) (in_slot_of r) (is_in_slot (r % 8)) (λ x. refl) s.slots) ∙ number-shown pool (find (is_in_slot (r % 8)) s.slots)
 
@@ -73,125 +62,212 @@ none-cases n (Some q) e = cc
 pub newest-none : (pool : Pool) (s : Session) (r : ℕ) → None ≡ owner_in (r % 8) s → None ≡ option_map (λ l. l.number) (find (in_slot_of r) (shown pool s).slots)
 newest-none pool s r e = none-cases s.number (find (is_in_slot (r % 8)) s.slots) e ∙ sym (numbered pool s r)
 
--- the request of a packet that begins one has no other bytes
-pub begun-asked : (pool : Pool) (s : Session) (head : MessageHeader) (body : List ℕ) (served : Bool) → IsSession s → IsAsking head (length body) → row_of served head s ≡ Begins → whole_ask (Some (shown pool s)) head.request body ≡ body
-begun-asked pool s head body served sound asking e =
-    asked-begun (shown pool s) head body (none-shown pool s head.request sound (row-begins served head (length body) s asking e).0.newer)
-
--- one element of a list is changed
-module _ {A : Type 0} (p : A → Bool) where
-  changed-cons : (f : A → A) (x : A) (xs : List A) (b : Bool) → p x ≡ b → p (f x) ≡ p x → find p (at_first p f xs) ≡ option_map f (find p xs) → find p (cond b (f x ∷ xs) (x ∷ at_first p f xs)) ≡ option_map f (cond b (Some x) (find p xs))
-  changed-cons f x xs true t same ih = rw (same, t) refl
-  changed-cons f x xs false t same ih = rw t ih
-
-  found-changed : (f : A → A) (xs : List A) → ((x : A) → p (f x) ≡ p x) → find p (at_first p f xs) ≡ option_map f (find p xs)
-  found-changed f [] same = refl
-  found-changed f (x ∷ xs) same = changed-cons f x xs (p x) refl (same x) (found-changed f xs same)
-
-  -- none is found where one was taken out of those in which none was
-  without-cons : (t : A → Bool) (x : A) (xs : List A) (b c : Bool) → p x ≡ b → (find p xs ≡ None → find p (without_first t xs) ≡ None) → cond b (Some x) (find p xs) ≡ None → find p (cond c xs (x ∷ without_first t xs)) ≡ None
-  without-cons t x xs true c u ih e = cc
-  without-cons t x xs false true u ih e = e
-  without-cons t x xs false false u ih e = rw u (ih e)
-
-  none-without : (t : A → Bool) (xs : List A) → find p xs ≡ None → find p (without_first t xs) ≡ None
-  none-without t [] e = refl
-  none-without t (x ∷ xs) e = without-cons t x xs (p x) (t x) refl (none-without t xs) e
-
-  -- what is found passes
-  any-cons : (x y : A) (xs : List A) (b : Bool) → (find p xs ≡ Some y → list_any p xs ≡ true) → cond b (Some x) (find p xs) ≡ Some y → (b || list_any p xs) ≡ true
-  any-cons x y xs true ih e = refl
-  any-cons x y xs false ih e = ih e
-
-  found-any : (xs : List A) (y : A) → find p xs ≡ Some y → list_any p xs ≡ true
-  found-any [] y e = cc
-  found-any (x ∷ xs) y e = any-cons x y xs (p x) (found-any xs y) e
-
-  no-cons : (x : A) (xs : List A) (b : Bool) → (find p xs ≡ None → list_any p xs ≡ false) → cond b (Some x) (find p xs) ≡ None → (b || list_any p xs) ≡ false
-  no-cons x xs true ih e = cc
-  no-cons x xs false ih e = ih e
-
-  none-any : (xs : List A) → find p xs ≡ None → list_any p xs ≡ false
-  none-any [] e = refl
-  none-any (x ∷ xs) e = no-cons x xs (p x) (none-any xs) e
-
--- a packet that is taken, with the bytes of its request
+-- a packet that is taken
 module _ (h : MessageHeader) (body : List ℕ) (v : Server) where
-  took-asked : (o : Option ServedRequest) → find (is_request h.request) v.slots ≡ o → asked_bytes h.request (takes h body v) ≡ whole_ask (Some v) h.request body
-  took-asked None e =
+  -- its request is there then
+  abbrev joined_to : Option ServedRequest → ServedRequest
+  joined_to None = first_packet h.request h body
+  joined_to (Some l) = next_packet body l
+
+  takes-found : (o : Option ServedRequest) → find (is_request h.request) v.slots ≡ o → find (is_request h.request) (takes h body v).slots ≡ Some (joined_to o)
+  takes-found None e =
       let rest : find (is_request h.request) (without_first (in_slot_of h.request) v.slots) ≡ None = none-without (is_request h.request) (in_slot_of h.request) v.slots e in
-      rw (none-any (is_request h.request) v.slots e, e, find-append (is_request h.request) (without_first (in_slot_of h.request) v.slots) (first_packet h.request h body ∷ []), rest, eq-eqb h.request h.request refl) refl
-  took-asked (Some l) e =
+      rw (none-any (is_request h.request) v.slots e, find-append (is_request h.request) (without_first (in_slot_of h.request) v.slots) (first_packet h.request h body ∷ []), rest, eq-eqb h.request h.request refl) refl
+  takes-found (Some l) e =
       rw (found-any (is_request h.request) v.slots l e, found-changed (is_request h.request) (next_packet body) v.slots (λ x. refl), e) refl
 
-  same-bytes : (answer : List ℕ) (o : Option ServedRequest) → bytes_taken (option_map (answered answer) o) ≡ bytes_taken o
-  same-bytes answer None = refl
-  same-bytes answer (Some l) = refl
+  asks : (o : Option ServedRequest) → find (is_request h.request) v.slots ≡ o → (joined_to o).ask ≡ whole_ask (Some v) h.request body
+  asks None e = rw e refl
+  asks (Some l) e = rw e refl
 
-  ran-asked : (ask : List ℕ) → asked_bytes h.request (runs h ask (takes h body v)) ≡ asked_bytes h.request (takes h body v)
-  ran-asked ask =
-      ap bytes_taken (found-changed (is_request h.request) (answered (answer_to h.req_type ask)) (takes h body v).slots (λ x. refl)) ∙ same-bytes (answer_to h.req_type ask) (find (is_request h.request) (takes h body v).slots)
+  abbrev now : ServedRequest
+  now = joined_to (find (is_request h.request) v.slots)
 
-  taken-asked : (ask : List ℕ) (last : Bool) → asked_bytes h.request (cond last (runs h ask (takes h body v)) (takes h body v)) ≡ whole_ask (Some v) h.request body
-  taken-asked ask true = ran-asked ask ∙ took-asked _ refl
-  taken-asked ask false = took-asked _ refl
+  runs-found : (total : ℕ) (ask : List ℕ) → find (is_request h.request) (runs total h ask (takes h body v)).slots ≡ Some (answered (answer_with total h.req_type ask) now)
+  runs-found total ask =
+      found-changed (is_request h.request) (answered (answer_with total h.req_type ask)) (takes h body v).slots (λ x. refl) ∙ ap (option_map (answered (answer_with total h.req_type ask))) (takes-found _ refl)
 
-  pub row-asked : (w : Server) (row : ServerRow) → (row ≡ Begins → whole_ask (Some v) h.request body ≡ body) → w ≡ after_row row h body v → WhereTaken row (asked_bytes h.request w ≡ ask_with row h body v)
-  row-asked w (Drops why) alone is = tt
-  row-asked w Begins alone is = rw is (taken-asked body (is_last h) ∙ alone refl)
-  row-asked w Takes alone is = rw is (taken-asked (whole_ask (Some v) h.request body) (is_last h))
-  row-asked w Repeats alone is = tt
+  gives-found : find (is_request h.request) (gives h (takes h body v)).slots ≡ Some (given now)
+  gives-found = found-changed (is_request h.request) given (takes h body v).slots (λ x. refl) ∙ ap (option_map given) (takes-found _ refl)
 
-  -- the step of a packet that is taken
+  -- its bytes, and its answer, unless a worker gets it
+  asked-cases : (total : ℕ) (ask : List ℕ) (job last : Bool) → job ≡ false → asked_bytes h.request (cond job (gives h (takes h body v)) (cond last (runs total h ask (takes h body v)) (takes h body v))) ≡ whole_ask (Some v) h.request body
+  asked-cases total ask true last e = cc
+  asked-cases total ask false true e = ap bytes_taken (runs-found total ask) ∙ asks _ refl
+  asked-cases total ask false false e = ap bytes_taken (takes-found _ refl) ∙ asks _ refl
+
+  answer-cases : (total : ℕ) (ask : List ℕ) (job last : Bool) → job ≡ false → last ≡ true → answer_bytes h.request (cond job (gives h (takes h body v)) (cond last (runs total h ask (takes h body v)) (takes h body v))) ≡ answer_with total h.req_type ask
+  answer-cases total ask true last e l = cc
+  answer-cases total ask false false e l = cc
+  answer-cases total ask false true e l = ap bytes_answered (runs-found total ask)
+
+  works-cases : (total : ℕ) (ask : List ℕ) (job last : Bool) → job ≡ true → is_working (find (is_request h.request) (cond job (gives h (takes h body v)) (cond last (runs total h ask (takes h body v)) (takes h body v))).slots) ≡ true
+  works-cases total ask true last e = ap is_working gives-found
+  works-cases total ask false last e = cc
+
+  -- the facts of a step
   took-is : took h body v ≡ takes h body v ∷ []
   took-is = rw (eq-eqb v.way.number v.way.number refl) refl
 
-  ran-is : (ask : List ℕ) → ran h body (answer_to h.req_type ask) v ≡ runs h ask (takes h body v) ∷ []
-  ran-is ask = rw (took-is, eq-eqb v.way.number v.way.number refl) refl
+  ran-is : (total : ℕ) (ask : List ℕ) → ran h body (answer_with total h.req_type ask) v ≡ runs total h ask (takes h body v) ∷ []
+  ran-is total ask = rw (took-is, eq-eqb v.way.number v.way.number refl) refl
 
-  module _ (w : Server) (stands after : Served → Type 0) (here : stands []) where
-    taken-step : (ask : List ℕ) (want : Bool) (step : Step) → whole_ask (Some v) h.request body ≡ ask → is_wanting step ≡ false → HasTaken (is_last h) want step → Steps step echo_answer stands after h body v w → w ≡ taken h ask body v
-    taken-step ask want (Took reply) same not last steps =
-        let is : takes h body v ≡ w = cc (took-is, steps) in
-        rw last (sym is)
-    taken-step ask want (Again reply) same not last steps = absurd last
-    taken-step ask want (Ran reply) same not last steps =
-        let one : ran h body (answer_to h.req_type ask) v ≡ w ∷ [] = rw same at ((steps [] here).0) in
-        let is : runs h ask (takes h body v) ≡ w = cc (ran-is ask, one) in
-        rw last (sym is)
-    taken-step ask want (Dropped why) same not last steps =
-        let wants : is_wanting (Dropped why) ≡ true = ap (λ r. is_wanting (Dropped r)) last.0 in cc
+  gave-is : gave h body v ≡ gives h (takes h body v) ∷ []
+  gave-is = rw (took-is, eq-eqb v.way.number v.way.number refl) refl
 
-    pub row-step : (row : ServerRow) (step : Step) → (row ≡ Begins → whole_ask (Some v) h.request body ≡ body) → is_wanting step ≡ false → IsStepOf h row step → Steps step echo_answer stands after h body v w → w ≡ after_row row h body v
-    row-step (Drops why) step alone not is steps = dropped step is steps
-      where
-        dropped : (step : Step) → step ≡ Dropped why → Steps step echo_answer stands after h body v w → w ≡ v
-        dropped (Took reply) is steps = cc
-        dropped (Again reply) is steps = steps
-        dropped (Ran reply) is steps = cc
-        dropped (Dropped _) is steps = steps
-    row-step Begins step alone not is steps = taken-step body true step (alone refl) not is steps
-    row-step Takes step alone not is steps = taken-step (whole_ask (Some v) h.request body) (is_last h) step refl not is steps
-    row-step Repeats step alone not is steps = again step is steps
-      where
-        again : (step : Step) → IsAgain step → Steps step echo_answer stands after h body v w → w ≡ v
-        again (Took reply) is steps = absurd is
-        again (Again reply) is steps = steps
-        again (Ran reply) is steps = absurd is
-        again (Dropped why) is steps = steps
+  -- the parcel of a job is that of its request
+  job-cases : (p : Parcel) (o : Option ServedRequest) → find (is_request h.request) v.slots ≡ o → IfSome o (λ l. l.req_type ≡ h.req_type) → p.session ≡ v.way.number → p.request ≡ h.request → p.req_type ≡ h.req_type → bytes_of p.ask ≡ whole_ask (Some v) h.request body → shown_job p ≡ job_of v.way.number (joined_to o)
+  job-cases p None e known session request req_type ask =
+      let own = asks None e in
+      rw (session, request, req_type, ask, ← own) refl
+  job-cases p (Some l) e known session request req_type ask =
+      let own = asks (Some l) e in
+      let number : l.number ≡ h.request = eqb-true l.number h.request (found-passes (is_request h.request) v.slots l e) in
+      rw (session, request, req_type, ask, ← own, number, known) refl
 
--- a server end once it handled a packet of this row
-pub record Handled (row : ServerRow) (h : MessageHeader) (body : List ℕ) (v w : Server) : Type 0 where
-  pub after : w ≡ after_row row h body v
-  pub asked : WhereTaken row (asked_bytes h.request w ≡ ask_with row h body v)
+-- a packet of a row that takes it, by its step: ask is all that was taken of its request with it
+pub record TakenEnd (total next : ℕ) (h : MessageHeader) (ask body : List ℕ) (v w : Server) (o : Option Parcel) : Type 0 where
+  pub after : w ≡ taken total h ask body v
+  pub total_is : next ≡ cond (is_last h && not (makes_job h)) (total_with total h.req_type ask) total
+  pub job : option_map shown_job o ≡ cond (makes_job h) (option_map (job_of v.way.number) (find (is_request h.request) (takes h body v).slots)) None
+  pub room : IfSome o (HasRoom background_answer)
+  pub background : IfSome o (λ p. is_background p.req_type ≡ true)
 
-module _ (pool : Pool) (s : Session) (head : MessageHeader) (body : List ℕ) (served : Bool) where
-  pub packet-end : (peer : ℕ) (w : Server) (stands after : Served → Type 0) (step : Step) → stands [] → peer ≡ s.peer → IsSession s → IsAsking head (length body) → server_row (Some (shown pool s)) s.peer head ≡ row_of served head s → is_wanting step ≡ false → IsStepOf head (row_of served head s) step → Steps step echo_answer stands after head body (shown pool s) w → Handled (server_row (Some (shown pool s)) peer head) head body (shown pool s) w
-  packet-end peer w stands after step here own sound asking rule not is steps =
-      let row : server_row (Some (shown pool s)) peer head ≡ row_of served head s = ap (λ p. server_row (Some (shown pool s)) p head) own ∙ rule in
-      let alone : row_of served head s ≡ Begins → whole_ask (Some (shown pool s)) head.request body ≡ body = begun-asked pool s head body served sound asking in
-      let after : w ≡ after_row (row_of served head s) head body (shown pool s) = row-step head body (shown pool s) w stands after here (row_of served head s) step alone not is steps in
-      subst (λ (r : ServerRow). Handled r head body (shown pool s) w) (sym row) (record {
-        after = after;
-        asked = row-asked head body (shown pool s) w (row_of served head s) alone after;
-      })
+no-job : (last back : Bool) → last ≡ false → (last && back) ≡ false
+no-job true back e = cc
+no-job false back e = refl
+
+module _ (total next : ℕ) (below : total < 2 ^ 64) (h : MessageHeader) (ask body : List ℕ) (v w : Server) (same : whole_ask (Some v) h.request body ≡ ask) (known : makes_job h ≡ true → IfSome (find (is_request h.request) v.slots) (λ l. l.req_type ≡ h.req_type)) where
+  took-end : is_last h ≡ false → took h body v ≡ w ∷ [] → next ≡ total → TakenEnd total next h ask body v w None
+  took-end last steps still =
+      let job : makes_job h ≡ false = no-job (is_last h) (is_background h.req_type) last in
+      let is : takes h body v ≡ w = cc (took-is h body v, steps) in
+      record {
+        after = rw (job, last) (sym is);
+        total_is = rw last still;
+        job = rw job refl;
+        room = tt;
+        background = tt;
+      }
+
+  ran-end : is_last h ≡ true → makes_job h ≡ false → ran h body (plain_answer (one_tally total) h.req_type (asked_with h body v)) v ≡ w ∷ [] → PlainStands next (one_tally total ++ (h.req_type, asked_with h body v) ∷ []) → TakenEnd total next h ask body v w None
+  ran-end last job steps stands =
+      let one : ran h body (answer_with total h.req_type ask) v ≡ w ∷ [] = rw (same, answer-is total h.req_type ask below) at steps in
+      let is : runs total h ask (takes h body v) ≡ w = cc (ran-is h body v total ask, one) in
+      let sum : next ≡ total_with total h.req_type ask = stands ∙ ap (λ a. total_of (one_tally total ++ (h.req_type, a) ∷ [])) same ∙ total-next total h.req_type ask below in
+      record {
+        after = rw (job, last) (sym is);
+        total_is = rw (job, last) sum;
+        job = rw job refl;
+        room = tt;
+        background = tt;
+      }
+
+  gave-end : (p : Parcel) → makes_job h ≡ true → gave h body v ≡ w ∷ [] → next ≡ total → IsParcel plain_answer (PlainStands total) h body v p → TakenEnd total next h ask body v w (Some p)
+  gave-end p job steps still parcel =
+      let parts = and_parts (is_last h) (is_background h.req_type) job in
+      let is : gives h (takes h body v) ≡ w = cc (gave-is h body v, steps) in
+      let back : is_background p.req_type ≡ true = ap is_background parcel.req_type ∙ parts.1 in
+      record {
+        after = rw job (sym is);
+        total_is = rw (job, parts.0) still;
+        job = rw (job, takes-found h body v _ refl) (ap Some (job-cases h body v p _ refl (known job) parcel.session parcel.request parcel.req_type parcel.ask));
+        room = ap length (sym (by-worker (one_tally total) p.req_type (bytes_of p.ask) back)) ∙ parcel.room (one_tally total) (stands-for total below);
+        background = back;
+      }
+
+  pub taken-end : (step : Step) (want : Bool) → is_wanting step ≡ false → HasTaken (is_last h) (makes_job h) want step → Steps step plain_answer (PlainStands total) (PlainStands next) h body v w → IfGiven step (IsParcel plain_answer (PlainStands total) h body v) → UnlessRan step (next ≡ total) → TakenEnd total next h ask body v w (parcel_of step)
+  taken-end (Took reply) want not last steps parcel still = took-end last steps still
+  taken-end (Again reply) want not last steps parcel still = absurd last
+  taken-end (Ran reply) want not last steps parcel still =
+      let one = steps (one_tally total) (stands-for total below) in
+      ran-end last.0 last.1 one.0 one.1
+  taken-end (Give p) want not last steps parcel still = gave-end p last steps still parcel
+  taken-end (Dropped why) want not last steps parcel still =
+      let wants : is_wanting (Dropped why) ≡ true = ap (λ r. is_wanting (Dropped r)) last.0 in cc
+
+-- the whole of what is told of a packet
+pub record Handled (row : ServerRow) (total next : ℕ) (h : MessageHeader) (body : List ℕ) (v w : Server) (o : Option Parcel) : Type 0 where
+  pub after : w ≡ after_row row total h body v
+  pub total_is : next ≡ total_after_row row total h (ask_with row h body v)
+  pub asked : WhereTaken row (makes_job h ≡ false → asked_bytes h.request w ≡ ask_with row h body v)
+  pub answer : WhereTaken row (makes_job h ≡ false → is_last h ≡ true → answer_bytes h.request w ≡ answer_with total h.req_type (ask_with row h body v))
+  pub job : option_map shown_job o ≡ job_given row h body v
+  pub room : IfSome o (HasRoom background_answer)
+  pub background : IfSome o (λ p. is_background p.req_type ≡ true)
+  pub works : WhereTaken row (makes_job h ≡ true → is_working (find (is_request h.request) w.slots) ≡ true)
+
+same-end : (row : ServerRow) (total next : ℕ) (h : MessageHeader) (body : List ℕ) (v w : Server) (step : Step) → is_taken row ≡ false → w ≡ v → next ≡ total → parcel_of step ≡ None → Handled row total next h body v w (parcel_of step)
+same-end (Drops why) total next h body v w step not is still none = record {
+  after = is;
+  total_is = still;
+  asked = tt;
+  answer = tt;
+  job = ap (option_map shown_job) none;
+  room = rw none tt;
+  background = rw none tt;
+  works = tt;
+}
+same-end Begins total next h body v w step not is still none = cc
+same-end Takes total next h body v w step not is still none = cc
+same-end Repeats total next h body v w step not is still none = record {
+  after = is;
+  total_is = still;
+  asked = tt;
+  answer = tt;
+  job = ap (option_map shown_job) none;
+  room = rw none tt;
+  background = rw none tt;
+  works = tt;
+}
+
+module _ (total next : ℕ) (below : total < 2 ^ 64) (h : MessageHeader) (body : List ℕ) (v w : Server) where
+  begun-end : (o : Option Parcel) → whole_ask (Some v) h.request body ≡ body → TakenEnd total next h body body v w o → Handled Begins total next h body v w o
+  begun-end o alone end = record {
+    after = end.after;
+    total_is = end.total_is;
+    asked = λ job. ap (asked_bytes h.request) end.after ∙ asked-cases h body v total body (makes_job h) (is_last h) job ∙ alone;
+    answer = λ job last. ap (answer_bytes h.request) end.after ∙ answer-cases h body v total body (makes_job h) (is_last h) job last;
+    job = end.job;
+    room = end.room;
+    background = end.background;
+    works = λ job. ap (λ x. is_working (find (is_request h.request) x.slots)) end.after ∙ works-cases h body v total body (makes_job h) (is_last h) job;
+  }
+
+  gone-end : (o : Option Parcel) → TakenEnd total next h (whole_ask (Some v) h.request body) body v w o → Handled Takes total next h body v w o
+  gone-end o end = record {
+    after = end.after;
+    total_is = end.total_is;
+    asked = λ job. ap (asked_bytes h.request) end.after ∙ asked-cases h body v total (whole_ask (Some v) h.request body) (makes_job h) (is_last h) job;
+    answer = λ job last. ap (answer_bytes h.request) end.after ∙ answer-cases h body v total (whole_ask (Some v) h.request body) (makes_job h) (is_last h) job last;
+    job = end.job;
+    room = end.room;
+    background = end.background;
+    works = λ job. ap (λ x. is_working (find (is_request h.request) x.slots)) end.after ∙ works-cases h body v total (whole_ask (Some v) h.request body) (makes_job h) (is_last h) job;
+  }
+
+  dropped-end : (step : Step) (why : _) → step ≡ Dropped why → Steps step plain_answer (PlainStands total) (PlainStands next) h body v w → UnlessRan step (next ≡ total) → (w ≡ v) × (next ≡ total) × (parcel_of step ≡ None)
+  dropped-end (Took reply) why is steps still = cc
+  dropped-end (Again reply) why is steps still = cc
+  dropped-end (Ran reply) why is steps still = cc
+  dropped-end (Give p) why is steps still = cc
+  dropped-end (Dropped _) why is steps still = (steps, still, refl)
+
+  again-end : (step : Step) → IsAgain step → Steps step plain_answer (PlainStands total) (PlainStands next) h body v w → UnlessRan step (next ≡ total) → (w ≡ v) × (next ≡ total) × (parcel_of step ≡ None)
+  again-end (Took reply) is steps still = absurd is
+  again-end (Again reply) is steps still = (steps, still, refl)
+  again-end (Ran reply) is steps still = absurd is
+  again-end (Give p) is steps still = absurd is
+  again-end (Dropped why) is steps still = absurd is
+
+  pub row-end : (row : ServerRow) (step : Step) → (row ≡ Begins → whole_ask (Some v) h.request body ≡ body) → (is_taken row ≡ true → makes_job h ≡ true → IfSome (find (is_request h.request) v.slots) (λ l. l.req_type ≡ h.req_type)) → is_wanting step ≡ false → IsStepOf (plain_mode h.req_type) h row step → Steps step plain_answer (PlainStands total) (PlainStands next) h body v w → IfGiven step (IsParcel plain_answer (PlainStands total) h body v) → UnlessRan step (next ≡ total) → Handled row total next h body v w (parcel_of step)
+  row-end (Drops why) step alone known not is steps parcel still =
+      let (same, total_same, none) = dropped-end step why is steps still in
+      same-end (Drops why) total next h body v w step refl same total_same none
+  row-end Begins step alone known not is steps parcel still =
+      begun-end (parcel_of step) (alone refl) (taken-end total next below h body body v w (alone refl) (known refl) step true not is steps parcel still)
+  row-end Takes step alone known not is steps parcel still =
+      gone-end (parcel_of step) (taken-end total next below h (whole_ask (Some v) h.request body) body v w refl (known refl) step (is_last h) not is steps parcel still)
+  row-end Repeats step alone known not is steps parcel still =
+      let (same, total_same, none) = again-end step is steps still in
+      same-end Repeats total next h body v w step refl same total_same none

@@ -1,1 +1,5 @@
 pub mod EndLemmas
+pub mod FinishLemmas
+pub mod ServiceLemmas
+pub mod SlotLemmas
+pub mod WorkLemmas

@@ -1,2 +1,1 @@
-pub mod Echo
 pub mod Ends

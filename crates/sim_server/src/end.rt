@@ -3,16 +3,16 @@ ghost use Rattle.std.specs.Prelude.{◌≡◌, ◌<◌, ◌≤◌, Some, option_
 ghost use Rattle.std.specs.List.{find};
 ghost use Rattle.rpc_laws.specs.Requests.{in_slot_of, server_end};
 ghost use Rattle.rpc_laws.specs.ServerTable.{server_row};
-ghost use Rattle.sim_server.specs.Ends.{asked_bytes, replied};
+ghost use Rattle.sim_server.specs.Ends.{answer_bytes, asked_bytes, replied};
 
 mod replies;
 mod serving;
 
-use crate::echo::is_echo;
 use buffer_pool::BufferPool;
 use packet_header::MessageHeader;
 use rpc_base::{DropReason, NoMemory, Owner, Peer, RequestNo};
 use rpc_laws::{ServerRow, Way};
+use rpc_outside::{PlainService, Service};
 use server_core::ServerSession;
 use std::alloc::Global;
 use std::marker::Model;
@@ -29,14 +29,14 @@ impl Model for ServerEnd {
     ghost use Rattle.rpc_laws.specs.declared.tables.Server.{Server};
     ghost use Rattle.server_core.specs.KeepsPool.{KeepsPool};
     ghost use Rattle.server_core.specs.Shown.{shown};
-    ghost use Rattle.server_core.specs.Steps.{AreInline};
-    ghost use Rattle.sim_server.specs.Echo.{echo_mode};
+    ghost use Rattle.server_core.specs.Steps.{AreServed};
+    ghost use Rattle.rpc_outside.specs.PlainAnswer.{plain_mode};
 
     ghost Value = { Server };
 
     ghost view = { λ e. shown e.pool e.session };
 
-    ghost invariant = { λ e. KeepsPool e.pool e.session.slots × AreInline echo_mode e.session.slots };
+    ghost invariant = { λ e. KeepsPool e.pool e.session.slots × AreServed plain_mode e.session.slots };
 }
 
 impl ServerEnd {
@@ -71,14 +71,16 @@ impl ServerEnd {
         self.session.credits()
     }
 
-    /// What the server rule says of a Request or RFR of this session.
-    pub fn row(&self, peer: Peer, head: &MessageHeader) -> ServerRow
-        ensures { result ≡ server_row (Some self.now) peer head.now }
+    /// What the server rule says of a Request or RFR of this session. `jobs_full` tells whether the node's
+    /// jobs are full.
+    pub fn row(&self, peer: Peer, head: &MessageHeader, jobs_full: bool) -> ServerRow
+        ensures { result ≡ server_row jobs_full (Some self.now) peer head.now }
     {
         if peer != self.session.peer() {
             return ServerRow::Drops(DropReason::WrongPeer);
         }
-        self.session.row(head, is_echo(head.req_type))
+        let mode = PlainService::new().mode(head.req_type);
+        self.session.row(head, mode, jobs_full)
     }
 
     /// The newest request of the slot of this number.
@@ -91,11 +93,20 @@ impl ServerEnd {
         }
     }
 
-    /// The bytes taken so far of the newest request with this number; none where there is no such request.
+    /// The bytes taken so far of the newest request with this number; none where there is no such request, or
+    /// they went with a job.
     pub fn ask(&self, request: RequestNo) -> &[u8]
         ensures { result.now ≡ asked_bytes request self.now }
     {
         self.session.asked(&self.pool, request)
+    }
+
+    /// The bytes of the answer to the newest request with this number; none where there is no such request,
+    /// or its answer isn't there.
+    pub fn answer(&self, request: RequestNo) -> &[u8]
+        ensures { result.now ≡ answer_bytes request self.now }
+    {
+        self.session.answer(&self.pool, request)
     }
 }
 

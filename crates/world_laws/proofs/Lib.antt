@@ -1,5 +1,7 @@
 pub mod FactLemmas
 pub mod FewLemmas
 pub mod NodeLaws
+pub mod RequestLaws
 pub mod RunLemmas
 pub mod ScriptLaws
+pub mod WorkLemmas

@@ -4,10 +4,12 @@ use Rattle.std.specs.List.{list_any}
 use Rattle.std.proofs.lemmas.List.Sums.{sum_by-cons}
 use Rattle.node_laws.proofs.CreditLaws.{credit}
 use Rattle.node_laws.proofs.EndedLaws.{ended}
+use Rattle.node_laws.proofs.OlderLaws.{older_clean}
 use Rattle.node_laws.proofs.OnceLaws.{once}
 use Rattle.node_laws.proofs.RingLaws.{ring_within}
 use Rattle.node_laws.specs.CreditBalance.{Credit}
 use Rattle.node_laws.specs.EndedCalls.{queued_by, asks_on, begins_as, BeganAs, EndsClean}
+use Rattle.node_laws.specs.OlderRequests.{BeginsClean}
 use Rattle.node_laws.specs.RingLimit.{RingWithin}
 use Rattle.network_model.specs.declared.stage.Stage.{Stage}
 use Rattle.rpc_base.specs.declared.event.Event.{Event}
@@ -18,7 +20,7 @@ use Rattle.rpc_laws.specs.AtMostOnce.{is_at, runs_request, works_request, begins
 use Rattle.rpc_laws.specs.Facts.{plain}
 use Rattle.rpc_laws.specs.GoBackN.{usual_timeout}
 use Rattle.rpc_laws.specs.Queues.{queued_after}
-use Rattle.world_laws.specs.Laws.{CreditBalances, EndedCallsAreNotQueued, FollowsRuns, HappensAtMostOnce, RingFits}
+use Rattle.world_laws.specs.Laws.{CreditBalances, EndedCallsAreNotQueued, FollowsRuns, HappensAtMostOnce, OlderRequestsAreNotQueued, RingFits}
 use Rattle.world_laws.specs.NodeFacts.{facts_of, IsRun, RunAt, RunsOf, ring_of}
 use Rattle.world_laws.proofs.ScriptLaws.{script-runs}
 
@@ -71,6 +73,17 @@ pub ended-clean : EndedCallsAreNotQueued
 ended-clean script h two few f =
     of-node (EndsClean []) tt
     (λ n facts t r. let kept : EndsClean [] r.later = ended n r.ring usual_timeout r.later t r.run in rw r.made ((λ c s q ends began. cc), ends-other [] (plain n (Made r.ring) ∷ []) r.later (made-past n r.ring) kept)) h f.0 (runs script h two few f)
+
+-- older requests of a slot
+begins-other : (past other g : List Fact) → SamePast past other → BeginsClean past g → BeginsClean other g
+begins-other past other [] s e = tt
+begins-other past other (f ∷ g) s e =
+    (λ t r old takes older. let back = e.0 t r old takes older in record { unqueued = rw (← s.queued) back.unqueued; unposted = back.unposted }, begins-other (f ∷ past) (f ∷ other) g (same-next past other f s) e.1)
+
+pub older-clean : OlderRequestsAreNotQueued
+older-clean script h two few f =
+    of-node (BeginsClean []) tt
+    (λ n facts t r. let kept : BeginsClean [] r.later = older_clean n r.ring usual_timeout r.later t r.run in rw r.made ((λ t r old takes older. cc), begins-other [] (plain n (Made r.ring) ∷ []) r.later (made-past n r.ring) kept)) h f.0 (runs script h two few f)
 
 -- at most once: what is counted of a node is counted over its facts
 count-here : (n : ℕ) (test : Event → Bool) (f : Fact) (h : List Fact) (b : Bool) → is_at n f.who ≡ b → times n test h ≡ times n test (facts_of n h) → cond (b && test f.event) 1 0 + times n test h ≡ times n test (cond b (f ∷ facts_of n h) (facts_of n h))

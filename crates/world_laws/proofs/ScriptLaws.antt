@@ -5,10 +5,12 @@ use Rattle.std.specs.List.{list_all, remove, slice_set}
 use Rattle.end_laws.proofs.CallSteps.{asks-fine, delivers-fine}
 use Rattle.end_laws.proofs.ListLemmas.{set-other}
 use Rattle.end_laws.proofs.ReplySteps.{poll-fine}
-use Rattle.end_laws.proofs.SlotLemmas.{Sound, sound-stays}
+use Rattle.end_laws.proofs.QueueLemmas.{RightNode}
+use Rattle.end_laws.proofs.SendsLaw.{right-stays, right-client, right-served}
+use Rattle.end_laws.proofs.WorkSteps.{work-any, work-all}
 use Rattle.end_laws.specs.TwoNodes.{PairsTwo, PairsTwoNodes}
 use Rattle.network_model.specs.declared.stage.Stage.{Stage}
-use Rattle.node_laws.specs.NodeRun.{Notes, MayPair, pairs_client, pairs_server, refuses, asks, delivers, polls}
+use Rattle.node_laws.specs.NodeRun.{Notes, MayPair, pairs_client, pairs_server, refuses, asks, delivers, polls, works}
 use Rattle.rpc_base.specs.declared.event.Event.{Event}
 use Rattle.rpc_base.specs.declared.event.Event.TheVariants.{PairedClient, PairedServer, NconnectNumbers, NconnectRing, Missed, Carried, Lost, Repeated, Ticked}
 use Rattle.rpc_base.specs.declared.fact.Fact.{Fact}
@@ -21,14 +23,16 @@ use Rattle.rpc_laws.specs.GoBackN.{usual_timeout}
 use Rattle.rpc_laws.specs.Groups.{Asks, pair_refusal, shares}
 use Rattle.rpc_laws.specs.NodeLists.{after}
 use Rattle.rpc_laws.specs.PollOrder.{Poll, raised}
+use Rattle.rpc_laws.specs.Working.{Works, WorksAll}
 use Rattle.script_grammar.specs.declared.line.Command.{Command}
-use Rattle.script_grammar.specs.declared.line.Command.TheVariants.{Node, Pair, Call, Poll as PollNode, Arrive, Lose, Repeat, Tick, Settle}
+use Rattle.script_grammar.specs.declared.line.Command.TheVariants.{Node, Pair, Call, Poll as PollNode, Arrive, Lose, Repeat, Tick, Work, Settle}
 use Rattle.script_grammar.specs.declared.line.Line.{Line}
-use Rattle.sim_script.specs.FollowsScript.{ask_bytes, AtNode, noted, PairsEnds, PairsBy, Pairs, OfNet, or_missed, Carries, Ticks, PollsNode, Joins, Times, PollsFirst, Round, is_polled, Unless, Settles, Does, FollowsFrom, empty_stage}
+use Rattle.sim_script.specs.FollowsScript.{ask_bytes, AtNode, noted, PairsEnds, PairsBy, Pairs, OfNet, or_missed, Carries, Ticks, PollsNode, Joins, Times, PollsFirst, WorksFirst, WorksAndPolls, Round, is_polled, Unless, Settles, Does, FollowsFrom, empty_stage}
 use Rattle.world_laws.specs.FewCredits.{PairsFew, PairsFewCredits}
 use Rattle.world_laws.specs.NodeFacts.{facts_of, RunAt, RunsOf}
 use Rattle.world_laws.proofs.FactLemmas.{set-same}
-use Rattle.world_laws.proofs.RunLemmas.{Runs, Running, runs-none, Mine, mine-walked, step-runs, at-runs, net-runs, made-runs}
+use Rattle.world_laws.proofs.RunLemmas.{Runs, Running, runs-none, Mine, mine-walked, step-runs, at-runs-all, at-runs, net-runs, made-runs}
+use Rattle.world_laws.proofs.WorkLemmas.{work-groups}
 
 of-net-runs : (e : Event) → Running (OfNet e)
 of-net-runs e s h x t r d = rw (d.facts, d.left) (net-runs s.nodes h e r)
@@ -39,14 +43,26 @@ tick-runs by s h x t r d = rw (d.facts, d.left) (net-runs s.nodes h (Ticked by) 
 call-runs : (n session req_type : ℕ) (ask : List ℕ) (room : ℕ) → Running (AtNode (Asks session req_type ask room) n)
 call-runs n session req_type ask room s h x t r a =
     let was = r.nodes n a.before a.is_node in
-    let walked = asks-fine Sound sound-stays None session req_type ask room a.before x a.now was.sound a.step in
+    let walked = asks-fine RightNode right-stays None session req_type ask room a.before x a.now was.right a.step in
     at-runs (Asks session req_type ask room) n s h x t r a (asks session req_type ask room a.step) (mine-walked n None a.before x a.now was.me walked)
 
 poll-runs : (n : ℕ) → Running (PollsNode n)
 poll-runs n s h x t r a =
     let was = r.nodes n a.before a.is_node in
-    let walked = poll-fine None usual_timeout (raised s.clock a.before) x a.now was.sound a.step in
+    let walked = poll-fine None usual_timeout (raised s.clock a.before) x a.now was.right a.step in
     at-runs (Poll usual_timeout s.clock) n s h x t r a (polls s.clock a.step) (mine-walked n None (raised s.clock a.before) x a.now was.me walked)
+
+work-runs : (n i : ℕ) → Running (AtNode (Works i) n)
+work-runs n i s h x t r a =
+    let was = r.nodes n a.before a.is_node in
+    let walked = (work-any None i a.before x a.now was.right a.step).walked in
+    at-runs (Works i) n s h x t r a (works i a.step) (mine-walked n None a.before x a.now was.me walked)
+
+work-all-runs : (n : ℕ) → Running (AtNode WorksAll n)
+work-all-runs n s h x t r a =
+    let was = r.nodes n a.before a.is_node in
+    let walked = (work-all None a.before x a.now was.right a.step).walked in
+    at-runs-all WorksAll n s h x t r a (work-groups a.before x a.now a.step.steps) (mine-walked n None a.before x a.now was.me walked)
 
 carry-runs : (i : ℕ) → Running (Carries i)
 carry-runs i s h x t r c =
@@ -54,7 +70,7 @@ carry-runs i s h x t r c =
     let copy = c.copy in
     let net = net-runs s.nodes h (Carried i) r in
     let was = net.nodes copy.to a.before a.is_node in
-    let walked = delivers-fine Sound sound-stays copy.from copy.bytes a.before c.delivered a.now was.sound a.step in
+    let walked = delivers-fine RightNode right-stays copy.from copy.bytes a.before c.delivered a.now was.right a.step in
     let mine = mine-walked copy.to _ a.before c.delivered a.now was.me walked in
     let all = at-runs (Delivers copy.from copy.bytes) copy.to (record s { flight = remove s.flight i }) (h ++ of_net (Carried i) ∷ []) c.delivered t net a (delivers copy.from copy.bytes a.step) mine in
     rw c.facts (subst (λ (y : List Fact). Runs y t.nodes) (append_assoc h (of_net (Carried i) ∷ []) c.delivered) all)
@@ -78,9 +94,16 @@ polls-run : (n : ℕ) → Running (PollsFirst n)
 polls-run zero s h x t r d = runs-none s h x t r d.0 d.1
 polls-run (suc n) s h x t r d = both-run (PollsFirst n) (PollsNode n) (polls-run n) (poll-runs n) s h x t r d
 
+works-run : (n : ℕ) → Running (WorksFirst n)
+works-run zero s h x t r d = runs-none s h x t r d.0 d.1
+works-run (suc n) s h x t r d = both-run (WorksFirst n) (AtNode WorksAll n) (works-run n) (work-all-runs n) s h x t r d
+
+works-polls-run : (n : ℕ) → Running (WorksAndPolls n)
+works-polls-run n s h x t r d = both-run (WorksFirst n) (PollsFirst n) (works-run n) (polls-run n) s h x t r d
+
 round-runs : Running Round
 round-runs s h x t r d =
-    both-run (Times (Carries 0) (length s.flight)) (λ u. PollsFirst (length u.nodes) u) (times-run (Carries 0) (carry-runs 0) (length s.flight)) (λ u. polls-run (length u.nodes) u) s h x t r d
+    both-run (Times (Carries 0) (length s.flight)) (λ u. WorksAndPolls (length u.nodes) u) (times-run (Carries 0) (carry-runs 0) (length s.flight)) (λ u. works-polls-run (length u.nodes) u) s h x t r d
 
 unless-runs : (b : Bool) (P : Stage → List Fact → Stage → Type 0) → Running P → Running (Unless b P)
 unless-runs true P p s h x t r d = runs-none s h x t r d.0 d.1
@@ -109,17 +132,13 @@ refused-runs credits n before e s h x t r is refusal facts left =
     let was = r.nodes n before is in
     let one : List Fact = plain before.lists.me e ∷ [] in
     let note : Notes e before one before = record { facts = refl; goes = ap (λ (l : Lists). record { lists = l; clock = before.clock }) (refused-same credits before e refusal) } in
-    let mine : Mine n one before = record { at = (ap AtNumber was.me, tt); me = was.me; sound = was.sound } in
+    let mine : Mine n one before = record { at = (ap AtNumber was.me, tt); me = was.me; right = was.right } in
     let all = step-runs s.nodes h n before before one r is (refuses credits e refusal note) mine in
     rw (facts, left) (subst (λ (ns : List Timed). Runs (h ++ one) ns) (sym (set-same s.nodes n before is)) all)
 
 -- one fact of a node that a pairing makes
-noted-mine : (n : ℕ) (before : Timed) (e : Event) → before.lists.me ≡ n → Sound before.lists → Mine n (plain before.lists.me e ∷ []) (noted before (plain before.lists.me e))
-noted-mine n before e me sound = record {
-  at = (ap AtNumber me, tt);
-  me = me;
-  sound = sound-stays before.clock before.lists (plain before.lists.me e) sound;
-}
+noted-mine : (n : ℕ) (before : Timed) (e : Event) → before.lists.me ≡ n → RightNode (noted before (plain before.lists.me e)).lists → Mine n (plain before.lists.me e ∷ []) (noted before (plain before.lists.me e))
+noted-mine n before e me right = record { at = (ap AtNumber me, tt); me = me; right = right }
 
 ends-run : (a b credits : ℕ) (client server : Timed) (s : Stage) (h x : List Fact) (t : Stage) → Runs h s.nodes → (a ≡ b → ⊥) → slice_get s.nodes a ≡ Some client → slice_get s.nodes b ≡ Some server → MayPair credits client → MayPair credits server → PairsEnds a b credits client server s x t → Runs (h ++ x) t.nodes
 ends-run a b credits client server s h x t r two is_client is_server may_client may_server p =
@@ -127,14 +146,14 @@ ends-run a b credits client server s h x t r two is_client is_server may_client 
     let made : Event = PairedClient (length client.lists.clients) b (length server.lists.servers) credits in
     let one : Fact = plain client.lists.me made in
     let group = pairs_client b (length server.lists.servers) credits may_client (record { facts = refl; goes = refl }) in
-    let first = step-runs s.nodes h a client (noted client one) (one ∷ []) r is_client group (noted-mine a client made at_a.me at_a.sound) in
+    let first = step-runs s.nodes h a client (noted client one) (one ∷ []) r is_client group (noted-mine a client made at_a.me (right-client client.clock a b credits client.lists server.lists at_a.right)) in
     let between : List Timed = slice_set s.nodes a (noted client one) in
     let is_there : slice_get between b ≡ Some server = set-other s.nodes a b (noted client one) (λ e. two (sym e)) ∙ is_server in
     let at_b = first.nodes b server is_there in
     let taken : Event = PairedServer (length server.lists.servers) a (length client.lists.clients) credits in
     let other : Fact = plain server.lists.me taken in
     let next = pairs_server a (length client.lists.clients) credits may_server (record { facts = refl; goes = refl }) in
-    let second = step-runs between (h ++ one ∷ []) b server (noted server other) (other ∷ []) first is_there next (noted-mine b server taken at_b.me at_b.sound) in
+    let second = step-runs between (h ++ one ∷ []) b server (noted server other) (other ∷ []) first is_there next (noted-mine b server taken at_b.me (right-served server.clock b a credits client.lists server.lists at_b.right)) in
     rw (p.facts, p.left, p.for_client, p.for_server) (subst (λ (y : List Fact). Runs y (slice_set between b (noted server other))) (append_assoc h (one ∷ []) (other ∷ [])) second)
 
 pairs-by : (a b credits : ℕ) (client server : Timed) (e g : Option Event) (s : Stage) (h x : List Fact) (t : Stage) → Runs h s.nodes → (a ≡ b → ⊥) → PairsFew (Pair a b credits) → slice_get s.nodes a ≡ Some client → slice_get s.nodes b ≡ Some server → pair_refusal credits client.lists ≡ e → pair_refusal credits server.lists ≡ g → PairsBy e g a b credits client server s x t → Runs (h ++ x) t.nodes
@@ -156,6 +175,7 @@ does-run (Arrive i) two few = λ s h x t r d. arrive-by i (nat_lt i (length s.fl
 does-run (Lose i) two few = λ s h x t r d. of-net-runs (or_missed s.flight i (Lost i)) s h x t r d
 does-run (Repeat i) two few = λ s h x t r d. of-net-runs (or_missed s.flight i (Repeated i)) s h x t r d
 does-run (Tick by) two few = tick-runs by
+does-run (Work n i) two few = work-runs n i
 does-run (Settle rounds) two few = settles-run rounds
 does-run _ two few = λ s h x t r d. absurd d
 

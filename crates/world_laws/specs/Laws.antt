@@ -1,10 +1,15 @@
 -- The laws of each node in the histories that follow a script.
-use Rattle.std.specs.Prelude.{ℕ, List, []}
+use Rattle.std.specs.Prelude.{ℕ, ◌≡◌, Some, List, [], slice_get}
 use Rattle.end_laws.specs.TwoNodes.{PairsTwoNodes}
+use Rattle.network_model.specs.declared.stage.Stage.{Stage}
+use Rattle.node_laws.specs.CallHistory.{latest_first}
 use Rattle.node_laws.specs.CreditBalance.{Credit}
 use Rattle.node_laws.specs.EndedCalls.{EndsClean}
+use Rattle.node_laws.specs.OlderRequests.{BeginsClean}
+use Rattle.node_laws.specs.RequestHistory.{TellsRequests}
 use Rattle.node_laws.specs.RingLimit.{RingWithin}
 use Rattle.rpc_base.specs.declared.fact.Fact.{Fact}
+use Rattle.rpc_laws.specs.declared.tables.Timed.{Timed}
 use Rattle.rpc_laws.specs.AtMostOnce.{Once}
 use Rattle.script_grammar.specs.declared.line.Line.{Line}
 use Rattle.sim_script.specs.FollowsScript.{Follows}
@@ -27,6 +32,14 @@ OfEveryNode P = OfEveryHistory (EachNode P)
 abbrev pub KeepsRing : List Fact → Type 0
 KeepsRing facts = RingWithin (ring_of facts) [] facts
 
+-- in this stage the table of requests of each node says what the node's facts tell
+abbrev pub TablesTell : List Fact → Stage → Type 0
+TablesTell h end = (n : ℕ) (t : Timed) → slice_get end.nodes n ≡ Some t → TellsRequests (latest_first [] (facts_of n h)) t.lists
+
+-- so it does in the stage that a history of the script leaves
+abbrev pub EndTells : List Line → List Fact → Type 0
+EndTells script h = (f : Follows script h) → TablesTell h f.0
+
 -- each node's facts are its Made and a run that leaves it as it is at the end; no other number has facts
 abbrev pub FollowsRuns : Type 0
 FollowsRuns = (script : List Line) (h : List Fact) → PairsTwoNodes script → PairsFewCredits script → (f : Follows script h) → RunsOf h f.0
@@ -42,6 +55,14 @@ CreditBalances = OfEveryNode Credit
 -- at each end of a call its packets are handed back
 abbrev pub EndedCallsAreNotQueued : Type 0
 EndedCallsAreNotQueued = OfEveryNode (EndsClean [])
+
+-- where a packet of a request is taken, no reply to an older request of its slot is queued or posted later
+abbrev pub OlderRequestsAreNotQueued : Type 0
+OlderRequestsAreNotQueued = OfEveryNode (BeginsClean [])
+
+-- at the end the table of requests of each node says what the node's facts tell
+abbrev pub RequestsTellTheHistory : Type 0
+RequestsTellTheHistory = (script : List Line) (h : List Fact) → PairsTwoNodes script → PairsFewCredits script → EndTells script h
 
 -- a node's ring is never longer than the one that it was made with
 abbrev pub RingFits : Type 0

@@ -5,7 +5,7 @@ ghost use Rattle.rpc_base.specs.declared.fact.Fact.{Fact};
 ghost use Rattle.script_grammar.specs.Conditions.{IsScript};
 ghost use Rattle.script_grammar.specs.declared.line.Line.{Line};
 ghost use Rattle.world_laws.specs.FewCredits.{PairsFewCredits};
-ghost use Rattle.world_laws.specs.Laws.{CreditBalances, EndedCallsAreNotQueued, FollowsRuns, HappensAtMostOnce, RingFits};
+ghost use Rattle.world_laws.specs.Laws.{CreditBalances, EndedCallsAreNotQueued, FollowsRuns, HappensAtMostOnce, OlderRequestsAreNotQueued, RequestsTellTheHistory, RingFits};
 
 /// The facts of each node are its `Made` and a run of that node, which leaves it as the history does.
 pub fn follows_runs()
@@ -26,6 +26,19 @@ pub fn credit_balances()
 /// At the end of a call none of its packets is queued at its node, and none is posted there later.
 pub fn ended_calls_are_not_queued()
     ensures { EndedCallsAreNotQueued }
+{}
+
+/// Where a packet of a request is taken, no reply to an older request of its slot is queued at its node, and
+/// none is posted there later.
+pub fn older_requests_are_not_queued()
+    ensures { OlderRequestsAreNotQueued }
+{}
+
+/// At the end of a history a request is in its node's table exactly where a packet of it was taken there, and
+/// none of a greater number of its slot; and its type and size, how far it has come, its bytes and its answer
+/// are those of the node's facts.
+pub fn requests_tell_the_history()
+    ensures { RequestsTellTheHistory }
 {}
 
 /// At no moment is the receive ring of a node longer than its room.

@@ -4,6 +4,6 @@
 mod laws;
 
 pub use laws::{
-    credit_balances, ended_calls_are_not_queued, follows_runs, happens_at_most_once, ring_fits,
-    scripts_pair_few,
+    credit_balances, ended_calls_are_not_queued, follows_runs, happens_at_most_once,
+    older_requests_are_not_queued, requests_tell_the_history, ring_fits, scripts_pair_few,
 };

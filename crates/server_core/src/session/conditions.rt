@@ -13,8 +13,8 @@ use rpc_base::RequestNo;
 
 impl ServerSession {
     /// The entry of the reply to a packet that was taken of the newest request of a slot, which has this
-    /// number. None comes exactly where another request or none is the newest there, or the packet
-    /// wasn't taken.
+    /// number. None comes exactly where another request or none is the newest there, the packet wasn't
+    /// taken, or it is the last one of a request that a worker has.
     pub fn entry(&self, request: RequestNo, number: u16) -> Option<Entry>
         ensures entry { result ≡ taken_entry request number self.now }
         ensures stands { IfSome result (λ e. IsReplyTo (request_of self.now e) e) }
@@ -22,7 +22,7 @@ impl ServerSession {
         let Some(newest) = self.slots.of_slot(request.slot()) else {
             return None;
         };
-        if newest.number.get() != request.get() || number >= newest.taken {
+        if newest.number.get() != request.get() || !newest.has_reply(number) {
             return None;
         }
         Some(newest.entry(self.number, number, self.peer))

@@ -1,6 +1,6 @@
 //! What a packet that is taken does: a request begins or goes on, and its handler runs after its last
 //! packet.
-ghost use Rattle.std.specs.Prelude.{◌≡◌, ℕ, ◌<◌, ◌≤◌, ◌+◌, ◌*◌, ◌++◌, length, map, take, IfSome, None, Some, true};
+ghost use Rattle.std.specs.Prelude.{◌≡◌, ◌≢◌, ℕ, ◌<◌, ◌≤◌, ◌+◌, ◌*◌, ◌++◌, length, map, take, IfSome, None, Some, false, true};
 ghost use Rattle.std.specs.List.{find};
 ghost use Rattle.rpc_base.specs.Tables.{without_first};
 ghost use Rattle.packet_header.specs.Parts.{packet_count, part_size};
@@ -9,17 +9,18 @@ ghost use Rattle.buffer_pool.specs.Pool.{IsFull, buf_at, emptied, filled, lowest
 ghost use Rattle.rpc_laws.specs.Requests.{answered};
 ghost use Rattle.rpc_laws.specs.ServerTable.{is_last};
 ghost use Rattle.rpc_outside.specs.declared.service.Mode.{Mode};
-ghost use Rattle.rpc_outside.specs.declared.service.Mode.TheVariants.{Inline};
+ghost use Rattle.rpc_outside.specs.declared.service.Mode.TheVariants.{Unserved};
 ghost use Rattle.server_core.specs.KeepsPool.{IsKept, KeepsPool, KeepsSpare, LeavesOthers, own_names};
+ghost use Rattle.server_core.specs.Rows.{gives_job};
 ghost use Rattle.server_core.specs.Replies.{CanHold, MayHold, held_at};
-ghost use Rattle.server_core.specs.Serving.{IsUnheld, given_up, gone_on, next_taken, with_slots, without_answer, without_buffers};
+ghost use Rattle.server_core.specs.Serving.{IsUnheld, given_up, gone_on, next_taken, with_slots, without_answer, without_ask, without_buffers};
 ghost use Rattle.server_core.specs.Session.{IsInTurn, IsMessage, IsSession, is_in_slot, newest};
-ghost use Rattle.server_core.specs.Shown.{message_in, shown, shown_request};
-ghost use Rattle.server_core.specs.Steps.{AreInline, HasTaken, IfReply, IsBeginning, IsNextOf, IsReply, Steps, UnlessRan, UnlessTaken, begun_with, bytes_with, first_shown, gone_on_as, grown};
+ghost use Rattle.server_core.specs.Shown.{ask_in, shown, shown_request};
+ghost use Rattle.server_core.specs.Steps.{AreServed, HasTaken, IfGiven, IfReply, IsBeginning, IsNextOf, IsParcel, IsReply, Steps, UnlessRan, UnlessTaken, begun_with, bytes_with, first_shown, gone_on_as, grown};
 
 use super::ServerSession;
-use crate::running::{make_message, run};
-use crate::slot::{SlotRequest, Stored, is_an_rfr};
+use crate::running::{make_message, make_room, run};
+use crate::slot::{SlotRequest, Stored, is_an_rfr, is_background};
 use crate::slots::Slots;
 use crate::step::Step;
 use buffer_pool::BufferPool;
@@ -27,17 +28,18 @@ use message_buffer::MsgBuf;
 use packet_header::{MessageHeader, PART_BYTES, count};
 use packet_rings::Entry;
 use rpc_base::{DropReason, Place};
-use rpc_outside::Service;
+use rpc_outside::{Mode, Service};
 use std::alloc::Global;
 
 impl ServerSession {
-    // A new request begins with this packet, and its handler runs where it is the only one. The buffers
-    // are made first.
+    // A new request begins with this packet. Where it is the only one, its handler runs, or it goes to a
+    // worker. The buffers are made first.
     pub(super) fn begin<V: Service>(
         &mut self,
         alloc: Global,
         pool: &mut BufferPool,
         service: &mut V,
+        mode: Mode,
         head: &MessageHeader,
         body: &[u8],
     ) -> Step
@@ -46,14 +48,16 @@ impl ServerSession {
         requires spare { 2 ≤ spare_of pool.old }
         requires unheld { IfSome (newest head.now.request self.old) (IsUnheld pool.old) }
         requires beginning { IsBeginning head.now (length body.now) self.old }
-        requires inline { V.mode_of head.now.req_type ≡ Inline }
-        requires all_inline { AreInline V.mode_of self.old.slots }
-        ensures taken { HasTaken (is_last head.now) true result }
+        requires mode { V.mode_of head.now.req_type ≡ mode }
+        requires served { mode ≢ Unserved }
+        requires all_served { AreServed V.mode_of self.old.slots }
+        ensures taken { HasTaken (is_last head.now) (gives_job mode head.now) true result }
         ensures steps { Steps result V.answer (V.stands service.old) (V.stands service.new) head.now body.now (shown pool.old self.old) (shown pool.new self.new) }
         ensures reply { IfReply result (IsReply head.now.request head.now.number self.new pool.new) }
+        ensures give { IfGiven result (IsParcel V.answer (V.stands service.old) head.now body.now (shown pool.old self.old)) }
         ensures service { UnlessRan result (service.new ≡ service.old) }
         ensures session { UnlessTaken result (self.new ≡ self.old) }
-        ensures all_inline { AreInline V.mode_of self.new.slots }
+        ensures all_served { AreServed V.mode_of self.new.slots }
         ensures spare { KeepsSpare self.old.slots self.new.slots pool.old pool.new }
         ensures others { LeavesOthers self.old.slots self.new.slots pool.old pool.new }
         ensures keeps_pool { KeepsPool pool.new self.new.slots }
@@ -65,6 +69,13 @@ impl ServerSession {
             let reply = self.begin_first(pool, head, ask);
             return Step::Took { reply };
         }
+        if is_background(mode) {
+            let Ok(out) = make_room(alloc, service, head.req_type, body) else {
+                return Step::Dropped(DropReason::NoMemory);
+            };
+            let parcel = self.begin_given(pool, head, ask, out);
+            return Step::Give(parcel);
+        }
         let Ok(answer) = run(alloc, service, head.req_type, body) else {
             return Step::Dropped(DropReason::NoMemory);
         };
@@ -72,13 +83,14 @@ impl ServerSession {
         Step::Ran { reply }
     }
 
-    // The next packet of a request is taken, and the handler runs after its last one. The buffer of the
-    // answer is made first.
+    // The next packet of a request is taken. After its last one the handler runs, or the request goes to a
+    // worker. The buffer of the answer is made first.
     pub(super) fn take<V: Service>(
         &mut self,
         alloc: Global,
         pool: &mut BufferPool,
         service: &mut V,
+        mode: Mode,
         head: &MessageHeader,
         body: &[u8],
     ) -> Step
@@ -87,13 +99,15 @@ impl ServerSession {
         requires spare { 0 < spare_of pool.old }
         requires can_hold { IfSome (newest head.now.request self.old) (CanHold pool.old) }
         requires next { IsNextOf head.now (length body.now) (newest head.now.request self.old) }
-        requires all_inline { AreInline V.mode_of self.old.slots }
-        ensures taken { HasTaken (is_last head.now) (is_last head.now) result }
+        requires mode { V.mode_of head.now.req_type ≡ mode }
+        requires all_served { AreServed V.mode_of self.old.slots }
+        ensures taken { HasTaken (is_last head.now) (gives_job mode head.now) (is_last head.now) result }
         ensures steps { Steps result V.answer (V.stands service.old) (V.stands service.new) head.now body.now (shown pool.old self.old) (shown pool.new self.new) }
         ensures reply { IfReply result (IsReply head.now.request head.now.number self.new pool.new) }
+        ensures give { IfGiven result (IsParcel V.answer (V.stands service.old) head.now body.now (shown pool.old self.old)) }
         ensures service { UnlessRan result (service.new ≡ service.old) }
         ensures session { UnlessTaken result (self.new ≡ self.old) }
-        ensures all_inline { AreInline V.mode_of self.new.slots }
+        ensures all_served { AreServed V.mode_of self.new.slots }
         ensures spare { KeepsSpare self.old.slots self.new.slots pool.old pool.new }
         ensures others { LeavesOthers self.old.slots self.new.slots pool.old pool.new }
         ensures keeps_pool { KeepsPool pool.new self.new.slots }
@@ -105,12 +119,22 @@ impl ServerSession {
             let reply = self.take_next(pool, request);
             return Step::Took { reply };
         }
-        self.write_part(pool, &request, body);
+        let Some(place) = request.ask else {
+            unreachable!()
+        };
+        self.write_part(pool, &request, place, body);
         if u32::from(request.taken) + 1 < count(request.size) {
             let reply = self.take_next(pool, request);
             return Step::Took { reply };
         }
-        let ask = pool.get(request.ask).bytes();
+        let ask = pool.get(place).bytes();
+        if is_background(mode) {
+            let Ok(out) = make_room(alloc, service, head.req_type, ask) else {
+                return Step::Dropped(DropReason::NoMemory);
+            };
+            let parcel = self.take_given(pool, request, place, out);
+            return Step::Give(parcel);
+        }
         let Ok(answer) = run(alloc, service, head.req_type, ask) else {
             return Step::Dropped(DropReason::NoMemory);
         };
@@ -128,7 +152,7 @@ impl ServerSession {
         requires len { ask.len ≡ head.now.size }
         requires room { ask.len ≤ capacity_of ask }
         ensures shown { shown pool.new self.new ≡ begun_with (first_shown head.now (bytes_of ask) None) (shown pool.old self.old) }
-        ensures inline { (mode_of : ℕ → Mode) → mode_of head.now.req_type ≡ Inline → AreInline mode_of self.old.slots → AreInline mode_of self.new.slots }
+        ensures served { (mode_of : ℕ → Mode) → mode_of head.now.req_type ≢ Unserved → AreServed mode_of self.old.slots → AreServed mode_of self.new.slots }
         ensures reply { IsReply head.now.request 0 self.new pool.new result }
         ensures spare { KeepsSpare self.old.slots self.new.slots pool.old pool.new }
         ensures others { LeavesOthers self.old.slots self.new.slots pool.old pool.new }
@@ -141,7 +165,8 @@ impl ServerSession {
             req_type: head.req_type,
             size: head.size,
             taken: 1,
-            ask: ask.place,
+            ask: Some(ask.place),
+            working: false,
             answer: None,
         };
         let reply = request.entry(self.number, 0, self.peer);
@@ -167,7 +192,7 @@ impl ServerSession {
         requires answer { IsMessage answer.len }
         requires answer_room { answer.len ≤ capacity_of answer }
         ensures shown { shown pool.new self.new ≡ begun_with (first_shown head.now (bytes_of ask) (Some (bytes_of answer))) (shown pool.old self.old) }
-        ensures inline { (mode_of : ℕ → Mode) → mode_of head.now.req_type ≡ Inline → AreInline mode_of self.old.slots → AreInline mode_of self.new.slots }
+        ensures served { (mode_of : ℕ → Mode) → mode_of head.now.req_type ≢ Unserved → AreServed mode_of self.old.slots → AreServed mode_of self.new.slots }
         ensures reply { IsReply head.now.request 0 self.new pool.new result }
         ensures spare { KeepsSpare self.old.slots self.new.slots pool.old pool.new }
         ensures others { LeavesOthers self.old.slots self.new.slots pool.old pool.new }
@@ -182,7 +207,8 @@ impl ServerSession {
             req_type: head.req_type,
             size: head.size,
             taken: 1,
-            ask: ask.place,
+            ask: Some(ask.place),
+            working: false,
             answer: Some(answer),
         };
         let reply = request.entry(self.number, 0, self.peer);
@@ -195,10 +221,11 @@ impl ServerSession {
         requires keeps_pool { KeepsPool pool.old self.old.slots }
         requires found { newest request.number self.old ≡ Some request }
         requires turn { IsInTurn (next_taken request.answer request) }
+        requires idle { request.working ≡ false }
         requires can_hold { CanHold pool.old request }
         ensures shown { shown pool.new self.new ≡ gone_on_as request.number (grown (bytes_with pool.old request)) (shown pool.old self.old) }
         ensures reply { IsReply request.number request.taken self.new pool.new result }
-        ensures inline { (mode_of : ℕ → Mode) → AreInline mode_of self.old.slots → AreInline mode_of self.new.slots }
+        ensures served { (mode_of : ℕ → Mode) → AreServed mode_of self.old.slots → AreServed mode_of self.new.slots }
         ensures spare { KeepsSpare self.old.slots self.new.slots pool.old pool.new }
         ensures others { LeavesOthers self.old.slots self.new.slots pool.old pool.new }
         ensures keeps_pool { KeepsPool pool.new self.new.slots }
@@ -219,13 +246,14 @@ impl ServerSession {
         requires spare { 0 < spare_of pool.old }
         requires found { newest request.number self.old ≡ Some request }
         requires none { request.answer ≡ None }
+        requires idle { request.working ≡ false }
         requires size { IsMessage request.size }
         requires last { request.taken + 1 ≡ packet_count request.size }
         requires answer { IsMessage answer.len }
         requires answer_room { answer.len ≤ capacity_of answer }
         ensures shown { shown pool.new self.new ≡ gone_on_as request.number (λ x. answered (bytes_of answer) (grown (bytes_with pool.old request) x)) (shown pool.old self.old) }
         ensures reply { IsReply request.number request.taken self.new pool.new result }
-        ensures inline { (mode_of : ℕ → Mode) → AreInline mode_of self.old.slots → AreInline mode_of self.new.slots }
+        ensures served { (mode_of : ℕ → Mode) → AreServed mode_of self.old.slots → AreServed mode_of self.new.slots }
         ensures spare { KeepsSpare self.old.slots self.new.slots pool.old pool.new }
         ensures others { LeavesOthers self.old.slots self.new.slots pool.old pool.new }
         ensures keeps_pool { KeepsPool pool.new self.new.slots }
@@ -245,25 +273,26 @@ impl ServerSession {
 
     // The bytes of the next packet of a request go to their place in its buffer. What is shown doesn't
     // change: the packet isn't taken yet.
-    fn write_part(&self, pool: &mut BufferPool, request: &SlotRequest, body: &[u8])
+    fn write_part(&self, pool: &mut BufferPool, request: &SlotRequest, place: Place, body: &[u8])
         requires session { IsSession self.now }
         requires keeps_pool { KeepsPool pool.old self.now.slots }
         requires found { newest request.now.number self.now ≡ Some request.now }
+        requires asked { request.now.ask ≡ Some place }
         requires within { request.now.taken < packet_count request.now.size }
         requires long { length body.now ≡ part_size request.now.size request.now.taken }
         ensures shown { shown pool.new self.now ≡ shown pool.old self.now }
-        ensures bytes { bytes_with pool.new request.now ≡ take (1024 * request.now.taken) (message_in (buf_at pool.old request.now.ask)) ++ body.now }
+        ensures bytes { bytes_with pool.new request.now ≡ ask_in pool.old request.now.taken request.now.ask ++ body.now }
         ensures uses { pool.new.uses ≡ pool.old.uses }
         ensures others { LeavesOthers self.now.slots self.now.slots pool.old pool.new }
         ensures keeps_pool { KeepsPool pool.new self.now.slots }
     {
         let at = PART_BYTES * u32::from(request.taken);
-        pool.get_mut(request.ask).write(at, body);
+        pool.get_mut(place).write(at, body);
     }
 }
 
-// The newest request of a slot is given up, of which no reply is queued: its buffers leave the pool.
-fn give_up(slots: &mut Slots, pool: &mut BufferPool, slot: u8)
+/// The newest request of a slot is given up, of which no reply is queued: its buffers leave the pool.
+pub(super) fn give_up(slots: &mut Slots, pool: &mut BufferPool, slot: u8)
     requires keeps_pool { KeepsPool pool.old slots.old }
     requires unheld { IfSome (find (is_in_slot slot) slots.old) (IsUnheld pool.old) }
     ensures slots { slots.new ≡ without_first (is_in_slot slot) slots.old }
@@ -283,7 +312,7 @@ pub(super) fn empty_buffers(pool: &mut BufferPool, request: &SlotRequest)
     requires unheld { IsUnheld pool.old request.now }
     ensures { pool.new ≡ without_buffers request.now pool.old }
 {
-    empty_place(pool, request.ask);
+    empty_ask(pool, request.ask);
     empty_answer(pool, request.answer);
 }
 
@@ -298,6 +327,17 @@ fn empty_place(pool: &mut BufferPool, place: Place)
     };
 }
 
+// Drops the buffer of a request, unless it went with a job.
+fn empty_ask(pool: &mut BufferPool, ask: Option<Place>)
+    requires full { IfSome ask (IsFull pool.old) }
+    requires unheld { IfSome ask (λ p. refs_of pool.old p ≡ 0) }
+    ensures { pool.new ≡ without_ask ask pool.old }
+{
+    if let Some(place) = ask {
+        empty_place(pool, place);
+    }
+}
+
 // Drops the buffer of an answer, if there is one.
 fn empty_answer(pool: &mut BufferPool, answer: Option<Stored>)
     requires full { IfSome answer (λ a. IsFull pool.old a.place) }
@@ -309,13 +349,14 @@ fn empty_answer(pool: &mut BufferPool, answer: Option<Stored>)
     }
 }
 
-// Puts a message into the pool, which has an empty place.
-fn put_message(pool: &mut BufferPool, message: MsgBuf) -> Stored
+/// Puts a message into the pool, which has an empty place.
+pub(super) fn put_message(pool: &mut BufferPool, message: MsgBuf) -> Stored
     requires { 0 < spare_of pool.old }
     ensures place { lowest_empty pool.old ≡ Some result.place }
     ensures pool { pool.new ≡ filled result.place message pool.old }
     ensures there { buf_at pool.new result.place ≡ Some message }
     ensures size { result.size ≡ message.len }
+    ensures fits { message.len ≤ capacity_of message }
 {
     let place = pool.put(message);
     let size = pool.get(place).len();

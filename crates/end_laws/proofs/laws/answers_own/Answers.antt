@@ -1,4 +1,4 @@
-use Rattle.end_laws.proofs.GoodStart.{first-good, first-right}
+use Rattle.end_laws.proofs.GoodStart.{first-good, first-right, first-totals}
 use Rattle.end_laws.proofs.OwnLaw.{course-own}
 use Rattle.end_laws.proofs.PairLeads.{follows-course}
 use Rattle.end_laws.specs.Moments.{first_moment}
@@ -7,4 +7,4 @@ use Rattle.end_laws.proofs.laws.answers_own.Goals as goal
 pub returns : goal.returns
 returns c = λ script h two follows.
     let made = follows-course script h two follows in
-    course-own first_moment h made.end made.course first-right first-good
+    course-own first_moment h made.end made.course first-right first-totals first-good

@@ -1,4 +1,6 @@
-use Rattle.sim_node.proofs.ServeLemmas.{begun-noted, still}
+use Rattle.std.proofs.Common.{ap}
+use Rattle.sim_node.proofs.ServeLemmas.{begins-then, begun-noted, still}
+use Rattle.sim_server.specs.Ends.{is_taken}
 use Rattle.sim_node.proofs.serving.begin.Goals as goal
 
 pub take_packet-requires-clause-place : goal.take_packet-requires-clause-place
@@ -17,6 +19,10 @@ pub take_packet-requires-clause-front_body : goal.take_packet-requires-clause-fr
 take_packet-requires-clause-front_body c =
     let kept = still _ _ c.args.head.now _ _ c.in_ok-flush_older.ensures.noted in rw kept.ring c.requires.front_body
 
+pub take_packet-requires-clause-taken : goal.take_packet-requires-clause-taken
+take_packet-requires-clause-taken c =
+    ap is_taken (begins-then _ _ _ _ c.args.body.now _ _ c.requires.row c.in_ok-flush_older.ensures.noted)
+
 pub returns-clause-noted : goal.returns-clause-noted
 returns-clause-noted c =
-    begun-noted _ _ _ _ _ _ _ _ _ c.requires.row c.in_ok-flush_older.ensures.noted c.in_ok-take_packet.ensures.noted
+    begun-noted _ _ _ _ _ _ _ c.requires.row c.in_ok-flush_older.ensures.noted _ _ c.in_ok-take_packet.ensures.noted

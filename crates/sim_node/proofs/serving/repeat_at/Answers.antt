@@ -1,6 +1,10 @@
-use Rattle.sim_node.proofs.ServeLemmas.{repeated}
+use Rattle.sim_node.proofs.ServeLemmas.{repeated, repeated-total}
 use Rattle.sim_node.proofs.serving.repeat_at.Goals as goal
 
-pub returns : goal.returns
-returns c =
-    repeated _ _ _ _ _ _ _ c.requires.place c.at_mut-end.ensures.value c.requires.row c.in_ok-on_packet.ensures.after
+pub returns-clause-servers : goal.returns-clause-servers
+returns-clause-servers c =
+    repeated _ _ _ _ _ _ c.args.body.now c.requires.place c.at_mut-end.ensures.value c.requires.row _ _ c.in_ok-_none.ensures.after
+
+pub returns-clause-service : goal.returns-clause-service
+returns-clause-service c =
+    repeated-total _ _ _ _ _ _ c.args.body.now c.requires.place c.at_mut-end.ensures.value c.requires.row _ _ c.in_ok-_none.ensures.total

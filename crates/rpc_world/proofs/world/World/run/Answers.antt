@@ -1,4 +1,4 @@
-use Rattle.rpc_world.proofs.ServedLaws.{follows-sends-own, follows-own, follows-once, follows-credit, follows-ends-clean, follows-ring}
+use Rattle.rpc_world.proofs.ServedLaws.{follows-sends-own, follows-own, follows-once, follows-credit, follows-ends-clean, follows-begins-clean, follows-ring, follows-requests}
 use Rattle.rpc_world.proofs.world.World.run.Goals as goal
 
 pub returns-clause-sends_own : goal.returns-clause-sends_own
@@ -16,5 +16,11 @@ returns-clause-credit c = follows-credit _ _ c.in_ok-world.ensures.script c.in_o
 pub returns-clause-ends_clean : goal.returns-clause-ends_clean
 returns-clause-ends_clean c = follows-ends-clean _ _ c.in_ok-world.ensures.script c.in_ok-world.ensures.follows
 
+pub returns-clause-begins_clean : goal.returns-clause-begins_clean
+returns-clause-begins_clean c = follows-begins-clean _ _ c.in_ok-world.ensures.script c.in_ok-world.ensures.follows
+
 pub returns-clause-ring : goal.returns-clause-ring
 returns-clause-ring c = follows-ring _ _ c.in_ok-world.ensures.script c.in_ok-world.ensures.follows
+
+pub returns-clause-requests : goal.returns-clause-requests
+returns-clause-requests c = follows-requests _ _ c.in_ok-world.ensures.script

@@ -1,7 +1,9 @@
-use Rattle.std.proofs.Common.{[], ◌∷◌, sym, ap, ◌∙◌, arith}
+use Rattle.std.proofs.Common.{◌≡◌, [], ◌∷◌, refl, sym, ap, ◌∙◌, arith}
+use Rattle.packet_header.specs.Parts.{packet_count}
+use Rattle.packet_header.proofs.PartsLemmas.{packet_count_above}
 use Rattle.server_core.specs.Shown.{shown}
 use Rattle.server_core.specs.Steps.{begun_with}
-use Rattle.server_core.proofs.StepLemmas.{asked-begun, first-ran, first-took, none-shown, ran-begun, took-begun}
+use Rattle.server_core.proofs.StepLemmas.{asked-begun, first-ran, first-took, gave-begun, none-shown, ran-begun, took-begun, whole-first}
 use Rattle.server_core.proofs.session.ServerSession.begin.Goals as goal
 
 pub make_message-requires-clause-first : goal.make_message-requires-clause-first
@@ -13,8 +15,8 @@ returns-then-count-gt1-clause-steps g c =
     let none = none-shown c.args.pool.now c.args.self.now c.args.head.now.request c.requires.session c.requires.beginning.newer in
     took-begun v c.args.head.now c.args.body.now none ∙ ap (λ x. begun_with x v ∷ []) (first-took c.args.head.now c.args.body.now c.in-Ok.ask c.in-Ok.ensures c.requires.beginning.long) ∙ ap (λ w. w ∷ []) (sym c.begin_first-reply.ensures.shown)
 
-pub returns-then-count-gt1-clause-all_inline : goal.returns-then-count-gt1-clause-all_inline
-returns-then-count-gt1-clause-all_inline g c = c.begin_first-reply.ensures.inline g.V.Service.mode_of c.requires.inline c.requires.all_inline
+pub returns-then-count-gt1-clause-all_served : goal.returns-then-count-gt1-clause-all_served
+returns-then-count-gt1-clause-all_served g c = c.begin_first-reply.ensures.served g.V.Service.mode_of (rw c.requires.mode c.requires.served) c.requires.all_served
 
 pub returns-clause-steps : goal.returns-clause-steps
 returns-clause-steps g c = λ served stands.
@@ -27,5 +29,29 @@ returns-clause-steps g c = λ served stands.
       rw asked (c.in-Ok-run.ensures.next served stands),
     )
 
-pub returns-clause-all_inline : goal.returns-clause-all_inline
-returns-clause-all_inline g c = c.begin_whole-reply.ensures.inline g.V.Service.mode_of c.requires.inline c.requires.all_inline
+pub returns-clause-all_served : goal.returns-clause-all_served
+returns-clause-all_served g c = c.begin_whole-reply.ensures.served g.V.Service.mode_of (rw c.requires.mode c.requires.served) c.requires.all_served
+
+pub returns-then-is_background-clause-steps : goal.returns-then-is_background-clause-steps
+returns-then-is_background-clause-steps g c =
+    let v = shown c.args.pool.now c.args.self.now in
+    let none = none-shown c.args.pool.now c.args.self.now c.args.head.now.request c.requires.session c.requires.beginning.newer in
+    gave-begun v c.args.head.now c.args.body.now none ∙ ap (λ w. w ∷ []) (sym c.begin_given-parcel.ensures.shown)
+
+pub returns-then-is_background-clause-give : goal.returns-then-is_background-clause-give
+returns-then-is_background-clause-give g c =
+    let v = shown c.args.pool.now c.args.self.now in
+    let none = none-shown c.args.pool.now c.args.self.now c.args.head.now.request c.requires.session c.requires.beginning.newer in
+    let one : packet_count c.args.head.now.size ≡ 1 = omega (arith, c.if-count-gt1.false, c.count.ensures, packet_count_above c.args.head.now.size) in
+    let own = whole-first c.args.head.now.size c.args.body.now c.in-Ok.ask c.in-Ok.ensures c.requires.beginning.long one in
+    rw c.begin_given-parcel.ensures.parcel (record {
+      session = refl;
+      request = refl;
+      req_type = refl;
+      ask = own ∙ sym (asked-begun v c.args.head.now c.args.body.now none);
+      room = λ served stands. rw own (c.in-Ok-make_room.ensures.room served stands);
+      most = c.in-Ok-make_room.ensures.message.0;
+    })
+
+pub returns-then-is_background-clause-all_served : goal.returns-then-is_background-clause-all_served
+returns-then-is_background-clause-all_served g c = c.begin_given-parcel.ensures.served g.V.Service.mode_of (rw c.requires.mode c.requires.served) c.requires.all_served

@@ -1,9 +1,9 @@
-use Rattle.std.proofs.Common.{None, arith}
+use Rattle.std.proofs.Common.{None, refl, arith}
 use Rattle.std.proofs.lemmas.Bool.{lt-ltb}
 use Rattle.server_core.specs.Serving.{begun, first_taken, with_slots}
 use Rattle.server_core.specs.Session.{newest}
 use Rattle.server_core.specs.contracts.session.ServerSession.{the_view}
-use Rattle.server_core.proofs.BeginLemmas.{begun-inline, begun-newest, first-keeps, first-shows, first-turn, is-reply, return-held}
+use Rattle.server_core.proofs.BeginLemmas.{begun-served, begun-newest, first-keeps, first-shows, first-turn, idle-reply, is-reply, return-held}
 use Rattle.server_core.proofs.GivenLemmas.{spare-given}
 use Rattle.server_core.proofs.SlotLemmas.{begun-session, few-left}
 use Rattle.server_core.proofs.OtherLemmas.{first-others}
@@ -27,14 +27,14 @@ returns-clause-shown c =
     let lowest = rw (c.give_up.ensures.pool, c.slot.ensures) at c.put_message-ask.ensures.place in
     let there = rw (c.put_message-ask.ensures.pool, c.give_up.ensures.pool, c.slot.ensures) at c.put_message-ask.ensures.there in
     rw (c.push.ensures, c.give_up.ensures.slots, c.put_message-ask.ensures.pool, c.give_up.ensures.pool, c.slot.ensures, ← c.self.view_is)
-    (first-shows c.args.pool.now (the_view c.self.inside) c.args.head.now c.put_message-ask.result.place c.args.ask keeps lowest there c.requires.len c.requires.room)
+    (first-shows c.args.pool.now (the_view c.self.inside) c.args.head.now keeps c.put_message-ask.result.place c.args.ask lowest there c.requires.len c.requires.room)
 
 pub returns-clause-reply : goal.returns-clause-reply
 returns-clause-reply c =
     let d = first_taken c.args.head.now c.put_message-ask.result.place None in
     let whole = begun-session (the_view c.self.inside) d c.self.invariant (first-turn c.args.head.now c.put_message-ask.result.place c.requires.size c.requires.many) in
     rw (c.entry-reply.ensures, c.push.ensures, c.give_up.ensures.slots, c.slot.ensures)
-    (is-reply c.put_message-ask.new.pool (with_slots (begun d c.self.inside.slots) (the_view c.self.inside)) d 0 whole (begun-newest (the_view c.self.inside) d c.self.invariant) (omega arith) (return-held c.put_message-ask.new.pool d 0 (lt-ltb 1 _ c.requires.many)))
+    (is-reply c.put_message-ask.new.pool (with_slots (begun d c.self.inside.slots) (the_view c.self.inside)) d 0 whole (begun-newest (the_view c.self.inside) d c.self.invariant) (omega arith) (idle-reply d 0 refl) (return-held c.put_message-ask.new.pool d 0 (lt-ltb 1 _ c.requires.many)))
 
 pub returns-clause-keeps_pool : goal.returns-clause-keeps_pool
 returns-clause-keeps_pool c =
@@ -42,11 +42,11 @@ returns-clause-keeps_pool c =
     let lowest = rw (c.give_up.ensures.pool, c.slot.ensures) at c.put_message-ask.ensures.place in
     let there = rw (c.put_message-ask.ensures.pool, c.give_up.ensures.pool, c.slot.ensures) at c.put_message-ask.ensures.there in
     rw (c.push.ensures, c.give_up.ensures.slots, c.put_message-ask.ensures.pool, c.give_up.ensures.pool, c.slot.ensures)
-    (first-keeps c.args.pool.now (the_view c.self.inside) c.args.head.now c.put_message-ask.result.place c.args.ask keeps lowest there c.requires.len c.requires.room)
+    (first-keeps c.args.pool.now (the_view c.self.inside) c.args.head.now keeps c.put_message-ask.result.place c.args.ask lowest there c.requires.len c.requires.room)
 
-pub returns-clause-inline : goal.returns-clause-inline
-returns-clause-inline c = λ mode_of new all.
-    rw (c.push.ensures, c.give_up.ensures.slots, c.slot.ensures) (begun-inline mode_of c.self.inside.slots (first_taken c.args.head.now c.put_message-ask.result.place None) new (rw (← c.self.view_is) at all))
+pub returns-clause-served : goal.returns-clause-served
+returns-clause-served c = λ mode_of new all.
+    rw (c.push.ensures, c.give_up.ensures.slots, c.slot.ensures) (begun-served mode_of c.self.inside.slots (first_taken c.args.head.now c.put_message-ask.result.place None) new (rw (← c.self.view_is) at all))
 
 pub returns-clause-others : goal.returns-clause-others
 returns-clause-others c =

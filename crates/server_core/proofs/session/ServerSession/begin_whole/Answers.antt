@@ -3,7 +3,7 @@ use Rattle.buffer_pool.specs.Pool.{refs_of}
 use Rattle.server_core.specs.Serving.{begun, first_taken, given_up, with_slots}
 use Rattle.server_core.specs.Session.{newest}
 use Rattle.server_core.specs.contracts.session.ServerSession.{the_view}
-use Rattle.server_core.proofs.BeginLemmas.{answer-held, begun-inline, begun-newest, is-reply, whole-held, whole-keeps, whole-shows, whole-turn}
+use Rattle.server_core.proofs.BeginLemmas.{answer-held, begun-served, begun-newest, idle-reply, is-reply, whole-held, whole-keeps, whole-shows, whole-turn}
 use Rattle.server_core.proofs.GivenLemmas.{spare-given}
 use Rattle.server_core.proofs.PlaceLemmas.{spare-filled}
 use Rattle.server_core.proofs.SlotLemmas.{begun-session, few-left}
@@ -36,7 +36,7 @@ returns-clause-shown c =
     let next = rw (c.put_message-ask.ensures.pool, c.give_up.ensures.pool, c.slot.ensures) at c.put_message-answer.ensures.place in
     let here = rw (c.put_message-answer.ensures.pool, c.put_message-ask.ensures.pool, c.give_up.ensures.pool, c.slot.ensures) at c.put_message-answer.ensures.there in
     rw (c.push.ensures, c.give_up.ensures.slots, c.hold.ensures, c.put_message-answer.ensures.pool, c.put_message-ask.ensures.pool, c.give_up.ensures.pool, c.slot.ensures, ← c.self.view_is)
-    (whole-shows c.args.pool.now (the_view c.self.inside) c.args.head.now c.put_message-ask.result.place c.args.ask keeps lowest there c.requires.len c.requires.room c.put_message-answer.result.place c.args.answer c.put_message-answer.result next here refl c.put_message-answer.ensures.size c.requires.answer_room)
+    (whole-shows c.args.pool.now (the_view c.self.inside) c.args.head.now keeps c.put_message-ask.result.place c.args.ask lowest there c.requires.len c.requires.room c.put_message-answer.result.place c.args.answer c.put_message-answer.result next here refl c.put_message-answer.ensures.size c.requires.answer_room)
 
 pub returns-clause-reply : goal.returns-clause-reply
 returns-clause-reply c =
@@ -47,13 +47,13 @@ returns-clause-reply c =
     let here = rw (c.put_message-answer.ensures.pool, c.put_message-ask.ensures.pool, c.give_up.ensures.pool, c.slot.ensures) at c.put_message-answer.ensures.there in
     let d = first_taken c.args.head.now c.put_message-ask.result.place (Some c.put_message-answer.result) in
     let whole = begun-session (the_view c.self.inside) d c.self.invariant (whole-turn c.args.head.now c.put_message-ask.result.place c.put_message-answer.result c.requires.size c.requires.one (rw c.put_message-answer.ensures.size c.requires.answer)) in
-    let some : 0 < refs_of c.hold.new.self c.put_message-answer.result.place = rw (c.hold.ensures, c.put_message-answer.ensures.pool, c.put_message-ask.ensures.pool, c.give_up.ensures.pool, c.slot.ensures) (whole-held c.args.pool.now (the_view c.self.inside) c.args.head.now c.put_message-ask.result.place c.args.ask keeps lowest there c.requires.len c.requires.room c.put_message-answer.result.place c.args.answer c.put_message-answer.result next here refl c.put_message-answer.ensures.size c.requires.answer_room) in
+    let some : 0 < refs_of c.hold.new.self c.put_message-answer.result.place = rw (c.hold.ensures, c.put_message-answer.ensures.pool, c.put_message-ask.ensures.pool, c.give_up.ensures.pool, c.slot.ensures) (whole-held c.args.pool.now (the_view c.self.inside) c.args.head.now keeps c.put_message-ask.result.place c.args.ask lowest there c.requires.len c.requires.room c.put_message-answer.result.place c.args.answer c.put_message-answer.result next here refl c.put_message-answer.ensures.size c.requires.answer_room) in
     rw (c.entry-reply.ensures, c.push.ensures, c.give_up.ensures.slots, c.slot.ensures)
-    (is-reply c.hold.new.self (with_slots (begun d c.self.inside.slots) (the_view c.self.inside)) d 0 whole (begun-newest (the_view c.self.inside) d c.self.invariant) (omega arith) (answer-held c.hold.new.self d c.put_message-answer.result 0 refl some))
+    (is-reply c.hold.new.self (with_slots (begun d c.self.inside.slots) (the_view c.self.inside)) d 0 whole (begun-newest (the_view c.self.inside) d c.self.invariant) (omega arith) (idle-reply d 0 refl) (answer-held c.hold.new.self d c.put_message-answer.result 0 refl some))
 
-pub returns-clause-inline : goal.returns-clause-inline
-returns-clause-inline c = λ mode_of new all.
-    rw (c.push.ensures, c.give_up.ensures.slots, c.slot.ensures) (begun-inline mode_of c.self.inside.slots (first_taken c.args.head.now c.put_message-ask.result.place (Some c.put_message-answer.result)) new (rw (← c.self.view_is) at all))
+pub returns-clause-served : goal.returns-clause-served
+returns-clause-served c = λ mode_of new all.
+    rw (c.push.ensures, c.give_up.ensures.slots, c.slot.ensures) (begun-served mode_of c.self.inside.slots (first_taken c.args.head.now c.put_message-ask.result.place (Some c.put_message-answer.result)) new (rw (← c.self.view_is) at all))
 
 pub returns-clause-keeps_pool : goal.returns-clause-keeps_pool
 returns-clause-keeps_pool c =
@@ -63,7 +63,7 @@ returns-clause-keeps_pool c =
     let next = rw (c.put_message-ask.ensures.pool, c.give_up.ensures.pool, c.slot.ensures) at c.put_message-answer.ensures.place in
     let here = rw (c.put_message-answer.ensures.pool, c.put_message-ask.ensures.pool, c.give_up.ensures.pool, c.slot.ensures) at c.put_message-answer.ensures.there in
     rw (c.push.ensures, c.give_up.ensures.slots, c.hold.ensures, c.put_message-answer.ensures.pool, c.put_message-ask.ensures.pool, c.give_up.ensures.pool, c.slot.ensures)
-    (whole-keeps c.args.pool.now (the_view c.self.inside) c.args.head.now c.put_message-ask.result.place c.args.ask keeps lowest there c.requires.len c.requires.room c.put_message-answer.result.place c.args.answer c.put_message-answer.result next here refl c.put_message-answer.ensures.size c.requires.answer_room)
+    (whole-keeps c.args.pool.now (the_view c.self.inside) c.args.head.now keeps c.put_message-ask.result.place c.args.ask lowest there c.requires.len c.requires.room c.put_message-answer.result.place c.args.answer c.put_message-answer.result next here refl c.put_message-answer.ensures.size c.requires.answer_room)
 
 pub returns-clause-others : goal.returns-clause-others
 returns-clause-others c =

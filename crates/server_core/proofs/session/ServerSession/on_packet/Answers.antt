@@ -4,4 +4,4 @@ use Rattle.server_core.proofs.session.ServerSession.on_packet.Goals as goal
 
 pub begin-requires-clause-beginning : goal.begin-requires-clause-beginning
 begin-requires-clause-beginning g c =
-    (row-begins c.is_inline-served.result c.args.head.now _ c.args.self.now c.requires.asking (sym c.in-Begins.ensures.row)).0
+    (row-begins c.mode-mode.result c.args.jobs_full c.args.head.now _ c.args.self.now c.requires.asking (sym c.in-Begins.ensures.row)).0

@@ -28,7 +28,7 @@ returns-clause-reply c =
     let again = rw found at c.requires.again in
     let some = is-held-at c.args.pool.now c.in-Some.request c.args.head.now.number kept in
     rw (← c.self.view_is, c.hold.ensures, ap (λ e. held_at e.place c.args.pool.now) (c.reply.view_is ∙ c.entry-reply.ensures), c.entry-reply.ensures)
-    (is-reply-of _ (the_view c.self.inside) c.in-Some.request c.args.head.now.request c.args.head.now.number c.self.invariant slot again.0 again.1 some)
+    (is-reply-of _ (the_view c.self.inside) c.in-Some.request c.args.head.now.request c.args.head.now.number c.self.invariant slot again.same again.taken again.there some)
 
 pub returns-clause-keeps_pool : goal.returns-clause-keeps_pool
 returns-clause-keeps_pool c =
@@ -37,7 +37,7 @@ returns-clause-keeps_pool c =
     let again = rw found at c.requires.again in
     let keeps = rw (← c.self.view_is) at c.requires.keeps_pool in
     rw (c.hold.ensures, ap (λ e. held_at e.place c.args.pool.now) (c.reply.view_is ∙ c.entry-reply.ensures), ← c.self.view_is)
-    (again-keeps c.args.pool.now (the_view c.self.inside) c.in-Some.request c.self.invariant (ap (λ n. newest n (the_view c.self.inside)) again.0 ∙ slot) keeps c.args.head.now.number)
+    (again-keeps c.args.pool.now (the_view c.self.inside) c.in-Some.request c.self.invariant (ap (λ n. newest n (the_view c.self.inside)) again.same ∙ slot) keeps c.args.head.now.number)
 
 pub returns-clause-others : goal.returns-clause-others
 returns-clause-others c =

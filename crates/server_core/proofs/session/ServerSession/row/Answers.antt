@@ -4,4 +4,4 @@ use Rattle.server_core.proofs.session.ServerSession.row.Goals as goal
 
 pub returns-clause-rule : goal.returns-clause-rule
 returns-clause-rule c = λ pool keeps same.
-    row-shown pool c.args.served c.args.head.now c.args.self.now keeps same ∙ sym c.slot_row.ensures.row
+    row-shown pool c.args.mode c.args.jobs_full c.args.head.now c.args.self.now keeps same ∙ sym c.slot_row.ensures.row

@@ -3,9 +3,9 @@ use Rattle.packet_header.proofs.PartsLemmas.{packet_count_most}
 use Rattle.buffer_pool.specs.Pool.{refs_of}
 use Rattle.server_core.specs.Serving.{gone_on, next_taken, with_slots}
 use Rattle.server_core.specs.contracts.session.ServerSession.{the_view}
-use Rattle.server_core.proofs.BeginLemmas.{answer-held, is-reply}
+use Rattle.server_core.proofs.BeginLemmas.{answer-held, idle-reply, is-reply}
 use Rattle.server_core.proofs.SlotLemmas.{gone-session}
-use Rattle.server_core.proofs.TakeLemmas.{gone-inline, gone-newest, last-held, last-keeps, last-shows, last-turn}
+use Rattle.server_core.proofs.TakeLemmas.{gone-served, gone-newest, last-held, last-keeps, last-shows, last-turn}
 use Rattle.server_core.proofs.OtherLemmas.{last-others}
 use Rattle.server_core.proofs.SpareLemmas.{last-spare}
 use Rattle.server_core.proofs.session.ServerSession.take_last.Goals as goal
@@ -16,7 +16,7 @@ overflow_add-request c = omega (arith, packet_count_most c.args.request.size c.r
 pub invariant_of-self : goal.invariant_of-self
 invariant_of-self c =
     let found = rw (← c.self.view_is) at c.requires.found in
-    rw c.replace.ensures (gone-session (the_view c.self.inside) c.args.request (next_taken (Some c.put_message-answer.result) c.args.request) c.self.invariant (last-turn c.args.request c.put_message-answer.result c.requires.size (rw c.put_message-answer.ensures.size c.requires.answer) c.requires.last) refl found)
+    rw c.replace.ensures (gone-session (the_view c.self.inside) c.args.request (next_taken (Some c.put_message-answer.result) c.args.request) c.self.invariant (last-turn c.args.request c.put_message-answer.result c.requires.idle c.requires.size (rw c.put_message-answer.ensures.size c.requires.answer) c.requires.last) refl found)
 
 pub returns-clause-shown : goal.returns-clause-shown
 returns-clause-shown c =
@@ -24,7 +24,7 @@ returns-clause-shown c =
     let keeps = rw (← c.self.view_is) at c.requires.keeps_pool in
     let there = rw c.put_message-answer.ensures.pool at c.put_message-answer.ensures.there in
     rw (c.replace.ensures, c.hold.ensures, c.put_message-answer.ensures.pool, ← c.self.view_is)
-    (last-shows c.args.pool.now (the_view c.self.inside) c.args.request c.self.invariant found keeps c.put_message-answer.result.place c.args.answer c.put_message-answer.result c.requires.none c.put_message-answer.ensures.place there refl c.put_message-answer.ensures.size c.requires.answer_room)
+    (last-shows c.args.pool.now (the_view c.self.inside) c.args.request c.self.invariant found keeps c.put_message-answer.result.place c.args.answer c.put_message-answer.result c.requires.none c.requires.idle c.put_message-answer.ensures.place there refl c.put_message-answer.ensures.size c.requires.answer_room)
 
 pub returns-clause-reply : goal.returns-clause-reply
 returns-clause-reply c =
@@ -32,17 +32,17 @@ returns-clause-reply c =
     let keeps = rw (← c.self.view_is) at c.requires.keeps_pool in
     let there = rw c.put_message-answer.ensures.pool at c.put_message-answer.ensures.there in
     let d = next_taken (Some c.put_message-answer.result) c.args.request in
-    let whole = gone-session (the_view c.self.inside) c.args.request d c.self.invariant (last-turn c.args.request c.put_message-answer.result c.requires.size (rw c.put_message-answer.ensures.size c.requires.answer) c.requires.last) refl found in
+    let whole = gone-session (the_view c.self.inside) c.args.request d c.self.invariant (last-turn c.args.request c.put_message-answer.result c.requires.idle c.requires.size (rw c.put_message-answer.ensures.size c.requires.answer) c.requires.last) refl found in
     let below : c.args.request.taken < d.taken = omega arith in
-    let some : 0 < refs_of c.hold.new.self c.put_message-answer.result.place = rw (c.hold.ensures, c.put_message-answer.ensures.pool) (last-held c.args.pool.now (the_view c.self.inside) c.args.request c.self.invariant found keeps c.put_message-answer.result.place c.args.answer c.put_message-answer.result c.requires.none c.put_message-answer.ensures.place there refl c.put_message-answer.ensures.size c.requires.answer_room) in
+    let some : 0 < refs_of c.hold.new.self c.put_message-answer.result.place = rw (c.hold.ensures, c.put_message-answer.ensures.pool) (last-held c.args.pool.now (the_view c.self.inside) c.args.request c.self.invariant found keeps d refl refl refl c.put_message-answer.result.place c.args.answer c.put_message-answer.result c.requires.none refl c.put_message-answer.ensures.place there refl c.put_message-answer.ensures.size c.requires.answer_room) in
     rw (c.entry-reply.ensures, c.replace.ensures)
-    (is-reply c.hold.new.self (with_slots (gone_on d c.self.inside.slots) (the_view c.self.inside)) d c.args.request.taken whole (gone-newest c.args.pool.now (the_view c.self.inside) c.args.request c.self.invariant found keeps d refl) below (answer-held c.hold.new.self d c.put_message-answer.result c.args.request.taken refl some))
+    (is-reply c.hold.new.self (with_slots (gone_on d c.self.inside.slots) (the_view c.self.inside)) d c.args.request.taken whole (gone-newest c.args.pool.now (the_view c.self.inside) c.args.request c.self.invariant found keeps d refl) below (idle-reply d c.args.request.taken c.requires.idle) (answer-held c.hold.new.self d c.put_message-answer.result c.args.request.taken refl some))
 
-pub returns-clause-inline : goal.returns-clause-inline
-returns-clause-inline c = λ mode_of all.
+pub returns-clause-served : goal.returns-clause-served
+returns-clause-served c = λ mode_of all.
     let found = rw (← c.self.view_is) at c.requires.found in
     let keeps = rw (← c.self.view_is) at c.requires.keeps_pool in
-    rw c.replace.ensures (gone-inline c.args.pool.now (the_view c.self.inside) c.args.request c.self.invariant found keeps mode_of (next_taken (Some c.put_message-answer.result) c.args.request) refl refl (rw (← c.self.view_is) at all))
+    rw c.replace.ensures (gone-served c.args.pool.now (the_view c.self.inside) c.args.request c.self.invariant found keeps mode_of (next_taken (Some c.put_message-answer.result) c.args.request) refl refl (rw (← c.self.view_is) at all))
 
 pub returns-clause-keeps_pool : goal.returns-clause-keeps_pool
 returns-clause-keeps_pool c =
@@ -50,17 +50,17 @@ returns-clause-keeps_pool c =
     let keeps = rw (← c.self.view_is) at c.requires.keeps_pool in
     let there = rw c.put_message-answer.ensures.pool at c.put_message-answer.ensures.there in
     rw (c.replace.ensures, c.hold.ensures, c.put_message-answer.ensures.pool)
-    (last-keeps c.args.pool.now (the_view c.self.inside) c.args.request c.self.invariant found keeps c.put_message-answer.result.place c.args.answer c.put_message-answer.result c.requires.none c.put_message-answer.ensures.place there refl c.put_message-answer.ensures.size c.requires.answer_room)
+    (last-keeps c.args.pool.now (the_view c.self.inside) c.args.request c.self.invariant found keeps (next_taken (Some c.put_message-answer.result) c.args.request) refl refl refl c.put_message-answer.result.place c.args.answer c.put_message-answer.result c.requires.none refl c.put_message-answer.ensures.place there refl c.put_message-answer.ensures.size c.requires.answer_room)
 
 pub returns-clause-others : goal.returns-clause-others
 returns-clause-others c =
     let found = rw (← c.self.view_is) at c.requires.found in
     rw (c.replace.ensures, c.hold.ensures, c.put_message-answer.ensures.pool, ← c.self.view_is)
-    (last-others c.args.pool.now (the_view c.self.inside) c.args.request c.args.request.number found refl c.requires.none c.put_message-answer.result.place c.args.answer c.put_message-answer.result c.put_message-answer.ensures.place refl)
+    (last-others c.args.pool.now (the_view c.self.inside) c.args.request c.args.request.number found (next_taken (Some c.put_message-answer.result) c.args.request) refl refl refl c.put_message-answer.result.place c.args.answer c.put_message-answer.result refl c.put_message-answer.ensures.place refl)
 
 pub returns-clause-spare : goal.returns-clause-spare
 returns-clause-spare c =
     let found = rw (← c.self.view_is) at c.requires.found in
     let keeps = rw (← c.self.view_is) at c.requires.keeps_pool in
     rw (c.replace.ensures, c.hold.ensures, c.put_message-answer.ensures.pool, ← c.self.view_is)
-    (last-spare c.args.pool.now (the_view c.self.inside) c.args.request c.args.request.number keeps found refl c.requires.none c.put_message-answer.result.place c.args.answer c.put_message-answer.result c.put_message-answer.ensures.place refl)
+    (last-spare c.args.pool.now (the_view c.self.inside) c.args.request c.args.request.number keeps found (next_taken (Some c.put_message-answer.result) c.args.request) refl refl refl c.requires.none c.put_message-answer.result.place c.args.answer c.put_message-answer.result refl c.put_message-answer.ensures.place refl)

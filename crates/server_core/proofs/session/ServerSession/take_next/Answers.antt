@@ -2,9 +2,9 @@ use Rattle.std.proofs.Common.{◌<◌, refl, ap, ◌∙◌, arith}
 use Rattle.server_core.specs.Replies.{held_at}
 use Rattle.server_core.specs.Serving.{gone_on, next_taken, with_slots}
 use Rattle.server_core.specs.contracts.session.ServerSession.{the_view}
-use Rattle.server_core.proofs.BeginLemmas.{is-reply}
+use Rattle.server_core.proofs.BeginLemmas.{idle-reply, is-reply}
 use Rattle.server_core.proofs.SlotLemmas.{gone-session}
-use Rattle.server_core.proofs.TakeLemmas.{gone-inline, gone-newest, is-held-at, may-hold, next-keeps, next-shows, own-beside}
+use Rattle.server_core.proofs.TakeLemmas.{gone-served, gone-newest, is-held-at, may-hold, next-keeps, next-shows, own-beside}
 use Rattle.server_core.proofs.OtherLemmas.{next-others}
 use Rattle.server_core.proofs.SpareLemmas.{next-spare}
 use Rattle.server_core.proofs.session.ServerSession.take_next.Goals as goal
@@ -37,13 +37,13 @@ returns-clause-reply c =
     let whole = gone-session (the_view c.self.inside) c.args.request d c.self.invariant c.requires.turn refl found in
     let below : c.args.request.taken < d.taken = omega arith in
     rw (c.entry-reply.ensures, c.replace.ensures, c.hold.ensures, ap (λ e. held_at e.place c.args.pool.now) (c.reply.view_is ∙ c.entry-reply.ensures))
-    (is-reply _ (with_slots (gone_on d c.self.inside.slots) (the_view c.self.inside)) d c.args.request.taken whole (gone-newest c.args.pool.now (the_view c.self.inside) c.args.request c.self.invariant found keeps d refl) below (is-held-at c.args.pool.now c.args.request c.args.request.taken beside.own))
+    (is-reply _ (with_slots (gone_on d c.self.inside.slots) (the_view c.self.inside)) d c.args.request.taken whole (gone-newest c.args.pool.now (the_view c.self.inside) c.args.request c.self.invariant found keeps d refl) below (idle-reply d c.args.request.taken c.requires.idle) (is-held-at c.args.pool.now c.args.request c.args.request.taken beside.own))
 
-pub returns-clause-inline : goal.returns-clause-inline
-returns-clause-inline c = λ mode_of all.
+pub returns-clause-served : goal.returns-clause-served
+returns-clause-served c = λ mode_of all.
     let found = rw (← c.self.view_is) at c.requires.found in
     let keeps = rw (← c.self.view_is) at c.requires.keeps_pool in
-    rw c.replace.ensures (gone-inline c.args.pool.now (the_view c.self.inside) c.args.request c.self.invariant found keeps mode_of (next_taken c.args.request.answer c.args.request) refl refl (rw (← c.self.view_is) at all))
+    rw c.replace.ensures (gone-served c.args.pool.now (the_view c.self.inside) c.args.request c.self.invariant found keeps mode_of (next_taken c.args.request.answer c.args.request) refl refl (rw (← c.self.view_is) at all))
 
 pub returns-clause-keeps_pool : goal.returns-clause-keeps_pool
 returns-clause-keeps_pool c =

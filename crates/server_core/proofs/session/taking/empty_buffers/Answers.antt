@@ -1,11 +1,17 @@
 use Rattle.std.proofs.Common.{[]}
-use Rattle.server_core.proofs.GivenLemmas.{alone, answer-full, answer-unheld}
+use Rattle.server_core.proofs.GivenLemmas.{alone, answer-full, answer-unheld, ask-full}
 use Rattle.server_core.proofs.session.taking.empty_buffers.Goals as goal
+
+pub empty_ask-requires-clause-full : goal.empty_ask-requires-clause-full
+empty_ask-requires-clause-full c = (ask-full c.args.pool.now c.args.request.now.size c.args.request.now.ask c.requires.kept.ask).0
+
+pub empty_ask-requires-clause-unheld : goal.empty_ask-requires-clause-unheld
+empty_ask-requires-clause-unheld c = (ask-full c.args.pool.now c.args.request.now.size c.args.request.now.ask c.requires.kept.ask).1
 
 pub empty_answer-requires-clause-full : goal.empty_answer-requires-clause-full
 empty_answer-requires-clause-full c =
-    rw c.empty_place.ensures (answer-full c.args.pool.now c.args.request.now [] (alone c.args.pool.now c.args.request.now c.requires.kept c.requires.apart))
+    rw c.empty_ask.ensures (answer-full c.args.pool.now c.args.request.now [] (alone c.args.pool.now c.args.request.now c.requires.kept c.requires.apart))
 
 pub empty_answer-requires-clause-unheld : goal.empty_answer-requires-clause-unheld
 empty_answer-requires-clause-unheld c =
-    rw c.empty_place.ensures (answer-unheld c.args.pool.now c.args.request.now [] (alone c.args.pool.now c.args.request.now c.requires.kept c.requires.apart) c.requires.unheld)
+    rw c.empty_ask.ensures (answer-unheld c.args.pool.now c.args.request.now [] (alone c.args.pool.now c.args.request.now c.requires.kept c.requires.apart) c.requires.unheld)

@@ -1,0 +1,296 @@
+-- The jobs of a node stay those of requests that stand in their slots, each of another one.
+use Rattle.std.proofs.Common.{◌≡◌, ◌≤◌, ◌+◌, ◌==◌, ◌⊎◌, inl, inr, ℕ, Bool, true, false, cond, List, [], ◌∷◌, ◌++◌, Option, Some, None, refl, sym, ap, ◌∙◌, subst, arith, eq-eqb}
+use Rattle.std.specs.Prelude.{◌%◌, count_by, option_to_list, slice_get}
+use Rattle.std.specs.List.{find, list_any, AllByRecursion}
+use Rattle.std.proofs.lemmas.Bool.{eqb-true, and_parts}
+use Rattle.packet_header.specs.declared.packet.MessageHeader.{MessageHeader}
+use Rattle.rpc_base.specs.Tables.{at_first, without_first}
+use Rattle.rpc_base.proofs.TakingLemmas.{find-passes}
+use Rattle.rpc_base.specs.declared.event.Event.{Event}
+use Rattle.rpc_base.specs.declared.event.Event.TheVariants.{PairedServer, Took, Given, Worked, Ran}
+use Rattle.rpc_base.specs.declared.owner.Owner.TheVariants.{Ask, Reply, Control}
+use Rattle.rpc_laws.specs.declared.tables.InFlight.{InFlight}
+use Rattle.rpc_laws.specs.declared.tables.Job.{Job}
+use Rattle.rpc_laws.specs.declared.tables.Jobs.{Jobs}
+use Rattle.rpc_laws.specs.declared.tables.Lists.{Lists}
+use Rattle.rpc_laws.specs.declared.tables.Served.{Served}
+use Rattle.rpc_laws.specs.declared.tables.Server.{Server}
+use Rattle.rpc_laws.specs.Front.{front_header, front_body}
+use Rattle.rpc_laws.specs.Jobs.{is_job, job_of, new_job, jobs_after}
+use Rattle.rpc_laws.specs.Requests.{is_server, is_request, in_slot_of, first_packet, next_packet, took_packet, given, answered, servers_after}
+use Rattle.end_laws.proofs.Allowed.{TakesOf, IsWhole, MayServe, MayFinish, May}
+use Rattle.end_laws.proofs.AskSteps.{slots-found}
+use Rattle.end_laws.proofs.CountLemmas.{count-append, count-one, count-out, count-none, none-count}
+use Rattle.end_laws.proofs.ListLemmas.{false-true, all-append, all-both, all-map, all-add, all-without, all-found, find-first, find-after, find-without, find-add}
+use Rattle.end_laws.proofs.QueueLemmas.{server-after, stands-same, RightNode}
+use Rattle.end_laws.proofs.Rights.{Stands, JobFits, JobsRight, stands-right}
+use Rattle.end_laws.proofs.SlotLemmas.{with_slots, Apart, Sound, any-find, slot-of-request}
+
+-- what a worker has still stands, with as many packets or more
+pub record KeptSlot (slots : List Served) (r : ℕ) (q : Served) : Type 0 where
+  pub now : Served
+  pub is_there : find (is_request r) slots ≡ Some now
+  pub working : now.working ≡ true
+  pub taken : q.taken ≤ now.taken
+
+self-le : (n : ℕ) → n ≤ n
+self-le n = omega arith
+
+-- a request that goes on, or becomes a job
+changed-kept : (slots : List Served) (n : ℕ) (change : Served → Served) (r : ℕ) (q : Served) → ((x : Served) → (change x).number ≡ x.number) → ((x : Served) → x.taken ≤ (change x).taken) → ((x : Served) → x.working ≡ true → (change x).working ≡ true) → find (is_request r) slots ≡ Some q → q.working ≡ true → KeptSlot (at_first (is_request n) change slots) r q
+changed-kept slots n change r q number taken works is w =
+    elim (find-after (is_request n) (is_request r) change slots q (λ x. ap (λ (m : ℕ). m == r) (number x)) is) [
+      | inl e ↦ record { now = q; is_there = e; working = w; taken = self-le q.taken }
+      | inr c ↦ record { now = change q; is_there = c.is; working = works q w; taken = taken q }
+    ]
+
+-- another request is answered
+answered-kept : (slots : List Served) (n : ℕ) (answer : List ℕ) (r : ℕ) (q : Served) → (r ≡ n → ⊥) → find (is_request r) slots ≡ Some q → q.working ≡ true → KeptSlot (at_first (is_request n) (answered answer) slots) r q
+answered-kept slots n answer r q other is w =
+    elim (find-after (is_request n) (is_request r) (answered answer) slots q (λ x. refl) is) [
+      | inl e ↦ record { now = q; is_there = e; working = w; taken = self-le q.taken }
+      | inr c ↦ absurd (other (sym (eqb-true q.number r (find-passes (is_request r) slots q is)) ∙ eqb-true q.number n c.passes))
+    ]
+
+out-of-slot : (n r : ℕ) (slots : List Served) (q : Served) (b : Bool) → in_slot_of n q ≡ b → Apart slots → find (is_request r) slots ≡ Some q → q.working ≡ true → ((z : Served) → find (in_slot_of n) slots ≡ Some z → z.working ≡ false) → b ≡ false
+out-of-slot n r slots q true t a is w idle =
+    let mine : q.number ≡ r = eqb-true q.number r (find-passes (is_request r) slots q is) in
+    let here : q.number % 8 ≡ n % 8 = eqb-true (q.number % 8) (n % 8) t in
+    let slot : r % 8 ≡ n % 8 = ap (λ (m : ℕ). m % 8) (sym mine) ∙ here in
+    let at : find (in_slot_of n) slots ≡ Some q = ap (λ k. find (λ (z : Served). z.number % 8 == k) slots) (sym slot) ∙ slot-of-request r slots q a is in
+    false-true (sym (idle q at) ∙ w)
+out-of-slot n r slots q false t a is w idle = refl
+
+took-kept : (going : Option Served) (slots : List Served) (h : MessageHeader) (body : List ℕ) (r : ℕ) (q : Served) → Apart slots → TakesOf going slots h → find (is_request r) slots ≡ Some q → q.working ≡ true → KeptSlot (took_packet h.request (Some h) body slots) r q
+took-kept None slots h body r q a t is w =
+    let none : list_any (is_request h.request) slots ≡ false = t.2 in
+    let idle : (z : Served) → find (in_slot_of h.request) slots ≡ Some z → z.working ≡ false = λ z e. (t.3 z e).1 in
+    let out : in_slot_of h.request q ≡ false = out-of-slot h.request r slots q _ refl a is w idle in
+    rw none (record {
+      now = q;
+      is_there = find-add (is_request r) (without_first (in_slot_of h.request) slots) (first_packet h.request h body) q (find-without (in_slot_of h.request) (is_request r) slots q is out);
+      working = w;
+      taken = self-le q.taken;
+    })
+took-kept (Some g) slots h body r q a t is w =
+    let any : list_any (is_request h.request) slots ≡ true = any-find (is_request h.request) slots g t.0 in
+    rw any (changed-kept slots h.request (next_packet body) r q (λ x. refl) (λ x. omega arith) (λ x k. k) is w)
+
+-- in whatever session it stands
+pub record Kept (xs : List Server) (t r : ℕ) (q : Served) : Type 0 where
+  pub now : Served
+  pub stands : Stands xs t r now
+  pub working : now.working ≡ true
+  pub taken : q.taken ≤ now.taken
+
+kept-same : (xs : List Server) (t r : ℕ) (q : Served) → Stands xs t r q → q.working ≡ true → Kept xs t r q
+kept-same xs t r q s w = record { now = q; stands = s; working = w; taken = self-le q.taken }
+
+-- the slots of one session change
+kept-by : (xs : List Server) (t r n : ℕ) (change : List Served → List Served) (q : Served) → (s : Stands xs t r q) → q.working ≡ true → ((v : Server) → find (is_server n) xs ≡ Some v → v ≡ s.server → t ≡ n → KeptSlot (change v.slots) r q) → Kept (at_first (is_server n) (with_slots change) xs) t r q
+kept-by xs t r n change q s w after =
+    elim (server-after t n change xs s.server s.found) [
+      | inl e ↦ record { now = q; stands = record { server = s.server; found = e; is_there = s.is_there }; working = w; taken = self-le q.taken }
+      | inr c ↦ (let mine : t ≡ n = sym (eqb-true s.server.way.number t (find-passes (is_server t) xs s.server s.found)) ∙ eqb-true s.server.way.number n c.passes in
+          let k = after s.server c.first refl mine in
+          record { now = k.now; stands = record { server = with_slots change s.server; found = c.is; is_there = k.is_there }; working = k.working; taken = k.taken })
+    ]
+
+-- the facts that answer a request are apart
+abbrev pub answers : ℕ → ℕ → Event → Type 0
+answers t r (Ran n p y) = (t ≡ n) × (r ≡ p)
+answers t r _ = ⊥
+
+kept-after : (hand : Option InFlight) (l : Lists) (e : Event) (first second : List ℕ) (t r : ℕ) (q : Served) → Sound l → May hand l e first second → (answers t r e → ⊥) → Stands l.servers t r q → q.working ≡ true → Kept (servers_after e second (front_header l.ring) (front_body l.ring) l.servers) t r q
+kept-after hand l (PairedServer n peer s credits) first second t r q i m other h w = absurd m
+kept-after hand l (Took (Ask s n) j) first second t r q i m other h w = kept-same l.servers t r q h w
+kept-after hand l (Took Control j) first second t r q i m other h w = kept-same l.servers t r q h w
+kept-after hand l (Took (Reply n p) j) first second t r q i m other h w =
+    kept-by l.servers t r n (took_packet p (front_header l.ring) (front_body l.ring)) q h w
+    (λ v is same mine. let found = m.found in
+    let this : m.server ≡ v = cc in
+    let apart : Apart v.slots = all-found (λ v. Apart v.slots) (is_server n) l.servers v i is in
+    let takes : TakesOf m.going v.slots m.header = subst (λ (z : Server). TakesOf m.going z.slots m.header) this m.takes in
+    let at : find (is_request r) v.slots ≡ Some q = subst (λ (z : Server). find (is_request r) z.slots ≡ Some q) (sym same) h.is_there in
+    rw (m.is_front.reads, m.of_request) (took-kept m.going v.slots m.header (front_body l.ring) r q apart takes at w))
+kept-after hand l (Given n p) first second t r q i m other h w =
+    kept-by l.servers t r n (at_first (is_request p) given) q h w
+    (λ v is same mine. let at : find (is_request r) v.slots ≡ Some q = subst (λ (z : Server). find (is_request r) z.slots ≡ Some q) (sym same) h.is_there in
+    changed-kept v.slots p given r q (λ x. refl) (λ x. self-le x.taken) (λ x k. refl) at w)
+kept-after hand l (Ran n p y) first second t r q i m other h w =
+    kept-by l.servers t r n (at_first (is_request p) (answered second)) q h w
+    (λ v is same mine. let at : find (is_request r) v.slots ≡ Some q = subst (λ (z : Server). find (is_request r) z.slots ≡ Some q) (sym same) h.is_there in
+    answered-kept v.slots p second r q (λ x. other (mine, x)) at w)
+kept-after hand l _ first second t r q i m other h w = kept-same l.servers t r q h w
+
+fits-after : (hand : Option InFlight) (l : Lists) (e : Event) (first second : List ℕ) (job : Job) → Sound l → May hand l e first second → (answers job.session job.request e → ⊥) → JobFits l.servers job → JobFits (servers_after e second (front_header l.ring) (front_body l.ring) l.servers) job
+fits-after hand l e first second job i m other h =
+    let k = kept-after hand l e first second job.session job.request h.request i m other h.stands h.working in
+    let long = h.long in
+    let more = k.taken in
+    record { request = k.now; stands = k.stands; working = k.working; long = omega arith }
+
+-- a job of the request that no worker has isn't there
+idle-by : (xs : List Server) (t r : ℕ) (q : Served) (job : Job) (b : Bool) → is_job t r job ≡ b → Stands xs t r q → q.working ≡ false → JobFits xs job → b ≡ false
+idle-by xs t r q job true e s idle h =
+    let parts = and_parts (job.session == t) (job.request == r) e in
+    let mine : Stands xs t r h.request = rw (← eqb-true job.session t parts.0, ← eqb-true job.request r parts.1) h.stands in
+    let same : h.request ≡ q = stands-same xs t r h.request mine s.server s.found q s.is_there in
+    false-true (sym idle ∙ (ap (λ (z : Served). z.working) (sym same) ∙ h.working))
+idle-by xs t r q job false e s idle h = refl
+
+all-idle : (xs : List Server) (t r : ℕ) (q : Served) (jobs : List Job) → Stands xs t r q → q.working ≡ false → AllByRecursion (JobFits xs) jobs → AllByRecursion (λ j. is_job t r j ≡ false) jobs
+all-idle xs t r q jobs s idle h = all-map (JobFits xs) (λ j. is_job t r j ≡ false) jobs (λ j f. idle-by xs t r q j _ refl s idle f) h
+
+not-answered : (t r : ℕ) (job : Job) → is_job t r job ≡ false → (job.session ≡ t) × (job.request ≡ r) → ⊥
+not-answered t r job e s =
+    let yes : is_job t r job ≡ true = rw (eq-eqb job.session t s.0, eq-eqb job.request r s.1) refl in
+    false-true (sym e ∙ yes)
+
+-- each job stays fitting by a fact that answers none of them
+all-fit : (hand : Option InFlight) (l : Lists) (e : Event) (first second : List ℕ) (jobs : List Job) → Sound l → May hand l e first second → AllByRecursion (λ j. answers j.session j.request e → ⊥) jobs → AllByRecursion (JobFits l.servers) jobs → AllByRecursion (JobFits (servers_after e second (front_header l.ring) (front_body l.ring) l.servers)) jobs
+all-fit hand l e first second jobs i m other h =
+    all-map (λ j. JobFits l.servers j × (answers j.session j.request e → ⊥)) (JobFits (servers_after e second (front_header l.ring) (front_body l.ring) l.servers)) jobs
+    (λ j k. fits-after hand l e first second j i m k.1 k.0) (all-both (JobFits l.servers) (λ j. answers j.session j.request e → ⊥) jobs h other)
+
+none-answer : (n p y : ℕ) (jobs : List Job) → AllByRecursion (λ j. is_job n p j ≡ false) jobs → AllByRecursion (λ j. answers j.session j.request (Ran n p y) → ⊥) jobs
+none-answer n p y jobs h = all-map _ _ jobs (λ j e. not-answered n p j e) h
+
+-- all jobs, by a fact that answers none
+abbrev AllFit : List Server → Jobs → Type 0
+AllFit xs jobs = AllByRecursion (JobFits xs) jobs.waiting × AllByRecursion (JobFits xs) jobs.worked
+
+fit-both : (hand : Option InFlight) (l : Lists) (e : Event) (first second : List ℕ) → Sound l → May hand l e first second → ((t r : ℕ) → answers t r e → ⊥) → JobsRight l.servers l.jobs → AllFit (servers_after e second (front_header l.ring) (front_body l.ring) l.servers) l.jobs
+fit-both hand l e first second i m other h =
+    let fits : (j : Job) → JobFits l.servers j → JobFits (servers_after e second (front_header l.ring) (front_body l.ring) l.servers) j = λ j k. fits-after hand l e first second j i m (other j.session j.request) k in
+    (all-map _ _ l.jobs.waiting fits h.waiting, all-map _ _ l.jobs.worked fits h.worked)
+
+right-of : (xs : List Server) (jobs : Jobs) → AllFit xs jobs → ((t r : ℕ) → count_by (is_job t r) jobs.waiting + count_by (is_job t r) jobs.worked ≤ 1) → JobsRight xs jobs
+right-of xs jobs h once = record { waiting = h.0; worked = h.1; once = once }
+
+-- a job is given
+given-once : (t r : ℕ) (waiting worked : List Job) (new : Job) (b : Bool) → is_job t r new ≡ b → (b ≡ true → (count_by (is_job t r) waiting ≡ 0) × (count_by (is_job t r) worked ≡ 0)) → count_by (is_job t r) waiting + count_by (is_job t r) worked ≤ 1 → count_by (is_job t r) (waiting ++ new ∷ []) + count_by (is_job t r) worked ≤ 1
+given-once t r waiting worked new true e none once =
+    let n = none refl in
+    let a = n.0 in
+    let b = n.1 in
+    let one : count_by (is_job t r) (new ∷ []) ≡ 1 = count-one (is_job t r) new true e in
+    let sum = count-append (is_job t r) waiting (new ∷ []) in
+    omega arith
+given-once t r waiting worked new false e none once =
+    let one : count_by (is_job t r) (new ∷ []) ≡ 0 = count-one (is_job t r) new false e in
+    let sum = count-append (is_job t r) waiting (new ∷ []) in
+    omega arith
+
+pub new-is : (l : Lists) (t r : ℕ) → (m : IsWhole l t r) → new_job t r l.servers ≡ job_of t m.request ∷ []
+new-is l t r m = rw (m.found, m.is_there) refl
+
+given-jobs : (hand : Option InFlight) (l : Lists) (t r : ℕ) (first second : List ℕ) → RightNode l → May hand l (Given t r) first second → JobsRight (servers_after (Given t r) second (front_header l.ring) (front_body l.ring) l.servers) (jobs_after (Given t r) l.servers l.jobs)
+given-jobs hand l t r first second i m =
+    let w = m.has in
+    let q = w.request in
+    let number : q.number ≡ r = eqb-true q.number r (find-passes (is_request r) w.server.slots q w.is_there) in
+    let stands : Stands l.servers t r q = record { server = w.server; found = w.found; is_there = w.is_there } in
+    let slots = at_first (is_request r) given in
+    let now : Stands (at_first (is_server t) (with_slots slots) l.servers) t r (given q) = record {
+      server = with_slots slots w.server;
+      found = slots-found slots t l.servers w.server w.found;
+      is_there = find-first (is_request r) given w.server.slots q w.is_there (find-passes (is_request r) w.server.slots q w.is_there);
+    } in
+    let right = stands-right l.servers t r q i.slots stands in
+    let new : Job = job_of t q in
+    let fits : JobFits (at_first (is_server t) (with_slots slots) l.servers) new = record {
+      request = given q;
+      stands = subst (λ (n : ℕ). Stands (at_first (is_server t) (with_slots slots) l.servers) t n (given q)) (sym number) now;
+      working = refl;
+      long = right.long;
+    } in
+    let both = fit-both hand l (Given t r) first second i.sound m (λ a b x. x) i.jobs in
+    let idle : (jobs : List Job) → AllByRecursion (JobFits l.servers) jobs → count_by (is_job t r) jobs ≡ 0 = λ jobs h. none-count (is_job t r) jobs (all-idle l.servers t r q jobs stands w.idle h) in
+    let once : (a b : ℕ) → count_by (is_job a b) (l.jobs.waiting ++ new ∷ []) + count_by (is_job a b) l.jobs.worked ≤ 1 = λ a b. given-once a b l.jobs.waiting l.jobs.worked new _ refl
+    (λ e. let parts = and_parts (t == a) (q.number == b) e in
+    let same : (t ≡ a) × (r ≡ b) = (eqb-true t a parts.0, sym number ∙ eqb-true q.number b parts.1) in
+    rw (← same.0, ← same.1) (idle l.jobs.waiting i.jobs.waiting, idle l.jobs.worked i.jobs.worked)) (i.jobs.once a b) in
+    let all : JobsRight (at_first (is_server t) (with_slots slots) l.servers) (record l.jobs { given = l.jobs.given + 1; waiting = l.jobs.waiting ++ new ∷ [] }) = right-of _ (record l.jobs { given = l.jobs.given + 1; waiting = l.jobs.waiting ++ new ∷ [] }) (all-add (JobFits (at_first (is_server t) (with_slots slots) l.servers)) l.jobs.waiting new both.0 fits, both.1) once in
+    rw (new-is l t r w) all
+
+-- a job is worked
+pub all-more : {A : Type 0} (P : A → Type 0) (xs : List A) (o : Option A) → AllByRecursion P xs → ((x : A) → o ≡ Some x → P x) → AllByRecursion P (xs ++ option_to_list o)
+all-more P xs None h k = all-append P xs [] h tt
+all-more P xs (Some x) h k = all-add P xs x h (k x refl)
+
+worked-jobs : (xs : List Server) (t r : ℕ) (jobs : Jobs) → JobsRight xs jobs → JobsRight xs (jobs_after (Worked t r) xs jobs)
+worked-jobs xs t r jobs h = record {
+  waiting = all-without (JobFits xs) (is_job t r) jobs.waiting h.waiting;
+  worked = all-more (JobFits xs) jobs.worked (find (is_job t r) jobs.waiting) h.worked (λ j e. all-found (JobFits xs) (is_job t r) jobs.waiting j h.waiting e);
+  once = λ a b. let out = count-out (is_job a b) (is_job t r) jobs.waiting in
+      let sum = count-append (is_job a b) jobs.worked (option_to_list (find (is_job t r) jobs.waiting)) in
+      let once = h.once a b in
+      omega arith;
+}
+
+-- a handler runs: the job of that request is over
+record NoneLeft (t r : ℕ) (jobs : Jobs) : Type 0 where
+  waiting : AllByRecursion (λ j. is_job t r j ≡ false) jobs.waiting
+  worked : AllByRecursion (λ j. is_job t r j ≡ false) (without_first (is_job t r) jobs.worked)
+
+serve-none : (l : Lists) (t r y : ℕ) (ask : List ℕ) → RightNode l → MayServe l t r y ask → NoneLeft t r l.jobs
+serve-none l t r y ask i m =
+    let w = m.has in
+    let stands : Stands l.servers t r w.request = record { server = w.server; found = w.found; is_there = w.is_there } in
+    record {
+      waiting = all-idle l.servers t r w.request l.jobs.waiting stands w.idle i.jobs.waiting;
+      worked = all-without (λ j. is_job t r j ≡ false) (is_job t r) l.jobs.worked (all-idle l.servers t r w.request l.jobs.worked stands w.idle i.jobs.worked);
+    }
+
+finish-by : (p : Job → Bool) (waiting : List Job) (job : Job) (rest : List Job) (b : Bool) → p job ≡ b → b ≡ true → count_by p waiting + count_by p (job ∷ rest) ≤ 1 → AllByRecursion (λ j. p j ≡ false) waiting × AllByRecursion (λ j. p j ≡ false) (cond b rest (job ∷ without_first p rest))
+finish-by p waiting job rest true e t once =
+    let whole = count-append p (job ∷ []) rest in
+    let one : count_by p (job ∷ []) ≡ 1 = count-one p job true e in
+    (count-none p waiting (omega arith), count-none p rest (omega arith))
+finish-by p waiting job rest false e t once = false-true t
+
+front-none : (t r : ℕ) (waiting worked : List Job) (job : Job) → slice_get worked 0 ≡ Some job → is_job t r job ≡ true → count_by (is_job t r) waiting + count_by (is_job t r) worked ≤ 1 → AllByRecursion (λ j. is_job t r j ≡ false) waiting × AllByRecursion (λ j. is_job t r j ≡ false) (without_first (is_job t r) worked)
+front-none t r waiting [] job is e once = cc
+front-none t r waiting (j ∷ rest) job is e once =
+    let same : j ≡ job = cc in
+    let passes : is_job t r j ≡ true = ap (is_job t r) same ∙ e in
+    finish-by (is_job t r) waiting j rest _ refl passes once
+
+finish-none : (l : Lists) (t r y : ℕ) (ask : List ℕ) → RightNode l → MayFinish l t r y ask → NoneLeft t r l.jobs
+finish-none l t r y ask i m =
+    let passes : is_job t r m.job ≡ true = rw (eq-eqb m.job.session t (sym m.of_session), eq-eqb m.job.request r (sym m.of_request)) refl in
+    let none = front-none t r l.jobs.waiting l.jobs.worked m.job m.is_front passes (i.jobs.once t r) in
+    record { waiting = none.0; worked = none.1 }
+
+run-none : (l : Lists) (t r y : ℕ) (ask : List ℕ) → RightNode l → MayServe l t r y ask ⊎ MayFinish l t r y ask → NoneLeft t r l.jobs
+run-none l t r y ask i (inl m) = serve-none l t r y ask i m
+run-none l t r y ask i (inr m) = finish-none l t r y ask i m
+
+ran-jobs : (hand : Option InFlight) (l : Lists) (t r y : ℕ) (first second : List ℕ) → RightNode l → May hand l (Ran t r y) first second → JobsRight (servers_after (Ran t r y) second (front_header l.ring) (front_body l.ring) l.servers) (jobs_after (Ran t r y) l.servers l.jobs)
+ran-jobs hand l t r y first second i m =
+    let none = run-none l t r y first i m.source in
+    let rest = without_first (is_job t r) l.jobs.worked in
+    record {
+      waiting = all-fit hand l (Ran t r y) first second l.jobs.waiting i.sound m (none-answer t r y l.jobs.waiting none.waiting) i.jobs.waiting;
+      worked = all-fit hand l (Ran t r y) first second rest i.sound m (none-answer t r y rest none.worked) (all-without (JobFits l.servers) (is_job t r) l.jobs.worked i.jobs.worked);
+      once = λ a b. let out = count-out (is_job a b) (is_job t r) l.jobs.worked in
+          let once = i.jobs.once a b in
+          omega arith;
+    }
+
+-- facts that neither give nor finish a job
+other-jobs : (hand : Option InFlight) (l : Lists) (e : Event) (first second : List ℕ) → RightNode l → May hand l e first second → ((t r : ℕ) → answers t r e → ⊥) → JobsRight (servers_after e second (front_header l.ring) (front_body l.ring) l.servers) l.jobs
+other-jobs hand l e first second i m other = right-of _ l.jobs (fit-both hand l e first second i.sound m other i.jobs) i.jobs.once
+
+pub jobs-right : (hand : Option InFlight) (l : Lists) (e : Event) (first second : List ℕ) → RightNode l → May hand l e first second → JobsRight (servers_after e second (front_header l.ring) (front_body l.ring) l.servers) (jobs_after e l.servers l.jobs)
+jobs-right hand l (Given t r) first second i m = given-jobs hand l t r first second i m
+jobs-right hand l (Worked t r) first second i m = worked-jobs l.servers t r l.jobs i.jobs
+jobs-right hand l (Ran t r y) first second i m = ran-jobs hand l t r y first second i m
+jobs-right hand l e first second i m = other-jobs hand l e first second i m (λ t r x. x)
+
+-- a session more
+pub jobs-added : (xs : List Server) (y : Server) (jobs : Jobs) → JobsRight xs jobs → JobsRight (xs ++ y ∷ []) jobs
+jobs-added xs y jobs h =
+    let fits : (j : Job) → JobFits xs j → JobFits (xs ++ y ∷ []) j = λ j k. record { request = k.request; stands = record { server = k.stands.server; found = find-add (is_server j.session) xs y k.stands.server k.stands.found; is_there = k.stands.is_there }; working = k.working; long = k.long } in
+    record { waiting = all-map _ _ jobs.waiting fits h.waiting; worked = all-map _ _ jobs.worked fits h.worked; once = h.once }

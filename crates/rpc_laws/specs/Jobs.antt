@@ -1,0 +1,44 @@
+-- Background jobs of a node: given, worked, and finished.
+use Rattle.std.specs.Prelude.{ℕ, ◌+◌, ◌^◌, ◌==◌, ◌&&◌, ◌||◌, nat_le, Bool, List, [], ◌++◌, length, option_and_then, option_map, option_to_list}
+use Rattle.std.specs.List.{find}
+use Rattle.rpc_base.specs.Tables.{without_first}
+use Rattle.rpc_base.specs.declared.event.Event.{Event}
+use Rattle.rpc_base.specs.declared.event.Event.TheVariants.{Given, Worked, Ran}
+use Rattle.rpc_laws.specs.declared.tables.Job.{Job}
+use Rattle.rpc_laws.specs.declared.tables.Jobs.{Jobs}
+use Rattle.rpc_laws.specs.declared.tables.Served.{Served}
+use Rattle.rpc_laws.specs.declared.tables.Server.{Server}
+use Rattle.rpc_laws.specs.Requests.{is_server, is_request}
+
+-- the job that a request of session t becomes: its bytes go with it
+abbrev pub job_of : ℕ → Served → Job
+job_of t q = record { session = t; request = q.number; req_type = q.req_type; ask = q.ask }
+
+-- request r of session t becomes a job, where it is there
+abbrev pub new_job : ℕ → ℕ → List Server → List Job
+new_job t r servers =
+    option_to_list (option_map (job_of t) (option_and_then (λ v. find (is_request r) v.slots) (find (is_server t) servers)))
+
+-- whether a job is that of request r of session t
+abbrev pub is_job : ℕ → ℕ → Job → Bool
+is_job t r job = job.session == t && job.request == r
+
+abbrev pub no_jobs : Jobs
+no_jobs = record { given = 0; waiting = []; worked = [] }
+
+-- a job waits from Given to Worked, and is over at its Ran; the servers are those before the fact
+abbrev pub jobs_after : Event → List Server → Jobs → Jobs
+jobs_after (Given t r) servers jobs =
+    record jobs { given = jobs.given + 1; waiting = jobs.waiting ++ new_job t r servers }
+jobs_after (Worked t r) servers jobs =
+    record jobs { waiting = without_first (is_job t r) jobs.waiting; worked = jobs.worked ++ option_to_list (find (is_job t r) jobs.waiting) }
+jobs_after (Ran t r y) servers jobs = record jobs { worked = without_first (is_job t r) jobs.worked }
+jobs_after _ servers jobs = jobs
+
+-- how many jobs a node takes that aren't finished
+abbrev pub usual_jobs : ℕ
+usual_jobs = 64
+
+-- the jobs are full: so many were given and aren't finished, or 2^61 were given in the node's life
+abbrev pub are_full : Jobs → Bool
+are_full jobs = nat_le usual_jobs (length jobs.waiting + length jobs.worked) || nat_le (2 ^ 61) jobs.given

@@ -1,0 +1,6 @@
+use Rattle.sim_script.specs.FollowsScript.{WorksFirst}
+use Rattle.rpc_world.specs.Performed.{Performed}
+use Rattle.rpc_world.proofs.settling.work_first.Given as goal
+
+abbrev pub invariant-workers : goal.invariant-workers
+invariant-workers l = Performed (WorksFirst l.i) l.initial.stage l.stage l.initial.facts l.facts

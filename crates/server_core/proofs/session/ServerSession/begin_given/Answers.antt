@@ -1,0 +1,42 @@
+use Rattle.std.proofs.Common.{arith}
+use Rattle.server_core.specs.Serving.{first_given}
+use Rattle.server_core.specs.contracts.session.ServerSession.{the_view}
+use Rattle.server_core.proofs.BeginLemmas.{begun-served, given-keeps-pool, given-shows, given-turn}
+use Rattle.server_core.proofs.SlotLemmas.{begun-session, few-left}
+use Rattle.server_core.proofs.OtherLemmas.{given-others}
+use Rattle.server_core.proofs.SpareLemmas.{first-given-spare}
+use Rattle.server_core.proofs.session.ServerSession.begin_given.Goals as goal
+
+pub push-requires : goal.push-requires
+push-requires c = rw (c.give_up.ensures.slots, c.slot.ensures) (few-left (the_view c.self.inside) c.self.invariant _ (omega arith))
+
+pub invariant_of-self : goal.invariant_of-self
+invariant_of-self c =
+    rw (c.push.ensures, c.given.ensures, c.give_up.ensures.slots, c.slot.ensures) (begun-session (the_view c.self.inside) (first_given c.args.head.now) c.self.invariant (given-turn c.args.head.now c.requires.size c.requires.one))
+
+pub returns-clause-shown : goal.returns-clause-shown
+returns-clause-shown c =
+    let keeps = rw (← c.self.view_is) at c.requires.keeps_pool in
+    rw (c.push.ensures, c.given.ensures, c.give_up.ensures.slots, c.give_up.ensures.pool, c.slot.ensures, ← c.self.view_is)
+    (given-shows c.args.pool.now (the_view c.self.inside) c.args.head.now keeps)
+
+pub returns-clause-served : goal.returns-clause-served
+returns-clause-served c = λ mode_of new all.
+    rw (c.push.ensures, c.given.ensures, c.give_up.ensures.slots, c.slot.ensures) (begun-served mode_of c.self.inside.slots (first_given c.args.head.now) new (rw (← c.self.view_is) at all))
+
+pub returns-clause-keeps_pool : goal.returns-clause-keeps_pool
+returns-clause-keeps_pool c =
+    let keeps = rw (← c.self.view_is) at c.requires.keeps_pool in
+    rw (c.push.ensures, c.given.ensures, c.give_up.ensures.slots, c.give_up.ensures.pool, c.slot.ensures)
+    (given-keeps-pool c.args.pool.now (the_view c.self.inside) c.args.head.now keeps)
+
+pub returns-clause-others : goal.returns-clause-others
+returns-clause-others c =
+    rw (c.push.ensures, c.given.ensures, c.give_up.ensures.slots, c.give_up.ensures.pool, c.slot.ensures, ← c.self.view_is)
+    (given-others c.args.pool.now (the_view c.self.inside) c.args.head.now)
+
+pub returns-clause-spare : goal.returns-clause-spare
+returns-clause-spare c =
+    let keeps = rw (← c.self.view_is) at c.requires.keeps_pool in
+    rw (c.push.ensures, c.given.ensures, c.give_up.ensures.slots, c.give_up.ensures.pool, c.slot.ensures, ← c.self.view_is)
+    (first-given-spare c.args.pool.now (the_view c.self.inside) c.args.head.now keeps)

@@ -1,0 +1,74 @@
+use Rattle.std.proofs.Common.{◌-◌, ◌<◌, refl, arith}
+use Rattle.buffer_pool.specs.Pool.{refs_of}
+use Rattle.server_core.specs.Serving.{gone_on, with_slots, worked}
+use Rattle.server_core.specs.contracts.session.ServerSession.{the_view}
+use Rattle.server_core.proofs.BeginLemmas.{answer-held, idle-reply, is-reply}
+use Rattle.server_core.proofs.SlotLemmas.{gone-session}
+use Rattle.server_core.proofs.TakeLemmas.{gone-newest, gone-served, last-held, last-keeps, worked-on, worked-shows, worked-turn}
+use Rattle.server_core.proofs.OtherLemmas.{last-others}
+use Rattle.server_core.proofs.SpareLemmas.{last-spare}
+use Rattle.server_core.proofs.session.ServerSession.put_answer.Goals as goal
+
+pub overflow_sub-number : goal.overflow_sub-number
+overflow_sub-number c = c.requires.turn.some
+
+pub invariant_of-self : goal.invariant_of-self
+invariant_of-self c =
+    let found = rw (← c.self.view_is) at c.requires.found in
+    rw c.replace.ensures (gone-session (the_view c.self.inside) c.args.request (worked c.put_message-answer.result c.args.request) c.self.invariant (worked-turn c.args.request c.put_message-answer.result c.requires.turn c.requires.working (rw c.put_message-answer.ensures.size c.requires.answer)) refl found)
+
+pub returns-clause-shown : goal.returns-clause-shown
+returns-clause-shown c =
+    let found = rw (← c.self.view_is) at c.requires.found in
+    let keeps = rw (← c.self.view_is) at c.requires.keeps_pool in
+    let on = worked-on c.args.request c.requires.turn c.requires.working in
+    let there = rw c.put_message-answer.ensures.pool at c.put_message-answer.ensures.there in
+    rw (c.replace.ensures, c.hold.ensures, c.put_message-answer.ensures.pool, ← c.self.view_is)
+    (worked-shows c.args.pool.now (the_view c.self.inside) c.args.request c.self.invariant found keeps c.put_message-answer.result.place c.args.answer c.put_message-answer.result on.none c.put_message-answer.ensures.place there refl c.put_message-answer.ensures.size c.put_message-answer.ensures.fits)
+
+pub returns-clause-last : goal.returns-clause-last
+returns-clause-last c =
+    let on = worked-on c.args.request c.requires.turn c.requires.working in
+    rw c.entry-reply.ensures (omega (arith, on.whole, c.requires.turn.some))
+
+pub returns-clause-reply : goal.returns-clause-reply
+returns-clause-reply c =
+    let found = rw (← c.self.view_is) at c.requires.found in
+    let keeps = rw (← c.self.view_is) at c.requires.keeps_pool in
+    let on = worked-on c.args.request c.requires.turn c.requires.working in
+    let there = rw c.put_message-answer.ensures.pool at c.put_message-answer.ensures.there in
+    let d = (worked c.put_message-answer.result c.args.request) in
+    let whole = gone-session (the_view c.self.inside) c.args.request d c.self.invariant (worked-turn c.args.request c.put_message-answer.result c.requires.turn c.requires.working (rw c.put_message-answer.ensures.size c.requires.answer)) refl found in
+    let below : c.args.request.taken - 1 < d.taken = omega (arith, c.requires.turn.some) in
+    let some : 0 < refs_of c.hold.new.self c.put_message-answer.result.place = rw (c.hold.ensures, c.put_message-answer.ensures.pool) (last-held c.args.pool.now (the_view c.self.inside) c.args.request c.self.invariant found keeps d refl refl refl c.put_message-answer.result.place c.args.answer c.put_message-answer.result on.none refl c.put_message-answer.ensures.place there refl c.put_message-answer.ensures.size c.put_message-answer.ensures.fits) in
+    rw (c.entry-reply.ensures, c.replace.ensures)
+    (is-reply c.hold.new.self (with_slots (gone_on d c.self.inside.slots) (the_view c.self.inside)) d (c.args.request.taken - 1) whole (gone-newest c.args.pool.now (the_view c.self.inside) c.args.request c.self.invariant found keeps d refl) below (idle-reply d (c.args.request.taken - 1) refl) (answer-held c.hold.new.self d c.put_message-answer.result (c.args.request.taken - 1) refl some))
+
+pub returns-clause-served : goal.returns-clause-served
+returns-clause-served c = λ mode_of all.
+    let found = rw (← c.self.view_is) at c.requires.found in
+    let keeps = rw (← c.self.view_is) at c.requires.keeps_pool in
+    rw c.replace.ensures (gone-served c.args.pool.now (the_view c.self.inside) c.args.request c.self.invariant found keeps mode_of (worked c.put_message-answer.result c.args.request) refl refl (rw (← c.self.view_is) at all))
+
+pub returns-clause-keeps_pool : goal.returns-clause-keeps_pool
+returns-clause-keeps_pool c =
+    let found = rw (← c.self.view_is) at c.requires.found in
+    let keeps = rw (← c.self.view_is) at c.requires.keeps_pool in
+    let on = worked-on c.args.request c.requires.turn c.requires.working in
+    let there = rw c.put_message-answer.ensures.pool at c.put_message-answer.ensures.there in
+    rw (c.replace.ensures, c.hold.ensures, c.put_message-answer.ensures.pool)
+    (last-keeps c.args.pool.now (the_view c.self.inside) c.args.request c.self.invariant found keeps (worked c.put_message-answer.result c.args.request) refl refl refl c.put_message-answer.result.place c.args.answer c.put_message-answer.result on.none refl c.put_message-answer.ensures.place there refl c.put_message-answer.ensures.size c.put_message-answer.ensures.fits)
+
+pub returns-clause-others : goal.returns-clause-others
+returns-clause-others c =
+    let found = rw (← c.self.view_is) at c.requires.found in
+    rw (c.replace.ensures, c.hold.ensures, c.put_message-answer.ensures.pool, ← c.self.view_is)
+    (last-others c.args.pool.now (the_view c.self.inside) c.args.request c.args.request.number found (worked c.put_message-answer.result c.args.request) refl refl refl c.put_message-answer.result.place c.args.answer c.put_message-answer.result refl c.put_message-answer.ensures.place refl)
+
+pub returns-clause-spare : goal.returns-clause-spare
+returns-clause-spare c =
+    let found = rw (← c.self.view_is) at c.requires.found in
+    let keeps = rw (← c.self.view_is) at c.requires.keeps_pool in
+    let on = worked-on c.args.request c.requires.turn c.requires.working in
+    rw (c.replace.ensures, c.hold.ensures, c.put_message-answer.ensures.pool, ← c.self.view_is)
+    (last-spare c.args.pool.now (the_view c.self.inside) c.args.request c.args.request.number keeps found (worked c.put_message-answer.result c.args.request) refl refl refl on.none c.put_message-answer.result.place c.args.answer c.put_message-answer.result refl c.put_message-answer.ensures.place refl)

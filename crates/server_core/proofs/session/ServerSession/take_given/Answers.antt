@@ -1,0 +1,52 @@
+use Rattle.std.proofs.Common.{refl, arith}
+use Rattle.server_core.specs.Serving.{last_given}
+use Rattle.server_core.specs.contracts.session.ServerSession.{the_view}
+use Rattle.server_core.proofs.SlotLemmas.{gone-session}
+use Rattle.server_core.proofs.TakeLemmas.{given-keeps, given-shows, given-turn, gone-served}
+use Rattle.server_core.proofs.OtherLemmas.{last-given-others}
+use Rattle.server_core.proofs.SpareLemmas.{last-given-spare}
+use Rattle.server_core.proofs.session.ServerSession.take_given.Goals as goal
+
+pub take-requires : goal.take-requires
+take-requires c = c.requires.kept.full
+
+pub unreachable-requires : goal.unreachable-requires
+unreachable-requires c = absurd (omega (arith, c.requires.kept.unnamed, c.in_default.ensures.held.0, c.in_default.ensures.held.1))
+
+pub invariant_of-self : goal.invariant_of-self
+invariant_of-self c =
+    let found = rw (← c.self.view_is) at c.requires.found in
+    rw c.replace.ensures (gone-session (the_view c.self.inside) c.args.request (last_given c.args.request) c.self.invariant (given-turn c.args.request c.requires.none c.requires.size c.requires.last) refl found)
+
+pub returns-clause-shown : goal.returns-clause-shown
+returns-clause-shown c =
+    let found = rw (← c.self.view_is) at c.requires.found in
+    let keeps = rw (← c.self.view_is) at c.requires.keeps_pool in
+    rw (c.replace.ensures, c.in-Ok.ensures.taken.2, ← c.self.view_is)
+    (given-shows c.args.pool.now (the_view c.self.inside) c.args.request c.self.invariant found keeps c.args.place c.requires.asked c.requires.none)
+
+pub returns-clause-served : goal.returns-clause-served
+returns-clause-served c = λ mode_of all.
+    let found = rw (← c.self.view_is) at c.requires.found in
+    let keeps = rw (← c.self.view_is) at c.requires.keeps_pool in
+    rw c.replace.ensures (gone-served c.args.pool.now (the_view c.self.inside) c.args.request c.self.invariant found keeps mode_of (last_given c.args.request) refl refl (rw (← c.self.view_is) at all))
+
+pub returns-clause-keeps_pool : goal.returns-clause-keeps_pool
+returns-clause-keeps_pool c =
+    let found = rw (← c.self.view_is) at c.requires.found in
+    let keeps = rw (← c.self.view_is) at c.requires.keeps_pool in
+    rw (c.replace.ensures, c.in-Ok.ensures.taken.2)
+    (given-keeps c.args.pool.now (the_view c.self.inside) c.args.request c.self.invariant found keeps c.args.place c.requires.asked c.requires.none)
+
+pub returns-clause-others : goal.returns-clause-others
+returns-clause-others c =
+    let found = rw (← c.self.view_is) at c.requires.found in
+    rw (c.replace.ensures, c.in-Ok.ensures.taken.2, ← c.self.view_is)
+    (last-given-others c.args.pool.now (the_view c.self.inside) c.args.request c.args.request.number found refl c.requires.none c.args.place c.requires.asked)
+
+pub returns-clause-spare : goal.returns-clause-spare
+returns-clause-spare c =
+    let found = rw (← c.self.view_is) at c.requires.found in
+    let keeps = rw (← c.self.view_is) at c.requires.keeps_pool in
+    rw (c.replace.ensures, c.in-Ok.ensures.taken.2, ← c.self.view_is)
+    (last-given-spare c.args.pool.now (the_view c.self.inside) c.args.request c.args.request.number keeps found refl c.requires.none c.args.place c.requires.asked c.requires.kept.full)

@@ -1,0 +1,153 @@
+//! Background jobs: a request goes to a worker with its bytes, and its answer comes back.
+ghost use Rattle.std.specs.Prelude.{◌≡◌, ◌≢◌, ℕ, ◌<◌, ◌+◌, [], IfNone, IfSome, None, Some, false, true};
+ghost use Rattle.packet_header.specs.Parts.{packet_count};
+ghost use Rattle.message_buffer.specs.Buffer.{bytes_of};
+ghost use Rattle.buffer_pool.specs.Pool.{buf_at, spare_of};
+ghost use Rattle.rpc_laws.specs.Requests.{answered, given};
+ghost use Rattle.rpc_outside.specs.declared.service.Mode.{Mode};
+ghost use Rattle.rpc_outside.specs.declared.service.Mode.TheVariants.{Unserved};
+ghost use Rattle.server_core.specs.Finishing.{IsFinished, IsLeft};
+ghost use Rattle.server_core.specs.KeepsPool.{IsAsked, KeepsPool, KeepsSpare, LeavesOthers};
+ghost use Rattle.server_core.specs.Serving.{IsUnheld};
+ghost use Rattle.server_core.specs.Session.{IsInTurn, IsMessage, IsSession, newest};
+ghost use Rattle.server_core.specs.Shown.{shown};
+ghost use Rattle.server_core.specs.Steps.{AreServed, IsReply, begun_with, first_shown, gone_on_as, grown};
+
+use super::ServerSession;
+use super::taking::{give_up, put_message};
+use crate::slot::SlotRequest;
+use buffer_pool::BufferPool;
+use message_buffer::MsgBuf;
+use packet_header::MessageHeader;
+use packet_rings::Entry;
+use rpc_base::Place;
+use worker_board::Parcel;
+
+impl ServerSession {
+    /// A job of this session is finished, and its parcel has the answer. The pool has an empty place. The
+    /// reply is to be put into the transmit ring; its place is held. None comes exactly where the request
+    /// isn't the newest of its slot or no worker has it, and then nothing changes.
+    pub fn on_finished(&mut self, pool: &mut BufferPool, parcel: Parcel) -> Option<Entry>
+        requires session { parcel.session ≡ self.old.number }
+        requires answer { IsMessage parcel.out.len }
+        requires keeps_pool { KeepsPool pool.old self.old.slots }
+        requires spare { 0 < spare_of pool.old }
+        ensures finished { IfSome result (IsFinished parcel.request (bytes_of parcel.out) self.old self.new pool.old pool.new) }
+        ensures left { IfNone result (IsLeft parcel.request self.old self.new pool.old pool.new) }
+        ensures sound { IsSession self.old }
+        ensures all_served { (mode_of : ℕ → Mode) → AreServed mode_of self.old.slots → AreServed mode_of self.new.slots }
+        ensures spare { KeepsSpare self.old.slots self.new.slots pool.old pool.new }
+        ensures others { LeavesOthers self.old.slots self.new.slots pool.old pool.new }
+        ensures keeps_pool { KeepsPool pool.new self.new.slots }
+    {
+        let Some(request) = self.slots.of_slot(parcel.request.slot()) else {
+            return None;
+        };
+        if request.number.get() != parcel.request.get() || !request.working {
+            return None;
+        }
+        let reply = self.put_answer(pool, request, parcel.out);
+        Some(reply)
+    }
+
+    // The answer to a request that a worker has is there: it is held for the reply to its last packet.
+    fn put_answer(&mut self, pool: &mut BufferPool, request: SlotRequest, answer: MsgBuf) -> Entry
+        requires keeps_pool { KeepsPool pool.old self.old.slots }
+        requires spare { 0 < spare_of pool.old }
+        requires found { newest request.number self.old ≡ Some request }
+        requires turn { IsInTurn request }
+        requires working { request.working ≡ true }
+        requires answer { IsMessage answer.len }
+        ensures shown { shown pool.new self.new ≡ gone_on_as request.number (answered (bytes_of answer)) (shown pool.old self.old) }
+        ensures last { result.number + 1 ≡ packet_count request.size }
+        ensures reply { IsReply request.number result.number self.new pool.new result }
+        ensures served { (mode_of : ℕ → Mode) → AreServed mode_of self.old.slots → AreServed mode_of self.new.slots }
+        ensures spare { KeepsSpare self.old.slots self.new.slots pool.old pool.new }
+        ensures others { LeavesOthers self.old.slots self.new.slots pool.old pool.new }
+        ensures keeps_pool { KeepsPool pool.new self.new.slots }
+    {
+        let answer = put_message(pool, answer);
+        pool.hold(answer.place);
+        let number = request.taken - 1;
+        let request = SlotRequest {
+            working: false,
+            answer: Some(answer),
+            ..request
+        };
+        let reply = request.entry(self.number, number, self.peer);
+        self.slots.replace(request);
+        reply
+    }
+
+    // A new request of this one packet begins, and goes to a worker.
+    pub(super) fn begin_given(
+        &mut self,
+        pool: &mut BufferPool,
+        head: &MessageHeader,
+        ask: MsgBuf,
+        out: MsgBuf,
+    ) -> Parcel
+        requires keeps_pool { KeepsPool pool.old self.old.slots }
+        requires unheld { IfSome (newest head.now.request self.old) (IsUnheld pool.old) }
+        requires size { IsMessage head.now.size }
+        requires one { packet_count head.now.size ≡ 1 }
+        ensures parcel { result ≡ record { session = self.old.number; request = head.now.request; req_type = head.now.req_type; ask = ask; out = out } }
+        ensures shown { shown pool.new self.new ≡ begun_with (given (first_shown head.now [] None)) (shown pool.old self.old) }
+        ensures served { (mode_of : ℕ → Mode) → mode_of head.now.req_type ≢ Unserved → AreServed mode_of self.old.slots → AreServed mode_of self.new.slots }
+        ensures spare { KeepsSpare self.old.slots self.new.slots pool.old pool.new }
+        ensures others { LeavesOthers self.old.slots self.new.slots pool.old pool.new }
+        ensures keeps_pool { KeepsPool pool.new self.new.slots }
+    {
+        give_up(&mut self.slots, pool, head.request.slot());
+        self.slots.push(SlotRequest::given(head));
+        Parcel {
+            session: self.number,
+            request: head.request,
+            req_type: head.req_type,
+            ask,
+            out,
+        }
+    }
+
+    // The last packet of a request is taken, whose bytes stand in its buffer already: that leaves the pool
+    // and goes to a worker.
+    pub(super) fn take_given(
+        &mut self,
+        pool: &mut BufferPool,
+        request: SlotRequest,
+        place: Place,
+        out: MsgBuf,
+    ) -> Parcel
+        requires keeps_pool { KeepsPool pool.old self.old.slots }
+        requires found { newest request.number self.old ≡ Some request }
+        requires asked { request.ask ≡ Some place }
+        requires kept { IsAsked pool.old request.size place }
+        requires none { request.answer ≡ None }
+        requires size { IsMessage request.size }
+        requires last { request.taken + 1 ≡ packet_count request.size }
+        ensures ask { buf_at pool.old place ≡ Some result.ask }
+        ensures parcel { result ≡ record { session = self.old.number; request = request.number; req_type = request.req_type; ask = result.ask; out = out } }
+        ensures shown { shown pool.new self.new ≡ gone_on_as request.number (λ x. given (grown [] x)) (shown pool.old self.old) }
+        ensures served { (mode_of : ℕ → Mode) → AreServed mode_of self.old.slots → AreServed mode_of self.new.slots }
+        ensures spare { KeepsSpare self.old.slots self.new.slots pool.old pool.new }
+        ensures others { LeavesOthers self.old.slots self.new.slots pool.old pool.new }
+        ensures keeps_pool { KeepsPool pool.new self.new.slots }
+    {
+        let Ok(ask) = pool.take(place) else {
+            unreachable!()
+        };
+        self.slots.replace(SlotRequest {
+            taken: request.taken + 1,
+            ask: None,
+            working: true,
+            ..request
+        });
+        Parcel {
+            session: self.number,
+            request: request.number,
+            req_type: request.req_type,
+            ask,
+            out,
+        }
+    }
+}
