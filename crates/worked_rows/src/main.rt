@@ -13,7 +13,7 @@ use std::{fs, io};
 const WHOLE: [&str; 4] = ["one_echo", "every_served_command", "late_copy", "refusals"];
 
 /// The cases with lines of a report.
-const LINES: [&str; 9] = [
+const LINES: [&str; 16] = [
     "repeated_packets",
     "older_reply_flushed",
     "empty_message",
@@ -23,10 +23,17 @@ const LINES: [&str; 9] = [
     "packet_edge",
     "out_of_turn",
     "overflow_by_a_repeat",
+    "fill",
+    "repeated_tally",
+    "lost_cr",
+    "background",
+    "unserved_type",
+    "repeated_job",
+    "plain_service",
 ];
 
 /// The cases with counts of lines: a number, how the lines begin, and what each has in it.
-const COUNTS: [&str; 1] = ["largest_message"];
+const COUNTS: [&str; 2] = ["largest_message", "full_jobs"];
 
 /// More bytes than the report of a case has.
 const ROOM: u32 = 1 << 25;
