@@ -6,7 +6,7 @@ use rpc_tools::{Status, run};
 use script_help::Explanation;
 use std::alloc::AllocError;
 use std::env;
-use std::io::{self, BufWriter};
+use std::io::{self, BufWriter, Write};
 use std::process::ExitCode;
 use std::rt::Env;
 
@@ -26,7 +26,8 @@ fn run_words<S: Source>(rt: &HostRuntime, words: &[String], source: &mut S) -> S
     };
     let mut sink = IoSink::new(writer);
     let status = run(rt.alloc(), words, source, &mut sink);
-    match sink.flush() {
+    // The writer holds the last piece back until it is flushed.
+    match sink.into_writer().flush() {
         Ok(()) => status,
         Err(_) => Status::WriteFault,
     }

@@ -1,40 +1,33 @@
-//! A source and a sink over the readers and writers of std, which tell nothing of content.
-ghost use Rattle.std.specs.Prelude.{◌≡◌, ℕ, None};
-ghost use Rattle.rpc_outside.specs.Faults.{HasCause};
+//! A source and a sink over the readers and writers of std. They tell what those tell of content: of
+//! standard input and standard output, nothing.
+ghost use Rattle.std.specs.Prelude.{◌≡◌};
 
 use crate::failed::Failed;
 use crate::sink::Sink;
 use crate::source::Source;
 use std::io::{Read, Write};
-use std::marker::Model;
 
-/// A source over a reader of std, as standard input. Contracts see how often it failed.
+/// A source over a reader of std, as standard input. It counts how often that failed.
 #[derive(Debug, Drop)]
 pub struct IoSource<R> {
     reader: R,
     faults: u64,
 }
 
-impl<R> Model for IoSource<R> {
-    ghost use Rattle.std.specs.Prelude.{ℕ};
-
-    ghost Value = { ℕ };
-
-    ghost view = { λ s. s.faults };
-}
-
 impl<R> IoSource<R> {
+    /// A source over this reader, which didn't fail yet.
     pub fn new(reader: R) -> IoSource<R>
-        ensures { result ≡ 0 }
+        ensures reader { result.reader ≡ reader }
+        ensures faults { result.faults ≡ 0 }
     {
         IoSource { reader, faults: 0 }
     }
 }
 
 impl<R: Read> Source for IoSource<R> {
-    ghost left = { λ _. None };
+    ghost left = { λ s. R.remaining s.reader };
 
-    ghost faults = { λ s. s };
+    ghost faults = { λ s. s.faults };
 
     fn read(&mut self, out: &mut [u8]) -> Result<usize, Failed> {
         match self.reader.read(out) {
@@ -47,48 +40,35 @@ impl<R: Read> Source for IoSource<R> {
     }
 }
 
-/// A sink over a writer of std, as standard output. Contracts see how often it failed.
+/// A sink over a writer of std, as standard output. It counts how often that failed.
 #[derive(Debug, Drop)]
 pub struct IoSink<W> {
     writer: W,
     faults: u64,
 }
 
-impl<W> Model for IoSink<W> {
-    ghost use Rattle.std.specs.Prelude.{ℕ};
-
-    ghost Value = { ℕ };
-
-    ghost view = { λ s. s.faults };
-}
-
 impl<W> IoSink<W> {
+    /// A sink over this writer, which didn't fail yet.
     pub fn new(writer: W) -> IoSink<W>
-        ensures { result ≡ 0 }
+        ensures writer { result.writer ≡ writer }
+        ensures faults { result.faults ≡ 0 }
     {
         IoSink { writer, faults: 0 }
     }
-}
 
-impl<W: Write> IoSink<W> {
-    /// Passes on what the writer still holds back. Call it once after the last write.
-    pub fn flush(&mut self) -> Result<(), Failed>
-        ensures { HasCause self.old self.new result }
+    /// Gives the writer back, to be flushed after the last write: it may hold bytes back until then.
+    pub fn into_writer(self) -> W
+        ensures { result ≡ self.writer }
     {
-        match self.writer.flush() {
-            Ok(()) => Ok(()),
-            Err(_) => {
-                self.faults = self.faults.saturating_add(1);
-                Err(Failed)
-            }
-        }
+        let IoSink { writer, faults: _ } = self;
+        writer
     }
 }
 
 impl<W: Write> Sink for IoSink<W> {
-    ghost written = { λ _. None };
+    ghost written = { λ s. W.contents s.writer };
 
-    ghost faults = { λ s. s };
+    ghost faults = { λ s. s.faults };
 
     fn write(&mut self, piece: &[u8]) -> Result<usize, Failed> {
         match self.writer.write(piece) {

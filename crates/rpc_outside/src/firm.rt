@@ -58,7 +58,10 @@ impl Source for FirmSource {
 pub struct FirmSink;
 
 impl FirmSink {
-    pub fn new() -> FirmSink {
+    /// A sink, of which there is one.
+    pub fn new() -> FirmSink
+        ensures { result ≡ record {} }
+    {
         FirmSink
     }
 }

@@ -1,5 +1,7 @@
 //! A source that keeps what was read from it, for one who has to show a part of it again.
-ghost use Rattle.std.specs.Prelude.{◌≡◌};
+ghost use Rattle.std.specs.Prelude.{◌≡◌, ◌<◌, ◌≤◌, ◌++◌, [], None, Some, length, option_map, take, IfOk, IfSome, OnErr};
+ghost use Rattle.std.specs.Io.KnownBytes.{Consumes, IsAtEnd, Keeps};
+ghost use Rattle.rpc_outside.specs.Faults.{HasCause};
 
 use crate::failed::Failed;
 use crate::source::Source;
@@ -16,7 +18,8 @@ pub struct Kept<S> {
 impl<S> Kept<S> {
     /// Nothing was read yet. Takes no memory.
     pub fn new(alloc: Global, source: S) -> Kept<S>
-        ensures { result.source ≡ source }
+        ensures source { result.source ≡ source }
+        ensures nothing { option_map (λ v. v.items) result.bytes ≡ Some [] }
     {
         Kept {
             source,
@@ -25,13 +28,17 @@ impl<S> Kept<S> {
     }
 
     /// All bytes that were read, or nothing where there was no memory to keep them.
-    pub fn bytes(&self) -> Option<&[u8]> {
+    pub fn bytes(&self) -> Option<&[u8]>
+        ensures { option_map (λ b. b.now) result ≡ option_map (λ v. v.items) self.now.bytes }
+    {
         let bytes = self.bytes.as_ref()?;
         Some(bytes.as_slice())
     }
 
     fn keep(&mut self, piece: &[u8])
-        ensures { self.new.source ≡ self.old.source }
+        ensures source { self.new.source ≡ self.old.source }
+        ensures lost { self.old.bytes ≡ None → self.new.bytes ≡ None }
+        ensures kept { IfSome self.old.bytes (λ old. IfSome self.new.bytes (λ new. new.items ≡ old.items ++ piece.now)) }
     {
         let kept = match &mut self.bytes {
             Some(bytes) => bytes.extend_from_slice(piece).is_ok(),
@@ -48,7 +55,18 @@ impl<S: Source> Source for Kept<S> {
 
     ghost faults = { λ k. S.faults k.source };
 
-    fn read(&mut self, out: &mut [u8]) -> Result<usize, Failed> {
+    /// Reads as the other source does, and keeps what was read.
+    fn read(&mut self, out: &mut [u8]) -> Result<usize, Failed>
+        requires { 0 < length out.old }
+        ensures within { IfOk result (λ n. n ≤ length out.new) }
+        ensures bytes { IfOk result (λ n. Consumes (S.left self.old.source) (S.left self.new.source) (take n out.new)) }
+        ensures end { IfOk result (λ n. n ≡ 0 → IsAtEnd (S.left self.old.source)) }
+        ensures kept { OnErr result (Keeps (S.left self.old.source) (S.left self.new.source)) }
+        ensures cause { HasCause (S.faults self.old.source) (S.faults self.new.source) result }
+        ensures lost { self.old.bytes ≡ None → self.new.bytes ≡ None }
+        ensures at_hand { IfOk result (λ n. IfSome self.old.bytes (λ old. IfSome self.new.bytes (λ new. new.items ≡ old.items ++ take n out.new))) }
+        ensures same { OnErr result (self.new.bytes ≡ self.old.bytes) }
+    {
         let count = self.source.read(out)?;
         self.keep(&out[..count]);
         Ok(count)

@@ -1,5 +1,5 @@
 //! A source and a sink in memory, which fail exactly where they are told to.
-ghost use Rattle.std.specs.Prelude.{◌≡◌, ◌+◌, ◌<◌, ◌≤◌, ◌↔◌, ◌⊎◌, [], length, take, drop, min, Some, IsErr, IfOk, OnErr};
+ghost use Rattle.std.specs.Prelude.{◌≡◌, ◌+◌, ◌<◌, ◌≤◌, ◌↔◌, ◌⊎◌, [], length, take, drop, min, Some, IsErr, IsOk, IfOk, OnErr};
 ghost use Rattle.std.specs.Io.KnownBytes.{Keeps, Appends, Consumes, IsAtEnd};
 ghost use Rattle.rpc_outside.specs.Faults.{HasCause};
 ghost use Rattle.rpc_outside.specs.CallLog.{IsNamed, IsLogged, fresh};
@@ -94,9 +94,11 @@ impl Model for MemSink {
 
 impl MemSink {
     /// A sink with room for `room` bytes in all, for which it takes the memory now. `fails` names the
-    /// calls that fail, the first call having number 0. `NoMemory` comes only where there is no memory.
+    /// calls that fail, the first call having number 0. `NoMemory` comes only where there is no memory,
+    /// and never without room, as no memory is taken then.
     pub fn new(alloc: Global, room: u32, fails: Vec<u64>) -> Result<MemSink, NoMemory>
-        ensures { IfOk result (λ s. s ≡ record { written = []; room = room; log = fresh fails.items }) }
+        ensures made { IfOk result (λ s. s ≡ record { written = []; room = room; log = fresh fails.items }) }
+        ensures succeeds { room ≡ 0 → IsOk result }
     {
         let bytes = Vec::with_capacity(alloc, room as usize)?;
         Ok(MemSink {

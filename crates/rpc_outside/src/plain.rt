@@ -1,5 +1,5 @@
 //! The plain service: "The plain service" of docs/PROTOCOL.md. Echo, reverse, tally and fill.
-ghost use Rattle.std.specs.Prelude.{◌≡◌, ◌≤◌, ◌<◌, ◌==◌, ℕ, List, [], length, map, reverse};
+ghost use Rattle.std.specs.Prelude.{◌≡◌, ◌≤◌, ◌<◌, ◌^◌, ◌==◌, ℕ, List, [], length, map, reverse};
 ghost use Rattle.byteorder.specs.Endian.{big_number};
 ghost use Rattle.rpc_outside.specs.PlainStands.{PlainStands};
 ghost use Rattle.rpc_outside.specs.PlainLaws.{steady-plain};
@@ -123,6 +123,14 @@ impl PlainService {
         ensures { PlainStands result [] }
     {
         PlainService { total: 0 }
+    }
+
+    /// The total of the tallies served so far, modulo 2^64.
+    pub fn total(&self) -> u64
+        ensures total { result ≡ self.now }
+        ensures below { self.now < 2 ^ 64 }
+    {
+        self.total
     }
 }
 

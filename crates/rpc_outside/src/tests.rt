@@ -48,7 +48,8 @@ fn a_reader_and_a_writer_of_std_serve(rt: HostRuntime) -> Result<(), Fail> {
     assert_eq!(rt; read_sizes(&mut source), ([3, 2, 0, 0], false));
     let mut sink = IoSink::new(Vec::new(rt.alloc()));
     write_all(&mut sink, b"hello")?;
-    sink.flush()?;
+    let written = sink.into_writer();
+    assert_eq!(rt; written.as_slice(), b"hello".as_slice());
     let mut room = [0; 2];
     let mut full = IoSink::new(room.as_mut_slice());
     assert_eq!(rt; write_all(&mut full, b"hello"), Err(Failed));
