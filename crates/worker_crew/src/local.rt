@@ -1,5 +1,5 @@
 //! Workers on the caller's own thread.
-ghost use Rattle.std.specs.Prelude.{◌≡◌, ◌≤◌, ◌<◌, ◌↔◌, ◌+◌, [], ◌∷◌, ◌++◌, length, drop, slice_get, option_to_list, true, Some, IsNone, IsErr, IfNone, IfSome, IfOk, IfErr, OnOk, OnErr, IsPermutation};
+ghost use Rattle.std.specs.Prelude.{◌≡◌, ◌≤◌, ◌<◌, ◌↔◌, ◌+◌, [], ◌∷◌, ◌++◌, length, drop, slice_get, option_to_list, true, Some, IsNone, IsErr, IsOk, IfNone, IfSome, IfOk, IfErr, OnOk, OnErr, IsPermutation};
 ghost use Rattle.std.specs.List.{remove};
 ghost use Rattle.std.specs.VecDeque.{deque_capacity};
 ghost use Rattle.worker_crew.specs.Jobs.{job_of, HasRoom, IsAnswered, IsFull, TakesFirst, FoundUnfinished};
@@ -41,11 +41,12 @@ impl<D: Duty> Model for LocalWorkers<D> {
 
 impl<D: Duty> LocalWorkers<D> {
     /// Workers by this duty, to which at most `jobs` jobs may be given and not taken. The memory for them
-    /// is taken here; `NoMemory` comes only where there is none.
+    /// is taken here; `NoMemory` comes only where there is none, and never for no jobs.
     pub fn new(alloc: Global, duty: D, jobs: u32) -> Result<LocalWorkers<D>, NoMemory>
     where
         D: Drop,
-        ensures { IfOk result (λ w. w ≡ record { limit = jobs; given = 0; waiting = []; worked = [] }) }
+        ensures made { IfOk result (λ w. w ≡ record { limit = jobs; given = 0; waiting = []; worked = [] }) }
+        ensures succeeds { jobs ≡ 0 → IsOk result }
     {
         let waiting = VecDeque::with_capacity(alloc, jobs as usize)?;
         let worked = VecDeque::with_capacity(alloc, jobs as usize)?;
