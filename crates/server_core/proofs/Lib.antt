@@ -1,6 +1,9 @@
 mod BeginLemmas
 mod ChangedLemmas
 mod GivenLemmas
+mod HoldBeginLemmas
+mod HoldLemmas
+mod HoldStepLemmas
 mod ListLemmas
 mod OtherLemmas
 mod PartLemmas
@@ -11,7 +14,10 @@ mod RowLemmas
 mod SlotLemmas
 mod TakeLemmas
 pub mod AskedLemmas
+pub mod FlushLemmas
+pub mod FoundLemmas
 pub mod IdleLemmas
+pub mod NoteLemmas
 pub mod SpareLemmas
 pub mod StepLemmas
 pub mod TableLemmas

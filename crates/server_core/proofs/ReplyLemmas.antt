@@ -67,7 +67,7 @@ kept-length pool a p buf kept same at = size-within (buf_at pool a.place) buf a.
 reply-passes : (n t r : ℕ) (q : SlotRequest) → is_owner n (Reply t r) q ≡ true → (eqb n t ≡ true) × (eqb q.number r ≡ true)
 reply-passes n t r q passes = and_parts _ _ passes
 
-number-slot : (r : ℕ) (q : SlotRequest) → eqb q.number r ≡ true → is_in_slot (r % 8) q ≡ true
+pub number-slot : (r : ℕ) (q : SlotRequest) → eqb q.number r ≡ true → is_in_slot (r % 8) q ≡ true
 number-slot r q passes = eq-eqb (q.number % 8) (r % 8) (ap (λ n. n % 8) (eqb-true q.number r passes))
 
 pub number-few : (s : Session) (r : ℕ) → IsSession s → count_by (λ q. eqb q.number r) s.slots ≤ 1

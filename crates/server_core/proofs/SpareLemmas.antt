@@ -23,7 +23,7 @@ use Rattle.server_core.proofs.ListLemmas.{found-holds, sum-changed, sum-without}
 use Rattle.server_core.proofs.PlaceLemmas.{lowest-within, spare-filled, taken-out}
 use Rattle.server_core.proofs.SlotLemmas.{most-slots}
 
-full-used : (u : Use) → is_full u ≡ true → cond {A = ℕ} (is_empty u) 1 0 ≡ 0
+pub full-used : (u : Use) → is_full u ≡ true → cond {A = ℕ} (is_empty u) 1 0 ≡ 0
 full-used Empty full = cc
 full-used (Full refs) full = refl
 full-used Lent full = cc

@@ -1,6 +1,8 @@
 pub mod Asked
 pub mod Finishing
+pub mod Flushing
 pub mod KeepsPool
+pub mod Noting
 pub mod Replies
 pub mod Rows
 pub mod Serving

@@ -13,7 +13,7 @@ use rpc_outside::Service;
 use std::alloc::Global;
 
 /// A buffer for a message of this size, which begins with these bytes.
-pub fn make_message(alloc: Global, size: u32, first: &[u8]) -> Result<MsgBuf, NoMemory>
+pub(crate) fn make_message(alloc: Global, size: u32, first: &[u8]) -> Result<MsgBuf, NoMemory>
     requires size { IsMessage size }
     requires first { length first.now ≤ size }
     ensures { IfOk result (IsFirstPart size first.now) }
@@ -25,7 +25,7 @@ pub fn make_message(alloc: Global, size: u32, first: &[u8]) -> Result<MsgBuf, No
 }
 
 /// A buffer as long as the answer of a type that is served.
-pub fn make_room<V: Service>(
+pub(crate) fn make_room<V: Service>(
     alloc: Global,
     service: &V,
     req_type: u8,
@@ -44,7 +44,7 @@ pub fn make_room<V: Service>(
 
 /// Runs the handler of a type that is handled inline, and gives its answer. Want of memory comes before
 /// it runs.
-pub fn run<V: Service>(
+pub(crate) fn run<V: Service>(
     alloc: Global,
     service: &mut V,
     req_type: u8,
@@ -57,7 +57,20 @@ pub fn run<V: Service>(
     ensures next { OnOk result ((served : Served) → V.stands service.old served → V.stands service.new (served ++ (req_type, ask.now) ∷ [])) }
     ensures unchanged { OnErr result (service.new ≡ service.old) }
 {
-    let mut answer = make_room(alloc, service, req_type, ask)?;
+    let room = make_room(alloc, service, req_type, ask)?;
+    Ok(serve(service, req_type, ask, room))
+}
+
+/// Runs the handler of a type that is handled inline, and gives its answer in the buffer that was made for it.
+pub(crate) fn serve<V: Service>(service: &mut V, req_type: u8, ask: &[u8], room: MsgBuf) -> MsgBuf
+    requires inline { V.mode_of req_type ≡ Inline }
+    requires message { IsMessage room.len × (room.len ≤ capacity_of room) }
+    requires room { (served : Served) → V.stands service.old served → length (V.answer served req_type ask.now) ≡ room.len }
+    ensures message { IsMessage result.len × (result.len ≤ capacity_of result) }
+    ensures answer { (served : Served) → V.stands service.old served → bytes_of result ≡ V.answer served req_type ask.now }
+    ensures next { (served : Served) → V.stands service.old served → V.stands service.new (served ++ (req_type, ask.now) ∷ []) }
+{
+    let mut answer = room;
     service.serve(req_type, ask, answer.whole_mut());
-    Ok(answer)
+    answer
 }

@@ -1,6 +1,7 @@
 //! A server session.
 ghost use Rattle.std.specs.Prelude.{◌≡◌, ◌<◌, ◌≤◌, [], ◌∷◌};
 ghost use Rattle.buffer_pool.specs.Pool.{Pool};
+ghost use Rattle.server_core.specs.Flushing.{HoldsAll};
 ghost use Rattle.server_core.specs.KeepsPool.{KeepsPool};
 ghost use Rattle.server_core.specs.Session.{IsSession, new_session, owner_in};
 ghost use Rattle.server_core.specs.Shown.{paired, shown};
@@ -8,7 +9,9 @@ ghost use Rattle.server_core.specs.Shown.{paired, shown};
 mod asked;
 mod conditions;
 mod finish;
+mod flushing;
 mod giving;
+mod noting;
 mod reply;
 mod request;
 mod taking;
@@ -48,6 +51,7 @@ impl ServerSession {
         requires most { credits ≤ 256 }
         ensures session { result ≡ new_session session client peer credits }
         ensures keeps_pool { (pool : Pool) → KeepsPool pool result.slots }
+        ensures holds { (pool : Pool) → HoldsAll result pool [] }
         ensures step { (pool : Pool) → paired session client peer credits ≡ shown pool result ∷ [] }
     {
         ServerSession {

@@ -2,15 +2,16 @@
 ghost use Rattle.std.specs.Prelude.{◌≡◌, ◌<◌, ◌≤◌, length};
 ghost use Rattle.packet_header.specs.Parts.{packet_count, part_size};
 ghost use Rattle.rpc_outside.specs.PlainAnswer.{plain_mode};
+ghost use Rattle.server_core.specs.Flushing.{HoldsAll};
 ghost use Rattle.server_core.specs.KeepsPool.{KeepsPool};
 ghost use Rattle.server_core.specs.Steps.{AreServed, IsAsking};
 
 use crate::{ServerSession, Step};
 use buffer_pool::BufferPool;
 use packet_header::{HEAD_BYTES, Kind, MessageHeader};
-use packet_rings::Entry;
-use rpc_base::{DropReason, Owner, Peer, Place, RequestNo, SessionNo};
-use rpc_outside::PlainService;
+use packet_rings::{Entry, TxRing};
+use rpc_base::{DropReason, Event, NodeId, Owner, Peer, Place, RequestNo, SessionNo, Who};
+use rpc_outside::{MemRecorder, NoRecord, PlainService, Recorder};
 use std::alloc::Global;
 use std::test::Fail;
 use worker_board::Parcel;
@@ -20,6 +21,8 @@ const SESSION: SessionNo = SessionNo(5);
 const CLIENT: SessionNo = SessionNo(0x0304);
 
 const PEER: Peer = Peer(2);
+
+const ME: Who = Who::Node(NodeId(1));
 
 /// What a step is, but for its reply.
 #[derive(Clone, Copy, Debug, PartialEq, Eq)]
@@ -83,7 +86,7 @@ fn handle(
     handle_where(alloc, session, pool, service, head, body, false)
 }
 
-/// Handles a packet, and sends its reply at once; a second reply is taken out unsent, and a job is dropped.
+/// Handles a packet, as `handle_noted` does, and notes nothing.
 fn handle_where(
     alloc: Global,
     session: &mut ServerSession,
@@ -99,13 +102,48 @@ fn handle_where(
     ensures keeps_pool { KeepsPool pool.new session.new.slots }
     ensures all_served { AreServed plain_mode session.new.slots }
 {
+    handle_noted(
+        alloc,
+        session,
+        pool,
+        service,
+        head,
+        body,
+        jobs_full,
+        &mut NoRecord,
+    )
+}
+
+/// Handles a packet, and sends its reply at once; a second reply is taken out unsent, and a job is dropped.
+/// So none is ever in the ring.
+fn handle_noted<R: Recorder>(
+    alloc: Global,
+    session: &mut ServerSession,
+    pool: &mut BufferPool,
+    service: &mut PlainService,
+    head: MessageHeader,
+    body: &[u8],
+    jobs_full: bool,
+    rec: &mut R,
+) -> Kept
+    requires keeps_pool { KeepsPool pool.old session.old.slots }
+    requires all_served { AreServed plain_mode session.old.slots }
+    requires asking { IsAsking head (length body.now) }
+    ensures keeps_pool { KeepsPool pool.new session.new.slots }
+    ensures all_served { AreServed plain_mode session.new.slots }
+{
+    let Ok(mut tx) = TxRing::new(alloc, 0) else {
+        return Kept::Refused;
+    };
     if pool.spare() < 2
         || !session.can_hold(pool, head.request)
         || !session.is_unheld(pool, head.request)
     {
         return Kept::Refused;
     }
-    match session.on_packet(alloc, pool, service, &head, body, jobs_full) {
+    match session.on_packet(
+        alloc, pool, &mut tx, service, &head, body, jobs_full, ME, rec,
+    ) {
         Step::Took { reply } => {
             session.sent(pool, &reply);
             Kept::Took
@@ -116,6 +154,48 @@ fn handle_where(
         }
         Step::Ran { reply } => {
             session.sent(pool, &reply);
+            Kept::Ran
+        }
+        Step::Give(_parcel) => Kept::Gave,
+        Step::Dropped(reason) => Kept::Dropped(reason),
+    }
+}
+
+/// Handles a packet where the ring has each reply that is neither sent nor flushed, and puts its reply there.
+fn handle_queued<R: Recorder>(
+    alloc: Global,
+    session: &mut ServerSession,
+    pool: &mut BufferPool,
+    tx: &mut TxRing,
+    service: &mut PlainService,
+    head: MessageHeader,
+    body: &[u8],
+    rec: &mut R,
+) -> Kept
+    requires keeps_pool { KeepsPool pool.old session.old.slots }
+    requires holds { HoldsAll session.old pool.old tx.old.items }
+    requires size { tx.old.size ≡ 8 }
+    requires all_served { AreServed plain_mode session.old.slots }
+    requires asking { IsAsking head (length body.now) }
+    ensures keeps_pool { KeepsPool pool.new session.new.slots }
+    ensures holds { HoldsAll session.new pool.new tx.new.items }
+    ensures size { tx.new.size ≡ 8 }
+    ensures all_served { AreServed plain_mode session.new.slots }
+{
+    if pool.spare() < 2 || !session.can_hold(pool, head.request) || tx.len() >= 8 {
+        return Kept::Refused;
+    }
+    match session.on_packet(alloc, pool, tx, service, &head, body, false, ME, rec) {
+        Step::Took { reply } => {
+            tx.push(reply);
+            Kept::Took
+        }
+        Step::Again { reply } => {
+            tx.push(reply);
+            Kept::Again
+        }
+        Step::Ran { reply } => {
+            tx.push(reply);
             Kept::Ran
         }
         Step::Give(_parcel) => Kept::Gave,
@@ -138,13 +218,26 @@ fn give(
     ensures keeps_pool { KeepsPool pool.new session.new.slots }
     ensures all_served { AreServed plain_mode session.new.slots }
 {
+    let Ok(mut tx) = TxRing::new(alloc, 0) else {
+        return None;
+    };
     if pool.spare() < 2
         || !session.can_hold(pool, head.request)
         || !session.is_unheld(pool, head.request)
     {
         return None;
     }
-    match session.on_packet(alloc, pool, service, &head, body, false) {
+    match session.on_packet(
+        alloc,
+        pool,
+        &mut tx,
+        service,
+        &head,
+        body,
+        false,
+        ME,
+        &mut NoRecord,
+    ) {
         Step::Give(parcel) => Some(parcel),
         _ => None,
     }
@@ -432,5 +525,81 @@ fn a_reply_stands_for_its_packet(rt: HostRuntime) -> Result<(), Fail> {
     assert_eq!(rt; bytes.len(), 1024);
     assert_eq!(rt; bytes[0], 9);
     assert_eq!(rt; head, [0xE1, 3, 2, 0, 4, 1, 3, 4, 0, 1, 0, 0, 0, 0, 0, 1]);
+    Ok(())
+}
+
+#[test]
+fn the_facts_of_a_packet_are_noted(rt: HostRuntime) -> Result<(), Fail> {
+    let alloc = rt.alloc();
+    let mut pool = BufferPool::new(alloc, 8)?;
+    let mut session = ServerSession::new(SESSION, CLIENT, PEER, 4);
+    let mut service = PlainService::new();
+    let mut rec = MemRecorder::new(alloc);
+    let request = RequestNo::of(1, 0);
+    let (s, p, v, r) = (&mut session, &mut pool, &mut service, &mut rec);
+    let head = part(2, 3, 0, request);
+    let first = handle_noted(alloc, s, p, v, head, &[1, 2, 3], false, r);
+    assert_eq!(rt; first, Kept::Ran);
+    let again = handle_noted(alloc, s, p, v, head, &[1, 2, 3], false, r);
+    assert_eq!(rt; again, Kept::Again);
+    let owner = Owner::Reply {
+        session: SESSION,
+        request,
+    };
+    let events = [
+        Event::Took { owner, number: 0 },
+        Event::Ran {
+            session: SESSION,
+            request,
+            req_type: 2,
+        },
+        Event::Posted { owner, number: 0 },
+        Event::Again { owner, number: 0 },
+        Event::Posted { owner, number: 0 },
+    ];
+    assert!(rt; rec.whole());
+    assert_eq!(rt; rec.facts().len(), events.len());
+    for (fact, event) in rec.facts().iter().zip(events) {
+        assert!(rt; fact.who == ME && fact.event == event);
+    }
+    let ran = rec.facts().get(1).ok_or("not noted")?;
+    assert_eq!(rt; ran.first.bytes(), [1, 2, 3].as_slice());
+    assert_eq!(rt; ran.second.bytes(), [3, 2, 1].as_slice());
+    Ok(())
+}
+
+#[test]
+fn an_older_request_leaves_the_ring(rt: HostRuntime) -> Result<(), Fail> {
+    let alloc = rt.alloc();
+    let mut pool = BufferPool::new(alloc, 8)?;
+    let mut tx = TxRing::new(alloc, 8)?;
+    let mut session = ServerSession::new(SESSION, CLIENT, PEER, 4);
+    let mut service = PlainService::new();
+    let mut rec = MemRecorder::new(alloc);
+    let (s, p, t, v) = (&mut session, &mut pool, &mut tx, &mut service);
+    let (older, newer) = (RequestNo::of(1, 0), RequestNo::of(1, 1));
+    let first = part(2, 3, 0, older);
+    let other = part(2, 3, 0, RequestNo::of(2, 0));
+    let ask = [1, 2, 3];
+    let ran = handle_queued(alloc, s, p, t, v, first, &ask, &mut NoRecord);
+    assert_eq!(rt; (ran, t.len()), (Kept::Ran, 1));
+    let ran = handle_queued(alloc, s, p, t, v, other, &ask, &mut NoRecord);
+    assert_eq!(rt; (ran, t.len()), (Kept::Ran, 2));
+    let again = handle_queued(alloc, s, p, t, v, first, &ask, &mut NoRecord);
+    assert_eq!(rt; (again, t.len()), (Kept::Again, 3));
+    let begun = part(2, 3, 0, newer);
+    let ran = handle_queued(alloc, s, p, t, v, begun, &ask, &mut rec);
+    assert_eq!(rt; (ran, t.len()), (Kept::Ran, 2));
+    let flushed = Event::Flushed {
+        owner: Owner::Reply {
+            session: SESSION,
+            request: older,
+        },
+        number: 0,
+    };
+    assert_eq!(rt; rec.facts().len(), 5);
+    for fact in rec.facts().iter().take(2) {
+        assert!(rt; fact.who == ME && fact.event == flushed);
+    }
     Ok(())
 }

@@ -34,7 +34,7 @@ use Rattle.server_core.specs.declared.step.Step.{Step}
 use Rattle.server_core.specs.declared.step.Step.TheVariants.{Took, Again, Ran, Give, Dropped}
 use Rattle.sim_server.specs.Ends.{WhereTaken, after_row, answer_bytes, ask_with, asked_bytes, gives, is_taken, is_wanting, job_given, parcel_of, replied, runs, shown_job, taken, takes, total_after_row}
 use Rattle.sim_server.proofs.ServiceLemmas.{answer-is, by-worker, total-next}
-use Rattle.sim_server.proofs.SlotLemmas.{found-any, found-changed, found-passes, found-shown, none-any, none-without}
+use Rattle.server_core.proofs.FoundLemmas.{found-any, found-changed, found-passes, found-shown, none-any, none-without}
 
 -- the number of the newest request of a slot
 abbrev number_of : Option SlotRequest → Option ℕ

@@ -13,7 +13,7 @@ use Rattle.server_core.specs.declared.slot.SlotRequest.{SlotRequest}
 use Rattle.server_core.proofs.AskedLemmas.{none-numbered}
 use Rattle.sim_server.specs.Ends.{finished, is_numbered}
 use Rattle.sim_server.proofs.EndLemmas.{numbered}
-use Rattle.sim_server.proofs.SlotLemmas.{none-changed}
+use Rattle.server_core.proofs.FoundLemmas.{none-changed}
 
 -- the newest request of the slot of r has another number, or there is none
 other-cases : (r : ℕ) (o : Option SlotRequest) → is_numbered r (option_map (λ q. q.number) o) ≡ false → IfSome o (λ q. q.number ≢ r)

@@ -1,5 +1,4 @@
 pub mod EndLemmas
 pub mod FinishLemmas
 pub mod ServiceLemmas
-pub mod SlotLemmas
 pub mod WorkLemmas

@@ -33,7 +33,7 @@ use Rattle.server_core.proofs.StepLemmas.{asked-begun, none-shown}
 use Rattle.server_core.proofs.TableLemmas.{row-begins}
 use Rattle.sim_server.specs.Ends.{WhereTaken, after_row, gives, is_taken, is_wanting, parcel_of, runs, taken, takes}
 use Rattle.sim_server.proofs.EndLemmas.{Handled, row-end}
-use Rattle.sim_server.proofs.SlotLemmas.{found-any, found-other, found-without, none-any}
+use Rattle.server_core.proofs.FoundLemmas.{found-any, found-other, found-without, none-any}
 
 or-none : {A : Type 0} (o : Option A) → option_or o None ≡ o
 or-none None = refl

@@ -1,5 +1,6 @@
 //! One server end of a session in a simulation: a server session with a pool of its own for the buffers
-//! of its requests. Its service is the plain one. It knows nothing of rings, links, workers or clocks.
+//! of its requests. Its service is the plain one. It keeps no ring, and knows nothing of links,
+//! workers or clocks.
 #![tactic(auto)]
 
 mod end;

@@ -1,12 +1,14 @@
 //! Background jobs: a request goes to a worker with its bytes, and its answer comes back.
-ghost use Rattle.std.specs.Prelude.{◌≡◌, ◌≢◌, ℕ, ◌<◌, ◌+◌, [], IfNone, IfSome, None, Some, false, true};
+ghost use Rattle.std.specs.Prelude.{◌≡◌, ◌≢◌, ℕ, ◌<◌, ◌+◌, List, [], ◌∷◌, ◌++◌, IfNone, IfSome, None, Some, false, true};
 ghost use Rattle.packet_header.specs.Parts.{packet_count};
 ghost use Rattle.message_buffer.specs.Buffer.{bytes_of};
 ghost use Rattle.buffer_pool.specs.Pool.{buf_at, spare_of};
+ghost use Rattle.packet_rings.specs.Values.{EntryValue};
 ghost use Rattle.rpc_laws.specs.Requests.{answered, given};
 ghost use Rattle.rpc_outside.specs.declared.service.Mode.{Mode};
 ghost use Rattle.rpc_outside.specs.declared.service.Mode.TheVariants.{Unserved};
 ghost use Rattle.server_core.specs.Finishing.{IsFinished, IsLeft};
+ghost use Rattle.server_core.specs.Flushing.{HoldsAll, without_newest};
 ghost use Rattle.server_core.specs.KeepsPool.{IsAsked, KeepsPool, KeepsSpare, LeavesOthers};
 ghost use Rattle.server_core.specs.Serving.{IsUnheld};
 ghost use Rattle.server_core.specs.Session.{IsInTurn, IsMessage, IsSession, newest};
@@ -38,6 +40,8 @@ impl ServerSession {
         ensures all_served { (mode_of : ℕ → Mode) → AreServed mode_of self.old.slots → AreServed mode_of self.new.slots }
         ensures spare { KeepsSpare self.old.slots self.new.slots pool.old pool.new }
         ensures others { LeavesOthers self.old.slots self.new.slots pool.old pool.new }
+        ensures holds { (entries : List EntryValue) → HoldsAll self.old pool.old entries → IfSome result (λ e. HoldsAll self.new pool.new (entries ++ e ∷ [])) }
+        ensures still_holds { (entries : List EntryValue) → HoldsAll self.old pool.old entries → IfNone result (HoldsAll self.new pool.new entries) }
         ensures keeps_pool { KeepsPool pool.new self.new.slots }
     {
         let Some(request) = self.slots.of_slot(parcel.request.slot()) else {
@@ -64,6 +68,7 @@ impl ServerSession {
         ensures served { (mode_of : ℕ → Mode) → AreServed mode_of self.old.slots → AreServed mode_of self.new.slots }
         ensures spare { KeepsSpare self.old.slots self.new.slots pool.old pool.new }
         ensures others { LeavesOthers self.old.slots self.new.slots pool.old pool.new }
+        ensures holds { (entries : List EntryValue) → HoldsAll self.old pool.old entries → HoldsAll self.new pool.new (entries ++ result ∷ []) }
         ensures keeps_pool { KeepsPool pool.new self.new.slots }
     {
         let answer = put_message(pool, answer);
@@ -96,6 +101,7 @@ impl ServerSession {
         ensures served { (mode_of : ℕ → Mode) → mode_of head.now.req_type ≢ Unserved → AreServed mode_of self.old.slots → AreServed mode_of self.new.slots }
         ensures spare { KeepsSpare self.old.slots self.new.slots pool.old pool.new }
         ensures others { LeavesOthers self.old.slots self.new.slots pool.old pool.new }
+        ensures holds { (entries : List EntryValue) → HoldsAll (without_newest head.now.request self.old) pool.old entries → HoldsAll self.new pool.new entries }
         ensures keeps_pool { KeepsPool pool.new self.new.slots }
     {
         give_up(&mut self.slots, pool, head.request.slot());
@@ -131,6 +137,7 @@ impl ServerSession {
         ensures served { (mode_of : ℕ → Mode) → AreServed mode_of self.old.slots → AreServed mode_of self.new.slots }
         ensures spare { KeepsSpare self.old.slots self.new.slots pool.old pool.new }
         ensures others { LeavesOthers self.old.slots self.new.slots pool.old pool.new }
+        ensures holds { (entries : List EntryValue) → HoldsAll self.old pool.old entries → HoldsAll self.new pool.new entries }
         ensures keeps_pool { KeepsPool pool.new self.new.slots }
     {
         let Ok(ask) = pool.take(place) else {

@@ -1,7 +1,11 @@
 //! The replies to the packets of a request: what they are, and what becomes of their references.
-ghost use Rattle.std.specs.Prelude.{◌≡◌};
+ghost use Rattle.std.specs.Prelude.{◌≡◌, Bool, List};
+ghost use Rattle.packet_rings.specs.Values.{EntryValue};
+ghost use Rattle.rpc_base.specs.Taking.{TakenOut};
+ghost use Rattle.server_core.specs.Flushing.{HoldsAll};
 ghost use Rattle.server_core.specs.KeepsPool.{KeepsPool};
 ghost use Rattle.server_core.specs.Replies.{IsHeld, IsReplyTo, IsSpelled, packet_of, released_at, request_of};
+ghost use Rattle.server_core.specs.Session.{IsSession};
 ghost use Rattle.server_core.specs.Shown.{shown};
 
 use super::ServerSession;
@@ -43,8 +47,11 @@ impl ServerSession {
         ensures session { self.new ≡ self.old }
         ensures shown { shown pool.new self.new ≡ shown pool.old self.old }
         ensures pool { pool.new ≡ released_at entry.now.place pool.old }
+        // The entries without this one hold each reply of the session that is neither sent nor flushed, as before.
+        ensures holds { (passes : EntryValue → Bool) → (old new : List EntryValue) → TakenOut passes entry.now old new → HoldsAll self.old pool.old old → IsReplyTo (request_of self.old entry.now) entry.now → HoldsAll self.new pool.new new }
         ensures keeps_pool { KeepsPool pool.new self.new.slots }
     {
+        self.sound();
         release(pool, entry.place);
     }
 
@@ -55,14 +62,24 @@ impl ServerSession {
         ensures session { self.new ≡ self.old }
         ensures shown { shown pool.new self.new ≡ shown pool.old self.old }
         ensures pool { pool.new ≡ released_at entry.now.place pool.old }
+        // The entries without this one hold each reply of the session that is neither sent nor flushed, as before.
+        ensures holds { (passes : EntryValue → Bool) → (old new : List EntryValue) → TakenOut passes entry.now old new → HoldsAll self.old pool.old old → IsReplyTo (request_of self.old entry.now) entry.now → HoldsAll self.new pool.new new }
         ensures keeps_pool { KeepsPool pool.new self.new.slots }
     {
+        self.sound();
         release(pool, entry.place);
+    }
+
+    // What always holds of a session holds of this one.
+    fn sound(&self)
+        ensures { IsSession self.now }
+    {
+        let _number = self.number;
     }
 }
 
-// Gives up the reference to a place, if there is one.
-fn release(pool: &mut BufferPool, place: Option<Place>)
+/// Gives up the reference to a place, if there is one.
+pub(super) fn release(pool: &mut BufferPool, place: Option<Place>)
     requires { IsHeld pool.old place }
     ensures { pool.new ≡ released_at place pool.old }
 {

@@ -1,15 +1,20 @@
 //! The server table: what a Request or RFR does to the session that it is for.
-ghost use Rattle.std.specs.Prelude.{◌≡◌, ◌≤◌, IfSome, Some, length};
+ghost use Rattle.std.specs.Prelude.{◌≡◌, ◌≤◌, List, [], ◌∷◌, ◌++◌, IfSome, Some, length};
+ghost use Rattle.packet_rings.specs.Rings.{ring};
+ghost use Rattle.packet_rings.specs.Values.{EntryValue};
 ghost use Rattle.buffer_pool.specs.Pool.{Pool, spare_of};
 ghost use Rattle.rpc_laws.specs.declared.rows.ServerRow.TheVariants.{Begins};
 ghost use Rattle.rpc_laws.specs.ServerTable.{server_row};
 ghost use Rattle.rpc_outside.specs.PlainAnswer.{plain_mode};
+ghost use Rattle.rpc_outside.specs.Recording.{Grew};
+ghost use Rattle.rpc_outside.specs.Served.{Served};
+ghost use Rattle.server_core.specs.Flushing.{HoldsAll, HoldsReplies, flushes, replies_of, ring_after};
 ghost use Rattle.server_core.specs.KeepsPool.{KeepsPool, KeepsSpare, LeavesOthers};
+ghost use Rattle.server_core.specs.Noting.{IsByRule, packet_facts};
 ghost use Rattle.server_core.specs.Rows.{is_handled, new_row, row_of};
 ghost use Rattle.server_core.specs.Replies.{CanHold};
-ghost use Rattle.server_core.specs.Serving.{IsUnheld};
 ghost use Rattle.server_core.specs.Session.{IsSession, newest};
-ghost use Rattle.server_core.specs.Steps.{AreServed, IfGiven, IfReply, IsAsking, IsParcel, IsReply, IsStepOf, IsTakenBefore, Steps, UnlessRan, UnlessTaken};
+ghost use Rattle.server_core.specs.Steps.{AreServed, IfGiven, IfReply, IsAsking, IsParcel, IsReply, IsStepOf, IsTakenBefore, Steps, UnlessRan, UnlessTaken, asked_with};
 ghost use Rattle.server_core.specs.Shown.{shown};
 
 use super::ServerSession;
@@ -18,31 +23,35 @@ use crate::slot::{is_an_rfr, makes_job};
 use crate::step::Step;
 use buffer_pool::BufferPool;
 use packet_header::MessageHeader;
-use packet_rings::Entry;
-use rpc_base::DropReason;
+use packet_rings::{Entry, TxRing};
+use rpc_base::{DropReason, Who};
 use rpc_laws::ServerRow;
-use rpc_outside::{Mode, Service};
+use rpc_outside::{Mode, Recorder, Service};
 use std::alloc::Global;
 
 impl ServerSession {
     /// Handles a Request or RFR of this session, by the server table. `jobs_full` tells whether the node's
-    /// jobs are full. The pool has two empty places. The reply is to be put into the transmit ring; its place
-    /// is held. A parcel is to be given to a worker. Want of memory is a drop, after which the packet may
+    /// jobs are full. The pool has two empty places. Where the packet begins a newer request, the ring has
+    /// each reply to the older one of its slot that is neither sent nor flushed; they are taken out. The
+    /// facts are noted as `who`. The reply is to be put into the ring; its place is held. A parcel is to be
+    /// given to a worker. The buffers are made first: want of memory is a drop, after which the packet may
     /// come again.
-    pub fn on_packet<V: Service>(
+    pub fn on_packet<V: Service, R: Recorder>(
         &mut self,
         alloc: Global,
         pool: &mut BufferPool,
+        tx: &mut TxRing,
         service: &mut V,
         head: &MessageHeader,
         body: &[u8],
         jobs_full: bool,
+        who: Who,
+        rec: &mut R,
     ) -> Step
         requires keeps_pool { KeepsPool pool.old self.old.slots }
         requires spare { 2 ≤ spare_of pool.old }
         requires asking { IsAsking head.now (length body.now) }
-        // The replies to an older request are taken out of the queues before a newer one begins.
-        requires unheld { row_of (V.mode_of head.now.req_type) jobs_full head.now self.old ≡ Begins → IfSome (newest head.now.request self.old) (IsUnheld pool.old) }
+        requires queued { row_of (V.mode_of head.now.req_type) jobs_full head.now self.old ≡ Begins → IfSome (newest head.now.request self.old) (HoldsReplies self.old.number pool.old tx.old.items) }
         requires can_hold { IfSome (newest head.now.request self.old) (CanHold pool.old) }
         // All packets of a session are handled by services of one type.
         requires all_served { AreServed V.mode_of self.old.slots }
@@ -53,6 +62,12 @@ impl ServerSession {
         // As the facts Took, Ran and Given of the definitions, for each list of requests that the service
         // stands for.
         ensures steps { Steps result V.answer (V.stands service.old) (V.stands service.new) head.now body.now (shown pool.old self.old) (shown pool.new self.new) }
+        ensures ring { tx.new ≡ ring (ring_after (row_of (V.mode_of head.now.req_type) jobs_full head.now self.old) result self.old.number (newest head.now.request self.old) tx.old.items) tx.old.size }
+        ensures noted { (served : Served) → V.stands service.old served → Grew R.facts R.whole rec.old rec.new
+            (packet_facts who self.old tx.old.items (row_of (V.mode_of head.now.req_type) jobs_full head.now self.old) head.now (asked_with head.now body.now (shown pool.old self.old)) (V.answer served head.now.req_type (asked_with head.now body.now (shown pool.old self.old))) result) }
+        // These are the facts of the server rule, where that has the type in the same mode.
+        ensures facts { V.mode_of head.now.req_type ≡ plain_mode head.now.req_type → head.now.session ≡ self.old.number →
+            IsByRule self.old tx.old.items (row_of (V.mode_of head.now.req_type) jobs_full head.now self.old) head.now body.now (shown pool.old self.old) result }
         ensures reply { IfReply result (IsReply head.now.request head.now.number self.new pool.new) }
         ensures give { IfGiven result (IsParcel V.answer (V.stands service.old) head.now body.now (shown pool.old self.old)) }
         ensures service { UnlessRan result (service.new ≡ service.old) }
@@ -60,12 +75,55 @@ impl ServerSession {
         ensures all_served { AreServed V.mode_of self.new.slots }
         ensures spare { KeepsSpare self.old.slots self.new.slots pool.old pool.new }
         ensures others { LeavesOthers self.old.slots self.new.slots pool.old pool.new }
+        // The ring with the reply holds each reply of the session that is neither sent nor flushed, as before.
+        ensures holds { HoldsAll self.old pool.old tx.old.items → HoldsAll self.new pool.new (tx.new.items ++ replies_of result) }
+        ensures keeps_pool { KeepsPool pool.new self.new.slots }
+    {
+        let step = self.step(alloc, pool, tx, service, head, body, jobs_full, &who, rec);
+        self.note(pool, head, &step, &who, rec);
+        step
+    }
+
+    // What the packet does, before its facts are noted but for the replies that it flushes.
+    fn step<V: Service, R: Recorder>(
+        &mut self,
+        alloc: Global,
+        pool: &mut BufferPool,
+        tx: &mut TxRing,
+        service: &mut V,
+        head: &MessageHeader,
+        body: &[u8],
+        jobs_full: bool,
+        who: &Who,
+        rec: &mut R,
+    ) -> Step
+        requires keeps_pool { KeepsPool pool.old self.old.slots }
+        requires spare { 2 ≤ spare_of pool.old }
+        requires asking { IsAsking head.now (length body.now) }
+        requires queued { row_of (V.mode_of head.now.req_type) jobs_full head.now self.old ≡ Begins → IfSome (newest head.now.request self.old) (HoldsReplies self.old.number pool.old tx.old.items) }
+        requires can_hold { IfSome (newest head.now.request self.old) (CanHold pool.old) }
+        requires all_served { AreServed V.mode_of self.old.slots }
+        ensures row { IsStepOf (V.mode_of head.now.req_type) head.now (row_of (V.mode_of head.now.req_type) jobs_full head.now self.old) result }
+        ensures rule { V.mode_of head.now.req_type ≡ plain_mode head.now.req_type →
+            server_row jobs_full (Some (shown pool.old self.old)) self.old.peer head.now ≡ row_of (V.mode_of head.now.req_type) jobs_full head.now self.old }
+        ensures sound { IsSession self.old }
+        ensures steps { Steps result V.answer (V.stands service.old) (V.stands service.new) head.now body.now (shown pool.old self.old) (shown pool.new self.new) }
+        ensures ring { tx.new ≡ ring (ring_after (row_of (V.mode_of head.now.req_type) jobs_full head.now self.old) result self.old.number (newest head.now.request self.old) tx.old.items) tx.old.size }
+        ensures noted { Grew R.facts R.whole rec.old rec.new (flushes (row_of (V.mode_of head.now.req_type) jobs_full head.now self.old) result who.now self.old.number (newest head.now.request self.old) tx.old.items) }
+        ensures reply { IfReply result (IsReply head.now.request head.now.number self.new pool.new) }
+        ensures give { IfGiven result (IsParcel V.answer (V.stands service.old) head.now body.now (shown pool.old self.old)) }
+        ensures service { UnlessRan result (service.new ≡ service.old) }
+        ensures session { UnlessTaken result (self.new ≡ self.old) }
+        ensures all_served { AreServed V.mode_of self.new.slots }
+        ensures spare { KeepsSpare self.old.slots self.new.slots pool.old pool.new }
+        ensures others { LeavesOthers self.old.slots self.new.slots pool.old pool.new }
+        ensures holds { HoldsAll self.old pool.old tx.old.items → HoldsAll self.new pool.new (tx.new.items ++ replies_of result) }
         ensures keeps_pool { KeepsPool pool.new self.new.slots }
     {
         let mode = service.mode(head.req_type);
         match self.row(head, mode, jobs_full) {
             ServerRow::Drops(reason) => Step::Dropped(reason),
-            ServerRow::Begins => self.begin(alloc, pool, service, mode, head, body),
+            ServerRow::Begins => self.begin(alloc, pool, tx, service, mode, head, body, who, rec),
             ServerRow::Takes => self.take(alloc, pool, service, mode, head, body),
             ServerRow::Repeats => {
                 let reply = self.repeat(pool, head);
@@ -83,6 +141,7 @@ impl ServerSession {
         ensures shown { shown pool.new self.now ≡ shown pool.old self.now }
         ensures spare { KeepsSpare self.now.slots self.now.slots pool.old pool.new }
         ensures others { LeavesOthers self.now.slots self.now.slots pool.old pool.new }
+        ensures holds { (entries : List EntryValue) → HoldsAll self.now pool.old entries → HoldsAll self.now pool.new (entries ++ result ∷ []) }
         ensures keeps_pool { KeepsPool pool.new self.now.slots }
     {
         let Some(request) = self.slots.of_slot(head.request.slot()) else {

@@ -1,15 +1,20 @@
 //! What a packet that is taken does: a request begins or goes on, and its handler runs after its last
 //! packet.
-ghost use Rattle.std.specs.Prelude.{◌≡◌, ◌≢◌, ℕ, ◌<◌, ◌≤◌, ◌+◌, ◌*◌, ◌++◌, length, map, take, IfSome, None, Some, false, true};
+ghost use Rattle.std.specs.Prelude.{◌≡◌, ◌≢◌, ℕ, ◌<◌, ◌≤◌, ◌+◌, ◌*◌, List, [], ◌∷◌, ◌++◌, length, map, take, IfSome, None, Some, false, true};
 ghost use Rattle.std.specs.List.{find};
 ghost use Rattle.rpc_base.specs.Tables.{without_first};
 ghost use Rattle.packet_header.specs.Parts.{packet_count, part_size};
 ghost use Rattle.message_buffer.specs.Buffer.{bytes_of, capacity_of};
 ghost use Rattle.buffer_pool.specs.Pool.{IsFull, buf_at, emptied, filled, lowest_empty, refs_of, spare_of};
+ghost use Rattle.packet_rings.specs.Rings.{ring};
+ghost use Rattle.packet_rings.specs.Values.{EntryValue};
+ghost use Rattle.rpc_laws.specs.declared.rows.ServerRow.TheVariants.{Begins};
 ghost use Rattle.rpc_laws.specs.Requests.{answered};
 ghost use Rattle.rpc_laws.specs.ServerTable.{is_last};
 ghost use Rattle.rpc_outside.specs.declared.service.Mode.{Mode};
 ghost use Rattle.rpc_outside.specs.declared.service.Mode.TheVariants.{Unserved};
+ghost use Rattle.rpc_outside.specs.Recording.{Grew};
+ghost use Rattle.server_core.specs.Flushing.{HoldsAll, HoldsReplies, flushes, replies_of, ring_after, without_newest};
 ghost use Rattle.server_core.specs.KeepsPool.{IsKept, KeepsPool, KeepsSpare, LeavesOthers, own_names};
 ghost use Rattle.server_core.specs.Rows.{gives_job};
 ghost use Rattle.server_core.specs.Replies.{CanHold, MayHold, held_at};
@@ -19,39 +24,44 @@ ghost use Rattle.server_core.specs.Shown.{ask_in, shown, shown_request};
 ghost use Rattle.server_core.specs.Steps.{AreServed, HasTaken, IfGiven, IfReply, IsBeginning, IsNextOf, IsParcel, IsReply, Steps, UnlessRan, UnlessTaken, begun_with, bytes_with, first_shown, gone_on_as, grown};
 
 use super::ServerSession;
-use crate::running::{make_message, make_room, run};
+use crate::running::{make_message, make_room, run, serve};
 use crate::slot::{SlotRequest, Stored, is_an_rfr, is_background};
 use crate::slots::Slots;
 use crate::step::Step;
 use buffer_pool::BufferPool;
 use message_buffer::MsgBuf;
 use packet_header::{MessageHeader, PART_BYTES, count};
-use packet_rings::Entry;
-use rpc_base::{DropReason, Place};
-use rpc_outside::{Mode, Service};
+use packet_rings::{Entry, TxRing};
+use rpc_base::{DropReason, Place, Who};
+use rpc_outside::{Mode, Recorder, Service};
 use std::alloc::Global;
 
 impl ServerSession {
     // A new request begins with this packet. Where it is the only one, its handler runs, or it goes to a
-    // worker. The buffers are made first.
-    pub(super) fn begin<V: Service>(
+    // worker. The buffers are made first, and then the replies to the older request of the slot are flushed.
+    pub(super) fn begin<V: Service, R: Recorder>(
         &mut self,
         alloc: Global,
         pool: &mut BufferPool,
+        tx: &mut TxRing,
         service: &mut V,
         mode: Mode,
         head: &MessageHeader,
         body: &[u8],
+        who: &Who,
+        rec: &mut R,
     ) -> Step
         requires session { IsSession self.old }
         requires keeps_pool { KeepsPool pool.old self.old.slots }
         requires spare { 2 ≤ spare_of pool.old }
-        requires unheld { IfSome (newest head.now.request self.old) (IsUnheld pool.old) }
+        requires queued { IfSome (newest head.now.request self.old) (HoldsReplies self.old.number pool.old tx.old.items) }
         requires beginning { IsBeginning head.now (length body.now) self.old }
         requires mode { V.mode_of head.now.req_type ≡ mode }
         requires served { mode ≢ Unserved }
         requires all_served { AreServed V.mode_of self.old.slots }
         ensures taken { HasTaken (is_last head.now) (gives_job mode head.now) true result }
+        ensures ring { tx.new ≡ ring (ring_after Begins result self.old.number (newest head.now.request self.old) tx.old.items) tx.old.size }
+        ensures noted { Grew R.facts R.whole rec.old rec.new (flushes Begins result who.now self.old.number (newest head.now.request self.old) tx.old.items) }
         ensures steps { Steps result V.answer (V.stands service.old) (V.stands service.new) head.now body.now (shown pool.old self.old) (shown pool.new self.new) }
         ensures reply { IfReply result (IsReply head.now.request head.now.number self.new pool.new) }
         ensures give { IfGiven result (IsParcel V.answer (V.stands service.old) head.now body.now (shown pool.old self.old)) }
@@ -60,25 +70,26 @@ impl ServerSession {
         ensures all_served { AreServed V.mode_of self.new.slots }
         ensures spare { KeepsSpare self.old.slots self.new.slots pool.old pool.new }
         ensures others { LeavesOthers self.old.slots self.new.slots pool.old pool.new }
+        ensures holds { HoldsAll self.old pool.old tx.old.items → HoldsAll self.new pool.new (tx.new.items ++ replies_of result) }
         ensures keeps_pool { KeepsPool pool.new self.new.slots }
     {
         let Ok(ask) = make_message(alloc, head.size, body) else {
             return Step::Dropped(DropReason::NoMemory);
         };
         if count(head.size) > 1 {
+            self.flush_older(pool, tx, head.request, who, rec);
             let reply = self.begin_first(pool, head, ask);
             return Step::Took { reply };
         }
-        if is_background(mode) {
-            let Ok(out) = make_room(alloc, service, head.req_type, body) else {
-                return Step::Dropped(DropReason::NoMemory);
-            };
-            let parcel = self.begin_given(pool, head, ask, out);
-            return Step::Give(parcel);
-        }
-        let Ok(answer) = run(alloc, service, head.req_type, body) else {
+        let Ok(room) = make_room(alloc, service, head.req_type, body) else {
             return Step::Dropped(DropReason::NoMemory);
         };
+        self.flush_older(pool, tx, head.request, who, rec);
+        if is_background(mode) {
+            let parcel = self.begin_given(pool, head, ask, room);
+            return Step::Give(parcel);
+        }
+        let answer = serve(service, head.req_type, body, room);
         let reply = self.begin_whole(pool, head, ask, answer);
         Step::Ran { reply }
     }
@@ -110,6 +121,7 @@ impl ServerSession {
         ensures all_served { AreServed V.mode_of self.new.slots }
         ensures spare { KeepsSpare self.old.slots self.new.slots pool.old pool.new }
         ensures others { LeavesOthers self.old.slots self.new.slots pool.old pool.new }
+        ensures holds { (entries : List EntryValue) → HoldsAll self.old pool.old entries → HoldsAll self.new pool.new (entries ++ replies_of result) }
         ensures keeps_pool { KeepsPool pool.new self.new.slots }
     {
         let Some(request) = self.slots.of_slot(head.request.slot()) else {
@@ -156,6 +168,7 @@ impl ServerSession {
         ensures reply { IsReply head.now.request 0 self.new pool.new result }
         ensures spare { KeepsSpare self.old.slots self.new.slots pool.old pool.new }
         ensures others { LeavesOthers self.old.slots self.new.slots pool.old pool.new }
+        ensures holds { (entries : List EntryValue) → HoldsAll (without_newest head.now.request self.old) pool.old entries → HoldsAll self.new pool.new (entries ++ result ∷ []) }
         ensures keeps_pool { KeepsPool pool.new self.new.slots }
     {
         give_up(&mut self.slots, pool, head.request.slot());
@@ -196,6 +209,7 @@ impl ServerSession {
         ensures reply { IsReply head.now.request 0 self.new pool.new result }
         ensures spare { KeepsSpare self.old.slots self.new.slots pool.old pool.new }
         ensures others { LeavesOthers self.old.slots self.new.slots pool.old pool.new }
+        ensures holds { (entries : List EntryValue) → HoldsAll (without_newest head.now.request self.old) pool.old entries → HoldsAll self.new pool.new (entries ++ result ∷ []) }
         ensures keeps_pool { KeepsPool pool.new self.new.slots }
     {
         give_up(&mut self.slots, pool, head.request.slot());
@@ -228,6 +242,7 @@ impl ServerSession {
         ensures served { (mode_of : ℕ → Mode) → AreServed mode_of self.old.slots → AreServed mode_of self.new.slots }
         ensures spare { KeepsSpare self.old.slots self.new.slots pool.old pool.new }
         ensures others { LeavesOthers self.old.slots self.new.slots pool.old pool.new }
+        ensures holds { (entries : List EntryValue) → HoldsAll self.old pool.old entries → HoldsAll self.new pool.new (entries ++ result ∷ []) }
         ensures keeps_pool { KeepsPool pool.new self.new.slots }
     {
         let reply = request.entry(self.number, request.taken, self.peer);
@@ -256,6 +271,7 @@ impl ServerSession {
         ensures served { (mode_of : ℕ → Mode) → AreServed mode_of self.old.slots → AreServed mode_of self.new.slots }
         ensures spare { KeepsSpare self.old.slots self.new.slots pool.old pool.new }
         ensures others { LeavesOthers self.old.slots self.new.slots pool.old pool.new }
+        ensures holds { (entries : List EntryValue) → HoldsAll self.old pool.old entries → HoldsAll self.new pool.new (entries ++ result ∷ []) }
         ensures keeps_pool { KeepsPool pool.new self.new.slots }
     {
         let answer = put_message(pool, answer);
@@ -284,6 +300,7 @@ impl ServerSession {
         ensures bytes { bytes_with pool.new request.now ≡ ask_in pool.old request.now.taken request.now.ask ++ body.now }
         ensures uses { pool.new.uses ≡ pool.old.uses }
         ensures others { LeavesOthers self.now.slots self.now.slots pool.old pool.new }
+        ensures holds { (entries : List EntryValue) → HoldsAll self.now pool.old entries → HoldsAll self.now pool.new entries }
         ensures keeps_pool { KeepsPool pool.new self.now.slots }
     {
         let at = PART_BYTES * u32::from(request.taken);

@@ -1,5 +1,5 @@
 //! Packets of the client are handled here, and jobs that are finished.
-ghost use Rattle.std.specs.Prelude.{◌≡◌, ◌≤◌, ◌<◌, ◌^◌, ℕ, Some, false, true, length, option_map, IfOk, IfSome, IsTrue, OnOk};
+ghost use Rattle.std.specs.Prelude.{◌≡◌, ◌≤◌, ◌<◌, ℕ, Some, false, true, length, option_map, IfOk, IfSome, IsTrue, OnOk};
 ghost use Rattle.std.specs.List.{find};
 ghost use Rattle.message_buffer.specs.Buffer.{bytes_of};
 ghost use Rattle.worker_crew.specs.Jobs.{HasRoom};
@@ -22,12 +22,12 @@ ghost use Rattle.sim_server.specs.Ends.{WhereTaken, after_row, answer_bytes, ask
 use super::ServerEnd;
 use buffer_pool::BufferPool;
 use packet_header::MessageHeader;
-use rpc_base::{DropReason, NoMemory, Peer, RequestNo};
+use packet_rings::TxRing;
+use rpc_base::{DropReason, NoMemory, Peer, RequestNo, Who};
 use rpc_laws::ServerRow;
-use rpc_outside::{PlainService, Service};
+use rpc_outside::{NoRecord, PlainService, Service};
 use server_core::{ServerSession, Step};
 use std::alloc::Global;
-use std::mem;
 use worker_board::Parcel;
 
 impl ServerEnd {
@@ -62,15 +62,27 @@ impl ServerEnd {
         if peer != self.session.peer() {
             return Ok(None);
         }
-        look_at(service);
+        // The sums of the tallies stay below 2^64: the clause of the total says so of the service.
+        let _total = service.total();
         let mode = service.mode(head.req_type);
         let row = self.session.row(head, mode, jobs_full);
         if !may_serve(&self.session, &self.pool, head.request, row) {
             return Err(NoMemory);
         }
-        let step = self
-            .session
-            .on_packet(alloc, &mut self.pool, service, head, body, jobs_full);
+        // The node queues the replies and notes the facts. It took those of an older request out before.
+        let mut tx = TxRing::new(alloc, 0)?;
+        let (who, rec) = (Who::Net, &mut NoRecord);
+        let step = self.session.on_packet(
+            alloc,
+            &mut self.pool,
+            &mut tx,
+            service,
+            head,
+            body,
+            jobs_full,
+            who,
+            rec,
+        );
         if is_wanting(&step) {
             return Err(NoMemory);
         }
@@ -162,20 +174,4 @@ fn parcel_of(step: Step) -> Option<Parcel>
         Step::Give(parcel) => Some(parcel),
         _ => None,
     }
-}
-
-// The service as it is: its total is below 2^64, which it tells of itself to who has it whole.
-fn whole(service: PlainService) -> PlainService
-    ensures same { result ≡ service }
-    ensures below { result < 2 ^ 64 }
-{
-    service
-}
-
-// Leaves the service as it is, and finds that its total is below 2^64.
-fn look_at(service: &mut PlainService)
-    ensures same { service.new ≡ service.old }
-    ensures below { service.old < 2 ^ 64 }
-{
-    *service = whole(mem::replace(service, PlainService::new()));
 }

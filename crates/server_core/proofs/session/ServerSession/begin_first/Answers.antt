@@ -1,4 +1,4 @@
-use Rattle.std.proofs.Common.{None, refl, arith}
+use Rattle.std.proofs.Common.{◌≡◌, Some, None, refl, arith}
 use Rattle.std.proofs.lemmas.Bool.{lt-ltb}
 use Rattle.server_core.specs.Serving.{begun, first_taken, with_slots}
 use Rattle.server_core.specs.Session.{newest}
@@ -8,6 +8,12 @@ use Rattle.server_core.proofs.GivenLemmas.{spare-given}
 use Rattle.server_core.proofs.SlotLemmas.{begun-session, few-left}
 use Rattle.server_core.proofs.OtherLemmas.{first-others}
 use Rattle.server_core.proofs.SpareLemmas.{first-spare}
+use Rattle.server_core.specs.Flushing.{HoldsAll, without_newest}
+use Rattle.server_core.specs.Replies.{IsReplyIn}
+use Rattle.server_core.specs.Serving.{given_up}
+use Rattle.buffer_pool.specs.Pool.{filled, lowest_empty}
+use Rattle.server_core.specs.Steps.{IsReply}
+use Rattle.server_core.proofs.HoldBeginLemmas.{first-holds, first-leaves, listed}
 use Rattle.server_core.proofs.session.ServerSession.begin_first.Goals as goal
 
 pub put_message-ask-requires : goal.put_message-ask-requires
@@ -60,3 +66,18 @@ returns-clause-spare c =
     let lowest = rw (c.give_up.ensures.pool, c.slot.ensures) at c.put_message-ask.ensures.place in
     rw (c.push.ensures, c.give_up.ensures.slots, c.put_message-ask.ensures.pool, c.give_up.ensures.pool, c.slot.ensures, ← c.self.view_is)
     (first-spare c.args.pool.now (the_view c.self.inside) c.args.head.now c.put_message-ask.result.place c.args.ask keeps lowest)
+
+pub returns-clause-holds : goal.returns-clause-holds
+returns-clause-holds c = λ entries holds.
+    let s = the_view c.self.inside in
+    let head = c.args.head.now in
+    let k = c.put_message-ask.result.place in
+    let d = first_taken head k None in
+    let keeps = rw (← c.self.view_is) at c.requires.keeps_pool in
+    let before : HoldsAll (without_newest head.request s) c.args.pool.now entries = rw (← c.self.view_is) at holds in
+    let lowest : lowest_empty (given_up (newest head.request s) c.args.pool.now) ≡ Some k = rw (c.give_up.ensures.pool, c.slot.ensures) at c.put_message-ask.ensures.place in
+    let new = filled k c.args.ask (given_up (newest head.request s) c.args.pool.now) in
+    let reply : IsReply head.request 0 (with_slots (begun d s.slots) s) new c.entry-reply.result = rw (c.push.ensures, c.give_up.ensures.slots, c.put_message-ask.ensures.pool, c.give_up.ensures.pool, c.slot.ensures) at (returns-clause-reply c) in
+    let mine : IsReplyIn d c.entry-reply.result = rw c.entry-reply.ensures (record { taken = omega arith; there = idle-reply d 0 refl; place_is = refl }) in
+    rw (c.push.ensures, c.give_up.ensures.slots, c.put_message-ask.ensures.pool, c.give_up.ensures.pool, c.slot.ensures)
+    (first-holds c.args.pool.now s head.request c.self.invariant keeps d refl new (begun d (listed (newest head.request s))) (first-leaves c.args.pool.now s head k c.args.ask lowest) entries before 0 c.entry-reply.result refl reply mine)

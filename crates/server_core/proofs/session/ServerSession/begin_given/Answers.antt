@@ -1,10 +1,13 @@
-use Rattle.std.proofs.Common.{arith}
-use Rattle.server_core.specs.Serving.{first_given}
+use Rattle.std.proofs.Common.{refl, arith}
+use Rattle.server_core.specs.Serving.{begun, first_given, given_up}
 use Rattle.server_core.specs.contracts.session.ServerSession.{the_view}
 use Rattle.server_core.proofs.BeginLemmas.{begun-served, given-keeps-pool, given-shows, given-turn}
 use Rattle.server_core.proofs.SlotLemmas.{begun-session, few-left}
 use Rattle.server_core.proofs.OtherLemmas.{given-others}
 use Rattle.server_core.proofs.SpareLemmas.{first-given-spare}
+use Rattle.server_core.specs.Flushing.{HoldsAll, without_newest}
+use Rattle.server_core.specs.Session.{newest}
+use Rattle.server_core.proofs.HoldBeginLemmas.{begun-holds, given-leaves, listed}
 use Rattle.server_core.proofs.session.ServerSession.begin_given.Goals as goal
 
 pub push-requires : goal.push-requires
@@ -40,3 +43,13 @@ returns-clause-spare c =
     let keeps = rw (← c.self.view_is) at c.requires.keeps_pool in
     rw (c.push.ensures, c.given.ensures, c.give_up.ensures.slots, c.give_up.ensures.pool, c.slot.ensures, ← c.self.view_is)
     (first-given-spare c.args.pool.now (the_view c.self.inside) c.args.head.now keeps)
+
+pub returns-clause-holds : goal.returns-clause-holds
+returns-clause-holds c = λ entries holds.
+    let s = the_view c.self.inside in
+    let head = c.args.head.now in
+    let d = first_given head in
+    let keeps = rw (← c.self.view_is) at c.requires.keeps_pool in
+    let before : HoldsAll (without_newest head.request s) c.args.pool.now entries = rw (← c.self.view_is) at holds in
+    rw (c.push.ensures, c.given.ensures, c.give_up.ensures.slots, c.give_up.ensures.pool, c.slot.ensures)
+    (begun-holds c.args.pool.now s head.request c.self.invariant keeps d refl (given_up (newest head.request s) c.args.pool.now) (begun d (listed (newest head.request s))) (given-leaves c.args.pool.now s head) entries before refl)

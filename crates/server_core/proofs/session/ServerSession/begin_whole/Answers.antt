@@ -1,5 +1,10 @@
-use Rattle.std.proofs.Common.{◌<◌, Some, refl, arith}
-use Rattle.buffer_pool.specs.Pool.{refs_of}
+use Rattle.std.proofs.Common.{◌≡◌, ◌<◌, ◌∙◌, ap, Some, refl, arith}
+use Rattle.buffer_pool.specs.Pool.{filled, held, lowest_empty, refs_of}
+use Rattle.server_core.specs.Flushing.{HoldsAll, without_newest}
+use Rattle.server_core.specs.Replies.{IsReplyIn}
+use Rattle.server_core.specs.Steps.{IsReply}
+use Rattle.server_core.proofs.HoldBeginLemmas.{listed, whole-holds, whole-leaves}
+use Rattle.server_core.proofs.HoldStepLemmas.{late-placed, put-refs}
 use Rattle.server_core.specs.Serving.{begun, first_taken, given_up, with_slots}
 use Rattle.server_core.specs.Session.{newest}
 use Rattle.server_core.specs.contracts.session.ServerSession.{the_view}
@@ -79,3 +84,23 @@ returns-clause-spare c =
     let next = rw (c.put_message-ask.ensures.pool, c.give_up.ensures.pool, c.slot.ensures) at c.put_message-answer.ensures.place in
     rw (c.push.ensures, c.give_up.ensures.slots, c.hold.ensures, c.put_message-answer.ensures.pool, c.put_message-ask.ensures.pool, c.give_up.ensures.pool, c.slot.ensures, ← c.self.view_is)
     (whole-spare c.args.pool.now (the_view c.self.inside) c.args.head.now c.put_message-ask.result.place c.args.ask keeps lowest c.put_message-answer.result.place c.args.answer c.put_message-answer.result next refl)
+
+pub returns-clause-holds : goal.returns-clause-holds
+returns-clause-holds c = λ entries holds.
+    let s = the_view c.self.inside in
+    let head = c.args.head.now in
+    let k = c.put_message-ask.result.place in
+    let a = c.put_message-answer.result in
+    let d = first_taken head k (Some a) in
+    let keeps = rw (← c.self.view_is) at c.requires.keeps_pool in
+    let before : HoldsAll (without_newest head.request s) c.args.pool.now entries = rw (← c.self.view_is) at holds in
+    let given = given_up (newest head.request s) c.args.pool.now in
+    let lowest : lowest_empty given ≡ Some k = rw (c.give_up.ensures.pool, c.slot.ensures) at c.put_message-ask.ensures.place in
+    let next : lowest_empty (filled k c.args.ask given) ≡ Some a.place = rw (c.put_message-ask.ensures.pool, c.give_up.ensures.pool, c.slot.ensures) at c.put_message-answer.ensures.place in
+    let new = held a.place (filled a.place c.args.answer (filled k c.args.ask given)) in
+    let reply : IsReply head.request 0 (with_slots (begun d s.slots) s) new c.entry-reply.result = rw (c.push.ensures, c.give_up.ensures.slots, c.hold.ensures, c.put_message-answer.ensures.pool, c.put_message-ask.ensures.pool, c.give_up.ensures.pool, c.slot.ensures) at (returns-clause-reply c) in
+    let mine : IsReplyIn d c.entry-reply.result = rw c.entry-reply.ensures (record { taken = omega arith; there = idle-reply d 0 refl; place_is = refl }) in
+    let place : c.entry-reply.result.place ≡ Some a.place = ap (λ e. e.place) c.entry-reply.ensures ∙ late-placed d a 0 refl (omega (arith, c.requires.one)) in
+    let leaves = whole-leaves c.args.pool.now s head k c.args.ask a.place c.args.answer a lowest next refl in
+    rw (c.push.ensures, c.give_up.ensures.slots, c.hold.ensures, c.put_message-answer.ensures.pool, c.put_message-ask.ensures.pool, c.give_up.ensures.pool, c.slot.ensures)
+    (whole-holds c.args.pool.now s head.request c.self.invariant keeps d refl new (begun d (listed (newest head.request s))) leaves entries before 0 c.entry-reply.result a refl (put-refs (filled k c.args.ask given) a.place c.args.answer a next refl) place reply mine)

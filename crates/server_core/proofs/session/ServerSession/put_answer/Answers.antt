@@ -1,5 +1,9 @@
-use Rattle.std.proofs.Common.{◌-◌, ◌<◌, refl, arith}
-use Rattle.buffer_pool.specs.Pool.{refs_of}
+use Rattle.std.proofs.Common.{◌≡◌, ◌-◌, ◌<◌, ◌∙◌, Some, ap, refl, arith}
+use Rattle.buffer_pool.specs.Pool.{filled, held, refs_of}
+use Rattle.server_core.specs.Flushing.{HoldsAll}
+use Rattle.server_core.specs.Replies.{IsReplyIn}
+use Rattle.server_core.specs.Steps.{IsReply}
+use Rattle.server_core.proofs.HoldStepLemmas.{answer-holds, late-placed, worked-more}
 use Rattle.server_core.specs.Serving.{gone_on, with_slots, worked}
 use Rattle.server_core.specs.contracts.session.ServerSession.{the_view}
 use Rattle.server_core.proofs.BeginLemmas.{answer-held, idle-reply, is-reply}
@@ -72,3 +76,20 @@ returns-clause-spare c =
     let on = worked-on c.args.request c.requires.turn c.requires.working in
     rw (c.replace.ensures, c.hold.ensures, c.put_message-answer.ensures.pool, ← c.self.view_is)
     (last-spare c.args.pool.now (the_view c.self.inside) c.args.request c.args.request.number keeps found (worked c.put_message-answer.result c.args.request) refl refl refl on.none c.put_message-answer.result.place c.args.answer c.put_message-answer.result refl c.put_message-answer.ensures.place refl)
+
+pub returns-clause-holds : goal.returns-clause-holds
+returns-clause-holds c = λ entries holds.
+    let s = the_view c.self.inside in
+    let q = c.args.request in
+    let a = c.put_message-answer.result in
+    let d = worked a q in
+    let k = q.taken - 1 in
+    let on = worked-on q c.requires.turn c.requires.working in
+    let found = rw (← c.self.view_is) at c.requires.found in
+    let keeps = rw (← c.self.view_is) at c.requires.keeps_pool in
+    let before : HoldsAll s c.args.pool.now entries = rw (← c.self.view_is) at holds in
+    let after : c.hold.new.self ≡ held a.place (filled a.place c.args.answer c.args.pool.now) = c.hold.ensures ∙ ap (held a.place) c.put_message-answer.ensures.pool in
+    let reply : IsReply q.number k (with_slots (gone_on d s.slots) s) (held a.place (filled a.place c.args.answer c.args.pool.now)) c.entry-reply.result = rw c.entry-reply.ensures (rw (c.replace.ensures, after, c.entry-reply.ensures) at (returns-clause-reply c)) in
+    let mine : IsReplyIn d c.entry-reply.result = rw c.entry-reply.ensures (record { taken = omega (arith, c.requires.turn.some); there = idle-reply d k refl; place_is = refl }) in
+    let place : c.entry-reply.result.place ≡ Some a.place = ap (λ e. e.place) c.entry-reply.ensures ∙ late-placed d a k refl (omega (arith, on.whole, c.requires.turn.some)) in
+    rw (c.replace.ensures, after) (answer-holds c.args.pool.now s q c.self.invariant found keeps entries before d a.place c.args.answer a k c.entry-reply.result refl refl on.none refl c.put_message-answer.ensures.place refl (λ x r. worked-more q a x on.whole c.requires.working r) reply place mine)

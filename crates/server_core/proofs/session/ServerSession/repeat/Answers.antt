@@ -1,6 +1,9 @@
-use Rattle.std.proofs.Common.{◌≡◌, ◌%◌, Some, sym, ap, ◌∙◌}
+use Rattle.std.proofs.Common.{◌≡◌, ◌%◌, Some, refl, sym, ap, ◌∙◌}
 use Rattle.server_core.specs.KeepsPool.{IsKept}
-use Rattle.server_core.specs.Replies.{held_at}
+use Rattle.server_core.specs.Flushing.{HoldsAll}
+use Rattle.server_core.specs.Replies.{IsReplyIn, held_at, place_of}
+use Rattle.server_core.specs.Steps.{IsReply}
+use Rattle.server_core.proofs.HoldStepLemmas.{again-holds}
 use Rattle.server_core.specs.Session.{is_in_slot, newest}
 use Rattle.server_core.specs.contracts.session.ServerSession.{the_view}
 use Rattle.server_core.proofs.BeginLemmas.{is-reply-of}
@@ -50,3 +53,20 @@ returns-clause-spare c =
     let found : newest c.args.head.now.request c.args.self.now ≡ Some c.in-Some.request = ap (newest c.args.head.now.request) (sym c.self.view_is) ∙ rw c.slot.ensures at (sym c.in-Some.ensures) in
     rw (c.hold.ensures, ap (λ e. held_at e.place c.args.pool.now) (c.reply.view_is ∙ c.entry-reply.ensures))
     (held-spare c.args.pool.now c.args.self.now c.in-Some.request c.args.head.now.request c.requires.keeps_pool found c.args.head.now.number)
+
+pub returns-clause-holds : goal.returns-clause-holds
+returns-clause-holds c = λ entries holds.
+    let s = the_view c.self.inside in
+    let q = c.in-Some.request in
+    let k = c.args.head.now.number in
+    let slot : newest c.args.head.now.request s ≡ Some q = rw c.slot.ensures at (sym c.in-Some.ensures) in
+    let found : newest c.args.head.now.request c.args.self.now ≡ Some q = ap (newest c.args.head.now.request) (sym c.self.view_is) ∙ slot in
+    let again = rw found at c.requires.again in
+    let own : newest q.number s ≡ Some q = ap (λ n. newest n s) again.same ∙ slot in
+    let keeps = rw (← c.self.view_is) at c.requires.keeps_pool in
+    let before : HoldsAll s c.args.pool.now entries = rw (← c.self.view_is) at holds in
+    let after : c.hold.new.pool ≡ held_at (place_of q k) c.args.pool.now = c.hold.ensures ∙ ap (λ e. held_at e.place c.args.pool.now) (c.reply.view_is ∙ c.entry-reply.ensures) in
+    let reply : IsReply q.number k s (held_at (place_of q k) c.args.pool.now) c.entry-reply.result = rw (again.same, c.self.view_is, ← after) (returns-clause-reply c) in
+    let mine : IsReplyIn q c.entry-reply.result = rw c.entry-reply.ensures (record { taken = again.taken; there = again.there; place_is = refl }) in
+    let place : c.entry-reply.result.place ≡ place_of q k = ap (λ e. e.place) c.entry-reply.ensures in
+    rw (← c.self.view_is, after) (again-holds c.args.pool.now s q c.self.invariant own keeps entries before k c.entry-reply.result reply place mine)

@@ -5,6 +5,8 @@ use Rattle.server_core.proofs.SlotLemmas.{gone-session}
 use Rattle.server_core.proofs.TakeLemmas.{given-keeps, given-shows, given-turn, gone-served}
 use Rattle.server_core.proofs.OtherLemmas.{last-given-others}
 use Rattle.server_core.proofs.SpareLemmas.{last-given-spare}
+use Rattle.server_core.specs.Flushing.{HoldsAll}
+use Rattle.server_core.proofs.HoldStepLemmas.{given-holds}
 use Rattle.server_core.proofs.session.ServerSession.take_given.Goals as goal
 
 pub take-requires : goal.take-requires
@@ -50,3 +52,11 @@ returns-clause-spare c =
     let keeps = rw (← c.self.view_is) at c.requires.keeps_pool in
     rw (c.replace.ensures, c.in-Ok.ensures.taken.2, ← c.self.view_is)
     (last-given-spare c.args.pool.now (the_view c.self.inside) c.args.request c.args.request.number keeps found refl c.requires.none c.args.place c.requires.asked c.requires.kept.full)
+
+pub returns-clause-holds : goal.returns-clause-holds
+returns-clause-holds c = λ entries holds.
+    let found = rw (← c.self.view_is) at c.requires.found in
+    let keeps = rw (← c.self.view_is) at c.requires.keeps_pool in
+    let before : HoldsAll (the_view c.self.inside) c.args.pool.now entries = rw (← c.self.view_is) at holds in
+    rw (c.replace.ensures, c.in-Ok.ensures.taken.2)
+    (given-holds c.args.pool.now (the_view c.self.inside) c.args.request c.self.invariant found keeps entries before c.args.place c.requires.asked c.requires.none c.requires.last)

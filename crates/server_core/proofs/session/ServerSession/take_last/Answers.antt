@@ -1,6 +1,10 @@
-use Rattle.std.proofs.Common.{◌<◌, Some, refl, arith}
+use Rattle.std.proofs.Common.{◌≡◌, ◌<◌, ◌∙◌, Some, ap, refl, arith}
 use Rattle.packet_header.proofs.PartsLemmas.{packet_count_most}
-use Rattle.buffer_pool.specs.Pool.{refs_of}
+use Rattle.buffer_pool.specs.Pool.{filled, held, refs_of}
+use Rattle.server_core.specs.Flushing.{HoldsAll}
+use Rattle.server_core.specs.Replies.{IsReplyIn}
+use Rattle.server_core.specs.Steps.{IsReply}
+use Rattle.server_core.proofs.HoldStepLemmas.{answer-holds, last-more, late-placed}
 use Rattle.server_core.specs.Serving.{gone_on, next_taken, with_slots}
 use Rattle.server_core.specs.contracts.session.ServerSession.{the_view}
 use Rattle.server_core.proofs.BeginLemmas.{answer-held, idle-reply, is-reply}
@@ -64,3 +68,18 @@ returns-clause-spare c =
     let keeps = rw (← c.self.view_is) at c.requires.keeps_pool in
     rw (c.replace.ensures, c.hold.ensures, c.put_message-answer.ensures.pool, ← c.self.view_is)
     (last-spare c.args.pool.now (the_view c.self.inside) c.args.request c.args.request.number keeps found (next_taken (Some c.put_message-answer.result) c.args.request) refl refl refl c.requires.none c.put_message-answer.result.place c.args.answer c.put_message-answer.result refl c.put_message-answer.ensures.place refl)
+
+pub returns-clause-holds : goal.returns-clause-holds
+returns-clause-holds c = λ entries holds.
+    let s = the_view c.self.inside in
+    let q = c.args.request in
+    let a = c.put_message-answer.result in
+    let d = next_taken (Some a) q in
+    let found = rw (← c.self.view_is) at c.requires.found in
+    let keeps = rw (← c.self.view_is) at c.requires.keeps_pool in
+    let before : HoldsAll s c.args.pool.now entries = rw (← c.self.view_is) at holds in
+    let after : c.hold.new.self ≡ held a.place (filled a.place c.args.answer c.args.pool.now) = c.hold.ensures ∙ ap (held a.place) c.put_message-answer.ensures.pool in
+    let reply : IsReply q.number q.taken (with_slots (gone_on d s.slots) s) (held a.place (filled a.place c.args.answer c.args.pool.now)) c.entry-reply.result = rw (c.replace.ensures, after) at (returns-clause-reply c) in
+    let mine : IsReplyIn d c.entry-reply.result = rw c.entry-reply.ensures (record { taken = omega arith; there = idle-reply d q.taken c.requires.idle; place_is = refl }) in
+    let place : c.entry-reply.result.place ≡ Some a.place = ap (λ e. e.place) c.entry-reply.ensures ∙ late-placed d a q.taken refl (omega (arith, c.requires.last)) in
+    rw (c.replace.ensures, after) (answer-holds c.args.pool.now s q c.self.invariant found keeps entries before d a.place c.args.answer a q.taken c.entry-reply.result refl refl c.requires.none refl c.put_message-answer.ensures.place refl (λ x r. last-more q (Some a) x c.requires.last r) reply place mine)

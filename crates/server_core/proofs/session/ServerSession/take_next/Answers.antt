@@ -1,5 +1,7 @@
-use Rattle.std.proofs.Common.{◌<◌, refl, ap, ◌∙◌, arith}
-use Rattle.server_core.specs.Replies.{held_at}
+use Rattle.std.proofs.Common.{◌≡◌, ◌<◌, refl, ap, ◌∙◌, arith}
+use Rattle.server_core.specs.Flushing.{HoldsAll}
+use Rattle.server_core.specs.Replies.{IsReplyIn, held_at, place_of}
+use Rattle.server_core.specs.Steps.{IsReply}
 use Rattle.server_core.specs.Serving.{gone_on, next_taken, with_slots}
 use Rattle.server_core.specs.contracts.session.ServerSession.{the_view}
 use Rattle.server_core.proofs.BeginLemmas.{idle-reply, is-reply}
@@ -7,6 +9,7 @@ use Rattle.server_core.proofs.SlotLemmas.{gone-session}
 use Rattle.server_core.proofs.TakeLemmas.{gone-served, gone-newest, is-held-at, may-hold, next-keeps, next-shows, own-beside}
 use Rattle.server_core.proofs.OtherLemmas.{next-others}
 use Rattle.server_core.proofs.SpareLemmas.{next-spare}
+use Rattle.server_core.proofs.HoldStepLemmas.{next-holds}
 use Rattle.server_core.proofs.session.ServerSession.take_next.Goals as goal
 
 pub hold-requires : goal.hold-requires
@@ -64,3 +67,17 @@ returns-clause-spare c =
     let keeps = rw (← c.self.view_is) at c.requires.keeps_pool in
     rw (c.replace.ensures, c.hold.ensures, ap (λ e. held_at e.place c.args.pool.now) (c.reply.view_is ∙ c.entry-reply.ensures), ← c.self.view_is)
     (next-spare c.args.pool.now (the_view c.self.inside) c.args.request c.args.request.number keeps found refl c.args.request.taken)
+
+pub returns-clause-holds : goal.returns-clause-holds
+returns-clause-holds c = λ entries holds.
+    let s = the_view c.self.inside in
+    let q = c.args.request in
+    let d = next_taken q.answer q in
+    let found = rw (← c.self.view_is) at c.requires.found in
+    let keeps = rw (← c.self.view_is) at c.requires.keeps_pool in
+    let before : HoldsAll s c.args.pool.now entries = rw (← c.self.view_is) at holds in
+    let after : c.hold.new.pool ≡ held_at (place_of q q.taken) c.args.pool.now = c.hold.ensures ∙ ap (λ e. held_at e.place c.args.pool.now) (c.reply.view_is ∙ c.entry-reply.ensures) in
+    let reply : IsReply q.number q.taken (with_slots (gone_on d s.slots) s) (held_at (place_of q q.taken) c.args.pool.now) c.entry-reply.result = rw (c.replace.ensures, after) at (returns-clause-reply c) in
+    let mine : IsReplyIn d c.entry-reply.result = rw c.entry-reply.ensures (record { taken = omega arith; there = idle-reply d q.taken c.requires.idle; place_is = refl }) in
+    let place : c.entry-reply.result.place ≡ place_of q q.taken = ap (λ e. e.place) c.entry-reply.ensures in
+    rw (c.replace.ensures, after) (next-holds c.args.pool.now s q c.self.invariant found keeps entries before c.entry-reply.result reply place mine)

@@ -1,6 +1,8 @@
+use Rattle.std.proofs.Common.{refl}
 use Rattle.server_core.specs.KeepsPool.{IsAsked}
 use Rattle.server_core.proofs.TakeLemmas.{own-beside, part-bytes, part-fits, part-keeps, part-shows}
 use Rattle.server_core.proofs.OtherLemmas.{part-others}
+use Rattle.server_core.proofs.HoldStepLemmas.{uses-hold}
 use Rattle.server_core.proofs.session.ServerSession.write_part.Goals as goal
 
 pub get_mut-requires-clause-full : goal.get_mut-requires-clause-full
@@ -33,3 +35,7 @@ returns-clause-keeps_pool c =
 
 pub returns-clause-others : goal.returns-clause-others
 returns-clause-others c = part-others c.args.pool.now c.args.self.now c.args.request.now c.args.request.now.number c.requires.found c.args.place c.requires.asked c.write.new.self
+
+pub returns-clause-holds : goal.returns-clause-holds
+returns-clause-holds c = λ entries holds.
+    uses-hold c.args.pool.now _ c.args.self.now c.requires.keeps_pool refl entries holds

@@ -1,0 +1,116 @@
+use Rattle.std.proofs.Common.{◌≡◌, ◌%◌, false, List, ◌∷◌, [], ◌++◌, Some, None, true, filter, map, refl, subst, sym, ap, ◌∙◌, append-nil, append_assoc}
+use Rattle.std.specs.List.{list_any}
+use Rattle.packet_rings.specs.Entries.{is_not_of, is_of, number_of}
+use Rattle.packet_rings.specs.Values.{EntryValue}
+use Rattle.rpc_base.specs.declared.fact.Fact.{Fact}
+use Rattle.rpc_base.specs.Least.{least, without_least}
+use Rattle.rpc_base.specs.declared.event.Event.TheVariants.{Flushed}
+use Rattle.rpc_laws.specs.Queues.{numbers_of}
+use Rattle.rpc_outside.specs.Recording.{Grew}
+use Rattle.server_core.specs.Flushing.{bare, flushed_facts, queued_of}
+use Rattle.server_core.specs.KeepsPool.{IsKept}
+use Rattle.server_core.specs.Replies.{released_at}
+use Rattle.server_core.specs.Session.{IsSession, is_in_slot, newest, owner_of}
+use Rattle.server_core.proofs.FlushLemmas.{filter-none, flush-held, flush-holds, flush-others, flush-spare, flush-unheld, grew-then, leaves-then, numbers-flushed, numbers-none, shown-released}
+use Rattle.server_core.proofs.HoldBeginLemmas.{none-gone, older-gone, reply-is, sent-of}
+use Rattle.server_core.proofs.ListLemmas.{found-holds}
+use Rattle.server_core.proofs.PoolLemmas.{keeps-released}
+use Rattle.server_core.proofs.session.ServerSession.flush_older.Goals as goal
+
+pub release-requires : goal.release-requires
+release-requires g c =
+    let found : newest c.args.request c.args.self.now ≡ Some c.in-Some.older = ap (newest c.args.request) (sym c.self.view_is) ∙ rw c.slot.ensures at (sym c.in-Some.ensures) in
+    let owner_is : c.owner.result ≡ owner_of c.args.self.now.number c.in-Some.older = c.owner.ensures ∙ ap (λ s. owner_of s.number c.in-Some.older) c.self.view_is in
+    let kept = found-holds (is_in_slot _) (IsKept c.loop-entry.pool) c.args.self.now.slots c.in-Some.older c.loop-entry.invariant.keeps.kept found in
+    let own : is_of (owner_of c.args.self.now.number c.in-Some.older) c.in-Some-flush.entry ≡ true = rw owner_is at c.in-Some-flush.ensures.listed.1 in
+    rw (ap (λ e. e.place) c.entry.view_is) (flush-held c.args.self.now.number c.in-Some.older c.loop-entry.pool c.loop-entry.tx.items c.flush.new.self.items _ c.in-Some-flush.entry c.loop-entry.invariant.holds c.in-Some-flush.ensures.nearest own kept)
+
+pub loop-entry-preserved : goal.loop-entry-preserved
+loop-entry-preserved g c =
+    let n = c.args.self.now.number in
+    let q = c.in-Some.older in
+    let e = c.in-Some-flush.entry in
+    let pool = c.loop-entry.pool in
+    let old = c.loop-entry.tx.items in
+    let new = c.flush.new.self.items in
+    let inv = c.loop-entry.invariant in
+    let found : newest c.args.request c.args.self.now ≡ Some q = ap (newest c.args.request) (sym c.self.view_is) ∙ rw c.slot.ensures at (sym c.in-Some.ensures) in
+    let owner_is : c.owner.result ≡ owner_of n q = c.owner.ensures ∙ ap (λ s. owner_of s.number q) c.self.view_is in
+    let again_is : c.owner-in-Some-flush.result ≡ owner_of n q = c.owner-in-Some-flush.ensures ∙ ap (λ s. owner_of s.number q) c.self.view_is in
+    let kept = found-holds (is_in_slot (c.args.request % 8)) (IsKept pool) c.args.self.now.slots q inv.keeps.kept found in
+    let own : is_of (owner_of n q) e ≡ true = rw owner_is at c.in-Some-flush.ensures.listed.1 in
+    let out = c.in-Some-flush.ensures.nearest in
+    let place_is = ap (λ e. e.place) c.entry.view_is in
+    let after : c.release.new.pool ≡ released_at e.place pool = c.release.ensures ∙ ap (λ p. released_at p pool) place_is in
+    let left : new ≡ without_least (is_of (owner_of n q)) number_of old = ap (λ r. r.items) c.in-Some-flush.ensures.left ∙ ap (λ o. without_least (is_of o) number_of old) owner_is in
+    let least_is : Some e ≡ least (is_of (owner_of n q)) number_of old = c.in-Some-flush.ensures.taken ∙ ap (λ o. least (is_of o) number_of old) owner_is in
+    let numbers = numbers-flushed (owner_of n q) old e least_is ∙ ap (λ es. e.number ∷ numbers_of (owner_of n q) (queued_of es)) (sym left) in
+    let (x, grew, whole) = inv.noted in
+    let fact = bare c.args.who.now (Flushed (owner_of n q) e.number) in
+    let noted : Grew g.R.Recorder.facts g.R.Recorder.whole c.loop-entry.rec c.note.new.self (fact ∷ []) = rw (again_is, ap (λ e. e.number) c.entry.view_is) at c.note.ensures in
+    let grown = grew-then g.R.Recorder.facts g.R.Recorder.whole c.args.rec.now c.loop-entry.rec c.note.new.self x (fact ∷ []) grew noted in
+    let sound : IsSession c.args.self.now = subst IsSession c.self.view_is c.self.invariant in
+    let facts : List EntryValue → List Fact = λ es. flushed_facts c.args.who.now n (Some q) es in
+    let more : facts old ≡ fact ∷ facts new = ap (map (λ k. bare c.args.who.now (Flushed (owner_of n q) k))) numbers in
+    let order : (x ++ fact ∷ []) ++ facts new ≡ facts c.args.tx.now.items = append_assoc x (fact ∷ []) (facts new) ∙ ap (λ fs. x ++ fs) (sym more) ∙ whole in
+    rw after (record {
+      holds = flush-holds n q pool old new _ e inv.holds out own kept;
+      kept = ap (λ o. filter (is_not_of o) new) (sym owner_is) ∙ c.in-Some-flush.ensures.others ∙ ap (λ o. filter (is_not_of o) old) owner_is ∙ inv.kept;
+      size = ap (λ r. r.size) c.in-Some-flush.ensures.left ∙ inv.size;
+      noted = (x ++ fact ∷ [], grown, order);
+      shown = shown-released pool e.place c.args.self.now ∙ inv.shown;
+      spare = flush-spare n q pool old new _ e inv.holds out own kept ∙ inv.spare;
+      others = leaves-then c.args.self.now.slots c.args.self.now.slots c.args.pool.now pool (released_at e.place pool) inv.others (flush-others n q pool old new _ e inv.holds out own kept (is_in_slot (c.args.request % 8)) c.args.self.now.slots found);
+      all = λ before. sent-of pool c.args.self.now sound inv.keeps _ e old new out (inv.all before) c.args.request q found (reply-is n q.number e.owner own);
+      keeps = keeps-released pool e.place c.args.self.now.slots (flush-held n q pool old new _ e inv.holds out own kept) inv.keeps;
+    })
+
+pub returns-clause-ring : goal.returns-clause-ring
+returns-clause-ring g c =
+    let n = c.args.self.now.number in
+    let q = c.in-Some.older in
+    let old = c.loop-entry.tx.items in
+    let inv = c.loop-entry.invariant in
+    let found : newest c.args.request c.args.self.now ≡ Some q = ap (newest c.args.request) (sym c.self.view_is) ∙ rw c.slot.ensures at (sym c.in-Some.ensures) in
+    let owner_is : c.owner.result ≡ owner_of n q = c.owner.ensures ∙ ap (λ s. owner_of s.number q) c.self.view_is in
+    let none : list_any (is_of (owner_of n q)) old ≡ false = rw owner_is at (c.in_default-flush.ensures.none.0 refl) in
+    let left = sym (filter-none (owner_of n q) old none) ∙ inv.kept in
+    rw found (c.in_default-flush.ensures.unchanged ∙ rw (← left, ← inv.size) refl)
+
+pub returns-clause-noted : goal.returns-clause-noted
+returns-clause-noted g c =
+    let n = c.args.self.now.number in
+    let q = c.in-Some.older in
+    let old = c.loop-entry.tx.items in
+    let (x, grew, whole) = c.loop-entry.invariant.noted in
+    let found : newest c.args.request c.args.self.now ≡ Some q = ap (newest c.args.request) (sym c.self.view_is) ∙ rw c.slot.ensures at (sym c.in-Some.ensures) in
+    let owner_is : c.owner.result ≡ owner_of n q = c.owner.ensures ∙ ap (λ s. owner_of s.number q) c.self.view_is in
+    let none : list_any (is_of (owner_of n q)) old ≡ false = rw owner_is at (c.in_default-flush.ensures.none.0 refl) in
+    let all : x ≡ flushed_facts c.args.who.now n (Some q) c.args.tx.now.items = sym (append-nil x) ∙ rw (numbers-none (owner_of n q) old none) at whole in
+    rw (found, ← all) grew
+
+pub returns-clause-unheld : goal.returns-clause-unheld
+returns-clause-unheld g c =
+    let n = c.args.self.now.number in
+    let q = c.in-Some.older in
+    let old = c.loop-entry.tx.items in
+    let inv = c.loop-entry.invariant in
+    let found : newest c.args.request c.args.self.now ≡ Some q = ap (newest c.args.request) (sym c.self.view_is) ∙ rw c.slot.ensures at (sym c.in-Some.ensures) in
+    let owner_is : c.owner.result ≡ owner_of n q = c.owner.ensures ∙ ap (λ s. owner_of s.number q) c.self.view_is in
+    let none : list_any (is_of (owner_of n q)) old ≡ false = rw owner_is at (c.in_default-flush.ensures.none.0 refl) in
+    rw found (flush-unheld n q c.loop-entry.pool old inv.holds none)
+
+pub returns-clause-holds : goal.returns-clause-holds
+returns-clause-holds g c = λ holds.
+    let s = c.args.self.now in
+    let q = c.in-Some.older in
+    let old = c.loop-entry.tx.items in
+    let found : newest c.args.request s ≡ Some q = ap (newest c.args.request) (sym c.self.view_is) ∙ rw c.slot.ensures at (sym c.in-Some.ensures) in
+    let owner_is : c.owner.result ≡ owner_of s.number q = c.owner.ensures ∙ ap (λ s. owner_of s.number q) c.self.view_is in
+    let none : list_any (is_of (owner_of s.number q)) old ≡ false = rw owner_is at (c.in_default-flush.ensures.none.0 refl) in
+    rw (ap (λ r. r.items) c.in_default-flush.ensures.unchanged) (older-gone c.loop-entry.pool s c.args.request q found old none (c.loop-entry.invariant.all holds))
+
+pub returns-in_default-clause-holds : goal.returns-in_default-clause-holds
+returns-in_default-clause-holds g c = λ holds.
+    let none : newest c.args.request c.args.self.now ≡ None = ap (newest c.args.request) (sym c.self.view_is) ∙ rw c.slot.ensures at (sym c.in_default.ensures) in
+    none-gone c.args.pool.now c.args.self.now c.args.request none c.args.tx.now.items holds

@@ -1,0 +1,27 @@
+-- the replies that left the ring gave their references up and were noted
+use Rattle.std.proofs.Common.{◌≡◌, List, ◌++◌, Some, length, filter}
+use Rattle.buffer_pool.specs.Pool.{spare_of}
+use Rattle.packet_rings.specs.Entries.{is_not_of}
+use Rattle.rpc_base.specs.declared.fact.Fact.{Fact}
+use Rattle.rpc_outside.specs.Recording.{Grew}
+use Rattle.server_core.specs.Flushing.{HoldsAll, HoldsReplies, flushed_facts}
+use Rattle.server_core.specs.KeepsPool.{KeepsPool, LeavesOthers}
+use Rattle.server_core.specs.Session.{owner_of}
+use Rattle.server_core.specs.Shown.{shown}
+use Rattle.server_core.proofs.session.ServerSession.flush_older.Given as goal
+
+abbrev pub invariant-loop-entry : goal.invariant-loop-entry
+invariant-loop-entry g l = record {
+  holds : HoldsReplies l.fn.self.number l.pool l.tx.items l.older;
+  kept : filter (is_not_of (owner_of l.fn.self.number l.older)) l.tx.items ≡ filter (is_not_of (owner_of l.fn.self.number l.older)) l.fn.tx.items;
+  size : l.tx.size ≡ l.fn.tx.size;
+  noted : (x : List Fact) × Grew g.R.Recorder.facts g.R.Recorder.whole l.fn.rec l.rec x × (x ++ flushed_facts l.fn.who l.fn.self.number (Some l.older) l.tx.items ≡ flushed_facts l.fn.who l.fn.self.number (Some l.older) l.fn.tx.items);
+  shown : shown l.pool l.fn.self ≡ shown l.fn.pool l.fn.self;
+  spare : spare_of l.pool ≡ spare_of l.fn.pool;
+  others : LeavesOthers l.fn.self.slots l.fn.self.slots l.fn.pool l.pool;
+  all : HoldsAll l.fn.self l.fn.pool l.fn.tx.items → HoldsAll l.fn.self l.pool l.tx.items;
+  keeps : KeepsPool l.pool l.fn.self.slots;
+}
+
+abbrev pub decreases-loop-entry : goal.decreases-loop-entry
+decreases-loop-entry g l = length l.tx.items
