@@ -12,15 +12,12 @@ use crate::noting::{note, note_aside};
 use crate::servers::place_of_server;
 use crate::tables::Tables;
 use node_tables::count_replies;
-use packet_header::count;
+use packet_header::{MOST_MESSAGE_BYTES, count};
 use rpc_base::{Event, Fact, Listed, NoMemory, Owner};
 use sim_server::ServerEnd;
 use std::alloc::Global;
 use worker_board::Parcel;
 use worker_crew::Workers;
-
-/// The most bytes of a message.
-const MOST_MESSAGE_BYTES: u32 = 1_048_576;
 
 // The number of the last packet of a request of these bytes. More bytes than a message has come of no request,
 // and end as want of memory.
