@@ -1,3 +1,4 @@
+pub mod CountLemmas
 pub mod LowestLemmas
 pub mod PoolLemmas
 pub mod TreeLemmas

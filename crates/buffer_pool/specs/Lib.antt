@@ -1,3 +1,4 @@
+pub mod Places
 pub mod Pool
 pub mod Tree
 pub mod Uses

@@ -2,6 +2,7 @@
 ghost use Rattle.std.specs.Prelude.{◌≡◌, ◌<◌, ℕ, List, Some, None, length, false, IfOk, IfErr, OnOk, slice_set};
 ghost use Rattle.std.specs.Borrow.{sem};
 ghost use Rattle.buffer_pool.specs.Uses.{is_full};
+ghost use Rattle.buffer_pool.specs.Places.{IsHeld, MayHold, held_at, released_at};
 ghost use Rattle.buffer_pool.specs.Pool.{IsFull, IsLent, all_empty, buf_at, emptied, filled, held, lent, lowest_empty, refs_of, released, spare_of};
 
 use crate::held::Held;
@@ -114,6 +115,26 @@ impl BufferPool {
     {
         let refs = self.refs(place);
         self.places.set(place.0, Use::Full { refs: refs - 1 });
+    }
+
+    /// Adds a reference to a place, if there is one.
+    pub fn hold_at(&mut self, place: Option<Place>)
+        requires { MayHold self.old place }
+        ensures { self.new ≡ held_at place self.old }
+    {
+        if let Some(place) = place {
+            self.hold(place);
+        }
+    }
+
+    /// Takes a reference to a place away, if there is one.
+    pub fn release_at(&mut self, place: Option<Place>)
+        requires { IsHeld self.old place }
+        ensures { self.new ≡ released_at place self.old }
+    {
+        if let Some(place) = place {
+            self.release(place);
+        }
     }
 
     /// Takes the buffer out of a full place, which is empty afterwards. `Held` comes exactly where

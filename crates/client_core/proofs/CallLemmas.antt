@@ -166,6 +166,7 @@ replied-turn now c h n turn taken small = record {
   size = size-small (is_response h.kind) c.size h.size small turn.size;
   answered = omega (arith, taken.posted);
   known = known-more (is_response h.kind) c.size (packet_count c.len) c.posted h.size (λ r. (is-answer c h n taken r).same) turn.known;
+  queued = turn.queued;
   rolls = omega arith;
 }
 
@@ -193,5 +194,5 @@ pub small-not-goes : (r : EndRow) (s : ℕ) → r ≡ EndsTooSmall s → r ≡ G
 small-not-goes r s e g = cc
 
 -- a call stays in turn where it is rolled back
-pub rolled-turn : (c : ActiveCall) → IsInTurn c → c.rolls < 8 → IsInTurn (rolled_call c)
-rolled-turn c turn few = record { len = turn.len; size = turn.size; answered = omega arith; known = omega (arith, turn.answered, turn.known); rolls = omega (arith, few) }
+pub rolled-turn : (c : ActiveCall) → IsInTurn c → c.rolls < 8 → c.queued ≡ 0 → IsInTurn (rolled_call c)
+rolled-turn c turn few idle = record { len = turn.len; size = turn.size; answered = omega arith; known = omega (arith, turn.answered, turn.known); queued = omega (arith, idle); rolls = omega (arith, few) }

@@ -1,19 +1,22 @@
 mod AnswerLemmas
 mod CallLemmas
 pub mod CallsLemmas
-mod ChangedLemmas
+pub mod ChangedLemmas
+pub mod CountLemmas
 mod CreditLemmas
 pub mod EndedLemmas
-mod EntryLemmas
+pub mod EntryLemmas
 mod LostLemmas
 pub mod OneCallLemmas
+pub mod OthersLemmas
 pub mod OutcomeLemmas
 mod PacketLemmas
 mod PartLemmas
-mod PlacesLemmas
-mod PoolLemmas
+pub mod PlacesLemmas
+pub mod PoolLemmas
+pub mod QueuedLemmas
 pub mod RollLemmas
 mod SentLemmas
-mod SessionLemmas
+pub mod SessionLemmas
 pub mod ShownLemmas
 mod TakenLemmas

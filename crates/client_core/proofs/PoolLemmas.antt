@@ -15,7 +15,7 @@ use Rattle.rpc_base.specs.Tables.{at_first}
 use Rattle.client_core.specs.declared.call.ActiveCall.{ActiveCall}
 use Rattle.client_core.specs.Session.{can_post}
 use Rattle.client_core.specs.KeepsPool.{CanHold, HasSize, IsHeld, IsKept, KeepsPool, MayHold, held_at, names, released_at}
-use Rattle.client_core.specs.Posting.{marked, one_posted, place_of}
+use Rattle.client_core.specs.Posting.{marked, one_left, one_posted, place_of}
 use Rattle.client_core.proofs.CallsLemmas.{all-append, all-at_first, found-holds, sum-at_first}
 
 found-at : (n m i : ℕ) (b : Bool) → ltb n m ≡ b → cond b (Some n) None ≡ Some i → (i ≡ n) × (n < m)
@@ -116,6 +116,15 @@ module _ (test : ActiveCall → Bool) (c : ActiveCall) (p : ℕ) (here : c.ask �
 posted-kept : (pool : Pool) (c : ActiveCall) → IsKept pool c → IsKept pool (one_posted c)
 posted-kept pool c kept = record { ask = kept.ask; answer = kept.answer; size = kept.size; room = kept.room; unnamed = kept.unnamed }
 
+left-kept : (pool : Pool) (c : ActiveCall) → IsKept pool c → IsKept pool (one_left c)
+left-kept pool c kept = record { ask = kept.ask; answer = kept.answer; size = kept.size; room = kept.room; unnamed = kept.unnamed }
+
+pub keeps-left : (pool : Pool) (test : ActiveCall → Bool) (calls : List ActiveCall) → KeepsPool pool calls → KeepsPool pool (at_first test one_left calls)
+keeps-left pool test calls keeps = record {
+  kept = all-at_first test one_left (IsKept pool) calls (λ c kept passes. left-kept pool c kept) keeps.kept;
+  apart = λ p. rw (sum-at_first test one_left (λ c. cond (eqb c.ask p) 1 0 + cond (eqb c.answer p) 1 0) calls (λ c. refl)) (keeps.apart p);
+}
+
 marked-cases : (pool : Pool) (now : ℕ) (c : ActiveCall) (b : Bool) → IsKept pool c → IsKept pool (cond b (record c { mark = now }) c)
 marked-cases pool now c true kept = record { ask = kept.ask; answer = kept.answer; size = kept.size; room = kept.room; unnamed = kept.unnamed }
 marked-cases pool now c false kept = kept
@@ -132,8 +141,8 @@ keeps-posted pool calls keeps = record {
 
 pub keeps-marked : (pool : Pool) (test : ActiveCall → Bool) (number now : ℕ) (calls : List ActiveCall) → KeepsPool pool calls → KeepsPool pool (at_first test (marked number now) calls)
 keeps-marked pool test number now calls keeps = record {
-  kept = all-at_first test (marked number now) (IsKept pool) calls (λ c kept passes. marked-cases pool now c _ kept) keeps.kept;
-  apart = λ p. rw (sum-at_first test (marked number now) (λ c. cond (eqb c.ask p) 1 0 + cond (eqb c.answer p) 1 0) calls (λ c. marked-names p now c _)) (keeps.apart p);
+  kept = all-at_first test (marked number now) (IsKept pool) calls (λ c kept passes. marked-cases pool now (one_left c) _ (left-kept pool c kept)) keeps.kept;
+  apart = λ p. rw (sum-at_first test (marked number now) (λ c. cond (eqb c.ask p) 1 0 + cond (eqb c.answer p) 1 0) calls (λ c. marked-names p now (one_left c) _)) (keeps.apart p);
 }
 
 -- the pool keeps the calls where the place of a request is held once more

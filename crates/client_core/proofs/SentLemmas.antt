@@ -9,12 +9,13 @@ use Rattle.rpc_base.specs.declared.owner.Owner.TheVariants.{Ask, Reply, Control}
 use Rattle.buffer_pool.specs.Pool.{Pool}
 use Rattle.packet_rings.specs.Values.{EntryValue}
 use Rattle.session_slots.specs.declared.waiting.Waiting.{Waiting}
+use Rattle.packet_header.specs.Reading.{decoded}
 use Rattle.rpc_laws.specs.declared.tables.Call.{Call}
 use Rattle.rpc_laws.specs.Calls.{is_active, moved, sent_packet}
 use Rattle.client_core.specs.declared.call.ActiveCall.{ActiveCall}
 use Rattle.client_core.specs.Session.{Session}
 use Rattle.client_core.specs.KeepsPool.{released_at}
-use Rattle.client_core.specs.Posting.{is_owner, marked, sent_at}
+use Rattle.client_core.specs.Posting.{is_owner, marked, one_left, sent_at}
 use Rattle.client_core.specs.Shown.{parts_of, sent_event, shown, shown_active, shown_waiting, stepped}
 use Rattle.client_core.proofs.ShownLemmas.{released-same}
 
@@ -29,7 +30,7 @@ waiting-kept r f [] = refl
 waiting-kept r f (w ∷ ws) = ap (λ zs. shown_waiting w ∷ zs) (waiting-kept r f ws)
 
 sent-calls-cons : (pool : Pool) (number r k now : ℕ) (c : ActiveCall) (cs : List ActiveCall) (ws : List Waiting) (b : Bool) → at_first (is_active r) (moved (sent_packet now k)) (map (shown_active pool) cs ++ map shown_waiting ws) ≡ map (shown_active pool) (at_first (is_owner number (Ask number r)) (marked k now) cs) ++ map shown_waiting ws → cond b (moved (sent_packet now k) (shown_active pool c) ∷ (map (shown_active pool) cs ++ map shown_waiting ws)) (shown_active pool c ∷ at_first (is_active r) (moved (sent_packet now k)) (map (shown_active pool) cs ++ map shown_waiting ws)) ≡ map (shown_active pool) (cond b (marked k now c ∷ cs) (c ∷ at_first (is_owner number (Ask number r)) (marked k now) cs)) ++ map shown_waiting ws
-sent-calls-cons pool number r k now c cs ws true ih = ap (λ x. x ∷ (map (shown_active pool) cs ++ map shown_waiting ws)) (sym (sent-cases pool number now c (eqb c.got k)))
+sent-calls-cons pool number r k now c cs ws true ih = ap (λ x. x ∷ (map (shown_active pool) cs ++ map shown_waiting ws)) (sym (sent-cases pool number now (one_left c) (eqb c.got k)))
 sent-calls-cons pool number r k now c cs ws false ih = ap (λ zs. shown_active pool c ∷ zs) ih
 
 owner-of : (number r : ℕ) (c : ActiveCall) → is_owner number (Ask number r) c ≡ eqb c.request r
@@ -57,9 +58,22 @@ sent-ask pool peer now s r k to place x false t =
     rw (t, no-owner x.number (Ask s r) (marked k now) x.active (λ c. other-session x.number s r c false t refl), released-same pool place x.active) refl
 
 sent-by : (pool : Pool) (peer now k to : ℕ) (place : Option ℕ) (x : Session) (o : Owner) → stepped now (Sent to o k) (shown pool peer x) ≡ shown (released_at place pool) peer (record x { active = at_first (is_owner x.number o) (marked k now) x.active }) ∷ []
+unfolding decoded
 sent-by pool peer now k to place x (Ask s r) = sent-ask pool peer now s r k to place x (eqb x.number s) refl
 sent-by pool peer now k to place x (Reply s r) = rw (no-owner x.number (Reply s r) (marked k now) x.active (λ c. refl), released-same pool place x.active) refl
 sent-by pool peer now k to place x Control = rw (no-owner x.number Control (marked k now) x.active (λ c. refl), released-same pool place x.active) refl
 
 pub sent-step : (pool : Pool) (peer now : ℕ) (place : Option ℕ) (x : Session) (e : EntryValue) → stepped now (sent_event e) (shown pool peer x) ≡ shown (released_at place pool) peer (sent_at e now x) ∷ []
 sent-step pool peer now place x e = sent-by pool peer now e.number e.peer place x e.owner
+
+-- a packet that leaves unsent changes nothing that is shown
+left-calls-cons : (pool : Pool) (test : ActiveCall → Bool) (c : ActiveCall) (cs : List ActiveCall) (b : Bool) → map (shown_active pool) (at_first test one_left cs) ≡ map (shown_active pool) cs → map (shown_active pool) (cond b (one_left c ∷ cs) (c ∷ at_first test one_left cs)) ≡ shown_active pool c ∷ map (shown_active pool) cs
+left-calls-cons pool test c cs true ih = refl
+left-calls-cons pool test c cs false ih = ap (λ zs. shown_active pool c ∷ zs) ih
+
+left-calls : (pool : Pool) (test : ActiveCall → Bool) (cs : List ActiveCall) → map (shown_active pool) (at_first test one_left cs) ≡ map (shown_active pool) cs
+left-calls pool test [] = refl
+left-calls pool test (c ∷ cs) = left-calls-cons pool test c cs (test c) (left-calls pool test cs)
+
+pub left-shown : (pool : Pool) (peer : ℕ) (place : Option ℕ) (x : Session) (test : ActiveCall → Bool) → shown (released_at place pool) peer (record x { active = at_first test one_left x.active }) ≡ shown pool peer x
+left-shown pool peer place x test = rw (released-same pool place (at_first test one_left x.active), left-calls pool test x.active) refl

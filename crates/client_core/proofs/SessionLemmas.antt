@@ -15,7 +15,7 @@ use Rattle.session_slots.specs.declared.waiting.Waiting.{Waiting}
 use Rattle.session_slots.specs.Slots.{Slots, Begins, IsSound, begun, lowest_free}
 use Rattle.client_core.specs.declared.call.ActiveCall.{ActiveCall}
 use Rattle.client_core.specs.Session.{Session, IsInTurn, IsMessage, IsSession, begun_as, call_in, can_post, is_in_slot, known_of, unanswered_in}
-use Rattle.client_core.specs.Posting.{IsPacketOf, entry_of, is_owner, marked, next_entry, one_posted, started}
+use Rattle.client_core.specs.Posting.{IsPacketOf, entry_of, is_owner, marked, next_entry, one_left, one_posted, started}
 use Rattle.client_core.proofs.PoolLemmas.{position-at}
 use Rattle.client_core.proofs.CallsLemmas.{all-append, count-fewer, all-at_first, all-front, all-rest, count-missing, found-changed, found-holds, found-other, found-own, length-at_first, none-found, shows-at_first, sum-at_first}
 
@@ -24,12 +24,30 @@ mark-cases : {B : Type 0} (g : ActiveCall → B) (now : ℕ) (c : ActiveCall) (b
 mark-cases g now c true same = same
 mark-cases g now c false same = refl
 
-mark-same : {B : Type 0} (g : ActiveCall → B) (number now : ℕ) (c : ActiveCall) → g (record c { mark = now }) ≡ g c → g (marked number now c) ≡ g c
-mark-same g number now c same = mark-cases g now c _ same
+mark-same : {B : Type 0} (g : ActiveCall → B) (number now : ℕ) (c : ActiveCall) → g (record (one_left c) { mark = now }) ≡ g (one_left c) → g (one_left c) ≡ g c → g (marked number now c) ≡ g c
+mark-same g number now c same left = mark-cases g now (one_left c) _ same ∙ left
 
 mark-turn : (now : ℕ) (c : ActiveCall) (b : Bool) → IsInTurn c → IsInTurn (cond b (record c { mark = now }) c)
-mark-turn now c true turn = record { len = turn.len; size = turn.size; answered = turn.answered; known = turn.known; rolls = turn.rolls }
+mark-turn now c true turn = record { len = turn.len; size = turn.size; answered = turn.answered; known = turn.known; queued = turn.queued; rolls = turn.rolls }
 mark-turn now c false turn = turn
+
+left-turn : (c : ActiveCall) → IsInTurn c → IsInTurn (one_left c)
+left-turn c turn = record { len = turn.len; size = turn.size; answered = turn.answered; known = turn.known; queued = omega (arith, turn.queued); rolls = turn.rolls }
+
+-- a packet is queued no more
+pub left-session : (s : Session) (p : ActiveCall → Bool) → IsSession s → IsSession (record s { active = at_first p one_left s.active })
+left-session s p h = record {
+  number = h.number;
+  server = h.server;
+  balanced = h.balanced;
+  sound = h.sound;
+  count = length-at_first p one_left s.active ∙ h.count;
+  slots = λ i below. h.slots i below ∙ sym (shows-at_first p one_left (option_map begun_as) (is_in_slot i) s.active (λ x. refl) (λ x. refl));
+  apart = λ i. omega (arith, h.apart i, sum-at_first p one_left (λ x. cond (is_in_slot i x) 1 0) s.active (λ x. refl));
+  unanswered = λ i below. h.unanswered i below ∙ sym (shows-at_first p one_left unanswered_in (is_in_slot i) s.active (λ x. refl) (λ x. refl));
+  in_turn = all-at_first p one_left IsInTurn s.active (λ x turn passes. left-turn x turn) h.in_turn;
+  messages = h.messages;
+}
 
 pub marked-session : (s : Session) (p : ActiveCall → Bool) (number now : ℕ) → IsSession s → IsSession (record s { active = at_first p (marked number now) s.active })
 marked-session s p number now h = record {
@@ -38,15 +56,15 @@ marked-session s p number now h = record {
   balanced = h.balanced;
   sound = h.sound;
   count = length-at_first p (marked number now) s.active ∙ h.count;
-  slots = λ i below. h.slots i below ∙ sym (shows-at_first p (marked number now) (option_map begun_as) (is_in_slot i) s.active (λ x. mark-same (is_in_slot i) number now x refl) (λ x. mark-same (λ c. option_map begun_as (Some c)) number now x refl));
-  apart = λ i. omega (arith, h.apart i, sum-at_first p (marked number now) (λ x. cond (is_in_slot i x) 1 0) s.active (λ x. mark-same (λ c. cond {A = ℕ} (is_in_slot i c) 1 0) number now x refl));
-  unanswered = λ i below. h.unanswered i below ∙ sym (shows-at_first p (marked number now) unanswered_in (is_in_slot i) s.active (λ x. mark-same (is_in_slot i) number now x refl) (λ x. mark-same (λ c. unanswered_in (Some c)) number now x refl));
-  in_turn = all-at_first p (marked number now) IsInTurn s.active (λ x turn passes. mark-turn now x _ turn) h.in_turn;
+  slots = λ i below. h.slots i below ∙ sym (shows-at_first p (marked number now) (option_map begun_as) (is_in_slot i) s.active (λ x. mark-same (is_in_slot i) number now x refl refl) (λ x. mark-same (λ c. option_map begun_as (Some c)) number now x refl refl));
+  apart = λ i. omega (arith, h.apart i, sum-at_first p (marked number now) (λ x. cond (is_in_slot i x) 1 0) s.active (λ x. mark-same (λ c. cond {A = ℕ} (is_in_slot i c) 1 0) number now x refl refl));
+  unanswered = λ i below. h.unanswered i below ∙ sym (shows-at_first p (marked number now) unanswered_in (is_in_slot i) s.active (λ x. mark-same (is_in_slot i) number now x refl refl) (λ x. mark-same (λ c. unanswered_in (Some c)) number now x refl refl));
+  in_turn = all-at_first p (marked number now) IsInTurn s.active (λ x turn passes. mark-turn now (one_left x) _ (left-turn x turn)) h.in_turn;
   messages = h.messages;
 }
 
 posted-turn : (c : ActiveCall) → IsInTurn c → can_post c ≡ true → IsInTurn (one_posted c)
-posted-turn c turn more = record { len = turn.len; size = turn.size; answered = omega (arith, turn.answered); known = omega (arith, ltb-true c.posted (known_of c) more); rolls = turn.rolls }
+posted-turn c turn more = record { len = turn.len; size = turn.size; answered = omega (arith, turn.answered); known = omega (arith, ltb-true c.posted (known_of c) more); queued = omega (arith, turn.queued); rolls = turn.rolls }
 
 -- the slot of a call is its own
 own-slot : (s : Session) (c : ActiveCall) → IsSession s → find can_post s.active ≡ Some c → call_in (c.request % 8) s.active ≡ Some c
@@ -84,7 +102,7 @@ posted-session s c h e balanced = record {
 -- a call that begins is in turn
 pub started-turn : (old new : Slots) (request : ℕ) (w : Waiting) (c : ActiveCall) (ask answer : ℕ) → Begins request w old new → AllByRecursion (λ x. IsMessage x.req.len) old.waiting → c ≡ started w request ask answer → IsInTurn c
 started-turn old new request w c ask answer begins messages is =
-    rw is (record { len = all-front (λ x. IsMessage x.req.len) old.waiting w messages begins.oldest; size = tt; answered = omega arith; known = omega arith; rolls = omega arith })
+    rw is (record { len = all-front (λ x. IsMessage x.req.len) old.waiting w messages begins.oldest; size = tt; answered = omega arith; known = omega arith; queued = omega arith; rolls = omega arith })
 
 -- the lowest free slot is one of them, and is free
 none_of : {A : Type 0} (o : Option A) → is_none o ≡ true → o ≡ None

@@ -1,8 +1,10 @@
 -- What a session needs of the pool that it works on, and what it makes of it.
-use Rattle.std.specs.Prelude.{◌≡◌, ℕ, ◌+◌, ◌<◌, ◌≤◌, ◌==◌, if◌then◌else◌, List, sum_by, Option, Some, None, IfSome}
+use Rattle.std.specs.Prelude.{◌≡◌, ℕ, ◌+◌, ◌<◌, ◌≤◌, ◌==◌, false, if◌then◌else◌, List, sum_by, Option, Some, None, IfSome}
 use Rattle.std.specs.List.{AllByRecursion}
 use Rattle.message_buffer.specs.Buffer.{Buffer, capacity_of}
-use Rattle.buffer_pool.specs.Pool.{Pool, IsFull, buf_at, held, refs_of, released}
+pub use Rattle.buffer_pool.specs.Places.{IsHeld, MayHold, held_at, released_at}
+use Rattle.buffer_pool.specs.Pool.{Pool, IsFull, buf_at, held, refs_of, released, use_at}
+use Rattle.buffer_pool.specs.Uses.{is_empty}
 use Rattle.packet_rings.specs.Values.{EntryValue}
 use Rattle.client_core.specs.declared.call.ActiveCall.{ActiveCall}
 
@@ -37,29 +39,16 @@ pub record KeepsPool (pool : Pool) (calls : List ActiveCall) : Type 0 where
   pub kept : AllByRecursion (IsKept pool) calls
   pub apart : (p : ℕ) → names p calls ≤ 1
 
+-- a place with a use that no call of the session named is named by none of it then, and is as it was
+abbrev pub LeavesOthers : (old new : List ActiveCall) → (before after : Pool) → Type 0
+LeavesOthers old new before after =
+    (p : ℕ) → names p old ≡ 0 → is_empty (use_at before p) ≡ false → (names p new ≡ 0) × (use_at after p ≡ use_at before p) × (buf_at after p ≡ buf_at before p)
+
 -- one reference more can be counted to each request
 abbrev pub CanHold : Pool → List ActiveCall → Type 0
 CanHold pool calls = AllByRecursion (λ c. refs_of pool c.ask < 4294967295) calls
-
--- one reference more to a place, if there is one
-abbrev pub held_at : Option ℕ → Pool → Pool
-held_at None pool = pool
-held_at (Some p) pool = held p pool
 
 -- that of an entry, if there is one
 abbrev pub held_for : Option EntryValue → Pool → Pool
 held_for None pool = pool
 held_for (Some e) pool = held_at e.place pool
-
--- one reference less to a place, if there is one
-abbrev pub released_at : Option ℕ → Pool → Pool
-released_at None pool = pool
-released_at (Some p) pool = released p pool
-
--- the place, if there is one, is full and one reference more can be counted
-abbrev pub MayHold : Pool → Option ℕ → Type 0
-MayHold pool place = IfSome place (λ p. IsFull pool p × (refs_of pool p < 4294967295))
-
--- there is a reference to the place, if there is a place
-abbrev pub IsHeld : Pool → Option ℕ → Type 0
-IsHeld pool place = IfSome place (λ p. 0 < refs_of pool p)

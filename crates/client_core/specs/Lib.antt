@@ -1,3 +1,5 @@
+pub mod Counting
+pub mod KeepsEntries
 pub mod KeepsPool
 pub mod Losing
 pub mod Posting

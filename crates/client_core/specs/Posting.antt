@@ -1,5 +1,5 @@
 -- What a session begins and posts next, and what becomes of it.
-use Rattle.std.specs.Prelude.{◌≡◌, ℕ, ◌+◌, ◌%◌, ◌<◌, ◌==◌, nat_lt, Bool, [], ◌∷◌, ◌++◌, Option, Some, None, option_and_then, option_map, if◌then◌else◌}
+use Rattle.std.specs.Prelude.{◌≡◌, ℕ, ◌+◌, ◌-◌, ◌%◌, ◌<◌, ◌==◌, nat_lt, Bool, [], ◌∷◌, ◌++◌, Option, Some, None, option_and_then, option_map, if◌then◌else◌}
 use Rattle.std.specs.List.{find}
 use Rattle.rpc_base.specs.declared.owner.Owner.{Owner}
 use Rattle.rpc_base.specs.declared.owner.Owner.TheVariants.{Ask}
@@ -30,6 +30,7 @@ started w request ask answer = record {
   room = capacity_of w.resp;
   got = 0;
   posted = 0;
+  queued = 0;
   rolls = 0;
   mark = 0;
   size = None;
@@ -74,9 +75,13 @@ next_call s = if s.credits.free == 0 then None else find can_post s.active
 abbrev pub next_entry : ℕ → Session → Option EntryValue
 next_entry peer s = option_map (entry_of s.number peer) (next_call s)
 
--- one packet more is posted
+-- one packet more is posted, and is queued
 abbrev pub one_posted : ActiveCall → ActiveCall
-one_posted c = record c { posted = c.posted + 1 }
+one_posted c = record c { posted = c.posted + 1; queued = c.queued + 1 }
+
+-- one packet less is queued
+abbrev pub one_left : ActiveCall → ActiveCall
+one_left c = record c { queued = c.queued - 1 }
 
 -- the call has posted one packet more, which has one credit of its slot
 abbrev pub after_posting : Option ActiveCall → Session → Session
@@ -95,13 +100,17 @@ is_owner session owner c = same_owner (Ask session c.request) owner
 abbrev pub call_of : Session → EntryValue → Option ActiveCall
 call_of s e = find (is_owner s.number e.owner) s.active
 
--- a call's clock starts anew where the packet whose answer it wants is sent
+-- a packet of a call is sent: its clock starts anew where that is the packet whose answer it wants
 abbrev pub marked : (number now : ℕ) → ActiveCall → ActiveCall
-marked number now c = if c.got == number then record c { mark = now } else c
+marked number now c = if c.got == number then record (one_left c) { mark = now } else one_left c
 
 -- an entry was sent
 abbrev pub sent_at : EntryValue → ℕ → Session → Session
 sent_at e now s = record s { active = at_first (is_owner s.number e.owner) (marked e.number now) s.active }
+
+-- an entry was taken out unsent
+abbrev pub flushed_at : EntryValue → Session → Session
+flushed_at e s = record s { active = at_first (is_owner s.number e.owner) one_left s.active }
 
 -- the entry of packet k of a call, where the call posted it
 abbrev pub entry_if : (session peer k : ℕ) → ActiveCall → Option EntryValue

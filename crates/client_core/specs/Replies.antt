@@ -134,6 +134,9 @@ pub record GoesOnWith (now : ℕ) (h : MessageHeader) (body : List ℕ) (c : Act
 -- a reply was taken, and its call is over
 pub record EndsWith (h : MessageHeader) (body : List ℕ) (c : ActiveCall) (d : Done) (old new : Session) (before after : Pool) : Type 0 where
   pub found : call_as h.request old ≡ Some c
+  -- the reply answers the only packet that isn't answered
+  pub next : h.number ≡ c.got
+  pub last : c.posted ≡ c.got + 1
   pub ends : EndsBy (end_of h c) old.number h body c before d
   pub session : new ≡ without_call c old
   pub pool : after ≡ without_buffers c before
@@ -154,7 +157,8 @@ row_told (Dropped why) = Drops why
 abbrev pub IsUnheld : Pool → ActiveCall → Type 0
 IsUnheld pool c = refs_of pool c.ask ≡ 0
 
--- where a packet that isn't queued is the only unanswered one of a call, no entry names its request
-abbrev pub LastIsUnheld : Pool → Bool → Option ActiveCall → Type 0
-LastIsUnheld pool is_waiting found =
-    IfSome found (λ c. is_waiting ≡ false → c.posted ≡ c.got + 1 → IsUnheld pool c)
+-- where a reply answers the only unanswered packet of a call, and that isn't queued, no entry names its request.
+-- Of a reply to another packet nothing is wanted: it is dropped
+abbrev pub NextIsUnheld : Pool → Bool → ℕ → Option ActiveCall → Type 0
+NextIsUnheld pool is_waiting number found =
+    IfSome found (λ c. is_waiting ≡ false → number ≡ c.got → c.posted ≡ c.got + 1 → IsUnheld pool c)

@@ -41,6 +41,11 @@ abbrev pub unanswered_in : Option ActiveCall → ℕ
 unanswered_in None = 0
 unanswered_in (Some c) = c.posted - c.got
 
+-- how many packets of a call were posted and are neither sent nor flushed
+abbrev pub queued_in : Option ActiveCall → ℕ
+queued_in None = 0
+queued_in (Some c) = c.queued
+
 -- a call as the slots know it
 abbrev pub begun_as : ActiveCall → Begun
 begun_as c = record { request = c.request; call = c.call }
@@ -55,6 +60,7 @@ pub record IsInTurn (c : ActiveCall) : Type 0 where
   pub size : IfSome c.size IsMessage
   pub answered : c.got ≤ c.posted
   pub known : c.posted ≤ known_of c
+  pub queued : c.queued ≤ c.posted
   pub rolls : c.rolls ≤ 8
 
 -- each slot has its active call and no other, and the slot's unanswered packets are that call's

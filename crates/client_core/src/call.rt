@@ -12,7 +12,7 @@ ghost use Rattle.rpc_laws.specs.ClientTable.{is_cr, is_of_turn, is_same_size};
 ghost use Rattle.client_core.specs.KeepsPool.{IsKept};
 ghost use Rattle.client_core.specs.Replies.{call_row, end_of, replied, size_told};
 ghost use Rattle.client_core.specs.Timeouts.{call_timer, rolled_call};
-ghost use Rattle.client_core.specs.Posting.{entry_at, entry_of, head_of, marked, place_of, started};
+ghost use Rattle.client_core.specs.Posting.{entry_at, entry_of, head_of, marked, one_left, place_of, started};
 
 use crate::active::Active;
 use buffer_pool::BufferPool;
@@ -44,6 +44,8 @@ pub struct ActiveCall {
     pub got: u16,
     /// One more than the number of the packet posted last, or `got` after a rollback.
     pub posted: u16,
+    /// Packets that were posted and are neither sent nor flushed.
+    pub queued: u16,
     /// Rollbacks since the last reply was taken.
     pub rolls: u8,
     /// The clock, in microseconds, when packet `got` was sent last or a reply was taken last.
@@ -76,6 +78,7 @@ impl ActiveCall {
             room: pool.get(answer).capacity(),
             got: 0,
             posted: 0,
+            queued: 0,
             rolls: 0,
             mark: 0,
             size: None,
@@ -100,15 +103,26 @@ impl ActiveCall {
         u32::from(self.posted) < self.known()
     }
 
+    /// The call once one of its packets is queued no more.
+    pub fn left(self) -> ActiveCall
+        ensures { result ≡ one_left self }
+    {
+        ActiveCall {
+            queued: self.queued.saturating_sub(1),
+            ..self
+        }
+    }
+
     /// The call once its packet of this number was sent at `now`: its clock starts anew where it wants
     /// the answer of that packet.
     pub fn marked(self, number: u16, now: u64) -> ActiveCall
         ensures { result ≡ marked number now self }
     {
-        if self.got == number {
-            ActiveCall { mark: now, ..self }
+        let sent = self.left();
+        if sent.got == number {
+            ActiveCall { mark: now, ..sent }
         } else {
-            self
+            sent
         }
     }
 
@@ -378,6 +392,7 @@ impl Default for ActiveCall {
             room: 0,
             got: 0,
             posted: 0,
+            queued: 0,
             rolls: 0,
             mark: 0,
             size: None,

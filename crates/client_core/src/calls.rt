@@ -6,7 +6,7 @@ ghost use Rattle.rpc_base.specs.Least.{least, least_number, smaller};
 ghost use Rattle.client_core.specs.Watching.{call_number, is_after};
 ghost use Rattle.client_core.specs.KeepsPool.{CanHold, KeepsPool};
 ghost use Rattle.client_core.specs.Session.{IsInTurn, can_post};
-ghost use Rattle.client_core.specs.Posting.{is_owner, marked, one_posted};
+ghost use Rattle.client_core.specs.Posting.{is_owner, marked, one_left, one_posted};
 ghost use Rattle.client_core.specs.Replies.{IsUnheld, is_request};
 ghost use Rattle.client_core.specs.Timeouts.{is_numbered};
 
@@ -117,6 +117,7 @@ impl Calls {
             at,
             ActiveCall {
                 posted: call.posted + 1,
+                queued: call.queued + 1,
                 ..call
             },
         );
@@ -130,6 +131,16 @@ impl Calls {
     {
         if let Some(at) = self.place_of_owner(session, owner) {
             let call = self.at(at).marked(number, now);
+            self.set(at, call);
+        }
+    }
+
+    /// An entry was taken out unsent, of the call whose packets are this owner's in the session.
+    pub fn leave(&mut self, session: SessionNo, owner: Owner)
+        ensures { self.new ≡ at_first (is_owner session owner) one_left self.old }
+    {
+        if let Some(at) = self.place_of_owner(session, owner) {
+            let call = self.at(at).left();
             self.set(at, call);
         }
     }

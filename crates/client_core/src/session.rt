@@ -1,14 +1,22 @@
 //! A client session: its calls begin and post here. What replies and timeouts do to them stands in the
 //! modules below.
-ghost use Rattle.std.specs.Prelude.{◌≡◌, ◌<◌, ◌≤◌, ◌+◌, ◌^◌, ◌↔◌, ◌⊎◌, ℕ, [], ◌∷◌, false, length, option_map, IfErr, IfNone, IfSome, IsNone, IsTrue, OnErr, OnOk};
+ghost use Rattle.std.specs.Prelude.{◌≡◌, ◌<◌, ◌≤◌, ◌+◌, ◌^◌, ◌↔◌, ◌⊎◌, ℕ, Bool, List, [], ◌∷◌, ◌++◌, false, count_by, length, option_map, IfErr, IfNone, IfSome, IsNone, IsTrue, OnErr, OnOk};
 ghost use Rattle.std.specs.List.{list_any};
+ghost use Rattle.packet_header.specs.Header.{AreBytes};
 ghost use Rattle.buffer_pool.specs.Pool.{Pool, spare_of};
 ghost use Rattle.credit_book.specs.Credits.{limit_of};
 ghost use Rattle.rpc_laws.specs.Posting.{beginning, posting};
 ghost use Rattle.session_slots.specs.Slots.{lowest_free};
-ghost use Rattle.client_core.specs.KeepsPool.{CanHold, IsHeld, KeepsPool, MayHold, held_at, held_for, released_at};
-ghost use Rattle.client_core.specs.Posting.{IsPacketOf, Starts, call_of, next_entry, posted, sent_at};
-ghost use Rattle.client_core.specs.Session.{IsSession, can_post, enqueued, new_session};
+ghost use Rattle.rpc_base.specs.Taking.{TakenOut};
+ghost use Rattle.rpc_base.specs.declared.owner.Owner.TheVariants.{Ask};
+ghost use Rattle.packet_rings.specs.Entries.{is_of};
+ghost use Rattle.packet_rings.specs.Values.{EntryValue};
+ghost use Rattle.client_core.specs.Counting.{Counts, CountsQueued};
+ghost use Rattle.client_core.specs.KeepsEntries.{KeepsEntries};
+ghost use Rattle.client_core.specs.KeepsPool.{CanHold, IsHeld, KeepsPool, LeavesOthers, held_for, released_at};
+ghost use Rattle.client_core.specs.Posting.{IsPacketOf, Starts, call_of, flushed_at, next_entry, posted, sent_at};
+ghost use Rattle.client_core.specs.Replies.{call_as};
+ghost use Rattle.client_core.specs.Session.{IsSession, can_post, enqueued, new_session, queued_in};
 ghost use Rattle.client_core.specs.Shown.{IsSpelled, asked, begun_event, packet_of, paired, posted_event, sent_event, shown, stepped};
 ghost use Rattle.client_core.specs.Timeouts.{is_numbered};
 ghost use Rattle.client_core.specs.Watching.{is_after, next_told};
@@ -24,7 +32,7 @@ use buffer_pool::BufferPool;
 use credit_book::CreditBook;
 use packet_header::{HEAD_BYTES, Packet, encode};
 use packet_rings::Entry;
-use rpc_base::{CallNo, Peer, Place, RequestNo, SessionNo};
+use rpc_base::{CallNo, Peer, RequestNo, SessionNo};
 use session_slots::{SlotTable, Waiting};
 use std::alloc::Global;
 use std::marker::Model;
@@ -155,6 +163,11 @@ impl ClientSession {
         ensures step { IfSome result (λ b. (clock peer : ℕ) → list_any (is_numbered b.0) self.old.active ≡ false →
             stepped clock (begun_event b) (shown pool.old peer self.old) ≡ shown pool.new peer self.new ∷ []) }
         ensures starts { IfSome result (λ b. Starts b.0 b.1 self.old self.new pool.old pool.new) }
+        ensures others { LeavesOthers self.old.active self.new.active pool.old pool.new }
+        ensures entries { KeepsEntries self.old self.new }
+        ensures counts { (entries : List EntryValue) → Counts pool.old entries → Counts pool.new entries }
+        // No entry of the call that begins is there yet.
+        ensures queued { (entries : List EntryValue) → CountsQueued self.old entries → IfSome result (λ b. count_by (is_of (Ask self.old.number b.1)) entries ≡ 0 → CountsQueued self.new entries) }
         ensures keeps_pool { KeepsPool pool.new self.new.active }
     {
         let Some((request, waiting)) = self.slots.begin() else {
@@ -189,6 +202,10 @@ impl ClientSession {
         ensures pool { pool.new ≡ held_for result pool.old }
         ensures stands { IfSome result (λ e. IsPacketOf (call_of self.new e) e) }
         ensures held { IfSome result (λ e. IsHeld pool.new e.place) }
+        ensures others { LeavesOthers self.old.active self.new.active pool.old pool.new }
+        ensures entries { KeepsEntries self.old self.new }
+        ensures counts { IfSome result (λ e. (entries : List EntryValue) → Counts pool.old entries → Counts pool.new (entries ++ e ∷ [])) }
+        ensures queued { IfSome result (λ e. (entries : List EntryValue) → CountsQueued self.old entries → CountsQueued self.new (entries ++ e ∷ [])) }
         ensures keeps_pool { KeepsPool pool.new self.new.active }
     {
         if self.credits.free() == 0 {
@@ -198,7 +215,7 @@ impl ClientSession {
             return None;
         };
         let entry = call.next_entry(self.number, peer);
-        hold(pool, entry.place);
+        pool.hold_at(entry.place);
         self.credits.charge(call.request.slot());
         Some(entry)
     }
@@ -223,9 +240,13 @@ impl ClientSession {
         ensures session { self.new ≡ sent_at entry.now now self.old }
         ensures step { (peer : ℕ) → stepped now (sent_event entry.now) (shown pool.old peer self.old) ≡ shown pool.new peer self.new ∷ [] }
         ensures pool { pool.new ≡ released_at entry.now.place pool.old }
+        ensures others { IsPacketOf (call_of self.old entry.now) entry.now → LeavesOthers self.old.active self.new.active pool.old pool.new }
+        ensures entries { KeepsEntries self.old self.new }
+        ensures counts { (passes : EntryValue → Bool) → (old new : List EntryValue) → TakenOut passes entry.now old new → Counts pool.old old → Counts pool.new new }
+        ensures queued { (passes : EntryValue → Bool) → (old new : List EntryValue) → TakenOut passes entry.now old new → IsPacketOf (call_of self.old entry.now) entry.now → CountsQueued self.old old → CountsQueued self.new new }
         ensures keeps_pool { KeepsPool pool.new self.new.active }
     {
-        release(pool, entry.place);
+        pool.release_at(entry.place);
         self.calls.mark(self.number, entry.owner, entry.number, now);
     }
 
@@ -233,12 +254,35 @@ impl ClientSession {
     pub fn flushed(&mut self, pool: &mut BufferPool, entry: &Entry)
         requires keeps_pool { KeepsPool pool.old self.old.active }
         requires held { IsHeld pool.old entry.now.place }
-        ensures session { self.new ≡ self.old }
+        ensures session { self.new ≡ flushed_at entry.now self.old }
         ensures shown { (peer : ℕ) → shown pool.new peer self.new ≡ shown pool.old peer self.old }
         ensures pool { pool.new ≡ released_at entry.now.place pool.old }
+        ensures others { IsPacketOf (call_of self.old entry.now) entry.now → LeavesOthers self.old.active self.new.active pool.old pool.new }
+        ensures entries { KeepsEntries self.old self.new }
+        ensures counts { (passes : EntryValue → Bool) → (old new : List EntryValue) → TakenOut passes entry.now old new → Counts pool.old old → Counts pool.new new }
+        ensures queued { (passes : EntryValue → Bool) → (old new : List EntryValue) → TakenOut passes entry.now old new → IsPacketOf (call_of self.old entry.now) entry.now → CountsQueued self.old old → CountsQueued self.new new }
         ensures keeps_pool { KeepsPool pool.new self.new.active }
     {
-        release(pool, entry.place);
+        pool.release_at(entry.place);
+        self.calls.leave(self.number, entry.owner);
+    }
+
+    /// How many packets of the active call with this request number were posted and are neither sent nor
+    /// flushed. 0 where there is no such call.
+    pub fn queued(&self, request: RequestNo) -> u16
+        ensures { result ≡ queued_in (call_as request self.now) }
+    {
+        match self.calls.of_request(request) {
+            Some(call) => call.queued,
+            None => 0,
+        }
+    }
+
+    /// What always holds of a session holds of this one.
+    pub fn sound(&self)
+        ensures { IsSession self.now }
+    {
+        let _number = self.number;
     }
 
     /// Writes the header of an entry that was posted, and lends its body.
@@ -250,7 +294,8 @@ impl ClientSession {
     ) -> &'a [u8]
         requires keeps_pool { KeepsPool pool.now self.now.active }
         requires posted { IsPacketOf (call_of self.now entry.now) entry.now }
-        ensures { IsSpelled (packet_of pool.now self.now entry.now) head.new result.now }
+        ensures spelled { IsSpelled (packet_of pool.now self.now entry.now) head.new result.now }
+        ensures bytes { AreBytes head.new }
     {
         let Some(call) = self.calls.of_owner(self.number, entry.owner) else {
             unreachable!()
@@ -261,25 +306,5 @@ impl ClientSession {
             None => &[],
             Some(place) => pool.get(place).packet(u32::from(entry.number)).1,
         }
-    }
-}
-
-// Adds a reference to a place, if there is one.
-fn hold(pool: &mut BufferPool, place: Option<Place>)
-    requires { MayHold pool.old place }
-    ensures { pool.new ≡ held_at place pool.old }
-{
-    if let Some(place) = place {
-        pool.hold(place);
-    }
-}
-
-// Gives up the reference to a place, if there is one.
-fn release(pool: &mut BufferPool, place: Option<Place>)
-    requires { IsHeld pool.old place }
-    ensures { pool.new ≡ released_at place pool.old }
-{
-    if let Some(place) = place {
-        pool.release(place);
     }
 }

@@ -1,15 +1,16 @@
 -- What the rules alone say of a fact of a node, by the node's lists before it.
-use Rattle.std.proofs.Common.{◌≡◌, ◌<◌, ◌≤◌, ◌⊎◌, ℕ, true, false, List, [], ◌∷◌, length, Option, Some, None, slice_get}
+use Rattle.std.proofs.Common.{◌≡◌, ◌<◌, ◌≤◌, ◌⊎◌, inl, inr, ◌==◌, ◌&&◌, ◌-◌, ℕ, Bool, true, false, List, [], ◌∷◌, length, Option, Some, None, slice_get}
 use Rattle.std.specs.List.{find, list_any}
-use Rattle.packet_header.specs.Header.{HasHead, InRange}
+use Rattle.packet_header.specs.Header.{AreBytes, HasHead, InRange}
 use Rattle.packet_header.specs.Parts.{packet_count}
 use Rattle.packet_header.specs.declared.packet.Kind.{Kind}
 use Rattle.packet_header.specs.declared.packet.Kind.TheVariants.{Request, Rfr, Cr, Response}
 use Rattle.packet_header.specs.declared.packet.MessageHeader.{MessageHeader}
 use Rattle.rpc_base.specs.declared.event.Event.{Event}
-use Rattle.rpc_base.specs.declared.event.Event.TheVariants.{Made, PairedClient, PairedServer, Asked, Begun, Posted, Sent, Arrived, Took, Given, Ran, DoneOk, DoneTooSmall}
+use Rattle.rpc_base.specs.declared.event.Event.TheVariants.{Made, Opened, PairedClient, PairedServer, Accepted, Declined, Starved, Connected, FailedNoRoom, FailedNoAnswer, Closing, ClosedHeard, ClosedUnheard, Ended, Heard, Unsent, Asked, Begun, Posted, Sent, Arrived, Overflowed, Took, Again, Given, Ran, Broken, DoneOk, DoneTooSmall, Carried}
 use Rattle.rpc_base.specs.declared.fact.Fact.{Fact}
-use Rattle.rpc_base.specs.declared.fact.Who.TheVariants.{Node}
+use Rattle.rpc_base.specs.declared.fact.Who.{Who}
+use Rattle.rpc_base.specs.declared.fact.Who.TheVariants.{Node, Net}
 use Rattle.rpc_base.specs.declared.owner.Owner.{Owner}
 use Rattle.rpc_base.specs.declared.owner.Owner.TheVariants.{Ask, Reply, Control}
 use Rattle.rpc_laws.specs.declared.tables.Arrival.{Arrival}
@@ -22,16 +23,19 @@ use Rattle.rpc_laws.specs.declared.tables.Outgoing.{Outgoing}
 use Rattle.rpc_laws.specs.declared.tables.Progress.{Progress}
 use Rattle.rpc_laws.specs.declared.tables.Served.{Served}
 use Rattle.rpc_laws.specs.declared.tables.Server.{Server}
-use Rattle.rpc_laws.specs.Calls.{is_active, is_waiting, asked_packets, known_packets}
+use Rattle.rpc_laws.specs.AtMostOnce.{is_at}
+use Rattle.rpc_laws.specs.Calls.{is_call, is_active, is_waiting, asked_packets, known_packets}
 use Rattle.rpc_laws.specs.ClientTable.{is_of_turn}
-use Rattle.rpc_laws.specs.Front.{front_header, front_body}
+use Rattle.rpc_laws.specs.Front.{is_message, front_header, front_body}
+use Rattle.rpc_laws.specs.Jobs.{is_job}
 use Rattle.rpc_laws.specs.NodeLists.{after}
-use Rattle.rpc_laws.specs.Packets.{outgoing}
+use Rattle.rpc_laws.specs.Packets.{owner_packet}
 use Rattle.rpc_laws.specs.Posting.{next_turn}
 use Rattle.rpc_laws.specs.Requests.{is_server, is_request, in_slot_of}
 use Rattle.rpc_laws.specs.ServerTable.{is_past_end}
-use Rattle.rpc_laws.specs.Service.{is_background, answer_with}
+use Rattle.rpc_laws.specs.Service.{is_background}
 use Rattle.rpc_laws.specs.Sessions.{is_client}
+use Rattle.end_laws.specs.Kinds.{is_ask}
 
 -- the oldest waiting call of a session begins with the next number of its slot
 pub record MayBegin (l : Lists) (c r : ℕ) : Type 0 where
@@ -47,13 +51,15 @@ pub record MayBegin (l : Lists) (c r : ℕ) : Type 0 where
 
 -- the packet that is sent is its owner's
 pub record MaySend (l : Lists) (peer : ℕ) (owner : Owner) (k : ℕ) (head body : List ℕ) : Type 0 where
-  pub is_front : slice_get l.queued 0 ≡ Some (record { owner = owner; number = k })
+  pub due : Option ℕ
+  pub is_front : slice_get l.queued 0 ≡ Some (record { owner = owner; number = k; due = due })
   pub out : Outgoing
-  pub own : outgoing l (record { owner = owner; number = k }) ≡ Some out
+  pub own : owner_packet l owner k ≡ Some out
   pub to_peer : peer ≡ out.peer
   pub in_range : InRange out.packet
   pub has_head : HasHead out.packet head
   pub long : length head ≡ 16
+  pub bytes : AreBytes head
   pub whole : body ≡ out.body
 
 -- the front of the ring is a message
@@ -135,19 +141,15 @@ pub record MayServe (l : Lists) (session r req_type : ℕ) (ask : List ℕ) : Ty
   pub own : ask ≡ has.request.ask
   pub inline : is_background req_type ≡ false
 
--- a job runs when it is the first of those that were worked
+-- a job that is out runs
 pub record MayFinish (l : Lists) (session r req_type : ℕ) (ask : List ℕ) : Type 0 where
   pub job : Job
-  pub is_front : slice_get l.jobs.worked 0 ≡ Some job
-  pub of_session : session ≡ job.session
-  pub of_request : r ≡ job.request
+  pub is_out : find (is_job session r) l.jobs.out ≡ Some job
   pub of_type : req_type ≡ job.req_type
   pub own : ask ≡ job.ask
 
--- the answer of a run is the service's
-pub record MayRun (l : Lists) (session r req_type : ℕ) (ask answer : List ℕ) : Type 0 where
-  pub source : MayServe l session r req_type ask ⊎ MayFinish l session r req_type ask
-  pub right : answer ≡ answer_with l.total req_type ask
+abbrev pub MayRun : Lists → (session r req_type : ℕ) → (ask : List ℕ) → Type 0
+MayRun l session r req_type ask = MayServe l session r req_type ask ⊎ MayFinish l session r req_type ask
 
 -- a call whose answer's size is known
 pub record HasSize (l : Lists) (c size : ℕ) (call : Call) (progress : Progress) : Type 0 where
@@ -176,6 +178,42 @@ pub record MayFail (l : Lists) (c size : ℕ) : Type 0 where
   pub has : HasSize l c size call progress
   pub above : call.what.room < size
 
+-- the front of the ring is a packet of a server session that is answered again
+pub record MayRepeat (l : Lists) (session r k : ℕ) : Type 0 where
+  pub front : Arrival
+  pub header : MessageHeader
+  pub is_front : Fronts l front header
+  pub of_session : session ≡ header.session
+  pub of_request : r ≡ header.request
+  pub of_number : k ≡ header.number
+  pub asks : is_ask header.kind ≡ true
+
+abbrev pub MayAnswer : Lists → Owner → ℕ → Type 0
+MayAnswer l (Ask s r) k = Unit {0}
+MayAnswer l (Reply t r) k = MayRepeat l t r k
+MayAnswer l Control k = Unit {0}
+
+-- a session breaks where a call was rolled back eight times since its last reply
+pub record MayBreak (l : Lists) : Type 0 where
+  pub place : ℕ
+  pub client : Client
+  pub is_there : slice_get l.clients place ≡ Some client
+  pub number : ℕ
+  pub call : Call
+  pub found : find (is_call number) client.calls ≡ Some call
+  pub progress : Progress
+  pub is_progress : call.progress ≡ Some progress
+  pub rolled : 8 ≤ progress.rolls
+
+-- a packet that is delivered is the one in hand
+pub record Delivered (hand : Option InFlight) (l : Lists) (peer : ℕ) (bytes : List ℕ) : Type 0 where
+  pub in_hand : hand ≡ Some (record { from = peer; to = l.me; bytes = bytes })
+
+-- a message is lost only where the ring is full
+pub record FindsFull (hand : Option InFlight) (l : Lists) (peer : ℕ) (bytes : List ℕ) : Type 0 where
+  pub delivered : Delivered hand l peer bytes
+  pub full : is_message bytes ≡ true → l.room ≤ length l.ring
+
 abbrev pub MayPost : Lists → Owner → ℕ → Type 0
 MayPost l (Ask s r) k = Unit {0}
 MayPost l (Reply t r) k = WasTaken l t r k
@@ -186,19 +224,36 @@ MayTake l (Ask s r) k = MayTakeReply l s r
 MayTake l (Reply t r) k = MayTakeAsk l t r k
 MayTake l Control k = ⊥
 
--- hand is the copy that is to be delivered. Nodes and ends of sessions are made in another way
+-- hand is the copy that is to be delivered. Nodes and ends of sessions are made in another way, and there is no
+-- event of session control
 abbrev pub May : Option InFlight → Lists → Event → List ℕ → List ℕ → Type 0
 May hand l (Made ring) first second = ⊥
 May hand l (PairedClient s peer t credits) first second = ⊥
 May hand l (PairedServer t peer s credits) first second = ⊥
+May hand l (Opened s peer credits) first second = ⊥
+May hand l (Accepted t peer s credits) first second = ⊥
+May hand l (Declined peer s credits) first second = ⊥
+May hand l (Starved peer s credits) first second = ⊥
+May hand l (Connected s t) first second = ⊥
+May hand l (FailedNoRoom s) first second = ⊥
+May hand l (FailedNoAnswer s) first second = ⊥
+May hand l (Closing s) first second = ⊥
+May hand l (ClosedHeard s) first second = ⊥
+May hand l (ClosedUnheard s) first second = ⊥
+May hand l (Ended t) first second = ⊥
+May hand l Heard first second = ⊥
+May hand l (Unsent peer) first second = ⊥
 May hand l (Asked c s req_type room) first second = (c ≡ l.asked) × (second ≡ [])
 May hand l (Begun c r) first second = MayBegin l c r × (first ≡ []) × (second ≡ [])
 May hand l (Posted owner k) first second = MayPost l owner k
 May hand l (Sent peer owner k) first second = MaySend l peer owner k first second
-May hand l (Arrived peer) first second = hand ≡ Some (record { from = peer; to = l.me; bytes = first })
+May hand l (Arrived peer) first second = Delivered hand l peer first
+May hand l (Overflowed peer) first second = FindsFull hand l peer first
 May hand l (Took owner k) first second = MayTake l owner k
+May hand l (Again owner k) first second = MayAnswer l owner k
+May hand l (Broken s) first second = MayBreak l
 May hand l (Given t r) first second = MayGive l t r
-May hand l (Ran t r req_type) first second = MayRun l t r req_type first second
+May hand l (Ran t r req_type) first second = MayRun l t r req_type first
 May hand l (DoneOk c) first second = MayEnd l c first
 May hand l (DoneTooSmall c size) first second = MayFail l c size
 May hand l _ first second = Unit {0}
@@ -207,7 +262,88 @@ pub record IsAllowed (hand : Option InFlight) (l : Lists) (f : Fact) : Type 0 wh
   pub who : f.who ≡ Node l.me
   pub may : May hand l f.event f.first f.second
 
--- each of a node's facts is allowed
+-- whether a fact leaves a reply of session t to be posted next, to a packet that passes, by its request and
+-- number; a run answers the last packet of its request
+abbrev pub owes : (ℕ → ℕ → Bool) → ℕ → Event → List ℕ → Bool
+owes passes t (Took (Reply session r) k) ask = session == t && passes r k
+owes passes t (Again (Reply session r) k) ask = session == t && passes r k
+owes passes t (Ran session r req_type) ask = session == t && passes r (packet_count (length ask) - 1)
+owes passes t _ ask = false
+
+-- whether node n owes such a reply by the latest fact
+abbrev pub is_owed : (ℕ → ℕ → Bool) → ℕ → ℕ → Option Fact → Bool
+is_owed passes n t None = false
+is_owed passes n t (Some f) = is_at n f.who && owes passes t f.event f.first
+
+-- packet k of request r
+abbrev pub is_packet : (r k : ℕ) → ℕ → ℕ → Bool
+is_packet r k request number = request == r && number == k
+
+-- node n owes the reply to packet k of request r
+abbrev pub Owes : Option Fact → (n t r k : ℕ) → Type 0
+Owes latest n t r k = is_owed (is_packet r k) n t latest ≡ true
+
+-- the reply to the last packet of a request that becomes a job is owed
+pub record OwesWhole (latest : Option Fact) (l : Lists) (t r : ℕ) : Type 0 where
+  pub has : IsWhole l t r
+  pub owed : Owes latest l.me t r (packet_count (length has.request.ask) - 1)
+
+abbrev pub carries : Who → Event → Bool
+carries Net (Carried i) = true
+carries _ _ = false
+
+-- whether the latest fact took a copy out of flight
+abbrev pub is_carried : Option Fact → Bool
+is_carried None = false
+is_carried (Some f) = carries f.who f.event
+
+-- a job of a request is out
+pub record IsOut (l : Lists) (session r : ℕ) (ask : List ℕ) : Type 0 where
+  pub job : Job
+  pub is_out : find (is_job session r) l.jobs.out ≡ Some job
+  pub own : ask ≡ job.ask
+
+-- the packet at the front of the ring has this number
+abbrev pub FrontIs : Lists → ℕ → Type 0
+FrontIs l k = (h : MessageHeader) → front_header l.ring ≡ Some h → h.number ≡ k
+
+-- a reply is posted, and a job given, only where it is owed by the fact before; so a handler runs, or it runs
+-- for a job that is out. A datagram is delivered right after it was taken out of flight
+abbrev pub Linked : Option Fact → Lists → Event → List ℕ → Type 0
+Linked latest l (Posted (Reply t r) k) first = Owes latest l.me t r k
+Linked latest l (Took (Ask s r) k) first = FrontIs l k
+Linked latest l (Given t r) first = OwesWhole latest l t r
+Linked latest l (Ran t r req_type) first = Owes latest l.me t r (packet_count (length first) - 1) ⊎ IsOut l t r first
+Linked latest l (Arrived peer) first = is_carried latest ≡ true
+Linked latest l (Overflowed peer) first = is_carried latest ≡ true
+Linked latest l _ first = Unit {0}
+
+-- each of a node's facts is allowed, and linked to the one before it
+abbrev pub WalksFrom : Option InFlight → Option Fact → ℕ → Lists → List Fact → Type 0
+WalksFrom hand latest clock l [] = Unit {0}
+WalksFrom hand latest clock l (f ∷ x) = IsAllowed hand l f × Linked latest l f.event f.first × WalksFrom hand (Some f) clock (after clock l f) x
+
+-- so it is, whatever was before
 abbrev pub Walks : Option InFlight → ℕ → Lists → List Fact → Type 0
-Walks hand clock l [] = Unit {0}
-Walks hand clock l (f ∷ x) = IsAllowed hand l f × Walks hand clock (after clock l f) x
+Walks hand clock l x = WalksFrom hand None clock l x
+
+none-owed : {A : Type 0} → false ≡ true → A
+none-owed e = cc
+
+linked-weaker : (latest : Option Fact) (l : Lists) (e : Event) (first : List ℕ) → Linked None l e first → Linked latest l e first
+linked-weaker latest l (Posted (Reply t r) k) first h = none-owed h
+linked-weaker latest l (Posted (Ask s r) k) first h = tt
+linked-weaker latest l (Posted Control k) first h = tt
+linked-weaker latest l (Took (Ask s r) k) first h = h
+linked-weaker latest l (Took (Reply t r) k) first h = tt
+linked-weaker latest l (Took Control k) first h = tt
+linked-weaker latest l (Given t r) first h = none-owed h.owed
+linked-weaker latest l (Ran t r y) first (inl h) = none-owed h
+linked-weaker latest l (Ran t r y) first (inr h) = inr h
+linked-weaker latest l (Arrived peer) first h = none-owed h
+linked-weaker latest l (Overflowed peer) first h = none-owed h
+linked-weaker latest l _ first h = tt
+
+pub walks-from : (hand : Option InFlight) (latest : Option Fact) (clock : ℕ) (l : Lists) (x : List Fact) → Walks hand clock l x → WalksFrom hand latest clock l x
+walks-from hand latest clock l [] h = tt
+walks-from hand latest clock l (f ∷ x) h = (h.0, linked-weaker latest l f.event f.first h.1, h.2)

@@ -1,5 +1,5 @@
 -- Handling a Request or an RFR notes only what is allowed.
-use Rattle.std.proofs.Common.{◌≡◌, ◌<◌, ◌+◌, ◌==◌, ◌&&◌, inl, ℕ, Bool, true, false, not, cond, List, [], ◌∷◌, ◌++◌, Option, Some, None, refl, sym, ap, ◌∙◌, arith}
+use Rattle.std.proofs.Common.{◌≡◌, ◌<◌, ◌+◌, ◌-◌, ◌==◌, ◌&&◌, inl, ℕ, Bool, true, false, not, cond, List, [], ◌∷◌, ◌++◌, length, Option, Some, None, refl, sym, ap, ◌∙◌, subst, arith}
 use Rattle.std.specs.List.{find, list_any, AllByRecursion}
 use Rattle.std.proofs.lemmas.Bool.{eqb-true}
 use Rattle.std.proofs.Common.{eq-eqb}
@@ -17,15 +17,17 @@ use Rattle.rpc_laws.specs.declared.tables.InFlight.{InFlight}
 use Rattle.rpc_laws.specs.declared.tables.Lists.{Lists}
 use Rattle.rpc_laws.specs.declared.tables.Served.{Served}
 use Rattle.rpc_laws.specs.declared.tables.Server.{Server}
+use Rattle.rpc_outside.specs.PlainAnswer.{plain_mode}
 use Rattle.rpc_laws.specs.Facts.{plain, with_two}
 use Rattle.rpc_laws.specs.Front.{front_header, front_body}
 use Rattle.rpc_laws.specs.NodeLists.{after}
 use Rattle.rpc_laws.specs.Requests.{is_server, is_request, in_slot_of, first_packet, next_packet, took_packet, answered}
 use Rattle.rpc_laws.specs.ServerTable.{is_rfr, joined, is_last, took_facts}
-use Rattle.rpc_laws.specs.Service.{is_background, answer_with}
-use Rattle.end_laws.proofs.Allowed.{Fronts, GoesOn, TakesOf, IsWhole, Walks}
+use Rattle.rpc_laws.specs.Service.{is_background}
+use Rattle.packet_header.proofs.PartsLemmas.{packet_count_room}
+use Rattle.end_laws.proofs.Allowed.{Fronts, GoesOn, TakesOf, IsWhole, Owes, WalksFrom}
 use Rattle.end_laws.proofs.ListLemmas.{false-true, find-first, all-found}
-use Rattle.end_laws.proofs.Rights.{SlotRight, Readable, front-right, asked-open}
+use Rattle.end_laws.proofs.Rights.{SlotRight, Readable, front-right, took-right, asked-open}
 use Rattle.end_laws.proofs.SlotLemmas.{with_slots, Apart, apart-without, apart-took, apart-answered, find-added, find-any, any-find, none-without, slot-of-request}
 
 -- a request as its newest packet leaves it
@@ -103,8 +105,8 @@ pub slots-found : (change : List Served → List Served) (t : ℕ) (xs : List Se
 slots-found change t xs v h = find-first (is_server t) (with_slots change) xs v h (find-passes (is_server t) xs v h)
 
 -- the packet that answers it is posted
-posts-walk : (hand : Option InFlight) (clock : ℕ) (l : Lists) (h : MessageHeader) (v : Server) (ask : List ℕ) → find (is_server h.session) l.servers ≡ Some v → Apart v.slots → NewSlot v.slots h ask → Walks hand clock l (plain l.me (Posted (Reply h.session h.request) h.number) ∷ [])
-posts-walk hand clock l h v ask found apart n = (
+posts-walk : (hand : Option InFlight) (latest : Option Fact) (clock : ℕ) (l : Lists) (h : MessageHeader) (v : Server) (ask : List ℕ) → Owes latest l.me h.session h.request h.number → find (is_server h.session) l.servers ≡ Some v → Apart v.slots → NewSlot v.slots h ask → WalksFrom hand latest clock l (plain l.me (Posted (Reply h.session h.request) h.number) ∷ [])
+posts-walk hand latest clock l h v ask owed found apart n = (
   record {
     who = refl;
     may = record {
@@ -116,13 +118,14 @@ posts-walk hand clock l h v ask found apart n = (
       was_taken = let e = n.taken in omega arith;
     };
   },
+  owed,
   tt,
 )
 
 -- the last packet of a request whose type is Background gives a job; where it is another the handler runs
-abbrev bring_facts : (last background : Bool) → ℕ → ℕ → MessageHeader → List ℕ → List Fact
-bring_facts last background me total h ask =
-    cond (last && background) (plain me (Given h.session h.request) ∷ []) (cond last (with_two me (Ran h.session h.request h.req_type) ask (answer_with total h.req_type ask) ∷ []) [] ++ plain me (Posted (Reply h.session h.request) h.number) ∷ [])
+abbrev bring_facts : (last background : Bool) → ℕ → List ℕ → MessageHeader → List ℕ → List Fact
+bring_facts last background me answer h ask =
+    cond (last && background) (plain me (Given h.session h.request) ∷ []) (cond last (with_two me (Ran h.session h.request h.req_type) ask answer ∷ []) [] ++ plain me (Posted (Reply h.session h.request) h.number) ∷ [])
 
 is-whole : (l : Lists) (h : MessageHeader) (v : Server) (ask : List ℕ) → find (is_server h.session) l.servers ≡ Some v → (n : OpenSlot v.slots h ask) → h.kind ≡ Request → h.number + 1 ≡ packet_count h.size → IsWhole l h.session h.request
 is-whole l h v ask found n kind last =
@@ -137,29 +140,35 @@ is-whole l h v ask found n kind last =
       idle = opens.1;
     }
 
-brings-walk : (hand : Option InFlight) (clock : ℕ) (l : Lists) (h : MessageHeader) (v : Server) (ask : List ℕ) (last background : Bool) → is_background h.req_type ≡ background → find (is_server h.session) l.servers ≡ Some v → Apart v.slots → OpenSlot v.slots h ask → (last ≡ true → (h.kind ≡ Request) × (h.number + 1 ≡ packet_count h.size)) → Walks hand clock l (bring_facts last background l.me l.total h ask)
+-- a fact of the session owes its reply
+pub owed-self : (me t r k : ℕ) → (me == me && (t == t && (r == r && k == k))) ≡ true
+owed-self me t r k = rw (eq-eqb me me refl, eq-eqb t t refl, eq-eqb r r refl, eq-eqb k k refl) refl
+
+-- the number of the last packet of a request, by its bytes
+last-number : (h : MessageHeader) (ask : List ℕ) → h.number + 1 ≡ packet_count h.size → length ask ≡ h.size → packet_count (length ask) - 1 ≡ h.number
+last-number h ask last size = let count : packet_count (length ask) ≡ packet_count h.size = ap packet_count size in omega arith
+
+brings-walk : (hand : Option InFlight) (latest : Option Fact) (clock : ℕ) (l : Lists) (h : MessageHeader) (v : Server) (ask answer : List ℕ) (last background : Bool) → Owes latest l.me h.session h.request h.number → is_background h.req_type ≡ background → find (is_server h.session) l.servers ≡ Some v → Apart v.slots → OpenSlot v.slots h ask → (last ≡ true → (h.kind ≡ Request) × (h.number + 1 ≡ packet_count h.size) × (length ask ≡ h.size)) → WalksFrom hand latest clock l (bring_facts last background l.me answer h ask)
 unfolding is-whole
-brings-walk hand clock l h v ask false background t found apart n ends = posts-walk hand clock l h v ask found apart n.slot
-brings-walk hand clock l h v ask true true t found apart n ends =
+brings-walk hand latest clock l h v ask answer false background owed t found apart n ends = posts-walk hand latest clock l h v ask owed found apart n.slot
+brings-walk hand latest clock l h v ask answer true true owed t found apart n ends =
     let e = ends refl in
     let mode : is_background n.slot.request.req_type ≡ true = ap is_background (n.of_kind e.0).0 ∙ t in
-    (record { who = refl; may = record { has = is-whole l h v ask found n e.0 e.1; background = mode } }, tt)
-brings-walk hand clock l h v ask true false t found apart n ends =
+    (record { who = refl; may = record { has = is-whole l h v ask found n e.0 e.1; background = mode } }, record { has = is-whole l h v ask found n e.0 e.1; owed = subst (λ (k : ℕ). Owes latest l.me h.session h.request k) (sym (ap (λ (x : List ℕ). packet_count (length x) - 1) n.slot.own ∙ last-number h ask e.1 e.2)) owed }, tt)
+brings-walk hand latest clock l h v ask answer true false owed t found apart n ends =
     let e = ends refl in
-    let answer = answer_with l.total h.req_type ask in
     let f : Fact = with_two l.me (Ran h.session h.request h.req_type) ask answer in
     let q = n.slot.request in
+    let number = last-number h ask e.1 e.2 in
     let after_it : find (is_server h.session) (after clock l f).servers ≡ Some (with_slots (at_first (is_request h.request) (answered answer)) v) = slots-found (at_first (is_request h.request) (answered answer)) h.session l.servers v found in
     let there : find (is_request h.request) (at_first (is_request h.request) (answered answer) v.slots) ≡ Some (answered answer q) = find-first (is_request h.request) (answered answer) v.slots q n.slot.is_there (find-passes (is_request h.request) v.slots q n.slot.is_there) in (
       record {
         who = refl;
-        may = record {
-          source = inl (record { has = is-whole l h v ask found n e.0 e.1; of_type = sym (n.of_kind e.0).0; own = sym n.slot.own; inline = t });
-          right = refl;
-        };
+        may = inl (record { has = is-whole l h v ask found n e.0 e.1; of_type = sym (n.of_kind e.0).0; own = sym n.slot.own; inline = t });
       },
-      posts-walk hand clock (after clock l f) h (with_slots (at_first (is_request h.request) (answered answer)) v) ask after_it (apart-answered h.request answer v.slots apart)
-          (record { request = answered answer q; is_there = there; number = n.slot.number; taken = n.slot.taken; own = n.slot.own }),
+      inl (subst (λ (k : ℕ). Owes latest l.me h.session h.request k) (sym number) owed),
+      posts-walk hand (Some f) clock (after clock l f) h (with_slots (at_first (is_request h.request) (answered answer)) v) [] (subst (λ (k : ℕ). (l.me == l.me && (h.session == h.session && (h.request == h.request && k == h.number))) ≡ true) (sym number) (owed-self l.me h.session h.request h.number)) after_it (apart-answered h.request answer v.slots apart)
+          (record { request = answered answer q; is_there = there; number = n.slot.number; taken = n.slot.taken; own = refl }),
     )
 
 is-last : (h : MessageHeader) (k : Kind) (q : Served) → GoesOn k q h → (not (is_rfr k) && (h.number + 1 == packet_count h.size)) ≡ true → (k ≡ Request) × (h.number + 1 ≡ packet_count h.size)
@@ -178,13 +187,27 @@ taken-last : (going : Option Served) (slots : List Served) (h : MessageHeader) �
 taken-last None slots h t e = (t.0, last-first h h.kind t.0 e)
 taken-last (Some q) slots h t e = is-last h h.kind q t.2 e
 
+-- the bytes of a request whose last packet was taken are of its size
+taken-size : (h : MessageHeader) (slots : List Served) (ask : List ℕ) → OpenSlot slots h ask → AllByRecursion SlotRight slots → h.kind ≡ Request → h.number + 1 ≡ packet_count h.size → length ask ≡ h.size
+taken-size h slots ask n right kind last =
+    let q = n.slot.request in
+    let here : SlotRight q = all-found SlotRight (is_request h.request) slots q right n.slot.is_there in
+    let opens = n.is_open kind in
+    let bytes = here.whole opens.0 opens.1 in
+    let size = (n.of_kind kind).1 in
+    let taken = n.slot.taken in
+    let room = packet_count_room h.size in
+    let own : length q.ask ≡ length ask = ap length n.slot.own in
+    omega arith
+
 -- a packet is taken
-pub took-walk : (hand : Option InFlight) (clock : ℕ) (l : Lists) (front : Arrival) (h : MessageHeader) (v : Server) (going : Option Served) → Taking l front h v going → Walks hand clock l (took_facts l.me l.total h (joined going (front_body l.ring)))
-took-walk hand clock l front h v going t =
+pub took-walk : (hand : Option InFlight) (latest : Option Fact) (clock : ℕ) (l : Lists) (front : Arrival) (h : MessageHeader) (v : Server) (going : Option Served) (answer : List ℕ) → Taking l front h v going → WalksFrom hand latest clock l (took_facts (plain_mode h.req_type) l.me answer h (joined going (front_body l.ring)))
+took-walk hand latest clock l front h v going answer t =
     let f : Fact = plain l.me (Took (Reply h.session h.request) h.number) in
     let change = took_packet h.request (front_header l.ring) (front_body l.ring) in
     let after_it : find (is_server h.session) (after clock l f).servers ≡ Some (with_slots change v) = slots-found change h.session l.servers v t.found in
     let slot : OpenSlot (took_packet h.request (Some h) (front_body l.ring) v.slots) h (joined going (front_body l.ring)) = took-slot going v.slots h (front_body l.ring) t.apart t.right (front-right l h t.is_front.reads) t.takes in
+    let right : AllByRecursion SlotRight (took_packet h.request (front_header l.ring) (front_body l.ring) v.slots) = rw (t.is_front.reads) (took-right going v.slots h (front_body l.ring) (front-right l h t.is_front.reads) t.takes t.right) in
     let new : OpenSlot (took_packet h.request (front_header l.ring) (front_body l.ring) v.slots) h (joined going (front_body l.ring)) = rw (t.is_front.reads) slot in (
       record {
         who = refl;
@@ -202,5 +225,6 @@ took-walk hand clock l front h v going t =
           takes = t.takes;
         };
       },
-      brings-walk hand clock (after clock l f) h (with_slots change v) (joined going (front_body l.ring)) (is_last h) (is_background h.req_type) refl after_it (apart-took h.request (front_header l.ring) (front_body l.ring) v.slots t.apart) new (taken-last going v.slots h t.takes),
+      tt,
+      brings-walk hand (Some f) clock (after clock l f) h (with_slots change v) (joined going (front_body l.ring)) answer (is_last h) (is_background h.req_type) (owed-self l.me h.session h.request h.number) refl after_it (apart-took h.request (front_header l.ring) (front_body l.ring) v.slots t.apart) new (λ last. let e = taken-last going v.slots h t.takes last in (e.0, e.1, taken-size h (took_packet h.request (front_header l.ring) (front_body l.ring) v.slots) (joined going (front_body l.ring)) new right e.0 e.1)),
     )

@@ -21,10 +21,10 @@ use Rattle.rpc_laws.specs.NodeLists.{after}
 use Rattle.rpc_laws.specs.Posting.{next_turn}
 use Rattle.rpc_laws.specs.Sessions.{is_client, has_call, turned, begins, asks}
 use Rattle.end_laws.proofs.Allowed.{MayBegin}
-use Rattle.end_laws.proofs.GoodLemmas.{SameAt, client-more, length-first}
+use Rattle.end_laws.proofs.GoodLemmas.{SameAt, client-more}
 use Rattle.end_laws.proofs.Known.{Known, Later, Asker, Begin, GoodCall, GoodClient, GoodNode, TrueStart, TrueAsk, IsTrue, added, added-here, added-keeps, added-none, added-case, contains-here, contains-more}
 use Rattle.end_laws.proofs.KnownLemmas.{call-later, server-later, jobs-later, ends-more, start-more, ask-more}
-use Rattle.end_laws.proofs.ListLemmas.{Placed, first-each, set-first, set-placed, length-slice_set, all-first, all-add, all-found}
+use Rattle.end_laws.proofs.ListLemmas.{length-first, Placed, first-each, set-first, set-placed, length-slice_set, all-first, all-add, all-found}
 use Rattle.end_laws.proofs.SlotLemmas.{find-any}
 
 -- a call as it is asked
@@ -92,8 +92,7 @@ module _ (k : Known) (n c s y room : ℕ) (ask : List ℕ) where
         no_ends = λ t le. g.no_ends t le;
         no_starts = λ t r le. g.no_starts t r (omega arith);
         no_runs = λ t r u. g.no_runs t r u;
-        waiting = jobs-later k knows later n l.jobs.waiting g.waiting;
-        worked = jobs-later k knows later n l.jobs.worked g.worked;
+        jobs = jobs-later k knows later n l.jobs.out g.jobs;
       }
 
 -- one slot has had one more turn
@@ -268,6 +267,5 @@ module _ (k : Known) (n c r : ℕ) (l : Lists) (m : MayBegin l c r) (g : GoodNod
         no_ends = λ t le. g.no_ends t le;
         no_starts = λ s q le. added-none k.starts n m.session r begin n s q (λ x e y. absurd (omega arith)) (g.no_starts s q (omega arith));
         no_runs = λ t q u. g.no_runs t q u;
-        waiting = jobs-later k begins_known later-begin n l.jobs.waiting g.waiting;
-        worked = jobs-later k begins_known later-begin n l.jobs.worked g.worked;
+        jobs = jobs-later k begins_known later-begin n l.jobs.out g.jobs;
       }

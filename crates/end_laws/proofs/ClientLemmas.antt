@@ -12,7 +12,10 @@ use Rattle.packet_header.proofs.PartsLemmas.{part-front}
 use Rattle.rpc_base.specs.Tables.{at_first}
 use Rattle.rpc_base.proofs.TakingLemmas.{find-passes}
 use Rattle.rpc_base.specs.declared.event.Event.{Event}
-use Rattle.rpc_base.specs.declared.event.Event.TheVariants.{PairedClient, Asked, Begun, Posted, Sent, Took, Ran, Rolled, Broken, DoneOk, DoneTooSmall, DonePeerLost}
+use Rattle.rpc_base.specs.declared.event.Event.TheVariants.{Opened, Connected, FailedNoRoom, FailedNoAnswer, Closing as BeginsClosing, ClosedHeard, ClosedUnheard, PairedClient, Asked, Begun, Posted, Sent, Took, Ran, Rolled, Broken, DoneOk, DoneTooSmall, DonePeerLost}
+use Rattle.rpc_base.specs.declared.state.SessionState.{SessionState}
+use Rattle.rpc_base.specs.declared.state.SessionState.TheVariants.{Closing, Closed, Failed}
+use Rattle.packet_header.specs.declared.packet.ControlHeader.{ControlHeader}
 use Rattle.rpc_base.specs.declared.owner.Owner.TheVariants.{Ask, Reply, Control}
 use Rattle.rpc_laws.specs.declared.tables.Arrival.{Arrival}
 use Rattle.rpc_laws.specs.declared.tables.Asking.{Asking}
@@ -24,8 +27,8 @@ use Rattle.rpc_laws.specs.declared.tables.Progress.{Progress}
 use Rattle.rpc_laws.specs.declared.tables.Way.{Way}
 use Rattle.rpc_laws.specs.Calls.{is_call, is_active, has_request, is_response, asked_packets, moved, posted_up_to, sent_packet, rolled_back, took_reply}
 use Rattle.rpc_laws.specs.ClientTable.{is_cr, is_same_size, is_of_turn}
-use Rattle.rpc_laws.specs.Front.{front_bytes, front_header, front_body}
-use Rattle.rpc_laws.specs.Sessions.{is_client, has_call, posts, sends, takes, rolls, breaks, ends, clients_after}
+use Rattle.rpc_laws.specs.Front.{control_of, front_bytes, front_header, front_body}
+use Rattle.rpc_laws.specs.Sessions.{comes_to, requests, is_request_of, clients_told, is_client, has_call, posts, sends, takes, rolls, breaks, ends, clients_after}
 use Rattle.end_laws.proofs.Allowed.{Fronts, MayTakeReply, May}
 use Rattle.end_laws.proofs.Known.{Known, HasRun, Says, Speaks, GoodAnswer, GoodProgress, GoodCall, GoodClient, Begin, Run}
 use Rattle.end_laws.proofs.ListLemmas.{Placed, first-each, find-at, all-first, all-at, all-without}
@@ -33,6 +36,7 @@ use Rattle.end_laws.proofs.ListLemmas.{Placed, first-each, find-at, all-first, a
 -- facts that add nothing to the logs
 abbrev pub is_quiet : Event → Bool
 is_quiet (PairedClient s peer t credits) = false
+is_quiet (Opened s peer credits) = false
 is_quiet (Asked c s y room) = false
 is_quiet (Begun c r) = false
 is_quiet (Ran t r y) = false
@@ -251,8 +255,27 @@ module _ (k : Known) (n : ℕ) where
       h.calls in
       with-calls i x (takes clock r (front_header l.ring) (front_body l.ring) x) refl refl calls h
 
+  comes-good : (state : SessionState) (i : ℕ) (x : Client) → GoodClient k n i x → GoodClient k n i (comes_to state x)
+  comes-good state i x g = with-calls i x (comes_to state x) refl refl g.calls g
+
+  requests-by : (clock : ℕ) (b : Bool) (i : ℕ) (x : Client) → GoodClient k n i x → GoodClient k n i (cond b (record x { sends = x.sends + 1; sent_at = clock }) x)
+  requests-by clock true i x g = with-calls i x (record x { sends = x.sends + 1; sent_at = clock }) refl refl g.calls g
+  requests-by clock false i x g = g
+
+  -- a session's own request
+  told-good : (clock : ℕ) (h : Option ControlHeader) (xs : List Client) → Placed (GoodClient k n) xs → Placed (GoodClient k n) (clients_told clock h xs)
+  told-good clock None xs g = g
+  told-good clock (Some h) xs g = any-first (is_client h.client) (requests clock h) xs (λ i x. requests-by clock (is_request_of h.kind h.server x.state x.way.other) i x) g
+
   pub clients-quiet : (hand : Option InFlight) (clock : ℕ) (l : Lists) (e : Event) (first second : List ℕ) → is_quiet e ≡ true → May hand l e first second → AllByRecursion (λ a. Speaks k a.peer n a.bytes) l.ring → Placed (GoodClient k n) l.clients → Placed (GoodClient k n) (clients_after clock e first (front_header l.ring) (front_body l.ring) l.clients)
   clients-quiet hand clock l (PairedClient s peer t credits) first second q m ring g = absurd (cc)
+  clients-quiet hand clock l (Opened s peer credits) first second q m ring g = absurd (cc)
+  clients-quiet hand clock l (Connected s t) first second q m ring g = absurd m
+  clients-quiet hand clock l (FailedNoRoom s) first second q m ring g = any-first (is_client s) (comes_to Failed) l.clients (comes-good Failed) g
+  clients-quiet hand clock l (FailedNoAnswer s) first second q m ring g = any-first (is_client s) (comes_to Failed) l.clients (comes-good Failed) g
+  clients-quiet hand clock l (BeginsClosing s) first second q m ring g = any-first (is_client s) (comes_to Closing) l.clients (comes-good Closing) g
+  clients-quiet hand clock l (ClosedHeard s) first second q m ring g = any-first (is_client s) (comes_to Closed) l.clients (comes-good Closed) g
+  clients-quiet hand clock l (ClosedUnheard s) first second q m ring g = any-first (is_client s) (comes_to Closed) l.clients (comes-good Closed) g
   clients-quiet hand clock l (Asked c s y room) first second q m ring g = absurd (cc)
   clients-quiet hand clock l (Begun c r) first second q m ring g = absurd (cc)
   clients-quiet hand clock l (Posted (Ask s r) j) first second q m ring g = any-first (is_client s) (posts r j) l.clients (posts-good r j) g
@@ -260,7 +283,7 @@ module _ (k : Known) (n : ℕ) where
   clients-quiet hand clock l (Posted Control j) first second q m ring g = g
   clients-quiet hand clock l (Sent peer (Ask s r) j) first second q m ring g = any-first (is_client s) (sends clock r j) l.clients (sends-good clock r j) g
   clients-quiet hand clock l (Sent peer (Reply t r) j) first second q m ring g = g
-  clients-quiet hand clock l (Sent peer Control j) first second q m ring g = g
+  clients-quiet hand clock l (Sent peer Control j) first second q m ring g = told-good clock (control_of first) l.clients g
   clients-quiet hand clock l (Took (Ask s r) j) first second q m ring g =
       found-first s (takes clock r (front_header l.ring) (front_body l.ring)) l.clients m.client m.found (λ i. takes-good clock l s r m i ring ((client-at l.clients s m.client g m.found).1)) g
   clients-quiet hand clock l (Took (Reply t r) j) first second q m ring g = g

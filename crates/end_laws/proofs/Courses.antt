@@ -1,5 +1,5 @@
 -- Histories as the rules make them, from moment to moment.
-use Rattle.std.proofs.Common.{◌≡◌, ℕ, Bool, true, false, List, [], ◌∷◌, ◌++◌, length, Option, Some, slice_get, refl, ap, ◌∙◌}
+use Rattle.std.proofs.Common.{◌≡◌, ℕ, Bool, true, false, List, [], ◌∷◌, ◌++◌, length, Option, Some, None, slice_get, refl, ap, ◌∙◌, ◌≤◌, ◌+◌}
 use Rattle.std.specs.List.{slice_set}
 use Rattle.rpc_base.specs.declared.event.Event.{Event}
 use Rattle.rpc_base.specs.declared.event.Event.TheVariants.{Made, PairedClient, PairedServer}
@@ -10,22 +10,33 @@ use Rattle.rpc_laws.specs.declared.tables.InFlight.{InFlight}
 use Rattle.rpc_laws.specs.declared.tables.Lists.{Lists}
 use Rattle.rpc_laws.specs.BufferSafety.{changed, node_after, nodes_at, clock_after}
 use Rattle.rpc_laws.specs.Facts.{plain}
+use Rattle.rpc_laws.specs.Groups.{shares}
 use Rattle.rpc_laws.specs.InFlight.{flight_after}
 use Rattle.rpc_laws.specs.NodeLists.{after}
+use Rattle.node_laws.proofs.Allowed.{Allowed as Lawful}
 use Rattle.end_laws.specs.Moments.{Moment, moved, hand_after}
-use Rattle.end_laws.proofs.Allowed.{May, IsAllowed}
+use Rattle.end_laws.proofs.Allowed.{May, IsAllowed, Linked}
+
+-- the latest of the facts so far
+abbrev pub latest : List Fact → Option Fact
+latest [] = None
+latest (f ∷ past) = Some f
 
 -- a fact that node n may note
 pub record AtNode (w : Moment) (n : ℕ) (l : Lists) (f : Fact) : Type 0 where
   pub is_node : slice_get w.nodes n ≡ Some l
   pub me : l.me ≡ n
   pub allowed : IsAllowed w.hand l f
+  pub lawful : Lawful l f.event
+  pub linked : Linked (latest w.past) l f.event f.first
 
 -- two nodes that get the ends of a session
-pub record Ends (w : Moment) (n m : ℕ) (client server : Lists) : Type 0 where
+pub record Ends (w : Moment) (n m credits : ℕ) (client server : Lists) : Type 0 where
   pub is_client : slice_get w.nodes n ≡ Some client
   pub is_server : slice_get w.nodes m ≡ Some server
   pub two : n ≡ m → ⊥
+  pub fits_client : shares client + credits ≤ client.room
+  pub fits_server : shares server + credits ≤ server.room
 
 abbrev pub client_fact : ℕ → ℕ → ℕ → Lists → Lists → Fact
 client_fact n m credits client server = plain n (PairedClient (length client.clients) m (length server.servers) credits)
@@ -42,7 +53,7 @@ pub data Course : Moment → List Fact → Moment → Type 0 where
   in_net : (w : Moment) (f : Fact) (h : List Fact) (u : Moment) → f.who ≡ Net → Course (moved w f) h u → Course w (f ∷ h) u
   made : (w : Moment) (ring : ℕ) (h : List Fact) (u : Moment) → Course (moved w (plain (length w.nodes) (Made ring))) h u → Course w (plain (length w.nodes) (Made ring) ∷ h) u
   at_node : (w : Moment) (n : ℕ) (l : Lists) (f : Fact) (h : List Fact) (u : Moment) → AtNode w n l f → Course (moved w f) h u → Course w (f ∷ h) u
-  pairs : (w : Moment) (n m credits : ℕ) (client server : Lists) (h : List Fact) (u : Moment) → Ends w n m client server → Course (paired w n m credits client server) h u → Course w (client_fact n m credits client server ∷ server_fact n m credits client server ∷ h) u
+  pairs : (w : Moment) (n m credits : ℕ) (client server : Lists) (h : List Fact) (u : Moment) → Ends w n m credits client server → Course (paired w n m credits client server) h u → Course w (client_fact n m credits client server ∷ server_fact n m credits client server ∷ h) u
 
 pub course-append : (w : Moment) (x : List Fact) (u : Moment) (y : List Fact) (v : Moment) → Course w x u → Course u y v → Course w (x ++ y) v
 course-append _ _ _ y v (over w) k = k

@@ -6,13 +6,13 @@ use Rattle.rpc_base.specs.declared.fact.Fact.{Fact}
 use Rattle.rpc_base.specs.declared.fact.Who.{Who}
 use Rattle.rpc_base.specs.declared.fact.Who.TheVariants.{Node}
 use Rattle.rpc_laws.specs.declared.tables.Lists.{Lists}
-use Rattle.rpc_laws.specs.BufferSafety.{SpellsOwn, SentRight, clock_after, nodes_after}
+use Rattle.rpc_laws.specs.BufferSafety.{SentRight, clock_after, nodes_after}
 use Rattle.rpc_laws.specs.Facts.{plain}
 use Rattle.end_laws.specs.Genuine.{WasSent, Travels}
 use Rattle.end_laws.specs.Moments.{Moment, moved, Always, clock_left, nodes_left}
 use Rattle.end_laws.proofs.Courses.{AtNode, Course, over, in_net, made, at_node, pairs, client_fact, paired}
 use Rattle.end_laws.proofs.SendsLaw.{AllRight, sent-right, right-noted, right-net, right-made, right-paired}
-use Rattle.end_laws.proofs.TravelLemmas.{SentGives, travels-map, travels-net, travels-node, rings-made, travels-client, travels-paired}
+use Rattle.end_laws.proofs.TravelLemmas.{SentGives, travels-map, travels-net, travels-node, rings-made, inboxes-made, travels-client, travels-paired}
 
 -- the clock and the lists are those that the facts so far leave
 pub record Matches (w : Moment) : Type 0 where
@@ -53,7 +53,7 @@ sent-gives w n who (Sent peer o k) first second is m s = record {
   head = first;
   body = second;
   in_past = ap (λ (p : Who). record { who = p; event = Sent peer o k; first = first; second = second } ∷ w.past) is;
-  own = subst (λ (ns : List Lists). SpellsOwn ns n peer o k first second) m.nodes s;
+  own = subst (λ (ns : List Lists). SentRight ns n (Sent peer o k) first second) m.nodes s;
   whole = refl;
 }
 sent-gives w n who _ first second is m s = tt
@@ -66,7 +66,7 @@ at-node w n l f a i m t =
 at-made : (w : Moment) (ring : ℕ) → Travels (WasSent w.past) w → Travels (WasSent (plain (length w.nodes) (Made ring) ∷ w.past)) (moved w (plain (length w.nodes) (Made ring)))
 at-made w ring t =
     let k = more w (plain (length w.nodes) (Made ring)) t in
-    record { flight = k.flight; hand = k.hand; rings = rings-made (WasSent (plain (length w.nodes) (Made ring) ∷ w.past)) w ring k }
+    record { flight = k.flight; hand = k.hand; rings = rings-made (WasSent (plain (length w.nodes) (Made ring) ∷ w.past)) w ring k; inboxes = inboxes-made (WasSent (plain (length w.nodes) (Made ring) ∷ w.past)) w ring k }
 
 pub course-genuine : (w : Moment) (h : List Fact) (u : Moment) → Course w h u → AllRight w → Matches w → Travels (WasSent w.past) w → Always (λ w. Travels (WasSent w.past) w) w h
 course-genuine _ _ _ (over w) i m t = t

@@ -4,7 +4,7 @@ use Rattle.std.specs.List.{slice_set}
 use Rattle.std.proofs.lemmas.List.{length-append}
 use Rattle.std.proofs.lemmas.Option.{slice_get_within}
 use Rattle.rpc_base.specs.declared.event.Event.{Event}
-use Rattle.rpc_base.specs.declared.event.Event.TheVariants.{Made, PairedClient, Asked, Begun, Ran, Sent}
+use Rattle.rpc_base.specs.declared.event.Event.TheVariants.{Opened, Made, PairedClient, Asked, Begun, Ran, Sent}
 use Rattle.rpc_base.specs.declared.fact.Fact.{Fact}
 use Rattle.rpc_base.specs.declared.fact.Who.{Who}
 use Rattle.rpc_base.specs.declared.fact.Who.TheVariants.{Node, Net}
@@ -13,6 +13,7 @@ use Rattle.rpc_laws.specs.declared.tables.Lists.{Lists}
 use Rattle.rpc_laws.specs.BufferSafety.{nodes_at}
 use Rattle.rpc_laws.specs.Facts.{plain, with_bytes}
 use Rattle.rpc_laws.specs.NodeLists.{after, new_lists}
+use Rattle.rpc_laws.specs.UsualLimits.{with_ring}
 use Rattle.end_laws.specs.Moments.{Moment, moved}
 use Rattle.end_laws.proofs.Allowed.{May}
 use Rattle.end_laws.proofs.BegunLemmas.{with_ask, later-ask, ask-same, true-ask, ask-node, begins_known, later-begin, begin-same, true-begin, begin-node}
@@ -26,7 +27,7 @@ use Rattle.end_laws.proofs.QueueLemmas.{QueueRight, RightNode}
 use Rattle.end_laws.proofs.RanLemmas.{run-of, with_run, later-run, run-same, true-run, is-new, run-node}
 use Rattle.end_laws.proofs.SaysLemmas.{sent-speaks}
 use Rattle.end_laws.proofs.SendsLaw.{AllRight, owner-length}
-use Rattle.end_laws.proofs.TravelLemmas.{SentGives, travels-map, travels-net, travels-node, rings-made}
+use Rattle.end_laws.proofs.TravelLemmas.{SentGives, travels-map, travels-net, travels-node, rings-made, inboxes-made}
 
 -- a fact of the network
 pub good-net : (w : Moment) (f : Fact) → f.who ≡ Net → Good w → Good (moved w f)
@@ -53,23 +54,22 @@ good-made w ring g =
     let count = length w.nodes in
     let u = g.unmade in
     let here : count ≤ count = omega arith in
-    let new : GoodNode k2 count (new_lists count ring) = record {
+    let new : GoodNode k2 count (new_lists count (with_ring ring)) = record {
       clients = λ i x is. absurd (cc);
       servers = λ t v is. absurd (cc);
       no_asks = λ c le. u.asks count c here;
       no_ends = λ t le. u.ends count t here;
       no_starts = λ s r le. u.starts count s r here;
       no_runs = λ t r unrun. u.runs count t r here;
-      waiting = tt;
-      worked = tt;
+      jobs = tt;
     } in
     let t = travels-map (Speaks k) (Speaks k2) w (speaks-later k k2 (later-noting k f)) g.travels in
-    let more : length (w.nodes ++ new_lists count ring ∷ []) ≡ count + 1 = length-append w.nodes (new_lists count ring ∷ []) in
+    let more : length (w.nodes ++ new_lists count (with_ring ring) ∷ []) ≡ count + 1 = length-append w.nodes (new_lists count (with_ring ring) ∷ []) in
     record {
       known = k2;
       past = ap (λ (p : List Fact). f ∷ p) g.past;
-      nodes = add-placed (GoodNode k2) w.nodes (new_lists count ring) new (λ n l is. node-more k k2 (later-noting k f) n l (noting-same k f n) (g.nodes n l is));
-      travels = record { flight = t.flight; hand = t.hand; rings = rings-made (Speaks k2) w ring t };
+      nodes = add-placed (GoodNode k2) w.nodes (new_lists count (with_ring ring)) new (λ n l is. node-more k k2 (later-noting k f) n l (noting-same k f n) (g.nodes n l is));
+      travels = record { flight = t.flight; hand = t.hand; rings = rings-made (Speaks k2) w ring t; inboxes = inboxes-made (Speaks k2) w ring t };
       is_true = true-noting k f g.is_true;
       unmade = record {
         asks = λ n c le. u.asks n c (omega arith);
@@ -172,7 +172,7 @@ knows-event w n l (Ran t r y) first second a i g =
     let k = g.known in
     let m = a.allowed.may in
     let good = g.nodes n l a.is_node in
-    let o = run-of k n l t r y first good i m.source in
+    let o = run-of k n l t r y first good i m in
     let none : k.runs n t r ≡ None = is-new k n t r y first second l o good i in
     record {
       known = with_run k n t r y first second;
@@ -182,6 +182,7 @@ knows-event w n l (Ran t r y) first second a i g =
       is_true = true-run k n t r y first second g.is_true;
       here = run-node k n t r y first second l o good i w.clock w.hand m;
     }
+knows-event w n l (Opened s peer credits) first second a i g = absurd a.allowed.may
 knows-event w n l (PairedClient s peer t credits) first second a i g = absurd a.allowed.may
 knows-event w n l e first second a i g = knows-quiet w n l (record { who = Node n; event = e; first = first; second = second }) a i g refl
 

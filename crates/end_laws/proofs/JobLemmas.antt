@@ -1,13 +1,13 @@
 -- The jobs of a node stay those of requests that stand in their slots, each of another one.
-use Rattle.std.proofs.Common.{◌≡◌, ◌≤◌, ◌+◌, ◌==◌, ◌⊎◌, inl, inr, ℕ, Bool, true, false, cond, List, [], ◌∷◌, ◌++◌, Option, Some, None, refl, sym, ap, ◌∙◌, subst, arith, eq-eqb}
-use Rattle.std.specs.Prelude.{◌%◌, count_by, option_to_list, slice_get}
+use Rattle.std.proofs.Common.{◌≡◌, ◌≤◌, ◌+◌, ◌==◌, inl, inr, ℕ, Bool, true, false, cond, List, [], ◌∷◌, ◌++◌, Option, Some, None, refl, sym, ap, ◌∙◌, subst, arith, eq-eqb}
+use Rattle.std.specs.Prelude.{◌%◌, count_by}
 use Rattle.std.specs.List.{find, list_any, AllByRecursion}
 use Rattle.std.proofs.lemmas.Bool.{eqb-true, and_parts}
 use Rattle.packet_header.specs.declared.packet.MessageHeader.{MessageHeader}
 use Rattle.rpc_base.specs.Tables.{at_first, without_first}
 use Rattle.rpc_base.proofs.TakingLemmas.{find-passes}
 use Rattle.rpc_base.specs.declared.event.Event.{Event}
-use Rattle.rpc_base.specs.declared.event.Event.TheVariants.{PairedServer, Took, Given, Worked, Ran}
+use Rattle.rpc_base.specs.declared.event.Event.TheVariants.{PairedServer, Accepted, Ended, Took, Given, Ran}
 use Rattle.rpc_base.specs.declared.owner.Owner.TheVariants.{Ask, Reply, Control}
 use Rattle.rpc_laws.specs.declared.tables.InFlight.{InFlight}
 use Rattle.rpc_laws.specs.declared.tables.Job.{Job}
@@ -18,10 +18,10 @@ use Rattle.rpc_laws.specs.declared.tables.Server.{Server}
 use Rattle.rpc_laws.specs.Front.{front_header, front_body}
 use Rattle.rpc_laws.specs.Jobs.{is_job, job_of, new_job, jobs_after}
 use Rattle.rpc_laws.specs.Requests.{is_server, is_request, in_slot_of, first_packet, next_packet, took_packet, given, answered, servers_after}
-use Rattle.end_laws.proofs.Allowed.{TakesOf, IsWhole, MayServe, MayFinish, May}
+use Rattle.end_laws.proofs.Allowed.{TakesOf, IsWhole, May}
 use Rattle.end_laws.proofs.AskSteps.{slots-found}
 use Rattle.end_laws.proofs.CountLemmas.{count-append, count-one, count-out, count-none, none-count}
-use Rattle.end_laws.proofs.ListLemmas.{false-true, all-append, all-both, all-map, all-add, all-without, all-found, find-first, find-after, find-without, find-add}
+use Rattle.end_laws.proofs.ListLemmas.{false-true, all-both, all-map, all-add, all-without, all-found, find-first, find-after, find-without, find-add}
 use Rattle.end_laws.proofs.QueueLemmas.{server-after, stands-same, RightNode}
 use Rattle.end_laws.proofs.Rights.{Stands, JobFits, JobsRight, stands-right}
 use Rattle.end_laws.proofs.SlotLemmas.{with_slots, Apart, Sound, any-find, slot-of-request}
@@ -103,6 +103,8 @@ answers t r _ = ⊥
 
 kept-after : (hand : Option InFlight) (l : Lists) (e : Event) (first second : List ℕ) (t r : ℕ) (q : Served) → Sound l → May hand l e first second → (answers t r e → ⊥) → Stands l.servers t r q → q.working ≡ true → Kept (servers_after e second (front_header l.ring) (front_body l.ring) l.servers) t r q
 kept-after hand l (PairedServer n peer s credits) first second t r q i m other h w = absurd m
+kept-after hand l (Accepted n peer s credits) first second t r q i m other h w = absurd m
+kept-after hand l (Ended n) first second t r q i m other h w = absurd m
 kept-after hand l (Took (Ask s n) j) first second t r q i m other h w = kept-same l.servers t r q h w
 kept-after hand l (Took Control j) first second t r q i m other h w = kept-same l.servers t r q h w
 kept-after hand l (Took (Reply n p) j) first second t r q i m other h w =
@@ -157,29 +159,20 @@ none-answer : (n p y : ℕ) (jobs : List Job) → AllByRecursion (λ j. is_job n
 none-answer n p y jobs h = all-map _ _ jobs (λ j e. not-answered n p j e) h
 
 -- all jobs, by a fact that answers none
-abbrev AllFit : List Server → Jobs → Type 0
-AllFit xs jobs = AllByRecursion (JobFits xs) jobs.waiting × AllByRecursion (JobFits xs) jobs.worked
-
-fit-both : (hand : Option InFlight) (l : Lists) (e : Event) (first second : List ℕ) → Sound l → May hand l e first second → ((t r : ℕ) → answers t r e → ⊥) → JobsRight l.servers l.jobs → AllFit (servers_after e second (front_header l.ring) (front_body l.ring) l.servers) l.jobs
-fit-both hand l e first second i m other h =
-    let fits : (j : Job) → JobFits l.servers j → JobFits (servers_after e second (front_header l.ring) (front_body l.ring) l.servers) j = λ j k. fits-after hand l e first second j i m (other j.session j.request) k in
-    (all-map _ _ l.jobs.waiting fits h.waiting, all-map _ _ l.jobs.worked fits h.worked)
-
-right-of : (xs : List Server) (jobs : Jobs) → AllFit xs jobs → ((t r : ℕ) → count_by (is_job t r) jobs.waiting + count_by (is_job t r) jobs.worked ≤ 1) → JobsRight xs jobs
-right-of xs jobs h once = record { waiting = h.0; worked = h.1; once = once }
+fit-all : (hand : Option InFlight) (l : Lists) (e : Event) (first second : List ℕ) → Sound l → May hand l e first second → ((t r : ℕ) → answers t r e → ⊥) → JobsRight l.servers l.jobs → AllByRecursion (JobFits (servers_after e second (front_header l.ring) (front_body l.ring) l.servers)) l.jobs.out
+fit-all hand l e first second i m other h =
+    all-map _ _ l.jobs.out (λ j k. fits-after hand l e first second j i m (other j.session j.request) k) h.out
 
 -- a job is given
-given-once : (t r : ℕ) (waiting worked : List Job) (new : Job) (b : Bool) → is_job t r new ≡ b → (b ≡ true → (count_by (is_job t r) waiting ≡ 0) × (count_by (is_job t r) worked ≡ 0)) → count_by (is_job t r) waiting + count_by (is_job t r) worked ≤ 1 → count_by (is_job t r) (waiting ++ new ∷ []) + count_by (is_job t r) worked ≤ 1
-given-once t r waiting worked new true e none once =
+given-once : (t r : ℕ) (out : List Job) (new : Job) (b : Bool) → is_job t r new ≡ b → (b ≡ true → count_by (is_job t r) out ≡ 0) → count_by (is_job t r) out ≤ 1 → count_by (is_job t r) (out ++ new ∷ []) ≤ 1
+given-once t r out new true e none once =
     let n = none refl in
-    let a = n.0 in
-    let b = n.1 in
     let one : count_by (is_job t r) (new ∷ []) ≡ 1 = count-one (is_job t r) new true e in
-    let sum = count-append (is_job t r) waiting (new ∷ []) in
+    let sum = count-append (is_job t r) out (new ∷ []) in
     omega arith
-given-once t r waiting worked new false e none once =
+given-once t r out new false e none once =
     let one : count_by (is_job t r) (new ∷ []) ≡ 0 = count-one (is_job t r) new false e in
-    let sum = count-append (is_job t r) waiting (new ∷ []) in
+    let sum = count-append (is_job t r) out (new ∷ []) in
     omega arith
 
 pub new-is : (l : Lists) (t r : ℕ) → (m : IsWhole l t r) → new_job t r l.servers ≡ job_of t m.request ∷ []
@@ -205,87 +198,48 @@ given-jobs hand l t r first second i m =
       working = refl;
       long = right.long;
     } in
-    let both = fit-both hand l (Given t r) first second i.sound m (λ a b x. x) i.jobs in
-    let idle : (jobs : List Job) → AllByRecursion (JobFits l.servers) jobs → count_by (is_job t r) jobs ≡ 0 = λ jobs h. none-count (is_job t r) jobs (all-idle l.servers t r q jobs stands w.idle h) in
-    let once : (a b : ℕ) → count_by (is_job a b) (l.jobs.waiting ++ new ∷ []) + count_by (is_job a b) l.jobs.worked ≤ 1 = λ a b. given-once a b l.jobs.waiting l.jobs.worked new _ refl
+    let all = fit-all hand l (Given t r) first second i.sound m (λ a b x. x) i.jobs in
+    let idle : count_by (is_job t r) l.jobs.out ≡ 0 = none-count (is_job t r) l.jobs.out (all-idle l.servers t r q l.jobs.out stands w.idle i.jobs.out) in
+    let once : (a b : ℕ) → count_by (is_job a b) (l.jobs.out ++ new ∷ []) ≤ 1 = λ a b. given-once a b l.jobs.out new _ refl
     (λ e. let parts = and_parts (t == a) (q.number == b) e in
     let same : (t ≡ a) × (r ≡ b) = (eqb-true t a parts.0, sym number ∙ eqb-true q.number b parts.1) in
-    rw (← same.0, ← same.1) (idle l.jobs.waiting i.jobs.waiting, idle l.jobs.worked i.jobs.worked)) (i.jobs.once a b) in
-    let all : JobsRight (at_first (is_server t) (with_slots slots) l.servers) (record l.jobs { given = l.jobs.given + 1; waiting = l.jobs.waiting ++ new ∷ [] }) = right-of _ (record l.jobs { given = l.jobs.given + 1; waiting = l.jobs.waiting ++ new ∷ [] }) (all-add (JobFits (at_first (is_server t) (with_slots slots) l.servers)) l.jobs.waiting new both.0 fits, both.1) once in
-    rw (new-is l t r w) all
-
--- a job is worked
-pub all-more : {A : Type 0} (P : A → Type 0) (xs : List A) (o : Option A) → AllByRecursion P xs → ((x : A) → o ≡ Some x → P x) → AllByRecursion P (xs ++ option_to_list o)
-all-more P xs None h k = all-append P xs [] h tt
-all-more P xs (Some x) h k = all-add P xs x h (k x refl)
-
-worked-jobs : (xs : List Server) (t r : ℕ) (jobs : Jobs) → JobsRight xs jobs → JobsRight xs (jobs_after (Worked t r) xs jobs)
-worked-jobs xs t r jobs h = record {
-  waiting = all-without (JobFits xs) (is_job t r) jobs.waiting h.waiting;
-  worked = all-more (JobFits xs) jobs.worked (find (is_job t r) jobs.waiting) h.worked (λ j e. all-found (JobFits xs) (is_job t r) jobs.waiting j h.waiting e);
-  once = λ a b. let out = count-out (is_job a b) (is_job t r) jobs.waiting in
-      let sum = count-append (is_job a b) jobs.worked (option_to_list (find (is_job t r) jobs.waiting)) in
-      let once = h.once a b in
-      omega arith;
-}
+    rw (← same.0, ← same.1) idle) (i.jobs.once a b) in
+    let right : JobsRight (at_first (is_server t) (with_slots slots) l.servers) (record l.jobs { given = l.jobs.given + 1; out = l.jobs.out ++ new ∷ [] }) = record { out = all-add (JobFits (at_first (is_server t) (with_slots slots) l.servers)) l.jobs.out new all fits; once = once } in
+    rw (new-is l t r w) right
 
 -- a handler runs: the job of that request is over
-record NoneLeft (t r : ℕ) (jobs : Jobs) : Type 0 where
-  waiting : AllByRecursion (λ j. is_job t r j ≡ false) jobs.waiting
-  worked : AllByRecursion (λ j. is_job t r j ≡ false) (without_first (is_job t r) jobs.worked)
-
-serve-none : (l : Lists) (t r y : ℕ) (ask : List ℕ) → RightNode l → MayServe l t r y ask → NoneLeft t r l.jobs
-serve-none l t r y ask i m =
-    let w = m.has in
-    let stands : Stands l.servers t r w.request = record { server = w.server; found = w.found; is_there = w.is_there } in
-    record {
-      waiting = all-idle l.servers t r w.request l.jobs.waiting stands w.idle i.jobs.waiting;
-      worked = all-without (λ j. is_job t r j ≡ false) (is_job t r) l.jobs.worked (all-idle l.servers t r w.request l.jobs.worked stands w.idle i.jobs.worked);
-    }
-
-finish-by : (p : Job → Bool) (waiting : List Job) (job : Job) (rest : List Job) (b : Bool) → p job ≡ b → b ≡ true → count_by p waiting + count_by p (job ∷ rest) ≤ 1 → AllByRecursion (λ j. p j ≡ false) waiting × AllByRecursion (λ j. p j ≡ false) (cond b rest (job ∷ without_first p rest))
-finish-by p waiting job rest true e t once =
+finish-by : (p : Job → Bool) (job : Job) (rest : List Job) (b : Bool) → p job ≡ b → count_by p (job ∷ rest) ≤ 1 → AllByRecursion (λ j. p j ≡ false) (without_first p rest) → AllByRecursion (λ j. p j ≡ false) (cond b rest (job ∷ without_first p rest))
+finish-by p job rest true e once ih =
     let whole = count-append p (job ∷ []) rest in
     let one : count_by p (job ∷ []) ≡ 1 = count-one p job true e in
-    (count-none p waiting (omega arith), count-none p rest (omega arith))
-finish-by p waiting job rest false e t once = false-true t
+    count-none p rest (omega arith)
+finish-by p job rest false e once ih = (e, ih)
 
-front-none : (t r : ℕ) (waiting worked : List Job) (job : Job) → slice_get worked 0 ≡ Some job → is_job t r job ≡ true → count_by (is_job t r) waiting + count_by (is_job t r) worked ≤ 1 → AllByRecursion (λ j. is_job t r j ≡ false) waiting × AllByRecursion (λ j. is_job t r j ≡ false) (without_first (is_job t r) worked)
-front-none t r waiting [] job is e once = cc
-front-none t r waiting (j ∷ rest) job is e once =
-    let same : j ≡ job = cc in
-    let passes : is_job t r j ≡ true = ap (is_job t r) same ∙ e in
-    finish-by (is_job t r) waiting j rest _ refl passes once
-
-finish-none : (l : Lists) (t r y : ℕ) (ask : List ℕ) → RightNode l → MayFinish l t r y ask → NoneLeft t r l.jobs
-finish-none l t r y ask i m =
-    let passes : is_job t r m.job ≡ true = rw (eq-eqb m.job.session t (sym m.of_session), eq-eqb m.job.request r (sym m.of_request)) refl in
-    let none = front-none t r l.jobs.waiting l.jobs.worked m.job m.is_front passes (i.jobs.once t r) in
-    record { waiting = none.0; worked = none.1 }
-
-run-none : (l : Lists) (t r y : ℕ) (ask : List ℕ) → RightNode l → MayServe l t r y ask ⊎ MayFinish l t r y ask → NoneLeft t r l.jobs
-run-none l t r y ask i (inl m) = serve-none l t r y ask i m
-run-none l t r y ask i (inr m) = finish-none l t r y ask i m
+-- where there was one at most
+one-none : (p : Job → Bool) (out : List Job) → count_by p out ≤ 1 → AllByRecursion (λ j. p j ≡ false) (without_first p out)
+one-none p [] once = tt
+one-none p (job ∷ rest) once =
+    let whole = count-append p (job ∷ []) rest in
+    let less : count_by p rest ≤ 1 = omega arith in
+    finish-by p job rest (p job) refl once (one-none p rest less)
 
 ran-jobs : (hand : Option InFlight) (l : Lists) (t r y : ℕ) (first second : List ℕ) → RightNode l → May hand l (Ran t r y) first second → JobsRight (servers_after (Ran t r y) second (front_header l.ring) (front_body l.ring) l.servers) (jobs_after (Ran t r y) l.servers l.jobs)
 ran-jobs hand l t r y first second i m =
-    let none = run-none l t r y first i m.source in
-    let rest = without_first (is_job t r) l.jobs.worked in
+    let rest = without_first (is_job t r) l.jobs.out in
+    let none = one-none (is_job t r) l.jobs.out (i.jobs.once t r) in
     record {
-      waiting = all-fit hand l (Ran t r y) first second l.jobs.waiting i.sound m (none-answer t r y l.jobs.waiting none.waiting) i.jobs.waiting;
-      worked = all-fit hand l (Ran t r y) first second rest i.sound m (none-answer t r y rest none.worked) (all-without (JobFits l.servers) (is_job t r) l.jobs.worked i.jobs.worked);
-      once = λ a b. let out = count-out (is_job a b) (is_job t r) l.jobs.worked in
+      out = all-fit hand l (Ran t r y) first second rest i.sound m (none-answer t r y rest none) (all-without (JobFits l.servers) (is_job t r) l.jobs.out i.jobs.out);
+      once = λ a b. let out = count-out (is_job a b) (is_job t r) l.jobs.out in
           let once = i.jobs.once a b in
           omega arith;
     }
 
 -- facts that neither give nor finish a job
 other-jobs : (hand : Option InFlight) (l : Lists) (e : Event) (first second : List ℕ) → RightNode l → May hand l e first second → ((t r : ℕ) → answers t r e → ⊥) → JobsRight (servers_after e second (front_header l.ring) (front_body l.ring) l.servers) l.jobs
-other-jobs hand l e first second i m other = right-of _ l.jobs (fit-both hand l e first second i.sound m other i.jobs) i.jobs.once
+other-jobs hand l e first second i m other = record { out = fit-all hand l e first second i.sound m other i.jobs; once = i.jobs.once }
 
 pub jobs-right : (hand : Option InFlight) (l : Lists) (e : Event) (first second : List ℕ) → RightNode l → May hand l e first second → JobsRight (servers_after e second (front_header l.ring) (front_body l.ring) l.servers) (jobs_after e l.servers l.jobs)
 jobs-right hand l (Given t r) first second i m = given-jobs hand l t r first second i m
-jobs-right hand l (Worked t r) first second i m = worked-jobs l.servers t r l.jobs i.jobs
 jobs-right hand l (Ran t r y) first second i m = ran-jobs hand l t r y first second i m
 jobs-right hand l e first second i m = other-jobs hand l e first second i m (λ t r x. x)
 
@@ -293,4 +247,4 @@ jobs-right hand l e first second i m = other-jobs hand l e first second i m (λ 
 pub jobs-added : (xs : List Server) (y : Server) (jobs : Jobs) → JobsRight xs jobs → JobsRight (xs ++ y ∷ []) jobs
 jobs-added xs y jobs h =
     let fits : (j : Job) → JobFits xs j → JobFits (xs ++ y ∷ []) j = λ j k. record { request = k.request; stands = record { server = k.stands.server; found = find-add (is_server j.session) xs y k.stands.server k.stands.found; is_there = k.stands.is_there }; working = k.working; long = k.long } in
-    record { waiting = all-map _ _ jobs.waiting fits h.waiting; worked = all-map _ _ jobs.worked fits h.worked; once = h.once }
+    record { out = all-map _ _ jobs.out fits h.out; once = h.once }

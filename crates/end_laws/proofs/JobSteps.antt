@@ -1,34 +1,27 @@
 -- The jobs of a node stay those of calls that began.
-use Rattle.std.proofs.Common.{◌≡◌, ◌≤◌, ◌*◌, ℕ, Bool, true, false, cond, List, [], length, take, Option, Some, None, refl, ap, ◌∙◌, arith}
-use Rattle.std.specs.List.{find, AllByRecursion}
+use Rattle.std.proofs.Common.{◌≡◌, ◌≤◌, ◌*◌, ℕ, Bool, false, cond, List, [], length, take, Option, refl, ap, ◌∙◌, arith}
+use Rattle.std.specs.List.{AllByRecursion}
 use Rattle.packet_header.specs.Parts.{packet_count}
 use Rattle.packet_header.proofs.PartsLemmas.{front-whole}
 use Rattle.rpc_base.specs.declared.event.Event.{Event}
-use Rattle.rpc_base.specs.declared.event.Event.TheVariants.{Given, Worked, Ran}
+use Rattle.rpc_base.specs.declared.event.Event.TheVariants.{Given, Ran}
 use Rattle.rpc_laws.specs.declared.tables.InFlight.{InFlight}
 use Rattle.rpc_laws.specs.declared.tables.Jobs.{Jobs}
 use Rattle.rpc_laws.specs.declared.tables.Lists.{Lists}
-use Rattle.rpc_laws.specs.declared.tables.Served.{Served}
 use Rattle.rpc_laws.specs.Jobs.{is_job, job_of, jobs_after}
 use Rattle.rpc_laws.specs.Requests.{is_request}
 use Rattle.end_laws.specs.TwoEnds.{is_away}
 use Rattle.end_laws.proofs.Allowed.{IsWhole, May}
-use Rattle.end_laws.proofs.JobLemmas.{new-is, all-more}
+use Rattle.end_laws.proofs.JobLemmas.{new-is}
 use Rattle.end_laws.proofs.Known.{Known, GoodServed, GoodServer, GoodJob, GoodNode}
 use Rattle.end_laws.proofs.ListLemmas.{all-add, all-without, all-found}
 use Rattle.end_laws.proofs.ServerLemmas.{server-at}
 
--- a request that no worker has, and that has no answer, has its bytes
-idle-here : (working : Bool) (answer : Option (List ℕ)) (q : Served) → q.working ≡ working → q.answer ≡ answer → working ≡ false → answer ≡ None → is_away q ≡ false
-idle-here true answer q e f w a = absurd (cc)
-idle-here false (Some x) q e f w a = absurd (cc)
-idle-here false None q e f w a = rw (e, f) refl
-
--- so the bytes of a whole one are those of its call
+-- the bytes of a whole request that no worker has, and that has no answer, are those of its call
 pub whole-ask : (k : Known) (n : ℕ) (l : Lists) (t r : ℕ) → (w : IsWhole l t r) → (g : GoodServed k n w.server.way w.request) → w.request.ask ≡ g.start.what.ask
 whole-ask k n l t r w g =
     let q = w.request in
-    let here : is_away q ≡ false = idle-here q.working q.answer q refl refl w.idle w.unanswered in
+    let here : is_away q ≡ false = rw (w.idle, w.unanswered) refl in
     let whole = w.whole in
     let count : packet_count (length g.start.what.ask) ≤ q.taken = (let size : packet_count q.size ≡ packet_count (length g.start.what.ask) = ap packet_count g.size in omega arith) in
     g.ask ∙ (ap (λ (b : Bool). cond b [] (take (1024 * q.taken) g.start.what.ask)) here ∙ front-whole g.start.what.ask q.taken count)
@@ -60,20 +53,13 @@ given-job k n l t r w g =
     }
 
 abbrev pub GoodJobs : Known → ℕ → Jobs → Type 0
-GoodJobs k n jobs = AllByRecursion (GoodJob k n) jobs.waiting × AllByRecursion (GoodJob k n) jobs.worked
+GoodJobs k n jobs = AllByRecursion (GoodJob k n) jobs.out
 
 given-jobs : (k : Known) (n : ℕ) (l : Lists) (t r : ℕ) → IsWhole l t r → GoodNode k n l → GoodJobs k n (jobs_after (Given t r) l.servers l.jobs)
 given-jobs k n l t r w g =
-    rw (new-is l t r w) (all-add (GoodJob k n) l.jobs.waiting (job_of t w.request) g.waiting (given-job k n l t r w g), g.worked)
-
-worked-jobs : (k : Known) (n : ℕ) (l : Lists) (t r : ℕ) → GoodNode k n l → GoodJobs k n (jobs_after (Worked t r) l.servers l.jobs)
-worked-jobs k n l t r g = (
-  all-without (GoodJob k n) (is_job t r) l.jobs.waiting g.waiting,
-  all-more (GoodJob k n) l.jobs.worked (find (is_job t r) l.jobs.waiting) g.worked (λ j e. all-found (GoodJob k n) (is_job t r) l.jobs.waiting j g.waiting e),
-)
+    rw (new-is l t r w) (all-add (GoodJob k n) l.jobs.out (job_of t w.request) g.jobs (given-job k n l t r w g))
 
 pub jobs-good : (k : Known) (n : ℕ) (hand : Option InFlight) (l : Lists) (e : Event) (first second : List ℕ) → May hand l e first second → GoodNode k n l → GoodJobs k n (jobs_after e l.servers l.jobs)
 jobs-good k n hand l (Given t r) first second m g = given-jobs k n l t r m.has g
-jobs-good k n hand l (Worked t r) first second m g = worked-jobs k n l t r g
-jobs-good k n hand l (Ran t r y) first second m g = (g.waiting, all-without (GoodJob k n) (is_job t r) l.jobs.worked g.worked)
-jobs-good k n hand l _ first second m g = (g.waiting, g.worked)
+jobs-good k n hand l (Ran t r y) first second m g = all-without (GoodJob k n) (is_job t r) l.jobs.out g.jobs
+jobs-good k n hand l _ first second m g = g.jobs

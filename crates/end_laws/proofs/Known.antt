@@ -231,8 +231,7 @@ IsUnrun xs t r =
 pub record GoodNode (k : Known) (n : ℕ) (l : Lists) : Type 0 where
   pub clients : Placed (GoodClient k n) l.clients
   pub servers : Placed (GoodServer k n) l.servers
-  pub waiting : AllByRecursion (GoodJob k n) l.jobs.waiting
-  pub worked : AllByRecursion (GoodJob k n) l.jobs.worked
+  pub jobs : AllByRecursion (GoodJob k n) l.jobs.out
   pub no_asks : (c : ℕ) → l.asked ≤ c → k.asks n c 0 ≡ None
   pub no_ends : (t : ℕ) → length l.servers ≤ t → k.ends n t 0 ≡ None
   pub no_starts : (s r : ℕ) → length l.clients ≤ s → k.starts n s r ≡ None
@@ -250,7 +249,7 @@ pub record TrueAsk (past : List Fact) (n c zero : ℕ) (a : Asker) : Type 0 wher
   pub asked : Contains past (with_bytes n (Asked c a.session a.what.req_type a.what.room) a.what.ask)
 
 abbrev pub TrueEnd : List Fact → ℕ → ℕ → ℕ → End → Type 0
-TrueEnd past m t zero e = AreEnds past e.home e.client m t
+TrueEnd past m t i e = AreEnds past e.home e.client m t
 
 abbrev pub TrueRun : List Fact → ℕ → ℕ → ℕ → Run → Type 0
 TrueRun past m t r x = Contains past (with_two m (Ran t r x.req_type) x.ask x.answer)

@@ -14,7 +14,7 @@ use Rattle.rpc_laws.specs.declared.tables.Progress.{Progress}
 use Rattle.rpc_laws.specs.declared.tables.Served.{Served}
 use Rattle.rpc_laws.specs.declared.tables.Server.{Server}
 use Rattle.rpc_laws.specs.declared.tables.Way.{Way}
-use Rattle.rpc_laws.specs.OwnAnswer.{AreEnds}
+use Rattle.rpc_laws.specs.OwnAnswer.{AreEnds, IsClientEnd, IsServerEnd}
 use Rattle.end_laws.proofs.Known.{Known, Later, SaysRequest, SaysResponse, Says, Speaks, GoodAnswer, GoodProgress, GoodCall, HasRun, GoodServed, GoodJob, GoodServer, Begin, Asker, TrueStart, TrueAsk, IsTrue, noting, contains-more}
 use Rattle.end_laws.proofs.ListLemmas.{all-map}
 
@@ -98,8 +98,16 @@ module _ (j k : Known) (later : Later j k) where
 
 -- what was noted stays noted
 module _ (f : Fact) (past : List Fact) where
+  client-more-end : (n s m t : ℕ) → IsClientEnd past n s m t → IsClientEnd (f ∷ past) n s m t
+  client-more-end n s m t (IsClientEnd.paired limit c) = IsClientEnd.paired limit (contains-more f _ past c)
+  client-more-end n s m t (IsClientEnd.connected limit o c) = IsClientEnd.connected limit (contains-more f _ past o) (contains-more f _ past c)
+
+  server-more-end : (n s m t : ℕ) → IsServerEnd past n s m t → IsServerEnd (f ∷ past) n s m t
+  server-more-end n s m t (IsServerEnd.paired credits c) = IsServerEnd.paired credits (contains-more f _ past c)
+  server-more-end n s m t (IsServerEnd.accepted credits c) = IsServerEnd.accepted credits (contains-more f _ past c)
+
   pub ends-more : (n s m t : ℕ) → AreEnds past n s m t → AreEnds (f ∷ past) n s m t
-  ends-more n s m t e = record { limit = e.limit; credits = e.credits; client = contains-more f _ past e.client; server = contains-more f _ past e.server }
+  ends-more n s m t e = record { client = client-more-end n s m t e.client; server = server-more-end n s m t e.server }
 
   pub start-more : (n s r : ℕ) (b : Begin) → TrueStart past n s r b → TrueStart (f ∷ past) n s r b
   start-more n s r b t = record { number = t.number; ends = ends-more n s b.way.peer b.way.other t.ends; asked = contains-more f _ past t.asked; begun = contains-more f _ past t.begun }

@@ -7,9 +7,14 @@ use Rattle.rpc_laws.specs.declared.tables.Lists.{Lists}
 use Rattle.rpc_laws.specs.declared.tables.Timed.{Timed}
 use Rattle.rpc_laws.specs.InFlight.{flight_after_all}
 use Rattle.rpc_laws.specs.NodeLists.{after, after_all}
+use Rattle.rpc_laws.specs.Working.{worked_after_all}
+use Rattle.node_laws.specs.Valid.{Valid}
+use Rattle.node_laws.proofs.Allowed.{AllAllowed as AllLawful, allowed-of}
+use Rattle.node_laws.proofs.LeadsLemmas.{valid_after_all}
 use Rattle.end_laws.specs.Moments.{Moment}
-use Rattle.end_laws.proofs.Allowed.{Walks}
-use Rattle.end_laws.proofs.Courses.{AtNode, Course, over, at_node, course-append, noted_at, moved-node}
+use Rattle.end_laws.specs.OnlyPairs.{OnlyPairs}
+use Rattle.end_laws.proofs.Allowed.{WalksFrom}
+use Rattle.end_laws.proofs.Courses.{latest, AtNode, Course, over, at_node, course-append, noted_at, moved-node}
 use Rattle.end_laws.proofs.ListLemmas.{Placed, set-here, set-other, set-placed, length-slice_set}
 use Rattle.end_laws.proofs.QueueLemmas.{RightNode}
 
@@ -19,6 +24,7 @@ pub record NodeFits (clock : ℕ) (nodes : List Lists) (n : ℕ) (t : Timed) : T
   pub me : t.lists.me ≡ n
   pub late : t.clock ≤ clock
   pub right : RightNode t.lists
+  pub valid : Valid t.lists
 
 pub record Fits (s : Stage) (w : Moment) : Type 0 where
   pub clock : w.clock ≡ s.clock
@@ -32,8 +38,9 @@ pub record Leads (w : Moment) (x : List Fact) (t : Stage) : Type 0 where
   pub course : Course w x end
   pub fits : Fits t end
 
+-- so each such step does that notes nothing of session control
 abbrev pub Leading : (Stage → List Fact → Stage → Type 0) → Type 0
-Leading P = (s : Stage) (w : Moment) (x : List Fact) (t : Stage) → Fits s w → P s x t → Leads w x t
+Leading P = (s : Stage) (w : Moment) (x : List Fact) (t : Stage) → Fits s w → OnlyPairs x → P s x t → Leads w x t
 
 pub leads-none : (s t : Stage) (w : Moment) (x : List Fact) → Fits s w → x ≡ [] → t ≡ s → Leads w x t
 leads-none s t w x f e g = rw (e, g) (record { end = w; course = over w; fits = f })
@@ -59,12 +66,12 @@ set-twice [] i x y = refl
 set-twice (z ∷ zs) zero x y = refl
 set-twice (z ∷ zs) (suc i) x y = ap (λ ys. z ∷ ys) (set-twice zs i x y)
 
-pub node-course : (w : Moment) (n : ℕ) (l : Lists) (x : List Fact) → slice_get w.nodes n ≡ Some l → l.me ≡ n → Walks w.hand w.clock l x → NodeCourse w n l x
-node-course w n l [] is me h = record { end = w; course = over w; nodes = set-same w.nodes n l is; flight = refl; clock = refl }
-node-course w n l (f ∷ x) is me h =
-    let a : AtNode w n l f = record { is_node = is; me = me; allowed = h.0 } in
+pub node-course : (w : Moment) (n : ℕ) (l : Lists) (x : List Fact) → slice_get w.nodes n ≡ Some l → l.me ≡ n → WalksFrom w.hand (latest w.past) w.clock l x → AllLawful w.clock l x → NodeCourse w n l x
+node-course w n l [] is me h v = record { end = w; course = over w; nodes = set-same w.nodes n l is; flight = refl; clock = refl }
+node-course w n l (f ∷ x) is me h v =
+    let a : AtNode w n l f = record { is_node = is; me = me; allowed = h.0; lawful = allowed-of l f.event f.first v.0; linked = h.1 } in
     let e = moved-node w n l f a in
-    let rest = node-course (noted_at w n l f) n (after w.clock l f) x (set-here w.nodes n l (after w.clock l f) is) me h.1 in
+    let rest = node-course (noted_at w n l f) n (after w.clock l f) x (set-here w.nodes n l (after w.clock l f) is) me h.2 v.1 in
     record {
       end = rest.end;
       course = at_node w n l f x rest.end a (subst (λ (v : Moment). Course v x rest.end) (sym e) rest.course);
@@ -76,7 +83,8 @@ node-course w n l (f ∷ x) is me h =
 -- a step of one node, whose facts are those of its lists
 pub record NodeStep (s : Stage) (w : Moment) (n : ℕ) (before now : Timed) (x : List Fact) : Type 0 where
   pub is_node : slice_get s.nodes n ≡ Some before
-  pub walks : Walks w.hand s.clock before.lists x
+  pub walks : WalksFrom w.hand (latest w.past) s.clock before.lists x
+  pub lawful : AllLawful s.clock before.lists x
   pub lists : now.lists ≡ after_all s.clock before.lists x
   pub late : now.clock ≤ s.clock
   pub right : RightNode now.lists
@@ -85,11 +93,12 @@ me-after : (clock : ℕ) (l : Lists) (x : List Fact) → (after_all clock l x).m
 me-after clock l [] = refl
 me-after clock l (f ∷ x) = me-after clock (after clock l f) x
 
-pub step-leads : (s : Stage) (w : Moment) (n : ℕ) (before now : Timed) (x : List Fact) (t : Stage) → Fits s w → NodeStep s w n before now x → t ≡ record { nodes = slice_set s.nodes n now; flight = flight_after_all s.flight x; clock = s.clock } → Leads w x t
+pub step-leads : (s : Stage) (w : Moment) (n : ℕ) (before now : Timed) (x : List Fact) (t : Stage) → Fits s w → NodeStep s w n before now x → t ≡ record { nodes = slice_set s.nodes n now; flight = flight_after_all s.flight x; worked = worked_after_all s.worked x; clock = s.clock } → Leads w x t
 step-leads s w n before now x t f h left =
     let fit = f.nodes n before h.is_node in
-    let walks : Walks w.hand w.clock before.lists x = rw (f.clock) h.walks in
-    let c = node-course w n before.lists x fit.is_node fit.me walks in
+    let walks : WalksFrom w.hand (latest w.past) w.clock before.lists x = rw (f.clock) h.walks in
+    let lawful : AllLawful w.clock before.lists x = rw (f.clock) h.lawful in
+    let c = node-course w n before.lists x fit.is_node fit.me walks lawful in
     let lists : after_all w.clock before.lists x ≡ now.lists = ap (λ (k : ℕ). after_all k before.lists x) f.clock ∙ sym h.lists in
     let ends : c.end.nodes ≡ slice_set w.nodes n now.lists = c.nodes ∙ ap (λ (l : Lists). slice_set w.nodes n l) lists in
     let here : NodeFits s.clock (slice_set w.nodes n now.lists) n now = record {
@@ -97,8 +106,9 @@ step-leads s w n before now x t f h left =
       me = ap (λ (l : Lists). l.me) h.lists ∙ (me-after s.clock before.lists x ∙ fit.me);
       late = h.late;
       right = h.right;
+      valid = rw (h.lists) (valid_after_all s.clock before.lists x fit.valid h.lawful);
     } in
-    let others : (j : ℕ) (z : Timed) → (j ≡ n → ⊥) → slice_get s.nodes j ≡ Some z → NodeFits s.clock (slice_set w.nodes n now.lists) j z = λ j z ne is. let k = f.nodes j z is in record { is_node = set-other w.nodes n j now.lists ne ∙ k.is_node; me = k.me; late = k.late; right = k.right } in
+    let others : (j : ℕ) (z : Timed) → (j ≡ n → ⊥) → slice_get s.nodes j ≡ Some z → NodeFits s.clock (slice_set w.nodes n now.lists) j z = λ j z ne is. let k = f.nodes j z is in record { is_node = set-other w.nodes n j now.lists ne ∙ k.is_node; me = k.me; late = k.late; right = k.right; valid = k.valid } in
     let placed : Placed (NodeFits s.clock (slice_set w.nodes n now.lists)) (slice_set s.nodes n now) = set-placed (NodeFits s.clock (slice_set w.nodes n now.lists)) s.nodes n before now h.is_node here others in
     rw left (record {
       end = c.end;
@@ -112,7 +122,7 @@ step-leads s w n before now x t f h left =
     })
 
 -- a step that leaves the node
-pub step-stays : (s : Stage) (w : Moment) (n : ℕ) (before : Timed) (x : List Fact) (t : Stage) → Fits s w → NodeStep s w n before before x → flight_after_all s.flight x ≡ s.flight → t ≡ s → Leads w x t
-step-stays s w n before x t f h flight e =
-    let whole : s ≡ record { nodes = slice_set s.nodes n before; flight = flight_after_all s.flight x; clock = s.clock } = rw flight (ap (λ (ns : List Timed). record { nodes = ns; flight = s.flight; clock = s.clock }) (set-same s.nodes n before h.is_node)) in
+pub step-stays : (s : Stage) (w : Moment) (n : ℕ) (before : Timed) (x : List Fact) (t : Stage) → Fits s w → NodeStep s w n before before x → flight_after_all s.flight x ≡ s.flight → worked_after_all s.worked x ≡ s.worked → t ≡ s → Leads w x t
+step-stays s w n before x t f h flight worked e =
+    let whole : s ≡ record { nodes = slice_set s.nodes n before; flight = flight_after_all s.flight x; worked = worked_after_all s.worked x; clock = s.clock } = rw (flight, worked) (ap (λ (ns : List Timed). record { nodes = ns; flight = s.flight; worked = s.worked; clock = s.clock }) (set-same s.nodes n before h.is_node)) in
     step-leads s w n before before x t f h (e ∙ whole)

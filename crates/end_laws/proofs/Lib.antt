@@ -1,9 +1,11 @@
 pub mod Allowed
+pub mod AnswerLemmas
 pub mod AskSteps
 pub mod BegunLemmas
 pub mod CallSteps
 pub mod ClientLemmas
 pub mod CommandLeads
+pub mod ControlSteps
 pub mod CountLemmas
 pub mod Courses
 pub mod GenuineLaw
@@ -16,6 +18,7 @@ pub mod Known
 pub mod KnownLemmas
 pub mod Leads
 pub mod ListLemmas
+pub mod OwnFacts
 pub mod OwnLaw
 pub mod OwnLemmas
 pub mod PairLeads
@@ -30,7 +33,7 @@ pub mod ScriptLemmas
 pub mod SendsLaw
 pub mod ServerLemmas
 pub mod SlotLemmas
-pub mod TotalLemmas
+pub mod StillLeads
 pub mod TravelLemmas
 pub mod TwoEndsLaw
 pub mod UnrunLemmas

@@ -130,6 +130,14 @@ module _ {A : Type 0} where
   all-append P [] ys h k = k
   all-append P (x ∷ xs) ys h k = (h.0, all-append P xs ys h.1 k)
 
+  pub all-front : (P : A → Type 0) (xs ys : List A) → AllByRecursion P (xs ++ ys) → AllByRecursion P xs
+  all-front P [] ys h = tt
+  all-front P (x ∷ xs) ys h = (h.0, all-front P xs ys h.1)
+
+  pub all-back : (P : A → Type 0) (xs ys : List A) → AllByRecursion P (xs ++ ys) → AllByRecursion P ys
+  all-back P [] ys h = h
+  all-back P (x ∷ xs) ys h = all-back P xs ys h.1
+
   pub all-add : (P : A → Type 0) (xs : List A) (y : A) → AllByRecursion P xs → P y → AllByRecursion P (xs ++ y ∷ [])
   all-add P [] y h k = (k, tt)
   all-add P (x ∷ xs) y h k = (h.0, all-add P xs y h.1 k)
@@ -187,3 +195,11 @@ module _ {A : Type 0} where
   pub find-add : (q : A → Bool) (xs : List A) (y v : A) → find q xs ≡ Some v → find q (xs ++ y ∷ []) ≡ Some v
   find-add q [] y v h = cc
   find-add q (z ∷ zs) y v h = find-add-cons q z zs y v (q z) h (find-add q zs y v)
+
+length-cons : {A : Type 0} (p : A → Bool) (f : A → A) (z : A) (zs : List A) (b : Bool) → length (at_first p f zs) ≡ length zs → length (cond b (f z ∷ zs) (z ∷ at_first p f zs)) ≡ length (z ∷ zs)
+length-cons p f z zs true ih = refl
+length-cons p f z zs false ih = omega arith
+
+pub length-first : {A : Type 0} (p : A → Bool) (f : A → A) (xs : List A) → length (at_first p f xs) ≡ length xs
+length-first p f [] = refl
+length-first p f (z ∷ zs) = length-cons p f z zs (p z) (length-first p f zs)

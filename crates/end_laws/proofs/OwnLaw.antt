@@ -6,11 +6,10 @@ use Rattle.std.proofs.lemmas.Option.{slice_get_within}
 use Rattle.rpc_base.specs.declared.fact.Fact.{Fact}
 use Rattle.rpc_base.specs.declared.fact.Who.{Who}
 use Rattle.rpc_base.specs.declared.fact.Who.TheVariants.{Node}
-use Rattle.rpc_outside.specs.PlainAnswer.{total_of}
 use Rattle.rpc_laws.specs.declared.tables.Lists.{Lists}
 use Rattle.rpc_laws.specs.BufferSafety.{changed}
 use Rattle.rpc_laws.specs.NodeLists.{after}
-use Rattle.rpc_laws.specs.OwnAnswer.{AreEnds, served_by, OwnEvent, OwnAt, AtEach}
+use Rattle.rpc_laws.specs.OwnAnswer.{AreEnds, IsClientEnd, IsServerEnd, served_by, OwnEvent, OwnAt, AtEach}
 use Rattle.rpc_laws.specs.Requests.{server_end}
 use Rattle.rpc_laws.specs.Sessions.{client_end}
 use Rattle.end_laws.specs.Moments.{Moment, moved}
@@ -22,11 +21,12 @@ use Rattle.end_laws.proofs.KnownLemmas.{server-later, jobs-later, speaks-later, 
 use Rattle.end_laws.proofs.ListLemmas.{Placed, set-other, set-placed, add-placed, length-slice_set}
 use Rattle.end_laws.proofs.OwnLemmas.{own-event}
 use Rattle.end_laws.proofs.SendsLaw.{AllRight, right-noted, right-net, right-made, right-paired}
-use Rattle.end_laws.proofs.TotalLemmas.{AllTotals, total-net, total-made, total-noted, total-paired}
+use Rattle.rpc_laws.specs.Service.{plain_serving, AnswersAt}
+use Rattle.end_laws.proofs.AnswerLemmas.{AnswersFor}
 use Rattle.end_laws.proofs.TravelLemmas.{travels-map, travels-paired}
 use Rattle.end_laws.proofs.UnrunLemmas.{unrun-added}
 
-module _ (w : Moment) (n m credits : ℕ) (client server : Lists) (e : Ends w n m client server) (g : Good w) where
+module _ (w : Moment) (n m credits : ℕ) (client server : Lists) (e : Ends w n m credits client server) (g : Good w) where
   abbrev s : ℕ
   s = length client.clients
 
@@ -72,7 +72,7 @@ module _ (w : Moment) (n m credits : ℕ) (client server : Lists) (e : Ends w n 
 
   true-paired : IsTrue k
   true-paired =
-      let new : AreEnds k.past n s m t = record { limit = credits; credits = credits; client = contains-more other one (one ∷ j.past) (contains-here one j.past); server = contains-here other (one ∷ j.past) } in
+      let new : AreEnds k.past n s m t = record { client = IsClientEnd.paired credits (contains-more other one (one ∷ j.past) (contains-here one j.past)); server = IsServerEnd.paired credits (contains-here other (one ∷ j.past)) } in
       let is = g.is_true in
       record {
         ends = added-case j.ends m t 0 entry (TrueEnd k.past) new (λ a b c x h. ends-more other (one ∷ j.past) x.home x.client a b (ends-more one j.past x.home x.client a b (is.ends a b c x h)));
@@ -98,8 +98,7 @@ module _ (w : Moment) (n m credits : ℕ) (client server : Lists) (e : Ends w n 
         no_ends = λ d le. (others-same n e.two).ends d (client-good.no_ends d le);
         no_starts = λ i r le. client-good.no_starts i r (omega arith);
         no_runs = client-good.no_runs;
-        waiting = jobs-later j k later n client.jobs.waiting client-good.waiting;
-        worked = jobs-later j k later n client.jobs.worked client-good.worked;
+        jobs = jobs-later j k later n client.jobs.out client-good.jobs;
       }
 
   at-server : GoodNode k m (after w.clock server other)
@@ -113,8 +112,7 @@ module _ (w : Moment) (n m credits : ℕ) (client server : Lists) (e : Ends w n 
         no_ends = λ d le. added-none j.ends m t 0 entry m d 0 (λ x y z. absurd (omega arith)) (server-good.no_ends d (omega arith));
         no_starts = server-good.no_starts;
         no_runs = λ d r u. server-good.no_runs d r (unrun-added server.servers (server_end t n s credits) d r u);
-        waiting = jobs-later j k later m server.jobs.waiting server-good.waiting;
-        worked = jobs-later j k later m server.jobs.worked server-good.worked;
+        jobs = jobs-later j k later m server.jobs.out server-good.jobs;
       }
 
   pub good-paired : Good (paired w n m credits client server)
@@ -144,20 +142,21 @@ module _ (w : Moment) (n m credits : ℕ) (client server : Lists) (e : Ends w n 
         unmade = subst (λ (ns : List Lists). Unmade k (length ns)) (sym all) unmade;
       }
 
-own-at : (w : Moment) (n : ℕ) (l : Lists) (f : Fact) → AtNode w n l f → AllRight w → AllTotals w → Good w → OwnAt w.past f.who f.event f.first f.second
+own-at : (w : Moment) (n : ℕ) (l : Lists) (f : Fact) → AtNode w n l f → AllRight w → AnswersFor w.past f.who f.event f.first f.second → Good w → OwnAt w.past f.who f.event f.first f.second
 own-at w n l f a i t g =
     let k = g.known in
-    let total : l.total ≡ total_of (served_by n k.past) = t.totals n l a.is_node ∙ ap (λ (p : List Fact). total_of (served_by n p)) (sym g.past) in
-    let own : OwnEvent k.past n f.event f.first f.second = own-event k n l (g.nodes n l a.is_node) g.is_true (i n l a.is_node) total w.hand f.event f.first f.second a.allowed.may in
+    let who : f.who ≡ Node n = a.allowed.who ∙ ap Node a.me in
+    let answer : AnswersAt plain_serving (served_by n k.past) f.event f.first f.second = subst (λ (p : List Fact). AnswersAt plain_serving (served_by n p) f.event f.first f.second) (sym g.past) (subst (λ (p : Who). AnswersFor w.past p f.event f.first f.second) who t) in
+    let own : OwnEvent k.past n f.event f.first f.second = own-event k n l (g.nodes n l a.is_node) g.is_true (i n l a.is_node) w.hand f.event f.first f.second answer a.allowed.may in
     let now : OwnEvent w.past n f.event f.first f.second = subst (λ (p : List Fact). OwnEvent p n f.event f.first f.second) g.past own in
     subst (λ (p : Who). OwnAt w.past p f.event f.first f.second) (sym (a.allowed.who ∙ ap Node a.me)) now
 
-pub course-own : (w : Moment) (h : List Fact) (u : Moment) → Course w h u → AllRight w → AllTotals w → Good w → AtEach (λ past f. OwnAt past f.who f.event f.first f.second) w.past h
+pub course-own : (w : Moment) (h : List Fact) (u : Moment) → Course w h u → AllRight w → AtEach (λ past f. AnswersFor past f.who f.event f.first f.second) w.past h → Good w → AtEach (λ past f. OwnAt past f.who f.event f.first f.second) w.past h
 course-own _ _ _ (over w) i t g = tt
 course-own _ _ _ (in_net w f h u who c) i t g =
-    (subst (λ (p : Who). OwnAt w.past p f.event f.first f.second) (sym who) tt, course-own (moved w f) h u c (right-net w f who i) (total-net w f who t) (good-net w f who g))
-course-own _ _ _ (made w ring h u c) i t g = (tt, course-own _ h u c (right-made w ring i) (total-made w ring t) (good-made w ring g))
+    (subst (λ (p : Who). OwnAt w.past p f.event f.first f.second) (sym who) tt, course-own (moved w f) h u c (right-net w f who i) t.1 (good-net w f who g))
+course-own _ _ _ (made w ring h u c) i t g = (tt, course-own _ h u c (right-made w ring i) t.1 (good-made w ring g))
 course-own _ _ _ (at_node w n l f h u a c) i t g =
-    (own-at w n l f a i t g, course-own (moved w f) h u c (right-noted w n l f a i) (total-noted w n l f a t) (good-node w n l f a i g))
+    (own-at w n l f a i t.0 g, course-own (moved w f) h u c (right-noted w n l f a i) t.1 (good-node w n l f a i g))
 course-own _ _ _ (pairs w n m credits client server h u e c) i t g =
-    (tt, (tt, course-own (paired w n m credits client server) h u c (right-paired w n m credits client server e i) (total-paired w n m credits client server e t) (good-paired w n m credits client server e g)))
+    (tt, (tt, course-own (paired w n m credits client server) h u c (right-paired w n m credits client server e i) t.1.1 (good-paired w n m credits client server e g)))

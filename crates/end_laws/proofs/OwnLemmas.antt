@@ -7,7 +7,8 @@ use Rattle.rpc_base.proofs.TakingLemmas.{find-passes}
 use Rattle.rpc_base.specs.declared.event.Event.{Event}
 use Rattle.rpc_base.specs.declared.event.Event.TheVariants.{Asked, Begun, Ran, DoneOk, DoneTooSmall}
 use Rattle.rpc_base.specs.declared.fact.Fact.{Fact}
-use Rattle.rpc_outside.specs.PlainAnswer.{total_of}
+use Rattle.rpc_outside.specs.PlainAnswer.{plain_answer}
+use Rattle.rpc_laws.specs.Service.{plain_serving, AnswersAt}
 use Rattle.rpc_laws.specs.declared.tables.Asking.{Asking}
 use Rattle.rpc_laws.specs.declared.tables.Call.{Call}
 use Rattle.rpc_laws.specs.declared.tables.InFlight.{InFlight}
@@ -24,7 +25,6 @@ use Rattle.end_laws.proofs.Known.{Known, Begin, HasParts, GoodAnswer, GoodCall, 
 use Rattle.end_laws.proofs.ListLemmas.{all-found}
 use Rattle.end_laws.proofs.QueueLemmas.{RightNode}
 use Rattle.end_laws.proofs.RanLemmas.{run-of}
-use Rattle.end_laws.proofs.TotalLemmas.{answer-right}
 
 module _ (past : List Fact) where
   -- a call that began is one, by any names of its parts
@@ -41,9 +41,9 @@ module _ (past : List Fact) where
       }
 
 module _ (k : Known) (n : ℕ) (l : Lists) (good : GoodNode k n l) (is_true : IsTrue k) where
-  own-run : RightNode l → l.total ≡ total_of (served_by n k.past) → (t r y : ℕ) (first second : List ℕ) → MayRun l t r y first second → OwnRun k.past n t r y first second
-  own-run right total t r y first second m =
-      let o = run-of k n l t r y first good right m.source in
+  own-run : RightNode l → (t r y : ℕ) (first second : List ℕ) → second ≡ plain_answer (served_by n k.past) y first → MayRun l t r y first → OwnRun k.past n t r y first second
+  own-run right t r y first second answer m =
+      let o = run-of k n l t r y first good right m in
       let g = o.good in
       let v = o.server in
       let q = o.request in
@@ -54,7 +54,7 @@ module _ (k : Known) (n : ℕ) (l : Lists) (good : GoodNode k n l) (is_true : Is
         call = a.number;
         room = a.room;
         own = call-of k.past v.way.peer v.way.other q.number g.start a.number n t r y first (is_true.starts v.way.peer v.way.other q.number g.start g.begun) refl (ap (λ (w : Way). w.peer) g.way_is) (ap (λ (w : Way). w.other) g.way_is ∙ o.number) number (sym o.of_type) (sym o.own);
-        right = m.right ∙ answer-right (served_by n k.past) l.total y first total;
+        right = answer;
       }
 
   parts-of : (way : Way) (a : Asking) (request got size : ℕ) (parts : List ℕ) (answer : Option ℕ) → answer ≡ Some size → GoodAnswer k way a request got parts answer → HasParts k way a request got parts size
@@ -109,8 +109,8 @@ module _ (k : Known) (n : ℕ) (l : Lists) (good : GoodNode k n l) (is_true : Is
       let s = sized c size m.call m.progress m.has in
       record { room = m.call.what.room; answer = s.parts.answer; own = answer-to c size m.call m.progress s.parts.answer s refl; sized = sym s.parts.sized; above = m.above }
 
-  pub own-event : RightNode l → l.total ≡ total_of (served_by n k.past) → (hand : Option InFlight) (e : Event) (first second : List ℕ) → May hand l e first second → OwnEvent k.past n e first second
-  own-event right total hand (Ran t r y) first second m = own-run right total t r y first second m
-  own-event right total hand (DoneOk c) first second m = own-end c first m
-  own-event right total hand (DoneTooSmall c size) first second m = own-size c size m
-  own-event right total hand _ first second m = tt
+  pub own-event : RightNode l → (hand : Option InFlight) (e : Event) (first second : List ℕ) → AnswersAt plain_serving (served_by n k.past) e first second → May hand l e first second → OwnEvent k.past n e first second
+  own-event right hand (Ran t r y) first second answer m = own-run right t r y first second answer m
+  own-event right hand (DoneOk c) first second answer m = own-end c first m
+  own-event right hand (DoneTooSmall c size) first second answer m = own-size c size m
+  own-event right hand _ first second answer m = tt

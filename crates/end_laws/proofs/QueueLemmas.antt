@@ -1,24 +1,25 @@
 -- The replies that a node has queued are packets of its requests.
-use Rattle.std.proofs.Common.{◌≡◌, ◌<◌, ◌≤◌, ◌==◌, ◌⊎◌, inl, inr, ℕ, Bool, true, false, List, [], ◌∷◌, ◌++◌, Option, Some, None, refl, sym, ap, ◌∙◌, subst, arith, eq-eqb}
-use Rattle.std.specs.Prelude.{◌%◌}
+use Rattle.std.proofs.Common.{◌≡◌, ◌<◌, ◌≤◌, ◌==◌, ◌⊎◌, inl, inr, ℕ, Bool, true, false, cond, List, [], ◌∷◌, ◌++◌, length, Option, Some, None, refl, sym, ap, ◌∙◌, subst, arith, eq-eqb}
+use Rattle.std.specs.Prelude.{◌%◌, map}
 use Rattle.std.specs.List.{find, list_any, AllByRecursion}
 use Rattle.std.proofs.lemmas.Bool.{eqb-true}
 use Rattle.packet_header.specs.declared.packet.MessageHeader.{MessageHeader}
 use Rattle.rpc_base.specs.Tables.{at_first, without_first}
 use Rattle.rpc_base.proofs.TakingLemmas.{find-passes}
 use Rattle.rpc_base.specs.declared.event.Event.{Event}
-use Rattle.rpc_base.specs.declared.event.Event.TheVariants.{PairedServer, Posted, Sent, Took, Given, Ran, Flushed}
+use Rattle.rpc_base.specs.declared.event.Event.TheVariants.{PairedServer, Accepted, Ended, Posted, Sent, Took, Given, Ran, Flushed, Polled}
 use Rattle.rpc_base.specs.declared.owner.Owner.{Owner}
 use Rattle.rpc_base.specs.declared.owner.Owner.TheVariants.{Ask, Reply, Control}
 use Rattle.rpc_laws.specs.declared.tables.InFlight.{InFlight}
 use Rattle.rpc_laws.specs.declared.tables.Lists.{Lists}
+use Rattle.rpc_laws.specs.declared.tables.Queued.{Queued}
 use Rattle.rpc_laws.specs.declared.tables.Served.{Served}
 use Rattle.rpc_laws.specs.declared.tables.Server.{Server}
 use Rattle.rpc_laws.specs.Front.{front_header, front_body}
-use Rattle.rpc_laws.specs.Queues.{queued_after, is_queued}
-use Rattle.rpc_laws.specs.Requests.{is_server, is_request, in_slot_of, first_packet, next_packet, took_packet, given, answered, servers_after}
+use Rattle.rpc_laws.specs.Queues.{queued_after, is_queued, put_queued, stands_before, is_due, made_ready}
+use Rattle.rpc_laws.specs.Requests.{is_server, is_request, in_slot_of, first_packet, next_packet, took_packet, given, answered, servers_after, server_numbers_after}
 use Rattle.end_laws.proofs.Allowed.{TakesOf, May}
-use Rattle.end_laws.proofs.ListLemmas.{Changed, all-first, all-add, all-without, all-found, find-after, find-without, find-add}
+use Rattle.end_laws.proofs.ListLemmas.{Changed, length-first, all-first, all-without, all-found, find-after, find-without, find-add}
 use Rattle.end_laws.proofs.Rights.{SlotRight, SlotsRight, Stands, JobsRight, front-right, took-right, given-right, answered-right, run-ready}
 use Rattle.end_laws.proofs.SlotLemmas.{with_slots, Apart, Sound, any-find, find-added, none-without}
 
@@ -41,6 +42,8 @@ pub record RightNode (l : Lists) : Type 0 where
   pub slots : SlotsRight l.servers
   pub queue : AllByRecursion (λ e. QueueRight l.servers e.owner e.number) l.queued
   pub jobs : JobsRight l.servers l.jobs
+  -- no session ended
+  pub numbers : l.server_numbers ≡ length l.servers
 
 -- the request that is found is the one that stands
 pub stands-same : (xs : List Server) (t r : ℕ) (q : Served) → Stands xs t r q → (v : Server) → find (is_server t) xs ≡ Some v → (z : Served) → find (is_request r) v.slots ≡ Some z → q ≡ z
@@ -59,6 +62,8 @@ slot-first t r change xs q s h f =
 
 pub slots-right : (hand : Option InFlight) (l : Lists) (e : Event) (first second : List ℕ) → JobsRight l.servers l.jobs → May hand l e first second → SlotsRight l.servers → SlotsRight (servers_after e second (front_header l.ring) (front_body l.ring) l.servers)
 slots-right hand l (PairedServer t peer s credits) first second j m h = absurd m
+slots-right hand l (Accepted t peer s credits) first second j m h = absurd m
+slots-right hand l (Ended t) first second j m h = absurd m
 slots-right hand l (Took (Ask s r) k) first second j m h = h
 slots-right hand l (Took Control k) first second j m h = h
 slots-right hand l (Took (Reply t r) k) first second j m h =
@@ -70,7 +75,7 @@ slots-right hand l (Given t r) first second j m h =
     let w = m.has in
     slot-first t r given l.servers w.request (record { server = w.server; found = w.found; is_there = w.is_there }) h (given-right w.request w.whole w.unanswered)
 slots-right hand l (Ran t r y) first second j m h =
-    let g = run-ready l t r y first h j m.source in
+    let g = run-ready l t r y first h j m in
     slot-first t r (answered second) l.servers g.request g.stands h (answered-right second g.request g.whole)
 slots-right hand l _ first second j m h = h
 
@@ -133,6 +138,8 @@ stood-by xs t r k n change s after =
 
 stood-after : (hand : Option InFlight) (l : Lists) (e : Event) (first second : List ℕ) (t r k : ℕ) → Sound l → May hand l e first second → Stood l.servers t r k → Stood (servers_after e second (front_header l.ring) (front_body l.ring) l.servers) t r k
 stood-after hand l (PairedServer n peer s credits) first second t r k i m h = absurd m
+stood-after hand l (Accepted n peer s credits) first second t r k i m h = absurd m
+stood-after hand l (Ended n) first second t r k i m h = absurd m
 stood-after hand l (Took (Ask s n) j) first second t r k i m h = h
 stood-after hand l (Took Control j) first second t r k i m h = h
 stood-after hand l (Took (Reply n p) j) first second t r k i m h =
@@ -164,8 +171,48 @@ posted-right hand l (Reply t r) k first second m =
     record { server = m.server; found = m.found; request = m.request; in_slot = m.in_slot; reached = omega arith; was_taken = λ f. m.was_taken }
 posted-right hand l Control k first second m = tt
 
-pub queued-right : (hand : Option InFlight) (l : Lists) (e : Event) (first second : List ℕ) → May hand l e first second → AllByRecursion (λ q. QueueRight l.servers q.owner q.number) l.queued → AllByRecursion (λ q. QueueRight l.servers q.owner q.number) (queued_after e l.queued)
-queued-right hand l (Posted o k) first second m h = all-add (λ q. QueueRight l.servers q.owner q.number) l.queued _ h (posted-right hand l o k first second m)
-queued-right hand l (Sent peer o k) first second m h = all-without (λ q. QueueRight l.servers q.owner q.number) (is_queued o k) l.queued h
-queued-right hand l (Flushed o k) first second m h = all-without (λ q. QueueRight l.servers q.owner q.number) (is_queued o k) l.queued h
-queued-right hand l _ first second m h = h
+-- a packet that is put among others
+put-by : (P : Queued → Type 0) (q p : Queued) (ps : List Queued) (b : Bool) → P q → P p → AllByRecursion P ps → AllByRecursion P (put_queued q ps) → AllByRecursion P (cond b (p ∷ put_queued q ps) (q ∷ p ∷ ps))
+put-by P q p ps true h k a b = (k, b)
+put-by P q p ps false h k a b = (h, (k, a))
+
+pub put-all : (P : Queued → Type 0) (q : Queued) (ps : List Queued) → P q → AllByRecursion P ps → AllByRecursion P (put_queued q ps)
+put-all P q [] h a = (h, tt)
+put-all P q (p ∷ ps) h a = put-by P q p ps (stands_before p.due q.due) h a.0 a.1 (put-all P q ps h a.1)
+
+-- a claim of owner and number doesn't change where a packet is made ready
+ready-by : (P : Owner → ℕ → Type 0) (q : Queued) (b : Bool) → P q.owner q.number → let r : Queued = cond b (record q { due = None }) q in P r.owner r.number
+ready-by P q true h = h
+ready-by P q false h = h
+
+pub ready-all : (P : Owner → ℕ → Type 0) (now : ℕ) (qs : List Queued) → AllByRecursion (λ q. P q.owner q.number) qs → AllByRecursion (λ q. P q.owner q.number) (map (made_ready now) qs)
+ready-all P now [] h = tt
+ready-all P now (q ∷ qs) h = (ready-by P q (is_due now q.due) h.0, ready-all P now qs h.1)
+
+pub queued-right : (hand : Option InFlight) (l : Lists) (e : Event) (first second : List ℕ) (due : Option ℕ) → May hand l e first second → AllByRecursion (λ q. QueueRight l.servers q.owner q.number) l.queued → AllByRecursion (λ q. QueueRight l.servers q.owner q.number) (queued_after e due l.queued)
+queued-right hand l (Posted o k) first second due m h = put-all (λ q. QueueRight l.servers q.owner q.number) (record { owner = o; number = k; due = due }) l.queued (posted-right hand l o k first second m) h
+queued-right hand l (Polled now) first second due m h = ready-all (QueueRight l.servers) now l.queued h
+queued-right hand l (Sent peer o k) first second due m h = all-without (λ q. QueueRight l.servers q.owner q.number) (is_queued o k) l.queued h
+queued-right hand l (Flushed o k) first second due m h = all-without (λ q. QueueRight l.servers q.owner q.number) (is_queued o k) l.queued h
+queued-right hand l _ first second due m h = h
+
+-- no session is made or ends by these facts
+pub servers-length : (hand : Option InFlight) (l : Lists) (e : Event) (first second : List ℕ) (head : Option MessageHeader) (body : List ℕ) → May hand l e first second → length (servers_after e second head body l.servers) ≡ length l.servers
+servers-length hand l (PairedServer t peer s credits) first second head body m = absurd m
+servers-length hand l (Accepted t peer s credits) first second head body m = absurd m
+servers-length hand l (Ended t) first second head body m = absurd m
+servers-length hand l (Took (Reply t r) k) first second head body m = length-first (is_server t) _ l.servers
+servers-length hand l (Took (Ask s r) k) first second head body m = refl
+servers-length hand l (Took Control k) first second head body m = refl
+servers-length hand l (Given t r) first second head body m = length-first (is_server t) _ l.servers
+servers-length hand l (Ran t r y) first second head body m = length-first (is_server t) _ l.servers
+servers-length hand l _ first second head body m = refl
+
+same-numbers : (hand : Option InFlight) (l : Lists) (e : Event) (first second : List ℕ) (n : ℕ) → May hand l e first second → server_numbers_after e n ≡ n
+same-numbers hand l (PairedServer t peer s credits) first second n m = absurd m
+same-numbers hand l (Accepted t peer s credits) first second n m = absurd m
+same-numbers hand l _ first second n m = refl
+
+pub numbers-right : (hand : Option InFlight) (l : Lists) (e : Event) (first second : List ℕ) → May hand l e first second → l.server_numbers ≡ length l.servers → server_numbers_after e l.server_numbers ≡ length (servers_after e second (front_header l.ring) (front_body l.ring) l.servers)
+numbers-right hand l e first second m h =
+    same-numbers hand l e first second l.server_numbers m ∙ (h ∙ sym (servers-length hand l e first second (front_header l.ring) (front_body l.ring) m))

@@ -1,5 +1,5 @@
 -- A handler runs for a call that began, and its answer is known from then on.
-use Rattle.std.proofs.Common.{◌≡◌, ◌*◌, ◌⊎◌, inl, inr, ℕ, Bool, false, cond, List, [], ◌∷◌, take, Option, Some, None, refl, sym, ap, ◌∙◌, subst, arith}
+use Rattle.std.proofs.Common.{◌≡◌, ◌⊎◌, inl, inr, ℕ, List, ◌∷◌, Option, Some, None, refl, sym, ap, ◌∙◌, subst, arith}
 use Rattle.std.specs.List.{find}
 use Rattle.std.proofs.lemmas.Bool.{eqb-true}
 use Rattle.rpc_base.specs.Tables.{at_first}
@@ -13,16 +13,15 @@ use Rattle.rpc_laws.specs.declared.tables.Server.{Server}
 use Rattle.rpc_laws.specs.Facts.{with_two}
 use Rattle.rpc_laws.specs.NodeLists.{after}
 use Rattle.rpc_laws.specs.Requests.{is_server, is_request, answered}
-use Rattle.rpc_laws.specs.Service.{is_background}
-use Rattle.end_laws.specs.TwoEnds.{is_away}
+use Rattle.rpc_laws.specs.Jobs.{is_job}
 use Rattle.end_laws.proofs.Allowed.{MayServe, MayFinish, MayRun}
-use Rattle.end_laws.proofs.GoodLemmas.{SameAt, client-more, length-first}
+use Rattle.end_laws.proofs.GoodLemmas.{SameAt, client-more}
 use Rattle.end_laws.proofs.JobSteps.{whole-ask, whole-good, jobs-good}
 use Rattle.end_laws.proofs.Known.{Known, Later, End, Begin, Run, GoodServed, GoodJob, GoodNode, IsUnrun, TrueRun, IsTrue, added, added-here, added-keeps, added-none, added-case, contains-here, contains-more}
 use Rattle.end_laws.proofs.KnownLemmas.{served-later, jobs-later, ends-more, start-more, ask-more}
-use Rattle.end_laws.proofs.ListLemmas.{all-first, all-at, all-found}
+use Rattle.end_laws.proofs.ListLemmas.{length-first, all-first, all-found}
 use Rattle.end_laws.proofs.QueueLemmas.{RightNode}
-use Rattle.end_laws.proofs.Rights.{JobFits, stands-right}
+use Rattle.end_laws.proofs.Rights.{JobFits, stands-right, job-number, out-job}
 use Rattle.end_laws.proofs.ServerLemmas.{server-at, slots-first}
 use Rattle.end_laws.proofs.SlotLemmas.{with_slots}
 use Rattle.end_laws.proofs.UnrunLemmas.{unrun-here, ran-now, ran-back}
@@ -37,7 +36,6 @@ pub record RunOf (k : Known) (n : ℕ) (l : Lists) (t r y : ℕ) (ask : List ℕ
   pub good : GoodServed k n server.way request
   pub of_type : y ≡ good.start.what.req_type
   pub own : ask ≡ good.start.what.ask
-  pub away : is_away request ≡ is_background request.req_type
   pub unanswered : request.answer ≡ None
 
 serve-of : (k : Known) (n : ℕ) (l : Lists) (t r y : ℕ) (ask : List ℕ) → GoodNode k n l → MayServe l t r y ask → RunOf k n l t r y ask
@@ -45,8 +43,6 @@ serve-of k n l t r y ask g m =
     let w = m.has in
     let q = w.request in
     let h = whole-good k n l t r w g in
-    let inline : is_background q.req_type ≡ false = ap is_background (sym m.of_type) ∙ m.inline in
-    let away : is_away q ≡ is_background q.req_type = rw (w.idle, w.unanswered, inline) refl in
     record {
       server = w.server;
       found = w.found;
@@ -56,7 +52,6 @@ serve-of k n l t r y ask g m =
       good = h.served;
       of_type = m.of_type ∙ h.served.req_type;
       own = m.own ∙ whole-ask k n l t r w h.served;
-      away = away;
       unanswered = w.unanswered;
     }
 
@@ -76,18 +71,21 @@ job-start k n v q t r j is_end b begun end number g =
 finish-of : (k : Known) (n : ℕ) (l : Lists) (t r y : ℕ) (ask : List ℕ) → GoodNode k n l → RightNode l → MayFinish l t r y ask → RunOf k n l t r y ask
 finish-of k n l t r y ask g i m =
     let job = m.job in
-    let fits : JobFits l.servers job = all-at (JobFits l.servers) l.jobs.worked 0 job i.jobs.worked m.is_front in
-    let good : GoodJob k n job = all-at (GoodJob k n) l.jobs.worked 0 job g.worked m.is_front in
+    let of = job-number t r l.jobs.out job m.is_out in
+    let of_session : t ≡ job.session = sym of.0 in
+    let of_request : r ≡ job.request = sym of.1 in
+    let fits : JobFits l.servers job = out-job l t r job i.jobs m.is_out in
+    let good : GoodJob k n job = all-found (GoodJob k n) (is_job t r) l.jobs.out job g.jobs m.is_out in
     let v = fits.stands.server in
     let q = fits.request in
-    let found : find (is_server t) l.servers ≡ Some v = ap (λ (x : ℕ). find (is_server x) l.servers) m.of_session ∙ fits.stands.found in
-    let there : find (is_request r) v.slots ≡ Some q = ap (λ (x : ℕ). find (is_request x) v.slots) m.of_request ∙ fits.stands.is_there in
+    let found : find (is_server t) l.servers ≡ Some v = ap (λ (x : ℕ). find (is_server x) l.servers) of_session ∙ fits.stands.found in
+    let there : find (is_request r) v.slots ≡ Some q = ap (λ (x : ℕ). find (is_request x) v.slots) of_request ∙ fits.stands.is_there in
     let at = server-at k n l.servers t v g.servers found in
     let server = g.servers t v at.0 in
     let served = all-found (GoodServed k n v.way) (is_request r) v.slots q server.slots there in
     let number : q.number ≡ r = eqb-true q.number r (find-passes (is_request r) v.slots q there) in
-    let end : k.ends n job.session 0 ≡ Some (record { home = v.way.peer; client = v.way.other }) = ap (λ (x : ℕ). k.ends n x 0) (sym m.of_session) ∙ server.end in
-    let same : good.start ≡ served.start = job-start k n v q job.session job.request good.end good.is_end good.start good.begun end (number ∙ m.of_request) served in
+    let end : k.ends n job.session 0 ≡ Some (record { home = v.way.peer; client = v.way.other }) = ap (λ (x : ℕ). k.ends n x 0) (sym of_session) ∙ server.end in
+    let same : good.start ≡ served.start = job-start k n v q job.session job.request good.end good.is_end good.start good.begun end (number ∙ of_request) served in
     let right = stands-right l.servers job.session job.request q i.slots fits.stands in
     record {
       server = v;
@@ -98,7 +96,6 @@ finish-of k n l t r y ask g i m =
       good = served;
       of_type = m.of_type ∙ (good.req_type ∙ ap (λ (b : Begin). b.what.req_type) same);
       own = m.own ∙ (good.own ∙ ap (λ (b : Begin). b.what.ask) same);
-      away = rw (fits.working) refl;
       unanswered = (right.working fits.working).1;
     }
 
@@ -165,11 +162,11 @@ module _ (k : Known) (n t r y : ℕ) (ask answer : List ℕ) where
           way_is = s.way_is;
           req_type = s.req_type;
           size = s.size;
-          ask = s.ask ∙ ap (λ (b : Bool). cond b [] (take (1024 * q.taken) s.start.what.ask)) o.away;
+          ask = refl;
           answer = here ∙ ap Some same;
         }
 
-    pub run-node : (clock : ℕ) (hand : Option InFlight) → MayRun l t r y ask answer → GoodNode knows n (after clock l ran_fact)
+    pub run-node : (clock : ℕ) (hand : Option InFlight) → MayRun l t r y ask → GoodNode knows n (after clock l ran_fact)
     run-node clock hand m =
         let later = later-run is-new in
         let v = o.server in
@@ -183,8 +180,7 @@ module _ (k : Known) (n t r y : ℕ) (ask answer : List ℕ) where
               (λ z is z_good. let there = o.is_there in
               let same : o.request ≡ z = cc in
               subst (λ (x : Served). GoodServed knows n v.way (answered answer x)) same ran-good) slots) g.servers;
-          waiting = jobs-later k knows later n _ jobs.0;
-          worked = jobs-later k knows later n _ jobs.1;
+          jobs = jobs-later k knows later n _ jobs;
           no_asks = λ c le. g.no_asks c le;
           no_ends = λ s le. g.no_ends s (omega arith);
           no_starts = λ s q le. g.no_starts s q le;

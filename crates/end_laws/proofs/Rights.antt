@@ -1,9 +1,10 @@
 -- What is always so of the requests in the slots of a node, and of its jobs, by the rules alone.
-use Rattle.std.proofs.Common.{◌≡◌, ◌<◌, ◌≤◌, ◌+◌, ◌*◌, ◌⊎◌, inl, inr, ℕ, Bool, true, false, List, [], ◌++◌, length, Option, Some, None, refl, ap, ◌∙◌, subst, arith, leb-false}
+use Rattle.std.proofs.Common.{◌≡◌, ◌==◌, ◌<◌, ◌≤◌, ◌+◌, ◌-◌, ◌*◌, min, ◌⊎◌, inl, inr, ℕ, Bool, true, false, List, [], ◌++◌, length, Option, Some, None, refl, ap, ◌∙◌, subst, arith, leb-false}
 use Rattle.std.specs.Prelude.{count_by}
 use Rattle.std.specs.List.{find, list_any, AllByRecursion}
+use Rattle.std.proofs.lemmas.Bool.{eqb-true, and_parts}
 use Rattle.std.proofs.lemmas.List.{length-append}
-use Rattle.packet_header.specs.Parts.{packet_count}
+use Rattle.packet_header.specs.Parts.{packet_count, part_size}
 use Rattle.packet_header.specs.declared.packet.Kind.{Kind}
 use Rattle.packet_header.specs.declared.packet.Kind.TheVariants.{Request, Rfr, Cr, Response}
 use Rattle.packet_header.specs.declared.packet.MessageHeader.{MessageHeader}
@@ -12,6 +13,7 @@ use Rattle.packet_header.proofs.PartsLemmas.{packet_count_above}
 use Rattle.packet_header.proofs.Readings.{message_of-spells}
 use Rattle.packet_header.proofs.Rows.{request-number}
 use Rattle.rpc_base.specs.Tables.{without_first}
+use Rattle.rpc_base.proofs.TakingLemmas.{find-passes}
 use Rattle.rpc_laws.specs.declared.tables.Job.{Job}
 use Rattle.rpc_laws.specs.declared.tables.Jobs.{Jobs}
 use Rattle.rpc_laws.specs.declared.tables.Lists.{Lists}
@@ -22,7 +24,7 @@ use Rattle.rpc_laws.specs.Jobs.{is_job}
 use Rattle.rpc_laws.specs.Requests.{is_server, is_request, in_slot_of, first_packet, next_packet, took_packet, given, answered}
 use Rattle.rpc_laws.specs.ServerTable.{is_past_end}
 use Rattle.end_laws.proofs.Allowed.{GoesOn, TakesOf, IsWhole, MayServe, MayFinish}
-use Rattle.end_laws.proofs.ListLemmas.{all-first, all-add, all-without, all-found, all-at}
+use Rattle.end_laws.proofs.ListLemmas.{all-first, all-add, all-without, all-found}
 use Rattle.end_laws.proofs.SlotLemmas.{any-find}
 
 -- how many packets were taken: none above those of the request, and of the answer once it is known
@@ -31,12 +33,13 @@ TakenRight taken size None = taken ≤ packet_count size
 TakenRight taken size (Some a) = (packet_count size ≤ taken) × (taken + 1 ≤ packet_count size + packet_count (length a))
 
 -- a request holds no more bytes than its packets have, and a worker has it only when it is whole, until it is
--- answered
+-- answered. Before that it holds as many bytes as its packets have
 pub record SlotRight (q : Served) : Type 0 where
   pub taken : TakenRight q.taken q.size q.answer
   pub some : 1 ≤ q.taken
   pub long : length q.ask ≤ 1024 * q.taken
   pub working : q.working ≡ true → (packet_count q.size ≤ q.taken) × (q.answer ≡ None)
+  pub whole : q.answer ≡ None → q.working ≡ false → length q.ask ≡ min q.size (1024 * q.taken)
 
 abbrev pub SlotsRight : List Server → Type 0
 SlotsRight xs = AllByRecursion (λ v. AllByRecursion SlotRight v.slots) xs
@@ -56,21 +59,22 @@ pub record JobFits (xs : List Server) (job : Job) : Type 0 where
 
 -- so it is for all jobs, and no two jobs are of one request
 pub record JobsRight (xs : List Server) (jobs : Jobs) : Type 0 where
-  pub waiting : AllByRecursion (JobFits xs) jobs.waiting
-  pub worked : AllByRecursion (JobFits xs) jobs.worked
-  pub once : (t r : ℕ) → count_by (is_job t r) jobs.waiting + count_by (is_job t r) jobs.worked ≤ 1
+  pub out : AllByRecursion (JobFits xs) jobs.out
+  pub once : (t r : ℕ) → count_by (is_job t r) jobs.out ≤ 1
 
 -- what a packet that is read tells of its number and its body
 pub record Readable (h : MessageHeader) (body : List ℕ) : Type 0 where
   pub low : h.kind ≡ Request → h.number < packet_count h.size
   pub short : h.kind ≡ Request → length body ≤ 1024
   pub none : h.kind ≡ Rfr → body ≡ []
+  pub sized : h.kind ≡ Request → length body ≡ part_size h.size h.number
 
 pub front-right : (l : Lists) (h : MessageHeader) → front_header l.ring ≡ Some h → Readable h (front_body l.ring)
 front-right l h e = record {
   low = λ k. request-number h (message_of-spells h _ e).in_range k;
   short = λ k. let size = request-body h _ e k in omega arith;
   none = λ k. rfr-body h _ e k;
+  sized = λ k. request-body h _ e k;
 }
 
 -- one packet more
@@ -101,6 +105,18 @@ next-short Rfr q h body g short none = rw (none refl) (omega arith)
 next-short Cr q h body g short none = absurd g
 next-short Response q h body g short none = absurd g
 
+-- one packet more has its part of the bytes
+next-whole : (k : Kind) (q : Served) (h : MessageHeader) (body : List ℕ) → GoesOn k q h → h.number ≡ q.taken → (k ≡ Request → length body ≡ part_size h.size h.number) → SlotRight q → q.answer ≡ None → q.working ≡ false → length (q.ask ++ body) ≡ min q.size (1024 * (q.taken + 1))
+next-whole Request q h body g n sized s none idle =
+    let size = g.1 in
+    let piece : length body ≡ min 1024 (h.size - 1024 * h.number) = sized refl in
+    let was = s.whole none idle in
+    let sum : length (q.ask ++ body) ≡ length q.ask + length body = length-append q.ask body in
+    omega arith
+next-whole Rfr q h body g n sized s none idle = let past : is_past_end q.size None h.number ≡ false = subst (λ (a : Option (List ℕ)). is_past_end q.size a h.number ≡ false) none g.1 in cc
+next-whole Cr q h body g n sized s none idle = absurd g
+next-whole Response q h body g n sized s none idle = absurd g
+
 next-right : (q : Served) (h : MessageHeader) (body : List ℕ) → Readable h body → h.number ≡ q.taken → GoesOn h.kind q h → SlotRight q → SlotRight (next_packet body q)
 next-right q h body f n g s =
     let short = next-short h.kind q h body g f.short f.none in
@@ -111,18 +127,20 @@ next-right q h body f n g s =
       some = omega arith;
       long = omega arith;
       working = λ w. let k = s.working w in let le = k.0 in (omega arith, k.1);
+      whole = next-whole h.kind q h body g n f.sized s;
     }
 
-first-right : (h : MessageHeader) (body : List ℕ) → h.kind ≡ Request → Readable h body → SlotRight (first_packet h.request h body)
-first-right h body k f =
+first-right : (h : MessageHeader) (body : List ℕ) → h.kind ≡ Request → h.number ≡ 0 → Readable h body → SlotRight (first_packet h.request h body)
+first-right h body k zero f =
     let above = packet_count_above h.size in
     let short = f.short k in
-    record { taken = omega arith; some = omega arith; long = omega arith; working = λ w. absurd (cc) }
+    let piece : length body ≡ min 1024 (h.size - 1024 * h.number) = f.sized k in
+    record { taken = omega arith; some = omega arith; long = omega arith; working = λ w. absurd (cc); whole = λ none idle. omega arith }
 
 pub took-right : (going : Option Served) (slots : List Served) (h : MessageHeader) (body : List ℕ) → Readable h body → TakesOf going slots h → AllByRecursion SlotRight slots → AllByRecursion SlotRight (took_packet h.request (Some h) body slots)
 took-right None slots h body f t a =
     let none : list_any (is_request h.request) slots ≡ false = t.2 in
-    rw none (all-add SlotRight (without_first (in_slot_of h.request) slots) (first_packet h.request h body) (all-without SlotRight (in_slot_of h.request) slots a) (first-right h body t.0 f))
+    rw none (all-add SlotRight (without_first (in_slot_of h.request) slots) (first_packet h.request h body) (all-without SlotRight (in_slot_of h.request) slots a) (first-right h body t.0 t.1 f))
 took-right (Some q) slots h body f t a =
     let any : list_any (is_request h.request) slots ≡ true = any-find (is_request h.request) slots q t.0 in
     rw any (all-first SlotRight SlotRight (is_request h.request) (next_packet body) slots (λ x k. k)
@@ -142,12 +160,12 @@ pub asked-open : (q : Served) → q.taken < packet_count q.size → SlotRight q 
 asked-open q lt s = open-by q.answer q.working q refl refl lt s
 
 pub given-right : (q : Served) → q.taken ≡ packet_count q.size → q.answer ≡ None → SlotRight q → SlotRight (given q)
-given-right q whole none s = record { taken = s.taken; some = s.some; long = omega arith; working = λ w. (omega arith, none) }
+given-right q whole none s = record { taken = s.taken; some = s.some; long = omega arith; working = λ w. (omega arith, none); whole = λ a idle. absurd (cc) }
 
 pub answered-right : (answer : List ℕ) (q : Served) → q.taken ≡ packet_count q.size → SlotRight q → SlotRight (answered answer q)
 answered-right answer q whole s =
     let above = packet_count_above (length answer) in
-    record { taken = (omega arith, omega arith); some = s.some; long = s.long; working = λ w. absurd (cc) }
+    record { taken = (omega arith, omega arith); some = s.some; long = omega arith; working = λ w. absurd (cc); whole = λ a idle. absurd (cc) }
 
 -- a request that runs stands whole in its slot, with no answer
 pub record Ready (xs : List Server) (t r : ℕ) : Type 0 where
@@ -177,10 +195,17 @@ job-ready xs job s h =
     record { request = h.request; stands = h.stands; whole = fits-whole h.request right h.working; unanswered = (right.working h.working).1 }
 
 -- the job that finishes
-pub front-job : (l : Lists) (t r y : ℕ) (ask : List ℕ) → JobsRight l.servers l.jobs → (m : MayFinish l t r y ask) → JobFits l.servers m.job
-front-job l t r y ask j m = all-at (JobFits l.servers) l.jobs.worked 0 m.job j.worked m.is_front
+pub out-job : (l : Lists) (t r : ℕ) (job : Job) → JobsRight l.servers l.jobs → find (is_job t r) l.jobs.out ≡ Some job → JobFits l.servers job
+out-job l t r job j is = all-found (JobFits l.servers) (is_job t r) l.jobs.out job j.out is
+
+-- a job that is found is of that request
+pub job-number : (t r : ℕ) (jobs : List Job) (job : Job) → find (is_job t r) jobs ≡ Some job → (job.session ≡ t) × (job.request ≡ r)
+job-number t r jobs job is =
+    let parts = and_parts (job.session == t) (job.request == r) (find-passes (is_job t r) jobs job is) in
+    (eqb-true job.session t parts.0, eqb-true job.request r parts.1)
 
 pub run-ready : (l : Lists) (t r y : ℕ) (ask : List ℕ) → SlotsRight l.servers → JobsRight l.servers l.jobs → MayServe l t r y ask ⊎ MayFinish l t r y ask → Ready l.servers t r
 run-ready l t r y ask s j (inl m) = whole-ready l t r m.has
 run-ready l t r y ask s j (inr m) =
-    rw (m.of_session, m.of_request) (job-ready l.servers m.job s (front-job l t r y ask j m))
+    let of = job-number t r l.jobs.out m.job m.is_out in
+    rw (← of.0, ← of.1) (job-ready l.servers m.job s (out-job l t r m.job j m.is_out))

@@ -3,6 +3,7 @@ use Rattle.std.proofs.Common.{◌≡◌, ◌<◌, ◌+◌, ◌-◌, ℕ, nat_lt,
 use Rattle.std.specs.Prelude.{option_map}
 use Rattle.std.specs.List.{find, slice_set, AllByRecursion}
 use Rattle.std.proofs.lemmas.Bool.{eqb-true}
+use Rattle.std.proofs.lemmas.List.{length-append}
 use Rattle.packet_header.specs.Header.{HasLength, MessageLength}
 use Rattle.packet_header.specs.Parts.{packet_count, part}
 use Rattle.packet_header.specs.declared.packet.Kind.TheVariants.{Request, Rfr, Cr, Response}
@@ -29,6 +30,8 @@ use Rattle.rpc_laws.specs.declared.tables.Way.{Way}
 use Rattle.rpc_laws.specs.BufferSafety.{EachFact, SpellsOwn, SentRight, RightAt, changed, nodes_at}
 use Rattle.rpc_laws.specs.Calls.{is_active, asked_packets}
 use Rattle.rpc_laws.specs.NodeLists.{after, new_lists}
+use Rattle.rpc_laws.specs.Pacing.{due_of}
+use Rattle.rpc_laws.specs.UsualLimits.{with_ring}
 use Rattle.rpc_laws.specs.Packets.{client_packet, call_packet, ask_packet, request_packet, reply_packet, owner_packet}
 use Rattle.rpc_laws.specs.Requests.{is_server, is_request, in_slot_of}
 use Rattle.rpc_laws.specs.Sessions.{is_client}
@@ -37,7 +40,7 @@ use Rattle.end_laws.proofs.Allowed.{May, MaySend}
 use Rattle.end_laws.proofs.Courses.{AtNode, Ends, Course, over, in_net, made, at_node, pairs, client_fact, server_fact, paired, noted_at, moved-node}
 use Rattle.end_laws.proofs.JobLemmas.{jobs-right, jobs-added}
 use Rattle.end_laws.proofs.ListLemmas.{Placed, all-found, all-map, all-at, all-add, set-other, set-placed, add-placed, find-add}
-use Rattle.end_laws.proofs.QueueLemmas.{Stood, QueueRight, RightNode, slots-right, queue-after, queued-right}
+use Rattle.end_laws.proofs.QueueLemmas.{Stood, QueueRight, RightNode, slots-right, queue-after, queued-right, numbers-right}
 use Rattle.end_laws.proofs.Rights.{TakenRight, SlotRight}
 use Rattle.end_laws.proofs.SlotLemmas.{Apart, sound-stays, slot-of-request}
 use Rattle.end_laws.proofs.Walks.{Stays}
@@ -109,12 +112,18 @@ spells-own nodes n l peer o k head body is i m =
       own = m.own;
       to_peer = m.to_peer;
       long = m.long;
+      bytes = m.bytes;
       spells = rw m.whole (spells-append m.out.packet head m.out.body m.in_range m.has_head m.long long);
       whole = m.whole;
     }
 
+none-owns : {A : Type 0} (l : Lists) (k : ℕ) (out : Outgoing) → owner_packet l Control k ≡ Some out → A
+none-owns l k out e = cc
+
 pub sent-right : (nodes : List Lists) (n : ℕ) (hand : Option InFlight) (l : Lists) (e : Event) (first second : List ℕ) → slice_get nodes n ≡ Some l → RightNode l → May hand l e first second → SentRight nodes n e first second
-sent-right nodes n hand l (Sent peer o k) first second is i m = spells-own nodes n l peer o k first second is i m
+sent-right nodes n hand l (Sent peer (Ask s r) k) first second is i m = spells-own nodes n l peer (Ask s r) k first second is i m
+sent-right nodes n hand l (Sent peer (Reply t r) k) first second is i m = spells-own nodes n l peer (Reply t r) k first second is i m
+sent-right nodes n hand l (Sent peer Control k) first second is i m = none-owns l k m.out m.own
 sent-right nodes n hand l _ first second is i m = tt
 
 -- a node stays right by its own facts
@@ -122,8 +131,9 @@ pub right-stays : Stays RightNode
 right-stays hand clock l f a i = record {
   sound = sound-stays clock l f i.sound;
   slots = slots-right hand l f.event f.first f.second i.jobs a.may i.slots;
-  queue = all-map _ _ _ (λ q. queue-after hand l f.event f.first f.second q.owner q.number i.sound a.may) (queued-right hand l f.event f.first f.second a.may i.queue);
+  queue = all-map _ _ _ (λ q. queue-after hand l f.event f.first f.second q.owner q.number i.sound a.may) (queued-right hand l f.event f.first f.second (due_of clock f.event l.paces) a.may i.queue);
   jobs = jobs-right hand l f.event f.first f.second i a.may;
+  numbers = numbers-right hand l f.event f.first f.second a.may i.numbers;
 }
 
 server-added : (xs : List Server) (y : Server) (o : Owner) (k : ℕ) → QueueRight xs o k → QueueRight (xs ++ y ∷ []) o k
@@ -133,7 +143,7 @@ server-added xs y (Reply t r) k h = record { server = h.server; found = find-add
 
 -- so it does by a pairing
 pub right-client : (clock n m credits : ℕ) (client server : Lists) → RightNode client → RightNode (after clock client (client_fact n m credits client server))
-right-client clock n m credits client server i = record { sound = i.sound; slots = i.slots; queue = i.queue; jobs = i.jobs }
+right-client clock n m credits client server i = record { sound = i.sound; slots = i.slots; queue = i.queue; jobs = i.jobs; numbers = i.numbers }
 
 pub right-served : (clock m n credits : ℕ) (client server : Lists) → RightNode server → RightNode (after clock server (server_fact n m credits client server))
 right-served clock m n credits client server i = record {
@@ -141,6 +151,7 @@ right-served clock m n credits client server i = record {
   slots = all-add (λ v. AllByRecursion SlotRight v.slots) server.servers _ i.slots tt;
   queue = all-map _ _ _ (λ q. server-added server.servers _ q.owner q.number) i.queue;
   jobs = jobs-added server.servers _ server.jobs i.jobs;
+  numbers = ap (λ n. n + 1) i.numbers ∙ sym (length-append server.servers _);
 }
 
 abbrev pub AllRight : Moment → Type 0
@@ -154,13 +165,13 @@ right-noted w n l f a i =
 pub right-net : (w : Moment) (f : Fact) → f.who ≡ Net → AllRight w → AllRight (moved w f)
 right-net w f who i = subst (λ (p : Who). Placed (λ n l. RightNode l) (nodes_at w.clock p w.nodes f)) (sym who) i
 
-pub right-new : (me ring : ℕ) → RightNode (new_lists me ring)
-right-new me ring = record { sound = tt; slots = tt; queue = tt; jobs = record { waiting = tt; worked = tt; once = λ t r. omega arith } }
+pub right-new : (me ring : ℕ) → RightNode (new_lists me (with_ring ring))
+right-new me ring = record { sound = tt; slots = tt; queue = tt; jobs = record { out = tt; once = λ t r. omega arith }; numbers = refl }
 
-pub right-made : (w : Moment) (ring : ℕ) → AllRight w → Placed (λ n l. RightNode l) (w.nodes ++ new_lists (length w.nodes) ring ∷ [])
-right-made w ring i = add-placed (λ n l. RightNode l) w.nodes (new_lists (length w.nodes) ring) (right-new (length w.nodes) ring) i
+pub right-made : (w : Moment) (ring : ℕ) → AllRight w → Placed (λ n l. RightNode l) (w.nodes ++ new_lists (length w.nodes) (with_ring ring) ∷ [])
+right-made w ring i = add-placed (λ n l. RightNode l) w.nodes (new_lists (length w.nodes) (with_ring ring)) (right-new (length w.nodes) ring) i
 
-pub right-paired : (w : Moment) (n m credits : ℕ) (client server : Lists) → Ends w n m client server → AllRight w → AllRight (paired w n m credits client server)
+pub right-paired : (w : Moment) (n m credits : ℕ) (client server : Lists) → Ends w n m credits client server → AllRight w → AllRight (paired w n m credits client server)
 right-paired w n m credits client server e i =
     let one : Fact = client_fact n m credits client server in
     let other : Fact = server_fact n m credits client server in

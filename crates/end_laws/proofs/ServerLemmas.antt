@@ -1,5 +1,5 @@
 -- The requests of a node's server sessions stay those of calls that began, by each fact but a pairing.
-use Rattle.std.proofs.Common.{◌≡◌, ◌<◌, ◌≤◌, ◌+◌, ◌*◌, ◌&&◌, ◌||◌, ℕ, Bool, true, false, not, cond, List, [], ◌++◌, length, take, Option, Some, None, slice_get, refl, sym, ap, ◌∙◌, subst, arith, append-nil}
+use Rattle.std.proofs.Common.{◌≡◌, ◌<◌, ◌≤◌, ◌+◌, ◌*◌, ◌||◌, ℕ, Bool, true, false, not, cond, List, [], ◌++◌, length, take, Option, Some, None, slice_get, refl, sym, ap, ◌∙◌, subst, arith, append-nil}
 use Rattle.std.specs.Prelude.{is_none}
 use Rattle.std.specs.List.{find, list_any, AllByRecursion}
 use Rattle.std.proofs.lemmas.Bool.{eqb-true}
@@ -11,7 +11,7 @@ use Rattle.packet_header.proofs.PartsLemmas.{part-front, front-whole}
 use Rattle.rpc_base.specs.Tables.{at_first, without_first}
 use Rattle.rpc_base.proofs.TakingLemmas.{find-passes}
 use Rattle.rpc_base.specs.declared.event.Event.{Event}
-use Rattle.rpc_base.specs.declared.event.Event.TheVariants.{PairedServer, Took, Given, Ran}
+use Rattle.rpc_base.specs.declared.event.Event.TheVariants.{Accepted, Ended, PairedServer, Took, Given, Ran}
 use Rattle.rpc_base.specs.declared.owner.Owner.TheVariants.{Ask, Reply, Control}
 use Rattle.rpc_laws.specs.declared.tables.InFlight.{InFlight}
 use Rattle.rpc_laws.specs.declared.tables.Lists.{Lists}
@@ -20,7 +20,6 @@ use Rattle.rpc_laws.specs.declared.tables.Server.{Server}
 use Rattle.rpc_laws.specs.declared.tables.Way.{Way}
 use Rattle.rpc_laws.specs.Front.{front_header, front_body}
 use Rattle.rpc_laws.specs.Requests.{is_server, is_request, in_slot_of, first_packet, next_packet, took_packet, given, servers_after}
-use Rattle.rpc_laws.specs.Service.{is_background}
 use Rattle.end_laws.specs.TwoEnds.{is_away}
 use Rattle.end_laws.proofs.Allowed.{GoesOn, TakesOf, May}
 use Rattle.end_laws.proofs.ClientLemmas.{is_quiet, front-says}
@@ -81,13 +80,13 @@ module _ (k : Known) (n : ℕ) where
       record { start = s.start; begun = s.begun; way_is = s.way_is; req_type = s.req_type; size = s.size; ask = first ∙ part-front s.start.what.ask 0; answer = tt }
 
   -- the bytes went away only from a whole request
-  away-by : (working : Bool) (answer : Option (List ℕ)) (background : Bool) (q : Served) → q.working ≡ working → q.answer ≡ answer → SlotRight q → ((working || not (is_none answer)) && background) ≡ true → packet_count q.size ≤ q.taken
-  away-by true answer background q e f s h = (s.working e).0
-  away-by false None background q e f s h = cc
-  away-by false (Some a) background q e f s h = (subst (λ (o : Option (List ℕ)). TakenRight q.taken q.size o) f s.taken).0
+  away-by : (working : Bool) (answer : Option (List ℕ)) (q : Served) → q.working ≡ working → q.answer ≡ answer → SlotRight q → (working || not (is_none answer)) ≡ true → packet_count q.size ≤ q.taken
+  away-by true answer q e f s h = (s.working e).0
+  away-by false None q e f s h = cc
+  away-by false (Some a) q e f s h = (subst (λ (o : Option (List ℕ)). TakenRight q.taken q.size o) f s.taken).0
 
   here-by : (q : Served) (b : Bool) → is_away q ≡ b → SlotRight q → q.taken < packet_count q.size → b ≡ false
-  here-by q true e s lt = let le = away-by q.working q.answer (is_background q.req_type) q refl refl s e in absurd (omega arith)
+  here-by q true e s lt = let le = away-by q.working q.answer q refl refl s e in absurd (omega arith)
   here-by q false e s lt = refl
 
   next-request : (way : Way) (h : MessageHeader) (body : List ℕ) (q : Served) → q.number ≡ h.request → h.number ≡ q.taken → is_away q ≡ false → OfCall way h body → GoodServed k n way q → GoodServed k n way (next_packet body q)
@@ -152,14 +151,14 @@ module _ (k : Known) (n : ℕ) where
 -- what is known becomes more
 module _ (j k : Known) (n : ℕ) (later : Later j k) where
   -- a request becomes a job
-  given-good : (way : Way) (q : Served) → is_background q.req_type ≡ true → GoodServed j n way q → GoodServed j n way (given q)
-  given-good way q background g = record {
+  given-good : (way : Way) (q : Served) → GoodServed j n way q → GoodServed j n way (given q)
+  given-good way q g = record {
     start = g.start;
     begun = g.begun;
     way_is = g.way_is;
     req_type = g.req_type;
     size = g.size;
-    ask = sym (ap (λ (b : Bool). cond b [] (take (1024 * q.taken) g.start.what.ask)) background);
+    ask = refl;
     answer = g.answer;
   }
 
@@ -174,6 +173,8 @@ module _ (j k : Known) (n : ℕ) (later : Later j k) where
 
   pub servers-quiet : (hand : Option InFlight) (l : Lists) (e : Event) (first second : List ℕ) → is_quiet e ≡ true → May hand l e first second → SlotsRight l.servers → AllByRecursion (λ a. Speaks j a.peer n a.bytes) l.ring → Placed (GoodServer j n) l.servers → Placed (GoodServer k n) (servers_after e second (front_header l.ring) (front_body l.ring) l.servers)
   servers-quiet hand l (PairedServer t peer s credits) first second quiet m right ring g = absurd m
+  servers-quiet hand l (Accepted t peer s credits) first second quiet m right ring g = absurd m
+  servers-quiet hand l (Ended t) first second quiet m right ring g = absurd m
   servers-quiet hand l (Took (Ask s r) i) first second quiet m right ring g = λ i z is. server-later j k later n i z (g i z is)
   servers-quiet hand l (Took Control i) first second quiet m right ring g = λ i z is. server-later j k later n i z (g i z is)
   servers-quiet hand l (Took (Reply t r) i) first second quiet m right ring g =
@@ -195,9 +196,6 @@ module _ (j k : Known) (n : ℕ) (later : Later j k) where
       let v = w.server in
       slots-first t (at_first (is_request r) given) l.servers v w.found
       (λ slots. all-first (GoodServed j n v.way) (GoodServed k n v.way) (is_request r) given v.slots (served-later j k later n v.way)
-      (λ z is z_good. let found = w.is_there in
-      let same : w.request ≡ z = cc in
-      let background : is_background z.req_type ≡ true = subst (λ (x : Served). is_background x.req_type ≡ true) same m.background in
-      served-later j k later n v.way (given z) (given-good v.way z background z_good)) slots) g
+      (λ z is z_good. served-later j k later n v.way (given z) (given-good v.way z z_good)) slots) g
   servers-quiet hand l (Ran t r y) first second quiet m right ring g = absurd (cc)
   servers-quiet hand l _ first second quiet m right ring g = λ i z is. server-later j k later n i z (g i z is)

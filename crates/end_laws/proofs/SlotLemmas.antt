@@ -7,7 +7,7 @@ use Rattle.std.proofs.Common.{eq-eqb}
 use Rattle.packet_header.specs.declared.packet.MessageHeader.{MessageHeader}
 use Rattle.rpc_base.specs.Tables.{at_first, without_first}
 use Rattle.rpc_base.specs.declared.event.Event.{Event}
-use Rattle.rpc_base.specs.declared.event.Event.TheVariants.{PairedServer, Took, Given, Ran}
+use Rattle.rpc_base.specs.declared.event.Event.TheVariants.{PairedServer, Accepted, Ended, Took, Given, Ran}
 use Rattle.rpc_base.specs.declared.owner.Owner.TheVariants.{Ask, Reply, Control}
 use Rattle.rpc_base.specs.declared.fact.Fact.{Fact}
 use Rattle.rpc_laws.specs.declared.tables.Lists.{Lists}
@@ -16,7 +16,7 @@ use Rattle.rpc_laws.specs.declared.tables.Server.{Server}
 use Rattle.rpc_laws.specs.Front.{front_header, front_body}
 use Rattle.rpc_laws.specs.NodeLists.{after}
 use Rattle.rpc_laws.specs.Requests.{is_server, is_request, in_slot_of, first_packet, next_packet, took_packet, given, answered, servers_after}
-use Rattle.end_laws.proofs.ListLemmas.{false-true, all-first, all-add}
+use Rattle.end_laws.proofs.ListLemmas.{false-true, all-first, all-add, all-without}
 
 or-false : (a b : Bool) → (a || b) ≡ false → (a ≡ false) × (b ≡ false)
 or-false true b h = cc
@@ -139,6 +139,8 @@ Sound l = AllByRecursion (λ v. Apart v.slots) l.servers
 
 sound-servers : (e : Event) (answer : List ℕ) (head : Option MessageHeader) (body : List ℕ) (xs : List Server) → AllByRecursion (λ v. Apart v.slots) xs → AllByRecursion (λ v. Apart v.slots) (servers_after e answer head body xs)
 sound-servers (PairedServer t peer s credits) answer head body xs h = all-add (λ v. Apart v.slots) xs _ h tt
+sound-servers (Accepted t peer s credits) answer head body xs h = all-add (λ v. Apart v.slots) xs _ h tt
+sound-servers (Ended t) answer head body xs h = all-without (λ v. Apart v.slots) (is_server t) xs h
 sound-servers (Took (Reply t r) k) answer head body xs h =
     all-first (λ v. Apart v.slots) (λ v. Apart v.slots) (is_server t) _ xs (λ v a. a) (λ v is a. apart-took r head body v.slots a) h
 sound-servers (Took (Ask s r) k) answer head body xs h = h

@@ -1,9 +1,9 @@
 -- A claim of what is sent goes with the datagram wherever it is.
-use Rattle.std.proofs.Common.{◌≡◌, ℕ, zero, suc, List, [], ◌∷◌, ◌++◌, length, take, drop, Option, Some, None, slice_get, refl, sym, ap, ◌∙◌, subst}
+use Rattle.std.proofs.Common.{◌≡◌, Bool, true, false, cond, ℕ, zero, suc, List, [], ◌∷◌, ◌++◌, length, take, drop, Option, Some, None, slice_get, refl, sym, ap, ◌∙◌, subst}
 use Rattle.std.specs.Prelude.{IfSome, option_to_list}
 use Rattle.std.specs.List.{AllByRecursion}
 use Rattle.rpc_base.specs.declared.event.Event.{Event}
-use Rattle.rpc_base.specs.declared.event.Event.TheVariants.{Sent, Arrived, Took, Again, Dropped, Repeated, Carried, Lost}
+use Rattle.rpc_base.specs.declared.event.Event.TheVariants.{Heard, Sent, Arrived, Took, Again, Dropped, Repeated, Carried, Lost}
 use Rattle.rpc_base.specs.declared.fact.Fact.{Fact}
 use Rattle.rpc_base.specs.declared.fact.Who.{Who}
 use Rattle.rpc_base.specs.declared.fact.Who.TheVariants.{Node, Net}
@@ -13,7 +13,9 @@ use Rattle.rpc_laws.specs.declared.tables.Lists.{Lists}
 use Rattle.rpc_laws.specs.BufferSafety.{changed, nodes_at}
 use Rattle.rpc_laws.specs.InFlight.{flight_at, flight_after_node, flight_after_net}
 use Rattle.rpc_laws.specs.NodeLists.{after, new_lists}
-use Rattle.rpc_laws.specs.Queues.{ring_after}
+use Rattle.rpc_laws.specs.UsualLimits.{with_ring}
+use Rattle.rpc_laws.specs.Front.{is_message, is_control}
+use Rattle.rpc_laws.specs.Queues.{ring_after, inbox_after}
 use Rattle.end_laws.specs.Genuine.{Travels}
 use Rattle.end_laws.specs.Moments.{Moment, moved, hand_of, hand_after}
 use Rattle.end_laws.proofs.Allowed.{May}
@@ -56,6 +58,7 @@ travels-map P Q w f t = record {
   flight = all-map _ _ w.flight (λ c. f c.from c.to c.bytes) t.flight;
   hand = if-map _ _ w.hand (λ c. f c.from c.to c.bytes) t.hand;
   rings = λ n l is. all-map _ _ l.ring (λ a. f a.peer n a.bytes) (t.rings n l is);
+  inboxes = λ n l is. all-map _ _ l.inbox (λ a. f a.peer n a.bytes) (t.inboxes n l is);
 }
 
 module _ (P : ℕ → ℕ → List ℕ → Type 0) where
@@ -77,6 +80,7 @@ module _ (P : ℕ → ℕ → List ℕ → Type 0) where
     flight = subst (λ (p : Who). AllByRecursion OfCopy (flight_at p f.event f.first f.second w.flight)) (sym who) (flight-net f.event w.flight t.flight);
     hand = subst (λ (p : Who). IfSome (hand_after p f.event w.flight w.hand) OfCopy) (sym who) (hand-net f.event w.flight w.hand t.flight t.hand);
     rings = subst (λ (p : Who). Placed (λ n l. AllByRecursion (λ a. P a.peer n a.bytes) l.ring) (nodes_at w.clock p w.nodes f)) (sym who) t.rings;
+    inboxes = subst (λ (p : Who). Placed (λ n l. AllByRecursion (λ a. P a.peer n a.bytes) l.inbox) (nodes_at w.clock p w.nodes f)) (sym who) t.inboxes;
   }
 
   flight-node : (n : ℕ) (e : Event) (head body : List ℕ) (copies : List InFlight) → SentGives P n e head body → AllByRecursion OfCopy copies → AllByRecursion OfCopy (flight_after_node n e head body copies)
@@ -87,12 +91,24 @@ module _ (P : ℕ → ℕ → List ℕ → Type 0) where
   hand-some None c e h = cc
   hand-some (Some d) c e h = let same : d ≡ c = cc in rw (← same) h
 
+  added-all : (n : ℕ) (b : Bool) (a : Arrival) (xs : List Arrival) → P a.peer n a.bytes → AllByRecursion (λ a. P a.peer n a.bytes) xs → AllByRecursion (λ a. P a.peer n a.bytes) (cond b (xs ++ a ∷ []) xs)
+  added-all n true a xs here h = all-add (λ a. P a.peer n a.bytes) xs a h here
+  added-all n false a xs here h = h
+
   ring-node : (hand : Option InFlight) (l : Lists) (e : Event) (first second : List ℕ) → IfSome hand OfCopy → May hand l e first second → AllByRecursion (λ a. P a.peer l.me a.bytes) l.ring → AllByRecursion (λ a. P a.peer l.me a.bytes) (ring_after e first l.ring)
-  ring-node hand l (Arrived peer) first second k m h = all-add (λ a. P a.peer l.me a.bytes) l.ring _ h (hand-some hand _ m k)
+  ring-node hand l (Arrived peer) first second k m h = added-all l.me (is_message first) (record { peer = peer; bytes = first }) l.ring (hand-some hand _ m.in_hand k) h
   ring-node hand l (Took o j) first second k m h = all-drop (λ a. P a.peer l.me a.bytes) 1 l.ring h
   ring-node hand l (Again o j) first second k m h = all-drop (λ a. P a.peer l.me a.bytes) 1 l.ring h
   ring-node hand l (Dropped why) first second k m h = all-drop (λ a. P a.peer l.me a.bytes) 1 l.ring h
   ring-node hand l _ first second k m h = h
+
+  inbox-node : (hand : Option InFlight) (l : Lists) (e : Event) (first second : List ℕ) → IfSome hand OfCopy → May hand l e first second → AllByRecursion (λ a. P a.peer l.me a.bytes) l.inbox → AllByRecursion (λ a. P a.peer l.me a.bytes) (inbox_after e first l.inbox)
+  inbox-node hand l (Arrived peer) first second k m h = added-all l.me (is_control first) (record { peer = peer; bytes = first }) l.inbox (hand-some hand _ m.in_hand k) h
+  inbox-node hand l Heard first second k m h = all-drop (λ a. P a.peer l.me a.bytes) 1 l.inbox h
+  inbox-node hand l _ first second k m h = h
+
+  abbrev InboxIs : ℕ → Lists → Type 0
+  InboxIs n l = AllByRecursion (λ a. P a.peer n a.bytes) l.inbox
 
   abbrev RingIs : ℕ → Lists → Type 0
   RingIs n l = AllByRecursion (λ a. P a.peer n a.bytes) l.ring
@@ -102,31 +118,38 @@ module _ (P : ℕ → ℕ → List ℕ → Type 0) where
       let who : f.who ≡ Node n = a.allowed.who ∙ ap Node a.me in
       let was : RingIs l.me l = subst (λ (m : ℕ). RingIs m l) (sym a.me) (t.rings n l a.is_node) in
       let now : RingIs n (after w.clock l f) = subst (λ (m : ℕ). RingIs m (after w.clock l f)) a.me (ring-node w.hand l f.event f.first f.second t.hand a.allowed.may was) in
+      let was_in : InboxIs l.me l = subst (λ (m : ℕ). InboxIs m l) (sym a.me) (t.inboxes n l a.is_node) in
+      let now_in : InboxIs n (after w.clock l f) = subst (λ (m : ℕ). InboxIs m (after w.clock l f)) a.me (inbox-node w.hand l f.event f.first f.second t.hand a.allowed.may was_in) in
       let k : Travels P (noted_at w n l f) = record {
         flight = subst (λ (p : Who). AllByRecursion OfCopy (flight_at p f.event f.first f.second w.flight)) (sym who) (flight-node n f.event f.first f.second w.flight g t.flight);
         hand = t.hand;
         rings = set-placed RingIs w.nodes n l (after w.clock l f) a.is_node now (λ j z ne is. t.rings j z is);
+        inboxes = set-placed InboxIs w.nodes n l (after w.clock l f) a.is_node now_in (λ j z ne is. t.inboxes j z is);
       } in
       subst (Travels P) (sym (moved-node w n l f a)) k
 
-  pub rings-made : (w : Moment) (ring : ℕ) → Travels P w → Placed RingIs (w.nodes ++ new_lists (length w.nodes) ring ∷ [])
-  rings-made w ring t = add-placed RingIs w.nodes (new_lists (length w.nodes) ring) tt t.rings
+  pub rings-made : (w : Moment) (ring : ℕ) → Travels P w → Placed RingIs (w.nodes ++ new_lists (length w.nodes) (with_ring ring) ∷ [])
+  rings-made w ring t = add-placed RingIs w.nodes (new_lists (length w.nodes) (with_ring ring)) tt t.rings
 
-  -- a node's fact that leaves its ring
-  rings-kept : (nodes : List Lists) (n clock : ℕ) (l : Lists) (f : Fact) → slice_get nodes n ≡ Some l → (after clock l f).ring ≡ l.ring → Placed RingIs nodes → Placed RingIs (changed clock (slice_get nodes n) n nodes f)
-  rings-kept nodes n clock l f is same t =
-      let ring : RingIs n (after clock l f) = subst (λ (r : List Arrival). AllByRecursion (λ a. P a.peer n a.bytes) r) (sym same) (t n l is) in
-      let placed = set-placed RingIs nodes n l (after clock l f) is ring (λ j z ne is. t j z is) in
-      subst (λ (o : Option Lists). Placed RingIs (changed clock o n nodes f)) (sym is) placed
+  pub inboxes-made : (w : Moment) (ring : ℕ) → Travels P w → Placed InboxIs (w.nodes ++ new_lists (length w.nodes) (with_ring ring) ∷ [])
+  inboxes-made w ring t = add-placed InboxIs w.nodes (new_lists (length w.nodes) (with_ring ring)) tt t.inboxes
 
-  pub travels-client : (w : Moment) (n m credits : ℕ) (client server : Lists) → Ends w n m client server → Travels P w → Travels P (moved w (client_fact n m credits client server))
+  -- a node's fact that leaves its ring, or its inbox
+  kept : (list : Lists → List Arrival) (nodes : List Lists) (n clock : ℕ) (l : Lists) (f : Fact) → slice_get nodes n ≡ Some l → list (after clock l f) ≡ list l → Placed (λ n l. AllByRecursion (λ a. P a.peer n a.bytes) (list l)) nodes → Placed (λ n l. AllByRecursion (λ a. P a.peer n a.bytes) (list l)) (changed clock (slice_get nodes n) n nodes f)
+  kept list nodes n clock l f is same t =
+      let here : AllByRecursion (λ a. P a.peer n a.bytes) (list (after clock l f)) = subst (λ (r : List Arrival). AllByRecursion (λ a. P a.peer n a.bytes) r) (sym same) (t n l is) in
+      let placed = set-placed (λ n l. AllByRecursion (λ a. P a.peer n a.bytes) (list l)) nodes n l (after clock l f) is here (λ j z ne is. t j z is) in
+      subst (λ (o : Option Lists). Placed (λ n l. AllByRecursion (λ a. P a.peer n a.bytes) (list l)) (changed clock o n nodes f)) (sym is) placed
+
+  pub travels-client : (w : Moment) (n m credits : ℕ) (client server : Lists) → Ends w n m credits client server → Travels P w → Travels P (moved w (client_fact n m credits client server))
   travels-client w n m credits client server e t = record {
     flight = t.flight;
     hand = t.hand;
-    rings = rings-kept w.nodes n w.clock client (client_fact n m credits client server) e.is_client refl t.rings;
+    rings = kept (λ l. l.ring) w.nodes n w.clock client (client_fact n m credits client server) e.is_client refl t.rings;
+    inboxes = kept (λ l. l.inbox) w.nodes n w.clock client (client_fact n m credits client server) e.is_client refl t.inboxes;
   }
 
-  pub travels-paired : (w : Moment) (n m credits : ℕ) (client server : Lists) → Ends w n m client server → Travels P w → Travels P (paired w n m credits client server)
+  pub travels-paired : (w : Moment) (n m credits : ℕ) (client server : Lists) → Ends w n m credits client server → Travels P w → Travels P (paired w n m credits client server)
   travels-paired w n m credits client server e t =
       let one : Fact = client_fact n m credits client server in
       let other : Fact = server_fact n m credits client server in
@@ -135,5 +158,6 @@ module _ (P : ℕ → ℕ → List ℕ → Type 0) where
       record {
         flight = t.flight;
         hand = t.hand;
-        rings = rings-kept (moved w one).nodes m w.clock server other at refl u.rings;
+        rings = kept (λ l. l.ring) (moved w one).nodes m w.clock server other at refl u.rings;
+        inboxes = kept (λ l. l.inbox) (moved w one).nodes m w.clock server other at refl u.inboxes;
       }

@@ -1,9 +1,7 @@
 -- What the two ends of a session hold is of one call.
-use Rattle.std.proofs.Common.{◌≡◌, ℕ, suc, List, [], ◌∷◌, Option, Some, None, refl, sym, ap, ◌∙◌, subst, Contains}
+use Rattle.std.proofs.Common.{◌≡◌, ℕ, suc, List, [], ◌∷◌, Option, Some, None, refl, sym, ap, subst, Contains}
 use Rattle.std.specs.Prelude.{IfSome}
 use Rattle.std.specs.List.{AllByRecursion}
-use Rattle.std.proofs.lemmas.Bool.{eqb-true}
-use Rattle.rpc_base.proofs.TakingLemmas.{find-passes}
 use Rattle.rpc_base.specs.declared.event.Event.TheVariants.{Ran}
 use Rattle.rpc_base.specs.declared.fact.Fact.{Fact}
 use Rattle.rpc_laws.specs.declared.tables.Asking.{Asking}
@@ -12,25 +10,20 @@ use Rattle.rpc_laws.specs.declared.tables.Job.{Job}
 use Rattle.rpc_laws.specs.declared.tables.Lists.{Lists}
 use Rattle.rpc_laws.specs.declared.tables.Progress.{Progress}
 use Rattle.rpc_laws.specs.declared.tables.Served.{Served}
-use Rattle.rpc_laws.specs.declared.tables.Server.{Server}
 use Rattle.rpc_laws.specs.declared.tables.Way.{Way}
 use Rattle.rpc_laws.specs.BufferSafety.{changed}
 use Rattle.rpc_laws.specs.Facts.{with_two}
 use Rattle.rpc_laws.specs.NodeLists.{after}
 use Rattle.rpc_laws.specs.OwnAnswer.{IsCallOf}
-use Rattle.rpc_laws.specs.Requests.{is_request}
 use Rattle.end_laws.specs.Moments.{Moment, moved, Always}
 use Rattle.end_laws.specs.TwoEnds.{HoldsCall, IsOfCall, IsOfJob, IsOfRun, IsOfSession, TwoEnds}
 use Rattle.end_laws.proofs.Courses.{Ends, Course, over, in_net, made, at_node, pairs, client_fact, paired}
 use Rattle.end_laws.proofs.GoodSteps.{good-net, good-made, good-node}
-use Rattle.end_laws.proofs.Known.{Known, Begin, GoodAnswer, GoodProgress, GoodCall, GoodClient, HasRun, GoodServed, GoodServer, GoodJob, GoodNode, Good, IsTrue, contains-more}
+use Rattle.end_laws.proofs.Known.{Known, Begin, GoodAnswer, GoodProgress, GoodCall, GoodClient, HasRun, GoodServed, GoodServer, GoodJob, Good, IsTrue, contains-more}
 use Rattle.end_laws.proofs.KnownLemmas.{if-map, ends-more}
-use Rattle.end_laws.proofs.ListLemmas.{Placed, all-both, all-map, all-found, all-add, set-placed}
+use Rattle.end_laws.proofs.ListLemmas.{Placed, all-map, all-add, set-placed}
 use Rattle.end_laws.proofs.OwnLaw.{good-paired}
 use Rattle.end_laws.proofs.OwnLemmas.{call-of}
-use Rattle.end_laws.proofs.RanLemmas.{job-start}
-use Rattle.end_laws.proofs.Rights.{JobFits}
-use Rattle.end_laws.proofs.ServerLemmas.{server-at}
 use Rattle.end_laws.proofs.SendsLaw.{AllRight, right-noted, right-net, right-made, right-paired}
 
 -- claims of each place are claims of all elements
@@ -52,32 +45,15 @@ module _ (k : Known) (is_true : IsTrue k) where
   served-of : (m : ℕ) (way : Way) (q : Served) → GoodServed k m way q → IsOfCall k.past m way q
   served-of m way q g = record { call = g.start.what.number; room = g.start.what.room; ask = g.start.what.ask; holds = holds-of m way q g }
 
-  -- a job, and the request that stands for it
-  job-of-call : (m : ℕ) (l : Lists) (job : Job) → GoodNode k m l → JobFits l.servers job → GoodJob k m job → IsOfJob k.past m l.servers job
-  job-of-call m l job node fits g =
-      let v = fits.stands.server in
-      let q = fits.request in
-      let at = server-at k m l.servers job.session v node.servers fits.stands.found in
-      let server = node.servers job.session v at.0 in
-      let served = all-found (GoodServed k m v.way) (is_request job.request) v.slots q server.slots fits.stands.is_there in
-      let number : q.number ≡ job.request = eqb-true q.number job.request (find-passes (is_request job.request) v.slots q fits.stands.is_there) in
-      let same : g.start ≡ served.start = job-start k m v q job.session job.request g.end g.is_end g.start g.begun server.end number served in
-      let ask : job.ask ≡ served.start.what.ask = g.own ∙ ap (λ (b : Begin). b.what.ask) same in
+  job-of-call : (m : ℕ) (job : Job) → GoodJob k m job → IsOfJob k.past m job
+  job-of-call m job g =
+      let a = g.start.what in
       record {
-        server = v;
-        found = fits.stands.found;
-        request = q;
-        stands = fits.stands.is_there;
-        working = fits.working;
-        of_type = g.req_type ∙ (ap (λ (b : Begin). b.what.req_type) same ∙ sym served.req_type);
-        call = served.start.what.number;
-        room = served.start.what.room;
-        holds = subst (λ (x : List ℕ). HoldsCall k.past m v.way q served.start.what.number served.start.what.room x) (sym ask) (holds-of m v.way q served);
+        node = g.end.home;
+        call = a.number;
+        room = a.room;
+        own = call-of k.past g.end.home g.end.client job.request g.start a.number m job.session job.request job.req_type job.ask (is_true.starts g.end.home g.end.client job.request g.start g.begun) refl (ap (λ (w : Way). w.peer) g.way_is) (ap (λ (w : Way). w.other) g.way_is) refl (sym g.req_type) (sym g.own);
       }
-
-  jobs-of : (m : ℕ) (l : Lists) (jobs : List Job) → GoodNode k m l → AllByRecursion (JobFits l.servers) jobs → AllByRecursion (GoodJob k m) jobs → AllByRecursion (IsOfJob k.past m l.servers) jobs
-  jobs-of m l jobs node fits good =
-      all-map (λ j. JobFits l.servers j × GoodJob k m j) (IsOfJob k.past m l.servers) jobs (λ j h. job-of-call m l j node h.0 h.1) (all-both (JobFits l.servers) (GoodJob k m) jobs fits good)
 
   run-of : (way : Way) (a : Asking) (p : Progress) (answer : Option ℕ) → GoodAnswer k way a p.request p.got p.parts answer → IfSome answer (IsOfRun k.past way a p)
   run-of way a p None h = tt
@@ -100,10 +76,8 @@ good-ends w i g =
     record {
       servers = λ m l is. subst (λ (past : List Fact). AllByRecursion (λ v. AllByRecursion (IsOfCall past m v.way) v.slots) l.servers) g.past
           (placed-all (GoodServer k m) (λ v. AllByRecursion (IsOfCall k.past m v.way) v.slots) l.servers (λ t v s. all-map (GoodServed k m v.way) (IsOfCall k.past m v.way) v.slots (served-of k g.is_true m v.way) s.slots) ((g.nodes m l is).servers));
-      waiting = λ m l is. subst (λ (past : List Fact). AllByRecursion (IsOfJob past m l.servers) l.jobs.waiting) g.past
-          (let node = g.nodes m l is in jobs-of k g.is_true m l l.jobs.waiting node ((i m l is).jobs.waiting) node.waiting);
-      worked = λ m l is. subst (λ (past : List Fact). AllByRecursion (IsOfJob past m l.servers) l.jobs.worked) g.past
-          (let node = g.nodes m l is in jobs-of k g.is_true m l l.jobs.worked node ((i m l is).jobs.worked) node.worked);
+      jobs = λ m l is. subst (λ (past : List Fact). AllByRecursion (IsOfJob past m) l.jobs.out) g.past
+          (all-map (GoodJob k m) (IsOfJob k.past m) l.jobs.out (job-of-call k g.is_true m) ((g.nodes m l is).jobs));
       clients = λ n l is. subst (λ (past : List Fact). AllByRecursion (λ x. AllByRecursion (λ c. IfSome c.progress (IsOfSession past n x.way c.what)) x.calls) l.clients) g.past
           (placed-all (GoodClient k n) (λ x. AllByRecursion (λ c. IfSome c.progress (IsOfSession k.past n x.way c.what)) x.calls) l.clients (λ i x s. all-map (GoodCall k n x.way) (λ c. IfSome c.progress (IsOfSession k.past n x.way c.what)) x.calls (call-is k g.is_true n x.way) s.calls) ((g.nodes n l is).clients));
     }
@@ -130,25 +104,12 @@ module _ (f : Fact) (past : List Fact) where
     answer = if-map (IsOfRun past way a p) (IsOfRun (f ∷ past) way a p) p.answer (λ size r. record { answer = r.answer; ran = contains-more f _ past r.ran; sized = r.sized; parts = r.parts }) h.answer;
   }
 
-  more-jobs : (m : ℕ) (servers : List Server) (jobs : List Job) → AllByRecursion (IsOfJob past m servers) jobs → AllByRecursion (IsOfJob (f ∷ past) m servers) jobs
-  more-jobs m servers jobs h =
-      all-map (IsOfJob past m servers) (IsOfJob (f ∷ past) m servers) jobs (λ j k. record {
-        server = k.server;
-        found = k.found;
-        request = k.request;
-        stands = k.stands;
-        working = k.working;
-        call = k.call;
-        room = k.room;
-        of_type = k.of_type;
-        holds = more-holds m k.server.way k.request k.call k.room j.ask k.holds;
-      }) h
+  more-jobs : (m : ℕ) (jobs : List Job) → AllByRecursion (IsOfJob past m) jobs → AllByRecursion (IsOfJob (f ∷ past) m) jobs
+  more-jobs m jobs h =
+      all-map (IsOfJob past m) (IsOfJob (f ∷ past) m) jobs (λ j k. record { node = k.node; call = k.call; room = k.room; own = more-call k.node k.call m j.session j.request j.req_type k.room j.ask k.own }) h
 
-  abbrev WaitingOf : List Fact → ℕ → Lists → Type 0
-  WaitingOf p m l = AllByRecursion (IsOfJob p m l.servers) l.jobs.waiting
-
-  abbrev WorkedOf : List Fact → ℕ → Lists → Type 0
-  WorkedOf p m l = AllByRecursion (IsOfJob p m l.servers) l.jobs.worked
+  abbrev JobsOf : List Fact → ℕ → Lists → Type 0
+  JobsOf p m l = AllByRecursion (IsOfJob p m) l.jobs.out
 
   abbrev ServersOf : List Fact → ℕ → Lists → Type 0
   ServersOf p m l = AllByRecursion (λ v. AllByRecursion (IsOfCall p m v.way) v.slots) l.servers
@@ -162,7 +123,7 @@ module _ (f : Fact) (past : List Fact) where
   more-clients : (n : ℕ) (l : Lists) → ClientsOf past n l → ClientsOf (f ∷ past) n l
   more-clients n l h = all-map (λ x. AllByRecursion (λ c. IfSome c.progress (IsOfSession past n x.way c.what)) x.calls) (λ x. AllByRecursion (λ c. IfSome c.progress (IsOfSession (f ∷ past) n x.way c.what)) x.calls) l.clients (λ x s. all-map (λ c. IfSome c.progress (IsOfSession past n x.way c.what)) (λ c. IfSome c.progress (IsOfSession (f ∷ past) n x.way c.what)) x.calls (λ c t. if-map (IsOfSession past n x.way c.what) (IsOfSession (f ∷ past) n x.way c.what) c.progress (more-session n x.way c.what) t) s) h
 
-between-ends : (w : Moment) (n m credits : ℕ) (client server : Lists) → Ends w n m client server → TwoEnds w → TwoEnds (moved w (client_fact n m credits client server))
+between-ends : (w : Moment) (n m credits : ℕ) (client server : Lists) → Ends w n m credits client server → TwoEnds w → TwoEnds (moved w (client_fact n m credits client server))
 between-ends w n m credits client server e h =
     let one : Fact = client_fact n m credits client server in
     let nodes_are : changed w.clock (Some client) n w.nodes one ≡ (moved w one).nodes = ap (λ (o : Option Lists). changed w.clock o n w.nodes one) (sym e.is_client) in
@@ -170,10 +131,8 @@ between-ends w n m credits client server e h =
     record {
       servers = subst (λ (ns : List Lists). Placed (ServersOf one w.past (one ∷ w.past)) ns) nodes_are
           (set-placed (ServersOf one w.past (one ∷ w.past)) w.nodes n client (after w.clock client one) e.is_client (more-servers one w.past n client (h.servers n client e.is_client)) (λ i l ne is. more-servers one w.past i l (h.servers i l is)));
-      waiting = subst (λ (ns : List Lists). Placed (WaitingOf one w.past (one ∷ w.past)) ns) nodes_are
-          (set-placed (WaitingOf one w.past (one ∷ w.past)) w.nodes n client (after w.clock client one) e.is_client (more-jobs one w.past n client.servers client.jobs.waiting (h.waiting n client e.is_client)) (λ i l ne is. more-jobs one w.past i l.servers l.jobs.waiting (h.waiting i l is)));
-      worked = subst (λ (ns : List Lists). Placed (WorkedOf one w.past (one ∷ w.past)) ns) nodes_are
-          (set-placed (WorkedOf one w.past (one ∷ w.past)) w.nodes n client (after w.clock client one) e.is_client (more-jobs one w.past n client.servers client.jobs.worked (h.worked n client e.is_client)) (λ i l ne is. more-jobs one w.past i l.servers l.jobs.worked (h.worked i l is)));
+      jobs = subst (λ (ns : List Lists). Placed (JobsOf one w.past (one ∷ w.past)) ns) nodes_are
+          (set-placed (JobsOf one w.past (one ∷ w.past)) w.nodes n client (after w.clock client one) e.is_client (more-jobs one w.past n client.jobs.out (h.jobs n client e.is_client)) (λ i l ne is. more-jobs one w.past i l.jobs.out (h.jobs i l is)));
       clients = subst (λ (ns : List Lists). Placed (ClientsOf one w.past (one ∷ w.past)) ns) nodes_are
           (set-placed (ClientsOf one w.past (one ∷ w.past)) w.nodes n client (after w.clock client one) e.is_client new (λ i l ne is. more-clients one w.past i l (h.clients i l is)));
     }

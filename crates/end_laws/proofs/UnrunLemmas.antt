@@ -7,7 +7,7 @@ use Rattle.packet_header.specs.declared.packet.MessageHeader.{MessageHeader}
 use Rattle.rpc_base.specs.Tables.{at_first}
 use Rattle.rpc_base.proofs.TakingLemmas.{find-passes}
 use Rattle.rpc_base.specs.declared.event.Event.{Event}
-use Rattle.rpc_base.specs.declared.event.Event.TheVariants.{PairedServer, Took, Given, Ran}
+use Rattle.rpc_base.specs.declared.event.Event.TheVariants.{Accepted, Ended, PairedServer, Took, Given, Ran}
 use Rattle.rpc_base.specs.declared.owner.Owner.TheVariants.{Ask, Reply, Control}
 use Rattle.rpc_laws.specs.declared.tables.InFlight.{InFlight}
 use Rattle.rpc_laws.specs.declared.tables.Lists.{Lists}
@@ -72,6 +72,8 @@ back-by-slots xs n t r change now u = λ v q is at.
 
 pub unrun-back : (hand : Option InFlight) (l : Lists) (e : Event) (first second : List ℕ) (t r : ℕ) → is_quiet e ≡ true → Sound l → May hand l e first second → IsUnrun (servers_after e second (front_header l.ring) (front_body l.ring) l.servers) t r → IsUnrun l.servers t r
 unrun-back hand l (PairedServer n peer s credits) first second t r quiet i m u = absurd m
+unrun-back hand l (Accepted n peer s credits) first second t r quiet i m u = absurd m
+unrun-back hand l (Ended n) first second t r quiet i m u = absurd m
 unrun-back hand l (Took (Ask s n) j) first second t r quiet i m u = u
 unrun-back hand l (Took Control j) first second t r quiet i m u = u
 unrun-back hand l (Took (Reply n p) j) first second t r quiet i m u =

@@ -1,35 +1,41 @@
 -- Working jobs and finishing them notes only what is allowed.
-use Rattle.std.proofs.Common.{◌≡◌, ◌<◌, ◌≤◌, ◌-◌, ◌*◌, inr, ℕ, zero, suc, Bool, true, false, cond, List, [], ◌∷◌, ◌++◌, length, Option, Some, None, slice_get, refl, ap, ◌∙◌, subst, arith}
+use Rattle.std.proofs.Common.{◌≡◌, ◌==◌, not, sym, ◌<◌, ◌≤◌, ◌-◌, ◌*◌, inr, ℕ, zero, suc, Bool, true, false, cond, List, [], ◌∷◌, length, Option, Some, None, slice_get, refl, ap, ◌∙◌, subst, arith}
+use Rattle.std.specs.Prelude.{map}
 use Rattle.std.specs.List.{find, AllByRecursion}
 use Rattle.std.proofs.lemmas.Bool.{eqb-true}
 use Rattle.packet_header.specs.Parts.{packet_count}
 use Rattle.packet_header.proofs.PartsLemmas.{packet_count-one, packet_count_needed}
 use Rattle.rpc_base.specs.Tables.{at_first}
 use Rattle.rpc_base.proofs.TakingLemmas.{find-passes}
-use Rattle.rpc_base.specs.declared.event.Event.TheVariants.{Posted, Worked, Ran}
+use Rattle.rpc_base.specs.declared.event.Event.TheVariants.{Closing, NcloseState, NcloseBusy, Rated, Nrate, NconnectRing, NconnectNumbers, Posted, Worked, Ran}
+use Rattle.rpc_base.specs.declared.state.SessionState.{SessionState}
+use Rattle.rpc_laws.specs.Groups.{Connects, Disconnects, SetsRate, state_of, pending, shares, clients_spent, has_no_room, client_refusal, connect_by}
+use Rattle.rpc_laws.specs.Sessions.{is_client, is_connected, is_live}
+use Rattle.rpc_base.specs.declared.event.Event.{Event}
+use Rattle.end_laws.specs.OnlyPairs.{is_of_control, OnlyPairs}
 use Rattle.rpc_base.specs.declared.fact.Fact.{Fact}
 use Rattle.rpc_base.specs.declared.owner.Owner.TheVariants.{Reply}
 use Rattle.rpc_laws.specs.declared.tables.InFlight.{InFlight}
 use Rattle.rpc_laws.specs.declared.tables.Job.{Job}
 use Rattle.rpc_laws.specs.declared.tables.Lists.{Lists}
 use Rattle.rpc_laws.specs.declared.tables.Timed.{Timed}
+use Rattle.rpc_laws.specs.declared.tables.WorkedJob.{WorkedJob}
 use Rattle.rpc_laws.specs.Facts.{plain, with_two}
+use Rattle.rpc_laws.specs.Jobs.{is_job}
 use Rattle.rpc_laws.specs.NodeLists.{after, after_all}
-use Rattle.rpc_laws.specs.PollOrder.{Finishes, FinishesAll, is_awaited}
+use Rattle.rpc_laws.specs.PollOrder.{Finishes, is_awaited}
 use Rattle.rpc_laws.specs.Requests.{is_server, is_request, answered}
-use Rattle.rpc_laws.specs.Service.{answer_with}
-use Rattle.rpc_laws.specs.Steps.{Goes, Chain, none, more}
-use Rattle.rpc_laws.specs.Working.{Works, WorksOldest, WorksAll, work_of}
-use Rattle.rpc_laws.proofs.RunLemmas.{me-after_all}
-use Rattle.end_laws.proofs.Allowed.{Walks, IsAllowed}
-use Rattle.end_laws.proofs.AskSteps.{slots-found}
+use Rattle.rpc_laws.specs.Steps.{Goes}
+use Rattle.rpc_laws.specs.Working.{Works, WorksAll, FinishesEach, FinishesWorked, waiting_of, work_of}
+use Rattle.end_laws.proofs.Allowed.{WalksFrom, IsAllowed}
+use Rattle.end_laws.proofs.AskSteps.{slots-found, owed-self}
 use Rattle.end_laws.proofs.CallSteps.{IsFree, AllFree, free-walks}
-use Rattle.end_laws.proofs.ListLemmas.{all-map, all-append, all-at, all-found, find-first}
+use Rattle.end_laws.proofs.ListLemmas.{false-true, all-map, all-found, find-first}
 use Rattle.end_laws.proofs.QueueLemmas.{RightNode}
-use Rattle.end_laws.proofs.Rights.{JobFits, stands-right}
+use Rattle.end_laws.proofs.Rights.{JobFits, stands-right, out-job, job-number}
 use Rattle.end_laws.proofs.SendsLaw.{right-stays}
 use Rattle.end_laws.proofs.SlotLemmas.{with_slots, Apart, slot-of-request, apart-answered}
-use Rattle.end_laws.proofs.Walks.{Walked, Fine, walked-goes, walked-none, walked-append, fine-until}
+use Rattle.end_laws.proofs.Walks.{Walked, Fine, walked-goes, walked-none, fine-then}
 
 -- the last packet of some bytes is below each number of packets that has room for them
 low-packet : (n k : ℕ) → n ≤ 1024 * k → 1 ≤ k → packet_count n - 1 < k
@@ -37,7 +43,7 @@ low-packet zero k le some = let one = packet_count-one 0 (omega arith) in omega 
 low-packet (suc n) k le some = let needed = packet_count_needed (suc n) (omega arith) in omega arith
 
 -- the packet that answers the last one of the request is posted
-posts-walk : (b : Bool) (hand : Option InFlight) (clock : ℕ) (l : Lists) (job : Job) (answer : List ℕ) → RightNode l → JobFits l.servers job → let u : Lists = after clock l (with_two l.me (Ran job.session job.request job.req_type) job.ask answer) in Walks hand clock u (cond b (plain l.me (Posted (Reply job.session job.request) (packet_count (length job.ask) - 1)) ∷ []) [])
+posts-walk : (b : Bool) (hand : Option InFlight) (clock : ℕ) (l : Lists) (job : Job) (answer : List ℕ) → RightNode l → JobFits l.servers job → let f : Fact = with_two l.me (Ran job.session job.request job.req_type) job.ask answer in let u : Lists = after clock l f in WalksFrom hand (Some f) clock u (cond b (plain l.me (Posted (Reply job.session job.request) (packet_count (length job.ask) - 1)) ∷ []) [])
 posts-walk false hand clock l job answer i h = tt
 posts-walk true hand clock l job answer i h =
     let t = job.session in
@@ -60,24 +66,31 @@ posts-walk true hand clock l job answer i h =
           was_taken = low-packet (length job.ask) q.taken h.long right.some;
         };
       },
+      owed-self l.me t r (packet_count (length job.ask) - 1),
       tt,
     )
 
 module _ (hand : Option InFlight) where
-  finishes-fine : Fine RightNode hand Finishes
-  finishes-fine s x t i h =
+  finishes-fine : (session request : ℕ) → Fine RightNode hand (Finishes session request)
+  finishes-fine session request s x t o i h =
       let l = s.lists in
       let job = h.job in
-      let fits = all-at (JobFits l.servers) l.jobs.worked 0 job i.jobs.worked h.is_front in
-      let answer = answer_with l.total job.req_type job.ask in
-      let run : IsAllowed hand l (with_two l.me (Ran job.session job.request job.req_type) job.ask answer) = record {
+      let fits = out-job l session request job i.jobs h.is_out in
+      let of = job-number session request l.jobs.out job h.is_out in
+      let here : find (is_job job.session request) l.jobs.out ≡ Some job = subst (λ (a : ℕ). find (is_job a request) l.jobs.out ≡ Some job) (sym of.0) h.is_out in
+      let is_out : find (is_job job.session job.request) l.jobs.out ≡ Some job = subst (λ (b : ℕ). find (is_job job.session b) l.jobs.out ≡ Some job) (sym of.1) here in
+      let run : IsAllowed hand l (with_two l.me (Ran job.session job.request job.req_type) job.ask h.answer) = record {
         who = refl;
-        may = record { source = inr (record { job = job; is_front = h.is_front; of_session = refl; of_request = refl; of_type = refl; own = refl }); right = refl };
+        may = inr (record { job = job; is_out = is_out; of_type = refl; own = refl });
       } in
-      walked-goes RightNode right-stays hand s x t i (rw h.facts (run, posts-walk (is_awaited job l.servers) hand s.clock l job answer i fits)) h.goes
+      walked-goes RightNode right-stays hand s x t i (rw h.facts (run, inr (record { job = job; is_out = is_out; own = refl }), posts-walk (is_awaited job l.servers) hand s.clock l job h.answer i fits)) h.goes
 
-  pub finishes-all : Fine RightNode hand FinishesAll
-  finishes-all = fine-until RightNode hand Finishes _ finishes-fine
+  finishes-each : (worked : List WorkedJob) → Fine RightNode hand (FinishesEach worked)
+  finishes-each [] s x t o i h = walked-none RightNode hand s x t i h.0 h.1
+  finishes-each (w ∷ ws) s x t o i h = fine-then RightNode hand (Finishes w.session w.request) (FinishesEach ws) (finishes-fine w.session w.request) (finishes-each ws) s x t o i h
+
+  pub finishes-worked : (worked : List WorkedJob) → Fine RightNode hand (FinishesWorked worked)
+  finishes-worked worked s x t o i h = finishes-each h.done s x t o i h.finishes
 
 -- a fact of work is allowed anywhere, and its lists don't read the clock
 pub record IsWork (me : ℕ) (f : Fact) : Type 0 where
@@ -88,10 +101,10 @@ abbrev pub AllWork : ℕ → List Fact → Type 0
 AllWork me x = AllByRecursion (IsWork me) x
 
 worked-work : (me t r : ℕ) → IsWork me (plain me (Worked t r))
-worked-work me t r = record { free = record { who = refl; may = λ hand l. tt }; still = λ c d l. refl }
+worked-work me t r = record { free = record { who = refl; may = λ hand l. tt; linked = λ latest l. tt }; still = λ c d l. refl }
 
 pub work-one : (me i : ℕ) (job : Option Job) → IsWork me (plain me (work_of i job))
-work-one me i None = record { free = record { who = refl; may = λ hand l. tt }; still = λ c d l. refl }
+work-one me i None = record { free = record { who = refl; may = λ hand l. tt; linked = λ latest l. tt }; still = λ c d l. refl }
 work-one me i (Some job) = worked-work me job.session job.request
 
 pub all-free : (me : ℕ) (x : List Fact) → AllWork me x → AllFree me x
@@ -108,27 +121,50 @@ pub record WorksSo (hand : Option InFlight) (s : Timed) (x : List Fact) (t : Tim
   pub walked : Walked RightNode hand s x t
 
 work-goes : (hand : Option InFlight) (s : Timed) (x : List Fact) (t : Timed) → RightNode s.lists → AllWork s.lists.me x → Goes s x t → WorksSo hand s x t
-work-goes hand s x t i h g = record { all = h; walked = walked-goes RightNode right-stays hand s x t i (free-walks hand s.clock s.lists x (all-free s.lists.me x h)) g }
+work-goes hand s x t i h g = record { all = h; walked = walked-goes RightNode right-stays hand s x t i (free-walks hand None s.clock s.lists x (all-free s.lists.me x h)) g }
 
-pub work-any : (hand : Option InFlight) (i : ℕ) (s : Timed) (x : List Fact) (t : Timed) → RightNode s.lists → Works i s x t → WorksSo hand s x t
-work-any hand i s x t inv h = work-goes hand s x t inv (rw h.facts (work-one s.lists.me i (slice_get s.lists.jobs.waiting i), tt)) h.goes
+pub work-any : (hand : Option InFlight) (worked : List WorkedJob) (i : ℕ) (s : Timed) (x : List Fact) (t : Timed) → RightNode s.lists → Works worked i s x t → WorksSo hand s x t
+work-any hand worked i s x t inv h = work-goes hand s x t inv (rw h.facts (work-one s.lists.me i (slice_get (waiting_of worked s.lists) i), tt)) h.goes
 
-work-oldest : (hand : Option InFlight) (s : Timed) (x : List Fact) (t : Timed) → RightNode s.lists → WorksOldest s x t → WorksSo hand s x t
-work-oldest hand s x t inv h = work-goes hand s x t inv (rw h.facts (worked-work s.lists.me h.job.session h.job.request, tt)) h.goes
+all-worked : (me : ℕ) (jobs : List Job) → AllWork me (map (λ job. plain me (Worked job.session job.request)) jobs)
+all-worked me [] = tt
+all-worked me (job ∷ jobs) = (worked-work me job.session job.request, all-worked me jobs)
 
-work-append : (hand : Option InFlight) (s t u : Timed) (x y : List Fact) → WorksSo hand s x t → WorksSo hand t y u → WorksSo hand s (x ++ y) u
-work-append hand s t u x y w v =
-    let me : t.lists.me ≡ s.lists.me = ap (λ (l : Lists). l.me) w.walked.lists ∙ me-after_all s.clock s.lists x in
-    record {
-      all = all-append (IsWork s.lists.me) x y w.all (subst (λ (n : ℕ). AllWork n y) me v.all);
-      walked = walked-append RightNode hand s t u x y w.walked v.walked;
-    }
+pub work-all : (hand : Option InFlight) (worked : List WorkedJob) (s : Timed) (x : List Fact) (t : Timed) → RightNode s.lists → WorksAll worked s x t → WorksSo hand s x t
+work-all hand worked s x t i h = work-goes hand s x t i (rw h.facts (all-worked s.lists.me (waiting_of worked s.lists))) h.goes
 
-work-chain : (hand : Option InFlight) (s : Timed) (x : List Fact) (t : Timed) → RightNode s.lists → Chain WorksOldest s x t → WorksSo hand s x t
-work-chain hand s x t i none = record { all = tt; walked = walked-none RightNode hand s [] s i refl refl }
-work-chain hand s x t i (more c y u h) =
-    let w = work-chain hand s _ _ i c in
-    work-append hand s _ u _ y w (work-oldest hand _ y u w.walked.inv h)
+-- a refused connect, a refused disconnect and a rate are such facts too
+refused-work : (a b : Bool) (me credits shares room : ℕ) (e : Event) → cond a (Some NconnectNumbers) (cond b (Some (NconnectRing shares credits room)) None) ≡ Some e → IsWork me (plain me e)
+refused-work true b me credits shares room e h =
+    let same : e ≡ NconnectNumbers = cc in rw same (record { free = record { who = refl; may = λ hand l. tt; linked = λ latest l. tt }; still = λ c d l. refl })
+refused-work false true me credits shares room e h =
+    let same : e ≡ NconnectRing shares credits room = cc in rw same (record { free = record { who = refl; may = λ hand l. tt; linked = λ latest l. tt }; still = λ c d l. refl })
+refused-work false false me credits shares room e h = cc
 
-pub work-all : (hand : Option InFlight) (s : Timed) (x : List Fact) (t : Timed) → RightNode s.lists → WorksAll s x t → WorksSo hand s x t
-work-all hand s x t i h = work-chain hand s x t i h.steps
+connect-work : (refusal : Option Event) (peer credits : ℕ) (l : Lists) → client_refusal credits l ≡ refusal → OnlyPairs (connect_by refusal peer credits 0 l) → AllWork l.me (connect_by refusal peer credits 0 l)
+connect-work None peer credits l is o = false-true (sym o.0)
+connect-work (Some e) peer credits l is o = (refused-work (clients_spent l) (has_no_room credits l) l.me credits (shares l) l.room e is, tt)
+
+pub connects-so : (hand : Option InFlight) (peer credits : ℕ) (s : Timed) (x : List Fact) (t : Timed) → RightNode s.lists → OnlyPairs x → Connects peer credits 0 s x t → WorksSo hand s x t
+connects-so hand peer credits s x t i o h =
+    work-goes hand s x t i (rw h.facts (connect-work (client_refusal credits s.lists) peer credits s.lists refl (subst OnlyPairs h.facts o))) h.goes
+
+disconnect-work : (a b : Bool) (me session calls : ℕ) (state : SessionState) → is_of_control (cond (not a) (NcloseState session state) (cond (not b) (NcloseBusy session calls) (Closing session))) ≡ false → IsWork me (plain me (cond (not a) (NcloseState session state) (cond (not b) (NcloseBusy session calls) (Closing session))))
+disconnect-work false b me session calls state o = record { free = record { who = refl; may = λ hand l. tt; linked = λ latest l. tt }; still = λ c d l. refl }
+disconnect-work true false me session calls state o = record { free = record { who = refl; may = λ hand l. tt; linked = λ latest l. tt }; still = λ c d l. refl }
+disconnect-work true true me session calls state o = false-true (sym o)
+
+pub disconnects-so : (hand : Option InFlight) (session : ℕ) (s : Timed) (x : List Fact) (t : Timed) → RightNode s.lists → OnlyPairs x → Disconnects session s x t → WorksSo hand s x t
+disconnects-so hand session s x t i o h =
+    let only = subst OnlyPairs h.facts o in
+    let client = find (is_client session) s.lists.clients in
+    work-goes hand s x t i (rw h.facts (disconnect-work (is_connected (state_of client)) (pending client == 0) s.lists.me session (pending client) (state_of client) only.0, tt)) h.goes
+
+rate-work : (b : Bool) (me session rate : ℕ) (state : SessionState) → IsWork me (plain me (cond b (Rated session rate) (Nrate session state)))
+rate-work true me session rate state = record { free = record { who = refl; may = λ hand l. tt; linked = λ latest l. tt }; still = λ c d l. refl }
+rate-work false me session rate state = record { free = record { who = refl; may = λ hand l. tt; linked = λ latest l. tt }; still = λ c d l. refl }
+
+pub rates-so : (hand : Option InFlight) (session rate : ℕ) (s : Timed) (x : List Fact) (t : Timed) → RightNode s.lists → SetsRate session rate s x t → WorksSo hand s x t
+rates-so hand session rate s x t i h =
+    let state = state_of (find (is_client session) s.lists.clients) in
+    work-goes hand s x t i (rw h.facts (rate-work (is_live state) s.lists.me session rate state, tt)) h.goes

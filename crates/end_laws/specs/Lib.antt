@@ -1,4 +1,6 @@
 pub mod Genuine
+pub mod Kinds
 pub mod Moments
+pub mod OnlyPairs
 pub mod TwoEnds
 pub mod TwoNodes

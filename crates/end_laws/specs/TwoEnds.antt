@@ -1,7 +1,7 @@
 -- What the two ends of a session hold is of one call: the server's requests and jobs, and the answers that
 -- calls take.
-use Rattle.std.specs.Prelude.{ℕ, ◌≡◌, ◌+◌, ◌-◌, ◌*◌, ◌&&◌, ◌||◌, Bool, true, not, Some, is_none, List, [], length, take, slice_get, if◌then◌else◌, IfSome, Contains}
-use Rattle.std.specs.List.{find, AllByRecursion}
+use Rattle.std.specs.Prelude.{ℕ, ◌≡◌, ◌+◌, ◌-◌, ◌*◌, ◌||◌, Bool, not, Some, is_none, List, [], length, take, slice_get, if◌then◌else◌, IfSome, Contains}
+use Rattle.std.specs.List.{AllByRecursion}
 use Rattle.rpc_base.specs.declared.event.Event.TheVariants.{Ran}
 use Rattle.rpc_base.specs.declared.fact.Fact.{Fact}
 use Rattle.rpc_laws.specs.declared.tables.Asking.{Asking}
@@ -9,18 +9,15 @@ use Rattle.rpc_laws.specs.declared.tables.Job.{Job}
 use Rattle.rpc_laws.specs.declared.tables.Lists.{Lists}
 use Rattle.rpc_laws.specs.declared.tables.Progress.{Progress}
 use Rattle.rpc_laws.specs.declared.tables.Served.{Served}
-use Rattle.rpc_laws.specs.declared.tables.Server.{Server}
 use Rattle.rpc_laws.specs.declared.tables.Way.{Way}
 use Rattle.rpc_laws.specs.Calls.{asked_packets}
 use Rattle.rpc_laws.specs.Facts.{with_two}
 use Rattle.rpc_laws.specs.OwnAnswer.{IsCallOf}
-use Rattle.rpc_laws.specs.Requests.{is_server, is_request}
-use Rattle.rpc_laws.specs.Service.{is_background}
 use Rattle.end_laws.specs.Moments.{Moment, Always, first_moment}
 
--- the bytes of a request went away with a job: its type is Background, and a worker has it or gave its answer
+-- the bytes of a request went away: a worker has them, or the handler ran
 abbrev pub is_away : Served → Bool
-is_away q = (q.working || not (is_none q.answer)) && is_background q.req_type
+is_away q = q.working || not (is_none q.answer)
 
 -- the request in a slot of a server session is this call, which its client end began with this number: of its
 -- type and size, with its parts taken in turn, until they went away. Its answer is that of its run
@@ -36,18 +33,13 @@ pub record IsOfCall (past : List Fact) (m : ℕ) (way : Way) (q : Served) : Type
   pub ask : List ℕ
   pub holds : HoldsCall past m way q call room ask
 
--- a background job is of a request that stands in its slot, and that a worker has: of its type, with the whole
--- bytes of the call that the slot holds
-pub record IsOfJob (past : List Fact) (m : ℕ) (servers : List Server) (job : Job) : Type 0 where
-  pub server : Server
-  pub found : find (is_server job.session) servers ≡ Some server
-  pub request : Served
-  pub stands : find (is_request job.request) server.slots ≡ Some request
-  pub working : request.working ≡ true
-  pub of_type : job.req_type ≡ request.req_type
+-- a background job is of a call that was begun with its number on its session: of that call's type, with its whole
+-- bytes. Its session may have ended since
+pub record IsOfJob (past : List Fact) (m : ℕ) (job : Job) : Type 0 where
+  pub node : ℕ
   pub call : ℕ
   pub room : ℕ
-  pub holds : HoldsCall past m server.way request call room job.ask
+  pub own : IsCallOf past node call m job.session job.request job.req_type room job.ask
 
 -- what a call has taken of an answer are the first parts of the answer that its own request's run gave
 pub record IsOfRun (past : List Fact) (way : Way) (a : Asking) (p : Progress) (size : ℕ) : Type 0 where
@@ -61,12 +53,11 @@ pub record IsOfSession (past : List Fact) (n : ℕ) (way : Way) (a : Asking) (p 
   pub own : IsCallOf past n a.number way.peer way.other p.request a.req_type a.room a.ask
   pub answer : IfSome p.answer (IsOfRun past way a p)
 
--- so it is for each request in a slot of a server session, for each job that waits or was worked, and for each
--- active call of a client session
+-- so it is for each request in a slot of a server session, for each job that is out, and for each active call of a
+-- client session
 pub record TwoEnds (w : Moment) : Type 0 where
   pub servers : (m : ℕ) (l : Lists) → slice_get w.nodes m ≡ Some l → AllByRecursion (λ v. AllByRecursion (IsOfCall w.past m v.way) v.slots) l.servers
-  pub waiting : (m : ℕ) (l : Lists) → slice_get w.nodes m ≡ Some l → AllByRecursion (IsOfJob w.past m l.servers) l.jobs.waiting
-  pub worked : (m : ℕ) (l : Lists) → slice_get w.nodes m ≡ Some l → AllByRecursion (IsOfJob w.past m l.servers) l.jobs.worked
+  pub jobs : (m : ℕ) (l : Lists) → slice_get w.nodes m ≡ Some l → AllByRecursion (IsOfJob w.past m) l.jobs.out
   pub clients : (n : ℕ) (l : Lists) → slice_get w.nodes n ≡ Some l → AllByRecursion (λ x. AllByRecursion (λ c. IfSome c.progress (IsOfSession w.past n x.way c.what)) x.calls) l.clients
 
 -- so it is at each moment

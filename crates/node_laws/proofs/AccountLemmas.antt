@@ -4,19 +4,21 @@ use Rattle.std.specs.Prelude.{◌==◌, ◌⊎◌, count_by, map, option_map}
 use Rattle.std.specs.List.{filter, find}
 use Rattle.std.proofs.lemmas.Bool.{eq-eqb, ne_eqb, eqb-true, and_parts, cases_eq}
 use Rattle.rpc_base.specs.Tables.{at_first, without_first}
+use Rattle.rpc_base.specs.declared.state.SessionState.{SessionState}
+use Rattle.rpc_base.specs.declared.state.SessionState.TheVariants.{Connected, Spent, Closing}
 use Rattle.rpc_laws.specs.declared.tables.Call.{Call}
 use Rattle.rpc_laws.specs.declared.tables.Client.{Client}
 use Rattle.rpc_laws.specs.declared.tables.Lists.{Lists}
 use Rattle.rpc_laws.specs.declared.tables.Progress.{Progress}
 use Rattle.rpc_laws.specs.Calls.{is_call, has_request, is_active}
-use Rattle.rpc_laws.specs.Sessions.{is_client, is_connected}
+use Rattle.rpc_laws.specs.Sessions.{is_client}
 use Rattle.node_laws.specs.CreditBalance.{CallAccount, SessionAccount, Accounts, is_numbered, is_this, began_as}
 use Rattle.node_laws.proofs.FilterLemmas.{found-whole, find-filter, filter-own, filter-other, filter-out, filter-stay, image-found}
 use Rattle.node_laws.proofs.FindLemmas.{this-changed}
 use Rattle.node_laws.proofs.SpanLemmas.{packets_of}
 use Rattle.node_laws.proofs.ImageLemmas.{map-changed, map-left}
 use Rattle.node_laws.proofs.TableLemmas.{found-passes, found-changed}
-use Rattle.node_laws.proofs.Valid.{to_come}
+use Rattle.node_laws.specs.Valid.{to_come}
 
 -- the account of a call of session n by its table, and of a session
 abbrev pub request_of : Option Progress → Option ℕ
@@ -26,9 +28,16 @@ request_of o = option_map (λ p. p.request) o
 abbrev pub account_of : ℕ → Call → CallAccount
 account_of n c = record { number = c.what.number; session = n; request = request_of c.progress; packets = packets_of c.progress }
 
+-- whether a session's packets and credits are in balance: it is connected, also where it is spent, or closing
+abbrev pub has_credits : SessionState → Bool
+has_credits Connected = true
+has_credits Spent = true
+has_credits Closing = true
+has_credits _ = false
+
 -- a session
 abbrev pub session_account : Client → SessionAccount
-session_account x = record { number = x.way.number; limit = x.limit; free = x.free; live = is_connected x.state }
+session_account x = record { number = x.way.number; limit = x.limit; free = x.free; live = has_credits x.state }
 
 -- a call of session n
 abbrev pub of_session : ℕ → CallAccount → Bool

@@ -8,8 +8,12 @@ use Rattle.std.proofs.lemmas.List.{map-append}
 use Rattle.std.proofs.lemmas.List.Sums.{sum_by_push}
 use Rattle.rpc_base.specs.Tables.{at_first, without_first}
 use Rattle.rpc_base.specs.declared.event.Event.{Event}
-use Rattle.rpc_base.specs.declared.event.Event.TheVariants.{PairedClient, Asked, Begun, Posted, Sent, Took, Rolled, Broken, DoneOk, DoneTooSmall, DonePeerLost}
-use Rattle.rpc_base.specs.declared.owner.Owner.TheVariants.{Ask}
+use Rattle.rpc_base.specs.declared.event.Event.TheVariants.{PairedClient, Opened, Connected as IsConnected, FailedNoRoom, FailedNoAnswer, Closing as BeginsClosing, ClosedHeard, ClosedUnheard, Asked, Begun, Posted, Sent, Took, Rolled, Broken, DoneOk, DoneTooSmall, DonePeerLost}
+use Rattle.rpc_base.specs.declared.owner.Owner.TheVariants.{Ask, Control}
+use Rattle.packet_header.specs.declared.packet.ControlHeader.{ControlHeader}
+use Rattle.rpc_base.specs.declared.state.SessionState.TheVariants.{Closing, Closed, Failed}
+use Rattle.rpc_laws.specs.Front.{control_of}
+use Rattle.node_laws.proofs.ToldSame.{told-same}
 use Rattle.rpc_laws.specs.declared.tables.Call.{Call}
 use Rattle.rpc_laws.specs.declared.tables.Client.{Client}
 use Rattle.rpc_laws.specs.declared.tables.Lists.{Lists}
@@ -17,8 +21,8 @@ use Rattle.rpc_laws.specs.declared.tables.Progress.{Progress}
 use Rattle.rpc_laws.specs.Calls.{is_call, is_active, moved, begun, posted_up_to, rolled_back, sent_packet, took_reply}
 use Rattle.rpc_laws.specs.Front.{front_header, front_body}
 use Rattle.rpc_laws.specs.NodeLists.{asked_after}
-use Rattle.rpc_laws.specs.Sessions.{is_client, has_call, client_end, asks, begins, posts, sends, takes, rolls, breaks, ends, clients_after}
-use Rattle.node_laws.specs.CreditBalance.{CallAccount, Accounts, is_numbered, began_as, with_number, without_number, accepted, starts, puts, takes_out, empties, calls_after, is_session, is_session_of, spends, regains, fails, sessions_after}
+use Rattle.rpc_laws.specs.Sessions.{is_client, has_call, client_end, opened_end, comes_to, connects, clients_told, requests, asks, begins, posts, sends, takes, rolls, breaks, ends, clients_after}
+use Rattle.node_laws.specs.CreditBalance.{CallAccount, Accounts, is_numbered, began_as, with_number, without_number, accepted, starts, puts, takes_out, empties, calls_after, is_session, is_session_of, spends, regains, fails, lives, sessions_after}
 use Rattle.node_laws.proofs.AccountLemmas.{request_of, account_of, session_account, of_session, accounts_of, Agrees, same-began, list-is, by-number, by-request, Near, near-of, calls-moved, calls-left}
 use Rattle.node_laws.proofs.Allowed.{Allowed, MayAsk, MayBegin, MayPost, MayTake, MayRoll}
 use Rattle.node_laws.proofs.FilterLemmas.{filter-push, filter-skip, changed-same}
@@ -28,7 +32,8 @@ use Rattle.node_laws.proofs.SoundLemmas.{by_request, order-found, took-request, 
 use Rattle.node_laws.proofs.SpanLemmas.{packets_of, packets-posted, packets-took, packets-rolled, packets-sent}
 use Rattle.node_laws.proofs.ImageLemmas.{map-each, map-hidden}
 use Rattle.node_laws.proofs.TableLemmas.{found-holds, sum-grown, sum-fewer}
-use Rattle.node_laws.proofs.Valid.{Sound, to_come, Valid, Place}
+use Rattle.node_laws.proofs.Places.{Place}
+use Rattle.node_laws.specs.Valid.{Sound, to_come, Valid}
 
 -- a change of a call that its account shows
 two-fields : (number session : ℕ) (r t : Option ℕ) (x y : List ℕ) → r ≡ t → x ≡ y → ◌≡◌ {A = CallAccount} (record { number = number; session = session; request = r; packets = x }) (record { number = number; session = session; request = t; packets = y })
@@ -120,6 +125,16 @@ module _ (a : Accounts) (s : Lists) (v : Valid s) (k : Agrees a s) where
   sent-calls clock m r i n =
       changed-holds (λ o. filter (of_session n) a.calls ≡ accounts_of n o) (is_client m) (sends clock r i) (is_client n) (λ x. refl) s.clients (λ x e own h. h ∙ sym (map-hidden (account_of n) (is_active r) (moved (sent_packet clock i)) (λ c. call-sent n clock i c.what.number c.progress) x.calls)) (k.calls n)
 
+  -- a change that leaves its number and its calls
+  left-calls : (f : Client → Client) → ((x : Client) → (f x).way.number ≡ x.way.number) → ((x : Client) → (f x).calls ≡ x.calls) → (m n : ℕ) → filter (of_session n) a.calls ≡ accounts_of n (find (is_client n) (at_first (is_client m) f s.clients))
+  left-calls f numbers calls m n =
+      changed-holds (λ o. filter (of_session n) a.calls ≡ accounts_of n o) (is_client m) f (is_client n) (λ x. ap (λ (i : ℕ). i == n) (numbers x)) s.clients (λ x e own h. h ∙ sym (ap (λ (cs : List Call). map (account_of n) cs) (calls x))) (k.calls n)
+
+  told-calls : (clock n : ℕ) (o : Option ControlHeader) → filter (of_session n) a.calls ≡ accounts_of n (find (is_client n) (clients_told clock o s.clients))
+  told-calls clock n None = k.calls n
+  told-calls clock n (Some c) =
+      left-calls (requests clock c) (λ x. told-same (λ (y : Client). y.way.number) clock c x refl) (λ x. told-same (λ (y : Client). y.calls) clock c x refl) c.client n
+
   broken-calls : (m n : ℕ) → filter (of_session n) a.calls ≡ accounts_of n (find (is_client n) (at_first (is_client m) breaks s.clients))
   broken-calls m n =
       changed-holds (λ o. filter (of_session n) a.calls ≡ accounts_of n o) (is_client m) breaks (is_client n) (λ x. refl) s.clients (λ x e own h. h) (k.calls n)
@@ -138,8 +153,25 @@ made-calls n s peer t credits [] = new-none n s peer t credits (s == n)
 made-calls n s peer t credits (x ∷ xs) =
     later-same n x (find (is_client n) (xs ++ client_end s peer t credits ∷ [])) (find (is_client n) xs) (is_client n x) (made-calls n s peer t credits xs)
 
+opened-none : (n : ℕ) (s peer credits : ℕ) (b : Bool) → accounts_of n (cond b (Some (opened_end s peer credits)) None) ≡ []
+opened-none n s peer credits true = refl
+opened-none n s peer credits false = refl
+
+opened-calls : (n s peer credits : ℕ) (xs : List Client) → accounts_of n (find (is_client n) (xs ++ opened_end s peer credits ∷ [])) ≡ accounts_of n (find (is_client n) xs)
+opened-calls n s peer credits [] = opened-none n s peer credits (s == n)
+opened-calls n s peer credits (x ∷ xs) =
+    later-same n x (find (is_client n) (xs ++ opened_end s peer credits ∷ [])) (find (is_client n) xs) (is_client n x) (opened-calls n s peer credits xs)
+
 pub calls-agree : (clock : ℕ) (e : Event) (bytes : List ℕ) (a : Accounts) (s : Lists) → Valid s → Agrees a s → Allowed s e → (n : ℕ) → filter (of_session n) (calls_after e a.calls) ≡ accounts_of n (find (is_client n) (clients_after clock e bytes (front_header s.ring) (front_body s.ring) s.clients))
 calls-agree clock (PairedClient i peer t credits) bytes a s v k may n = k.calls n ∙ sym (made-calls n i peer t credits s.clients)
+calls-agree clock (Opened i peer credits) bytes a s v k may n = k.calls n ∙ sym (opened-calls n i peer credits s.clients)
+calls-agree clock (FailedNoRoom m) bytes a s v k may n = left-calls a s v k (comes_to Failed) (λ x. refl) (λ x. refl) m n
+calls-agree clock (FailedNoAnswer m) bytes a s v k may n = left-calls a s v k (comes_to Failed) (λ x. refl) (λ x. refl) m n
+calls-agree clock (BeginsClosing m) bytes a s v k may n = left-calls a s v k (comes_to Closing) (λ x. refl) (λ x. refl) m n
+calls-agree clock (ClosedHeard m) bytes a s v k may n = left-calls a s v k (comes_to Closed) (λ x. refl) (λ x. refl) m n
+calls-agree clock (ClosedUnheard m) bytes a s v k may n = left-calls a s v k (comes_to Closed) (λ x. refl) (λ x. refl) m n
+calls-agree clock (IsConnected m t) bytes a s v k may n = left-calls a s v k (connects t) (λ x. refl) (λ x. refl) m n
+calls-agree clock (Sent peer Control i) bytes a s v k may n = told-calls a s v k clock n (control_of bytes)
 calls-agree clock (Asked c m y room) bytes a s v k may n = asked-by a s v k c m y room bytes may n (cases_eq n m)
 calls-agree clock (Begun c r) bytes a s v k may n = begun-calls a s v k c r may n
 calls-agree clock (Posted (Ask m r) i) bytes a s v k may n = posted-calls a s v k m r i may n
@@ -170,9 +202,28 @@ rolled-sessions a s v k c posted got may =
 hidden-sessions : (p : Client → Bool) (f : Client → Client) → ((x : Client) → session_account (f x) ≡ session_account x) → (xs : List Client) → map session_account xs ≡ map session_account (at_first p f xs)
 hidden-sessions p f same xs = sym (map-hidden session_account p f same xs)
 
+told-sessions : (clock : ℕ) (o : Option ControlHeader) (xs : List Client) → map session_account xs ≡ map session_account (clients_told clock o xs)
+told-sessions clock None xs = refl
+told-sessions clock (Some c) xs = hidden-sessions (is_client c.client) (requests clock c) (λ x. told-same session_account clock c x refl) xs
+
 pub sessions-agree : (clock : ℕ) (e : Event) (bytes : List ℕ) (a : Accounts) (s : Lists) → Valid s → Agrees a s → Allowed s e → sessions_after e a.calls (map session_account s.clients) ≡ map session_account (clients_after clock e bytes (front_header s.ring) (front_body s.ring) s.clients)
 sessions-agree clock (PairedClient i peer t credits) bytes a s v k may =
     sym (map-append session_account s.clients (client_end i peer t credits ∷ []))
+sessions-agree clock (Opened i peer credits) bytes a s v k may =
+    sym (map-append session_account s.clients (opened_end i peer credits ∷ []))
+sessions-agree clock (FailedNoRoom m) bytes a s v k may =
+    map-each session_account (is_client m) (is_session m) (λ x. refl) (comes_to Failed) (lives false) s.clients (λ x. refl)
+sessions-agree clock (FailedNoAnswer m) bytes a s v k may =
+    map-each session_account (is_client m) (is_session m) (λ x. refl) (comes_to Failed) (lives false) s.clients (λ x. refl)
+sessions-agree clock (BeginsClosing m) bytes a s v k may =
+    map-each session_account (is_client m) (is_session m) (λ x. refl) (comes_to Closing) (lives true) s.clients (λ x. refl)
+sessions-agree clock (ClosedHeard m) bytes a s v k may =
+    map-each session_account (is_client m) (is_session m) (λ x. refl) (comes_to Closed) (lives false) s.clients (λ x. refl)
+sessions-agree clock (ClosedUnheard m) bytes a s v k may =
+    map-each session_account (is_client m) (is_session m) (λ x. refl) (comes_to Closed) (lives false) s.clients (λ x. refl)
+sessions-agree clock (IsConnected m t) bytes a s v k may =
+    map-each session_account (is_client m) (is_session m) (λ x. refl) (connects t) (lives true) s.clients (λ x. refl)
+sessions-agree clock (Sent peer Control i) bytes a s v k may = told-sessions clock (control_of bytes) s.clients
 sessions-agree clock (Asked c m y room) bytes a s v k may =
     hidden-sessions (is_client m) (asks (record { number = c; req_type = y; room = room; ask = bytes })) (λ x. refl) s.clients
 sessions-agree clock (Begun c r) bytes a s v k may = hidden-sessions (has_call c) (begins c r) (λ x. refl) s.clients

@@ -1,12 +1,15 @@
 -- What each fact needs of the lists before it.
-use Rattle.std.specs.Prelude.{ℕ, ◌≡◌, ◌≤◌, ◌<◌, ◌⊎◌, true, false, Option, Some, None, List, [], ◌∷◌, length}
-use Rattle.std.specs.List.{find, list_any}
+use Rattle.std.specs.Prelude.{ℕ, ◌≡◌, ◌+◌, ◌≤◌, ◌<◌, ◌⊎◌, true, false, Option, Some, None, List, [], ◌∷◌, length}
+use Rattle.std.specs.List.{AllByRecursion, find, list_any}
 use Rattle.packet_header.specs.Parts.{packet_count}
+use Rattle.packet_header.specs.Reading.{decoded}
 use Rattle.packet_header.specs.declared.packet.MessageHeader.{MessageHeader}
 use Rattle.rpc_base.specs.Owners.{same_owner}
 use Rattle.rpc_base.specs.declared.event.Event.{Event}
-use Rattle.rpc_base.specs.declared.event.Event.TheVariants.{PairedClient, PairedServer, Asked, Begun, Posted, Arrived, Took, Given, Worked, Ran, Rolled, DoneOk, DoneTooSmall, DonePeerLost}
+use Rattle.rpc_base.specs.declared.event.Event.TheVariants.{PairedClient, PairedServer, Opened, Accepted, Ended, Connected as IsConnected, FailedNoRoom, FailedNoAnswer, Closing as BeginsClosing, ClosedHeard, ClosedUnheard, Asked, Begun, Arrived, Posted, Took, Given, Ran, Rolled, Broken, DoneOk, DoneTooSmall, DonePeerLost}
 use Rattle.rpc_base.specs.declared.fact.Fact.{Fact}
+use Rattle.rpc_base.specs.declared.state.SessionState.{SessionState}
+use Rattle.rpc_base.specs.declared.state.SessionState.TheVariants.{Connecting, Closing}
 use Rattle.rpc_base.specs.declared.owner.Owner.{Owner}
 use Rattle.rpc_base.specs.declared.owner.Owner.TheVariants.{Ask, Reply}
 use Rattle.rpc_laws.specs.declared.tables.Call.{Call}
@@ -19,24 +22,33 @@ use Rattle.rpc_laws.specs.declared.tables.Served.{Served}
 use Rattle.rpc_laws.specs.declared.tables.Server.{Server}
 use Rattle.rpc_laws.specs.Calls.{asked_packets, known_packets}
 use Rattle.rpc_laws.specs.ClientTable.{is_of_turn}
-use Rattle.rpc_laws.specs.Front.{front_header, front_body}
+use Rattle.rpc_laws.specs.Deliveries.{inbox_room}
+use Rattle.rpc_laws.specs.Front.{is_message, is_control, front_header, front_body}
+use Rattle.rpc_laws.specs.Groups.{shares}
 use Rattle.rpc_laws.specs.Jobs.{is_job}
 use Rattle.rpc_laws.specs.NodeLists.{after}
 use Rattle.rpc_laws.specs.Posting.{is_taken, next_turn}
 use Rattle.rpc_laws.specs.Queues.{is_queued}
 use Rattle.rpc_laws.specs.Requests.{is_server, is_request, in_slot_of}
-use Rattle.rpc_laws.specs.Sessions.{is_client, is_connected}
-use Rattle.node_laws.proofs.Valid.{request_of, is_due, Place, Active}
+use Rattle.rpc_laws.specs.Sessions.{is_client, is_connected, is_live}
+use Rattle.node_laws.proofs.Places.{request_of, Place, Active}
+use Rattle.node_laws.specs.Valid.{is_due}
 
 -- no packet of this owner is queued
 abbrev pub NoneQueued : Owner → List Queued → Type 0
 NoneQueued owner queued = list_any (λ q. same_owner q.owner owner) queued ≡ false
 
--- a call is asked on a session that is there, with the next number
+-- no packet of a call of session n is queued
+abbrev pub NoneOf : ℕ → Option Progress → List Queued → Type 0
+NoneOf n None queued = Unit {0}
+NoneOf n (Some p) queued = NoneQueued (Ask n p.request) queued
+
+-- a call is asked on a connected session, with the next number
 pub record MayAsk (s : Lists) (number session : ℕ) : Type 0 where
   pub next : number ≡ s.asked
   pub client : Client
   pub found : find (is_client session) s.clients ≡ Some client
+  pub connected : is_connected client.state ≡ true
 
 -- a waiting call begins with the next number of a free slot
 pub record MayBegin (s : Lists) (number request : ℕ) : Type 0 where
@@ -51,7 +63,7 @@ pub record MayBegin (s : Lists) (number request : ℕ) : Type 0 where
   pub is_free : is_taken client.calls slot ≡ false
   pub next : request ≡ next_turn client.turns slot
 
--- the next packet of an active call, where a credit is free
+-- the next packet of an active call of a connected session, where a credit is free
 pub record MayPost (s : Lists) (session request number : ℕ) : Type 0 where
   pub client : Client
   pub call : Call
@@ -59,6 +71,7 @@ pub record MayPost (s : Lists) (session request number : ℕ) : Type 0 where
   pub active : Active s.clients session client call progress
   pub same : request ≡ progress.request
   pub turn : number ≡ progress.posted
+  pub connected : is_connected client.state ≡ true
   pub more : progress.posted < known_packets (asked_packets call.what) progress.answer
   pub credit : 0 < client.free
 
@@ -107,7 +120,7 @@ pub record MayLose (s : Lists) (number : ℕ) : Type 0 where
   pub call : Call
   pub place : Place s.clients session client call
   pub same : number ≡ call.what.number
-  pub broken : is_connected client.state ≡ false
+  pub broken : is_live client.state ≡ false
   pub unqueued : (p : Progress) → call.progress ≡ Some p → NoneQueued (Ask session p.request) s.queued
 
 -- a number greater than that of the newest request of its slot
@@ -129,6 +142,12 @@ pub record MayServe (s : Lists) (session request : ℕ) : Type 0 where
   pub newer : list_any (is_request request) server.slots ≡ false → Newer request (find (in_slot_of request) server.slots)
   pub clean : list_any (is_request request) server.slots ≡ false → NoneOlder session (find (in_slot_of request) server.slots) s.queued
 
+-- a server session that is there ends where no reply to a request of its slots is queued
+pub record MayLeave (s : Lists) (session : ℕ) : Type 0 where
+  pub server : Server
+  pub found : find (is_server session) s.servers ≡ Some server
+  pub clean : (request : ℕ) → NoneOlder session (find (in_slot_of request) server.slots) s.queued
+
 -- a request that stands in its slot
 pub record Stands (servers : List Server) (session request : ℕ) : Type 0 where
   pub served : Served
@@ -143,42 +162,98 @@ pub record MayGive (s : Lists) (session request : ℕ) : Type 0 where
   pub due : is_due served ≡ true
   pub whole : packet_count served.size ≤ served.taken
 
--- a job that waits is worked
-pub record MayWork (s : Lists) (session request : ℕ) : Type 0 where
-  pub job : Job
-  pub found : find (is_job session request) s.jobs.waiting ≡ Some job
-
--- a job that was worked is finished
+-- a job that is out is finished
 pub record MayFinish (s : Lists) (session request : ℕ) : Type 0 where
   pub job : Job
-  pub found : find (is_job session request) s.jobs.worked ≡ Some job
+  pub found : find (is_job session request) s.jobs.out ≡ Some job
+
+-- a session of so many credits is made with the next number, where the ring has room for them
+pub record MayMake (s : Lists) (session next credits : ℕ) : Type 0 where
+  pub numbered : session ≡ next
+  pub room : shares s + credits ≤ s.room
+
+-- a client session in this state
+pub record IsIn (s : Lists) (state : SessionState) (session : ℕ) : Type 0 where
+  pub client : Client
+  pub found : find (is_client session) s.clients ≡ Some client
+  pub stands : client.state ≡ state
+
+-- a connected session with no calls begins to close
+pub record MayClose (s : Lists) (session : ℕ) : Type 0 where
+  pub client : Client
+  pub found : find (is_client session) s.clients ≡ Some client
+  pub connected : is_connected client.state ≡ true
+  pub idle : client.calls ≡ []
+
+-- a session breaks with no packet of its calls queued
+pub record MayBreak (s : Lists) (session : ℕ) : Type 0 where
+  pub client : Client
+  pub found : find (is_client session) s.clients ≡ Some client
+  pub clean : AllByRecursion (λ c. NoneOf session c.progress s.queued) client.calls
 
 -- what an event needs of the lists before it; the others need nothing
 abbrev pub Allowed : Lists → Event → Type 0
-Allowed s (PairedClient session peer server credits) = session ≡ length s.clients
-Allowed s (PairedServer session peer client credits) = session ≡ length s.servers
+Allowed s (PairedClient session peer server credits) = MayMake s session (length s.clients) credits
+Allowed s (PairedServer session peer client credits) = MayMake s session s.server_numbers credits
+Allowed s (Opened session peer credits) = MayMake s session (length s.clients) credits
+Allowed s (Accepted session peer client credits) = MayMake s session s.server_numbers credits
+Allowed s (IsConnected session server) = IsIn s Connecting session
+Allowed s (FailedNoRoom session) = IsIn s Connecting session
+Allowed s (FailedNoAnswer session) = IsIn s Connecting session
+Allowed s (BeginsClosing session) = MayClose s session
+Allowed s (ClosedHeard session) = IsIn s Closing session
+Allowed s (ClosedUnheard session) = IsIn s Closing session
 Allowed s (Asked call session req_type room) = MayAsk s call session
 Allowed s (Begun call request) = MayBegin s call request
 Allowed s (Posted (Ask session request) number) = MayPost s session request number
 Allowed s (Posted (Reply session request) number) = Stands s.servers session request
-Allowed s (Arrived peer) = length s.ring < s.room
 Allowed s (Took (Ask session request) number) = MayTake s session request number
 Allowed s (Took (Reply session request) number) = MayServe s session request
+Allowed s (Ended session) = MayLeave s session
 Allowed s (Given session request) = MayGive s session request
-Allowed s (Worked session request) = MayWork s session request
 Allowed s (Ran session request req_type) = MayGive s session request ⊎ MayFinish s session request
 Allowed s (Rolled call posted got) = MayRoll s call posted got
+Allowed s (Broken session) = MayBreak s session
 Allowed s (DoneOk call) = MayEnd s call
 Allowed s (DoneTooSmall call size) = MayEnd s call
 Allowed s (DonePeerLost call) = MayLose s call
 Allowed s _ = Unit {0}
 
+-- a datagram arrives only where it has room: a packet of a call in the ring, and a control packet in the inbox
+pub record HasRoom (s : Lists) (bytes : List ℕ) : Type 0 where
+  pub message : is_message bytes ≡ true → length s.ring < s.room
+  pub control : is_control bytes ≡ true → length s.inbox < inbox_room
+
+-- what an event with these first bytes needs
+abbrev pub AllowedBy : Lists → Event → List ℕ → Type 0
+AllowedBy s (Arrived peer) bytes = HasRoom s bytes
+AllowedBy s e bytes = Allowed s e
+
+pub allowed-of : (s : Lists) (e : Event) (bytes : List ℕ) → AllowedBy s e bytes → Allowed s e
+allowed-of s (Arrived peer) bytes a = tt
+allowed-of s e bytes a = a
+
+-- no bytes are no datagram
+pub allowed-plain : (s : Lists) (e : Event) → Allowed s e → AllowedBy s e []
+unfolding decoded
+allowed-plain s (Arrived peer) a = record { message = λ e. cc; control = λ e. cc }
+allowed-plain s e a = a
+
 -- facts that happen at one clock, each allowed
 abbrev pub AllAllowed : ℕ → Lists → List Fact → Type 0
 AllAllowed clock s [] = Unit {0}
-AllAllowed clock s (f ∷ fs) = Allowed s f.event × AllAllowed clock (after clock s f) fs
+AllAllowed clock s (f ∷ fs) = AllowedBy s f.event f.first × AllAllowed clock (after clock s f) fs
 
 -- allowed facts, each at a clock of its own, lead from lists to lists
 abbrev pub Leads : Lists → List Fact → Lists → Type 0
 Leads s [] t = t ≡ s
 Leads s (f ∷ fs) t = (clock : ℕ) × Allowed s f.event × Leads (after clock s f) fs t
+
+-- the same, and each datagram has room
+abbrev pub LeadsBy : Lists → List Fact → Lists → Type 0
+LeadsBy s [] t = t ≡ s
+LeadsBy s (f ∷ fs) t = (clock : ℕ) × AllowedBy s f.event f.first × LeadsBy (after clock s f) fs t
+
+pub leads-of : (s : Lists) (x : List Fact) (t : Lists) → LeadsBy s x t → Leads s x t
+leads-of s [] t l = l
+leads-of s (f ∷ fs) t l = (l.0, allowed-of s f.event f.first l.1, leads-of (after l.0 s f) fs t l.2)

@@ -5,17 +5,19 @@ use Rattle.std.specs.List.{find}
 use Rattle.packet_header.specs.declared.packet.MessageHeader.{MessageHeader}
 use Rattle.rpc_base.specs.Tables.{at_first}
 use Rattle.rpc_base.specs.declared.event.Event.{Event}
-use Rattle.rpc_base.specs.declared.event.Event.TheVariants.{PairedClient, Asked, Begun, Posted, Sent, Took, Rolled, Broken, DoneOk, DoneTooSmall, DonePeerLost}
-use Rattle.rpc_base.specs.declared.owner.Owner.TheVariants.{Ask}
+use Rattle.rpc_base.specs.declared.event.Event.TheVariants.{PairedClient, Opened, Connected as IsConnected, FailedNoRoom, FailedNoAnswer, Closing as BeginsClosing, ClosedHeard, ClosedUnheard, Asked, Begun, Posted, Sent, Took, Rolled, Broken, DoneOk, DoneTooSmall, DonePeerLost}
+use Rattle.rpc_base.specs.declared.owner.Owner.TheVariants.{Ask, Control}
+use Rattle.rpc_base.specs.declared.state.SessionState.TheVariants.{Closing, Closed, Failed}
+use Rattle.rpc_laws.specs.Front.{control_of}
 use Rattle.rpc_laws.specs.declared.tables.Lists.{Lists}
 use Rattle.rpc_laws.specs.AtMostOnce.{begins_call}
 use Rattle.rpc_laws.specs.Calls.{is_call, is_active, posted_up_to, sent_packet, took_reply, rolled_back}
 use Rattle.rpc_laws.specs.NodeLists.{asked_after}
-use Rattle.rpc_laws.specs.Sessions.{is_client, has_call, begins, posts, sends, takes, rolls, breaks, ends, clients_after}
+use Rattle.rpc_laws.specs.Sessions.{is_client, comes_to, connects, has_call, begins, posts, sends, takes, rolls, breaks, ends, clients_after}
 use Rattle.node_laws.proofs.Allowed.{Allowed, MayBegin}
 use Rattle.node_laws.proofs.NumberLemmas.{by_number}
-use Rattle.node_laws.proofs.SpendLemmas.{none-spent, remaining, remaining-kept, calls-kept, remaining-asked, remaining-made, remaining-spent, ends-fewer, begins-less, same-waiting, to_begin}
-use Rattle.node_laws.proofs.Valid.{to_come, Valid}
+use Rattle.node_laws.proofs.SpendLemmas.{none-spent, remaining, remaining-kept, calls-kept, remaining-asked, remaining-made, remaining-opened, remaining-told, remaining-spent, ends-fewer, begins-less, same-waiting, to_begin}
+use Rattle.node_laws.specs.Valid.{to_come, Valid}
 
 module _ (number : ℕ) (clock : ℕ) (bytes : List ℕ) (head : Option MessageHeader) (body : List ℕ) (s : Lists) (v : Valid s) where
   begun-spends : (c r : ℕ) → MayBegin s c r → cond (c == number) 1 0 + (remaining number (λ o. is_none o) (at_first (has_call c) (begins c r) s.clients) + to_come s.asked number) ≤ remaining number (λ o. is_none o) s.clients + to_come s.asked number
@@ -28,6 +30,22 @@ module _ (number : ℕ) (clock : ℕ) (bytes : List ℕ) (head : Option MessageH
 pub begin-spends : (number clock : ℕ) (e : Event) (bytes : List ℕ) (head : Option MessageHeader) (body : List ℕ) (s : Lists) → Valid s → to_begin number s ≤ 1 → Allowed s e → cond (begins_call number e) 1 0 + (remaining number (λ o. is_none o) (clients_after clock e bytes head body s.clients) + to_come (asked_after e s.asked) number) ≤ to_begin number s
 begin-spends number clock (PairedClient n peer t credits) bytes head body s v h a =
     remaining-made number (λ o. is_none o) n peer t credits (to_come s.asked number) s.clients
+begin-spends number clock (Opened n peer credits) bytes head body s v h a =
+    remaining-opened number (λ o. is_none o) n peer credits (to_come s.asked number) s.clients
+begin-spends number clock (FailedNoRoom n) bytes head body s v h a =
+    remaining-kept number (λ o. is_none o) (is_client n) (comes_to Failed) s.clients (to_come s.asked number) (λ x. omega arith)
+begin-spends number clock (FailedNoAnswer n) bytes head body s v h a =
+    remaining-kept number (λ o. is_none o) (is_client n) (comes_to Failed) s.clients (to_come s.asked number) (λ x. omega arith)
+begin-spends number clock (BeginsClosing n) bytes head body s v h a =
+    remaining-kept number (λ o. is_none o) (is_client n) (comes_to Closing) s.clients (to_come s.asked number) (λ x. omega arith)
+begin-spends number clock (ClosedHeard n) bytes head body s v h a =
+    remaining-kept number (λ o. is_none o) (is_client n) (comes_to Closed) s.clients (to_come s.asked number) (λ x. omega arith)
+begin-spends number clock (ClosedUnheard n) bytes head body s v h a =
+    remaining-kept number (λ o. is_none o) (is_client n) (comes_to Closed) s.clients (to_come s.asked number) (λ x. omega arith)
+begin-spends number clock (IsConnected n t) bytes head body s v h a =
+    remaining-kept number (λ o. is_none o) (is_client n) (connects t) s.clients (to_come s.asked number) (λ x. omega arith)
+begin-spends number clock (Sent peer Control k) bytes head body s v h a =
+    remaining-told number (λ o. is_none o) clock (to_come s.asked number) (control_of bytes) s.clients
 begin-spends number clock (Asked c n y room) bytes head body s v h a =
     remaining-asked number (λ o. is_none o) s.asked c n y room bytes s.clients a.next h
 begin-spends number clock (Begun c r) bytes head body s v h a =

@@ -6,6 +6,8 @@ use Rattle.std.proofs.lemmas.Bool.{eqb-true}
 use Rattle.std.proofs.lemmas.List.Sums.{sum_by_push}
 use Rattle.packet_header.specs.declared.packet.MessageHeader.{MessageHeader}
 use Rattle.rpc_base.specs.Tables.{at_first}
+use Rattle.packet_header.specs.declared.packet.ControlHeader.{ControlHeader}
+use Rattle.rpc_base.specs.declared.state.SessionState.{SessionState}
 use Rattle.rpc_laws.specs.declared.tables.Asking.{Asking}
 use Rattle.rpc_laws.specs.declared.tables.Call.{Call}
 use Rattle.rpc_laws.specs.declared.tables.Client.{Client}
@@ -13,10 +15,10 @@ use Rattle.rpc_laws.specs.declared.tables.Progress.{Progress}
 use Rattle.rpc_laws.specs.Calls.{is_call, has_request, is_active, asked_packets, known_packets, moved, begun, posted_up_to, rolled_back, sent_packet, took_reply}
 use Rattle.rpc_laws.specs.ClientTable.{is_of_turn}
 use Rattle.rpc_laws.specs.Posting.{holds_slot, is_taken}
-use Rattle.rpc_laws.specs.Sessions.{is_connected, client_end, asks, begins, posts, sends, takes, rolls, breaks, ends}
+use Rattle.rpc_laws.specs.Sessions.{is_live, is_request_of, client_end, opened_end, comes_to, connects, requests, asks, begins, posts, sends, takes, rolls, breaks, ends}
 use Rattle.node_laws.proofs.SoundLemmas.{by_request, order-found, sound-moved, order-posted, order-rolled, order-taken, order-sent, sent-request, sent-got, sent-posted, took-request, reply-got, reply-posted}
 use Rattle.node_laws.proofs.TableLemmas.{found-passes, all-push, all-changed, all-left, none-counted, missing-same, sum-changed, sum-left, sum-fewer}
-use Rattle.node_laws.proofs.Valid.{unanswered_of, CallInOrder, in_slot, Sound}
+use Rattle.node_laws.specs.Valid.{unanswered_of, CallInOrder, in_slot, Sound}
 
 pub sound-made : (s peer t credits : ℕ) → Sound (client_end s peer t credits)
 sound-made s peer t credits = record { balance = λ _. omega arith; order = tt; apart = λ slot. omega arith }
@@ -90,7 +92,7 @@ sound-sends clock r k x h = sends-by clock r k x (find (is_active r) x.calls) re
 pub sound-breaks : (x : Client) → Sound x → Sound (breaks x)
 sound-breaks x h = record { balance = λ t. cc; order = h.order; apart = h.apart }
 
-pub sound-ends : (number : ℕ) (x : Client) (c : Call) → Sound x → find (is_call number) x.calls ≡ Some c → (is_connected x.state ≡ true → unanswered_of c.progress ≡ 0) → Sound (ends number x)
+pub sound-ends : (number : ℕ) (x : Client) (c : Call) → Sound x → find (is_call number) x.calls ≡ Some c → (is_live x.state ≡ true → unanswered_of c.progress ≡ 0) → Sound (ends number x)
 sound-ends number x c h e whole = record {
   balance = λ t.
       let was = h.balance t in
@@ -103,3 +105,24 @@ sound-ends number x c h e whole = record {
       let fewer = sum-fewer (is_call number) (λ (d : Call). cond (holds_slot slot d.progress) 1 0) x.calls in
       omega arith;
 }
+
+-- sessions that come and go
+pub sound-opened : (s peer credits : ℕ) → Sound (opened_end s peer credits)
+sound-opened s peer credits = record { balance = λ _. omega arith; order = tt; apart = λ slot. omega arith }
+
+-- a live session may come to any state, and every one to a state that isn't live
+pub sound-lives : (state : SessionState) (x : Client) → is_live x.state ≡ true → Sound x → Sound (comes_to state x)
+sound-lives state x l h = record { balance = λ _. h.balance l; order = h.order; apart = h.apart }
+
+pub sound-over : (state : SessionState) (x : Client) → is_live state ≡ false → Sound x → Sound (comes_to state x)
+sound-over state x l h = record { balance = λ t. cc; order = h.order; apart = h.apart }
+
+pub sound-connects : (t : ℕ) (x : Client) → is_live x.state ≡ true → Sound x → Sound (connects t x)
+sound-connects t x l h = record { balance = λ _. h.balance l; order = h.order; apart = h.apart }
+
+pub sound-requests : (clock : ℕ) (h : ControlHeader) (x : Client) → Sound x → Sound (requests clock h x)
+sound-requests clock h x k = by (is_request_of h.kind h.server x.state x.way.other)
+  where
+    by : (b : Bool) → Sound (cond b (record x { sends = x.sends + 1; sent_at = clock }) x)
+    by true = record { balance = k.balance; order = k.order; apart = k.apart }
+    by false = k

@@ -8,20 +8,25 @@ use Rattle.std.proofs.lemmas.List.Sums.{sum_by-cons, sum_by_push}
 use Rattle.packet_header.specs.declared.packet.MessageHeader.{MessageHeader}
 use Rattle.rpc_base.specs.Tables.{at_first}
 use Rattle.rpc_base.specs.declared.event.Event.{Event}
-use Rattle.rpc_base.specs.declared.event.Event.TheVariants.{PairedClient, Asked, Begun, Posted, Sent, Took, Rolled, Broken, DoneOk, DoneTooSmall, DonePeerLost}
-use Rattle.rpc_base.specs.declared.owner.Owner.TheVariants.{Ask}
+use Rattle.rpc_base.specs.declared.event.Event.TheVariants.{PairedClient, Opened, Connected as IsConnected, FailedNoRoom, FailedNoAnswer, Closing as BeginsClosing, ClosedHeard, ClosedUnheard, Asked, Begun, Posted, Sent, Took, Rolled, Broken, DoneOk, DoneTooSmall, DonePeerLost}
+use Rattle.rpc_base.specs.declared.owner.Owner.TheVariants.{Ask, Control}
+use Rattle.rpc_base.specs.declared.state.SessionState.TheVariants.{Closing, Closed, Failed}
+use Rattle.rpc_laws.specs.Front.{control_of}
+use Rattle.packet_header.specs.declared.packet.ControlHeader.{ControlHeader}
+use Rattle.node_laws.proofs.ToldSame.{told-same}
 use Rattle.rpc_laws.specs.declared.tables.Call.{Call}
 use Rattle.rpc_laws.specs.declared.tables.Client.{Client}
 use Rattle.rpc_laws.specs.declared.tables.Lists.{Lists}
 use Rattle.rpc_laws.specs.AtMostOnce.{ends_call}
 use Rattle.rpc_laws.specs.Calls.{is_call, is_active, moved, begun, posted_up_to, sent_packet, took_reply, rolled_back}
 use Rattle.rpc_laws.specs.NodeLists.{asked_after}
-use Rattle.rpc_laws.specs.Sessions.{is_client, has_call, client_end, asks, begins, posts, sends, takes, rolls, breaks, ends, clients_after}
+use Rattle.rpc_laws.specs.Sessions.{is_client, has_call, client_end, opened_end, comes_to, connects, clients_told, requests, asks, begins, posts, sends, takes, rolls, breaks, ends, clients_after}
 use Rattle.node_laws.specs.CallHistory.{asks_call}
 use Rattle.node_laws.proofs.Allowed.{Allowed, MayAsk}
 use Rattle.node_laws.proofs.NumberLemmas.{by_number}
 use Rattle.node_laws.proofs.TableLemmas.{none-counted, sum-changed, sum-left}
-use Rattle.node_laws.proofs.Valid.{holders, to_come, Valid, Place}
+use Rattle.node_laws.proofs.Places.{Place}
+use Rattle.node_laws.specs.Valid.{holders, to_come, Valid}
 
 -- a sum that a change leaves as it is
 module _ {A : Type 0} (p : A → Bool) (f : A → A) (g : A → ℕ) (same : (x : A) → g (f x) ≡ g x) where
@@ -64,9 +69,22 @@ module _ (c : ℕ) where
       let here : ◌≡◌ {A = ℕ} (cond (i == c) 1 0) (cond (is_call c d) 1 0) = ap (λ (n : ℕ). cond (n == c) 1 0) same in
       omega arith
 
+  told-held : (clock : ℕ) (o : Option ControlHeader) (xs : List Client) → holders c (clients_told clock o xs) + 0 ≡ holders c xs + 0
+  told-held clock None xs = refl
+  told-held clock (Some h) xs = kept (is_client h.client) (requests clock h) (λ x. told-same has clock h x refl) xs
+
   pub holders-after : (clock : ℕ) (e : Event) (bytes : List ℕ) (head : Option MessageHeader) (body : List ℕ) (s : Lists) → Valid s → Allowed s e → holders c (clients_after clock e bytes head body s.clients) + cond (ends_call c e) 1 0 ≡ holders c s.clients + cond (asks_call c e) 1 0
   holders-after clock (PairedClient i peer t credits) bytes head body s v a =
       let push = sum_by_push has s.clients (client_end i peer t credits) in omega arith
+  holders-after clock (Opened i peer credits) bytes head body s v a =
+      let push = sum_by_push has s.clients (opened_end i peer credits) in omega arith
+  holders-after clock (FailedNoRoom n) bytes head body s v a = kept (is_client n) (comes_to Failed) (λ x. refl) s.clients
+  holders-after clock (FailedNoAnswer n) bytes head body s v a = kept (is_client n) (comes_to Failed) (λ x. refl) s.clients
+  holders-after clock (BeginsClosing n) bytes head body s v a = kept (is_client n) (comes_to Closing) (λ x. refl) s.clients
+  holders-after clock (ClosedHeard n) bytes head body s v a = kept (is_client n) (comes_to Closed) (λ x. refl) s.clients
+  holders-after clock (ClosedUnheard n) bytes head body s v a = kept (is_client n) (comes_to Closed) (λ x. refl) s.clients
+  holders-after clock (IsConnected n t) bytes head body s v a = kept (is_client n) (connects t) (λ x. refl) s.clients
+  holders-after clock (Sent peer Control k) bytes head body s v a = told-held clock (control_of bytes) s.clients
   holders-after clock (Asked i m y room) bytes head body s v a = asked-one i m y room bytes s a
   holders-after clock (Begun i r) bytes head body s v a =
       kept (has_call i) (begins i r) (λ x. calls-same (is_call i) (begun r) (λ d. refl) x.calls) s.clients

@@ -5,21 +5,26 @@ use Rattle.std.specs.List.{find}
 use Rattle.std.proofs.lemmas.Bool.{eqb-true, eq-eqb}
 use Rattle.std.proofs.lemmas.Bool.Decides.{nat_tests}
 use Rattle.std.proofs.lemmas.List.Sums.{sum_by_push, sum_by-le-sum_by}
+use Rattle.packet_header.specs.declared.packet.ControlHeader.{ControlHeader}
 use Rattle.packet_header.specs.declared.packet.MessageHeader.{MessageHeader}
 use Rattle.rpc_base.specs.Tables.{at_first}
 use Rattle.rpc_base.specs.declared.event.Event.{Event}
-use Rattle.rpc_base.specs.declared.event.Event.TheVariants.{PairedClient, Asked, Begun, Posted, Sent, Took, Rolled, Broken, DoneOk, DoneTooSmall, DonePeerLost}
-use Rattle.rpc_base.specs.declared.owner.Owner.TheVariants.{Ask}
+use Rattle.rpc_base.specs.declared.event.Event.TheVariants.{PairedClient, Opened, Connected as IsConnected, FailedNoRoom, FailedNoAnswer, Closing as BeginsClosing, ClosedHeard, ClosedUnheard, Asked, Begun, Posted, Sent, Took, Rolled, Broken, DoneOk, DoneTooSmall, DonePeerLost}
+use Rattle.rpc_base.specs.declared.owner.Owner.TheVariants.{Ask, Control}
+use Rattle.rpc_base.specs.declared.state.SessionState.TheVariants.{Closing, Closed, Failed}
 use Rattle.rpc_laws.specs.declared.tables.Asking.{Asking}
 use Rattle.rpc_laws.specs.declared.tables.Call.{Call}
 use Rattle.rpc_laws.specs.declared.tables.Client.{Client}
 use Rattle.rpc_laws.specs.declared.tables.Lists.{Lists}
 use Rattle.rpc_laws.specs.Calls.{is_call, is_active, moved, begun, posted_up_to, sent_packet, took_reply, rolled_back}
+use Rattle.rpc_laws.specs.Front.{control_of}
 use Rattle.rpc_laws.specs.NodeLists.{asked_after}
-use Rattle.rpc_laws.specs.Sessions.{is_client, has_call, client_end, asks, begins, posts, sends, takes, rolls, breaks, ends, clients_after}
+use Rattle.rpc_laws.specs.Sessions.{is_client, has_call, client_end, opened_end, comes_to, connects, requests, clients_told, asks, begins, posts, sends, takes, rolls, breaks, ends, clients_after}
 use Rattle.node_laws.proofs.Allowed.{Allowed}
 use Rattle.node_laws.proofs.TableLemmas.{found-le, found-passes, some-counted, missing-same, sum-changed, sum-grown, sum-fewer}
-use Rattle.node_laws.proofs.Valid.{to_come, Valid, Place}
+use Rattle.node_laws.proofs.ToldSame.{told-same}
+use Rattle.node_laws.proofs.Places.{Place}
+use Rattle.node_laws.specs.Valid.{to_come, Valid}
 
 module _ (c n : ℕ) where
   -- the calls of number c on a session
@@ -52,6 +57,11 @@ module _ (c n : ℕ) where
   kept p f same h xs k =
       let grown = sum-grown p f off 0 xs (λ x. rw (same x) (off-le (is_client n x) (has (f x)) (has x) 0 (h x))) in omega arith
 
+  told : (clock : ℕ) (o : Option ControlHeader) (xs : List Client) (k : ℕ) → sum_by off (clients_told clock o xs) + k ≤ sum_by off xs + k
+  told clock None xs k = omega arith
+  told clock (Some h) xs k =
+      kept (is_client h.client) (requests clock h) (λ x. told-same (λ y. y.way.number) clock h x refl) (λ x. let same = told-same has clock h x refl in omega arith) xs k
+
   -- whether a call has the number
   abbrev one : Call → ℕ
   one d = cond (is_call c d) 1 0
@@ -73,6 +83,24 @@ module _ (c n : ℕ) where
       let push = sum_by_push off s.clients (client_end i peer t credits) in
       let none = off-fewer (i == n) 0 in
       omega arith
+  elsewhere-after clock (Opened i peer credits) bytes head body s v a =
+      let push = sum_by_push off s.clients (opened_end i peer credits) in
+      let none = off-fewer (i == n) 0 in
+      omega arith
+  elsewhere-after clock (FailedNoRoom m) bytes head body s v a =
+      kept (is_client m) (comes_to Failed) (λ x. refl) (λ x. omega arith) s.clients (to_come s.asked c)
+  elsewhere-after clock (FailedNoAnswer m) bytes head body s v a =
+      kept (is_client m) (comes_to Failed) (λ x. refl) (λ x. omega arith) s.clients (to_come s.asked c)
+  elsewhere-after clock (BeginsClosing m) bytes head body s v a =
+      kept (is_client m) (comes_to Closing) (λ x. refl) (λ x. omega arith) s.clients (to_come s.asked c)
+  elsewhere-after clock (ClosedHeard m) bytes head body s v a =
+      kept (is_client m) (comes_to Closed) (λ x. refl) (λ x. omega arith) s.clients (to_come s.asked c)
+  elsewhere-after clock (ClosedUnheard m) bytes head body s v a =
+      kept (is_client m) (comes_to Closed) (λ x. refl) (λ x. omega arith) s.clients (to_come s.asked c)
+  elsewhere-after clock (IsConnected m t) bytes head body s v a =
+      kept (is_client m) (connects t) (λ x. refl) (λ x. omega arith) s.clients (to_come s.asked c)
+  elsewhere-after clock (Sent peer Control k) bytes head body s v a =
+      told clock (control_of bytes) s.clients (to_come s.asked c)
   elsewhere-after clock (Asked i m y room) bytes head body s v a =
       given s.asked i (sum_by off s.clients) _ a.next (elsewhere-one s v) (sum-grown (is_client m) (asks (record { number = i; req_type = y; room = room; ask = bytes })) off (cond (i == c) 1 0) s.clients (λ x. off-le (is_client n x) _ (has x) (cond (i == c) 1 0) (asked-more (record { number = i; req_type = y; room = room; ask = bytes }) x)))
   elsewhere-after clock (Begun i r) bytes head body s v a =

@@ -1,5 +1,5 @@
 -- A call that is over has no packet queued, and none is posted later.
-use Rattle.std.proofs.Common.{◌≡◌, ℕ, ◌+◌, ◌≤◌, Bool, true, false, ◌&&◌, ◌||◌, cond, Option, Some, None, List, [], ◌∷◌, refl, sym, ap, subst, ◌∙◌, arith}
+use Rattle.std.proofs.Common.{◌≡◌, ℕ, ◌+◌, ◌≤◌, Bool, true, false, ◌&&◌, ◌||◌, cond, Option, Some, None, List, [], ◌∷◌, refl, sym, subst, ◌∙◌, arith}
 use Rattle.std.specs.Prelude.{◌==◌}
 use Rattle.std.specs.List.{AllByRecursion, find, list_any}
 use Rattle.std.proofs.lemmas.Bool.{eqb-true, eq-eqb, and_parts}
@@ -7,6 +7,7 @@ use Rattle.rpc_base.specs.Tables.{at_first}
 use Rattle.rpc_base.specs.declared.event.Event.{Event}
 use Rattle.rpc_base.specs.declared.event.Event.TheVariants.{Asked, Begun, Posted, DoneOk, DoneTooSmall, DonePeerLost}
 use Rattle.rpc_base.specs.declared.fact.Fact.{Fact}
+use Rattle.rpc_base.specs.declared.limits.Limits.{Limits}
 use Rattle.rpc_base.specs.declared.owner.Owner.TheVariants.{Ask, Reply, Control}
 use Rattle.rpc_laws.specs.declared.tables.Call.{Call}
 use Rattle.rpc_laws.specs.declared.tables.Client.{Client}
@@ -17,21 +18,25 @@ use Rattle.rpc_laws.specs.AtMostOnce.{ends_call}
 use Rattle.rpc_laws.specs.Calls.{is_call, has_request, is_active}
 use Rattle.rpc_laws.specs.Front.{front_header, front_body}
 use Rattle.rpc_laws.specs.NodeLists.{after, new_lists, asked_after}
-use Rattle.rpc_laws.specs.Queues.{queued_after}
+use Rattle.rpc_laws.specs.Pacing.{due_of}
 use Rattle.rpc_laws.specs.Sessions.{is_client, has_call, ends, clients_after}
 use Rattle.node_laws.specs.EndedCalls.{queued_by, asks_on, begins_as, posts_of, BeganAs, HandsBack, EndsClean}
 use Rattle.node_laws.specs.Laws.{EndedCallsAreNotQueued}
 use Rattle.node_laws.proofs.Allowed.{Allowed, NoneQueued, MayBegin, MayPost, Leads}
 use Rattle.node_laws.proofs.ElsewhereLemmas.{elsewhere, elsewhere-after, asked-here, session-found}
 use Rattle.node_laws.proofs.NumberLemmas.{by_number}
-use Rattle.node_laws.proofs.OpenLemmas.{EightTurns, turns-after, open_of, open_for, open-after}
+use Rattle.node_laws.proofs.OpenLemmas.{turns-after, open_of, open_for, open-after}
 use Rattle.node_laws.proofs.OriginLemmas.{unlike, unlike-after, begun-like, like-found}
+use Rattle.node_laws.proofs.PutLemmas.{Alike, alike-no-more, alike-after}
+use Rattle.node_laws.proofs.QueueLemmas.{none-stays}
 use Rattle.node_laws.proofs.QueueWindowLemmas.{windows-after, ended-unqueued}
 use Rattle.node_laws.proofs.RunLaws.{run_leads}
 use Rattle.node_laws.proofs.TableLemmas.{found-passes, found-changed, some-counted, sum-left}
-use Rattle.node_laws.proofs.Valid.{Valid, Place}
+use Rattle.node_laws.proofs.Places.{Place}
+use Rattle.node_laws.specs.Valid.{EightTurns, Valid}
 use Rattle.node_laws.proofs.ValidLemmas.{valid_after, valid_new}
-use Rattle.node_laws.proofs.WindowLemmas.{Windows, own-request}
+use Rattle.node_laws.proofs.WindowLemmas.{own-request}
+use Rattle.node_laws.specs.Windows.{Windows}
 
 -- a request that may no longer be active isn't posted
 post-by : (n r i j k : ℕ) (s : Lists) (b : Bool) → (i == n && j == r) ≡ b → open_for n r s.clients ≤ 0 → MayPost s i j k → b ≡ false
@@ -66,7 +71,7 @@ never-posted n r s (f ∷ g) t v eight none l =
 -- what is known of a moment
 pub record Knows (past : List Fact) (s : Lists) : Type 0 where
   pub valid : Valid s
-  pub queue : queued_by past ≡ s.queued
+  pub queue : Alike (queued_by past) s.queued
   pub windows : Windows s.clients s.queued
   pub eight : AllByRecursion EightTurns s.clients
   pub few : (n r : ℕ) → open_for n r s.clients ≤ 1
@@ -101,8 +106,8 @@ new-or-old false c n h k e = k e
 pub knows-after : (clock : ℕ) (past : List Fact) (s : Lists) (f : Fact) → Knows past s → Allowed s f.event → Knows (f ∷ past) (after clock s f)
 knows-after clock past s f k a = record {
   valid = valid_after clock s f k.valid a;
-  queue = ap (λ (q : List Queued). queued_after f.event q) k.queue;
-  windows = windows-after clock f.event f.first s k.valid k.windows a;
+  queue = alike-after f.event None (due_of clock f.event s.paces) (queued_by past) s.queued k.queue;
+  windows = windows-after clock f.event (due_of clock f.event s.paces) f.first s k.valid k.windows a;
   eight = turns-after clock f.event f.first (front_header s.ring) (front_body s.ring) s.clients k.eight;
   few = λ n r.
       let less = open-after n r clock f.event f.first (front_header s.ring) (front_body s.ring) s k.valid k.eight a in
@@ -198,7 +203,7 @@ hands-back clock past s f g t k a l c n r e h =
     let over = closed clock c n r s f.event f.first k.valid ending session active (k.few n r) in
     let next = knows-after clock past s f k a in
     record {
-      unqueued = rw k.queue none;
+      unqueued = none-stays (Ask n r) (queued_by past) s.queued (alike-no-more (queued_by past) s.queued k.queue) none;
       unposted = never-posted n r (after clock s f) g t next.valid next.eight over l;
     }
 
@@ -207,10 +212,10 @@ ends-clean past s [] t k l = tt
 ends-clean past s (f ∷ g) t k l =
     (hands-back l.0 past s f g t k l.1 l.2, ends-clean (f ∷ past) (after l.0 s f) g t (knows-after l.0 past s f k l.1) l.2)
 
-pub knows-new : (me ring : ℕ) → Knows [] (new_lists me ring)
-knows-new me ring = record {
-  valid = valid_new me ring;
-  queue = refl;
+pub knows-new : (me : ℕ) (limits : Limits) → Knows [] (new_lists me limits)
+knows-new me limits = record {
+  valid = valid_new me limits;
+  queue = λ test. refl;
   windows = tt;
   eight = tt;
   few = λ n r. omega arith;
@@ -219,4 +224,4 @@ knows-new me ring = record {
 }
 
 pub ended : EndedCallsAreNotQueued
-ended me ring timeout g t r = ends-clean [] (new_lists me ring) g t.lists (knows-new me ring) (run_leads r)
+ended p me limits g t r = ends-clean [] (new_lists me limits) g t.lists (knows-new me limits) (run_leads r)

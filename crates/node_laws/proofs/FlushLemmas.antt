@@ -1,21 +1,25 @@
 -- Flushing the packets of a call, and of all calls of a session.
 use Rattle.std.proofs.Common.{◌≡◌, ℕ, Option, Some, None, List, [], ◌∷◌, ◌++◌, refl, ap, ◌∙◌, arith}
 use Rattle.std.specs.Prelude.{map, flat_map}
-use Rattle.std.specs.List.{AllByRecursion}
+use Rattle.std.specs.List.{AllByRecursion, find}
 use Rattle.rpc_base.specs.declared.event.Event.TheVariants.{Flushed}
 use Rattle.rpc_base.specs.declared.fact.Fact.{Fact}
 use Rattle.rpc_base.specs.declared.owner.Owner.{Owner}
-use Rattle.rpc_base.specs.declared.owner.Owner.TheVariants.{Ask}
+use Rattle.rpc_base.specs.declared.owner.Owner.TheVariants.{Ask, Reply}
 use Rattle.rpc_laws.specs.declared.tables.Call.{Call}
 use Rattle.rpc_laws.specs.declared.tables.Lists.{Lists}
 use Rattle.rpc_laws.specs.declared.tables.Progress.{Progress}
 use Rattle.rpc_laws.specs.declared.tables.Queued.{Queued}
+use Rattle.rpc_laws.specs.declared.tables.Served.{Served}
+use Rattle.rpc_laws.specs.declared.tables.Server.{Server}
 use Rattle.rpc_laws.specs.Facts.{plain}
 use Rattle.rpc_laws.specs.GoBackN.{flushes_of}
 use Rattle.rpc_laws.specs.NodeLists.{after, after_all}
 use Rattle.rpc_laws.specs.Queues.{numbers_of, flush_facts}
+use Rattle.rpc_laws.specs.Requests.{in_slot_of}
+use Rattle.rpc_laws.specs.ServerTable.{flushes}
 use Rattle.rpc_laws.proofs.RunLemmas.{after_all-append}
-use Rattle.node_laws.proofs.Allowed.{NoneQueued, AllAllowed}
+use Rattle.node_laws.proofs.Allowed.{NoneOf, NoneOlder, AllAllowed}
 use Rattle.node_laws.proofs.LeadsLemmas.{allowed-join}
 use Rattle.node_laws.proofs.QueueLemmas.{taken_out, NoMore, no-more-taken, flushed-none, none-stays}
 
@@ -27,11 +31,6 @@ flush-allowed clock s me owner (k ∷ ks) =
 pub flush-after : (clock : ℕ) (s : Lists) (me : ℕ) (owner : Owner) (ks : List ℕ) → after_all clock s (map (λ k. plain me (Flushed owner k)) ks) ≡ record s { queued = taken_out owner ks s.queued }
 flush-after clock s me owner [] = refl
 flush-after clock s me owner (k ∷ ks) = flush-after clock (after clock s (plain me (Flushed owner k))) me owner ks
-
--- no packet of a call of session n is queued
-abbrev pub NoneOf : ℕ → Option Progress → List Queued → Type 0
-NoneOf n None queued = Unit {0}
-NoneOf n (Some p) queued = NoneQueued (Ask n p.request) queued
 
 none-of-stays : (n : ℕ) (o : Option Progress) (qs rs : List Queued) → NoMore qs rs → NoneOf n o rs → NoneOf n o qs
 none-of-stays n None qs rs h none = tt
@@ -92,4 +91,31 @@ calls-flushed clock s me n queued (c ∷ cs) h =
     record {
       flushes = flushes-join clock s (flushes_of me n queued c.progress) (flat_map (λ c. flushes_of me n queued c.progress) cs) first.0 rest.flushes;
       clean = (none-of-stays n c.progress rest.flushes.queue first.0.queue rest.flushes.fewer first.1, rest.clean);
+    }
+
+-- the newest requests of some slots of a server session, each flushed as the queue was at first
+older-stays : (t : ℕ) (o : Option Served) (qs rs : List Queued) → NoMore qs rs → NoneOlder t o rs → NoneOlder t o qs
+older-stays t None qs rs h none = tt
+older-stays t (Some l) qs rs h none = none-stays (Reply t l.number) qs rs h none
+
+pub record SlotsFlushed (clock : ℕ) (s : Lists) (v : Server) (slots : List ℕ) (x : List Fact) : Type 0 where
+  pub flushes : Flushes clock s x
+  pub clean : AllByRecursion (λ slot. NoneOlder v.way.number (find (in_slot_of slot) v.slots) flushes.queue) slots
+
+slot-flushed : (clock : ℕ) (s : Lists) (me t : ℕ) (queued : List Queued) (o : Option Served) → NoMore s.queued queued → (a : Flushes clock s (flushes me queued t o)) × NoneOlder t o a.queue
+unfolding flushes-owner flushes-none
+slot-flushed clock s me t queued None h = (flushes-none clock s, tt)
+slot-flushed clock s me t queued (Some l) h =
+    (flushes-owner clock s me queued (Reply t l.number), flushed-none (Reply t l.number) s.queued queued h)
+
+pub slots-flushed : (clock : ℕ) (s : Lists) (me : ℕ) (queued : List Queued) (v : Server) (slots : List ℕ) → NoMore s.queued queued → SlotsFlushed clock s v slots (flat_map (λ slot. flushes me queued v.way.number (find (in_slot_of slot) v.slots)) slots)
+unfolding flushes-join
+slots-flushed clock s me queued v [] h = record { flushes = flushes-none clock s; clean = tt }
+slots-flushed clock s me queued v (slot ∷ slots) h =
+    let o = find (in_slot_of slot) v.slots in
+    let first = slot-flushed clock s me v.way.number queued o h in
+    let rest = slots-flushed clock (record s { queued = first.0.queue }) me queued v slots (no-more-join first.0.queue s.queued queued first.0.fewer h) in
+    record {
+      flushes = flushes-join clock s (flushes me queued v.way.number o) (flat_map (λ slot. flushes me queued v.way.number (find (in_slot_of slot) v.slots)) slots) first.0 rest.flushes;
+      clean = (older-stays v.way.number o rest.flushes.queue first.0.queue rest.flushes.fewer first.1, rest.clean);
     }

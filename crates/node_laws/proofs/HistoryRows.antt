@@ -1,14 +1,17 @@
--- Worked rows: what the facts of a call of two packets tell, read by the definitions alone.
-use Rattle.std.proofs.Common.{◌≡◌, true, false, List, [], ◌∷◌, refl}
+-- Worked rows: what the facts of a call of two packets, and of a session that ends, tell, read by the definitions
+-- alone.
+use Rattle.std.proofs.Common.{◌≡◌, ◌≤◌, true, false, None, List, [], ◌∷◌, refl, arith}
 use Rattle.std.specs.Prelude.{count_by}
 use Rattle.std.specs.List.{list_any}
-use Rattle.rpc_base.specs.declared.event.Event.TheVariants.{PairedClient, Asked, Begun, Posted, Sent, Flushed, Took, Rolled, DoneOk}
+use Rattle.rpc_base.specs.declared.event.Event.TheVariants.{PairedClient, Asked, Begun, Posted, Sent, Flushed, Took, Rolled, DoneOk, Ended}
 use Rattle.rpc_base.specs.declared.fact.Fact.{Fact}
-use Rattle.rpc_base.specs.declared.owner.Owner.TheVariants.{Ask}
+use Rattle.rpc_base.specs.declared.owner.Owner.TheVariants.{Ask, Reply}
 use Rattle.rpc_laws.specs.AtMostOnce.{times, begins_call, ends_call}
 use Rattle.rpc_laws.specs.Facts.{plain}
 use Rattle.node_laws.specs.CallHistory.{latest_first, takes_of, posted_by, rolls_by}
 use Rattle.node_laws.specs.EndedCalls.{queued_by, asks_on, begins_as, posts_of}
+use Rattle.node_laws.specs.EndedSessions.{ends_session, is_reply_of, posts_for}
+use Rattle.node_laws.specs.QueuedPackets.{QueuedOnce, queued_of}
 
 -- it begins, posts both packets and sends the first; the second is flushed, and the call rolled back
 abbrev begun : List Fact
@@ -36,7 +39,7 @@ row-begun-posted = refl
 row-posted : posted_by 0 0 0 posted ≡ 2
 row-posted = refl
 
-row-posted-queued : queued_by posted ≡ record { owner = Ask 0 0; number = 1 } ∷ []
+row-posted-queued : queued_by posted ≡ record { owner = Ask 0 0; number = 1; due = None } ∷ []
 row-posted-queued = refl
 
 row-rolled : posted_by 0 0 0 rolled ≡ 0
@@ -79,3 +82,27 @@ row-posts = refl
 
 row-posts-other : list_any (λ f. posts_of 0 0 f.event) (plain 4 (Posted (Ask 0 8) 0) ∷ []) ≡ false
 row-posts-other = refl
+
+-- two packets are queued of a session with two credits: none is free
+row-queued-two : queued_of 0 (queued_by (plain 4 (Posted (Ask 0 0) 1) ∷ plain 4 (Posted (Ask 0 0) 0) ∷ begun)) ≡ 2
+row-queued-two = refl
+
+-- a packet that is queued twice would show
+row-queued-twice : QueuedOnce (queued_by (plain 4 (Posted (Ask 0 0) 0) ∷ plain 4 (Posted (Ask 0 0) 0) ∷ begun)) → ⊥
+row-queued-twice once = let few : 2 ≤ 1 = once 0 0 0 in absurd (omega arith)
+
+-- a server session ends: its replies that are queued, or posted later, would show
+row-ends : ends_session 3 (Ended 3) ≡ true
+row-ends = refl
+
+row-ends-other : ends_session 3 (Ended 2) ≡ false
+row-ends-other = refl
+
+row-ended-queued : list_any (λ q. is_reply_of 3 q.owner) (queued_by (plain 4 (Posted (Reply 3 9) 0) ∷ begun)) ≡ true
+row-ended-queued = refl
+
+row-ended-posts : list_any (λ f. posts_for 3 f.event) (plain 4 (Posted (Reply 3 1) 0) ∷ []) ≡ true
+row-ended-posts = refl
+
+row-ended-posts-other : list_any (λ f. posts_for 3 f.event) (plain 4 (Posted (Reply 2 1) 0) ∷ []) ≡ false
+row-ended-posts-other = refl

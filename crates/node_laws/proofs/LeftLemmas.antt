@@ -14,7 +14,7 @@ use Rattle.node_laws.proofs.Allowed.{Newer}
 use Rattle.node_laws.proofs.FindLemmas.{changed-le, push-found, push-other, skip-found, count-out, none-found}
 use Rattle.node_laws.proofs.ServerLemmas.{in_place, request-slot}
 use Rattle.node_laws.proofs.TableLemmas.{found-holds, found-own, found-passes, found-changed}
-use Rattle.node_laws.proofs.Valid.{is_due, RunWhole, SoundServer, left_of, left_in}
+use Rattle.node_laws.specs.Valid.{is_due, RunWhole, SoundServer, left_of, left_in}
 
 -- a test of a request that no fact makes true
 pub record Falls (test : Served → Bool) : Type 0 where

@@ -3,19 +3,25 @@ pub mod AgreeLemmas
 pub mod Allowed
 pub mod BeginLemmas
 pub mod ChangeLemmas
+mod ControlLemmas
 pub mod CountLemmas
 pub mod CreditLaws
 pub mod ElsewhereLemmas
 pub mod EndLemmas
 pub mod EndedLaws
+pub mod EndedSessionLaws
+pub mod EndsLemmas
 pub mod FilterLemmas
 pub mod FindLemmas
 pub mod FlushLemmas
 pub mod HistoryRows
+pub mod IdleLemmas
 pub mod ImageLemmas
 pub mod JobLemmas
+pub mod KeptLemmas
 pub mod LeadsLemmas
 pub mod LeftLemmas
+pub mod LiveLemmas
 pub mod LookLemmas
 pub mod NewestLemmas
 pub mod NumberLemmas
@@ -23,9 +29,14 @@ pub mod OlderLaws
 pub mod OnceLaws
 pub mod OpenLemmas
 pub mod OriginLemmas
+pub mod Places
 pub mod PostLemmas
+pub mod PutLemmas
+pub mod QueueFitsLaws
+pub mod QueueFitsLemmas
 pub mod QueueLemmas
 pub mod QueueWindowLemmas
+pub mod QueuedOnceLemmas
 pub mod ReplyLemmas
 pub mod RequestLaws
 pub mod RequestLemmas
@@ -38,10 +49,12 @@ pub mod ServantLemmas
 pub mod ServeLemmas
 pub mod ServedLemmas
 pub mod ServerLemmas
+pub mod ShareLemmas
 pub mod SoundLemmas
 pub mod SpanLemmas
 pub mod SpendLemmas
 pub mod StandLemmas
+pub mod StateLemmas
 pub mod TableLaws
 pub mod TableLemmas
 pub mod TakenLemmas
@@ -49,7 +62,8 @@ pub mod TellEventLemmas
 pub mod TellLemmas
 pub mod TimerLemmas
 pub mod ToldLemmas
-pub mod Valid
+mod ToldSame
+pub mod TotalLemmas
 pub mod ValidLemmas
 pub mod WindowEndLemmas
 pub mod WindowLemmas

@@ -12,7 +12,8 @@ use Rattle.node_laws.proofs.Allowed.{MayServe}
 use Rattle.node_laws.proofs.FindLemmas.{push-found, push-other, skip-found, count-out, none-found, mapped-found, unchanged-found}
 use Rattle.node_laws.proofs.ServerLemmas.{in_place, request-slot}
 use Rattle.node_laws.proofs.TableLemmas.{count-fewer, found-holds, none-counted, sum-fewer}
-use Rattle.node_laws.proofs.Valid.{SoundServer, request_of, Valid}
+use Rattle.node_laws.proofs.Places.{request_of}
+use Rattle.node_laws.specs.Valid.{SoundServer, Valid}
 
 -- request r of a session that is found
 abbrev pub request_on : ℕ → Option Server → Option Served
@@ -23,7 +24,7 @@ abbrev pub changes : ℕ → (Served → Served) → Server → Server
 changes k f v = record v { slots = at_first (is_request k) f v.slots }
 
 -- numbers that differ
-off-number : (i n k : ℕ) → (n == k) ≡ false → (i == n) ≡ true → (i == k) ≡ false
+pub off-number : (i n k : ℕ) → (n == k) ≡ false → (i == n) ≡ true → (i == k) ≡ false
 off-number i n k e t = let same : i ≡ n = eqb-true i n t in rw same e
 
 module _ (t r : ℕ) where

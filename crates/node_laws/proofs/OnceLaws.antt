@@ -1,8 +1,10 @@
 -- At most once, of every run: what an event takes isn't there a second time.
 use Rattle.std.proofs.Common.{◌≡◌, ℕ, ◌+◌, ◌≤◌, Bool, true, false, ◌&&◌, cond, leb, List, [], ◌∷◌, arith}
+use Rattle.std.specs.Prelude.{count_by}
 use Rattle.std.proofs.lemmas.List.Sums.{sum_by-cons}
 use Rattle.rpc_base.specs.declared.event.Event.{Event}
 use Rattle.rpc_base.specs.declared.fact.Fact.{Fact}
+use Rattle.rpc_base.specs.declared.limits.Limits.{Limits}
 use Rattle.rpc_laws.specs.declared.tables.Lists.{Lists}
 use Rattle.rpc_laws.specs.AtMostOnce.{is_at, runs_request, works_request, begins_call, ends_call, times, Once}
 use Rattle.rpc_laws.specs.Front.{front_header, front_body}
@@ -11,10 +13,10 @@ use Rattle.node_laws.specs.Laws.{HappensAtMostOnce}
 use Rattle.node_laws.proofs.Allowed.{Allowed, Leads}
 use Rattle.node_laws.proofs.BeginLemmas.{begin-spends}
 use Rattle.node_laws.proofs.EndLemmas.{end-spends}
-use Rattle.node_laws.proofs.JobLemmas.{work-spends, run-spends}
+use Rattle.node_laws.proofs.JobLemmas.{run-spends}
 use Rattle.node_laws.proofs.RunLaws.{run_leads}
 use Rattle.node_laws.proofs.SpendLemmas.{to_begin, to_end}
-use Rattle.node_laws.proofs.Valid.{to_work, to_run, Valid}
+use Rattle.node_laws.specs.Valid.{to_run, Valid}
 use Rattle.node_laws.proofs.ValidLemmas.{valid_after, valid_new}
 
 -- an event that passes the test takes one
@@ -46,9 +48,6 @@ done-spends c = record { each = λ clock s f v h a. end-spends c clock f.event f
 ran-spends : (t r : ℕ) → Spends (runs_request t r) (to_run t r)
 ran-spends t r = record { each = λ clock s f v h a. run-spends t r s v clock f a }
 
-worked-spends : (t r : ℕ) → Spends (works_request t r) (to_work t r)
-worked-spends t r = record { each = λ clock s f v h a. work-spends t r s v clock f a }
-
 one-come : (b : Bool) → 0 + cond b 1 0 ≤ 1
 one-come true = omega arith
 one-come false = omega arith
@@ -56,18 +55,28 @@ one-come false = omega arith
 at-most : (a b : ℕ) → a ≤ b → b ≤ 1 → a ≤ 1
 at-most a b h k = omega arith
 
-module _ (me ring : ℕ) (g : List Fact) (t : Lists) (l : Leads (new_lists me ring) g t) where
-  once-of : (test : Event → Bool) (left : Lists → ℕ) → Spends test left → left (new_lists me ring) ≤ 1 → (n : ℕ) → times n test g ≤ 1
-  once-of test left each h n =
-      at-most (times n test g) (left (new_lists me ring)) (times-le test left each n (new_lists me ring) g t (valid_new me ring) h l) h
+-- an event of one node is one of all
+times-few : (n : ℕ) (test : Event → Bool) (g : List Fact) → times n test g ≤ count_by (λ f. test f.event) g
+times-few n test [] = omega arith
+times-few n test (f ∷ g) =
+    let rest = times-few n test g in
+    let cons = sum_by-cons (λ (e : Fact). cond {A = ℕ} (is_at n e.who && test e.event) 1 0) f g in
+    let all = sum_by-cons (λ (e : Fact). cond {A = ℕ} (test e.event) 1 0) f g in
+    let own = both-less (is_at n f.who) (test f.event) in
+    omega arith
 
-  run-once : Once g
-  run-once = record {
-    ran = λ m n r. once-of (runs_request n r) (to_run n r) (ran-spends n r) (omega arith) m;
-    worked = λ m n r. once-of (works_request n r) (to_work n r) (worked-spends n r) (omega arith) m;
+module _ (me : ℕ) (limits : Limits) (g : List Fact) (t : Lists) (l : Leads (new_lists me limits) g t) where
+  once-of : (test : Event → Bool) (left : Lists → ℕ) → Spends test left → left (new_lists me limits) ≤ 1 → (n : ℕ) → times n test g ≤ 1
+  once-of test left each h n =
+      at-most (times n test g) (left (new_lists me limits)) (times-le test left each n (new_lists me limits) g t (valid_new me limits) h l) h
+
+  run-once : ((n r : ℕ) → count_by (λ f. works_request n r f.event) g ≤ 1) → Once g
+  run-once worked = record {
+    ran = λ m n r. once-of (runs_request n r) (to_run n r) (ran-spends n r) (let one = one-come (leb 0 n) in omega arith) m;
+    worked = λ m n r. at-most (times m (works_request n r) g) (count_by (λ f. works_request n r f.event) g) (times-few m (works_request n r) g) (worked n r);
     begun = λ n c. once-of (begins_call c) (to_begin c) (begun-spends c) (one-come (leb 0 c)) n;
     done = λ n c. once-of (ends_call c) (to_end c) (done-spends c) (one-come (leb 0 c)) n;
   }
 
 pub once : HappensAtMostOnce
-once me ring timeout g t r = run-once me ring g t.lists (run_leads r)
+once p me limits g t r = run-once me limits g t.lists (run_leads r) r.worked_once

@@ -6,33 +6,53 @@ use Rattle.std.proofs.lemmas.Bool.{eqb-true, eqb-false}
 use Rattle.std.proofs.lemmas.Bool.Decides.{nat_tests}
 use Rattle.std.proofs.lemmas.List.{get_or-set_same, get_or-set_other, length-set}
 use Rattle.std.proofs.lemmas.List.Sums.{sum_by_push}
+use Rattle.packet_header.specs.declared.packet.ControlHeader.{ControlHeader}
 use Rattle.packet_header.specs.declared.packet.MessageHeader.{MessageHeader}
 use Rattle.rpc_base.specs.Tables.{at_first}
 use Rattle.rpc_base.specs.declared.event.Event.{Event}
-use Rattle.rpc_base.specs.declared.event.Event.TheVariants.{PairedClient, Asked, Begun, Posted, Sent, Took, Rolled, Broken, DoneOk, DoneTooSmall, DonePeerLost}
-use Rattle.rpc_base.specs.declared.owner.Owner.TheVariants.{Ask}
+use Rattle.rpc_base.specs.declared.event.Event.TheVariants.{PairedClient, Opened, Connected as IsConnected, FailedNoRoom, FailedNoAnswer, Closing as BeginsClosing, ClosedHeard, ClosedUnheard, Asked, Begun, Posted, Sent, Took, Rolled, Broken, DoneOk, DoneTooSmall, DonePeerLost}
+use Rattle.rpc_base.specs.declared.owner.Owner.TheVariants.{Ask, Control}
+use Rattle.rpc_base.specs.declared.state.SessionState.TheVariants.{Closing, Closed, Failed}
 use Rattle.rpc_laws.specs.declared.tables.Asking.{Asking}
 use Rattle.rpc_laws.specs.declared.tables.Call.{Call}
 use Rattle.rpc_laws.specs.declared.tables.Client.{Client}
 use Rattle.rpc_laws.specs.declared.tables.Lists.{Lists}
 use Rattle.rpc_laws.specs.declared.tables.Progress.{Progress}
 use Rattle.rpc_laws.specs.Calls.{is_call, has_request, is_active, moved, begun, posted_up_to, sent_packet, took_reply, rolled_back}
-use Rattle.rpc_laws.specs.Sessions.{is_client, has_call, client_end, no_turns, turned, asks, begins, posts, sends, takes, rolls, breaks, ends, clients_after}
+use Rattle.rpc_laws.specs.Front.{control_of}
+use Rattle.rpc_laws.specs.Sessions.{is_client, has_call, client_end, opened_end, comes_to, connects, requests, clients_told, no_turns, turned, asks, begins, posts, sends, takes, rolls, breaks, ends, clients_after}
 use Rattle.node_laws.proofs.Allowed.{Allowed, MayBegin}
 use Rattle.node_laws.proofs.FindLemmas.{changed-le}
 use Rattle.node_laws.proofs.NumberLemmas.{by_number}
 use Rattle.node_laws.proofs.SoundLemmas.{sent-request, took-request}
 use Rattle.node_laws.proofs.TableLemmas.{found-holds, all-push, all-kept, sum-changed, sum-grown, sum-fewer}
-use Rattle.node_laws.proofs.Valid.{Valid}
+use Rattle.node_laws.proofs.ToldSame.{told-same}
+use Rattle.node_laws.specs.Valid.{EightTurns, Valid}
 use Rattle.node_laws.proofs.WindowLemmas.{same-request, same-found}
 
--- a session counts the turns of eight slots
-abbrev pub EightTurns : Client → Type 0
-EightTurns x = length x.turns ≡ 8
+turns-told : (clock : ℕ) (o : Option ControlHeader) (xs : List Client) → AllByRecursion EightTurns xs → AllByRecursion EightTurns (clients_told clock o xs)
+turns-told clock None xs h = h
+turns-told clock (Some c) xs h =
+    all-kept (is_client c.client) (requests clock c) EightTurns xs (λ x i _. told-same (λ y. length y.turns) clock c x refl ∙ i) h
 
 pub turns-after : (clock : ℕ) (e : Event) (bytes : List ℕ) (head : Option MessageHeader) (body : List ℕ) (xs : List Client) → AllByRecursion EightTurns xs → AllByRecursion EightTurns (clients_after clock e bytes head body xs)
 turns-after clock (PairedClient n peer t credits) bytes head body xs h =
     all-push EightTurns xs (client_end n peer t credits) h refl
+turns-after clock (Opened n peer credits) bytes head body xs h =
+    all-push EightTurns xs (opened_end n peer credits) h refl
+turns-after clock (FailedNoRoom n) bytes head body xs h =
+    all-kept (is_client n) (comes_to Failed) EightTurns xs (λ x i _. i) h
+turns-after clock (FailedNoAnswer n) bytes head body xs h =
+    all-kept (is_client n) (comes_to Failed) EightTurns xs (λ x i _. i) h
+turns-after clock (BeginsClosing n) bytes head body xs h =
+    all-kept (is_client n) (comes_to Closing) EightTurns xs (λ x i _. i) h
+turns-after clock (ClosedHeard n) bytes head body xs h =
+    all-kept (is_client n) (comes_to Closed) EightTurns xs (λ x i _. i) h
+turns-after clock (ClosedUnheard n) bytes head body xs h =
+    all-kept (is_client n) (comes_to Closed) EightTurns xs (λ x i _. i) h
+turns-after clock (IsConnected n t) bytes head body xs h =
+    all-kept (is_client n) (connects t) EightTurns xs (λ x i _. i) h
+turns-after clock (Sent peer Control k) bytes head body xs h = turns-told clock (control_of bytes) xs h
 turns-after clock (Asked c n y room) bytes head body xs h =
     all-kept (is_client n) (asks (record { number = c; req_type = y; room = room; ask = bytes })) EightTurns xs (λ x k _. k) h
 turns-after clock (Begun c r) bytes head body xs h =
@@ -137,10 +157,24 @@ module _ (r : ℕ) where
   one-future true = omega arith
   one-future false = omega arith
 
+  -- one more session, in which no request began
+  open-pushed : (n : ℕ) (y : Client) (xs : List Client) → open_of (Some y) ≤ 1 → open_of (find (is_client n) (xs ++ y ∷ [])) ≤ open_of (find (is_client n) xs)
+  open-pushed n y [] h = new-by (is_client n y) y h
+  open-pushed n y (x ∷ xs) h =
+      made-by (is_client n x) x (find (is_client n) xs) (find (is_client n) (xs ++ y ∷ [])) (open-pushed n y xs h)
+
   open-made : (n s peer t credits : ℕ) (xs : List Client) → open_of (find (is_client n) (xs ++ client_end s peer t credits ∷ [])) ≤ open_of (find (is_client n) xs)
-  open-made n s peer t credits [] = new-by (s == n) (client_end s peer t credits) (one-future (ltb (r / 8) (slice_index no_turns (r % 8))))
-  open-made n s peer t credits (x ∷ xs) =
-      made-by (is_client n x) x (find (is_client n) xs) (find (is_client n) (xs ++ client_end s peer t credits ∷ [])) (open-made n s peer t credits xs)
+  open-made n s peer t credits xs =
+      open-pushed n (client_end s peer t credits) xs (one-future (ltb (r / 8) (slice_index no_turns (r % 8))))
+
+  open-opened : (n s peer credits : ℕ) (xs : List Client) → open_of (find (is_client n) (xs ++ opened_end s peer credits ∷ [])) ≤ open_of (find (is_client n) xs)
+  open-opened n s peer credits xs =
+      open-pushed n (opened_end s peer credits) xs (one-future (ltb (r / 8) (slice_index no_turns (r % 8))))
+
+  open-told : (n clock : ℕ) (o : Option ControlHeader) (xs : List Client) → open_of (find (is_client n) (clients_told clock o xs)) ≤ open_of (find (is_client n) xs)
+  open-told n clock None xs = omega arith
+  open-told n clock (Some h) xs =
+      changed-le open_of (is_client h.client) (requests clock h) (is_client n) (λ x. told-same (is_client n) clock h x refl) xs (λ x _. let same = told-same (λ y. open_of (Some y)) clock h x refl in omega arith)
 
 -- the same of session n
 abbrev pub open_for : ℕ → ℕ → List Client → ℕ
@@ -163,6 +197,20 @@ module _ (n r : ℕ) (s : Lists) (v : Valid s) (eight : AllByRecursion EightTurn
 
 pub open-after : (n r clock : ℕ) (e : Event) (bytes : List ℕ) (head : Option MessageHeader) (body : List ℕ) (s : Lists) → Valid s → AllByRecursion EightTurns s.clients → Allowed s e → open_for n r (clients_after clock e bytes head body s.clients) ≤ open_for n r s.clients
 open-after n r clock (PairedClient i peer t credits) bytes head body s v h a = open-made r n i peer t credits s.clients
+open-after n r clock (Opened i peer credits) bytes head body s v h a = open-opened r n i peer credits s.clients
+open-after n r clock (FailedNoRoom i) bytes head body s v h a =
+    changed-le (open_of r) (is_client i) (comes_to Failed) (is_client n) (λ x. refl) s.clients (λ x _. omega arith)
+open-after n r clock (FailedNoAnswer i) bytes head body s v h a =
+    changed-le (open_of r) (is_client i) (comes_to Failed) (is_client n) (λ x. refl) s.clients (λ x _. omega arith)
+open-after n r clock (BeginsClosing i) bytes head body s v h a =
+    changed-le (open_of r) (is_client i) (comes_to Closing) (is_client n) (λ x. refl) s.clients (λ x _. omega arith)
+open-after n r clock (ClosedHeard i) bytes head body s v h a =
+    changed-le (open_of r) (is_client i) (comes_to Closed) (is_client n) (λ x. refl) s.clients (λ x _. omega arith)
+open-after n r clock (ClosedUnheard i) bytes head body s v h a =
+    changed-le (open_of r) (is_client i) (comes_to Closed) (is_client n) (λ x. refl) s.clients (λ x _. omega arith)
+open-after n r clock (IsConnected i t) bytes head body s v h a =
+    changed-le (open_of r) (is_client i) (connects t) (is_client n) (λ x. refl) s.clients (λ x _. omega arith)
+open-after n r clock (Sent peer Control k) bytes head body s v h a = open-told r n clock (control_of bytes) s.clients
 open-after n r clock (Asked c i y room) bytes head body s v h a =
     changed-le (open_of r) (is_client i) (asks (record { number = c; req_type = y; room = room; ask = bytes })) (is_client n) (λ x. refl) s.clients (λ x _. open-asks r (record { number = c; req_type = y; room = room; ask = bytes }) x)
 open-after n r clock (Begun c new) bytes head body s v h a = open-begun n r s v h c new a

@@ -7,21 +7,24 @@ use Rattle.std.proofs.lemmas.List.Sums.{sum_by-le-sum_by}
 use Rattle.packet_header.specs.declared.packet.MessageHeader.{MessageHeader}
 use Rattle.rpc_base.specs.Tables.{at_first}
 use Rattle.rpc_base.specs.declared.event.Event.{Event}
-use Rattle.rpc_base.specs.declared.event.Event.TheVariants.{PairedClient, Asked, Begun, Posted, Sent, Took, Rolled, Broken, DoneOk, DoneTooSmall, DonePeerLost}
-use Rattle.rpc_base.specs.declared.owner.Owner.TheVariants.{Ask}
+use Rattle.rpc_base.specs.declared.event.Event.TheVariants.{PairedClient, Opened, Connected as IsConnected, FailedNoRoom, FailedNoAnswer, Closing as BeginsClosing, ClosedHeard, ClosedUnheard, Asked, Begun, Posted, Sent, Took, Rolled, Broken, DoneOk, DoneTooSmall, DonePeerLost}
+use Rattle.rpc_base.specs.declared.owner.Owner.TheVariants.{Ask, Control}
+use Rattle.rpc_base.specs.declared.state.SessionState.TheVariants.{Closing, Closed, Failed}
 use Rattle.rpc_laws.specs.declared.tables.Call.{Call}
 use Rattle.rpc_laws.specs.declared.tables.Client.{Client}
 use Rattle.rpc_laws.specs.declared.tables.Lists.{Lists}
 use Rattle.rpc_laws.specs.declared.tables.Progress.{Progress}
 use Rattle.rpc_laws.specs.Calls.{is_call, has_request, is_active, begun, posted_up_to, sent_packet, took_reply, rolled_back}
+use Rattle.rpc_laws.specs.Front.{control_of}
 use Rattle.rpc_laws.specs.NodeLists.{asked_after}
-use Rattle.rpc_laws.specs.Sessions.{is_client, has_call, begins, posts, sends, takes, rolls, breaks, ends, clients_after}
+use Rattle.rpc_laws.specs.Sessions.{is_client, has_call, comes_to, connects, begins, posts, sends, takes, rolls, breaks, ends, clients_after}
 use Rattle.node_laws.proofs.Allowed.{Allowed, MayBegin}
 use Rattle.node_laws.proofs.NumberLemmas.{by_number}
 use Rattle.node_laws.proofs.SoundLemmas.{sent-request, took-request}
-use Rattle.node_laws.proofs.SpendLemmas.{remaining, remaining-kept, calls-kept, remaining-asked, remaining-made, remaining-spent, ends-fewer}
+use Rattle.node_laws.proofs.SpendLemmas.{remaining, remaining-kept, calls-kept, remaining-asked, remaining-made, remaining-opened, remaining-told, remaining-spent, ends-fewer}
 use Rattle.node_laws.proofs.TableLemmas.{found-le, sum-changed}
-use Rattle.node_laws.proofs.Valid.{holders, to_come, Valid, Place}
+use Rattle.node_laws.proofs.Places.{Place}
+use Rattle.node_laws.specs.Valid.{holders, to_come, Valid}
 use Rattle.node_laws.proofs.WindowLemmas.{same-request}
 
 -- not begun as r
@@ -87,6 +90,22 @@ module _ (c r : ℕ) (s : Lists) (v : Valid s) where
 pub unlike-after : (c r clock : ℕ) (e : Event) (bytes : List ℕ) (head : Option MessageHeader) (body : List ℕ) (s : Lists) → Valid s → Allowed s e → 0 + (remaining c (otherwise r) (clients_after clock e bytes head body s.clients) + to_come (asked_after e s.asked) c) ≤ unlike c r s
 unlike-after c r clock (PairedClient n peer t credits) bytes head body s v a =
     remaining-made c (otherwise r) n peer t credits (to_come s.asked c) s.clients
+unlike-after c r clock (Opened n peer credits) bytes head body s v a =
+    remaining-opened c (otherwise r) n peer credits (to_come s.asked c) s.clients
+unlike-after c r clock (FailedNoRoom n) bytes head body s v a =
+    remaining-kept c (otherwise r) (is_client n) (comes_to Failed) s.clients (to_come s.asked c) (λ x. omega arith)
+unlike-after c r clock (FailedNoAnswer n) bytes head body s v a =
+    remaining-kept c (otherwise r) (is_client n) (comes_to Failed) s.clients (to_come s.asked c) (λ x. omega arith)
+unlike-after c r clock (BeginsClosing n) bytes head body s v a =
+    remaining-kept c (otherwise r) (is_client n) (comes_to Closing) s.clients (to_come s.asked c) (λ x. omega arith)
+unlike-after c r clock (ClosedHeard n) bytes head body s v a =
+    remaining-kept c (otherwise r) (is_client n) (comes_to Closed) s.clients (to_come s.asked c) (λ x. omega arith)
+unlike-after c r clock (ClosedUnheard n) bytes head body s v a =
+    remaining-kept c (otherwise r) (is_client n) (comes_to Closed) s.clients (to_come s.asked c) (λ x. omega arith)
+unlike-after c r clock (IsConnected n t) bytes head body s v a =
+    remaining-kept c (otherwise r) (is_client n) (connects t) s.clients (to_come s.asked c) (λ x. omega arith)
+unlike-after c r clock (Sent peer Control k) bytes head body s v a =
+    remaining-told c (otherwise r) clock (to_come s.asked c) (control_of bytes) s.clients
 unlike-after c r clock (Asked i n y room) bytes head body s v a =
     remaining-asked c (otherwise r) s.asked i n y room bytes s.clients a.next (unlike-one c r s v)
 unlike-after c r clock (Begun n new) bytes head body s v a = begun-unlike c r s v n new a

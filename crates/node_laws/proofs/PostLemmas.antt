@@ -12,15 +12,16 @@ use Rattle.rpc_laws.specs.declared.tables.Lists.{Lists}
 use Rattle.rpc_laws.specs.declared.tables.Progress.{Progress}
 use Rattle.rpc_laws.specs.Calls.{is_waiting, asked_packets, known_packets}
 use Rattle.rpc_laws.specs.PollOrder.{Serves, PostsAll}
-use Rattle.rpc_laws.specs.Posting.{is_taken, lowest_free, next_turn, beginning, has_postable, can_post, next_packet, posting, next_begun, next_posted}
-use Rattle.rpc_laws.specs.Sessions.{is_client}
+use Rattle.rpc_laws.specs.Posting.{is_taken, lowest_free, next_turn, beginning, has_postable, can_post, next_packet, posting, next_begun, next_posted, if_connected}
+use Rattle.rpc_laws.specs.Sessions.{is_client, is_connected}
 use Rattle.rpc_laws.specs.Steps.{NotesAll}
 use Rattle.node_laws.proofs.Allowed.{Allowed, MayBegin, MayPost}
 use Rattle.node_laws.proofs.LeadsLemmas.{Lawful, lawful-then, lawful-notes, lawful-visits}
 use Rattle.node_laws.proofs.NumberLemmas.{numbered-found}
 use Rattle.node_laws.proofs.SpanLemmas.{span}
 use Rattle.node_laws.proofs.TableLemmas.{found-passes}
-use Rattle.node_laws.proofs.Valid.{client_no, Valid, Place}
+use Rattle.node_laws.proofs.Places.{Place}
+use Rattle.node_laws.specs.Valid.{client_no, Valid}
 
 -- the number at a place of numbers that follow one another
 module _ (p : ℕ → Bool) where
@@ -83,9 +84,9 @@ module _ (s : Lists) (e : Event) where
   begins-client i v (Some x) at h =
       begins-call x (numbered-found client_no 0 i s.clients x v.numbered at) (find is_waiting x.calls) refl h
 
-  posts-call : (x : Client) (c : Call) → find (is_client x.way.number) s.clients ≡ Some x → find can_post x.calls ≡ Some c → 0 < x.free → (o : Option Progress) → c.progress ≡ o → has_postable c.what o ≡ true → next_packet x.way.number o ≡ Some e → Allowed s e
-  posts-call x c found call credit None active able h = cc
-  posts-call x c found call credit (Some p) active able h =
+  posts-call : (x : Client) (c : Call) → find (is_client x.way.number) s.clients ≡ Some x → find can_post x.calls ≡ Some c → is_connected x.state ≡ true → 0 < x.free → (o : Option Progress) → c.progress ≡ o → has_postable c.what o ≡ true → next_packet x.way.number o ≡ Some e → Allowed s e
+  posts-call x c found call on credit None active able h = cc
+  posts-call x c found call on credit (Some p) active able h =
       let place : Place s.clients x.way.number x c = record { test = can_post; client = found; call = call } in
       let more = ltb-true p.posted (known_packets (asked_packets c.what) p.answer) able in
       let may : MayPost s x.way.number p.request p.posted = record {
@@ -96,33 +97,48 @@ module _ (s : Lists) (e : Event) where
         same = refl;
         turn = refl;
         more = more;
+        connected = on;
         credit = credit;
       } in
       become (Posted (Ask x.way.number p.request) p.posted) h may
 
-  posts-next : (x : Client) → find (is_client x.way.number) s.clients ≡ Some x → 0 < x.free → (o : Option Call) → find can_post x.calls ≡ o → option_and_then (λ c. next_packet x.way.number c.progress) o ≡ Some e → Allowed s e
-  posts-next x found credit None call h = cc
-  posts-next x found credit (Some c) call h =
-      posts-call x c found call credit c.progress refl (found-passes can_post x.calls c call) h
+  posts-next : (x : Client) → find (is_client x.way.number) s.clients ≡ Some x → is_connected x.state ≡ true → 0 < x.free → (o : Option Call) → find can_post x.calls ≡ o → option_and_then (λ c. next_packet x.way.number c.progress) o ≡ Some e → Allowed s e
+  posts-next x found on credit None call h = cc
+  posts-next x found on credit (Some c) call h =
+      posts-call x c found call on credit c.progress refl (found-passes can_post x.calls c call) h
 
-  posts-free : (x : Client) → find (is_client x.way.number) s.clients ≡ Some x → (b : Bool) → (x.free == 0) ≡ b → cond b None (option_and_then (λ c. next_packet x.way.number c.progress) (find can_post x.calls)) ≡ Some e → Allowed s e
-  posts-free x found true t h = cc
-  posts-free x found false t h =
+  posts-free : (x : Client) → find (is_client x.way.number) s.clients ≡ Some x → is_connected x.state ≡ true → (b : Bool) → (x.free == 0) ≡ b → cond b None (option_and_then (λ c. next_packet x.way.number c.progress) (find can_post x.calls)) ≡ Some e → Allowed s e
+  posts-free x found on true t h = cc
+  posts-free x found on false t h =
       let other = eqb-false x.free 0 t in
       let credit : 0 < x.free = above x.free other in
-      posts-next x found credit (find can_post x.calls) refl h
+      posts-next x found on credit (find can_post x.calls) refl h
     where
       above : (n : ℕ) → (n ≡ 0 → ⊥) → 0 < n
       above zero k = absurd (k refl)
       above (suc n) k = omega arith
 
-  posts-client : (i : ℕ) → Valid s → (o : Option Client) → slice_get s.clients i ≡ o → option_and_then posting o ≡ Some e → Allowed s e
+  posts-client : (i : ℕ) → Valid s → (o : Option Client) → slice_get s.clients i ≡ o → option_and_then (if_connected posting) o ≡ Some e → Allowed s e
   posts-client i v None at h = cc
   posts-client i v (Some x) at h =
-      posts-free x (numbered-found client_no 0 i s.clients x v.numbered at) (x.free == 0) refl h
+      let next = next-on (is_connected x.state) (posting x) e h in
+      posts-free x (numbered-found client_no 0 i s.clients x v.numbered at) next.0 (x.free == 0) refl next.1
+    where
+      next-on : (b : Bool) (o : Option Event) (e : Event) → cond b o None ≡ Some e → (b ≡ true) × (o ≡ Some e)
+      next-on true o e h = (refl, h)
+      next-on false o e h = cc
+
+-- what is next of a Connected session is what is next of it
+next-by : (b : Bool) (o : Option Event) (e : Event) → cond b o None ≡ Some e → o ≡ Some e
+next-by true o e h = h
+next-by false o e h = cc
+
+connected-next : (next : Client → Option Event) (o : Option Client) (e : Event) → option_and_then (if_connected next) o ≡ Some e → option_and_then next o ≡ Some e
+connected-next next None e h = h
+connected-next next (Some x) e h = next-by (is_connected x.state) (next x) e h
 
 begun-allowed : (i : ℕ) (s : Lists) (e : Event) → Valid s → next_begun i s ≡ Some e → Allowed s e
-begun-allowed i s e v h = begins-client s e i v (slice_get s.clients i) refl h
+begun-allowed i s e v h = begins-client s e i v (slice_get s.clients i) refl (connected-next beginning (slice_get s.clients i) e h)
 
 posted-allowed : (i : ℕ) (s : Lists) (e : Event) → Valid s → next_posted i s ≡ Some e → Allowed s e
 posted-allowed i s e v h = posts-client s e i v (slice_get s.clients i) refl h

@@ -30,7 +30,8 @@ use Rattle.rpc_laws.specs.Sessions.{is_client, is_connected, takes}
 use Rattle.node_laws.proofs.Allowed.{MayTake, MayEnd, AllAllowed}
 use Rattle.node_laws.proofs.SoundLemmas.{order-found, order-taken, turn-of, reply-got, reply-posted, reply-answer, took-request}
 use Rattle.node_laws.proofs.TableLemmas.{found-holds, found-passes, found-changed}
-use Rattle.node_laws.proofs.Valid.{InOrder, Sound, Valid, Active}
+use Rattle.node_laws.proofs.Places.{Active}
+use Rattle.node_laws.specs.Valid.{InOrder, Sound, Valid}
 
 -- a row that isn't the first one that holds
 passed : (why : DropReason) (b : Bool) (r : ClientRow) → cond b (Drops why) r ≡ Takes → (b ≡ false) × (r ≡ Takes)

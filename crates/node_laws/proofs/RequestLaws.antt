@@ -1,10 +1,11 @@
 -- The table of requests says what the facts tell.
-use Rattle.std.proofs.Common.{◌≡◌, ℕ, ◌%◌, ◌≤◌, Bool, true, false, ◌&&◌, ltb, Option, Some, None, List, ◌∷◌, refl, sym, ap, ◌∙◌, inl, inr, arith}
+use Rattle.std.proofs.Common.{◌≡◌, ℕ, ◌%◌, ◌≤◌, Bool, true, false, ◌&&◌, ltb, Option, Some, None, List, ◌∷◌, refl, sym, ap, subst, ◌∙◌, inl, inr, arith}
 use Rattle.std.specs.Prelude.{◌⊎◌, ◌==◌, option_map}
 use Rattle.std.specs.List.{list_any}
 use Rattle.std.proofs.lemmas.Bool.{and_parts, eqb-true, eq-eqb, ltb-true}
+use Rattle.rpc_base.specs.Tables.{without_first}
 use Rattle.rpc_base.specs.declared.event.Event.{Event}
-use Rattle.rpc_base.specs.declared.event.Event.TheVariants.{PairedServer, Took, Given, Ran}
+use Rattle.rpc_base.specs.declared.event.Event.TheVariants.{PairedServer, Accepted, Ended, Took, Given, Ran}
 use Rattle.rpc_base.specs.declared.fact.Fact.{Fact}
 use Rattle.rpc_base.specs.declared.fact.Who.{Who}
 use Rattle.rpc_base.specs.declared.owner.Owner.TheVariants.{Reply}
@@ -13,34 +14,35 @@ use Rattle.rpc_laws.specs.declared.tables.Lists.{Lists}
 use Rattle.rpc_laws.specs.declared.tables.Served.{Served}
 use Rattle.rpc_laws.specs.Front.{front_header, front_body}
 use Rattle.rpc_laws.specs.Jobs.{is_job}
-use Rattle.rpc_laws.specs.Requests.{is_request, next_packet, given, answered, servers_after}
+use Rattle.rpc_laws.specs.Requests.{is_request, is_server, next_packet, given, answered, servers_after, server_numbers_after}
 use Rattle.node_laws.specs.RequestHistory.{takes_newer, ring_by}
 use Rattle.node_laws.proofs.Allowed.{Allowed, MayServe, MayGive, MayFinish}
 use Rattle.node_laws.proofs.LeftLemmas.{falls-always}
-use Rattle.node_laws.proofs.LookLemmas.{look-own, look-other, look-made, taken, Replaces, look-next, look-first, look-others}
+use Rattle.node_laws.proofs.LookLemmas.{request_on, look-own, look-other, look-made, taken, Replaces, look-next, look-first, look-others}
 use Rattle.node_laws.proofs.NewestLemmas.{stands-started, older-over, taken-started, fresh-left, left-less}
 use Rattle.node_laws.proofs.RequestLemmas.{concerns, Told, told-stays, next-told, first-told, given-told, ran-told}
-use Rattle.node_laws.proofs.ServantLemmas.{left-after}
+use Rattle.node_laws.proofs.ServantLemmas.{Left, ended-by, left-after}
 use Rattle.node_laws.proofs.TableLemmas.{found-passes, some-counted}
 use Rattle.node_laws.proofs.TellEventLemmas.{noted}
-use Rattle.node_laws.proofs.Valid.{is_due, request_of, left, Valid}
+use Rattle.node_laws.proofs.Places.{request_of}
+use Rattle.node_laws.specs.Valid.{is_due, left, Valid}
 
 -- an event that concerns a request leaves nothing of its beginning
 module _ (s : Lists) (valid : Valid s) (t r : ℕ) where
   give-found : (a : MayGive s t r) → request_of t r s.servers ≡ Some a.served
   give-found a = rw (a.found, a.is_served) refl
 
-  give-started : MayGive s t r → left (λ q. false) t r s.servers ≤ 0
-  give-started a = stands-started t r s.servers valid.served a.served (give-found a)
+  give-started : MayGive s t r → left (λ q. false) t r s.server_numbers s.servers ≤ 0
+  give-started a = stands-started t r s.server_numbers s.servers valid.served a.served (give-found a)
 
-  finish-started : MayFinish s t r → left (λ q. false) t r s.servers ≤ 0
+  finish-started : MayFinish s t r → left (λ q. false) t r s.server_numbers s.servers ≤ 0
   finish-started a =
       let few = valid.runs t r in
-      let some = some-counted (is_job t r) (is_job t r) s.jobs.worked a.job a.found (found-passes (is_job t r) s.jobs.worked a.job a.found) in
-      let less = left-less is_due t r s.servers in
+      let some = some-counted (is_job t r) (is_job t r) s.jobs.out a.job a.found (found-passes (is_job t r) s.jobs.out a.job a.found) in
+      let less = left-less is_due t r s.server_numbers s.servers in
       omega arith
 
-  run-started : MayGive s t r ⊎ MayFinish s t r → left (λ q. false) t r s.servers ≤ 0
+  run-started : MayGive s t r ⊎ MayFinish s t r → left (λ q. false) t r s.server_numbers s.servers ≤ 0
   run-started (inl a) = give-started a
   run-started (inr a) = finish-started a
 
@@ -49,7 +51,7 @@ same-numbers : (n k t r : ℕ) → (n == t && k == r) ≡ true → (n ≡ t) × 
 same-numbers n k t r e =
     let parts = and_parts (n == t) (k == r) e in (eqb-true n t parts.0, eqb-true k r parts.1)
 
-pub started-after : (t r : ℕ) (e : Event) (answer body : List ℕ) (s : Lists) → Valid s → Allowed s e → concerns t r e ≡ true → left (λ q. false) t r (servers_after e answer (front_header s.ring) body s.servers) ≤ 0
+pub started-after : (t r : ℕ) (e : Event) (answer body : List ℕ) (s : Lists) → Valid s → Allowed s e → concerns t r e ≡ true → left (λ q. false) t r (server_numbers_after e s.server_numbers) (servers_after e answer (front_header s.ring) body s.servers) ≤ 0
 started-after t r (Took (Reply n k) i) answer body s v a e =
     let same = same-numbers n k t r e in
     let own : MayServe s t r = rw (← same.0, ← same.1) a in
@@ -70,7 +72,7 @@ started-after t r (Ran n k y) answer body s v a e =
 started-after t r _ answer body s v a e = cc
 
 -- one of a greater number of its slot leaves nothing of it
-pub newer-after : (t r : ℕ) (e : Event) (answer body : List ℕ) (s : Lists) → Valid s → Allowed s e → takes_newer t r e ≡ true → left (λ q. true) t r (servers_after e answer (front_header s.ring) body s.servers) ≤ 0
+pub newer-after : (t r : ℕ) (e : Event) (answer body : List ℕ) (s : Lists) → Valid s → Allowed s e → takes_newer t r e ≡ true → left (λ q. true) t r (server_numbers_after e s.server_numbers) (servers_after e answer (front_header s.ring) body s.servers) ≤ 0
 newer-after t r (Took (Reply n k) i) answer body s v a e =
     let parts = and_parts (n == t) (k % 8 == r % 8 && ltb r k) e in
     let more = and_parts (k % 8 == r % 8) (ltb r k) parts.1 in
@@ -81,7 +83,7 @@ newer-after t r (Took (Reply n k) i) answer body s v a e =
 newer-after t r _ answer body s v a e = cc
 
 -- what is told of a request stays told
-module _ (who : Who) (bytes second : List ℕ) (past : List Fact) (s : Lists) (valid : Valid s) (ring : ring_by past ≡ s.ring) (t r : ℕ) (fresh : 1 ≤ left (λ q. false) t r s.servers → list_any (λ f. concerns t r f.event) past ≡ false) where
+module _ (who : Who) (bytes second : List ℕ) (past : List Fact) (s : Lists) (valid : Valid s) (ring : ring_by past ≡ s.ring) (t r : ℕ) (fresh : 1 ≤ left (λ q. false) t r s.server_numbers s.servers → list_any (λ f. concerns t r f.event) past ≡ false) where
   front : front_body (ring_by past) ≡ front_body s.ring
   front = ap (λ (d : List Arrival). front_body d) ring
 
@@ -142,9 +144,22 @@ module _ (who : Who) (bytes second : List ℕ) (past : List Fact) (s : Lists) (v
   run-told n k y false e told =
       rw (look-other t r (answered second) (λ q. refl) n k e s.servers) (told-stays t r past (noted who (Ran n k y) bytes second) (request_of t r s.servers) e told)
 
+  -- a session ends
+  ended-told : (n : ℕ) → Left (λ q. true) (falls-always true) t n s.server_numbers s.servers → Told t r past (request_of t r s.servers) → Told t r (noted who (Ended n) bytes second ∷ past) (request_of t r (without_first (is_server n) s.servers))
+  ended-told n (inl same) told =
+      let kept = told-stays t r past (noted who (Ended n) bytes second) (request_of t r s.servers) refl told in
+      subst (λ (o : Option Served). Told t r (noted who (Ended n) bytes second ∷ past) o) (sym (ap (λ o. request_on r o) same)) kept
+  ended-told n (inr gone) told =
+      let none : request_of t r (without_first (is_server n) s.servers) ≡ None = ap (λ o. request_on r o) gone.0 in
+      subst (λ (o : Option Served). Told t r (noted who (Ended n) bytes second ∷ past) o) (sym none) tt
+
   pub told-after : (e : Event) → Allowed s e → Told t r past (request_of t r s.servers) → Told t r (noted who e bytes second ∷ past) (request_of t r (servers_after e second (front_header s.ring) (front_body s.ring) s.servers))
   told-after (PairedServer n peer c credits) a told =
       rw (look-made t r n peer c credits s.servers) (told-stays t r past (noted who (PairedServer n peer c credits) bytes second) (request_of t r s.servers) refl told)
+  told-after (Accepted n peer c credits) a told =
+      rw (look-made t r n peer c credits s.servers) (told-stays t r past (noted who (Accepted n peer c credits) bytes second) (request_of t r s.servers) refl told)
+  told-after (Ended n) a told =
+      ended-told n (ended-by (λ q. true) (falls-always true) t n s.server_numbers s.servers (valid.alone t)) told
   told-after (Took (Reply n k) i) a told = took-told n k i a (n == t && k == r) refl told
   told-after (Given n k) a told = give-told n k a (n == t && k == r) refl told
   told-after (Ran n k y) a told = run-told n k y (n == t && k == r) refl told

@@ -16,7 +16,7 @@ use Rattle.node_laws.specs.OlderRequests.{takes_request}
 use Rattle.node_laws.specs.RequestHistory.{gives_request, answer_by, ring_by, first_by, ask_by}
 use Rattle.node_laws.proofs.TableLemmas.{none-counted}
 use Rattle.node_laws.proofs.TellLemmas.{count-new}
-use Rattle.node_laws.proofs.Valid.{is_due}
+use Rattle.node_laws.specs.Valid.{is_due}
 
 -- whether an event concerns request r of session t
 abbrev pub concerns : ℕ → ℕ → Event → Bool

@@ -2,9 +2,10 @@
 use Rattle.std.proofs.Common.{◌≡◌, ℕ, true, false, Some, None, List, [], ◌∷◌, ◌++◌, refl}
 use Rattle.std.specs.Prelude.{count_by, slice_get}
 use Rattle.std.specs.List.{list_any}
+use Rattle.packet_header.specs.Reading.{decoded, kind_of, message_read, message_fault, message_at}
 use Rattle.packet_header.specs.declared.packet.Kind.TheVariants.{Request}
 use Rattle.packet_header.specs.declared.packet.MessageHeader.{MessageHeader}
-use Rattle.rpc_base.specs.declared.event.Event.TheVariants.{PairedServer, Posted, Flushed, Arrived, Took, Again, Dropped, Given, Worked, Ran, Missed}
+use Rattle.rpc_base.specs.declared.event.Event.TheVariants.{PairedServer, Posted, Flushed, Arrived, Took, Again, Dropped, Given, Worked, Ran}
 use Rattle.rpc_base.specs.declared.fact.Fact.{Fact}
 use Rattle.rpc_base.specs.declared.owner.Owner.TheVariants.{Reply}
 use Rattle.rpc_base.specs.declared.state.DropReason.TheVariants.{Working, JobsFull}
@@ -14,13 +15,15 @@ use Rattle.rpc_laws.specs.declared.tables.Jobs.{Jobs}
 use Rattle.rpc_laws.specs.declared.tables.Lists.{Lists}
 use Rattle.rpc_laws.specs.declared.tables.Queued.{Queued}
 use Rattle.rpc_laws.specs.declared.tables.Server.{Server}
+use Rattle.rpc_outside.specs.PlainAnswer.{plain_mode}
+use Rattle.rpc_outside.specs.declared.service.Mode.TheVariants.{Background}
 use Rattle.rpc_laws.specs.Facts.{plain, with_bytes, with_two}
 use Rattle.rpc_laws.specs.Jobs.{jobs_after, no_jobs}
 use Rattle.rpc_laws.specs.NodeLists.{new_lists}
 use Rattle.rpc_laws.specs.PollOrder.{asks_facts, finished_facts}
 use Rattle.rpc_laws.specs.Requests.{servers_after, server_end}
 use Rattle.rpc_laws.specs.ServerTable.{server_row}
-use Rattle.rpc_laws.specs.Working.{work_of}
+use Rattle.rpc_laws.specs.UsualLimits.{with_ring}
 use Rattle.node_laws.specs.CallHistory.{latest_first}
 use Rattle.node_laws.specs.EndedCalls.{queued_by}
 use Rattle.node_laws.specs.OlderRequests.{takes_request, posts_reply}
@@ -32,20 +35,20 @@ asking r = record { kind = Request; req_type = 130; size = 2; session = 0; numbe
 
 -- node 4 with these sessions, jobs and queued packets
 abbrev node : List Server → Jobs → List Queued → Lists
-node servers jobs queued = record (new_lists 4 32) { servers = servers; jobs = jobs; queued = queued }
+node servers jobs queued = record (new_lists 4 (with_ring 32)) { servers = servers; jobs = jobs; queued = queued }
 
 -- a session of two credits
 abbrev paired : List Server
 paired = server_end 0 7 3 2 ∷ []
 
 -- the request begins, and is given to a worker, unless the jobs are full
-row-begins : server_row false (slice_get paired 0) 7 (asking 0) ≡ Begins
+row-begins : server_row Background false false (slice_get paired 0) 7 (asking 0) ≡ Begins
 row-begins = refl
 
-row-jobs-full : server_row true (slice_get paired 0) 7 (asking 0) ≡ Drops JobsFull
+row-jobs-full : server_row Background true false (slice_get paired 0) 7 (asking 0) ≡ Drops JobsFull
 row-jobs-full = refl
 
-row-gives : asks_facts (node paired no_jobs []) 7 (asking 0) (97 ∷ 98 ∷ []) ≡ plain 4 (Took (Reply 0 0) 0) ∷ plain 4 (Given 0 0) ∷ []
+row-gives : asks_facts plain_mode false [] (node paired (no_jobs 64) []) 7 (asking 0) (97 ∷ 98 ∷ []) ≡ plain 4 (Took (Reply 0 0) 0) ∷ plain 4 (Given 0 0) ∷ []
 row-gives = refl
 
 abbrev took : List Server
@@ -58,50 +61,41 @@ given = servers_after (Given 0 0) [] None [] took
 abbrev job : Job
 job = record { session = 0; request = 0; req_type = 130; ask = 97 ∷ 98 ∷ [] }
 
-abbrev waiting : Jobs
-waiting = record { given = 1; waiting = job ∷ []; worked = [] }
+abbrev out : Jobs
+out = record { limit = 64; given = 1; out = job ∷ [] }
 
-row-given : jobs_after (Given 0 0) took no_jobs ≡ waiting
+row-given : jobs_after (Given 0 0) took (no_jobs 64) ≡ out
 row-given = refl
 
 row-slot : given ≡ record (server_end 0 7 3 2) { slots = record { number = 0; req_type = 130; size = 2; taken = 1; ask = []; working = true; answer = None } ∷ [] } ∷ []
 row-slot = refl
 
 -- meanwhile a repeat of its last packet is dropped, and so is a newer request of its slot
-row-repeat-working : asks_facts (node given waiting []) 7 (asking 0) (97 ∷ 98 ∷ []) ≡ plain 4 (Dropped Working) ∷ []
+row-repeat-working : asks_facts plain_mode false [] (node given out []) 7 (asking 0) (97 ∷ 98 ∷ []) ≡ plain 4 (Dropped Working) ∷ []
 row-repeat-working = refl
 
-row-newer-working : asks_facts (node given waiting []) 7 (asking 8) (97 ∷ 98 ∷ []) ≡ plain 4 (Dropped Working) ∷ []
+row-newer-working : asks_facts plain_mode false [] (node given out []) 7 (asking 8) (97 ∷ 98 ∷ []) ≡ plain 4 (Dropped Working) ∷ []
 row-newer-working = refl
 
--- the job is worked, and there is no second one
-row-works : work_of 0 (slice_get waiting.waiting 0) ≡ Worked 0 0
-row-works = refl
-
-row-misses : work_of 1 (slice_get waiting.waiting 1) ≡ Missed 1
-row-misses = refl
-
-abbrev worked : Jobs
-worked = record { given = 1; waiting = []; worked = job ∷ [] }
-
-row-worked : jobs_after (Worked 0 0) given waiting ≡ worked
+-- that the job is worked changes nothing at its node
+row-worked : jobs_after (Worked 0 0) given out ≡ out
 row-worked = refl
 
 -- it is finished: the answer is there, and its first part is posted
-row-finishes : finished_facts (node given worked []) job ≡ with_two 4 (Ran 0 0 130) (97 ∷ 98 ∷ []) (98 ∷ 97 ∷ []) ∷ plain 4 (Posted (Reply 0 0) 0) ∷ []
+row-finishes : finished_facts (98 ∷ 97 ∷ []) (node given out []) job ≡ with_two 4 (Ran 0 0 130) (97 ∷ 98 ∷ []) (98 ∷ 97 ∷ []) ∷ plain 4 (Posted (Reply 0 0) 0) ∷ []
 row-finishes = refl
 
 abbrev ran : List Server
 ran = servers_after (Ran 0 0 130) (98 ∷ 97 ∷ []) None [] given
 
-row-ran : jobs_after (Ran 0 0 130) given worked ≡ record { given = 1; waiting = []; worked = [] }
+row-ran : jobs_after (Ran 0 0 130) given out ≡ record { limit = 64; given = 1; out = [] }
 row-ran = refl
 
-row-repeats : asks_facts (node ran no_jobs []) 7 (asking 0) (97 ∷ 98 ∷ []) ≡ plain 4 (Again (Reply 0 0) 0) ∷ plain 4 (Posted (Reply 0 0) 0) ∷ []
+row-repeats : asks_facts plain_mode false [] (node ran (no_jobs 64) []) 7 (asking 0) (97 ∷ 98 ∷ []) ≡ plain 4 (Again (Reply 0 0) 0) ∷ plain 4 (Posted (Reply 0 0) 0) ∷ []
 row-repeats = refl
 
 -- a newer request of its slot first flushes the reply that is queued, and takes its place
-row-newer : asks_facts (node ran no_jobs (record { owner = Reply 0 0; number = 0 } ∷ [])) 7 (asking 8) (97 ∷ 98 ∷ []) ≡ plain 4 (Flushed (Reply 0 0) 0) ∷ plain 4 (Took (Reply 0 8) 0) ∷ plain 4 (Given 0 8) ∷ []
+row-newer : asks_facts plain_mode false [] (node ran (no_jobs 64) (record { owner = Reply 0 0; number = 0; due = None } ∷ [])) 7 (asking 8) (97 ∷ 98 ∷ []) ≡ plain 4 (Flushed (Reply 0 0) 0) ∷ plain 4 (Took (Reply 0 8) 0) ∷ plain 4 (Given 0 8) ∷ []
 row-newer = refl
 
 abbrev newer : List Server
@@ -130,9 +124,11 @@ newer_facts = ran_facts ++ plain 4 (Flushed (Reply 0 0) 0) ∷ plain 4 (Took (Re
 
 -- what they tell of it before it is given
 row-tells-bytes : ask_by 0 0 (latest_first [] taken_facts) ≡ 97 ∷ 98 ∷ []
+unfolding decoded kind_of message_read message_fault message_at
 row-tells-bytes = refl
 
 row-tells-ring : ring_by (latest_first [] taken_facts) ≡ []
+unfolding decoded kind_of message_read message_fault message_at
 row-tells-ring = refl
 
 row-tells-no-answer : answer_by 0 0 (latest_first [] taken_facts) ≡ None
@@ -148,7 +144,7 @@ row-tells-given = refl
 row-tells-answer : answer_by 0 0 (latest_first [] ran_facts) ≡ Some (98 ∷ 97 ∷ [])
 row-tells-answer = refl
 
-row-tells-queued : queued_by (latest_first [] ran_facts) ≡ record { owner = Reply 0 0; number = 0 } ∷ []
+row-tells-queued : queued_by (latest_first [] ran_facts) ≡ record { owner = Reply 0 0; number = 0; due = None } ∷ []
 row-tells-queued = refl
 
 -- the newer one

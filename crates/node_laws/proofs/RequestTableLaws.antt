@@ -1,11 +1,12 @@
 -- At the end of a run the table of requests says what the facts tell.
-use Rattle.std.proofs.Common.{◌≡◌, ℕ, ◌+◌, ◌%◌, ◌≤◌, ◌<◌, Bool, true, false, not, ◌&&◌, ◌||◌, Option, Some, None, List, [], ◌∷◌, refl, sym, ap, ◌∙◌, arith}
-use Rattle.std.specs.Prelude.{◌==◌, slice_get}
+use Rattle.std.proofs.Common.{◌≡◌, ℕ, ◌+◌, ◌%◌, ◌≤◌, ◌<◌, Bool, true, false, not, ◌&&◌, ◌||◌, cond, leb, Option, Some, None, List, [], ◌∷◌, refl, ap, ◌∙◌, ◌⊎◌, inl, inr, arith}
+use Rattle.std.specs.Prelude.{◌==◌, count_by, slice_get}
 use Rattle.std.specs.List.{find, list_any}
-use Rattle.std.proofs.lemmas.Bool.{and_parts, eqb-true, eq-eqb, lt-ltb}
+use Rattle.std.proofs.lemmas.Bool.{and_parts, eqb-true, eq-eqb, lt-ltb, le-leb}
 use Rattle.rpc_base.specs.declared.event.Event.{Event}
 use Rattle.rpc_base.specs.declared.event.Event.TheVariants.{Took}
 use Rattle.rpc_base.specs.declared.fact.Fact.{Fact}
+use Rattle.rpc_base.specs.declared.limits.Limits.{Limits}
 use Rattle.rpc_base.specs.declared.owner.Owner.TheVariants.{Reply}
 use Rattle.rpc_laws.specs.declared.tables.Arrival.{Arrival}
 use Rattle.rpc_laws.specs.declared.tables.Lists.{Lists}
@@ -16,31 +17,35 @@ use Rattle.rpc_laws.specs.NodeLists.{after, new_lists}
 use Rattle.rpc_laws.specs.Queues.{ring_after}
 use Rattle.rpc_laws.specs.Requests.{is_server, is_request}
 use Rattle.node_laws.specs.CallHistory.{latest_first}
+use Rattle.node_laws.specs.EndedSessions.{ends_session}
 use Rattle.node_laws.specs.Laws.{RequestsTellTheHistory}
 use Rattle.node_laws.specs.OlderRequests.{takes_request}
 use Rattle.node_laws.specs.RequestHistory.{takes_newer, ring_by, TellsRequest, is_listed, TellsRequests}
 use Rattle.node_laws.proofs.Allowed.{Allowed, Leads}
+use Rattle.node_laws.proofs.EndsLemmas.{standing, ends-after}
 use Rattle.node_laws.proofs.FindLemmas.{at-found, missing-none}
 use Rattle.node_laws.proofs.LeftLemmas.{falls-always}
 use Rattle.node_laws.proofs.LookLemmas.{request_on}
-use Rattle.node_laws.proofs.NewestLemmas.{stands-slot, own-left, newest-of}
-use Rattle.node_laws.proofs.NumberLemmas.{numbered-get}
+use Rattle.node_laws.proofs.NewestLemmas.{stands-slot, own-left, Newest, IsOver, newest-of}
 use Rattle.node_laws.proofs.RequestLaws.{started-after, newer-after, told-after}
 use Rattle.node_laws.proofs.RequestLemmas.{concerns, takes-concerns, ToldRequest, Told}
 use Rattle.node_laws.proofs.RunLaws.{run_leads}
 use Rattle.node_laws.proofs.ServantLemmas.{left-after}
 use Rattle.node_laws.proofs.ServerLemmas.{few-requests}
-use Rattle.node_laws.proofs.TableLemmas.{found-any, found-holds}
-use Rattle.node_laws.proofs.Valid.{SoundServer, server_no, request_of, left_of, left, Valid}
+use Rattle.node_laws.proofs.TableLemmas.{any-counted, none-counted, found-any, found-holds, found-passes, some-counted}
+use Rattle.node_laws.proofs.TellLemmas.{count-new}
+use Rattle.node_laws.proofs.Places.{request_of}
+use Rattle.node_laws.specs.Valid.{SoundServer, left_of, left, to_come, Valid}
 use Rattle.node_laws.proofs.ValidLemmas.{valid_after, valid_new}
 
 -- what is told at a moment
 record Tells (past : List Fact) (s : Lists) : Type 0 where
   valid : Valid s
   ring : ring_by past ≡ s.ring
-  started : (t r : ℕ) → list_any (λ f. concerns t r f.event) past ≡ true → left (λ q. false) t r s.servers ≤ 0
-  newer : (t r : ℕ) → list_any (λ f. takes_newer t r f.event) past ≡ true → left (λ q. true) t r s.servers ≤ 0
+  started : (t r : ℕ) → list_any (λ f. concerns t r f.event) past ≡ true → left (λ q. false) t r s.server_numbers s.servers ≤ 0
+  newer : (t r : ℕ) → list_any (λ f. takes_newer t r f.event) past ≡ true → left (λ q. true) t r s.server_numbers s.servers ≤ 0
   told : (t r : ℕ) → Told t r past (request_of t r s.servers)
+  ended : (t : ℕ) → standing t s + count_by (λ f. ends_session t f.event) past ≡ 1
 
 new-or-old : (b c : Bool) (n : ℕ) → (b ≡ true → n ≤ 0) → (c ≡ true → n ≤ 0) → (b || c) ≡ true → n ≤ 0
 new-or-old true c n h k e = h refl
@@ -54,24 +59,37 @@ tells-after : (clock : ℕ) (past : List Fact) (s : Lists) (f : Fact) → Tells 
 tells-after clock past s f k a = record {
   valid = valid_after clock s f k.valid a;
   ring = ap (λ (d : List Arrival). ring_after f.event f.first d) k.ring;
-  started = λ t r e. new-or-old (concerns t r f.event) (list_any (λ g. concerns t r g.event) past) (left (λ q. false) t r (after clock s f).servers) (λ h. started-after t r f.event f.second (front_body s.ring) s k.valid a h) (λ h.
+  started = λ t r e. new-or-old (concerns t r f.event) (list_any (λ g. concerns t r g.event) past) (left (λ q. false) t r (after clock s f).server_numbers (after clock s f).servers) (λ h. started-after t r f.event f.second (front_body s.ring) s k.valid a h) (λ h.
       let less = left-after (λ q. false) (falls-always false) t r f.event f.second (front_header s.ring) (front_body s.ring) s k.valid a in
       let was = k.started t r h in
       omega arith) e;
-  newer = λ t r e. new-or-old (takes_newer t r f.event) (list_any (λ g. takes_newer t r g.event) past) (left (λ q. true) t r (after clock s f).servers) (λ h. newer-after t r f.event f.second (front_body s.ring) s k.valid a h) (λ h.
+  newer = λ t r e. new-or-old (takes_newer t r f.event) (list_any (λ g. takes_newer t r g.event) past) (left (λ q. true) t r (after clock s f).server_numbers (after clock s f).servers) (λ h. newer-after t r f.event f.second (front_body s.ring) s k.valid a h) (λ h.
       let less = left-after (λ q. true) (falls-always true) t r f.event f.second (front_header s.ring) (front_body s.ring) s k.valid a in
       let was = k.newer t r h in
       omega arith) e;
-  told = λ t r. told-after f.who f.first f.second past s k.valid k.ring t r (none-yet (list_any (λ g. concerns t r g.event) past) (left (λ q. false) t r s.servers) (k.started t r)) f.event a (k.told t r);
+  told = λ t r. told-after f.who f.first f.second past s k.valid k.ring t r (none-yet (list_any (λ g. concerns t r g.event) past) (left (λ q. false) t r s.server_numbers s.servers) (k.started t r)) f.event a (k.told t r);
+  ended = λ t.
+      let was = k.ended t in
+      let now = ends-after t f.event f.second (front_header s.ring) (front_body s.ring) s a in
+      let ends = count-new (ends_session t) f past (ends_session t f.event) refl in
+      omega arith;
 }
 
-tells-new : (me ring : ℕ) → Tells [] (new_lists me ring)
-tells-new me ring = record {
-  valid = valid_new me ring;
+come-one : (t : ℕ) → to_come 0 t ≡ 1
+come-one t = by (leb 0 t) (le-leb 0 t (omega arith))
+  where
+    by : (b : Bool) → b ≡ true → ◌≡◌ {A = ℕ} (cond b 1 0) 1
+    by true e = refl
+    by false e = cc
+
+tells-new : (me : ℕ) (limits : Limits) → Tells [] (new_lists me limits)
+tells-new me limits = record {
+  valid = valid_new me limits;
   ring = refl;
   started = λ t r e. cc;
   newer = λ t r e. cc;
   told = λ t r. tt;
+  ended = λ t. let one = come-one t in omega arith;
 }
 
 -- a packet of a request is one of a greater number for each smaller one of its slot
@@ -104,13 +122,15 @@ none-listed : (r : ℕ) (v : Option Server) → request_on r v ≡ None → is_l
 none-listed r None e = refl
 none-listed r (Some v) e = missing-none (is_request r) v.slots e
 
-module _ (past : List Fact) (s : Lists) (k : Tells past s) where
-  session-at : (t : ℕ) → slice_get s.servers t ≡ find (is_server t) s.servers
-  session-at t = numbered-get server_no 0 t t s.servers k.valid.ends (zero-more t)
-    where
-      zero-more : (m : ℕ) → m ≡ 0 + m
-      zero-more m = omega arith
+none-any : (b : Bool) (n : ℕ) → cond b 1 0 ≤ n → n ≤ 0 → b ≡ false
+none-any true n h few = absurd (omega arith)
+none-any false n h few = refl
 
+some-any : (b : Bool) (n : ℕ) → (b ≡ false → n ≡ 0) → 1 ≤ n → b ≡ true
+some-any true n h some = refl
+some-any false n h some = let none = h refl in absurd (omega arith)
+
+module _ (past : List Fact) (s : Lists) (k : Tells past s) where
   told-at : (t r : ℕ) (q : Served) → request_of t r s.servers ≡ Some q → ToldRequest t r past q
   told-at t r q e = rw e at (k.told t r)
 
@@ -118,42 +138,72 @@ module _ (past : List Fact) (s : Lists) (k : Tells past s) where
   none-newer : (t r : ℕ) (q : Served) → request_of t r s.servers ≡ Some q → (b : Bool) → list_any (λ f. takes_newer t r f.event) past ≡ b → b ≡ false
   none-newer t r q e true h =
       let none = k.newer t r h in
-      let own = stands-slot (λ p. true) t r r refl s.servers k.valid.served q e in
+      let own = stands-slot (λ p. true) t r r refl s.server_numbers s.servers k.valid.served q e in
       let zero : left_of (λ p. true) r (Some q) ≤ 0 = rw own.0 at none in
       absurd (own-left r q.number own.1 zero)
   none-newer t r q e false h = refl
 
-  -- one that doesn't stand, and of which a packet was taken, has one
-  some-newer : (t r : ℕ) → request_of t r s.servers ≡ None → list_any (λ f. takes_request t r f.event) past ≡ true → list_any (λ f. takes_newer t r f.event) past ≡ true
+  -- where one stands, its session didn't end
+  not-ended : (t r : ℕ) (q : Served) → request_of t r s.servers ≡ Some q → list_any (λ f. ends_session t f.event) past ≡ false
+  not-ended t r q e = by (find (is_server t) s.servers) refl e
+    where
+      by : (o : Option Server) → find (is_server t) s.servers ≡ o → request_on r o ≡ Some q → list_any (λ f. ends_session t f.event) past ≡ false
+      by None found e = cc
+      by (Some v) found e =
+          let some = some-counted (is_server t) (is_server t) s.servers v found (found-passes (is_server t) s.servers v found) in
+          let all = k.ended t in
+          none-any (list_any (λ f. ends_session t f.event) past) (count_by (λ f. ends_session t f.event) past) (any-counted (λ f. ends_session t f.event) past) (omega arith)
+
+  -- a session that was there and is there no more ended
+  has-ended : (t : ℕ) → IsOver t s.server_numbers s.servers → list_any (λ f. ends_session t f.event) past ≡ true
+  has-ended t over =
+      let none = none-counted (is_server t) s.servers (missing-none (is_server t) s.servers over.none) in
+      let used = over.past in
+      let all = k.ended t in
+      some-any (list_any (λ f. ends_session t f.event) past) (count_by (λ f. ends_session t f.event) past) (none-counted (λ f. ends_session t f.event) past) (omega arith)
+
+  -- one that doesn't stand, and of which a packet was taken, has one, or its session ended
+  some-newer : (t r : ℕ) → request_of t r s.servers ≡ None → list_any (λ f. takes_request t r f.event) past ≡ true → (list_any (λ f. takes_newer t r f.event) past ≡ true) ⊎ (list_any (λ f. ends_session t f.event) past ≡ true)
   some-newer t r none e =
       let started = k.started t r (some-of (takes_request t r) (concerns t r) (takes-concerns t r) past e) in
-      let newest = newest-of t r s.servers k.valid.served started in
-      let told = told-at t newest.newest.number newest.newest newest.found in
-      let apart = differs newest.newest.number newest.newest newest.found in
-      let least = newest.least in
-      some-of (takes_request t newest.newest.number) (takes_newer t r) (newer-by t r newest.newest.number (omega arith) newest.slot) past told.took
+      by (newest-of t r s.server_numbers s.servers k.valid.served started)
     where
       differs : (n : ℕ) (q : Served) → request_of t n s.servers ≡ Some q → n ≡ r → ⊥
       differs n q found same = let own : request_of t r s.servers ≡ Some q = rw same at found in cc
 
-  gone-by : (t r : ℕ) (b : Bool) → request_of t r s.servers ≡ None → list_any (λ f. takes_request t r f.event) past ≡ b → false ≡ (b && not (list_any (λ f. takes_newer t r f.event) past))
-  gone-by t r true none e = rw (some-newer t r none e) refl
+      by : Newest t r s.servers ⊎ IsOver t s.server_numbers s.servers → (list_any (λ f. takes_newer t r f.event) past ≡ true) ⊎ (list_any (λ f. ends_session t f.event) past ≡ true)
+      by (inl newest) =
+          let told = told-at t newest.newest.number newest.newest newest.found in
+          let apart = differs newest.newest.number newest.newest newest.found in
+          let least = newest.least in
+          inl (some-of (takes_request t newest.newest.number) (takes_newer t r) (newer-by t r newest.newest.number (omega arith) newest.slot) past told.took)
+      by (inr over) = inr (has-ended t over)
+
+  either-gone : (b c : Bool) → (b ≡ true) ⊎ (c ≡ true) → false ≡ (not b && not c)
+  either-gone true c h = refl
+  either-gone false true h = refl
+  either-gone false false (inl e) = cc
+  either-gone false false (inr e) = cc
+
+  gone-by : (t r : ℕ) (b : Bool) → request_of t r s.servers ≡ None → list_any (λ f. takes_request t r f.event) past ≡ b → false ≡ (b && (not (list_any (λ f. takes_newer t r f.event) past) && not (list_any (λ f. ends_session t f.event) past)))
+  gone-by t r true none e =
+      either-gone (list_any (λ f. takes_newer t r f.event) past) (list_any (λ f. ends_session t f.event) past) (some-newer t r none e)
   gone-by t r false none e = refl
 
-  listed-by : (t r : ℕ) (o : Option Served) → request_of t r s.servers ≡ o → is_listed r (find (is_server t) s.servers) ≡ (list_any (λ f. takes_request t r f.event) past && not (list_any (λ f. takes_newer t r f.event) past))
+  listed-by : (t r : ℕ) (o : Option Served) → request_of t r s.servers ≡ o → is_listed r (find (is_server t) s.servers) ≡ (list_any (λ f. takes_request t r f.event) past && (not (list_any (λ f. takes_newer t r f.event) past) && not (list_any (λ f. ends_session t f.event) past)))
   listed-by t r None e =
       none-listed r (find (is_server t) s.servers) e ∙ gone-by t r (list_any (λ f. takes_request t r f.event) past) e refl
   listed-by t r (Some q) e =
       let took = (told-at t r q e).took in
       let none = none-newer t r q e (list_any (λ f. takes_newer t r f.event) past) refl in
-      here-listed r (find (is_server t) s.servers) q e ∙ rw (took, none) refl
+      let stays = not-ended t r q e in
+      here-listed r (find (is_server t) s.servers) q e ∙ rw (took, none, stays) refl
 
-  is-listed : (t r : ℕ) → is_listed r (slice_get s.servers t) ≡ (list_any (λ f. takes_request t r f.event) past && not (list_any (λ f. takes_newer t r f.event) past))
-  is-listed t r = rw (session-at t) (listed-by t r (request_of t r s.servers) refl)
+  is-listed : (t r : ℕ) → is_listed r (find (is_server t) s.servers) ≡ (list_any (λ f. takes_request t r f.event) past && (not (list_any (λ f. takes_newer t r f.event) past) && not (list_any (λ f. ends_session t f.event) past)))
+  is-listed t r = listed-by t r (request_of t r s.servers) refl
 
-  tells-request : (t i : ℕ) (v : Server) (q : Served) → slice_get s.servers t ≡ Some v → slice_get v.slots i ≡ Some q → TellsRequest past t q
-  tells-request t i v q server served =
-      let found : find (is_server t) s.servers ≡ Some v = sym (session-at t) ∙ server in
+  tells-request : (t i : ℕ) (v : Server) (q : Served) → find (is_server t) s.servers ≡ Some v → slice_get v.slots i ≡ Some q → TellsRequest past t q
+  tells-request t i v q found served =
       let n = q.number in
       let apart = (found-holds (is_server t) SoundServer s.servers v k.valid.served found).apart in
       let own : find (is_request n) v.slots ≡ Some q = at-found (is_request n) v.slots i q (few-requests n v.slots (apart (n % 8))) served (eq-eqb n n refl) in
@@ -177,4 +227,4 @@ at-end past s [] u k l = rw l (tells-requests past s k)
 at-end past s (f ∷ g) u k l = at-end (f ∷ past) (after l.0 s f) g u (tells-after l.0 past s f k l.1) l.2
 
 pub requests_tell : RequestsTellTheHistory
-requests_tell me ring timeout g t r = at-end [] (new_lists me ring) g t.lists (tells-new me ring) (run_leads r)
+requests_tell p me limits g t r = at-end [] (new_lists me limits) g t.lists (tells-new me limits) (run_leads r)

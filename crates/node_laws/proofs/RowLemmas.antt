@@ -5,12 +5,13 @@ use Rattle.std.proofs.lemmas.Bool.{eqb-true, ltb-true, ltb-false, and_parts, or_
 use Rattle.packet_header.specs.Parts.{packet_count}
 use Rattle.packet_header.specs.declared.packet.MessageHeader.{MessageHeader}
 use Rattle.rpc_base.specs.declared.state.DropReason.{DropReason}
-use Rattle.rpc_base.specs.declared.state.DropReason.TheVariants.{Old, NotFirst, Working, Unserved, JobsFull, Mismatch, Ahead, Beyond}
+use Rattle.rpc_base.specs.declared.state.DropReason.TheVariants.{Old, NotFirst, Working, Unserved, JobsFull, NoMemory, Mismatch, Ahead, Beyond}
 use Rattle.rpc_laws.specs.declared.rows.ServerRow.{ServerRow}
 use Rattle.rpc_laws.specs.declared.rows.ServerRow.TheVariants.{Drops, Begins, Takes, Repeats}
 use Rattle.rpc_laws.specs.declared.tables.Served.{Served}
 use Rattle.rpc_laws.specs.ServerTable.{is_rfr, is_last, makes_job, new_row, is_past_end, is_worked_on, own_row, slot_row}
-use Rattle.rpc_laws.specs.Service.{is_served}
+use Rattle.rpc_outside.specs.declared.service.Mode.{Mode}
+use Rattle.rpc_laws.specs.Service.{is_handled}
 use Rattle.node_laws.proofs.Allowed.{Newer}
 
 -- rows that aren't a beginning, and rows that aren't a taking
@@ -44,28 +45,30 @@ before-takes true e = cc
 before-takes false e = cc
 
 -- a new number begins with its first packet
-new-first : (working full : Bool) (h : MessageHeader) → new_row working full h ≡ Begins → h.number ≡ 0
-new-first working full h e =
+new-first : (mode : Mode) (working full lacks : Bool) (h : MessageHeader) → new_row mode working full lacks h ≡ Begins → h.number ≡ 0
+new-first mode working full lacks h e =
     let one = not-begins (is_rfr h.kind || not (h.number == 0)) (Drops NotFirst) _ (drops-begins NotFirst) e in
     let other = (or_parts (is_rfr h.kind) (not (h.number == 0)) one.0).1 in
     eqb-true h.number 0 (not-false (h.number == 0) other)
 
-new-takes : (working full : Bool) (h : MessageHeader) → new_row working full h ≡ Takes → ⊥
-new-takes working full h e =
+new-takes : (mode : Mode) (working full lacks : Bool) (h : MessageHeader) → new_row mode working full lacks h ≡ Takes → ⊥
+new-takes mode working full lacks h e =
     let one = not-takes (is_rfr h.kind || not (h.number == 0)) (Drops NotFirst) _ (drops-takes NotFirst) e in
     let two = not-takes working (Drops Working) _ (drops-takes Working) one.1 in
-    let three = not-takes (not (is_served h.req_type)) (Drops Unserved) _ (drops-takes Unserved) two.1 in
-    let four = not-takes (makes_job h && full) (Drops JobsFull) Begins (drops-takes JobsFull) three.1 in
-    begins-takes four.1
+    let three = not-takes (not (is_handled mode)) (Drops Unserved) _ (drops-takes Unserved) two.1 in
+    let four = not-takes (makes_job mode h && full) (Drops JobsFull) _ (drops-takes JobsFull) three.1 in
+    let five = not-takes lacks (Drops NoMemory) Begins (drops-takes NoMemory) four.1 in
+    begins-takes five.1
 
-own-begins : (full : Bool) (l : Served) (h : MessageHeader) → own_row full l h ≡ Begins → ⊥
-own-begins full l h e =
+own-begins : (mode : Mode) (full lacks : Bool) (l : Served) (h : MessageHeader) → own_row mode full lacks l h ≡ Begins → ⊥
+own-begins mode full lacks l h e =
     let one = not-begins _ (Drops Mismatch) _ (drops-begins Mismatch) e in
     let two = not-begins (ltb l.taken h.number) (Drops Ahead) _ (drops-begins Ahead) one.1 in
     let three = not-begins (ltb h.number l.taken) _ _ (before-begins (is_worked_on l h)) two.1 in
     let four = not-begins (is_rfr h.kind && is_past_end l.size l.answer h.number) (Drops Beyond) _ (drops-begins Beyond) three.1 in
-    let five = not-begins (makes_job h && full) (Drops JobsFull) Takes (drops-begins JobsFull) four.1 in
-    takes-begins five.1
+    let five = not-begins (makes_job mode h && full) (Drops JobsFull) _ (drops-begins JobsFull) four.1 in
+    let six = not-begins (lacks && is_last h) (Drops NoMemory) Takes (drops-begins NoMemory) five.1 in
+    takes-begins six.1
 
 -- the next packet of a request: of its turn, and a Request has the size told
 pub record Next (l : Served) (h : MessageHeader) : Type 0 where
@@ -76,8 +79,8 @@ sized-by : (rfr low typed same : Bool) → cond rfr low (not (typed && same)) �
 sized-by true low typed same e f = cc
 sized-by false low typed same e f = (and_parts typed same (not-false (typed && same) e)).1
 
-own-next : (full : Bool) (l : Served) (h : MessageHeader) → own_row full l h ≡ Takes → Next l h
-own-next full l h e =
+own-next : (mode : Mode) (full lacks : Bool) (l : Served) (h : MessageHeader) → own_row mode full lacks l h ≡ Takes → Next l h
+own-next mode full lacks l h e =
     let one = not-takes _ (Drops Mismatch) _ (drops-takes Mismatch) e in
     let two = not-takes (ltb l.taken h.number) (Drops Ahead) _ (drops-takes Ahead) one.1 in
     let three = not-takes (ltb h.number l.taken) _ _ (before-takes (is_worked_on l h)) two.1 in
@@ -93,15 +96,15 @@ pub record Starts (o : Option Served) (h : MessageHeader) : Type 0 where
   pub first : h.number ≡ 0
   pub newer : Newer h.request o
 
-pub starts-slot : (full : Bool) (o : Option Served) (h : MessageHeader) → slot_row full o h ≡ Begins → Starts o h
-starts-slot full None h e = record { first = new-first false full h e; newer = tt }
-starts-slot full (Some l) h e =
+pub starts-slot : (mode : Mode) (full lacks : Bool) (o : Option Served) (h : MessageHeader) → slot_row mode full lacks o h ≡ Begins → Starts o h
+starts-slot mode full lacks None h e = record { first = new-first mode false full lacks h e; newer = tt }
+starts-slot mode full lacks (Some l) h e =
     let one = not-begins (ltb h.request l.number) (Drops Old) _ (drops-begins Old) e in
     by (ltb l.number h.request) refl one.1
   where
-    by : (b : Bool) → ltb l.number h.request ≡ b → cond b (new_row l.working full h) (own_row full l h) ≡ Begins → Starts (Some l) h
-    by true t k = record { first = new-first l.working full h k; newer = ltb-true l.number h.request t }
-    by false t k = absurd (own-begins full l h k)
+    by : (b : Bool) → ltb l.number h.request ≡ b → cond b (new_row mode l.working full lacks h) (own_row mode full lacks l h) ≡ Begins → Starts (Some l) h
+    by true t k = record { first = new-first mode l.working full lacks h k; newer = ltb-true l.number h.request t }
+    by false t k = absurd (own-begins mode full lacks l h k)
 
 -- a packet that goes on with the request that stands in its slot
 pub record Continues (o : Option Served) (h : MessageHeader) : Type 0 where
@@ -110,18 +113,18 @@ pub record Continues (o : Option Served) (h : MessageHeader) : Type 0 where
   pub own : served.number ≡ h.request
   pub next : Next served h
 
-pub continues-slot : (full : Bool) (o : Option Served) (h : MessageHeader) → slot_row full o h ≡ Takes → Continues o h
-continues-slot full None h e = absurd (new-takes false full h e)
-continues-slot full (Some l) h e =
+pub continues-slot : (mode : Mode) (full lacks : Bool) (o : Option Served) (h : MessageHeader) → slot_row mode full lacks o h ≡ Takes → Continues o h
+continues-slot mode full lacks None h e = absurd (new-takes mode false full lacks h e)
+continues-slot mode full lacks (Some l) h e =
     let one = not-takes (ltb h.request l.number) (Drops Old) _ (drops-takes Old) e in
     let low = ltb-false h.request l.number one.0 in
     by (ltb l.number h.request) refl low one.1
   where
-    by : (b : Bool) → ltb l.number h.request ≡ b → l.number ≤ h.request → cond b (new_row l.working full h) (own_row full l h) ≡ Takes → Continues (Some l) h
-    by true t low k = absurd (new-takes l.working full h k)
+    by : (b : Bool) → ltb l.number h.request ≡ b → l.number ≤ h.request → cond b (new_row mode l.working full lacks h) (own_row mode full lacks l h) ≡ Takes → Continues (Some l) h
+    by true t low k = absurd (new-takes mode l.working full lacks h k)
     by false t low k =
         let high = ltb-false l.number h.request t in
-        record { served = l; is_served = refl; own = omega arith; next = own-next full l h k }
+        record { served = l; is_served = refl; own = omega arith; next = own-next mode full lacks l h k }
 
 -- a packet that was taken before is of the request that stands in its slot
 pub not-repeats : (b : Bool) (x r : ServerRow) → (x ≡ Repeats → ⊥) → cond b x r ≡ Repeats → (b ≡ false) × (r ≡ Repeats)
@@ -134,28 +137,29 @@ drops-repeats why e = cc
 begins-repeats : Begins ≡ Repeats → ⊥
 begins-repeats e = cc
 
-new-repeats : (working full : Bool) (h : MessageHeader) → new_row working full h ≡ Repeats → ⊥
-new-repeats working full h e =
+new-repeats : (mode : Mode) (working full lacks : Bool) (h : MessageHeader) → new_row mode working full lacks h ≡ Repeats → ⊥
+new-repeats mode working full lacks h e =
     let one = not-repeats (is_rfr h.kind || not (h.number == 0)) (Drops NotFirst) _ (drops-repeats NotFirst) e in
     let two = not-repeats working (Drops Working) _ (drops-repeats Working) one.1 in
-    let three = not-repeats (not (is_served h.req_type)) (Drops Unserved) _ (drops-repeats Unserved) two.1 in
-    let four = not-repeats (makes_job h && full) (Drops JobsFull) Begins (drops-repeats JobsFull) three.1 in
-    begins-repeats four.1
+    let three = not-repeats (not (is_handled mode)) (Drops Unserved) _ (drops-repeats Unserved) two.1 in
+    let four = not-repeats (makes_job mode h && full) (Drops JobsFull) _ (drops-repeats JobsFull) three.1 in
+    let five = not-repeats lacks (Drops NoMemory) Begins (drops-repeats NoMemory) four.1 in
+    begins-repeats five.1
 
 pub record Repeated (o : Option Served) (h : MessageHeader) : Type 0 where
   pub served : Served
   pub is_served : o ≡ Some served
   pub own : served.number ≡ h.request
 
-pub repeats-slot : (full : Bool) (o : Option Served) (h : MessageHeader) → slot_row full o h ≡ Repeats → Repeated o h
-repeats-slot full None h e = absurd (new-repeats false full h e)
-repeats-slot full (Some l) h e =
+pub repeats-slot : (mode : Mode) (full lacks : Bool) (o : Option Served) (h : MessageHeader) → slot_row mode full lacks o h ≡ Repeats → Repeated o h
+repeats-slot mode full lacks None h e = absurd (new-repeats mode false full lacks h e)
+repeats-slot mode full lacks (Some l) h e =
     let one = not-repeats (ltb h.request l.number) (Drops Old) _ (drops-repeats Old) e in
     let low = ltb-false h.request l.number one.0 in
     by (ltb l.number h.request) refl low one.1
   where
-    by : (b : Bool) → ltb l.number h.request ≡ b → l.number ≤ h.request → cond b (new_row l.working full h) (own_row full l h) ≡ Repeats → Repeated (Some l) h
-    by true t low k = absurd (new-repeats l.working full h k)
+    by : (b : Bool) → ltb l.number h.request ≡ b → l.number ≤ h.request → cond b (new_row mode l.working full lacks h) (own_row mode full lacks l h) ≡ Repeats → Repeated (Some l) h
+    by true t low k = absurd (new-repeats mode l.working full lacks h k)
     by false t low k =
         let high = ltb-false l.number h.request t in
         record { served = l; is_served = refl; own = omega arith }

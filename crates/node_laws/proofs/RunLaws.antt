@@ -1,20 +1,21 @@
 -- A run of a node notes only what is allowed, and what always holds does.
-use Rattle.std.proofs.Common.{◌≡◌, ℕ, ◌+◌, ◌-◌, Bool, true, false, cond, ltb, leb, Option, Some, None, List, [], ◌∷◌, length, refl, ap, subst, ◌∙◌, inr, arith}
-use Rattle.std.specs.Prelude.{◌||◌, slice_get, is_none}
+use Rattle.std.proofs.Common.{◌≡◌, ℕ, suc, ◌+◌, ◌-◌, ◌≤◌, Bool, true, false, not, cond, ltb, Option, Some, None, List, [], ◌∷◌, length, refl, ap, ap₂, subst, ◌∙◌, inl, inr, arith}
+use Rattle.std.specs.Prelude.{◌==◌, slice_get}
 use Rattle.std.specs.List.{find}
-use Rattle.std.proofs.lemmas.Bool.{eq-eqb, ltb-true}
+use Rattle.std.proofs.lemmas.Bool.{and_parts, eqb-true, ltb-true, ltb-false, not-false}
 use Rattle.packet_header.specs.Parts.{packet_count}
 use Rattle.packet_header.specs.Reading.{message_of, body_of}
 use Rattle.packet_header.specs.declared.packet.Kind.{Kind}
 use Rattle.packet_header.specs.declared.packet.Kind.TheVariants.{Request, Rfr, Cr, Response}
 use Rattle.packet_header.specs.declared.packet.MessageHeader.{MessageHeader}
 use Rattle.rpc_base.specs.declared.event.Event.{Event}
-use Rattle.rpc_base.specs.declared.event.Event.TheVariants.{PairedClient, PairedServer, NconnectNumbers, NconnectRing, NcallTooLarge, Posted, Arrived, Overflowed, Bad, Ran}
+use Rattle.rpc_base.specs.declared.event.Event.TheVariants.{PairedClient, PairedServer, Opened, Closing as BeginsClosing, NconnectNumbers, NconnectRing, NcloseState, NcloseBusy, Rated, Nrate, NcallTooLarge, Posted, Arrived, Overflowed, Bad, Ran, Worked, Missed}
 use Rattle.rpc_base.specs.declared.owner.Owner.TheVariants.{Reply}
 use Rattle.rpc_base.specs.declared.fact.Fact.{Fact}
 use Rattle.rpc_base.specs.declared.state.SessionState.{SessionState}
 use Rattle.rpc_base.specs.declared.state.SessionState.TheVariants.{Unknown, Connecting, Connected, Closing, Closed, Failed, Broken, Spent}
 use Rattle.rpc_laws.specs.declared.tables.Arrival.{Arrival}
+use Rattle.rpc_laws.specs.declared.tables.Call.{Call}
 use Rattle.rpc_laws.specs.declared.tables.Client.{Client}
 use Rattle.rpc_laws.specs.declared.tables.Job.{Job}
 use Rattle.rpc_laws.specs.declared.tables.Lists.{Lists}
@@ -22,25 +23,30 @@ use Rattle.rpc_laws.specs.declared.tables.Served.{Served}
 use Rattle.rpc_laws.specs.declared.tables.Server.{Server}
 use Rattle.rpc_laws.specs.declared.tables.Timed.{Timed}
 use Rattle.rpc_laws.specs.Facts.{plain, with_two}
-use Rattle.rpc_laws.specs.Front.{front_header, front_body}
-use Rattle.rpc_laws.specs.GoBackN.{WatchesAll}
-use Rattle.rpc_laws.specs.Groups.{state_of, ask_by_state, shares}
+use Rattle.rpc_laws.specs.Front.{front_header, front_body, is_control, is_message}
+use Rattle.rpc_laws.specs.ControlSteps.{HearsAll, TimesAll}
+use Rattle.rpc_laws.specs.Deliveries.{arrival, inbox_room, Delivers}
+use Rattle.rpc_laws.specs.Groups.{Asks, Connects, Disconnects, SetsRate, told_state, state_of, ask_by_state, shares, clients_spent, servers_spent, has_no_room, refusal_by, connect_by, disconnect_by, pending}
 use Rattle.rpc_laws.specs.Jobs.{is_job}
-use Rattle.rpc_laws.specs.NodeLists.{new_lists, new_node}
-use Rattle.rpc_laws.specs.PollOrder.{is_working, is_awaited, Finishes, NoMoreToFinish, FinishesAll, handling_by, Handles, NoMoreToHandle, HandlesAll, PostsAll, Sends, SendsAll, Closes, raised, Poll}
-use Rattle.rpc_laws.specs.Service.{answer_with}
-use Rattle.rpc_laws.specs.Sessions.{is_client}
+use Rattle.rpc_laws.specs.NodeLists.{after, new_lists, new_node}
+use Rattle.rpc_laws.specs.PollOrder.{is_working, is_awaited, Finishes, FinishesOne, FinishesSome, handling_by, Handles, NoMoreToHandle, HandlesAll, PostsAll, Sends, SendsSome, Closes, raised, Poll}
+use Rattle.rpc_outside.specs.declared.service.Mode.{Mode}
+use Rattle.rpc_base.specs.declared.limits.Limits.{Limits}
+use Rattle.rpc_laws.specs.Service.{Serving}
+use Rattle.rpc_laws.specs.Sessions.{is_client, is_connected, is_live}
 use Rattle.rpc_laws.specs.Steps.{Then}
-use Rattle.rpc_laws.specs.Working.{work_of, Works}
-use Rattle.node_laws.specs.NodeRun.{Notes, Group, pairs_client, pairs_server, refuses, asks, delivers, polls, works, NodeRun}
-use Rattle.node_laws.proofs.Allowed.{Allowed, Stands, MayFinish, AllAllowed, Leads}
-use Rattle.node_laws.proofs.FindLemmas.{at-found}
-use Rattle.node_laws.proofs.LeadsLemmas.{valid_leads, Lawful, lawful-goes, lawful-then, lawful-until, lawful-chain}
+use Rattle.node_laws.specs.NodeRun.{Notes, Group, pairs_client, pairs_server, refuses, connects, disconnects, sets_rate, asks, delivers, polls, works, misses, NodeRun}
+use Rattle.node_laws.proofs.Allowed.{Allowed, Stands, MayFinish, MayClose, AllowedBy, allowed-plain, AllAllowed, Leads, LeadsBy, leads-of}
+use Rattle.node_laws.proofs.ControlLemmas.{hears-all-lawful}
+use Rattle.node_laws.proofs.TableLemmas.{found-passes}
+use Rattle.node_laws.proofs.LeadsLemmas.{valid_leads, LeadsAt, leads-at, Lawful, lawful-goes, lawful-then, lawful-until, lawful-chain, groups-chain}
 use Rattle.node_laws.proofs.PostLemmas.{posts-lawful}
 use Rattle.node_laws.proofs.ReplyLemmas.{replies-allowed}
 use Rattle.node_laws.proofs.ServeLemmas.{stands-ran, asks-allowed}
+use Rattle.node_laws.proofs.StateLemmas.{told-connected}
 use Rattle.node_laws.proofs.TimerLemmas.{timers-lawful}
-use Rattle.node_laws.proofs.Valid.{request_of, Valid}
+use Rattle.node_laws.proofs.Places.{request_of}
+use Rattle.node_laws.specs.Valid.{Valid}
 use Rattle.node_laws.proofs.ValidLemmas.{valid_new}
 
 -- a packet is handled
@@ -49,22 +55,21 @@ front-is [] d e = cc
 front-is (a ∷ ring) d e =
     let same : a ≡ d = cc in (ap (λ (x : Arrival). message_of x.bytes) same, ap (λ (x : Arrival). body_of x.bytes) same)
 
-handling-allowed : (clock : ℕ) (s : Lists) (peer : ℕ) (h : MessageHeader) (k : Kind) → Valid s → front_header s.ring ≡ Some h → AllAllowed clock s (handling_by k s peer h (front_body s.ring))
-handling-allowed clock s peer h Request v front = asks-allowed clock s v h front peer
-handling-allowed clock s peer h Rfr v front = asks-allowed clock s v h front peer
-handling-allowed clock s peer h Cr v front = replies-allowed clock s v h front peer
-handling-allowed clock s peer h Response v front = replies-allowed clock s v h front peer
+module _ (mode : ℕ → Mode) (lacks : Bool) (answer : List ℕ) where
+  handling-allowed : (clock : ℕ) (s : Lists) (peer : ℕ) (h : MessageHeader) (k : Kind) → Valid s → front_header s.ring ≡ Some h → AllAllowed clock s (handling_by mode lacks answer k s peer h (front_body s.ring))
+  handling-allowed clock s peer h Request v front = asks-allowed clock s v h front peer mode lacks answer
+  handling-allowed clock s peer h Rfr v front = asks-allowed clock s v h front peer mode lacks answer
+  handling-allowed clock s peer h Cr v front = replies-allowed clock s v h front peer
+  handling-allowed clock s peer h Response v front = replies-allowed clock s v h front peer
 
-handles-lawful : Lawful Handles
-handles-lawful s x t v h =
+pub handles-lawful : (mode : ℕ → Mode) → Lawful (Handles mode)
+handles-lawful mode s x t v h =
     let front = front-is s.lists.ring h.front h.is_front in
     let header : front_header s.lists.ring ≡ Some h.header = front.0 ∙ h.reads in
-    let all = handling-allowed s.clock s.lists h.front.peer h.header h.header.kind v header in
+    let all = handling-allowed mode h.lacks h.answer s.clock s.lists h.front.peer h.header h.header.kind v header in
     lawful-goes s x t h.goes (rw (h.facts, ← front.1) all)
 
--- a job is finished, and one is worked
-own-job : (job : Job) → is_job job.session job.request job ≡ true
-own-job job = rw (eq-eqb job.session job.session refl, eq-eqb job.request job.request refl) refl
+-- a job is finished
 
 awaited-stands : (t r : ℕ) (servers : List Server) (o : Option Served) → request_of t r servers ≡ o → is_working o ≡ true → Stands servers t r
 awaited-stands t r servers None e h = cc
@@ -76,37 +81,40 @@ finish-allowed clock s job answer k true e may =
     (inr may, (stands-ran job.session job.request answer s.servers stands, tt))
 finish-allowed clock s job answer k false e may = (inr may, tt)
 
-finishes-lawful : Lawful Finishes
-finishes-lawful s x t v h =
+own-finish : (s : Lists) (session request : ℕ) (job : Job) → find (is_job session request) s.jobs.out ≡ Some job → MayFinish s job.session job.request
+own-finish s session request job e =
+    let parts = and_parts (job.session == session) (job.request == request) (found-passes (is_job session request) s.jobs.out job e) in
+    let one : job.session ≡ session = eqb-true job.session session parts.0 in
+    let other : job.request ≡ request = eqb-true job.request request parts.1 in
+    record { job = job; found = ap₂ (λ (a b : ℕ). find (is_job a b) s.jobs.out) one other ∙ e }
+
+finishes-lawful : (session request : ℕ) → Lawful (Finishes session request)
+finishes-lawful session request s x t v h =
     let job = h.job in
-    let few = v.runs job.session job.request in
-    let found : find (is_job job.session job.request) s.lists.jobs.worked ≡ Some job = at-found (is_job job.session job.request) s.lists.jobs.worked 0 job (omega arith) h.is_front (own-job job) in
-    let may : MayFinish s.lists job.session job.request = record { job = job; found = found } in
-    lawful-goes s x t h.goes (rw h.facts (finish-allowed s.clock s.lists job (answer_with s.lists.total job.req_type job.ask) (packet_count (length job.ask) - 1) (is_awaited job s.lists.servers) refl may))
+    lawful-goes s x t h.goes (rw h.facts (finish-allowed s.clock s.lists job h.answer (packet_count (length job.ask) - 1) (is_awaited job s.lists.servers) refl (own-finish s.lists session request job h.is_out)))
 
-works-by : (i : ℕ) (s : Lists) → Valid s → (o : Option Job) → slice_get s.jobs.waiting i ≡ o → Allowed s (work_of i o)
-works-by i s v None e = tt
-works-by i s v (Some job) e =
-    let few = v.runs job.session job.request in
-    record { job = job; found = at-found (is_job job.session job.request) s.jobs.waiting i job (omega arith) e (own-job job) }
-
-works-lawful : (i : ℕ) → Lawful (Works i)
-works-lawful i s x t v h =
-    lawful-goes s x t h.goes (rw h.facts (works-by i s.lists v (slice_get s.lists.jobs.waiting i) refl, tt))
+pub finishes-some : Lawful FinishesSome
+finishes-some s x t v h = lawful-chain FinishesOne (λ s x t v h. finishes-lawful h.session h.request s x t v h.finishes) s v h
 
 -- a packet is sent, and a poll ends
-sends-lawful : Lawful Sends
+pub sends-lawful : Lawful Sends
 sends-lawful s x t v h = lawful-goes s x t h.goes (rw h.facts (tt, tt))
 
-closes-lawful : Lawful Closes
+pub closes-lawful : Lawful Closes
 closes-lawful s x t v h = lawful-goes s x t h.goes (rw h.facts (tt, tt))
 
-poll-lawful : (timeout now : ℕ) → Lawful (Poll timeout now)
-poll-lawful timeout now s x t v h =
-    lawful-then FinishesAll (Then HandlesAll (Then (WatchesAll timeout) (Then PostsAll (Then SendsAll Closes)))) (lawful-until Finishes NoMoreToFinish finishes-lawful) (lawful-then HandlesAll (Then (WatchesAll timeout) (Then PostsAll (Then SendsAll Closes))) (lawful-until Handles NoMoreToHandle handles-lawful) (lawful-then (WatchesAll timeout) (Then PostsAll (Then SendsAll Closes)) (timers-lawful timeout) (lawful-then PostsAll (Then SendsAll Closes) posts-lawful (lawful-then SendsAll Closes (lawful-until Sends (λ t. t.lists.queued ≡ []) sends-lawful) closes-lawful)))) (raised now s) x t v h
+-- a poll, at the clock to which it raises the node's
+pub poll-lawful : (mode : ℕ → Mode) (now : ℕ) (s : Timed) (x : List Fact) (t : Timed) → Valid s.lists → Poll mode now s x t → LeadsAt (raised now s) x t
+poll-lawful mode now s x t v h =
+    let closing = lawful-then SendsSome Closes (λ s x t v h. lawful-chain Sends sends-lawful s v h) closes-lawful in
+    let posting = lawful-then PostsAll (Then SendsSome Closes) posts-lawful closing in
+    let timing = lawful-then TimesAll (Then PostsAll (Then SendsSome Closes)) timers-lawful posting in
+    let handling = lawful-then (HandlesAll mode) (Then TimesAll (Then PostsAll (Then SendsSome Closes))) (lawful-until (Handles mode) NoMoreToHandle (handles-lawful mode)) timing in
+    let hearing = lawful-then HearsAll (Then (HandlesAll mode) (Then TimesAll (Then PostsAll (Then SendsSome Closes)))) hears-all-lawful handling in
+    lawful-then FinishesSome (Then HearsAll (Then (HandlesAll mode) (Then TimesAll (Then PostsAll (Then SendsSome Closes))))) finishes-some hearing (raised now s) x t v h
 
 -- an end of a pair is refused
-refused-by : (s : Lists) (e : Event) (n credits room : ℕ) (b c : Bool) → cond b (Some NconnectNumbers) (cond c (Some (NconnectRing n credits room)) None) ≡ Some e → Allowed s e
+pub refused-by : (s : Lists) (e : Event) (n credits room : ℕ) (b c : Bool) → cond b (Some NconnectNumbers) (cond c (Some (NconnectRing n credits room)) None) ≡ Some e → Allowed s e
 refused-by s e n credits room true c h =
     let same : NconnectNumbers ≡ e = cc in subst (λ (d : Event). Allowed s d) same tt
 refused-by s e n credits room false true h =
@@ -114,9 +122,14 @@ refused-by s e n credits room false true h =
 refused-by s e n credits room false false h = cc
 
 -- a call is asked
-asked-by : (s : Lists) (session req_type room : ℕ) (ask : List ℕ) (o : Option Client) → find (is_client session) s.clients ≡ o → (state : SessionState) → state_of o ≡ state → Allowed s (ask_by_state state session req_type room ask s).event
+asked-by : (s : Lists) (session req_type room : ℕ) (ask : List ℕ) (o : Option Client) → find (is_client session) s.clients ≡ o → (state : SessionState) → state_of o ≡ state → AllowedBy s (ask_by_state state session req_type room ask s).event (ask_by_state state session req_type room ask s).first
 asked-by s session req_type room ask None found Connected e = cc
-asked-by s session req_type room ask (Some x) found Connected e = record { next = refl; client = x; found = found }
+asked-by s session req_type room ask (Some x) found Connected e = record {
+  next = refl;
+  client = x;
+  found = found;
+  connected = told-connected x.state x.asked (ap is_connected e);
+}
 asked-by s session req_type room ask o found Unknown e = tt
 asked-by s session req_type room ask o found Connecting e = tt
 asked-by s session req_type room ask o found Closing e = tt
@@ -125,43 +138,137 @@ asked-by s session req_type room ask o found Failed e = tt
 asked-by s session req_type room ask o found Broken e = tt
 asked-by s session req_type room ask o found Spent e = tt
 
-asked-allowed : (s : Lists) (session n : ℕ) (f : Fact) (b : Bool) → Allowed s f.event → Allowed s (cond b (plain s.me (NcallTooLarge session n)) f).event
+asked-allowed : (s : Lists) (session n : ℕ) (f : Fact) (b : Bool) → AllowedBy s f.event f.first → AllowedBy s (cond b (plain s.me (NcallTooLarge session n)) f).event (cond b (plain s.me (NcallTooLarge session n)) f).first
 asked-allowed s session n f true a = tt
 asked-allowed s session n f false a = a
 
 -- a datagram is delivered
-arrived-by : (s : Lists) (peer : ℕ) (b : Bool) → ltb (length s.ring) s.room ≡ b → Allowed s (cond b (Arrived peer) (Overflowed peer))
-arrived-by s peer true t = ltb-true (length s.ring) s.room t
-arrived-by s peer false t = tt
+no-control : (bytes : List ℕ) → is_message bytes ≡ true → is_control bytes ≡ true → ⊥
+no-control bytes e h = cc
 
-delivered-by : (s : Lists) (peer : ℕ) (e : Event) (b : Bool) → Allowed s e → Allowed s (cond b (Bad peer) e)
-delivered-by s peer e true a = tt
-delivered-by s peer e false a = a
+message-by : (s : Lists) (peer : ℕ) (bytes : List ℕ) (b : Bool) → ltb (length s.ring) s.room ≡ b → is_message bytes ≡ true → AllowedBy s (cond b (Arrived peer) (Overflowed peer)) bytes
+message-by s peer bytes true e h = record {
+  message = λ i. ltb-true (length s.ring) s.room e;
+  control = λ i. absurd (no-control bytes h i);
+}
+message-by s peer bytes false e h = tt
 
-notes-leads : (e : Event) (s : Timed) (x : List Fact) (t : Timed) → Allowed s.lists e → Notes e s x t → Leads s.lists x t.lists
-notes-leads e s x t a h = lawful-goes s x t h.goes (rw h.facts (a, tt))
+control-by : (s : Lists) (peer : ℕ) (bytes : List ℕ) (b : Bool) → ltb (length s.inbox) inbox_room ≡ b → is_control bytes ≡ true → AllowedBy s (cond b (Arrived peer) (Overflowed peer)) bytes
+control-by s peer bytes true e h = record {
+  message = λ i. absurd (no-control bytes i h);
+  control = λ i. ltb-true (length s.inbox) inbox_room e;
+}
+control-by s peer bytes false e h = tt
 
-group-lawful : (timeout : ℕ) → Lawful (Group timeout)
-group-lawful timeout s x t v (pairs_client peer server credits may h) =
-    notes-leads (PairedClient (length s.lists.clients) peer server credits) s x t refl h
-group-lawful timeout s x t v (pairs_server peer client credits may h) =
-    notes-leads (PairedServer (length s.lists.servers) peer client credits) s x t refl h
-group-lawful timeout s x t v (refuses credits e refusal h) =
-    notes-leads e s x t (refused-by s.lists e (shares s.lists) credits s.lists.room (leb 65535 (length s.lists.clients) || leb 65535 (length s.lists.servers)) (ltb s.lists.room (shares s.lists + credits)) refusal) h
-group-lawful timeout s x t v (asks session req_type ask room h) =
+delivered-by : (s : Lists) (peer : ℕ) (bytes : List ℕ) (b c : Bool) → is_message bytes ≡ b → is_control bytes ≡ c → AllowedBy s (cond b (arrival (length s.ring) s.room peer) (cond c (arrival (length s.inbox) inbox_room peer) (Bad peer))) bytes
+delivered-by s peer bytes true c e h = message-by s peer bytes (ltb (length s.ring) s.room) refl e
+delivered-by s peer bytes false true e h = control-by s peer bytes (ltb (length s.inbox) inbox_room) refl h
+delivered-by s peer bytes false false e h = tt
+
+-- what isn't refused has room
+fits-by : (s : Lists) (n credits room : ℕ) (b c : Bool) → cond b (Some NconnectNumbers) (cond c (Some (NconnectRing n credits room)) None) ≡ None → c ≡ false
+fits-by s n credits room true c h = cc
+fits-by s n credits room false true h = cc
+fits-by s n credits room false false h = refl
+
+pub pair-fits : (spent : Bool) (credits : ℕ) (s : Lists) → refusal_by spent credits s ≡ None → shares s + credits ≤ s.room
+pair-fits spent credits s h =
+    ltb-false s.room (shares s + credits) (fits-by s (shares s) credits s.room spent (has_no_room credits s) h)
+
+-- a session is opened, a disconnect and a rate are asked
+rated-by : (clock : ℕ) (s : Lists) (me session rate : ℕ) (b : Bool) → AllAllowed clock s (cond b [] (plain me (Rated session rate) ∷ []))
+rated-by clock s me session rate true = tt
+rated-by clock s me session rate false = (tt, tt)
+
+opened-by : (clock : ℕ) (s : Lists) (credits peer rate n room : ℕ) (b c : Bool) → (c ≡ false → shares s + credits ≤ s.room) → AllAllowed clock s (connect_by (cond b (Some NconnectNumbers) (cond c (Some (NconnectRing n credits room)) None)) peer credits rate s)
+opened-by clock s credits peer rate n room true c has = (tt, tt)
+opened-by clock s credits peer rate n room false true has = (tt, tt)
+opened-by clock s credits peer rate n room false false has =
+    (record { numbered = refl; room = has refl }, rated-by clock (after clock s (plain s.me (Opened (length s.clients) peer credits))) s.me (length s.clients) rate (rate == 0))
+
+none-pending : (calls : List Call) → (length calls == 0) ≡ true → calls ≡ []
+none-pending [] e = refl
+none-pending (c ∷ cs) e = let none = eqb-true (suc (length cs)) 0 e in absurd (omega arith)
+
+closed-by : (s : Lists) (session calls : ℕ) (state : SessionState) (b c : Bool) → (b ≡ false → c ≡ false → MayClose s session) → AllowedBy s (cond b (NcloseState session state) (cond c (NcloseBusy session calls) (BeginsClosing session))) []
+closed-by s session calls state true c h = tt
+closed-by s session calls state false true h = tt
+closed-by s session calls state false false h = h refl refl
+
+disconnect-by : (s : Lists) (session : ℕ) (o : Option Client) → find (is_client session) s.clients ≡ o → AllowedBy s (disconnect_by (state_of o) session (pending o)) []
+disconnect-by s session None found = tt
+disconnect-by s session (Some x) found =
+    closed-by s session (length x.calls) (told_state x.state x.asked) (not (is_connected (told_state x.state x.asked))) (not (length x.calls == 0)) (λ e h. record { client = x; found = found; connected = told-connected x.state x.asked (not-false (is_connected (told_state x.state x.asked)) e); idle = none-pending x.calls (not-false (length x.calls == 0) h) })
+
+rate-by : (s : Lists) (session rate : ℕ) (state : SessionState) (b : Bool) → AllowedBy s (cond b (Rated session rate) (Nrate session state)) []
+rate-by s session rate state true = tt
+rate-by s session rate state false = tt
+
+pub connects-lawful : (peer credits rate : ℕ) → Lawful (Connects peer credits rate)
+connects-lawful peer credits rate s x t v h =
+    lawful-goes s x t h.goes (rw h.facts (opened-by s.clock s.lists credits peer rate (shares s.lists) s.lists.room (clients_spent s.lists) (has_no_room credits s.lists) (λ e. ltb-false s.lists.room (shares s.lists + credits) e)))
+
+pub disconnects-lawful : (session : ℕ) → Lawful (Disconnects session)
+disconnects-lawful session s x t v h =
+    lawful-goes s x t h.goes (rw h.facts (disconnect-by s.lists session (find (is_client session) s.lists.clients) refl, tt))
+
+pub sets-rate-lawful : (session rate : ℕ) → Lawful (SetsRate session rate)
+sets-rate-lawful session rate s x t v h =
+    let state = state_of (find (is_client session) s.lists.clients) in
+    lawful-goes s x t h.goes (rw h.facts (rate-by s.lists session rate state (is_live state), tt))
+
+pub asks-lawful : (session req_type : ℕ) (ask : List ℕ) (room : ℕ) → Lawful (Asks session req_type ask room)
+asks-lawful session req_type ask room s x t v h =
     let asked = asked-by s.lists session req_type room ask (find (is_client session) s.lists.clients) refl (state_of (find (is_client session) s.lists.clients)) refl in
     let all = asked-allowed s.lists session (length ask) (ask_by_state (state_of (find (is_client session) s.lists.clients)) session req_type room ask s.lists) (ltb 1048576 (length ask)) asked in
     lawful-goes s x t h.goes (rw h.facts (all, tt))
-group-lawful timeout s x t v (delivers peer bytes h) =
-    let arrived = arrived-by s.lists peer (ltb (length s.lists.ring) s.lists.room) refl in
-    let all = delivered-by s.lists peer (cond (ltb (length s.lists.ring) s.lists.room) (Arrived peer) (Overflowed peer)) (is_none (message_of bytes)) arrived in
-    lawful-goes s x t h.goes (rw h.facts (all, tt))
-group-lawful timeout s x t v (polls now h) = poll-lawful timeout now s x t v h
-group-lawful timeout s x t v (works i h) = works-lawful i s x t v h
+
+pub delivers-lawful : (peer : ℕ) (bytes : List ℕ) → Lawful (Delivers peer bytes)
+delivers-lawful peer bytes s x t v h =
+    lawful-goes s x t h.goes (rw h.facts (delivered-by s.lists peer bytes (is_message bytes) (is_control bytes) refl refl, tt))
+
+pub notes-lawful : (e : Event) (s : Timed) (x : List Fact) (t : Timed) → Allowed s.lists e → Notes e s x t → LeadsAt s x t
+notes-lawful e s x t a h = lawful-goes s x t h.goes (rw h.facts (allowed-plain s.lists e a, tt))
+
+-- a group notes what is allowed, at a clock of its own
+pub record LeadsFrom (s : Timed) (x : List Fact) (t : Timed) : Type 0 where
+  pub clock : ℕ
+  pub leads : LeadsAt (record s { clock = clock }) x t
+
+own-clock : (s : Timed) (x : List Fact) (t : Timed) → LeadsAt s x t → LeadsFrom s x t
+own-clock s x t l = record { clock = s.clock; leads = record { all = l.all; lists = l.lists; clock = l.clock } }
+
+pub group-lawful : (mode : ℕ → Mode) (s : Timed) (x : List Fact) (t : Timed) → Valid s.lists → Group mode s x t → LeadsFrom s x t
+group-lawful mode s x t v (pairs_client peer server credits may h) =
+    own-clock s x t (notes-lawful (PairedClient (length s.lists.clients) peer server credits) s x t (record { numbered = refl; room = pair-fits (clients_spent s.lists) credits s.lists may.fits }) h)
+group-lawful mode s x t v (pairs_server peer client credits may h) =
+    own-clock s x t (notes-lawful (PairedServer s.lists.server_numbers peer client credits) s x t (record { numbered = refl; room = pair-fits (servers_spent s.lists) credits s.lists may.fits }) h)
+group-lawful mode s x t v (refuses credits e (inl refusal) h) =
+    own-clock s x t (notes-lawful e s x t (refused-by s.lists e (shares s.lists) credits s.lists.room (clients_spent s.lists) (has_no_room credits s.lists) refusal) h)
+group-lawful mode s x t v (refuses credits e (inr refusal) h) =
+    own-clock s x t (notes-lawful e s x t (refused-by s.lists e (shares s.lists) credits s.lists.room (servers_spent s.lists) (has_no_room credits s.lists) refusal) h)
+group-lawful mode s x t v (connects peer credits rate few h) = own-clock s x t (connects-lawful peer credits rate s x t v h)
+group-lawful mode s x t v (disconnects session h) = own-clock s x t (disconnects-lawful session s x t v h)
+group-lawful mode s x t v (sets_rate session rate h) = own-clock s x t (sets-rate-lawful session rate s x t v h)
+group-lawful mode s x t v (asks session req_type ask room h) =
+    own-clock s x t (asks-lawful session req_type ask room s x t v h)
+group-lawful mode s x t v (delivers peer bytes h) = own-clock s x t (delivers-lawful peer bytes s x t v h)
+group-lawful mode s x t v (polls now h) =
+    record { clock = (raised now s).clock; leads = poll-lawful mode now s x t v h }
+group-lawful mode s x t v (works session request out h) =
+    own-clock s x t (notes-lawful (Worked session request) s x t tt h)
+group-lawful mode s x t v (misses i h) = own-clock s x t (notes-lawful (Missed i) s x t tt h)
+
+group-leads : (mode : ℕ → Mode) (s : Timed) (x : List Fact) (t : Timed) → Valid s.lists → Group mode s x t → LeadsBy s.lists x t.lists
+group-leads mode s x t v h =
+    let l = group-lawful mode s x t v h in leads-at (record s { clock = l.clock }) x t l.leads
 
 -- what a run says of its facts
-pub run_leads : {me ring timeout : ℕ} {g : List Fact} {t : Timed} → NodeRun me ring timeout g t → Leads (new_lists me ring) g t.lists
-run_leads {me} {ring} {timeout} r = lawful-chain (Group timeout) (group-lawful timeout) (new_node me ring) (valid_new me ring) r
+pub run_leads_by : {p : Serving} {me : ℕ} {limits : Limits} {g : List Fact} {t : Timed} → NodeRun p me limits g t → LeadsBy (new_lists me limits) g t.lists
+run_leads_by {p} {me} {limits} r = groups-chain (Group p.mode) (group-leads p.mode) (new_node me limits) (valid_new me limits) r.steps
 
-pub run_valid : {me ring timeout : ℕ} {g : List Fact} {t : Timed} → NodeRun me ring timeout g t → Valid t.lists
-run_valid {me} {ring} {timeout} {g} {t} r = valid_leads (new_lists me ring) g t.lists (valid_new me ring) (run_leads r)
+pub run_leads : {p : Serving} {me : ℕ} {limits : Limits} {g : List Fact} {t : Timed} → NodeRun p me limits g t → Leads (new_lists me limits) g t.lists
+run_leads {p} {me} {limits} {g} {t} r = leads-of (new_lists me limits) g t.lists (run_leads_by r)
+
+pub run_valid : {p : Serving} {me : ℕ} {limits : Limits} {g : List Fact} {t : Timed} → NodeRun p me limits g t → Valid t.lists
+run_valid {p} {me} {limits} {g} {t} r = valid_leads (new_lists me limits) g t.lists (valid_new me limits) (run_leads r)

@@ -21,7 +21,8 @@ use Rattle.rpc_laws.specs.NodeLists.{after, after_all}
 use Rattle.rpc_laws.specs.PollOrder.{asks_facts}
 use Rattle.rpc_laws.specs.Requests.{is_server, is_request, in_slot_of, first_packet, next_packet, took_packet, answered}
 use Rattle.rpc_laws.specs.ServerTable.{slot_row, server_row, is_last, took_facts, flushes, flushes_older, whole_ask, served_facts}
-use Rattle.rpc_laws.specs.Service.{is_background, answer_with}
+use Rattle.rpc_outside.specs.declared.service.Mode.{Mode}
+use Rattle.rpc_laws.specs.Service.{is_mode_background}
 use Rattle.node_laws.proofs.Allowed.{Newer, NoneOlder, MayServe, Stands, MayGive, AllAllowed}
 use Rattle.node_laws.proofs.FindLemmas.{push-found, none-found, missing-none}
 use Rattle.node_laws.proofs.FlushLemmas.{Flushes, no-more-same, flushes-none, flushes-owner}
@@ -31,29 +32,29 @@ use Rattle.node_laws.proofs.QueueLemmas.{flushed-none}
 use Rattle.node_laws.proofs.RowLemmas.{Starts, starts-slot, Continues, continues-slot, repeats-slot, last-parts, not-begins, not-takes, not-repeats, drops-begins, drops-takes, drops-repeats}
 use Rattle.node_laws.proofs.ServerLemmas.{few-requests, request-slot}
 use Rattle.node_laws.proofs.TableLemmas.{found-holds, found-own, found-passes, found-changed, found-any, none-counted, sum-fewer}
-use Rattle.node_laws.proofs.Valid.{is_due, RunWhole, SoundServer, Valid}
+use Rattle.node_laws.specs.Valid.{is_due, RunWhole, SoundServer, Valid}
 
 -- a row that holds of a session that is there, with its peer
-pub record Known (full : Bool) (o : Option Server) (h : MessageHeader) (row : ServerRow) : Type 0 where
+pub record Known (mode : Mode) (full lacks : Bool) (o : Option Server) (h : MessageHeader) (row : ServerRow) : Type 0 where
   pub server : Server
   pub is_server : o ≡ Some server
-  pub slot : slot_row full (find (in_slot_of h.request) server.slots) h ≡ row
+  pub slot : slot_row mode full lacks (find (in_slot_of h.request) server.slots) h ≡ row
 
-known-begins : (full : Bool) (o : Option Server) (peer : ℕ) (h : MessageHeader) → server_row full o peer h ≡ Begins → Known full o h Begins
-known-begins full None peer h e = absurd (drops-begins NoSession e)
-known-begins full (Some v) peer h e =
+known-begins : (mode : Mode) (full lacks : Bool) (o : Option Server) (peer : ℕ) (h : MessageHeader) → server_row mode full lacks o peer h ≡ Begins → Known mode full lacks o h Begins
+known-begins mode full lacks None peer h e = absurd (drops-begins NoSession e)
+known-begins mode full lacks (Some v) peer h e =
     let right = not-begins (not (v.way.peer == peer)) (Drops WrongPeer) _ (drops-begins WrongPeer) e in
     record { server = v; is_server = refl; slot = right.1 }
 
-known-takes : (full : Bool) (o : Option Server) (peer : ℕ) (h : MessageHeader) → server_row full o peer h ≡ Takes → Known full o h Takes
-known-takes full None peer h e = absurd (drops-takes NoSession e)
-known-takes full (Some v) peer h e =
+known-takes : (mode : Mode) (full lacks : Bool) (o : Option Server) (peer : ℕ) (h : MessageHeader) → server_row mode full lacks o peer h ≡ Takes → Known mode full lacks o h Takes
+known-takes mode full lacks None peer h e = absurd (drops-takes NoSession e)
+known-takes mode full lacks (Some v) peer h e =
     let right = not-takes (not (v.way.peer == peer)) (Drops WrongPeer) _ (drops-takes WrongPeer) e in
     record { server = v; is_server = refl; slot = right.1 }
 
-known-repeats : (full : Bool) (o : Option Server) (peer : ℕ) (h : MessageHeader) → server_row full o peer h ≡ Repeats → Known full o h Repeats
-known-repeats full None peer h e = absurd (drops-repeats NoSession e)
-known-repeats full (Some v) peer h e =
+known-repeats : (mode : Mode) (full lacks : Bool) (o : Option Server) (peer : ℕ) (h : MessageHeader) → server_row mode full lacks o peer h ≡ Repeats → Known mode full lacks o h Repeats
+known-repeats mode full lacks None peer h e = absurd (drops-repeats NoSession e)
+known-repeats mode full lacks (Some v) peer h e =
     let right = not-repeats (not (v.way.peer == peer)) (Drops WrongPeer) _ (drops-repeats WrongPeer) e in
     record { server = v; is_server = refl; slot = right.1 }
 
@@ -69,12 +70,12 @@ stands-ran t r answer servers a = record {
 }
 
 -- the facts of a packet that is taken: the last one of a request runs it or gives it
-took-by : (clock : ℕ) (s : Lists) (me total : ℕ) (h : MessageHeader) (ask : List ℕ) (b c : Bool) → MayServe s h.session h.request → (b ≡ true → MayGive (after clock s (plain me (Took (Reply h.session h.request) h.number))) h.session h.request) → Stands (after clock s (plain me (Took (Reply h.session h.request) h.number))).servers h.session h.request → AllAllowed clock s (plain me (Took (Reply h.session h.request) h.number) ∷ cond (b && c) (plain me (Given h.session h.request) ∷ []) ((cond b (with_two me (Ran h.session h.request h.req_type) ask (answer_with total h.req_type ask) ∷ []) []) ++ plain me (Posted (Reply h.session h.request) h.number) ∷ []))
-took-by clock s me total h ask true true serve give stands = (serve, (give refl, tt))
-took-by clock s me total h ask true false serve give stands =
-    let ran = stands-ran h.session h.request (answer_with total h.req_type ask) (after clock s (plain me (Took (Reply h.session h.request) h.number))).servers stands in
+took-by : (clock : ℕ) (s : Lists) (me : ℕ) (answer : List ℕ) (h : MessageHeader) (ask : List ℕ) (b c : Bool) → MayServe s h.session h.request → (b ≡ true → MayGive (after clock s (plain me (Took (Reply h.session h.request) h.number))) h.session h.request) → Stands (after clock s (plain me (Took (Reply h.session h.request) h.number))).servers h.session h.request → AllAllowed clock s (plain me (Took (Reply h.session h.request) h.number) ∷ cond (b && c) (plain me (Given h.session h.request) ∷ []) ((cond b (with_two me (Ran h.session h.request h.req_type) ask answer ∷ []) []) ++ plain me (Posted (Reply h.session h.request) h.number) ∷ []))
+took-by clock s me answer h ask true true serve give stands = (serve, (give refl, tt))
+took-by clock s me answer h ask true false serve give stands =
+    let ran = stands-ran h.session h.request answer (after clock s (plain me (Took (Reply h.session h.request) h.number))).servers stands in
     (serve, (inl (give refl), (ran, tt)))
-took-by clock s me total h ask false c serve give stands = (serve, (stands, tt))
+took-by clock s me answer h ask false c serve give stands = (serve, (stands, tt))
 
 module _ (clock : ℕ) (s : Lists) (v : Server) (sound : SoundServer v) (h : MessageHeader) (front : front_header s.ring ≡ Some h) (found : find (is_server h.session) s.servers ≡ Some v) where
   -- the server session after the packet is taken
@@ -199,43 +200,43 @@ older-flushed clock s me session r (Some w) v e same =
     rw (own, same) (slot-flushed clock s me session (find (in_slot_of r) v.slots))
 
 module _ (clock : ℕ) (s : Lists) (valid : Valid s) (h : MessageHeader) (front : front_header s.ring ≡ Some h) (peer : ℕ) where
-  begins-allowed : (full : Bool) → server_row full (find (is_server h.session) s.servers) peer h ≡ Begins → AllAllowed clock s (served_facts s.me s.total s.queued (find (is_server h.session) s.servers) h (front_body s.ring) Begins)
-  begins-allowed full e =
-      let known = known-begins full (find (is_server h.session) s.servers) peer h e in
+  begins-allowed : (mode : Mode) (full lacks : Bool) (answer : List ℕ) → server_row mode full lacks (find (is_server h.session) s.servers) peer h ≡ Begins → AllAllowed clock s (served_facts mode s.me answer s.queued (find (is_server h.session) s.servers) h (front_body s.ring) Begins)
+  begins-allowed mode full lacks answer e =
+      let known = known-begins mode full lacks (find (is_server h.session) s.servers) peer h e in
       let v = known.server in
       let sound = found-holds (is_server h.session) SoundServer s.servers v valid.served known.is_server in
-      let starts = starts-slot full (find (in_slot_of h.request) v.slots) h known.slot in
+      let starts = starts-slot mode full lacks (find (in_slot_of h.request) v.slots) h known.slot in
       let older = flushes_older s.me s.queued (find (is_server h.session) s.servers) h.request in
       let number : v.way.number ≡ h.session = eqb-true v.way.number h.session (found-passes (is_server h.session) s.servers v known.is_server) in
       let flushes = older-flushed clock s s.me h.session h.request (find (is_server h.session) s.servers) v known.is_server number in
       let flushed = record s { queued = flushes.0.queue } in
-      let took : AllAllowed clock flushed (took_facts s.me s.total h (front_body s.ring)) = took-by clock flushed s.me s.total h (front_body s.ring) (is_last h) (is_background h.req_type) (may-begin clock flushed v sound h front known.is_server starts.newer flushes.1) (may-give-first clock flushed v sound h front known.is_server s.me starts) (stands-first clock flushed v sound h front known.is_server starts.newer) in
-      let rest : AllAllowed clock (after_all clock s older) (took_facts s.me s.total h (front_body s.ring)) = rw flushes.0.same took in
-      allowed-join clock s older (took_facts s.me s.total h (front_body s.ring)) flushes.0.allowed rest
+      let took : AllAllowed clock flushed (took_facts mode s.me answer h (front_body s.ring)) = took-by clock flushed s.me answer h (front_body s.ring) (is_last h) (is_mode_background mode) (may-begin clock flushed v sound h front known.is_server starts.newer flushes.1) (may-give-first clock flushed v sound h front known.is_server s.me starts) (stands-first clock flushed v sound h front known.is_server starts.newer) in
+      let rest : AllAllowed clock (after_all clock s older) (took_facts mode s.me answer h (front_body s.ring)) = rw flushes.0.same took in
+      allowed-join clock s older (took_facts mode s.me answer h (front_body s.ring)) flushes.0.allowed rest
 
-  takes-allowed : (full : Bool) → server_row full (find (is_server h.session) s.servers) peer h ≡ Takes → AllAllowed clock s (served_facts s.me s.total s.queued (find (is_server h.session) s.servers) h (front_body s.ring) Takes)
-  takes-allowed full e =
-      let known = known-takes full (find (is_server h.session) s.servers) peer h e in
+  takes-allowed : (mode : Mode) (full lacks : Bool) (answer : List ℕ) → server_row mode full lacks (find (is_server h.session) s.servers) peer h ≡ Takes → AllAllowed clock s (served_facts mode s.me answer s.queued (find (is_server h.session) s.servers) h (front_body s.ring) Takes)
+  takes-allowed mode full lacks answer e =
+      let known = known-takes mode full lacks (find (is_server h.session) s.servers) peer h e in
       let v = known.server in
       let sound = found-holds (is_server h.session) SoundServer s.servers v valid.served known.is_server in
-      let goes = continues-slot full (find (in_slot_of h.request) v.slots) h known.slot in
+      let goes = continues-slot mode full lacks (find (in_slot_of h.request) v.slots) h known.slot in
       let own = own-found clock s v sound h front known.is_server goes.served goes.is_served goes.own in
-      took-by clock s s.me s.total h (whole_ask (find (is_server h.session) s.servers) h.request (front_body s.ring)) (is_last h) (is_background h.req_type) (may-go-on clock s v sound h front known.is_server goes.served own) (may-give-next clock s v sound h front known.is_server s.me goes) (stands-next clock s v sound h front known.is_server goes.served own)
+      took-by clock s s.me answer h (whole_ask (find (is_server h.session) s.servers) h.request (front_body s.ring)) (is_last h) (is_mode_background mode) (may-go-on clock s v sound h front known.is_server goes.served own) (may-give-next clock s v sound h front known.is_server s.me goes) (stands-next clock s v sound h front known.is_server goes.served own)
 
-  repeats-allowed : (full : Bool) → server_row full (find (is_server h.session) s.servers) peer h ≡ Repeats → AllAllowed clock s (served_facts s.me s.total s.queued (find (is_server h.session) s.servers) h (front_body s.ring) Repeats)
-  repeats-allowed full e =
-      let known = known-repeats full (find (is_server h.session) s.servers) peer h e in
+  repeats-allowed : (mode : Mode) (full lacks : Bool) (answer : List ℕ) → server_row mode full lacks (find (is_server h.session) s.servers) peer h ≡ Repeats → AllAllowed clock s (served_facts mode s.me answer s.queued (find (is_server h.session) s.servers) h (front_body s.ring) Repeats)
+  repeats-allowed mode full lacks answer e =
+      let known = known-repeats mode full lacks (find (is_server h.session) s.servers) peer h e in
       let v = known.server in
       let sound = found-holds (is_server h.session) SoundServer s.servers v valid.served known.is_server in
-      let again = repeats-slot full (find (in_slot_of h.request) v.slots) h known.slot in
+      let again = repeats-slot mode full lacks (find (in_slot_of h.request) v.slots) h known.slot in
       let own = own-found clock s v sound h front known.is_server again.served again.is_served again.own in
       (tt, (stands-at h.session h.request s.servers v again.served known.is_server own, tt))
 
-  served-by : (full : Bool) (row : ServerRow) → server_row full (find (is_server h.session) s.servers) peer h ≡ row → AllAllowed clock s (served_facts s.me s.total s.queued (find (is_server h.session) s.servers) h (front_body s.ring) row)
-  served-by full (Drops why) e = (tt, tt)
-  served-by full Begins e = begins-allowed full e
-  served-by full Takes e = takes-allowed full e
-  served-by full Repeats e = repeats-allowed full e
+  served-by : (mode : Mode) (full lacks : Bool) (answer : List ℕ) (row : ServerRow) → server_row mode full lacks (find (is_server h.session) s.servers) peer h ≡ row → AllAllowed clock s (served_facts mode s.me answer s.queued (find (is_server h.session) s.servers) h (front_body s.ring) row)
+  served-by mode full lacks answer (Drops why) e = (tt, tt)
+  served-by mode full lacks answer Begins e = begins-allowed mode full lacks answer e
+  served-by mode full lacks answer Takes e = takes-allowed mode full lacks answer e
+  served-by mode full lacks answer Repeats e = repeats-allowed mode full lacks answer e
 
-  pub asks-allowed : AllAllowed clock s (asks_facts s peer h (front_body s.ring))
-  asks-allowed = served-by (are_full s.jobs) (server_row (are_full s.jobs) (find (is_server h.session) s.servers) peer h) refl
+  pub asks-allowed : (mode : ℕ → Mode) (lacks : Bool) (answer : List ℕ) → AllAllowed clock s (asks_facts mode lacks answer s peer h (front_body s.ring))
+  asks-allowed mode lacks answer = served-by (mode h.req_type) (are_full s.jobs) lacks answer (server_row (mode h.req_type) (are_full s.jobs) lacks (find (is_server h.session) s.servers) peer h) refl

@@ -12,7 +12,7 @@ use Rattle.rpc_laws.specs.declared.tables.Server.{Server}
 use Rattle.rpc_laws.specs.Requests.{is_request, in_slot_of, first_packet, next_packet, took_packet}
 use Rattle.node_laws.proofs.FindLemmas.{count-out}
 use Rattle.node_laws.proofs.TableLemmas.{count-fewer, all-push, all-kept, all-first, all-left, sum-grown, sum-fewer}
-use Rattle.node_laws.proofs.Valid.{RunWhole, SoundServer}
+use Rattle.node_laws.specs.Valid.{RunWhole, SoundServer}
 
 -- the requests that stand in a slot
 abbrev pub in_place : ℕ → List Served → ℕ

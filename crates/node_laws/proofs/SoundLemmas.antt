@@ -16,9 +16,9 @@ use Rattle.rpc_laws.specs.declared.tables.Progress.{Progress}
 use Rattle.rpc_laws.specs.Calls.{has_request, is_active, asked_packets, known_packets, moved, posted_up_to, rolled_back, sent_packet, is_response, with_reply, took_reply}
 use Rattle.rpc_laws.specs.ClientTable.{is_cr, is_same_size, is_of_turn}
 use Rattle.rpc_laws.specs.Posting.{holds_slot}
-use Rattle.rpc_laws.specs.Sessions.{is_connected}
+use Rattle.rpc_laws.specs.Sessions.{is_live}
 use Rattle.node_laws.proofs.TableLemmas.{found-holds, found-own, count-fewer, all-changed, sum-changed, sum-grown}
-use Rattle.node_laws.proofs.Valid.{unanswered_of, ToldAfter, InOrder, OrderOf, CallInOrder, Sound}
+use Rattle.node_laws.specs.Valid.{unanswered_of, ToldAfter, InOrder, OrderOf, CallInOrder, Sound}
 
 -- an active call has the slot of its request
 pub active-holds : (r : ℕ) (o : Option Progress) → has_request r o ≡ true → holds_slot (r % 8) o ≡ true
@@ -50,7 +50,7 @@ same-slot slot f same None = omega arith
 same-slot slot f same (Some p) = rw (same p) (omega arith)
 
 -- a call moves, and free credits with it
-pub sound-moved : (x : Client) (free : ℕ) (f : Progress → Progress) (test : Call → Bool) (c : Call) (p : Progress) → ((q : Progress) → (f q).request ≡ q.request) → Sound x → find test x.calls ≡ Some c → c.progress ≡ Some p → InOrder (asked_packets c.what) (f p) → (is_connected x.state ≡ true → free + ((f p).posted - (f p).got) ≡ x.free + (p.posted - p.got)) → Sound (record x { free = free; calls = at_first test (moved f) x.calls })
+pub sound-moved : (x : Client) (free : ℕ) (f : Progress → Progress) (test : Call → Bool) (c : Call) (p : Progress) → ((q : Progress) → (f q).request ≡ q.request) → Sound x → find test x.calls ≡ Some c → c.progress ≡ Some p → InOrder (asked_packets c.what) (f p) → (is_live x.state ≡ true → free + ((f p).posted - (f p).got) ≡ x.free + (p.posted - p.got)) → Sound (record x { free = free; calls = at_first test (moved f) x.calls })
 sound-moved x free f test c p same h e a order credit = record {
   balance = λ t.
       let old : unanswered_of c.progress ≡ p.posted - p.got = ap unanswered_of a in

@@ -9,7 +9,7 @@ use Rattle.rpc_laws.specs.declared.tables.Progress.{Progress}
 use Rattle.rpc_laws.specs.Calls.{posted_up_to, rolled_back, sent_packet, took_reply}
 use Rattle.node_laws.specs.CreditBalance.{with_number, without_number}
 use Rattle.node_laws.proofs.SoundLemmas.{sent-got, sent-posted, reply-got, reply-posted}
-use Rattle.node_laws.proofs.Valid.{unanswered_of}
+use Rattle.node_laws.specs.Valid.{unanswered_of}
 
 -- so many numbers from n on
 abbrev pub span : ℕ → ℕ → List ℕ

@@ -10,9 +10,11 @@ use Rattle.rpc_laws.specs.declared.tables.Client.{Client}
 use Rattle.rpc_laws.specs.declared.tables.Lists.{Lists}
 use Rattle.rpc_laws.specs.declared.tables.Progress.{Progress}
 use Rattle.rpc_laws.specs.Calls.{is_call, moved, begun}
-use Rattle.rpc_laws.specs.Sessions.{is_client, client_end, asks, ends}
+use Rattle.rpc_laws.specs.Sessions.{is_client, client_end, opened_end, clients_told, requests, asks, ends}
+use Rattle.packet_header.specs.declared.packet.ControlHeader.{ControlHeader}
+use Rattle.node_laws.proofs.ToldSame.{told-same}
 use Rattle.node_laws.proofs.TableLemmas.{sum-changed, sum-grown, sum-left, sum-fewer}
-use Rattle.node_laws.proofs.Valid.{to_come}
+use Rattle.node_laws.specs.Valid.{to_come}
 
 -- an event that takes nothing
 pub none-spent : (n : ℕ) → 0 + n ≤ n
@@ -71,6 +73,15 @@ module _ (number : ℕ) (test : Option Progress → Bool) where
   pub remaining-made : (s peer t credits k : ℕ) (xs : List Client) → 0 + (remaining (xs ++ client_end s peer t credits ∷ []) + k) ≤ remaining xs + k
   remaining-made s peer t credits k xs =
       let push = sum_by_push those xs (client_end s peer t credits) in omega arith
+
+  pub remaining-opened : (s peer credits k : ℕ) (xs : List Client) → 0 + (remaining (xs ++ opened_end s peer credits ∷ []) + k) ≤ remaining xs + k
+  remaining-opened s peer credits k xs =
+      let push = sum_by_push those xs (opened_end s peer credits) in omega arith
+
+  pub remaining-told : (clock k : ℕ) (o : Option ControlHeader) (xs : List Client) → 0 + (remaining (clients_told clock o xs) + k) ≤ remaining xs + k
+  remaining-told clock k None xs = omega arith
+  remaining-told clock k (Some c) xs =
+      remaining-kept (is_client c.client) (requests clock c) xs k (λ x. let same = told-same those clock c x refl in omega arith)
 
   -- a call of that number that no longer passes
   pub remaining-spent : (d k : ℕ) (p : Client → Bool) (f : Client → Client) (xs : List Client) (x : Client) → find p xs ≡ Some x → d + those (f x) ≤ those x → d + (remaining (at_first p f xs) + k) ≤ remaining xs + k

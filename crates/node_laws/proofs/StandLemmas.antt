@@ -1,12 +1,11 @@
 -- Replies that are queued are of requests that stand in their slots.
-use Rattle.std.proofs.Common.{◌≡◌, ℕ, ◌%◌, Bool, true, false, ◌&&◌, ◌||◌, Option, Some, None, List, [], ◌∷◌, ◌++◌, refl, sym, ap, ◌∙◌, inl, inr}
+use Rattle.std.proofs.Common.{◌≡◌, ℕ, ◌%◌, Bool, true, false, ◌&&◌, Option, Some, None, List, refl, sym, ap, ◌∙◌, inl, inr}
 use Rattle.std.specs.Prelude.{◌⊎◌, ◌==◌, option_map}
 use Rattle.std.specs.List.{find, list_any}
 use Rattle.std.proofs.lemmas.Bool.{and_parts, eqb-true}
-use Rattle.rpc_base.specs.Owners.{same_owner}
 use Rattle.rpc_base.specs.Tables.{at_first, without_first}
 use Rattle.rpc_base.specs.declared.event.Event.{Event}
-use Rattle.rpc_base.specs.declared.event.Event.TheVariants.{PairedServer, Posted, Sent, Flushed, Took, Given, Ran}
+use Rattle.rpc_base.specs.declared.event.Event.TheVariants.{PairedServer, Accepted, Ended, Posted, Sent, Flushed, Polled, Took, Given, Ran}
 use Rattle.rpc_base.specs.declared.owner.Owner.{Owner}
 use Rattle.rpc_base.specs.declared.owner.Owner.TheVariants.{Ask, Reply, Control}
 use Rattle.rpc_laws.specs.declared.tables.Lists.{Lists}
@@ -14,30 +13,22 @@ use Rattle.rpc_laws.specs.declared.tables.Queued.{Queued}
 use Rattle.rpc_laws.specs.declared.tables.Served.{Served}
 use Rattle.rpc_laws.specs.declared.tables.Server.{Server}
 use Rattle.rpc_laws.specs.Front.{front_header}
-use Rattle.rpc_laws.specs.Queues.{is_queued, queued_after}
+use Rattle.rpc_laws.specs.Queues.{is_queued, put_queued, queued_after}
 use Rattle.rpc_laws.specs.Requests.{is_server, is_request, in_slot_of, given, answered, servers_after}
-use Rattle.node_laws.proofs.Allowed.{Allowed, NoneQueued, NoneOlder, MayServe, Stands}
-use Rattle.node_laws.proofs.FindLemmas.{missing-none}
+use Rattle.node_laws.proofs.Allowed.{Allowed, NoneQueued, NoneOlder, MayServe, MayLeave, Stands}
+use Rattle.node_laws.proofs.FindLemmas.{missing-none, skip-found}
 use Rattle.node_laws.proofs.FlushLemmas.{no-more-same}
 use Rattle.node_laws.proofs.LeftLemmas.{own-slot, same-slot}
-use Rattle.node_laws.proofs.LookLemmas.{request_on, look-own, look-other, look-made, taken, Replaces, look-next, look-first, look-others}
+use Rattle.node_laws.proofs.LookLemmas.{request_on, off-number, look-own, look-other, look-made, taken, Replaces, look-next, look-first, look-others}
+use Rattle.node_laws.proofs.PutLemmas.{none-put, none-ready}
 use Rattle.node_laws.proofs.QueueLemmas.{no-more-out, none-stays}
 use Rattle.node_laws.proofs.TableLemmas.{found-holds, found-passes}
-use Rattle.node_laws.proofs.Valid.{SoundServer, request_of, Valid}
+use Rattle.node_laws.proofs.Places.{request_of}
+use Rattle.node_laws.specs.Valid.{SoundServer, Valid}
 
 -- no reply to a request that doesn't stand is queued
 abbrev pub Standing : List Server → List Queued → Type 0
 Standing servers queued = (t r : ℕ) → request_of t r servers ≡ None → NoneQueued (Reply t r) queued
-
--- a packet of another owner comes to the queue
-pushed-by : (owner : Owner) (q : Queued) (qs : List Queued) (b : Bool) → (list_any (λ p. same_owner p.owner owner) qs ≡ false → list_any (λ p. same_owner p.owner owner) (qs ++ q ∷ []) ≡ false) → (b || list_any (λ p. same_owner p.owner owner) qs) ≡ false → (b || list_any (λ p. same_owner p.owner owner) (qs ++ q ∷ [])) ≡ false
-pushed-by owner q qs true ih none = none
-pushed-by owner q qs false ih none = ih none
-
-none-pushed : (owner : Owner) (qs : List Queued) (q : Queued) → same_owner q.owner owner ≡ false → NoneQueued owner qs → NoneQueued owner (qs ++ q ∷ [])
-none-pushed owner [] q e none = rw e refl
-none-pushed owner (p ∷ qs) q e none =
-    pushed-by owner q qs (same_owner p.owner owner) (λ h. none-pushed owner qs q e h) none
 
 none-out : (owner : Owner) (p : Queued → Bool) (qs : List Queued) → NoneQueued owner qs → NoneQueued owner (without_first p qs)
 none-out owner p qs none = none-stays owner (without_first p qs) qs (no-more-out p qs qs (no-more-same qs)) none
@@ -113,32 +104,62 @@ module _ (s : Lists) (valid : Valid s) (standing : Standing s.servers s.queued) 
   took-stands t r none = took-by t r (n == t && k == r) refl none
 
 -- a reply is posted
-posted-by : (t r n k i : ℕ) (servers : List Server) (queued : List Queued) (b : Bool) → (n == t && k == r) ≡ b → Stands servers n k → request_of t r servers ≡ None → NoneQueued (Reply t r) queued → NoneQueued (Reply t r) (queued ++ record { owner = Reply n k; number = i } ∷ [])
-posted-by t r n k i servers queued true e a none h =
+posted-by : (t r n k i : ℕ) (due : Option ℕ) (servers : List Server) (queued : List Queued) (b : Bool) → (n == t && k == r) ≡ b → Stands servers n k → request_of t r servers ≡ None → NoneQueued (Reply t r) queued → NoneQueued (Reply t r) (put_queued (record { owner = Reply n k; number = i; due = due }) queued)
+posted-by t r n k i due servers queued true e a none h =
     let parts = and_parts (n == t) (k == r) e in
     let session : n ≡ t = eqb-true n t parts.0 in
     let request : k ≡ r = eqb-true k r parts.1 in
     let own : request_of t r servers ≡ Some a.served = rw (session, request) at a.found in
     cc
-posted-by t r n k i servers queued false e a none h =
-    none-pushed (Reply t r) queued (record { owner = Reply n k; number = i }) e h
+posted-by t r n k i due servers queued false e a none h =
+    none-put (Reply t r) queued (record { owner = Reply n k; number = i; due = due }) e h
 
-pub standing-after : (e : Event) (answer body : List ℕ) (s : Lists) → Valid s → Standing s.servers s.queued → Allowed s e → Standing (servers_after e answer (front_header s.ring) body s.servers) (queued_after e s.queued)
-standing-after (PairedServer n peer c credits) answer body s v h a t r none =
+-- a session ends
+module _ (s : Lists) (valid : Valid s) (standing : Standing s.servers s.queued) (n : ℕ) (a : MayLeave s n) where
+  slot-clean : (r : ℕ) (q : Served) → find (is_request r) a.server.slots ≡ Some q → NoneQueued (Reply n r) s.queued
+  slot-clean r q e =
+      let slot : find (in_slot_of r) a.server.slots ≡ Some q = own-slot r a.server q (found-holds (is_server n) SoundServer s.servers a.server valid.served a.found) e in
+      let clean : NoneOlder n (Some q) s.queued = rw slot at (a.clean r) in
+      let number : q.number ≡ r = eqb-true q.number r (found-passes (is_request r) a.server.slots q e) in
+      rw number at clean
+
+  over-by : (r : ℕ) (o : Option Served) → request_of n r s.servers ≡ o → NoneQueued (Reply n r) s.queued
+  over-by r None e = standing n r e
+  over-by r (Some q) e = slot-clean r q (sym (ap (λ o. request_on r o) a.found) ∙ e)
+
+  -- no reply of it is queued
+  pub over-unqueued : (r : ℕ) → NoneQueued (Reply n r) s.queued
+  over-unqueued r = over-by r (request_of n r s.servers) refl
+
+  ended-by : (t r : ℕ) (b : Bool) → (n == t) ≡ b → request_of t r (without_first (is_server n) s.servers) ≡ None → NoneQueued (Reply t r) s.queued
+  ended-by t r true e none = let same : n ≡ t = eqb-true n t e in rw (← same) (over-unqueued r)
+  ended-by t r false e none =
+      let others = skip-found (is_server n) (is_server t) s.servers (λ v h. off-number v.way.number n t e h) in
+      standing t r (sym (ap (λ o. request_on r o) others) ∙ none)
+
+  ended-stands : (t r : ℕ) → request_of t r (without_first (is_server n) s.servers) ≡ None → NoneQueued (Reply t r) s.queued
+  ended-stands t r none = ended-by t r (n == t) refl none
+
+pub standing-after : (e : Event) (due : Option ℕ) (answer body : List ℕ) (s : Lists) → Valid s → Standing s.servers s.queued → Allowed s e → Standing (servers_after e answer (front_header s.ring) body s.servers) (queued_after e due s.queued)
+standing-after (PairedServer n peer c credits) due answer body s v h a t r none =
     h t r (sym (look-made t r n peer c credits s.servers) ∙ none)
-standing-after (Took (Reply n k) i) answer body s v h a t r none =
+standing-after (Accepted n peer c credits) due answer body s v h a t r none =
+    h t r (sym (look-made t r n peer c credits s.servers) ∙ none)
+standing-after (Ended n) due answer body s v h a t r none = ended-stands s v h n a t r none
+standing-after (Took (Reply n k) i) due answer body s v h a t r none =
     let own : request_of t r (taken s v n k a body) ≡ None = rw a.front at none in took-stands s v h n k a body t r own
-standing-after (Given n k) answer body s v h a t r none = h t r (changed-none t r given (λ q. refl) s.servers n k none)
-standing-after (Ran n k y) answer body s v h a t r none =
+standing-after (Given n k) due answer body s v h a t r none = h t r (changed-none t r given (λ q. refl) s.servers n k none)
+standing-after (Ran n k y) due answer body s v h a t r none =
     h t r (changed-none t r (answered answer) (λ q. refl) s.servers n k none)
-standing-after (Posted (Ask n k) i) answer body s v h a t r none =
-    none-pushed (Reply t r) s.queued (record { owner = Ask n k; number = i }) refl (h t r none)
-standing-after (Posted (Reply n k) i) answer body s v h a t r none =
-    posted-by t r n k i s.servers s.queued (n == t && k == r) refl a none (h t r none)
-standing-after (Posted Control i) answer body s v h a t r none =
-    none-pushed (Reply t r) s.queued (record { owner = Control; number = i }) refl (h t r none)
-standing-after (Sent peer owner i) answer body s v h a t r none =
+standing-after (Posted (Ask n k) i) due answer body s v h a t r none =
+    none-put (Reply t r) s.queued (record { owner = Ask n k; number = i; due = due }) refl (h t r none)
+standing-after (Posted (Reply n k) i) due answer body s v h a t r none =
+    posted-by t r n k i due s.servers s.queued (n == t && k == r) refl a none (h t r none)
+standing-after (Posted Control i) due answer body s v h a t r none =
+    none-put (Reply t r) s.queued (record { owner = Control; number = i; due = due }) refl (h t r none)
+standing-after (Sent peer owner i) due answer body s v h a t r none =
     none-out (Reply t r) (is_queued owner i) s.queued (h t r none)
-standing-after (Flushed owner i) answer body s v h a t r none =
+standing-after (Flushed owner i) due answer body s v h a t r none =
     none-out (Reply t r) (is_queued owner i) s.queued (h t r none)
-standing-after _ answer body s v h a t r none = h t r none
+standing-after (Polled now) due answer body s v h a t r none = none-ready (Reply t r) now s.queued (h t r none)
+standing-after _ due answer body s v h a t r none = h t r none

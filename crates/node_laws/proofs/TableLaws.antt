@@ -4,6 +4,7 @@ use Rattle.std.specs.Prelude.{count_by, slice_get, sum_by, is_none}
 use Rattle.std.specs.List.{find, list_any}
 use Rattle.std.proofs.lemmas.Bool.{eq-eqb}
 use Rattle.rpc_base.specs.declared.fact.Fact.{Fact}
+use Rattle.rpc_base.specs.declared.limits.Limits.{Limits}
 use Rattle.rpc_laws.specs.declared.tables.Call.{Call}
 use Rattle.rpc_laws.specs.declared.tables.Client.{Client}
 use Rattle.rpc_laws.specs.declared.tables.Lists.{Lists}
@@ -27,7 +28,7 @@ use Rattle.node_laws.proofs.TableLemmas.{found-le, any-counted, none-counted}
 use Rattle.node_laws.proofs.TakenLemmas.{none-taken-after}
 use Rattle.node_laws.proofs.ToldLemmas.{NoneTaken, told-after}
 use Rattle.node_laws.proofs.TellLemmas.{count-new, ToldProgress, ToldCall, Told}
-use Rattle.node_laws.proofs.Valid.{client_no, holders, to_come}
+use Rattle.node_laws.specs.Valid.{client_no, holders, to_come}
 
 -- what is told at a moment
 record Tells (past : List Fact) (s : Lists) : Type 0 where
@@ -66,9 +67,9 @@ one-come : (b : Bool) → 0 + cond b 1 0 ≤ 1
 one-come true = omega arith
 one-come false = omega arith
 
-tells-new : (me ring : ℕ) → Tells [] (new_lists me ring)
-tells-new me ring = record {
-  knows = knows-new me ring;
+tells-new : (me : ℕ) (limits : Limits) → Tells [] (new_lists me limits)
+tells-new me limits = record {
+  knows = knows-new me limits;
   fresh = record { taken = λ n r. inl refl };
   told = λ c n. tt;
   listed = λ c. refl;
@@ -143,4 +144,4 @@ at-end past s [] t k l = rw l (tells-table past s k)
 at-end past s (f ∷ g) t k l = at-end (f ∷ past) (after l.0 s f) g t (tells-after l.0 past s f k l.1) l.2
 
 pub table_tells : TablesTellTheHistory
-table_tells me ring timeout g t r = at-end [] (new_lists me ring) g t.lists (tells-new me ring) (run_leads r)
+table_tells p me limits g t r = at-end [] (new_lists me limits) g t.lists (tells-new me limits) (run_leads r)

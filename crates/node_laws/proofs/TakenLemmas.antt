@@ -3,25 +3,29 @@ use Rattle.std.proofs.Common.{◌≡◌, ℕ, ◌/◌, ◌%◌, ◌≤◌, Bool,
 use Rattle.std.specs.Prelude.{◌==◌, ◌⊎◌, count_by, slice_index}
 use Rattle.std.specs.List.{AllByRecursion, find}
 use Rattle.std.proofs.lemmas.Bool.{eqb-true, eq-eqb, and_parts}
+use Rattle.packet_header.specs.declared.packet.ControlHeader.{ControlHeader}
 use Rattle.packet_header.specs.declared.packet.MessageHeader.{MessageHeader}
 use Rattle.rpc_base.specs.Tables.{at_first}
 use Rattle.rpc_base.specs.declared.event.Event.{Event}
-use Rattle.rpc_base.specs.declared.event.Event.TheVariants.{PairedClient, Asked, Begun, Posted, Sent, Took, Rolled, Broken, DoneOk, DoneTooSmall, DonePeerLost}
+use Rattle.rpc_base.specs.declared.event.Event.TheVariants.{PairedClient, Opened, Connected as IsConnected, FailedNoRoom, FailedNoAnswer, Closing as BeginsClosing, ClosedHeard, ClosedUnheard, Asked, Begun, Posted, Sent, Took, Rolled, Broken, DoneOk, DoneTooSmall, DonePeerLost}
 use Rattle.rpc_base.specs.declared.fact.Fact.{Fact}
-use Rattle.rpc_base.specs.declared.owner.Owner.TheVariants.{Ask}
+use Rattle.rpc_base.specs.declared.owner.Owner.TheVariants.{Ask, Control}
+use Rattle.rpc_base.specs.declared.state.SessionState.TheVariants.{Closing, Closed, Failed}
 use Rattle.rpc_laws.specs.declared.tables.Client.{Client}
 use Rattle.rpc_laws.specs.declared.tables.Lists.{Lists}
 use Rattle.rpc_laws.specs.Calls.{has_request, is_active}
-use Rattle.rpc_laws.specs.Front.{front_header, front_body}
+use Rattle.rpc_laws.specs.Front.{control_of, front_header, front_body}
 use Rattle.rpc_laws.specs.NodeLists.{after}
-use Rattle.rpc_laws.specs.Sessions.{is_client, has_call, client_end, no_turns, asks, begins, posts, sends, takes, rolls, breaks, ends, clients_after}
+use Rattle.rpc_laws.specs.Sessions.{is_client, has_call, client_end, opened_end, comes_to, connects, requests, clients_told, no_turns, asks, begins, posts, sends, takes, rolls, breaks, ends, clients_after}
 use Rattle.node_laws.specs.CallHistory.{takes_of}
+use Rattle.node_laws.specs.Valid.{EightTurns}
 use Rattle.node_laws.proofs.Allowed.{Allowed, MayTake}
 use Rattle.node_laws.proofs.FindLemmas.{changed-le}
-use Rattle.node_laws.proofs.OpenLemmas.{EightTurns, future-le, open_of, open_for}
+use Rattle.node_laws.proofs.OpenLemmas.{future-le, open_of, open_for}
 use Rattle.node_laws.proofs.TableLemmas.{found-holds, some-counted}
 use Rattle.node_laws.proofs.ToldLemmas.{future_of, future_for, NoneTaken}
 use Rattle.node_laws.proofs.TellLemmas.{count-new}
+use Rattle.node_laws.proofs.ToldSame.{told-same}
 
 module _ (n r : ℕ) where
   made-by : (b : Bool) (x : Client) (o p : Option Client) → future_of r p ≤ future_of r o → future_of r (cond b (Some x) p) ≤ future_of r (cond b (Some x) o)
@@ -36,18 +40,39 @@ module _ (n r : ℕ) where
   one-future true = omega arith
   one-future false = omega arith
 
-  made-le : (s peer t credits : ℕ) (xs : List Client) → future_for n r (xs ++ client_end s peer t credits ∷ []) ≤ future_for n r xs
-  made-le s peer t credits [] =
-      new-by (s == n) (client_end s peer t credits) (one-future (ltb (r / 8) (slice_index no_turns (r % 8))))
-  made-le s peer t credits (x ∷ xs) =
-      made-by (is_client n x) x (find (is_client n) xs) (find (is_client n) (xs ++ client_end s peer t credits ∷ [])) (made-le s peer t credits xs)
+  -- one more session, in which no request began
+  pushed-le : (y : Client) (xs : List Client) → future_of r (Some y) ≤ 1 → future_for n r (xs ++ y ∷ []) ≤ future_for n r xs
+  pushed-le y [] h = new-by (is_client n y) y h
+  pushed-le y (x ∷ xs) h =
+      made-by (is_client n x) x (find (is_client n) xs) (find (is_client n) (xs ++ y ∷ [])) (pushed-le y xs h)
 
-  kept : (p : Client → Bool) (f : Client → Client) → ((x : Client) → (f x).way ≡ x.way) → ((x : Client) → (f x).turns ≡ x.turns) → (xs : List Client) → future_for n r (at_first p f xs) ≤ future_for n r xs
-  kept p f way turns xs =
-      changed-le (future_of r) p f (is_client n) (λ x. rw (way x) refl) xs (λ x _. rw (turns x) (omega arith))
+  kept : (p : Client → Bool) (f : Client → Client) → ((x : Client) → (f x).way.number ≡ x.way.number) → ((x : Client) → (f x).turns ≡ x.turns) → (xs : List Client) → future_for n r (at_first p f xs) ≤ future_for n r xs
+  kept p f number turns xs =
+      changed-le (future_of r) p f (is_client n) (λ x. rw (number x) refl) xs (λ x _. rw (turns x) (omega arith))
+
+  told-le : (clock : ℕ) (o : Option ControlHeader) (xs : List Client) → future_for n r (clients_told clock o xs) ≤ future_for n r xs
+  told-le clock None xs = omega arith
+  told-le clock (Some h) xs =
+      kept (is_client h.client) (requests clock h) (λ x. told-same (λ y. y.way.number) clock h x refl) (λ x. told-same (λ y. y.turns) clock h x refl) xs
 
   future-after : (clock : ℕ) (e : Event) (bytes : List ℕ) (head : Option MessageHeader) (body : List ℕ) (xs : List Client) → AllByRecursion EightTurns xs → future_for n r (clients_after clock e bytes head body xs) ≤ future_for n r xs
-  future-after clock (PairedClient s peer t credits) bytes head body xs h = made-le s peer t credits xs
+  future-after clock (PairedClient s peer t credits) bytes head body xs h =
+      pushed-le (client_end s peer t credits) xs (one-future (ltb (r / 8) (slice_index no_turns (r % 8))))
+  future-after clock (Opened s peer credits) bytes head body xs h =
+      pushed-le (opened_end s peer credits) xs (one-future (ltb (r / 8) (slice_index no_turns (r % 8))))
+  future-after clock (FailedNoRoom m) bytes head body xs h =
+      kept (is_client m) (comes_to Failed) (λ x. refl) (λ x. refl) xs
+  future-after clock (FailedNoAnswer m) bytes head body xs h =
+      kept (is_client m) (comes_to Failed) (λ x. refl) (λ x. refl) xs
+  future-after clock (BeginsClosing m) bytes head body xs h =
+      kept (is_client m) (comes_to Closing) (λ x. refl) (λ x. refl) xs
+  future-after clock (ClosedHeard m) bytes head body xs h =
+      kept (is_client m) (comes_to Closed) (λ x. refl) (λ x. refl) xs
+  future-after clock (ClosedUnheard m) bytes head body xs h =
+      kept (is_client m) (comes_to Closed) (λ x. refl) (λ x. refl) xs
+  future-after clock (IsConnected m t) bytes head body xs h =
+      kept (is_client m) (connects t) (λ x. refl) (λ x. refl) xs
+  future-after clock (Sent peer Control k) bytes head body xs h = told-le clock (control_of bytes) xs
   future-after clock (Asked c m y room) bytes head body xs h =
       kept (is_client m) (asks (record { number = c; req_type = y; room = room; ask = bytes })) (λ x. refl) (λ x. refl) xs
   future-after clock (Begun c new) bytes head body xs h =

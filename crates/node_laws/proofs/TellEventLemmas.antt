@@ -3,6 +3,7 @@ use Rattle.std.proofs.Common.{◌≡◌, ℕ, ◌+◌, ◌≤◌, Bool, true, fa
 use Rattle.std.specs.Prelude.{◌==◌, ◌⊎◌, count_by, option_map}
 use Rattle.std.specs.List.{find, list_any}
 use Rattle.std.proofs.lemmas.Bool.{eqb-true, eq-eqb, and_from, or_left}
+use Rattle.packet_header.specs.declared.packet.ControlHeader.{ControlHeader}
 use Rattle.rpc_base.specs.Tables.{at_first, without_first}
 use Rattle.rpc_base.specs.declared.event.Event.{Event}
 use Rattle.rpc_base.specs.declared.event.Event.TheVariants.{Begun, Posted, Took, Rolled}
@@ -13,14 +14,15 @@ use Rattle.rpc_laws.specs.declared.tables.Call.{Call}
 use Rattle.rpc_laws.specs.declared.tables.Client.{Client}
 use Rattle.rpc_laws.specs.declared.tables.Progress.{Progress}
 use Rattle.rpc_laws.specs.Calls.{is_call, is_active, moved, sent_packet}
-use Rattle.rpc_laws.specs.Sessions.{is_client, has_call, client_end, sends, breaks, ends}
+use Rattle.rpc_laws.specs.Sessions.{is_client, has_call, client_end, opened_end, requests, clients_told, sends, ends}
 use Rattle.node_laws.specs.CallHistory.{takes_of, posted_by, rolls_by, TellsActive}
 use Rattle.node_laws.specs.EndedCalls.{asks_on, begins_as}
 use Rattle.node_laws.proofs.FindLemmas.{changed-holds, push-kept, push-found, push-other, skip-found, count-out, none-found}
 use Rattle.node_laws.proofs.SoundLemmas.{both-at, sent-request, sent-got, sent-posted}
 use Rattle.node_laws.proofs.TableLemmas.{found-le}
 use Rattle.node_laws.proofs.TellLemmas.{count-new, ToldProgress, ToldCall, Told}
-use Rattle.node_laws.proofs.Valid.{holders}
+use Rattle.node_laws.proofs.ToldSame.{told-same}
+use Rattle.node_laws.specs.Valid.{holders}
 
 -- a fact, by its parts
 abbrev pub noted : Who → Event → List ℕ → List ℕ → Fact
@@ -123,8 +125,15 @@ module _ (now : List Fact) (c n : ℕ) (xs : List Client) where
   told-sent clock session r k t =
       changed-holds (Told now c n) (is_client session) (sends clock r k) (is_client n) (λ x. refl) xs (λ x e own told. changed-holds (ToldCall now c n) (is_active r) (moved (sent_packet clock k)) (is_call c) (λ d. refl) x.calls (λ d g mine call. (call.0, sent-told now c n clock k d.progress call.1)) told) t
 
-  pub told-broken : (session : ℕ) → Told now c n (find (is_client n) xs) → Told now c n (find (is_client n) (at_first (is_client session) breaks xs))
-  told-broken session t = changed-holds (Told now c n) (is_client session) breaks (is_client n) (λ x. refl) xs (λ x e own told. told) t
+  -- a session whose calls stay
+  pub told-kept : (p : Client → Bool) (f : Client → Client) → ((x : Client) → (f x).way.number ≡ x.way.number) → ((x : Client) → (f x).calls ≡ x.calls) → Told now c n (find (is_client n) xs) → Told now c n (find (is_client n) (at_first p f xs))
+  told-kept p f number calls t =
+      changed-holds (Told now c n) p f (is_client n) (λ x. rw (number x) refl) xs (λ x e own told. rw (calls x) told) t
+
+  pub told-requests : (clock : ℕ) (o : Option ControlHeader) → Told now c n (find (is_client n) xs) → Told now c n (find (is_client n) (clients_told clock o xs))
+  told-requests clock None t = t
+  told-requests clock (Some h) t =
+      told-kept (is_client h.client) (requests clock h) (λ x. told-same (λ y. y.way.number) clock h x refl) (λ x. told-same (λ y. y.calls) clock h x refl) t
 
   made-by : (o p : Option Client) (y : Client) → y.calls ≡ [] → ((x : Client) → o ≡ Some x → p ≡ Some x) → (o ≡ None → (p ≡ Some y) ⊎ (p ≡ None)) → Told now c n o → Told now c n p
   made-by None p y e h g t = by (g refl)
@@ -141,6 +150,10 @@ module _ (now : List Fact) (c n : ℕ) (xs : List Client) where
   pub told-made : (s peer i credits : ℕ) → Told now c n (find (is_client n) xs) → Told now c n (find (is_client n) (xs ++ client_end s peer i credits ∷ []))
   told-made s peer i credits t =
       made-by (find (is_client n) xs) (find (is_client n) (xs ++ client_end s peer i credits ∷ [])) (client_end s peer i credits) refl (λ x e. push-kept (is_client n) xs x (client_end s peer i credits) e) (made-none (client_end s peer i credits) (is_client n (client_end s peer i credits)) refl) t
+
+  pub told-opened : (s peer credits : ℕ) → Told now c n (find (is_client n) xs) → Told now c n (find (is_client n) (xs ++ opened_end s peer credits ∷ []))
+  told-opened s peer credits t =
+      made-by (find (is_client n) xs) (find (is_client n) (xs ++ opened_end s peer credits ∷ [])) (opened_end s peer credits) refl (λ x e. push-kept (is_client n) xs x (opened_end s peer credits) e) (made-none (opened_end s peer credits) (is_client n (opened_end s peer credits)) refl) t
 
   -- a call that ends is in the table no more
   left-by : (i : ℕ) (calls : List Call) (b : Bool) → (i == c) ≡ b → count_by (is_call c) calls ≤ 1 → ToldCall now c n (find (is_call c) calls) → ToldCall now c n (find (is_call c) (without_first (is_call i) calls))

@@ -21,7 +21,8 @@ use Rattle.node_laws.proofs.FindLemmas.{this-changed}
 use Rattle.node_laws.proofs.NumberLemmas.{by_number}
 use Rattle.node_laws.proofs.SoundLemmas.{by_request}
 use Rattle.node_laws.proofs.TableLemmas.{found-holds, found-passes, found-changed}
-use Rattle.node_laws.proofs.Valid.{Sound, Valid, Place}
+use Rattle.node_laws.proofs.Places.{Place}
+use Rattle.node_laws.specs.Valid.{Sound, Valid}
 use Rattle.node_laws.proofs.WindowLemmas.{same-found}
 
 -- whether a fact concerns call c of session n, with request r

@@ -1,11 +1,18 @@
 -- The timer rule notes only what is allowed.
-use Rattle.std.proofs.Common.{◌≡◌, ℕ, false, Option, Some, None, List, [], ◌∷◌, refl, sym, subst}
+use Rattle.std.proofs.Common.{◌≡◌, ℕ, Bool, true, false, Option, Some, None, List, [], ◌∷◌, refl, sym, subst}
 use Rattle.std.specs.Prelude.{flat_map, length, map, slice_get}
 use Rattle.std.specs.List.{AllByRecursion, find}
 use Rattle.std.proofs.lemmas.Bool.{eq-eqb, eqb-true}
 use Rattle.rpc_base.specs.Tables.{without_first}
 use Rattle.rpc_base.specs.declared.event.Event.TheVariants.{Rolled, Broken, DonePeerLost}
 use Rattle.rpc_base.specs.declared.owner.Owner.TheVariants.{Ask}
+use Rattle.packet_header.specs.declared.packet.ControlHeader.{ControlHeader}
+use Rattle.rpc_base.specs.declared.state.SessionState.{SessionState}
+use Rattle.rpc_base.specs.declared.state.SessionState.TheVariants.{Unknown, Connecting, Connected, Closing, Closed, Failed, Broken as IsBroken, Spent}
+use Rattle.rpc_base.specs.declared.fact.Fact.{Fact}
+use Rattle.rpc_laws.specs.declared.rows.RetryRow.{RetryRow}
+use Rattle.rpc_laws.specs.declared.rows.RetryRow.TheVariants.{Rests, Asks, GivesUp}
+use Rattle.rpc_laws.specs.ControlSteps.{control_fact, Speaks, given_up, own_request, retry_row, RetriesBy, RetriesAs, RetriesOf, Retries, TimesSession, TimesAll}
 use Rattle.rpc_laws.specs.declared.rows.TimerRow.{TimerRow}
 use Rattle.rpc_laws.specs.declared.rows.TimerRow.TheVariants.{Waits, RollsBack, Breaks}
 use Rattle.rpc_laws.specs.declared.tables.Call.{Call}
@@ -15,17 +22,18 @@ use Rattle.rpc_laws.specs.declared.tables.Progress.{Progress}
 use Rattle.rpc_laws.specs.declared.tables.Queued.{Queued}
 use Rattle.rpc_laws.specs.Calls.{is_call}
 use Rattle.rpc_laws.specs.Facts.{plain}
-use Rattle.rpc_laws.specs.GoBackN.{flushes_of, roll_facts, break_facts, row_facts, row_of, progress_facts, call_facts, client_facts, Watches, WatchesSession, WatchesAll, numbers_in}
+use Rattle.rpc_laws.specs.GoBackN.{flushes_of, roll_facts, break_facts, row_facts, row_of, progress_facts, call_facts, client_facts, Watches, WatchesSession, numbers_in}
 use Rattle.rpc_laws.specs.NodeLists.{after, after_all}
 use Rattle.rpc_laws.specs.Queues.{flush_facts}
-use Rattle.rpc_laws.specs.Sessions.{is_client, has_call, is_connected, breaks, ends}
-use Rattle.node_laws.proofs.Allowed.{NoneQueued, MayRoll, MayLose, AllAllowed}
-use Rattle.node_laws.proofs.FlushLemmas.{NoneOf, flushes-owner, calls-flushed, no-more-same}
-use Rattle.node_laws.proofs.LeadsLemmas.{valid_after_all, allowed-join, Lawful, lawful-goes, lawful-visits, lawful-each}
+use Rattle.rpc_laws.specs.Sessions.{is_client, has_call, is_live, breaks, ends}
+use Rattle.node_laws.proofs.Allowed.{NoneQueued, NoneOf, MayRoll, MayBreak, MayLose, IsIn, AllAllowed}
+use Rattle.node_laws.proofs.FlushLemmas.{flushes-owner, calls-flushed, no-more-same}
+use Rattle.node_laws.proofs.LeadsLemmas.{valid_after_all, allowed-join, Lawful, lawful-goes, lawful-then, lawful-visits, lawful-each}
 use Rattle.node_laws.proofs.NumberLemmas.{numbered-found, by_number}
 use Rattle.node_laws.proofs.QueueLemmas.{flushed-none}
 use Rattle.node_laws.proofs.TableLemmas.{found-changed, found-passes}
-use Rattle.node_laws.proofs.Valid.{client_no, Valid, Place}
+use Rattle.node_laws.proofs.Places.{Place}
+use Rattle.node_laws.specs.Valid.{client_no, Valid}
 use Rattle.node_laws.proofs.ValidLemmas.{valid_after}
 
 -- a call of a session that broke, and what its calls leave when they end
@@ -38,7 +46,7 @@ rest-left number c cs calls same e = rw (e, same, eq-eqb c.what.number c.what.nu
 none-of : (n : ℕ) (o : Option Progress) (queued : List Queued) → NoneOf n o queued → (p : Progress) → o ≡ Some p → NoneQueued (Ask n p.request) queued
 none-of n o queued none p e = rw e at none
 
-lost-allowed : (clock : ℕ) (s : Lists) (me n : ℕ) (y : Client) (cs : List Call) → Valid s → find (is_client n) s.clients ≡ Some y → y.calls ≡ cs → is_connected y.state ≡ false → AllByRecursion (λ c. NoneOf n c.progress s.queued) cs → AllAllowed clock s (map (λ c. plain me (DonePeerLost c.what.number)) cs)
+lost-allowed : (clock : ℕ) (s : Lists) (me n : ℕ) (y : Client) (cs : List Call) → Valid s → find (is_client n) s.clients ≡ Some y → y.calls ≡ cs → is_live y.state ≡ false → AllByRecursion (λ c. NoneOf n c.progress s.queued) cs → AllAllowed clock s (map (λ c. plain me (DonePeerLost c.what.number)) cs)
 lost-allowed clock s me n y [] v found e broken clean = tt
 lost-allowed clock s me n y (c ∷ cs) v found e broken clean =
     let number = c.what.number in
@@ -82,10 +90,11 @@ module _ (clock : ℕ) (s : Lists) (v : Valid s) (x : Client) (found : find (is_
       let flushed = record s { queued = all.flushes.queue } in
       let sound : Valid (after_all clock s flushing) = valid_after_all clock s flushing v all.flushes.allowed in
       let valid : Valid flushed = rw all.flushes.same at sound in
+      let may : MayBreak flushed n = record { client = x; found = found; clean = all.clean } in
       let broken = after clock flushed (plain s.me (Broken n)) in
       let kept : find (is_client n) broken.clients ≡ Some (breaks x) = found-changed (is_client n) breaks (is_client n) x s.clients (found-passes (is_client n) s.clients x found) found found in
-      let lost : AllAllowed clock broken losing = lost-allowed clock broken s.me n (breaks x) x.calls (valid_after clock flushed (plain s.me (Broken n)) valid tt) kept refl refl all.clean in
-      let rest : AllAllowed clock (after_all clock s flushing) (plain s.me (Broken n) ∷ losing) = rw all.flushes.same (tt, lost) in
+      let lost : AllAllowed clock broken losing = lost-allowed clock broken s.me n (breaks x) x.calls (valid_after clock flushed (plain s.me (Broken n)) valid may) kept refl refl all.clean in
+      let rest : AllAllowed clock (after_all clock s flushing) (plain s.me (Broken n) ∷ losing) = rw all.flushes.same (may, lost) in
       allowed-join clock s flushing (plain s.me (Broken n) ∷ losing) all.flushes.allowed rest
 
   row-allowed : (row : TimerRow) → AllAllowed clock s (row_facts s.me s.queued x c.what.number p row)
@@ -119,6 +128,46 @@ session-lawful : (timeout i : ℕ) → Lawful (WatchesSession timeout i)
 session-lawful timeout i s x t v h =
     lawful-each (Watches timeout i) (watches-lawful timeout i) (numbers_in (slice_get s.lists.clients i)) s x t v h
 
-pub timers-lawful : (timeout : ℕ) → Lawful (WatchesAll timeout)
-timers-lawful timeout s x t v h =
-    lawful-visits (WatchesSession timeout) (session-lawful timeout) (length s.lists.clients) s x t v h
+-- a packet of session control is sent
+said-allowed : (clock : ℕ) (s : Lists) (me peer : ℕ) (head : List ℕ) (b : Bool) → AllAllowed clock s (control_fact b me peer head ∷ [])
+said-allowed clock s me peer head true = (tt, tt)
+said-allowed clock s me peer head false = (tt, tt)
+
+pub speaks-allowed : (clock : ℕ) (s : Lists) (me peer : ℕ) (h : ControlHeader) (x : List Fact) → Speaks me peer h x → AllAllowed clock s x
+speaks-allowed clock s me peer h x k = rw k.facts (said-allowed clock s me peer k.head k.taken)
+
+-- a session's own request is sent, or the session gives up
+module _ (clock : ℕ) (s : Lists) (me : ℕ) (x : Client) (found : find (is_client x.way.number) s.clients ≡ Some x) where
+  given-up-allowed : (state : SessionState) → x.state ≡ state → AllAllowed clock s (map (plain me) (given_up state x.way.number))
+  given-up-allowed Unknown e = tt
+  given-up-allowed Connecting e =
+      let may : IsIn s Connecting x.way.number = record { client = x; found = found; stands = e } in (may, tt)
+  given-up-allowed Connected e = tt
+  given-up-allowed Closing e =
+      let may : IsIn s Closing x.way.number = record { client = x; found = found; stands = e } in (may, tt)
+  given-up-allowed Closed e = tt
+  given-up-allowed Failed e = tt
+  given-up-allowed IsBroken e = tt
+  given-up-allowed Spent e = tt
+
+  retry-allowed : (h : ControlHeader) (row : RetryRow) (facts : List Fact) → RetriesBy row me x h facts → AllAllowed clock s facts
+  retry-allowed h Rests facts k = rw k tt
+  retry-allowed h Asks facts k = speaks-allowed clock s me x.way.peer h facts k
+  retry-allowed h GivesUp facts k = rw k (given-up-allowed x.state refl)
+
+  retries-as : (timeout : ℕ) (o : Option ControlHeader) (facts : List Fact) → RetriesAs o clock timeout me x facts → AllAllowed clock s facts
+  retries-as timeout None facts k = rw k tt
+  retries-as timeout (Some h) facts k = retry-allowed h (retry_row clock timeout x.sends x.sent_at) facts k
+
+retries-of : (clock timeout i : ℕ) (s : Lists) (me : ℕ) → Valid s → (o : Option Client) → slice_get s.clients i ≡ o → (facts : List Fact) → RetriesOf clock timeout me o facts → AllAllowed clock s facts
+retries-of clock timeout i s me v None at facts k = rw k tt
+retries-of clock timeout i s me v (Some x) at facts k =
+    retries-as clock s me x (numbered-found client_no 0 i s.clients x v.numbered at) timeout (own_request x) facts k
+
+retries-lawful : (timeout i : ℕ) → Lawful (Retries timeout i)
+retries-lawful timeout i s x t v h =
+    lawful-goes s x t h.goes (retries-of s.clock timeout i s.lists s.lists.me v (slice_get s.lists.clients i) refl x h.facts)
+
+pub timers-lawful : Lawful TimesAll
+timers-lawful s x t v h =
+    lawful-visits (TimesSession s.lists.timeout) (λ i. lawful-then (Retries s.lists.timeout i) (WatchesSession s.lists.timeout i) (retries-lawful s.lists.timeout i) (session-lawful s.lists.timeout i)) (length s.lists.clients) s x t v h

@@ -6,15 +6,16 @@ use Rattle.std.proofs.lemmas.Bool.{eqb-true, eq-eqb, and_from, le-ltb}
 use Rattle.std.proofs.lemmas.Bool.Decides.{nat_tests}
 use Rattle.rpc_base.specs.Tables.{at_first}
 use Rattle.rpc_base.specs.declared.event.Event.{Event}
-use Rattle.rpc_base.specs.declared.event.Event.TheVariants.{PairedClient, Asked, Begun, Posted, Sent, Took, Rolled, Broken, DoneOk, DoneTooSmall, DonePeerLost}
+use Rattle.rpc_base.specs.declared.event.Event.TheVariants.{PairedClient, Opened, Connected as IsConnected, FailedNoRoom, FailedNoAnswer, Closing as BeginsClosing, ClosedHeard, ClosedUnheard, Asked, Begun, Posted, Sent, Took, Rolled, Broken, DoneOk, DoneTooSmall, DonePeerLost}
 use Rattle.rpc_base.specs.declared.fact.Fact.{Fact}
 use Rattle.rpc_base.specs.declared.fact.Who.{Who}
-use Rattle.rpc_base.specs.declared.owner.Owner.TheVariants.{Ask}
+use Rattle.rpc_base.specs.declared.owner.Owner.TheVariants.{Ask, Control}
+use Rattle.rpc_base.specs.declared.state.SessionState.TheVariants.{Closing, Closed, Failed}
 use Rattle.rpc_laws.specs.declared.tables.Client.{Client}
 use Rattle.rpc_laws.specs.declared.tables.Lists.{Lists}
 use Rattle.rpc_laws.specs.Calls.{is_call, is_active, moved, begun, posted_up_to, rolled_back, took_reply}
-use Rattle.rpc_laws.specs.Front.{front_header, front_body}
-use Rattle.rpc_laws.specs.Sessions.{is_client, has_call, asks, begins, posts, takes, rolls, clients_after}
+use Rattle.rpc_laws.specs.Front.{control_of, front_header, front_body}
+use Rattle.rpc_laws.specs.Sessions.{is_client, has_call, comes_to, connects, asks, begins, posts, takes, rolls, breaks, clients_after}
 use Rattle.node_laws.specs.CallHistory.{takes_of}
 use Rattle.node_laws.proofs.Allowed.{Allowed, MayAsk, MayBegin, MayPost, MayTake, MayRoll}
 use Rattle.node_laws.proofs.FindLemmas.{changed-holds, none-found}
@@ -22,9 +23,9 @@ use Rattle.node_laws.proofs.NumberLemmas.{by_number}
 use Rattle.node_laws.proofs.OpenLemmas.{future}
 use Rattle.node_laws.proofs.SoundLemmas.{by_request, took-request, reply-got, reply-posted}
 use Rattle.node_laws.proofs.TableLemmas.{found-holds, found-passes, found-le}
-use Rattle.node_laws.proofs.TellEventLemmas.{noted, own-moved, took-active, posted-active, rolled-active, begun-active, told-sent, told-broken, told-made, told-ended, asked-by}
+use Rattle.node_laws.proofs.TellEventLemmas.{noted, own-moved, took-active, posted-active, rolled-active, begun-active, told-sent, told-kept, told-requests, told-made, told-opened, told-ended, asked-by}
 use Rattle.node_laws.proofs.TellLemmas.{Told, told-stays, Focus, focus-of, focus-told, other-request, other-number}
-use Rattle.node_laws.proofs.Valid.{Sound, holders, Valid}
+use Rattle.node_laws.specs.Valid.{Sound, holders, Valid}
 
 -- how often a request may still begin, of a session that is there or may come
 abbrev pub future_of : ℕ → Option Client → ℕ
@@ -127,6 +128,22 @@ module _ (who : Who) (bytes second : List ℕ) (past : List Fact) (s : Lists) (v
 pub told-after : (clock : ℕ) (who : Who) (e : Event) (bytes second : List ℕ) (past : List Fact) (s : Lists) → Valid s → NoneTaken past s → Allowed s e → (c n : ℕ) → Told past c n (find (is_client n) s.clients) → Told (noted who e bytes second ∷ past) c n (find (is_client n) (clients_after clock e bytes (front_header s.ring) (front_body s.ring) s.clients))
 told-after clock who (PairedClient i peer t credits) bytes second past s v k a c n told =
     told-made (noted who (PairedClient i peer t credits) bytes second ∷ past) c n s.clients i peer t credits (told-stays past (noted who (PairedClient i peer t credits) bytes second) c n (find (is_client n) s.clients) (λ x d p e g h. refl) told)
+told-after clock who (Opened i peer credits) bytes second past s v k a c n told =
+    told-opened (noted who (Opened i peer credits) bytes second ∷ past) c n s.clients i peer credits (told-stays past (noted who (Opened i peer credits) bytes second) c n (find (is_client n) s.clients) (λ x d p e g h. refl) told)
+told-after clock who (FailedNoRoom m) bytes second past s v k a c n told =
+    told-kept (noted who (FailedNoRoom m) bytes second ∷ past) c n s.clients (is_client m) (comes_to Failed) (λ x. refl) (λ x. refl) (told-stays past (noted who (FailedNoRoom m) bytes second) c n (find (is_client n) s.clients) (λ x d p e g h. refl) told)
+told-after clock who (FailedNoAnswer m) bytes second past s v k a c n told =
+    told-kept (noted who (FailedNoAnswer m) bytes second ∷ past) c n s.clients (is_client m) (comes_to Failed) (λ x. refl) (λ x. refl) (told-stays past (noted who (FailedNoAnswer m) bytes second) c n (find (is_client n) s.clients) (λ x d p e g h. refl) told)
+told-after clock who (BeginsClosing m) bytes second past s v k a c n told =
+    told-kept (noted who (BeginsClosing m) bytes second ∷ past) c n s.clients (is_client m) (comes_to Closing) (λ x. refl) (λ x. refl) (told-stays past (noted who (BeginsClosing m) bytes second) c n (find (is_client n) s.clients) (λ x d p e g h. refl) told)
+told-after clock who (ClosedHeard m) bytes second past s v k a c n told =
+    told-kept (noted who (ClosedHeard m) bytes second ∷ past) c n s.clients (is_client m) (comes_to Closed) (λ x. refl) (λ x. refl) (told-stays past (noted who (ClosedHeard m) bytes second) c n (find (is_client n) s.clients) (λ x d p e g h. refl) told)
+told-after clock who (ClosedUnheard m) bytes second past s v k a c n told =
+    told-kept (noted who (ClosedUnheard m) bytes second ∷ past) c n s.clients (is_client m) (comes_to Closed) (λ x. refl) (λ x. refl) (told-stays past (noted who (ClosedUnheard m) bytes second) c n (find (is_client n) s.clients) (λ x d p e g h. refl) told)
+told-after clock who (IsConnected m t) bytes second past s v k a c n told =
+    told-kept (noted who (IsConnected m t) bytes second ∷ past) c n s.clients (is_client m) (connects t) (λ x. refl) (λ x. refl) (told-stays past (noted who (IsConnected m t) bytes second) c n (find (is_client n) s.clients) (λ x d p e g h. refl) told)
+told-after clock who (Sent peer Control j) bytes second past s v k a c n told =
+    told-requests (noted who (Sent peer Control j) bytes second ∷ past) c n s.clients clock (control_of bytes) (told-stays past (noted who (Sent peer Control j) bytes second) c n (find (is_client n) s.clients) (λ x d p e g h. refl) told)
 told-after clock who (Asked i m y room) bytes second past s v k a c n told =
     asked-told who bytes second past s v c n i m y room a told
 told-after clock who (Begun i r) bytes second past s v k a c n told = begun-told who bytes second past s v c n i r a k told
@@ -139,7 +156,7 @@ told-after clock who (Took (Ask m r) j) bytes second past s v k a c n told =
 told-after clock who (Rolled i posted got) bytes second past s v k a c n told =
     rolled-told who bytes second past s v c n i posted got a told
 told-after clock who (Broken m) bytes second past s v k a c n told =
-    told-broken (noted who (Broken m) bytes second ∷ past) c n s.clients m (told-stays past (noted who (Broken m) bytes second) c n (find (is_client n) s.clients) (λ x d p e g h. refl) told)
+    told-kept (noted who (Broken m) bytes second ∷ past) c n s.clients (is_client m) breaks (λ x. refl) (λ x. refl) (told-stays past (noted who (Broken m) bytes second) c n (find (is_client n) s.clients) (λ x d p e g h. refl) told)
 told-after clock who (DoneOk i) bytes second past s v k a c n told =
     let once = v.once c in
     told-ended (noted who (DoneOk i) bytes second ∷ past) c n s.clients i (omega arith) (told-stays past (noted who (DoneOk i) bytes second) c n (find (is_client n) s.clients) (λ x d p e g h. refl) told)

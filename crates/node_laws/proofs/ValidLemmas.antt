@@ -1,33 +1,37 @@
 -- Allowed facts keep what holds of a node's lists at every moment.
-use Rattle.std.proofs.Common.{◌≡◌, ℕ, ◌+◌, ◌-◌, ◌*◌, ◌%◌, ◌≤◌, ◌<◌, Bool, true, false, cond, leb, Option, Some, None, List, [], ◌∷◌, length, drop, refl, ap, ◌∙◌, arith}
+use Rattle.std.proofs.Common.{◌≡◌, ℕ, ◌+◌, ◌-◌, ◌*◌, ◌%◌, ◌≤◌, ◌<◌, Bool, true, false, cond, leb, Option, Some, None, List, length, refl, ap, ◌∙◌, arith}
 use Rattle.std.specs.Prelude.{◌==◌, count_by, sum_by}
 use Rattle.std.specs.List.{AllByRecursion, find}
 use Rattle.std.proofs.lemmas.Bool.Decides.{nat_tests}
-use Rattle.std.proofs.lemmas.List.{length-append}
 use Rattle.std.proofs.lemmas.List.Sums.{sum_by_push}
 use Rattle.packet_header.specs.declared.packet.MessageHeader.{MessageHeader}
 use Rattle.rpc_base.specs.Tables.{at_first}
 use Rattle.rpc_base.specs.declared.event.Event.{Event}
-use Rattle.rpc_base.specs.declared.event.Event.TheVariants.{PairedClient, Asked, Begun, Posted, Sent, Arrived, Took, Again, Dropped, Rolled, Broken, DoneOk, DoneTooSmall, DonePeerLost}
+use Rattle.rpc_base.specs.declared.event.Event.TheVariants.{PairedClient, Opened, Connected as IsConnected, FailedNoRoom, FailedNoAnswer, Closing as BeginsClosing, ClosedHeard, ClosedUnheard, Asked, Begun, Posted, Sent, Took, Rolled, Broken, DoneOk, DoneTooSmall, DonePeerLost}
 use Rattle.rpc_base.specs.declared.fact.Fact.{Fact}
-use Rattle.rpc_base.specs.declared.owner.Owner.TheVariants.{Ask}
-use Rattle.rpc_laws.specs.declared.tables.Arrival.{Arrival}
+use Rattle.rpc_base.specs.declared.owner.Owner.TheVariants.{Ask, Control}
+use Rattle.rpc_base.specs.declared.limits.Limits.{Limits}
+use Rattle.rpc_base.specs.declared.state.SessionState.TheVariants.{Closing, Closed, Failed}
+use Rattle.packet_header.specs.declared.packet.ControlHeader.{ControlHeader}
 use Rattle.rpc_laws.specs.declared.tables.Call.{Call}
 use Rattle.rpc_laws.specs.declared.tables.Client.{Client}
 use Rattle.rpc_laws.specs.declared.tables.Lists.{Lists}
 use Rattle.rpc_laws.specs.Calls.{is_call, is_active, moved, begun, posted_up_to, sent_packet, took_reply, rolled_back}
-use Rattle.rpc_laws.specs.Front.{front_header, front_body}
+use Rattle.rpc_laws.specs.Front.{front_header, front_body, control_of}
 use Rattle.rpc_laws.specs.NodeLists.{after, asked_after, new_lists}
 use Rattle.rpc_laws.specs.Posting.{is_taken}
-use Rattle.rpc_laws.specs.Queues.{ring_after}
-use Rattle.rpc_laws.specs.Sessions.{is_client, has_call, client_end, asks, begins, posts, sends, takes, rolls, breaks, ends, clients_after}
+use Rattle.rpc_laws.specs.Sessions.{is_client, is_live, has_call, client_end, opened_end, comes_to, connects, requests, clients_told, asks, begins, posts, sends, takes, rolls, breaks, ends, clients_after}
 use Rattle.node_laws.proofs.Allowed.{Allowed, MayBegin, MayPost, MayTake, MayRoll, MayEnd, MayLose}
-use Rattle.node_laws.proofs.ChangeLemmas.{sound-made, sound-asks, sound-begins, sound-posts, sound-takes, sound-rolls, sound-sends, sound-breaks, sound-ends}
+use Rattle.node_laws.proofs.ChangeLemmas.{sound-made, sound-asks, sound-begins, sound-posts, sound-takes, sound-rolls, sound-sends, sound-breaks, sound-ends, sound-opened, sound-lives, sound-over, sound-connects, sound-requests}
+use Rattle.node_laws.proofs.IdleLemmas.{idle-after}
 use Rattle.node_laws.proofs.JobLemmas.{run-spends}
 use Rattle.node_laws.proofs.NumberLemmas.{numbered-push, numbered-kept, by_number}
-use Rattle.node_laws.proofs.ServedLemmas.{ends-after, served-after}
+use Rattle.node_laws.proofs.ServedLemmas.{alone-after, served-after}
+use Rattle.node_laws.proofs.ShareLemmas.{shares-after}
+use Rattle.node_laws.proofs.StateLemmas.{connected-live}
+use Rattle.node_laws.proofs.ToldSame.{told-same}
 use Rattle.node_laws.proofs.TableLemmas.{all-push, all-kept, all-changed, sum-grown, sum-fewer}
-use Rattle.node_laws.proofs.Valid.{NumberedFrom, client_no, unanswered_of, Sound, holders, to_come, Valid}
+use Rattle.node_laws.specs.Valid.{NumberedFrom, client_no, unanswered_of, Sound, holders, to_come, Valid}
 
 -- sessions stay sound
 module _ (clock : ℕ) (s : Lists) (v : Valid s) where
@@ -76,9 +80,28 @@ module _ (clock : ℕ) (s : Lists) (v : Valid s) where
       let broken = a.broken in
       all-changed (has_call number) (ends number) Sound s.clients a.client client (λ h. sound-ends number a.client a.call h call (λ t. cc)) v.sound
 
+told-sound : (clock : ℕ) (o : Option ControlHeader) (xs : List Client) → AllByRecursion Sound xs → AllByRecursion Sound (clients_told clock o xs)
+told-sound clock None xs h = h
+told-sound clock (Some c) xs h = all-kept (is_client c.client) (requests clock c) Sound xs (λ x k _. sound-requests clock c x k) h
+
 sound-after : (clock : ℕ) (e : Event) (bytes : List ℕ) (s : Lists) → Valid s → Allowed s e → AllByRecursion Sound (clients_after clock e bytes (front_header s.ring) (front_body s.ring) s.clients)
 sound-after clock (PairedClient n peer t credits) bytes s v a =
     all-push Sound s.clients (client_end n peer t credits) v.sound (sound-made n peer t credits)
+sound-after clock (Opened n peer credits) bytes s v a =
+    all-push Sound s.clients (opened_end n peer credits) v.sound (sound-opened n peer credits)
+sound-after clock (IsConnected n t) bytes s v a =
+    all-changed (is_client n) (connects t) Sound s.clients a.client a.found (λ h. sound-connects t a.client (ap is_live a.stands) h) v.sound
+sound-after clock (FailedNoRoom n) bytes s v a =
+    all-kept (is_client n) (comes_to Failed) Sound s.clients (λ x h _. sound-over Failed x refl h) v.sound
+sound-after clock (FailedNoAnswer n) bytes s v a =
+    all-kept (is_client n) (comes_to Failed) Sound s.clients (λ x h _. sound-over Failed x refl h) v.sound
+sound-after clock (BeginsClosing n) bytes s v a =
+    all-changed (is_client n) (comes_to Closing) Sound s.clients a.client a.found (λ h. sound-lives Closing a.client (connected-live a.client.state a.connected) h) v.sound
+sound-after clock (ClosedHeard n) bytes s v a =
+    all-kept (is_client n) (comes_to Closed) Sound s.clients (λ x h _. sound-over Closed x refl h) v.sound
+sound-after clock (ClosedUnheard n) bytes s v a =
+    all-kept (is_client n) (comes_to Closed) Sound s.clients (λ x h _. sound-over Closed x refl h) v.sound
+sound-after clock (Sent peer Control k) bytes s v a = told-sound clock (control_of bytes) s.clients v.sound
 sound-after clock (Asked c n y room) bytes s v a =
     all-kept (is_client n) (asks (record { number = c; req_type = y; room = room; ask = bytes })) Sound s.clients (λ x h _. sound-asks (record { number = c; req_type = y; room = room; ask = bytes }) x h) v.sound
 sound-after clock (Begun c r) bytes s v a = begun-sound clock s v c r a
@@ -94,10 +117,23 @@ sound-after clock (DoneTooSmall c size) bytes s v a = ended-sound clock s v c a
 sound-after clock (DonePeerLost c) bytes s v a = lost-sound clock s v c a
 sound-after clock _ bytes s v a = v.sound
 
+told-numbered : (clock : ℕ) (o : Option ControlHeader) (xs : List Client) → NumberedFrom client_no 0 xs → NumberedFrom client_no 0 (clients_told clock o xs)
+told-numbered clock None xs h = h
+told-numbered clock (Some c) xs h = numbered-kept client_no (is_client c.client) (requests clock c) (λ x. told-same client_no clock c x refl) 0 xs h
+
 -- sessions keep their numbers
 numbered-after : (clock : ℕ) (e : Event) (bytes : List ℕ) (head : Option MessageHeader) (body : List ℕ) (s : Lists) → NumberedFrom client_no 0 s.clients → Allowed s e → NumberedFrom client_no 0 (clients_after clock e bytes head body s.clients)
 numbered-after clock (PairedClient n peer t credits) bytes head body s h a =
     numbered-push client_no 0 s.clients (client_end n peer t credits) h (omega arith)
+numbered-after clock (Opened n peer credits) bytes head body s h a =
+    numbered-push client_no 0 s.clients (opened_end n peer credits) h (omega arith)
+numbered-after clock (FailedNoRoom n) bytes head body s h a = numbered-kept client_no (is_client n) (comes_to Failed) (λ x. refl) 0 s.clients h
+numbered-after clock (FailedNoAnswer n) bytes head body s h a = numbered-kept client_no (is_client n) (comes_to Failed) (λ x. refl) 0 s.clients h
+numbered-after clock (BeginsClosing n) bytes head body s h a = numbered-kept client_no (is_client n) (comes_to Closing) (λ x. refl) 0 s.clients h
+numbered-after clock (ClosedHeard n) bytes head body s h a = numbered-kept client_no (is_client n) (comes_to Closed) (λ x. refl) 0 s.clients h
+numbered-after clock (ClosedUnheard n) bytes head body s h a = numbered-kept client_no (is_client n) (comes_to Closed) (λ x. refl) 0 s.clients h
+numbered-after clock (IsConnected n t) bytes head body s h a = numbered-kept client_no (is_client n) (connects t) (λ x. refl) 0 s.clients h
+numbered-after clock (Sent peer Control k) bytes head body s h a = told-numbered clock (control_of bytes) s.clients h
 numbered-after clock (Asked c n y room) bytes head body s h a =
     numbered-kept client_no (is_client n) (asks (record { number = c; req_type = y; room = room; ask = bytes })) (λ x. refl) 0 s.clients h
 numbered-after clock (Begun c r) bytes head body s h a = numbered-kept client_no (has_call c) (begins c r) (λ x. refl) 0 s.clients h
@@ -144,10 +180,32 @@ module _ (number : ℕ) where
   kept : (n m k : ℕ) → n + k ≤ 1 → m ≤ n + 0 → m + k ≤ 1
   kept n m k once h = omega arith
 
+  told-holds : (clock : ℕ) (o : Option ControlHeader) (xs : List Client) → holders number (clients_told clock o xs) ≤ holders number xs + 0
+  told-holds clock None xs = omega arith
+  told-holds clock (Some c) xs =
+      sum-grown (is_client c.client) (requests clock c) holds 0 xs (λ x. let same = told-same holds clock c x refl in omega arith)
+
   once-after : (clock : ℕ) (e : Event) (bytes : List ℕ) (head : Option MessageHeader) (body : List ℕ) (s : Lists) → holders number s.clients + to_come s.asked number ≤ 1 → Allowed s e → holders number (clients_after clock e bytes head body s.clients) + to_come (asked_after e s.asked) number ≤ 1
   once-after clock (PairedClient n peer t credits) bytes head body s h a =
       let push = sum_by_push holds s.clients (client_end n peer t credits) in
       kept (holders number s.clients) _ (to_come s.asked number) h (omega arith)
+  once-after clock (Opened n peer credits) bytes head body s h a =
+      let push = sum_by_push holds s.clients (opened_end n peer credits) in
+      kept (holders number s.clients) _ (to_come s.asked number) h (omega arith)
+  once-after clock (FailedNoRoom n) bytes head body s h a =
+      kept (holders number s.clients) _ (to_come s.asked number) h (sum-grown (is_client n) (comes_to Failed) holds 0 s.clients (λ x. omega arith))
+  once-after clock (FailedNoAnswer n) bytes head body s h a =
+      kept (holders number s.clients) _ (to_come s.asked number) h (sum-grown (is_client n) (comes_to Failed) holds 0 s.clients (λ x. omega arith))
+  once-after clock (BeginsClosing n) bytes head body s h a =
+      kept (holders number s.clients) _ (to_come s.asked number) h (sum-grown (is_client n) (comes_to Closing) holds 0 s.clients (λ x. omega arith))
+  once-after clock (ClosedHeard n) bytes head body s h a =
+      kept (holders number s.clients) _ (to_come s.asked number) h (sum-grown (is_client n) (comes_to Closed) holds 0 s.clients (λ x. omega arith))
+  once-after clock (ClosedUnheard n) bytes head body s h a =
+      kept (holders number s.clients) _ (to_come s.asked number) h (sum-grown (is_client n) (comes_to Closed) holds 0 s.clients (λ x. omega arith))
+  once-after clock (IsConnected n t) bytes head body s h a =
+      kept (holders number s.clients) _ (to_come s.asked number) h (sum-grown (is_client n) (connects t) holds 0 s.clients (λ x. omega arith))
+  once-after clock (Sent peer Control k) bytes head body s h a =
+      kept (holders number s.clients) _ (to_come s.asked number) h (told-holds clock (control_of bytes) s.clients)
   once-after clock (Asked c n y room) bytes head body s h a =
       given s.asked c (holders number s.clients) _ a.next h (sum-grown (is_client n) (asks (record { number = c; req_type = y; room = room; ask = bytes })) holds (cond (c == number) 1 0) s.clients (asked-call s.asked c y room bytes))
   once-after clock (Begun c r) bytes head body s h a =
@@ -170,32 +228,21 @@ module _ (number : ℕ) where
       kept (holders number s.clients) _ (to_come s.asked number) h (sum-grown (has_call c) (ends c) holds 0 s.clients (fewer-call c))
   once-after clock _ bytes head body s h a = h
 
--- the ring fits
-shorter : (ring : List Arrival) (room : ℕ) → length ring ≤ room → length (drop 1 ring) ≤ room
-shorter [] room h = h
-shorter (d ∷ ds) room h = omega arith
-
-fits-after : (e : Event) (bytes : List ℕ) (s : Lists) → length s.ring ≤ s.room → Allowed s e → length (ring_after e bytes s.ring) ≤ s.room
-fits-after (Arrived peer) bytes s h a = omega (arith, a, length-append s.ring (record { peer = peer; bytes = bytes } ∷ []))
-fits-after (Took owner k) bytes s h a = shorter s.ring s.room h
-fits-after (Again owner k) bytes s h a = shorter s.ring s.room h
-fits-after (Dropped why) bytes s h a = shorter s.ring s.room h
-fits-after _ bytes s h a = h
-
 pub valid_after : (clock : ℕ) (s : Lists) (f : Fact) → Valid s → Allowed s f.event → Valid (after clock s f)
 valid_after clock s f v a = record {
   numbered = numbered-after clock f.event f.first (front_header s.ring) (front_body s.ring) s v.numbered a;
   once = λ number. once-after number clock f.event f.first (front_header s.ring) (front_body s.ring) s (v.once number) a;
   sound = sound-after clock f.event f.first s v a;
-  fits = fits-after f.event f.first s v.fits a;
-  ends = ends-after f.event f.second (front_header s.ring) (front_body s.ring) s v.ends a;
+  idle = idle-after clock f.event f.first (front_header s.ring) (front_body s.ring) s v.idle a;
+  alone = λ t. alone-after t f.event f.second (front_header s.ring) (front_body s.ring) s (v.alone t) a;
   served = served-after f.event f.second (front_header s.ring) (front_body s.ring) s v a;
   runs = λ t r. let spent = run-spends t r s v clock f a in let was = v.runs t r in omega arith;
+  shared = shares-after clock s f v.shared a;
 }
 
 one-cond : (b : Bool) → 0 + cond b 1 0 ≤ 1
 one-cond true = omega arith
 one-cond false = omega arith
 
-pub valid_new : (me ring : ℕ) → Valid (new_lists me ring)
-valid_new me ring = record { numbered = tt; ends = tt; once = λ number. one-cond (leb 0 number); sound = tt; fits = omega arith; served = tt; runs = λ t r. omega arith }
+pub valid_new : (me : ℕ) (limits : Limits) → Valid (new_lists me limits)
+valid_new me limits = record { numbered = tt; alone = λ t. one-cond (leb 0 t); once = λ number. one-cond (leb 0 number); sound = tt; idle = tt; served = tt; runs = λ t r. let one = one-cond (leb 0 t) in omega arith; shared = omega arith }

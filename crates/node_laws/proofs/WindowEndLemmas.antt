@@ -19,8 +19,10 @@ use Rattle.node_laws.proofs.FindLemmas.{this-out, this-changed, none-found}
 use Rattle.node_laws.proofs.NumberLemmas.{by_number}
 use Rattle.node_laws.proofs.SoundLemmas.{by_request, active-holds}
 use Rattle.node_laws.proofs.TableLemmas.{found-holds, found-passes, none-counted, count-fewer}
-use Rattle.node_laws.proofs.Valid.{Sound, Valid, Place}
-use Rattle.node_laws.proofs.WindowLemmas.{InsideOf, Inside, Stands, InWindow, window-changed, moved-inside, same-found, own-request, inside-some}
+use Rattle.node_laws.proofs.Places.{Place}
+use Rattle.node_laws.specs.Valid.{Sound, Valid}
+use Rattle.node_laws.proofs.WindowLemmas.{window-changed, moved-inside, same-found, own-request, inside-some}
+use Rattle.node_laws.specs.Windows.{InsideOf, Inside, Stands, InWindow}
 
 -- an owner that is this call
 owner-is : (o : Owner) (i r session request : ℕ) → o ≡ Ask i r → i ≡ session → r ≡ request → same_owner o (Ask session request) ≡ false → ⊥

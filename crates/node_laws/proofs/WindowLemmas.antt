@@ -1,9 +1,9 @@
--- The queued packets of an active call have numbers from what it has got up to below what it posted, and no
--- packet is queued of a call that isn't active.
-use Rattle.std.proofs.Common.{◌≡◌, ℕ, ◌+◌, ◌≤◌, ◌<◌, Bool, true, false, ◌&&◌, Option, Some, None, List, [], ◌∷◌, ◌++◌, refl, sym, ap, ◌∙◌, arith}
+-- Facts that leave a packet within the window of its call.
+use Rattle.std.proofs.Common.{◌≡◌, ℕ, ◌+◌, ◌≤◌, Bool, true, false, ◌&&◌, Option, Some, None, List, [], ◌∷◌, ◌++◌, refl, sym, ap, ◌∙◌, arith}
 use Rattle.std.specs.Prelude.{◌==◌, option_map}
-use Rattle.std.specs.List.{AllByRecursion, find}
+use Rattle.std.specs.List.{find}
 use Rattle.std.proofs.lemmas.Bool.{eqb-true, eq-eqb, and_from}
+use Rattle.packet_header.specs.declared.packet.ControlHeader.{ControlHeader}
 use Rattle.rpc_base.specs.Owners.{same_owner}
 use Rattle.rpc_base.specs.Tables.{at_first}
 use Rattle.rpc_base.specs.declared.owner.Owner.{Owner}
@@ -13,40 +13,16 @@ use Rattle.rpc_laws.specs.declared.tables.Call.{Call}
 use Rattle.rpc_laws.specs.declared.tables.Client.{Client}
 use Rattle.rpc_laws.specs.declared.tables.Lists.{Lists}
 use Rattle.rpc_laws.specs.declared.tables.Progress.{Progress}
-use Rattle.rpc_laws.specs.declared.tables.Queued.{Queued}
 use Rattle.rpc_laws.specs.Calls.{has_request, is_active, moved, posted_up_to, sent_packet, took_reply}
 use Rattle.rpc_laws.specs.Front.{front_header, front_body}
-use Rattle.rpc_laws.specs.Sessions.{is_client, client_end, asks, posts, sends, takes}
+use Rattle.rpc_laws.specs.Sessions.{is_client, client_end, opened_end, requests, clients_told, asks, posts, sends, takes}
 use Rattle.node_laws.proofs.Allowed.{MayPost, MayTake}
 use Rattle.node_laws.proofs.FindLemmas.{changed-holds, push-kept, push-other}
 use Rattle.node_laws.proofs.SoundLemmas.{by_request, sent-request, sent-got, sent-posted, order-found, took-request, reply-got, reply-posted}
 use Rattle.node_laws.proofs.TableLemmas.{found-holds, found-passes, found-changed}
-use Rattle.node_laws.proofs.Valid.{Sound, Valid}
-
--- k is one of the numbers that are posted and not answered
-abbrev pub InsideOf : ℕ → Option Progress → Type 0
-InsideOf k None = ⊥
-InsideOf k (Some p) = (p.got ≤ k) × (k < p.posted)
-
--- the same of a call that is found
-abbrev pub Inside : ℕ → Option Call → Type 0
-Inside k None = ⊥
-Inside k (Some c) = InsideOf k c.progress
-
--- the same of request r of a session that is found
-abbrev pub Stands : ℕ → ℕ → Option Client → Type 0
-Stands k r None = ⊥
-Stands k r (Some x) = Inside k (find (is_active r) x.calls)
-
--- a packet of a call is within its window; other packets may stand anywhere
-abbrev pub InWindow : List Client → Owner → ℕ → Type 0
-InWindow xs (Ask s r) k = Stands k r (find (is_client s) xs)
-InWindow xs (Reply s r) k = Unit {0}
-InWindow xs Control k = Unit {0}
-
--- each queued packet is
-abbrev pub Windows : List Client → List Queued → Type 0
-Windows xs queued = AllByRecursion (λ q. InWindow xs q.owner q.number) queued
+use Rattle.node_laws.proofs.ToldSame.{told-same}
+use Rattle.node_laws.specs.Windows.{InsideOf, Inside, Stands, InWindow}
+use Rattle.node_laws.specs.Valid.{Sound, Valid}
 
 -- a session changes
 module _ (p : Client → Bool) (f : Client → Client) (same : (x : Client) → (f x).way.number ≡ x.way.number) (xs : List Client) where
@@ -61,11 +37,27 @@ made-stands k r None p h m = absurd m
 made-stands k r (Some x) p h m = rw (h x refl) m
 
 -- one more session
+window-pushed : (y : Client) (xs : List Client) (o : Owner) (k : ℕ) → InWindow xs o k → InWindow (xs ++ y ∷ []) o k
+window-pushed y xs (Ask s r) k m =
+    made-stands k r (find (is_client s) xs) (find (is_client s) (xs ++ y ∷ [])) (λ x e. push-kept (is_client s) xs x y e) m
+window-pushed y xs (Reply s r) k m = tt
+window-pushed y xs Control k m = tt
+
 pub window-made : (n peer t credits : ℕ) (xs : List Client) (o : Owner) (k : ℕ) → InWindow xs o k → InWindow (xs ++ client_end n peer t credits ∷ []) o k
-window-made n peer t credits xs (Ask s r) k m =
-    made-stands k r (find (is_client s) xs) (find (is_client s) (xs ++ client_end n peer t credits ∷ [])) (λ x e. push-kept (is_client s) xs x (client_end n peer t credits) e) m
-window-made n peer t credits xs (Reply s r) k m = tt
-window-made n peer t credits xs Control k m = tt
+window-made n peer t credits xs o k m = window-pushed (client_end n peer t credits) xs o k m
+
+pub window-opened : (n peer credits : ℕ) (xs : List Client) (o : Owner) (k : ℕ) → InWindow xs o k → InWindow (xs ++ opened_end n peer credits ∷ []) o k
+window-opened n peer credits xs o k m = window-pushed (opened_end n peer credits) xs o k m
+
+-- a session whose calls stay
+pub window-kept : (p : Client → Bool) (f : Client → Client) → ((x : Client) → (f x).way.number ≡ x.way.number) → ((x : Client) → (f x).calls ≡ x.calls) → (xs : List Client) (o : Owner) (k : ℕ) → InWindow xs o k → InWindow (at_first p f xs) o k
+window-kept p f number calls xs o k m =
+    window-changed p f number xs o k (λ s r own x e t inside. rw (calls x) inside) m
+
+pub window-told : (clock : ℕ) (h : Option ControlHeader) (xs : List Client) (o : Owner) (k : ℕ) → InWindow xs o k → InWindow (clients_told clock h xs) o k
+window-told clock None xs o k m = m
+window-told clock (Some h) xs o k m =
+    window-kept (is_client h.client) (requests clock h) (λ x. told-same (λ y. y.way.number) clock h x refl) (λ x. told-same (λ y. y.calls) clock h x refl) xs o k m
 
 -- the progress of a call moves
 pub same-request : (r : ℕ) (g : Progress → Progress) → ((p : Progress) → (g p).request ≡ p.request) → (o : Option Progress) → has_request r (option_map g o) ≡ has_request r o

@@ -1,5 +1,5 @@
 -- Worked rows: one call of one packet on a session with two credits, computed by the definitions alone.
-use Rattle.std.proofs.Common.{◌≡◌, ◌+◌, ℕ, true, false, Some, None, List, [], ◌∷◌, replicate, refl}
+use Rattle.std.proofs.Common.{◌≡◌, ◌+◌, ℕ, true, false, Some, None, List, [], ◌∷◌, replicate, refl, arith}
 use Rattle.packet_header.specs.declared.packet.Kind.TheVariants.{Cr, Response}
 use Rattle.packet_header.specs.declared.packet.MessageHeader.{MessageHeader}
 use Rattle.rpc_base.specs.declared.event.Event.TheVariants.{PairedClient, Asked, Begun, Posted, Flushed, Took, Rolled, Broken, DoneOk, DoneTooSmall, DonePeerLost}
@@ -13,7 +13,7 @@ use Rattle.rpc_laws.specs.Facts.{plain, with_bytes}
 use Rattle.rpc_laws.specs.GoBackN.{client_facts}
 use Rattle.rpc_laws.specs.Posting.{posting}
 use Rattle.rpc_laws.specs.Sessions.{clients_after, client_end}
-use Rattle.node_laws.specs.CreditBalance.{Accounts, accounts_after, no_accounts, unanswered}
+use Rattle.node_laws.specs.CreditBalance.{Accounts, accounts_after, no_accounts, unanswered, MaySpend}
 
 -- the call: two bytes of type 1, for whose answer there is this room
 abbrev asked : ℕ → List Client
@@ -26,6 +26,8 @@ at room free got posted rolls mark = record {
   state = Connected;
   limit = 2;
   free = free;
+  sends = 0;
+  sent_at = 0;
   asked = 1;
   turns = 1 ∷ 0 ∷ 0 ∷ 0 ∷ 0 ∷ 0 ∷ 0 ∷ 0 ∷ [];
   calls = record {
@@ -41,6 +43,8 @@ over = record {
   state = Connected;
   limit = 2;
   free = 2;
+  sends = 0;
+  sent_at = 0;
   asked = 1;
   turns = 1 ∷ 0 ∷ 0 ∷ 0 ∷ 0 ∷ 0 ∷ 0 ∷ 0 ∷ [];
   calls = [];
@@ -82,7 +86,7 @@ row-late-copy = refl
 row-not-posted : client_row [] (Some (at 9 2 0 0 1 0)) 7 response 2 ≡ Drops Ahead
 row-not-posted = refl
 
-row-queued-again : client_row (record { owner = Ask 0 0; number = 0 } ∷ []) (Some (at 9 1 0 1 1 0)) 7 response 2 ≡ Drops StillQueued
+row-queued-again : client_row (record { owner = Ask 0 0; number = 0; due = None } ∷ []) (Some (at 9 1 0 1 1 0)) 7 response 2 ≡ Drops StillQueued
 row-queued-again = refl
 
 -- the last packet of a request isn't answered by a credit return
@@ -137,6 +141,13 @@ row-account-twice = refl
 row-account-twice-sum : unanswered 0 (accounts 0 (0 ∷ [])).calls + 0 ≡ 1
 row-account-twice-sum = refl
 
+-- a packet is posted where a credit is free, and not where none is
+row-spends : MaySpend (Posted (Ask 0 0) 1) (accounts 1 (0 ∷ [])).sessions
+row-spends = record { live = refl; free = omega arith }
+
+row-none-free : MaySpend (Posted (Ask 0 0) 2) (accounts 0 (0 ∷ 1 ∷ [])).sessions → ⊥
+row-none-free h = let free = h.free in absurd (omega arith)
+
 row-account-rolls : accounts_after (Rolled 0 2 0) (accounts 0 (0 ∷ 1 ∷ [])) ≡ accounts 2 []
 row-account-rolls = refl
 
@@ -175,5 +186,5 @@ row-past : client_row [] (Some (of_two 1 1)) 7 credit_return 0 ≡ Drops Past
 row-past = refl
 
 -- a rollback flushes what is queued, in ascending number
-row-flushes : client_facts 5000 5000 4 (record { owner = Ask 0 0; number = 2 } ∷ record { owner = Ask 0 1; number = 0 } ∷ record { owner = Ask 0 0; number = 1 } ∷ []) 0 (Some (of_two 0 0)) ≡ plain 4 (Flushed (Ask 0 0) 1) ∷ plain 4 (Flushed (Ask 0 0) 2) ∷ plain 4 (Rolled 0 2 0) ∷ []
+row-flushes : client_facts 5000 5000 4 (record { owner = Ask 0 0; number = 2; due = None } ∷ record { owner = Ask 0 1; number = 0; due = None } ∷ record { owner = Ask 0 0; number = 1; due = None } ∷ []) 0 (Some (of_two 0 0)) ≡ plain 4 (Flushed (Ask 0 0) 1) ∷ plain 4 (Flushed (Ask 0 0) 2) ∷ plain 4 (Rolled 0 2 0) ∷ []
 row-flushes = refl

@@ -1,11 +1,11 @@
--- Credit: at every moment, the unanswered packets of a live client session and its free credits make its
--- limit. Both are read from the facts alone, and in two ways. The unanswered packets are numbers that stand
+-- Credit: at every moment, the unanswered packets of a client session that is connected or closing and its free
+-- credits make its limit, and a packet is posted only where a credit is free. Both are read from the facts alone, and in two ways. The unanswered packets are numbers that stand
 -- in a list of their own, and free credits are a count that the facts change.
-use Rattle.std.specs.Prelude.{ℕ, ◌≡◌, ◌+◌, ◌-◌, ◌==◌, ◌&&◌, Bool, true, false, Option, Some, None, List, [], ◌∷◌, ◌++◌, length, sum_by, if◌then◌else◌}
+use Rattle.std.specs.Prelude.{ℕ, ◌≡◌, ◌≤◌, ◌+◌, ◌-◌, ◌==◌, ◌&&◌, Bool, true, false, Option, Some, None, List, [], ◌∷◌, ◌++◌, length, sum_by, if◌then◌else◌}
 use Rattle.std.specs.List.{find, list_any, AllByRecursion}
 use Rattle.rpc_base.specs.Tables.{at_first, without_first}
 use Rattle.rpc_base.specs.declared.event.Event.{Event}
-use Rattle.rpc_base.specs.declared.event.Event.TheVariants.{PairedClient, Asked, Begun, Posted, Took, Rolled, Broken, DoneOk, DoneTooSmall, DonePeerLost}
+use Rattle.rpc_base.specs.declared.event.Event.TheVariants.{Opened, PairedClient, Connected, FailedNoRoom, FailedNoAnswer, Closing, ClosedHeard, ClosedUnheard, Asked, Begun, Posted, Took, Rolled, Broken, DoneOk, DoneTooSmall, DonePeerLost}
 use Rattle.rpc_base.specs.declared.fact.Fact.{Fact}
 use Rattle.rpc_base.specs.declared.owner.Owner.TheVariants.{Ask}
 
@@ -17,7 +17,8 @@ pub record CallAccount : Type 0 where
   pub request : Option ℕ
   pub packets : List ℕ
 
--- a client session: its number, its limit, its free credits, and whether it is live
+-- a client session: its number, its limit, its free credits, and whether it is live: connected, also where it is
+-- spent, or closing
 pub record SessionAccount : Type 0 where
   pub number : ℕ
   pub limit : ℕ
@@ -95,6 +96,14 @@ is_session_of (Some a) x = x.number == a.session
 abbrev pub opened : (session credits : ℕ) → SessionAccount
 opened s credits = record { number = s; limit = credits; free = credits; live = true }
 
+-- one that isn't connected yet has them too
+abbrev pub connecting : (session credits : ℕ) → SessionAccount
+connecting s credits = record (opened s credits) { live = false }
+
+-- it is connected or closing, or it is over
+abbrev pub lives : Bool → SessionAccount → SessionAccount
+lives live x = record x { live = live }
+
 -- one credit less is free
 abbrev pub spends : SessionAccount → SessionAccount
 spends x = record x { free = x.free - 1 }
@@ -111,6 +120,13 @@ fails x = record x { live = false; free = 0 }
 -- session of its call, which is looked up among the calls before it
 abbrev pub sessions_after : Event → List CallAccount → List SessionAccount → List SessionAccount
 sessions_after (PairedClient s peer t credits) calls xs = xs ++ opened s credits ∷ []
+sessions_after (Opened s peer credits) calls xs = xs ++ connecting s credits ∷ []
+sessions_after (Connected s t) calls xs = at_first (is_session s) (lives true) xs
+sessions_after (Closing s) calls xs = at_first (is_session s) (lives true) xs
+sessions_after (FailedNoRoom s) calls xs = at_first (is_session s) (lives false) xs
+sessions_after (FailedNoAnswer s) calls xs = at_first (is_session s) (lives false) xs
+sessions_after (ClosedHeard s) calls xs = at_first (is_session s) (lives false) xs
+sessions_after (ClosedUnheard s) calls xs = at_first (is_session s) (lives false) xs
 sessions_after (Posted (Ask s r) k) calls xs = at_first (is_session s) spends xs
 sessions_after (Took (Ask s r) k) calls xs = at_first (is_session s) (regains 1) xs
 sessions_after (Rolled c posted got) calls xs =
@@ -130,7 +146,7 @@ no_accounts = record { calls = []; sessions = [] }
 abbrev pub unanswered : ℕ → List CallAccount → ℕ
 unanswered s calls = sum_by (λ a. if a.session == s then length a.packets else 0) calls
 
--- numbers don't fall below 0: had a credit been spent where none was free, the sum would exceed the limit
+-- the unanswered packets and the free credits of a live session make its limit
 abbrev pub IsBalanced : List CallAccount → SessionAccount → Type 0
 IsBalanced calls x = x.live ≡ true → unanswered x.number calls + x.free ≡ x.limit
 
@@ -138,11 +154,26 @@ IsBalanced calls x = x.live ≡ true → unanswered x.number calls + x.free ≡ 
 abbrev pub Balanced : Accounts → Type 0
 Balanced a = AllByRecursion (IsBalanced a.calls) a.sessions
 
--- a claim about the accounts, at the first of these moments and after each further fact
-abbrev pub Throughout : (Accounts → Type 0) → Accounts → List Fact → Type 0
-Throughout P a [] = P a
-Throughout P a (f ∷ g) = P a × Throughout P (accounts_after f.event a) g
+-- a live session with a free credit
+pub record HasCredit (x : SessionAccount) : Type 0 where
+  pub live : x.live ≡ true
+  pub free : 1 ≤ x.free
 
--- at every moment of a history each live session balances
+-- the session is there, and is one
+abbrev pub CanSpend : Option SessionAccount → Type 0
+CanSpend None = ⊥
+CanSpend (Some x) = HasCredit x
+
+-- a client packet is posted only where a credit of its session is free: `spends` never takes one from 0
+abbrev pub MaySpend : Event → List SessionAccount → Type 0
+MaySpend (Posted (Ask s r) k) xs = CanSpend (find (is_session s) xs)
+MaySpend _ xs = Unit {0}
+
+-- from these accounts on each live session balances at every moment, and no packet is posted without a free credit
+abbrev pub CreditFrom : Accounts → List Fact → Type 0
+CreditFrom a [] = Balanced a
+CreditFrom a (f ∷ g) = Balanced a × MaySpend f.event a.sessions × CreditFrom (accounts_after f.event a) g
+
+-- so it is from the beginning of a history
 abbrev pub Credit : List Fact → Type 0
-Credit g = Throughout Balanced no_accounts g
+Credit g = CreditFrom no_accounts g

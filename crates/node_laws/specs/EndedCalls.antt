@@ -1,5 +1,5 @@
 -- A call that is over: none of its packets is queued, and none is posted later.
-use Rattle.std.specs.Prelude.{ℕ, ◌≡◌, ◌==◌, ◌&&◌, Bool, true, false, List, [], ◌∷◌}
+use Rattle.std.specs.Prelude.{ℕ, ◌≡◌, ◌==◌, ◌&&◌, Bool, true, false, None, List, [], ◌∷◌}
 use Rattle.std.specs.List.{list_any}
 use Rattle.rpc_base.specs.Owners.{same_owner}
 use Rattle.rpc_base.specs.declared.event.Event.{Event}
@@ -10,10 +10,10 @@ use Rattle.rpc_laws.specs.declared.tables.Queued.{Queued}
 use Rattle.rpc_laws.specs.AtMostOnce.{ends_call}
 use Rattle.rpc_laws.specs.Queues.{queued_after}
 
--- the packets that are queued, by the facts so far, the newest first
+-- the packets that are queued, by the facts so far, the newest first. When they are due isn't told
 abbrev pub queued_by : List Fact → List Queued
 queued_by [] = []
-queued_by (f ∷ past) = queued_after f.event (queued_by past)
+queued_by (f ∷ past) = queued_after f.event None (queued_by past)
 
 -- call c is asked on session s
 abbrev pub asks_on : (call session : ℕ) → Event → Bool

@@ -1,21 +1,32 @@
 -- The laws of the runs of one node.
-use Rattle.std.specs.Prelude.{ℕ, List, []}
+use Rattle.std.specs.Prelude.{ℕ, ◌≤◌, List, []}
 use Rattle.rpc_base.specs.declared.fact.Fact.{Fact}
+use Rattle.rpc_base.specs.declared.limits.Limits.{Limits}
 use Rattle.rpc_laws.specs.declared.tables.Timed.{Timed}
 use Rattle.rpc_laws.specs.AtMostOnce.{Once}
+use Rattle.rpc_laws.specs.Groups.{shares}
+use Rattle.rpc_laws.specs.Service.{Serving}
 use Rattle.node_laws.specs.CallHistory.{latest_first, TellsTable}
 use Rattle.node_laws.specs.CreditBalance.{Credit}
 use Rattle.node_laws.specs.EndedCalls.{EndsClean}
+use Rattle.node_laws.specs.EndedSessions.{SessionsEndClean}
+use Rattle.node_laws.specs.Kept.{Kept}
 use Rattle.node_laws.specs.NodeRun.{NodeRun}
 use Rattle.node_laws.specs.OlderRequests.{BeginsClean}
+use Rattle.node_laws.specs.QueuedPackets.{QueueAlwaysFits}
 use Rattle.node_laws.specs.RequestHistory.{TellsRequests}
-use Rattle.node_laws.specs.RingLimit.{RingWithin}
+use Rattle.node_laws.specs.RingLimit.{RingWithin, InboxWithin}
 
--- of every run of a node, whatever its number, ring and timeout
+-- of every run of a node, whatever its service, its number and its limits
 abbrev pub OfEveryRun : ((ring : ℕ) → List Fact → Timed → Type 0) → Type 0
-OfEveryRun P = (me ring timeout : ℕ) (g : List Fact) (t : Timed) → NodeRun me ring timeout g t → P ring g t
+OfEveryRun P = (v : Serving) (me : ℕ) (limits : Limits) (g : List Fact) (t : Timed) → NodeRun v me limits g t → P limits.ring g t
 
--- the unanswered packets and the free credits of each live session make its limit
+-- what always holds of a node's lists does
+abbrev pub ListsAreKept : Type 0
+ListsAreKept = OfEveryRun (λ ring g t. Kept t.lists)
+
+-- the unanswered packets and the free credits of each live session make its limit, and no packet is posted
+-- without a free credit
 abbrev pub CreditBalances : Type 0
 CreditBalances = OfEveryRun (λ ring g t. Credit g)
 
@@ -32,6 +43,10 @@ EndedCallsAreNotQueued = OfEveryRun (λ ring g t. EndsClean [] g)
 abbrev pub OlderRequestsAreNotQueued : Type 0
 OlderRequestsAreNotQueued = OfEveryRun (λ ring g t. BeginsClean [] g)
 
+-- no reply of a server session is queued where it ends, and none is posted later
+abbrev pub EndedSessionsAreNotQueued : Type 0
+EndedSessionsAreNotQueued = OfEveryRun (λ ring g t. SessionsEndClean [] g)
+
 -- the table of calls says what the facts tell
 abbrev pub TablesTellTheHistory : Type 0
 TablesTellTheHistory = OfEveryRun (λ ring g t. TellsTable (latest_first [] g) t.lists)
@@ -43,3 +58,16 @@ RequestsTellTheHistory = OfEveryRun (λ ring g t. TellsRequests (latest_first []
 -- the ring is never longer than its room
 abbrev pub RingFits : Type 0
 RingFits = OfEveryRun (λ ring g t. RingWithin ring [] g)
+
+-- the inbox is never longer than its room
+abbrev pub InboxFits : Type 0
+InboxFits = OfEveryRun (λ ring g t. InboxWithin [] g)
+
+-- no packet of a call is queued twice, the queued packets of a live session and its free credits are no more than
+-- its limit, and those of all sessions no more than the ring is long
+abbrev pub QueuedPacketsFit : Type 0
+QueuedPacketsFit = OfEveryRun (λ ring g t. QueueAlwaysFits ring g)
+
+-- the credits of a node's live sessions are no more than its ring is long
+abbrev pub SharesFit : Type 0
+SharesFit = OfEveryRun (λ ring g t. shares t.lists ≤ ring)

@@ -1,8 +1,13 @@
 pub mod CallHistory
 pub mod CreditBalance
 pub mod EndedCalls
+pub mod EndedSessions
+pub mod Kept
 pub mod Laws
 pub mod NodeRun
 pub mod OlderRequests
+pub mod QueuedPackets
 pub mod RequestHistory
 pub mod RingLimit
+pub mod Valid
+pub mod Windows

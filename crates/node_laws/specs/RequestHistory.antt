@@ -1,7 +1,7 @@
 -- What the facts tell of a request, against what the table of requests says of it. The facts so far stand with
 -- the newest first.
 use Rattle.std.specs.Prelude.{ℕ, ◌≡◌, ◌%◌, ◌==◌, ◌&&◌, not, nat_lt, Bool, false, Option, Some, None, is_none, List, [], ◌∷◌, ◌++◌, count_by, slice_get, if◌then◌else◌}
-use Rattle.std.specs.List.{list_any}
+use Rattle.std.specs.List.{find, list_any}
 use Rattle.packet_header.specs.declared.packet.MessageHeader.{MessageHeader}
 use Rattle.rpc_base.specs.declared.event.Event.{Event}
 use Rattle.rpc_base.specs.declared.event.Event.TheVariants.{Took, Given}
@@ -14,7 +14,8 @@ use Rattle.rpc_laws.specs.declared.tables.Server.{Server}
 use Rattle.rpc_laws.specs.AtMostOnce.{runs_request}
 use Rattle.rpc_laws.specs.Front.{front_header, front_body}
 use Rattle.rpc_laws.specs.Queues.{ring_after}
-use Rattle.rpc_laws.specs.Requests.{is_request}
+use Rattle.rpc_laws.specs.Requests.{is_request, is_server}
+use Rattle.node_laws.specs.EndedSessions.{ends_session}
 use Rattle.node_laws.specs.OlderRequests.{takes_request}
 
 -- a packet of a greater number of the slot of r is taken
@@ -66,8 +67,8 @@ abbrev pub is_listed : ℕ → Option Server → Bool
 is_listed r None = false
 is_listed r (Some v) = list_any (is_request r) v.slots
 
--- a request stands in the table of session t exactly where a packet of it was taken, and none of a greater number
--- of its slot; and the table says of each what the facts tell
+-- a request stands in the table of session t exactly where a packet of it was taken, none of a greater number of its
+-- slot, and the session didn't end; and the table says of each what the facts tell
 pub record TellsRequests (past : List Fact) (s : Lists) : Type 0 where
-  pub listed : (t r : ℕ) → is_listed r (slice_get s.servers t) ≡ (list_any (λ f. takes_request t r f.event) past && not (list_any (λ f. takes_newer t r f.event) past))
-  pub requests : (t i : ℕ) (v : Server) (q : Served) → slice_get s.servers t ≡ Some v → slice_get v.slots i ≡ Some q → TellsRequest past t q
+  pub listed : (t r : ℕ) → is_listed r (find (is_server t) s.servers) ≡ (list_any (λ f. takes_request t r f.event) past && (not (list_any (λ f. takes_newer t r f.event) past) && not (list_any (λ f. ends_session t f.event) past)))
+  pub requests : (t i : ℕ) (v : Server) (q : Served) → find (is_server t) s.servers ≡ Some v → slice_get v.slots i ≡ Some q → TellsRequest past t q

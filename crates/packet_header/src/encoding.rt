@@ -1,7 +1,7 @@
 //! Writing a header.
 ghost use Rattle.std.specs.Prelude.{◌≡◌, ◌<◌, ◌^◌, unwrap_or};
 ghost use Rattle.byteorder.specs.Endian.{big_number};
-ghost use Rattle.packet_header.specs.Header.{HasControlHead, HasHead, HasMessageHead, InRange, control_code, kind_code};
+ghost use Rattle.packet_header.specs.Header.{AreBytes, HasControlHead, HasHead, HasMessageHead, InRange, control_code, kind_code};
 
 use crate::layout::{HEAD_BYTES, MAGIC, NO_SESSION};
 use crate::packet::{ControlHeader, ControlKind, Kind, MessageHeader, Packet};
@@ -12,12 +12,21 @@ use rpc_base::SessionNo;
 /// header.
 pub fn encode(packet: &Packet, out: &mut [u8; HEAD_BYTES])
     requires { InRange packet.now }
-    ensures { HasHead packet.now out.new }
+    ensures head { HasHead packet.now out.new }
+    ensures bytes { AreBytes out.new }
 {
     *out = match packet {
         Packet::Message(header) => message_head(header),
         Packet::Control(header) => control_head(header),
     };
+    are_bytes(out);
+}
+
+// What always holds of bytes holds of these.
+fn are_bytes(bytes: &[u8])
+    ensures { AreBytes bytes.now }
+{
+    let _count = bytes.len();
 }
 
 fn message_head(header: &MessageHeader) -> [u8; HEAD_BYTES]

@@ -1,5 +1,5 @@
 //! The receive ring.
-ghost use Rattle.std.specs.Prelude.{◌≡◌, ◌≤◌, ◌↔◌, [], ◌∷◌, ◌++◌, length, drop, slice_get, option_copied, IfOk, IfErr, OnOk, OnErr, IsErr};
+ghost use Rattle.std.specs.Prelude.{◌≡◌, ◌≤◌, ◌↔◌, [], ◌∷◌, ◌++◌, length, drop, slice_get, option_copied, IfOk, IfErr, OnOk, OnErr, IsErr, IsTrue};
 ghost use Rattle.packet_rings.specs.Rings.{ring};
 
 use crate::datagram::Datagram;
@@ -44,6 +44,21 @@ impl RxRing {
         self.datagrams.len() as u32
     }
 
+    /// How many datagrams the ring may hold.
+    pub fn size(&self) -> u32
+        ensures size { result ≡ self.now.size }
+        ensures within { length self.now.items ≤ self.now.size }
+    {
+        self.datagrams.capacity() as u32
+    }
+
+    /// Tells whether no datagram waits.
+    pub fn is_empty(&self) -> bool
+        ensures { IsTrue result ↔ (self.now.items ≡ []) }
+    {
+        self.datagrams.is_empty()
+    }
+
     /// Puts a datagram at the back. Err exactly where the ring is full: it is handed back then, and
     /// nothing changed.
     pub fn push(&mut self, datagram: Datagram) -> Result<(), Datagram>
@@ -60,6 +75,14 @@ impl RxRing {
         ensures { option_copied result ≡ slice_get self.now.items 0 }
     {
         self.datagrams.front()
+    }
+
+    /// Drops the oldest datagram where it lies. Nothing changes where the ring is empty.
+    pub fn drop_front(&mut self)
+        ensures { self.new ≡ ring (drop 1 self.old.items) self.old.size }
+    {
+        let left = self.datagrams.len().saturating_sub(1);
+        self.datagrams.truncate_front(left);
     }
 
     /// Takes the oldest datagram out. None exactly where the ring is empty.

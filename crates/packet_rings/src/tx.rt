@@ -51,6 +51,21 @@ impl TxRing {
         self.entries.len() as u32
     }
 
+    /// How many entries the ring may hold.
+    pub fn size(&self) -> u32
+        ensures size { result ≡ self.now.size }
+        ensures within { length self.now.items ≤ self.now.size }
+    {
+        self.entries.capacity() as u32
+    }
+
+    /// Tells whether no entry waits.
+    pub fn is_empty(&self) -> bool
+        ensures { IsTrue result ↔ (self.now.items ≡ []) }
+    {
+        self.entries.is_empty()
+    }
+
     /// Puts an entry at the back of a ring that isn't full.
     pub fn push(&mut self, entry: Entry)
         requires room { length self.old.items < self.old.size }

@@ -1,17 +1,30 @@
--- What is sent: each packet goes to the session's peer, and its head and body spell the packet of its owner.
-use Rattle.std.specs.Prelude.{ℕ, ◌≡◌, ◌+◌, Option, Some, None, List, [], ◌∷◌, ◌++◌, length, slice_get}
-use Rattle.std.specs.List.{slice_set}
-use Rattle.packet_header.specs.Header.{Spells}
+-- What is sent: each packet goes to the session's peer, and its head and body spell the packet of its owner. A control
+-- packet spells a request or an answer of the session that it names.
+use Rattle.std.specs.Prelude.{ℕ, ◌≡◌, ◌+◌, true, Option, Some, None, List, [], ◌∷◌, ◌++◌, length, slice_get}
+use Rattle.std.specs.List.{find, slice_set}
+use Rattle.packet_header.specs.declared.packet.ControlHeader.{ControlHeader}
+use Rattle.packet_header.specs.declared.packet.ControlKind.TheVariants.{DisconnectRequest, DisconnectReply}
+use Rattle.packet_header.specs.declared.packet.Packet.TheVariants.{Control as ControlPacket}
+use Rattle.packet_header.specs.Header.{AreBytes, Spells}
 use Rattle.rpc_base.specs.declared.event.Event.{Event}
 use Rattle.rpc_base.specs.declared.event.Event.TheVariants.{Made, Sent, Ticked}
 use Rattle.rpc_base.specs.declared.fact.Fact.{Fact}
 use Rattle.rpc_base.specs.declared.fact.Who.{Who}
 use Rattle.rpc_base.specs.declared.fact.Who.TheVariants.{Node, Net}
 use Rattle.rpc_base.specs.declared.owner.Owner.{Owner}
+use Rattle.rpc_base.specs.declared.owner.Owner.TheVariants.{Control}
+use Rattle.rpc_laws.specs.declared.rows.ControlRow.TheVariants.{Disowns}
+use Rattle.rpc_laws.specs.declared.tables.Client.{Client}
 use Rattle.rpc_laws.specs.declared.tables.Lists.{Lists}
 use Rattle.rpc_laws.specs.declared.tables.Outgoing.{Outgoing}
+use Rattle.rpc_laws.specs.declared.tables.Server.{Server}
+use Rattle.rpc_laws.specs.ControlSteps.{own_request}
+use Rattle.rpc_laws.specs.ControlTable.{connect_reply, disconnect_as, is_end_of, named_end, reply_row}
 use Rattle.rpc_laws.specs.NodeLists.{after, new_lists}
-use Rattle.rpc_laws.specs.Packets.{outgoing}
+use Rattle.rpc_laws.specs.Packets.{owner_packet}
+use Rattle.rpc_laws.specs.Requests.{is_server}
+use Rattle.rpc_laws.specs.Sessions.{is_client}
+use Rattle.rpc_laws.specs.UsualLimits.{with_ring}
 
 abbrev pub changed : ℕ → Option Lists → ℕ → List Lists → Fact → List Lists
 changed clock (Some s) n nodes f = slice_set nodes n (after clock s f)
@@ -19,7 +32,7 @@ changed clock None n nodes f = nodes
 
 -- the nodes' lists after a fact of node n: Made makes the next node
 abbrev pub node_after : ℕ → ℕ → Event → List Lists → Fact → List Lists
-node_after clock n (Made ring) nodes f = nodes ++ new_lists n ring ∷ []
+node_after clock n (Made ring) nodes f = nodes ++ new_lists n (with_ring ring) ∷ []
 node_after clock n _ nodes f = changed clock (slice_get nodes n) n nodes f
 
 abbrev pub nodes_at : ℕ → Who → List Lists → Fact → List Lists
@@ -48,13 +61,41 @@ pub record SpellsOwn (nodes : List Lists) (n peer : ℕ) (owner : Owner) (number
   pub lists : Lists
   pub is_node : slice_get nodes n ≡ Some lists
   pub out : Outgoing
-  pub own : outgoing lists (record { owner = owner; number = number }) ≡ Some out
+  pub own : owner_packet lists owner number ≡ Some out
   pub to_peer : peer ≡ out.peer
   pub long : length head ≡ 16
+  pub bytes : AreBytes head
   pub spells : Spells out.packet (head ++ body)
   pub whole : body ≡ out.body
 
+-- a client session with this number was opened to this peer
+pub record IsOpened (s : Lists) (peer session : ℕ) (x : Client) : Type 0 where
+  pub found : find (is_client session) s.clients ≡ Some x
+  pub to_peer : x.way.peer ≡ peer
+
+-- a control packet that a node may send to a peer: a session's own request; the answer that a live server session is
+-- the other end of the peer's, with its credits; that there is no room; the request to end a server session that the
+-- client session doesn't have; or the answer that a server session isn't there any more
+pub data OwnControl (s : Lists) (peer : ℕ) (h : ControlHeader) : Type 0 where
+  asks : (x : Client) → IsOpened s peer h.client x → own_request x ≡ Some h → OwnControl s peer h
+  confirms : (t : ℕ) → (v : Server) → h ≡ connect_reply h (Some t) v.credits 0 → find (is_server t) s.servers ≡ Some v → is_end_of peer h.client v ≡ true → OwnControl s peer h
+  declines : h ≡ connect_reply h None h.credits 1 → OwnControl s peer h
+  disowns : (x : Client) → IsOpened s peer h.client x → h ≡ disconnect_as DisconnectRequest h 0 → reply_row h.server 0 x ≡ Disowns → OwnControl s peer h
+  over : (status : ℕ) → h ≡ disconnect_as DisconnectReply h status → named_end peer h.client h.server s.servers ≡ None → OwnControl s peer h
+
+-- the head spells such a packet, and there is no body
+pub record SpellsControl (nodes : List Lists) (n peer number : ℕ) (head body : List ℕ) : Type 0 where
+  pub lists : Lists
+  pub is_node : slice_get nodes n ≡ Some lists
+  pub header : ControlHeader
+  pub own : OwnControl lists peer header
+  pub no_number : number ≡ 0
+  pub bytes : AreBytes head
+  pub spells : Spells (ControlPacket header) head
+  pub whole : body ≡ []
+
 abbrev pub SentRight : List Lists → ℕ → Event → List ℕ → List ℕ → Type 0
+SentRight nodes n (Sent peer Control number) head body = SpellsControl nodes n peer number head body
 SentRight nodes n (Sent peer owner number) head body = SpellsOwn nodes n peer owner number head body
 SentRight nodes n _ head body = Unit {0}
 

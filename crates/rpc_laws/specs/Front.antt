@@ -1,8 +1,20 @@
--- What the datagram at the front of a ring says.
-use Rattle.std.specs.Prelude.{ℕ, Option, List, [], ◌∷◌}
+-- What a datagram says, and what the one at the front of a ring does.
+use Rattle.std.specs.Prelude.{ℕ, Bool, is_some, Option, None, List, [], ◌∷◌}
 use Rattle.packet_header.specs.Reading.{message_of, body_of}
+use Rattle.packet_header.specs.declared.packet.ControlHeader.{ControlHeader}
 use Rattle.packet_header.specs.declared.packet.MessageHeader.{MessageHeader}
 use Rattle.rpc_laws.specs.declared.tables.Arrival.{Arrival}
+
+-- the control header of a datagram that is a control packet: as yet nodes take none
+abbrev pub control_of : List ℕ → Option ControlHeader
+control_of bytes = None
+
+-- whether a datagram is a packet of a call, and whether it is a control packet
+abbrev pub is_message : List ℕ → Bool
+is_message bytes = is_some (message_of bytes)
+
+abbrev pub is_control : List ℕ → Bool
+is_control bytes = is_some (control_of bytes)
 
 abbrev pub front_bytes : List Arrival → List ℕ
 front_bytes [] = []

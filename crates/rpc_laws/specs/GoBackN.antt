@@ -1,5 +1,5 @@
 -- The timer rule: which calls time out at a moment, and what becomes of them.
-use Rattle.std.specs.Prelude.{ℕ, ◌≡◌, ◌-◌, nat_lt, nat_le, Bool, not, ◌&&◌, Option, Some, None, List, [], ◌∷◌, ◌++◌, flat_map, length, map, slice_get, if◌then◌else◌}
+use Rattle.std.specs.Prelude.{ℕ, ◌≡◌, ◌-◌, nat_lt, nat_le, Bool, not, ◌&&◌, Option, Some, None, List, [], ◌∷◌, ◌++◌, flat_map, map, slice_get, if◌then◌else◌}
 use Rattle.std.specs.List.{find, list_any}
 use Rattle.rpc_base.specs.declared.event.Event.TheVariants.{Rolled, Broken, DonePeerLost}
 use Rattle.rpc_base.specs.declared.fact.Fact.{Fact}
@@ -14,7 +14,7 @@ use Rattle.rpc_laws.specs.declared.tables.Timed.{Timed}
 use Rattle.rpc_laws.specs.Calls.{is_call}
 use Rattle.rpc_laws.specs.Facts.{plain}
 use Rattle.rpc_laws.specs.Queues.{flush_facts, is_queued}
-use Rattle.rpc_laws.specs.Steps.{Rel, Goes, Then, Visits}
+use Rattle.rpc_laws.specs.Steps.{Rel, Goes, Then}
 
 -- a node's timeout, in microseconds, where nothing else is said
 abbrev pub usual_timeout : ℕ
@@ -90,7 +90,3 @@ numbers_in (Some x) = map (λ c. c.what.number) x.calls
 -- the calls of a session are looked at in the order of their numbers
 abbrev pub WatchesSession : (timeout i : ℕ) → Rel
 WatchesSession timeout i s x t = Each (Watches timeout i) (numbers_in (slice_get s.lists.clients i)) s x t
-
--- the sessions are visited in the order of their numbers
-abbrev pub WatchesAll : ℕ → Rel
-WatchesAll timeout s x t = Visits (WatchesSession timeout) (length s.lists.clients) s x t

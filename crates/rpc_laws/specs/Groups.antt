@@ -1,8 +1,8 @@
 -- What an application call notes at a node, and what room its sessions leave.
-use Rattle.std.specs.Prelude.{ℕ, ◌≡◌, ◌+◌, ◌^◌, ◌||◌, nat_lt, nat_le, Option, Some, None, List, [], ◌∷◌, length, sum_by, if◌then◌else◌}
+use Rattle.std.specs.Prelude.{ℕ, ◌≡◌, ◌+◌, ◌^◌, ◌==◌, ◌||◌, nat_lt, nat_le, Bool, not, Option, Some, None, List, [], ◌∷◌, length, sum_by, if◌then◌else◌}
 use Rattle.std.specs.List.{find}
 use Rattle.rpc_base.specs.declared.event.Event.{Event}
-use Rattle.rpc_base.specs.declared.event.Event.TheVariants.{Asked, NcallTooLarge, NcallState, NconnectRing, NconnectNumbers}
+use Rattle.rpc_base.specs.declared.event.Event.TheVariants.{Opened, Closing, NcloseState, NcloseBusy, Rated, Nrate, Asked, NcallTooLarge, NcallState, NconnectRing, NconnectNumbers}
 use Rattle.rpc_base.specs.declared.fact.Fact.{Fact}
 use Rattle.rpc_base.specs.declared.state.SessionState.{SessionState}
 use Rattle.rpc_base.specs.declared.state.SessionState.TheVariants.{Unknown, Connected, Spent}
@@ -10,7 +10,7 @@ use Rattle.rpc_laws.specs.declared.tables.Client.{Client}
 use Rattle.rpc_laws.specs.declared.tables.Lists.{Lists}
 use Rattle.rpc_laws.specs.declared.tables.Timed.{Timed}
 use Rattle.rpc_laws.specs.Facts.{plain, with_bytes}
-use Rattle.rpc_laws.specs.Sessions.{is_client, is_connected}
+use Rattle.rpc_laws.specs.Sessions.{is_client, is_connected, is_live}
 use Rattle.rpc_laws.specs.Steps.{Goes}
 
 -- a session is spent where it is Connected and 2^45 calls were asked on it
@@ -40,16 +40,77 @@ pub record Asks (session req_type : ℕ) (ask : List ℕ) (room : ℕ) (s : Time
 
 -- the credits of a client session that is live
 abbrev pub live_credits : Client → ℕ
-live_credits x = if is_connected x.state then x.limit else 0
+live_credits x = if is_live x.state then x.limit else 0
 
 -- the credits of the live sessions of a node
 abbrev pub shares : Lists → ℕ
 shares s = sum_by live_credits s.clients + sum_by (λ v. v.credits) s.servers
 
--- why a node takes no end of a pair: 65,535 numbers of client or of server sessions were used, or the
--- credits of its live sessions would exceed its ring
-abbrev pub pair_refusal : ℕ → Lists → Option Event
-pair_refusal credits s =
-    if nat_le 65535 (length s.clients) || nat_le 65535 (length s.servers) then Some NconnectNumbers
-    else (if nat_lt s.room (shares s + credits) then Some (NconnectRing (shares s) credits s.room)
+-- 65,535 numbers of client sessions were used, and so many of server sessions
+abbrev pub clients_spent : Lists → Bool
+clients_spent s = nat_le 65535 (length s.clients)
+
+abbrev pub servers_spent : Lists → Bool
+servers_spent s = nat_le 65535 s.server_numbers
+
+-- the credits of its live sessions, with so many more, would exceed a node's ring
+abbrev pub has_no_room : ℕ → Lists → Bool
+has_no_room credits s = nat_lt s.room (shares s + credits)
+
+-- why a node takes no session of so many credits: the numbers are spent, or there is no room
+abbrev pub refusal_by : Bool → ℕ → Lists → Option Event
+refusal_by spent credits s =
+    if spent then Some NconnectNumbers
+    else (if has_no_room credits s then Some (NconnectRing (shares s) credits s.room)
     else None)
+
+-- why it takes no client session, no server end of a pair, and neither end of a pair
+abbrev pub client_refusal : ℕ → Lists → Option Event
+client_refusal credits s = refusal_by (clients_spent s) credits s
+
+abbrev pub server_refusal : ℕ → Lists → Option Event
+server_refusal credits s = refusal_by (servers_spent s) credits s
+
+abbrev pub pair_refusal : ℕ → Lists → Option Event
+pair_refusal credits s = refusal_by (clients_spent s || servers_spent s) credits s
+
+-- a connect that nothing refuses opens the next client session, with its rate where it has one
+abbrev pub connect_by : Option Event → (peer credits rate : ℕ) → Lists → List Fact
+connect_by (Some refusal) peer credits rate s = plain s.me refusal ∷ []
+connect_by None peer credits rate s =
+    plain s.me (Opened (length s.clients) peer credits) ∷ (if rate == 0 then [] else plain s.me (Rated (length s.clients) rate) ∷ [])
+
+pub record Connects (peer credits rate : ℕ) (s : Timed) (x : List Fact) (t : Timed) : Type 0 where
+  pub facts : x ≡ connect_by (client_refusal credits s.lists) peer credits rate s.lists
+  pub goes : Goes s x t
+
+-- how many calls of a session are pending, those that wait included
+abbrev pub pending : Option Client → ℕ
+pending None = 0
+pending (Some x) = length x.calls
+
+-- a disconnect is refused where the session is neither Connected nor Spent, and then where calls are pending
+abbrev pub disconnect_by : SessionState → (session calls : ℕ) → Event
+disconnect_by state session calls =
+    if not (is_connected state) then NcloseState session state
+    else (if not (calls == 0) then NcloseBusy session calls
+    else Closing session)
+
+abbrev pub disconnect_fact : ℕ → Lists → Fact
+disconnect_fact session s =
+    let x = find (is_client session) s.clients in plain s.me (disconnect_by (state_of x) session (pending x))
+
+pub record Disconnects (session : ℕ) (s : Timed) (x : List Fact) (t : Timed) : Type 0 where
+  pub facts : x ≡ disconnect_fact session s.lists ∷ []
+  pub goes : Goes s x t
+
+-- a rate is refused where the session isn't live
+abbrev pub rate_by : SessionState → (session rate : ℕ) → Event
+rate_by state session rate = if is_live state then Rated session rate else Nrate session state
+
+abbrev pub rate_fact : (session rate : ℕ) → Lists → Fact
+rate_fact session rate s = plain s.me (rate_by (state_of (find (is_client session) s.clients)) session rate)
+
+pub record SetsRate (session rate : ℕ) (s : Timed) (x : List Fact) (t : Timed) : Type 0 where
+  pub facts : x ≡ rate_fact session rate s.lists ∷ []
+  pub goes : Goes s x t

@@ -1,9 +1,9 @@
--- Background jobs of a node: given, worked, and finished.
+-- Background jobs of a node: given and finished. That a job was worked changes none of them.
 use Rattle.std.specs.Prelude.{ℕ, ◌+◌, ◌^◌, ◌==◌, ◌&&◌, ◌||◌, nat_le, Bool, List, [], ◌++◌, length, option_and_then, option_map, option_to_list}
 use Rattle.std.specs.List.{find}
 use Rattle.rpc_base.specs.Tables.{without_first}
 use Rattle.rpc_base.specs.declared.event.Event.{Event}
-use Rattle.rpc_base.specs.declared.event.Event.TheVariants.{Given, Worked, Ran}
+use Rattle.rpc_base.specs.declared.event.Event.TheVariants.{Given, Ran}
 use Rattle.rpc_laws.specs.declared.tables.Job.{Job}
 use Rattle.rpc_laws.specs.declared.tables.Jobs.{Jobs}
 use Rattle.rpc_laws.specs.declared.tables.Served.{Served}
@@ -23,22 +23,20 @@ new_job t r servers =
 abbrev pub is_job : ℕ → ℕ → Job → Bool
 is_job t r job = job.session == t && job.request == r
 
-abbrev pub no_jobs : Jobs
-no_jobs = record { given = 0; waiting = []; worked = [] }
+-- none was given; so many may be out at one time
+abbrev pub no_jobs : ℕ → Jobs
+no_jobs limit = record { limit = limit; given = 0; out = [] }
 
--- a job waits from Given to Worked, and is over at its Ran; the servers are those before the fact
+-- a job is out from Given to its Ran; the servers are those before the fact
 abbrev pub jobs_after : Event → List Server → Jobs → Jobs
-jobs_after (Given t r) servers jobs =
-    record jobs { given = jobs.given + 1; waiting = jobs.waiting ++ new_job t r servers }
-jobs_after (Worked t r) servers jobs =
-    record jobs { waiting = without_first (is_job t r) jobs.waiting; worked = jobs.worked ++ option_to_list (find (is_job t r) jobs.waiting) }
-jobs_after (Ran t r y) servers jobs = record jobs { worked = without_first (is_job t r) jobs.worked }
+jobs_after (Given t r) servers jobs = record jobs { given = jobs.given + 1; out = jobs.out ++ new_job t r servers }
+jobs_after (Ran t r y) servers jobs = record jobs { out = without_first (is_job t r) jobs.out }
 jobs_after _ servers jobs = jobs
 
--- how many jobs a node takes that aren't finished
+-- how many jobs a node takes that aren't finished, where nothing else is said
 abbrev pub usual_jobs : ℕ
 usual_jobs = 64
 
--- the jobs are full: so many were given and aren't finished, or 2^61 were given in the node's life
+-- the jobs are full: as many as the limit were given and aren't finished, or 2^61 were given in the node's life
 abbrev pub are_full : Jobs → Bool
-are_full jobs = nat_le usual_jobs (length jobs.waiting + length jobs.worked) || nat_le (2 ^ 61) jobs.given
+are_full jobs = nat_le jobs.limit (length jobs.out) || nat_le (2 ^ 61) jobs.given

@@ -2,6 +2,8 @@ pub mod AtMostOnce
 pub mod BufferSafety
 pub mod Calls
 pub mod ClientTable
+pub mod ControlSteps
+pub mod ControlTable
 pub mod Deliveries
 pub mod Facts
 pub mod Front
@@ -11,6 +13,7 @@ pub mod InFlight
 pub mod Jobs
 pub mod NodeLists
 pub mod OwnAnswer
+pub mod Pacing
 pub mod Packets
 pub mod PollOrder
 pub mod Posting
@@ -20,4 +23,5 @@ pub mod ServerTable
 pub mod Service
 pub mod Sessions
 pub mod Steps
+pub mod UsualLimits
 pub mod Working

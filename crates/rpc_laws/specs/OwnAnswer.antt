@@ -1,7 +1,7 @@
 -- A handler runs on the bytes of a call, and a call ends with its own handler's answer.
 use Rattle.std.specs.Prelude.{ℕ, ◌≡◌, ◌<◌, List, [], ◌∷◌, ◌++◌, length, if◌then◌else◌, Contains}
 use Rattle.rpc_base.specs.declared.event.Event.{Event}
-use Rattle.rpc_base.specs.declared.event.Event.TheVariants.{PairedClient, PairedServer, Asked, Begun, Ran, DoneOk, DoneTooSmall}
+use Rattle.rpc_base.specs.declared.event.Event.TheVariants.{PairedClient, PairedServer, Opened, Accepted, Connected, Asked, Begun, Ran, DoneOk, DoneTooSmall}
 use Rattle.rpc_base.specs.declared.fact.Fact.{Fact}
 use Rattle.rpc_base.specs.declared.fact.Who.{Who}
 use Rattle.rpc_base.specs.declared.fact.Who.TheVariants.{Node, Net}
@@ -11,12 +11,20 @@ use Rattle.rpc_laws.specs.AtMostOnce.{is_at}
 use Rattle.rpc_laws.specs.Facts.{plain, with_bytes, with_two}
 use Rattle.rpc_laws.specs.Service.{is_inline}
 
+-- client session s of node n is connected with t of peer m: by pairing, or it was opened to m and then connected
+pub data IsClientEnd (past : List Fact) (n s m t : ℕ) : Type 0 where
+  paired : (limit : ℕ) → Contains past (plain n (PairedClient s m t limit)) → IsClientEnd past n s m t
+  connected : (limit : ℕ) → Contains past (plain n (Opened s m limit)) → Contains past (plain n (Connected s t)) → IsClientEnd past n s m t
+
+-- server session t of node m is for s of peer n: by pairing, or it was accepted
+pub data IsServerEnd (past : List Fact) (n s m t : ℕ) : Type 0 where
+  paired : (credits : ℕ) → Contains past (plain m (PairedServer t n s credits)) → IsServerEnd past n s m t
+  accepted : (credits : ℕ) → Contains past (plain m (Accepted t n s credits)) → IsServerEnd past n s m t
+
 -- (n, s) and (m, t) are ends of one session, by the facts so far
 pub record AreEnds (past : List Fact) (n s m t : ℕ) : Type 0 where
-  pub limit : ℕ
-  pub credits : ℕ
-  pub client : Contains past (plain n (PairedClient s m t limit))
-  pub server : Contains past (plain m (PairedServer t n s credits))
+  pub client : IsClientEnd past n s m t
+  pub server : IsServerEnd past n s m t
 
 -- request r of server session t of node m is call c of node n, of this type, room and bytes
 pub record IsCallOf (past : List Fact) (n c m t r req_type room : ℕ) (ask : List ℕ) : Type 0 where

@@ -10,6 +10,7 @@ use Rattle.rpc_laws.specs.declared.tables.Client.{Client}
 use Rattle.rpc_laws.specs.declared.tables.Lists.{Lists}
 use Rattle.rpc_laws.specs.declared.tables.Progress.{Progress}
 use Rattle.rpc_laws.specs.Calls.{is_waiting, asked_packets, known_packets}
+use Rattle.rpc_laws.specs.Sessions.{is_connected}
 
 abbrev pub holds_slot : ℕ → Option Progress → Bool
 holds_slot slot None = false
@@ -49,8 +50,12 @@ posting x =
     if x.free == 0 then None
     else option_and_then (λ c. next_packet x.way.number c.progress) (find can_post x.calls)
 
+-- of a Connected session alone
+abbrev pub if_connected : (Client → Option Event) → Client → Option Event
+if_connected next x = if is_connected x.state then next x else None
+
 abbrev pub next_begun : ℕ → Lists → Option Event
-next_begun i s = option_and_then beginning (slice_get s.clients i)
+next_begun i s = option_and_then (if_connected beginning) (slice_get s.clients i)
 
 abbrev pub next_posted : ℕ → Lists → Option Event
-next_posted i s = option_and_then posting (slice_get s.clients i)
+next_posted i s = option_and_then (if_connected posting) (slice_get s.clients i)

@@ -1,9 +1,9 @@
--- Server sessions with the newest request of each slot, as the facts of a node leave them.
+-- The live server sessions with the newest request of each slot, as the facts of a node leave them.
 use Rattle.std.specs.Prelude.{ℕ, ◌+◌, ◌%◌, ◌==◌, Bool, true, false, Option, Some, None, List, [], ◌∷◌, ◌++◌, if◌then◌else◌}
 use Rattle.std.specs.List.{list_any}
 use Rattle.packet_header.specs.declared.packet.MessageHeader.{MessageHeader}
 use Rattle.rpc_base.specs.declared.event.Event.{Event}
-use Rattle.rpc_base.specs.declared.event.Event.TheVariants.{PairedServer, Took, Given, Ran}
+use Rattle.rpc_base.specs.declared.event.Event.TheVariants.{PairedServer, Accepted, Ended, Took, Given, Ran}
 use Rattle.rpc_base.specs.declared.owner.Owner.TheVariants.{Reply}
 use Rattle.rpc_laws.specs.declared.tables.Served.{Served}
 use Rattle.rpc_laws.specs.declared.tables.Server.{Server}
@@ -43,13 +43,16 @@ took_packet r (Some h) body slots =
 abbrev pub given : Served → Served
 given q = record q { ask = []; working = true }
 
--- until its Ran, which gives the answer
+-- until its Ran, which gives the answer; the bytes of the request are given up
 abbrev pub answered : List ℕ → Served → Served
-answered bytes q = record q { working = false; answer = Some bytes }
+answered bytes q = record q { ask = []; working = false; answer = Some bytes }
 
--- answer is the fact's; head and body are those of the packet at the front of the ring
+-- a session stands there from Accepted or its pairing to Ended. answer is the fact's; head and body are those of
+-- the packet at the front of the ring
 abbrev pub servers_after : Event → List ℕ → Option MessageHeader → List ℕ → List Server → List Server
 servers_after (PairedServer t peer s credits) answer head body xs = xs ++ server_end t peer s credits ∷ []
+servers_after (Accepted t peer s credits) answer head body xs = xs ++ server_end t peer s credits ∷ []
+servers_after (Ended t) answer head body xs = without_first (is_server t) xs
 servers_after (Took (Reply t r) k) answer head body xs =
     at_first (is_server t) (λ v. record v { slots = took_packet r head body v.slots }) xs
 servers_after (Given t r) answer head body xs =
@@ -57,3 +60,9 @@ servers_after (Given t r) answer head body xs =
 servers_after (Ran t r y) answer head body xs =
     at_first (is_server t) (λ v. record v { slots = at_first (is_request r) (answered answer) v.slots }) xs
 servers_after _ answer head body xs = xs
+
+-- how many numbers of server sessions were used
+abbrev pub server_numbers_after : Event → ℕ → ℕ
+server_numbers_after (PairedServer t peer s credits) n = n + 1
+server_numbers_after (Accepted t peer s credits) n = n + 1
+server_numbers_after _ n = n

@@ -1,4 +1,5 @@
--- The server rule: what a Request or RFR does at a node. The first row that holds decides.
+-- The server rule: what a Request or RFR does at a node. The first row that holds decides. Of the node's service
+-- it looks at the mode of the packet's type alone; what a handler answers is handed in.
 use Rattle.std.specs.Prelude.{ℕ, ◌+◌, ◌==◌, nat_lt, nat_le, Bool, true, false, not, ◌&&◌, ◌||◌, Option, Some, None, List, [], ◌∷◌, ◌++◌, length, if◌then◌else◌}
 use Rattle.std.specs.List.{find}
 use Rattle.packet_header.specs.Parts.{packet_count}
@@ -8,7 +9,7 @@ use Rattle.packet_header.specs.declared.packet.MessageHeader.{MessageHeader}
 use Rattle.rpc_base.specs.declared.event.Event.TheVariants.{Posted, Took, Again, Dropped, Given, Ran}
 use Rattle.rpc_base.specs.declared.fact.Fact.{Fact}
 use Rattle.rpc_base.specs.declared.owner.Owner.TheVariants.{Reply}
-use Rattle.rpc_base.specs.declared.state.DropReason.TheVariants.{NoSession, WrongPeer, Old, NotFirst, Working, Unserved, JobsFull, Mismatch, Ahead, Beyond}
+use Rattle.rpc_base.specs.declared.state.DropReason.TheVariants.{NoSession, WrongPeer, Old, NotFirst, Working, Unserved, JobsFull, NoMemory, Mismatch, Ahead, Beyond}
 use Rattle.rpc_laws.specs.declared.rows.ServerRow.{ServerRow}
 use Rattle.rpc_laws.specs.declared.rows.ServerRow.TheVariants.{Drops, Begins, Takes, Repeats}
 use Rattle.rpc_laws.specs.declared.tables.Served.{Served}
@@ -17,7 +18,8 @@ use Rattle.rpc_laws.specs.declared.tables.Queued.{Queued}
 use Rattle.rpc_laws.specs.Facts.{plain, with_two}
 use Rattle.rpc_laws.specs.Queues.{flush_facts}
 use Rattle.rpc_laws.specs.Requests.{is_request, in_slot_of}
-use Rattle.rpc_laws.specs.Service.{is_served, is_background, answer_with}
+use Rattle.rpc_outside.specs.declared.service.Mode.{Mode}
+use Rattle.rpc_laws.specs.Service.{is_handled, is_mode_background}
 
 abbrev pub is_rfr : Kind → Bool
 is_rfr Rfr = true
@@ -28,18 +30,19 @@ abbrev pub is_last : MessageHeader → Bool
 is_last h = not (is_rfr h.kind) && (h.number + 1 == packet_count h.size)
 
 -- whether a packet makes a background job: the last one of a request of a Background type
-abbrev pub makes_job : MessageHeader → Bool
-makes_job h = is_last h && is_background h.req_type
+abbrev pub makes_job : Mode → MessageHeader → Bool
+makes_job mode h = is_last h && is_mode_background mode
 
 -- a number greater than each before it in its slot. working says whether a worker has the newest request of
--- the slot, and full whether the node's jobs are full
-abbrev pub new_row : (working full : Bool) → MessageHeader → ServerRow
-new_row working full h =
+-- the slot, full whether the node's jobs are full, and lacks whether memory for a buffer is wanting
+abbrev pub new_row : Mode → (working full lacks : Bool) → MessageHeader → ServerRow
+new_row mode working full lacks h =
     if is_rfr h.kind || not (h.number == 0) then Drops NotFirst
     else (if working then Drops Working
-    else (if not (is_served h.req_type) then Drops Unserved
-    else (if makes_job h && full then Drops JobsFull
-    else Begins)))
+    else (if not (is_handled mode) then Drops Unserved
+    else (if makes_job mode h && full then Drops JobsFull
+    else (if lacks then Drops NoMemory
+    else Begins))))
 
 -- whether an RFR asks for a part that isn't there: the answer isn't known, or has no such part
 abbrev pub is_past_end : ℕ → Option (List ℕ) → ℕ → Bool
@@ -51,27 +54,28 @@ abbrev pub is_worked_on : Served → MessageHeader → Bool
 is_worked_on l h = (h.number + 1 == packet_count l.size) && l.working
 
 -- the number that stands in its slot
-abbrev pub own_row : Bool → Served → MessageHeader → ServerRow
-own_row full l h =
+abbrev pub own_row : Mode → (full lacks : Bool) → Served → MessageHeader → ServerRow
+own_row mode full lacks l h =
     if (if is_rfr h.kind then nat_lt h.number (packet_count l.size) else not (h.req_type == l.req_type && h.size == l.size)) then Drops Mismatch
     else (if nat_lt l.taken h.number then Drops Ahead
     else (if nat_lt h.number l.taken then (if is_worked_on l h then Drops Working else Repeats)
     else (if is_rfr h.kind && is_past_end l.size l.answer h.number then Drops Beyond
-    else (if makes_job h && full then Drops JobsFull
-    else Takes))))
+    else (if makes_job mode h && full then Drops JobsFull
+    else (if lacks && is_last h then Drops NoMemory
+    else Takes)))))
 
-abbrev pub slot_row : Bool → Option Served → MessageHeader → ServerRow
-slot_row full None h = new_row false full h
-slot_row full (Some l) h =
+abbrev pub slot_row : Mode → (full lacks : Bool) → Option Served → MessageHeader → ServerRow
+slot_row mode full lacks None h = new_row mode false full lacks h
+slot_row mode full lacks (Some l) h =
     if nat_lt h.request l.number then Drops Old
-    else (if nat_lt l.number h.request then new_row l.working full h
-    else own_row full l h)
+    else (if nat_lt l.number h.request then new_row mode l.working full lacks h
+    else own_row mode full lacks l h)
 
-abbrev pub server_row : Bool → Option Server → ℕ → MessageHeader → ServerRow
-server_row full None peer h = Drops NoSession
-server_row full (Some v) peer h =
+abbrev pub server_row : Mode → (full lacks : Bool) → Option Server → ℕ → MessageHeader → ServerRow
+server_row mode full lacks None peer h = Drops NoSession
+server_row mode full lacks (Some v) peer h =
     if not (v.way.peer == peer) then Drops WrongPeer
-    else slot_row full (find (in_slot_of h.request) v.slots) h
+    else slot_row mode full lacks (find (in_slot_of h.request) v.slots) h
 
 -- the bytes of the request with this packet: joined to those taken before, where it goes on
 abbrev pub joined : Option Served → List ℕ → List ℕ
@@ -83,15 +87,16 @@ whole_ask None r body = body
 whole_ask (Some v) r body = joined (find (is_request r) v.slots) body
 
 -- what a packet that is taken brings besides: the last one of a request gives a job where the type is
--- Background, and runs the handler where it is Inline; every packet but one that gives a job is answered
-abbrev pub brings : ℕ → ℕ → MessageHeader → List ℕ → List Fact
-brings me total h ask =
-    if makes_job h then plain me (Given h.session h.request) ∷ []
-    else (if is_last h then with_two me (Ran h.session h.request h.req_type) ask (answer_with total h.req_type ask) ∷ [] else []) ++ plain me (Posted (Reply h.session h.request) h.number) ∷ []
+-- Background, and runs the handler, which gives the answer, where it is Inline; every packet but one that gives a
+-- job is answered
+abbrev pub brings : Mode → ℕ → List ℕ → MessageHeader → List ℕ → List Fact
+brings mode me answer h ask =
+    if makes_job mode h then plain me (Given h.session h.request) ∷ []
+    else (if is_last h then with_two me (Ran h.session h.request h.req_type) ask answer ∷ [] else []) ++ plain me (Posted (Reply h.session h.request) h.number) ∷ []
 
 -- taking a packet: ask is all that was taken of its request with it
-abbrev pub took_facts : ℕ → ℕ → MessageHeader → List ℕ → List Fact
-took_facts me total h ask = plain me (Took (Reply h.session h.request) h.number) ∷ brings me total h ask
+abbrev pub took_facts : Mode → ℕ → List ℕ → MessageHeader → List ℕ → List Fact
+took_facts mode me answer h ask = plain me (Took (Reply h.session h.request) h.number) ∷ brings mode me answer h ask
 
 -- the queued replies of a request are taken out
 abbrev pub flushes : ℕ → List Queued → ℕ → Option Served → List Fact
@@ -104,9 +109,10 @@ flushes_older me queued None r = []
 flushes_older me queued (Some v) r = flushes me queued v.way.number (find (in_slot_of r) v.slots)
 
 -- the facts of a row. A request that begins first flushes the older one of its slot
-abbrev pub served_facts : ℕ → ℕ → List Queued → Option Server → MessageHeader → List ℕ → ServerRow → List Fact
-served_facts me total queued v h body (Drops why) = plain me (Dropped why) ∷ []
-served_facts me total queued v h body Begins = flushes_older me queued v h.request ++ took_facts me total h body
-served_facts me total queued v h body Takes = took_facts me total h (whole_ask v h.request body)
-served_facts me total queued v h body Repeats =
+abbrev pub served_facts : Mode → ℕ → List ℕ → List Queued → Option Server → MessageHeader → List ℕ → ServerRow → List Fact
+served_facts mode me answer queued v h body (Drops why) = plain me (Dropped why) ∷ []
+served_facts mode me answer queued v h body Begins =
+    flushes_older me queued v h.request ++ took_facts mode me answer h body
+served_facts mode me answer queued v h body Takes = took_facts mode me answer h (whole_ask v h.request body)
+served_facts mode me answer queued v h body Repeats =
     plain me (Again (Reply h.session h.request) h.number) ∷ plain me (Posted (Reply h.session h.request) h.number) ∷ []

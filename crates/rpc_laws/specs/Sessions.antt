@@ -1,16 +1,20 @@
 -- Client sessions with their calls, as the facts of a node leave them. The calls of a session stand in the
 -- order of their numbers: those that are active, and then those that wait.
-use Rattle.std.specs.Prelude.{ℕ, ◌+◌, ◌-◌, ◌%◌, ◌==◌, Bool, true, false, Option, List, [], ◌∷◌, ◌++◌, slice_index, slice_set}
+use Rattle.std.specs.Prelude.{ℕ, ◌+◌, ◌-◌, ◌%◌, ◌==◌, Bool, true, false, Option, Some, None, List, [], ◌∷◌, ◌++◌, slice_index, slice_set, if◌then◌else◌}
 use Rattle.std.specs.List.{list_any}
 use Rattle.rpc_base.specs.declared.event.Event.{Event}
-use Rattle.rpc_base.specs.declared.event.Event.TheVariants.{PairedClient, Asked, Begun, Posted, Sent, Took, Rolled, Broken, DoneOk, DoneTooSmall, DonePeerLost}
-use Rattle.rpc_base.specs.declared.owner.Owner.TheVariants.{Ask}
+use Rattle.rpc_base.specs.declared.event.Event.TheVariants.{Opened, PairedClient, Connected as IsConnected, FailedNoRoom, FailedNoAnswer, Closing as BeginsClosing, ClosedHeard, ClosedUnheard, Asked, Begun, Posted, Sent, Took, Rolled, Broken, DoneOk, DoneTooSmall, DonePeerLost}
+use Rattle.rpc_base.specs.declared.owner.Owner.TheVariants.{Ask, Control}
 use Rattle.rpc_base.specs.declared.state.SessionState.{SessionState}
-use Rattle.rpc_base.specs.declared.state.SessionState.TheVariants.{Connected, Spent, Broken as IsBroken}
+use Rattle.rpc_base.specs.declared.state.SessionState.TheVariants.{Connecting, Connected, Closing, Closed, Failed, Spent, Broken as IsBroken}
+use Rattle.packet_header.specs.declared.packet.ControlHeader.{ControlHeader}
+use Rattle.packet_header.specs.declared.packet.ControlKind.{ControlKind}
+use Rattle.packet_header.specs.declared.packet.ControlKind.TheVariants.{ConnectRequest, DisconnectRequest}
 use Rattle.packet_header.specs.declared.packet.MessageHeader.{MessageHeader}
 use Rattle.rpc_laws.specs.declared.tables.Asking.{Asking}
 use Rattle.rpc_laws.specs.declared.tables.Client.{Client}
 use Rattle.rpc_base.specs.Tables.{at_first, without_first}
+use Rattle.rpc_laws.specs.Front.{control_of}
 use Rattle.rpc_laws.specs.Calls.{is_call, is_active, asking, begun, moved, posted_up_to, rolled_back, sent_packet, took_reply}
 
 abbrev pub is_client : ℕ → Client → Bool
@@ -25,6 +29,14 @@ is_connected Connected = true
 is_connected Spent = true
 is_connected _ = false
 
+-- whether a session's credits count: it is live from Opened or its pairing until it failed, is closed or broke
+abbrev pub is_live : SessionState → Bool
+is_live Connecting = true
+is_live Connected = true
+is_live Spent = true
+is_live Closing = true
+is_live _ = false
+
 -- eight slots in which no request began
 abbrev pub no_turns : List ℕ
 no_turns = 0 ∷ 0 ∷ 0 ∷ 0 ∷ 0 ∷ 0 ∷ 0 ∷ 0 ∷ []
@@ -35,10 +47,45 @@ client_end number peer other credits = record {
   state = Connected;
   limit = credits;
   free = credits;
+  sends = 0;
+  sent_at = 0;
   asked = 0;
   turns = no_turns;
   calls = [];
 }
+
+-- no session's number
+abbrev pub no_session : ℕ
+no_session = 65535
+
+-- Opened: the server's number isn't known yet
+abbrev pub opened_end : ℕ → ℕ → ℕ → Client
+opened_end number peer credits = record (client_end number peer no_session credits) { state = Connecting }
+
+-- another state, in which none of the session's own requests was sent
+abbrev pub comes_to : SessionState → Client → Client
+comes_to state x = record x { state = state; sends = 0; sent_at = 0 }
+
+-- Connected with server session t
+abbrev pub connects : ℕ → Client → Client
+connects t x = record (comes_to Connected x) { way = record x.way { other = t } }
+
+-- whether a control packet is a session's own request: while it is Connecting that to connect, and while it is
+-- Closing that to disconnect its server session
+abbrev pub is_request_of : ControlKind → Option ℕ → SessionState → ℕ → Bool
+is_request_of ConnectRequest server Connecting other = true
+is_request_of DisconnectRequest (Some t) Closing other = t == other
+is_request_of _ server state other = false
+
+-- one more of its own requests was sent, at this clock
+abbrev pub requests : (clock : ℕ) → ControlHeader → Client → Client
+requests clock h x =
+    if is_request_of h.kind h.server x.state x.way.other then record x { sends = x.sends + 1; sent_at = clock } else x
+
+-- a control packet with this header was sent, if it is one
+abbrev pub clients_told : (clock : ℕ) → Option ControlHeader → List Client → List Client
+clients_told clock None xs = xs
+clients_told clock (Some h) xs = at_first (is_client h.client) (requests clock h) xs
 
 -- the slot of r has had one more turn
 abbrev pub turned : ℕ → List ℕ → List ℕ
@@ -83,6 +130,14 @@ ends number x = record x { calls = without_first (is_call number) x.calls }
 -- of the ring
 abbrev pub clients_after : ℕ → Event → List ℕ → Option MessageHeader → List ℕ → List Client → List Client
 clients_after clock (PairedClient s peer t credits) bytes head body xs = xs ++ client_end s peer t credits ∷ []
+clients_after clock (Opened s peer credits) bytes head body xs = xs ++ opened_end s peer credits ∷ []
+clients_after clock (IsConnected s t) bytes head body xs = at_first (is_client s) (connects t) xs
+clients_after clock (FailedNoRoom s) bytes head body xs = at_first (is_client s) (comes_to Failed) xs
+clients_after clock (FailedNoAnswer s) bytes head body xs = at_first (is_client s) (comes_to Failed) xs
+clients_after clock (BeginsClosing s) bytes head body xs = at_first (is_client s) (comes_to Closing) xs
+clients_after clock (ClosedHeard s) bytes head body xs = at_first (is_client s) (comes_to Closed) xs
+clients_after clock (ClosedUnheard s) bytes head body xs = at_first (is_client s) (comes_to Closed) xs
+clients_after clock (Sent peer Control k) bytes head body xs = clients_told clock (control_of bytes) xs
 clients_after clock (Asked c s y room) bytes head body xs =
     at_first (is_client s) (asks (record { number = c; req_type = y; room = room; ask = bytes })) xs
 clients_after clock (Begun c r) bytes head body xs = at_first (has_call c) (begins c r) xs

@@ -7,8 +7,8 @@ mod rows;
 mod tables;
 
 pub use history::History;
-pub use rows::{ClientRow, EndRow, ServerRow, TimerRow};
+pub use rows::{ClientRow, ControlRow, EndRow, RetryRow, ServerRow, TimerRow};
 pub use tables::{
-    Arrival, Asking, Call, Client, InFlight, Job, Jobs, Lists, Outgoing, Progress, Queued, Served,
-    Server, Timed, Way,
+    Arrival, Asking, Call, Client, Counted, InFlight, Job, Jobs, Lists, Outgoing, Pace, Progress,
+    Queued, Served, Server, Timed, Way, WorkedJob,
 };

@@ -1,5 +1,5 @@
-//! The rows of the two tables by which data packets are handled.
-use rpc_base::DropReason;
+//! The rows of the tables by which packets are handled, and of the timers.
+use rpc_base::{DropReason, SessionNo};
 
 /// What the server rule says of a Request or RFR.
 #[derive(Clone, Copy, Debug, PartialEq, Eq)]
@@ -39,4 +39,41 @@ pub enum EndRow {
     EndsOk,
     /// The first part of its answer tells a size, in bytes, above its room.
     EndsTooSmall(u32),
+}
+
+/// What the control rule says of a control packet.
+#[derive(Clone, Copy, Debug, PartialEq, Eq)]
+pub enum ControlRow {
+    /// It has no effect.
+    Ignores,
+    /// A connect request whose server session is there: its number and its credits are told once more.
+    Confirms { server: SessionNo, credits: u16 },
+    /// A connect request for which there is no room.
+    Declines,
+    /// A connect request for which there is no memory.
+    Starves,
+    /// A connect request that makes the server session of this number.
+    Accepts { server: SessionNo },
+    /// A disconnect request that ends a server session.
+    Ends,
+    /// A disconnect request whose server session isn't there.
+    Misses,
+    /// A connect reply by which the client session is connected with this server session.
+    Connects { server: SessionNo },
+    /// A connect reply whose server session nobody uses: it is to be ended.
+    Disowns,
+    /// A connect reply by which the client session fails.
+    Fails,
+    /// A disconnect reply by which the client session is closed.
+    Closes,
+}
+
+/// What the retry rule says of a client session's own connect or disconnect request.
+#[derive(Clone, Copy, Debug, PartialEq, Eq)]
+pub enum RetryRow {
+    Rests,
+    /// The request is sent.
+    Asks,
+    /// It was sent nine times, and no answer came.
+    GivesUp,
 }

@@ -14,9 +14,13 @@ pub struct Arrival {
 pub struct Queued {
     pub owner: Owner,
     pub number: u16,
+    /// The clock, in microseconds, from which on it may be sent, where it is paced and wasn't ready yet when a
+    /// poll ended. `None` where it is ready.
+    pub due: Option<u64>,
 }
 
-/// What never changes of one end of a session: its number here, the peer, and its number there.
+/// What never changes of one end of a session once it is connected: its number here, the peer, and its number
+/// there. A client end that isn't connected yet has 65,535 there, which is no session's number.
 #[derive(Clone, Copy, Debug, PartialEq, Eq)]
 pub struct Way {
     pub number: SessionNo,
@@ -66,6 +70,11 @@ pub struct Client {
     pub state: SessionState,
     pub limit: u16,
     pub free: u64,
+    /// How many connect requests were sent since it was opened, or disconnect requests since it began to close;
+    /// 0 in each other state.
+    pub sends: u64,
+    /// The clock, in microseconds, when the last of them was sent; 0 where none was.
+    pub sent_at: u64,
     /// How many calls were accepted on it.
     pub asked: u64,
     /// How many requests began in each of its eight slots.
@@ -107,15 +116,34 @@ pub struct Job {
     pub ask: Octets,
 }
 
-/// The background jobs of a node that aren't finished.
+/// The background jobs of a node.
 #[derive(Debug, Drop)]
 pub struct Jobs {
+    /// How many jobs may be given and not finished at one time.
+    pub limit: u32,
     /// How many jobs were given so far.
     pub given: u64,
-    /// Those that wait to be worked, in the order in which they were given.
-    pub waiting: Listed<Job>,
-    /// Those that were worked, in the order in which they were.
-    pub worked: Listed<Job>,
+    /// Those that aren't finished, in the order in which they were given.
+    pub out: Listed<Job>,
+}
+
+/// How many facts of four kinds a node noted. Each count stops at 2^64 - 1.
+#[derive(Clone, Copy, Debug, PartialEq, Eq)]
+pub struct Counted {
+    pub ran: u64,
+    pub given: u64,
+    pub dropped: u64,
+    pub overflowed: u64,
+}
+
+/// The rate of a client session.
+#[derive(Debug, Drop)]
+pub struct Pace {
+    pub session: SessionNo,
+    /// Bytes per millisecond, 0 where its packets aren't paced.
+    pub rate: u32,
+    /// The earliest clock, in microseconds, at which its next paced packet is due.
+    pub next: u64,
 }
 
 /// The lists and tables of a node.
@@ -124,13 +152,23 @@ pub struct Lists {
     pub me: NodeId,
     /// The length of its receive ring.
     pub room: u32,
+    /// Microseconds after which an unanswered packet is taken for lost.
+    pub timeout: u64,
     /// How many calls were accepted.
     pub asked: u64,
-    /// What its tallies add up to, modulo 2^64.
-    pub total: u64,
+    /// How many numbers of server sessions were used.
+    pub server_numbers: u64,
+    pub counts: Counted,
     pub ring: Listed<Arrival>,
+    /// The control packets that arrived and weren't handled.
+    pub inbox: Listed<Arrival>,
+    /// Those that are ready first, in the order in which they are sent, and then the others, by due time.
     pub queued: Listed<Queued>,
+    /// The rates of all client sessions, in the order of their numbers.
+    pub paces: Listed<Pace>,
+    /// All client sessions, in the order of their numbers, from 0 on.
     pub clients: Listed<Client>,
+    /// The live server sessions, in the order of their numbers.
     pub servers: Listed<Server>,
     pub jobs: Jobs,
 }
@@ -140,6 +178,14 @@ pub struct Lists {
 pub struct Timed {
     pub lists: Lists,
     pub clock: u64,
+}
+
+/// A job of a node that was worked and isn't finished. Only a world that says when jobs are worked knows these.
+#[derive(Debug, Drop)]
+pub struct WorkedJob {
+    pub node: NodeId,
+    pub session: SessionNo,
+    pub request: RequestNo,
 }
 
 /// A packet to be sent: to whom, what, and with which body.

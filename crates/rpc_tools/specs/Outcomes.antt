@@ -6,6 +6,7 @@ use Rattle.node_laws.specs.EndedCalls.{EndsClean}
 use Rattle.node_laws.specs.OlderRequests.{BeginsClean}
 use Rattle.rpc_base.specs.declared.fact.Fact.{Fact}
 use Rattle.report_text.specs.Text.{text}
+use Rattle.ring_laws.specs.CalmRing.{MessagesFit}
 use Rattle.rpc_laws.specs.AtMostOnce.{Once}
 use Rattle.rpc_laws.specs.BufferSafety.{SendsItsOwn}
 use Rattle.rpc_laws.specs.OwnAnswer.{Own}
@@ -30,7 +31,8 @@ pub record Untouched (old new : Option (List ℕ)) (before after : ℕ) : Type 0
 
 -- the report of a history that follows the script was written. In that history no request runs twice, and
 -- no call begins or ends twice; each handler ran on its call's bytes, and each call ended with its own
--- handler's answer; each packet that was sent is its owner's; and at every moment of each node the
+-- handler's answer; each packet that was sent is its owner's; no message finds a full ring before a datagram is
+-- repeated or a call is rolled back; and at every moment of each node the
 -- unanswered packets and free credits of a live session make its limit, no packet of a call that is over
 -- is queued, no reply to an older request is queued where a packet of a newer one of its slot is taken, and the
 -- receive ring isn't longer than its room. At the end each node's table of requests says what its facts tell
@@ -40,6 +42,7 @@ pub record Reports (script : List Line) (old new : Option (List ℕ)) (before af
   pub once : Once history
   pub own : Own history
   pub sends_own : SendsItsOwn history
+  pub fits : MessagesFit history
   pub credit : EachNode Credit history
   pub ends_clean : EachNode (EndsClean []) history
   pub begins_clean : EachNode (BeginsClean []) history

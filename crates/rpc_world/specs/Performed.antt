@@ -8,12 +8,18 @@ use Rattle.rpc_laws.specs.declared.tables.Timed.{Timed}
 use Rattle.rpc_laws.specs.Facts.{plain}
 use Rattle.rpc_laws.specs.Groups.{pair_refusal}
 use Rattle.sim_script.specs.FollowsScript.{PairsBy, PairsEnds, Round, is_polled}
+use Rattle.rpc_world.specs.Answered.{Plainly, Play}
 
--- the facts grew by a group by which P leads from the old stage to the new one
-pub record Performed (P : Stage → List Fact → Stage → Type 0) (old new : Stage) (before now : List Fact) : Type 0 where
+-- the facts grew by a group by which P leads from the old stage to the new one, and which answers plainly
+pub record Performed (P : Stage → List Fact → Stage → Type 0) (old new : Play) (before now : List Fact) : Type 0 where
   pub group : List Fact
   pub grew : now ≡ before ++ group
-  pub does : P old group new
+  pub does : P old.stage group new.stage
+  pub plain : Plainly group old.totals new.totals
+
+-- node n is there, and has this number
+abbrev pub IsNode : Stage → ℕ → Type 0
+IsNode s n = (x : Timed) × (slice_get s.nodes n ≡ Some x) × (x.lists.me ≡ n)
 
 -- nothing refuses node n an end of a pair with these credits
 abbrev pub TakesEnd : (n credits : ℕ) → Stage → Type 0
@@ -41,6 +47,6 @@ pub record AsksServer (a b credits : ℕ) (s : Stage) (x : List Fact) (t : Stage
   pub pairs : PairsBy None (pair_refusal credits server.lists) a b credits client server s x t
 
 -- a round was made, and it is quiet exactly where its only facts are Polled
-pub record MakesRound (is_quiet : Bool) (old new : Stage) (before now : List Fact) : Type 0 where
+pub record MakesRound (is_quiet : Bool) (old new : Play) (before now : List Fact) : Type 0 where
   pub made : Performed Round old new before now
   pub quiet : is_quiet ≡ list_all (λ f. is_polled f.event) made.group

@@ -5,8 +5,10 @@ ghost use Rattle.rpc_laws.specs.Groups.{Asks};
 ghost use Rattle.sim_script.specs.FollowsScript.{AtNode, ask_bytes};
 ghost use Rattle.rpc_world.specs.Performed.{Performed};
 
+use crate::finished::keep;
 use crate::network::launch;
 use crate::running::Running;
+use crate::stepping::is_there;
 use packet_header::MOST_MESSAGE_BYTES;
 use rpc_base::{Fact, Listed, NoMemory, NodeId, Octets, SessionNo};
 use sim_script::AskBytes;
@@ -50,13 +52,14 @@ fn ask_on(
         (Performed (AtNode (Asks session req_type ask.now room) node) stage.old stage.new facts.old facts.new) }
 {
     let place = usize::from(node.0);
-    if place >= stage.nodes.len() || room > MOST_MESSAGE_BYTES {
+    if !is_there(stage, node) || room > MOST_MESSAGE_BYTES {
         return Err(NoMemory);
     }
     let before = facts.len();
     let asked = stage.nodes.at_mut(place);
     asked.ask(alloc, facts, session, req_type, ask, room)?;
     launch(&mut stage.flight, &facts.as_slice()[before..])?;
+    keep(&mut stage.worked, &facts.as_slice()[before..])?;
     Ok(())
 }
 

@@ -22,7 +22,7 @@ fn lose(
     copy: u32,
 ) -> Result<(), NoMemory>
     ensures { OnOk result
-        (Performed (OfNet (or_missed stage.old.flight copy (Event.Lost copy))) stage.old stage.new facts.old facts.new) }
+        (Performed (OfNet (or_missed stage.old.stage.flight copy (Event.Lost copy))) stage.old stage.new facts.old facts.new) }
 {
     if (copy as usize) < stage.flight.len() {
         perform_net(alloc, stage, facts, &Event::Lost { copy })
@@ -38,7 +38,7 @@ fn repeat(
     copy: u32,
 ) -> Result<(), NoMemory>
     ensures { OnOk result
-        (Performed (OfNet (or_missed stage.old.flight copy (Event.Repeated copy))) stage.old stage.new facts.old facts.new) }
+        (Performed (OfNet (or_missed stage.old.stage.flight copy (Event.Repeated copy))) stage.old stage.new facts.old facts.new) }
 {
     if (copy as usize) < stage.flight.len() {
         perform_net(alloc, stage, facts, &Event::Repeated { copy })

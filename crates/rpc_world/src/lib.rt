@@ -3,6 +3,7 @@
 
 mod calling;
 mod command;
+mod finished;
 mod making;
 mod network;
 mod pairing;

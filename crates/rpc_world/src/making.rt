@@ -5,6 +5,7 @@ ghost use Rattle.rpc_world.specs.Performed.{Performed};
 
 use crate::running::Running;
 use rpc_base::{Event, Fact, Listed, NoMemory, NodeId, Octets, Who};
+use rpc_outside::PlainService;
 use sim_node::Node;
 use std::alloc::Global;
 
@@ -29,5 +30,6 @@ pub fn make_node(
     })?;
     let made = Node::new(alloc, NodeId(number), ring)?;
     stage.nodes.push(made)?;
+    stage.services.push(PlainService::new())?;
     Ok(())
 }

@@ -1,9 +1,10 @@
 //! The copies in flight, and the facts of the network.
-ghost use Rattle.std.specs.Prelude.{◌≡◌, ◌++◌, ◌∷◌, [], OnOk};
+ghost use Rattle.std.specs.Prelude.{◌≡◌, ◌++◌, ◌∷◌, [], false, OnOk};
 ghost use Rattle.rpc_laws.specs.Facts.{of_net};
 ghost use Rattle.rpc_laws.specs.InFlight.{flight_after, flight_after_all, flight_after_net, flight_after_node};
 ghost use Rattle.sim_script.specs.FollowsScript.{OfNet};
 ghost use Rattle.rpc_world.specs.Performed.{Performed};
+ghost use Rattle.sim_node.specs.Answering.{is_wanting};
 
 use crate::running::Running;
 use network_model::Net;
@@ -87,6 +88,7 @@ pub fn perform_net(
     facts: &mut Listed<Fact>,
     event: &Event,
 ) -> Result<(), NoMemory>
+    requires { is_wanting event.now ≡ false }
     ensures { OnOk result (Performed (OfNet event.now) stage.old stage.new facts.old facts.new) }
 {
     change(&mut stage.flight, event)?;

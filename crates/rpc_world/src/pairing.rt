@@ -11,7 +11,7 @@ use sim_node::Node;
 use std::alloc::Global;
 
 /// So many numbers of client or of server sessions a node has.
-const MOST_SESSIONS: usize = 65_535;
+const MOST_SESSIONS: u64 = 65_535;
 
 /// So many credits a session has at most.
 const MOST_CREDITS: u16 = 256;
@@ -45,7 +45,7 @@ fn refuse(
     ensures { IfOk result
         (λ refuses. NotesRefusal refuses (pair_refusal credits node.now.lists) node.now.lists.me facts.old facts.new) }
 {
-    if node.next_client() >= MOST_SESSIONS || node.next_server() >= MOST_SESSIONS {
+    if node.next_client() as u64 >= MOST_SESSIONS || node.next_server() >= MOST_SESSIONS {
         note_refusal(alloc, facts, node.me(), &Event::NconnectNumbers)?;
         return Ok(true);
     }
@@ -64,10 +64,14 @@ fn refuse(
 }
 
 // The number of the next session of a table.
-fn next_number(count: usize) -> Result<SessionNo, NoMemory>
-    ensures { IfOk result (λ r. r ≡ count) }
+fn next_number(count: u64) -> Result<SessionNo, NoMemory>
+    ensures number { IfOk result (λ r. r ≡ count) }
+    ensures below { IfOk result (λ r. r < 65535) }
 {
     let number = u16::try_from(count).map_err(|_| NoMemory)?;
+    if number == u16::MAX {
+        return Err(NoMemory);
+    }
     Ok(SessionNo(number))
 }
 
@@ -81,16 +85,16 @@ fn make_ends(
     credits: u16,
 ) -> Result<(), NoMemory>
     requires two { b ≢ a }
-    requires client { a < length stage.old.nodes }
-    requires server { b < length stage.old.nodes }
+    requires client { a < length stage.old.stage.nodes }
+    requires server { b < length stage.old.stage.nodes }
     requires some { 1 ≤ credits }
     requires most { credits ≤ 256 }
-    requires client_fits { TakesEnd a credits stage.old }
-    requires server_fits { TakesEnd b credits stage.old }
+    requires client_fits { TakesEnd a credits stage.old.stage }
+    requires server_fits { TakesEnd b credits stage.old.stage }
     ensures { OnOk result (Performed (TakesEnds a b credits) stage.old stage.new facts.old facts.new) }
 {
     let (client, server) = (usize::from(a.0), usize::from(b.0));
-    let of_client = next_number(stage.nodes.at(client).next_client())?;
+    let of_client = next_number(stage.nodes.at(client).next_client() as u64)?;
     let of_server = next_number(stage.nodes.at(server).next_server())?;
     let asking = stage.nodes.at_mut(client);
     asking.pair_client(alloc, facts, Peer(b.0), of_server, credits)?;
@@ -109,11 +113,11 @@ fn pair_at_server(
     credits: u16,
 ) -> Result<(), NoMemory>
     requires two { b ≢ a }
-    requires client { a < length stage.old.nodes }
-    requires server { b < length stage.old.nodes }
+    requires client { a < length stage.old.stage.nodes }
+    requires server { b < length stage.old.stage.nodes }
     requires some { 1 ≤ credits }
     requires most { credits ≤ 256 }
-    requires client_fits { TakesEnd a credits stage.old }
+    requires client_fits { TakesEnd a credits stage.old.stage }
     ensures { OnOk result (Performed (AsksServer a b credits) stage.old stage.new facts.old facts.new) }
 {
     if refuse(alloc, facts, stage.nodes.at(usize::from(b.0)), credits)? {

@@ -12,7 +12,7 @@ use std::alloc::Global;
 // Delivering a copy sends nothing, so there is a copy 0 in each turn.
 fn carry_all(alloc: Global, stage: &mut Running, facts: &mut Listed<Fact>) -> Result<(), NoMemory>
     ensures { OnOk result
-        (Performed (Times (Carries 0) (length stage.old.flight)) stage.old stage.new facts.old facts.new) }
+        (Performed (Times (Carries 0) (length stage.old.stage.flight)) stage.old stage.new facts.old facts.new) }
 {
     let count = stage.flight.len();
     'copies: for i in 0..count {
@@ -58,7 +58,7 @@ fn work_and_poll(
     facts: &mut Listed<Fact>,
 ) -> Result<(), NoMemory>
     ensures { OnOk result
-        (Performed (WorksAndPolls (length stage.old.nodes)) stage.old stage.new facts.old facts.new) }
+        (Performed (WorksAndPolls (length stage.old.stage.nodes)) stage.old stage.new facts.old facts.new) }
 {
     let count = u8::try_from(stage.nodes.len()).map_err(|_| NoMemory)?;
     work_first(alloc, stage, facts, count)?;

@@ -1,18 +1,24 @@
 //! Steps of the nodes: a poll, jobs that are worked, and a copy that is taken out of flight and delivered.
-ghost use Rattle.std.specs.Prelude.{◌≡◌, OnOk};
+ghost use Rattle.std.specs.Prelude.{◌≡◌, IsTrue, OnOk};
 ghost use Rattle.rpc_laws.specs.Deliveries.{Delivers};
-ghost use Rattle.rpc_laws.specs.Working.{Works, WorksAll};
-ghost use Rattle.sim_script.specs.FollowsScript.{AtNode, Arrives, Carries, PollsNode};
-ghost use Rattle.rpc_world.specs.Performed.{Performed};
+ghost use Rattle.rpc_laws.specs.Working.{Works};
+ghost use Rattle.sim_script.specs.FollowsScript.{AtNode, Arrives, Carries, PollsNode, WorksNode};
+ghost use Rattle.rpc_world.specs.Performed.{IsNode, Performed};
 
+use crate::finished::keep;
 use crate::network::{launch, note_of_net, perform_net};
 use crate::running::Running;
 use network_model::Copy;
 use rpc_base::{Event, Fact, Listed, NoMemory, NodeId, Peer};
 use std::alloc::Global;
 
-/// A node's timeout in microseconds.
-const USUAL_TIMEOUT: u64 = 5000;
+/// Whether there is a node of this number, which knows it.
+pub fn is_there(stage: &Running, node: NodeId) -> bool
+    ensures { IsTrue result → IsNode stage.now.stage node }
+{
+    let place = usize::from(node.0);
+    place < stage.nodes.len() && stage.nodes.at(place).me().0 == node.0
+}
 
 /// `poll A`: polls the node at the world's clock.
 pub fn poll_node(
@@ -24,14 +30,17 @@ pub fn poll_node(
     ensures { OnOk result (Performed (PollsNode node) stage.old stage.new facts.old facts.new) }
 {
     let place = usize::from(node.0);
-    if place >= stage.nodes.len() {
+    if !is_there(stage, node) || place >= stage.services.len() {
         return Err(NoMemory);
     }
     let before = facts.len();
     let now = stage.clock;
     let polled = stage.nodes.at_mut(place);
-    polled.poll(alloc, facts, USUAL_TIMEOUT, now)?;
+    let service = stage.services.at_mut(place);
+    let _total = service.total();
+    polled.poll(alloc, facts, service, &stage.worked, now)?;
     launch(&mut stage.flight, &facts.as_slice()[before..])?;
+    keep(&mut stage.worked, &facts.as_slice()[before..])?;
     Ok(())
 }
 
@@ -44,16 +53,17 @@ pub fn work_job(
     job: u32,
 ) -> Result<(), NoMemory>
     ensures { OnOk result
-        (Performed (AtNode (Works job) node) stage.old stage.new facts.old facts.new) }
+        (Performed (AtNode (Works stage.old.stage.worked job) node) stage.old stage.new facts.old facts.new) }
 {
     let place = usize::from(node.0);
-    if place >= stage.nodes.len() {
+    if !is_there(stage, node) {
         return Err(NoMemory);
     }
     let before = facts.len();
     let worked = stage.nodes.at_mut(place);
-    worked.work(alloc, facts, job)?;
+    worked.work(alloc, facts, &stage.worked, job)?;
     launch(&mut stage.flight, &facts.as_slice()[before..])?;
+    keep(&mut stage.worked, &facts.as_slice()[before..])?;
     Ok(())
 }
 
@@ -64,16 +74,40 @@ pub fn work_node(
     facts: &mut Listed<Fact>,
     node: NodeId,
 ) -> Result<(), NoMemory>
-    ensures { OnOk result (Performed (AtNode WorksAll node) stage.old stage.new facts.old facts.new) }
+    ensures { OnOk result (Performed (WorksNode node) stage.old stage.new facts.old facts.new) }
 {
     let place = usize::from(node.0);
-    if place >= stage.nodes.len() {
+    if !is_there(stage, node) {
         return Err(NoMemory);
     }
     let before = facts.len();
     let worked = stage.nodes.at_mut(place);
-    worked.work_all(alloc, facts)?;
+    worked.work_all(alloc, facts, &stage.worked)?;
     launch(&mut stage.flight, &facts.as_slice()[before..])?;
+    keep(&mut stage.worked, &facts.as_slice()[before..])?;
+    Ok(())
+}
+
+fn deliver_at(
+    alloc: Global,
+    stage: &mut Running,
+    facts: &mut Listed<Fact>,
+    node: NodeId,
+    sender: NodeId,
+    bytes: &[u8],
+) -> Result<(), NoMemory>
+    ensures { OnOk result
+        (Performed (AtNode (Delivers sender bytes.now) node) stage.old stage.new facts.old facts.new) }
+{
+    let place = usize::from(node.0);
+    if !is_there(stage, node) {
+        return Err(NoMemory);
+    }
+    let before = facts.len();
+    let receiver = stage.nodes.at_mut(place);
+    receiver.deliver(alloc, facts, Peer(sender.0), bytes)?;
+    launch(&mut stage.flight, &facts.as_slice()[before..])?;
+    keep(&mut stage.worked, &facts.as_slice()[before..])?;
     Ok(())
 }
 
@@ -86,15 +120,14 @@ fn deliver_to(
     ensures { OnOk result
         (Performed (AtNode (Delivers copy.now.from copy.now.bytes) copy.now.to) stage.old stage.new facts.old facts.new) }
 {
-    let place = usize::from(copy.to.0);
-    if place >= stage.nodes.len() {
-        return Err(NoMemory);
-    }
-    let before = facts.len();
-    let receiver = stage.nodes.at_mut(place);
-    receiver.deliver(alloc, facts, Peer(copy.from.0), copy.bytes.bytes())?;
-    launch(&mut stage.flight, &facts.as_slice()[before..])?;
-    Ok(())
+    deliver_at(
+        alloc,
+        stage,
+        facts,
+        copy.to,
+        copy.from,
+        copy.bytes.bytes(),
+    )
 }
 
 /// `arrive I`: takes the copy out of flight and delivers it.

@@ -7,6 +7,7 @@ ghost use Rattle.rpc_base.specs.declared.fact.Fact.{Fact};
 ghost use Rattle.rpc_laws.specs.AtMostOnce.{Once};
 ghost use Rattle.rpc_laws.specs.BufferSafety.{SendsItsOwn};
 ghost use Rattle.rpc_laws.specs.OwnAnswer.{Own};
+ghost use Rattle.ring_laws.specs.CalmRing.{MessagesFit};
 ghost use Rattle.rpc_world.specs.Served.{later_of};
 ghost use Rattle.script_grammar.specs.Conditions.{IsScript};
 ghost use Rattle.sim_script.specs.FollowsScript.{Follows};
@@ -54,6 +55,8 @@ impl World {
         ensures sends_own { IfOk result (λ w. SendsItsOwn w) }
         ensures once { IfOk result (λ w. Once w) }
         ensures own { IfOk result (λ w. Own w) }
+        // Before a datagram was repeated, or a call was rolled back.
+        ensures fits { IfOk result (λ w. MessagesFit w) }
         // At every moment of each node.
         ensures credit { IfOk result (λ w. EachNode Credit w) }
         ensures ends_clean { IfOk result (λ w. EachNode (EndsClean []) w) }

@@ -7,11 +7,9 @@ use Rattle.std.proofs.lemmas.Bool.{and_parts, eq-eqb, eqb-true}
 use Rattle.std.proofs.lemmas.List.{map-append}
 use Rattle.std.proofs.lemmas.List.Folds.{find-append}
 use Rattle.message_buffer.specs.Buffer.{Buffer, bytes_of, capacity_of}
-use Rattle.buffer_pool.specs.Pool.{Pool, buf_at, filled, held, lowest_empty, refs_of}
-use Rattle.buffer_pool.proofs.PoolLemmas.{held_refs}
+use Rattle.buffer_pool.specs.Pool.{Pool, buf_at, filled, lowest_empty, refs_of}
 use Rattle.packet_header.specs.Parts.{packet_count}
 use Rattle.packet_header.specs.declared.packet.MessageHeader.{MessageHeader}
-use Rattle.packet_header.proofs.PartsLemmas.{packet_count_above}
 use Rattle.rpc_base.specs.declared.owner.Owner.TheVariants.{Reply}
 use Rattle.rpc_base.specs.Tables.{without_first}
 use Rattle.rpc_laws.specs.declared.tables.Served.{Served}
@@ -31,8 +29,8 @@ use Rattle.server_core.specs.Steps.{AreServed, IsReply, begun_with, first_shown}
 use Rattle.server_core.proofs.ChangedLemmas.{map-without, none-counted}
 use Rattle.server_core.proofs.GivenLemmas.{given-keeps, given-same}
 use Rattle.server_core.proofs.ListLemmas.{all-append, all-without, count-fewer, found-own}
-use Rattle.server_core.proofs.PlaceLemmas.{IsBeside, beside-answered, beside-asked, beside-held, lowest-empty, put-behind}
-use Rattle.server_core.proofs.PoolLemmas.{empty-other, map-off, names-empty, one-filled}
+use Rattle.server_core.proofs.PlaceLemmas.{IsBeside, beside-asked, lowest-empty, put-behind}
+use Rattle.server_core.proofs.PoolLemmas.{map-off, names-empty, one-filled}
 use Rattle.server_core.proofs.SlotLemmas.{none-left}
 
 -- the replies of a request are found by their owner
@@ -105,13 +103,6 @@ begun-newest s d h =
 pub first-turn : (h : MessageHeader) (p : ℕ) → IsMessage h.size → 1 < packet_count h.size → IsInTurn (first_taken h p None)
 first-turn h p size many = record { size = size; some = omega arith; come = (many, refl) }
 
-pub whole-turn : (h : MessageHeader) (p : ℕ) (a : Stored) → IsMessage h.size → packet_count h.size ≡ 1 → IsMessage a.size → IsInTurn (first_taken h p (Some a))
-whole-turn h p a size one answer = record {
-  size = size;
-  some = omega arith;
-  come = (refl, record { answer = answer; whole = omega (arith, one); known = omega (arith, one, packet_count_above a.size) });
-}
-
 pub given-turn : (h : MessageHeader) → IsMessage h.size → packet_count h.size ≡ 1 → IsInTurn (first_given h)
 given-turn h size one = record { size = size; some = omega arith; come = (sym one, refl) }
 
@@ -162,32 +153,6 @@ module _ (pool : Pool) (s : Session) (head : MessageHeader) (keeps : KeepsPool p
 
     pub first-shows : shown (filled p b given) (with_slots (begun (first_taken head p None) s.slots) s) ≡ begun_with (first_shown head (bytes_of b) None) (shown pool s)
     first-shows = shown-behind (filled p b given) (first_taken head p None) (first_shown head (bytes_of b) None) refl asked-same (rw there refl)
-
-    -- and its answer goes to the next one, where it is held
-    module _ (q : ℕ) (e : Buffer) (a : Stored) (next : lowest_empty (filled p b given) ≡ Some q) (here : buf_at (filled q e (filled p b given)) q ≡ Some e) (place : a.place ≡ q) (size : a.size ≡ e.len) (fits : e.len ≤ capacity_of e) where
-      answered-beside : IsBeside (filled q e (filled p b given)) (first_taken head p (Some a)) rest
-      answered-beside = beside-answered (filled p b given) q e (first_taken head p None) (first_taken head p (Some a)) a rest asked-beside refl next here refl refl refl place (sym size, omega (arith, size, fits))
-
-      held-beside : IsBeside (held a.place (filled q e (filled p b given))) (first_taken head p (Some a)) rest
-      held-beside = beside-held (filled q e (filled p b given)) (first_taken head p (Some a)) a rest answered-beside refl
-
-      answered-same : map (shown_request (filled q e (filled p b given))) rest ≡ map (shown_request pool) rest
-      answered-same = map-off q (filled p b given) (filled q e (filled p b given)) (one-filled q e (filled p b given)) rest (names-empty (filled p b given) q rest (lowest-empty (filled p b given) q next) asked-beside.others.kept) ∙ asked-same
-
-      ask-there : buf_at (filled q e (filled p b given)) p ≡ Some b
-      ask-there = (one-filled q e (filled p b given)).other_bufs p (empty-other (filled p b given) q p asked-beside.own.ask.full (lowest-empty (filled p b given) q next)) ∙ there
-
-      answer-there : buf_at (filled q e (filled p b given)) a.place ≡ Some e
-      answer-there = rw place here
-
-      pub whole-keeps : KeepsPool (held a.place (filled q e (filled p b given))) (begun (first_taken head p (Some a)) s.slots)
-      whole-keeps = put-behind (held a.place (filled q e (filled p b given))) (first_taken head p (Some a)) rest held-beside
-
-      pub whole-shows : shown (held a.place (filled q e (filled p b given))) (with_slots (begun (first_taken head p (Some a)) s.slots) s) ≡ begun_with (first_shown head (bytes_of b) (Some (bytes_of e))) (shown pool s)
-      whole-shows = shown-behind (held a.place (filled q e (filled p b given))) (first_taken head p (Some a)) (first_shown head (bytes_of b) (Some (bytes_of e))) refl answered-same (rw (ask-there, answer-there) refl)
-
-      pub whole-held : 0 < refs_of (held a.place (filled q e (filled p b given))) a.place
-      whole-held = let counted = held_refs (filled q e (filled p b given)) a.place (answered-beside.own.answer).full in omega (arith, counted.1)
 
 -- all requests are of types that are served
 pub begun-served : (mode_of : ℕ → Mode) (slots : List SlotRequest) (d : SlotRequest) → mode_of d.req_type ≢ Unserved → AreServed mode_of slots → AreServed mode_of (begun d slots)

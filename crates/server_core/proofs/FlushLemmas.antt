@@ -1,14 +1,15 @@
 -- The replies to a request are taken out of the transmit ring one by one, in ascending number, each with its
 -- reference and its fact.
 use Rattle.std.proofs.Common.{◌≡◌, ℕ, ◌+◌, ◌-◌, ◌%◌, ◌<◌, ◌≤◌, Bool, true, false, not, ◌&&◌, ◌||◌, cond, eqb, leb, Option, Some, None, List, [], ◌∷◌, ◌++◌, length, filter, refl, sym, subst, ap, ◌∙◌, arith, append_assoc, append-nil}
-use Rattle.std.specs.Prelude.{IfSome, option_map, ◌==◌}
+use Rattle.std.specs.Prelude.{IfSome, IsSome, option_map, ◌==◌}
 use Rattle.std.specs.List.{AllByRecursion, find, list_any}
-use Rattle.std.proofs.lemmas.Bool.{and_parts, eq-eqb, eqb-true, leb-false, ne_eqb}
+use Rattle.std.proofs.lemmas.Bool.{and_parts, eq-eqb, eqb-true, le-ltb, leb-false, ne_eqb}
 use Rattle.std.proofs.lemmas.List.Sums.{count_by-le-length, length-filter, sum_by-cons, sum_by-set}
 use Rattle.buffer_pool.specs.Pool.{Pool, IsFull, refs_of, released, spare_of, use_at}
 use Rattle.buffer_pool.specs.Uses.{is_empty, refs_in}
 use Rattle.buffer_pool.specs.declared.usage.Use.TheVariants.{Empty, Full}
 use Rattle.buffer_pool.proofs.PoolLemmas.{changed_other, changed_own, full_within}
+use Rattle.packet_header.specs.Parts.{packet_count}
 use Rattle.packet_rings.specs.Entries.{is_of, is_not_of, number_of}
 use Rattle.packet_rings.specs.Mentions.{is_place}
 use Rattle.packet_rings.specs.Rings.{Ring, ring}
@@ -22,11 +23,11 @@ use Rattle.rpc_base.specs.declared.fact.Fact.{Fact}
 use Rattle.rpc_base.specs.declared.owner.Owner.{Owner}
 use Rattle.rpc_laws.specs.Queues.{numbers_of, put}
 use Rattle.rpc_outside.specs.Recording.{Grew}
-use Rattle.server_core.specs.Flushing.{HoldsAll, HoldsReplies, has_begun, named_by, queued_of, ring_after, without_replies}
+use Rattle.server_core.specs.Flushing.{HoldsAll, HoldsReplies, IsSent, has_begun, named_by, queued_of, ring_after, without_replies}
 use Rattle.server_core.specs.declared.step.Step.{Step}
 use Rattle.rpc_laws.specs.declared.rows.ServerRow.{ServerRow}
 use Rattle.server_core.specs.KeepsPool.{IsKept, LeavesOthers, names}
-use Rattle.server_core.specs.Replies.{IsHeld, IsReplyIn, released_at}
+use Rattle.server_core.specs.Replies.{IsHeld, IsReplyIn, place_of, released_at}
 use Rattle.server_core.specs.Serving.{IsUnheld}
 use Rattle.server_core.specs.Session.{Session, is_in_slot, newest, owner_of}
 use Rattle.server_core.specs.Shown.{shown}
@@ -280,3 +281,32 @@ fewer-cases n (Some q) es true = omega (arith, length-filter (is_not_of (owner_o
 pub ring-room : (row : ServerRow) (step : Step) (n : ℕ) (o : Option SlotRequest) (old new : Ring EntryValue) → new ≡ ring (ring_after row step n o old.items) old.size → length old.items < old.size → length new.items < new.size
 ring-room row step n o old new is room =
     omega (arith, ap (λ r. length r.items) is, ap (λ r. r.size) is, fewer-cases n o old.items (has_begun row step), room)
+
+-- where each reply has a part of the answer, and no entry names that, none is queued
+unnamed-cons : (n p : ℕ) (q : SlotRequest) (e : EntryValue) (es : List EntryValue) (b : Bool) → is_of (owner_of n q) e ≡ b → (is_of (owner_of n q) e ≡ true → e.place ≡ Some p) → named_by (owner_of n q) p (e ∷ es) ≡ 0 → (named_by (owner_of n q) p es ≡ 0 → list_any (is_of (owner_of n q)) es ≡ false) → (b || list_any (is_of (owner_of n q)) es) ≡ false
+unnamed-cons n p q e es true of place none ih =
+    let at = place of in
+    let one : weight (owner_of n q) p e ≡ 1 = rw (of, at, eq-eqb p p refl) refl in
+    absurd (omega (arith, sum_by-cons (weight (owner_of n q) p) e es, one, none))
+unnamed-cons n p q e es false of place none ih =
+    let zero_there : weight (owner_of n q) p e ≡ 0 = rw of refl in
+    ih (omega (arith, sum_by-cons (weight (owner_of n q) p) e es, zero_there, none))
+
+unnamed-all : (n p : ℕ) (q : SlotRequest) (es : List EntryValue) → AllByRecursion (λ e. is_of (owner_of n q) e ≡ true → e.place ≡ Some p) es → named_by (owner_of n q) p es ≡ 0 → list_any (is_of (owner_of n q)) es ≡ false
+unnamed-all n p q [] all none = refl
+unnamed-all n p q (e ∷ es) all none = unnamed-cons n p q e es (is_of (owner_of n q) e) refl all.0 none (unnamed-all n p q es all.1)
+
+sent-place : (q : SlotRequest) (a : Stored) (k : ℕ) → packet_count q.size ≡ 1 → q.answer ≡ Some a → place_of q k ≡ Some a.place
+sent-place q a k one is = rw (is, le-ltb (k + 1) (packet_count q.size) (omega (arith, one))) refl
+
+sent-placed : (n : ℕ) (q : SlotRequest) (a : Stored) → packet_count q.size ≡ 1 → q.answer ≡ Some a → (es : List EntryValue) → AllByRecursion (λ e. is_of (owner_of n q) e ≡ true → IsReplyIn q e) es → AllByRecursion (λ e. is_of (owner_of n q) e ≡ true → e.place ≡ Some a.place) es
+sent-placed n q a one is [] all = tt
+sent-placed n q a one is (e ∷ es) all = ((λ of. (all.0 of).place_is ∙ sent-place q a e.number one is), sent-placed n q a one is es all.1)
+
+sent-cases : (n : ℕ) (pool : Pool) (es : List EntryValue) (q : SlotRequest) (o : Option Stored) → q.answer ≡ o → IsSome o → packet_count q.size ≡ 1 → IfSome o (λ a. refs_of pool a.place ≡ 0) → IfSome o (λ a. refs_of pool a.place ≡ named_by (owner_of n q) a.place es) → AllByRecursion (λ e. is_of (owner_of n q) e ≡ true → IsReplyIn q e) es → list_any (is_of (owner_of n q)) es ≡ false
+sent-cases n pool es q None is some one none all each = cc
+sent-cases n pool es q (Some a) is some one none all each =
+    unnamed-all n a.place q es (sent-placed n q a one is es each) (omega (arith, none, all))
+
+pub sent-none : (n : ℕ) (pool : Pool) (es : List EntryValue) (q : SlotRequest) → HoldsReplies n pool es q → IsSent pool q → list_any (is_of (owner_of n q)) es ≡ false
+sent-none n pool es q holds sent = sent-cases n pool es q q.answer refl sent.some sent.one sent.none holds.all holds.each

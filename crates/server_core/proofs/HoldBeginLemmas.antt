@@ -1,10 +1,10 @@
 -- What the begin of a request, and the sending of a reply, make of a list that holds each reply of a session.
-use Rattle.std.proofs.Common.{◌≡◌, ℕ, ◌%◌, Bool, true, false, ◌||◌, cond, eqb, Option, Some, None, List, [], ◌∷◌, ◌++◌, refl, sym, ap, subst, ◌∙◌, arith}
+use Rattle.std.proofs.Common.{◌≡◌, ℕ, ◌%◌, Bool, true, false, ◌||◌, cond, eqb, Option, Some, None, List, [], ◌∷◌, ◌++◌, refl, sym, ap, subst, ◌∙◌}
 use Rattle.std.specs.Prelude.{IsTrue}
 use Rattle.std.specs.List.{AllByRecursion, find, list_any}
 use Rattle.std.proofs.lemmas.Bool.{and_parts, eq-eqb, eqb-true, ne_eqb}
 use Rattle.message_buffer.specs.Buffer.{Buffer}
-use Rattle.buffer_pool.specs.Pool.{Pool, filled, held, lowest_empty, refs_of}
+use Rattle.buffer_pool.specs.Pool.{Pool, filled, lowest_empty}
 use Rattle.packet_header.specs.declared.packet.MessageHeader.{MessageHeader}
 use Rattle.packet_rings.specs.Entries.{is_of}
 use Rattle.packet_rings.specs.Values.{EntryValue}
@@ -20,13 +20,12 @@ use Rattle.server_core.specs.Serving.{begun, first_given, first_taken, given_up,
 use Rattle.server_core.specs.Session.{IsSession, Session, is_in_slot, newest, owner_of}
 use Rattle.server_core.specs.Steps.{IsReply}
 use Rattle.server_core.specs.declared.slot.SlotRequest.{SlotRequest}
-use Rattle.server_core.specs.declared.slot.Stored.{Stored}
 use Rattle.server_core.proofs.ChangedLemmas.{self-first}
 use Rattle.server_core.proofs.FlushLemmas.{all-taken, flush-holds, flush-others}
-use Rattle.server_core.proofs.HoldLemmas.{AreOwn, KeepsUses, and-none, and-one, any-behind, any-left, named-behind, named-place, named-unplaced, none-pass, own-as, posted-any, rest-as, rest-behind, rest-left, uses-beside}
+use Rattle.server_core.proofs.HoldLemmas.{AreOwn, KeepsUses, and-none, and-one, any-behind, any-left, named-unplaced, none-pass, own-as, posted-any, rest-as, rest-behind, rest-left, uses-beside}
 use Rattle.server_core.proofs.HoldStepLemmas.{alone-newest, put-together, rest-new, rest-other}
 use Rattle.server_core.proofs.ListLemmas.{all-append, all-without, found-holds, found-own, found-passes}
-use Rattle.server_core.proofs.OtherLemmas.{first-others, given-others, whole-others}
+use Rattle.server_core.proofs.OtherLemmas.{first-others, given-others}
 use Rattle.server_core.proofs.PlaceLemmas.{taken-out}
 use Rattle.server_core.proofs.ReplyLemmas.{number-slot}
 use Rattle.server_core.proofs.SlotLemmas.{none-left}
@@ -134,11 +133,6 @@ module _ (pool : Pool) (s : Session) (r : ℕ) (h : IsSession s) (keeps : KeepsP
     first-holds k e none reply mine =
         begun-behind k e reply (record { each = all-append _ es e mine-each (λ of. mine); all = rw none tt })
 
-    pub whole-holds : (k : ℕ) (e : EntryValue) (a : Stored) → d.answer ≡ Some a → refs_of new a.place ≡ 1 → e.place ≡ Some a.place → IsReply r k (with_slots (begun d s.slots) s) new e → IsReplyIn d e → HoldsAll (with_slots (begun d s.slots) s) new (es ++ e ∷ [])
-    whole-holds k e a is one place reply mine =
-        let all : refs_of new a.place ≡ named_by (owner_of s.number d) a.place (es ++ e ∷ []) = omega (arith, one, mine-named a.place, named-behind s.number r e reply.owner (owner_of s.number d) a.place es, named-place s.number r e reply.owner d a.place number place) in
-        begun-behind k e reply (record { each = all-append _ es e mine-each (λ of. mine); all = rw is all })
-
 -- each way of the begin leaves the places of all but the older request
 pub given-leaves : (pool : Pool) (s : Session) (head : MessageHeader) → LeavesOthers (listed (newest head.request s)) (begun (first_given head) (listed (newest head.request s))) pool (given_up (newest head.request s) pool)
 given-leaves pool s head =
@@ -148,11 +142,6 @@ pub first-leaves : (pool : Pool) (s : Session) (head : MessageHeader) (k : ℕ) 
 first-leaves pool s head k b lowest =
     let same = only-newest head.request s in
     subst (λ o. lowest_empty (given_up o pool) ≡ Some k → LeavesOthers (listed (newest head.request s)) (begun (first_taken head k None) (listed (newest head.request s))) pool (filled k b (given_up o pool))) same (first-others pool (only head.request s) head k b) lowest
-
-pub whole-leaves : (pool : Pool) (s : Session) (head : MessageHeader) (k : ℕ) (b : Buffer) (j : ℕ) (e : Buffer) (a : Stored) → lowest_empty (given_up (newest head.request s) pool) ≡ Some k → lowest_empty (filled k b (given_up (newest head.request s) pool)) ≡ Some j → a.place ≡ j → LeavesOthers (listed (newest head.request s)) (begun (first_taken head k (Some a)) (listed (newest head.request s))) pool (held a.place (filled j e (filled k b (given_up (newest head.request s) pool))))
-whole-leaves pool s head k b j e a lowest next place =
-    let same = only-newest head.request s in
-    subst (λ o. lowest_empty (given_up o pool) ≡ Some k → lowest_empty (filled k b (given_up o pool)) ≡ Some j → LeavesOthers (listed (newest head.request s)) (begun (first_taken head k (Some a)) (listed (newest head.request s))) pool (held a.place (filled j e (filled k b (given_up o pool))))) same (λ low nx. whole-others pool (only head.request s) head k b low j e a nx place) lowest next
 
 -- a reply is sent, or taken out unsent
 owner-is : (n m : ℕ) (o : Owner) → same_owner (Reply n m) o ≡ true → o ≡ Reply n m

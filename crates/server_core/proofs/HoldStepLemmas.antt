@@ -143,13 +143,6 @@ working-cases k n false w is on there = eqb-false k n is
 pub next-more : (q : SlotRequest) (x : EntryValue) → IsReplyIn q x → IsReplyIn (next_taken q.answer q) x
 next-more q x reply = record { taken = omega (arith, reply.taken); there = reply.there; place_is = reply.place_is }
 
-pub last-more : (q : SlotRequest) (a : Option Stored) (x : EntryValue) → q.taken + 1 ≡ packet_count q.size → IsReplyIn q x → IsReplyIn (next_taken a q) x
-last-more q a x last reply = record {
-  taken = omega (arith, reply.taken);
-  there = reply.there;
-  place_is = reply.place_is ∙ early-placed q (next_taken a q) x.number refl (omega (arith, reply.taken, last));
-}
-
 not-last : (k n : ℕ) (w : Bool) → k < n → (eqb k n && w) ≡ false
 not-last k n w below = rw (ne_eqb k n (λ same. absurd (omega (arith, same, below)))) refl
 
@@ -216,3 +209,7 @@ uses-hold pool new s keeps same es holds = record {
 -- the reply to the last packet of a request, or to a later one, has the answer's place
 pub late-placed : (d : SlotRequest) (a : Stored) (k : ℕ) → d.answer ≡ Some a → packet_count d.size ≤ k + 1 → place_of d k ≡ Some a.place
 late-placed d a k is above = rw (is, le-ltb (k + 1) (packet_count d.size) above) refl
+
+-- and that to an earlier one has no place
+pub early-unplaced : (d : SlotRequest) (k : ℕ) → k + 1 < packet_count d.size → place_of d k ≡ None
+early-unplaced d k below = rw (lt-ltb (k + 1) (packet_count d.size) below) refl

@@ -4,6 +4,7 @@ mod GivenLemmas
 mod HoldBeginLemmas
 mod HoldLemmas
 mod HoldStepLemmas
+mod LackLemmas
 mod ListLemmas
 mod OtherLemmas
 mod PartLemmas
@@ -14,6 +15,7 @@ mod RowLemmas
 mod SlotLemmas
 mod TakeLemmas
 pub mod AskedLemmas
+pub mod CountLemmas
 pub mod FlushLemmas
 pub mod FoundLemmas
 pub mod IdleLemmas

@@ -110,18 +110,6 @@ module _ (pool : Pool) (s : Session) (head : MessageHeader) (k : ℕ) (b : Buffe
       let off = unnamed-one k p (λ e. asked-away p none used (sym e)) in
       (begun-names p s.slots (first_taken head k None) none (omega (arith, off)), same.use_is, same.buf_is)
 
-  module _ (j : ℕ) (e : Buffer) (a : Stored) (next : lowest_empty (filled k b given) ≡ Some j) (place : a.place ≡ j) where
-    pub whole-others : LeavesOthers s.slots (begun (first_taken head k (Some a)) s.slots) pool (held a.place (filled j e (filled k b given)))
-    whole-others = λ p none used.
-        let first = asked-same p none used in
-        let away = not-lowest (filled k b given) p j (still-used p pool (filled k b given) first used) next in
-        let apart : p ≢ a.place = λ e. away (e ∙ place) in
-        let second = same-then p pool (filled k b given) (filled j e (filled k b given)) first (same-one p j (filled k b given) (filled j e (filled k b given)) (one-filled j e (filled k b given)) away) in
-        let same = same-then p pool (filled j e (filled k b given)) (held a.place (filled j e (filled k b given))) second (same-one p a.place (filled j e (filled k b given)) (held a.place (filled j e (filled k b given))) (one-held a.place (filled j e (filled k b given))) apart) in
-        let off = unnamed-one k p (λ e. asked-away p none used (sym e)) in
-        let out = unnamed-one a.place p (λ e. apart (sym e)) in
-        (begun-names p s.slots (first_taken head k (Some a)) none (omega (arith, off, out)), same.use_is, same.buf_is)
-
 -- a request goes on
 gone-names : (p : ℕ) (slots : List SlotRequest) (q d : SlotRequest) → find (is_in_slot (d.number % 8)) slots ≡ Some q → names p slots ≡ 0 → own_names p d ≡ 0 → names p (gone_on d slots) ≡ 0
 gone-names p slots q d e none own = omega (arith, sum-changed (is_in_slot (d.number % 8)) q (own_names p) (λ x. d) slots e, none, own)
@@ -173,3 +161,10 @@ module _ (pool : Pool) (s : Session) (q : SlotRequest) (r : ℕ) (found : newest
       let out : answer_names p d.answer ≡ 0 = ap (answer_names p) is ∙ unnamed-one a.place p (λ e. apart (sym e)) in
       let at : find (is_in_slot (d.number % 8)) s.slots ≡ Some q = ap (λ n. newest n s) (same_number ∙ number) ∙ found in
       (gone-names p s.slots q d at none (omega (arith, own, out, ap (ask_names p) asked)), same.use_is, same.buf_is)
+
+-- two calls of a session, one after the other
+pub others-then : (old middle new : List SlotRequest) (a b c : Pool) → LeavesOthers old middle a b → LeavesOthers middle new b c → LeavesOthers old new a c
+others-then old middle new a b c first second = λ p none used.
+    let one = first p none used in
+    let two = second p one.0 (ap is_empty one.1 ∙ used) in
+    (two.0, two.1 ∙ one.1, two.2 ∙ one.2)

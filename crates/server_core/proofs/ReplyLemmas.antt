@@ -30,7 +30,7 @@ last-worked n k last there = let is = eq-eqb (k + 1) n last in cc
 there-cases : (size taken k : ℕ) (ask : Option ℕ) (working : Bool) (o : Option Stored) → HasCome size taken ask working o → k < taken → (eqb (k + 1) (packet_count size) && working) ≡ false → packet_count size ≤ k + 1 → (a : Stored) × (o ≡ Some a) × (k + 1 - packet_count size < packet_count a.size)
 there-cases size taken k ask true None come below there above = absurd (last-worked (packet_count size) k (omega (arith, come.0, below, above)) there)
 there-cases size taken k ask false None come below there above = absurd (omega (arith, come.0, below, above))
-there-cases size taken k ask working (Some a) come below there above = (a, refl, omega (arith, come.1.known, below, above))
+there-cases size taken k ask working (Some a) come below there above = (a, refl, omega (arith, come.2.known, below, above))
 
 pub answer-there : (q : SlotRequest) (k : ℕ) → IsInTurn q → k < q.taken → is_worked_on q k ≡ false → packet_count q.size ≤ k + 1 → (a : Stored) × (q.answer ≡ Some a) × (k + 1 - packet_count q.size < packet_count a.size)
 answer-there q k turn below there above = there-cases q.size q.taken k q.ask q.working q.answer turn.come below there above

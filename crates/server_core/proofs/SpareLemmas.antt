@@ -28,7 +28,7 @@ full-used Empty full = cc
 full-used (Full refs) full = refl
 full-used Lent full = cc
 
-spare-emptied : (pool : Pool) (p : ℕ) → IsFull pool p → spare_of (emptied p pool) ≡ spare_of pool + 1
+pub spare-emptied : (pool : Pool) (p : ℕ) → IsFull pool p → spare_of (emptied p pool) ≡ spare_of pool + 1
 spare-emptied pool p full =
     omega (arith, sum_by-set (λ u. cond {A = ℕ} (is_empty u) 1 0) pool.uses p Empty Empty (full_within pool.uses p full), full-used (use_at pool p) full)
 
@@ -69,11 +69,6 @@ module _ (pool : Pool) (s : Session) (head : MessageHeader) (k : ℕ) (b : Buffe
   pub first-spare : KeepsSpare s.slots (begun (first_taken head k None) s.slots) pool (filled k b given)
   first-spare =
       omega (arith, given-cases (is_in_slot (head.request % 8)) pool s.slots (newest head.request s) keeps refl, spare-filled given k b lowest, begun-places s.slots (first_taken head k None))
-
-  pub whole-spare : (j : ℕ) (e : Buffer) (a : Stored) → lowest_empty (filled k b given) ≡ Some j → a.place ≡ j → KeepsSpare s.slots (begun (first_taken head k (Some a)) s.slots) pool (held a.place (filled j e (filled k b given)))
-  whole-spare j e a next place =
-      let full : IsFull (filled j e (filled k b given)) a.place = rw place (ap is_full (changed_own (filled k b given).uses j (Full 0) Empty (lowest-within (filled k b given) j next))) in
-      omega (arith, given-cases (is_in_slot (head.request % 8)) pool s.slots (newest head.request s) keeps refl, spare-filled given k b lowest, spare-filled (filled k b given) j e next, spare-held (filled j e (filled k b given)) a.place full, begun-places s.slots (first_taken head k (Some a)))
 
 -- a request goes on
 held-cases : (pool : Pool) (o : Option Stored) (b : Bool) → IfSome o (IsStored pool) → spare_of (held_at (cond b None (option_map (λ a. a.place) o)) pool) ≡ spare_of pool

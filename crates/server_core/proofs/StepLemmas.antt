@@ -18,7 +18,8 @@ use Rattle.rpc_laws.specs.Requests.{answered, first_packet, given, in_slot_of, i
 use Rattle.server_core.specs.declared.slot.SlotRequest.{SlotRequest}
 use Rattle.server_core.specs.declared.slot.Stored.{Stored}
 use Rattle.server_core.specs.KeepsPool.{IsAsked, IsKept}
-use Rattle.server_core.specs.Rows.{is_past}
+use Rattle.rpc_laws.specs.ServerTable.{is_last, is_rfr}
+use Rattle.server_core.specs.Rows.{gives_job, is_past}
 use Rattle.server_core.specs.Serving.{IsFirstPart, next_taken}
 use Rattle.server_core.specs.Session.{HasCome, IsInTurn, IsSession, Session, is_in_slot, newest}
 use Rattle.server_core.specs.Shown.{ask_in, message_in, shown, shown_request}
@@ -80,8 +81,12 @@ whole-first size body b first long one =
 pub first-took : (h : MessageHeader) (body : List ℕ) (b : Buffer) → IsFirstPart h.size body b → length body ≡ part_size h.size 0 → first_packet h.request h body ≡ first_shown h (bytes_of b) None
 first-took h body b first long = rw (first-bytes h.size body b first long) refl
 
-pub first-ran : (h : MessageHeader) (body answer : List ℕ) (b : Buffer) → IsFirstPart h.size body b → length body ≡ part_size h.size 0 → answered answer (first_packet h.request h body) ≡ first_shown h (bytes_of b) (Some answer)
-first-ran h body answer b first long = rw (first-bytes h.size body b first long) refl
+-- a request that begins with its only packet, once its handler ran
+pub ran-whole : (v : Server) (h : MessageHeader) (body answer : List ℕ) → find (is_request h.request) v.slots ≡ None → ran h body answer v ≡ gone_on_as h.request (answered answer) (begun_with (given (first_shown h [] None)) v) ∷ []
+ran-whole v h body answer none =
+    let rest = any-without (is_request h.request) (in_slot_of h.request) v.slots (none-any (is_request h.request) v.slots none) in
+    let last = at_first-last (is_request h.request) (answered answer) (given (first_shown h [] None)) (without_first (in_slot_of h.request) v.slots) rest (eq-eqb h.request h.request refl) in
+    ran-begun v h body answer none ∙ rw last refl
 
 -- a request that goes on
 module _ (pool : Pool) (s : Session) (q : SlotRequest) (head : MessageHeader) (sound : IsSession s) (found : newest head.request s ≡ Some q) (same : q.number ≡ head.request) where
@@ -102,11 +107,12 @@ module _ (pool : Pool) (s : Session) (q : SlotRequest) (head : MessageHeader) (s
         let slots = at_first-agree (is_request head.request) (next_packet body) (grown bytes) (shown_request pool q) (shown pool s).slots agree own-shown in
         rw (took-next body, slots, same) refl
 
-    pub ran-gone : (answer : List ℕ) → ran head body answer (shown pool s) ≡ gone_on_as q.number (λ x. answered answer (grown bytes x)) (shown pool s) ∷ []
+    -- its handler runs once it is taken as a worker's would be
+    pub ran-gone : (answer : List ℕ) → ran head body answer (shown pool s) ≡ gone_on_as head.request (answered answer) (gone_on_as q.number (λ x. given (grown [] x)) (shown pool s)) ∷ []
     ran-gone answer =
         let twice = at_first-twice (is_request head.request) (next_packet body) (answered answer) (shown pool s).slots (λ x. refl) in
-        let slots = at_first-agree (is_request head.request) (λ x. answered answer (next_packet body x)) (λ x. answered answer (grown bytes x)) (shown_request pool q) (shown pool s).slots (ap (answered answer) agree) own-shown in
-        rw (took-next body, eq-eqb s.number s.number refl, twice, slots, same) refl
+        let again = at_first-twice (is_request head.request) (λ x. given (grown [] x)) (answered answer) (shown pool s).slots (λ x. refl) in
+        rw (took-next body, eq-eqb s.number s.number refl, twice, same, again) refl
 
     pub gave-gone : gave head body (shown pool s) ≡ gone_on_as q.number (λ x. given (grown [] x)) (shown pool s) ∷ []
     gave-gone =
@@ -144,12 +150,13 @@ whole-bytes pool q p b kept is there behind =
 past-cases : (size taken : ℕ) (ask : Option ℕ) (working : Bool) (o : Option Stored) → HasCome size taken ask working o → is_past size o taken ≡ false → (working ≡ false) × HasCome size (taken + 1) ask working o
 past-cases size taken ask working None come there = cc
 past-cases size taken ask working (Some a) come there = (
-  come.0,
+  come.1,
   (
     come.0,
+    come.1,
     record {
-      answer = come.1.answer;
-      whole = omega (arith, come.1.whole);
+      answer = come.2.answer;
+      whole = omega (arith, come.2.whole);
       known = omega (arith, leb-false (packet_count size + packet_count a.size) (taken + 1) there);
     },
   ),
@@ -167,7 +174,7 @@ pub record IsTaking (q : SlotRequest) : Type 0 where
   pub some : IsSome q.ask
 
 taking-cases : (size taken : ℕ) (ask : Option ℕ) (working : Bool) (o : Option Stored) → HasCome size taken ask working o → taken < packet_count size → (o ≡ None) × (working ≡ false) × IsSome ask
-taking-cases size taken ask working (Some a) come early = absurd (omega (arith, come.1.whole, early))
+taking-cases size taken ask working (Some a) come early = absurd (omega (arith, come.2.whole, early))
 taking-cases size taken ask true None come early = absurd (omega (arith, come.0, early))
 taking-cases size taken ask false None come early = (refl, refl, come.1)
 
@@ -190,3 +197,9 @@ pub is-inline : (mode : Mode) → mode ≢ Unserved → is_mode_background mode 
 is-inline Inline served other = refl
 is-inline Background served other = cc
 is-inline Unserved served other = absurd (served refl)
+
+-- the last packet of a request whose handler runs inline
+pub last-inline : (mode : Mode) (h : MessageHeader) → is_rfr h.kind ≡ false → h.number + 1 ≡ packet_count h.size → is_mode_background mode ≡ false → (is_last h ≡ true) × (gives_job mode h ≡ false)
+last-inline mode h part last other =
+    let is : is_last h ≡ true = rw (part, eq-eqb (h.number + 1) (packet_count h.size) last) refl in
+    (is, rw (is, other) refl)

@@ -26,7 +26,7 @@ use Rattle.server_core.proofs.ChangedLemmas.{found-put, map-back, map-whole, sam
 use Rattle.server_core.proofs.ListLemmas.{all-without, found-holds}
 use Rattle.server_core.proofs.PartLemmas.{before-same, with-next}
 use Rattle.server_core.proofs.PlaceLemmas.{IsBeside, all-back, ask-apart, beside-answered, beside-as, beside-given, beside-held, beside-written, both-apart, buffer-within, lowest-empty, put-back, taken-out}
-use Rattle.server_core.proofs.PoolLemmas.{ask-empty, map-off, names-empty, one-changed, one-emptied, one-filled, shown-ask}
+use Rattle.server_core.proofs.PoolLemmas.{map-off, names-empty, one-changed, one-emptied, one-filled}
 use Rattle.server_core.proofs.SlotLemmas.{by-number}
 
 -- the answer of a request is held for a reply that has a part of it
@@ -133,9 +133,6 @@ module _ (pool : Pool) (s : Session) (q : SlotRequest) (h : IsSession s) (found 
     pub last-held : 0 < refs_of (held a.place (filled p b pool)) a.place
     last-held = omega (arith, (held_refs (filled p b pool) a.place last-stored.full).1)
 
-    pub last-ask : (taken : ℕ) → ask_in (filled p b pool) taken q.ask ≡ ask_in pool taken q.ask
-    last-ask taken = shown-ask p pool (filled p b pool) (one-filled p b pool) taken q.ask (ask-empty pool p q.size q.ask (lowest-empty pool p lowest) own-beside.own.ask)
-
     pub last-answer : buf_at (filled p b pool) a.place ≡ Some b
     last-answer = rw place there
 
@@ -145,19 +142,11 @@ module _ (pool : Pool) (s : Session) (q : SlotRequest) (h : IsSession s) (found 
     pub last-gone : (change : Served → Served) → shown_request (held a.place (filled p b pool)) d ≡ change (shown_request pool q) → shown (held a.place (filled p b pool)) (with_slots (gone_on d s.slots) s) ≡ gone_on_as q.number change (shown pool s)
     last-gone change new = gone-shows (held a.place (filled p b pool)) d change number last-others new
 
-  -- with the last packet
-  module _ (p : ℕ) (b : Buffer) (a : Stored) (none : q.answer ≡ None) (idle : q.working ≡ false) (lowest : lowest_empty pool ≡ Some p) (there : buf_at (filled p b pool) p ≡ Some b) (place : a.place ≡ p) (size : a.size ≡ b.len) (fits : b.len ≤ capacity_of b) where
-    pub last-shows : shown (held a.place (filled p b pool)) (with_slots (gone_on (next_taken (Some a) q) s.slots) s) ≡ gone_on_as q.number (λ x. answered (bytes_of b) (grown (bytes_with pool q) x)) (shown pool s)
-    last-shows =
-        let asks = held-ask (filled p b pool) (Some a.place) (q.taken + 1) q.ask ∙ last-ask (next_taken (Some a) q) refl refl refl p b a none refl lowest there place size fits (q.taken + 1) in
-        let bytes = last-answer (next_taken (Some a) q) refl refl refl p b a none refl lowest there place size fits in
-        last-gone (next_taken (Some a) q) refl refl refl p b a none refl lowest there place size fits (λ x. answered (bytes_of b) (grown (bytes_with pool q) x)) (rw (asks, bytes, idle) refl)
-
   -- from a worker
   module _ (p : ℕ) (b : Buffer) (a : Stored) (none : q.answer ≡ None) (lowest : lowest_empty pool ≡ Some p) (there : buf_at (filled p b pool) p ≡ Some b) (place : a.place ≡ p) (size : a.size ≡ b.len) (fits : b.len ≤ capacity_of b) where
-    pub worked-shows : shown (held a.place (filled p b pool)) (with_slots (gone_on (worked a q) s.slots) s) ≡ gone_on_as q.number (answered (bytes_of b)) (shown pool s)
-    worked-shows =
-        let asks = held-ask (filled p b pool) (Some a.place) q.taken q.ask ∙ last-ask (worked a q) refl refl refl p b a none refl lowest there place size fits q.taken in
+    pub worked-shows : q.ask ≡ None → shown (held a.place (filled p b pool)) (with_slots (gone_on (worked a q) s.slots) s) ≡ gone_on_as q.number (answered (bytes_of b)) (shown pool s)
+    worked-shows gone =
+        let asks : ask_in (held a.place (filled p b pool)) q.taken q.ask ≡ [] = ap (ask_in (held a.place (filled p b pool)) q.taken) gone in
         let bytes = last-answer (worked a q) refl refl refl p b a none refl lowest there place size fits in
         last-gone (worked a q) refl refl refl p b a none refl lowest there place size fits (answered (bytes_of b)) (rw (asks, bytes) refl)
 
@@ -213,13 +202,6 @@ module _ (pool : Pool) (s : Session) (q : SlotRequest) (h : IsSession s) (found 
         ap whole (map-whole (shown_request pool) (shown_request after_part) same_number q same-own s.slots by-own (map-off p pool after_part (one-changed p (written (1024 * q.taken) body b) pool) rest (ask-apart pool q p rest own-beside is)))
 
 -- the counts of the request then
-pub last-turn : (q : SlotRequest) (a : Stored) → q.working ≡ false → IsMessage q.size → IsMessage a.size → q.taken + 1 ≡ packet_count q.size → IsInTurn (next_taken (Some a) q)
-last-turn q a idle size answer last = record {
-  size = size;
-  some = omega arith;
-  come = (idle, record { answer = answer; whole = omega (arith, last); known = omega (arith, last, packet_count_above a.size) });
-}
-
 pub given-turn : (q : SlotRequest) → q.answer ≡ None → IsMessage q.size → q.taken + 1 ≡ packet_count q.size → IsInTurn (last_given q)
 given-turn q none size last = record { size = size; some = omega arith; come = rw none (last, refl) }
 
@@ -227,16 +209,17 @@ given-turn q none size last = record { size = size; some = omega arith; come = r
 pub record IsWorkedOn (q : SlotRequest) : Type 0 where
   pub whole : q.taken ≡ packet_count q.size
   pub none : q.answer ≡ None
+  pub gone : q.ask ≡ None
 
-worked-cases : (size taken : ℕ) (ask : Option ℕ) (working : Bool) (o : Option Stored) → HasCome size taken ask working o → working ≡ true → (taken ≡ packet_count size) × (o ≡ None)
-worked-cases size taken ask working (Some a) come is = cc (come.0, is)
-worked-cases size taken ask true None come is = (come.0, refl)
+worked-cases : (size taken : ℕ) (ask : Option ℕ) (working : Bool) (o : Option Stored) → HasCome size taken ask working o → working ≡ true → (taken ≡ packet_count size) × (o ≡ None) × (ask ≡ None)
+worked-cases size taken ask working (Some a) come is = cc (come.1, is)
+worked-cases size taken ask true None come is = (come.0, refl, come.1)
 worked-cases size taken ask false None come is = cc
 
 pub worked-on : (q : SlotRequest) → IsInTurn q → q.working ≡ true → IsWorkedOn q
 worked-on q turn is =
     let parts = worked-cases q.size q.taken q.ask q.working q.answer turn.come is in
-    record { whole = parts.0; none = parts.1 }
+    record { whole = parts.0; none = parts.1; gone = parts.2 }
 
 pub worked-turn : (q : SlotRequest) (a : Stored) → IsInTurn q → q.working ≡ true → IsMessage a.size → IsInTurn (worked a q)
 worked-turn q a turn is answer =
@@ -244,5 +227,5 @@ worked-turn q a turn is answer =
     record {
       size = turn.size;
       some = turn.some;
-      come = (refl, record { answer = answer; whole = omega (arith, on.whole); known = omega (arith, on.whole, packet_count_above a.size) });
+      come = (on.gone, refl, record { answer = answer; whole = omega (arith, on.whole); known = omega (arith, on.whole, packet_count_above a.size) });
     }

@@ -1,7 +1,8 @@
 -- The replies to an older request, which are taken out of the transmit ring before a newer one begins.
-use Rattle.std.specs.Prelude.{◌≡◌, ℕ, ◌%◌, ◌&&◌, ◌==◌, Bool, true, false, List, [], ◌∷◌, map, count_by, Option, Some, None, IfSome, IsTrue, if◌then◌else◌}
+use Rattle.std.specs.Prelude.{◌≡◌, ℕ, ◌%◌, ◌&&◌, ◌==◌, Bool, true, false, List, [], ◌∷◌, map, count_by, Option, Some, None, IfSome, IsSome, IsTrue, if◌then◌else◌}
 use Rattle.std.specs.List.{AllByRecursion, filter, list_any}
 use Rattle.buffer_pool.specs.Pool.{Pool, refs_of}
+use Rattle.packet_header.specs.Parts.{packet_count}
 use Rattle.packet_rings.specs.Entries.{is_of, is_not_of}
 use Rattle.packet_rings.specs.Mentions.{is_place}
 use Rattle.packet_rings.specs.Values.{EntryValue}
@@ -33,6 +34,13 @@ pub record HoldsReplies (session : ℕ) (pool : Pool) (entries : List EntryValue
   pub each : AllByRecursion (λ e. IsTrue (is_of (owner_of session q) e) → IsReplyIn q e) entries
   pub all : IfSome q.answer (λ a. refs_of pool a.place ≡ named_by (owner_of session q) a.place entries)
 
+-- a request of one packet with an answer that no entry names: no reply to it is queued, since each has a part of
+-- the answer
+pub record IsSent (pool : Pool) (q : SlotRequest) : Type 0 where
+  pub one : packet_count q.size ≡ 1
+  pub some : IsSome q.answer
+  pub none : IfSome q.answer (λ a. refs_of pool a.place ≡ 0)
+
 -- whether an entry is a reply of a session
 abbrev pub is_reply_of : ℕ → Owner → Bool
 is_reply_of session (Reply t r) = session == t
@@ -51,7 +59,8 @@ without_newest r s = with_slots (without_first (is_in_slot (r % 8)) s.slots) s
 
 -- the reply of a step, which is to be put behind the entries
 abbrev pub replies_of : Step → List EntryValue
-replies_of (Took reply) = reply ∷ []
+replies_of (Took None) = []
+replies_of (Took (Some reply)) = reply ∷ []
 replies_of (Again reply) = reply ∷ []
 replies_of (Ran reply) = reply ∷ []
 replies_of (Give parcel) = []
@@ -59,7 +68,7 @@ replies_of (Dropped why) = []
 
 -- the entries of a ring as the definitions over histories have them
 abbrev pub queued_of : List EntryValue → List Queued
-queued_of entries = map (λ e. record { owner = e.owner; number = e.number }) entries
+queued_of entries = map (λ e. record { owner = e.owner; number = e.number; due = None }) entries
 
 -- a ring without the replies to a request, the others in their order
 abbrev pub without_replies : ℕ → Option SlotRequest → List EntryValue → List EntryValue

@@ -1,4 +1,5 @@
 pub mod Asked
+pub mod Counting
 pub mod Finishing
 pub mod Flushing
 pub mod KeepsPool

@@ -8,7 +8,8 @@ use Rattle.packet_header.specs.Parts.{packet_count}
 use Rattle.packet_header.specs.Header.{HasHead, InRange}
 use Rattle.packet_header.specs.declared.packet.Kind.TheVariants.{Cr, Response}
 use Rattle.packet_header.specs.declared.packet.MessageHeader.{MessageHeader}
-use Rattle.buffer_pool.specs.Pool.{Pool, IsFull, held, refs_of, released}
+pub use Rattle.buffer_pool.specs.Places.{IsHeld, MayHold, held_at, released_at}
+use Rattle.buffer_pool.specs.Pool.{Pool, refs_of}
 use Rattle.packet_rings.specs.Values.{EntryValue}
 use Rattle.rpc_laws.specs.declared.tables.Outgoing.{Outgoing}
 use Rattle.rpc_laws.specs.declared.tables.Server.{Server}
@@ -70,24 +71,6 @@ packet_of pool s e = owner_reply e.owner e.number (shown pool s)
 abbrev pub IsSpelled : Option Outgoing → (head body : List ℕ) → Type 0
 IsSpelled None head body = ⊥
 IsSpelled (Some o) head body = HasHead o.packet head × (body ≡ o.body) × InRange o.packet
-
--- one reference more to a place, if there is one
-abbrev pub held_at : Option ℕ → Pool → Pool
-held_at None pool = pool
-held_at (Some p) pool = held p pool
-
--- one reference less to a place, if there is one
-abbrev pub released_at : Option ℕ → Pool → Pool
-released_at None pool = pool
-released_at (Some p) pool = released p pool
-
--- the place, if there is one, is full and one reference more can be counted
-abbrev pub MayHold : Pool → Option ℕ → Type 0
-MayHold pool place = IfSome place (λ p. IsFull pool p × (refs_of pool p < 4294967295))
-
--- there is a reference to the place, if there is a place
-abbrev pub IsHeld : Pool → Option ℕ → Type 0
-IsHeld pool place = IfSome place (λ p. 0 < refs_of pool p)
 
 -- one reference more can be counted to the answer
 abbrev pub CanHold : Pool → SlotRequest → Type 0

@@ -40,10 +40,10 @@ abbrev pub IsOpen : (size taken : ℕ) → Option ℕ → (working : Bool) → T
 IsOpen size taken ask true = (taken ≡ packet_count size) × (ask ≡ None)
 IsOpen size taken ask false = (taken < packet_count size) × IsSome ask
 
--- how far a request has come
+-- how far a request has come. Once its answer is there, its own bytes are given up
 abbrev pub HasCome : (size taken : ℕ) → Option ℕ → (working : Bool) → Option Stored → Type 0
 HasCome size taken ask working None = IsOpen size taken ask working
-HasCome size taken ask working (Some a) = (working ≡ false) × IsAnswered size taken a.size
+HasCome size taken ask working (Some a) = (ask ≡ None) × (working ≡ false) × IsAnswered size taken a.size
 
 -- the packets of a request are taken in turn
 pub record IsInTurn (q : SlotRequest) : Type 0 where

@@ -73,14 +73,40 @@ gave h body v = servers_after (GivenEvent v.way.number h.request) [] None [] (to
 abbrev pub asked_with : MessageHeader → List ℕ → Server → List ℕ
 asked_with h body v = whole_ask (Some v) h.request body
 
--- what a step makes of the session, and of the lists of served requests that the service stands for
-abbrev pub Steps : Step → (Served → ℕ → List ℕ → List ℕ) → (stands after : Served → Type 0) → MessageHeader → List ℕ → Server → Server → Type 0
-Steps (Took reply) answer stands after h body v w = took h body v ≡ w ∷ []
-Steps (Again reply) answer stands after h body v w = w ≡ v
-Steps (Ran reply) answer stands after h body v w =
-    (served : Served) → stands served → (ran h body (answer served h.req_type (asked_with h body v)) v ≡ w ∷ []) × after (served ++ (h.req_type, asked_with h body v) ∷ [])
-Steps (Give parcel) answer stands after h body v w = gave h body v ≡ w ∷ []
-Steps (Dropped why) answer stands after h body v w = w ≡ v
+-- what a step makes of the session, where a handler that ran answered with these bytes
+abbrev pub Steps : Step → (answer : List ℕ) → MessageHeader → List ℕ → Server → Server → Type 0
+Steps (Took reply) answer h body v w = took h body v ≡ w ∷ []
+Steps (Again reply) answer h body v w = w ≡ v
+Steps (Ran reply) answer h body v w = ran h body answer v ≡ w ∷ []
+Steps (Give parcel) answer h body v w = gave h body v ≡ w ∷ []
+Steps (Dropped why) answer h body v w = w ≡ v
+
+-- a handler's answer to a request, for each list of served requests that the service stands for: it stands for
+-- one request more then
+abbrev pub IsAnswer : (Served → ℕ → List ℕ → List ℕ) → (stands after : Served → Type 0) → ℕ → (ask answer : List ℕ) → Type 0
+IsAnswer answer_of stands after req_type ask answer =
+    (served : Served) → stands served → (answer ≡ answer_of served req_type ask) × after (served ++ (req_type, ask) ∷ [])
+
+-- where a handler ran, the answer is its own
+abbrev pub IfRan : Step → Type 0 → Type 0
+IfRan (Took reply) claim = Unit {0}
+IfRan (Again reply) claim = Unit {0}
+IfRan (Ran reply) claim = claim
+IfRan (Give parcel) claim = Unit {0}
+IfRan (Dropped why) claim = Unit {0}
+
+-- a packet that is dropped leaves the pool as it was. Where memory was wanting for an answer, the bytes of the
+-- packet may stand in its request's buffer already, behind those that were taken
+abbrev pub LeavesPool : Step → (before after : Pool) → Type 0
+LeavesPool (Took reply) before after = Unit {0}
+LeavesPool (Again reply) before after = Unit {0}
+LeavesPool (Ran reply) before after = Unit {0}
+LeavesPool (Give parcel) before after = Unit {0}
+LeavesPool (Dropped why) before after = (after.uses ≡ before.uses) × (why ≢ NoMemory → after ≡ before)
+
+-- a request names no buffer of its bytes
+abbrev pub HasNoBytes : Option SlotRequest → Type 0
+HasNoBytes o = IfSome o (λ q. q.ask ≡ None)
 
 -- a parcel has the whole request, and room for its answer
 pub record IsParcel (answer : Served → ℕ → List ℕ → List ℕ) (stands : Served → Type 0) (h : MessageHeader) (body : List ℕ) (v : Server) (p : Parcel) : Type 0 where
@@ -115,9 +141,10 @@ UnlessTaken (Ran reply) claim = Unit {0}
 UnlessTaken (Give parcel) claim = Unit {0}
 UnlessTaken (Dropped why) claim = claim
 
--- a claim of the reply, where there is one
+-- a claim of the reply: a packet that was taken has one, unless its request was given to a worker
 abbrev pub IfReply : Step → (EntryValue → Type 0) → Type 0
-IfReply (Took reply) claim = claim reply
+IfReply (Took None) claim = ⊥
+IfReply (Took (Some reply)) claim = claim reply
 IfReply (Again reply) claim = claim reply
 IfReply (Ran reply) claim = claim reply
 IfReply (Give parcel) claim = Unit {0}

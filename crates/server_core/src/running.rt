@@ -1,6 +1,6 @@
 //! The buffers of a request and of its answer, made before anything else changes: the want of memory
 //! leaves all as it was.
-ghost use Rattle.std.specs.Prelude.{◌≡◌, ◌≢◌, ◌≤◌, ◌++◌, ◌∷◌, [], length, take, IfOk, OnErr, OnOk};
+ghost use Rattle.std.specs.Prelude.{◌≡◌, ◌≢◌, ◌≤◌, ◌++◌, ◌∷◌, [], length, take, IfOk};
 ghost use Rattle.message_buffer.specs.Buffer.{bytes_of, capacity_of};
 ghost use Rattle.rpc_outside.specs.declared.service.Mode.TheVariants.{Inline, Unserved};
 ghost use Rattle.rpc_outside.specs.Served.{Served};
@@ -40,25 +40,6 @@ pub(crate) fn make_room<V: Service>(
     let mut answer = MsgBuf::new(alloc, room)?;
     answer.set_len(room);
     Ok(answer)
-}
-
-/// Runs the handler of a type that is handled inline, and gives its answer. Want of memory comes before
-/// it runs.
-pub(crate) fn run<V: Service>(
-    alloc: Global,
-    service: &mut V,
-    req_type: u8,
-    ask: &[u8],
-) -> Result<MsgBuf, NoMemory>
-    requires inline { V.mode_of req_type ≡ Inline }
-    requires message { length ask.now ≤ 1048576 }
-    ensures message { IfOk result (λ b. IsMessage b.len × (b.len ≤ capacity_of b)) }
-    ensures answer { IfOk result (λ b. (served : Served) → V.stands service.old served → bytes_of b ≡ V.answer served req_type ask.now) }
-    ensures next { OnOk result ((served : Served) → V.stands service.old served → V.stands service.new (served ++ (req_type, ask.now) ∷ [])) }
-    ensures unchanged { OnErr result (service.new ≡ service.old) }
-{
-    let room = make_room(alloc, service, req_type, ask)?;
-    Ok(serve(service, req_type, ask, room))
 }
 
 /// Runs the handler of a type that is handled inline, and gives its answer in the buffer that was made for it.

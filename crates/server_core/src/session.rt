@@ -14,6 +14,7 @@ mod giving;
 mod noting;
 mod reply;
 mod request;
+mod serving;
 mod taking;
 
 use crate::slots::Slots;

@@ -4,10 +4,11 @@ ghost use Rattle.packet_header.specs.Header.{MessageInRange};
 ghost use Rattle.packet_header.specs.declared.packet.Kind.TheVariants.{Response};
 ghost use Rattle.rpc_laws.specs.ServerTable.{is_last, is_rfr};
 ghost use Rattle.rpc_laws.specs.Service.{is_mode_background};
+ghost use Rattle.server_core.specs.Flushing.{IsSent};
 ghost use Rattle.server_core.specs.KeepsPool.{IsKept};
 ghost use Rattle.server_core.specs.Replies.{CanHold, answer_size, entry_at, has_reply, head_of, place_of};
 ghost use Rattle.server_core.specs.Rows.{gives_job, is_mismatch, is_past, is_worked_on, own_row, repeated_row};
-ghost use Rattle.server_core.specs.Serving.{IsUnheld, first_given};
+ghost use Rattle.server_core.specs.Serving.{IsUnheld, first_given, last_given};
 ghost use Rattle.server_core.specs.Session.{IsInTurn, IsMessage, owner_of};
 
 use buffer_pool::BufferPool;
@@ -36,9 +37,9 @@ pub struct SlotRequest {
     pub size: u32,
     /// Client packets taken in turn.
     pub taken: u16,
-    /// Where the pool has the request. Its bytes go with the job where a worker gets it.
+    /// Where the pool has the request, as long as packets of it are to come.
     pub ask: Option<Place>,
-    /// Whether a worker has it.
+    /// Whether a worker has it, or its handler runs.
     pub working: bool,
     /// The answer, once the handler ran.
     pub answer: Option<Stored>,
@@ -57,6 +58,19 @@ impl SlotRequest {
             ask: None,
             working: true,
             answer: None,
+        }
+    }
+
+    /// The request once its last packet was taken, and a worker or its handler has it with its bytes.
+    pub fn last_given(self) -> SlotRequest
+        requires { self.taken < 65535 }
+        ensures { result ≡ last_given self }
+    {
+        SlotRequest {
+            taken: self.taken + 1,
+            ask: None,
+            working: true,
+            ..self
         }
     }
 
@@ -192,6 +206,18 @@ impl SlotRequest {
         match self.answer {
             None => true,
             Some(answer) => pool.refs(answer.place) == 0,
+        }
+    }
+
+    /// Whether the references alone tell that no reply to the request is queued: it is of one packet, so that
+    /// each reply has a part of the answer, to which no reference is left.
+    pub fn is_surely_sent(&self, pool: &BufferPool) -> bool
+        requires { IsKept pool.now self.now }
+        ensures { IsTrue result → IsSent pool.now self.now }
+    {
+        match self.answer {
+            None => false,
+            Some(answer) => count(self.size) == 1 && pool.refs(answer.place) == 0,
         }
     }
 

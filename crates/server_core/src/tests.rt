@@ -144,7 +144,8 @@ fn handle_noted<R: Recorder>(
     match session.on_packet(
         alloc, pool, &mut tx, service, &head, body, jobs_full, ME, rec,
     ) {
-        Step::Took { reply } => {
+        Step::Took { reply: None } => Kept::Took,
+        Step::Took { reply: Some(reply) } => {
             session.sent(pool, &reply);
             Kept::Took
         }
@@ -186,7 +187,8 @@ fn handle_queued<R: Recorder>(
         return Kept::Refused;
     }
     match session.on_packet(alloc, pool, tx, service, &head, body, false, ME, rec) {
-        Step::Took { reply } => {
+        Step::Took { reply: None } => Kept::Took,
+        Step::Took { reply: Some(reply) } => {
             tx.push(reply);
             Kept::Took
         }
@@ -491,7 +493,7 @@ fn a_session_of_its_own(rt: HostRuntime) -> Result<(), Fail> {
             })
     );
     assert!(rt; session.entry(first, 1).is_none());
-    assert_eq!(rt; pool.spare(), 6);
+    assert_eq!(rt; pool.spare(), 7);
     assert!(rt; session.are_unheld(&pool));
     session.finish(&mut pool);
     assert_eq!(rt; pool.spare(), 8);
@@ -520,7 +522,7 @@ fn a_reply_stands_for_its_packet(rt: HostRuntime) -> Result<(), Fail> {
     assert_eq!(rt; session.packet(&pool, &credit, &mut head).len(), 0);
     assert_eq!(rt; head, [0xE1, 2, 0, 0, 0, 0, 3, 4, 0, 0, 0, 0, 0, 0, 0, 1]);
     let answer = session.entry(first, 1).ok_or("not taken")?;
-    assert!(rt; answer == reply(1, Some(Place(1))) && !session.is_held(&pool, &answer));
+    assert!(rt; answer == reply(1, Some(Place(0))) && !session.is_held(&pool, &answer));
     let bytes = session.packet(&pool, &answer, &mut head);
     assert_eq!(rt; bytes.len(), 1024);
     assert_eq!(rt; bytes[0], 9);

@@ -16,7 +16,7 @@ use Rattle.session_slots.specs.declared.waiting.Waiting.{Waiting}
 use Rattle.rpc_laws.specs.Calls.{is_active, is_call, begun, moved, took_reply}
 use Rattle.rpc_laws.specs.ClientTable.{client_ending}
 use Rattle.rpc_laws.specs.Packets.{ask_packet}
-use Rattle.rpc_laws.specs.Posting.{beginning, posting}
+use Rattle.rpc_laws.specs.Posting.{beginning, if_connected, posting}
 use Rattle.rpc_laws.specs.Sessions.{asks, begins, clients_after, ends, has_call, is_client, posts, sends, takes}
 use Rattle.rpc_laws.specs.declared.tables.Asking.{Asking}
 use Rattle.rpc_laws.specs.declared.tables.Call.{Call}
@@ -27,7 +27,7 @@ use Rattle.client_core.specs.declared.outcome.Outcome.TheVariants.{Ok, TooSmall,
 use Rattle.client_core.specs.declared.outcome.Reply.{Reply}
 use Rattle.client_core.specs.declared.outcome.Reply.TheVariants.{Took, Ended, Dropped}
 use Rattle.client_core.specs.Posting.{Starts, after_posting, entry_at, entry_if, is_owner, next_call, next_entry, posted, posted_entry, entry_of}
-use Rattle.client_core.specs.Replies.{LastIsUnheld, call_as, is_request}
+use Rattle.client_core.specs.Replies.{NextIsUnheld, call_as, is_request}
 use Rattle.client_core.specs.Session.{IsSession, Session}
 use Rattle.client_core.specs.Watching.{call_number, is_after, next_told, told}
 use Rattle.client_core.specs.declared.active.Active.{Active}
@@ -130,12 +130,12 @@ pub some-calls : (b : Bool) (pool after : Pool) (peer : ℕ) (s new : Session) (
 some-calls b pool after peer s new None up same steps = rw (same.0, same.1) up
 some-calls b pool after peer s new (Some d) up same steps = steps.calls
 
-pub begun-next : (b : Bool) (pool : Pool) (peer : ℕ) (s : Session) (o : Option (ℕ × ℕ)) → b ≡ false → beginning (shown pool peer s) ≡ option_map event_begun o → option_map begun_event o ≡ beginning (shown_end b pool peer s)
+pub begun-next : (b : Bool) (pool : Pool) (peer : ℕ) (s : Session) (o : Option (ℕ × ℕ)) → b ≡ false → beginning (shown pool peer s) ≡ option_map event_begun o → option_map begun_event o ≡ if_connected beginning (shown_end b pool peer s)
 begun-next b pool peer s None connected e = rw connected (sym e)
 begun-next b pool peer s (Some d) connected e = rw connected (sym e)
 
 -- an end without a call begins none
-pub begins-none : (b : Bool) (pool : Pool) (peer : ℕ) (s : Session) → length s.active + length s.slots.waiting ≤ 0 → beginning (shown_end b pool peer s) ≡ None
+pub begins-none : (b : Bool) (pool : Pool) (peer : ℕ) (s : Session) → length s.active + length s.slots.waiting ≤ 0 → if_connected beginning (shown_end b pool peer s) ≡ None
 begins-none b pool peer s none =
     let active = no-items s.active (omega arith) in
     let waiting = no-items s.slots.waiting (omega arith) in
@@ -145,8 +145,8 @@ begins-none b pool peer s none =
     no-items [] h = refl
     no-items (x ∷ xs) h = absurd (omega arith)
 
-    empty-end : (b : Bool) → s.active ≡ [] → s.slots.waiting ≡ [] → beginning (shown_end b pool peer s) ≡ None
-    empty-end true active waiting = rw (active, waiting) refl
+    empty-end : (b : Bool) → s.active ≡ [] → s.slots.waiting ≡ [] → if_connected beginning (shown_end b pool peer s) ≡ None
+    empty-end true active waiting = refl
     empty-end false active waiting = rw (active, waiting) refl
 
 -- the owner of the next packet
@@ -161,16 +161,16 @@ pub post-steps : (b : Bool) (pool after : Pool) (peer : ℕ) (s new : Session) (
 post-steps b pool after peer s new e t r connected up is own step =
     posts-one b pool after peer s new connected up e r (next-owner peer s e t r (next_call s) is own) (step 0)
 
-pub post-next : (b : Bool) (pool : Pool) (peer : ℕ) (s : Session) (e : EntryValue) (t r : ℕ) → b ≡ false → Some e ≡ next_entry peer s → e.owner ≡ Ask t r → posting (shown pool peer s) ≡ Some (event_posted e) → Some (posted_event (shown_end b pool peer s).way.number (r, e.number)) ≡ posting (shown_end b pool peer s)
+pub post-next : (b : Bool) (pool : Pool) (peer : ℕ) (s : Session) (e : EntryValue) (t r : ℕ) → b ≡ false → Some e ≡ next_entry peer s → e.owner ≡ Ask t r → posting (shown pool peer s) ≡ Some (event_posted e) → Some (posted_event (shown_end b pool peer s).way.number (r, e.number)) ≡ if_connected posting (shown_end b pool peer s)
 post-next b pool peer s e t r connected is own turn =
     let mine = next-owner peer s e t r (next_call s) is own in
     rw (connected, turn, mine) refl
 
 -- nothing is posted
-pub none-posted : (b : Bool) (pool : Pool) (peer : ℕ) (s : Session) → b ≡ false → posting (shown pool peer s) ≡ None → None ≡ posting (shown_end b pool peer s)
+pub none-posted : (b : Bool) (pool : Pool) (peer : ℕ) (s : Session) → b ≡ false → posting (shown pool peer s) ≡ None → None ≡ if_connected posting (shown_end b pool peer s)
 none-posted b pool peer s connected turn = rw (connected, turn) refl
 
-pub broken-posts : (b : Bool) (pool : Pool) (peer : ℕ) (s : Session) → b ≡ true → None ≡ posting (shown_end b pool peer s)
+pub broken-posts : (b : Bool) (pool : Pool) (peer : ℕ) (s : Session) → b ≡ true → None ≡ if_connected posting (shown_end b pool peer s)
 broken-posts b pool peer s broken = rw broken refl
 
 same-session : (peer : ℕ) (s : Session) (o : Option ActiveCall) → None ≡ option_map (entry_of s.number peer) o → after_posting o s ≡ s
@@ -258,13 +258,13 @@ more-told a (Some c) e more = λ last.
     let got : c.got ≡ a.got = cc in
     more (sym posted ∙ last ∙ ap (λ n. n + 1) got)
 
-pub more-unheld : (pool : Pool) (o : Option ActiveCall) → IfSome o (λ c. c.posted ≢ c.got + 1) → LastIsUnheld pool false o
-more-unheld pool None more = tt
-more-unheld pool (Some c) more = λ apart last. absurd (more last)
+pub more-unheld : (pool : Pool) (number : ℕ) (o : Option ActiveCall) → IfSome o (λ c. c.posted ≢ c.got + 1) → NextIsUnheld pool false number o
+more-unheld pool number None more = tt
+more-unheld pool number (Some c) more = λ apart next last. absurd (more last)
 
-pub queued-unheld : (pool : Pool) (o : Option ActiveCall) → LastIsUnheld pool true o
-queued-unheld pool None = tt
-queued-unheld pool (Some c) = λ apart last. cc
+pub queued-unheld : (pool : Pool) (number : ℕ) (o : Option ActiveCall) → NextIsUnheld pool true number o
+queued-unheld pool number None = tt
+queued-unheld pool number (Some c) = λ apart next last. cc
 
 -- a reply keeps the order of the calls
 abbrev up_of : Client → Type 0

@@ -27,14 +27,14 @@ use Rattle.client_core.specs.declared.outcome.Timer.{Timer}
 use Rattle.client_core.specs.declared.outcome.Timer.TheVariants.{Quiet, Roll, Lost}
 use Rattle.client_core.specs.KeepsPool.{IsKept, KeepsPool}
 use Rattle.client_core.specs.Losing.{Loses, next_lost}
-use Rattle.client_core.specs.Replies.{is_request}
-use Rattle.client_core.specs.Session.{Session}
+use Rattle.client_core.specs.Replies.{call_as, is_request}
+use Rattle.client_core.specs.Session.{IsSession, Session, queued_in}
 use Rattle.client_core.specs.Shown.{IsAlone, done_event, rolled_event, shown, shown_active, shown_broken, shown_waiting, stepped, way_of}
 use Rattle.client_core.specs.Timeouts.{after_roll, call_numbered, call_timer, is_numbered, rolled_call, timer_told}
 use Rattle.client_core.specs.Watching.{call_number, is_after, next_told, told}
 use Rattle.client_core.proofs.CallsLemmas.{all-at_first, found-passes, sum-at_first}
 use Rattle.client_core.proofs.EndedLemmas.{any-found}
-use Rattle.client_core.proofs.OneCallLemmas.{least-found, least-none-of}
+use Rattle.client_core.proofs.OneCallLemmas.{by-request, least-found, least-none-of}
 use Rattle.client_core.proofs.ShownLemmas.{found-shown}
 use Rattle.sim_client.specs.Ends.{Ascends, progress_of, shown_end}
 use Rattle.sim_client.proofs.AscendsLemmas.{ascends-changed, ascends-without, few-numbered, least-first}
@@ -78,6 +78,21 @@ few-cases r p g c false false t e = cc
 pub few-rolls : (now timeout : ℕ) (q : Bool) (r p g : ℕ) (o : Option ActiveCall) → IfSome o (λ c. Roll r p g ≡ timer_told (call_timer now timeout q c) c) → IfSome o (λ c. c.rolls < 8)
 few-rolls now timeout q r p g None e = tt
 few-rolls now timeout q r p g (Some c) e = few-cases r p g c _ (ltb c.rolls 8) refl e
+
+-- what is told of a call's queued packets is told of the call with the number
+idle-cases : (r p g : ℕ) (c : ActiveCall) (x b : Bool) → Roll r p g ≡ timer_told (cond x Waits (cond b RollsBack Breaks)) c → c.request ≡ r
+idle-cases r p g c true b e = cc
+idle-cases r p g c false true e = cc
+idle-cases r p g c false false e = cc
+
+idle-found : (now timeout n : ℕ) (q : Bool) (r p g : ℕ) (s : Session) → IsSession s → (o : Option ActiveCall) → call_numbered n s ≡ o → IfSome o (λ c. Roll r p g ≡ timer_told (call_timer now timeout q c) c) → queued_in (call_as r s) ≡ 0 → IfSome o (λ c. c.queued ≡ 0)
+idle-found now timeout n q r p g s sound None found e none = tt
+idle-found now timeout n q r p g s sound (Some c) found e none =
+    let own : c.request ≡ r = idle-cases r p g c _ (ltb c.rolls 8) e in
+    ap queued_in (sym (ap (λ k. call_as k s) (sym own) ∙ by-request s (is_numbered n) c sound found)) ∙ none
+
+pub idle-rolls : (now timeout n : ℕ) (q : Bool) (r p g : ℕ) (s : Session) → IsSession s → IfSome (call_numbered n s) (λ c. Roll r p g ≡ timer_told (call_timer now timeout q c) c) → queued_in (call_as r s) ≡ 0 → IfSome (call_numbered n s) (λ c. c.queued ≡ 0)
+idle-rolls now timeout n q r p g s sound e none = idle-found now timeout n q r p g s sound (call_numbered n s) refl e none
 
 pub row-quiet : (c : ActiveCall) (row : TimerRow) → Quiet ≡ timer_told row c → row ≡ Waits
 row-quiet c Waits e = refl

@@ -1,11 +1,12 @@
 //! A client end.
-ghost use Rattle.std.specs.Prelude.{◌≡◌, ◌<◌, ◌≤◌, ◌^◌, ◌∷◌, ℕ, [], Some, length, IfOk, OnErr, OnOk};
+ghost use Rattle.std.specs.Prelude.{◌≡◌, ◌<◌, ◌≤◌, ◌^◌, ◌∷◌, ℕ, [], None, Some, length, IfOk, OnErr, OnOk};
 ghost use Rattle.std.specs.List.{AllByRecursion};
 ghost use Rattle.message_buffer.specs.Buffer.{bytes_of};
 ghost use Rattle.buffer_pool.specs.Pool.{Pool};
 ghost use Rattle.client_core.specs.Session.{enqueued};
 ghost use Rattle.client_core.specs.Shown.{asked, shown};
-ghost use Rattle.rpc_laws.specs.Sessions.{asks, client_end, is_connected};
+ghost use Rattle.rpc_laws.specs.Sessions.{asks, client_end, is_connected, is_live};
+ghost use Rattle.rpc_laws.specs.ControlSteps.{own_request};
 ghost use Rattle.rpc_laws.specs.Groups.{state_of};
 
 mod posting;
@@ -76,9 +77,11 @@ impl ClientEnd {
         }
     }
 
-    /// Whether packets of calls are taken: the session isn't broken.
+    /// Whether packets of calls are taken: the session isn't broken. It has no request of its own to send.
     pub fn is_connected(&self) -> bool
-        ensures { result ≡ is_connected self.now.state }
+        ensures connected { result ≡ is_connected self.now.state }
+        ensures live { result ≡ is_live self.now.state }
+        ensures own { own_request self.now ≡ None }
     {
         !self.is_broken
     }

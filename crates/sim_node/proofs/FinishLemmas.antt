@@ -1,11 +1,10 @@
 -- A job that is finished, from what the workers and its session did to what the node notes.
-use Rattle.std.proofs.Common.{◌≡◌, ℕ, ◌+◌, ◌-◌, ◌%◌, ◌^◌, ◌<◌, ◌≤◌, Bool, true, false, cond, eqb, leb, Option, Some, None, List, [], ◌∷◌, length, drop, refl, sym, ap, subst, ◌∙◌, arith}
-use Rattle.std.specs.Prelude.{◌==◌, IfSome, count_by, map, option_and_then, slice_get, slice_set}
-use Rattle.std.specs.List.{AllByRecursion, find, position}
-use Rattle.std.proofs.lemmas.Bool.{eqb-true, leb-false}
-use Rattle.std.proofs.Math.Nat.{mod-eq_of_lt}
-use Rattle.message_buffer.specs.Buffer.{bytes_of}
+use Rattle.std.proofs.Common.{◌≡◌, ℕ, suc, ◌-◌, ◌<◌, Bool, true, false, cond, Option, Some, List, [], ◌∷◌, ◌++◌, length, take, drop, refl, sym, ap, subst, ◌∙◌, append_assoc, append-nil, inl, inr}
+use Rattle.std.specs.Prelude.{◌==◌, option_and_then, slice_get}
+use Rattle.std.specs.List.{find, filter, position}
+use Rattle.std.proofs.lemmas.Bool.{eqb-true}
 use Rattle.packet_header.specs.Parts.{packet_count}
+use Rattle.rpc_base.specs.Tables.{without_first}
 use Rattle.rpc_base.proofs.TablesLemmas.{at_first-found, find-found}
 use Rattle.rpc_base.specs.declared.event.Event.TheVariants.{Posted, Ran}
 use Rattle.rpc_base.specs.declared.fact.Fact.{Fact}
@@ -13,163 +12,52 @@ use Rattle.rpc_base.specs.declared.owner.Owner.{Owner}
 use Rattle.rpc_base.specs.declared.owner.Owner.TheVariants.{Reply}
 use Rattle.rpc_laws.specs.declared.tables.Job.{Job}
 use Rattle.rpc_laws.specs.declared.tables.Jobs.{Jobs}
-use Rattle.rpc_laws.specs.declared.tables.Served.{Served}
 use Rattle.rpc_laws.specs.declared.tables.Server.{Server}
 use Rattle.rpc_laws.specs.declared.tables.Timed.{Timed}
+use Rattle.rpc_laws.specs.declared.tables.WorkedJob.{WorkedJob}
 use Rattle.rpc_laws.specs.Facts.{plain, with_two}
 use Rattle.rpc_laws.specs.Jobs.{is_job}
 use Rattle.rpc_laws.specs.PollOrder.{Finishes, finished_facts, is_awaited, is_working}
 use Rattle.rpc_laws.specs.Queues.{replies}
-use Rattle.rpc_laws.specs.Requests.{answered, is_request, is_server}
-use Rattle.rpc_laws.specs.Service.{answer_with, is_background}
-use Rattle.rpc_outside.specs.PlainAnswer.{background_answer, total_with}
-use Rattle.node_tables.specs.Noted.{Makes, Noted}
+use Rattle.rpc_laws.specs.Requests.{is_request, is_server}
+use Rattle.rpc_laws.specs.Service.{is_background}
+use Rattle.rpc_laws.specs.Working.{FinishesEach, FinishesWorked, worked_of}
+use Rattle.rpc_laws.proofs.RunLemmas.{me-after_all}
+use Rattle.rpc_outside.specs.PlainAnswer.{background_answer, plain_mode}
+use Rattle.node_tables.specs.Noted.{Noted}
 use Rattle.node_tables.proofs.NotedLemmas.{noted-then}
-use Rattle.sim_server.specs.Ends.{finished, shown_job}
+use Rattle.sim_server.specs.Ends.{finished}
+use Rattle.sim_server.proofs.ServiceLemmas.{by-worker}
+use Rattle.sim_node.specs.Answering.{Quiet, ServesQuietly}
 use Rattle.sim_node.specs.Apart.{IsApart}
 use Rattle.sim_node.specs.Aside.{NotedAside}
-use Rattle.sim_node.specs.Staffed.{IsOut, Staffed, shown_jobs}
-use Rattle.sim_node.specs.Working.{FinishesOne, StoresAt}
-use Rattle.sim_node.proofs.ApartLemmas.{counted-cons}
-use Rattle.sim_node.proofs.AsideLemmas.{told_jobs, told_servers, with_jobs, with_servers}
-use Rattle.sim_node.proofs.StaffLemmas.{find-other, is-own-job, out-set}
+use Rattle.sim_node.specs.Working.{FinishesNext, IsSteady, StoresAt, own_of}
+use Rattle.sim_node.proofs.AnswerLemmas.{not-inline, quiet-append, quiet-none}
+use Rattle.sim_node.proofs.AsideLemmas.{told_servers, with_jobs, with_servers}
+use Rattle.sim_node.proofs.PlaceLemmas.{job-is}
 use Rattle.sim_node.proofs.TakeLemmas.{found-passes}
-use Rattle.worker_board.specs.declared.Parcel.{Parcel}
-use Rattle.worker_crew.specs.Jobs.{IsAnswered, TakesFirst}
-use Rattle.worker_crew.specs.declared.workers.Finished.{Finished}
-use Rattle.worker_crew.specs.Local.{Local}
+use Rattle.sim_node.proofs.WorkLemmas.{filter-more, filter-parts}
 
--- a type that a worker serves is no tally, and its answer doesn't look at the total
-module _ (y : ℕ) (b : is_background y ≡ true) where
-  not-tally : (t : Bool) → (y == 3) ≡ t → t ≡ false
-  not-tally false e = refl
-  not-tally true e =
-      let same : y ≡ 3 = eqb-true y 3 e in
-      let no : is_background 3 ≡ true = subst (λ n. is_background n ≡ true) same b in
-      cc
+-- a job is finished
+module _ (a s : Timed) (session request : ℕ) (job : Job) (answer : List ℕ) (vs : List Server) (waited : Bool) (view : a ≡ s) (known : IsApart s) (room : replies s.lists.queued < s.lists.room) (found : find (is_job session request) a.lists.jobs.out ≡ Some job) (steady : IsSteady job answer) (q : StoresAt session request answer waited a.lists.servers vs) where
+  whose : (job.session ≡ session) × (job.request ≡ request)
+  whose = job-is session request job (found-passes (is_job session request) a.lists.jobs.out job found)
 
-  is-no-tally : (y == 3) ≡ false
-  is-no-tally = let t = not-tally (y == 3) refl in t
-
-  above : (t : Bool) → leb y 4 ≡ t → t ≡ false
-  above false e = refl
-  above true e = above-by (leb 1 y) refl
-    where
-      above-by : (u : Bool) → leb 1 y ≡ u → true ≡ false
-      above-by true k =
-          let no : is_background y ≡ false = rw (k, e) refl in cc
-      above-by false k =
-          let low = leb-false 1 y k in
-          let zero_is : y ≡ 0 = omega arith in
-          let no : is_background 0 ≡ true = subst (λ n. is_background n ≡ true) zero_is b in
-          cc
-
-  is-above : leb y 4 ≡ false
-  is-above = above (leb y 4) refl
-
-  pub answer-steady : (total : ℕ) (ask : List ℕ) → answer_with total y ask ≡ background_answer y ask
-  answer-steady total ask = rw (is-no-tally, is-above) refl
-
-  pub total-still : (total : ℕ) (ask : List ℕ) → total < 2 ^ 64 → total_with total y ask ≡ total
-  total-still total ask small =
-      let same : total + 0 ≡ total = omega arith in
-      rw is-no-tally (ap (λ n. n % 2 ^ 64) same ∙ mod-eq_of_lt small)
-
--- a job is finished: it is the first of those worked
-module _ (a s : Timed) (p : Parcel) (rest : List Job) (vs : List Server) (waited : Bool) (view : a ≡ s) (known : IsApart s) (room : replies s.lists.queued < s.lists.room) (front : a.lists.jobs.worked ≡ shown_job p ∷ rest) (right : IsAnswered background_answer p) (q : StoresAt p.session p.request (bytes_of p.out) waited a.lists.servers vs) where
-  abbrev job : Job
-  job = shown_job p
-
-  staffed : Staffed a.lists.total a.lists.servers a.lists.jobs
-  staffed = (subst IsApart (sym view) known).1
-
-  worked-all : AllByRecursion (IsOut a.lists.servers) (job ∷ rest)
-  worked-all = subst (λ (xs : List Job). AllByRecursion (IsOut a.lists.servers) xs) front staffed.worked
-
-  background : is_background p.req_type ≡ true
-  background = worked-all.0.1
-
-  own : find (is_server p.session) a.lists.servers ≡ Some q.server
-  own = find-found (is_server p.session) a.lists.servers q.place q.found ∙ q.at
-
-  number : q.server.way.number ≡ p.session
-  number =
-      eqb-true q.server.way.number p.session (found-passes (is_server p.session) a.lists.servers q.server own)
-
-  -- no other job is of this request
-  once : count_by (is_job p.session p.request) a.lists.jobs.waiting + count_by (is_job p.session p.request) (job ∷ rest) ≤ 1
-  once =
-      subst (λ (xs : List Job). count_by (is_job p.session p.request) a.lists.jobs.waiting + count_by (is_job p.session p.request) xs ≤ 1) front (staffed.once p.session p.request)
-
-  one : count_by (is_job p.session p.request) (job ∷ rest) ≡ 1 + count_by (is_job p.session p.request) rest
-  one = counted-cons (is_job p.session p.request) job rest true (is-own-job job)
-
-  none-cons : (x : Job) (xs : List Job) (b : Bool) → is_job p.session p.request x ≡ b → count_by (is_job p.session p.request) (x ∷ xs) ≡ 0 → (count_by (is_job p.session p.request) xs ≡ 0 → AllByRecursion (λ j. is_job p.session p.request j ≡ false) xs) → AllByRecursion (λ j. is_job p.session p.request j ≡ false) (x ∷ xs)
-  none-cons x xs true t e ih =
-      let c = counted-cons (is_job p.session p.request) x xs true t in absurd (omega (arith, c, e))
-  none-cons x xs false t e ih =
-      let c = counted-cons (is_job p.session p.request) x xs false t in (t, ih (omega (arith, c, e)))
-
-  none-by : (xs : List Job) → count_by (is_job p.session p.request) xs ≡ 0 → AllByRecursion (λ j. is_job p.session p.request j ≡ false) xs
-  none-by [] e = tt
-  none-by (x ∷ xs) e = none-cons x xs (is_job p.session p.request x) refl e (none-by xs)
-
-  others-waiting : AllByRecursion (λ j. is_job p.session p.request j ≡ false) a.lists.jobs.waiting
-  others-waiting = none-by a.lists.jobs.waiting (omega (arith, once, one))
-
-  others-worked : AllByRecursion (λ j. is_job p.session p.request j ≡ false) rest
-  others-worked = none-by rest (omega (arith, once, one))
-
-  abbrev now : Server
-  now = finished p.request (bytes_of p.out) q.server
-
-  -- each other job waits on
-  out : (j : Job) → is_job p.session p.request j ≡ false → IsOut a.lists.servers j → IsOut (slice_set a.lists.servers q.place now) j
-  out j other =
-      out-set a.lists.servers p.session q.place q.server now q.found q.at number j keeps
-    where
-      keeps : j.session ≡ p.session → is_working (find (is_request j.request) q.server.slots) ≡ true → is_working (find (is_request j.request) now.slots) ≡ true
-      keeps same w = keeps-by (eqb p.request j.request) refl
-        where
-          keeps-by : (b : Bool) → eqb p.request j.request ≡ b → is_working (find (is_request j.request) now.slots) ≡ true
-          keeps-by true t =
-              let r : p.request ≡ j.request = eqb-true p.request j.request t in
-              let yes : is_job p.session p.request j ≡ true = rw (sym same, r) (is-own-job j) in
-              absurd (true-false (sym yes ∙ other))
-            where
-              true-false : true ≡ false → ⊥
-              true-false e = cc
-          keeps-by false t =
-              let lacks : (l : Served) → is_request p.request l ≡ true → is_request j.request l ≡ false = λ l u. let at : l.number ≡ p.request = eqb-true l.number p.request u in rw at t in
-              ap is_working (find-other (is_request p.request) (is_request j.request) (answered (bytes_of p.out)) q.server.slots lacks lacks) ∙ w
-
-  outs : (xs : List Job) → AllByRecursion (λ j. is_job p.session p.request j ≡ false) xs → AllByRecursion (IsOut a.lists.servers) xs → AllByRecursion (IsOut (slice_set a.lists.servers q.place now)) xs
-  outs [] other all = tt
-  outs (x ∷ xs) other all = (out x other.0 all.0, outs xs other.1 all.1)
+  own : find (is_server session) a.lists.servers ≡ Some q.server
+  own = find-found (is_server session) a.lists.servers q.place q.found ∙ q.at
 
   abbrev later : Jobs
-  later = record { given = a.lists.jobs.given; waiting = a.lists.jobs.waiting; worked = rest }
-
-  staffed-later : Staffed a.lists.total vs later
-  staffed-later =
-      rw q.changed (record {
-        small = staffed.small;
-        waiting = outs a.lists.jobs.waiting others-waiting staffed.waiting;
-        worked = outs rest others-worked worked-all.1;
-        once = λ t r. let before : count_by (is_job t r) a.lists.jobs.waiting + count_by (is_job t r) (job ∷ rest) ≤ 1 = subst (λ (xs : List Job). count_by (is_job t r) a.lists.jobs.waiting + count_by (is_job t r) xs ≤ 1) front (staffed.once t r) in
-            let c = counted-cons (is_job t r) job rest (is_job t r job) refl in
-            omega (arith, before, c);
-      })
+  later = record a.lists.jobs { out = without_first (is_job session request) a.lists.jobs.out }
 
   abbrev ran : Fact
-  ran = with_two a.lists.me (Ran p.session p.request p.req_type) (bytes_of p.ask) (bytes_of p.out)
+  ran = with_two a.lists.me (Ran session request job.req_type) job.ask answer
 
-  told-jobs : told_jobs a ran ≡ later
-  told-jobs = rw (front, is-own-job job) refl
+  abbrev posted : Fact
+  posted = plain a.lists.me (Posted (Reply session request) (packet_count (length job.ask) - 1))
 
   told-servers : told_servers a ran ≡ vs
   told-servers =
-      at_first-found (is_server p.session) (finished p.request (bytes_of p.out)) a.lists.servers q.place q.server q.found q.at ∙ sym q.changed
+      at_first-found (is_server session) (finished request answer) a.lists.servers q.place q.server q.found q.at ∙ sym q.changed
 
   -- it is noted before the session is told
   module _ (b : Timed) (f g : List Fact) (aside : NotedAside ran (with_jobs later a) b f g) where
@@ -177,108 +65,188 @@ module _ (a s : Timed) (p : Parcel) (rest : List Job) (vs : List Server) (waited
     c = with_servers vs b
 
     ran-noted : Noted (ran ∷ []) a c f g
-    ran-noted =
-        let still : a.lists.total ≡ total_with a.lists.total p.req_type (bytes_of p.ask) = sym (total-still p.req_type background a.lists.total (bytes_of p.ask) staffed.small) in
-        record {
-          grew = aside.grew;
-          goes = ap (λ (z : Timed). with_servers vs z) aside.rest ∙ rw (told-jobs, told-servers, sym still) refl;
-        }
+    ran-noted = record {
+      grew = aside.grew;
+      goes = ap (λ (z : Timed). with_servers vs z) aside.rest ∙ rw told-servers refl;
+    }
 
     pub apart-ran : IsApart c
-    apart-ran = rw aside.rest ((subst IsApart (sym view) known).0, staffed-later)
+    apart-ran = rw aside.rest (subst IsApart (sym view) known)
 
     waits-is : is_awaited job a.lists.servers ≡ waited
     waits-is =
-        ap (λ (o : Option Server). is_working (option_and_then (λ v. find (is_request p.request) v.slots) o)) own ∙ sym q.posted
+        rw (whose.0, whose.1) (ap (λ (o : Option Server). is_working (option_and_then (λ v. find (is_request request) v.slots) o)) own ∙ sym q.posted)
 
-    facts-are : (b : Bool) → waited ≡ b → finished_facts a.lists job ≡ ran ∷ cond b (plain a.lists.me (Posted (Reply p.session p.request) (packet_count (length (bytes_of p.ask)) - 1)) ∷ []) []
+    facts-are : (b : Bool) → waited ≡ b → finished_facts answer a.lists job ≡ ran ∷ cond b (posted ∷ []) []
     facts-are b e =
         let is : is_awaited job a.lists.servers ≡ b = waits-is ∙ e in
-        rw (is, answer-steady p.req_type background a.lists.total (bytes_of p.ask), sym right) refl
+        rw (is, whose.0, whose.1) refl
 
-    finishes : (x : List Fact) (d : Timed) (k : List Fact) → x ≡ finished_facts a.lists job → Noted x a d f k → FinishesOne true s d f k
-    finishes x d k e n =
-        let made : Makes Finishes a d f k = record {
-          noted = x;
+    quiet : (b : Bool) → Quiet (ran ∷ cond b (posted ∷ []) [])
+    quiet true served =
+        rw (not-inline (plain_mode job.req_type) steady.background) ((steady.right ∙ sym (by-worker served job.req_type job.ask steady.background), (tt, tt)), refl, refl)
+    quiet false served =
+        rw (not-inline (plain_mode job.req_type) steady.background) ((steady.right ∙ sym (by-worker served job.req_type job.ask steady.background), tt), refl, refl)
+
+    finishes : (b : Bool) (d : Timed) (k : List Fact) → waited ≡ b → Noted (ran ∷ cond b (posted ∷ []) []) a d f k → ServesQuietly (Finishes session request) s d f k
+    finishes b d k e n =
+        let made : ServesQuietly (Finishes session request) a d f k = record {
+          noted = ran ∷ cond b (posted ∷ []) [];
           grew = n.grew;
-          step = record { room = rw view room; job = job; is_front = ap (λ (xs : List Job). slice_get xs 0) front; facts = e; goes = n.goes };
+          step = record { room = rw view room; job = job; is_out = found; answer = answer; facts = sym (facts-are b e); goes = n.goes };
+          plain = quiet b;
         } in
-        subst (λ (z : Timed). Makes Finishes z d f k) view made
+        subst (λ (z : Timed). ServesQuietly (Finishes session request) z d f k) view made
 
-    pub finished-unawaited : waited ≡ false → FinishesOne true s c f g
-    finished-unawaited e = finishes (ran ∷ []) c g (sym (facts-are false e)) ran-noted
+    pub finished-unawaited : waited ≡ false → ServesQuietly (Finishes session request) s c f g
+    finished-unawaited e = finishes false c g e ran-noted
 
-    pub finished-awaited : (owner : Owner) (n : ℕ) (d : Timed) (k : List Fact) → waited ≡ true → owner ≡ Reply p.session p.request → n ≡ packet_count (length (bytes_of p.ask)) - 1 → Noted (plain c.lists.me (Posted owner n) ∷ []) c d g k → FinishesOne true s d f k
-    finished-awaited owner n d k e is_owner is_n posted =
+    pub finished-awaited : (owner : Owner) (n : ℕ) (d : Timed) (k : List Fact) → waited ≡ true → owner ≡ Reply session request → n ≡ packet_count (length job.ask) - 1 → Noted (plain c.lists.me (Posted owner n) ∷ []) c d g k → ServesQuietly (Finishes session request) s d f k
+    finished-awaited owner n d k e is_owner is_n noted =
         let me : c.lists.me ≡ a.lists.me = ap (λ (z : Timed). z.lists.me) aside.rest in
-        let own_posted : Noted (plain a.lists.me (Posted (Reply p.session p.request) (packet_count (length (bytes_of p.ask)) - 1)) ∷ []) c d g k = subst (λ (z : Fact). Noted (z ∷ []) c d g k) (rw (me, is_owner, is_n) refl) posted in
-        finishes _ d k (sym (facts-are true e)) (noted-then a c d (ran ∷ []) (plain a.lists.me (Posted (Reply p.session p.request) (packet_count (length (bytes_of p.ask)) - 1)) ∷ []) f g k ran-noted own_posted)
+        let own_posted : Noted (posted ∷ []) c d g k = subst (λ (z : Fact). Noted (z ∷ []) c d g k) (rw (me, is_owner, is_n) refl) noted in
+        finishes true d k e (noted-then a c d (ran ∷ []) (posted ∷ []) f g k ran-noted own_posted)
 
--- what the workers gave
-takes-first : (ws vs : List Parcel) (o : Option Finished) (f : Finished) → o ≡ Some f → TakesFirst (Some ws) (Some vs) o → ws ≡ f.parcel ∷ vs
-takes-first [] vs o f e h = let no : Some f ≡ None = sym e ∙ h.0 in cc
-takes-first (p ∷ ps) vs o f e h =
-    let one : Some f ≡ Some (record { parcel = p; worked = true }) = sym e ∙ h.0 in
-    let same : f ≡ record { parcel = p; worked = true } = cc in
-    let rest : vs ≡ ps = cc in
-    rw (same, rest) refl
+-- with what the workers gave
+pub record Given (session request : ℕ) (job : Job) (p_session p_request p_type : ℕ) (p_ask answer : List ℕ) : Type 0 where
+  pub background : is_background job.req_type ≡ true
+  pub session_is : p_session ≡ job.session
+  pub request_is : p_request ≡ job.request
+  pub type_is : p_type ≡ job.req_type
+  pub ask_is : p_ask ≡ job.ask
+  pub right : answer ≡ background_answer p_type p_ask
 
-pub takes-none : (ws vs : List Parcel) (o : Option Finished) → o ≡ None → TakesFirst (Some ws) (Some vs) o → ws ≡ []
-takes-none [] vs o e h = refl
-takes-none (p ∷ ps) vs o e h = let no : None ≡ Some (record { parcel = p; worked = true }) = sym e ∙ h.0 in cc
+module _ (a s d0 b : Timed) (js : Jobs) (session request : ℕ) (job : Job) (p_session p_request p_type : ℕ) (p_ask answer first second : List ℕ) (vs : List Server) (waited : Bool) (f g : List Fact) (view : a ≡ s) (known : IsApart s) (room : replies s.lists.queued < s.lists.room) (found : find (is_job session request) a.lists.jobs.out ≡ Some job) (left : js ≡ record a.lists.jobs { out = without_first (is_job session request) a.lists.jobs.out }) (given : Given session request job p_session p_request p_type p_ask answer) (is_first : first ≡ job.ask) (is_second : second ≡ answer) (noted_aside : NotedAside (with_two a.lists.me (Ran session request job.req_type) first second) (with_jobs js a) d0 f g) (again : b ≡ d0) (q : StoresAt p_session p_request answer waited b.lists.servers vs) where
+  same : (job.session ≡ session) × (job.request ≡ request)
+  same = job-is session request job (found-passes (is_job session request) a.lists.jobs.out job found)
 
--- a job that was taken from the workers
-pub record Took (a : Timed) (old new : Local) (o : Option Finished) (f : Finished) : Type 0 where
-  pub jobs : a.lists.jobs ≡ shown_jobs old
-  pub is : o ≡ Some f
-  pub lists : new ≡ record old { worked = drop 1 old.worked }
-  pub first : TakesFirst (Some old.worked) (Some new.worked) o
-  pub right : IfSome o (λ d. (d.worked ≡ true) × IsAnswered background_answer d.parcel)
+  steady : IsSteady job answer
+  steady = record { background = given.background; right = given.right ∙ rw (given.type_is, given.ask_is) refl }
 
-module _ (a s d0 b : Timed) (old new : Local) (o : Option Finished) (d : Finished) (first second : List ℕ) (vs : List Server) (waited : Bool) (f g : List Fact) (view : a ≡ s) (known : IsApart s) (room : replies s.lists.queued < s.lists.room) (took : Took a old new o d) (is_first : first ≡ bytes_of d.parcel.ask) (is_second : second ≡ bytes_of d.parcel.out) (noted_aside : NotedAside (with_two a.lists.me (Ran d.parcel.session d.parcel.request d.parcel.req_type) first second) (with_jobs (shown_jobs new) a) d0 f g) (again : b ≡ d0) (q : StoresAt d.parcel.session d.parcel.request (bytes_of d.parcel.out) waited b.lists.servers vs) where
-  abbrev rest : List Job
-  rest = map shown_job new.worked
-
-  front : a.lists.jobs.worked ≡ shown_job d.parcel ∷ rest
-  front = ap (λ (js : Jobs). js.worked) took.jobs ∙ ap (map shown_job) (takes-first old.worked new.worked o d took.is took.first)
-
-  right : IsAnswered background_answer d.parcel
-  right =
-      let it : (d.worked ≡ true) × IsAnswered background_answer d.parcel = subst (λ (x : Option Finished). IfSome x (λ e. (e.worked ≡ true) × IsAnswered background_answer e.parcel)) took.is took.right in
-      it.1
-
-  left : shown_jobs new ≡ record { given = a.lists.jobs.given; waiting = a.lists.jobs.waiting; worked = rest }
-  left = left-by
-    where
-      left-by : shown_jobs new ≡ record { given = a.lists.jobs.given; waiting = a.lists.jobs.waiting; worked = map shown_job new.worked }
-      left-by = rw (took.jobs, took.lists) refl
-
-  aside : NotedAside (with_two a.lists.me (Ran d.parcel.session d.parcel.request d.parcel.req_type) first second) (with_jobs (shown_jobs new) a) b f g
-  aside = subst (λ (z : Timed). NotedAside (with_two a.lists.me (Ran d.parcel.session d.parcel.request d.parcel.req_type) first second) (with_jobs (shown_jobs new) a) z f g) (sym again) noted_aside
-
-  noted : NotedAside (with_two a.lists.me (Ran d.parcel.session d.parcel.request d.parcel.req_type) (bytes_of d.parcel.ask) (bytes_of d.parcel.out)) (with_jobs (record { given = a.lists.jobs.given; waiting = a.lists.jobs.waiting; worked = rest }) a) b f g
+  noted : NotedAside (with_two a.lists.me (Ran session request job.req_type) job.ask answer) (with_jobs (record a.lists.jobs { out = without_first (is_job session request) a.lists.jobs.out }) a) b f g
   noted =
-      let one : NotedAside (with_two a.lists.me (Ran d.parcel.session d.parcel.request d.parcel.req_type) (bytes_of d.parcel.ask) (bytes_of d.parcel.out)) (with_jobs (shown_jobs new) a) b f g = subst (λ (z : Fact). NotedAside z (with_jobs (shown_jobs new) a) b f g) (rw (is_first, is_second) refl) aside in
-      subst (λ (js : Jobs). NotedAside (with_two a.lists.me (Ran d.parcel.session d.parcel.request d.parcel.req_type) (bytes_of d.parcel.ask) (bytes_of d.parcel.out)) (with_jobs js a) b f g) left one
+      let one : NotedAside (with_two a.lists.me (Ran session request job.req_type) job.ask answer) (with_jobs js a) d0 f g = subst (λ (z : Fact). NotedAside z (with_jobs js a) d0 f g) (rw (is_first, is_second) refl) noted_aside in
+      let two : NotedAside (with_two a.lists.me (Ran session request job.req_type) job.ask answer) (with_jobs js a) b f g = subst (λ (z : Timed). NotedAside (with_two a.lists.me (Ran session request job.req_type) job.ask answer) (with_jobs js a) z f g) (sym again) one in
+      subst (λ (z : Jobs). NotedAside (with_two a.lists.me (Ran session request job.req_type) job.ask answer) (with_jobs z a) b f g) left two
 
-  stored : StoresAt d.parcel.session d.parcel.request (bytes_of d.parcel.out) waited a.lists.servers vs
-  stored = subst (λ (ws : List Server). StoresAt d.parcel.session d.parcel.request (bytes_of d.parcel.out) waited ws vs) (ap (λ (z : Timed). z.lists.servers) noted.rest) q
+  stored : StoresAt session request answer waited a.lists.servers vs
+  stored =
+      let one : StoresAt session p_request answer waited b.lists.servers vs = subst (λ n. StoresAt n p_request answer waited b.lists.servers vs) (given.session_is ∙ same.0) q in
+      let two : StoresAt session request answer waited b.lists.servers vs = subst (λ n. StoresAt session n answer waited b.lists.servers vs) (given.request_is ∙ same.1) one in
+      subst (λ (ws : List Server). StoresAt session request answer waited ws vs) (ap (λ (z : Timed). z.lists.servers) noted.rest) two
 
   pub is-apart : IsApart (with_servers vs b)
-  is-apart = apart-ran a s d.parcel rest vs waited view known room front right stored b f g noted
+  is-apart = apart-ran a s session request job answer vs waited view known room found steady stored b f g noted
 
-  pub is-unawaited : waited ≡ false → FinishesOne true s (with_servers vs b) f g
+  pub is-unawaited : waited ≡ false → ServesQuietly (Finishes session request) s (with_servers vs b) f g
   is-unawaited e =
-      finished-unawaited a s d.parcel rest vs waited view known room front right stored b f g noted e
+      finished-unawaited a s session request job answer vs waited view known room found steady stored b f g noted e
 
-  pub is-awaited : (owner : Owner) (n : ℕ) (c : Timed) (k : List Fact) → waited ≡ true → owner ≡ Reply d.parcel.session d.parcel.request → n ≡ packet_count (length first) - 1 → Noted (plain (with_servers vs b).lists.me (Posted owner n) ∷ []) (with_servers vs b) c g k → FinishesOne true s c f k
+  pub is-awaited : (owner : Owner) (n : ℕ) (c : Timed) (k : List Fact) → waited ≡ true → owner ≡ Reply session request → n ≡ packet_count (length first) - 1 → Noted (plain (with_servers vs b).lists.me (Posted owner n) ∷ []) (with_servers vs b) c g k → ServesQuietly (Finishes session request) s c f k
   is-awaited owner n c k e is_owner is_n posted =
-      finished-awaited a s d.parcel rest vs waited view known room front right stored b f g noted owner n c k e is_owner (is_n ∙ ap (λ (xs : List ℕ). packet_count (length xs) - 1) is_first) posted
+      finished-awaited a s session request job answer vs waited view known room found steady stored b f g noted owner n c k e is_owner (is_n ∙ ap (λ (xs : List ℕ). packet_count (length xs) - 1) is_first) posted
 
--- whether there was one
-pub finishes-one : (went : Bool) (a b : Timed) (f g : List Fact) → went ≡ true → FinishesOne went a b f g → Makes Finishes a b f g
-finishes-one true a b f g e p = p
-finishes-one false a b f g e p = cc
+-- one job of the list after another
+pub each-none : (s : Timed) (f : List Fact) → ServesQuietly (FinishesEach []) s s f f
+each-none s f = record { noted = []; grew = sym (append-nil f); step = (refl, refl); plain = quiet-none }
+
+each-snoc : (ws : List WorkedJob) (w : WorkedJob) (s t u : Timed) (x y : List Fact) → FinishesEach ws s x t → Finishes w.session w.request t y u → FinishesEach (ws ++ w ∷ []) s (x ++ y) u
+each-snoc [] w s t u x y h k =
+    rw h.0 (record { between = u; front = y; back = []; joined = sym (append-nil y); first = subst (λ (z : Timed). Finishes w.session w.request z y u) h.1 k; second = (refl, refl) })
+each-snoc (v ∷ vs) w s t u x y h k = record {
+  between = h.between;
+  front = h.front;
+  back = h.back ++ y;
+  joined = rw h.joined (append_assoc h.front h.back y);
+  first = h.first;
+  second = each-snoc vs w h.between t u h.back y h.second k;
+}
+
+me-each : (ws : List WorkedJob) (s t : Timed) (x : List Fact) → FinishesEach ws s x t → t.lists.me ≡ s.lists.me
+me-each [] s t x h = ap (λ (z : Timed). z.lists.me) h.1
+me-each (w ∷ ws) s t x h =
+    me-each ws h.between t h.back h.second ∙ ap (λ (z : Timed). z.lists.me) h.first.goes ∙ me-after_all s.clock s.lists h.front
+
+-- whether a job is of this node, and finished then
+pub next-other : (w : WorkedJob) (s : Timed) (f : List Fact) (b : Bool) → (w.node == s.lists.me) ≡ b → b ≡ false → FinishesNext w true s s f f
+next-other w s f true e is = cc
+next-other w s f false e is = rw e (each-none s f)
+
+pub next-own : (w : WorkedJob) (s t : Timed) (f g : List Fact) (b : Bool) → (w.node == s.lists.me) ≡ b → b ≡ true → ServesQuietly (Finishes w.session w.request) s t f g → FinishesNext w true s t f g
+next-own w s t f g false e is p = cc
+next-own w s t f g true e is p =
+    let one : ServesQuietly (FinishesEach (w ∷ [])) s t f g = record {
+      noted = p.noted;
+      grew = p.grew;
+      step = record { between = t; front = p.noted; back = []; joined = sym (append-nil p.noted); first = p.step; second = (refl, refl) };
+      plain = p.plain;
+    } in
+    rw e one
+
+abbrev is_own : ℕ → WorkedJob → Bool
+is_own me w = w.node == me
+
+-- one more job of the list
+more-by : (worked : List WorkedJob) (i k : ℕ) (w : WorkedJob) (start s t : Timed) (f g h : List Fact) (b : Bool) → (w.node == start.lists.me) ≡ b → slice_get worked i ≡ Some w → k ≡ suc i → ServesQuietly (FinishesEach (worked_of start.lists.me (take i worked))) start s f g → ServesQuietly (FinishesEach (cond b (w ∷ []) [])) s t g h → ServesQuietly (FinishesEach (worked_of start.lists.me (take k worked))) start t f h
+more-by worked i k w start s t f g h true e at is p q =
+    let list : worked_of start.lists.me (take k worked) ≡ worked_of start.lists.me (take i worked) ++ w ∷ [] = ap (λ n. filter (is_own start.lists.me) (take n worked)) is ∙ filter-more (is_own start.lists.me) worked i w at ∙ ap (λ (c : Bool). filter (is_own start.lists.me) (take i worked) ++ cond c (w ∷ []) []) e in
+    let whole : q.noted ≡ q.step.front = q.step.joined ∙ ap (λ (zs : List Fact). q.step.front ++ zs) q.step.second.0 ∙ append-nil q.step.front in
+    let last : Finishes w.session w.request s q.noted t = subst (λ (zs : List Fact). Finishes w.session w.request s zs t) (sym whole) (subst (λ (z : Timed). Finishes w.session w.request s q.step.front z) (sym q.step.second.1) q.step.first) in
+    record {
+      noted = p.noted ++ q.noted;
+      grew = q.grew ∙ rw p.grew (append_assoc f p.noted q.noted);
+      step = rw list (each-snoc (worked_of start.lists.me (take i worked)) w start s t p.noted q.noted p.step last);
+      plain = quiet-append p.noted q.noted p.plain q.plain;
+    }
+more-by worked i k w start s t f g h false e at is p q =
+    let list : worked_of start.lists.me (take k worked) ≡ worked_of start.lists.me (take i worked) = ap (λ n. filter (is_own start.lists.me) (take n worked)) is ∙ filter-more (is_own start.lists.me) worked i w at ∙ ap (λ (c : Bool). filter (is_own start.lists.me) (take i worked) ++ cond c (w ∷ []) []) e ∙ append-nil (filter (is_own start.lists.me) (take i worked)) in
+    let none : h ≡ g = q.grew ∙ ap (λ (zs : List Fact). g ++ zs) q.step.0 ∙ append-nil g in
+    record {
+      noted = p.noted;
+      grew = none ∙ p.grew;
+      step = rw (list, q.step.1) p.step;
+      plain = p.plain;
+    }
+
+pub each-more : (worked : List WorkedJob) (i k : ℕ) (w : WorkedJob) (went : Bool) (start s t : Timed) (f g h : List Fact) → went ≡ true → slice_get worked i ≡ Some w → k ≡ suc i → ServesQuietly (FinishesEach (worked_of start.lists.me (take i worked))) start s f g → FinishesNext w went s t g h → ServesQuietly (FinishesEach (worked_of start.lists.me (take k worked))) start t f h
+each-more worked i k w false start s t f g h is_on at is p next = cc
+each-more worked i k w true start s t f g h is_on at is p next =
+    let me : s.lists.me ≡ start.lists.me = me-each (worked_of start.lists.me (take i worked)) start s p.noted p.step in
+    let q : ServesQuietly (FinishesEach (own_of start.lists.me w)) s t g h = subst (λ n. ServesQuietly (FinishesEach (own_of n w)) s t g h) me next in
+    more-by worked i k w start s t f g h (w.node == start.lists.me) refl at is p q
+
+-- there is no room for more of them
+pub each-full : (worked : List WorkedJob) (i : ℕ) (w : WorkedJob) (went : Bool) (start s t : Timed) (f g h : List Fact) → went ≡ false → ServesQuietly (FinishesEach (worked_of start.lists.me (take i worked))) start s f g → FinishesNext w went s t g h → ServesQuietly (FinishesWorked worked) start t f h
+each-full worked i w true start s t f g h off p next = cc
+each-full worked i w false start s t f g h off p next =
+    let same : ServesQuietly (FinishesEach (worked_of start.lists.me (take i worked))) start t f h = rw (next.1, next.2) p in
+    record {
+      noted = same.noted;
+      grew = same.grew;
+      step = record {
+        done = worked_of start.lists.me (take i worked);
+        left = worked_of start.lists.me (drop i worked);
+        parted = filter-parts (is_own start.lists.me) worked i;
+        finishes = same.step;
+        over = inr (rw next.1 next.0);
+      };
+      plain = same.plain;
+    }
+
+-- all of them are finished
+pub each-all : (worked : List WorkedJob) (start t : Timed) (f h : List Fact) (xs : List WorkedJob) → xs ≡ worked → ServesQuietly (FinishesEach (worked_of start.lists.me xs)) start t f h → ServesQuietly (FinishesWorked worked) start t f h
+each-all worked start t f h xs e p = record {
+  noted = p.noted;
+  grew = p.grew;
+  step = record {
+    done = worked_of start.lists.me xs;
+    left = [];
+    parted = rw e (sym (append-nil (worked_of start.lists.me worked)));
+    finishes = p.step;
+    over = inl refl;
+  };
+  plain = p.plain;
+}
 
 -- the session of a job stands at its place
 pub session-there : (n place : ℕ) (vs : List Server) (v : Server) → Some place ≡ position (is_server n) vs → slice_get vs place ≡ Some v → n ≡ v.way.number

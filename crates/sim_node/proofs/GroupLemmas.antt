@@ -26,7 +26,6 @@ use Rattle.sim_node.specs.Apart.{NumberedFrom, Apart, IsApart, to_come}
 use Rattle.sim_node.specs.Aside.{NotedAside}
 use Rattle.sim_node.proofs.ApartLemmas.{counted-cons, there-counted, numbered-changed}
 use Rattle.sim_node.proofs.AsideLemmas.{with_clients, with_servers, noted-with}
-use Rattle.sim_node.proofs.StaffLemmas.{staffed-server}
 
 -- there are numbers left where nothing refuses an end
 few-by : (n m : ℕ) (s : Lists) (credits : ℕ) (b d : Bool) → leb 65535 n ≡ b → leb 65535 m ≡ d → cond (b || d) (Some NconnectNumbers) (cond (ltb s.room (shares s + credits)) (Some (NconnectRing (shares s) credits s.room)) None) ≡ None → (n < 65535) × (m < 65535)
@@ -34,8 +33,8 @@ few-by n m s credits true d t u e = cc
 few-by n m s credits false true t u e = cc
 few-by n m s credits false false t u e = (grind (arith, nat_tests), grind (arith, nat_tests))
 
-pub few-sessions : (credits : ℕ) (s : Lists) → pair_refusal credits s ≡ None → (length s.clients < 65535) × (length s.servers < 65535)
-few-sessions credits s e = few-by (length s.clients) (length s.servers) s credits _ _ refl refl e
+pub few-sessions : (credits : ℕ) (s : Lists) → pair_refusal credits s ≡ None → (length s.clients < 65535) × (s.server_numbers < 65535)
+few-sessions credits s e = few-by (length s.clients) s.server_numbers s credits _ _ refl refl e
 
 -- a session more, with no call
 numbered-push : (n : ℕ) (xs : List Client) (y : Client) → NumberedFrom n xs → y.way.number ≡ n + length xs → NumberedFrom n (xs ++ y ∷ [])
@@ -63,17 +62,17 @@ pub paired-client : (a s c : Timed) (ys : List Client) (f g : List Fact) (sessio
 paired-client a s c ys f g session peer other credits x view known number made pushed aside =
     let own : session ≡ length a.lists.clients = number ∙ ap (λ (z : Timed). length z.lists.clients) (sym view) in
     let all : ys ≡ a.lists.clients ++ client_end session peer other credits ∷ [] = rw pushed (ap (λ (z : Client). a.lists.clients ++ z ∷ []) made) in
-    let n : Noted (plain a.lists.me (PairedClient session peer other credits) ∷ []) a c f g = noted-with a (with_clients ys a) c ys a.lists.servers (plain a.lists.me (PairedClient session peer other credits)) f g refl all refl refl refl aside in
+    let n : Noted (plain a.lists.me (PairedClient session peer other credits) ∷ []) a c f g = noted-with a (with_clients ys a) c ys a.lists.servers (plain a.lists.me (PairedClient session peer other credits)) f g refl all refl refl aside in
     let told : Noted (plain a.lists.me (PairedClient (length a.lists.clients) peer other credits) ∷ []) a c f g = subst (λ m. Noted (plain a.lists.me (PairedClient m peer other credits) ∷ []) a c f g) own n in
     let h : IsApart a = rw view known in
     let apart : Apart a.lists.asked ys = rw all (apart-push a.lists.asked a.lists.clients (client_end session peer other credits) h.0 own refl) in
     (subst (λ (z : Timed). Noted (plain z.lists.me (PairedClient (length z.lists.clients) peer other credits) ∷ []) z c f g) view told, rw aside.rest (apart, h.1))
 
--- a server session more: no job is of it yet
-pub paired-server : (a s c : Timed) (vs : List Server) (v : Server) (f g : List Fact) (session peer other credits : ℕ) → a ≡ s → IsApart s → vs ≡ a.lists.servers ++ v ∷ [] → NotedAside (plain a.lists.me (PairedServer session peer other credits)) (with_servers vs a) c f g → IsApart c
-paired-server a s c vs v f g session peer other credits view known pushed aside =
+-- a server session more
+pub paired-server : (a s c : Timed) (vs : List Server) (f g : List Fact) (session peer other credits : ℕ) → a ≡ s → IsApart s → NotedAside (plain a.lists.me (PairedServer session peer other credits)) (with_servers vs a) c f g → IsApart c
+paired-server a s c vs f g session peer other credits view known aside =
     let h : IsApart a = rw view known in
-    rw (aside.rest, pushed) (h.0, staffed-server a.lists.total a.lists.servers v a.lists.jobs h.1)
+    rw aside.rest h
 
 -- the calls of a session have numbers that were given out
 module _ (asked : ℕ) (xs : List Client) (h : Apart asked xs) (i : ℕ) (x : Client) (at : slice_get xs i ≡ Some x) where
@@ -174,7 +173,7 @@ module _ (a : Asking) where
 
 pub asked-told : (a s c : Timed) (ys : List Client) (f g : List Fact) (session n y room : ℕ) (bytes : List ℕ) → a ≡ s → IsApart s → n ≡ a.lists.asked → ys ≡ at_first (is_client session) (asks (record { number = n; req_type = y; room = room; ask = bytes })) a.lists.clients → NotedAside (with_bytes a.lists.me (Asked n session y room) bytes) (with_clients ys a) c f g → Noted (with_bytes s.lists.me (Asked s.lists.asked session y room) bytes ∷ []) s c f g × IsApart c
 asked-told a s c ys f g session n y room bytes view known number asked aside =
-    let noted : Noted (with_bytes a.lists.me (Asked n session y room) bytes ∷ []) a c f g = noted-with a (with_clients ys a) c ys a.lists.servers (with_bytes a.lists.me (Asked n session y room) bytes) f g refl asked refl refl refl aside in
+    let noted : Noted (with_bytes a.lists.me (Asked n session y room) bytes ∷ []) a c f g = noted-with a (with_clients ys a) c ys a.lists.servers (with_bytes a.lists.me (Asked n session y room) bytes) f g refl asked refl refl aside in
     let told : Noted (with_bytes a.lists.me (Asked a.lists.asked session y room) bytes ∷ []) a c f g = subst (λ m. Noted (with_bytes a.lists.me (Asked m session y room) bytes ∷ []) a c f g) number noted in
     let h : IsApart a = rw view known in
     let at : Apart n a.lists.clients = rw number h.0 in

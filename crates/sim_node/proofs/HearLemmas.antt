@@ -32,9 +32,9 @@ use Rattle.rpc_laws.specs.ClientTable.{call_ending, end_facts, end_row, progress
 use Rattle.rpc_laws.specs.Facts.{plain, with_bytes}
 use Rattle.rpc_laws.specs.Front.{front_header, front_body}
 use Rattle.rpc_laws.specs.Jobs.{jobs_after}
-use Rattle.rpc_laws.specs.NodeLists.{after, asked_after, total_after}
+use Rattle.rpc_laws.specs.NodeLists.{after, asked_after}
 use Rattle.rpc_laws.specs.PollOrder.{replies_facts}
-use Rattle.rpc_laws.specs.Queues.{is_queued}
+use Rattle.rpc_laws.specs.Queues.{inbox_after, is_queued}
 use Rattle.rpc_laws.specs.Requests.{servers_after}
 use Rattle.rpc_laws.specs.Sessions.{is_client, has_call, ends, takes, clients_after}
 use Rattle.node_tables.specs.Noted.{Noted}
@@ -43,7 +43,7 @@ use Rattle.sim_node.specs.Apart.{Apart, IsApart}
 use Rattle.sim_node.specs.Aside.{NotedAside}
 use Rattle.sim_node.specs.Hearing.{RepliesAt}
 use Rattle.sim_node.proofs.ApartLemmas.{Keeps, apart-kept, any-same, le-of, only-there, found-any}
-use Rattle.sim_node.proofs.AsideLemmas.{told, with_clients, noted-with, noted-two}
+use Rattle.sim_node.proofs.AsideLemmas.{inbox-none, told, with_clients, noted-with, noted-two}
 use Rattle.sim_node.proofs.PostLemmas.{set-own}
 
 found-passes-by : (y x : Client) (p : Client → Bool) (o : Option Client) (b : Bool) → p y ≡ b → (o ≡ Some x → p x ≡ true) → cond b (Some y) o ≡ Some x → p x ≡ true
@@ -184,11 +184,6 @@ module _ (a s : Timed) (ys : List Client) (f : List Fact) (peer : ℕ) (h : Mess
   servers-done call (TooSmall size) answer head b vs = refl
   servers-done call PeerLost answer head b vs = refl
 
-  total-done : (call : ℕ) (o : Outcome) (ask : List ℕ) (n : ℕ) → total_after (end_event call o) ask n ≡ n
-  total-done call EndedOk ask n = refl
-  total-done call (TooSmall size) ask n = refl
-  total-done call PeerLost ask n = refl
-
   jobs-done : (call : ℕ) (o : Outcome) (vs : List Server) (js : Jobs) → jobs_after (end_event call o) vs js ≡ js
   jobs-done call EndedOk vs js = refl
   jobs-done call (TooSmall size) vs js = refl
@@ -203,7 +198,7 @@ module _ (a s : Timed) (ys : List Client) (f : List Fact) (peer : ℕ) (h : Mess
   dropped why o c g e q aside =
       let p : RepliesAt place a.clock peer h body is_waiting (DroppedReply why) a.lists.clients ys = rw e at q in
       let same : ys ≡ a.lists.clients = p.changed ∙ ap (λ (z : Client). slice_set a.lists.clients place z) (sym (one-same p.client p.later p.step)) ∙ set-own a.lists.clients place p.client p.at in
-      let n : Noted (plain a.lists.me (Dropped why) ∷ []) a c f g = noted-with a (with_clients ys a) c ys a.lists.servers (plain a.lists.me (Dropped why)) f g refl same refl refl refl aside in
+      let n : Noted (plain a.lists.me (Dropped why) ∷ []) a c f g = noted-with a (with_clients ys a) c ys a.lists.servers (plain a.lists.me (Dropped why)) f g refl same refl refl aside in
       let all : Noted (replies_facts a.lists peer h body) a c f g = rw (by-row (DroppedReply why) p) n in
       (subst (λ (z : Timed). Noted (replies_facts z.lists peer h body) z c f g) view all, rw (aside.rest, same) (apart-here (DroppedReply why) p))
 
@@ -212,7 +207,7 @@ module _ (a s : Timed) (ys : List Client) (f : List Fact) (peer : ℕ) (h : Mess
       let p : RepliesAt place a.clock peer h body is_waiting TookReply a.lists.clients ys = rw e at q in
       let later : t TookReply p ≡ p.later = cond-one (is_client p.client.way.number p.client) (t TookReply p) p.client p.later (eq-eqb p.client.way.number p.client.way.number refl) p.step in
       let same : ys ≡ told a took = p.changed ∙ ap (λ (z : Client). slice_set a.lists.clients place z) (sym later) ∙ sym (taken-set TookReply p) in
-      let n : Noted (took ∷ []) a c f g = noted-with a (with_clients ys a) c ys a.lists.servers took f g refl same refl refl refl aside in
+      let n : Noted (took ∷ []) a c f g = noted-with a (with_clients ys a) c ys a.lists.servers took f g refl same refl refl aside in
       let all : Noted (replies_facts a.lists peer h body) a c f g = rw (by-row TookReply p, p.facts refl a.lists.me) n in
       (subst (λ (z : Timed). Noted (replies_facts z.lists peer h body) z c f g) view all, rw (aside.rest, same) (apart-taken TookReply p, (apart-here TookReply p).1))
 
@@ -251,9 +246,9 @@ module _ (a s : Timed) (ys : List Client) (f : List Fact) (peer : ℕ) (h : Mess
       let fact : with_bytes b.lists.me event first ≡ done_fact a.lists.me d = rw (me, is_event, is_first) refl in
       let second : NotedAside (done_fact a.lists.me d) b c g k = subst (λ (z : Fact). NotedAside z b c g k) fact two in
       let same : ys ≡ told (record { lists = after a.clock a.lists took; clock = a.clock }) (done_fact a.lists.me d) = ys-is d p ∙ sym (told-done a.clock d.call d.outcome _ _ _ (told a took)) in
-      let n : Noted (took ∷ done_fact a.lists.me d ∷ []) a c f k = noted-two a b c ys a.lists.servers took (done_fact a.lists.me d) f g k same (sym (servers-done d.call d.outcome _ _ _ a.lists.servers)) (total-done d.call d.outcome _ a.lists.total) (jobs-done d.call d.outcome _ a.lists.jobs) one second in
+      let n : Noted (took ∷ done_fact a.lists.me d ∷ []) a c f k = noted-two a b c ys a.lists.servers took (done_fact a.lists.me d) f g k same (sym (servers-done d.call d.outcome _ _ _ a.lists.servers)) (jobs-done d.call d.outcome _ a.lists.jobs) one second in
       let all : Noted (replies_facts a.lists peer h body) a c f k = rw (by-row (Ended d) p, p.facts refl a.lists.me) n in
-      let apart : IsApart c = rw (second.rest, one.rest, asked-done d.call d.outcome a.lists.asked) (apart-ended d p, (apart-here (Ended d) p).1) in
+      let apart : IsApart c = rw (second.rest, one.rest, asked-done d.call d.outcome a.lists.asked) (apart-ended d p, ap (inbox_after (end_event d.call d.outcome) (end_bytes d.outcome d.resp)) (apart-here (Ended d) p).1 ∙ inbox-none (end_event d.call d.outcome) (end_bytes d.outcome d.resp)) in
       (subst (λ (z : Timed). Noted (replies_facts z.lists peer h body) z c f k) view all, apart)
 
 -- where there is no such session

@@ -1,16 +1,17 @@
 -- What a session begins and posts, in the list of all sessions.
-use Rattle.std.proofs.Common.{◌≡◌, ℕ, zero, suc, true, false, Option, Some, None, List, [], ◌∷◌, refl, sym, ap, subst, ◌∙◌, arith}
+use Rattle.std.proofs.Common.{◌≡◌, ℕ, zero, suc, Bool, true, false, cond, Option, Some, None, List, [], ◌∷◌, refl, sym, ap, subst, ◌∙◌, arith}
 use Rattle.std.specs.Prelude.{slice_get, slice_set, option_and_then, option_map, IfNone, IfSome}
 use Rattle.std.specs.List.{find}
 use Rattle.std.proofs.lemmas.Bool.{eq-eqb}
 use Rattle.rpc_base.specs.Tables.{at_first}
+use Rattle.rpc_base.specs.declared.event.Event.{Event}
 use Rattle.rpc_base.specs.declared.event.Event.TheVariants.{Begun, Posted}
 use Rattle.rpc_base.specs.declared.owner.Owner.TheVariants.{Ask}
 use Rattle.rpc_laws.specs.declared.tables.Call.{Call}
 use Rattle.rpc_laws.specs.declared.tables.Client.{Client}
 use Rattle.rpc_laws.specs.Calls.{is_call, is_active, is_waiting, begun, moved, posted_up_to}
-use Rattle.rpc_laws.specs.Posting.{lowest_free, next_turn, beginning, posting, next_begun, next_posted}
-use Rattle.rpc_laws.specs.Sessions.{is_client, has_call, begins, posts}
+use Rattle.rpc_laws.specs.Posting.{lowest_free, next_turn, beginning, posting, if_connected, next_begun, next_posted}
+use Rattle.rpc_laws.specs.Sessions.{is_client, is_connected, has_call, begins, posts}
 use Rattle.rpc_base.specs.declared.fact.Fact.{Fact}
 use Rattle.rpc_laws.specs.declared.tables.Timed.{Timed}
 use Rattle.rpc_laws.specs.Facts.{plain}
@@ -47,11 +48,17 @@ posts-keeps r k = record {
   ascends = λ x. ascends-changed (is_active r) (moved (posted_up_to k)) (λ d. refl) x.calls;
 }
 
+-- only a connected session has a next event
+next-of : (b : Bool) (o : Option Event) (e : Event) → cond b o None ≡ Some e → o ≡ Some e
+next-of true o e h = h
+next-of false o e h = cc
+
 at-begins : (i asked : ℕ) (b : ℕ × ℕ) (xs ys : List Client) → Apart asked xs → BeginsAt i (Some b) xs ys → ys ≡ at_first (has_call b.0) (begins b.0 b.1) xs
 at-begins i asked b xs ys h p =
     let change = p.1 in
     let place = change.place in
-    let next : beginning change.client ≡ Some (Begun b.0 b.1) = ap (λ (o : Option Client). option_and_then beginning o) (sym place) ∙ p.0 in
+    let told : if_connected beginning change.client ≡ Some (Begun b.0 b.1) = ap (λ (o : Option Client). option_and_then (if_connected beginning) o) (sym place) ∙ p.0 in
+    let next : beginning change.client ≡ Some (Begun b.0 b.1) = next-of (is_connected change.client.state) (beginning change.client) (Begun b.0 b.1) told in
     let has = has-begins change.client b.0 b.1 (find is_waiting change.client.calls) refl next in
     let one = h.once b.0 in
     change.changed ∙ sym (only-there (has_call b.0) (begins b.0 b.1) xs i change.client (omega arith) place has)
@@ -73,15 +80,15 @@ set-own [] i x e = cc
 set-own (y ∷ ys) zero x e = let same : y ≡ x = cc in ap (λ z. z ∷ ys) (sym same)
 set-own (y ∷ ys) (suc i) x e = ap (λ zs. y ∷ zs) (set-own ys i x e)
 
-pub begins-at : (i : ℕ) (xs : List Client) (x y : Client) (o : Option (ℕ × ℕ)) → slice_get xs i ≡ Some x → option_map begun_event o ≡ beginning x → IfNone o (y ≡ x) → IfSome o (λ b. y ≡ begins b.0 b.1 x) → BeginsAt i o xs (slice_set xs i y)
+pub begins-at : (i : ℕ) (xs : List Client) (x y : Client) (o : Option (ℕ × ℕ)) → slice_get xs i ≡ Some x → option_map begun_event o ≡ if_connected beginning x → IfNone o (y ≡ x) → IfSome o (λ b. y ≡ begins b.0 b.1 x) → BeginsAt i o xs (slice_set xs i y)
 begins-at i xs x y None place next none some =
-    (ap (λ (o : Option Client). option_and_then beginning o) place ∙ sym next, ap (λ (z : Client). slice_set xs i z) none ∙ set-own xs i x place)
+    (ap (λ (o : Option Client). option_and_then (if_connected beginning) o) place ∙ sym next, ap (λ (z : Client). slice_set xs i z) none ∙ set-own xs i x place)
 begins-at i xs x y (Some b) place next none some =
-    (ap (λ (o : Option Client). option_and_then beginning o) place ∙ sym next, record { client = x; place = place; changed = ap (λ (z : Client). slice_set xs i z) some })
+    (ap (λ (o : Option Client). option_and_then (if_connected beginning) o) place ∙ sym next, record { client = x; place = place; changed = ap (λ (z : Client). slice_set xs i z) some })
 
-pub posts-at : (i : ℕ) (xs : List Client) (x y : Client) (o : Option (ℕ × ℕ)) → slice_get xs i ≡ Some x → option_map (posted_event x.way.number) o ≡ posting x → IfNone o (y ≡ x) → IfSome o (λ p. y ≡ posts p.0 p.1 x) → PostsAt i o xs (slice_set xs i y)
+pub posts-at : (i : ℕ) (xs : List Client) (x y : Client) (o : Option (ℕ × ℕ)) → slice_get xs i ≡ Some x → option_map (posted_event x.way.number) o ≡ if_connected posting x → IfNone o (y ≡ x) → IfSome o (λ p. y ≡ posts p.0 p.1 x) → PostsAt i o xs (slice_set xs i y)
 posts-at i xs x y None place next none some =
-    (ap (λ (o : Option Client). option_and_then posting o) place ∙ sym next, ap (λ (z : Client). slice_set xs i z) none ∙ set-own xs i x place)
+    (ap (λ (o : Option Client). option_and_then (if_connected posting) o) place ∙ sym next, ap (λ (z : Client). slice_set xs i z) none ∙ set-own xs i x place)
 posts-at i xs x y (Some p) place next none some = record {
   client = x;
   place = place;
@@ -113,7 +120,7 @@ module _ (i : ℕ) (a : Timed) (ys : List Client) (f : List Fact) where
         let h : IsApart a = rw view known in
         let at : BeginsAt i (Some b) a.lists.clients ys = rw e at p in
         let told = begins-told i a.lists.asked b a.lists.clients ys h.0 at in
-        let n = noted-with a (with_clients ys a) c ys a.lists.servers (plain a.lists.me (Begun b.0 b.1)) f g refl told.0 refl refl refl q in
+        let n = noted-with a (with_clients ys a) c ys a.lists.servers (plain a.lists.me (Begun b.0 b.1)) f g refl told.0 refl refl q in
         let apart : IsApart c = rw q.rest (told.1, h.1) in
         let made : Makes (NotesNext (next_begun i)) a c f g = record { noted = plain a.lists.me (Begun b.0 b.1) ∷ []; grew = n.grew; step = record { event = Begun b.0 b.1; is_next = at.0; facts = refl; goes = n.goes } } in
         (subst (λ (z : Timed). Makes (NotesNext (next_begun i)) z c f g) view made, apart)
@@ -125,9 +132,9 @@ module _ (i : ℕ) (a : Timed) (ys : List Client) (f : List Fact) where
         let one : x ≡ at.client = some-same x at.client (sym place ∙ at.place) in
         let number : n ≡ at.client.way.number = same ∙ ap (λ (z : Client). z.way.number) one in
         let told = posts-told i a.lists.asked n b a.lists.clients ys h.0 at number in
-        let d = noted-with a (with_clients ys a) c ys a.lists.servers (plain a.lists.me (Posted (Ask n b.0) b.1)) f g refl told.0 refl refl refl q in
+        let d = noted-with a (with_clients ys a) c ys a.lists.servers (plain a.lists.me (Posted (Ask n b.0) b.1)) f g refl told.0 refl refl q in
         let apart : IsApart c = rw q.rest (told.1, h.1) in
-        let next : next_posted i a.lists ≡ Some (Posted (Ask n b.0) b.1) = ap (λ (o : Option Client). option_and_then posting o) at.place ∙ at.next ∙ ap (λ m. Some (Posted (Ask m b.0) b.1)) (sym number) in
+        let next : next_posted i a.lists ≡ Some (Posted (Ask n b.0) b.1) = ap (λ (o : Option Client). option_and_then (if_connected posting) o) at.place ∙ at.next ∙ ap (λ m. Some (Posted (Ask m b.0) b.1)) (sym number) in
         let made : Makes (NotesNext (next_posted i)) a c f g = record { noted = plain a.lists.me (Posted (Ask n b.0) b.1) ∷ []; grew = d.grew; step = record { event = Posted (Ask n b.0) b.1; is_next = next; facts = refl; goes = d.goes } } in
         (subst (λ (z : Timed). Makes (NotesNext (next_posted i)) z c f g) view made, apart)
       where

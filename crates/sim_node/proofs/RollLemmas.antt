@@ -40,7 +40,7 @@ use Rattle.sim_node.proofs.PostLemmas.{set-own}
 
 -- packets that are taken out
 abbrev pub packet : Owner → ℕ → Queued
-packet o k = record { owner = o; number = k }
+packet o k = record { owner = o; number = k; due = None }
 
 map-twice : {A B C : Type 0} (g : B → C) (f : A → B) (xs : List A) → map g (map f xs) ≡ map (λ x. g (f x)) xs
 map-twice g f [] = refl
@@ -85,7 +85,7 @@ module _ (i : ℕ) (a s c : Timed) (ys : List Client) (f g : List Fact) (view : 
       let same : p.client ≡ q.client = some-same p.client q.client (sym p.place ∙ q.place) in
       let has : has_call t.call p.client ≡ true = found-any (is_call t.call) (is_call t.call) p.client.calls p.call p.found (found-passes (is_call t.call) p.client.calls p.call p.found) in
       let it = changed-told t.call i a.lists.asked (rolls t.call t.posted t.got) a.lists.clients ys (rolls-keeps t.call t.posted t.got) here.0 q (ap (λ (x : Client). has_call t.call x) (sym same) ∙ has) in
-      let n = noted-with a (with_clients ys a) c ys a.lists.servers (plain a.lists.me (Rolled t.call t.posted t.got)) f g refl it.0 refl refl refl aside in
+      let n = noted-with a (with_clients ys a) c ys a.lists.servers (plain a.lists.me (Rolled t.call t.posted t.got)) f g refl it.0 refl refl aside in
       let apart : IsApart c = rw aside.rest (it.1, here.1) in
       (subst (λ (z : Timed). Noted (plain z.lists.me (Rolled t.call t.posted t.got) ∷ []) z c f g) view n, apart)
 
@@ -96,7 +96,7 @@ module _ (i : ℕ) (a s c : Timed) (ys : List Client) (f g : List Fact) (view : 
       let own : n ≡ q.client.way.number = number ∙ ap (λ (z : Client). z.way.number) same in
       let e : ys ≡ at_first (is_client n) breaks a.lists.clients = q.changed ∙ sym (numbered-there breaks 0 i n a.lists.clients q.client here.0.numbered q.place (omega arith)) in
       let apart : Apart a.lists.asked ys = rw e (apart-kept (is_client n) breaks breaks-keeps a.lists.asked a.lists.clients here.0) in
-      let noted = noted-with a (with_clients ys a) c ys a.lists.servers (plain a.lists.me (Broken n)) f g refl e refl refl refl aside in
+      let noted = noted-with a (with_clients ys a) c ys a.lists.servers (plain a.lists.me (Broken n)) f g refl e refl refl aside in
       let calls : calls_at i ys ≡ calls_at i a.lists.clients = rw (q.changed, get-set a.lists.clients i q.client (breaks q.client) q.place, q.place) refl in (
         λ y there. let one : x ≡ y = some-same x y (sym at ∙ rw view there) in
             let named : n ≡ y.way.number = number ∙ ap (λ (z : Client). z.way.number) one in
@@ -152,7 +152,7 @@ module _ (i : ℕ) (a s : Timed) (ys : List Client) (f : List Fact) (view : a �
       let firsts = some-first n (calls_at i a.lists.clients) q.0 in
       let place : calls_at i a.lists.clients ≡ change.client.calls = ap calls_in change.place in
       let it = changed-told n i a.lists.asked (ends n) a.lists.clients ys (ends-keeps n) h.0 change (ap (λ (cs : List Call). list_any (is_call n) cs) (sym place) ∙ firsts.has) in
-      let noted : Noted (plain a.lists.me (DonePeerLost n) ∷ []) a c f g = noted-with a (with_clients ys a) c ys a.lists.servers (plain a.lists.me (DonePeerLost n)) f g refl it.0 refl refl refl aside in
+      let noted : Noted (plain a.lists.me (DonePeerLost n) ∷ []) a c f g = noted-with a (with_clients ys a) c ys a.lists.servers (plain a.lists.me (DonePeerLost n)) f g refl it.0 refl refl aside in
       let named : Noted (lost a.lists.me firsts.first ∷ []) a c f g = subst (λ k. Noted (plain a.lists.me (DonePeerLost k) ∷ []) a c f g) (sym firsts.number) noted in
       let apart : IsApart c = rw aside.rest (it.1, h.1) in
       let after_end : calls_at i ys ≡ without_first (is_call n) change.client.calls = ap (λ (zs : List Client). calls_at i zs) change.changed ∙ ap calls_in (get-set a.lists.clients i change.client (ends n change.client) change.place) in

@@ -8,6 +8,7 @@ use Rattle.rpc_base.specs.declared.event.Event.TheVariants.{Sent}
 use Rattle.rpc_base.specs.declared.fact.Fact.{Fact}
 use Rattle.rpc_base.specs.declared.owner.Owner.{Owner}
 use Rattle.rpc_base.specs.declared.owner.Owner.TheVariants.{Ask, Reply}
+use Rattle.packet_header.specs.Header.{AreBytes}
 use Rattle.client_core.specs.Shown.{IsSpelled}
 use Rattle.rpc_laws.specs.declared.tables.Call.{Call}
 use Rattle.rpc_laws.specs.declared.tables.Client.{Client}
@@ -22,6 +23,7 @@ use Rattle.rpc_laws.specs.Facts.{with_two}
 use Rattle.rpc_laws.specs.Packets.{ask_packet, call_packet, client_packet, outgoing, owner_packet, reply_packet, request_packet}
 use Rattle.rpc_laws.specs.PollOrder.{Sends}
 use Rattle.rpc_laws.specs.Requests.{is_request, is_server}
+use Rattle.rpc_laws.specs.Queues.{is_due}
 use Rattle.rpc_laws.specs.Sessions.{is_client, has_call, sends}
 use Rattle.node_tables.specs.Noted.{Makes, Noted}
 use Rattle.server_core.specs.Replies.{IsSpelled as IsReplySpelled}
@@ -60,8 +62,9 @@ pub record Entry (a : Timed) (entry : Queued) (session r place : ℕ) (x : Clien
   pub to : peer ≡ x.way.peer
   pub spelled : IsSpelled (ask_packet r entry.number (Some x)) head body
   pub long : length head ≡ 16
+  pub bytes : AreBytes head
 
-module _ (a c s : Timed) (ys : List Client) (f g : List Fact) (entry : Queued) (session r place : ℕ) (x : Client) (peer : ℕ) (head body second : List ℕ) (view : a ≡ s) (front : slice_get s.lists.queued 0 ≡ Some entry) (same_body : second ≡ body) (e : Entry a entry session r place x peer head body) (changed : ys ≡ at_first (is_client session) (sends a.clock r entry.number) a.lists.clients) (aside : NotedAside (with_two a.lists.me (Sent peer entry.owner entry.number) head second) (with_clients ys a) c f g) where
+module _ (a c s : Timed) (ys : List Client) (f g : List Fact) (entry : Queued) (session r place : ℕ) (x : Client) (peer : ℕ) (head body second : List ℕ) (view : a ≡ s) (front : slice_get s.lists.queued 0 ≡ Some entry) (ready : entry.due ≡ None) (same_body : second ≡ body) (e : Entry a entry session r place x peer head body) (changed : ys ≡ at_first (is_client session) (sends a.clock r entry.number) a.lists.clients) (aside : NotedAside (with_two a.lists.me (Sent peer entry.owner entry.number) head second) (with_clients ys a) c f g) where
   tells : ys ≡ told a (with_two a.lists.me (Sent peer entry.owner entry.number) head second)
   tells = rw e.owner changed
 
@@ -69,7 +72,7 @@ module _ (a c s : Timed) (ys : List Client) (f g : List Fact) (entry : Queued) (
   sends-out None same spelled = absurd spelled
   sends-out (Some out) same spelled =
       let to : peer ≡ out.peer = e.to ∙ sym (peer-of x.way r entry.number (find (is_active r) x.calls) out same) in
-      let n = noted-with a (with_clients ys a) c ys a.lists.servers (with_two a.lists.me (Sent peer entry.owner entry.number) head second) f g refl tells refl refl refl aside in
+      let n = noted-with a (with_clients ys a) c ys a.lists.servers (with_two a.lists.me (Sent peer entry.owner entry.number) head second) f g refl tells refl refl aside in
       let packet : outgoing a.lists entry ≡ Some out = ap (λ (w : Owner). owner_packet a.lists w entry.number) e.owner ∙ ap (λ (o : Option Client). ask_packet r entry.number o) (find-found (is_client session) a.lists.clients place e.found ∙ e.at) ∙ same in
       record {
         noted = with_two a.lists.me (Sent peer entry.owner entry.number) head second ∷ [];
@@ -77,12 +80,14 @@ module _ (a c s : Timed) (ys : List Client) (f g : List Fact) (entry : Queued) (
         step = record {
           entry = entry;
           is_front = rw view front;
+          ready = ap (is_due a.clock) ready;
           out = out;
           packet = packet;
           head = head;
           in_range = spelled.2;
           has_head = spelled.0;
           long = e.long;
+          bytes = e.bytes;
           facts = rw (to, same_body, spelled.1) refl;
           goes = n.goes;
         };
@@ -116,8 +121,9 @@ pub record ReplyEntry (a : Timed) (entry : Queued) (session r place : ℕ) (v : 
   pub to : peer ≡ v.way.peer
   pub spelled : IsReplySpelled (reply_packet r entry.number (Some v)) head body
   pub long : length head ≡ 16
+  pub bytes : AreBytes head
 
-module _ (a c s : Timed) (vs : List Server) (f g : List Fact) (entry : Queued) (session r place : ℕ) (v : Server) (peer : ℕ) (head body second : List ℕ) (view : a ≡ s) (front : slice_get s.lists.queued 0 ≡ Some entry) (same_body : second ≡ body) (e : ReplyEntry a entry session r place v peer head body) (unchanged : vs ≡ a.lists.servers) (p : Noted (with_two a.lists.me (Sent peer (Reply session r) entry.number) head second ∷ []) (with_servers vs a) c f g) where
+module _ (a c s : Timed) (vs : List Server) (f g : List Fact) (entry : Queued) (session r place : ℕ) (v : Server) (peer : ℕ) (head body second : List ℕ) (view : a ≡ s) (front : slice_get s.lists.queued 0 ≡ Some entry) (ready : entry.due ≡ None) (same_body : second ≡ body) (e : ReplyEntry a entry session r place v peer head body) (unchanged : vs ≡ a.lists.servers) (p : Noted (with_two a.lists.me (Sent peer (Reply session r) entry.number) head second ∷ []) (with_servers vs a) c f g) where
   reply-out : (o : Option Outgoing) → reply_packet r entry.number (Some v) ≡ o → IsReplySpelled o head body → Makes Sends a c f g
   reply-out None same spelled = absurd spelled
   reply-out (Some out) same spelled =
@@ -130,12 +136,14 @@ module _ (a c s : Timed) (vs : List Server) (f g : List Fact) (entry : Queued) (
         step = record {
           entry = entry;
           is_front = rw view front;
+          ready = ap (is_due a.clock) ready;
           out = out;
           packet = packet;
           head = head;
           in_range = spelled.2;
           has_head = spelled.0;
           long = e.long;
+          bytes = e.bytes;
           facts = rw (to, e.owner, same_body, spelled.1) refl;
           goes = n.goes;
         };

@@ -1,8 +1,7 @@
 -- What a session did with a packet, as the node has it.
-use Rattle.std.proofs.Common.{◌≡◌, ℕ, Bool, true, false, cond, Option, Some, None, List, [], ◌∷◌, refl, sym, ap, subst, ◌∙◌}
-use Rattle.std.specs.Prelude.{◌&&◌, option_map, slice_get, slice_set, IfSome}
+use Rattle.std.proofs.Common.{◌≡◌, ℕ, Bool, true, false, cond, Option, Some, None, List, refl, sym, ap, ◌∙◌}
+use Rattle.std.specs.Prelude.{◌&&◌, ◌++◌, option_map, slice_get, slice_set}
 use Rattle.std.specs.List.{find}
-use Rattle.std.proofs.lemmas.List.{map-append}
 use Rattle.packet_header.specs.declared.packet.MessageHeader.{MessageHeader}
 use Rattle.rpc_laws.specs.declared.rows.ServerRow.{ServerRow}
 use Rattle.rpc_laws.specs.declared.rows.ServerRow.TheVariants.{Drops, Begins, Takes, Repeats}
@@ -13,16 +12,14 @@ use Rattle.rpc_laws.specs.declared.tables.Server.{Server}
 use Rattle.rpc_laws.specs.Jobs.{are_full, job_of}
 use Rattle.rpc_laws.specs.PollOrder.{is_working}
 use Rattle.rpc_laws.specs.Requests.{given, is_request}
-use Rattle.rpc_laws.specs.ServerTable.{is_last, makes_job, server_row}
-use Rattle.rpc_laws.specs.Service.{answer_with, is_background}
-use Rattle.sim_server.specs.Ends.{WhereTaken, after_row, answer_bytes, ask_with, asked_bytes, is_taken, job_given, shown_job, taken, takes, total_after_row}
-use Rattle.sim_node.specs.Serving.{KeepsWork, TakesAt, brought_by, with_job}
-use Rattle.sim_node.specs.Staffed.{shown_jobs}
+use Rattle.rpc_laws.specs.ServerTable.{is_last}
+use Rattle.rpc_laws.specs.Service.{answer_with}
+use Rattle.sim_server.specs.Ends.{WhereTaken, after_row, answer_bytes, ask_with, asked_bytes, gives_job, is_taken, job_given, plain_row, shown_job, taken, takes, total_after_row}
+use Rattle.sim_node.specs.Serving.{TakesAt, answered_with, brought_by, with_job}
 use Rattle.sim_node.specs.declared.brought.Brought.{Brought}
 use Rattle.sim_node.specs.declared.brought.Brought.TheVariants.{Reply as HadReply, Answered, GaveJob}
 use Rattle.sim_node.proofs.TakeLemmas.{none-first, row-taken, where-taken}
 use Rattle.worker_board.specs.declared.Parcel.{Parcel}
-use Rattle.worker_crew.specs.Local.{Local, given_to}
 
 pub where-is : (row : ServerRow) (P : Type 0) → (is_taken row ≡ true → P) → WhereTaken row P
 where-is (Drops why) P f = tt
@@ -30,33 +27,21 @@ where-is Begins P f = f refl
 where-is Takes P f = f refl
 where-is Repeats P f = tt
 
--- the jobs once one more was given
-pub job-given : (old new : Local) (job : Parcel) → new ≡ given_to job old → shown_jobs new ≡ with_job (Some (shown_job job)) (shown_jobs old)
-job-given old new job e =
-    ap shown_jobs e ∙ rw (map-append shown_job old.waiting (job ∷ [])) refl
-
 -- what a session says of a packet that it handled
 pub record Handled (full : Bool) (peer : ℕ) (h : MessageHeader) (body : List ℕ) (total later : ℕ) (v w : Server) (o : Option Parcel) : Type 0 where
-  pub changed : w ≡ after_row (server_row full (Some v) peer h) total h body v
-  pub sum : later ≡ total_after_row (server_row full (Some v) peer h) total h (ask_with (server_row full (Some v) peer h) h body v)
-  pub asked : WhereTaken (server_row full (Some v) peer h) (makes_job h ≡ false → asked_bytes h.request w ≡ ask_with (server_row full (Some v) peer h) h body v)
-  pub answer : WhereTaken (server_row full (Some v) peer h) (makes_job h ≡ false → is_last h ≡ true → answer_bytes h.request w ≡ answer_with total h.req_type (ask_with (server_row full (Some v) peer h) h body v))
-  pub job : option_map shown_job o ≡ job_given (server_row full (Some v) peer h) h body v
-  pub background : IfSome o (λ p. is_background p.req_type ≡ true)
-  pub keeps : (r : ℕ) → is_working (find (is_request r) v.slots) ≡ true → is_working (find (is_request r) w.slots) ≡ true
-  pub idle : WhereTaken (server_row full (Some v) peer h) (is_working (find (is_request h.request) v.slots) ≡ false)
-  pub works : WhereTaken (server_row full (Some v) peer h) (makes_job h ≡ true → is_working (find (is_request h.request) w.slots) ≡ true)
+  pub changed : w ≡ after_row (plain_row full (Some v) peer h) total h body v
+  pub sum : later ≡ total_after_row (plain_row full (Some v) peer h) total h (ask_with (plain_row full (Some v) peer h) h body v)
+  pub asked : WhereTaken (plain_row full (Some v) peer h) (asked_bytes h.request v ++ body ≡ ask_with (plain_row full (Some v) peer h) h body v)
+  pub answer : WhereTaken (plain_row full (Some v) peer h) (gives_job h ≡ false → is_last h ≡ true → answer_bytes h.request w ≡ answer_with total h.req_type (ask_with (plain_row full (Some v) peer h) h body v))
+  pub job : option_map shown_job o ≡ job_given (plain_row full (Some v) peer h) h body v
+  pub works : WhereTaken (plain_row full (Some v) peer h) (gives_job h ≡ true → is_working (find (is_request h.request) w.slots) ≡ true)
 
 module _ (full : Bool) (peer : ℕ) (h : MessageHeader) (body : List ℕ) (total later place : ℕ) (v w : Server) (o : Option Parcel) (vs : List Server) (js ks : Jobs) (is_full : full ≡ are_full js) (at : slice_get vs place ≡ Some v) (p : Handled full peer h body total later v w o) where
   abbrev row : ServerRow
-  row = server_row full (Some v) peer h
+  row = plain_row full (Some v) peer h
 
   abbrev ask : List ℕ
   ask = ask_with row h body v
-
-  shown-background : (o : Option Parcel) → IfSome o (λ q. is_background q.req_type ≡ true) → IfSome (option_map shown_job o) (λ j. is_background j.req_type ≡ true)
-  shown-background None b = tt
-  shown-background (Some q) b = b
 
   -- what it brought, and the jobs with the one that it gave
   takes-with : (b : Brought) → (is_taken row ≡ true → b ≡ brought_by total h ask) → ks ≡ with_job (job_given row h body v) js → TakesAt place peer h body b (record { servers = vs; total = total; jobs = js }) (record { servers = slice_set vs place w; total = later; jobs = ks })
@@ -64,60 +49,55 @@ module _ (full : Bool) (peer : ℕ) (h : MessageHeader) (body : List ℕ) (total
     server = v;
     at = at;
     row = row;
-    is_row = ap (λ x. server_row x (Some v) peer h) is_full;
+    is_row = ap (λ x. plain_row x (Some v) peer h) is_full;
     now = w;
     is_now = p.changed;
     servers = refl;
     total = p.sum;
     jobs = jobs;
     brought = where-is row (b ≡ brought_by total h ask) brought;
-    work = where-is row (KeepsWork h v w) (λ t. record {
-      keeps = p.keeps;
-      idle = where-taken row (is_working (find (is_request h.request) v.slots) ≡ false) t p.idle;
-      works = where-taken row (makes_job h ≡ true → is_working (find (is_request h.request) w.slots) ≡ true) t p.works;
-    });
-    background = subst (λ (x : Option Job). IfSome x (λ j. is_background j.req_type ≡ true)) p.job (shown-background o p.background);
+    work = p.works;
   }
 
   -- where it gave no job
-  no-job : o ≡ None → is_taken row ≡ true → makes_job h ≡ false
-  no-job e t = no-by (makes_job h) refl
+  no-job : o ≡ None → is_taken row ≡ true → gives_job h ≡ false
+  no-job e t = no-by (gives_job h) refl
     where
-      gone : (l : Option Served) → find (is_request h.request) (takes h body v).slots ≡ l → option_map (job_of v.way.number) l ≡ None → makes_job h ≡ true → ⊥
+      gone : (l : Option Served) → find (is_request h.request) (takes h body v).slots ≡ l → option_map (job_of v.way.number) l ≡ None → gives_job h ≡ true → ⊥
       gone (Some q) f n j = cc
       gone None f n j =
           let now : w ≡ taken total h ask body v = p.changed ∙ row-taken total h body v row t in
-          let works : is_working (find (is_request h.request) w.slots) ≡ true = where-taken row (makes_job h ≡ true → is_working (find (is_request h.request) w.slots) ≡ true) t p.works j in
+          let works : is_working (find (is_request h.request) w.slots) ≡ true = where-taken row (gives_job h ≡ true → is_working (find (is_request h.request) w.slots) ≡ true) t p.works j in
           let lost : find (is_request h.request) w.slots ≡ None = rw (now, j) (none-first (is_request h.request) given (takes h body v).slots f) in
           true-false (sym (ap is_working lost) ∙ works)
         where
           true-false : false ≡ true → ⊥
           true-false e = cc
 
-      no-by : (j : Bool) → makes_job h ≡ j → makes_job h ≡ false
+      no-by : (j : Bool) → gives_job h ≡ j → gives_job h ≡ false
       no-by false j = j
       no-by true j =
           let none : job_given row h body v ≡ None = sym p.job ∙ ap (λ (x : Option Parcel). option_map shown_job x) e in
           let given_none : option_map (job_of v.way.number) (find (is_request h.request) (takes h body v).slots) ≡ None = sym (rw (t, j) refl) ∙ none in
           absurd (gone (find (is_request h.request) (takes h body v).slots) refl given_none j)
 
-  pub took-none : (b : Brought) → o ≡ None → ks ≡ js → b ≡ cond (is_last h) (Answered (asked_bytes h.request w) (answer_bytes h.request w)) HadReply → TakesAt place peer h body b (record { servers = vs; total = total; jobs = js }) (record { servers = slice_set vs place w; total = later; jobs = ks })
-  took-none b e same is =
+  pub took-none : (b : Brought) (asked : Option (List ℕ)) → o ≡ None → ks ≡ js → asked ≡ cond (is_last h) (Some (asked_bytes h.request v ++ body)) None → b ≡ answered_with asked (answer_bytes h.request w) → TakesAt place peer h body b (record { servers = vs; total = total; jobs = js }) (record { servers = slice_set vs place w; total = later; jobs = ks })
+  took-none b asked e same before is =
       takes-with b brought (same ∙ ap (λ (x : Option Job). with_job x js) (sym none))
     where
       none : job_given row h body v ≡ None
       none = sym p.job ∙ ap (λ (x : Option Parcel). option_map shown_job x) e
 
-      brought-by : (l : Bool) → is_last h ≡ l → is_taken row ≡ true → makes_job h ≡ false → cond l (Answered (asked_bytes h.request w) (answer_bytes h.request w)) HadReply ≡ cond l (Answered ask (answer_with total h.req_type ask)) HadReply
+      brought-by : (l : Bool) → is_last h ≡ l → is_taken row ≡ true → gives_job h ≡ false → answered_with (cond l (Some (asked_bytes h.request v ++ body)) None) (answer_bytes h.request w) ≡ cond l (Answered ask (answer_with total h.req_type ask)) HadReply
       brought-by false l t j = refl
       brought-by true l t j =
-          let asked : asked_bytes h.request w ≡ ask = where-taken row (makes_job h ≡ false → asked_bytes h.request w ≡ ask) t p.asked j in
-          let answer : answer_bytes h.request w ≡ answer_with total h.req_type ask = where-taken row (makes_job h ≡ false → is_last h ≡ true → answer_bytes h.request w ≡ answer_with total h.req_type ask) t p.answer j l in
-          rw (asked, answer) refl
+          let whole : asked_bytes h.request v ++ body ≡ ask = where-taken row (asked_bytes h.request v ++ body ≡ ask) t p.asked in
+          let answer : answer_bytes h.request w ≡ answer_with total h.req_type ask = where-taken row (gives_job h ≡ false → is_last h ≡ true → answer_bytes h.request w ≡ answer_with total h.req_type ask) t p.answer j l in
+          rw (whole, answer) refl
 
       brought : is_taken row ≡ true → b ≡ brought_by total h ask
       brought t =
-          let j = no-job e t in is ∙ brought-by (is_last h) refl t j ∙ sym (rw j refl)
+          let j = no-job e t in is ∙ ap (λ (x : Option (List ℕ)). answered_with x (answer_bytes h.request w)) before ∙ brought-by (is_last h) refl t j ∙ sym (rw j refl)
 
   -- where it gave one
   pub took-job : (job : Parcel) → o ≡ Some job → ks ≡ with_job (Some (shown_job job)) js → TakesAt place peer h body GaveJob (record { servers = vs; total = total; jobs = js }) (record { servers = slice_set vs place w; total = later; jobs = ks })
@@ -132,5 +112,5 @@ module _ (full : Bool) (peer : ℕ) (h : MessageHeader) (body : List ℕ) (total
       made-by true false l e = cc
       made-by false j l e = cc
 
-      made : makes_job h ≡ true
-      made = made-by (is_taken row) (makes_job h) _ is
+      made : gives_job h ≡ true
+      made = made-by (is_taken row) (gives_job h) _ is

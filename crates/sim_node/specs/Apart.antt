@@ -5,10 +5,9 @@ use Rattle.std.specs.Prelude.{ℕ, suc, ◌≡◌, ◌+◌, ◌≤◌, nat_le, O
 use Rattle.std.specs.List.{AllByRecursion}
 use Rattle.rpc_laws.specs.declared.tables.Client.{Client}
 use Rattle.rpc_laws.specs.declared.tables.Timed.{Timed}
-use Rattle.rpc_laws.specs.Posting.{beginning, posting}
+use Rattle.rpc_laws.specs.Posting.{beginning, if_connected, posting}
 use Rattle.rpc_laws.specs.Sessions.{has_call, begins, posts}
 use Rattle.sim_client.specs.Ends.{Ascends, begun_event, posted_event}
-use Rattle.sim_node.specs.Staffed.{Staffed}
 
 -- sessions are numbered in order
 abbrev pub NumberedFrom : ℕ → List Client → Type 0
@@ -26,9 +25,9 @@ pub record Apart (asked : ℕ) (clients : List Client) : Type 0 where
   pub once : (number : ℕ) → count_by (has_call number) clients + to_come asked number ≤ 1
   pub ascends : AllByRecursion (λ x. Ascends x.calls) clients
 
--- so it is in a node, whose jobs are its own
+-- so it is in a node, in which no control packet waits
 abbrev pub IsApart : Timed → Type 0
-IsApart s = Apart s.lists.asked s.lists.clients × Staffed s.lists.total s.lists.servers s.lists.jobs
+IsApart s = Apart s.lists.asked s.lists.clients × (s.lists.inbox ≡ [])
 
 -- session i became f of what it was
 pub record ChangesAt (i : ℕ) (f : Client → Client) (old new : List Client) : Type 0 where
@@ -38,18 +37,18 @@ pub record ChangesAt (i : ℕ) (f : Client → Client) (old new : List Client) :
 
 -- session i began its next call, or there is none
 abbrev pub BeginsAt : ℕ → Option (ℕ × ℕ) → List Client → List Client → Type 0
-BeginsAt i None old new = (option_and_then beginning (slice_get old i) ≡ None) × (new ≡ old)
+BeginsAt i None old new = (option_and_then (if_connected beginning) (slice_get old i) ≡ None) × (new ≡ old)
 BeginsAt i (Some b) old new =
-    (option_and_then beginning (slice_get old i) ≡ Some (begun_event b)) × ChangesAt i (begins b.0 b.1) old new
+    (option_and_then (if_connected beginning) (slice_get old i) ≡ Some (begun_event b)) × ChangesAt i (begins b.0 b.1) old new
 
 -- session i posted this packet next
 pub record PostsNext (i : ℕ) (p : ℕ × ℕ) (old new : List Client) : Type 0 where
   pub client : Client
   pub place : slice_get old i ≡ Some client
-  pub next : posting client ≡ Some (posted_event client.way.number p)
+  pub next : if_connected posting client ≡ Some (posted_event client.way.number p)
   pub changed : new ≡ slice_set old i (posts p.0 p.1 client)
 
 -- session i posted its next packet, or there is none
 abbrev pub PostsAt : ℕ → Option (ℕ × ℕ) → List Client → List Client → Type 0
-PostsAt i None old new = (option_and_then posting (slice_get old i) ≡ None) × (new ≡ old)
+PostsAt i None old new = (option_and_then (if_connected posting) (slice_get old i) ≡ None) × (new ≡ old)
 PostsAt i (Some p) old new = PostsNext i p old new

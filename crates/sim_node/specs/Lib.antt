@@ -1,7 +1,7 @@
+pub mod Answering
 pub mod Apart
 pub mod Aside
 pub mod Hearing
 pub mod Serving
-pub mod Staffed
 pub mod Watching
 pub mod Working

@@ -13,6 +13,7 @@ use Rattle.rpc_laws.specs.declared.tables.Queued.{Queued}
 use Rattle.rpc_laws.specs.declared.tables.Timed.{Timed}
 use Rattle.rpc_laws.specs.Calls.{is_call}
 use Rattle.rpc_laws.specs.Facts.{plain}
+use Rattle.rpc_laws.specs.ControlSteps.{own_request}
 use Rattle.rpc_laws.specs.GoBackN.{Watches, row_of}
 use Rattle.rpc_laws.specs.Queues.{flush_facts}
 use Rattle.rpc_laws.specs.Sessions.{ends}
@@ -36,6 +37,10 @@ pub record ActiveAt (i : ℕ) (a : Active) (clients : List Client) : Type 0 wher
   pub progress : Progress
   pub is_active : call.progress ≡ Some progress
   pub told : a ≡ told_of a.call progress
+
+-- a session, if it is there, has no request of its own
+abbrev pub HasNoRequest : Option Client → Type 0
+HasNoRequest o = IfSome o (λ x. own_request x ≡ None)
 
 -- the row of an active call of session i
 abbrev pub RowAt : (timeout i number : ℕ) → TimerRow → Timed → Type 0

@@ -1,14 +1,23 @@
 -- What working a job, and finishing one, does at a node.
-use Rattle.std.specs.Prelude.{ℕ, ◌≡◌, Bool, true, false, Some, List, [], slice_get, slice_set}
-use Rattle.std.specs.List.{find, position}
-use Rattle.node_tables.specs.Noted.{Makes}
+use Rattle.std.specs.Prelude.{ℕ, ◌≡◌, ◌≤◌, ◌==◌, not, Bool, true, false, Option, Some, None, List, [], ◌∷◌, map, slice_get, slice_set, if◌then◌else◌}
+use Rattle.std.specs.List.{filter, find, list_any, position}
+use Rattle.rpc_base.specs.declared.event.Event.{Event}
+use Rattle.rpc_base.specs.declared.event.Event.TheVariants.{Missed, Worked}
 use Rattle.rpc_base.specs.declared.fact.Fact.{Fact}
+use Rattle.rpc_laws.specs.declared.tables.Job.{Job}
+use Rattle.rpc_laws.specs.declared.tables.Lists.{Lists}
 use Rattle.rpc_laws.specs.declared.tables.Server.{Server}
 use Rattle.rpc_laws.specs.declared.tables.Timed.{Timed}
-use Rattle.rpc_laws.specs.PollOrder.{Finishes, is_working}
+use Rattle.rpc_laws.specs.declared.tables.WorkedJob.{WorkedJob}
+use Rattle.rpc_laws.specs.Facts.{plain}
+use Rattle.rpc_laws.specs.PollOrder.{is_working}
+use Rattle.rpc_laws.specs.Queues.{replies}
 use Rattle.rpc_laws.specs.Requests.{is_request, is_server}
-use Rattle.rpc_laws.specs.Working.{WorksOldest}
+use Rattle.rpc_laws.specs.Service.{is_background}
+use Rattle.rpc_laws.specs.Working.{FinishesEach, is_worked}
+use Rattle.rpc_outside.specs.PlainAnswer.{background_answer}
 use Rattle.sim_server.specs.Ends.{finished}
+use Rattle.sim_node.specs.Answering.{ServesQuietly}
 
 -- the answer of a job went to its request; waited: whether that waited for it
 pub record StoresAt (session request : ℕ) (answer : List ℕ) (waited : Bool) (old new : List Server) : Type 0 where
@@ -19,12 +28,37 @@ pub record StoresAt (session request : ℕ) (answer : List ℕ) (waited : Bool) 
   pub changed : new ≡ slice_set old place (finished request answer server)
   pub posted : waited ≡ is_working (find (is_request request) server.slots)
 
--- whether a job was finished: otherwise none was worked, and nothing changed
-abbrev pub FinishesOne : Bool → Timed → Timed → List Fact → List Fact → Type 0
-FinishesOne true old new before now = Makes Finishes old new before now
-FinishesOne false old new before now = (old.lists.jobs.worked ≡ []) × (new ≡ old) × (now ≡ before)
+-- whose a job is
+abbrev pub named : Job → ℕ × ℕ
+named job = (job.session, job.request)
 
--- whether a job was worked: otherwise none waited, and nothing changed
-abbrev pub WorksOne : Bool → Timed → Timed → List Fact → List Fact → Type 0
-WorksOne true old new before now = Makes WorksOldest old new before now
-WorksOne false old new before now = (old.lists.jobs.waiting ≡ []) × (new ≡ old) × (now ≡ before)
+-- whose the waiting jobs are, in the order in which they were given
+abbrev pub waiting_in : List WorkedJob → ℕ → List Job → List (ℕ × ℕ)
+waiting_in worked me out = map named (filter (λ job. not (list_any (is_worked me job.session job.request) worked)) out)
+
+abbrev pub waiting_names : List WorkedJob → Lists → List (ℕ × ℕ)
+waiting_names worked s = waiting_in worked s.me s.jobs.out
+
+-- a job was worked
+abbrev pub worked_fact : ℕ → ℕ × ℕ → Fact
+worked_fact me name = plain me (Worked name.0 name.1)
+
+-- one was, where it is there
+abbrev pub work_named : ℕ → Option (ℕ × ℕ) → Event
+work_named i None = Missed i
+work_named i (Some name) = Worked name.0 name.1
+
+-- a job that was worked, where it is of this node
+abbrev pub own_of : ℕ → WorkedJob → List WorkedJob
+own_of me w = if w.node == me then w ∷ [] else []
+
+-- the answer of a job is that of its type's worker
+pub record IsSteady (job : Job) (answer : List ℕ) : Type 0 where
+  pub background : is_background job.req_type ≡ true
+  pub right : answer ≡ background_answer job.req_type job.ask
+
+-- whether a job that was worked is finished, where it is of this node; otherwise as many replies are queued as the
+-- ring is long, and nothing changed
+abbrev pub FinishesNext : WorkedJob → Bool → Timed → Timed → List Fact → List Fact → Type 0
+FinishesNext w true old new before now = ServesQuietly (FinishesEach (own_of old.lists.me w)) old new before now
+FinishesNext w false old new before now = (old.lists.room ≤ replies old.lists.queued) × (new ≡ old) × (now ≡ before)

@@ -1,19 +1,28 @@
 //! Jobs that were worked are finished: the answers of their handlers are there.
-ghost use Rattle.std.specs.Prelude.{◌≡◌, ◌<◌, ◌≤◌, ◌-◌, true, false, length, IfOk, OnOk};
+ghost use Rattle.std.specs.Prelude.{◌≡◌, ◌<◌, ◌≤◌, ◌-◌, true, false, Some, length, IfOk, IsTrue, OnOk};
 ghost use Rattle.message_buffer.specs.Buffer.{bytes_of};
-ghost use Rattle.node_tables.specs.Noted.{Makes};
 ghost use Rattle.packet_header.specs.Parts.{packet_count};
-ghost use Rattle.rpc_laws.specs.PollOrder.{FinishesAll};
+ghost use Rattle.std.specs.List.{find};
+ghost use Rattle.rpc_base.specs.Tables.{without_first};
+ghost use Rattle.rpc_laws.specs.Jobs.{is_job};
+ghost use Rattle.rpc_laws.specs.PollOrder.{Finishes};
 ghost use Rattle.rpc_laws.specs.Queues.{replies};
+ghost use Rattle.rpc_laws.specs.Service.{is_background};
+ghost use Rattle.rpc_laws.specs.Working.{FinishesWorked};
+ghost use Rattle.sim_node.specs.Answering.{ServesQuietly};
 ghost use Rattle.sim_node.specs.Apart.{IsApart};
-ghost use Rattle.sim_node.specs.Working.{FinishesOne, StoresAt};
+ghost use Rattle.sim_node.specs.Working.{FinishesNext, StoresAt};
+ghost use Rattle.sim_server.specs.Ends.{shown_job};
 
+use crate::jobs::place_of_job;
 use crate::noting::{note, note_aside};
 use crate::servers::place_of_server;
 use crate::tables::Tables;
 use node_tables::count_replies;
 use packet_header::{MOST_MESSAGE_BYTES, count};
-use rpc_base::{Event, Fact, Listed, NoMemory, Owner};
+use rpc_base::{Event, Fact, Listed, NoMemory, Owner, RequestNo, SessionNo};
+use rpc_laws::{Job, Jobs, WorkedJob};
+use rpc_outside::{Mode, PlainService, Service};
 use sim_server::ServerEnd;
 use std::alloc::Global;
 use worker_board::Parcel;
@@ -46,38 +55,87 @@ fn store(servers: &mut Listed<ServerEnd>, parcel: Parcel) -> Result<bool, NoMemo
     Ok(waited)
 }
 
-// The job that was worked first is finished, while fewer replies are queued than the ring is long. Tells whether
-// there was one.
-fn finish_next(alloc: Global, node: &mut Tables, facts: &mut Listed<Fact>) -> Result<bool, NoMemory>
+// Whether a worker serves a type.
+fn is_in_background(req_type: u8) -> bool
+    ensures { result ≡ is_background req_type }
+{
+    match PlainService::new().mode(req_type) {
+        Mode::Background => true,
+        _ => false,
+    }
+}
+
+fn are_same(one: &[u8], other: &[u8]) -> bool
+    ensures { IsTrue result → one.now ≡ other.now }
+{
+    one == other
+}
+
+// Whether a parcel is that of a job, whose type a worker serves.
+fn is_of(parcel: &Parcel, job: &Job) -> bool
+    ensures background { IsTrue result → is_background job.now.req_type ≡ true }
+    ensures session { IsTrue result → parcel.now.session ≡ job.now.session }
+    ensures request { IsTrue result → parcel.now.request ≡ job.now.request }
+    ensures req_type { IsTrue result → parcel.now.req_type ≡ job.now.req_type }
+    ensures ask { IsTrue result → bytes_of parcel.now.ask ≡ job.now.ask }
+{
+    is_in_background(job.req_type)
+        && parcel.session.0 == job.session.0
+        && parcel.request.get() == job.request.get()
+        && parcel.req_type == job.req_type
+        && are_same(parcel.ask.bytes(), job.ask.bytes())
+}
+
+// The job of this request isn't out any more.
+fn take_job(jobs: &mut Jobs, session: SessionNo, request: RequestNo) -> Result<Job, NoMemory>
+    ensures found { IfOk result (λ job. find (is_job session request) jobs.old.out ≡ Some job) }
+    ensures left { OnOk result (jobs.new ≡ record jobs.old { out = without_first (is_job session request) jobs.old.out }) }
+{
+    let Some(place) = place_of_job(jobs, session, request) else {
+        return Err(NoMemory);
+    };
+    Ok(jobs.out.remove_at(place))
+}
+
+// The job of this request is finished, while fewer replies are queued than the ring is long. Another job from the
+// workers, or none, comes of no such node, and ends as want of memory.
+fn finish(
+    alloc: Global,
+    node: &mut Tables,
+    facts: &mut Listed<Fact>,
+    session: SessionNo,
+    request: RequestNo,
+) -> Result<(), NoMemory>
     requires room { replies node.old.lists.queued < node.old.lists.room }
     requires apart { IsApart node.old }
-    ensures finished { IfOk result (λ b. FinishesOne b node.old node.new facts.old facts.new) }
+    ensures makes { OnOk result (ServesQuietly (Finishes session request) node.old node.new facts.old facts.new) }
     ensures apart { OnOk result (IsApart node.new) }
 {
     let Some(finished) = node.workers.take() else {
-        return Ok(false);
+        return Err(NoMemory);
     };
     let parcel = finished.parcel;
-    let (ask, answer) = (parcel.ask.bytes(), parcel.out.bytes());
+    let job = take_job(&mut node.jobs, session, request)?;
+    if !is_of(&parcel, &job) {
+        return Err(NoMemory);
+    }
+    let (ask, answer) = (job.ask.bytes(), parcel.out.bytes());
     let ran = Event::Ran {
-        session: parcel.session,
-        request: parcel.request,
-        req_type: parcel.req_type,
+        session,
+        request,
+        req_type: job.req_type,
     };
     let posted = Event::Posted {
-        owner: Owner::Reply {
-            session: parcel.session,
-            request: parcel.request,
-        },
+        owner: Owner::Reply { session, request },
         number: last_number(ask)?,
     };
     note_aside(alloc, node, facts, &ran, ask, answer)?;
     let is_awaited = store(&mut node.servers, parcel)?;
     if !is_awaited {
-        return Ok(true);
+        return Ok(());
     }
     note(alloc, node, facts, &posted, &[], &[])?;
-    Ok(true)
+    Ok(())
 }
 
 // Whether fewer replies are queued than the ring is long.
@@ -88,24 +146,44 @@ fn has_room(node: &Tables) -> bool
     count_replies(&node.queued) < node.room as usize
 }
 
-/// Finishes the worked jobs in the order of working, while fewer replies are queued than the ring is long. Each
-/// turn notes a fact, so memory ends before the turns do.
+// A job that was worked is finished, where it is of this node. Tells whether there was room for that.
+fn finish_next(
+    alloc: Global,
+    node: &mut Tables,
+    facts: &mut Listed<Fact>,
+    worked: &WorkedJob,
+) -> Result<bool, NoMemory>
+    requires apart { IsApart node.old }
+    ensures next { IfOk result (λ went. FinishesNext worked.now went node.old node.new facts.old facts.new) }
+    ensures apart { OnOk result (IsApart node.new) }
+{
+    if worked.node.0 != node.me.0 {
+        return Ok(true);
+    }
+    if !has_room(node) {
+        return Ok(false);
+    }
+    finish(alloc, node, facts, worked.session, worked.request)?;
+    Ok(true)
+}
+
+/// Finishes the node's jobs among those that were worked, in their order, while fewer replies are queued than the
+/// ring is long.
 pub fn finish_all(
     alloc: Global,
     node: &mut Tables,
     facts: &mut Listed<Fact>,
+    worked: &Listed<WorkedJob>,
 ) -> Result<(), NoMemory>
     requires apart { IsApart node.old }
-    ensures makes { OnOk result (Makes FinishesAll node.old node.new facts.old facts.new) }
+    ensures makes { OnOk result (ServesQuietly (FinishesWorked worked.now) node.old node.new facts.old facts.new) }
     ensures apart { OnOk result (IsApart node.new) }
 {
-    'jobs: for _ in 0..u64::MAX {
-        if !has_room(node) {
-            return Ok(());
-        }
-        if !finish_next(alloc, node, facts)? {
+    let count = worked.len();
+    'jobs: for i in 0..count {
+        if !finish_next(alloc, node, facts, worked.at(i))? {
             return Ok(());
         }
     }
-    Err(NoMemory)
+    Ok(())
 }

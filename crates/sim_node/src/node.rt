@@ -1,12 +1,15 @@
 //! The node as its users have it.
 ghost use Rattle.std.specs.Prelude.{◌≡◌, ◌<◌, ◌≤◌, ◌∷◌, [], None, length, IfOk, OnOk};
-ghost use Rattle.node_tables.specs.Noted.{Makes, Noted};
+ghost use Rattle.node_tables.specs.Noted.{Noted};
 ghost use Rattle.rpc_laws.specs.Deliveries.{delivery_facts};
 ghost use Rattle.rpc_laws.specs.Facts.{plain};
 ghost use Rattle.rpc_laws.specs.Groups.{Asks, pair_refusal, shares};
 ghost use Rattle.rpc_laws.specs.NodeLists.{new_node};
-ghost use Rattle.rpc_laws.specs.PollOrder.{Poll};
-ghost use Rattle.rpc_laws.specs.Working.{Works, WorksAll};
+ghost use Rattle.rpc_laws.specs.PollOrder.{PollBy, SendsAll};
+ghost use Rattle.rpc_laws.specs.UsualLimits.{with_ring};
+ghost use Rattle.rpc_laws.specs.Working.{FinishesWorked, Works, WorksAll};
+ghost use Rattle.rpc_outside.specs.PlainAnswer.{plain_mode};
+ghost use Rattle.sim_node.specs.Answering.{Serves, ServesQuietly};
 
 use crate::asking::ask;
 use crate::delivery::deliver;
@@ -15,6 +18,8 @@ use crate::polling::poll;
 use crate::tables::Tables;
 use crate::working::{work, work_all};
 use rpc_base::{Event, Fact, Listed, NoMemory, NodeId, Peer, SessionNo};
+use rpc_laws::WorkedJob;
+use rpc_outside::PlainService;
 use std::alloc::Global;
 use std::marker::Model;
 
@@ -41,7 +46,7 @@ impl Model for Node {
 impl Node {
     /// Node `me`, whose ring has so much room. Its lists are empty, and its workers take 64 jobs.
     pub fn new(alloc: Global, me: NodeId, ring: u32) -> Result<Node, NoMemory>
-        ensures { IfOk result (λ n. n ≡ new_node me ring) }
+        ensures { IfOk result (λ n. n ≡ new_node me (with_ring ring)) }
     {
         let tables = Tables::new(alloc, me, ring)?;
         Ok(Node {
@@ -79,11 +84,11 @@ impl Node {
         self.tables.clients.len()
     }
 
-    /// How many server sessions there are: the number of the next one.
-    pub fn next_server(&self) -> usize
-        ensures { result ≡ length self.now.lists.servers }
+    /// How many numbers of server sessions were used: the number of the next one.
+    pub fn next_server(&self) -> u64
+        ensures { result ≡ self.now.lists.server_numbers }
     {
-        self.tables.servers.len()
+        self.tables.server_numbers
     }
 
     /// Takes a datagram from a peer: into the ring where it is a packet of a call and there is room.
@@ -145,7 +150,7 @@ impl Node {
         requires most { credits ≤ 256 }
         requires client { client < 65535 }
         ensures { OnOk result
-            (Noted (plain self.old.lists.me (Event.PairedServer (length self.old.lists.servers) peer client credits) ∷ []) self.old self.new facts.old facts.new) }
+            (Noted (plain self.old.lists.me (Event.PairedServer self.old.lists.server_numbers peer client credits) ∷ []) self.old self.new facts.old facts.new) }
     {
         if self.is_cut {
             return Err(NoMemory);
@@ -169,7 +174,7 @@ impl Node {
     ) -> Result<(), NoMemory>
         requires room { room ≤ 1048576 }
         ensures { OnOk result
-            (Makes (Asks session req_type bytes.now room) self.old self.new facts.old facts.new) }
+            (ServesQuietly (Asks session req_type bytes.now room) self.old self.new facts.old facts.new) }
     {
         if self.is_cut {
             return Err(NoMemory);
@@ -188,49 +193,65 @@ impl Node {
         Ok(())
     }
 
-    /// Works waiting job `j`, in the order of giving from 0. Where there is none, that is noted.
-    pub fn work(&mut self, alloc: Global, facts: &mut Listed<Fact>, j: u32) -> Result<(), NoMemory>
-        ensures { OnOk result (Makes (Works j) self.old self.new facts.old facts.new) }
+    /// Works waiting job `j`, in the order of giving from 0. Where there is none, that is noted. `worked` has the
+    /// jobs of all nodes that were worked and aren't finished.
+    pub fn work(
+        &mut self,
+        alloc: Global,
+        facts: &mut Listed<Fact>,
+        worked: &Listed<WorkedJob>,
+        j: u32,
+    ) -> Result<(), NoMemory>
+        ensures { OnOk result (ServesQuietly (Works worked.now j) self.old self.new facts.old facts.new) }
     {
         if self.is_cut {
             return Err(NoMemory);
         }
         self.is_cut = true;
-        work(alloc, &mut self.tables, facts, j)?;
+        work(alloc, &mut self.tables, facts, worked, j)?;
         self.is_cut = false;
         Ok(())
     }
 
-    /// Works the jobs that wait, the oldest first, until there is none.
-    pub fn work_all(&mut self, alloc: Global, facts: &mut Listed<Fact>) -> Result<(), NoMemory>
-        ensures { OnOk result (Makes WorksAll self.old self.new facts.old facts.new) }
+    /// Works the jobs that wait, the oldest first, until there is none. `worked` has the jobs of all nodes that were
+    /// worked and aren't finished.
+    pub fn work_all(
+        &mut self,
+        alloc: Global,
+        facts: &mut Listed<Fact>,
+        worked: &Listed<WorkedJob>,
+    ) -> Result<(), NoMemory>
+        ensures { OnOk result (ServesQuietly (WorksAll worked.now) self.old self.new facts.old facts.new) }
     {
         if self.is_cut {
             return Err(NoMemory);
         }
         self.is_cut = true;
-        work_all(alloc, &mut self.tables, facts)?;
+        work_all(alloc, &mut self.tables, facts, worked)?;
         self.is_cut = false;
         Ok(())
     }
 
-    /// Polls the node at the moment `now` in microseconds: finishes the jobs that were worked, handles the packets
-    /// of its ring, looks at the calls that wait longer than `timeout`, posts what its sessions may post, sends what is queued, and
-    /// ends with a Polled. Its clock doesn't fall.
+    /// Polls the node at the moment `now` in microseconds: finishes its jobs that were worked, handles the packets
+    /// of its ring, looks at the calls that wait longer than its timeout, posts what its sessions may post, sends
+    /// what is queued, and ends with a Polled. Its clock doesn't fall. `service` is what its handlers are in the
+    /// event loop, and `worked` has the jobs of all nodes that were worked and aren't finished.
     pub fn poll(
         &mut self,
         alloc: Global,
         facts: &mut Listed<Fact>,
-        timeout: u64,
+        service: &mut PlainService,
+        worked: &Listed<WorkedJob>,
         now: u64,
     ) -> Result<(), NoMemory>
-        ensures { OnOk result (Makes (Poll timeout now) self.old self.new facts.old facts.new) }
+        ensures { OnOk result
+            (Serves (PollBy (FinishesWorked worked.now) SendsAll plain_mode now) service.old service.new self.old self.new facts.old facts.new) }
     {
         if self.is_cut {
             return Err(NoMemory);
         }
         self.is_cut = true;
-        poll(alloc, &mut self.tables, facts, timeout, now)?;
+        poll(alloc, &mut self.tables, facts, service, worked, now)?;
         self.is_cut = false;
         Ok(())
     }

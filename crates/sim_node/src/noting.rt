@@ -1,30 +1,28 @@
 //! Noting a fact: it goes into the history, and the node's lists change as it says.
-ghost use Rattle.std.specs.Prelude.{◌≡◌, ◌∷◌, [], OnOk, IfOk};
+ghost use Rattle.std.specs.Prelude.{◌≡◌, ◌∷◌, [], List, OnOk};
 ghost use Rattle.node_tables.specs.Noted.{Noted};
 ghost use Rattle.rpc_laws.specs.Facts.{with_bytes, with_two};
-ghost use Rattle.rpc_laws.specs.NodeLists.{asked_after};
+ghost use Rattle.rpc_laws.specs.Pacing.{paces_after};
+ghost use Rattle.rpc_laws.specs.declared.tables.Client.{Client};
 ghost use Rattle.sim_node.specs.Apart.{IsApart};
 ghost use Rattle.sim_node.specs.Aside.{aside, LeavesEnds, NotedAside};
 
 use crate::tables::Tables;
-use node_tables::{change_queued, change_ring, one_more};
+use node_tables::{
+    change_counts, change_paces, change_queued, change_ring, count_asked, count_server_numbers,
+};
 use rpc_base::{Event, Fact, Listed, NoMemory, Octets, Who};
 use std::alloc::Global;
 
-fn count_asked(asked: u64, event: &Event) -> Result<u64, NoMemory>
-    ensures { IfOk result (λ n. n ≡ asked_after event.now asked) }
-{
-    match event {
-        Event::Asked { .. } => one_more(asked),
-        _ => Ok(asked),
-    }
-}
-
 fn change(alloc: Global, node: &mut Tables, event: &Event, first: &[u8]) -> Result<(), NoMemory>
-    ensures { OnOk result (node.new ≡ aside (with_bytes node.old.lists.me event.now first.now) node.old) }
+    ensures rest { OnOk result (node.new ≡ aside (with_bytes node.old.lists.me event.now first.now) node.old) }
+    ensures paced { OnOk result ((xs : List Client) → paces_after node.old.clock event.now xs node.old.lists.paces ≡ paces_after node.old.clock event.now [] node.old.lists.paces) }
 {
     node.asked = count_asked(node.asked, event)?;
+    node.server_numbers = count_server_numbers(node.server_numbers, event)?;
+    node.counts = change_counts(&node.counts, event);
     change_queued(&mut node.queued, event)?;
+    change_paces(&mut node.paces, event)?;
     change_ring(alloc, &mut node.ring, event, first)?;
     Ok(())
 }

@@ -109,10 +109,10 @@ pub fn pair_server(
     requires client { client < 65535 }
     requires apart { IsApart node.old }
     ensures noted { OnOk result
-        (Noted (plain node.old.lists.me (Event.PairedServer (length node.old.lists.servers) peer client credits) ∷ []) node.old node.new facts.old facts.new) }
+        (Noted (plain node.old.lists.me (Event.PairedServer node.old.lists.server_numbers peer client credits) ∷ []) node.old node.new facts.old facts.new) }
     ensures apart { OnOk result (IsApart node.new) }
 {
-    let session = SessionNo(node.servers.len() as u16);
+    let session = SessionNo(node.server_numbers as u16);
     let way = Way {
         number: session,
         peer,

@@ -1,6 +1,7 @@
 //! A reply in front of the queue is sent.
-ghost use Rattle.std.specs.Prelude.{◌≡◌, ◌<◌, length, slice_get, Some, IfOk, OnOk};
+ghost use Rattle.std.specs.Prelude.{◌≡◌, ◌<◌, length, slice_get, Some, None, IfOk, OnOk};
 ghost use Rattle.node_tables.specs.Noted.{Makes};
+ghost use Rattle.packet_header.specs.Header.{AreBytes};
 ghost use Rattle.rpc_laws.specs.Packets.{reply_packet};
 ghost use Rattle.rpc_laws.specs.PollOrder.{Sends};
 ghost use Rattle.server_core.specs.Replies.{IsSpelled};
@@ -23,8 +24,9 @@ fn spell_reply(
     number: u16,
     head: &mut [u8; HEAD_BYTES],
 ) -> Result<Octets, NoMemory>
-    ensures { IfOk result
+    ensures spelled { IfOk result
         (λ body. IsSpelled (reply_packet request number (Some end.now)) head.new body) }
+    ensures bytes { OnOk result (AreBytes head.new) }
 {
     let bytes = end.packet(request, number, head)?;
     let body = Octets::copy(alloc, bytes)?;
@@ -58,6 +60,7 @@ pub fn send_reply(
 ) -> Result<(), NoMemory>
     requires apart { IsApart node.old }
     requires front { slice_get node.old.lists.queued 0 ≡ Some entry.now }
+    requires ready { entry.now.due ≡ None }
     requires owner { entry.now.owner ≡ Owner.Reply session request }
     ensures makes { OnOk result (Makes Sends node.old node.new facts.old facts.new) }
     ensures apart { OnOk result (IsApart node.new) }

@@ -1,6 +1,6 @@
 //! A call is rolled back, and a session breaks: the packets of calls are taken out of the queue, their
 //! sessions change, and what happened is noted.
-ghost use Rattle.std.specs.Prelude.{◌≡◌, ◌<◌, ◌∷◌, ◌++◌, [], ℕ, Some, flat_map, length, map, slice_get, IfOk, OnOk};
+ghost use Rattle.std.specs.Prelude.{◌≡◌, ◌<◌, ◌∷◌, ◌++◌, [], ℕ, None, Some, flat_map, length, map, slice_get, IfOk, OnOk};
 ghost use Rattle.node_tables.specs.Noted.{Noted};
 ghost use Rattle.rpc_laws.specs.declared.tables.Client.{Client};
 ghost use Rattle.rpc_laws.specs.Facts.{plain};
@@ -27,11 +27,12 @@ fn push<T: Copy + Drop>(items: &mut Listed<T>, item: &T) -> Result<(), NoMemory>
 }
 
 fn push_packet(packets: &mut Listed<Queued>, owner: &Owner, number: u16) -> Result<(), NoMemory>
-    ensures { OnOk result (packets.new ≡ packets.old ++ record { owner = owner.now; number = number } ∷ []) }
+    ensures { OnOk result (packets.new ≡ packets.old ++ record { owner = owner.now; number = number; due = None } ∷ []) }
 {
     let packet = Queued {
         owner: *owner,
         number,
+        due: None,
     };
     push(packets, &packet)
 }
@@ -42,7 +43,7 @@ fn push_numbers(
     numbers: &[u16],
 ) -> Result<(), NoMemory>
     ensures { OnOk result
-        (packets.new ≡ packets.old ++ map (λ k. record { owner = owner.now; number = k }) numbers.now) }
+        (packets.new ≡ packets.old ++ map (λ k. record { owner = owner.now; number = k; due = None }) numbers.now) }
 {
     'numbers: for number in numbers {
         push_packet(packets, owner, *number)?;

@@ -1,7 +1,8 @@
 //! The front of the queue is sent.
-ghost use Rattle.std.specs.Prelude.{◌≡◌, ◌<◌, length, slice_get, Some, IfOk, OnOk};
+ghost use Rattle.std.specs.Prelude.{◌≡◌, ◌<◌, length, slice_get, Some, None, IfOk, OnOk};
 ghost use Rattle.std.specs.List.{position};
 ghost use Rattle.node_tables.specs.Noted.{Makes};
+ghost use Rattle.packet_header.specs.Header.{AreBytes};
 ghost use Rattle.client_core.specs.Shown.{IsSpelled};
 ghost use Rattle.rpc_laws.specs.Packets.{ask_packet};
 ghost use Rattle.rpc_laws.specs.PollOrder.{Sends, SendsAll};
@@ -27,7 +28,8 @@ fn spell(
     number: u16,
     head: &mut [u8; HEAD_BYTES],
 ) -> Result<Octets, NoMemory>
-    ensures { IfOk result (λ body. IsSpelled (ask_packet request number (Some end.now)) head.new body) }
+    ensures spelled { IfOk result (λ body. IsSpelled (ask_packet request number (Some end.now)) head.new body) }
+    ensures bytes { OnOk result (AreBytes head.new) }
 {
     let bytes = end.packet(request, number, head)?;
     let body = Octets::copy(alloc, bytes)?;
@@ -63,6 +65,7 @@ fn send_ask(
 ) -> Result<(), NoMemory>
     requires apart { IsApart node.old }
     requires front { slice_get node.old.lists.queued 0 ≡ Some entry.now }
+    requires ready { entry.now.due ≡ None }
     requires owner { entry.now.owner ≡ Owner.Ask session request }
     ensures makes { OnOk result (Makes Sends node.old node.new facts.old facts.new) }
     ensures apart { OnOk result (IsApart node.new) }
@@ -91,7 +94,8 @@ fn send_ask(
     Ok(())
 }
 
-/// Sends the packet in front of the queue.
+/// Sends the packet in front of the queue, which is ready: one that isn't comes of no node whose sessions have no
+/// rates, and ends as want of memory.
 pub fn send_front(
     alloc: Global,
     node: &mut Tables,
@@ -103,6 +107,9 @@ pub fn send_front(
     ensures apart { OnOk result (IsApart node.new) }
 {
     let entry = *node.queued.first();
+    if entry.due.is_some() {
+        return Err(NoMemory);
+    }
     match &entry.owner {
         Owner::Ask { session, request } => {
             send_ask(alloc, node, facts, &entry, *session, *request)

@@ -1,30 +1,28 @@
 //! A packet that asks is handled, by the server rule.
-ghost use Rattle.std.specs.Prelude.{◌≡◌, ◌<◌, ◌+◌, ◌∷◌, [], true, not, length, Some, None, if◌then◌else◌, IfOk, OnOk};
+ghost use Rattle.std.specs.Prelude.{◌≡◌, ◌<◌, ◌+◌, ◌∷◌, ◌++◌, [], true, not, length, Some, None, if◌then◌else◌, IfOk, OnOk};
 ghost use Rattle.std.specs.List.{find, position};
 ghost use Rattle.node_tables.specs.Noted.{Noted};
 ghost use Rattle.packet_header.specs.Header.{MessageInRange, MessageLength};
 ghost use Rattle.rpc_laws.specs.Facts.{plain};
 ghost use Rattle.rpc_laws.specs.Front.{front_header, front_body};
-ghost use Rattle.rpc_laws.specs.PollOrder.{asks_facts};
 ghost use Rattle.rpc_laws.specs.Requests.{is_server};
-ghost use Rattle.rpc_laws.specs.Jobs.{usual_jobs};
-ghost use Rattle.rpc_laws.specs.ServerTable.{is_last, is_rfr, flushes_older, makes_job, server_row};
+ghost use Rattle.rpc_laws.specs.ServerTable.{is_last, is_rfr, flushes_older};
 ghost use Rattle.server_core.specs.Rows.{is_asking};
 ghost use Rattle.server_core.specs.Steps.{IsAsking};
 ghost use Rattle.sim_node.specs.Apart.{IsApart};
-ghost use Rattle.sim_node.specs.Serving.{TakesAt, ask_here, parts_of, row_here, session_of, taking, took_ran};
+ghost use Rattle.sim_node.specs.Serving.{TakesAt, answered_with, ask_of, parts_of, plain_asks, row_here, session_of, taking, took_ran, total_then};
 ghost use Rattle.sim_node.specs.declared.brought.Brought;
-ghost use Rattle.sim_server.specs.Ends.{answer_bytes, asked_bytes, is_taken};
+ghost use Rattle.sim_server.specs.Ends.{answer_bytes, asked_bytes, gives_job, is_taken, plain_row};
 
 use crate::brought::Brought;
 use crate::flushing::flush;
-use crate::jobs::{are_full, give};
+use crate::jobs::{are_full, drop_job, give};
 use crate::noting::{note, note_aside};
 use crate::servers::place_of_server;
 use crate::tables::Tables;
 use packet_header::{Kind, MessageHeader, count};
 use rpc_base::{DropReason, Event, Fact, Listed, NoMemory, Octets, Owner, Peer};
-use rpc_laws::ServerRow;
+use rpc_laws::{Jobs, ServerRow};
 use rpc_outside::{PlainDuty, PlainService};
 use sim_server::ServerEnd;
 use std::alloc::Global;
@@ -56,15 +54,37 @@ fn is_last(head: &MessageHeader) -> bool
     !is_an_rfr(head.kind) && u32::from(head.number) + 1 == count(head.size)
 }
 
-// What a packet brought that gave no job: the bytes of its request and the answer where it is the last one.
-fn answered(alloc: Global, end: &ServerEnd, head: &MessageHeader) -> Result<Brought, NoMemory>
+// The bytes of a request with this packet, where it is the last one: once its handler ran, the session has them no
+// more.
+fn asked_by(
+    alloc: Global,
+    end: &ServerEnd,
+    head: &MessageHeader,
+    body: &[u8],
+) -> Result<Option<Octets>, NoMemory>
     ensures { IfOk result
-        (λ b. b ≡ (if is_last head.now then Brought.Answered (asked_bytes head.now.request end.now) (answer_bytes head.now.request end.now) else Brought.Reply)) }
+        (λ o. o ≡ (if is_last head.now then Some (asked_bytes head.now.request end.now ++ body.now) else None)) }
 {
     if !is_last(head) {
-        return Ok(Brought::Reply);
+        return Ok(None);
     }
-    let ask = Octets::copy(alloc, end.ask(head.request))?;
+    let mut ask = Octets::copy(alloc, end.ask(head.request))?;
+    ask.append(body)?;
+    Ok(Some(ask))
+}
+
+// What a packet brought that gave no job: the bytes of its request and the answer where it is the last one.
+fn answered(
+    alloc: Global,
+    end: &ServerEnd,
+    head: &MessageHeader,
+    asked: Option<Octets>,
+) -> Result<Brought, NoMemory>
+    ensures { IfOk result (λ b. b ≡ answered_with asked (answer_bytes head.now.request end.now)) }
+{
+    let Some(ask) = asked else {
+        return Ok(Brought::Reply);
+    };
     let answer = Octets::copy(alloc, end.answer(head.request))?;
     Ok(Brought::Answered { ask, answer })
 }
@@ -74,6 +94,7 @@ fn take_at(
     alloc: Global,
     servers: &mut Listed<ServerEnd>,
     service: &mut PlainService,
+    jobs: &mut Jobs,
     workers: &mut LocalWorkers<PlainDuty>,
     place: usize,
     peer: Peer,
@@ -82,20 +103,19 @@ fn take_at(
 ) -> Result<Brought, NoMemory>
     requires asking { IsAsking head.now (length body.now) }
     requires there { place < length servers.old }
-    requires limit { workers.old.limit ≡ usual_jobs }
-    ensures takes { IfOk result
-        (λ b. TakesAt place peer head.now body.now b (parts_of servers.old service.old workers.old) (parts_of servers.new service.new workers.new)) }
-    ensures limit { workers.new.limit ≡ usual_jobs }
+    ensures { IfOk result
+        (λ b. TakesAt place peer head.now body.now b (parts_of servers.old service.old jobs.old) (parts_of servers.new service.new jobs.new)) }
 {
-    let full = are_full(workers);
+    let full = are_full(jobs);
     let end = servers.at_mut(place);
+    let asked = asked_by(alloc, end, head, body)?;
     match end.on_packet(alloc, service, peer, head, body, full)? {
         None => {
-            let brought = answered(alloc, end, head)?;
+            let brought = answered(alloc, end, head, asked)?;
             Ok(brought)
         }
         Some(job) => {
-            give(workers, job)?;
+            give(alloc, jobs, workers, job)?;
             Ok(Brought::GaveJob)
         }
     }
@@ -107,6 +127,7 @@ fn take_and_run(
     alloc: Global,
     node: &mut Tables,
     facts: &mut Listed<Fact>,
+    service: &mut PlainService,
     place: usize,
     peer: Peer,
     head: &MessageHeader,
@@ -121,8 +142,9 @@ fn take_and_run(
     requires taken { is_taken (row_here peer head.now node.old) ≡ true }
     ensures apart { OnOk result (IsApart node.new) }
     ensures noted { OnOk result
-        (Noted (took_ran node.old.lists.me node.old.lists.total head.now (ask_here (row_here peer head.now node.old) head.now body.now node.old)) node.old node.new facts.old facts.new) }
-    ensures answered { IfOk result (λ b. b ≡ not (makes_job head.now)) }
+        (Noted (took_ran node.old.lists.me service.old head.now (ask_of peer head.now body.now node.old)) node.old node.new facts.old facts.new) }
+    ensures total { OnOk result (service.new ≡ total_then service.old node.old peer head.now body.now) }
+    ensures answered { IfOk result (λ b. b ≡ not (gives_job head.now)) }
 {
     let took = Event::Took {
         owner: owner_of_ask(head),
@@ -131,7 +153,8 @@ fn take_and_run(
     let brought = take_at(
         alloc,
         &mut node.servers,
-        &mut node.service,
+        service,
+        &mut node.jobs,
         &mut node.workers,
         place,
         peer,
@@ -150,6 +173,7 @@ fn take_and_run(
                 req_type: head.req_type,
             };
             let (asked, answered) = (ask.bytes(), answer.bytes());
+            drop_job(&mut node.jobs, head.session, head.request);
             note_aside(alloc, node, facts, &took, &[], &[])?;
             note_aside(alloc, node, facts, &ran, asked, answered)?;
             Ok(true)
@@ -171,6 +195,7 @@ fn take_packet(
     alloc: Global,
     node: &mut Tables,
     facts: &mut Listed<Fact>,
+    service: &mut PlainService,
     place: usize,
     peer: Peer,
     head: &MessageHeader,
@@ -185,9 +210,10 @@ fn take_packet(
     requires taken { is_taken (row_here peer head.now node.old) ≡ true }
     ensures apart { OnOk result (IsApart node.new) }
     ensures noted { OnOk result
-        (Noted (taking node.old head.now (ask_here (row_here peer head.now node.old) head.now body.now node.old)) node.old node.new facts.old facts.new) }
+        (Noted (taking service.old node.old head.now (ask_of peer head.now body.now node.old)) node.old node.new facts.old facts.new) }
+    ensures total { OnOk result (service.new ≡ total_then service.old node.old peer head.now body.now) }
 {
-    let is_answered = take_and_run(alloc, node, facts, place, peer, head, body)?;
+    let is_answered = take_and_run(alloc, node, facts, service, place, peer, head, body)?;
     if !is_answered {
         return Ok(());
     }
@@ -213,7 +239,7 @@ fn repeat_at(
     requires asking { IsAsking head.now (length body.now) }
     requires place { position (is_server head.now.session) servers.old ≡ Some place }
     requires there { place < length servers.old }
-    requires row { server_row full (find (is_server head.now.session) servers.old) peer head.now ≡ ServerRow.Repeats }
+    requires row { plain_row full (find (is_server head.now.session) servers.old) peer head.now ≡ ServerRow.Repeats }
     ensures servers { OnOk result (servers.new ≡ servers.old) }
     ensures service { OnOk result (service.new ≡ service.old) }
 {
@@ -251,6 +277,7 @@ fn repeat(
     alloc: Global,
     node: &mut Tables,
     facts: &mut Listed<Fact>,
+    service: &mut PlainService,
     place: usize,
     peer: Peer,
     head: &MessageHeader,
@@ -263,13 +290,14 @@ fn repeat(
     requires row { row_here peer head.now node.old ≡ ServerRow.Repeats }
     ensures apart { OnOk result (IsApart node.new) }
     ensures noted { OnOk result
-        (Noted (asks_facts node.old.lists peer head.now body.now) node.old node.new facts.old facts.new) }
+        (Noted (plain_asks service.old node.old peer head.now body.now) node.old node.new facts.old facts.new) }
+    ensures total { OnOk result (service.new ≡ total_then service.old node.old peer head.now body.now) }
 {
-    let full = are_full(&node.workers);
+    let full = are_full(&node.jobs);
     repeat_at(
         alloc,
         &mut node.servers,
-        &mut node.service,
+        service,
         place,
         peer,
         head,
@@ -314,6 +342,7 @@ fn begin(
     alloc: Global,
     node: &mut Tables,
     facts: &mut Listed<Fact>,
+    service: &mut PlainService,
     place: usize,
     peer: Peer,
     head: &MessageHeader,
@@ -328,10 +357,11 @@ fn begin(
     requires row { row_here peer head.now node.old ≡ ServerRow.Begins }
     ensures apart { OnOk result (IsApart node.new) }
     ensures noted { OnOk result
-        (Noted (asks_facts node.old.lists peer head.now body.now) node.old node.new facts.old facts.new) }
+        (Noted (plain_asks service.old node.old peer head.now body.now) node.old node.new facts.old facts.new) }
+    ensures total { OnOk result (service.new ≡ total_then service.old node.old peer head.now body.now) }
 {
     flush_older(alloc, node, facts, place, head)?;
-    take_packet(alloc, node, facts, place, peer, head, body)?;
+    take_packet(alloc, node, facts, service, place, peer, head, body)?;
     Ok(())
 }
 
@@ -340,6 +370,7 @@ fn serve_at(
     alloc: Global,
     node: &mut Tables,
     facts: &mut Listed<Fact>,
+    service: &mut PlainService,
     place: usize,
     peer: Peer,
     head: &MessageHeader,
@@ -353,24 +384,25 @@ fn serve_at(
     requires front_body { front_body node.old.lists.ring ≡ body.now }
     ensures apart { OnOk result (IsApart node.new) }
     ensures noted { OnOk result
-        (Noted (asks_facts node.old.lists peer head.now body.now) node.old node.new facts.old facts.new) }
+        (Noted (plain_asks service.old node.old peer head.now body.now) node.old node.new facts.old facts.new) }
+    ensures total { OnOk result (service.new ≡ total_then service.old node.old peer head.now body.now) }
 {
-    let full = are_full(&node.workers);
+    let full = are_full(&node.jobs);
     match node.servers.at(place).row(peer, head, full) {
         ServerRow::Drops(reason) => {
             note(alloc, node, facts, &Event::Dropped { reason }, &[], &[])?;
             Ok(())
         }
         ServerRow::Begins => {
-            begin(alloc, node, facts, place, peer, head, body)?;
+            begin(alloc, node, facts, service, place, peer, head, body)?;
             Ok(())
         }
         ServerRow::Takes => {
-            take_packet(alloc, node, facts, place, peer, head, body)?;
+            take_packet(alloc, node, facts, service, place, peer, head, body)?;
             Ok(())
         }
         ServerRow::Repeats => {
-            repeat(alloc, node, facts, place, peer, head, body)?;
+            repeat(alloc, node, facts, service, place, peer, head, body)?;
             Ok(())
         }
     }
@@ -381,6 +413,7 @@ pub fn serve(
     alloc: Global,
     node: &mut Tables,
     facts: &mut Listed<Fact>,
+    service: &mut PlainService,
     peer: Peer,
     head: &MessageHeader,
     body: &[u8],
@@ -393,7 +426,8 @@ pub fn serve(
     requires front_body { front_body node.old.lists.ring ≡ body.now }
     ensures apart { OnOk result (IsApart node.new) }
     ensures noted { OnOk result
-        (Noted (asks_facts node.old.lists peer head.now body.now) node.old node.new facts.old facts.new) }
+        (Noted (plain_asks service.old node.old peer head.now body.now) node.old node.new facts.old facts.new) }
+    ensures total { OnOk result (service.new ≡ total_then service.old node.old peer head.now body.now) }
 {
     match place_of_server(&node.servers, head.session) {
         None => {
@@ -402,7 +436,7 @@ pub fn serve(
             Ok(())
         }
         Some(place) => {
-            serve_at(alloc, node, facts, place, peer, head, body)?;
+            serve_at(alloc, node, facts, service, place, peer, head, body)?;
             Ok(())
         }
     }

@@ -1,13 +1,16 @@
 //! The timers: calls that have timed out are rolled back, and where one has timed out once too often its
 //! session breaks.
-ghost use Rattle.std.specs.Prelude.{◌≡◌, IfOk, OnOk, option_and_then};
+ghost use Rattle.std.specs.Prelude.{◌≡◌, length, slice_get, IfOk, OnOk, option_and_then};
 ghost use Rattle.std.specs.List.{list_any};
 ghost use Rattle.node_tables.specs.Noted.{Makes};
-ghost use Rattle.rpc_laws.specs.GoBackN.{Watches, WatchesSession, WatchesAll};
+ghost use Rattle.rpc_laws.specs.ControlSteps.{TimesAll, TimesSession};
+ghost use Rattle.rpc_laws.specs.GoBackN.{Watches, WatchesSession};
 ghost use Rattle.rpc_laws.specs.Queues.{is_queued};
+ghost use Rattle.rpc_laws.specs.Steps.{Visits};
 ghost use Rattle.sim_client.specs.Ends.{told_call};
+ghost use Rattle.sim_node.specs.Answering.{ServesQuietly};
 ghost use Rattle.sim_node.specs.Apart.{IsApart};
-ghost use Rattle.sim_node.specs.Watching.{ActiveAt, LooksAt, RowAt, next_at};
+ghost use Rattle.sim_node.specs.Watching.{ActiveAt, HasNoRequest, LooksAt, RowAt, next_at};
 
 use crate::rolling::{break_session, roll};
 use crate::tables::Tables;
@@ -133,8 +136,37 @@ fn watch_session(
     Err(NoMemory)
 }
 
-/// Looks at the calls of all sessions, in the order of their numbers, at the node's clock.
-pub fn watch(
+// A session has no request of its own to send, since it was made by pairing.
+fn check_own(node: &Tables, i: usize) -> Result<(), NoMemory>
+    ensures { OnOk result (HasNoRequest (slice_get node.now.lists.clients i)) }
+{
+    if i >= node.clients.len() {
+        return Err(NoMemory);
+    }
+    let _is_connected = node.clients.at(i).is_connected();
+    Ok(())
+}
+
+// Looks at session `i`.
+fn time_session(
+    alloc: Global,
+    node: &mut Tables,
+    facts: &mut Listed<Fact>,
+    timeout: u64,
+    i: usize,
+) -> Result<(), NoMemory>
+    requires apart { IsApart node.old }
+    ensures makes { OnOk result
+        (ServesQuietly (TimesSession timeout i) node.old node.new facts.old facts.new) }
+    ensures apart { OnOk result (IsApart node.new) }
+{
+    check_own(node, i)?;
+    watch_session(alloc, node, facts, timeout, i)?;
+    Ok(())
+}
+
+// Looks at all sessions, in the order of their numbers.
+fn time_sessions(
     alloc: Global,
     node: &mut Tables,
     facts: &mut Listed<Fact>,
@@ -142,12 +174,23 @@ pub fn watch(
 ) -> Result<(), NoMemory>
     requires apart { IsApart node.old }
     ensures makes { OnOk result
-        (Makes (WatchesAll timeout) node.old node.new facts.old facts.new) }
+        (ServesQuietly (Visits (TimesSession timeout) (length node.old.lists.clients)) node.old node.new facts.old facts.new) }
     ensures apart { OnOk result (IsApart node.new) }
 {
     let count = node.clients.len();
     'sessions: for i in 0..count {
-        watch_session(alloc, node, facts, timeout, i)?;
+        time_session(alloc, node, facts, timeout, i)?;
     }
+    Ok(())
+}
+
+/// Looks at the calls of all sessions, in the order of their numbers, at the node's clock.
+pub fn watch(alloc: Global, node: &mut Tables, facts: &mut Listed<Fact>) -> Result<(), NoMemory>
+    requires apart { IsApart node.old }
+    ensures makes { OnOk result (ServesQuietly TimesAll node.old node.new facts.old facts.new) }
+    ensures apart { OnOk result (IsApart node.new) }
+{
+    let timeout = node.timeout;
+    time_sessions(alloc, node, facts, timeout)?;
     Ok(())
 }

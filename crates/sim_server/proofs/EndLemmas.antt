@@ -1,6 +1,6 @@
 -- What the clauses of a server session tell of a server end: its view after a packet, as the definitions
 -- over histories have it.
-use Rattle.std.proofs.Common.{◌≡◌, ℕ, ◌%◌, ◌^◌, ◌<◌, Bool, true, false, not, ◌&&◌, cond, Option, Some, None, List, [], ◌∷◌, ◌++◌, length, refl, sym, ap, ◌∙◌}
+use Rattle.std.proofs.Common.{◌≡◌, ℕ, ◌%◌, ◌^◌, ◌<◌, Bool, true, false, not, ◌&&◌, cond, Option, Some, None, List, [], ◌∷◌, ◌++◌, length, refl, subst, sym, ap, ◌∙◌}
 use Rattle.std.specs.Prelude.{IfSome, option_map}
 use Rattle.std.specs.List.{find}
 use Rattle.std.proofs.lemmas.Bool.{and_parts, eq-eqb, eqb-true}
@@ -16,7 +16,7 @@ use Rattle.worker_crew.specs.Jobs.{HasRoom}
 use Rattle.rpc_laws.specs.Jobs.{job_of}
 use Rattle.rpc_laws.specs.PollOrder.{is_working}
 use Rattle.rpc_laws.specs.Requests.{answered, first_packet, given, in_slot_of, is_request, next_packet}
-use Rattle.rpc_laws.specs.ServerTable.{is_last, makes_job, whole_ask}
+use Rattle.rpc_laws.specs.ServerTable.{is_last, whole_ask}
 use Rattle.rpc_laws.specs.Service.{answer_with, is_background}
 use Rattle.rpc_laws.specs.declared.rows.ServerRow.{ServerRow}
 use Rattle.rpc_laws.specs.declared.rows.ServerRow.TheVariants.{Drops, Begins, Takes, Repeats}
@@ -25,14 +25,14 @@ use Rattle.rpc_laws.specs.declared.tables.Server.{Server}
 use Rattle.rpc_outside.specs.PlainAnswer.{background_answer, plain_answer, plain_mode, total_of, total_with}
 use Rattle.rpc_outside.specs.PlainStands.{PlainStands}
 use Rattle.rpc_outside.proofs.Filling.{one_tally, stands-for}
-use Rattle.server_core.specs.Asked.{bytes_answered, bytes_taken}
+use Rattle.server_core.specs.Asked.{bytes_answered}
 use Rattle.server_core.specs.Session.{Session, is_in_slot, owner_in, owner_of}
 use Rattle.server_core.specs.Shown.{shown, shown_request}
-use Rattle.server_core.specs.Steps.{HasTaken, IfGiven, IsAgain, IsParcel, IsStepOf, Steps, UnlessRan, asked_with, gave, ran, took}
+use Rattle.server_core.specs.Steps.{HasTaken, IfGiven, IfRan, IsAgain, IsAnswer, IsParcel, IsStepOf, Steps, UnlessRan, asked_with, gave, ran, took}
 use Rattle.server_core.specs.declared.slot.SlotRequest.{SlotRequest}
 use Rattle.server_core.specs.declared.step.Step.{Step}
 use Rattle.server_core.specs.declared.step.Step.TheVariants.{Took, Again, Ran, Give, Dropped}
-use Rattle.sim_server.specs.Ends.{WhereTaken, after_row, answer_bytes, ask_with, asked_bytes, gives, is_taken, is_wanting, job_given, parcel_of, replied, runs, shown_job, taken, takes, total_after_row}
+use Rattle.sim_server.specs.Ends.{WhereTaken, after_row, answer_bytes, ask_with, asked_bytes, gives, gives_job, is_taken, is_wanting, job_given, parcel_of, replied, runs, shown_job, taken, takes, total_after_row}
 use Rattle.sim_server.proofs.ServiceLemmas.{answer-is, by-worker, total-next}
 use Rattle.server_core.proofs.FoundLemmas.{found-any, found-changed, found-passes, found-shown, none-any, none-without}
 
@@ -80,6 +80,11 @@ module _ (h : MessageHeader) (body : List ℕ) (v : Server) where
   asks None e = rw e refl
   asks (Some l) e = rw e refl
 
+  -- they are those taken before, and the packet's
+  asked-joined : (o : Option ServedRequest) → find (is_request h.request) v.slots ≡ o → asked_bytes h.request v ++ body ≡ whole_ask (Some v) h.request body
+  asked-joined None e = rw e refl
+  asked-joined (Some l) e = rw e refl
+
   abbrev now : ServedRequest
   now = joined_to (find (is_request h.request) v.slots)
 
@@ -90,12 +95,7 @@ module _ (h : MessageHeader) (body : List ℕ) (v : Server) where
   gives-found : find (is_request h.request) (gives h (takes h body v)).slots ≡ Some (given now)
   gives-found = found-changed (is_request h.request) given (takes h body v).slots (λ x. refl) ∙ ap (option_map given) (takes-found _ refl)
 
-  -- its bytes, and its answer, unless a worker gets it
-  asked-cases : (total : ℕ) (ask : List ℕ) (job last : Bool) → job ≡ false → asked_bytes h.request (cond job (gives h (takes h body v)) (cond last (runs total h ask (takes h body v)) (takes h body v))) ≡ whole_ask (Some v) h.request body
-  asked-cases total ask true last e = cc
-  asked-cases total ask false true e = ap bytes_taken (runs-found total ask) ∙ asks _ refl
-  asked-cases total ask false false e = ap bytes_taken (takes-found _ refl) ∙ asks _ refl
-
+  -- its answer, unless a worker gets it
   answer-cases : (total : ℕ) (ask : List ℕ) (job last : Bool) → job ≡ false → last ≡ true → answer_bytes h.request (cond job (gives h (takes h body v)) (cond last (runs total h ask (takes h body v)) (takes h body v))) ≡ answer_with total h.req_type ask
   answer-cases total ask true last e l = cc
   answer-cases total ask false false e l = cc
@@ -125,11 +125,17 @@ module _ (h : MessageHeader) (body : List ℕ) (v : Server) where
       let number : l.number ≡ h.request = eqb-true l.number h.request (found-passes (is_request h.request) v.slots l e) in
       rw (session, request, req_type, ask, ← own, number, known) refl
 
+-- what a step made of the session, and the answer of the plain service where a handler ran
+pub record HasStepped (total next : ℕ) (h : MessageHeader) (body : List ℕ) (v w : Server) (step : Step) : Type 0 where
+  pub answer : List ℕ
+  pub steps : Steps step answer h body v w
+  pub by_service : IfRan step (IsAnswer plain_answer (PlainStands total) (PlainStands next) h.req_type (asked_with h body v) answer)
+
 -- a packet of a row that takes it, by its step: ask is all that was taken of its request with it
 pub record TakenEnd (total next : ℕ) (h : MessageHeader) (ask body : List ℕ) (v w : Server) (o : Option Parcel) : Type 0 where
   pub after : w ≡ taken total h ask body v
-  pub total_is : next ≡ cond (is_last h && not (makes_job h)) (total_with total h.req_type ask) total
-  pub job : option_map shown_job o ≡ cond (makes_job h) (option_map (job_of v.way.number) (find (is_request h.request) (takes h body v).slots)) None
+  pub total_is : next ≡ cond (is_last h && not (gives_job h)) (total_with total h.req_type ask) total
+  pub job : option_map shown_job o ≡ cond (gives_job h) (option_map (job_of v.way.number) (find (is_request h.request) (takes h body v).slots)) None
   pub room : IfSome o (HasRoom background_answer)
   pub background : IfSome o (λ p. is_background p.req_type ≡ true)
 
@@ -137,10 +143,10 @@ no-job : (last back : Bool) → last ≡ false → (last && back) ≡ false
 no-job true back e = cc
 no-job false back e = refl
 
-module _ (total next : ℕ) (below : total < 2 ^ 64) (h : MessageHeader) (ask body : List ℕ) (v w : Server) (same : whole_ask (Some v) h.request body ≡ ask) (known : makes_job h ≡ true → IfSome (find (is_request h.request) v.slots) (λ l. l.req_type ≡ h.req_type)) where
+module _ (total next : ℕ) (below : total < 2 ^ 64) (h : MessageHeader) (ask body : List ℕ) (v w : Server) (same : whole_ask (Some v) h.request body ≡ ask) (known : gives_job h ≡ true → IfSome (find (is_request h.request) v.slots) (λ l. l.req_type ≡ h.req_type)) where
   took-end : is_last h ≡ false → took h body v ≡ w ∷ [] → next ≡ total → TakenEnd total next h ask body v w None
   took-end last steps still =
-      let job : makes_job h ≡ false = no-job (is_last h) (is_background h.req_type) last in
+      let job : gives_job h ≡ false = no-job (is_last h) (is_background h.req_type) last in
       let is : takes h body v ≡ w = cc (took-is h body v, steps) in
       record {
         after = rw (job, last) (sym is);
@@ -150,7 +156,7 @@ module _ (total next : ℕ) (below : total < 2 ^ 64) (h : MessageHeader) (ask bo
         background = tt;
       }
 
-  ran-end : is_last h ≡ true → makes_job h ≡ false → ran h body (plain_answer (one_tally total) h.req_type (asked_with h body v)) v ≡ w ∷ [] → PlainStands next (one_tally total ++ (h.req_type, asked_with h body v) ∷ []) → TakenEnd total next h ask body v w None
+  ran-end : is_last h ≡ true → gives_job h ≡ false → ran h body (plain_answer (one_tally total) h.req_type (asked_with h body v)) v ≡ w ∷ [] → PlainStands next (one_tally total ++ (h.req_type, asked_with h body v) ∷ []) → TakenEnd total next h ask body v w None
   ran-end last job steps stands =
       let one : ran h body (answer_with total h.req_type ask) v ≡ w ∷ [] = rw (same, answer-is total h.req_type ask below) at steps in
       let is : runs total h ask (takes h body v) ≡ w = cc (ran-is h body v total ask, one) in
@@ -163,7 +169,7 @@ module _ (total next : ℕ) (below : total < 2 ^ 64) (h : MessageHeader) (ask bo
         background = tt;
       }
 
-  gave-end : (p : Parcel) → makes_job h ≡ true → gave h body v ≡ w ∷ [] → next ≡ total → IsParcel plain_answer (PlainStands total) h body v p → TakenEnd total next h ask body v w (Some p)
+  gave-end : (p : Parcel) → gives_job h ≡ true → gave h body v ≡ w ∷ [] → next ≡ total → IsParcel plain_answer (PlainStands total) h body v p → TakenEnd total next h ask body v w (Some p)
   gave-end p job steps still parcel =
       let parts = and_parts (is_last h) (is_background h.req_type) job in
       let is : gives h (takes h body v) ≡ w = cc (gave-is h body v, steps) in
@@ -176,13 +182,13 @@ module _ (total next : ℕ) (below : total < 2 ^ 64) (h : MessageHeader) (ask bo
         background = back;
       }
 
-  pub taken-end : (step : Step) (want : Bool) → is_wanting step ≡ false → HasTaken (is_last h) (makes_job h) want step → Steps step plain_answer (PlainStands total) (PlainStands next) h body v w → IfGiven step (IsParcel plain_answer (PlainStands total) h body v) → UnlessRan step (next ≡ total) → TakenEnd total next h ask body v w (parcel_of step)
-  taken-end (Took reply) want not last steps parcel still = took-end last steps still
+  pub taken-end : (step : Step) (want : Bool) → is_wanting step ≡ false → HasTaken (is_last h) (gives_job h) want step → HasStepped total next h body v w step → IfGiven step (IsParcel plain_answer (PlainStands total) h body v) → UnlessRan step (next ≡ total) → TakenEnd total next h ask body v w (parcel_of step)
+  taken-end (Took reply) want not last steps parcel still = took-end last steps.steps still
   taken-end (Again reply) want not last steps parcel still = absurd last
   taken-end (Ran reply) want not last steps parcel still =
-      let one = steps (one_tally total) (stands-for total below) in
-      ran-end last.0 last.1 one.0 one.1
-  taken-end (Give p) want not last steps parcel still = gave-end p last steps still parcel
+      let one = steps.by_service (one_tally total) (stands-for total below) in
+      ran-end last.0 last.1 (subst (λ a. ran h body a v ≡ w ∷ []) one.0 steps.steps) one.1
+  taken-end (Give p) want not last steps parcel still = gave-end p last steps.steps still parcel
   taken-end (Dropped why) want not last steps parcel still =
       let wants : is_wanting (Dropped why) ≡ true = ap (λ r. is_wanting (Dropped r)) last.0 in cc
 
@@ -190,12 +196,12 @@ module _ (total next : ℕ) (below : total < 2 ^ 64) (h : MessageHeader) (ask bo
 pub record Handled (row : ServerRow) (total next : ℕ) (h : MessageHeader) (body : List ℕ) (v w : Server) (o : Option Parcel) : Type 0 where
   pub after : w ≡ after_row row total h body v
   pub total_is : next ≡ total_after_row row total h (ask_with row h body v)
-  pub asked : WhereTaken row (makes_job h ≡ false → asked_bytes h.request w ≡ ask_with row h body v)
-  pub answer : WhereTaken row (makes_job h ≡ false → is_last h ≡ true → answer_bytes h.request w ≡ answer_with total h.req_type (ask_with row h body v))
+  pub asked : WhereTaken row (asked_bytes h.request v ++ body ≡ ask_with row h body v)
+  pub answer : WhereTaken row (gives_job h ≡ false → is_last h ≡ true → answer_bytes h.request w ≡ answer_with total h.req_type (ask_with row h body v))
   pub job : option_map shown_job o ≡ job_given row h body v
   pub room : IfSome o (HasRoom background_answer)
   pub background : IfSome o (λ p. is_background p.req_type ≡ true)
-  pub works : WhereTaken row (makes_job h ≡ true → is_working (find (is_request h.request) w.slots) ≡ true)
+  pub works : WhereTaken row (gives_job h ≡ true → is_working (find (is_request h.request) w.slots) ≡ true)
 
 same-end : (row : ServerRow) (total next : ℕ) (h : MessageHeader) (body : List ℕ) (v w : Server) (step : Step) → is_taken row ≡ false → w ≡ v → next ≡ total → parcel_of step ≡ None → Handled row total next h body v w (parcel_of step)
 same-end (Drops why) total next h body v w step not is still none = record {
@@ -226,41 +232,41 @@ module _ (total next : ℕ) (below : total < 2 ^ 64) (h : MessageHeader) (body :
   begun-end o alone end = record {
     after = end.after;
     total_is = end.total_is;
-    asked = λ job. ap (asked_bytes h.request) end.after ∙ asked-cases h body v total body (makes_job h) (is_last h) job ∙ alone;
-    answer = λ job last. ap (answer_bytes h.request) end.after ∙ answer-cases h body v total body (makes_job h) (is_last h) job last;
+    asked = asked-joined h body v (find (is_request h.request) v.slots) refl ∙ alone;
+    answer = λ job last. ap (answer_bytes h.request) end.after ∙ answer-cases h body v total body (gives_job h) (is_last h) job last;
     job = end.job;
     room = end.room;
     background = end.background;
-    works = λ job. ap (λ x. is_working (find (is_request h.request) x.slots)) end.after ∙ works-cases h body v total body (makes_job h) (is_last h) job;
+    works = λ job. ap (λ x. is_working (find (is_request h.request) x.slots)) end.after ∙ works-cases h body v total body (gives_job h) (is_last h) job;
   }
 
   gone-end : (o : Option Parcel) → TakenEnd total next h (whole_ask (Some v) h.request body) body v w o → Handled Takes total next h body v w o
   gone-end o end = record {
     after = end.after;
     total_is = end.total_is;
-    asked = λ job. ap (asked_bytes h.request) end.after ∙ asked-cases h body v total (whole_ask (Some v) h.request body) (makes_job h) (is_last h) job;
-    answer = λ job last. ap (answer_bytes h.request) end.after ∙ answer-cases h body v total (whole_ask (Some v) h.request body) (makes_job h) (is_last h) job last;
+    asked = asked-joined h body v (find (is_request h.request) v.slots) refl;
+    answer = λ job last. ap (answer_bytes h.request) end.after ∙ answer-cases h body v total (whole_ask (Some v) h.request body) (gives_job h) (is_last h) job last;
     job = end.job;
     room = end.room;
     background = end.background;
-    works = λ job. ap (λ x. is_working (find (is_request h.request) x.slots)) end.after ∙ works-cases h body v total (whole_ask (Some v) h.request body) (makes_job h) (is_last h) job;
+    works = λ job. ap (λ x. is_working (find (is_request h.request) x.slots)) end.after ∙ works-cases h body v total (whole_ask (Some v) h.request body) (gives_job h) (is_last h) job;
   }
 
-  dropped-end : (step : Step) (why : _) → step ≡ Dropped why → Steps step plain_answer (PlainStands total) (PlainStands next) h body v w → UnlessRan step (next ≡ total) → (w ≡ v) × (next ≡ total) × (parcel_of step ≡ None)
+  dropped-end : (step : Step) (why : _) → step ≡ Dropped why → HasStepped total next h body v w step → UnlessRan step (next ≡ total) → (w ≡ v) × (next ≡ total) × (parcel_of step ≡ None)
   dropped-end (Took reply) why is steps still = cc
   dropped-end (Again reply) why is steps still = cc
   dropped-end (Ran reply) why is steps still = cc
   dropped-end (Give p) why is steps still = cc
-  dropped-end (Dropped _) why is steps still = (steps, still, refl)
+  dropped-end (Dropped _) why is steps still = (steps.steps, still, refl)
 
-  again-end : (step : Step) → IsAgain step → Steps step plain_answer (PlainStands total) (PlainStands next) h body v w → UnlessRan step (next ≡ total) → (w ≡ v) × (next ≡ total) × (parcel_of step ≡ None)
+  again-end : (step : Step) → IsAgain step → HasStepped total next h body v w step → UnlessRan step (next ≡ total) → (w ≡ v) × (next ≡ total) × (parcel_of step ≡ None)
   again-end (Took reply) is steps still = absurd is
-  again-end (Again reply) is steps still = (steps, still, refl)
+  again-end (Again reply) is steps still = (steps.steps, still, refl)
   again-end (Ran reply) is steps still = absurd is
   again-end (Give p) is steps still = absurd is
   again-end (Dropped why) is steps still = absurd is
 
-  pub row-end : (row : ServerRow) (step : Step) → (row ≡ Begins → whole_ask (Some v) h.request body ≡ body) → (is_taken row ≡ true → makes_job h ≡ true → IfSome (find (is_request h.request) v.slots) (λ l. l.req_type ≡ h.req_type)) → is_wanting step ≡ false → IsStepOf (plain_mode h.req_type) h row step → Steps step plain_answer (PlainStands total) (PlainStands next) h body v w → IfGiven step (IsParcel plain_answer (PlainStands total) h body v) → UnlessRan step (next ≡ total) → Handled row total next h body v w (parcel_of step)
+  pub row-end : (row : ServerRow) (step : Step) → (row ≡ Begins → whole_ask (Some v) h.request body ≡ body) → (is_taken row ≡ true → gives_job h ≡ true → IfSome (find (is_request h.request) v.slots) (λ l. l.req_type ≡ h.req_type)) → is_wanting step ≡ false → IsStepOf (plain_mode h.req_type) h row step → HasStepped total next h body v w step → IfGiven step (IsParcel plain_answer (PlainStands total) h body v) → UnlessRan step (next ≡ total) → Handled row total next h body v w (parcel_of step)
   row-end (Drops why) step alone known not is steps parcel still =
       let (same, total_same, none) = dropped-end step why is steps still in
       same-end (Drops why) total next h body v w step refl same total_same none

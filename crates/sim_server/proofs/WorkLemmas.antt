@@ -11,7 +11,7 @@ use Rattle.buffer_pool.specs.Pool.{Pool}
 use Rattle.worker_board.specs.declared.Parcel.{Parcel}
 use Rattle.rpc_laws.specs.PollOrder.{is_working}
 use Rattle.rpc_laws.specs.Requests.{answered, first_packet, given, in_slot_of, is_request, next_packet}
-use Rattle.rpc_laws.specs.ServerTable.{is_last, is_rfr, makes_job, server_row, whole_ask}
+use Rattle.rpc_laws.specs.ServerTable.{is_last, is_rfr, whole_ask}
 use Rattle.rpc_laws.specs.Service.{answer_with, is_background}
 use Rattle.rpc_laws.specs.declared.rows.ServerRow.{ServerRow}
 use Rattle.rpc_laws.specs.declared.rows.ServerRow.TheVariants.{Drops, Begins, Takes, Repeats}
@@ -24,15 +24,15 @@ use Rattle.server_core.specs.Finishing.{is_waiting}
 use Rattle.server_core.specs.Rows.{row_of}
 use Rattle.server_core.specs.Session.{IsSession, Session, is_in_slot, newest}
 use Rattle.server_core.specs.Shown.{shown}
-use Rattle.server_core.specs.Steps.{IfGiven, IsAsking, IsParcel, IsStepOf, Steps, UnlessRan}
+use Rattle.server_core.specs.Steps.{IfGiven, IsAsking, IsParcel, IsStepOf, UnlessRan}
 use Rattle.server_core.specs.declared.slot.SlotRequest.{SlotRequest}
 use Rattle.server_core.specs.declared.step.Step.{Step}
 use Rattle.server_core.proofs.AskedLemmas.{own-numbered, waiting-none, waiting-own}
 use Rattle.server_core.proofs.IdleLemmas.{begins-idle, row-takes, takes-idle, takes-type}
 use Rattle.server_core.proofs.StepLemmas.{asked-begun, none-shown}
 use Rattle.server_core.proofs.TableLemmas.{row-begins}
-use Rattle.sim_server.specs.Ends.{WhereTaken, after_row, gives, is_taken, is_wanting, parcel_of, runs, taken, takes}
-use Rattle.sim_server.proofs.EndLemmas.{Handled, row-end}
+use Rattle.sim_server.specs.Ends.{WhereTaken, after_row, gives, gives_job, is_taken, is_wanting, parcel_of, plain_row, runs, taken, takes}
+use Rattle.sim_server.proofs.EndLemmas.{Handled, HasStepped, row-end}
 use Rattle.server_core.proofs.FoundLemmas.{found-any, found-other, found-without, none-any}
 
 or-none : {A : Type 0} (o : Option A) → option_or o None ≡ o
@@ -58,7 +58,7 @@ module _ (h : MessageHeader) (body : List ℕ) (v : Server) (r : ℕ) (other : r
       rw (found-any (is_request h.request) v.slots l e) (found-other (is_request r) (is_request h.request) (next_packet body) v.slots (λ x. refl) away)
 
   stays : (total : ℕ) (ask : List ℕ) → (find (is_request h.request) v.slots ≡ None → eqb (r % 8) (h.request % 8) ≡ false) → find (is_request r) (taken total h ask body v).slots ≡ find (is_request r) v.slots
-  stays total ask apart = taken-other total ask (makes_job h) (is_last h) ∙ takes-other _ refl apart
+  stays total ask apart = taken-other total ask (gives_job h) (is_last h) ∙ takes-other _ refl apart
 
 -- no work ends
 keeps-by : (total : ℕ) (h : MessageHeader) (ask body : List ℕ) (v : Server) (r : ℕ) → is_working (find (is_request h.request) v.slots) ≡ false → (find (is_request h.request) v.slots ≡ None → eqb (r % 8) (h.request % 8) ≡ false) → is_working (find (is_request r) v.slots) ≡ true → is_working (find (is_request r) (taken total h ask body v).slots) ≡ true
@@ -109,7 +109,7 @@ module _ (pool : Pool) (s : Session) (h : MessageHeader) (body : List ℕ) (full
   alone : row_of mode full h s ≡ Begins → whole_ask (Some v) h.request body ≡ body
   alone e = asked-begun v h body (begun-none e)
 
-  known-cases : (row : ServerRow) → row_of mode full h s ≡ row → is_taken row ≡ true → makes_job h ≡ true → IfSome (find (is_request h.request) v.slots) (λ l. l.req_type ≡ h.req_type)
+  known-cases : (row : ServerRow) → row_of mode full h s ≡ row → is_taken row ≡ true → gives_job h ≡ true → IfSome (find (is_request h.request) v.slots) (λ l. l.req_type ≡ h.req_type)
   known-cases (Drops why) e is job = cc
   known-cases Begins e is job = rw (begun-none e) tt
   known-cases Takes e is job =
@@ -137,7 +137,7 @@ module _ (pool : Pool) (s : Session) (h : MessageHeader) (body : List ℕ) (full
           let own = own-numbered pool s h.request q sound found is.same in cc
   keeps-cases total w Repeats e is r was = rw is was
 
-  row-whole : (total next : ℕ) → total < 2 ^ 64 → (w : Server) (step : Step) → is_wanting step ≡ false → IsStepOf mode h (row_of mode full h s) step → Steps step plain_answer (PlainStands total) (PlainStands next) h body v w → IfGiven step (IsParcel plain_answer (PlainStands total) h body v) → UnlessRan step (next ≡ total) → PacketEnd (row_of mode full h s) total next h body v w (parcel_of step)
+  row-whole : (total next : ℕ) → total < 2 ^ 64 → (w : Server) (step : Step) → is_wanting step ≡ false → IsStepOf mode h (row_of mode full h s) step → HasStepped total next h body v w step → IfGiven step (IsParcel plain_answer (PlainStands total) h body v) → UnlessRan step (next ≡ total) → PacketEnd (row_of mode full h s) total next h body v w (parcel_of step)
   row-whole total next below w step not_wanting is steps parcel still =
       let handled = row-end total next below h body v w (row_of mode full h s) step alone (known-cases (row_of mode full h s) refl) not_wanting is steps parcel still in
       record {
@@ -146,7 +146,7 @@ module _ (pool : Pool) (s : Session) (h : MessageHeader) (body : List ℕ) (full
         idle = idle-cases (row_of mode full h s) refl;
       }
 
-  pub packet-end : (peer total next : ℕ) → peer ≡ s.peer → server_row full (Some v) s.peer h ≡ row_of mode full h s → total < 2 ^ 64 → (w : Server) (step : Step) → is_wanting step ≡ false → IsStepOf mode h (row_of mode full h s) step → Steps step plain_answer (PlainStands total) (PlainStands next) h body v w → IfGiven step (IsParcel plain_answer (PlainStands total) h body v) → UnlessRan step (next ≡ total) → PacketEnd (server_row full (Some v) peer h) total next h body v w (parcel_of step)
+  pub packet-end : (peer total next : ℕ) → peer ≡ s.peer → plain_row full (Some v) s.peer h ≡ row_of mode full h s → total < 2 ^ 64 → (w : Server) (step : Step) → is_wanting step ≡ false → IsStepOf mode h (row_of mode full h s) step → HasStepped total next h body v w step → IfGiven step (IsParcel plain_answer (PlainStands total) h body v) → UnlessRan step (next ≡ total) → PacketEnd (plain_row full (Some v) peer h) total next h body v w (parcel_of step)
   packet-end peer total next own rule below w step not_wanting is steps parcel still =
-      let row : server_row full (Some v) peer h ≡ row_of mode full h s = ap (λ p. server_row full (Some v) p h) own ∙ rule in
+      let row : plain_row full (Some v) peer h ≡ row_of mode full h s = ap (λ p. plain_row full (Some v) p h) own ∙ rule in
       subst (λ (r : ServerRow). PacketEnd r total next h body v w (parcel_of step)) (sym row) (row-whole total next below w step not_wanting is steps parcel still)

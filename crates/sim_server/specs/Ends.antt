@@ -8,18 +8,26 @@ use Rattle.rpc_base.specs.declared.state.DropReason.TheVariants.{NoMemory}
 use Rattle.packet_header.specs.declared.packet.MessageHeader.{MessageHeader}
 use Rattle.message_buffer.specs.Buffer.{bytes_of}
 use Rattle.worker_board.specs.declared.Parcel.{Parcel}
-use Rattle.rpc_outside.specs.PlainAnswer.{total_with}
+use Rattle.rpc_outside.specs.PlainAnswer.{plain_mode, total_with}
 use Rattle.rpc_laws.specs.declared.rows.ServerRow.{ServerRow}
 use Rattle.rpc_laws.specs.declared.rows.ServerRow.TheVariants.{Drops, Begins, Takes, Repeats}
 use Rattle.rpc_laws.specs.declared.tables.Job.{Job}
 use Rattle.rpc_laws.specs.declared.tables.Server.{Server}
 use Rattle.rpc_laws.specs.Jobs.{job_of}
 use Rattle.rpc_laws.specs.Requests.{answered, given, is_request, took_packet}
-use Rattle.rpc_laws.specs.ServerTable.{is_last, makes_job, whole_ask}
+use Rattle.rpc_laws.specs.ServerTable.{is_last, makes_job, server_row, whole_ask}
 use Rattle.rpc_laws.specs.Service.{answer_with}
 use Rattle.server_core.specs.Asked.{bytes_answered, bytes_taken}
 use Rattle.server_core.specs.declared.step.Step.{Step}
 use Rattle.server_core.specs.declared.step.Step.TheVariants.{Took, Again, Ran, Give, Dropped}
+
+-- whether a packet makes a background job of the plain service
+abbrev pub gives_job : MessageHeader → Bool
+gives_job h = makes_job (plain_mode h.req_type) h
+
+-- the row of a packet whose service is the plain one. No row comes of want of memory: that ends a run
+abbrev pub plain_row : Bool → Option Server → ℕ → MessageHeader → ServerRow
+plain_row full v peer h = server_row (plain_mode h.req_type) full false v peer h
 
 -- a parcel as the definitions over histories have it
 abbrev pub shown_job : Parcel → Job
@@ -41,7 +49,7 @@ gives h v = record v { slots = at_first (is_request h.request) given v.slots }
 -- a worker gets the request
 abbrev pub taken : ℕ → MessageHeader → (ask body : List ℕ) → Server → Server
 taken total h ask body v =
-    if makes_job h then gives h (takes h body v)
+    if gives_job h then gives h (takes h body v)
     else (if is_last h then runs total h ask (takes h body v)
     else takes h body v)
 
@@ -65,12 +73,12 @@ is_taken Repeats = false
 
 -- and of the total of the tallies
 abbrev pub total_after_row : ServerRow → ℕ → MessageHeader → List ℕ → ℕ
-total_after_row row total h ask = if is_taken row && (is_last h && not (makes_job h)) then total_with total h.req_type ask else total
+total_after_row row total h ask = if is_taken row && (is_last h && not (gives_job h)) then total_with total h.req_type ask else total
 
 -- the job that is given, if one is
 abbrev pub job_given : ServerRow → MessageHeader → List ℕ → Server → Option Job
 job_given row h body v =
-    if is_taken row && makes_job h then option_map (job_of v.way.number) (find (is_request h.request) (takes h body v).slots)
+    if is_taken row && gives_job h then option_map (job_of v.way.number) (find (is_request h.request) (takes h body v).slots)
     else None
 
 -- a claim about a packet that is taken

@@ -2,8 +2,7 @@
 ghost use Rattle.std.specs.Prelude.{◌≡◌, ◌<◌, ◌≤◌, Some, option_map, IfOk};
 ghost use Rattle.std.specs.List.{find};
 ghost use Rattle.rpc_laws.specs.Requests.{in_slot_of, server_end};
-ghost use Rattle.rpc_laws.specs.ServerTable.{server_row};
-ghost use Rattle.sim_server.specs.Ends.{answer_bytes, asked_bytes, replied};
+ghost use Rattle.sim_server.specs.Ends.{answer_bytes, asked_bytes, plain_row, replied};
 
 mod replies;
 mod serving;
@@ -74,7 +73,7 @@ impl ServerEnd {
     /// What the server rule says of a Request or RFR of this session. `jobs_full` tells whether the node's
     /// jobs are full.
     pub fn row(&self, peer: Peer, head: &MessageHeader, jobs_full: bool) -> ServerRow
-        ensures { result ≡ server_row jobs_full (Some self.now) peer head.now }
+        ensures { result ≡ plain_row jobs_full (Some self.now) peer head.now }
     {
         if peer != self.session.peer() {
             return ServerRow::Drops(DropReason::WrongPeer);

@@ -3,12 +3,13 @@ use Rattle.std.proofs.Common.{suc, List, [], ◌∷◌, arith}
 use Rattle.std.specs.Prelude.{All}
 use Rattle.script_grammar.specs.Conditions.{IsInRange, IsScript}
 use Rattle.script_grammar.specs.declared.line.Command.{Command}
-use Rattle.script_grammar.specs.declared.line.Command.TheVariants.{Pair}
+use Rattle.script_grammar.specs.declared.line.Command.TheVariants.{Pair, Connect}
 use Rattle.script_grammar.specs.declared.line.Line.{Line}
 use Rattle.world_laws.specs.FewCredits.{PairsFew, PairsFewCredits}
 
 range-few : (c : Command) → IsInRange c → PairsFew c
 range-few (Pair a b credits) h = h
+range-few (Connect a b credits) h = h
 range-few _ h = tt
 
 ranges-few : (lines : List Line) → All (λ line. IsInRange line.command) lines → PairsFewCredits lines

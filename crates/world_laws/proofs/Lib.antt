@@ -5,3 +5,4 @@ pub mod RequestLaws
 pub mod RunLemmas
 pub mod ScriptLaws
 pub mod WorkLemmas
+pub mod WorkSteps

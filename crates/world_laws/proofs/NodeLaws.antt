@@ -4,13 +4,15 @@ use Rattle.std.specs.List.{list_any}
 use Rattle.std.proofs.lemmas.List.Sums.{sum_by-cons}
 use Rattle.node_laws.proofs.CreditLaws.{credit}
 use Rattle.node_laws.proofs.EndedLaws.{ended}
+use Rattle.node_laws.proofs.EndedSessionLaws.{ended_sessions}
 use Rattle.node_laws.proofs.OlderLaws.{older_clean}
 use Rattle.node_laws.proofs.OnceLaws.{once}
-use Rattle.node_laws.proofs.RingLaws.{ring_within}
+use Rattle.node_laws.proofs.RingLaws.{inbox_within, ring_within}
 use Rattle.node_laws.specs.CreditBalance.{Credit}
 use Rattle.node_laws.specs.EndedCalls.{queued_by, asks_on, begins_as, BeganAs, EndsClean}
+use Rattle.node_laws.specs.EndedSessions.{SessionsEndClean}
 use Rattle.node_laws.specs.OlderRequests.{BeginsClean}
-use Rattle.node_laws.specs.RingLimit.{RingWithin}
+use Rattle.node_laws.specs.RingLimit.{InboxWithin, RingWithin}
 use Rattle.network_model.specs.declared.stage.Stage.{Stage}
 use Rattle.rpc_base.specs.declared.event.Event.{Event}
 use Rattle.rpc_base.specs.declared.event.Event.TheVariants.{Made}
@@ -18,9 +20,10 @@ use Rattle.rpc_base.specs.declared.fact.Fact.{Fact}
 use Rattle.rpc_laws.specs.declared.tables.Timed.{Timed}
 use Rattle.rpc_laws.specs.AtMostOnce.{is_at, runs_request, works_request, begins_call, ends_call, times, Once}
 use Rattle.rpc_laws.specs.Facts.{plain}
-use Rattle.rpc_laws.specs.GoBackN.{usual_timeout}
+use Rattle.rpc_laws.specs.Service.{plain_serving}
+use Rattle.rpc_laws.specs.UsualLimits.{with_ring}
 use Rattle.rpc_laws.specs.Queues.{queued_after}
-use Rattle.world_laws.specs.Laws.{CreditBalances, EndedCallsAreNotQueued, FollowsRuns, HappensAtMostOnce, OlderRequestsAreNotQueued, RingFits}
+use Rattle.world_laws.specs.Laws.{CreditBalances, EndedCallsAreNotQueued, EndedSessionsAreNotQueued, FollowsRuns, HappensAtMostOnce, InboxFits, OlderRequestsAreNotQueued, RingFits}
 use Rattle.world_laws.specs.NodeFacts.{facts_of, IsRun, RunAt, RunsOf, ring_of}
 use Rattle.world_laws.proofs.ScriptLaws.{script-runs}
 
@@ -40,13 +43,13 @@ of-node P none each h end r n = of-run P none each n (facts_of n h) (slice_get e
 pub credit-balances : CreditBalances
 credit-balances script h two few f =
     of-node Credit tt
-    (λ n facts t r. let kept : Credit r.later = credit n r.ring usual_timeout r.later t r.run in rw r.made (tt, kept)) h f.0 (runs script h two few f)
+    (λ n facts t r. let kept : Credit r.later = credit plain_serving n (with_ring r.ring) r.later t r.run in rw r.made (tt, tt, kept)) h f.0 (runs script h two few f)
 
 -- the receive ring
 pub ring-fits : RingFits
 ring-fits script h two few f =
     of-node (λ facts. RingWithin (ring_of facts) [] facts) (omega arith)
-    (λ n facts t r. let kept : RingWithin r.ring [] r.later = ring_within n r.ring usual_timeout r.later t r.run in rw r.made (omega arith, kept)) h f.0 (runs script h two few f)
+    (λ n facts t r. let kept : RingWithin r.ring [] r.later = ring_within plain_serving n (with_ring r.ring) r.later t r.run in rw r.made (omega arith, kept)) h f.0 (runs script h two few f)
 
 -- calls that are over: the same is told by other facts that came before
 record SamePast (past other : List Fact) : Type 0 where
@@ -56,7 +59,7 @@ record SamePast (past other : List Fact) : Type 0 where
 
 same-next : (past other : List Fact) (f : Fact) → SamePast past other → SamePast (f ∷ past) (f ∷ other)
 same-next past other f s = record {
-  queued = ap (queued_after f.event) s.queued;
+  queued = ap (queued_after f.event None) s.queued;
   asked = λ c n. ap (λ (b : Bool). asks_on c n f.event || b) (s.asked c n);
   begun = λ c r. ap (λ (b : Bool). begins_as c r f.event || b) (s.begun c r);
 }
@@ -72,7 +75,7 @@ made-past n ring = record { queued = refl; asked = λ c s. refl; begun = λ c r.
 pub ended-clean : EndedCallsAreNotQueued
 ended-clean script h two few f =
     of-node (EndsClean []) tt
-    (λ n facts t r. let kept : EndsClean [] r.later = ended n r.ring usual_timeout r.later t r.run in rw r.made ((λ c s q ends began. cc), ends-other [] (plain n (Made r.ring) ∷ []) r.later (made-past n r.ring) kept)) h f.0 (runs script h two few f)
+    (λ n facts t r. let kept : EndsClean [] r.later = ended plain_serving n (with_ring r.ring) r.later t r.run in rw r.made ((λ c s q ends began. cc), ends-other [] (plain n (Made r.ring) ∷ []) r.later (made-past n r.ring) kept)) h f.0 (runs script h two few f)
 
 -- older requests of a slot
 begins-other : (past other g : List Fact) → SamePast past other → BeginsClean past g → BeginsClean other g
@@ -83,7 +86,24 @@ begins-other past other (f ∷ g) s e =
 pub older-clean : OlderRequestsAreNotQueued
 older-clean script h two few f =
     of-node (BeginsClean []) tt
-    (λ n facts t r. let kept : BeginsClean [] r.later = older_clean n r.ring usual_timeout r.later t r.run in rw r.made ((λ t r old takes older. cc), begins-other [] (plain n (Made r.ring) ∷ []) r.later (made-past n r.ring) kept)) h f.0 (runs script h two few f)
+    (λ n facts t r. let kept : BeginsClean [] r.later = older_clean plain_serving n (with_ring r.ring) r.later t r.run in rw r.made ((λ t r old takes older. cc), begins-other [] (plain n (Made r.ring) ∷ []) r.later (made-past n r.ring) kept)) h f.0 (runs script h two few f)
+
+-- server sessions that ended
+sessions-other : (past other g : List Fact) → SamePast past other → SessionsEndClean past g → SessionsEndClean other g
+sessions-other past other [] s e = tt
+sessions-other past other (f ∷ g) s e =
+    (λ t ends. let back = e.0 t ends in record { unqueued = rw (← s.queued) back.unqueued; unposted = back.unposted }, sessions-other (f ∷ past) (f ∷ other) g (same-next past other f s) e.1)
+
+pub sessions-clean : EndedSessionsAreNotQueued
+sessions-clean script h two few f =
+    of-node (SessionsEndClean []) tt
+    (λ n facts t r. let kept : SessionsEndClean [] r.later = ended_sessions plain_serving n (with_ring r.ring) r.later t r.run in rw r.made ((λ t ends. cc), sessions-other [] (plain n (Made r.ring) ∷ []) r.later (made-past n r.ring) kept)) h f.0 (runs script h two few f)
+
+-- the inbox
+pub inbox-fits : InboxFits
+inbox-fits script h two few f =
+    of-node (InboxWithin []) (omega arith)
+    (λ n facts t r. let kept : InboxWithin [] r.later = inbox_within plain_serving n (with_ring r.ring) r.later t r.run in rw r.made (omega arith, kept)) h f.0 (runs script h two few f)
 
 -- at most once: what is counted of a node is counted over its facts
 count-here : (n : ℕ) (test : Event → Bool) (f : Fact) (h : List Fact) (b : Bool) → is_at n f.who ≡ b → times n test h ≡ times n test (facts_of n h) → cond (b && test f.event) 1 0 + times n test h ≡ times n test (cond b (f ∷ facts_of n h) (facts_of n h))
@@ -119,7 +139,7 @@ made-once n ring g o = record {
 
 pub once-each : HappensAtMostOnce
 once-each script h two few f =
-    let each = of-node Once once-nothing (λ n facts t r. let kept : Once r.later = once n r.ring usual_timeout r.later t r.run in rw r.made (made-once n r.ring r.later kept)) h f.0 (runs script h two few f) in
+    let each = of-node Once once-nothing (λ n facts t r. let kept : Once r.later = once plain_serving n (with_ring r.ring) r.later t r.run in rw r.made (made-once n r.ring r.later kept)) h f.0 (runs script h two few f) in
     record {
       ran = λ m t r. rw (times-own m (runs_request t r) h) ((each m).ran m t r);
       worked = λ m t r. rw (times-own m (works_request t r) h) ((each m).worked m t r);

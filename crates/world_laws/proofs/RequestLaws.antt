@@ -5,6 +5,7 @@ use Rattle.std.specs.List.{list_any}
 use Rattle.node_laws.proofs.RequestTableLaws.{requests_tell}
 use Rattle.node_laws.proofs.TableLemmas.{counted-cons}
 use Rattle.node_laws.specs.CallHistory.{latest_first}
+use Rattle.node_laws.specs.EndedSessions.{ends_session}
 use Rattle.node_laws.specs.OlderRequests.{takes_request}
 use Rattle.node_laws.specs.RequestHistory.{takes_newer, gives_request, answer_by, ring_by, first_by, ask_by, TellsRequest, TellsRequests}
 use Rattle.rpc_base.specs.declared.event.Event.TheVariants.{Made}
@@ -15,7 +16,8 @@ use Rattle.rpc_laws.specs.declared.tables.Served.{Served}
 use Rattle.rpc_laws.specs.declared.tables.Timed.{Timed}
 use Rattle.rpc_laws.specs.AtMostOnce.{runs_request}
 use Rattle.rpc_laws.specs.Facts.{plain}
-use Rattle.rpc_laws.specs.GoBackN.{usual_timeout}
+use Rattle.rpc_laws.specs.Service.{plain_serving}
+use Rattle.rpc_laws.specs.UsualLimits.{with_ring}
 use Rattle.rpc_laws.specs.Queues.{ring_after}
 use Rattle.world_laws.specs.Laws.{RequestsTellTheHistory}
 use Rattle.world_laws.specs.NodeFacts.{facts_of, IsRun, RunAt}
@@ -25,6 +27,7 @@ use Rattle.world_laws.proofs.NodeLaws.{runs}
 record SameTold (past other : List Fact) : Type 0 where
   took : (t r : ℕ) → list_any (λ f. takes_request t r f.event) past ≡ list_any (λ f. takes_request t r f.event) other
   newer : (t r : ℕ) → list_any (λ f. takes_newer t r f.event) past ≡ list_any (λ f. takes_newer t r f.event) other
+  ended : (t : ℕ) → list_any (λ f. ends_session t f.event) past ≡ list_any (λ f. ends_session t f.event) other
   given : (t r : ℕ) → list_any (λ f. gives_request t r f.event) past ≡ list_any (λ f. gives_request t r f.event) other
   ran : (t r : ℕ) → list_any (λ f. runs_request t r f.event) past ≡ list_any (λ f. runs_request t r f.event) other
   taken : (t r : ℕ) → count_by (λ f. takes_request t r f.event) past ≡ count_by (λ f. takes_request t r f.event) other
@@ -41,6 +44,7 @@ told-next : (past other : List Fact) (f : Fact) → SameTold past other → Same
 told-next past other f s = record {
   took = λ t r. ap (λ (b : Bool). takes_request t r f.event || b) (s.took t r);
   newer = λ t r. ap (λ (b : Bool). takes_newer t r f.event || b) (s.newer t r);
+  ended = λ t. ap (λ (b : Bool). ends_session t f.event || b) (s.ended t);
   given = λ t r. ap (λ (b : Bool). gives_request t r f.event || b) (s.given t r);
   ran = λ t r. ap (λ (b : Bool). runs_request t r f.event || b) (s.ran t r);
   taken = λ t r. count-next (λ e. takes_request t r e.event) f past other (s.taken t r);
@@ -58,6 +62,7 @@ told-made : (n ring : ℕ) → SameTold [] (plain n (Made ring) ∷ [])
 told-made n ring = record {
   took = λ t r. refl;
   newer = λ t r. refl;
+  ended = λ t. refl;
   given = λ t r. refl;
   ran = λ t r. refl;
   taken = λ t r. refl;
@@ -84,13 +89,13 @@ request-other past other t q s h =
 
 requests-other : (past other : List Fact) (l : Lists) → SameTold past other → TellsRequests past l → TellsRequests other l
 requests-other past other l s h = record {
-  listed = λ t r. rw (← s.took t r, ← s.newer t r) (h.listed t r);
+  listed = λ t r. rw (← s.took t r, ← s.newer t r, ← s.ended t) (h.listed t r);
   requests = λ t i v q server served. request-other past other t q s (h.requests t i v q server served);
 }
 
 run-tells : (n : ℕ) (facts : List Fact) (t : Timed) → IsRun n facts t → TellsRequests (latest_first [] facts) t.lists
 run-tells n facts t r =
-    let kept : TellsRequests (latest_first [] r.later) t.lists = requests_tell n r.ring usual_timeout r.later t r.run in
+    let kept : TellsRequests (latest_first [] r.later) t.lists = requests_tell plain_serving n (with_ring r.ring) r.later t r.run in
     let same : SameTold (latest_first [] r.later) (latest_first (plain n (Made r.ring) ∷ []) r.later) = told-all [] (plain n (Made r.ring) ∷ []) r.later (told-made n r.ring) in
     rw r.made (requests-other _ _ t.lists same kept)
 

@@ -5,9 +5,10 @@ use Rattle.network_model.specs.declared.stage.Stage.{Stage}
 use Rattle.node_laws.specs.CallHistory.{latest_first}
 use Rattle.node_laws.specs.CreditBalance.{Credit}
 use Rattle.node_laws.specs.EndedCalls.{EndsClean}
+use Rattle.node_laws.specs.EndedSessions.{SessionsEndClean}
 use Rattle.node_laws.specs.OlderRequests.{BeginsClean}
 use Rattle.node_laws.specs.RequestHistory.{TellsRequests}
-use Rattle.node_laws.specs.RingLimit.{RingWithin}
+use Rattle.node_laws.specs.RingLimit.{RingWithin, InboxWithin}
 use Rattle.rpc_base.specs.declared.fact.Fact.{Fact}
 use Rattle.rpc_laws.specs.declared.tables.Timed.{Timed}
 use Rattle.rpc_laws.specs.AtMostOnce.{Once}
@@ -67,3 +68,11 @@ RequestsTellTheHistory = (script : List Line) (h : List Fact) → PairsTwoNodes 
 -- a node's ring is never longer than the one that it was made with
 abbrev pub RingFits : Type 0
 RingFits = OfEveryNode KeepsRing
+
+-- where a server session ends, no reply of it is queued, and none is posted later
+abbrev pub EndedSessionsAreNotQueued : Type 0
+EndedSessionsAreNotQueued = OfEveryNode (SessionsEndClean [])
+
+-- a node's inbox is never longer than its room
+abbrev pub InboxFits : Type 0
+InboxFits = OfEveryNode (InboxWithin [])

@@ -9,7 +9,8 @@ use Rattle.rpc_base.specs.declared.fact.Fact.{Fact}
 use Rattle.rpc_laws.specs.declared.tables.Timed.{Timed}
 use Rattle.rpc_laws.specs.AtMostOnce.{is_at}
 use Rattle.rpc_laws.specs.Facts.{plain}
-use Rattle.rpc_laws.specs.GoBackN.{usual_timeout}
+use Rattle.rpc_laws.specs.Service.{plain_serving}
+use Rattle.rpc_laws.specs.UsualLimits.{with_ring}
 
 -- the facts of node n, in their order
 abbrev pub facts_of : ℕ → List Fact → List Fact
@@ -21,7 +22,7 @@ pub record IsRun (n : ℕ) (facts : List Fact) (t : Timed) : Type 0 where
   pub ring : ℕ
   pub later : List Fact
   pub made : facts ≡ plain n (Made ring) ∷ later
-  pub run : NodeRun n ring usual_timeout later t
+  pub run : NodeRun plain_serving n (with_ring ring) later t
 
 -- a node that isn't there has no facts
 abbrev pub RunAt : ℕ → List Fact → Option Timed → Type 0

@@ -1,11 +1,11 @@
 //! Laws of every history that follows a script, of each of its nodes. Each pairing of the script is of two
-//! nodes and has 1 to 256 credits, as in every `Script`.
+//! nodes, and each session that it pairs or connects has 1 to 256 credits, as in every `Script`.
 ghost use Rattle.std.specs.Prelude.{List};
 ghost use Rattle.rpc_base.specs.declared.fact.Fact.{Fact};
 ghost use Rattle.script_grammar.specs.Conditions.{IsScript};
 ghost use Rattle.script_grammar.specs.declared.line.Line.{Line};
 ghost use Rattle.world_laws.specs.FewCredits.{PairsFewCredits};
-ghost use Rattle.world_laws.specs.Laws.{CreditBalances, EndedCallsAreNotQueued, FollowsRuns, HappensAtMostOnce, OlderRequestsAreNotQueued, RequestsTellTheHistory, RingFits};
+ghost use Rattle.world_laws.specs.Laws.{CreditBalances, EndedCallsAreNotQueued, EndedSessionsAreNotQueued, FollowsRuns, HappensAtMostOnce, InboxFits, OlderRequestsAreNotQueued, RequestsTellTheHistory, RingFits};
 
 /// The facts of each node are its `Made` and a run of that node, which leaves it as the history does.
 pub fn follows_runs()
@@ -46,7 +46,17 @@ pub fn ring_fits()
     ensures { RingFits }
 {}
 
-/// Each pairing of a `Script` has 1 to 256 credits, so these laws are of all its histories.
+/// Where a server session ends no reply of it is queued at its node, and none is posted there later.
+pub fn ended_sessions_are_not_queued()
+    ensures { EndedSessionsAreNotQueued }
+{}
+
+/// At no moment is the inbox of a node longer than 64.
+pub fn inbox_fits()
+    ensures { InboxFits }
+{}
+
+/// Each session that a `Script` pairs or connects has 1 to 256 credits, so these laws are of all its histories.
 pub fn scripts_pair_few()
     ensures { (script : List Line) → IsScript script → PairsFewCredits script }
 {}

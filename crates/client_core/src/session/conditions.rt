@@ -1,9 +1,9 @@
 //! Tests of what the session's other calls want of the pool and of the entries that are handed in.
-ghost use Rattle.std.specs.Prelude.{◌≡◌, ◌↔◌, Bool, IfSome, IsTrue};
+ghost use Rattle.std.specs.Prelude.{◌≡◌, ◌↔◌, ℕ, Bool, IfSome, IsTrue};
 ghost use Rattle.std.specs.List.{AllByRecursion};
 ghost use Rattle.client_core.specs.KeepsPool.{IsHeld, KeepsPool};
 ghost use Rattle.client_core.specs.Posting.{IsPacketOf, call_of, posted_entry};
-ghost use Rattle.client_core.specs.Replies.{IsUnheld, LastIsUnheld, call_as};
+ghost use Rattle.client_core.specs.Replies.{IsUnheld, NextIsUnheld, call_as};
 
 use super::ClientSession;
 use buffer_pool::BufferPool;
@@ -44,7 +44,7 @@ impl ClientSession {
     pub fn is_unheld(&self, pool: &BufferPool, request: RequestNo) -> bool
         requires keeps_pool { KeepsPool pool.now self.now.active }
         ensures unheld { IfSome (call_as request self.now) (λ c. IsTrue result ↔ IsUnheld pool.now c) }
-        ensures for_reply { IsTrue result → (queued : Bool) → LastIsUnheld pool.now queued (call_as request self.now) }
+        ensures for_reply { IsTrue result → (queued : Bool) → (number : ℕ) → NextIsUnheld pool.now queued number (call_as request self.now) }
     {
         let Some(call) = self.calls.of_request(request) else {
             return true;

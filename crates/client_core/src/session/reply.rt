@@ -12,9 +12,12 @@ ghost use Rattle.message_buffer.specs.Buffer.{capacity_of, with_len};
 ghost use Rattle.buffer_pool.specs.Pool.{buf_at};
 ghost use Rattle.packet_header.specs.Header.{MessageInRange};
 ghost use Rattle.rpc_laws.specs.Calls.{is_response};
-ghost use Rattle.client_core.specs.KeepsPool.{IsKept, KeepsPool};
+ghost use Rattle.packet_rings.specs.Values.{EntryValue};
+ghost use Rattle.client_core.specs.Counting.{Counts, CountsQueued};
+ghost use Rattle.client_core.specs.KeepsEntries.{RepliesKeep};
+ghost use Rattle.client_core.specs.KeepsPool.{IsKept, KeepsPool, LeavesOthers};
 ghost use Rattle.client_core.specs.Session.{IsInTurn};
-ghost use Rattle.client_core.specs.Replies.{IsDone, IsPart, IsTaken, IsUnheld, LastIsUnheld, Replies, after_reply, answered, call_as, end_of, reply_row, returned, rewritten_at, row_told, sized, with_part, without_buffers, without_call};
+ghost use Rattle.client_core.specs.Replies.{IsDone, IsPart, IsTaken, IsUnheld, NextIsUnheld, Replies, after_reply, answered, call_as, end_of, reply_row, returned, rewritten_at, row_told, sized, with_part, without_buffers, without_call};
 
 use super::ClientSession;
 use crate::call::{ActiveCall, is_a_response};
@@ -42,7 +45,7 @@ impl ClientSession {
         requires session { head.now.session ≡ self.old.number }
         // What is queued of a call has numbers from `got` on, so that no entry is left where this is the
         // only unanswered packet.
-        requires unheld { LastIsUnheld pool.old queued (call_as head.now.request self.old) }
+        requires unheld { NextIsUnheld pool.old queued head.now.number (call_as head.now.request self.old) }
         ensures row { row_told result ≡ reply_row queued head.now (length body.now) (call_as head.now.request self.old) }
         // As the client rule says of what is shown, whatever else is queued.
         ensures rule { (queue : List Queued) → list_any (is_queued (Ask head.now.session head.now.request) head.now.number) queue ≡ queued →
@@ -52,6 +55,10 @@ impl ClientSession {
         ensures step { IsAloneAfter result self.old → (peer : ℕ) →
             after_outcome now result head.now body.now (shown pool.old peer self.old) ≡ shown pool.new peer self.new ∷ [] }
         ensures replies { Replies result now head.now body.now self.old self.new pool.old pool.new }
+        ensures others { LeavesOthers self.old.active self.new.active pool.old pool.new }
+        ensures entries { RepliesKeep result head.now.request self.old self.new }
+        ensures counts { (entries : List EntryValue) → Counts pool.old entries → Counts pool.new entries }
+        ensures queued { (entries : List EntryValue) → CountsQueued self.old entries → CountsQueued self.new entries }
         ensures keeps_pool { KeepsPool pool.new self.new.active }
     {
         let Some(call) = self.calls.of_request(head.request) else {
@@ -81,6 +88,7 @@ impl ClientSession {
         requires unheld { call.posted ≡ call.got + 1 → IsUnheld pool.old call }
         ensures took { row_told result ≡ Takes }
         ensures replies { Replies result now head.now body.now self.old self.new pool.old pool.new }
+        ensures counts { (entries : List EntryValue) → Counts pool.old entries → Counts pool.new entries }
         ensures keeps_pool { KeepsPool pool.new self.new.active }
     {
         match call.end_row(head) {
@@ -116,6 +124,7 @@ impl ClientSession {
         requires small { is_response head.now.kind ≡ true → head.now.size ≤ 1048576 }
         ensures session { self.new ≡ after_reply now head.now call self.old }
         ensures pool { pool.new ≡ answered call head.now body.now pool.old }
+        ensures counts { (entries : List EntryValue) → Counts pool.old entries → Counts pool.new entries }
         ensures keeps_pool { KeepsPool pool.new self.new.active }
     {
         self.credits.give_back(call.request.slot());
@@ -131,6 +140,7 @@ impl ClientSession {
         ensures done { IsDone self.old.number outcome call pool.old result }
         ensures session { self.new ≡ without_call call self.old }
         ensures pool { pool.new ≡ without_buffers call pool.old }
+        ensures counts { (entries : List EntryValue) → Counts pool.old entries → Counts pool.new entries }
         ensures keeps_pool { KeepsPool pool.new self.new.active }
     {
         self.credits.roll(call.request.slot());

@@ -1,12 +1,17 @@
 //! Timeouts: a call is rolled back, and the calls of a session that lost its peer end.
-ghost use Rattle.std.specs.Prelude.{◌≡◌, ◌<◌, ◌↔◌, ℕ, List, [], ◌∷◌, IfNone, IfSome, IsNone, IsSome, Some};
+ghost use Rattle.std.specs.Prelude.{◌≡◌, ◌<◌, ◌↔◌, ℕ, Bool, false, List, [], ◌∷◌, IfNone, IfSome, IsNone, IsSome, Some};
 ghost use Rattle.std.specs.List.{AllByRecursion, list_any};
 ghost use Rattle.rpc_base.specs.declared.owner.Owner.TheVariants.{Ask};
 ghost use Rattle.buffer_pool.specs.Pool.{Pool};
 ghost use Rattle.rpc_laws.specs.declared.tables.Queued.{Queued};
 ghost use Rattle.rpc_laws.specs.GoBackN.{row_of};
 ghost use Rattle.rpc_laws.specs.Queues.{is_queued};
-ghost use Rattle.client_core.specs.KeepsPool.{KeepsPool};
+ghost use Rattle.client_core.specs.declared.outcome.Timer.TheVariants.{Quiet};
+ghost use Rattle.packet_rings.specs.Values.{EntryValue};
+ghost use Rattle.client_core.specs.Counting.{Counts, CountsQueued};
+ghost use Rattle.client_core.specs.KeepsEntries.{KeepsOthers, LossKeeps};
+ghost use Rattle.client_core.specs.KeepsPool.{KeepsPool, LeavesOthers};
+ghost use Rattle.rpc_laws.specs.declared.rows.TimerRow.TheVariants.{Waits};
 ghost use Rattle.client_core.specs.Losing.{GivesUp, Loses, next_lost};
 ghost use Rattle.client_core.specs.Replies.{IsUnheld};
 ghost use Rattle.client_core.specs.Shown.{IsAlone, done_event, rolled_event, shown, shown_active, shown_broken, stepped};
@@ -26,6 +31,8 @@ impl ClientSession {
     pub fn check(&self, call: CallNo, now: u64, queued: bool, timeout: u64) -> Timer
         requires active { IsSome (call_numbered call self.now) }
         ensures told { IfSome (call_numbered call self.now) (λ c. result ≡ timer_told (call_timer now timeout queued c) c) }
+        // Where the call hasn't timed out with no packet queued, it hasn't whatever is queued.
+        ensures quiet { queued ≡ false → result ≡ Quiet → IfSome (call_numbered call self.now) (λ c. (b : Bool) → call_timer now timeout b c ≡ Waits) }
         // As the timer rule says of what is shown, whatever else is queued.
         ensures rule { IfSome (call_numbered call self.now) (λ c. (queue : List Queued) → list_any (is_queued (Ask self.now.number c.request) c.got) queue ≡ queued →
             (pool : Pool) → IfSome (shown_active pool c).progress (λ p. row_of now timeout self.now.number queue p ≡ call_timer now timeout queued c)) }
@@ -42,9 +49,14 @@ impl ClientSession {
     pub fn roll(&mut self, call: CallNo)
         requires active { IsSome (call_numbered call self.old) }
         requires few { IfSome (call_numbered call self.old) (λ c. c.rolls < 8) }
+        requires idle { IfSome (call_numbered call self.old) (λ c. c.queued ≡ 0) }
         ensures session { IfSome (call_numbered call self.old) (λ c. self.new ≡ after_roll c self.old) }
         ensures step { IfSome (call_numbered call self.old) (λ c. (pool : Pool) → (clock peer : ℕ) →
             stepped clock (rolled_event c) (shown pool peer self.old) ≡ shown pool peer self.new ∷ []) }
+        ensures others { (pool : Pool) → LeavesOthers self.old.active self.new.active pool pool }
+        ensures entries { IfSome (call_numbered call self.old) (λ c. KeepsOthers c.request self.old self.new) }
+        ensures queued { (entries : List EntryValue) → CountsQueued self.old entries → CountsQueued self.new entries }
+        ensures keeps_pool { (pool : Pool) → KeepsPool pool self.old.active → KeepsPool pool self.new.active }
     {
         let Some(call) = self.calls.of_number(call) else {
             unreachable!()
@@ -65,6 +77,10 @@ impl ClientSession {
         ensures step { IfSome result (λ d. IsAlone d.call self.old → (clock peer : ℕ) →
             stepped clock (done_event d) (shown_broken pool.old peer self.old) ≡ shown_broken pool.new peer self.new ∷ []) }
         ensures loses { IfSome result (λ d. Loses (next_lost self.old) d self.old self.new pool.old pool.new) }
+        ensures others { LeavesOthers self.old.active self.new.active pool.old pool.new }
+        ensures entries { LossKeeps (next_lost self.old) self.old self.new }
+        ensures counts { (entries : List EntryValue) → Counts pool.old entries → Counts pool.new entries }
+        ensures queued { (entries : List EntryValue) → CountsQueued self.old entries → CountsQueued self.new entries }
         ensures keeps_pool { KeepsPool pool.new self.new.active }
     {
         if let Some(call) = self.calls.next() {

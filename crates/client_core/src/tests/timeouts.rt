@@ -38,7 +38,10 @@ fn roll_one(session: &mut ClientSession, pool: &BufferPool, now: u64) -> bool
         return false;
     };
     match session.check(call, now, false, 5000) {
-        Timer::Roll { .. } => {
+        Timer::Roll { request, .. } => {
+            if session.queued(request) > 0 {
+                return false;
+            }
             session.roll(call);
             true
         }

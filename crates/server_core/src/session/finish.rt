@@ -1,6 +1,8 @@
 //! The end of a session.
-ghost use Rattle.std.specs.Prelude.{◌≡◌, []};
+ghost use Rattle.std.specs.Prelude.{◌≡◌, List, []};
 ghost use Rattle.std.specs.List.{AllByRecursion};
+ghost use Rattle.packet_rings.specs.Values.{EntryValue};
+ghost use Rattle.server_core.specs.Counting.{Counts};
 ghost use Rattle.server_core.specs.KeepsPool.{KeepsPool};
 ghost use Rattle.server_core.specs.Serving.{IsUnheld, all_given_up};
 
@@ -13,7 +15,8 @@ impl ServerSession {
     pub fn finish(self, pool: &mut BufferPool)
         requires keeps_pool { KeepsPool pool.old self.slots }
         requires unheld { AllByRecursion (IsUnheld pool.old) self.slots }
-        ensures { pool.new ≡ all_given_up self.slots pool.old }
+        ensures pool { pool.new ≡ all_given_up self.slots pool.old }
+        ensures counts { (entries : List EntryValue) → Counts pool.old entries → Counts pool.new entries }
     {
         for request in self.slots.as_slice() {
             empty_buffers(pool, request);

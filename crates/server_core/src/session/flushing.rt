@@ -3,6 +3,7 @@ ghost use Rattle.std.specs.Prelude.{◌≡◌, IfSome};
 ghost use Rattle.buffer_pool.specs.Pool.{spare_of};
 ghost use Rattle.packet_rings.specs.Rings.{ring};
 ghost use Rattle.rpc_outside.specs.Recording.{Grew};
+ghost use Rattle.server_core.specs.Counting.{Counts};
 ghost use Rattle.server_core.specs.Flushing.{HoldsAll, HoldsReplies, flushed_facts, without_newest, without_replies};
 ghost use Rattle.server_core.specs.KeepsPool.{KeepsPool, LeavesOthers};
 ghost use Rattle.server_core.specs.Serving.{IsUnheld};
@@ -10,7 +11,6 @@ ghost use Rattle.server_core.specs.Session.{newest};
 ghost use Rattle.server_core.specs.Shown.{shown};
 
 use super::ServerSession;
-use super::reply::release;
 use buffer_pool::BufferPool;
 use packet_rings::TxRing;
 use rpc_base::{Event, RequestNo, Who};
@@ -18,7 +18,8 @@ use rpc_outside::Recorder;
 
 impl ServerSession {
     // Takes the queued replies to the newest request of the slot of this number out of the ring, the least
-    // number first, gives their references up, and notes each.
+    // number first, gives their references up, and notes each. The ring is looked at only where the references
+    // don't tell that none is queued.
     pub(super) fn flush_older<R: Recorder>(
         &self,
         pool: &mut BufferPool,
@@ -36,13 +37,17 @@ impl ServerSession {
         ensures spare { spare_of pool.new ≡ spare_of pool.old }
         ensures others { LeavesOthers self.now.slots self.now.slots pool.old pool.new }
         ensures holds { HoldsAll self.now pool.old tx.old.items → HoldsAll (without_newest request self.now) pool.new tx.new.items }
+        ensures counts { Counts pool.old tx.old.items → Counts pool.new tx.new.items }
         ensures keeps_pool { KeepsPool pool.new self.now.slots }
     {
         let Some(older) = self.slots.of_slot(request.slot()) else {
             return;
         };
+        if older.is_surely_sent(pool) {
+            return;
+        }
         while let Some(entry) = tx.flush(older.owner(self.number)) {
-            release(pool, entry.place);
+            pool.release_at(entry.place);
             let flushed = Event::Flushed {
                 owner: older.owner(self.number),
                 number: entry.number,

@@ -1,5 +1,5 @@
 //! Background jobs: a request goes to a worker with its bytes, and its answer comes back.
-ghost use Rattle.std.specs.Prelude.{◌≡◌, ◌≢◌, ℕ, ◌<◌, ◌+◌, List, [], ◌∷◌, ◌++◌, IfNone, IfSome, None, Some, false, true};
+ghost use Rattle.std.specs.Prelude.{◌≡◌, ◌≢◌, ℕ, ◌<◌, ◌≤◌, ◌+◌, List, [], ◌∷◌, ◌++◌, IfNone, IfSome, None, Some, false, true};
 ghost use Rattle.packet_header.specs.Parts.{packet_count};
 ghost use Rattle.message_buffer.specs.Buffer.{bytes_of};
 ghost use Rattle.buffer_pool.specs.Pool.{buf_at, spare_of};
@@ -7,13 +7,14 @@ ghost use Rattle.packet_rings.specs.Values.{EntryValue};
 ghost use Rattle.rpc_laws.specs.Requests.{answered, given};
 ghost use Rattle.rpc_outside.specs.declared.service.Mode.{Mode};
 ghost use Rattle.rpc_outside.specs.declared.service.Mode.TheVariants.{Unserved};
+ghost use Rattle.server_core.specs.Counting.{Counts};
 ghost use Rattle.server_core.specs.Finishing.{IsFinished, IsLeft};
 ghost use Rattle.server_core.specs.Flushing.{HoldsAll, without_newest};
 ghost use Rattle.server_core.specs.KeepsPool.{IsAsked, KeepsPool, KeepsSpare, LeavesOthers};
-ghost use Rattle.server_core.specs.Serving.{IsUnheld};
+ghost use Rattle.server_core.specs.Serving.{IsUnheld, first_given, last_given};
 ghost use Rattle.server_core.specs.Session.{IsInTurn, IsMessage, IsSession, newest};
 ghost use Rattle.server_core.specs.Shown.{shown};
-ghost use Rattle.server_core.specs.Steps.{AreServed, IsReply, begun_with, first_shown, gone_on_as, grown};
+ghost use Rattle.server_core.specs.Steps.{AreServed, HasNoBytes, IsReply, begun_with, first_shown, gone_on_as, grown};
 
 use super::ServerSession;
 use super::taking::{give_up, put_message};
@@ -35,6 +36,7 @@ impl ServerSession {
         requires keeps_pool { KeepsPool pool.old self.old.slots }
         requires spare { 0 < spare_of pool.old }
         ensures finished { IfSome result (IsFinished parcel.request (bytes_of parcel.out) self.old self.new pool.old pool.new) }
+        ensures no_bytes { IfSome result (λ e. HasNoBytes (newest parcel.request self.new)) }
         ensures left { IfNone result (IsLeft parcel.request self.old self.new pool.old pool.new) }
         ensures sound { IsSession self.old }
         ensures all_served { (mode_of : ℕ → Mode) → AreServed mode_of self.old.slots → AreServed mode_of self.new.slots }
@@ -42,6 +44,7 @@ impl ServerSession {
         ensures others { LeavesOthers self.old.slots self.new.slots pool.old pool.new }
         ensures holds { (entries : List EntryValue) → HoldsAll self.old pool.old entries → IfSome result (λ e. HoldsAll self.new pool.new (entries ++ e ∷ [])) }
         ensures still_holds { (entries : List EntryValue) → HoldsAll self.old pool.old entries → IfNone result (HoldsAll self.new pool.new entries) }
+        ensures counts { (entries : List EntryValue) → Counts pool.old entries → IfSome result (λ e. Counts pool.new (entries ++ e ∷ [])) }
         ensures keeps_pool { KeepsPool pool.new self.new.slots }
     {
         let Some(request) = self.slots.of_slot(parcel.request.slot()) else {
@@ -55,7 +58,12 @@ impl ServerSession {
     }
 
     // The answer to a request that a worker has is there: it is held for the reply to its last packet.
-    fn put_answer(&mut self, pool: &mut BufferPool, request: SlotRequest, answer: MsgBuf) -> Entry
+    pub(super) fn put_answer(
+        &mut self,
+        pool: &mut BufferPool,
+        request: SlotRequest,
+        answer: MsgBuf,
+    ) -> Entry
         requires keeps_pool { KeepsPool pool.old self.old.slots }
         requires spare { 0 < spare_of pool.old }
         requires found { newest request.number self.old ≡ Some request }
@@ -65,10 +73,12 @@ impl ServerSession {
         ensures shown { shown pool.new self.new ≡ gone_on_as request.number (answered (bytes_of answer)) (shown pool.old self.old) }
         ensures last { result.number + 1 ≡ packet_count request.size }
         ensures reply { IsReply request.number result.number self.new pool.new result }
+        ensures no_bytes { HasNoBytes (newest request.number self.new) }
         ensures served { (mode_of : ℕ → Mode) → AreServed mode_of self.old.slots → AreServed mode_of self.new.slots }
         ensures spare { KeepsSpare self.old.slots self.new.slots pool.old pool.new }
         ensures others { LeavesOthers self.old.slots self.new.slots pool.old pool.new }
         ensures holds { (entries : List EntryValue) → HoldsAll self.old pool.old entries → HoldsAll self.new pool.new (entries ++ result ∷ []) }
+        ensures counts { (entries : List EntryValue) → Counts pool.old entries → Counts pool.new (entries ++ result ∷ []) }
         ensures keeps_pool { KeepsPool pool.new self.new.slots }
     {
         let answer = put_message(pool, answer);
@@ -84,46 +94,36 @@ impl ServerSession {
         reply
     }
 
-    // A new request of this one packet begins, and goes to a worker.
-    pub(super) fn begin_given(
-        &mut self,
-        pool: &mut BufferPool,
-        head: &MessageHeader,
-        ask: MsgBuf,
-        out: MsgBuf,
-    ) -> Parcel
+    // A new request of this one packet begins: a worker or its handler has it, with its bytes.
+    pub(super) fn begin_working(&mut self, pool: &mut BufferPool, head: &MessageHeader)
         requires keeps_pool { KeepsPool pool.old self.old.slots }
         requires unheld { IfSome (newest head.now.request self.old) (IsUnheld pool.old) }
         requires size { IsMessage head.now.size }
         requires one { packet_count head.now.size ≡ 1 }
-        ensures parcel { result ≡ record { session = self.old.number; request = head.now.request; req_type = head.now.req_type; ask = ask; out = out } }
         ensures shown { shown pool.new self.new ≡ begun_with (given (first_shown head.now [] None)) (shown pool.old self.old) }
+        ensures newest { newest head.now.request self.new ≡ Some (first_given head.now) }
+        ensures number { self.new.number ≡ self.old.number }
+        ensures sound { IsSession self.new }
         ensures served { (mode_of : ℕ → Mode) → mode_of head.now.req_type ≢ Unserved → AreServed mode_of self.old.slots → AreServed mode_of self.new.slots }
+        ensures more { spare_of pool.old ≤ spare_of pool.new }
         ensures spare { KeepsSpare self.old.slots self.new.slots pool.old pool.new }
         ensures others { LeavesOthers self.old.slots self.new.slots pool.old pool.new }
         ensures holds { (entries : List EntryValue) → HoldsAll (without_newest head.now.request self.old) pool.old entries → HoldsAll self.new pool.new entries }
+        ensures counts { (entries : List EntryValue) → Counts pool.old entries → Counts pool.new entries }
         ensures keeps_pool { KeepsPool pool.new self.new.slots }
     {
         give_up(&mut self.slots, pool, head.request.slot());
         self.slots.push(SlotRequest::given(head));
-        Parcel {
-            session: self.number,
-            request: head.request,
-            req_type: head.req_type,
-            ask,
-            out,
-        }
     }
 
-    // The last packet of a request is taken, whose bytes stand in its buffer already: that leaves the pool
-    // and goes to a worker.
-    pub(super) fn take_given(
+    // The last packet of a request is taken, whose bytes stand in its buffer already: that leaves the pool, and a
+    // worker or the handler has it.
+    pub(super) fn take_working(
         &mut self,
         pool: &mut BufferPool,
         request: SlotRequest,
         place: Place,
-        out: MsgBuf,
-    ) -> Parcel
+    ) -> MsgBuf
         requires keeps_pool { KeepsPool pool.old self.old.slots }
         requires found { newest request.number self.old ≡ Some request }
         requires asked { request.ask ≡ Some place }
@@ -131,30 +131,23 @@ impl ServerSession {
         requires none { request.answer ≡ None }
         requires size { IsMessage request.size }
         requires last { request.taken + 1 ≡ packet_count request.size }
-        ensures ask { buf_at pool.old place ≡ Some result.ask }
-        ensures parcel { result ≡ record { session = self.old.number; request = request.number; req_type = request.req_type; ask = result.ask; out = out } }
+        ensures ask { buf_at pool.old place ≡ Some result }
         ensures shown { shown pool.new self.new ≡ gone_on_as request.number (λ x. given (grown [] x)) (shown pool.old self.old) }
+        ensures newest { newest request.number self.new ≡ Some (last_given request) }
+        ensures number { self.new.number ≡ self.old.number }
+        ensures sound { IsSession self.new }
         ensures served { (mode_of : ℕ → Mode) → AreServed mode_of self.old.slots → AreServed mode_of self.new.slots }
+        ensures more { spare_of pool.new ≡ spare_of pool.old + 1 }
         ensures spare { KeepsSpare self.old.slots self.new.slots pool.old pool.new }
         ensures others { LeavesOthers self.old.slots self.new.slots pool.old pool.new }
         ensures holds { (entries : List EntryValue) → HoldsAll self.old pool.old entries → HoldsAll self.new pool.new entries }
+        ensures counts { (entries : List EntryValue) → Counts pool.old entries → Counts pool.new entries }
         ensures keeps_pool { KeepsPool pool.new self.new.slots }
     {
         let Ok(ask) = pool.take(place) else {
             unreachable!()
         };
-        self.slots.replace(SlotRequest {
-            taken: request.taken + 1,
-            ask: None,
-            working: true,
-            ..request
-        });
-        Parcel {
-            session: self.number,
-            request: request.number,
-            req_type: request.req_type,
-            ask,
-            out,
-        }
+        self.slots.replace(request.last_given());
+        ask
     }
 }

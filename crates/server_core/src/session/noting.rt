@@ -1,36 +1,26 @@
 //! The facts of a packet are noted.
 ghost use Rattle.std.specs.Prelude.{◌≡◌};
-ghost use Rattle.std.specs.List.{find};
 ghost use Rattle.rpc_base.specs.declared.event.Event;
 ghost use Rattle.rpc_base.specs.declared.owner.Owner;
-ghost use Rattle.rpc_laws.specs.Requests.{is_request};
 ghost use Rattle.rpc_outside.specs.Recording.{Grew};
-ghost use Rattle.server_core.specs.Asked.{bytes_answered, bytes_taken};
-ghost use Rattle.server_core.specs.KeepsPool.{KeepsPool};
-ghost use Rattle.server_core.specs.Noting.{step_facts};
-ghost use Rattle.server_core.specs.Shown.{shown};
+ghost use Rattle.server_core.specs.Noting.{last_facts, ran_facts};
 
 use super::ServerSession;
 use crate::step::Step;
-use buffer_pool::BufferPool;
 use packet_header::MessageHeader;
 use rpc_base::{Event, Owner, Who};
 use rpc_outside::Recorder;
 
 impl ServerSession {
-    // Notes the facts of a step, but for the replies that were flushed before it. The bytes of a request that
-    // ran, and those of its answer, stand in the pool.
+    // Notes the last facts of a step.
     pub(super) fn note<R: Recorder>(
         &self,
-        pool: &BufferPool,
         head: &MessageHeader,
         step: &Step,
         who: &Who,
         rec: &mut R,
     )
-        requires keeps_pool { KeepsPool pool.now self.now.slots }
-        ensures { Grew R.facts R.whole rec.old rec.new
-            (step_facts who.now self.now.number head.now (bytes_taken (find (is_request head.now.request) (shown pool.now self.now).slots)) (bytes_answered (find (is_request head.now.request) (shown pool.now self.now).slots)) step.now) }
+        ensures { Grew R.facts R.whole rec.old rec.new (last_facts who.now self.now.number head.now step.now) }
     {
         match step {
             Step::Took { reply: _ } => {
@@ -42,10 +32,6 @@ impl ServerSession {
                 rec.note(*who, self.posted(head), &[], &[]);
             }
             Step::Ran { reply: _ } => {
-                let ask = self.asked(pool, head.request);
-                let answer = self.answer(pool, head.request);
-                rec.note(*who, self.took(head), &[], &[]);
-                rec.note(*who, self.ran(head), ask, answer);
                 rec.note(*who, self.posted(head), &[], &[]);
             }
             Step::Give(_) => {
@@ -54,6 +40,21 @@ impl ServerSession {
             }
             Step::Dropped(reason) => rec.note(*who, Event::Dropped { reason: *reason }, &[], &[]),
         }
+    }
+
+    // Notes that the last packet of a request was taken and that its handler ran, with the bytes of both messages.
+    pub(super) fn note_ran<R: Recorder>(
+        &self,
+        head: &MessageHeader,
+        ask: &[u8],
+        answer: &[u8],
+        who: &Who,
+        rec: &mut R,
+    )
+        ensures { Grew R.facts R.whole rec.old rec.new (ran_facts who.now self.now.number head.now ask.now answer.now) }
+    {
+        rec.note(*who, self.took(head), &[], &[]);
+        rec.note(*who, self.ran(head), ask, answer);
     }
 
     // Whose packets the replies to the request of a packet are.

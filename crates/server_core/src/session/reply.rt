@@ -1,7 +1,9 @@
 //! The replies to the packets of a request: what they are, and what becomes of their references.
 ghost use Rattle.std.specs.Prelude.{◌≡◌, Bool, List};
+ghost use Rattle.packet_header.specs.Header.{AreBytes};
 ghost use Rattle.packet_rings.specs.Values.{EntryValue};
 ghost use Rattle.rpc_base.specs.Taking.{TakenOut};
+ghost use Rattle.server_core.specs.Counting.{Counts};
 ghost use Rattle.server_core.specs.Flushing.{HoldsAll};
 ghost use Rattle.server_core.specs.KeepsPool.{KeepsPool};
 ghost use Rattle.server_core.specs.Replies.{IsHeld, IsReplyTo, IsSpelled, packet_of, released_at, request_of};
@@ -12,7 +14,6 @@ use super::ServerSession;
 use buffer_pool::BufferPool;
 use packet_header::{HEAD_BYTES, Packet, count, encode};
 use packet_rings::Entry;
-use rpc_base::Place;
 
 impl ServerSession {
     /// Writes the header of an entry that was posted, and lends its body.
@@ -24,7 +25,8 @@ impl ServerSession {
     ) -> &'a [u8]
         requires keeps_pool { KeepsPool pool.now self.now.slots }
         requires posted { IsReplyTo (request_of self.now entry.now) entry.now }
-        ensures { IsSpelled (packet_of pool.now self.now entry.now) head.new result.now }
+        ensures spelled { IsSpelled (packet_of pool.now self.now entry.now) head.new result.now }
+        ensures bytes { AreBytes head.new }
     {
         let Some(request) = self.slots.of_owner(self.number, entry.owner) else {
             unreachable!()
@@ -49,10 +51,11 @@ impl ServerSession {
         ensures pool { pool.new ≡ released_at entry.now.place pool.old }
         // The entries without this one hold each reply of the session that is neither sent nor flushed, as before.
         ensures holds { (passes : EntryValue → Bool) → (old new : List EntryValue) → TakenOut passes entry.now old new → HoldsAll self.old pool.old old → IsReplyTo (request_of self.old entry.now) entry.now → HoldsAll self.new pool.new new }
+        ensures counts { (passes : EntryValue → Bool) → (old new : List EntryValue) → TakenOut passes entry.now old new → Counts pool.old old → Counts pool.new new }
         ensures keeps_pool { KeepsPool pool.new self.new.slots }
     {
         self.sound();
-        release(pool, entry.place);
+        pool.release_at(entry.place);
     }
 
     /// An entry that was posted is taken out unsent: its reference is given up.
@@ -64,10 +67,11 @@ impl ServerSession {
         ensures pool { pool.new ≡ released_at entry.now.place pool.old }
         // The entries without this one hold each reply of the session that is neither sent nor flushed, as before.
         ensures holds { (passes : EntryValue → Bool) → (old new : List EntryValue) → TakenOut passes entry.now old new → HoldsAll self.old pool.old old → IsReplyTo (request_of self.old entry.now) entry.now → HoldsAll self.new pool.new new }
+        ensures counts { (passes : EntryValue → Bool) → (old new : List EntryValue) → TakenOut passes entry.now old new → Counts pool.old old → Counts pool.new new }
         ensures keeps_pool { KeepsPool pool.new self.new.slots }
     {
         self.sound();
-        release(pool, entry.place);
+        pool.release_at(entry.place);
     }
 
     // What always holds of a session holds of this one.
@@ -75,15 +79,5 @@ impl ServerSession {
         ensures { IsSession self.now }
     {
         let _number = self.number;
-    }
-}
-
-/// Gives up the reference to a place, if there is one.
-pub(super) fn release(pool: &mut BufferPool, place: Option<Place>)
-    requires { IsHeld pool.old place }
-    ensures { pool.new ≡ released_at place pool.old }
-{
-    if let Some(place) = place {
-        pool.release(place);
     }
 }

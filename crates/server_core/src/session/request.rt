@@ -1,24 +1,23 @@
 //! The server table: what a Request or RFR does to the session that it is for.
-ghost use Rattle.std.specs.Prelude.{◌≡◌, ◌≤◌, List, [], ◌∷◌, ◌++◌, IfSome, Some, length};
+ghost use Rattle.std.specs.Prelude.{◌≡◌, false, true, ◌<◌, List, [], ◌∷◌, ◌++◌, IfSome, Some, length};
 ghost use Rattle.packet_rings.specs.Rings.{ring};
 ghost use Rattle.packet_rings.specs.Values.{EntryValue};
 ghost use Rattle.buffer_pool.specs.Pool.{Pool, spare_of};
-ghost use Rattle.rpc_laws.specs.declared.rows.ServerRow.TheVariants.{Begins};
+ghost use Rattle.rpc_base.specs.declared.state.DropReason.TheVariants.{NoMemory};
+ghost use Rattle.rpc_laws.specs.declared.rows.ServerRow.TheVariants.{Begins, Drops};
+ghost use Rattle.server_core.specs.declared.step.Step.TheVariants.{Dropped};
 ghost use Rattle.rpc_laws.specs.ServerTable.{server_row};
-ghost use Rattle.rpc_outside.specs.PlainAnswer.{plain_mode};
-ghost use Rattle.rpc_outside.specs.Recording.{Grew};
-ghost use Rattle.rpc_outside.specs.Served.{Served};
-ghost use Rattle.server_core.specs.Flushing.{HoldsAll, HoldsReplies, flushes, replies_of, ring_after};
+ghost use Rattle.server_core.specs.Counting.{Counts};
+ghost use Rattle.server_core.specs.Flushing.{HoldsAll, HoldsReplies, replies_of, ring_after};
 ghost use Rattle.server_core.specs.KeepsPool.{KeepsPool, KeepsSpare, LeavesOthers};
-ghost use Rattle.server_core.specs.Noting.{IsByRule, packet_facts};
+ghost use Rattle.server_core.specs.Noting.{Handled, IsByRule, early_facts, packet_facts};
 ghost use Rattle.server_core.specs.Rows.{is_handled, new_row, row_of};
 ghost use Rattle.server_core.specs.Replies.{CanHold};
 ghost use Rattle.server_core.specs.Session.{IsSession, newest};
-ghost use Rattle.server_core.specs.Steps.{AreServed, IfGiven, IfReply, IsAsking, IsParcel, IsReply, IsStepOf, IsTakenBefore, Steps, UnlessRan, UnlessTaken, asked_with};
+ghost use Rattle.server_core.specs.Steps.{AreServed, HasNoBytes, IfGiven, IfRan, IfReply, IsAsking, IsParcel, IsReply, IsStepOf, IsTakenBefore, LeavesPool, UnlessRan, UnlessTaken, asked_with};
 ghost use Rattle.server_core.specs.Shown.{shown};
 
 use super::ServerSession;
-use super::taking::hold;
 use crate::slot::{is_an_rfr, makes_job};
 use crate::step::Step;
 use buffer_pool::BufferPool;
@@ -31,7 +30,7 @@ use std::alloc::Global;
 
 impl ServerSession {
     /// Handles a Request or RFR of this session, by the server table. `jobs_full` tells whether the node's
-    /// jobs are full. The pool has two empty places. Where the packet begins a newer request, the ring has
+    /// jobs are full. The pool has an empty place. Where the packet begins a newer request, the ring has
     /// each reply to the older one of its slot that is neither sent nor flushed; they are taken out. The
     /// facts are noted as `who`. The reply is to be put into the ring; its place is held. A parcel is to be
     /// given to a worker. The buffers are made first: want of memory is a drop, after which the packet may
@@ -49,38 +48,42 @@ impl ServerSession {
         rec: &mut R,
     ) -> Step
         requires keeps_pool { KeepsPool pool.old self.old.slots }
-        requires spare { 2 ≤ spare_of pool.old }
+        requires spare { 0 < spare_of pool.old }
         requires asking { IsAsking head.now (length body.now) }
         requires queued { row_of (V.mode_of head.now.req_type) jobs_full head.now self.old ≡ Begins → IfSome (newest head.now.request self.old) (HoldsReplies self.old.number pool.old tx.old.items) }
         requires can_hold { IfSome (newest head.now.request self.old) (CanHold pool.old) }
         // All packets of a session are handled by services of one type.
         requires all_served { AreServed V.mode_of self.old.slots }
         ensures row { IsStepOf (V.mode_of head.now.req_type) head.now (row_of (V.mode_of head.now.req_type) jobs_full head.now self.old) result }
-        // As the server rule says of what is shown, where that rule has the type in the same mode.
-        ensures rule { V.mode_of head.now.req_type ≡ plain_mode head.now.req_type →
-            server_row jobs_full (Some (shown pool.old self.old)) self.old.peer head.now ≡ row_of (V.mode_of head.now.req_type) jobs_full head.now self.old }
-        // As the facts Took, Ran and Given of the definitions, for each list of requests that the service
-        // stands for.
-        ensures steps { Steps result V.answer (V.stands service.old) (V.stands service.new) head.now body.now (shown pool.old self.old) (shown pool.new self.new) }
+        // As the server rule says of what is shown.
+        ensures rule { server_row (V.mode_of head.now.req_type) jobs_full false (Some (shown pool.old self.old)) self.old.peer head.now ≡ row_of (V.mode_of head.now.req_type) jobs_full head.now self.old }
+        // And where memory was wanting, as it says then.
+        ensures lacks { result ≡ Dropped NoMemory → server_row (V.mode_of head.now.req_type) jobs_full true (Some (shown pool.old self.old)) self.old.peer head.now ≡ Drops NoMemory }
         ensures ring { tx.new ≡ ring (ring_after (row_of (V.mode_of head.now.req_type) jobs_full head.now self.old) result self.old.number (newest head.now.request self.old) tx.old.items) tx.old.size }
-        ensures noted { (served : Served) → V.stands service.old served → Grew R.facts R.whole rec.old rec.new
-            (packet_facts who self.old tx.old.items (row_of (V.mode_of head.now.req_type) jobs_full head.now self.old) head.now (asked_with head.now body.now (shown pool.old self.old)) (V.answer served head.now.req_type (asked_with head.now body.now (shown pool.old self.old))) result) }
-        // These are the facts of the server rule, where that has the type in the same mode.
-        ensures facts { V.mode_of head.now.req_type ≡ plain_mode head.now.req_type → head.now.session ≡ self.old.number →
-            IsByRule self.old tx.old.items (row_of (V.mode_of head.now.req_type) jobs_full head.now self.old) head.now body.now (shown pool.old self.old) result }
+        // As the facts Took, Ran and Given of the definitions, which are noted. The answer of a handler that ran is
+        // that of each list of requests that the service stands for.
+        ensures handled { Handled R.facts R.whole rec.old rec.new (λ answer. packet_facts who self.old tx.old.items (row_of (V.mode_of head.now.req_type) jobs_full head.now self.old) head.now (asked_with head.now body.now (shown pool.old self.old)) answer result) V.answer (V.stands service.old) (V.stands service.new) head.now body.now (shown pool.old self.old) (shown pool.new self.new) result }
+        // These are the facts of the server rule.
+        ensures facts { head.now.session ≡ self.old.number →
+            IsByRule (V.mode_of head.now.req_type) self.old tx.old.items (row_of (V.mode_of head.now.req_type) jobs_full head.now self.old) head.now body.now (shown pool.old self.old) result }
         ensures reply { IfReply result (IsReply head.now.request head.now.number self.new pool.new) }
         ensures give { IfGiven result (IsParcel V.answer (V.stands service.old) head.now body.now (shown pool.old self.old)) }
+        // A request whose handler ran has given its bytes up.
+        ensures no_bytes { IfRan result (HasNoBytes (newest head.now.request self.new)) }
         ensures service { UnlessRan result (service.new ≡ service.old) }
         ensures session { UnlessTaken result (self.new ≡ self.old) }
+        ensures pool { LeavesPool result pool.old pool.new }
         ensures all_served { AreServed V.mode_of self.new.slots }
         ensures spare { KeepsSpare self.old.slots self.new.slots pool.old pool.new }
         ensures others { LeavesOthers self.old.slots self.new.slots pool.old pool.new }
         // The ring with the reply holds each reply of the session that is neither sent nor flushed, as before.
         ensures holds { HoldsAll self.old pool.old tx.old.items → HoldsAll self.new pool.new (tx.new.items ++ replies_of result) }
+        // The places have as many references as the entries of the ring and the reply name them, as before.
+        ensures counts { Counts pool.old tx.old.items → Counts pool.new (tx.new.items ++ replies_of result) }
         ensures keeps_pool { KeepsPool pool.new self.new.slots }
     {
         let step = self.step(alloc, pool, tx, service, head, body, jobs_full, &who, rec);
-        self.note(pool, head, &step, &who, rec);
+        self.note(head, &step, &who, rec);
         step
     }
 
@@ -98,33 +101,35 @@ impl ServerSession {
         rec: &mut R,
     ) -> Step
         requires keeps_pool { KeepsPool pool.old self.old.slots }
-        requires spare { 2 ≤ spare_of pool.old }
+        requires spare { 0 < spare_of pool.old }
         requires asking { IsAsking head.now (length body.now) }
         requires queued { row_of (V.mode_of head.now.req_type) jobs_full head.now self.old ≡ Begins → IfSome (newest head.now.request self.old) (HoldsReplies self.old.number pool.old tx.old.items) }
         requires can_hold { IfSome (newest head.now.request self.old) (CanHold pool.old) }
         requires all_served { AreServed V.mode_of self.old.slots }
         ensures row { IsStepOf (V.mode_of head.now.req_type) head.now (row_of (V.mode_of head.now.req_type) jobs_full head.now self.old) result }
-        ensures rule { V.mode_of head.now.req_type ≡ plain_mode head.now.req_type →
-            server_row jobs_full (Some (shown pool.old self.old)) self.old.peer head.now ≡ row_of (V.mode_of head.now.req_type) jobs_full head.now self.old }
+        ensures rule { server_row (V.mode_of head.now.req_type) jobs_full false (Some (shown pool.old self.old)) self.old.peer head.now ≡ row_of (V.mode_of head.now.req_type) jobs_full head.now self.old }
         ensures sound { IsSession self.old }
-        ensures steps { Steps result V.answer (V.stands service.old) (V.stands service.new) head.now body.now (shown pool.old self.old) (shown pool.new self.new) }
         ensures ring { tx.new ≡ ring (ring_after (row_of (V.mode_of head.now.req_type) jobs_full head.now self.old) result self.old.number (newest head.now.request self.old) tx.old.items) tx.old.size }
-        ensures noted { Grew R.facts R.whole rec.old rec.new (flushes (row_of (V.mode_of head.now.req_type) jobs_full head.now self.old) result who.now self.old.number (newest head.now.request self.old) tx.old.items) }
+        ensures handled { Handled R.facts R.whole rec.old rec.new (λ answer. early_facts who.now self.old tx.old.items (row_of (V.mode_of head.now.req_type) jobs_full head.now self.old) head.now (asked_with head.now body.now (shown pool.old self.old)) answer result) V.answer (V.stands service.old) (V.stands service.new) head.now body.now (shown pool.old self.old) (shown pool.new self.new) result }
         ensures reply { IfReply result (IsReply head.now.request head.now.number self.new pool.new) }
         ensures give { IfGiven result (IsParcel V.answer (V.stands service.old) head.now body.now (shown pool.old self.old)) }
+        // A request whose handler ran has given its bytes up.
+        ensures no_bytes { IfRan result (HasNoBytes (newest head.now.request self.new)) }
         ensures service { UnlessRan result (service.new ≡ service.old) }
         ensures session { UnlessTaken result (self.new ≡ self.old) }
+        ensures pool { LeavesPool result pool.old pool.new }
         ensures all_served { AreServed V.mode_of self.new.slots }
         ensures spare { KeepsSpare self.old.slots self.new.slots pool.old pool.new }
         ensures others { LeavesOthers self.old.slots self.new.slots pool.old pool.new }
         ensures holds { HoldsAll self.old pool.old tx.old.items → HoldsAll self.new pool.new (tx.new.items ++ replies_of result) }
+        ensures counts { Counts pool.old tx.old.items → Counts pool.new (tx.new.items ++ replies_of result) }
         ensures keeps_pool { KeepsPool pool.new self.new.slots }
     {
         let mode = service.mode(head.req_type);
         match self.row(head, mode, jobs_full) {
             ServerRow::Drops(reason) => Step::Dropped(reason),
             ServerRow::Begins => self.begin(alloc, pool, tx, service, mode, head, body, who, rec),
-            ServerRow::Takes => self.take(alloc, pool, service, mode, head, body),
+            ServerRow::Takes => self.take(alloc, pool, service, mode, head, body, who, rec),
             ServerRow::Repeats => {
                 let reply = self.repeat(pool, head);
                 Step::Again { reply }
@@ -142,13 +147,14 @@ impl ServerSession {
         ensures spare { KeepsSpare self.now.slots self.now.slots pool.old pool.new }
         ensures others { LeavesOthers self.now.slots self.now.slots pool.old pool.new }
         ensures holds { (entries : List EntryValue) → HoldsAll self.now pool.old entries → HoldsAll self.now pool.new (entries ++ result ∷ []) }
+        ensures counts { (entries : List EntryValue) → Counts pool.old entries → Counts pool.new (entries ++ result ∷ []) }
         ensures keeps_pool { KeepsPool pool.new self.now.slots }
     {
         let Some(request) = self.slots.of_slot(head.request.slot()) else {
             unreachable!()
         };
         let reply = request.entry(self.number, head.number, self.peer);
-        hold(pool, reply.place);
+        pool.hold_at(reply.place);
         reply
     }
 
@@ -156,9 +162,9 @@ impl ServerSession {
     /// is that of its type, and `jobs_full` tells whether the node's jobs are full. Nothing changes.
     pub fn row(&self, head: &MessageHeader, mode: Mode, jobs_full: bool) -> ServerRow
         ensures row { result ≡ row_of mode jobs_full head.now self.now }
-        // As the server rule says of what is shown, where that rule has the type in the same mode.
-        ensures rule { (pool : Pool) → KeepsPool pool self.now.slots → mode ≡ plain_mode head.now.req_type →
-            server_row jobs_full (Some (shown pool self.now)) self.now.peer head.now ≡ result }
+        // As the server rule says of what is shown.
+        ensures rule { (pool : Pool) → KeepsPool pool self.now.slots →
+            server_row mode jobs_full false (Some (shown pool self.now)) self.now.peer head.now ≡ result }
         ensures sound { IsSession self.now }
     {
         self.slot_row(head, mode, jobs_full)

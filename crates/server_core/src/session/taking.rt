@@ -9,22 +9,22 @@ ghost use Rattle.buffer_pool.specs.Pool.{IsFull, buf_at, emptied, filled, lowest
 ghost use Rattle.packet_rings.specs.Rings.{ring};
 ghost use Rattle.packet_rings.specs.Values.{EntryValue};
 ghost use Rattle.rpc_laws.specs.declared.rows.ServerRow.TheVariants.{Begins};
-ghost use Rattle.rpc_laws.specs.Requests.{answered};
 ghost use Rattle.rpc_laws.specs.ServerTable.{is_last};
 ghost use Rattle.rpc_outside.specs.declared.service.Mode.{Mode};
 ghost use Rattle.rpc_outside.specs.declared.service.Mode.TheVariants.{Unserved};
-ghost use Rattle.rpc_outside.specs.Recording.{Grew};
-ghost use Rattle.server_core.specs.Flushing.{HoldsAll, HoldsReplies, flushes, replies_of, ring_after, without_newest};
+ghost use Rattle.server_core.specs.Counting.{Counts};
+ghost use Rattle.server_core.specs.Flushing.{HoldsAll, HoldsReplies, replies_of, ring_after, without_newest};
 ghost use Rattle.server_core.specs.KeepsPool.{IsKept, KeepsPool, KeepsSpare, LeavesOthers, own_names};
+ghost use Rattle.server_core.specs.Noting.{Handled, early_facts, first_facts};
 ghost use Rattle.server_core.specs.Rows.{gives_job};
-ghost use Rattle.server_core.specs.Replies.{CanHold, MayHold, held_at};
+ghost use Rattle.server_core.specs.Replies.{CanHold};
 ghost use Rattle.server_core.specs.Serving.{IsUnheld, given_up, gone_on, next_taken, with_slots, without_answer, without_ask, without_buffers};
 ghost use Rattle.server_core.specs.Session.{IsInTurn, IsMessage, IsSession, is_in_slot, newest};
 ghost use Rattle.server_core.specs.Shown.{ask_in, shown, shown_request};
-ghost use Rattle.server_core.specs.Steps.{AreServed, HasTaken, IfGiven, IfReply, IsBeginning, IsNextOf, IsParcel, IsReply, Steps, UnlessRan, UnlessTaken, begun_with, bytes_with, first_shown, gone_on_as, grown};
+ghost use Rattle.server_core.specs.Steps.{AreServed, HasNoBytes, HasTaken, IfGiven, IfRan, IfReply, IsBeginning, IsNextOf, IsParcel, IsReply, LeavesPool, UnlessRan, UnlessTaken, asked_with, begun_with, bytes_with, first_shown, gone_on_as, grown};
 
 use super::ServerSession;
-use crate::running::{make_message, make_room, run, serve};
+use crate::running::{make_message, make_room};
 use crate::slot::{SlotRequest, Stored, is_an_rfr, is_background};
 use crate::slots::Slots;
 use crate::step::Step;
@@ -35,6 +35,7 @@ use packet_rings::{Entry, TxRing};
 use rpc_base::{DropReason, Place, Who};
 use rpc_outside::{Mode, Recorder, Service};
 use std::alloc::Global;
+use worker_board::Parcel;
 
 impl ServerSession {
     // A new request begins with this packet. Where it is the only one, its handler runs, or it goes to a
@@ -53,7 +54,7 @@ impl ServerSession {
     ) -> Step
         requires session { IsSession self.old }
         requires keeps_pool { KeepsPool pool.old self.old.slots }
-        requires spare { 2 ≤ spare_of pool.old }
+        requires spare { 0 < spare_of pool.old }
         requires queued { IfSome (newest head.now.request self.old) (HoldsReplies self.old.number pool.old tx.old.items) }
         requires beginning { IsBeginning head.now (length body.now) self.old }
         requires mode { V.mode_of head.now.req_type ≡ mode }
@@ -61,42 +62,62 @@ impl ServerSession {
         requires all_served { AreServed V.mode_of self.old.slots }
         ensures taken { HasTaken (is_last head.now) (gives_job mode head.now) true result }
         ensures ring { tx.new ≡ ring (ring_after Begins result self.old.number (newest head.now.request self.old) tx.old.items) tx.old.size }
-        ensures noted { Grew R.facts R.whole rec.old rec.new (flushes Begins result who.now self.old.number (newest head.now.request self.old) tx.old.items) }
-        ensures steps { Steps result V.answer (V.stands service.old) (V.stands service.new) head.now body.now (shown pool.old self.old) (shown pool.new self.new) }
+        ensures handled { Handled R.facts R.whole rec.old rec.new (λ answer. early_facts who.now self.old tx.old.items Begins head.now (asked_with head.now body.now (shown pool.old self.old)) answer result) V.answer (V.stands service.old) (V.stands service.new) head.now body.now (shown pool.old self.old) (shown pool.new self.new) result }
         ensures reply { IfReply result (IsReply head.now.request head.now.number self.new pool.new) }
         ensures give { IfGiven result (IsParcel V.answer (V.stands service.old) head.now body.now (shown pool.old self.old)) }
+        ensures no_bytes { IfRan result (HasNoBytes (newest head.now.request self.new)) }
         ensures service { UnlessRan result (service.new ≡ service.old) }
         ensures session { UnlessTaken result (self.new ≡ self.old) }
+        ensures pool { LeavesPool result pool.old pool.new }
         ensures all_served { AreServed V.mode_of self.new.slots }
         ensures spare { KeepsSpare self.old.slots self.new.slots pool.old pool.new }
         ensures others { LeavesOthers self.old.slots self.new.slots pool.old pool.new }
         ensures holds { HoldsAll self.old pool.old tx.old.items → HoldsAll self.new pool.new (tx.new.items ++ replies_of result) }
+        ensures counts { Counts pool.old tx.old.items → Counts pool.new (tx.new.items ++ replies_of result) }
         ensures keeps_pool { KeepsPool pool.new self.new.slots }
     {
-        let Ok(ask) = make_message(alloc, head.size, body) else {
-            return Step::Dropped(DropReason::NoMemory);
-        };
         if count(head.size) > 1 {
+            let Ok(ask) = make_message(alloc, head.size, body) else {
+                return Step::Dropped(DropReason::NoMemory);
+            };
             self.flush_older(pool, tx, head.request, who, rec);
             let reply = self.begin_first(pool, head, ask);
-            return Step::Took { reply };
+            return Step::Took { reply: Some(reply) };
         }
         let Ok(room) = make_room(alloc, service, head.req_type, body) else {
             return Step::Dropped(DropReason::NoMemory);
         };
-        self.flush_older(pool, tx, head.request, who, rec);
         if is_background(mode) {
-            let parcel = self.begin_given(pool, head, ask, room);
-            return Step::Give(parcel);
+            let Ok(ask) = make_message(alloc, head.size, body) else {
+                return Step::Dropped(DropReason::NoMemory);
+            };
+            self.flush_older(pool, tx, head.request, who, rec);
+            self.begin_working(pool, head);
+            return Step::Give(self.parcel(head, ask, room));
         }
-        let answer = serve(service, head.req_type, body, room);
-        let reply = self.begin_whole(pool, head, ask, answer);
+        self.flush_older(pool, tx, head.request, who, rec);
+        self.begin_working(pool, head);
+        let request = SlotRequest::given(head);
+        let reply = self.answer_inline(pool, service, request, head, body, room, who, rec);
         Step::Ran { reply }
+    }
+
+    // The job of a request that goes to a worker.
+    fn parcel(&self, head: &MessageHeader, ask: MsgBuf, out: MsgBuf) -> Parcel
+        ensures { result ≡ record { session = self.now.number; request = head.now.request; req_type = head.now.req_type; ask = ask; out = out } }
+    {
+        Parcel {
+            session: self.number,
+            request: head.request,
+            req_type: head.req_type,
+            ask,
+            out,
+        }
     }
 
     // The next packet of a request is taken. After its last one the handler runs, or the request goes to a
     // worker. The buffer of the answer is made first.
-    pub(super) fn take<V: Service>(
+    pub(super) fn take<V: Service, R: Recorder>(
         &mut self,
         alloc: Global,
         pool: &mut BufferPool,
@@ -104,24 +125,28 @@ impl ServerSession {
         mode: Mode,
         head: &MessageHeader,
         body: &[u8],
+        who: &Who,
+        rec: &mut R,
     ) -> Step
         requires session { IsSession self.old }
         requires keeps_pool { KeepsPool pool.old self.old.slots }
-        requires spare { 0 < spare_of pool.old }
         requires can_hold { IfSome (newest head.now.request self.old) (CanHold pool.old) }
         requires next { IsNextOf head.now (length body.now) (newest head.now.request self.old) }
         requires mode { V.mode_of head.now.req_type ≡ mode }
         requires all_served { AreServed V.mode_of self.old.slots }
         ensures taken { HasTaken (is_last head.now) (gives_job mode head.now) (is_last head.now) result }
-        ensures steps { Steps result V.answer (V.stands service.old) (V.stands service.new) head.now body.now (shown pool.old self.old) (shown pool.new self.new) }
+        ensures handled { Handled R.facts R.whole rec.old rec.new (λ answer. first_facts who.now self.old.number head.now (asked_with head.now body.now (shown pool.old self.old)) answer result) V.answer (V.stands service.old) (V.stands service.new) head.now body.now (shown pool.old self.old) (shown pool.new self.new) result }
         ensures reply { IfReply result (IsReply head.now.request head.now.number self.new pool.new) }
         ensures give { IfGiven result (IsParcel V.answer (V.stands service.old) head.now body.now (shown pool.old self.old)) }
+        ensures no_bytes { IfRan result (HasNoBytes (newest head.now.request self.new)) }
         ensures service { UnlessRan result (service.new ≡ service.old) }
         ensures session { UnlessTaken result (self.new ≡ self.old) }
+        ensures pool { LeavesPool result pool.old pool.new }
         ensures all_served { AreServed V.mode_of self.new.slots }
         ensures spare { KeepsSpare self.old.slots self.new.slots pool.old pool.new }
         ensures others { LeavesOthers self.old.slots self.new.slots pool.old pool.new }
         ensures holds { (entries : List EntryValue) → HoldsAll self.old pool.old entries → HoldsAll self.new pool.new (entries ++ replies_of result) }
+        ensures counts { (entries : List EntryValue) → Counts pool.old entries → Counts pool.new (entries ++ replies_of result) }
         ensures keeps_pool { KeepsPool pool.new self.new.slots }
     {
         let Some(request) = self.slots.of_slot(head.request.slot()) else {
@@ -129,7 +154,7 @@ impl ServerSession {
         };
         if is_an_rfr(head.kind) {
             let reply = self.take_next(pool, request);
-            return Step::Took { reply };
+            return Step::Took { reply: Some(reply) };
         }
         let Some(place) = request.ask else {
             unreachable!()
@@ -137,20 +162,18 @@ impl ServerSession {
         self.write_part(pool, &request, place, body);
         if u32::from(request.taken) + 1 < count(request.size) {
             let reply = self.take_next(pool, request);
-            return Step::Took { reply };
+            return Step::Took { reply: Some(reply) };
         }
-        let ask = pool.get(place).bytes();
-        if is_background(mode) {
-            let Ok(out) = make_room(alloc, service, head.req_type, ask) else {
-                return Step::Dropped(DropReason::NoMemory);
-            };
-            let parcel = self.take_given(pool, request, place, out);
-            return Step::Give(parcel);
-        }
-        let Ok(answer) = run(alloc, service, head.req_type, ask) else {
+        let whole = pool.get(place).bytes();
+        let Ok(room) = make_room(alloc, service, head.req_type, whole) else {
             return Step::Dropped(DropReason::NoMemory);
         };
-        let reply = self.take_last(pool, request, answer);
+        let ask = self.take_working(pool, request, place);
+        if is_background(mode) {
+            return Step::Give(self.parcel(head, ask, room));
+        }
+        let given = request.last_given();
+        let reply = self.answer_inline(pool, service, given, head, ask.bytes(), room, who, rec);
         Step::Ran { reply }
     }
 
@@ -169,6 +192,7 @@ impl ServerSession {
         ensures spare { KeepsSpare self.old.slots self.new.slots pool.old pool.new }
         ensures others { LeavesOthers self.old.slots self.new.slots pool.old pool.new }
         ensures holds { (entries : List EntryValue) → HoldsAll (without_newest head.now.request self.old) pool.old entries → HoldsAll self.new pool.new (entries ++ result ∷ []) }
+        ensures counts { (entries : List EntryValue) → Counts pool.old entries → Counts pool.new (entries ++ result ∷ []) }
         ensures keeps_pool { KeepsPool pool.new self.new.slots }
     {
         give_up(&mut self.slots, pool, head.request.slot());
@@ -181,49 +205,6 @@ impl ServerSession {
             ask: Some(ask.place),
             working: false,
             answer: None,
-        };
-        let reply = request.entry(self.number, 0, self.peer);
-        self.slots.push(request);
-        reply
-    }
-
-    // A new request of this one packet begins, and its answer is there: it is held for the reply.
-    fn begin_whole(
-        &mut self,
-        pool: &mut BufferPool,
-        head: &MessageHeader,
-        ask: MsgBuf,
-        answer: MsgBuf,
-    ) -> Entry
-        requires keeps_pool { KeepsPool pool.old self.old.slots }
-        requires spare { 2 ≤ spare_of pool.old }
-        requires unheld { IfSome (newest head.now.request self.old) (IsUnheld pool.old) }
-        requires size { IsMessage head.now.size }
-        requires one { packet_count head.now.size ≡ 1 }
-        requires len { ask.len ≡ head.now.size }
-        requires room { ask.len ≤ capacity_of ask }
-        requires answer { IsMessage answer.len }
-        requires answer_room { answer.len ≤ capacity_of answer }
-        ensures shown { shown pool.new self.new ≡ begun_with (first_shown head.now (bytes_of ask) (Some (bytes_of answer))) (shown pool.old self.old) }
-        ensures served { (mode_of : ℕ → Mode) → mode_of head.now.req_type ≢ Unserved → AreServed mode_of self.old.slots → AreServed mode_of self.new.slots }
-        ensures reply { IsReply head.now.request 0 self.new pool.new result }
-        ensures spare { KeepsSpare self.old.slots self.new.slots pool.old pool.new }
-        ensures others { LeavesOthers self.old.slots self.new.slots pool.old pool.new }
-        ensures holds { (entries : List EntryValue) → HoldsAll (without_newest head.now.request self.old) pool.old entries → HoldsAll self.new pool.new (entries ++ result ∷ []) }
-        ensures keeps_pool { KeepsPool pool.new self.new.slots }
-    {
-        give_up(&mut self.slots, pool, head.request.slot());
-        let ask = put_message(pool, ask);
-        let answer = put_message(pool, answer);
-        pool.hold(answer.place);
-        let request = SlotRequest {
-            number: head.request,
-            req_type: head.req_type,
-            size: head.size,
-            taken: 1,
-            ask: Some(ask.place),
-            working: false,
-            answer: Some(answer),
         };
         let reply = request.entry(self.number, 0, self.peer);
         self.slots.push(request);
@@ -243,47 +224,15 @@ impl ServerSession {
         ensures spare { KeepsSpare self.old.slots self.new.slots pool.old pool.new }
         ensures others { LeavesOthers self.old.slots self.new.slots pool.old pool.new }
         ensures holds { (entries : List EntryValue) → HoldsAll self.old pool.old entries → HoldsAll self.new pool.new (entries ++ result ∷ []) }
+        ensures counts { (entries : List EntryValue) → Counts pool.old entries → Counts pool.new (entries ++ result ∷ []) }
         ensures keeps_pool { KeepsPool pool.new self.new.slots }
     {
         let reply = request.entry(self.number, request.taken, self.peer);
-        hold(pool, reply.place);
+        pool.hold_at(reply.place);
         self.slots.replace(SlotRequest {
             taken: request.taken + 1,
             ..request
         });
-        reply
-    }
-
-    // The last packet of a request is taken, whose bytes stand in its buffer already, and its answer is
-    // there: it is held for the reply.
-    fn take_last(&mut self, pool: &mut BufferPool, request: SlotRequest, answer: MsgBuf) -> Entry
-        requires keeps_pool { KeepsPool pool.old self.old.slots }
-        requires spare { 0 < spare_of pool.old }
-        requires found { newest request.number self.old ≡ Some request }
-        requires none { request.answer ≡ None }
-        requires idle { request.working ≡ false }
-        requires size { IsMessage request.size }
-        requires last { request.taken + 1 ≡ packet_count request.size }
-        requires answer { IsMessage answer.len }
-        requires answer_room { answer.len ≤ capacity_of answer }
-        ensures shown { shown pool.new self.new ≡ gone_on_as request.number (λ x. answered (bytes_of answer) (grown (bytes_with pool.old request) x)) (shown pool.old self.old) }
-        ensures reply { IsReply request.number request.taken self.new pool.new result }
-        ensures served { (mode_of : ℕ → Mode) → AreServed mode_of self.old.slots → AreServed mode_of self.new.slots }
-        ensures spare { KeepsSpare self.old.slots self.new.slots pool.old pool.new }
-        ensures others { LeavesOthers self.old.slots self.new.slots pool.old pool.new }
-        ensures holds { (entries : List EntryValue) → HoldsAll self.old pool.old entries → HoldsAll self.new pool.new (entries ++ result ∷ []) }
-        ensures keeps_pool { KeepsPool pool.new self.new.slots }
-    {
-        let answer = put_message(pool, answer);
-        pool.hold(answer.place);
-        let number = request.taken;
-        let request = SlotRequest {
-            taken: number + 1,
-            answer: Some(answer),
-            ..request
-        };
-        let reply = request.entry(self.number, number, self.peer);
-        self.slots.replace(request);
         reply
     }
 
@@ -301,6 +250,7 @@ impl ServerSession {
         ensures uses { pool.new.uses ≡ pool.old.uses }
         ensures others { LeavesOthers self.now.slots self.now.slots pool.old pool.new }
         ensures holds { (entries : List EntryValue) → HoldsAll self.now pool.old entries → HoldsAll self.now pool.new entries }
+        ensures counts { (entries : List EntryValue) → Counts pool.old entries → Counts pool.new entries }
         ensures keeps_pool { KeepsPool pool.new self.now.slots }
     {
         let at = PART_BYTES * u32::from(request.taken);
@@ -378,14 +328,4 @@ pub(super) fn put_message(pool: &mut BufferPool, message: MsgBuf) -> Stored
     let place = pool.put(message);
     let size = pool.get(place).len();
     Stored { place, size }
-}
-
-/// Adds a reference to a place, if there is one.
-pub(super) fn hold(pool: &mut BufferPool, place: Option<Place>)
-    requires { MayHold pool.old place }
-    ensures { pool.new ≡ held_at place pool.old }
-{
-    if let Some(place) = place {
-        pool.hold(place);
-    }
 }

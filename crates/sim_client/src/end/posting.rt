@@ -1,8 +1,9 @@
 //! Calls begin and post here, and their packets are sent.
 ghost use Rattle.std.specs.Prelude.{◌≡◌, ℕ, Some, option_map, IfNone, IfOk, IfSome, OnOk};
+ghost use Rattle.packet_header.specs.Header.{AreBytes};
 ghost use Rattle.rpc_base.specs.declared.owner.Owner.TheVariants.{Ask};
 ghost use Rattle.rpc_laws.specs.Packets.{ask_packet};
-ghost use Rattle.rpc_laws.specs.Posting.{beginning, posting};
+ghost use Rattle.rpc_laws.specs.Posting.{beginning, if_connected, posting};
 ghost use Rattle.rpc_laws.specs.Sessions.{begins, posts, sends};
 ghost use Rattle.client_core.specs.Shown.{IsSpelled};
 ghost use Rattle.sim_client.specs.Ends.{begun_event, posted_event};
@@ -14,7 +15,7 @@ use rpc_base::{CallNo, NoMemory, Owner, RequestNo};
 impl ClientEnd {
     /// The call that waited longest begins in the lowest free slot.
     pub fn begin(&mut self) -> Result<Option<(CallNo, RequestNo)>, NoMemory>
-        ensures next { IfOk result (λ o. option_map begun_event o ≡ beginning self.old) }
+        ensures next { IfOk result (λ o. option_map begun_event o ≡ if_connected beginning self.old) }
         ensures none { IfOk result (λ o. IfNone o (self.new ≡ self.old)) }
         ensures begins { IfOk result (λ o. IfSome o (λ b. self.new ≡ begins b.0 b.1 self.old)) }
     {
@@ -33,7 +34,7 @@ impl ClientEnd {
     /// The oldest call that may post does, where a credit is free: its request number, and the number of
     /// the packet.
     pub fn post(&mut self) -> Result<Option<(RequestNo, u16)>, NoMemory>
-        ensures next { IfOk result (λ o. option_map (posted_event self.old.way.number) o ≡ posting self.old) }
+        ensures next { IfOk result (λ o. option_map (posted_event self.old.way.number) o ≡ if_connected posting self.old) }
         ensures none { IfOk result (λ o. IfNone o (self.new ≡ self.old)) }
         ensures posts { IfOk result (λ o. IfSome o (λ p. self.new ≡ posts p.0 p.1 self.old)) }
     {
@@ -58,7 +59,8 @@ impl ClientEnd {
         number: u16,
         head: &mut [u8; HEAD_BYTES],
     ) -> Result<&'a [u8], NoMemory>
-        ensures { IfOk result (λ body. IsSpelled (ask_packet request number (Some self.now)) head.new body.now) }
+        ensures spelled { IfOk result (λ body. IsSpelled (ask_packet request number (Some self.now)) head.new body.now) }
+        ensures bytes { OnOk result (AreBytes head.new) }
     {
         let Some(entry) = self.session.entry(request, number, self.peer) else {
             return Err(NoMemory);

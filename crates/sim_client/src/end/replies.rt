@@ -8,7 +8,7 @@ ghost use Rattle.rpc_laws.specs.declared.tables.Queued.{Queued};
 ghost use Rattle.rpc_laws.specs.ClientTable.{client_ending, client_row};
 ghost use Rattle.rpc_laws.specs.Queues.{is_queued};
 ghost use Rattle.client_core.specs.KeepsPool.{KeepsPool};
-ghost use Rattle.client_core.specs.Replies.{LastIsUnheld, call_as, row_told};
+ghost use Rattle.client_core.specs.Replies.{NextIsUnheld, call_as, row_told};
 ghost use Rattle.client_core.specs.Shown.{after_outcome, ending_facts};
 ghost use Rattle.client_core.specs.Watching.{told};
 
@@ -42,7 +42,7 @@ impl ClientEnd {
         if peer != self.peer {
             return Ok(Reply::Dropped(DropReason::WrongPeer));
         }
-        if !may_take(&self.session, &self.pool, head.request, queued) {
+        if !may_take(&self.session, &self.pool, head, queued) {
             return Err(NoMemory);
         }
         Ok(
@@ -52,17 +52,17 @@ impl ClientEnd {
     }
 }
 
-// Whether a reply may be taken that may end the active call with this request number: the packet that it
+// Whether a reply may be taken that may end the active call with its request number: the packet that it
 // answers is queued, so that it isn't taken, or the call has another unanswered packet, or no reference is
 // left to its request.
-fn may_take(session: &ClientSession, pool: &BufferPool, request: RequestNo, queued: bool) -> bool
+fn may_take(session: &ClientSession, pool: &BufferPool, head: &MessageHeader, queued: bool) -> bool
     requires { KeepsPool pool.now session.now.active }
-    ensures { IsTrue result → LastIsUnheld pool.now queued (call_as request session.now) }
+    ensures { IsTrue result → NextIsUnheld pool.now queued head.now.number (call_as head.now.request session.now) }
 {
-    if queued || has_more(session, request) {
+    if queued || has_more(session, head.request) {
         return true;
     }
-    session.is_unheld(pool, request)
+    session.is_unheld(pool, head.request)
 }
 
 // Whether an active call with this request number has another unanswered packet than the oldest one.

@@ -95,17 +95,19 @@ fn is_active(session: &ClientSession, call: CallNo) -> bool
     }
 }
 
-// Whether a call with this number is active, has an unanswered packet, and was rolled back fewer than eight
-// times without a reply.
+// Whether a call with this number is active, has an unanswered packet, was rolled back fewer than eight
+// times without a reply, and has no queued packet.
 fn can_roll(session: &ClientSession, call: CallNo) -> bool
     ensures active { IsTrue result → IsSome (call_numbered call session.now) }
     ensures few { IsTrue result → IfSome (call_numbered call session.now) (λ c. c.rolls < 8) }
+    ensures idle { IsTrue result → IfSome (call_numbered call session.now) (λ c. c.queued ≡ 0) }
 {
     if !is_active(session, call) {
         return false;
     }
+    session.sound();
     match session.check(call, u64::MAX, false, 0) {
-        Timer::Roll { .. } => true,
+        Timer::Roll { request, .. } => session.queued(request) == 0,
         _ => false,
     }
 }

@@ -1,5 +1,6 @@
 //! The replies of a server end.
 ghost use Rattle.std.specs.Prelude.{◌≡◌, Some, IfOk, OnOk};
+ghost use Rattle.packet_header.specs.Header.{AreBytes};
 ghost use Rattle.rpc_laws.specs.Packets.{reply_packet};
 ghost use Rattle.server_core.specs.Replies.{IsSpelled};
 
@@ -16,7 +17,8 @@ impl ServerEnd {
         number: u16,
         head: &mut [u8; HEAD_BYTES],
     ) -> Result<&'a [u8], NoMemory>
-        ensures { IfOk result (λ body. IsSpelled (reply_packet request number (Some self.now)) head.new body.now) }
+        ensures spelled { IfOk result (λ body. IsSpelled (reply_packet request number (Some self.now)) head.new body.now) }
+        ensures bytes { OnOk result (AreBytes head.new) }
     {
         let Some(entry) = self.session.entry(request, number) else {
             return Err(NoMemory);

@@ -1,12 +1,12 @@
 //! Packets of the client are handled here, and jobs that are finished.
-ghost use Rattle.std.specs.Prelude.{◌≡◌, ◌≤◌, ◌<◌, ℕ, Some, false, true, length, option_map, IfOk, IfSome, IsTrue, OnOk};
+ghost use Rattle.std.specs.Prelude.{◌≡◌, ◌≤◌, ◌<◌, ◌++◌, ℕ, Some, false, true, length, option_map, IfOk, IfSome, IsTrue, OnOk};
 ghost use Rattle.std.specs.List.{find};
 ghost use Rattle.message_buffer.specs.Buffer.{bytes_of};
 ghost use Rattle.worker_crew.specs.Jobs.{HasRoom};
 ghost use Rattle.rpc_outside.specs.PlainAnswer.{background_answer, plain_mode};
 ghost use Rattle.rpc_laws.specs.PollOrder.{is_working};
 ghost use Rattle.rpc_laws.specs.Requests.{in_slot_of, is_request};
-ghost use Rattle.rpc_laws.specs.ServerTable.{is_last, makes_job, server_row};
+ghost use Rattle.rpc_laws.specs.ServerTable.{is_last};
 ghost use Rattle.rpc_laws.specs.Service.{answer_with, is_background};
 ghost use Rattle.buffer_pool.specs.Pool.{spare_of};
 ghost use Rattle.rpc_laws.specs.declared.rows.ServerRow.TheVariants.{Begins};
@@ -17,7 +17,7 @@ ghost use Rattle.server_core.specs.Finishing.{is_waiting};
 ghost use Rattle.server_core.specs.Session.{IsMessage, IsSession, newest};
 ghost use Rattle.server_core.specs.Shown.{shown};
 ghost use Rattle.server_core.specs.Steps.{AreServed, IsAsking};
-ghost use Rattle.sim_server.specs.Ends.{WhereTaken, after_row, answer_bytes, ask_with, asked_bytes, finished, is_numbered, is_wanting, job_given, parcel_of, shown_job, total_after_row};
+ghost use Rattle.sim_server.specs.Ends.{WhereTaken, after_row, answer_bytes, ask_with, asked_bytes, finished, gives_job, is_numbered, is_wanting, job_given, parcel_of, plain_row, shown_job, total_after_row};
 
 use super::ServerEnd;
 use buffer_pool::BufferPool;
@@ -44,20 +44,21 @@ impl ServerEnd {
         jobs_full: bool,
     ) -> Result<Option<Parcel>, NoMemory>
         requires asking { IsAsking head.now (length body.now) }
-        ensures after { OnOk result (self.new ≡ after_row (server_row jobs_full (Some self.old) peer head.now) service.old head.now body.now self.old) }
-        ensures total { OnOk result (service.new ≡ total_after_row (server_row jobs_full (Some self.old) peer head.now) service.old head.now (ask_with (server_row jobs_full (Some self.old) peer head.now) head.now body.now self.old)) }
-        ensures asked { OnOk result (WhereTaken (server_row jobs_full (Some self.old) peer head.now)
-            (makes_job head.now ≡ false → asked_bytes head.now.request self.new ≡ ask_with (server_row jobs_full (Some self.old) peer head.now) head.now body.now self.old)) }
-        ensures answer { OnOk result (WhereTaken (server_row jobs_full (Some self.old) peer head.now)
-            (makes_job head.now ≡ false → is_last head.now ≡ true → answer_bytes head.now.request self.new ≡ answer_with service.old head.now.req_type (ask_with (server_row jobs_full (Some self.old) peer head.now) head.now body.now self.old))) }
-        ensures job { IfOk result (λ o. option_map shown_job o ≡ job_given (server_row jobs_full (Some self.old) peer head.now) head.now body.now self.old) }
+        ensures after { OnOk result (self.new ≡ after_row (plain_row jobs_full (Some self.old) peer head.now) service.old head.now body.now self.old) }
+        ensures total { OnOk result (service.new ≡ total_after_row (plain_row jobs_full (Some self.old) peer head.now) service.old head.now (ask_with (plain_row jobs_full (Some self.old) peer head.now) head.now body.now self.old)) }
+        // What was taken of its request before, with its own bytes, is all that the handler or the job is given.
+        ensures asked { OnOk result (WhereTaken (plain_row jobs_full (Some self.old) peer head.now)
+            (asked_bytes head.now.request self.old ++ body.now ≡ ask_with (plain_row jobs_full (Some self.old) peer head.now) head.now body.now self.old)) }
+        ensures answer { OnOk result (WhereTaken (plain_row jobs_full (Some self.old) peer head.now)
+            (gives_job head.now ≡ false → is_last head.now ≡ true → answer_bytes head.now.request self.new ≡ answer_with service.old head.now.req_type (ask_with (plain_row jobs_full (Some self.old) peer head.now) head.now body.now self.old))) }
+        ensures job { IfOk result (λ o. option_map shown_job o ≡ job_given (plain_row jobs_full (Some self.old) peer head.now) head.now body.now self.old) }
         ensures room { IfOk result (λ o. IfSome o (HasRoom background_answer)) }
         ensures most { IfOk result (λ o. IfSome o (λ p. p.out.len ≤ 1048576)) }
         ensures background { IfOk result (λ o. IfSome o (λ p. is_background p.req_type ≡ true)) }
         // A packet ends no work; one that is taken is of no request that a worker has, unless it makes its job.
         ensures keeps { OnOk result ((r : ℕ) → is_working (find (is_request r) self.old.slots) ≡ true → is_working (find (is_request r) self.new.slots) ≡ true) }
-        ensures idle { OnOk result (WhereTaken (server_row jobs_full (Some self.old) peer head.now) (is_working (find (is_request head.now.request) self.old.slots) ≡ false)) }
-        ensures works { OnOk result (WhereTaken (server_row jobs_full (Some self.old) peer head.now) (makes_job head.now ≡ true → is_working (find (is_request head.now.request) self.new.slots) ≡ true)) }
+        ensures idle { OnOk result (WhereTaken (plain_row jobs_full (Some self.old) peer head.now) (is_working (find (is_request head.now.request) self.old.slots) ≡ false)) }
+        ensures works { OnOk result (WhereTaken (plain_row jobs_full (Some self.old) peer head.now) (gives_job head.now ≡ true → is_working (find (is_request head.now.request) self.new.slots) ≡ true)) }
     {
         if peer != self.session.peer() {
             return Ok(None);
@@ -141,16 +142,16 @@ fn finish(session: &mut ServerSession, pool: &mut BufferPool, parcel: Parcel) ->
     }
 }
 
-// Whether a packet of this request, which has this row, may be served: two places are empty, one reference
+// Whether a packet of this request, which has this row, may be served: a place is empty, one reference
 // more can be counted to the answer of the newest request of its slot, and none is left where another
 // request begins.
 fn may_serve(session: &ServerSession, pool: &BufferPool, request: RequestNo, row: ServerRow) -> bool
     requires { KeepsPool pool.now session.now.slots }
-    ensures spare { IsTrue result → 2 ≤ spare_of pool.now }
+    ensures spare { IsTrue result → 0 < spare_of pool.now }
     ensures can_hold { IsTrue result → IfSome (newest request session.now) (CanHold pool.now) }
     ensures unheld { IsTrue result → row ≡ Begins → IfSome (newest request session.now) (IsUnheld pool.now) }
 {
-    if pool.spare() < 2 || !session.can_hold(pool, request) {
+    if pool.spare() == 0 || !session.can_hold(pool, request) {
         return false;
     }
     match row {

@@ -1,4 +1,4 @@
-use Rattle.std.proofs.Common.{◌≡◌, Bool, true, false, not, Option, Some, None, is_some, IsTrue, sym, refl, ap, ◌∙◌}
+use Rattle.std.proofs.Common.{◌≡◌, Bool, true, false, not, Option, Some, None, is_some, sym, refl}
 use Rattle.packet_header.proofs.Faults.{no_fault-message, message-no_fault, no_fault-control, control-no_fault}
 use Rattle.packet_header.proofs.range_test.is_in_range.Goals as goal
 

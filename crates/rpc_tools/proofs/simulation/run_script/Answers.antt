@@ -11,6 +11,7 @@ returns-in-Ok-print g c =
         once = r.once;
         own = r.own;
         sends_own = r.sends_own;
+        fits = r.fits;
         credit = r.credit;
         ends_clean = r.ends_clean;
         begins_clean = r.begins_clean;

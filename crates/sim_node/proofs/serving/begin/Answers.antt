@@ -1,5 +1,5 @@
 use Rattle.std.proofs.Common.{ap}
-use Rattle.sim_node.proofs.ServeLemmas.{begins-then, begun-noted, still}
+use Rattle.sim_node.proofs.ServeLemmas.{begins-then, begun-noted, begun-total, still}
 use Rattle.sim_server.specs.Ends.{is_taken}
 use Rattle.sim_node.proofs.serving.begin.Goals as goal
 
@@ -21,8 +21,12 @@ take_packet-requires-clause-front_body c =
 
 pub take_packet-requires-clause-taken : goal.take_packet-requires-clause-taken
 take_packet-requires-clause-taken c =
-    ap is_taken (begins-then _ _ _ _ c.args.body.now _ _ c.requires.row c.in_ok-flush_older.ensures.noted)
+    ap is_taken (begins-then c.args.service.now _ _ c.args.peer c.args.head.now c.args.body.now _ _ c.requires.row c.in_ok-flush_older.ensures.noted)
 
 pub returns-clause-noted : goal.returns-clause-noted
 returns-clause-noted c =
-    begun-noted _ _ _ _ _ _ _ c.requires.row c.in_ok-flush_older.ensures.noted _ _ c.in_ok-take_packet.ensures.noted
+    begun-noted c.args.service.now _ _ c.args.peer c.args.head.now c.args.body.now _ _ c.requires.row c.in_ok-flush_older.ensures.noted _ _ c.in_ok-take_packet.ensures.noted
+
+pub returns-clause-total : goal.returns-clause-total
+returns-clause-total c =
+    begun-total c.args.service.now _ _ c.args.peer c.args.head.now c.args.body.now _ _ c.requires.row c.in_ok-flush_older.ensures.noted _ c.in_ok-take_packet.ensures.total

@@ -4,6 +4,16 @@ use Rattle.client_core.specs.contracts.session.ClientSession.{the_view}
 use Rattle.client_core.proofs.PoolLemmas.{keeps-begun}
 use Rattle.client_core.proofs.SessionLemmas.{begun-session, few-active, started-turn}
 use Rattle.client_core.proofs.ShownLemmas.{beginning-step, call-begins, nothing-begins}
+use Rattle.client_core.proofs.OthersLemmas.{begun-leaves, find-front}
+use Rattle.client_core.specs.Posting.{is_owner}
+use Rattle.client_core.proofs.CountLemmas.{counts-filled}
+use Rattle.buffer_pool.specs.Pool.{filled}
+use Rattle.std.proofs.Common.{sym, ◌∙◌}
+use Rattle.rpc_base.specs.declared.owner.Owner.TheVariants.{Ask}
+use Rattle.packet_rings.specs.Entries.{is_of}
+use Rattle.std.proofs.Common.{◌≡◌}
+use Rattle.std.specs.Prelude.{count_by}
+use Rattle.client_core.proofs.CallsLemmas.{all-append}
 use Rattle.client_core.proofs.session.ClientSession.begin.Goals as goal
 
 pub push-requires : goal.push-requires
@@ -47,3 +57,27 @@ returns-clause-step c = λ clock peer fresh.
     let unlisted = rw (← c.self.view_is, ap (λ x. x.call) is) at fresh in
     rw (← c.self.view_is, c.push.ensures, c.start-call.ensures.pool, begins.table, is)
     (beginning-step c.args.pool.now peer _ _ _ c.start-call.ensures.ask c.start-call.ensures.answer clock (the_view c.self.inside) _ _ keeps begins size unlisted)
+
+pub returns-clause-others : goal.returns-clause-others
+returns-clause-others c =
+    rw (← c.self.view_is, c.push.ensures, c.start-call.ensures.pool)
+    (begun-leaves c.args.pool.now c.start-call.result.ask c.start-call.result.answer _ _ c.start-call.result c.self.inside.calls c.start-call.ensures.ask c.start-call.ensures.answer refl refl)
+
+pub returns-clause-entries : goal.returns-clause-entries
+returns-clause-entries c = rw (← c.self.view_is, c.push.ensures)
+    (λ e was. find-front (is_owner c.self.inside.number e.owner) e c.self.inside.calls c.start-call.result was)
+
+pub returns-clause-counts : goal.returns-clause-counts
+returns-clause-counts c = λ entries counts.
+    let a = c.start-call.result in
+    let w = c.in-Some.waiting in
+    let first = counts-filled c.args.pool.now entries counts a.ask w.req c.start-call.ensures.ask in
+    rw c.start-call.ensures.pool (counts-filled (filled a.ask w.req c.args.pool.now) entries first a.answer w.resp c.start-call.ensures.answer)
+
+pub returns-clause-queued : goal.returns-clause-queued
+returns-clause-queued c = λ entries all none.
+    let is = c.start-call.ensures.call in
+    let before = rw (← c.self.view_is) at all in
+    let fresh = rw (← c.self.view_is) at none in
+    let own : c.start-call.result.queued ≡ count_by (is_of (Ask c.self.inside.number c.start-call.result.request)) entries = ap (λ x. x.queued) is ∙ sym fresh ∙ ap (λ x. count_by (is_of (Ask c.self.inside.number x.request)) entries) (sym is) in
+    rw c.push.ensures (all-append (λ x. x.queued ≡ count_by (is_of (Ask c.self.inside.number x.request)) entries) c.self.inside.calls c.start-call.result before own)

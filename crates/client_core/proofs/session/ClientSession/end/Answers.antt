@@ -6,6 +6,7 @@ use Rattle.client_core.proofs.AnswerLemmas.{keeps-without}
 use Rattle.client_core.proofs.CallsLemmas.{found-holds}
 use Rattle.client_core.proofs.OneCallLemmas.{ended-session, is-active}
 use Rattle.client_core.proofs.PlacesLemmas.{two-places}
+use Rattle.client_core.proofs.CountLemmas.{counts-ended}
 use Rattle.client_core.proofs.session.ClientSession.end.Goals as goal
 
 pub end-requires : goal.end-requires
@@ -32,3 +33,9 @@ returns-clause-keeps_pool c =
     let found = rw (← c.self.view_is) at c.requires.active in
     let keeps = rw (← c.self.view_is) at c.requires.keeps_pool in
     rw (c.take_buffers.ensures.pool, c.remove.ensures) (keeps-without c.args.pool.now (is_request c.args.call.request) c.args.call c.self.inside.calls found keeps)
+
+pub returns-clause-counts : goal.returns-clause-counts
+returns-clause-counts c = λ entries counts.
+    let kept = found-holds (is_request c.args.call.request) (IsKept c.args.pool.now) c.args.self.now.active c.args.call c.requires.keeps_pool.kept c.requires.active in
+    let apart = two-places (is_request c.args.call.request) c.args.call c.args.self.now.active c.requires.active (c.requires.keeps_pool.apart c.args.call.ask) in
+    rw c.take_buffers.ensures.pool (counts-ended c.args.pool.now entries c.args.call kept apart c.requires.unheld counts)

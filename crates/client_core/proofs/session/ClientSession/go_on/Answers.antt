@@ -8,6 +8,7 @@ use Rattle.client_core.proofs.CallLemmas.{goes-not-small, part-of, replied-turn}
 use Rattle.client_core.proofs.CallsLemmas.{found-holds}
 use Rattle.client_core.proofs.ChangedLemmas.{same-change}
 use Rattle.client_core.proofs.OneCallLemmas.{changed-session, own-turn, own-unanswered}
+use Rattle.client_core.proofs.CountLemmas.{counts-answered}
 use Rattle.client_core.proofs.session.ClientSession.go_on.Goals as goal
 
 pub give_back-requires-clause-charged : goal.give_back-requires-clause-charged
@@ -49,3 +50,7 @@ returns-clause-keeps_pool c =
     let part = part-of c.args.pool.now c.args.call c.args.head.now _ kept (own-turn _ (is_request c.args.call.request) c.args.call c.self.invariant.1 found) c.requires.taken (goes-not-small _ _ c.requires.goes_on) in
     rw (c.write_part.ensures, c.replace.ensures, c.replied.ensures)
     (keeps-replied c.args.pool.now c.args.now c.args.call c.args.head.now c.args.body.now c.self.inside.calls found keeps part)
+
+pub returns-clause-counts : goal.returns-clause-counts
+returns-clause-counts c = λ entries counts.
+    rw c.write_part.ensures (counts-answered c.args.pool.now entries c.args.call c.args.head.now c.args.body.now counts)

@@ -7,6 +7,12 @@ use Rattle.client_core.specs.Watching.{call_number, is_after}
 use Rattle.client_core.proofs.CallsLemmas.{found-holds}
 use Rattle.client_core.proofs.LostLemmas.{lose-step, some-each}
 use Rattle.client_core.proofs.OneCallLemmas.{by-request, least-found, least-none-of}
+use Rattle.client_core.proofs.OthersLemmas.{end-leaves, end-others}
+use Rattle.client_core.specs.Replies.{is_request}
+use Rattle.rpc_base.specs.declared.owner.Owner.TheVariants.{Ask}
+use Rattle.packet_rings.specs.Entries.{is_of}
+use Rattle.std.specs.Prelude.{count_by}
+use Rattle.client_core.proofs.ChangedLemmas.{all-without}
 use Rattle.client_core.proofs.session.ClientSession.lose.Goals as goal
 
 pub end-requires-clause-active : goal.end-requires-clause-active
@@ -40,3 +46,17 @@ returns-clause-step c =
     rw (← c.self.view_is) (some-each (λ d. GivesUp d (the_view c.self.inside) c.give_up.new.self) (λ d. IsAlone d.call (the_view c.self.inside) → (clock peer : ℕ) → stepped clock (done_event d) (shown_broken c.args.pool.now peer (the_view c.self.inside)) ≡ shown_broken c.args.pool.now peer c.give_up.new.self ∷ []) c.give_up.result (λ d gives alone clock peer.
     let lost : Loses (next_lost (the_view c.self.inside)) d (the_view c.self.inside) c.give_up.new.self c.args.pool.now c.args.pool.now = rw (← c.in_default.ensures) (gives, refl) in
     lose-step c.args.pool.now c.args.pool.now clock peer d (the_view c.self.inside) c.give_up.new.self c.self.invariant.1 keeps alone lost) given)
+
+pub returns-in-Some-clause-others : goal.returns-in-Some-clause-others
+returns-in-Some-clause-others c =
+    let (test, found) = least-found (is_after None) call_number c.self.inside.calls c.in-Some.call (sym c.in-Some.ensures) in
+    rw (c.end.ensures.session, c.end.ensures.pool, ← c.self.view_is) (end-leaves c.args.pool.now (is_request c.in-Some.call.request) test c.in-Some.call c.self.inside.calls found)
+
+pub returns-in-Some-clause-entries : goal.returns-in-Some-clause-entries
+returns-in-Some-clause-entries c =
+    rw (c.end.ensures.session, ← c.self.view_is, ← c.in-Some.ensures) (end-others c.in-Some.call (the_view c.self.inside))
+
+pub returns-in-Some-clause-queued : goal.returns-in-Some-clause-queued
+returns-in-Some-clause-queued c = λ entries all.
+    let before = rw (← c.self.view_is) at all in
+    rw (c.end.ensures.session, ← c.self.view_is) (all-without (is_request c.in-Some.call.request) c.in-Some.call (λ x. x.queued ≡ count_by (is_of (Ask c.self.inside.number x.request)) entries) c.self.inside.calls before)

@@ -4,6 +4,8 @@ use Rattle.client_core.specs.contracts.session.ClientSession.{the_view}
 use Rattle.client_core.proofs.EndedLemmas.{outcome-step}
 use Rattle.client_core.proofs.OneCallLemmas.{by-request, own-request, own-turn}
 use Rattle.client_core.proofs.OutcomeLemmas.{facts-shown, row-shown}
+use Rattle.client_core.proofs.OthersLemmas.{reply-entries, reply-leaves}
+use Rattle.client_core.proofs.QueuedLemmas.{reply-queued}
 use Rattle.client_core.proofs.session.ClientSession.on_reply.Goals as goal
 
 pub take-requires-clause-active : goal.take-requires-clause-active
@@ -45,3 +47,15 @@ returns-in-Takes-clause-step c = λ alone peer.
     let apart = rw (← c.self.view_is) at alone in
     let row : row_told c.take.result ≡ reply_row c.args.queued c.args.head.now (length c.args.body.now) (call_as c.args.head.now.request (the_view c.self.inside)) = rw (← c.in-Some.ensures) (c.take.ensures.took ∙ c.in-Takes.ensures) in
     rw (← c.self.view_is) (outcome-step c.args.queued c.args.now peer c.args.pool.now c.take.new.pool c.args.head.now c.args.body.now (the_view c.self.inside) c.take.new.self c.self.invariant.1 keeps session c.take.result row replies apart)
+
+pub returns-in-Takes-clause-others : goal.returns-in-Takes-clause-others
+returns-in-Takes-clause-others c =
+    reply-leaves c.args.now c.args.head.now c.args.body.now c.args.self.now c.take.new.self c.args.pool.now c.take.new.pool c.take.result c.take.ensures.replies
+
+pub returns-in-Takes-clause-entries : goal.returns-in-Takes-clause-entries
+returns-in-Takes-clause-entries c =
+    reply-entries c.args.now c.args.head.now c.args.body.now c.args.self.now c.take.new.self c.args.pool.now c.take.new.pool c.take.result c.take.ensures.replies
+
+pub returns-in-Takes-clause-queued : goal.returns-in-Takes-clause-queued
+returns-in-Takes-clause-queued c = λ entries all.
+    reply-queued c.args.now c.args.head.now c.args.body.now c.args.self.now c.take.new.self c.args.pool.now c.take.new.pool entries c.take.result c.take.ensures.replies all

@@ -5,6 +5,8 @@ use Rattle.client_core.proofs.AnswerLemmas.{answered-gone, answered-refs, keeps-
 use Rattle.client_core.proofs.CallLemmas.{ends-last, ok-not-goes, ok-not-small, part-of, small-not-goes}
 use Rattle.client_core.proofs.CallsLemmas.{found-holds}
 use Rattle.client_core.proofs.PlacesLemmas.{two-places}
+use Rattle.client_core.proofs.CountLemmas.{counts-answered}
+use Rattle.client_core.specs.Counting.{Counts}
 use Rattle.client_core.proofs.session.ClientSession.take.Goals as goal
 
 pub write_part-requires-clause-kept : goal.write_part-requires-clause-kept
@@ -38,8 +40,29 @@ returns-in-EndsOk-clause-replies c =
       c.args.call,
       record {
         found = found;
+        next = c.requires.taken.next;
+        last = ends-last c.args.call c.args.head.now _ c.requires.turn c.requires.taken (ok-not-goes _ (sym c.in-EndsOk.ensures));
         ends = rw (← c.in-EndsOk.ensures) (rw c.write_part.ensures at c.end-done.ensures.done);
         session = c.end-done.ensures.session;
         pool = rw c.write_part.ensures at c.end-done.ensures.pool ∙ answered-gone c.args.pool.now c.args.call c.args.head.now c.args.body.now apart;
       },
     )
+
+pub returns-in-EndsTooSmall-clause-replies : goal.returns-in-EndsTooSmall-clause-replies
+returns-in-EndsTooSmall-clause-replies c =
+    let found : call_as c.args.head.now.request c.args.self.now ≡ Some c.args.call = rw c.requires.of_call c.requires.active in (
+      c.args.call,
+      record {
+        found = found;
+        next = c.requires.taken.next;
+        last = ends-last c.args.call c.args.head.now _ c.requires.turn c.requires.taken (small-not-goes _ _ (sym c.in-EndsTooSmall.ensures));
+        ends = rw (← c.in-EndsTooSmall.ensures) c.end-done-in-EndsTooSmall.ensures.done;
+        session = c.end-done-in-EndsTooSmall.ensures.session;
+        pool = c.end-done-in-EndsTooSmall.ensures.pool;
+      },
+    )
+
+pub returns-in-EndsOk-clause-counts : goal.returns-in-EndsOk-clause-counts
+returns-in-EndsOk-clause-counts c = λ entries counts.
+    let written : Counts c.write_part.new.pool entries = rw c.write_part.ensures (counts-answered c.args.pool.now entries c.args.call c.args.head.now c.args.body.now counts) in
+    c.end-done.ensures.counts entries written

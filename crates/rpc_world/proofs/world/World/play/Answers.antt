@@ -1,10 +1,25 @@
-use Rattle.std.proofs.Common.{◌<◌, length, arith}
-use Rattle.std.proofs.lemmas.List.{take_more}
+use Rattle.std.proofs.Common.{◌≡◌, ◌<◌, ◌≤◌, ◌∙◌, List, [], subst, length, refl, rules, arith}
+use Rattle.std.proofs.lemmas.List.{take_all, take_more}
+use Rattle.script_grammar.specs.declared.line.Line.{Line}
+use Rattle.sim_script.specs.FollowsScript.{FollowsFrom, empty_stage}
 use Rattle.sim_script.proofs.FollowsLemmas.{follows-more}
+use Rattle.rpc_world.proofs.PlainLemmas.{plainly-append, plainly-none}
+use Rattle.rpc_world.proofs.WantingLemmas.{follows-by}
 use Rattle.rpc_world.proofs.world.World.play.Goals as goal
+
+pub loop-line-init : goal.loop-line-init
+loop-line-init c = rw (c.new-facts.ensures, c.new-stage.ensures) ((refl, refl), plainly-none [])
 
 pub loop-line-preserved : goal.loop-line-preserved
 loop-line-preserved c =
     let within : c.loop-line.line-index < length c.lines-line-items.result.now = omega arith in
     let p = c.in_ok-execute.ensures in
-    rw (take_more c.lines-line-items.result.now c.loop-line.line-index c.line-item.result within, ← c.line-item.is, p.grew) (follows-more _ _ _ _ _ _ _ c.loop-line.invariant p.does)
+    rw (take_more c.lines-line-items.result.now c.loop-line.line-index c.line-item.result within, ← c.line-item.is, p.grew) (follows-more _ _ _ _ _ _ _ c.loop-line.invariant.0 p.does, plainly-append _ _ _ _ _ c.loop-line.invariant.1 p.plain)
+
+pub returns-clause-follows : goal.returns-clause-follows
+returns-clause-follows c =
+    let same : c.of.result ≡ c.loop-line.facts = search rules in
+    let long : length c.lines-line-items.result.now ≤ c.loop-line.line-index = omega arith in
+    let whole = take_all c.loop-line.line-index c.lines-line-items.result.now long in
+    let all : FollowsFrom c.args.script.now empty_stage c.loop-line.facts c.loop-line.stage.stage = subst (λ (ls : List Line). FollowsFrom ls empty_stage c.loop-line.facts c.loop-line.stage.stage) (whole ∙ c.lines-line-items.ensures.lines) c.loop-line.invariant.0 in
+    rw same (follows-by _ _ c.loop-line.stage all c.loop-line.invariant.1)

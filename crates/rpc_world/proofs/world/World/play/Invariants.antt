@@ -1,6 +1,7 @@
-use Rattle.std.proofs.Common.{take}
+use Rattle.std.proofs.Common.{take, []}
 use Rattle.sim_script.specs.FollowsScript.{FollowsFrom, empty_stage}
+use Rattle.rpc_world.specs.Answered.{Plainly}
 use Rattle.rpc_world.proofs.world.World.play.Given as goal
 
 abbrev pub invariant-loop-line : goal.invariant-loop-line
-invariant-loop-line l = FollowsFrom (take l.line-index l.line-items) empty_stage l.facts l.stage
+invariant-loop-line l = FollowsFrom (take l.line-index l.line-items) empty_stage l.facts l.stage.stage × Plainly l.facts [] l.stage.totals

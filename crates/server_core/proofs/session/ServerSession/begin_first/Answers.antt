@@ -1,4 +1,4 @@
-use Rattle.std.proofs.Common.{◌≡◌, Some, None, refl, arith}
+use Rattle.std.proofs.Common.{◌≡◌, ◌%◌, Some, None, refl, ap, ◌∙◌, arith}
 use Rattle.std.proofs.lemmas.Bool.{lt-ltb}
 use Rattle.server_core.specs.Serving.{begun, first_taken, with_slots}
 use Rattle.server_core.specs.Session.{newest}
@@ -14,6 +14,9 @@ use Rattle.server_core.specs.Serving.{given_up}
 use Rattle.buffer_pool.specs.Pool.{filled, lowest_empty}
 use Rattle.server_core.specs.Steps.{IsReply}
 use Rattle.server_core.proofs.HoldBeginLemmas.{first-holds, first-leaves, listed}
+use Rattle.server_core.proofs.CountLemmas.{counts-filled, counts-given, counts-unplaced}
+use Rattle.server_core.specs.Session.{is_in_slot}
+use Rattle.server_core.proofs.HoldStepLemmas.{early-unplaced}
 use Rattle.server_core.proofs.session.ServerSession.begin_first.Goals as goal
 
 pub put_message-ask-requires : goal.put_message-ask-requires
@@ -81,3 +84,16 @@ returns-clause-holds c = λ entries holds.
     let mine : IsReplyIn d c.entry-reply.result = rw c.entry-reply.ensures (record { taken = omega arith; there = idle-reply d 0 refl; place_is = refl }) in
     rw (c.push.ensures, c.give_up.ensures.slots, c.put_message-ask.ensures.pool, c.give_up.ensures.pool, c.slot.ensures)
     (first-holds c.args.pool.now s head.request c.self.invariant keeps d refl new (begun d (listed (newest head.request s))) (first-leaves c.args.pool.now s head k c.args.ask lowest) entries before 0 c.entry-reply.result refl reply mine)
+
+pub returns-clause-counts : goal.returns-clause-counts
+returns-clause-counts c = λ entries counts.
+    let s = the_view c.self.inside in
+    let head = c.args.head.now in
+    let d = first_taken head c.put_message-ask.result.place None in
+    let keeps = rw (← c.self.view_is) at c.requires.keeps_pool in
+    let unheld = rw (← c.self.view_is) at c.requires.unheld in
+    let given = counts-given (is_in_slot (head.request % 8)) c.args.pool.now s.slots entries keeps unheld counts in
+    let lowest : lowest_empty (given_up (newest head.request s) c.args.pool.now) ≡ Some c.put_message-ask.result.place = rw (c.give_up.ensures.pool, c.slot.ensures) at c.put_message-ask.ensures.place in
+    let after = counts-filled (given_up (newest head.request s) c.args.pool.now) entries given c.put_message-ask.result.place c.args.ask lowest in
+    rw (c.put_message-ask.ensures.pool, c.give_up.ensures.pool, c.slot.ensures)
+    (counts-unplaced (filled c.put_message-ask.result.place c.args.ask (given_up (newest head.request s) c.args.pool.now)) entries after c.entry-reply.result (ap (λ e. e.place) c.entry-reply.ensures ∙ early-unplaced d 0 c.requires.many))

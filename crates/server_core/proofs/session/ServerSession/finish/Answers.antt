@@ -1,6 +1,8 @@
-use Rattle.std.proofs.Common.{arith}
+use Rattle.std.proofs.Common.{◌≡◌, [], drop, arith}
+use Rattle.std.proofs.Math.ListN.{drop_of_length-le}
 use Rattle.server_core.proofs.GivenLemmas.{front-beside, next-front, unheld-rest}
 use Rattle.server_core.proofs.PlaceLemmas.{gone-keeps}
+use Rattle.server_core.proofs.CountLemmas.{counts-all}
 use Rattle.server_core.proofs.session.ServerSession.finish.Goals as goal
 
 pub empty_buffers-requires-clause-apart : goal.empty_buffers-requires-clause-apart
@@ -19,3 +21,12 @@ loop-request-preserved c =
       keeps = gone-keeps c.loop-request.pool c.request-item.result _ beside;
       unheld = unheld-rest c.loop-request.pool c.request-item.result _ beside unheld.1;
     })
+
+pub returns-clause-pool : goal.returns-clause-pool
+returns-clause-pool c =
+    let none : drop c.loop-request.request-index c.as_slice-request-items.result.now ≡ [] = drop_of_length-le c.as_slice-request-items.result.now {i = c.loop-request.request-index} c.loop-request-test.false in
+    rw none at c.loop-request.invariant.left
+
+pub returns-clause-counts : goal.returns-clause-counts
+returns-clause-counts c = λ entries counts.
+    rw (returns-clause-pool c) (counts-all c.args.pool.now c.args.self.slots entries c.requires.keeps_pool c.requires.unheld counts)

@@ -11,14 +11,15 @@ use Rattle.server_core.specs.Flushing.{bare, flushed_facts, queued_of}
 use Rattle.server_core.specs.KeepsPool.{IsKept}
 use Rattle.server_core.specs.Replies.{released_at}
 use Rattle.server_core.specs.Session.{IsSession, is_in_slot, newest, owner_of}
-use Rattle.server_core.proofs.FlushLemmas.{filter-none, flush-held, flush-holds, flush-others, flush-spare, flush-unheld, grew-then, leaves-then, numbers-flushed, numbers-none, shown-released}
+use Rattle.server_core.proofs.CountLemmas.{counts-released}
+use Rattle.server_core.proofs.FlushLemmas.{filter-none, flush-held, flush-holds, flush-others, flush-spare, flush-unheld, grew-none, grew-then, leaves-then, numbers-flushed, numbers-none, sent-none, shown-released}
 use Rattle.server_core.proofs.HoldBeginLemmas.{none-gone, older-gone, reply-is, sent-of}
 use Rattle.server_core.proofs.ListLemmas.{found-holds}
 use Rattle.server_core.proofs.PoolLemmas.{keeps-released}
 use Rattle.server_core.proofs.session.ServerSession.flush_older.Goals as goal
 
-pub release-requires : goal.release-requires
-release-requires g c =
+pub release_at-requires : goal.release_at-requires
+release_at-requires g c =
     let found : newest c.args.request c.args.self.now ≡ Some c.in-Some.older = ap (newest c.args.request) (sym c.self.view_is) ∙ rw c.slot.ensures at (sym c.in-Some.ensures) in
     let owner_is : c.owner.result ≡ owner_of c.args.self.now.number c.in-Some.older = c.owner.ensures ∙ ap (λ s. owner_of s.number c.in-Some.older) c.self.view_is in
     let kept = found-holds (is_in_slot _) (IsKept c.loop-entry.pool) c.args.self.now.slots c.in-Some.older c.loop-entry.invariant.keeps.kept found in
@@ -41,7 +42,7 @@ loop-entry-preserved g c =
     let own : is_of (owner_of n q) e ≡ true = rw owner_is at c.in-Some-flush.ensures.listed.1 in
     let out = c.in-Some-flush.ensures.nearest in
     let place_is = ap (λ e. e.place) c.entry.view_is in
-    let after : c.release.new.pool ≡ released_at e.place pool = c.release.ensures ∙ ap (λ p. released_at p pool) place_is in
+    let after : c.release_at.new.self ≡ released_at e.place pool = c.release_at.ensures ∙ ap (λ p. released_at p pool) place_is in
     let left : new ≡ without_least (is_of (owner_of n q)) number_of old = ap (λ r. r.items) c.in-Some-flush.ensures.left ∙ ap (λ o. without_least (is_of o) number_of old) owner_is in
     let least_is : Some e ≡ least (is_of (owner_of n q)) number_of old = c.in-Some-flush.ensures.taken ∙ ap (λ o. least (is_of o) number_of old) owner_is in
     let numbers = numbers-flushed (owner_of n q) old e least_is ∙ ap (λ es. e.number ∷ numbers_of (owner_of n q) (queued_of es)) (sym left) in
@@ -62,6 +63,7 @@ loop-entry-preserved g c =
       spare = flush-spare n q pool old new _ e inv.holds out own kept ∙ inv.spare;
       others = leaves-then c.args.self.now.slots c.args.self.now.slots c.args.pool.now pool (released_at e.place pool) inv.others (flush-others n q pool old new _ e inv.holds out own kept (is_in_slot (c.args.request % 8)) c.args.self.now.slots found);
       all = λ before. sent-of pool c.args.self.now sound inv.keeps _ e old new out (inv.all before) c.args.request q found (reply-is n q.number e.owner own);
+      counts = λ before. counts-released pool old (inv.counts before) _ e new out (flush-held n q pool old new _ e inv.holds out own kept);
       keeps = keeps-released pool e.place c.args.self.now.slots (flush-held n q pool old new _ e inv.holds out own kept) inv.keeps;
     })
 
@@ -114,3 +116,48 @@ pub returns-in_default-clause-holds : goal.returns-in_default-clause-holds
 returns-in_default-clause-holds g c = λ holds.
     let none : newest c.args.request c.args.self.now ≡ None = ap (newest c.args.request) (sym c.self.view_is) ∙ rw c.slot.ensures at (sym c.in_default.ensures) in
     none-gone c.args.pool.now c.args.self.now c.args.request none c.args.tx.now.items holds
+
+pub returns-clause-counts : goal.returns-clause-counts
+returns-clause-counts g c = λ counts.
+    rw (ap (λ r. r.items) c.in_default-flush.ensures.unchanged) (c.loop-entry.invariant.counts counts)
+
+pub is_surely_sent-requires : goal.is_surely_sent-requires
+is_surely_sent-requires g c =
+    let found : newest c.args.request c.args.self.now ≡ Some c.in-Some.older = ap (newest c.args.request) (sym c.self.view_is) ∙ rw c.slot.ensures at (sym c.in-Some.ensures) in
+    found-holds (is_in_slot _) (IsKept c.args.pool.now) c.args.self.now.slots c.in-Some.older c.requires.keeps_pool.kept found
+
+pub returns-then-is_surely_sent-clause-ring : goal.returns-then-is_surely_sent-clause-ring
+returns-then-is_surely_sent-clause-ring g c =
+    let n = c.args.self.now.number in
+    let q = c.in-Some.older in
+    let found : newest c.args.request c.args.self.now ≡ Some q = ap (newest c.args.request) (sym c.self.view_is) ∙ rw c.slot.ensures at (sym c.in-Some.ensures) in
+    let holds = rw found at c.requires.queued in
+    let none : list_any (is_of (owner_of n q)) c.args.tx.now.items ≡ false = sent-none n c.args.pool.now c.args.tx.now.items q holds (c.is_surely_sent.ensures c.if-is_surely_sent.true) in
+    rw (found, filter-none (owner_of n q) c.args.tx.now.items none) refl
+
+pub returns-then-is_surely_sent-clause-noted : goal.returns-then-is_surely_sent-clause-noted
+returns-then-is_surely_sent-clause-noted g c =
+    let n = c.args.self.now.number in
+    let q = c.in-Some.older in
+    let found : newest c.args.request c.args.self.now ≡ Some q = ap (newest c.args.request) (sym c.self.view_is) ∙ rw c.slot.ensures at (sym c.in-Some.ensures) in
+    let holds = rw found at c.requires.queued in
+    let none : list_any (is_of (owner_of n q)) c.args.tx.now.items ≡ false = sent-none n c.args.pool.now c.args.tx.now.items q holds (c.is_surely_sent.ensures c.if-is_surely_sent.true) in
+    rw (found, numbers-none (owner_of n q) c.args.tx.now.items none) (grew-none g.R.Recorder.facts g.R.Recorder.whole c.args.rec.now)
+
+pub returns-then-is_surely_sent-clause-unheld : goal.returns-then-is_surely_sent-clause-unheld
+returns-then-is_surely_sent-clause-unheld g c =
+    let n = c.args.self.now.number in
+    let q = c.in-Some.older in
+    let found : newest c.args.request c.args.self.now ≡ Some q = ap (newest c.args.request) (sym c.self.view_is) ∙ rw c.slot.ensures at (sym c.in-Some.ensures) in
+    let holds = rw found at c.requires.queued in
+    let none : list_any (is_of (owner_of n q)) c.args.tx.now.items ≡ false = sent-none n c.args.pool.now c.args.tx.now.items q holds (c.is_surely_sent.ensures c.if-is_surely_sent.true) in
+    rw found (flush-unheld n q c.args.pool.now c.args.tx.now.items holds none)
+
+pub returns-then-is_surely_sent-clause-holds : goal.returns-then-is_surely_sent-clause-holds
+returns-then-is_surely_sent-clause-holds g c = λ all.
+    let n = c.args.self.now.number in
+    let q = c.in-Some.older in
+    let found : newest c.args.request c.args.self.now ≡ Some q = ap (newest c.args.request) (sym c.self.view_is) ∙ rw c.slot.ensures at (sym c.in-Some.ensures) in
+    let holds = rw found at c.requires.queued in
+    let none : list_any (is_of (owner_of n q)) c.args.tx.now.items ≡ false = sent-none n c.args.pool.now c.args.tx.now.items q holds (c.is_surely_sent.ensures c.if-is_surely_sent.true) in
+    older-gone c.args.pool.now c.args.self.now c.args.request q found c.args.tx.now.items none all

@@ -4,6 +4,7 @@ use Rattle.buffer_pool.specs.Pool.{spare_of}
 use Rattle.packet_rings.specs.Entries.{is_not_of}
 use Rattle.rpc_base.specs.declared.fact.Fact.{Fact}
 use Rattle.rpc_outside.specs.Recording.{Grew}
+use Rattle.server_core.specs.Counting.{Counts}
 use Rattle.server_core.specs.Flushing.{HoldsAll, HoldsReplies, flushed_facts}
 use Rattle.server_core.specs.KeepsPool.{KeepsPool, LeavesOthers}
 use Rattle.server_core.specs.Session.{owner_of}
@@ -20,6 +21,7 @@ invariant-loop-entry g l = record {
   spare : spare_of l.pool ≡ spare_of l.fn.pool;
   others : LeavesOthers l.fn.self.slots l.fn.self.slots l.fn.pool l.pool;
   all : HoldsAll l.fn.self l.fn.pool l.fn.tx.items → HoldsAll l.fn.self l.pool l.tx.items;
+  counts : Counts l.fn.pool l.fn.tx.items → Counts l.pool l.tx.items;
   keeps : KeepsPool l.pool l.fn.self.slots;
 }
 

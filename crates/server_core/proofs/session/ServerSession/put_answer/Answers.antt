@@ -5,12 +5,19 @@ use Rattle.server_core.specs.Replies.{IsReplyIn}
 use Rattle.server_core.specs.Steps.{IsReply}
 use Rattle.server_core.proofs.HoldStepLemmas.{answer-holds, late-placed, worked-more}
 use Rattle.server_core.specs.Serving.{gone_on, with_slots, worked}
+use Rattle.server_core.specs.Session.{newest}
 use Rattle.server_core.specs.contracts.session.ServerSession.{the_view}
 use Rattle.server_core.proofs.BeginLemmas.{answer-held, idle-reply, is-reply}
 use Rattle.server_core.proofs.SlotLemmas.{gone-session}
 use Rattle.server_core.proofs.TakeLemmas.{gone-newest, gone-served, last-held, last-keeps, worked-on, worked-shows, worked-turn}
 use Rattle.server_core.proofs.OtherLemmas.{last-others}
 use Rattle.server_core.proofs.SpareLemmas.{last-spare}
+use Rattle.server_core.proofs.CountLemmas.{counts-filled, counts-placed}
+use Rattle.buffer_pool.proofs.CountLemmas.{lowest_at}
+use Rattle.buffer_pool.specs.Pool.{IsFull}
+use Rattle.buffer_pool.specs.Uses.{is_full}
+use Rattle.buffer_pool.specs.declared.usage.Use.TheVariants.{Empty, Full}
+use Rattle.buffer_pool.proofs.PoolLemmas.{changed_own}
 use Rattle.server_core.proofs.session.ServerSession.put_answer.Goals as goal
 
 pub overflow_sub-number : goal.overflow_sub-number
@@ -28,7 +35,7 @@ returns-clause-shown c =
     let on = worked-on c.args.request c.requires.turn c.requires.working in
     let there = rw c.put_message-answer.ensures.pool at c.put_message-answer.ensures.there in
     rw (c.replace.ensures, c.hold.ensures, c.put_message-answer.ensures.pool, ← c.self.view_is)
-    (worked-shows c.args.pool.now (the_view c.self.inside) c.args.request c.self.invariant found keeps c.put_message-answer.result.place c.args.answer c.put_message-answer.result on.none c.put_message-answer.ensures.place there refl c.put_message-answer.ensures.size c.put_message-answer.ensures.fits)
+    (worked-shows c.args.pool.now (the_view c.self.inside) c.args.request c.self.invariant found keeps c.put_message-answer.result.place c.args.answer c.put_message-answer.result on.none c.put_message-answer.ensures.place there refl c.put_message-answer.ensures.size c.put_message-answer.ensures.fits on.gone)
 
 pub returns-clause-last : goal.returns-clause-last
 returns-clause-last c =
@@ -93,3 +100,23 @@ returns-clause-holds c = λ entries holds.
     let mine : IsReplyIn d c.entry-reply.result = rw c.entry-reply.ensures (record { taken = omega (arith, c.requires.turn.some); there = idle-reply d k refl; place_is = refl }) in
     let place : c.entry-reply.result.place ≡ Some a.place = ap (λ e. e.place) c.entry-reply.ensures ∙ late-placed d a k refl (omega (arith, on.whole, c.requires.turn.some)) in
     rw (c.replace.ensures, after) (answer-holds c.args.pool.now s q c.self.invariant found keeps entries before d a.place c.args.answer a k c.entry-reply.result refl refl on.none refl c.put_message-answer.ensures.place refl (λ x r. worked-more q a x on.whole c.requires.working r) reply place mine)
+
+pub returns-clause-no_bytes : goal.returns-clause-no_bytes
+returns-clause-no_bytes c =
+    let found = rw (← c.self.view_is) at c.requires.found in
+    let keeps = rw (← c.self.view_is) at c.requires.keeps_pool in
+    let d = worked c.put_message-answer.result c.args.request in
+    let own : newest c.args.request.number (with_slots (gone_on d c.self.inside.slots) (the_view c.self.inside)) ≡ Some d = gone-newest c.args.pool.now (the_view c.self.inside) c.args.request c.self.invariant found keeps d refl in
+    rw (c.replace.ensures, own) (worked-on c.args.request c.requires.turn c.requires.working).gone
+
+pub returns-clause-counts : goal.returns-clause-counts
+returns-clause-counts c = λ entries counts.
+    let q = c.args.request in
+    let a = c.put_message-answer.result in
+    let pool = c.args.pool.now in
+    let on = worked-on q c.requires.turn c.requires.working in
+    let lowest = c.put_message-answer.ensures.place in
+    let full : IsFull (filled a.place c.args.answer pool) a.place = ap is_full (changed_own pool.uses a.place (Full 0) Empty (lowest_at pool a.place lowest).0) in
+    let place : c.entry-reply.result.place ≡ Some a.place = ap (λ e. e.place) c.entry-reply.ensures ∙ late-placed (worked a q) a (q.taken - 1) refl (omega (arith, on.whole, c.requires.turn.some)) in
+    rw (c.hold.ensures, c.put_message-answer.ensures.pool)
+    (counts-placed (filled a.place c.args.answer pool) entries (counts-filled pool entries counts a.place c.args.answer lowest) a.place c.entry-reply.result place full)

@@ -3,5 +3,5 @@ use Rattle.server_core.proofs.RowLemmas.{row-shown}
 use Rattle.server_core.proofs.session.ServerSession.row.Goals as goal
 
 pub returns-clause-rule : goal.returns-clause-rule
-returns-clause-rule c = λ pool keeps same.
-    row-shown pool c.args.mode c.args.jobs_full c.args.head.now c.args.self.now keeps same ∙ sym c.slot_row.ensures.row
+returns-clause-rule c = λ pool keeps.
+    row-shown pool c.args.mode c.args.jobs_full c.args.head.now c.args.self.now keeps ∙ sym c.slot_row.ensures.row

@@ -39,3 +39,6 @@ returns-clause-others c = part-others c.args.pool.now c.args.self.now c.args.req
 pub returns-clause-holds : goal.returns-clause-holds
 returns-clause-holds c = λ entries holds.
     uses-hold c.args.pool.now _ c.args.self.now c.requires.keeps_pool refl entries holds
+
+pub returns-clause-counts : goal.returns-clause-counts
+returns-clause-counts c = λ entries counts. counts

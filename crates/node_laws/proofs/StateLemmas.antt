@@ -1,0 +1,28 @@
+-- States of client sessions.
+use Rattle.std.proofs.Common.{◌≡◌, ℕ, true, refl}
+use Rattle.rpc_base.specs.declared.state.SessionState.{SessionState}
+use Rattle.rpc_base.specs.declared.state.SessionState.TheVariants.{Unknown, Connecting, Connected, Closing, Closed, Failed, Broken, Spent}
+use Rattle.rpc_laws.specs.Groups.{told_state}
+use Rattle.rpc_laws.specs.Sessions.{is_connected, is_live}
+
+-- a connected session is live
+pub connected-live : (state : SessionState) → is_connected state ≡ true → is_live state ≡ true
+connected-live Connected e = refl
+connected-live Spent e = refl
+connected-live Unknown e = cc
+connected-live Connecting e = cc
+connected-live Closing e = cc
+connected-live Closed e = cc
+connected-live Failed e = cc
+connected-live Broken e = cc
+
+-- and so is one that is told to be
+pub told-connected : (state : SessionState) (asked : ℕ) → is_connected (told_state state asked) ≡ true → is_connected state ≡ true
+told-connected Connected asked e = refl
+told-connected Spent asked e = refl
+told-connected Unknown asked e = cc
+told-connected Connecting asked e = cc
+told-connected Closing asked e = cc
+told-connected Closed asked e = cc
+told-connected Failed asked e = cc
+told-connected Broken asked e = cc

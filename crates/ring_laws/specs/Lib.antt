@@ -1,0 +1,2 @@
+pub mod CalmRing
+pub mod PairsOnce

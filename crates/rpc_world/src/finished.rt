@@ -1,0 +1,71 @@
+//! The jobs that were worked and aren't finished.
+ghost use Rattle.std.specs.Prelude.{◌≡◌, OnOk};
+ghost use Rattle.rpc_base.specs.Tables.{without_first};
+ghost use Rattle.rpc_laws.specs.Working.{is_worked, worked_after, worked_after_all, worked_after_node};
+ghost use Rattle.std.specs.List.{position};
+
+use rpc_base::{Event, Fact, Listed, NoMemory, NodeId, RequestNo, SessionNo, Who};
+use rpc_laws::WorkedJob;
+
+fn place_of(
+    worked: &Listed<WorkedJob>,
+    node: NodeId,
+    session: SessionNo,
+    request: RequestNo,
+) -> Option<usize>
+    ensures { result ≡ position (is_worked node session request) worked.now }
+{
+    worked.as_slice().iter().position(|job| job.node.0 == node.0
+        && (job.session.0 == session.0 && job.request.get() == request.get()))
+}
+
+fn take_out(
+    worked: &mut Listed<WorkedJob>,
+    node: NodeId,
+    session: SessionNo,
+    request: RequestNo,
+)
+    ensures { worked.new ≡ without_first (is_worked node session request) worked.old }
+{
+    if let Some(place) = place_of(worked, node, session, request) {
+        let _job = worked.remove_at(place);
+    }
+}
+
+fn keep_of(worked: &mut Listed<WorkedJob>, node: NodeId, event: &Event) -> Result<(), NoMemory>
+    ensures { OnOk result (worked.new ≡ worked_after_node node event.now worked.old) }
+{
+    match event {
+        Event::Worked { session, request } => {
+            worked.push(WorkedJob {
+                node,
+                session: *session,
+                request: *request,
+            })
+        }
+        Event::Ran { session, request, .. } => {
+            take_out(worked, node, *session, *request);
+            Ok(())
+        }
+        _ => Ok(()),
+    }
+}
+
+fn keep_one(worked: &mut Listed<WorkedJob>, fact: &Fact) -> Result<(), NoMemory>
+    ensures { OnOk result (worked.new ≡ worked_after worked.old fact.now) }
+{
+    match &fact.who {
+        Who::Node(node) => keep_of(worked, *node, &fact.event),
+        Who::Net => Ok(()),
+    }
+}
+
+/// A job that was worked waits to be finished; one whose answer was taken doesn't.
+pub fn keep(worked: &mut Listed<WorkedJob>, facts: &[Fact]) -> Result<(), NoMemory>
+    ensures { OnOk result (worked.new ≡ worked_after_all worked.old facts.now) }
+{
+    for fact in facts {
+        keep_one(worked, fact)?;
+    }
+    Ok(())
+}

@@ -1,0 +1,75 @@
+-- Where memory is wanting, the drop is that of the server rule.
+use Rattle.std.proofs.Common.{◌≡◌, ℕ, Bool, true, false, not, ◌&&◌, ◌||◌, cond, ltb, Option, Some, None, refl}
+use Rattle.std.specs.Prelude.{◌==◌}
+use Rattle.std.specs.List.{find}
+use Rattle.packet_header.specs.Parts.{packet_count}
+use Rattle.packet_header.specs.declared.packet.MessageHeader.{MessageHeader}
+use Rattle.rpc_base.specs.declared.state.DropReason.TheVariants.{Ahead, Beyond, JobsFull, Mismatch, NoMemory, NotFirst, Old, Unserved, Working, WrongPeer}
+use Rattle.rpc_laws.specs.declared.rows.ServerRow.{ServerRow}
+use Rattle.rpc_laws.specs.declared.rows.ServerRow.TheVariants.{Drops, Begins, Takes, Repeats}
+use Rattle.rpc_laws.specs.declared.tables.Served.{Served}
+use Rattle.rpc_laws.specs.declared.tables.Server.{Server}
+use Rattle.rpc_laws.specs.Requests.{in_slot_of}
+use Rattle.rpc_laws.specs.ServerTable.{is_last, is_past_end, is_rfr, is_worked_on, makes_job, server_row, slot_row}
+use Rattle.rpc_laws.specs.Service.{is_handled}
+use Rattle.rpc_outside.specs.declared.service.Mode.{Mode}
+use Rattle.server_core.specs.declared.step.Step.{Step}
+use Rattle.server_core.specs.declared.step.Step.TheVariants.{Took, Again, Ran, Give, Dropped}
+use Rattle.server_core.specs.Steps.{IsStepOf}
+
+-- the rows in which memory for a buffer may be wanting
+abbrev Lacking : MessageHeader → ServerRow → Type 0
+Lacking h (Drops why) = why ≡ NoMemory
+Lacking h Begins = Unit {0}
+Lacking h Takes = is_last h ≡ true
+Lacking h Repeats = ⊥
+
+step-lacks : (mode : Mode) (h : MessageHeader) (row : ServerRow) (step : Step) → IsStepOf mode h row step → step ≡ Dropped NoMemory → Lacking h row
+step-lacks mode h (Drops why) step at is = cc
+step-lacks mode h Begins step at is = tt
+step-lacks mode h Takes (Took reply) at is = cc
+step-lacks mode h Takes (Again reply) at is = cc
+step-lacks mode h Takes (Ran reply) at is = cc
+step-lacks mode h Takes (Give parcel) at is = cc
+step-lacks mode h Takes (Dropped why) at is = at.1
+step-lacks mode h Repeats (Took reply) at is = absurd at
+step-lacks mode h Repeats (Again reply) at is = cc
+step-lacks mode h Repeats (Ran reply) at is = absurd at
+step-lacks mode h Repeats (Give parcel) at is = absurd at
+step-lacks mode h Repeats (Dropped why) at is = absurd at
+
+new-lacks : (a b c d : Bool) (h : MessageHeader) → Lacking h (cond a (Drops NotFirst) (cond b (Drops Working) (cond c (Drops Unserved) (cond d (Drops JobsFull) Begins)))) → cond a (Drops NotFirst) (cond b (Drops Working) (cond c (Drops Unserved) (cond d (Drops JobsFull) (Drops NoMemory)))) ≡ Drops NoMemory
+new-lacks true b c d h k = cc
+new-lacks false true c d h k = cc
+new-lacks false false true d h k = cc
+new-lacks false false false true h k = cc
+new-lacks false false false false h k = refl
+
+own-lacks : (a b c w e f : Bool) (h : MessageHeader) → Lacking h (cond a (Drops Mismatch) (cond b (Drops Ahead) (cond c (cond w (Drops Working) Repeats) (cond e (Drops Beyond) (cond f (Drops JobsFull) Takes))))) → cond a (Drops Mismatch) (cond b (Drops Ahead) (cond c (cond w (Drops Working) Repeats) (cond e (Drops Beyond) (cond f (Drops JobsFull) (cond (is_last h) (Drops NoMemory) Takes))))) ≡ Drops NoMemory
+own-lacks true b c w e f h k = cc
+own-lacks false true c w e f h k = cc
+own-lacks false false true true e f h k = cc
+own-lacks false false true false e f h k = absurd k
+own-lacks false false false w true f h k = cc
+own-lacks false false false w false true h k = cc
+own-lacks false false false w false false h k = rw k refl
+
+slot-cases : (mode : Mode) (full : Bool) (l : Served) (h : MessageHeader) (a b : Bool) → Lacking h (cond a (Drops Old) (cond b (cond (is_rfr h.kind || not (h.number == 0)) (Drops NotFirst) (cond l.working (Drops Working) (cond (not (is_handled mode)) (Drops Unserved) (cond (makes_job mode h && full) (Drops JobsFull) Begins)))) (cond (cond (is_rfr h.kind) (ltb h.number (packet_count l.size)) (not (h.req_type == l.req_type && h.size == l.size))) (Drops Mismatch) (cond (ltb l.taken h.number) (Drops Ahead) (cond (ltb h.number l.taken) (cond (is_worked_on l h) (Drops Working) Repeats) (cond (is_rfr h.kind && is_past_end l.size l.answer h.number) (Drops Beyond) (cond (makes_job mode h && full) (Drops JobsFull) Takes))))))) → cond a (Drops Old) (cond b (cond (is_rfr h.kind || not (h.number == 0)) (Drops NotFirst) (cond l.working (Drops Working) (cond (not (is_handled mode)) (Drops Unserved) (cond (makes_job mode h && full) (Drops JobsFull) (Drops NoMemory))))) (cond (cond (is_rfr h.kind) (ltb h.number (packet_count l.size)) (not (h.req_type == l.req_type && h.size == l.size))) (Drops Mismatch) (cond (ltb l.taken h.number) (Drops Ahead) (cond (ltb h.number l.taken) (cond (is_worked_on l h) (Drops Working) Repeats) (cond (is_rfr h.kind && is_past_end l.size l.answer h.number) (Drops Beyond) (cond (makes_job mode h && full) (Drops JobsFull) (cond (is_last h) (Drops NoMemory) Takes))))))) ≡ Drops NoMemory
+slot-cases mode full l h true b k = cc
+slot-cases mode full l h false true k = new-lacks (is_rfr h.kind || not (h.number == 0)) l.working (not (is_handled mode)) (makes_job mode h && full) h k
+slot-cases mode full l h false false k =
+    own-lacks (cond (is_rfr h.kind) (ltb h.number (packet_count l.size)) (not (h.req_type == l.req_type && h.size == l.size))) (ltb l.taken h.number) (ltb h.number l.taken) (is_worked_on l h) (is_rfr h.kind && is_past_end l.size l.answer h.number) (makes_job mode h && full) h k
+
+slot-lacks : (mode : Mode) (full : Bool) (o : Option Served) (h : MessageHeader) → Lacking h (slot_row mode full false o h) → slot_row mode full true o h ≡ Drops NoMemory
+slot-lacks mode full None h k =
+    new-lacks (is_rfr h.kind || not (h.number == 0)) false (not (is_handled mode)) (makes_job mode h && full) h k
+slot-lacks mode full (Some l) h k = slot-cases mode full l h (ltb h.request l.number) (ltb l.number h.request) k
+
+peer-lacks : (mode : Mode) (full : Bool) (v : Server) (h : MessageHeader) (b : Bool) → Lacking h (cond (not b) (Drops WrongPeer) (slot_row mode full false (find (in_slot_of h.request) v.slots) h)) → cond (not b) (Drops WrongPeer) (slot_row mode full true (find (in_slot_of h.request) v.slots) h) ≡ Drops NoMemory
+peer-lacks mode full v h true k = slot-lacks mode full (find (in_slot_of h.request) v.slots) h k
+peer-lacks mode full v h false k = cc
+
+pub lacks-row : (mode : Mode) (full : Bool) (v : Server) (peer : ℕ) (h : MessageHeader) (row : ServerRow) (step : Step) → server_row mode full false (Some v) peer h ≡ row → IsStepOf mode h row step → step ≡ Dropped NoMemory → server_row mode full true (Some v) peer h ≡ Drops NoMemory
+lacks-row mode full v peer h row step rule at is =
+    let lacking : Lacking h (server_row mode full false (Some v) peer h) = rw rule (step-lacks mode h row step at is) in
+    peer-lacks mode full v h (v.way.peer == peer) lacking

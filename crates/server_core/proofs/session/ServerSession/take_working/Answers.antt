@@ -1,0 +1,83 @@
+use Rattle.packet_header.proofs.PartsLemmas.{packet_count_most}
+use Rattle.std.proofs.Common.{refl, arith}
+use Rattle.server_core.specs.Serving.{last_given}
+use Rattle.server_core.specs.contracts.session.ServerSession.{the_view}
+use Rattle.server_core.proofs.SlotLemmas.{gone-session}
+use Rattle.server_core.proofs.TakeLemmas.{given-keeps, given-shows, given-turn, gone-newest, gone-served}
+use Rattle.server_core.proofs.OtherLemmas.{last-given-others}
+use Rattle.server_core.proofs.SpareLemmas.{last-given-spare, spare-emptied}
+use Rattle.server_core.specs.Flushing.{HoldsAll}
+use Rattle.server_core.proofs.HoldStepLemmas.{given-holds}
+use Rattle.server_core.proofs.CountLemmas.{counts-emptied}
+use Rattle.server_core.proofs.session.ServerSession.take_working.Goals as goal
+
+pub take-requires : goal.take-requires
+take-requires c = c.requires.kept.full
+
+pub unreachable-requires : goal.unreachable-requires
+unreachable-requires c = absurd (omega (arith, c.requires.kept.unnamed, c.in_default.ensures.held.0, c.in_default.ensures.held.1))
+
+pub invariant_of-self : goal.invariant_of-self
+invariant_of-self c =
+    let found = rw (← c.self.view_is) at c.requires.found in
+    rw (c.replace.ensures, c.last_given.ensures) (gone-session (the_view c.self.inside) c.args.request (last_given c.args.request) c.self.invariant (given-turn c.args.request c.requires.none c.requires.size c.requires.last) refl found)
+
+pub returns-clause-shown : goal.returns-clause-shown
+returns-clause-shown c =
+    let found = rw (← c.self.view_is) at c.requires.found in
+    let keeps = rw (← c.self.view_is) at c.requires.keeps_pool in
+    rw (c.replace.ensures, c.last_given.ensures, c.in-Ok.ensures.taken.2, ← c.self.view_is)
+    (given-shows c.args.pool.now (the_view c.self.inside) c.args.request c.self.invariant found keeps c.args.place c.requires.asked c.requires.none)
+
+pub returns-clause-served : goal.returns-clause-served
+returns-clause-served c = λ mode_of all.
+    let found = rw (← c.self.view_is) at c.requires.found in
+    let keeps = rw (← c.self.view_is) at c.requires.keeps_pool in
+    rw (c.replace.ensures, c.last_given.ensures) (gone-served c.args.pool.now (the_view c.self.inside) c.args.request c.self.invariant found keeps mode_of (last_given c.args.request) refl refl (rw (← c.self.view_is) at all))
+
+pub returns-clause-keeps_pool : goal.returns-clause-keeps_pool
+returns-clause-keeps_pool c =
+    let found = rw (← c.self.view_is) at c.requires.found in
+    let keeps = rw (← c.self.view_is) at c.requires.keeps_pool in
+    rw (c.replace.ensures, c.last_given.ensures, c.in-Ok.ensures.taken.2)
+    (given-keeps c.args.pool.now (the_view c.self.inside) c.args.request c.self.invariant found keeps c.args.place c.requires.asked c.requires.none)
+
+pub returns-clause-others : goal.returns-clause-others
+returns-clause-others c =
+    let found = rw (← c.self.view_is) at c.requires.found in
+    rw (c.replace.ensures, c.last_given.ensures, c.in-Ok.ensures.taken.2, ← c.self.view_is)
+    (last-given-others c.args.pool.now (the_view c.self.inside) c.args.request c.args.request.number found refl c.requires.none c.args.place c.requires.asked)
+
+pub returns-clause-spare : goal.returns-clause-spare
+returns-clause-spare c =
+    let found = rw (← c.self.view_is) at c.requires.found in
+    let keeps = rw (← c.self.view_is) at c.requires.keeps_pool in
+    rw (c.replace.ensures, c.last_given.ensures, c.in-Ok.ensures.taken.2, ← c.self.view_is)
+    (last-given-spare c.args.pool.now (the_view c.self.inside) c.args.request c.args.request.number keeps found refl c.requires.none c.args.place c.requires.asked c.requires.kept.full)
+
+pub returns-clause-holds : goal.returns-clause-holds
+returns-clause-holds c = λ entries holds.
+    let found = rw (← c.self.view_is) at c.requires.found in
+    let keeps = rw (← c.self.view_is) at c.requires.keeps_pool in
+    let before : HoldsAll (the_view c.self.inside) c.args.pool.now entries = rw (← c.self.view_is) at holds in
+    rw (c.replace.ensures, c.last_given.ensures, c.in-Ok.ensures.taken.2)
+    (given-holds c.args.pool.now (the_view c.self.inside) c.args.request c.self.invariant found keeps entries before c.args.place c.requires.asked c.requires.none c.requires.last)
+
+pub returns-clause-newest : goal.returns-clause-newest
+returns-clause-newest c =
+    let found = rw (← c.self.view_is) at c.requires.found in
+    let keeps = rw (← c.self.view_is) at c.requires.keeps_pool in
+    rw (c.replace.ensures, c.last_given.ensures) (gone-newest c.args.pool.now (the_view c.self.inside) c.args.request c.self.invariant found keeps (last_given c.args.request) refl)
+
+pub returns-clause-more : goal.returns-clause-more
+returns-clause-more c = rw c.in-Ok.ensures.taken.2 (spare-emptied c.args.pool.now c.args.place c.requires.kept.full)
+
+pub returns-clause-sound : goal.returns-clause-sound
+returns-clause-sound c = invariant_of-self c
+
+pub last_given-requires : goal.last_given-requires
+last_given-requires c = omega (arith, packet_count_most c.args.request.size c.requires.size, c.requires.last)
+
+pub returns-clause-counts : goal.returns-clause-counts
+returns-clause-counts c = λ entries counts.
+    rw c.in-Ok.ensures.taken.2 (counts-emptied c.args.pool.now entries counts c.args.place c.requires.kept.full c.requires.kept.unnamed)
