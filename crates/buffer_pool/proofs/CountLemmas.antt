@@ -9,11 +9,7 @@ use Rattle.buffer_pool.specs.declared.usage.Use.TheVariants.{Empty, Full, Lent}
 use Rattle.buffer_pool.specs.Uses.{is_empty, is_full, refs_in}
 use Rattle.buffer_pool.specs.Pool.{Pool, IsFull, emptied, filled, held, lowest_empty, refs_of, released, spare_of, use_at}
 use Rattle.buffer_pool.proofs.PoolLemmas.{changed_other, changed_own, full_from_refs, full_within}
-
--- the lowest empty place is one of the pool's, and empty
-found-at : (n m i : ℕ) (b : Bool) → ltb n m ≡ b → cond b (Some n) None ≡ Some i → (i ≡ n) × (n < m)
-found-at n m i true t e = let same : i ≡ n = cc in (same, ltb-true n m t)
-found-at n m i false t e = cc
+use Rattle.rpc_base.proofs.BasicLemmas.{found-at}
 
 pub lowest_at : (s : Pool) (p : ℕ) → lowest_empty s ≡ Some p → (p < length s.uses) × (is_empty (use_at s p) ≡ true)
 lowest_at s p e =
@@ -21,7 +17,7 @@ lowest_at s p e =
     (rw same within, rw same (passes_at_first is_empty s.uses Empty within))
 
 -- a use that is full isn't empty, and an empty one has no references
-full_used : (u : Use) → is_full u ≡ true → cond {A = ℕ} (is_empty u) 1 0 ≡ 0
+pub full_used : (u : Use) → is_full u ≡ true → cond {A = ℕ} (is_empty u) 1 0 ≡ 0
 full_used Empty full = cc
 full_used (Full refs) full = refl
 full_used Lent full = refl

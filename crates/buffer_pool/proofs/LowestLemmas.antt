@@ -7,6 +7,7 @@ use Rattle.std.proofs.lemmas.Bool.{cases_eq, cases_lt}
 use Rattle.std.proofs.lemmas.Bool.Decides.{nat_tests}
 use Rattle.buffer_pool.specs.Tree.{value_at, above, leaves_in, FitsTree}
 use Rattle.buffer_pool.proofs.TreeLemmas.{above-from, above-below, true_above}
+use Rattle.rpc_base.proofs.BasicLemmas.{unless-true}
 
 pub length-leaves : (tree : List Bool) (leaves places : ℕ) → length tree ≡ 2 * leaves → places ≤ leaves → length (leaves_in tree leaves places) ≡ places
 length-leaves tree leaves places s r = omega (arith, length-take places (drop leaves tree), length-drop leaves tree)
@@ -25,10 +26,6 @@ position-missing xs f =
     let first : position_or_len (λ (x : Bool). x) xs ≡ length xs = position_or_len_is (λ x. x) xs (length xs) false (omega arith) f (λ h. absurd (omega arith)) in
     rw first (grind (arith, nat_tests))
 
-false_unless : (b : Bool) → (b ≡ true → ⊥) → b ≡ false
-false_unless true h = absurd (h refl)
-false_unless false h = refl
-
 -- with a false root no leaf is true
 leaf-false : (tree : List Bool) (leaves height places p : ℕ) → FitsTree tree leaves height places → value_at tree 1 ≡ false → leaves ≤ p → p < length tree → value_at tree p ≡ true → ⊥
 leaf-false tree leaves height places p fits root low high v =
@@ -41,7 +38,7 @@ leaf-false tree leaves height places p fits root low high v =
 pub lowest-none : (tree : List Bool) (leaves height places : ℕ) → FitsTree tree leaves height places → value_at tree 1 ≡ false → None ≡ position (λ x. x) (leaves_in tree leaves places)
 lowest-none tree leaves height places fits root =
     let size : length (leaves_in tree leaves places) ≡ places = length-leaves tree leaves places fits.size fits.room in
-    position-missing (leaves_in tree leaves places) (λ k h. leaf-at tree leaves places k (omega arith) ∙ false_unless (value_at tree (leaves + k)) (λ v. leaf-false tree leaves height places (leaves + k) fits root (omega arith) (omega (arith, fits.size, fits.room)) v))
+    position-missing (leaves_in tree leaves places) (λ k h. leaf-at tree leaves places k (omega arith) ∙ unless-true (value_at tree (leaves + k)) (λ v. leaf-false tree leaves height places (leaves + k) fits root (omega arith) (omega (arith, fits.size, fits.room)) v))
 
 -- a true leaf is a place's
 leaf-place : (tree : List Bool) (leaves height places leaf : ℕ) → FitsTree tree leaves height places → value_at tree leaf ≡ true → leaf < leaves + places

@@ -9,6 +9,7 @@ use Rattle.std.proofs.lemmas.List.Sums.{sum_by-cons, sum_by-set, count_by-le-len
 use Rattle.buffer_pool.specs.declared.usage.Use.{Use}
 use Rattle.buffer_pool.specs.declared.usage.Use.TheVariants.{Empty}
 use Rattle.buffer_pool.specs.Uses.{is_empty, CountsEmpty}
+use Rattle.rpc_base.proofs.BasicLemmas.{found-none}
 
 -- the first place of a list of marks is that of the list that they mark
 first-map : {A : Type 0} (p : A → Bool) (xs : List A) → position_or_len (λ (b : Bool). b) (map p xs) ≡ position_or_len p xs
@@ -27,12 +28,8 @@ count-past : {A : Type 0} (p : A → Bool) (xs : List A) → length xs ≤ posit
 count-past p [] h = refl
 count-past p (x ∷ xs) h = sum_by-cons (λ y. cond (p y) 1 0) x xs ∙ count-step (p x) (position_or_len p xs) (length xs) (count_by p xs) h (count-past p xs)
 
-none-past : (n m : ℕ) (b : Bool) → ltb n m ≡ b → cond b (Some n) None ≡ None → m ≤ n
-none-past n m true t e = cc
-none-past n m false t e = omega (arith, ltb-false n m t)
-
 pub count-none : {A : Type 0} (p : A → Bool) (xs : List A) → position p xs ≡ None → count_by p xs ≡ 0
-count-none p xs e = count-past p xs (none-past (position_or_len p xs) (length xs) _ refl e)
+count-none p xs e = count-past p xs (found-none (position_or_len p xs) (length xs) _ refl e)
 
 -- places as they are made
 map-replicate : {A B : Type 0} (f : A → B) (n : ℕ) (x : A) → map f (replicate n x) ≡ replicate n (f x)

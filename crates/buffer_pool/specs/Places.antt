@@ -1,6 +1,8 @@
--- References to a place that may be absent: an entry without a body names none.
-use Rattle.std.specs.Prelude.{ℕ, ◌<◌, Option, Some, None, IfSome}
-use Rattle.buffer_pool.specs.Pool.{Pool, IsFull, held, refs_of, released}
+-- References to a place that may be absent, since an entry without a body names none; and the places
+-- that others name.
+use Rattle.std.specs.Prelude.{◌≡◌, ℕ, ◌<◌, false, Option, Some, None, IfSome}
+use Rattle.buffer_pool.specs.Pool.{Pool, IsFull, buf_at, held, refs_of, released, use_at}
+use Rattle.buffer_pool.specs.Uses.{is_empty}
 
 -- one reference more to a place, if there is one
 abbrev pub held_at : Option ℕ → Pool → Pool
@@ -19,3 +21,11 @@ MayHold pool place = IfSome place (λ p. IsFull pool p × (refs_of pool p < 4294
 -- there is a reference to the place, if there is a place
 abbrev pub IsHeld : Pool → Option ℕ → Type 0
 IsHeld pool place = IfSome place (λ p. 0 < refs_of pool p)
+
+-- what a session names before and after: a place with a use that it didn't name isn't named by it
+-- then, and is as it was
+abbrev pub LeavesUnnamed : {A : Type 0} → (ℕ → A → ℕ) → (old new : A) → (before after : Pool)
+    → Type 0
+LeavesUnnamed names old new before after =
+    (p : ℕ) → names p old ≡ 0 → is_empty (use_at before p) ≡ false
+    → (names p new ≡ 0) × (use_at after p ≡ use_at before p) × (buf_at after p ≡ buf_at before p)

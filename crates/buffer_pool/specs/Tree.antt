@@ -23,7 +23,8 @@ above (suc levels) q = above levels q / 2
 abbrev pub leaves_in : List Bool → ℕ → ℕ → List Bool
 leaves_in tree leaves places = take places (drop leaves tree)
 
--- the tree has its leaves behind its inner nodes, and each inner node is joined. Leaves past the places are false
+-- the tree has its leaves behind its inner nodes, and each inner node is joined. Leaves past the
+-- places are false
 pub record FitsTree (tree : List Bool) (leaves height places : ℕ) : Type 0 where
   pub size : length tree ≡ 2 * leaves
   pub power : leaves ≡ doubled height 1

@@ -34,7 +34,8 @@ impl Model for BufferPool {
 impl BufferPool {
     ghost use Rattle.buffer_pool.specs.Lending.{lends_buffer};
 
-    /// A pool of so many places, all empty. `NoMemory` comes only where there is no memory for them.
+    /// A pool of so many places, all empty. `NoMemory` comes only where there is no memory for
+    /// them.
     pub fn new(alloc: Global, places: u32) -> Result<BufferPool, NoMemory>
         ensures { IfOk result (λ p. p ≡ all_empty places) }
     {
@@ -141,8 +142,10 @@ impl BufferPool {
     /// there are references to it, and then nothing changed.
     pub fn take(&mut self, place: Place) -> Result<MsgBuf, Held>
         requires { IsFull self.old place }
-        ensures taken { IfOk result (λ buf. (refs_of self.old place ≡ 0) × (buf_at self.old place ≡ Some buf) × (self.new ≡ emptied place self.old)) }
-        ensures held { IfErr result (λ h. (0 < h.refs) × (refs_of self.old place ≡ h.refs) × (self.new ≡ self.old)) }
+        ensures taken { IfOk result (λ buf. (refs_of self.old place ≡ 0)
+            × (buf_at self.old place ≡ Some buf) × (self.new ≡ emptied place self.old)) }
+        ensures held { IfErr result (λ h. (0 < h.refs) × (refs_of self.old place ≡ h.refs)
+            × (self.new ≡ self.old)) }
     {
         self.check_unheld(place)?;
         Ok(self.move_out(place.0, Use::Empty))
@@ -152,8 +155,10 @@ impl BufferPool {
     /// place is neither empty nor full afterwards. `Held` is as for `take`.
     pub fn lend(&mut self, place: Place) -> Result<MsgBuf, Held>
         requires { IsFull self.old place }
-        ensures lent { IfOk result (λ buf. (refs_of self.old place ≡ 0) × (buf_at self.old place ≡ Some buf) × (self.new ≡ lent place self.old)) }
-        ensures held { IfErr result (λ h. (0 < h.refs) × (refs_of self.old place ≡ h.refs) × (self.new ≡ self.old)) }
+        ensures lent { IfOk result (λ buf. (refs_of self.old place ≡ 0)
+            × (buf_at self.old place ≡ Some buf) × (self.new ≡ lent place self.old)) }
+        ensures held { IfErr result (λ h. (0 < h.refs) × (refs_of self.old place ≡ h.refs)
+            × (self.new ≡ self.old)) }
     {
         self.check_unheld(place)?;
         Ok(self.move_out(place.0, Use::Lent))
@@ -201,7 +206,10 @@ impl BufferPool {
         requires full { IsFull self.old place }
         requires next { is_full next ≡ false }
         ensures buf { buf_at self.old place ≡ Some result }
-        ensures pool { self.new ≡ record { uses = slice_set self.old.uses place next; bufs = slice_set self.old.bufs place None } }
+        ensures pool { self.new ≡ record {
+          uses = slice_set self.old.uses place next;
+          bufs = slice_set self.old.bufs place None;
+        } }
     {
         let moved = self.bufs[place as usize].take();
         self.places.set(place, next);

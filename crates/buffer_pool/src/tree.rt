@@ -22,7 +22,8 @@ pub fn shape_for(places: u32) -> (u32, usize)
 /// the root. All other nodes have to be joined.
 pub fn join_up(tree: &mut [bool], node: usize)
     requires inner { 2 * node + 1 < length tree.old }
-    requires others { (q : ℕ) → 0 < q → 2 * q + 1 < length tree.old → q ≢ node → IsJoined tree.old q }
+    requires others { (q : ℕ) → 0 < q → 2 * q + 1 < length tree.old → q ≢ node
+        → IsJoined tree.old q }
     ensures joined { (q : ℕ) → 0 < q → 2 * q + 1 < length tree.new → IsJoined tree.new q }
     ensures leaves { (p : ℕ) → length tree.old ≤ 2 * p → value_at tree.new p ≡ value_at tree.old p }
 {

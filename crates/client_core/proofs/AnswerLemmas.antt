@@ -16,9 +16,10 @@ use Rattle.rpc_laws.specs.ClientTable.{is_same_size}
 use Rattle.client_core.specs.declared.call.ActiveCall.{ActiveCall}
 use Rattle.client_core.specs.KeepsPool.{HasRoom, IsKept, IsTold, KeepsPool, names}
 use Rattle.client_core.specs.Replies.{IsPart, answered, is_request, replied, rewritten_at, sized, with_part, without_buffers}
-use Rattle.client_core.proofs.CallsLemmas.{found-holds}
-use Rattle.client_core.proofs.ChangedLemmas.{all-changed, all-without, sum-changed, sum-without}
+use Rattle.rpc_base.proofs.ChangedLemmas.{all-changed, sum-changed, sum-without}
 use Rattle.client_core.proofs.PlacesLemmas.{names-answer, names-ask, names-without, others-all, two-places, unnamed-all}
+use Rattle.rpc_base.proofs.FirstLemmas.{found-holds, all-left}
+use Rattle.buffer_pool.proofs.PlacesLemmas.{buffer-within}
 
 -- overwriting within a list leaves its length
 pub length-overwritten : (at : ℕ) (from bytes : List ℕ) → at + length from ≤ length bytes → length (overwritten at from bytes) ≡ length bytes
@@ -53,16 +54,6 @@ kept-changed pool p b x ask answer kept = record {
   unnamed = kept.unnamed;
 }
 
--- a place with a buffer is one of the pool's
-pub full_within : (bufs : List (Option Buffer)) (p : ℕ) (b : Buffer) → get_or bufs p None ≡ Some b → p < length bufs
-full_within bufs p b e = elim (cases_lt p (length bufs)) [
-  | inl within ↦ within
-  | inr past ↦ (let none = get_or_past bufs p None past in absurd (some-none b (sym e ∙ none)))
-]
-  where
-    some-none : (b : Buffer) → Some b ≡ None → ⊥
-    some-none b e = cc
-
 -- what is kept of the call that a part is written for
 module _ (pool : Pool) (c : ActiveCall) (h : MessageHeader) (body : List ℕ) (kept : IsKept pool c) (apart : c.ask ≢ c.answer) where
   -- the buffer for the answer is there
@@ -76,7 +67,7 @@ module _ (pool : Pool) (c : ActiveCall) (h : MessageHeader) (body : List ℕ) (k
   kept-part : (d : ActiveCall) (b : Buffer) → buf_at pool c.answer ≡ Some b → IsPart c h (length body) → d.ask ≡ c.ask → d.answer ≡ c.answer → d.len ≡ c.len → d.room ≡ c.room → IsTold c.room h.size d.size → IsKept (changed c.answer (with_part c h body b) pool) d
   kept-part d b e part ask answer len room told =
       let k = part-room c h body b (room-some b e) part in
-      let within = full_within pool.bufs c.answer b e in
+      let within = buffer-within pool.bufs c.answer b e in
       let own = changed_own pool.bufs c.answer (Some (with_part c h body b)) None within in
       record {
         ask = rw ask kept.ask;
@@ -166,7 +157,7 @@ kept-emptied pool p x ask answer kept = record {
 
 pub keeps-without : (pool : Pool) (test : ActiveCall → Bool) (c : ActiveCall) (calls : List ActiveCall) → find test calls ≡ Some c → KeepsPool pool calls → KeepsPool (without_buffers c pool) (without_first test calls)
 keeps-without pool test c calls e keeps =
-    let rest = all-without test c (IsKept pool) calls keeps.kept in
+    let rest = all-left test (IsKept pool) calls keeps.kept in
     let one = unnamed-all c.ask (IsKept pool) (IsKept (emptied c.ask pool)) (λ x a b k. kept-emptied pool c.ask x a b k) (without_first test calls) (names-without c.ask test c calls e (names-ask c) (keeps.apart c.ask)) rest in
     record {
       kept = unnamed-all c.answer (IsKept (emptied c.ask pool)) (IsKept (without_buffers c pool)) (λ x a b k. kept-emptied (emptied c.ask pool) c.answer x a b k) (without_first test calls) (names-without c.answer test c calls e (names-answer c) (keeps.apart c.answer)) one;

@@ -3,7 +3,7 @@ use Rattle.std.proofs.Common.{◌≡◌, ℕ, ◌+◌, ◌-◌, ◌*◌, ◌<◌
 use Rattle.std.specs.Prelude.{◌||◌, ◌&&◌, is_none, nat_le, nat_lt, IfSome}
 use Rattle.std.proofs.lemmas.Bool.{and_parts, eqb-true, ltb-false}
 use Rattle.std.proofs.lemmas.Bool.Decides.{nat_tests}
-use Rattle.packet_header.specs.Parts.{packet_count, part_size}
+use Rattle.packet_header.specs.Parts.{packet_count, part_size, IsMessage}
 use Rattle.packet_header.specs.Header.{MessageInRange}
 use Rattle.packet_header.specs.declared.packet.Kind.{Kind}
 use Rattle.packet_header.specs.declared.packet.Kind.TheVariants.{Request, Rfr, Cr, Response}
@@ -19,9 +19,10 @@ use Rattle.message_buffer.specs.Buffer.{Buffer}
 use Rattle.buffer_pool.specs.Pool.{Pool, buf_at}
 use Rattle.client_core.specs.declared.call.ActiveCall.{ActiveCall}
 use Rattle.client_core.specs.KeepsPool.{HasRoom, IsKept, IsTold}
-use Rattle.client_core.specs.Session.{IsInTurn, IsMessage}
+use Rattle.client_core.specs.Session.{IsInTurn}
 use Rattle.client_core.specs.Timeouts.{rolled_call}
 use Rattle.client_core.specs.Replies.{IsPart, IsTaken, call_row, end_of, replied}
+use Rattle.rpc_base.proofs.BasicLemmas.{not-false}
 
 -- a reply whose row is Takes
 takes-cases : (a b d w : Bool) → cond a (Drops Past) (cond b (Drops Ahead) (cond d (Drops Mismatch) (cond w (Drops StillQueued) Takes))) ≡ Takes → (a ≡ false) × (b ≡ false) × (d ≡ false) × (w ≡ false)
@@ -34,15 +35,11 @@ takes-cases false false false false e = (refl, refl, refl, refl)
 turn-numbers : (n got posted : ℕ) → nat_lt n got ≡ false → (nat_lt got n || nat_le posted n) ≡ false → (n ≡ got) × (got < posted)
 turn-numbers n got posted a b = grind (arith, nat_tests)
 
-unnot : (b : Bool) → not b ≡ false → b ≡ true
-unnot true e = refl
-unnot false e = cc
-
 pub is-taken : (w : Bool) (h : MessageHeader) (n : ℕ) (c : ActiveCall) → call_row w h n c ≡ Takes → IsTaken c h n
 is-taken w h n c e =
     let k = takes-cases _ _ _ w e in
     let turn = turn-numbers h.number c.got c.posted k.0 k.1 in
-    record { next = turn.0; posted = turn.1; of_turn = unnot _ k.2 }
+    record { next = turn.0; posted = turn.1; of_turn = not-false _ k.2 }
 
 pub not-queued : (w : Bool) (h : MessageHeader) (n : ℕ) (c : ActiveCall) → call_row w h n c ≡ Takes → w ≡ false
 not-queued w h n c e = (takes-cases _ _ _ w e).3

@@ -27,13 +27,13 @@ use Rattle.client_core.specs.Session.{IsInTurn, IsSession, Session}
 use Rattle.client_core.specs.Shown.{IsAlone, IsAloneAfter, after_outcome, end_event, shown, shown_active, shown_waiting, took}
 use Rattle.client_core.specs.Timeouts.{is_numbered}
 use Rattle.client_core.proofs.CallLemmas.{ends-last, goes-not-small, ok-not-goes, part-of, small-not-goes}
-use Rattle.client_core.proofs.CallsLemmas.{found-holds, found-own}
-use Rattle.client_core.proofs.ChangedLemmas.{same-without}
+use Rattle.rpc_base.proofs.ChangedLemmas.{same-without}
 use Rattle.client_core.proofs.OneCallLemmas.{by-request, own-request, own-turn, own-unanswered}
 use Rattle.client_core.proofs.OutcomeLemmas.{active-found, takes-call}
 use Rattle.client_core.proofs.PlacesLemmas.{map-without, names-answer, names-ask, names-without, unnamed-map}
 use Rattle.client_core.proofs.ShownLemmas.{found-shown}
 use Rattle.client_core.proofs.TakenLemmas.{limit-rolled, taken-step}
+use Rattle.rpc_base.proofs.FirstLemmas.{found-holds, found-own}
 
 -- a call that is taken out after it was changed is taken out as it was
 module _ {A : Type 0} (p q : A → Bool) (f : A → A) (x : A) (same : (y : A) → q (f y) ≡ q y) where

@@ -8,9 +8,9 @@ use Rattle.client_core.specs.declared.call.ActiveCall.{ActiveCall}
 use Rattle.client_core.specs.KeepsPool.{IsKept, KeepsPool}
 use Rattle.client_core.specs.Posting.{IsPacketOf, call_of, entry_at, is_owner}
 use Rattle.client_core.specs.Session.{IsSession, Session, is_in_slot}
-use Rattle.client_core.proofs.CallsLemmas.{count-fewer, found-holds, found-own}
 use Rattle.client_core.proofs.PacketLemmas.{placed-part}
 use Rattle.client_core.proofs.SessionLemmas.{own-owner, owner-slot}
+use Rattle.rpc_base.proofs.FirstLemmas.{found-holds, found-own, count-fewer}
 
 -- a call that some test finds is found by the owner of its packets
 pub by-owner : (s : Session) (p : ActiveCall → Bool) (c : ActiveCall) → IsSession s → find p s.active ≡ Some c → find (is_owner s.number (Ask s.number c.request)) s.active ≡ Some c

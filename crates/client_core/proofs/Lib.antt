@@ -1,7 +1,6 @@
 mod AnswerLemmas
 mod CallLemmas
 pub mod CallsLemmas
-pub mod ChangedLemmas
 pub mod CountLemmas
 mod CreditLemmas
 pub mod EndedLemmas

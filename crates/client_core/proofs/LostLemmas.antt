@@ -20,8 +20,9 @@ use Rattle.client_core.specs.Timeouts.{after_roll, is_numbered, rolled_call}
 use Rattle.client_core.specs.Watching.{call_number, is_after}
 use Rattle.client_core.proofs.EndedLemmas.{any-found, calls-left, ends-one, number-found}
 use Rattle.client_core.proofs.OneCallLemmas.{by-request, least-found, least-none-of, own-unanswered}
-use Rattle.client_core.proofs.ShownLemmas.{changed-shown, same-first}
+use Rattle.client_core.proofs.ShownLemmas.{changed-shown}
 use Rattle.client_core.proofs.TakenLemmas.{limit-rolled}
+use Rattle.rpc_base.proofs.ChangedLemmas.{same-first}
 
 -- a call that is found by its number is one of those that are shown
 numbered-cons : (b c : Bool) (x y : ActiveCall) (o : Option ActiveCall) → (o ≡ Some y → c ≡ true) → cond b (Some x) o ≡ Some y → (b || c) ≡ true
@@ -70,7 +71,3 @@ lose-cases pool after clock peer d s new sound keeps alone None e lost =
 pub lose-step : (pool after : Pool) (clock peer : ℕ) (d : Done) (s new : Session) → IsSession s → KeepsPool pool s.active → IsAlone d.call s → Loses (next_lost s) d s new pool after → stepped clock (done_event d) (shown_broken pool peer s) ≡ shown_broken after peer new ∷ []
 lose-step pool after clock peer d s new sound keeps alone lost =
     lose-cases pool after clock peer d s new sound keeps alone (next_lost s) refl lost
-
-pub some-each : {A : Type 0} (P Q : A → Type 0) (o : Option A) → ((x : A) → P x → Q x) → IfSome o P → IfSome o Q
-some-each P Q None step h = tt
-some-each P Q (Some x) step h = step x h

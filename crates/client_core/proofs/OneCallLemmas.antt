@@ -17,8 +17,10 @@ use Rattle.client_core.specs.declared.active.Active.{Active}
 use Rattle.client_core.specs.Timeouts.{call_numbered, is_numbered}
 use Rattle.client_core.specs.Watching.{call_number, is_after, next_told, told}
 use Rattle.client_core.specs.Replies.{call_as, is_request}
-use Rattle.client_core.proofs.CallsLemmas.{count-fewer, count-missing, some-counted, found-changed, found-holds, found-other, found-own, found-passes, length-at_first}
-use Rattle.client_core.proofs.ChangedLemmas.{all-changed, all-without, length-without, other-without, own-without, sum-changed, sum-without}
+use Rattle.client_core.proofs.CallsLemmas.{count-missing, found-other, length-at_first}
+use Rattle.rpc_base.proofs.ChangedLemmas.{all-changed, length-without, other-without, own-without, sum-changed, sum-without}
+use Rattle.rpc_base.proofs.FirstLemmas.{found-holds, some-counted, found-own, count-fewer, found-changed, all-left}
+use Rattle.rpc_base.proofs.TakingLemmas.{find-passes}
 
 -- the call that is found under a test of its own stands in its slot
 module _ (s : Session) (p : ActiveCall → Bool) (c : ActiveCall) (h : IsSession s) (e : find p s.active ≡ Some c) where
@@ -128,7 +130,7 @@ module _ (s : Session) (p : ActiveCall → Bool) (c : ActiveCall) (h : IsSession
       slots = slots-left;
       apart = λ i. omega (arith, sum-without p c (λ x. cond (is_in_slot i x) 1 0) s.active e, h.apart i);
       unanswered = unanswered-left;
-      in_turn = all-without p c IsInTurn s.active h.in_turn;
+      in_turn = all-left p IsInTurn s.active h.in_turn;
       messages = h.messages;
     }
 
@@ -142,7 +144,7 @@ by-request s p c h e =
     found-own p (is_request c.request) s.active c (omega (arith, fewer, h.apart (c.request % 8))) e (eq-eqb c.request c.request refl)
 
 pub own-request : (r : ℕ) (s : Session) (c : ActiveCall) → IsSession s → call_as r s ≡ Some c → c.request ≡ r
-own-request r s c h e = eqb-true c.request r (found-passes (is_request r) s.active c e)
+own-request r s c h e = eqb-true c.request r (find-passes (is_request r) s.active c e)
 
 -- it is active in its slot
 slot-active : (r call : ℕ) (o : Option Begun) → o ≡ Some (record { request = r; call = call }) → IsSome (option_and_then (call_if r) o)

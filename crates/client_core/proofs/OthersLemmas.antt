@@ -25,11 +25,11 @@ use Rattle.client_core.specs.Posting.{IsPacketOf, call_of, is_owner, marked, one
 use Rattle.client_core.specs.Replies.{Replies, answered, is_request, replied, rewritten_at, with_part, without_buffers, without_call}
 use Rattle.client_core.specs.Session.{Session, can_post}
 use Rattle.client_core.specs.Timeouts.{rolled_call}
-use Rattle.client_core.proofs.CallsLemmas.{found-passes, sum-at_first}
-use Rattle.client_core.proofs.PoolLemmas.{names-cons, position-at}
-
-one-own : (a p : ℕ) → a ≡ p → cond {A = ℕ} (eqb a p) 1 0 ≡ 1
-one-own a p e = ap (λ b. cond {A = ℕ} b 1 0) (eq-eqb a p e)
+use Rattle.client_core.proofs.CallsLemmas.{sum-at_first}
+use Rattle.client_core.proofs.PoolLemmas.{names-cons}
+use Rattle.rpc_base.proofs.TakingLemmas.{find-passes}
+use Rattle.rpc_base.proofs.TablesLemmas.{position-at}
+use Rattle.buffer_pool.proofs.PlacesLemmas.{named-one, lowest-empty}
 
 away-none : (a p : ℕ) → p ≢ a → cond {A = ℕ} (eqb a p) 1 0 ≡ 0
 away-none a p other = ap (λ b. cond {A = ℕ} b 1 0) (ne_eqb a p (λ t. other (sym t)))
@@ -43,8 +43,8 @@ module _ (test : ActiveCall → Bool) (c : ActiveCall) (p : ℕ) where
   both-cons d cs true none f ih =
       let same : d ≡ c = cc in
       let sum = names-cons p d cs in (
-        λ here. absurd (omega (arith, sum, none, one-own d.ask p (ap (λ (x : ActiveCall). x.ask) same ∙ sym here))),
-        λ here. absurd (omega (arith, sum, none, one-own d.answer p (ap (λ (x : ActiveCall). x.answer) same ∙ sym here))),
+        λ here. absurd (omega (arith, sum, none, named-one d.ask p (ap (λ (x : ActiveCall). x.ask) same ∙ sym here))),
+        λ here. absurd (omega (arith, sum, none, named-one d.answer p (ap (λ (x : ActiveCall). x.answer) same ∙ sym here))),
       )
   both-cons d cs false none f ih = ih f (omega (arith, names-cons p d cs, none))
 
@@ -116,11 +116,8 @@ module _ (n r : ℕ) (d : EntryValue) (other : is_of (Ask n r) d ≡ false) wher
   apart-owner x s = apart-by x (is_owner n d.owner x) refl s
 
 -- a call begins
-empty-at : (pool : Pool) (p : ℕ) → lowest_empty pool ≡ Some p → is_empty (use_at pool p) ≡ true
-empty-at pool p e = (position-at is_empty pool.uses p Empty e).1
-
 used-other : (pool : Pool) (p q : ℕ) → is_empty (use_at pool q) ≡ false → lowest_empty pool ≡ Some p → q ≢ p
-used-other pool p q used e = λ same. let empty : is_empty (use_at pool q) ≡ true = rw same (empty-at pool p e) in cc
+used-other pool p q used e = λ same. let empty : is_empty (use_at pool q) ≡ true = rw same (lowest-empty pool p e) in cc
 
 pub begun-leaves : (pool : Pool) (p q : ℕ) (b d : Buffer) (c : ActiveCall) (calls : List ActiveCall) → lowest_empty pool ≡ Some p → lowest_empty (filled p b pool) ≡ Some q → c.ask ≡ p → c.answer ≡ q → LeavesOthers calls (calls ++ c ∷ []) pool (filled q d (filled p b pool))
 begun-leaves pool p q b d c calls first second ask answer = λ r none used.
@@ -276,6 +273,6 @@ module _ (now : ℕ) (h : MessageHeader) (body : List ℕ) (s new : Session) (po
   reply-entries (Ended d) replies =
       let c = replies.0 in
       let g = replies.1 in
-      let same : c.request ≡ h.request = eqb-true c.request h.request (found-passes (is_request h.request) s.active c g.found) in
+      let same : c.request ≡ h.request = eqb-true c.request h.request (find-passes (is_request h.request) s.active c g.found) in
       λ e other was. rw g.session (end-others c s e (ap (λ r. is_of (Ask s.number r) e) same ∙ other) was)
   reply-entries (Dropped why) replies = λ e was. rw replies.0 was

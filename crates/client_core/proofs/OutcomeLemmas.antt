@@ -30,20 +30,17 @@ use Rattle.client_core.specs.KeepsPool.{IsKept, KeepsPool}
 use Rattle.client_core.specs.Replies.{EndsBy, IsPart, IsTaken, Replies, answered, call_as, end_of, is_request, reply_row, returned, rewritten_at, row_told, with_part}
 use Rattle.client_core.specs.Session.{IsInTurn, IsSession, Session}
 use Rattle.client_core.specs.Shown.{done_fact, ending_facts, parts_of, shown, shown_active, shown_waiting}
-use Rattle.client_core.proofs.AnswerLemmas.{full_within, none-kept, room-some}
+use Rattle.client_core.proofs.AnswerLemmas.{none-kept, room-some}
 use Rattle.client_core.proofs.CallLemmas.{credit-below, is-answer, is-taken, ok-not-small, part-of}
-use Rattle.client_core.proofs.CallsLemmas.{found-holds}
 use Rattle.client_core.proofs.OneCallLemmas.{own-turn}
-use Rattle.client_core.proofs.PacketLemmas.{message-length}
 use Rattle.client_core.proofs.PartLemmas.{whole-answer}
 use Rattle.client_core.proofs.PlacesLemmas.{two-places}
 use Rattle.client_core.proofs.ShownLemmas.{found-shown, none-shown}
 use Rattle.client_core.proofs.TakenLemmas.{part-shown}
-
--- the call that is found
-or-none : {A : Type 0} (o : Option A) → option_or o None ≡ o
-or-none None = refl
-or-none (Some x) = refl
+use Rattle.rpc_base.proofs.FirstLemmas.{found-holds}
+use Rattle.rpc_base.proofs.BasicLemmas.{or-none}
+use Rattle.buffer_pool.proofs.PlacesLemmas.{buffer-within}
+use Rattle.message_buffer.proofs.MessageLemmas.{message-length}
 
 all-same : (pool : Pool) (r : ℕ) (xs : List ActiveCall) → AllByRecursion (λ x. is_active r (shown_active pool x) ≡ is_request r x) xs
 all-same pool r [] = tt
@@ -108,7 +105,7 @@ module _ (pool : Pool) (now : ℕ) (c : ActiveCall) (h : MessageHeader) (body : 
   answer-cases : (k : Bool) (o : Option Buffer) → is_response h.kind ≡ k → buf_at pool c.answer ≡ o → (k ≡ true → IsPart c h (length body)) → end_row (is_none c.size) (packet_count c.len) c.room (c.got + 1) (cond k (Some h.size) c.size) ≡ EndsOk → option_map (returned Ok) (buf_at (cond k (rewritten_at c.answer (with_part c h body) o pool) pool) c.answer) ≡ Some resp → cond k (parts_of pool c ++ body) (parts_of pool c) ≡ bytes_of resp
   answer-cases true None e is part ok there = absurd (none-kept pool c h body kept apart is)
   answer-cases true (Some b) e is part ok there =
-      let own = changed_own pool.bufs c.answer (Some (with_part c h body b)) None (full_within pool.bufs c.answer b is) in
+      let own = changed_own pool.bufs c.answer (Some (with_part c h body b)) None (buffer-within pool.bufs c.answer b is) in
       let same = some-same (with_part c h body b) resp (rw own at there) in
       rw (← same) (written-whole b is (part refl) e (ok-response c.size (packet_count c.len) c.room (c.got + 1) h.size ok))
   answer-cases false o e is part ok there =

@@ -3,7 +3,7 @@ use Rattle.std.proofs.Common.{◌≡◌, ℕ, ◌<◌, ◌≤◌, Bool, true, fa
 use Rattle.std.specs.Prelude.{IfSome}
 use Rattle.std.proofs.lemmas.List.{length-take-le}
 use Rattle.packet_header.specs.Header.{HasHead, MessageInRange}
-use Rattle.packet_header.specs.Parts.{packet_count, part}
+use Rattle.packet_header.specs.Parts.{packet_count, part, IsMessage}
 use Rattle.packet_header.specs.declared.packet.Kind.TheVariants.{Request, Rfr}
 use Rattle.packet_header.specs.declared.packet.Packet.TheVariants.{Message}
 use Rattle.packet_header.proofs.PartsLemmas.{packet_count_above, packet_count_most}
@@ -12,10 +12,13 @@ use Rattle.buffer_pool.specs.Pool.{Pool, buf_at}
 use Rattle.packet_rings.specs.Values.{EntryValue}
 use Rattle.rpc_laws.specs.Calls.{known_packets}
 use Rattle.client_core.specs.declared.call.ActiveCall.{ActiveCall}
-use Rattle.client_core.specs.Session.{Session, IsInTurn, IsMessage}
-use Rattle.client_core.specs.KeepsPool.{HasSize, IsKept}
+use Rattle.client_core.specs.Session.{Session, IsInTurn}
+use Rattle.client_core.specs.KeepsPool.{IsKept}
 use Rattle.client_core.specs.Posting.{call_of, head_of, place_of}
-use Rattle.client_core.specs.Shown.{IsSpelled, message_in, packet_of}
+use Rattle.client_core.specs.Shown.{packet_of}
+use Rattle.message_buffer.specs.Messages.{HasSize, message_in}
+use Rattle.rpc_laws.specs.Packets.{IsSpelled}
+use Rattle.message_buffer.proofs.MessageLemmas.{size-within, message-length}
 
 -- no packet that a call is known to have has a number past 2,046
 known-most : (asked : ℕ) (size : Option ℕ) → asked ≤ 1024 → IfSome size IsMessage → known_packets asked size ≤ 2047
@@ -36,19 +39,11 @@ place-cases k n p q false t e = cc
 pub placed-part : (c : ActiveCall) (k p : ℕ) → Some p ≡ place_of c k → (p ≡ c.ask) × (k < packet_count c.len)
 placed-part c k p e = place-cases k (packet_count c.len) p c.ask _ refl e
 
-size-within : (o : Option Buffer) (buf : Buffer) (size : ℕ) → HasSize size o → o ≡ Some buf → buf.len ≡ size
-size-within None buf size h e = cc
-size-within (Some b) buf size h e = let same : b ≡ buf = cc in rw same at h.0
-
 pub part-within : (pool : Pool) (c : ActiveCall) (k p : ℕ) (buf : Buffer) → IsKept pool c → Some p ≡ place_of c k → buf_at pool p ≡ Some buf → k < packet_count buf.len
 part-within pool c k p buf kept e at =
     let (same, below) = placed-part c k p e in
     let size : buf.len ≡ c.len = size-within (buf_at pool c.ask) buf c.len kept.size (rw same at at) in
     rw size below
-
-pub message-length : (o : Option Buffer) (size : ℕ) → HasSize size o → length (message_in o) ≡ size
-message-length None size h = absurd h
-message-length (Some b) size h = length-take-le b.len b.store (omega (arith, h.0, h.1)) ∙ h.0
 
 -- the packet of an entry, by what is sent of it
 spelled-cases : (peer other size : ℕ) (ask : List ℕ) (c : ActiveCall) (k : ℕ) (head body : List ℕ) (b : Bool) → HasHead (Message (cond b (record { kind = Request; req_type = c.req_type; size = size; session = other; number = k; request = c.request }) (record { kind = Rfr; req_type = 0; size = 0; session = other; number = k; request = c.request }))) head → body ≡ cond b (part ask k) [] → MessageInRange (cond b (record { kind = Request; req_type = c.req_type; size = size; session = other; number = k; request = c.request }) (record { kind = Rfr; req_type = 0; size = 0; session = other; number = k; request = c.request })) → IsSpelled (Some (cond b (record {

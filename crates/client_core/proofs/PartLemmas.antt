@@ -11,42 +11,7 @@ use Rattle.rpc_laws.specs.ClientTable.{is_same_size}
 use Rattle.client_core.specs.declared.call.ActiveCall.{ActiveCall}
 use Rattle.client_core.specs.KeepsPool.{HasRoom, IsTold}
 use Rattle.client_core.specs.Replies.{IsPart, sized, with_part}
-
--- bytes that are written at a place stand there
-front-written : (at : ℕ) (body store : List ℕ) → at ≤ length store → take (at + length body) (overwritten at body store) ≡ take at store ++ body
-front-written at body store within =
-    let long : length (take at store ++ body) ≡ at + length body = omega (arith, length-append (take at store) body, length-take-le at store within) in
-    rw (← append_assoc) (take_at (take at store ++ body) (drop (at + length body) store) (at + length body) long)
-
--- a part is full, or it is the last
-pub record IsNext (at size n : ℕ) : Type 0 where
-  pub within : at + n ≤ size
-  pub full : (n ≡ 1024) ⊎ (at + n ≡ size)
-  pub short : n ≤ 1024
-
--- the message up to the next part
-pub next-part : (at size : ℕ) (body store : List ℕ) → IsNext at size (length body) → size ≤ length store → take (at + 1024) (take size (overwritten at body store)) ≡ take at store ++ body
-next-part at size body store next room =
-    let front = front-written at body store (omega (arith, next.within, room)) in
-    elim next.full [
-      | inl full ↦ (
-          let less : at + 1024 ≤ size = omega (arith, next.within, full) in
-          let same : at + 1024 ≡ at + length body = omega (arith, full) in
-          take-take (at + 1024) size (overwritten at body store) less ∙ ap (λ n. take n (overwritten at body store)) same ∙ front)
-      | inr last ↦ (
-          let short : length (take size (overwritten at body store)) ≤ at + 1024 = omega (arith, next.within, last, next.short, length-taken size (overwritten at body store)) in
-          take_all (at + 1024) (take size (overwritten at body store)) short ∙ ap (λ n. take n (overwritten at body store)) (sym last) ∙ front)
-    ]
-  where
-    length-taken : (n : ℕ) (xs : List ℕ) → length (take n xs) ≤ n
-    length-taken n xs = omega (arith, length-take n xs)
-
--- a part of a message whose size is told, or of one whose first part this is
-part-next : (size j n : ℕ) → 1024 * j + n ≤ size → n ≡ part_size size j → IsNext (1024 * j) size n
-part-next size j n within long = elim (cases_lt 1024 (size - 1024 * j)) [
-  | inl more ↦ record { within = within; full = inl (omega (arith, long, more)); short = omega (arith, long) }
-  | inr last ↦ record { within = within; full = inr (omega (arith, long, last, within)); short = omega (arith, long) }
-]
+use Rattle.message_buffer.proofs.MessageLemmas.{next-part, part-next}
 
 -- what was there before
 front-same : (told : Option ℕ) (j len room size : ℕ) (store : List ℕ) → IsTold room len told → is_same_size told size ≡ true → (told ≡ None → j ≡ 0) → 1024 * j ≤ size → take (1024 * j) (take len store) ≡ take (1024 * j) store

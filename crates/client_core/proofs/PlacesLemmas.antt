@@ -6,8 +6,9 @@ use Rattle.std.proofs.lemmas.Bool.{eq-eqb}
 use Rattle.rpc_base.specs.Tables.{at_first, without_first}
 use Rattle.client_core.specs.declared.call.ActiveCall.{ActiveCall}
 use Rattle.client_core.specs.KeepsPool.{names}
-use Rattle.client_core.proofs.ChangedLemmas.{sum-without}
-use Rattle.client_core.proofs.PoolLemmas.{names-cons, unnamed-cases}
+use Rattle.rpc_base.proofs.ChangedLemmas.{sum-without}
+use Rattle.client_core.proofs.PoolLemmas.{names-cons}
+use Rattle.buffer_pool.proofs.PlacesLemmas.{unnamed-cases}
 
 -- how often a call names a place
 abbrev pub own_names : ℕ → ActiveCall → ℕ

@@ -14,27 +14,14 @@ use Rattle.buffer_pool.proofs.PoolLemmas.{changed_other, changed_own, full_withi
 use Rattle.rpc_base.specs.Tables.{at_first}
 use Rattle.client_core.specs.declared.call.ActiveCall.{ActiveCall}
 use Rattle.client_core.specs.Session.{can_post}
-use Rattle.client_core.specs.KeepsPool.{CanHold, HasSize, IsHeld, IsKept, KeepsPool, MayHold, held_at, names, released_at}
+use Rattle.client_core.specs.KeepsPool.{CanHold, IsHeld, IsKept, KeepsPool, MayHold, held_at, names, released_at}
 use Rattle.client_core.specs.Posting.{marked, one_left, one_posted, place_of}
-use Rattle.client_core.proofs.CallsLemmas.{all-append, all-at_first, found-holds, sum-at_first}
-
-found-at : (n m i : ℕ) (b : Bool) → ltb n m ≡ b → cond b (Some n) None ≡ Some i → (i ≡ n) × (n < m)
-found-at n m i true t e = let same : i ≡ n = cc in (same, ltb-true n m t)
-found-at n m i false t e = cc
-
--- the element at the position that was found passes
-pub position-at : {A : Type 0} (p : A → Bool) (xs : List A) (i : ℕ) (d : A) → position p xs ≡ Some i → (i < length xs) × (p (get_or xs i d) ≡ true)
-position-at p xs i d e =
-    let (same, within) = found-at (position_or_len p xs) (length xs) i _ refl e in
-    (rw same within, rw same (passes_at_first p xs d within))
-
--- a filled place was one of the spare ones
-pub spare-filled : (s : Pool) (p : ℕ) (buf : Buffer) → lowest_empty s ≡ Some p → spare_of (filled p buf s) + 1 ≡ spare_of s
-spare-filled s p buf e =
-    let (within, empty) = position-at is_empty s.uses p Empty e in
-    let one = sum_by-set (λ u. cond (is_empty u) 1 0) s.uses p (Full 0) Empty within in
-    let was : cond {A = ℕ} (is_empty (get_or s.uses p Empty)) 1 0 ≡ 1 = ap (λ b. cond {A = ℕ} b 1 0) empty in
-    omega (arith, one, was)
+use Rattle.client_core.proofs.CallsLemmas.{sum-at_first}
+use Rattle.rpc_base.proofs.FirstLemmas.{all-push, found-holds, all-kept, all-each}
+use Rattle.rpc_base.proofs.BasicLemmas.{found-at}
+use Rattle.rpc_base.proofs.TablesLemmas.{position-at}
+use Rattle.message_buffer.specs.Messages.{HasSize}
+use Rattle.buffer_pool.proofs.PlacesLemmas.{full-cases, full-empty, unnamed-cases, unnamed-one}
 
 -- the place of a packet may be held
 hold-cases : (pool : Pool) (c : ActiveCall) (place : Option ℕ) (b : Bool) → IsKept pool c → refs_of pool c.ask < 4294967295 → place ≡ cond b (Some c.ask) None → MayHold pool place
@@ -44,14 +31,6 @@ hold-cases pool c place false kept few e = rw e tt
 pub may-hold : (pool : Pool) (p : ActiveCall → Bool) (calls : List ActiveCall) (c : ActiveCall) (k : ℕ) (place : Option ℕ) → KeepsPool pool calls → CanHold pool calls → find p calls ≡ Some c → place ≡ place_of c k → MayHold pool place
 may-hold pool p calls c k place keeps few e same =
     hold-cases pool c place _ (found-holds p (IsKept pool) calls c keeps.kept e) (found-holds p (λ x. refs_of pool x.ask < 4294967295) calls c few e) same
-
--- a full place that is filled or held anew is full, and each other one as it was
-full-cases : (uses : List Use) (p q : ℕ) (u : Use) → is_full u ≡ true → is_full (get_or uses q Empty) ≡ true → is_full (get_or (set uses p u) q Empty) ≡ true
-full-cases uses p q u full was =
-    elim (cases_eq q p) [
-      | inl same ↦ (let within : p < length uses = rw same at (full_within uses q was) in rw same (ap is_full (changed_own uses p u Empty within) ∙ full))
-      | inr other ↦ ap is_full (changed_other uses p q u Empty other) ∙ was
-    ]
 
 -- a call is kept where its places are full as before, with the same buffers
 kept-uses : (pool : Pool) (p : ℕ) (u : Use) (c : ActiveCall) → is_full u ≡ true → c.answer ≢ p → IsKept pool c → IsKept (record { uses = set pool.uses p u; bufs = pool.bufs }) c
@@ -67,17 +46,9 @@ pub all-both : {A : Type 0} (P R Q : A → Type 0) (xs : List A) → ((x : A) �
 all-both P R Q [] step ps rs = tt
 all-both P R Q (x ∷ xs) step ps rs = (step x ps.0 rs.0, all-both P R Q xs step ps.1 rs.1)
 
-all-each : {A : Type 0} (P Q : A → Type 0) (xs : List A) → ((x : A) → P x → Q x) → AllByRecursion P xs → AllByRecursion Q xs
-all-each P Q [] step ps = tt
-all-each P Q (x ∷ xs) step ps = (step x ps.0, all-each P Q xs step ps.1)
-
 -- how often calls name a place
 pub names-cons : (p : ℕ) (c : ActiveCall) (cs : List ActiveCall) → names p (c ∷ cs) ≡ cond (eqb c.ask p) 1 0 + cond (eqb c.answer p) 1 0 + names p cs
 names-cons p c cs = sum_by-cons _ c cs
-
-pub unnamed-cases : (a p : ℕ) (b : Bool) → eqb a p ≡ b → cond {A = ℕ} b 1 0 ≡ 0 → a ≢ p
-unnamed-cases a p true t e = absurd (omega arith)
-unnamed-cases a p false t e = eqb-false a p t
 
 -- no answer is where no call names the place
 answers-unnamed : (p : ℕ) (cs : List ActiveCall) → names p cs ≡ 0 → AllByRecursion (λ c. c.answer ≢ p) cs
@@ -121,7 +92,7 @@ left-kept pool c kept = record { ask = kept.ask; answer = kept.answer; size = ke
 
 pub keeps-left : (pool : Pool) (test : ActiveCall → Bool) (calls : List ActiveCall) → KeepsPool pool calls → KeepsPool pool (at_first test one_left calls)
 keeps-left pool test calls keeps = record {
-  kept = all-at_first test one_left (IsKept pool) calls (λ c kept passes. left-kept pool c kept) keeps.kept;
+  kept = all-kept test one_left (IsKept pool) calls (λ c kept passes. left-kept pool c kept) keeps.kept;
   apart = λ p. rw (sum-at_first test one_left (λ c. cond (eqb c.ask p) 1 0 + cond (eqb c.answer p) 1 0) calls (λ c. refl)) (keeps.apart p);
 }
 
@@ -135,13 +106,13 @@ marked-names p now c false = refl
 
 pub keeps-posted : (pool : Pool) (calls : List ActiveCall) → KeepsPool pool calls → KeepsPool pool (at_first can_post one_posted calls)
 keeps-posted pool calls keeps = record {
-  kept = all-at_first can_post one_posted (IsKept pool) calls (λ c kept passes. posted-kept pool c kept) keeps.kept;
+  kept = all-kept can_post one_posted (IsKept pool) calls (λ c kept passes. posted-kept pool c kept) keeps.kept;
   apart = λ p. rw (sum-at_first can_post one_posted (λ c. cond (eqb c.ask p) 1 0 + cond (eqb c.answer p) 1 0) calls (λ c. refl)) (keeps.apart p);
 }
 
 pub keeps-marked : (pool : Pool) (test : ActiveCall → Bool) (number now : ℕ) (calls : List ActiveCall) → KeepsPool pool calls → KeepsPool pool (at_first test (marked number now) calls)
 keeps-marked pool test number now calls keeps = record {
-  kept = all-at_first test (marked number now) (IsKept pool) calls (λ c kept passes. marked-cases pool now (one_left c) _ (left-kept pool c kept)) keeps.kept;
+  kept = all-kept test (marked number now) (IsKept pool) calls (λ c kept passes. marked-cases pool now (one_left c) _ (left-kept pool c kept)) keeps.kept;
   apart = λ p. rw (sum-at_first test (marked number now) (λ c. cond (eqb c.ask p) 1 0 + cond (eqb c.answer p) 1 0) calls (λ c. marked-names p now (one_left c) _)) (keeps.apart p);
 }
 
@@ -175,12 +146,6 @@ pub keeps-released : (pool : Pool) (place : Option ℕ) (calls : List ActiveCall
 keeps-released pool None calls some keeps = keeps
 keeps-released pool (Some p) calls some keeps = released-full pool p calls some keeps
 
--- a place is not both full and empty
-full-empty : (u : Use) → is_full u ≡ true → is_empty u ≡ true → ⊥
-full-empty Empty full empty = cc
-full-empty (Full refs) full empty = cc
-full-empty Lent full empty = cc
-
 empty-other : (uses : List Use) (p q : ℕ) → is_full (get_or uses q Empty) ≡ true → is_empty (get_or uses p Empty) ≡ true → q ≢ p
 empty-other uses p q full empty = λ same. full-empty (get_or uses p Empty) (rw same at full) empty
 
@@ -198,9 +163,6 @@ kept-filled pool p b c empty kept =
     }
 
 -- no call names an empty place
-unnamed-one : (a p : ℕ) → a ≢ p → cond {A = ℕ} (eqb a p) 1 0 ≡ 0
-unnamed-one a p other = ap (λ b. cond {A = ℕ} b 1 0) (ne_eqb a p other)
-
 names-empty : (pool : Pool) (p : ℕ) (calls : List ActiveCall) → is_empty (get_or pool.uses p Empty) ≡ true → AllByRecursion (IsKept pool) calls → names p calls ≡ 0
 names-empty pool p [] empty kept = refl
 names-empty pool p (c ∷ cs) empty kept =
@@ -291,7 +253,7 @@ module _ (pool : Pool) (p q : ℕ) (b d : Buffer) (first : lowest_empty pool ≡
   -- beginning keeps the pool
   pub keeps-begun : (c : ActiveCall) (calls : List ActiveCall) → c.ask ≡ p → c.answer ≡ q → IsKept (filled q d (filled p b pool)) c → KeepsPool pool calls → KeepsPool (filled q d (filled p b pool)) (calls ++ c ∷ [])
   keeps-begun c calls ask answer own keeps = record {
-    kept = all-append (IsKept (filled q d (filled p b pool))) calls c (all-each (IsKept pool) (IsKept (filled q d (filled p b pool))) calls (λ x kept. kept-filled (filled p b pool) q d x second-empty (kept-filled pool p b x first-empty kept)) keeps.kept) own;
+    kept = all-push (IsKept (filled q d (filled p b pool))) calls c (all-each (IsKept pool) (IsKept (filled q d (filled p b pool))) calls (λ x kept. kept-filled (filled p b pool) q d x second-empty (kept-filled pool p b x first-empty kept)) keeps.kept) own;
     apart = λ r. names-new r c ask answer calls keeps;
   }
 

@@ -9,7 +9,7 @@ use Rattle.rpc_base.specs.Tables.{at_first}
 use Rattle.rpc_base.specs.Taking.{TakenOut}
 use Rattle.rpc_base.specs.declared.owner.Owner.{Owner}
 use Rattle.rpc_base.specs.declared.owner.Owner.TheVariants.{Ask, Reply as ReplyOwner, Control}
-use Rattle.rpc_base.proofs.TakingLemmas.{taken-sum}
+use Rattle.rpc_base.proofs.TakingLemmas.{taken-sum, find-passes}
 use Rattle.packet_header.specs.declared.packet.MessageHeader.{MessageHeader}
 use Rattle.buffer_pool.specs.Pool.{Pool}
 use Rattle.packet_rings.specs.Entries.{is_of}
@@ -21,9 +21,8 @@ use Rattle.client_core.specs.Counting.{AreQueued, CountsQueued}
 use Rattle.client_core.specs.Posting.{IsPacketOf, call_of, is_owner, marked, one_left, one_posted}
 use Rattle.client_core.specs.Replies.{Replies, is_request, replied}
 use Rattle.client_core.specs.Session.{IsSession, Session, can_post, is_in_slot}
-use Rattle.client_core.proofs.CallsLemmas.{all-at_first, count-fewer, counted-cons, found-holds, found-passes}
-use Rattle.client_core.proofs.ChangedLemmas.{all-without}
-use Rattle.client_core.proofs.ShownLemmas.{same-first}
+use Rattle.rpc_base.proofs.ChangedLemmas.{same-first}
+use Rattle.rpc_base.proofs.FirstLemmas.{found-holds, counted-cons, count-fewer, all-kept, all-left}
 
 -- one call has each request number
 request-slot : (r : ℕ) (x : ActiveCall) → is_request r x ≡ true → is_in_slot (r % 8) x ≡ true
@@ -69,7 +68,7 @@ count-behind n x es e b t =
 
 pub post-queued : (s : Session) (c : ActiveCall) (e : EntryValue) (es : List EntryValue) → IsSession s → find can_post s.active ≡ Some c → find (is_request c.request) s.active ≡ Some c → e.owner ≡ Ask s.number c.request → AreQueued s.number s.active es → AreQueued s.number (at_first can_post one_posted s.active) (es ++ e ∷ [])
 post-queued s c e es h found mine owner all =
-    let firsts = same-first can_post (is_request c.request) one_posted c s.active (found-passes can_post s.active c found) (eq-eqb c.request c.request refl) found mine in
+    let firsts = same-first can_post (is_request c.request) one_posted c s.active (find-passes can_post s.active c found) (eq-eqb c.request c.request refl) found mine in
     rw firsts (changed s.number c.request one_posted es (es ++ e ∷ [])
     (λ x other. omega (arith, count-behind s.number x.request es e false (weight-other s.number c.request x.request e owner (eqb-false x.request c.request other))))
     (λ x is was. let same : x.request ≡ c.request = eqb-true x.request c.request is in
@@ -100,7 +99,7 @@ module _ (s : Session) (e : EntryValue) (f : ActiveCall → ActiveCall) (passes 
   left-cases : (o : Option ActiveCall) → call_of s e ≡ o → IsPacketOf o e → AreQueued s.number s.active old → AreQueued s.number (at_first (is_owner s.number e.owner) f s.active) new
   left-cases None found posted all = absurd posted
   left-cases (Some c) found posted all =
-      let owner : e.owner ≡ Ask s.number c.request = owner-is s.number c.request e.owner (found-passes (is_owner s.number e.owner) s.active c found) in
+      let owner : e.owner ≡ Ask s.number c.request = owner-is s.number c.request e.owner (find-passes (is_owner s.number e.owner) s.active c found) in
       let tests : at_first (is_owner s.number e.owner) f s.active ≡ at_first (is_request c.request) f s.active = alike (is_owner s.number e.owner) (is_request c.request) f s.active (λ x. ap (λ o. is_owner s.number o x) owner ∙ owner-of s.number c.request x) in
       rw tests (changed s.number c.request f old new
       (λ x other. omega (arith, count-out x.request false (weight-other s.number c.request x.request e owner (eqb-false x.request c.request other))))
@@ -130,11 +129,11 @@ pub reply-queued : (now : ℕ) (h : MessageHeader) (body : List ℕ) (s new : Se
 reply-queued now h body s new pool after es Took replies all =
     let c = replies.0 in
     let g = replies.1 in
-    rw g.session (all-at_first (is_request c.request) (replied now h) (λ x. x.queued ≡ count_by (is_of (Ask s.number x.request)) es) s.active (λ x here passes. here) all)
+    rw g.session (all-kept (is_request c.request) (replied now h) (λ x. x.queued ≡ count_by (is_of (Ask s.number x.request)) es) s.active (λ x here passes. here) all)
 reply-queued now h body s new pool after es (Ended d) replies all =
     let c = replies.0 in
     let g = replies.1 in
-    rw g.session (all-without (is_request c.request) c (λ x. x.queued ≡ count_by (is_of (Ask s.number x.request)) es) s.active all)
+    rw g.session (all-left (is_request c.request) (λ x. x.queued ≡ count_by (is_of (Ask s.number x.request)) es) s.active all)
 reply-queued now h body s new pool after es (Dropped why) replies all = rw replies.0 all
 
 -- where no packet of a call is queued, no entry is its own

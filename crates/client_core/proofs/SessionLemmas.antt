@@ -14,10 +14,13 @@ use Rattle.session_slots.specs.declared.active.Active.{Active as Begun}
 use Rattle.session_slots.specs.declared.waiting.Waiting.{Waiting}
 use Rattle.session_slots.specs.Slots.{Slots, Begins, IsSound, begun, lowest_free}
 use Rattle.client_core.specs.declared.call.ActiveCall.{ActiveCall}
-use Rattle.client_core.specs.Session.{Session, IsInTurn, IsMessage, IsSession, begun_as, call_in, can_post, is_in_slot, known_of, unanswered_in}
+use Rattle.client_core.specs.Session.{Session, IsInTurn, IsSession, begun_as, call_in, can_post, is_in_slot, known_of, unanswered_in}
 use Rattle.client_core.specs.Posting.{IsPacketOf, entry_of, is_owner, marked, next_entry, one_left, one_posted, started}
-use Rattle.client_core.proofs.PoolLemmas.{position-at}
-use Rattle.client_core.proofs.CallsLemmas.{all-append, count-fewer, all-at_first, all-front, all-rest, count-missing, found-changed, found-holds, found-other, found-own, length-at_first, none-found, shows-at_first, sum-at_first}
+use Rattle.client_core.proofs.CallsLemmas.{all-front, all-rest, count-missing, found-other, length-at_first, none-found, shows-at_first, sum-at_first}
+use Rattle.rpc_base.proofs.FirstLemmas.{all-push, found-holds, found-own, count-fewer, all-kept, found-changed}
+use Rattle.rpc_base.proofs.TablesLemmas.{position-at}
+use Rattle.rpc_base.proofs.BasicLemmas.{or-none, none-is}
+use Rattle.packet_header.specs.Parts.{IsMessage}
 
 -- what doesn't read a call's mark
 mark-cases : {B : Type 0} (g : ActiveCall → B) (now : ℕ) (c : ActiveCall) (b : Bool) → g (record c { mark = now }) ≡ g c → g (cond b (record c { mark = now }) c) ≡ g c
@@ -45,7 +48,7 @@ left-session s p h = record {
   slots = λ i below. h.slots i below ∙ sym (shows-at_first p one_left (option_map begun_as) (is_in_slot i) s.active (λ x. refl) (λ x. refl));
   apart = λ i. omega (arith, h.apart i, sum-at_first p one_left (λ x. cond (is_in_slot i x) 1 0) s.active (λ x. refl));
   unanswered = λ i below. h.unanswered i below ∙ sym (shows-at_first p one_left unanswered_in (is_in_slot i) s.active (λ x. refl) (λ x. refl));
-  in_turn = all-at_first p one_left IsInTurn s.active (λ x turn passes. left-turn x turn) h.in_turn;
+  in_turn = all-kept p one_left IsInTurn s.active (λ x turn passes. left-turn x turn) h.in_turn;
   messages = h.messages;
 }
 
@@ -59,7 +62,7 @@ marked-session s p number now h = record {
   slots = λ i below. h.slots i below ∙ sym (shows-at_first p (marked number now) (option_map begun_as) (is_in_slot i) s.active (λ x. mark-same (is_in_slot i) number now x refl refl) (λ x. mark-same (λ c. option_map begun_as (Some c)) number now x refl refl));
   apart = λ i. omega (arith, h.apart i, sum-at_first p (marked number now) (λ x. cond (is_in_slot i x) 1 0) s.active (λ x. mark-same (λ c. cond {A = ℕ} (is_in_slot i c) 1 0) number now x refl refl));
   unanswered = λ i below. h.unanswered i below ∙ sym (shows-at_first p (marked number now) unanswered_in (is_in_slot i) s.active (λ x. mark-same (is_in_slot i) number now x refl refl) (λ x. mark-same (λ c. unanswered_in (Some c)) number now x refl refl));
-  in_turn = all-at_first p (marked number now) IsInTurn s.active (λ x turn passes. mark-turn now (one_left x) _ (left-turn x turn)) h.in_turn;
+  in_turn = all-kept p (marked number now) IsInTurn s.active (λ x turn passes. mark-turn now (one_left x) _ (left-turn x turn)) h.in_turn;
   messages = h.messages;
 }
 
@@ -95,7 +98,7 @@ posted-session s c h e balanced = record {
   slots = λ i below. h.slots i below ∙ sym (shows-at_first can_post one_posted (option_map begun_as) (is_in_slot i) s.active (λ x. refl) (λ x. refl));
   apart = λ i. omega (arith, h.apart i, sum-at_first can_post one_posted (λ x. cond (is_in_slot i x) 1 0) s.active (λ x. refl));
   unanswered = λ i below. elim (cases_eq i (c.request % 8)) [ inl same ↦ rw same (posted-there s c h e) | inr apart ↦ posted-elsewhere s c i h e below apart ];
-  in_turn = all-at_first can_post one_posted IsInTurn s.active posted-turn h.in_turn;
+  in_turn = all-kept can_post one_posted IsInTurn s.active posted-turn h.in_turn;
   messages = h.messages;
 }
 
@@ -104,21 +107,12 @@ pub started-turn : (old new : Slots) (request : ℕ) (w : Waiting) (c : ActiveCa
 started-turn old new request w c ask answer begins messages is =
     rw is (record { len = all-front (λ x. IsMessage x.req.len) old.waiting w messages begins.oldest; size = tt; answered = omega arith; known = omega arith; queued = omega arith; rolls = omega arith })
 
--- the lowest free slot is one of them, and is free
-none_of : {A : Type 0} (o : Option A) → is_none o ≡ true → o ≡ None
-none_of None e = refl
-none_of (Some x) e = cc
-
 pub free-at : (xs : List (Option Begun)) (i : ℕ) → position is_none xs ≡ Some i → (i < length xs) × (get_or xs i None ≡ None)
-free-at xs i e = let (within, passes) = position-at is_none xs i None e in (within, none_of _ passes)
+free-at xs i e = let (within, passes) = position-at is_none xs i None e in (within, none-is _ passes)
 
 unmapped : {A B : Type 0} (f : A → B) (o : Option A) → None ≡ option_map f o → o ≡ None
 unmapped f None e = refl
 unmapped f (Some x) e = cc
-
-or-none : {A : Type 0} (o : Option A) → option_or o None ≡ o
-or-none None = refl
-or-none (Some x) = refl
 
 module _ (s : Session) (r call : ℕ) (c : ActiveCall) (h : IsSession s) (same : c.request ≡ r) (named : c.call ≡ call) (free : lowest_free s.slots ≡ Some (r % 8)) where
   slot-free : call_in (r % 8) s.active ≡ None
@@ -179,7 +173,7 @@ module _ (s : Session) (r call : ℕ) (c : ActiveCall) (h : IsSession s) (same :
     slots = λ i below. elim (cases_eq i (r % 8)) [ inl here ↦ rw here own-slots | inr apart ↦ other-slots i below apart ];
     apart = λ i. elim (cases_eq i (r % 8)) [ inl here ↦ rw here own-apart | inr apart ↦ other-apart i apart ];
     unanswered = λ i below. elim (cases_eq i (r % 8)) [ inl here ↦ rw here (h.unanswered (r % 8) (omega arith) ∙ ap unanswered_in slot-free ∙ omega (arith, new, ap unanswered_in own-call)) | inr apart ↦ h.unanswered i below ∙ sym (ap unanswered_in (other-call i apart)) ];
-    in_turn = all-append IsInTurn s.active c h.in_turn turn;
+    in_turn = all-push IsInTurn s.active c h.in_turn turn;
     messages = all-rest (λ w. IsMessage w.req.len) s.slots.waiting h.messages;
   }
 

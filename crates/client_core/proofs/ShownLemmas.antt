@@ -17,15 +17,18 @@ use Rattle.rpc_laws.specs.Calls.{begun, is_active, is_call, is_waiting, moved, p
 use Rattle.rpc_laws.specs.Posting.{beginning, can_post as may_post, holds_slot, is_taken, lowest_free as lowest_untaken, next_packet, next_turn, posting}
 use Rattle.client_core.specs.declared.call.ActiveCall.{ActiveCall}
 use Rattle.client_core.specs.Session.{Session, IsSession, begun_as, can_post, enqueued, is_in_slot}
-use Rattle.client_core.specs.KeepsPool.{HasSize, IsKept, KeepsPool, held_at, released_at}
+use Rattle.client_core.specs.KeepsPool.{IsKept, KeepsPool, held_at, released_at}
 use Rattle.client_core.specs.Posting.{entry_of, next_entry, one_posted, started}
 use Rattle.client_core.specs.Shown.{asked, begun_event, posted_event, shown, shown_active, shown_waiting, stepped}
-use Rattle.client_core.proofs.PacketLemmas.{message-length}
 use Rattle.packet_header.specs.Parts.{packet_count}
 use Rattle.packet_header.proofs.PartsLemmas.{packet_count_above}
 use Rattle.rpc_laws.specs.Sessions.{has_call}
 use Rattle.client_core.proofs.PoolLemmas.{ask-buffer, same-answer, same-ask}
 use Rattle.client_core.proofs.SessionLemmas.{request-call}
+use Rattle.rpc_base.proofs.BasicLemmas.{or-none}
+use Rattle.rpc_base.proofs.ChangedLemmas.{same-first}
+use Rattle.message_buffer.specs.Messages.{HasSize}
+use Rattle.message_buffer.proofs.MessageLemmas.{message-length}
 
 -- what is found of what is shown
 module _ {A B : Type 0} (g : A → B) where
@@ -67,26 +70,6 @@ module _ {A B : Type 0} (g : A → B) where
     changed-shown [] tests same e = cc
     changed-shown (x ∷ xs) tests same e = rw (tests x) (changed-cons x xs (q x) same (changed-shown xs tests same) e)
 
--- two tests that find one element change that one
-module _ {A : Type 0} (p q : A → Bool) (f : A → A) (c : A) where
-  same-later : (x : A) (xs : List A) (b : Bool) → p x ≡ true → x ≡ c → q x ≡ b → q c ≡ true → f x ∷ xs ≡ cond b (f x ∷ xs) (x ∷ at_first q f xs)
-  same-later x xs true t is u passes = refl
-  same-later x xs false t is u passes = let clash : q x ≡ true = ap q is ∙ passes in cc
-
-  other-later : (x : A) (xs : List A) (b : Bool) → q x ≡ b → p x ≡ false → p c ≡ true → (find q xs ≡ Some c → at_first p f xs ≡ at_first q f xs) → cond b (Some x) (find q xs) ≡ Some c → x ∷ at_first p f xs ≡ cond b (f x ∷ xs) (x ∷ at_first q f xs)
-  other-later x xs true u t passes ih e =
-      let is : x ≡ c = cc in
-      let clash : p x ≡ true = ap p is ∙ passes in cc
-  other-later x xs false u t passes ih e = ap (λ ys. x ∷ ys) (ih e)
-
-  same-cons : (x : A) (xs : List A) (b : Bool) → p x ≡ b → p c ≡ true → q c ≡ true → (find p xs ≡ Some c → find q xs ≡ Some c → at_first p f xs ≡ at_first q f xs) → cond b (Some x) (find p xs) ≡ Some c → cond (q x) (Some x) (find q xs) ≡ Some c → cond b (f x ∷ xs) (x ∷ at_first p f xs) ≡ cond (q x) (f x ∷ xs) (x ∷ at_first q f xs)
-  same-cons x xs true t mine yours ih e g = let is : x ≡ c = cc in same-later x xs (q x) t is refl yours
-  same-cons x xs false t mine yours ih e g = other-later x xs (q x) refl t mine (ih e) g
-
-  pub same-first : (xs : List A) → p c ≡ true → q c ≡ true → find p xs ≡ Some c → find q xs ≡ Some c → at_first p f xs ≡ at_first q f xs
-  same-first [] mine yours e g = refl
-  same-first (x ∷ xs) mine yours e g = same-cons x xs (p x) refl mine yours (same-first xs mine yours) e g
-
 -- bytes don't change where a place is held or released
 held-same : (pool : Pool) (place : Option ℕ) (calls : List ActiveCall) → map (shown_active (held_at place pool)) calls ≡ map (shown_active pool) calls
 held-same pool None calls = refl
@@ -95,10 +78,6 @@ held-same pool (Some p) calls = refl
 pub released-same : (pool : Pool) (place : Option ℕ) (calls : List ActiveCall) → map (shown_active (released_at place pool)) calls ≡ map (shown_active pool) calls
 released-same pool None calls = refl
 released-same pool (Some p) calls = refl
-
-or-none : {A : Type 0} (o : Option A) → option_or o None ≡ o
-or-none None = refl
-or-none (Some x) = refl
 
 -- what may be posted
 may-post-shown : (pool : Pool) (calls : List ActiveCall) → AllByRecursion (IsKept pool) calls → AllByRecursion (λ c. may_post (shown_active pool c) ≡ can_post c) calls

@@ -16,15 +16,17 @@ use Rattle.client_core.specs.declared.call.ActiveCall.{ActiveCall}
 use Rattle.client_core.specs.KeepsPool.{IsKept, KeepsPool}
 use Rattle.client_core.specs.Replies.{IsPart, IsTaken, after_reply, answered, call_as, is_request, replied, rewritten_at, with_part}
 use Rattle.client_core.specs.Session.{IsInTurn, IsSession, Session}
-use Rattle.client_core.specs.Shown.{message_in, shown, shown_active, shown_waiting, took}
-use Rattle.client_core.proofs.AnswerLemmas.{full_within, none-kept, room-some}
+use Rattle.client_core.specs.Shown.{shown, shown_active, shown_waiting, took}
+use Rattle.client_core.proofs.AnswerLemmas.{none-kept, room-some}
 use Rattle.client_core.proofs.CallLemmas.{credit-below, is-answer}
-use Rattle.client_core.proofs.CallsLemmas.{found-holds}
-use Rattle.client_core.proofs.ChangedLemmas.{same-change}
+use Rattle.rpc_base.proofs.ChangedLemmas.{same-change}
 use Rattle.client_core.proofs.OneCallLemmas.{own-turn, own-unanswered}
 use Rattle.client_core.proofs.PartLemmas.{with-next}
 use Rattle.client_core.proofs.ShownLemmas.{found-shown}
 use Rattle.client_core.proofs.PlacesLemmas.{names-answer, shown-changed, two-places}
+use Rattle.rpc_base.proofs.FirstLemmas.{found-holds}
+use Rattle.message_buffer.specs.Messages.{message_in}
+use Rattle.buffer_pool.proofs.PlacesLemmas.{buffer-within}
 
 -- no part of an answer is taken before the last packet of the request is answered
 first-part : (c : ActiveCall) → IsInTurn c → c.got < c.posted → c.size ≡ None → c.got + 1 - packet_count c.len ≡ 0
@@ -44,7 +46,7 @@ module _ (pool : Pool) (now : ℕ) (c : ActiveCall) (h : MessageHeader) (body : 
   -- with the part of an answer
   answer-shown : (b : Buffer) → buf_at pool c.answer ≡ Some b → IsPart c h (length body) → length body ≡ part_size h.size (c.got + 1 - packet_count c.len) → shown_active (changed c.answer (with_part c h body b) pool) (record c { got = c.got + 1; rolls = 0; mark = now; size = Some h.size }) ≡ record (shown_active pool c) { progress = Some (record { request = c.request; got = c.got + 1; posted = c.posted; rolls = 0; mark = now; answer = Some h.size; parts = take (1024 * (c.got + 1 - packet_count c.len)) (bytes_of b) ++ body }) }
   answer-shown b is part long =
-      let own = changed_own pool.bufs c.answer (Some (with_part c h body b)) None (full_within pool.bufs c.answer b is) in
+      let own = changed_own pool.bufs c.answer (Some (with_part c h body b)) None (buffer-within pool.bufs c.answer b is) in
       let other = changed_other pool.bufs c.answer c.ask (Some (with_part c h body b)) None apart in
       rw (own, other, part-shown b is part long) refl
 

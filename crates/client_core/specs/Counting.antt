@@ -1,21 +1,18 @@
--- The references to places of the pool, and the queued packets of calls, by the entries that name them.
+-- The references to places of the pool, and the queued packets of calls, by the entries that name
+-- them.
 use Rattle.std.specs.Prelude.{◌≡◌, ℕ, List, count_by}
 use Rattle.std.specs.List.{AllByRecursion}
 use Rattle.rpc_base.specs.declared.owner.Owner.TheVariants.{Ask}
-use Rattle.buffer_pool.specs.Pool.{Pool, refs_of}
+pub use Rattle.buffer_pool.specs.Counting.{Counts}
 use Rattle.packet_rings.specs.Entries.{is_of}
-use Rattle.packet_rings.specs.Mentions.{mentions}
 use Rattle.packet_rings.specs.Values.{EntryValue}
 use Rattle.client_core.specs.declared.call.ActiveCall.{ActiveCall}
 use Rattle.client_core.specs.Session.{Session}
 
--- each place has as many references as entries name it
-abbrev pub Counts : Pool → List EntryValue → Type 0
-Counts pool entries = (p : ℕ) → refs_of pool p ≡ mentions p entries
-
 -- each active call has as many queued packets as entries are its own
 abbrev pub AreQueued : ℕ → List ActiveCall → List EntryValue → Type 0
-AreQueued number calls entries = AllByRecursion (λ c. c.queued ≡ count_by (is_of (Ask number c.request)) entries) calls
+AreQueued number calls entries =
+    AllByRecursion (λ c. c.queued ≡ count_by (is_of (Ask number c.request)) entries) calls
 
 abbrev pub CountsQueued : Session → List EntryValue → Type 0
 CountsQueued s entries = AreQueued s.number s.active entries

@@ -11,12 +11,14 @@ use Rattle.client_core.specs.Session.{Session}
 
 -- each entry of a packet is one then
 abbrev pub KeepsEntries : (old new : Session) → Type 0
-KeepsEntries old new = (e : EntryValue) → IsPacketOf (call_of old e) e → IsPacketOf (call_of new e) e
+KeepsEntries old new =
+    (e : EntryValue) → IsPacketOf (call_of old e) e → IsPacketOf (call_of new e) e
 
 -- each but those of the call with this request number
 abbrev pub KeepsOthers : ℕ → (old new : Session) → Type 0
 KeepsOthers r old new =
-    (e : EntryValue) → is_of (Ask old.number r) e ≡ false → IsPacketOf (call_of old e) e → IsPacketOf (call_of new e) e
+    (e : EntryValue) → is_of (Ask old.number r) e ≡ false → IsPacketOf (call_of old e) e
+    → IsPacketOf (call_of new e) e
 
 -- a reply that ends its call takes the entries of that call away, and no other
 abbrev pub RepliesKeep : Reply → ℕ → (old new : Session) → Type 0

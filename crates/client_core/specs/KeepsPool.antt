@@ -2,16 +2,12 @@
 use Rattle.std.specs.Prelude.{◌≡◌, ℕ, ◌+◌, ◌<◌, ◌≤◌, ◌==◌, false, if◌then◌else◌, List, sum_by, Option, Some, None, IfSome}
 use Rattle.std.specs.List.{AllByRecursion}
 use Rattle.message_buffer.specs.Buffer.{Buffer, capacity_of}
-pub use Rattle.buffer_pool.specs.Places.{IsHeld, MayHold, held_at, released_at}
+pub use Rattle.buffer_pool.specs.Places.{IsHeld, LeavesUnnamed, MayHold, held_at, released_at}
 use Rattle.buffer_pool.specs.Pool.{Pool, IsFull, buf_at, held, refs_of, released, use_at}
 use Rattle.buffer_pool.specs.Uses.{is_empty}
 use Rattle.packet_rings.specs.Values.{EntryValue}
 use Rattle.client_core.specs.declared.call.ActiveCall.{ActiveCall}
-
--- the buffer of a request of this size
-abbrev pub HasSize : ℕ → Option Buffer → Type 0
-HasSize size None = ⊥
-HasSize size (Some b) = (b.len ≡ size) × (size ≤ capacity_of b)
+use Rattle.message_buffer.specs.Messages.{HasSize}
 
 -- the answer's size is told: it is the buffer's length, and fits the room
 abbrev pub IsTold : (room len : ℕ) → Option ℕ → Type 0
@@ -41,8 +37,7 @@ pub record KeepsPool (pool : Pool) (calls : List ActiveCall) : Type 0 where
 
 -- a place with a use that no call of the session named is named by none of it then, and is as it was
 abbrev pub LeavesOthers : (old new : List ActiveCall) → (before after : Pool) → Type 0
-LeavesOthers old new before after =
-    (p : ℕ) → names p old ≡ 0 → is_empty (use_at before p) ≡ false → (names p new ≡ 0) × (use_at after p ≡ use_at before p) × (buf_at after p ≡ buf_at before p)
+LeavesOthers = LeavesUnnamed names
 
 -- one reference more can be counted to each request
 abbrev pub CanHold : Pool → List ActiveCall → Type 0

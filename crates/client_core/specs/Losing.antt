@@ -1,5 +1,5 @@
--- How the calls of a session that lost its peer end: the active ones in the order of their numbers, and then
--- those that wait, oldest first.
+-- How the calls of a session that lost its peer end: the active ones in the order of their numbers,
+-- and then those that wait, oldest first.
 use Rattle.std.specs.Prelude.{◌≡◌, ℕ, Option, Some, None, slice_get}
 use Rattle.rpc_base.specs.Least.{least}
 use Rattle.message_buffer.specs.Buffer.{with_len}
@@ -27,7 +27,8 @@ pub record IsGivenUp (session : ℕ) (w : Waiting) (d : Done) : Type 0 where
   pub resp : d.resp ≡ with_len 0 w.resp
 
 -- an active call is lost
-pub record LosesActive (c : ActiveCall) (d : Done) (old new : Session) (before after : Pool) : Type 0 where
+pub record LosesActive (c : ActiveCall) (d : Done) (old new : Session) (before after : Pool)
+    : Type 0 where
   pub done : IsDone old.number PeerLost c before d
   pub session : new ≡ without_call c old
   pub pool : after ≡ without_buffers c before

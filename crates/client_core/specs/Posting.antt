@@ -36,8 +36,8 @@ started w request ask answer = record {
   size = None;
 }
 
--- the call that waited longest begins in the lowest free slot, and its buffers go to the lowest empty
--- places of the pool
+-- the call that waited longest begins in the lowest free slot, and its buffers go to the lowest
+-- empty places of the pool
 pub record Starts (call request : ℕ) (old new : Session) (before after : Pool) : Type 0 where
   pub waiting : Waiting
   pub ask : ℕ
@@ -46,7 +46,11 @@ pub record Starts (call request : ℕ) (old new : Session) (before after : Pool)
   pub begins : Begins request waiting old.slots new.slots
   pub ask_place : lowest_empty before ≡ Some ask
   pub answer_place : lowest_empty (filled ask waiting.req before) ≡ Some answer
-  pub session : new ≡ record old { slots = begun request call old.slots; active = old.active ++ started waiting request ask answer ∷ [] }
+  pub session : new ≡ record old {
+    slots = begun request call old.slots;
+    active = old.active
+        ++ started waiting request ask answer ∷ [];
+  }
   pub pool : after ≡ filled answer waiting.resp (filled ask waiting.req before)
 
 -- where the bytes of a packet are: a request for a part of the answer has none
@@ -55,7 +59,8 @@ place_of c k = if nat_lt k (packet_count c.len) then Some c.ask else None
 
 -- the entry of packet k of a call
 abbrev pub entry_at : (session peer k : ℕ) → ActiveCall → EntryValue
-entry_at session peer k c = record { owner = Ask session c.request; number = k; place = place_of c k; peer = peer }
+entry_at session peer k c =
+    record { owner = Ask session c.request; number = k; place = place_of c k; peer = peer }
 
 -- that of its next packet
 abbrev pub entry_of : (session peer : ℕ) → ActiveCall → EntryValue
@@ -64,8 +69,22 @@ entry_of session peer c = entry_at session peer c.posted c
 -- the header of packet k of a call
 abbrev pub head_of : (server k : ℕ) → ActiveCall → MessageHeader
 head_of server k c =
-    if nat_lt k (packet_count c.len) then record { kind = Request; req_type = c.req_type; size = c.len; session = server; number = k; request = c.request }
-    else record { kind = Rfr; req_type = 0; size = 0; session = server; number = k; request = c.request }
+    if nat_lt k (packet_count c.len) then record {
+      kind = Request;
+      req_type = c.req_type;
+      size = c.len;
+      session = server;
+      number = k;
+      request = c.request;
+    }
+    else record {
+      kind = Rfr;
+      req_type = 0;
+      size = 0;
+      session = server;
+      number = k;
+      request = c.request;
+    }
 
 -- the oldest call that may post does, where a credit is free
 abbrev pub next_call : Session → Option ActiveCall
@@ -86,7 +105,12 @@ one_left c = record c { queued = c.queued - 1 }
 -- the call has posted one packet more, which has one credit of its slot
 abbrev pub after_posting : Option ActiveCall → Session → Session
 after_posting None s = s
-after_posting (Some c) s = record s { credits = charged (c.request % 8) s.credits; active = at_first can_post one_posted s.active }
+after_posting (Some c) s =
+    record s {
+      credits = charged (c.request % 8) s.credits;
+      active = at_first can_post one_posted
+          s.active;
+    }
 
 -- the session once its next packet is posted
 abbrev pub posted : Session → Session
@@ -106,7 +130,8 @@ marked number now c = if c.got == number then record (one_left c) { mark = now }
 
 -- an entry was sent
 abbrev pub sent_at : EntryValue → ℕ → Session → Session
-sent_at e now s = record s { active = at_first (is_owner s.number e.owner) (marked e.number now) s.active }
+sent_at e now s =
+    record s { active = at_first (is_owner s.number e.owner) (marked e.number now) s.active }
 
 -- an entry was taken out unsent
 abbrev pub flushed_at : EntryValue → Session → Session
@@ -118,7 +143,8 @@ entry_if session peer k c = if nat_lt k c.posted then Some (entry_at session pee
 
 -- that of the active call with this request number
 abbrev pub posted_entry : (peer request k : ℕ) → Session → Option EntryValue
-posted_entry peer request k s = option_and_then (entry_if s.number peer k) (find (λ c. c.request == request) s.active)
+posted_entry peer request k s =
+    option_and_then (entry_if s.number peer k) (find (λ c. c.request == request) s.active)
 
 -- the entry is a packet that the call posted
 abbrev pub IsPacketOf : Option ActiveCall → EntryValue → Type 0

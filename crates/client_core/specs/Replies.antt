@@ -73,7 +73,8 @@ pub record IsPart (c : ActiveCall) (h : MessageHeader) (body_len : ℕ) : Type 0
 
 -- a part of the answer is written to its place in the message
 abbrev pub with_part : ActiveCall → MessageHeader → List ℕ → Buffer → Buffer
-with_part c h body b = written (1024 * (h.number + 1 - packet_count c.len)) body (sized c.size h.size b)
+with_part c h body b =
+    written (1024 * (h.number + 1 - packet_count c.len)) body (sized c.size h.size b)
 
 abbrev pub rewritten_at : ℕ → (Buffer → Buffer) → Option Buffer → Pool → Pool
 rewritten_at p f None pool = pool
@@ -82,7 +83,8 @@ rewritten_at p f (Some b) pool = changed p (f b) pool
 -- a part of the answer goes straight into the answer's buffer, and a CR has none
 abbrev pub answered : ActiveCall → MessageHeader → List ℕ → Pool → Pool
 answered c h body pool =
-    if is_response h.kind then rewritten_at c.answer (with_part c h body) (buf_at pool c.answer) pool else pool
+    if is_response h.kind then rewritten_at c.answer (with_part c h body) (buf_at pool c.answer)
+    pool else pool
 
 -- a reply was taken and its call goes on: one credit is back
 abbrev pub after_reply : ℕ → MessageHeader → ActiveCall → Session → Session
@@ -110,7 +112,8 @@ returned (TooSmall size) b = with_len 0 b
 returned PeerLost b = with_len 0 b
 
 -- an active call that is over as it is handed back, its buffers being those that the pool had
-pub record IsDone (session : ℕ) (outcome : Outcome) (c : ActiveCall) (pool : Pool) (d : Done) : Type 0 where
+pub record IsDone (session : ℕ) (outcome : Outcome) (c : ActiveCall) (pool : Pool) (d : Done)
+    : Type 0 where
   pub call : d.call ≡ c.call
   pub of_session : d.session ≡ session
   pub tag : d.tag ≡ c.tag
@@ -125,14 +128,16 @@ EndsBy EndsOk session h body c pool d = IsDone session Ok c (answered c h body p
 EndsBy (EndsTooSmall size) session h body c pool d = IsDone session (TooSmall size) c pool d
 
 -- a reply was taken, and its call goes on
-pub record GoesOnWith (now : ℕ) (h : MessageHeader) (body : List ℕ) (c : ActiveCall) (old new : Session) (before after : Pool) : Type 0 where
+pub record GoesOnWith (now : ℕ) (h : MessageHeader) (body : List ℕ) (c : ActiveCall)
+    (old new : Session) (before after : Pool) : Type 0 where
   pub found : call_as h.request old ≡ Some c
   pub stands : end_of h c ≡ GoesOn
   pub session : new ≡ after_reply now h c old
   pub pool : after ≡ answered c h body before
 
 -- a reply was taken, and its call is over
-pub record EndsWith (h : MessageHeader) (body : List ℕ) (c : ActiveCall) (d : Done) (old new : Session) (before after : Pool) : Type 0 where
+pub record EndsWith (h : MessageHeader) (body : List ℕ) (c : ActiveCall) (d : Done)
+    (old new : Session) (before after : Pool) : Type 0 where
   pub found : call_as h.request old ≡ Some c
   -- the reply answers the only packet that isn't answered
   pub next : h.number ≡ c.got
@@ -143,8 +148,10 @@ pub record EndsWith (h : MessageHeader) (body : List ℕ) (c : ActiveCall) (d : 
 
 -- what a reply does to the session and the pool, by its outcome
 abbrev pub Replies : Reply → ℕ → MessageHeader → List ℕ → Session → Session → Pool → Pool → Type 0
-Replies Took now h body old new before after = (c : ActiveCall) × GoesOnWith now h body c old new before after
-Replies (Ended d) now h body old new before after = (c : ActiveCall) × EndsWith h body c d old new before after
+Replies Took now h body old new before after =
+    (c : ActiveCall) × GoesOnWith now h body c old new before after
+Replies (Ended d) now h body old new before after =
+    (c : ActiveCall) × EndsWith h body c d old new before after
 Replies (Dropped why) now h body old new before after = (new ≡ old) × (after ≡ before)
 
 -- the row that a reply's outcome is
@@ -157,8 +164,8 @@ row_told (Dropped why) = Drops why
 abbrev pub IsUnheld : Pool → ActiveCall → Type 0
 IsUnheld pool c = refs_of pool c.ask ≡ 0
 
--- where a reply answers the only unanswered packet of a call, and that isn't queued, no entry names its request.
--- Of a reply to another packet nothing is wanted: it is dropped
+-- where a reply answers the only unanswered packet of a call, and that isn't queued, no entry names
+-- its request. Of a reply to another packet nothing is wanted: it is dropped
 abbrev pub NextIsUnheld : Pool → Bool → ℕ → Option ActiveCall → Type 0
 NextIsUnheld pool is_waiting number found =
     IfSome found (λ c. is_waiting ≡ false → number ≡ c.got → c.posted ≡ c.got + 1 → IsUnheld pool c)

@@ -1,7 +1,8 @@
 -- The calls of one client session as its callers see them, and what always holds of them.
 use Rattle.std.specs.Prelude.{◌≡◌, ℕ, ◌-◌, ◌%◌, ◌<◌, ◌≤◌, ◌==◌, nat_lt, Bool, List, [], length, count_by, is_some, slice_index, slice_index_or, Option, Some, None, option_map, IfSome}
 use Rattle.std.specs.List.{AllByRecursion, find}
-use Rattle.packet_header.specs.Parts.{packet_count}
+use Rattle.rpc_base.specs.declared.limits.TheConstants.{SESSION_NUMBERS}
+use Rattle.packet_header.specs.Parts.{packet_count, IsMessage}
 use Rattle.rpc_laws.specs.Calls.{known_packets}
 use Rattle.credit_book.specs.Credits.{Credits, IsBalanced, full_book}
 use Rattle.session_slots.specs.declared.active.Active.{Active as Begun}
@@ -19,8 +20,8 @@ pub record Session : Type 0 where
   -- the active calls, oldest first
   pub active : List ActiveCall
 
--- how many packets a call is known to have: those of its request and, once the answer's size is known,
--- one for each further packet of the answer
+-- how many packets a call is known to have: those of its request and, once the answer's size is
+-- known, one for each further packet of the answer
 abbrev pub known_of : ActiveCall → ℕ
 known_of c = known_packets (packet_count c.len) c.size
 
@@ -50,10 +51,6 @@ queued_in (Some c) = c.queued
 abbrev pub begun_as : ActiveCall → Begun
 begun_as c = record { request = c.request; call = c.call }
 
--- a message has at most 1,048,576 bytes
-abbrev pub IsMessage : ℕ → Type 0
-IsMessage size = size ≤ 1048576
-
 -- packets are posted before they are answered, and none is posted that the call isn't known to have
 pub record IsInTurn (c : ActiveCall) : Type 0 where
   pub len : IsMessage c.len
@@ -65,14 +62,16 @@ pub record IsInTurn (c : ActiveCall) : Type 0 where
 
 -- each slot has its active call and no other, and the slot's unanswered packets are that call's
 pub record IsSession (s : Session) : Type 0 where
-  pub number : s.number < 65535
-  pub server : s.server < 65535
+  pub number : s.number < SESSION_NUMBERS
+  pub server : s.server < SESSION_NUMBERS
   pub balanced : IsBalanced s.credits
   pub sound : IsSound s.slots
   pub count : length s.active ≡ count_by is_some s.slots.slots
-  pub slots : (i : ℕ) → i < 8 → slice_index_or s.slots.slots i None ≡ option_map begun_as (call_in i s.active)
+  pub slots : (i : ℕ) → i < 8 → slice_index_or s.slots.slots i None
+      ≡ option_map begun_as (call_in i s.active)
   pub apart : (i : ℕ) → count_by (is_in_slot i) s.active ≤ 1
-  pub unanswered : (i : ℕ) → i < 8 → slice_index s.credits.unanswered i ≡ unanswered_in (call_in i s.active)
+  pub unanswered : (i : ℕ) → i < 8 → slice_index s.credits.unanswered i
+      ≡ unanswered_in (call_in i s.active)
   pub in_turn : AllByRecursion IsInTurn s.active
   pub messages : AllByRecursion (λ w. IsMessage w.req.len) s.slots.waiting
 

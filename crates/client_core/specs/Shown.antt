@@ -30,11 +30,7 @@ use Rattle.client_core.specs.declared.outcome.Reply.TheVariants.{Took as TookRep
 use Rattle.client_core.specs.Session.{Session}
 use Rattle.client_core.specs.Posting.{call_of}
 use Rattle.client_core.specs.Timeouts.{is_numbered}
-
--- the message in a buffer
-abbrev pub message_in : Option Buffer → List ℕ
-message_in None = []
-message_in (Some b) = bytes_of b
+use Rattle.message_buffer.specs.Messages.{message_in}
 
 -- what never changes of the session
 abbrev pub way_of : ℕ → Session → Way
@@ -42,9 +38,17 @@ way_of peer s = record { number = s.number; peer = peer; other = s.server }
 
 -- what never changes of a call
 abbrev pub asking_of : Pool → ActiveCall → Asking
-asking_of pool c = record { number = c.call; req_type = c.req_type; room = c.room; ask = message_in (buf_at pool c.ask) }
+asking_of pool c =
+    record {
+      number = c.call;
+      req_type = c.req_type;
+      room = c.room;
+      ask = message_in
+          (buf_at pool c.ask);
+    }
 
--- the bytes of the answer taken so far: the parts of the replies from that to the last request packet on
+-- the bytes of the answer taken so far: the parts of the replies from that to the last request
+-- packet on
 abbrev pub parts_of : Pool → ActiveCall → List ℕ
 parts_of pool c = take (1024 * (c.got + 1 - packet_count c.len)) (message_in (buf_at pool c.answer))
 
@@ -52,13 +56,29 @@ parts_of pool c = take (1024 * (c.got + 1 - packet_count c.len)) (message_in (bu
 abbrev pub shown_active : Pool → ActiveCall → Call
 shown_active pool c = record {
   what = asking_of pool c;
-  progress = Some (record { request = c.request; got = c.got; posted = c.posted; rolls = c.rolls; mark = c.mark; answer = c.size; parts = parts_of pool c });
+  progress =
+      Some (record {
+        request = c.request;
+        got = c.got;
+        posted = c.posted;
+        rolls = c.rolls;
+        mark = c.mark;
+        answer = c.size;
+        parts = parts_of pool c;
+      });
 }
 
 -- a call that waits
 abbrev pub shown_waiting : Waiting → Call
 shown_waiting w = record {
-  what = record { number = w.call; req_type = w.req_type; room = capacity_of w.resp; ask = bytes_of w.req };
+  what =
+      record {
+        number = w.call;
+        req_type = w.req_type;
+        room = capacity_of w.resp;
+        ask = bytes_of
+            w.req;
+      };
   progress = None;
 }
 
@@ -78,12 +98,9 @@ shown pool peer s = record {
 
 -- the packet that an entry stands for
 abbrev pub packet_of : Pool → Session → EntryValue → Option Outgoing
-packet_of pool s e = option_map (λ c. client_packet (way_of e.peer s) (asking_of pool c) c.request e.number) (call_of s e)
-
--- the packet, whose fields are in their ranges, is sent with this header and body
-abbrev pub IsSpelled : Option Outgoing → (head body : List ℕ) → Type 0
-IsSpelled None head body = ⊥
-IsSpelled (Some o) head body = HasHead o.packet head × (body ≡ o.body) × InRange o.packet
+packet_of pool s e =
+    option_map (λ c. client_packet (way_of e.peer s) (asking_of pool c) c.request e.number)
+    (call_of s e)
 
 -- the fact of a posting, by its entry, and that of a beginning
 abbrev pub posted_event : EntryValue → Event
@@ -104,7 +121,8 @@ stepped clock event x = clients_after clock event [] None [] (x ∷ [])
 
 -- the reply to a call was taken
 abbrev pub took : ℕ → MessageHeader → List ℕ → Client → List Client
-took clock h body x = clients_after clock (Took (Ask x.way.number h.request) h.number) [] (Some h) body (x ∷ [])
+took clock h body x =
+    clients_after clock (Took (Ask x.way.number h.request) h.number) [] (Some h) body (x ∷ [])
 
 -- the event that a call is over, by how it ended
 abbrev pub end_event : ℕ → Outcome → Event
@@ -133,7 +151,8 @@ ending_facts me (Dropped why) = []
 -- the session once a reply was handled
 abbrev pub after_outcome : ℕ → Reply → MessageHeader → List ℕ → Client → List Client
 after_outcome clock TookReply h body x = took clock h body x
-after_outcome clock (Ended d) h body x = clients_after clock (done_event d) [] None [] (took clock h body x)
+after_outcome clock (Ended d) h body x =
+    clients_after clock (done_event d) [] None [] (took clock h body x)
 after_outcome clock (Dropped why) h body x = x ∷ []
 
 -- no two active calls have this number
@@ -152,8 +171,11 @@ shown_broken pool peer s = breaks (shown pool peer s)
 
 -- a call is asked on the session
 abbrev pub asked : ℕ → Waiting → Client → List Client
-asked clock w x = clients_after clock (Asked w.call x.way.number w.req_type (capacity_of w.resp)) (bytes_of w.req) None [] (x ∷ [])
+asked clock w x =
+    clients_after clock (Asked w.call x.way.number w.req_type (capacity_of w.resp)) (bytes_of w.req)
+    None [] (x ∷ [])
 
 -- the session is opened
 abbrev pub paired : (clock number server peer credits : ℕ) → List Client
-paired clock number server peer credits = clients_after clock (PairedClient number peer server credits) [] None [] []
+paired clock number server peer credits =
+    clients_after clock (PairedClient number peer server credits) [] None [] []

@@ -1,14 +1,13 @@
 //! What a session keeps of an active call.
 ghost use Rattle.std.specs.Prelude.{◌≡◌, ◌≤◌, ◌<◌, Some};
 ghost use Rattle.packet_header.specs.Header.{MessageInRange};
-ghost use Rattle.packet_header.specs.Parts.{packet_count, part_size};
+ghost use Rattle.packet_header.specs.Parts.{packet_count, part_size, IsMessage};
 ghost use Rattle.packet_header.specs.declared.packet.Kind.TheVariants.{Request};
 ghost use Rattle.buffer_pool.specs.Pool.{filled, lowest_empty, spare_of};
 ghost use Rattle.rpc_base.specs.declared.owner.Owner.TheVariants.{Ask};
-ghost use Rattle.client_core.specs.Session.{IsInTurn, IsMessage, can_post, known_of};
+ghost use Rattle.client_core.specs.Session.{IsInTurn, can_post, known_of};
 ghost use Rattle.client_core.specs.Watching.{is_after, told};
-ghost use Rattle.rpc_laws.specs.Calls.{is_response};
-ghost use Rattle.rpc_laws.specs.ClientTable.{is_cr, is_of_turn, is_same_size};
+ghost use Rattle.rpc_laws.specs.ClientTable.{is_of_turn, is_same_size};
 ghost use Rattle.client_core.specs.KeepsPool.{IsKept};
 ghost use Rattle.client_core.specs.Replies.{call_row, end_of, replied, size_told};
 ghost use Rattle.client_core.specs.Timeouts.{call_timer, rolled_call};
@@ -18,7 +17,7 @@ use crate::active::Active;
 use buffer_pool::BufferPool;
 use packet_header::{Kind, MessageHeader, PART_BYTES, count};
 use packet_rings::Entry;
-use rpc_base::{CallNo, DropReason, Owner, Peer, Place, RequestNo, SessionNo};
+use rpc_base::{CallNo, DropReason, Owner, Peer, Place, RequestNo, SESSION_NUMBERS, SessionNo};
 use rpc_laws::{ClientRow, EndRow, TimerRow};
 use session_slots::Waiting;
 
@@ -55,14 +54,16 @@ pub struct ActiveCall {
 }
 
 impl ActiveCall {
-    /// The waiting call begins as this request: its buffers go to the two lowest empty places of the
-    /// pool, and nothing is posted or taken.
+    /// The waiting call begins as this request: its buffers go to the two lowest empty places of
+    /// the pool, and nothing is posted or taken.
     pub fn start(request: RequestNo, waiting: Waiting, pool: &mut BufferPool) -> ActiveCall
         requires { 2 ≤ spare_of pool.old }
         ensures call { result ≡ started waiting request result.ask result.answer }
         ensures ask { lowest_empty pool.old ≡ Some result.ask }
-        ensures answer { lowest_empty (filled result.ask waiting.req pool.old) ≡ Some result.answer }
-        ensures pool { pool.new ≡ filled result.answer waiting.resp (filled result.ask waiting.req pool.old) }
+        ensures answer { lowest_empty (filled result.ask waiting.req pool.old)
+            ≡ Some result.answer }
+        ensures pool { pool.new ≡ filled result.answer waiting.resp
+            (filled result.ask waiting.req pool.old) }
         ensures kept { IsKept pool.new result }
     {
         let ask = pool.put(waiting.req);
@@ -85,8 +86,8 @@ impl ActiveCall {
         }
     }
 
-    /// How many packets the call is known to have: those of the request and, once the answer's size is
-    /// known, one for each further packet of the answer.
+    /// How many packets the call is known to have: those of the request and, once the answer's size
+    /// is known, one for each further packet of the answer.
     pub fn known(&self) -> u32
         ensures { result ≡ known_of self.now }
     {
@@ -113,8 +114,8 @@ impl ActiveCall {
         }
     }
 
-    /// The call once its packet of this number was sent at `now`: its clock starts anew where it wants
-    /// the answer of that packet.
+    /// The call once its packet of this number was sent at `now`: its clock starts anew where it
+    /// wants the answer of that packet.
     pub fn marked(self, number: u16, now: u64) -> ActiveCall
         ensures { result ≡ marked number now self }
     {
@@ -158,8 +159,8 @@ impl ActiveCall {
         }
     }
 
-    /// What the client table says of a reply to the call. `is_waiting` tells whether the call's packet of
-    /// the reply's number is queued.
+    /// What the client table says of a reply to the call. `is_waiting` tells whether the call's
+    /// packet of the reply's number is queued.
     pub fn row(&self, head: &MessageHeader, body_len: usize, is_waiting: bool) -> ClientRow
         ensures { result ≡ call_row is_waiting head.now body_len self.now }
     {
@@ -180,14 +181,15 @@ impl ActiveCall {
 
     // Before the last packet of the request a CR answers; from then on the parts of the answer.
     fn is_of_turn(&self, head: &MessageHeader, body_len: usize) -> bool
-        ensures { result ≡ is_of_turn (packet_count self.now.len) self.now.req_type self.now.size head.now body_len }
+        ensures { result ≡ is_of_turn (packet_count self.now.len) self.now.req_type self.now.size
+            head.now body_len }
     {
         let next = u32::from(head.number) + 1;
         let asked = count(self.len);
         if next < asked {
-            return is_a_cr(head.kind);
+            return head.kind.is_cr();
         }
-        is_a_response(head.kind)
+        head.kind.is_response()
             && head.req_type == self.req_type
             && is_as_told(self.size, head.size)
             && body_len == part_bytes(head.size, next - asked)
@@ -210,8 +212,8 @@ impl ActiveCall {
         EndRow::GoesOn
     }
 
-    /// The call once this reply to it was taken at `now`: one more in turn, no rollback since, and the
-    /// mark is now. The first part of the answer tells its size.
+    /// The call once this reply to it was taken at `now`: one more in turn, no rollback since, and
+    /// the mark is now. The first part of the answer tells its size.
     pub fn replied(self, head: &MessageHeader, now: u64) -> ActiveCall
         requires { self.got < self.posted }
         ensures { result ≡ replied now head.now self }
@@ -239,8 +241,8 @@ impl ActiveCall {
         TimerRow::Breaks
     }
 
-    /// The call once it was rolled back: its packets from the first unanswered one on are to be posted
-    /// again.
+    /// The call once it was rolled back: its packets from the first unanswered one on are to be
+    /// posted again.
     pub fn rolled(self) -> ActiveCall
         requires { self.rolls < 8 }
         ensures { result ≡ rolled_call self }
@@ -282,12 +284,12 @@ impl ActiveCall {
         self.entry(session, self.posted, peer)
     }
 
-    /// The header of a packet that the call posted: a part of the request, and from then on a request
-    /// for a part of the answer.
+    /// The header of a packet that the call posted: a part of the request, and from then on a
+    /// request for a part of the answer.
     pub fn head(&self, server: SessionNo, number: u16) -> MessageHeader
         requires turn { IsInTurn self.now }
         requires posted { number < self.now.posted }
-        requires server { server < 65535 }
+        requires server { server < SESSION_NUMBERS }
         ensures head { result ≡ head_of server number self.now }
         ensures in_range { MessageInRange result }
     {
@@ -306,25 +308,6 @@ impl ActiveCall {
     }
 }
 
-fn is_a_cr(kind: Kind) -> bool
-    ensures { result ≡ is_cr kind }
-{
-    match kind {
-        Kind::Cr => true,
-        _ => false,
-    }
-}
-
-/// Whether a packet is a part of an answer.
-pub fn is_a_response(kind: Kind) -> bool
-    ensures { result ≡ is_response kind }
-{
-    match kind {
-        Kind::Response => true,
-        _ => false,
-    }
-}
-
 // Every later part of an answer has the size that its first one told.
 fn is_as_told(told: Option<u32>, size: u32) -> bool
     ensures { result ≡ is_same_size told size }
@@ -339,7 +322,7 @@ fn is_as_told(told: Option<u32>, size: u32) -> bool
 fn told_by(size: Option<u32>, head: &MessageHeader) -> Option<u32>
     ensures { result ≡ size_told size head.now }
 {
-    if is_a_response(head.kind) {
+    if head.kind.is_response() {
         Some(head.size)
     } else {
         size
@@ -363,9 +346,16 @@ fn part_head(
     request: RequestNo,
 ) -> MessageHeader
     requires size { IsMessage size }
-    requires session { session < 65535 }
+    requires session { session < SESSION_NUMBERS }
     requires number { number < packet_count size }
-    ensures head { result ≡ record { kind = Request; req_type = req_type; size = size; session = session; number = number; request = request } }
+    ensures head { result ≡ record {
+      kind = Request;
+      req_type = req_type;
+      size = size;
+      session = session;
+      number = number;
+      request = request;
+    } }
     ensures in_range { MessageInRange result }
 {
     MessageHeader {

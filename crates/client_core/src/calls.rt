@@ -101,8 +101,8 @@ impl Calls {
             .position(|call| call.owner(session).is_same(owner))
     }
 
-    /// The oldest call that has a packet to post has posted it. The result is that call as it was; None
-    /// comes exactly where no call has one.
+    /// The oldest call that has a packet to post has posted it. The result is that call as it was;
+    /// None comes exactly where no call has one.
     pub fn post_next(&mut self) -> Option<ActiveCall>
         requires { AllByRecursion IsInTurn self.old }
         ensures call { result ≡ find can_post self.old }
@@ -124,8 +124,8 @@ impl Calls {
         Some(call)
     }
 
-    /// The packet of this number was sent, of the call whose packets are this owner's in the session.
-    /// Where it is the one whose answer the call wants, the call's clock starts anew.
+    /// The packet of this number was sent, of the call whose packets are this owner's in the
+    /// session. Where it is the one whose answer the call wants, the call's clock starts anew.
     pub fn mark(&mut self, session: SessionNo, owner: Owner, number: u16, now: u64)
         ensures { self.new ≡ at_first (is_owner session owner) (marked number now) self.old }
     {
@@ -265,7 +265,8 @@ impl Calls {
     }
 
     fn numbered(&self, after: &Option<CallNo>, number: u64) -> Option<&ActiveCall>
-        ensures { option_copied result ≡ find (λ c. is_after after.now c && call_number c == number) self.now }
+        ensures { option_copied result ≡ find (λ c. is_after after.now c && call_number c == number)
+            self.now }
     {
         self.as_slice()
             .iter()

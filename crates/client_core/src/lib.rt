@@ -1,5 +1,5 @@
-//! The client's part of the protocol: the calls of one session, with its slots and credits. It works
-//! on the endpoint's pool, which it is handed, and knows nothing of rings, links or clocks.
+//! The client's part of the protocol: the calls of one session, with its slots and credits. It
+//! works on the endpoint's pool, which it is handed, and knows nothing of rings, links or clocks.
 #![tactic(auto)]
 
 mod active;

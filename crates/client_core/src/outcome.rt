@@ -13,8 +13,8 @@ pub enum Outcome {
     PeerLost,
 }
 
-/// A call that is over, with the two buffers that were handed in. The response buffer has the answer
-/// where the outcome is `Ok`, and length 0 otherwise.
+/// A call that is over, with the two buffers that were handed in. The response buffer has the
+/// answer where the outcome is `Ok`, and length 0 otherwise.
 #[derive(Debug, Drop)]
 pub struct Done {
     pub call: CallNo,

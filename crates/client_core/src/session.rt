@@ -1,5 +1,5 @@
-//! A client session: its calls begin and post here. What replies and timeouts do to them stands in the
-//! modules below.
+//! A client session: its calls begin and post here. What replies and timeouts do to them stands in
+//! the modules below.
 ghost use Rattle.std.specs.Prelude.{◌≡◌, ◌<◌, ◌≤◌, ◌+◌, ◌^◌, ◌↔◌, ◌⊎◌, ℕ, Bool, List, [], ◌∷◌, ◌++◌, false, count_by, length, option_map, IfErr, IfNone, IfSome, IsNone, IsTrue, OnErr, OnOk};
 ghost use Rattle.std.specs.List.{list_any};
 ghost use Rattle.packet_header.specs.Header.{AreBytes};
@@ -17,9 +17,10 @@ ghost use Rattle.client_core.specs.KeepsPool.{CanHold, IsHeld, KeepsPool, Leaves
 ghost use Rattle.client_core.specs.Posting.{IsPacketOf, Starts, call_of, flushed_at, next_entry, posted, sent_at};
 ghost use Rattle.client_core.specs.Replies.{call_as};
 ghost use Rattle.client_core.specs.Session.{IsSession, can_post, enqueued, new_session, queued_in};
-ghost use Rattle.client_core.specs.Shown.{IsSpelled, asked, begun_event, packet_of, paired, posted_event, sent_event, shown, stepped};
+ghost use Rattle.client_core.specs.Shown.{asked, begun_event, packet_of, paired, posted_event, sent_event, shown, stepped};
 ghost use Rattle.client_core.specs.Timeouts.{is_numbered};
 ghost use Rattle.client_core.specs.Watching.{is_after, next_told};
+ghost use Rattle.rpc_laws.specs.Packets.{IsSpelled};
 
 mod conditions;
 mod reply;
@@ -32,13 +33,16 @@ use buffer_pool::BufferPool;
 use credit_book::CreditBook;
 use packet_header::{HEAD_BYTES, Packet, encode};
 use packet_rings::Entry;
-use rpc_base::{CallNo, Peer, RequestNo, SessionNo};
+use rpc_base::{
+    CallNo, MOST_CALLS, MOST_CREDITS, MOST_MESSAGE_BYTES, Peer, RequestNo, SESSION_NUMBERS,
+    SessionNo,
+};
 use session_slots::{SlotTable, Waiting};
 use std::alloc::Global;
 use std::marker::Model;
 
-/// The calls of one client session. Contracts see its numbers, its credits, its slots with the calls
-/// that wait for one, and its active calls, oldest first.
+/// The calls of one client session. Contracts see its numbers, its credits, its slots with the
+/// calls that wait for one, and its active calls, oldest first.
 #[derive(Drop)]
 pub struct ClientSession {
     number: SessionNo,
@@ -64,13 +68,14 @@ impl ClientSession {
     /// A session with no call, by its number here and at the server, each below 65,535. All its
     /// `credits`, 1 to 256, are free. It takes no memory yet; `enqueue` takes its own from `alloc`.
     pub fn new(alloc: Global, session: SessionNo, server: SessionNo, credits: u16) -> ClientSession
-        requires session { session < 65535 }
-        requires server { server < 65535 }
+        requires session { session < SESSION_NUMBERS }
+        requires server { server < SESSION_NUMBERS }
         requires some { 1 ≤ credits }
-        requires most { credits ≤ 256 }
+        requires most { credits ≤ MOST_CREDITS }
         ensures session { result ≡ new_session session server credits }
         ensures keeps_pool { (pool : Pool) → KeepsPool pool result.active }
-        ensures step { (pool : Pool) → (clock peer : ℕ) → paired clock session server peer credits ≡ shown pool peer result ∷ [] }
+        ensures step { (pool : Pool) → (clock peer : ℕ)
+            → paired clock session server peer credits ≡ shown pool peer result ∷ [] }
     {
         ClientSession {
             number: session,
@@ -104,8 +109,8 @@ impl ClientSession {
         self.credits.free()
     }
 
-    /// How many credits there are in all, 1 to 256: those that are free, and those of the unanswered packets
-    /// of the eight slots.
+    /// How many credits there are in all, 1 to 256: those that are free, and those of the
+    /// unanswered packets of the eight slots.
     pub fn limit(&self) -> u16
         ensures { result ≡ limit_of self.now.credits }
     {
@@ -136,13 +141,14 @@ impl ClientSession {
         self.slots.taken()
     }
 
-    /// The call waits behind all others. Its request has at most 1,048,576 bytes, and fewer than 2^45
-    /// calls were taken before. Err is want of memory alone, and hands the call back.
+    /// The call waits behind all others. Its request has at most 1,048,576 bytes, and fewer than
+    /// 2^45 calls were taken before. Err is want of memory alone, and hands the call back.
     pub fn enqueue(&mut self, w: Waiting) -> Result<(), Waiting>
-        requires message { w.req.len ≤ 1048576 }
-        requires turns { self.old.slots.taken < 2 ^ 45 }
+        requires message { w.req.len ≤ MOST_MESSAGE_BYTES }
+        requires turns { self.old.slots.taken < MOST_CALLS }
         ensures waits { OnOk result (self.new ≡ enqueued w self.old) }
-        ensures step { OnOk result ((pool : Pool) → (clock peer : ℕ) → asked clock w (shown pool peer self.old) ≡ shown pool peer self.new ∷ []) }
+        ensures step { OnOk result ((pool : Pool) → (clock peer : ℕ)
+            → asked clock w (shown pool peer self.old) ≡ shown pool peer self.new ∷ []) }
         ensures unchanged { OnErr result (self.new ≡ self.old) }
         ensures handed_back { IfErr result (λ back. back ≡ w) }
     {
@@ -151,23 +157,32 @@ impl ClientSession {
         Ok(())
     }
 
-    /// The call that waited longest begins in the lowest free slot, and its buffers go into the pool,
-    /// which has to have two empty places. None comes exactly where no call waits or no slot is free.
+    /// The call that waited longest begins in the lowest free slot, and its buffers go into the
+    /// pool, which has to have two empty places. None comes exactly where no call waits or no slot
+    /// is free.
     pub fn begin(&mut self, pool: &mut BufferPool) -> Option<(CallNo, RequestNo)>
         requires keeps_pool { KeepsPool pool.old self.old.active }
         requires spare { 2 ≤ spare_of pool.old }
-        ensures none { IsNone result ↔ ((self.old.slots.waiting ≡ []) ⊎ (lowest_free self.old.slots ≡ None)) }
+        ensures none { IsNone result ↔ ((self.old.slots.waiting ≡ [])
+            ⊎ (lowest_free self.old.slots ≡ None)) }
         ensures unchanged { IfNone result ((self.new ≡ self.old) × (pool.new ≡ pool.old)) }
-        ensures turn { (peer : ℕ) → beginning (shown pool.old peer self.old) ≡ option_map begun_event result }
-        // As the call Begun of the definitions, where no active call has this call's number already.
-        ensures step { IfSome result (λ b. (clock peer : ℕ) → list_any (is_numbered b.0) self.old.active ≡ false →
-            stepped clock (begun_event b) (shown pool.old peer self.old) ≡ shown pool.new peer self.new ∷ []) }
+        ensures turn { (peer : ℕ) → beginning (shown pool.old peer self.old)
+            ≡ option_map begun_event result }
+        // As the call Begun of the definitions, where no active call has this call's number
+        // already.
+        ensures step { IfSome result (λ b. (clock peer : ℕ)
+            → list_any (is_numbered b.0) self.old.active ≡ false →
+            stepped clock (begun_event b) (shown pool.old peer self.old)
+            ≡ shown pool.new peer self.new ∷ []) }
         ensures starts { IfSome result (λ b. Starts b.0 b.1 self.old self.new pool.old pool.new) }
         ensures others { LeavesOthers self.old.active self.new.active pool.old pool.new }
         ensures entries { KeepsEntries self.old self.new }
-        ensures counts { (entries : List EntryValue) → Counts pool.old entries → Counts pool.new entries }
+        ensures counts { (entries : List EntryValue) → Counts pool.old entries
+            → Counts pool.new entries }
         // No entry of the call that begins is there yet.
-        ensures queued { (entries : List EntryValue) → CountsQueued self.old entries → IfSome result (λ b. count_by (is_of (Ask self.old.number b.1)) entries ≡ 0 → CountsQueued self.new entries) }
+        ensures queued { (entries : List EntryValue) → CountsQueued self.old entries
+            → IfSome result (λ b. count_by (is_of (Ask self.old.number b.1)) entries ≡ 0
+            → CountsQueued self.new entries) }
         ensures keeps_pool { KeepsPool pool.new self.new.active }
     {
         let Some((request, waiting)) = self.slots.begin() else {
@@ -189,23 +204,28 @@ impl ClientSession {
     }
 
     /// The oldest active call that may post posts its next packet, where a credit is free: it takes
-    /// the credit, and a reference to the place of its bytes if it has any. None comes exactly where no
-    /// call has a packet to post or no credit is free.
+    /// the credit, and a reference to the place of its bytes if it has any. None comes exactly
+    /// where no call has a packet to post or no credit is free.
     pub fn post(&mut self, pool: &mut BufferPool, peer: Peer) -> Option<Entry>
         requires keeps_pool { KeepsPool pool.old self.old.active }
         requires can_hold { CanHold pool.old self.old.active }
         ensures entry { result ≡ next_entry peer self.old }
-        ensures none { IsNone result ↔ ((self.old.credits.free ≡ 0) ⊎ (list_any can_post self.old.active ≡ false)) }
+        ensures none { IsNone result ↔ ((self.old.credits.free ≡ 0)
+            ⊎ (list_any can_post self.old.active ≡ false)) }
         ensures session { self.new ≡ posted self.old }
         ensures turn { posting (shown pool.old peer self.old) ≡ option_map posted_event result }
-        ensures step { IfSome result (λ e. (clock : ℕ) → stepped clock (posted_event e) (shown pool.old peer self.old) ≡ shown pool.new peer self.new ∷ []) }
+        ensures step { IfSome result (λ e. (clock : ℕ)
+            → stepped clock (posted_event e) (shown pool.old peer self.old)
+            ≡ shown pool.new peer self.new ∷ []) }
         ensures pool { pool.new ≡ held_for result pool.old }
         ensures stands { IfSome result (λ e. IsPacketOf (call_of self.new e) e) }
         ensures held { IfSome result (λ e. IsHeld pool.new e.place) }
         ensures others { LeavesOthers self.old.active self.new.active pool.old pool.new }
         ensures entries { KeepsEntries self.old self.new }
-        ensures counts { IfSome result (λ e. (entries : List EntryValue) → Counts pool.old entries → Counts pool.new (entries ++ e ∷ [])) }
-        ensures queued { IfSome result (λ e. (entries : List EntryValue) → CountsQueued self.old entries → CountsQueued self.new (entries ++ e ∷ [])) }
+        ensures counts { IfSome result (λ e. (entries : List EntryValue) → Counts pool.old entries
+            → Counts pool.new (entries ++ e ∷ [])) }
+        ensures queued { IfSome result (λ e. (entries : List EntryValue)
+            → CountsQueued self.old entries → CountsQueued self.new (entries ++ e ∷ [])) }
         ensures keeps_pool { KeepsPool pool.new self.new.active }
     {
         if self.credits.free() == 0 {
@@ -220,8 +240,8 @@ impl ClientSession {
         Some(entry)
     }
 
-    /// The active call of least number, above `after` if that is given. None comes exactly where there is
-    /// none. So the calls are told one by one, in the order of their numbers.
+    /// The active call of least number, above `after` if that is given. None comes exactly where
+    /// there is none. So the calls are told one by one, in the order of their numbers.
     pub fn active(&self, after: Option<CallNo>) -> Option<Active>
         ensures told { result ≡ next_told after self.now }
         ensures none { IsNone result ↔ (list_any (is_after after) self.now.active ≡ false) }
@@ -232,18 +252,23 @@ impl ClientSession {
         }
     }
 
-    /// An entry that was posted is sent: its reference is given up. Where it is the call's packet whose
-    /// answer is wanted next, the call's clock starts anew at `now`, in microseconds.
+    /// An entry that was posted is sent: its reference is given up. Where it is the call's packet
+    /// whose answer is wanted next, the call's clock starts anew at `now`, in microseconds.
     pub fn sent(&mut self, pool: &mut BufferPool, entry: &Entry, now: u64)
         requires keeps_pool { KeepsPool pool.old self.old.active }
         requires held { IsHeld pool.old entry.now.place }
         ensures session { self.new ≡ sent_at entry.now now self.old }
-        ensures step { (peer : ℕ) → stepped now (sent_event entry.now) (shown pool.old peer self.old) ≡ shown pool.new peer self.new ∷ [] }
+        ensures step { (peer : ℕ) → stepped now (sent_event entry.now)
+            (shown pool.old peer self.old) ≡ shown pool.new peer self.new ∷ [] }
         ensures pool { pool.new ≡ released_at entry.now.place pool.old }
-        ensures others { IsPacketOf (call_of self.old entry.now) entry.now → LeavesOthers self.old.active self.new.active pool.old pool.new }
+        ensures others { IsPacketOf (call_of self.old entry.now) entry.now
+            → LeavesOthers self.old.active self.new.active pool.old pool.new }
         ensures entries { KeepsEntries self.old self.new }
-        ensures counts { (passes : EntryValue → Bool) → (old new : List EntryValue) → TakenOut passes entry.now old new → Counts pool.old old → Counts pool.new new }
-        ensures queued { (passes : EntryValue → Bool) → (old new : List EntryValue) → TakenOut passes entry.now old new → IsPacketOf (call_of self.old entry.now) entry.now → CountsQueued self.old old → CountsQueued self.new new }
+        ensures counts { (passes : EntryValue → Bool) → (old new : List EntryValue)
+            → TakenOut passes entry.now old new → Counts pool.old old → Counts pool.new new }
+        ensures queued { (passes : EntryValue → Bool) → (old new : List EntryValue)
+            → TakenOut passes entry.now old new → IsPacketOf (call_of self.old entry.now) entry.now
+            → CountsQueued self.old old → CountsQueued self.new new }
         ensures keeps_pool { KeepsPool pool.new self.new.active }
     {
         pool.release_at(entry.place);
@@ -257,18 +282,22 @@ impl ClientSession {
         ensures session { self.new ≡ flushed_at entry.now self.old }
         ensures shown { (peer : ℕ) → shown pool.new peer self.new ≡ shown pool.old peer self.old }
         ensures pool { pool.new ≡ released_at entry.now.place pool.old }
-        ensures others { IsPacketOf (call_of self.old entry.now) entry.now → LeavesOthers self.old.active self.new.active pool.old pool.new }
+        ensures others { IsPacketOf (call_of self.old entry.now) entry.now
+            → LeavesOthers self.old.active self.new.active pool.old pool.new }
         ensures entries { KeepsEntries self.old self.new }
-        ensures counts { (passes : EntryValue → Bool) → (old new : List EntryValue) → TakenOut passes entry.now old new → Counts pool.old old → Counts pool.new new }
-        ensures queued { (passes : EntryValue → Bool) → (old new : List EntryValue) → TakenOut passes entry.now old new → IsPacketOf (call_of self.old entry.now) entry.now → CountsQueued self.old old → CountsQueued self.new new }
+        ensures counts { (passes : EntryValue → Bool) → (old new : List EntryValue)
+            → TakenOut passes entry.now old new → Counts pool.old old → Counts pool.new new }
+        ensures queued { (passes : EntryValue → Bool) → (old new : List EntryValue)
+            → TakenOut passes entry.now old new → IsPacketOf (call_of self.old entry.now) entry.now
+            → CountsQueued self.old old → CountsQueued self.new new }
         ensures keeps_pool { KeepsPool pool.new self.new.active }
     {
         pool.release_at(entry.place);
         self.calls.leave(self.number, entry.owner);
     }
 
-    /// How many packets of the active call with this request number were posted and are neither sent nor
-    /// flushed. 0 where there is no such call.
+    /// How many packets of the active call with this request number were posted and are neither
+    /// sent nor flushed. 0 where there is no such call.
     pub fn queued(&self, request: RequestNo) -> u16
         ensures { result ≡ queued_in (call_as request self.now) }
     {

@@ -3,9 +3,6 @@ ghost use Rattle.std.specs.Prelude.{◌≡◌, ◌≤◌, [], length, IfOk, IfSo
 ghost use Rattle.client_core.specs.KeepsPool.{IsHeld, KeepsPool};
 ghost use Rattle.client_core.specs.Posting.{IsPacketOf, call_of};
 
-mod replies;
-mod timeouts;
-
 use crate::{Active, ClientSession};
 use buffer_pool::BufferPool;
 use message_buffer::MsgBuf;
@@ -103,28 +100,6 @@ fn post_and_give(
     Some((entry, len, first))
 }
 
-/// The entry of a posted packet of the first request of a slot, and whether it is held. If it is, it is
-/// sent at 50 microseconds.
-fn look_and_send(
-    session: &mut ClientSession,
-    pool: &mut BufferPool,
-    slot: u8,
-    number: u16,
-) -> Option<(Entry, bool)>
-    requires slot { slot ≤ 1 }
-    requires keeps_pool { KeepsPool pool.old session.old.active }
-    ensures { KeepsPool pool.new session.new.active }
-{
-    let Some(entry) = session.entry(RequestNo::of(slot, 0), number, PEER) else {
-        return None;
-    };
-    let is_held = session.is_held(pool, &entry);
-    if is_held {
-        session.sent(pool, &entry, 50);
-    }
-    Some((entry, is_held))
-}
-
 /// The entry of a packet of the first request of a slot, 0 or 1.
 fn entry(slot: u8, number: u16, place: u32) -> Entry
     requires { slot ≤ 1 }
@@ -199,20 +174,5 @@ fn an_entry_stands_for_its_packet(rt: HostRuntime) -> Result<(), Fail> {
     let third = post_and_give(&mut session, &mut pool, &mut head, true);
     assert!(rt; third == Some((entry(1, 0, 2), 1, Some(0xBB))));
     assert_eq!(rt; head, [0xE1, 0, 9, 0, 0, 1, 5, 6, 0, 0, 0, 0, 0, 0, 0, 1]);
-    Ok(())
-}
-
-#[test]
-fn a_posted_packet_is_held_until_it_is_sent(rt: HostRuntime) -> Result<(), Fail> {
-    let alloc = rt.alloc();
-    let mut pool = BufferPool::new(alloc, 8)?;
-    let mut session = make_session(alloc)?;
-    assert!(rt; begin_one(&mut session, &mut pool).is_some());
-    assert!(rt; look_and_send(&mut session, &mut pool, 0, 0).is_none());
-    assert!(rt; post_one(&mut session, &mut pool) == Some(entry(0, 0, 0)));
-    assert!(rt; look_and_send(&mut session, &mut pool, 0, 0) == Some((entry(0, 0, 0), true)));
-    assert!(rt; look_and_send(&mut session, &mut pool, 0, 0) == Some((entry(0, 0, 0), false)));
-    assert!(rt; look_and_send(&mut session, &mut pool, 0, 1).is_none());
-    assert!(rt; look_and_send(&mut session, &mut pool, 1, 0).is_none());
     Ok(())
 }

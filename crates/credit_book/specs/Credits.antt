@@ -1,5 +1,6 @@
 -- What a session's credits are, and what each call makes of them.
 use Rattle.std.specs.Prelude.{◌≡◌, ℕ, ◌+◌, ◌-◌, ◌≤◌, List, length, replicate, sum, slice_index, slice_set}
+use Rattle.rpc_base.specs.declared.limits.TheConstants.{MOST_CREDITS}
 
 -- the free credits, and the unanswered packets of each of the eight slots
 pub record Credits : Type 0 where
@@ -14,7 +15,7 @@ limit_of c = c.free + sum c.unanswered
 pub record IsBalanced (c : Credits) : Type 0 where
   pub slots : length c.unanswered ≡ 8
   pub some : 1 ≤ limit_of c
-  pub most : limit_of c ≤ 256
+  pub most : limit_of c ≤ MOST_CREDITS
 
 -- all are free
 abbrev pub full_book : ℕ → Credits

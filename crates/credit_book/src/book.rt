@@ -1,7 +1,9 @@
-//! The book of a session's credits. Each packet that is posted takes one, each answer gives it back.
+//! The book of a session's credits. Each packet that is posted takes one, each answer gives it
+//! back.
 ghost use Rattle.std.specs.Prelude.{◌≡◌, ℕ, ◌<◌, ◌≤◌, slice_index};
 ghost use Rattle.credit_book.specs.Credits.{IsBalanced, limit_of, full_book, charged, given_back, rolled};
 
+use rpc_base::MOST_CREDITS;
 use std::marker::Model;
 
 /// The credits of one client session. Contracts see the free credits and, for each of the eight
@@ -26,7 +28,7 @@ impl CreditBook {
     /// A book with all `limit` credits free. `limit` is 1 to 256.
     pub fn new(limit: u16) -> CreditBook
         requires some { 1 ≤ limit }
-        requires most { limit ≤ 256 }
+        requires most { limit ≤ MOST_CREDITS }
         ensures book { result ≡ full_book limit }
         ensures limit { limit_of result ≡ limit }
     {

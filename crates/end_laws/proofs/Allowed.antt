@@ -1,5 +1,6 @@
 -- What the rules alone say of a fact of a node, by the node's lists before it.
 use Rattle.std.proofs.Common.{◌≡◌, ◌<◌, ◌≤◌, ◌⊎◌, inl, inr, ◌==◌, ◌&&◌, ◌-◌, ℕ, Bool, true, false, List, [], ◌∷◌, length, Option, Some, None, slice_get}
+use Rattle.std.specs.Prelude.{option_map}
 use Rattle.std.specs.List.{find, list_any}
 use Rattle.packet_header.specs.Header.{AreBytes, HasHead, InRange}
 use Rattle.packet_header.specs.Parts.{packet_count}
@@ -36,6 +37,7 @@ use Rattle.rpc_laws.specs.ServerTable.{is_past_end}
 use Rattle.rpc_laws.specs.Service.{is_background}
 use Rattle.rpc_laws.specs.Sessions.{is_client}
 use Rattle.end_laws.specs.Kinds.{is_ask}
+use Rattle.rpc_base.proofs.BasicLemmas.{false-true}
 
 -- the oldest waiting call of a session begins with the next number of its slot
 pub record MayBegin (l : Lists) (c r : ℕ) : Type 0 where
@@ -87,7 +89,7 @@ pub record MayTakeReply (l : Lists) (session r : ℕ) : Type 0 where
 -- a packet that goes on with a request
 abbrev pub GoesOn : Kind → Served → MessageHeader → Type 0
 GoesOn Request q h = (h.req_type ≡ q.req_type) × (h.size ≡ q.size)
-GoesOn Rfr q h = (packet_count q.size ≤ h.number) × (is_past_end q.size q.answer h.number ≡ false)
+GoesOn Rfr q h = (packet_count q.size ≤ h.number) × (is_past_end q.size (option_map length q.answer) h.number ≡ false)
 GoesOn Cr q h = ⊥
 GoesOn Response q h = ⊥
 
@@ -327,21 +329,18 @@ WalksFrom hand latest clock l (f ∷ x) = IsAllowed hand l f × Linked latest l 
 abbrev pub Walks : Option InFlight → ℕ → Lists → List Fact → Type 0
 Walks hand clock l x = WalksFrom hand None clock l x
 
-none-owed : {A : Type 0} → false ≡ true → A
-none-owed e = cc
-
 linked-weaker : (latest : Option Fact) (l : Lists) (e : Event) (first : List ℕ) → Linked None l e first → Linked latest l e first
-linked-weaker latest l (Posted (Reply t r) k) first h = none-owed h
+linked-weaker latest l (Posted (Reply t r) k) first h = false-true h
 linked-weaker latest l (Posted (Ask s r) k) first h = tt
 linked-weaker latest l (Posted Control k) first h = tt
 linked-weaker latest l (Took (Ask s r) k) first h = h
 linked-weaker latest l (Took (Reply t r) k) first h = tt
 linked-weaker latest l (Took Control k) first h = tt
-linked-weaker latest l (Given t r) first h = none-owed h.owed
-linked-weaker latest l (Ran t r y) first (inl h) = none-owed h
+linked-weaker latest l (Given t r) first h = false-true h.owed
+linked-weaker latest l (Ran t r y) first (inl h) = false-true h
 linked-weaker latest l (Ran t r y) first (inr h) = inr h
-linked-weaker latest l (Arrived peer) first h = none-owed h
-linked-weaker latest l (Overflowed peer) first h = none-owed h
+linked-weaker latest l (Arrived peer) first h = false-true h
+linked-weaker latest l (Overflowed peer) first h = false-true h
 linked-weaker latest l _ first h = tt
 
 pub walks-from : (hand : Option InFlight) (latest : Option Fact) (clock : ℕ) (l : Lists) (x : List Fact) → Walks hand clock l x → WalksFrom hand latest clock l x

@@ -26,9 +26,10 @@ use Rattle.rpc_laws.specs.ServerTable.{is_rfr, joined, is_last, took_facts}
 use Rattle.rpc_laws.specs.Service.{is_background}
 use Rattle.packet_header.proofs.PartsLemmas.{packet_count_room}
 use Rattle.end_laws.proofs.Allowed.{Fronts, GoesOn, TakesOf, IsWhole, Owes, WalksFrom}
-use Rattle.end_laws.proofs.ListLemmas.{false-true, find-first, all-found}
+use Rattle.end_laws.proofs.ListLemmas.{find-first, all-found}
 use Rattle.end_laws.proofs.Rights.{SlotRight, Readable, front-right, took-right, asked-open}
 use Rattle.end_laws.proofs.SlotLemmas.{with_slots, Apart, apart-without, apart-took, apart-answered, find-added, find-any, any-find, none-without, slot-of-request}
+use Rattle.rpc_base.proofs.BasicLemmas.{false-true}
 
 -- a request as its newest packet leaves it
 pub record NewSlot (slots : List Served) (h : MessageHeader) (ask : List ℕ) : Type 0 where

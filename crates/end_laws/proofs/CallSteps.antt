@@ -29,8 +29,9 @@ use Rattle.rpc_laws.specs.NodeLists.{after}
 use Rattle.rpc_laws.specs.Queues.{flush_facts, numbers_of}
 use Rattle.rpc_laws.specs.Sessions.{is_client}
 use Rattle.end_laws.proofs.Allowed.{May, MayBreak, Linked, is_carried, WalksFrom, Walks, IsAllowed}
-use Rattle.end_laws.proofs.ListLemmas.{false-true, all-append}
+use Rattle.end_laws.proofs.ListLemmas.{all-append}
 use Rattle.end_laws.proofs.Walks.{Stays, WalkedFrom, Fine, walked-from, walked-goes, fine-each}
+use Rattle.rpc_base.proofs.BasicLemmas.{false-true}
 
 -- a fact that is allowed at any lists
 pub record IsFree (me : ℕ) (f : Fact) : Type 0 where

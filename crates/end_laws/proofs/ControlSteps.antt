@@ -15,8 +15,8 @@ use Rattle.rpc_laws.specs.GoBackN.{WatchesSession}
 use Rattle.std.specs.Prelude.{map}
 use Rattle.end_laws.specs.OnlyPairs.{is_of_control, OnlyPairs}
 use Rattle.end_laws.proofs.CallSteps.{watches-session}
-use Rattle.end_laws.proofs.ListLemmas.{false-true}
 use Rattle.end_laws.proofs.Walks.{Stays, Fine, walked-goes, fine-then, fine-until, fine-visits}
+use Rattle.rpc_base.proofs.BasicLemmas.{false-true}
 
 said-none : {A : Type 0} (taken : Bool) (me peer : ℕ) (head : List ℕ) → is_of_control (control_fact taken me peer head).event ≡ false → A
 said-none true me peer head o = false-true (sym o)

@@ -21,10 +21,11 @@ use Rattle.rpc_laws.specs.Requests.{is_server, is_request, in_slot_of, first_pac
 use Rattle.end_laws.proofs.Allowed.{TakesOf, IsWhole, May}
 use Rattle.end_laws.proofs.AskSteps.{slots-found}
 use Rattle.end_laws.proofs.CountLemmas.{count-append, count-one, count-out, count-none, none-count}
-use Rattle.end_laws.proofs.ListLemmas.{false-true, all-both, all-map, all-add, all-without, all-found, find-first, find-after, find-without, find-add}
+use Rattle.end_laws.proofs.ListLemmas.{all-both, all-map, all-add, all-without, all-found, find-first, find-after, find-without, find-add}
 use Rattle.end_laws.proofs.QueueLemmas.{server-after, stands-same, RightNode}
 use Rattle.end_laws.proofs.Rights.{Stands, JobFits, JobsRight, stands-right}
 use Rattle.end_laws.proofs.SlotLemmas.{with_slots, Apart, Sound, any-find, slot-of-request}
+use Rattle.rpc_base.proofs.BasicLemmas.{false-true}
 
 -- what a worker has still stands, with as many packets or more
 pub record KeptSlot (slots : List Served) (r : ℕ) (q : Served) : Type 0 where

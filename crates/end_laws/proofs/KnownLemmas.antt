@@ -17,10 +17,7 @@ use Rattle.rpc_laws.specs.declared.tables.Way.{Way}
 use Rattle.rpc_laws.specs.OwnAnswer.{AreEnds, IsClientEnd, IsServerEnd}
 use Rattle.end_laws.proofs.Known.{Known, Later, SaysRequest, SaysResponse, Says, Speaks, GoodAnswer, GoodProgress, GoodCall, HasRun, GoodServed, GoodJob, GoodServer, Begin, Asker, TrueStart, TrueAsk, IsTrue, noting, contains-more}
 use Rattle.end_laws.proofs.ListLemmas.{all-map}
-
-pub if-map : {A : Type 0} (P Q : A → Type 0) (o : Option A) → ((x : A) → P x → Q x) → IfSome o P → IfSome o Q
-if-map P Q None f h = tt
-if-map P Q (Some x) f h = f x h
+use Rattle.rpc_base.proofs.BasicLemmas.{if-map}
 
 module _ (j k : Known) (later : Later j k) where
   says-request : (from to : ℕ) (h : MessageHeader) (body : List ℕ) → SaysRequest j from to h body → SaysRequest k from to h body

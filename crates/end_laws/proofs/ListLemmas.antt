@@ -3,9 +3,7 @@ use Rattle.std.proofs.Common.{◌≡◌, ℕ, zero, suc, Bool, true, false, ◌�
 use Rattle.std.specs.List.{slice_set, find, AllByRecursion}
 use Rattle.std.proofs.lemmas.Bool.{eqb-true, eqb-false}
 use Rattle.rpc_base.specs.Tables.{at_first, without_first}
-
-pub false-true : {A : Type 0} → false ≡ true → A
-false-true e = cc
+use Rattle.rpc_base.proofs.BasicLemmas.{false-true}
 
 module _ {A : Type 0} where
   pub set-here : (xs : List A) (i : ℕ) (x y : A) → slice_get xs i ≡ Some x → slice_get (slice_set xs i y) i ≡ Some y

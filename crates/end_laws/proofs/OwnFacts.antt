@@ -2,7 +2,7 @@
 use Rattle.std.proofs.Common.{◌≡◌, ℕ, zero, suc, Bool, true, false, cond, List, [], ◌∷◌, ◌++◌, length, map, Option, Some, None, slice_get, refl, sym, ap, ◌∙◌, subst, eqb, nat_lt}
 use Rattle.std.specs.Prelude.{flat_map, option_and_then, option_map}
 use Rattle.std.specs.List.{find, AllByRecursion}
-use Rattle.end_laws.proofs.ListLemmas.{all-add, all-append, all-at, all-first, false-true}
+use Rattle.end_laws.proofs.ListLemmas.{all-add, all-append, all-at, all-first}
 use Rattle.end_laws.specs.OnlyPairs.{is_of_control}
 use Rattle.packet_header.specs.Reading.{body_of}
 use Rattle.packet_header.specs.declared.packet.ControlHeader.{ControlHeader}
@@ -61,6 +61,7 @@ use Rattle.rpc_laws.specs.ServerTable.{flushes, flushes_older, is_last, makes_jo
 use Rattle.rpc_laws.specs.Sessions.{clients_after, is_client, is_connected, is_live}
 use Rattle.rpc_laws.specs.Steps.{Chain, Goes, more, none, NotesAll, NotesNext, Rel, Then, Until, Visits}
 use Rattle.rpc_outside.specs.declared.service.Mode.{Mode}
+use Rattle.rpc_base.proofs.BasicLemmas.{false-true}
 
 abbrev pub is_work : Event → Bool
 is_work (Worked t r) = true

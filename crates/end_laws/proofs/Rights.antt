@@ -1,6 +1,6 @@
 -- What is always so of the requests in the slots of a node, and of its jobs, by the rules alone.
 use Rattle.std.proofs.Common.{◌≡◌, ◌==◌, ◌<◌, ◌≤◌, ◌+◌, ◌-◌, ◌*◌, min, ◌⊎◌, inl, inr, ℕ, Bool, true, false, List, [], ◌++◌, length, Option, Some, None, refl, ap, ◌∙◌, subst, arith, leb-false}
-use Rattle.std.specs.Prelude.{count_by}
+use Rattle.std.specs.Prelude.{count_by, option_map}
 use Rattle.std.specs.List.{find, list_any, AllByRecursion}
 use Rattle.std.proofs.lemmas.Bool.{eqb-true, and_parts}
 use Rattle.std.proofs.lemmas.List.{length-append}
@@ -83,7 +83,7 @@ next-taken None Request q h e n low g t =
     let lt = low refl in
     let size : packet_count h.size ≡ packet_count q.size = ap packet_count g.1 in
     omega arith
-next-taken None Rfr q h e n low g t = let past : is_past_end q.size None h.number ≡ false = subst (λ (a : Option (List ℕ)). is_past_end q.size a h.number ≡ false) e g.1 in cc
+next-taken None Rfr q h e n low g t = let past : is_past_end q.size None h.number ≡ false = subst (λ (a : Option (List ℕ)). is_past_end q.size (option_map length a) h.number ≡ false) e g.1 in cc
 next-taken None Cr q h e n low g t = absurd g
 next-taken None Response q h e n low g t = absurd g
 next-taken (Some a) Request q h e n low g t =
@@ -92,7 +92,7 @@ next-taken (Some a) Request q h e n low g t =
     let size : packet_count h.size ≡ packet_count q.size = ap packet_count g.1 in
     absurd (omega arith)
 next-taken (Some a) Rfr q h e n low g t =
-    let past : is_past_end q.size (Some a) h.number ≡ false = subst (λ (o : Option (List ℕ)). is_past_end q.size o h.number ≡ false) e g.1 in
+    let past : is_past_end q.size (Some (length a)) h.number ≡ false = subst (λ (o : Option (List ℕ)). is_past_end q.size (option_map length o) h.number ≡ false) e g.1 in
     let lt : h.number + 1 < packet_count q.size + packet_count (length a) = leb-false _ _ past in
     let le = t.0 in
     (omega arith, omega arith)
@@ -113,7 +113,7 @@ next-whole Request q h body g n sized s none idle =
     let was = s.whole none idle in
     let sum : length (q.ask ++ body) ≡ length q.ask + length body = length-append q.ask body in
     omega arith
-next-whole Rfr q h body g n sized s none idle = let past : is_past_end q.size None h.number ≡ false = subst (λ (a : Option (List ℕ)). is_past_end q.size a h.number ≡ false) none g.1 in cc
+next-whole Rfr q h body g n sized s none idle = let past : is_past_end q.size None h.number ≡ false = subst (λ (a : Option (List ℕ)). is_past_end q.size (option_map length a) h.number ≡ false) none g.1 in cc
 next-whole Cr q h body g n sized s none idle = absurd g
 next-whole Response q h body g n sized s none idle = absurd g
 

@@ -1,5 +1,6 @@
 -- The server rule, read backwards: what its rows say of the packet at the front of the ring.
 use Rattle.std.proofs.Common.{◌≡◌, ◌<◌, ◌==◌, ◌&&◌, ◌||◌, ℕ, nat_lt, Bool, true, false, not, cond, List, [], ◌∷◌, ◌++◌, map, Option, Some, None, refl, sym, ap, ◌∙◌, subst, arith, ltb-true, ltb-false}
+use Rattle.std.specs.Prelude.{length, option_map}
 use Rattle.std.specs.List.{find, list_any, AllByRecursion}
 use Rattle.std.proofs.lemmas.Bool.{eqb-true, and_parts}
 use Rattle.packet_header.specs.Parts.{packet_count}
@@ -26,7 +27,7 @@ use Rattle.rpc_laws.specs.Jobs.{are_full}
 use Rattle.rpc_laws.specs.NodeLists.{after}
 use Rattle.rpc_laws.specs.Queues.{numbers_of}
 use Rattle.rpc_laws.specs.Requests.{is_server, is_request, in_slot_of}
-use Rattle.rpc_laws.specs.ServerTable.{is_rfr, is_last, makes_job, is_worked_on, new_row, own_row, slot_row, server_row, joined, is_past_end, took_facts, flushes, served_facts}
+use Rattle.rpc_laws.specs.ServerTable.{is_rfr, is_last, makes_job, is_worked_on, newest_of, new_row, own_row, slot_row, server_row, joined, is_past_end, took_facts, flushes, served_facts}
 use Rattle.rpc_laws.specs.Service.{is_handled}
 use Rattle.end_laws.proofs.Allowed.{Fronts, GoesOn, TakesOf, WalksFrom, Walks}
 use Rattle.end_laws.specs.Kinds.{is_ask}
@@ -35,6 +36,7 @@ use Rattle.end_laws.proofs.AskSteps.{Taking, owed-self, took-walk}
 use Rattle.end_laws.proofs.ListLemmas.{all-found}
 use Rattle.end_laws.proofs.Rights.{SlotRight, SlotsRight}
 use Rattle.end_laws.proofs.SlotLemmas.{Apart, Sound, find-any, slot-of-request, request-of-slot}
+use Rattle.rpc_base.proofs.BasicLemmas.{not-false}
 
 -- a packet that goes by the server rule
 abbrev pub IsAsk : Kind → Type 0
@@ -96,12 +98,8 @@ own-begins false false false w false true g h = cc
 own-begins false false false w false false true h = cc
 own-begins false false false w false false false h = cc
 
-not-false : (b : Bool) → not b ≡ false → b ≡ true
-not-false true h = refl
-not-false false h = cc
-
 -- which packets go on
-goes-on : (k : Kind) (q : Served) (h : MessageHeader) → IsAsk k → cond (is_rfr k) (nat_lt h.number (packet_count q.size)) (not (h.req_type == q.req_type && h.size == q.size)) ≡ false → (is_rfr k && is_past_end q.size q.answer h.number) ≡ false → GoesOn k q h
+goes-on : (k : Kind) (q : Served) (h : MessageHeader) → IsAsk k → cond (is_rfr k) (nat_lt h.number (packet_count q.size)) (not (h.req_type == q.req_type && h.size == q.size)) ≡ false → (is_rfr k && is_past_end q.size (option_map length q.answer) h.number) ≡ false → GoesOn k q h
 goes-on Request q h i a d =
     let parts = and_parts (h.req_type == q.req_type) (h.size == q.size) (not-false _ a) in
     (eqb-true h.req_type q.req_type parts.0, eqb-true h.size q.size parts.1)
@@ -111,14 +109,14 @@ goes-on Response q h i a d = absurd i
 
 -- the cases of a slot
 abbrev slot-cond : Mode → (full lacks a b : Bool) → Served → MessageHeader → ServerRow
-slot-cond mode full lacks a b q h = cond a (Drops Old) (cond b (new_row mode q.working full lacks h) (own_row mode full lacks q h))
+slot-cond mode full lacks a b q h = cond a (Drops Old) (cond b (new_row mode q.working full lacks h) (own_row mode full lacks (newest_of q) h))
 
 not-new : (mode : Mode) (working full lacks : Bool) (h : MessageHeader) (row : ServerRow) → new_row mode working full lacks h ≡ row → (row ≡ Takes → ⊥) × (row ≡ Repeats → ⊥)
 not-new mode working full lacks h row e = new-not (is_rfr h.kind || not (h.number == 0)) working (not (is_handled mode)) (makes_job mode h && full) lacks row e
 
-own-taken : (mode : Mode) (full lacks : Bool) (q : Served) (h : MessageHeader) → IsAsk h.kind → own_row mode full lacks q h ≡ Takes → (h.number ≡ q.taken) × GoesOn h.kind q h
+own-taken : (mode : Mode) (full lacks : Bool) (q : Served) (h : MessageHeader) → IsAsk h.kind → own_row mode full lacks (newest_of q) h ≡ Takes → (h.number ≡ q.taken) × GoesOn h.kind q h
 own-taken mode full lacks q h i e =
-    let t = own-takes (cond (is_rfr h.kind) (nat_lt h.number (packet_count q.size)) (not (h.req_type == q.req_type && h.size == q.size))) (nat_lt q.taken h.number) (nat_lt h.number q.taken) (is_worked_on q h) (is_rfr h.kind && is_past_end q.size q.answer h.number) (makes_job mode h && full) (lacks && is_last h) e in
+    let t = own-takes (cond (is_rfr h.kind) (nat_lt h.number (packet_count q.size)) (not (h.req_type == q.req_type && h.size == q.size))) (nat_lt q.taken h.number) (nat_lt h.number q.taken) (is_worked_on (newest_of q) h.number) (is_rfr h.kind && is_past_end q.size (option_map length q.answer) h.number) (makes_job mode h && full) (lacks && is_last h) e in
     let low = ltb-false q.taken h.number t.1 in
     let high = ltb-false h.number q.taken t.2 in
     (omega arith, goes-on h.kind q h i t.0 t.3)
@@ -144,7 +142,7 @@ slot-repeats mode full lacks q h false false s t e =
 slot-begins : (mode : Mode) (full lacks : Bool) (q : Served) (h : MessageHeader) (a b : Bool) → nat_lt h.request q.number ≡ a → nat_lt q.number h.request ≡ b → slot-cond mode full lacks a b q h ≡ Begins → (q.number < h.request) × (new_row mode q.working full lacks h ≡ Begins)
 slot-begins mode full lacks q h true b s t e = cc
 slot-begins mode full lacks q h false true s t e = (ltb-true q.number h.request t, e)
-slot-begins mode full lacks q h false false s t e = absurd (own-begins (cond (is_rfr h.kind) (nat_lt h.number (packet_count q.size)) (not (h.req_type == q.req_type && h.size == q.size))) (nat_lt q.taken h.number) (nat_lt h.number q.taken) (is_worked_on q h) (is_rfr h.kind && is_past_end q.size q.answer h.number) (makes_job mode h && full) (lacks && is_last h) e)
+slot-begins mode full lacks q h false false s t e = absurd (own-begins (cond (is_rfr h.kind) (nat_lt h.number (packet_count q.size)) (not (h.req_type == q.req_type && h.size == q.size))) (nat_lt q.taken h.number) (nat_lt h.number q.taken) (is_worked_on (newest_of q) h.number) (is_rfr h.kind && is_past_end q.size (option_map length q.answer) h.number) (makes_job mode h && full) (lacks && is_last h) e)
 
 -- the number that begins doesn't stand yet
 not-there : (r : ℕ) (slots : List Served) (b : Bool) → list_any (is_request r) slots ≡ b → Apart slots → ((q : Served) → find (in_slot_of r) slots ≡ Some q → q.number < r) → b ≡ false

@@ -7,6 +7,7 @@ use Rattle.script_grammar.specs.declared.line.Command.{Command}
 use Rattle.script_grammar.specs.declared.line.Command.TheVariants.{Node, Pair}
 use Rattle.script_grammar.specs.declared.line.Line.{Line}
 use Rattle.end_laws.specs.TwoNodes.{PairsTwo, PairsTwoNodes}
+use Rattle.rpc_base.proofs.FirstLemmas.{all-both, all-each}
 
 node-two : (c : Command) → IsNode c → PairsTwo c
 node-two (Node ring) h = tt
@@ -21,16 +22,8 @@ all-recursion : {A : Type 0} (P : A → Type 0) (xs : List A) → All P xs → A
 all-recursion P [] h = tt
 all-recursion P (x ∷ xs) h = (h 0 x (omega arith), all-recursion P xs (λ k d lt. h (suc k) d (omega arith)))
 
-all-both : {A : Type 0} (P : A → Type 0) (xs ys : List A) → AllByRecursion P xs → AllByRecursion P ys → AllByRecursion P (xs ++ ys)
-all-both P [] ys h k = k
-all-both P (x ∷ xs) ys h k = (h.0, all-both P xs ys h.1 k)
-
-all-of : {A : Type 0} (P Q : A → Type 0) (xs : List A) → ((x : A) → P x → Q x) → AllByRecursion P xs → AllByRecursion Q xs
-all-of P Q [] f h = tt
-all-of P Q (x ∷ xs) f h = (f x h.0, all-of P Q xs f h.1)
-
 pub script-two : (lines : List Line) → IsScript lines → PairsTwoNodes lines
 script-two lines s =
     rw s.parts (all-both _ s.nodes s.others
-    (all-of _ _ s.nodes (λ line. node-two line.command) (all-recursion _ s.nodes s.all_nodes))
-    (all-of _ _ s.others (λ line. among-two (length s.nodes) line.command) (all-recursion _ s.others s.all_others)))
+    (all-each _ _ s.nodes (λ line. node-two line.command) (all-recursion _ s.nodes s.all_nodes))
+    (all-each _ _ s.others (λ line. among-two (length s.nodes) line.command) (all-recursion _ s.others s.all_others)))

@@ -16,11 +16,9 @@ use Rattle.rpc_laws.specs.declared.tables.Server.{Server}
 use Rattle.rpc_laws.specs.Front.{front_header, front_body}
 use Rattle.rpc_laws.specs.NodeLists.{after}
 use Rattle.rpc_laws.specs.Requests.{is_server, is_request, in_slot_of, first_packet, next_packet, took_packet, given, answered, servers_after}
-use Rattle.end_laws.proofs.ListLemmas.{false-true, all-first, all-add, all-without}
-
-or-false : (a b : Bool) → (a || b) ≡ false → (a ≡ false) × (b ≡ false)
-or-false true b h = cc
-or-false false b h = (refl, h)
+use Rattle.end_laws.proofs.ListLemmas.{all-first, all-add, all-without}
+use Rattle.rpc_base.proofs.BasicLemmas.{or-false, false-true}
+use Rattle.node_laws.proofs.ServerLemmas.{request-slot}
 
 pub false-or : (a b : Bool) → a ≡ false → b ≡ false → (a || b) ≡ false
 false-or a b h k = rw (h, k) refl
@@ -153,11 +151,6 @@ sound-servers _ answer head body xs h = h
 
 pub sound-stays : (clock : ℕ) (l : Lists) (f : Fact) → Sound l → Sound (after clock l f)
 sound-stays clock l f h = sound-servers f.event f.second (front_header l.ring) (front_body l.ring) l.servers h
-
--- the request of a number is the one of its slot
-request-slot : (r : ℕ) (q : Served) → is_request r q ≡ true → in_slot_of r q ≡ true
-request-slot r q t =
-    let e : q.number ≡ r = eqb-true q.number r t in eq-eqb (q.number % 8) (r % 8) (ap (λ n. n % 8) e)
 
 slot-of-cons : (r : ℕ) (z : Served) (zs : List Served) (q : Served) (a b : Bool) → is_request r z ≡ a → in_slot_of r z ≡ b → list_any (in_slot_of z.number) zs ≡ false → cond a (Some z) (find (is_request r) zs) ≡ Some q → (find (is_request r) zs ≡ Some q → find (in_slot_of r) zs ≡ Some q) → cond b (Some z) (find (in_slot_of r) zs) ≡ Some q
 slot-of-cons r z zs q true true s t none h ih = h

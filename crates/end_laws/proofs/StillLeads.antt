@@ -49,11 +49,12 @@ use Rattle.end_laws.proofs.Allowed.{May}
 use Rattle.end_laws.proofs.CommandLeads.{carry-leads, missed-leads, poll-leads, work-leads, works-lead}
 use Rattle.end_laws.proofs.Courses.{at_node, Course, course-append, in_net, made, over, pairs}
 use Rattle.end_laws.proofs.Leads.{Fits, Leading, Leads, leads-none}
-use Rattle.end_laws.proofs.ListLemmas.{add-placed, all-append, all-at, false-true, Placed, set-other, set-placed}
+use Rattle.end_laws.proofs.ListLemmas.{add-placed, all-append, all-at, Placed, set-other, set-placed}
 use Rattle.end_laws.proofs.OwnFacts.{AllOwn, Owned, Quiet, asks-own, delivers-own, poll-own, quiet-after, rates-own, refusal-plain}
 use Rattle.end_laws.proofs.PairLeads.{does-lead, empty-fits}
 use Rattle.end_laws.proofs.SendsLaw.{AllRight, right-made, right-net, right-noted, right-paired, sent-right}
 use Rattle.end_laws.proofs.TravelLemmas.{inboxes-made, rings-made, SentGives, travels-net, travels-node, travels-paired}
+use Rattle.rpc_base.proofs.BasicLemmas.{false-true}
 
 -- bytes that spell a message are no control packet
 abbrev NoControl : ℕ → ℕ → List ℕ → Type 0

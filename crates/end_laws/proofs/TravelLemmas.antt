@@ -21,6 +21,7 @@ use Rattle.end_laws.specs.Moments.{Moment, moved, hand_of, hand_after}
 use Rattle.end_laws.proofs.Allowed.{May}
 use Rattle.end_laws.proofs.Courses.{AtNode, Ends, client_fact, server_fact, paired, noted_at, moved-node}
 use Rattle.end_laws.proofs.ListLemmas.{Placed, all-append, all-map, all-at, all-add, set-other, set-placed, add-placed}
+use Rattle.rpc_base.proofs.BasicLemmas.{if-map}
 
 module _ {A : Type 0} (P : A → Type 0) where
   all-take : (i : ℕ) (xs : List A) → AllByRecursion P xs → AllByRecursion P (take i xs)
@@ -48,10 +49,6 @@ Claim = ℕ → ℕ → List ℕ → Type 0
 abbrev pub SentGives : Claim → ℕ → Event → List ℕ → List ℕ → Type 0
 SentGives P n (Sent peer o k) head body = P n peer (head ++ body)
 SentGives P n _ head body = Unit {0}
-
-if-map : {A : Type 0} (P Q : A → Type 0) (o : Option A) → ((x : A) → P x → Q x) → IfSome o P → IfSome o Q
-if-map P Q None f h = tt
-if-map P Q (Some x) f h = f x h
 
 pub travels-map : (P Q : ℕ → ℕ → List ℕ → Type 0) (w : Moment) → ((from to : ℕ) (bytes : List ℕ) → P from to bytes → Q from to bytes) → Travels P w → Travels Q w
 travels-map P Q w f t = record {

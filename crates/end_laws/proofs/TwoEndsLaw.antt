@@ -20,11 +20,12 @@ use Rattle.end_laws.specs.TwoEnds.{HoldsCall, IsOfCall, IsOfJob, IsOfRun, IsOfSe
 use Rattle.end_laws.proofs.Courses.{Ends, Course, over, in_net, made, at_node, pairs, client_fact, paired}
 use Rattle.end_laws.proofs.GoodSteps.{good-net, good-made, good-node}
 use Rattle.end_laws.proofs.Known.{Known, Begin, GoodAnswer, GoodProgress, GoodCall, GoodClient, HasRun, GoodServed, GoodServer, GoodJob, Good, IsTrue, contains-more}
-use Rattle.end_laws.proofs.KnownLemmas.{if-map, ends-more}
+use Rattle.end_laws.proofs.KnownLemmas.{ends-more}
 use Rattle.end_laws.proofs.ListLemmas.{Placed, all-map, all-add, set-placed}
 use Rattle.end_laws.proofs.OwnLaw.{good-paired}
 use Rattle.end_laws.proofs.OwnLemmas.{call-of}
 use Rattle.end_laws.proofs.SendsLaw.{AllRight, right-noted, right-net, right-made, right-paired}
+use Rattle.rpc_base.proofs.BasicLemmas.{if-map}
 
 -- claims of each place are claims of all elements
 pub placed-all : {A : Type 0} (P : ℕ → A → Type 0) (Q : A → Type 0) (xs : List A) → ((i : ℕ) (x : A) → P i x → Q x) → Placed P xs → AllByRecursion Q xs

@@ -30,12 +30,13 @@ use Rattle.rpc_laws.specs.Working.{Works, WorksAll, FinishesEach, FinishesWorked
 use Rattle.end_laws.proofs.Allowed.{WalksFrom, IsAllowed}
 use Rattle.end_laws.proofs.AskSteps.{slots-found, owed-self}
 use Rattle.end_laws.proofs.CallSteps.{IsFree, AllFree, free-walks}
-use Rattle.end_laws.proofs.ListLemmas.{false-true, all-map, all-found, find-first}
+use Rattle.end_laws.proofs.ListLemmas.{all-map, all-found, find-first}
 use Rattle.end_laws.proofs.QueueLemmas.{RightNode}
 use Rattle.end_laws.proofs.Rights.{JobFits, stands-right, out-job, job-number}
 use Rattle.end_laws.proofs.SendsLaw.{right-stays}
 use Rattle.end_laws.proofs.SlotLemmas.{with_slots, Apart, slot-of-request, apart-answered}
 use Rattle.end_laws.proofs.Walks.{Walked, Fine, walked-goes, walked-none, fine-then}
+use Rattle.rpc_base.proofs.BasicLemmas.{false-true}
 
 -- the last packet of some bytes is below each number of packets that has room for them
 low-packet : (n k : ℕ) → n ≤ 1024 * k → 1 ≤ k → packet_count n - 1 < k

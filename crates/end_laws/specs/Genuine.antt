@@ -9,8 +9,8 @@ use Rattle.rpc_laws.specs.BufferSafety.{SentRight}
 use Rattle.rpc_laws.specs.Facts.{with_two}
 use Rattle.end_laws.specs.Moments.{Moment, Always, first_moment, nodes_left}
 
--- these bytes were sent by a node to a node: a Sent has them as head and body, and they spell a packet that its owner
--- had by the lists before that Sent
+-- these bytes were sent by a node to a node: a Sent has them as head and body, and they spell a
+-- packet that its owner had by the lists before that Sent
 pub record WasSent (past : List Fact) (from to : ℕ) (bytes : List ℕ) : Type 0 where
   pub later : List Fact
   pub earlier : List Fact
@@ -22,12 +22,15 @@ pub record WasSent (past : List Fact) (from to : ℕ) (bytes : List ℕ) : Type 
   pub own : SentRight (nodes_left earlier) from (Sent to owner number) head body
   pub whole : bytes ≡ head ++ body
 
--- a claim of sender, receiver and bytes of each datagram in flight, in hand and in the nodes' rings and inboxes
+-- a claim of sender, receiver and bytes of each datagram in flight, in hand and in the nodes' rings
+-- and inboxes
 pub record Travels (P : ℕ → ℕ → List ℕ → Type 0) (w : Moment) : Type 0 where
   pub flight : AllByRecursion (λ c. P c.from c.to c.bytes) w.flight
   pub hand : IfSome w.hand (λ c. P c.from c.to c.bytes)
-  pub rings : (n : ℕ) (l : Lists) → slice_get w.nodes n ≡ Some l → AllByRecursion (λ a. P a.peer n a.bytes) l.ring
-  pub inboxes : (n : ℕ) (l : Lists) → slice_get w.nodes n ≡ Some l → AllByRecursion (λ a. P a.peer n a.bytes) l.inbox
+  pub rings : (n : ℕ) (l : Lists) → slice_get w.nodes n ≡ Some l
+      → AllByRecursion (λ a. P a.peer n a.bytes) l.ring
+  pub inboxes : (n : ℕ) (l : Lists) → slice_get w.nodes n ≡ Some l
+      → AllByRecursion (λ a. P a.peer n a.bytes) l.inbox
 
 -- at each moment each datagram on its way was sent by its sender to its node
 abbrev pub AllGenuine : List Fact → Type 0

@@ -1,4 +1,5 @@
--- What the facts of a history so far leave: the clock, the lists of all nodes, and the copies in flight.
+-- What the facts of a history so far leave: the clock, the lists of all nodes, and the copies in
+-- flight.
 use Rattle.std.specs.Prelude.{ℕ, Option, None, List, [], ◌∷◌, slice_get}
 use Rattle.rpc_base.specs.declared.event.Event.{Event}
 use Rattle.rpc_base.specs.declared.event.Event.TheVariants.{Carried}
@@ -10,8 +11,8 @@ use Rattle.rpc_laws.specs.declared.tables.Lists.{Lists}
 use Rattle.rpc_laws.specs.BufferSafety.{clock_after, nodes_after}
 use Rattle.rpc_laws.specs.InFlight.{flight_after}
 
--- the clock of the world, the lists of each node, the copies in flight, the copy that was taken out of flight
--- last to be delivered, and the facts so far, the newest first
+-- the clock of the world, the lists of each node, the copies in flight, the copy that was taken out
+-- of flight last to be delivered, and the facts so far, the newest first
 pub record Moment : Type 0 where
   pub clock : ℕ
   pub nodes : List Lists

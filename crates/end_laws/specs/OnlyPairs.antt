@@ -1,5 +1,5 @@
--- Histories in which sessions are made by pairing alone: none is connected or ended, and nothing is sent or heard of
--- session control.
+-- Histories in which sessions are made by pairing alone: none is connected or ended, and nothing is
+-- sent or heard of session control.
 use Rattle.std.specs.Prelude.{◌≡◌, Bool, true, false, List}
 use Rattle.std.specs.List.{AllByRecursion}
 use Rattle.rpc_base.specs.declared.event.Event.{Event}

@@ -1,5 +1,5 @@
--- What the two ends of a session hold is of one call: the server's requests and jobs, and the answers that
--- calls take.
+-- What the two ends of a session hold is of one call: the server's requests and jobs, and the
+-- answers that calls take.
 use Rattle.std.specs.Prelude.{ℕ, ◌≡◌, ◌+◌, ◌-◌, ◌*◌, ◌||◌, Bool, not, Some, is_none, List, [], length, take, slice_get, if◌then◌else◌, IfSome, Contains}
 use Rattle.std.specs.List.{AllByRecursion}
 use Rattle.rpc_base.specs.declared.event.Event.TheVariants.{Ran}
@@ -19,13 +19,16 @@ use Rattle.end_laws.specs.Moments.{Moment, Always, first_moment}
 abbrev pub is_away : Served → Bool
 is_away q = q.working || not (is_none q.answer)
 
--- the request in a slot of a server session is this call, which its client end began with this number: of its
--- type and size, with its parts taken in turn, until they went away. Its answer is that of its run
-pub record HoldsCall (past : List Fact) (m : ℕ) (way : Way) (q : Served) (call room : ℕ) (ask : List ℕ) : Type 0 where
+-- the request in a slot of a server session is this call, which its client end began with this
+-- number: of its type and size, with its parts taken in turn, until they went away. Its answer is
+-- that of its run
+pub record HoldsCall (past : List Fact) (m : ℕ) (way : Way) (q : Served) (call room : ℕ)
+    (ask : List ℕ) : Type 0 where
   pub own : IsCallOf past way.peer call m way.number q.number q.req_type room ask
   pub size : q.size ≡ length ask
   pub parts : q.ask ≡ (if is_away q then [] else take (1024 * q.taken) ask)
-  pub answer : IfSome q.answer (λ answer. Contains past (with_two m (Ran way.number q.number q.req_type) ask answer))
+  pub answer : IfSome q.answer (λ answer. Contains past
+      (with_two m (Ran way.number q.number q.req_type) ask answer))
 
 pub record IsOfCall (past : List Fact) (m : ℕ) (way : Way) (q : Served) : Type 0 where
   pub call : ℕ
@@ -33,32 +36,39 @@ pub record IsOfCall (past : List Fact) (m : ℕ) (way : Way) (q : Served) : Type
   pub ask : List ℕ
   pub holds : HoldsCall past m way q call room ask
 
--- a background job is of a call that was begun with its number on its session: of that call's type, with its whole
--- bytes. Its session may have ended since
+-- a background job is of a call that was begun with its number on its session: of that call's type,
+-- with its whole bytes. Its session may have ended since
 pub record IsOfJob (past : List Fact) (m : ℕ) (job : Job) : Type 0 where
   pub node : ℕ
   pub call : ℕ
   pub room : ℕ
   pub own : IsCallOf past node call m job.session job.request job.req_type room job.ask
 
--- what a call has taken of an answer are the first parts of the answer that its own request's run gave
-pub record IsOfRun (past : List Fact) (way : Way) (a : Asking) (p : Progress) (size : ℕ) : Type 0 where
+-- what a call has taken of an answer are the first parts of the answer that its own request's run
+-- gave
+pub record IsOfRun (past : List Fact) (way : Way) (a : Asking) (p : Progress) (size : ℕ)
+    : Type 0 where
   pub answer : List ℕ
   pub ran : Contains past (with_two way.peer (Ran way.other p.request a.req_type) a.ask answer)
   pub sized : size ≡ length answer
   pub parts : p.parts ≡ take (1024 * (p.got + 1 - asked_packets a)) answer
 
 -- an active call was asked and began on its session, and what it took is of its own run
-pub record IsOfSession (past : List Fact) (n : ℕ) (way : Way) (a : Asking) (p : Progress) : Type 0 where
+pub record IsOfSession (past : List Fact) (n : ℕ) (way : Way) (a : Asking) (p : Progress)
+    : Type 0 where
   pub own : IsCallOf past n a.number way.peer way.other p.request a.req_type a.room a.ask
   pub answer : IfSome p.answer (IsOfRun past way a p)
 
--- so it is for each request in a slot of a server session, for each job that is out, and for each active call of a
--- client session
+-- so it is for each request in a slot of a server session, for each job that is out, and for each
+-- active call of a client session
 pub record TwoEnds (w : Moment) : Type 0 where
-  pub servers : (m : ℕ) (l : Lists) → slice_get w.nodes m ≡ Some l → AllByRecursion (λ v. AllByRecursion (IsOfCall w.past m v.way) v.slots) l.servers
-  pub jobs : (m : ℕ) (l : Lists) → slice_get w.nodes m ≡ Some l → AllByRecursion (IsOfJob w.past m) l.jobs.out
-  pub clients : (n : ℕ) (l : Lists) → slice_get w.nodes n ≡ Some l → AllByRecursion (λ x. AllByRecursion (λ c. IfSome c.progress (IsOfSession w.past n x.way c.what)) x.calls) l.clients
+  pub servers : (m : ℕ) (l : Lists) → slice_get w.nodes m ≡ Some l
+      → AllByRecursion (λ v. AllByRecursion (IsOfCall w.past m v.way) v.slots) l.servers
+  pub jobs : (m : ℕ) (l : Lists) → slice_get w.nodes m ≡ Some l
+      → AllByRecursion (IsOfJob w.past m) l.jobs.out
+  pub clients : (n : ℕ) (l : Lists) → slice_get w.nodes n ≡ Some l
+      → AllByRecursion (λ x. AllByRecursion (λ c. IfSome c.progress
+      (IsOfSession w.past n x.way c.what)) x.calls) l.clients
 
 -- so it is at each moment
 abbrev pub AllTwoEnds : List Fact → Type 0

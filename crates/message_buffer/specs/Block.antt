@@ -14,14 +14,17 @@ pieces width (suc n) bytes = take width bytes ∷ pieces width n (drop width byt
 
 -- the header of packet 0 stands in front, the others behind the data
 abbrev pub heads_in : List ℕ → ℕ → List (List ℕ)
-heads_in block capacity = take head_bytes block ∷ pieces head_bytes (packet_count capacity - 1) (drop (head_bytes + capacity) block)
+heads_in block capacity =
+    take head_bytes block ∷ pieces head_bytes (packet_count capacity - 1)
+    (drop (head_bytes + capacity) block)
 
 -- the data stands behind the first header
 abbrev pub data_in : List ℕ → ℕ → List ℕ
 data_in block capacity = take capacity (drop head_bytes block)
 
 abbrev pub buffer_in : List ℕ → ℕ → ℕ → Buffer
-buffer_in block capacity len = record { len = len; store = data_in block capacity; heads = heads_in block capacity }
+buffer_in block capacity len =
+    record { len = len; store = data_in block capacity; heads = heads_in block capacity }
 
 -- how long the block is: the data and one header for each packet
 abbrev pub block_size : ℕ → ℕ

@@ -12,11 +12,14 @@ block_of b = concat (take 1 b.heads) ++ (b.store ++ concat (drop 1 b.heads))
 
 -- what bytes that pass the capacity would leave. A slice keeps its length, so this never comes
 abbrev pub overrun : List ℕ → Buffer → Buffer
-overrun message b = buffer_in (take (length (block_of b)) (overwritten head_bytes message (block_of b))) (capacity_of b) b.len
+overrun message b =
+    buffer_in (take (length (block_of b)) (overwritten head_bytes message (block_of b)))
+    (capacity_of b) b.len
 
 -- the buffer with its message written anew: its other bytes, its length and its heads stay
 abbrev pub rewritten : List ℕ → Buffer → Buffer
-rewritten message b = if nat_le (length message) (capacity_of b) then written 0 message b else overrun message b
+rewritten message b =
+    if nat_le (length message) (capacity_of b) then written 0 message b else overrun message b
 
 -- b's message is what was left behind r
 abbrev pub lends_message : MutBor Buffer → MutBor (List ℕ) → Fml

@@ -1,3 +1,4 @@
 pub mod Block
 pub mod Buffer
 pub mod Lending
+pub mod Messages

@@ -41,7 +41,8 @@ impl MsgBuf {
         ensures capacity { IfOk result (λ b. capacity_of b ≡ capacity) }
         ensures zeros { IfOk result (λ b. All (λ byte. byte ≡ 0) b.store) }
         ensures heads { IfOk result (λ b. length b.heads ≡ packet_count capacity) }
-        ensures zero_heads { IfOk result (λ b. (k : ℕ) → k < packet_count capacity → slice_get b.heads k ≡ Some (replicate HEAD_BYTES 0)) }
+        ensures zero_heads { IfOk result (λ b. (k : ℕ) → k < packet_count capacity
+            → slice_get b.heads k ≡ Some (replicate HEAD_BYTES 0)) }
     {
         let block = vec![in alloc; 0; block_bytes(capacity)]?;
         Ok(MsgBuf {

@@ -1,5 +1,5 @@
-//! The network of a script: the copies of datagrams in flight, in the order in which they were sent. It
-//! drops, delays and repeats only what it is told to, and knows nothing of packets.
+//! The network of a script: the copies of datagrams in flight, in the order in which they were
+//! sent. It drops, delays and repeats only what it is told to, and knows nothing of packets.
 #![tactic(auto)]
 
 mod net;

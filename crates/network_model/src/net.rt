@@ -40,8 +40,8 @@ impl Net {
         self.copies.len()
     }
 
-    /// Puts one copy of a datagram of this head and body at the end. `NoMemory` comes only where there is
-    /// no memory for it, and then nothing changed.
+    /// Puts one copy of a datagram of this head and body at the end. `NoMemory` comes only where
+    /// there is no memory for it, and then nothing changed.
     pub fn send(
         &mut self,
         from: NodeId,
@@ -50,7 +50,8 @@ impl Net {
         body: &[u8],
     ) -> Result<(), NoMemory>
         ensures sent { OnOk result
-            (self.new ≡ self.old ++ record { from = from; to = to; bytes = head.now ++ body.now } ∷ []) }
+            (self.new ≡ self.old ++ record { from = from; to = to; bytes = head.now ++ body.now }
+            ∷ []) }
         ensures unchanged { OnErr result (self.new ≡ self.old) }
     {
         let mut bytes = Octets::copy(*self.copies.allocator(), head)?;
@@ -74,8 +75,8 @@ impl Net {
         self.copies.remove(i as usize)
     }
 
-    /// Takes out copy `i`, which arrives. `None` comes exactly where there is no such copy, and then
-    /// nothing changed.
+    /// Takes out copy `i`, which arrives. `None` comes exactly where there is no such copy, and
+    /// then nothing changed.
     pub fn carry(&mut self, i: u32) -> Option<InFlight>
         ensures copy { result ≡ slice_get self.old i }
         ensures others { self.new ≡ flight_after_net (Event.Carried i) self.old }
@@ -84,8 +85,8 @@ impl Net {
         self.take_out(i)
     }
 
-    /// Takes out copy `i`, which is lost. `None` comes exactly where there is no such copy, and then
-    /// nothing changed.
+    /// Takes out copy `i`, which is lost. `None` comes exactly where there is no such copy, and
+    /// then nothing changed.
     pub fn lose(&mut self, i: u32) -> Option<InFlight>
         ensures copy { result ≡ slice_get self.old i }
         ensures others { self.new ≡ flight_after_net (Event.Lost i) self.old }
@@ -101,8 +102,9 @@ impl Net {
         self.copies.get(i as usize)
     }
 
-    /// Puts one more copy of copy `i` at the end, and tells whether there is such a copy. `NoMemory` comes
-    /// only where there is no memory for it. Where no copy was put nothing changed.
+    /// Puts one more copy of copy `i` at the end, and tells whether there is such a copy.
+    /// `NoMemory` comes only where there is no memory for it. Where no copy was put nothing
+    /// changed.
     pub fn repeat(&mut self, i: u32) -> Result<bool, NoMemory>
         ensures repeated { OnOk result (self.new ≡ flight_after_net (Event.Repeated i) self.old) }
         ensures there { IfOk result (λ is_there. is_there ≡ nat_lt i (length self.old)) }

@@ -14,11 +14,12 @@ use Rattle.rpc_laws.specs.Calls.{is_call, has_request, is_active}
 use Rattle.rpc_laws.specs.Sessions.{is_client}
 use Rattle.node_laws.specs.CreditBalance.{CallAccount, SessionAccount, Accounts, is_numbered, is_this, began_as}
 use Rattle.node_laws.proofs.FilterLemmas.{found-whole, find-filter, filter-own, filter-other, filter-out, filter-stay, image-found}
-use Rattle.node_laws.proofs.FindLemmas.{this-changed}
+use Rattle.rpc_base.proofs.FindLemmas.{this-changed}
 use Rattle.node_laws.proofs.SpanLemmas.{packets_of}
 use Rattle.node_laws.proofs.ImageLemmas.{map-changed, map-left}
-use Rattle.node_laws.proofs.TableLemmas.{found-passes, found-changed}
+use Rattle.rpc_base.proofs.FirstLemmas.{found-changed}
 use Rattle.node_laws.specs.Valid.{to_come}
+use Rattle.rpc_base.proofs.TakingLemmas.{find-passes}
 
 -- the account of a call of session n by its table, and of a session
 abbrev pub request_of : Option Progress → Option ℕ
@@ -85,7 +86,7 @@ pub record Near (xs ys : List Client) (m : ℕ) (z : Client) : Type 0 where
 
 pub near-of : (xs : List Client) (p : Client → Bool) (f : Client → Client) (m : ℕ) (y : Client) → find p xs ≡ Some y → find (is_client m) xs ≡ Some y → (f y).way ≡ y.way → Near xs (at_first p f xs) m (f y)
 near-of xs p f m y found old same =
-    let number : y.way.number ≡ m = eqb-true y.way.number m (found-passes (is_client m) xs y old) in
+    let number : y.way.number ≡ m = eqb-true y.way.number m (find-passes (is_client m) xs y old) in
     let way : (f y).way.number ≡ y.way.number = ap (λ w. w.number) same in
     record {
       new = found-changed p f (is_client m) y xs (eq-eqb (f y).way.number m (way ∙ number)) found old;

@@ -26,12 +26,12 @@ use Rattle.node_laws.specs.CreditBalance.{CallAccount, Accounts, is_numbered, be
 use Rattle.node_laws.proofs.AccountLemmas.{request_of, account_of, session_account, of_session, accounts_of, Agrees, same-began, list-is, by-number, by-request, Near, near-of, calls-moved, calls-left}
 use Rattle.node_laws.proofs.Allowed.{Allowed, MayAsk, MayBegin, MayPost, MayTake, MayRoll}
 use Rattle.node_laws.proofs.FilterLemmas.{filter-push, filter-skip, changed-same}
-use Rattle.node_laws.proofs.FindLemmas.{changed-holds}
+use Rattle.rpc_base.proofs.FindLemmas.{changed-holds}
 use Rattle.node_laws.proofs.NumberLemmas.{by_number}
 use Rattle.node_laws.proofs.SoundLemmas.{by_request, order-found, took-request, sent-request}
 use Rattle.node_laws.proofs.SpanLemmas.{packets_of, packets-posted, packets-took, packets-rolled, packets-sent}
 use Rattle.node_laws.proofs.ImageLemmas.{map-each, map-hidden}
-use Rattle.node_laws.proofs.TableLemmas.{found-holds, sum-grown, sum-fewer}
+use Rattle.rpc_base.proofs.FirstLemmas.{found-holds, sum-grown, sum-fewer}
 use Rattle.node_laws.proofs.Places.{Place}
 use Rattle.node_laws.specs.Valid.{Sound, to_come, Valid}
 

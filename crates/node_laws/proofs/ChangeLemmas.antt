@@ -17,8 +17,9 @@ use Rattle.rpc_laws.specs.ClientTable.{is_of_turn}
 use Rattle.rpc_laws.specs.Posting.{holds_slot, is_taken}
 use Rattle.rpc_laws.specs.Sessions.{is_live, is_request_of, client_end, opened_end, comes_to, connects, requests, asks, begins, posts, sends, takes, rolls, breaks, ends}
 use Rattle.node_laws.proofs.SoundLemmas.{by_request, order-found, sound-moved, order-posted, order-rolled, order-taken, order-sent, sent-request, sent-got, sent-posted, took-request, reply-got, reply-posted}
-use Rattle.node_laws.proofs.TableLemmas.{found-passes, all-push, all-changed, all-left, none-counted, missing-same, sum-changed, sum-left, sum-fewer}
+use Rattle.rpc_base.proofs.FirstLemmas.{all-push, all-changed, all-left, none-counted, missing-same, sum-changed, sum-left, sum-fewer}
 use Rattle.node_laws.specs.Valid.{unanswered_of, CallInOrder, in_slot, Sound}
+use Rattle.rpc_base.proofs.TakingLemmas.{find-passes}
 
 pub sound-made : (s peer t credits : ℕ) → Sound (client_end s peer t credits)
 sound-made s peer t credits = record { balance = λ _. omega arith; order = tt; apart = λ slot. omega arith }
@@ -84,7 +85,7 @@ sends-by : (clock r k : ℕ) (x : Client) (o : Option Call) → find (is_active 
 sends-by clock r k x None e h =
     rw (missing-same (is_active r) (moved (sent_packet clock k)) x.calls e) h
 sends-by clock r k x (Some c) e h =
-    sends-found clock r k x c c.progress refl (found-passes (is_active r) x.calls c e) h e
+    sends-found clock r k x c c.progress refl (find-passes (is_active r) x.calls c e) h e
 
 pub sound-sends : (clock r k : ℕ) (x : Client) → Sound x → Sound (sends clock r k x)
 sound-sends clock r k x h = sends-by clock r k x (find (is_active r) x.calls) refl h

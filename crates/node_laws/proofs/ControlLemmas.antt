@@ -27,7 +27,7 @@ use Rattle.node_laws.proofs.Allowed.{NoneOlder, MayLeave, MayMake, AllAllowed, I
 use Rattle.node_laws.proofs.FlushLemmas.{no-more-same, slots-flushed}
 use Rattle.node_laws.proofs.LeftLemmas.{same-slot}
 use Rattle.node_laws.proofs.LeadsLemmas.{allowed-join, Lawful, lawful-goes, lawful-until}
-use Rattle.node_laws.proofs.TableLemmas.{found-own}
+use Rattle.rpc_base.proofs.FirstLemmas.{found-own}
 use Rattle.node_laws.proofs.TimerLemmas.{speaks-allowed}
 use Rattle.node_laws.specs.Valid.{Valid}
 

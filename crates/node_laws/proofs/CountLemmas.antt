@@ -24,7 +24,7 @@ use Rattle.rpc_laws.specs.Sessions.{is_client, has_call, client_end, opened_end,
 use Rattle.node_laws.specs.CallHistory.{asks_call}
 use Rattle.node_laws.proofs.Allowed.{Allowed, MayAsk}
 use Rattle.node_laws.proofs.NumberLemmas.{by_number}
-use Rattle.node_laws.proofs.TableLemmas.{none-counted, sum-changed, sum-left}
+use Rattle.rpc_base.proofs.FirstLemmas.{none-counted, sum-changed, sum-left}
 use Rattle.node_laws.proofs.Places.{Place}
 use Rattle.node_laws.specs.Valid.{holders, to_come, Valid}
 

@@ -21,10 +21,11 @@ use Rattle.rpc_laws.specs.Front.{control_of}
 use Rattle.rpc_laws.specs.NodeLists.{asked_after}
 use Rattle.rpc_laws.specs.Sessions.{is_client, has_call, client_end, opened_end, comes_to, connects, requests, clients_told, asks, begins, posts, sends, takes, rolls, breaks, ends, clients_after}
 use Rattle.node_laws.proofs.Allowed.{Allowed}
-use Rattle.node_laws.proofs.TableLemmas.{found-le, found-passes, some-counted, missing-same, sum-changed, sum-grown, sum-fewer}
+use Rattle.rpc_base.proofs.FirstLemmas.{found-le, some-counted, missing-same, sum-changed, sum-grown, sum-fewer}
 use Rattle.node_laws.proofs.ToldSame.{told-same}
 use Rattle.node_laws.proofs.Places.{Place}
 use Rattle.node_laws.specs.Valid.{to_come, Valid}
+use Rattle.rpc_base.proofs.TakingLemmas.{find-passes}
 
 module _ (c n : ℕ) where
   -- the calls of number c on a session
@@ -130,7 +131,7 @@ module _ (c n : ℕ) where
   asked-by : (a : Asking) (xs : List Client) (o : Option Client) → find (is_client n) xs ≡ o → sum_by off (at_first (is_client n) (asks a) xs) ≤ sum_by off xs
   asked-by a xs None e = rw (missing-same (is_client n) (asks a) xs e) (omega arith)
   asked-by a xs (Some x) e =
-      let own = found-passes (is_client n) xs x e in
+      let own = find-passes (is_client n) xs x e in
       let sums = sum-changed (is_client n) (asks a) off xs x e in
       let before = here-off (is_client n x) (has x) own in
       let after = here-off (is_client n x) (has (asks a x)) own in
@@ -154,5 +155,5 @@ module _ (c n : ℕ) where
       let some = some-counted place.test (is_call c) x.calls d place.call (eq-eqb d.what.number c same) in
       let own = session-by (is_client n x) (has x) some (omega arith) in
       let number : x.way.number ≡ n = eqb-true x.way.number n own in
-      let session_is : x.way.number ≡ session = eqb-true x.way.number session (found-passes (is_client session) s.clients x place.client) in
+      let session_is : x.way.number ≡ session = eqb-true x.way.number session (find-passes (is_client session) s.clients x place.client) in
       sym session_is ∙ number

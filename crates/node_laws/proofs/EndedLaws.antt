@@ -31,12 +31,13 @@ use Rattle.node_laws.proofs.PutLemmas.{Alike, alike-no-more, alike-after}
 use Rattle.node_laws.proofs.QueueLemmas.{none-stays}
 use Rattle.node_laws.proofs.QueueWindowLemmas.{windows-after, ended-unqueued}
 use Rattle.node_laws.proofs.RunLaws.{run_leads}
-use Rattle.node_laws.proofs.TableLemmas.{found-passes, found-changed, some-counted, sum-left}
+use Rattle.rpc_base.proofs.FirstLemmas.{found-changed, some-counted, sum-left}
 use Rattle.node_laws.proofs.Places.{Place}
 use Rattle.node_laws.specs.Valid.{EightTurns, Valid}
 use Rattle.node_laws.proofs.ValidLemmas.{valid_after, valid_new}
 use Rattle.node_laws.proofs.WindowLemmas.{own-request}
 use Rattle.node_laws.specs.Windows.{Windows}
+use Rattle.rpc_base.proofs.TakingLemmas.{find-passes}
 
 -- a request that may no longer be active isn't posted
 post-by : (n r i j k : ℕ) (s : Lists) (b : Bool) → (i == n && j == r) ≡ b → open_for n r s.clients ≤ 0 → MayPost s i j k → b ≡ false
@@ -182,7 +183,7 @@ closed clock c n r s e bytes v a session active few =
     let client : find (has_call c) s.clients ≡ Some a.client = subst (λ (i : ℕ). find (has_call i) s.clients ≡ Some a.client) a.same own.client in
     let call : find (is_call c) a.client.calls ≡ Some a.call = subst (λ (i : ℕ). find (is_call i) a.client.calls ≡ Some a.call) a.same own.call in
     let found : find (is_client n) s.clients ≡ Some a.client = rw session at a.place.client in
-    let next : find (is_client n) (at_first (has_call c) (ends c) s.clients) ≡ Some (ends c a.client) = found-changed (has_call c) (ends c) (is_client n) a.client s.clients (found-passes (is_client n) s.clients a.client found) client found in
+    let next : find (is_client n) (at_first (has_call c) (ends c) s.clients) ≡ Some (ends c a.client) = found-changed (has_call c) (ends c) (is_client n) a.client s.clients (find-passes (is_client n) s.clients a.client found) client found in
     let was : open_of r (Some a.client) ≤ 1 = rw found at few in
     let sums = sum-left (is_call c) (λ d. cond (is_active r d) 1 0) a.client.calls a.call call in
     let one = active-one r a.call.progress active in

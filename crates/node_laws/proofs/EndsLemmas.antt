@@ -18,10 +18,11 @@ use Rattle.rpc_laws.specs.NodeLists.{after}
 use Rattle.rpc_laws.specs.Requests.{is_server, is_request, server_end, took_packet, given, answered, servers_after, server_numbers_after}
 use Rattle.node_laws.specs.EndedSessions.{ends_session, posts_for}
 use Rattle.node_laws.proofs.Allowed.{Allowed, Stands, Leads}
-use Rattle.node_laws.proofs.FindLemmas.{none-found}
-use Rattle.node_laws.proofs.TableLemmas.{found-passes, sum-left}
+use Rattle.rpc_base.proofs.FindLemmas.{none-found}
+use Rattle.rpc_base.proofs.FirstLemmas.{sum-left}
 use Rattle.node_laws.proofs.Places.{request_of}
 use Rattle.node_laws.specs.Valid.{to_come}
+use Rattle.rpc_base.proofs.TakingLemmas.{find-passes}
 
 -- what a change leaves the same in each element it leaves so in all
 same-by : {A : Type 0} (g : A → ℕ) (f : A → A) (x : A) (xs ys : List A) (b : Bool) → g (f x) ≡ g x → sum_by g ys ≡ sum_by g xs → sum_by g (cond b (f x ∷ xs) (x ∷ ys)) ≡ sum_by g (x ∷ xs)
@@ -56,7 +57,7 @@ module _ (t : ℕ) where
   left-ends : (n : ℕ) (s : Lists) (v : Server) → find (is_server n) s.servers ≡ Some v → count_by (is_server t) (without_first (is_server n) s.servers) + to_come s.server_numbers t + cond (n == t) 1 0 ≡ standing s
   left-ends n s v found =
       let left = sum-left (is_server n) one s.servers v found in
-      let number : v.way.number ≡ n = eqb-true v.way.number n (found-passes (is_server n) s.servers v found) in
+      let number : v.way.number ≡ n = eqb-true v.way.number n (find-passes (is_server n) s.servers v found) in
       let own : ◌≡◌ {A = ℕ} (one v) (cond (n == t) 1 0) = rw number refl in
       omega arith
 

@@ -4,7 +4,8 @@ use Rattle.std.specs.Prelude.{count_by, sum_by, map}
 use Rattle.std.specs.List.{filter, find}
 use Rattle.std.proofs.lemmas.List.Sums.{sum_by-cons}
 use Rattle.rpc_base.specs.Tables.{at_first, without_first}
-use Rattle.node_laws.proofs.TableLemmas.{counted-cons, found-passes}
+use Rattle.rpc_base.proofs.FirstLemmas.{counted-cons}
+use Rattle.rpc_base.proofs.TakingLemmas.{find-passes}
 
 module _ {A : Type 0} (p : A → Bool) where
   -- one more at the end
@@ -174,4 +175,4 @@ module _ {A : Type 0} (p q : A → Bool) (f : A → A) (x : A) where
   pub changed-same : (xs : List A) → find p xs ≡ Some x → find q xs ≡ Some x → at_first p f xs ≡ at_first q f xs
   changed-same [] e h = refl
   changed-same (y ∷ ys) e h =
-      both-by y ys (p y) (q y) refl refl (found-passes p (y ∷ ys) x e) (found-passes q (y ∷ ys) x h) (changed-same ys) e h
+      both-by y ys (p y) (q y) refl refl (find-passes p (y ∷ ys) x e) (find-passes q (y ∷ ys) x h) (changed-same ys) e h

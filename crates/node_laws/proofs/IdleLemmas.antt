@@ -14,7 +14,7 @@ use Rattle.rpc_laws.specs.Calls.{is_call, is_active, moved, begun, posted_up_to,
 use Rattle.rpc_laws.specs.Front.{control_of}
 use Rattle.rpc_laws.specs.Sessions.{is_client, has_call, client_end, opened_end, comes_to, connects, is_request_of, requests, clients_told, asks, begins, posts, sends, takes, rolls, breaks, ends, clients_after}
 use Rattle.node_laws.proofs.Allowed.{Allowed}
-use Rattle.node_laws.proofs.TableLemmas.{all-push, all-kept, all-changed}
+use Rattle.rpc_base.proofs.FirstLemmas.{all-push, all-kept, all-changed}
 use Rattle.node_laws.specs.Valid.{Idle}
 
 told-idle : (clock : ℕ) (o : Option ControlHeader) (xs : List Client) → AllByRecursion Idle xs → AllByRecursion Idle (clients_told clock o xs)

@@ -18,8 +18,9 @@ use Rattle.rpc_laws.specs.Requests.{is_request, given, answered, servers_after, 
 use Rattle.node_laws.proofs.Allowed.{Allowed, MayGive, MayFinish}
 use Rattle.node_laws.proofs.ServantLemmas.{left-after, worked-spends}
 use Rattle.node_laws.proofs.LeftLemmas.{given-due, answered-due, falls-due}
-use Rattle.node_laws.proofs.TableLemmas.{found-passes, sum-fewer, sum-left}
+use Rattle.rpc_base.proofs.FirstLemmas.{sum-fewer, sum-left}
 use Rattle.node_laws.specs.Valid.{is_due, to_give, jobs_of, to_run, Valid}
+use Rattle.rpc_base.proofs.TakingLemmas.{find-passes}
 
 -- whether a job is of a request, by the number that it was found by
 job-counted : (t r n k : ℕ) (job : Job) → is_job n k job ≡ true → ◌≡◌ {A = ℕ} (cond (is_job t r job) 1 0) (cond (n == t && k == r) 1 0)
@@ -35,7 +36,7 @@ given-by t r n k s a = rw (a.found, a.is_served) refl
 
 given-counted : (t r n k : ℕ) (s : Lists) (a : MayGive s n k) → jobs_of t r (s.jobs.out ++ new_job n k s.servers) ≡ jobs_of t r s.jobs.out + cond (n == t && k == r) 1 0
 given-counted t r n k s a =
-    let number : a.served.number ≡ k = eqb-true a.served.number k (found-passes (is_request k) a.server.slots a.served a.is_served) in
+    let number : a.served.number ≡ k = eqb-true a.served.number k (find-passes (is_request k) a.server.slots a.served a.is_served) in
     let push = sum_by_push (λ job. cond (is_job t r job) 1 0) s.jobs.out (job_of n a.served) in
     let one : ◌≡◌ {A = ℕ} (cond (n == t && a.served.number == r) 1 0) (cond (n == t && k == r) 1 0) = rw number refl in
     rw (given-by t r n k s a) (omega arith)
@@ -45,7 +46,7 @@ module _ (t r : ℕ) (s : Lists) (valid : Valid s) where
   out-of-jobs : (n k : ℕ) (a : MayFinish s n k) → jobs_of t r (without_first (is_job n k) s.jobs.out) + cond (n == t && k == r) 1 0 ≡ jobs_of t r s.jobs.out
   out-of-jobs n k a =
       let left = sum-left (is_job n k) (λ job. cond (is_job t r job) 1 0) s.jobs.out a.job a.found in
-      let one = job-counted t r n k a.job (found-passes (is_job n k) s.jobs.out a.job a.found) in
+      let one = job-counted t r n k a.job (find-passes (is_job n k) s.jobs.out a.job a.found) in
       omega arith
 
   -- what may still run, after a fact with this answer

@@ -11,10 +11,11 @@ use Rattle.rpc_laws.specs.declared.tables.Served.{Served}
 use Rattle.rpc_laws.specs.declared.tables.Server.{Server}
 use Rattle.rpc_laws.specs.Requests.{is_request, in_slot_of, first_packet, next_packet, took_packet, given, answered}
 use Rattle.node_laws.proofs.Allowed.{Newer}
-use Rattle.node_laws.proofs.FindLemmas.{changed-le, push-found, push-other, skip-found, count-out, none-found}
+use Rattle.rpc_base.proofs.FindLemmas.{changed-le, push-found, push-other, skip-found, count-out, none-found}
 use Rattle.node_laws.proofs.ServerLemmas.{in_place, request-slot}
-use Rattle.node_laws.proofs.TableLemmas.{found-holds, found-own, found-passes, found-changed}
+use Rattle.rpc_base.proofs.FirstLemmas.{found-holds, found-own, found-changed}
 use Rattle.node_laws.specs.Valid.{is_due, RunWhole, SoundServer, left_of, left_in}
+use Rattle.rpc_base.proofs.TakingLemmas.{find-passes}
 
 -- a test of a request that no fact makes true
 pub record Falls (test : Served → Bool) : Type 0 where
@@ -45,7 +46,7 @@ falls-always b = record { next = λ body q. refl; given = λ q t. t; answered = 
 -- the request that stands in its slot is the one that is found
 pub own-slot : (r : ℕ) (v : Server) (q : Served) → SoundServer v → find (is_request r) v.slots ≡ Some q → find (in_slot_of r) v.slots ≡ Some q
 own-slot r v q s e =
-    found-own (is_request r) (in_slot_of r) v.slots q (s.apart (r % 8)) e (request-slot r q (found-passes (is_request r) v.slots q e))
+    found-own (is_request r) (in_slot_of r) v.slots q (s.apart (r % 8)) e (request-slot r q (find-passes (is_request r) v.slots q e))
 
 -- two numbers of one slot
 pub same-slot : (i j : ℕ) → i % 8 ≡ j % 8 → (qs : List Served) → find (in_slot_of i) qs ≡ find (in_slot_of j) qs
@@ -58,7 +59,7 @@ over-by r n false e h = refl
 
 pub none-left : (r : ℕ) (v : Server) (q : Served) → SoundServer v → find (is_request r) v.slots ≡ Some q → left_in is_due r v.slots ≤ 0 → packet_count q.size ≤ q.taken
 none-left r v q s e none =
-    let own = found-passes (is_request r) v.slots q e in
+    let own = find-passes (is_request r) v.slots q e in
     let found = own-slot r v q s e in
     let nothing : left_of is_due r (Some q) ≤ 0 = rw found at none in
     found-holds (is_request r) RunWhole v.slots q s.whole e (over-by r q.number (is_due q) (eqb-true q.number r own) nothing)
@@ -145,7 +146,7 @@ module _ (f : Served → Served) (numbers : (q : Served) → (f q).number ≡ q.
 
   pub own-left : (r : ℕ) (v : Server) (q : Served) → SoundServer v → find (is_request r) v.slots ≡ Some q → is_due q ≡ true → 1 + left_in is_due r (at_first (is_request r) f v.slots) ≤ left_in is_due r v.slots
   own-left r v q s e due =
-      let own = found-passes (is_request r) v.slots q e in
+      let own = find-passes (is_request r) v.slots q e in
       let same : q.number ≡ r = eqb-true q.number r own in
       let slot = request-slot r q own in
       let before = own-slot r v q s e in

@@ -12,7 +12,6 @@ pub mod EndedLaws
 pub mod EndedSessionLaws
 pub mod EndsLemmas
 pub mod FilterLemmas
-pub mod FindLemmas
 pub mod FlushLemmas
 pub mod HistoryRows
 pub mod IdleLemmas
@@ -56,7 +55,6 @@ pub mod SpendLemmas
 pub mod StandLemmas
 pub mod StateLemmas
 pub mod TableLaws
-pub mod TableLemmas
 pub mod TakenLemmas
 pub mod TellEventLemmas
 pub mod TellLemmas

@@ -24,11 +24,12 @@ use Rattle.node_laws.specs.QueuedPackets.{is_ask_of}
 use Rattle.node_laws.specs.Valid.{Idle, Valid}
 use Rattle.node_laws.specs.Windows.{Inside, Stands, InWindow, Windows, LiveAt, OfLive, LiveQueued}
 use Rattle.node_laws.proofs.Allowed.{Allowed, NoneQueued, NoneOf, IsIn, MayPost}
-use Rattle.node_laws.proofs.FindLemmas.{changed-holds, push-kept, all-unpassed}
+use Rattle.rpc_base.proofs.FindLemmas.{changed-holds, push-kept, all-unpassed}
 use Rattle.node_laws.proofs.PutLemmas.{put-all, ready-all}
 use Rattle.node_laws.proofs.StateLemmas.{connected-live}
-use Rattle.node_laws.proofs.TableLemmas.{all-each, all-left, found-holds, found-passes, found-changed}
+use Rattle.rpc_base.proofs.FirstLemmas.{all-each, all-left, found-holds, found-changed}
 use Rattle.node_laws.proofs.ToldSame.{told-same}
+use Rattle.rpc_base.proofs.TakingLemmas.{find-passes}
 
 -- a session changes
 module _ (p : Client → Bool) (f : Client → Client) (same : (x : Client) → (f x).way.number ≡ x.way.number) (xs : List Client) where
@@ -78,7 +79,7 @@ module _ (xs : List Client) (n : ℕ) (x : Client) (found : find (is_client n) x
   active-none : (r k : ℕ) (qs : List Queued) → AllByRecursion (λ c. NoneOf n c.progress qs) x.calls → (o : Option Call) → find (is_active r) x.calls ≡ o → Inside k o → NoneQueued (Ask n r) qs
   active-none r k qs clean None e m = absurd m
   active-none r k qs clean (Some c) e m =
-      own-none r k qs c c.progress refl (found-passes (is_active r) x.calls c e) (found-holds (is_active r) (λ d. NoneOf n d.progress qs) x.calls c clean e)
+      own-none r k qs c c.progress refl (find-passes (is_active r) x.calls c e) (found-holds (is_active r) (λ d. NoneOf n d.progress qs) x.calls c clean e)
 
   ask-none : (q : Queued) (qs : List Queued) (o : Owner) → q.owner ≡ o → is_ask_of n o ≡ true → InWindow xs o q.number → AllByRecursion (λ c. NoneOf n c.progress (q ∷ qs)) x.calls → ⊥
   ask-none q qs (Reply t r) e own within clean = cc
@@ -105,7 +106,7 @@ module _ (xs : List Client) (n : ℕ) (x : Client) (found : find (is_client n) x
   -- so that it may be over
   off-by : (f : Client → Client) (o : Owner) → is_ask_of n o ≡ false → (s r : ℕ) → o ≡ Ask s r → (y : Client) → find (is_client n) xs ≡ Some y → is_client s y ≡ true → is_live (f y).state ≡ true
   off-by f o off s r is y e t =
-      let number : y.way.number ≡ n = eqb-true y.way.number n (found-passes (is_client n) xs y e) in
+      let number : y.way.number ≡ n = eqb-true y.way.number n (find-passes (is_client n) xs y e) in
       let own : y.way.number ≡ s = eqb-true y.way.number s t in
       let yes : is_ask_of n (Ask s r) ≡ true = eq-eqb s n (sym own ∙ number) in
       let no : is_ask_of n (Ask s r) ≡ false = rw is at off in
@@ -127,7 +128,7 @@ idle-over s v n state on off a f same w live =
 posted-live : (s : Lists) (n r k : ℕ) (a : MayPost s n r k) → OfLive (at_first (is_client n) (posts r k) s.clients) (Ask n r)
 posted-live s n r k a =
     let found = a.active.place.client in
-    let next : find (is_client n) (at_first (is_client n) (posts r k) s.clients) ≡ Some (posts r k a.client) = found-changed (is_client n) (posts r k) (is_client n) a.client s.clients (found-passes (is_client n) s.clients a.client found) found found in
+    let next : find (is_client n) (at_first (is_client n) (posts r k) s.clients) ≡ Some (posts r k a.client) = found-changed (is_client n) (posts r k) (is_client n) a.client s.clients (find-passes (is_client n) s.clients a.client found) found found in
     rw next (connected-live a.client.state a.connected)
 
 pub live-after : (clock : ℕ) (e : Event) (due : Option ℕ) (bytes : List ℕ) (s : Lists) → Valid s → Windows s.clients s.queued → LiveQueued s.clients s.queued → Allowed s e → LiveQueued (clients_after clock e bytes (front_header s.ring) (front_body s.ring) s.clients) (queued_after e due s.queued)

@@ -11,14 +11,15 @@ use Rattle.rpc_laws.specs.declared.tables.Served.{Served}
 use Rattle.rpc_laws.specs.declared.tables.Server.{Server}
 use Rattle.rpc_laws.specs.Requests.{is_server, is_request, in_slot_of, first_packet, next_packet}
 use Rattle.node_laws.proofs.Allowed.{Newer, MayServe, Stands}
-use Rattle.node_laws.proofs.FindLemmas.{missing-none}
+use Rattle.rpc_base.proofs.FindLemmas.{missing-none}
 use Rattle.node_laws.proofs.LeftLemmas.{own-slot, same-slot}
 use Rattle.node_laws.proofs.LookLemmas.{request_on, taken, look-next, look-first}
 use Rattle.node_laws.proofs.ServedLemmas.{served-after}
 use Rattle.node_laws.proofs.ServerLemmas.{few-requests}
-use Rattle.node_laws.proofs.TableLemmas.{found-holds, found-own, found-passes}
+use Rattle.rpc_base.proofs.FirstLemmas.{found-holds, found-own}
 use Rattle.node_laws.proofs.Places.{request_of}
 use Rattle.node_laws.specs.Valid.{SoundServer, left_of, left_on, left, to_come, Valid}
+use Rattle.rpc_base.proofs.TakingLemmas.{find-passes}
 
 -- where request r stands, what is left of a request of its slot goes by r
 module _ (test : Served → Bool) (t r old : ℕ) (slot : old % 8 ≡ r % 8) (used : ℕ) (servers : List Server) (sound : AllByRecursion SoundServer servers) where
@@ -26,7 +27,7 @@ module _ (test : Served → Bool) (t r old : ℕ) (slot : old % 8 ≡ r % 8) (us
   slot-by None e q found = cc
   slot-by (Some v) e q found =
       let own = own-slot r v q (found-holds (is_server t) SoundServer servers v sound e) found in
-      (rw e (ap (λ o. left_of test old o) (same-slot old r slot v.slots ∙ own)), eqb-true q.number r (found-passes (is_request r) v.slots q found))
+      (rw e (ap (λ o. left_of test old o) (same-slot old r slot v.slots ∙ own)), eqb-true q.number r (find-passes (is_request r) v.slots q found))
 
   pub stands-slot : (q : Served) → request_of t r servers ≡ Some q → (left test t old used servers ≡ left_of test old (Some q)) × (q.number ≡ r)
   stands-slot q found = slot-by (find (is_server t) servers) refl q found
@@ -110,7 +111,7 @@ module _ (t r used : ℕ) (servers : List Server) (sound : AllByRecursion SoundS
       record {
         newest = l;
         found = rw e own;
-        slot = eqb-true (n % 8) (r % 8) (found-passes (in_slot_of r) v.slots l found);
+        slot = eqb-true (n % 8) (r % 8) (find-passes (in_slot_of r) v.slots l found);
         least = began-least r n h;
       }
 

@@ -11,7 +11,7 @@ use Rattle.rpc_laws.specs.declared.tables.Client.{Client}
 use Rattle.rpc_laws.specs.declared.tables.Lists.{Lists}
 use Rattle.rpc_laws.specs.Calls.{is_call}
 use Rattle.rpc_laws.specs.Sessions.{is_client, has_call}
-use Rattle.node_laws.proofs.TableLemmas.{found-own, found-le, any-counted, some-counted, found-any}
+use Rattle.rpc_base.proofs.FirstLemmas.{found-own, found-le, any-counted, some-counted, found-any}
 use Rattle.node_laws.proofs.Places.{Place}
 use Rattle.node_laws.specs.Valid.{NumberedFrom, holders, Valid}
 

@@ -18,7 +18,7 @@ use Rattle.node_laws.specs.EndedCalls.{queued_by}
 use Rattle.node_laws.specs.Laws.{OlderRequestsAreNotQueued}
 use Rattle.node_laws.specs.OlderRequests.{takes_request, posts_reply, IsOlder, GivesUp, BeginsClean}
 use Rattle.node_laws.proofs.Allowed.{Allowed, NoneQueued, MayServe, Stands, Leads}
-use Rattle.node_laws.proofs.FindLemmas.{missing-none}
+use Rattle.rpc_base.proofs.FindLemmas.{missing-none}
 use Rattle.node_laws.proofs.LeftLemmas.{falls-always, own-slot, same-slot}
 use Rattle.node_laws.proofs.NewestLemmas.{stands-slot, own-left, older-over}
 use Rattle.node_laws.proofs.PutLemmas.{Alike, alike-no-more, alike-after}
@@ -26,10 +26,11 @@ use Rattle.node_laws.proofs.QueueLemmas.{none-stays}
 use Rattle.node_laws.proofs.RunLaws.{run_leads}
 use Rattle.node_laws.proofs.ServantLemmas.{left-after}
 use Rattle.node_laws.proofs.StandLemmas.{Standing, standing-after, own-found, own-numbered, older-clean}
-use Rattle.node_laws.proofs.TableLemmas.{found-holds, found-passes}
+use Rattle.rpc_base.proofs.FirstLemmas.{found-holds}
 use Rattle.node_laws.proofs.Places.{request_of}
 use Rattle.node_laws.specs.Valid.{SoundServer, left_of, left, Valid}
 use Rattle.node_laws.proofs.ValidLemmas.{valid_after, valid_new}
+use Rattle.rpc_base.proofs.TakingLemmas.{find-passes}
 
 -- nothing of a request is posted where nothing of it may come
 module _ (t r : ℕ) where
@@ -66,7 +67,7 @@ module _ (s : Lists) (valid : Valid s) (standing : Standing s.servers s.queued) 
   not-both : (q : Served) → request_of t old s.servers ≡ Some q → find (is_request r) a.server.slots ≡ Some q → ⊥
   not-both q e found =
       let one = own-numbered s valid standing t r a [] old q e in
-      let two : q.number ≡ r = eqb-true q.number r (found-passes (is_request r) a.server.slots q found) in
+      let two : q.number ≡ r = eqb-true q.number r (find-passes (is_request r) a.server.slots q found) in
       let below = older.below in
       absurd (omega arith)
 

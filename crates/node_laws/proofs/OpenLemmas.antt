@@ -22,10 +22,10 @@ use Rattle.rpc_laws.specs.Calls.{is_call, has_request, is_active, moved, begun, 
 use Rattle.rpc_laws.specs.Front.{control_of}
 use Rattle.rpc_laws.specs.Sessions.{is_client, has_call, client_end, opened_end, comes_to, connects, requests, clients_told, no_turns, turned, asks, begins, posts, sends, takes, rolls, breaks, ends, clients_after}
 use Rattle.node_laws.proofs.Allowed.{Allowed, MayBegin}
-use Rattle.node_laws.proofs.FindLemmas.{changed-le}
+use Rattle.rpc_base.proofs.FindLemmas.{changed-le}
 use Rattle.node_laws.proofs.NumberLemmas.{by_number}
 use Rattle.node_laws.proofs.SoundLemmas.{sent-request, took-request}
-use Rattle.node_laws.proofs.TableLemmas.{found-holds, all-push, all-kept, sum-changed, sum-grown, sum-fewer}
+use Rattle.rpc_base.proofs.FirstLemmas.{found-holds, all-push, all-kept, sum-changed, sum-grown, sum-fewer}
 use Rattle.node_laws.proofs.ToldSame.{told-same}
 use Rattle.node_laws.specs.Valid.{EightTurns, Valid}
 use Rattle.node_laws.proofs.WindowLemmas.{same-request, same-found}

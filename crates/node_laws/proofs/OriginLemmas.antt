@@ -22,7 +22,7 @@ use Rattle.node_laws.proofs.Allowed.{Allowed, MayBegin}
 use Rattle.node_laws.proofs.NumberLemmas.{by_number}
 use Rattle.node_laws.proofs.SoundLemmas.{sent-request, took-request}
 use Rattle.node_laws.proofs.SpendLemmas.{remaining, remaining-kept, calls-kept, remaining-asked, remaining-made, remaining-opened, remaining-told, remaining-spent, ends-fewer}
-use Rattle.node_laws.proofs.TableLemmas.{found-le, sum-changed}
+use Rattle.rpc_base.proofs.FirstLemmas.{found-le, sum-changed}
 use Rattle.node_laws.proofs.Places.{Place}
 use Rattle.node_laws.specs.Valid.{holders, to_come, Valid}
 use Rattle.node_laws.proofs.WindowLemmas.{same-request}

@@ -19,9 +19,10 @@ use Rattle.node_laws.proofs.Allowed.{Allowed, MayBegin, MayPost}
 use Rattle.node_laws.proofs.LeadsLemmas.{Lawful, lawful-then, lawful-notes, lawful-visits}
 use Rattle.node_laws.proofs.NumberLemmas.{numbered-found}
 use Rattle.node_laws.proofs.SpanLemmas.{span}
-use Rattle.node_laws.proofs.TableLemmas.{found-passes}
 use Rattle.node_laws.proofs.Places.{Place}
 use Rattle.node_laws.specs.Valid.{client_no, Valid}
+use Rattle.rpc_base.proofs.BasicLemmas.{found-below}
+use Rattle.rpc_base.proofs.TakingLemmas.{find-passes}
 
 -- the number at a place of numbers that follow one another
 module _ (p : ℕ → Bool) where
@@ -35,14 +36,10 @@ module _ (p : ℕ → Bool) where
   number-at n zero k e h = absurd (omega arith)
   number-at n (suc m) k e h = number-cons n m k (p n) refl e h (λ j. number-at (suc n) m j)
 
-split-some : (n m i : ℕ) (b : Bool) → ltb n m ≡ b → cond b (Some n) None ≡ Some i → (i ≡ n) × (i < m)
-split-some n m i true t e = let same : i ≡ n = cc in (same, rw same (ltb-true n m t))
-split-some n m i false t e = cc
-
 free-slot : (calls : List Call) (slot : ℕ) → lowest_free calls ≡ Some slot → (slot < 8) × (is_taken calls slot ≡ false)
 free-slot calls slot e =
     let test = λ (n : ℕ). not (is_taken calls n) in
-    let found = split-some (position_or_len test (span 0 8)) 8 slot _ refl e in
+    let found = found-below (position_or_len test (span 0 8)) 8 slot _ refl e in
     let passes : not (is_taken calls (0 + slot)) ≡ true = number-at test 0 8 slot found.0 found.1 in
     let same : 0 + slot ≡ slot = omega arith in
     let own : not (is_taken calls slot) ≡ true = subst (λ (n : ℕ). not (is_taken calls n) ≡ true) same passes in
@@ -68,7 +65,7 @@ module _ (s : Lists) (e : Event) where
         slot = slot;
         place = place;
         same = refl;
-        waits = waits-none c.progress (found-passes is_waiting x.calls c call);
+        waits = waits-none c.progress (find-passes is_waiting x.calls c call);
         below = parts.0;
         is_free = parts.1;
         next = refl;
@@ -105,7 +102,7 @@ module _ (s : Lists) (e : Event) where
   posts-next : (x : Client) → find (is_client x.way.number) s.clients ≡ Some x → is_connected x.state ≡ true → 0 < x.free → (o : Option Call) → find can_post x.calls ≡ o → option_and_then (λ c. next_packet x.way.number c.progress) o ≡ Some e → Allowed s e
   posts-next x found on credit None call h = cc
   posts-next x found on credit (Some c) call h =
-      posts-call x c found call on credit c.progress refl (found-passes can_post x.calls c call) h
+      posts-call x c found call on credit c.progress refl (find-passes can_post x.calls c call) h
 
   posts-free : (x : Client) → find (is_client x.way.number) s.clients ≡ Some x → is_connected x.state ≡ true → (b : Bool) → (x.free == 0) ≡ b → cond b None (option_and_then (λ c. next_packet x.way.number c.progress) (find can_post x.calls)) ≡ Some e → Allowed s e
   posts-free x found on true t h = cc

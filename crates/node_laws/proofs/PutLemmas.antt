@@ -14,7 +14,7 @@ use Rattle.rpc_laws.specs.declared.tables.Queued.{Queued}
 use Rattle.rpc_laws.specs.Queues.{is_queued, stands_before, put_queued, is_due, made_ready, queued_after}
 use Rattle.node_laws.proofs.Allowed.{NoneQueued}
 use Rattle.node_laws.proofs.QueueLemmas.{NoMore}
-use Rattle.node_laws.proofs.TableLemmas.{any-counted, none-counted}
+use Rattle.rpc_base.proofs.FirstLemmas.{any-counted, none-counted}
 
 -- owners that the test takes for one are one
 pub owner-is : (a b : Owner) → same_owner a b ≡ true → a ≡ b

@@ -22,7 +22,7 @@ use Rattle.node_laws.specs.Valid.{unanswered_of, unanswered_on, Sound, Valid}
 use Rattle.node_laws.specs.Windows.{InWindow, Inside, InsideOf, Stands, Windows}
 use Rattle.node_laws.proofs.PutLemmas.{owner-is}
 use Rattle.node_laws.proofs.SoundLemmas.{active-holds}
-use Rattle.node_laws.proofs.TableLemmas.{counted-cons, some-counted, count-fewer, found-holds}
+use Rattle.rpc_base.proofs.FirstLemmas.{counted-cons, some-counted, count-fewer, found-holds}
 
 -- a number below m + 1 is m, or below m
 not-below : (k m : ℕ) → k < m + 1 → eqb k m ≡ false → ltb k m ≡ false → ⊥

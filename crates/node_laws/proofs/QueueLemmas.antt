@@ -11,7 +11,7 @@ use Rattle.rpc_base.specs.declared.owner.Owner.{Owner}
 use Rattle.rpc_laws.specs.declared.tables.Queued.{Queued}
 use Rattle.rpc_laws.specs.Queues.{is_queued, put, numbers_of}
 use Rattle.node_laws.proofs.Allowed.{NoneQueued}
-use Rattle.node_laws.proofs.TableLemmas.{sum-fewer, counted-cons}
+use Rattle.rpc_base.proofs.FirstLemmas.{sum-fewer, counted-cons}
 
 -- the queue without these numbers of an owner
 abbrev pub taken_out : Owner → List ℕ → List Queued → List Queued

@@ -15,9 +15,9 @@ use Rattle.rpc_laws.specs.Front.{control_of, front_header, front_body}
 use Rattle.rpc_laws.specs.Queues.{is_queued, put_queued, queued_after}
 use Rattle.rpc_laws.specs.Sessions.{is_client, has_call, comes_to, connects, breaks, ends, clients_after}
 use Rattle.node_laws.proofs.Allowed.{Allowed, NoneQueued, MayPost, MayEnd, MayLose}
-use Rattle.node_laws.proofs.FindLemmas.{all-unpassed}
+use Rattle.rpc_base.proofs.FindLemmas.{all-unpassed}
 use Rattle.node_laws.proofs.PutLemmas.{put-all, ready-all}
-use Rattle.node_laws.proofs.TableLemmas.{all-each, all-left}
+use Rattle.rpc_base.proofs.FirstLemmas.{all-each, all-left}
 use Rattle.node_laws.specs.Valid.{Valid}
 use Rattle.node_laws.proofs.WindowEndLemmas.{window-rolled, window-begun, window-ended, whole-unqueued}
 use Rattle.node_laws.proofs.WindowLemmas.{window-made, window-opened, window-kept, window-told, window-sent, window-asked, window-posted, window-new, window-took}

@@ -19,7 +19,7 @@ use Rattle.node_laws.proofs.Allowed.{Allowed, MayPost}
 use Rattle.node_laws.proofs.PutLemmas.{owner-is, put-sum, ready-sum}
 use Rattle.node_laws.proofs.QueueLemmas.{queued_times}
 use Rattle.node_laws.proofs.SoundLemmas.{by_request}
-use Rattle.node_laws.proofs.TableLemmas.{counted-cons, found-holds, sum-fewer}
+use Rattle.rpc_base.proofs.FirstLemmas.{counted-cons, found-holds, sum-fewer}
 use Rattle.node_laws.proofs.WindowLemmas.{inside-some}
 
 -- what is posted next isn't queued

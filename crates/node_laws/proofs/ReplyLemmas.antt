@@ -29,9 +29,10 @@ use Rattle.rpc_laws.specs.Queues.{is_queued}
 use Rattle.rpc_laws.specs.Sessions.{is_client, is_connected, takes}
 use Rattle.node_laws.proofs.Allowed.{MayTake, MayEnd, AllAllowed}
 use Rattle.node_laws.proofs.SoundLemmas.{order-found, order-taken, turn-of, reply-got, reply-posted, reply-answer, took-request}
-use Rattle.node_laws.proofs.TableLemmas.{found-holds, found-passes, found-changed}
+use Rattle.rpc_base.proofs.FirstLemmas.{found-holds, found-changed}
 use Rattle.node_laws.proofs.Places.{Active}
 use Rattle.node_laws.specs.Valid.{InOrder, Sound, Valid}
+use Rattle.rpc_base.proofs.TakingLemmas.{find-passes}
 
 -- a row that isn't the first one that holds
 passed : (why : DropReason) (b : Bool) (r : ClientRow) → cond b (Drops why) r ≡ Takes → (b ≡ false) × (r ≡ Takes)
@@ -149,7 +150,7 @@ module _ (clock : ℕ) (s : Lists) (v : Valid s) (h : MessageHeader) (front : fr
     progress = a.progress;
     active = active;
     connected = a.connected;
-    same = own-request a.call.progress a.progress a.active (found-passes (is_active h.request) a.client.calls a.call a.is_call);
+    same = own-request a.call.progress a.progress a.active (find-passes (is_active h.request) a.client.calls a.call a.is_call);
     header = h;
     front = front;
     numbered = refl;
@@ -176,9 +177,9 @@ module _ (clock : ℕ) (s : Lists) (v : Valid s) (h : MessageHeader) (front : fr
 
   next-active : Active next.clients h.session (takes clock h.request (Some h) (front_body s.ring) a.client) (moves a.call) (took_reply clock (Some h) (front_body s.ring) a.progress)
   next-active =
-      let passes = found-passes (is_client h.session) s.clients a.client a.is_client in
+      let passes = find-passes (is_client h.session) s.clients a.client a.is_client in
       let client : find (is_client h.session) (at_first (is_client h.session) (takes clock h.request (Some h) (front_body s.ring)) s.clients) ≡ Some (takes clock h.request (Some h) (front_body s.ring) a.client) = found-changed (is_client h.session) (takes clock h.request (Some h) (front_body s.ring)) (is_client h.session) a.client s.clients passes a.is_client a.is_client in
-      let own = found-passes (is_active h.request) a.client.calls a.call a.is_call in
+      let own = find-passes (is_active h.request) a.client.calls a.call a.is_call in
       let call = found-changed (is_active h.request) moves (is_active h.request) a.call a.client.calls (still-active a.call.progress own) a.is_call a.is_call in
       record {
         place = record { test = is_active h.request; client = rw front client; call = call };

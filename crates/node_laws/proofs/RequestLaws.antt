@@ -22,10 +22,11 @@ use Rattle.node_laws.proofs.LookLemmas.{request_on, look-own, look-other, look-m
 use Rattle.node_laws.proofs.NewestLemmas.{stands-started, older-over, taken-started, fresh-left, left-less}
 use Rattle.node_laws.proofs.RequestLemmas.{concerns, Told, told-stays, next-told, first-told, given-told, ran-told}
 use Rattle.node_laws.proofs.ServantLemmas.{Left, ended-by, left-after}
-use Rattle.node_laws.proofs.TableLemmas.{found-passes, some-counted}
+use Rattle.rpc_base.proofs.FirstLemmas.{some-counted}
 use Rattle.node_laws.proofs.TellEventLemmas.{noted}
 use Rattle.node_laws.proofs.Places.{request_of}
 use Rattle.node_laws.specs.Valid.{is_due, left, Valid}
+use Rattle.rpc_base.proofs.TakingLemmas.{find-passes}
 
 -- an event that concerns a request leaves nothing of its beginning
 module _ (s : Lists) (valid : Valid s) (t r : ℕ) where
@@ -38,7 +39,7 @@ module _ (s : Lists) (valid : Valid s) (t r : ℕ) where
   finish-started : MayFinish s t r → left (λ q. false) t r s.server_numbers s.servers ≤ 0
   finish-started a =
       let few = valid.runs t r in
-      let some = some-counted (is_job t r) (is_job t r) s.jobs.out a.job a.found (found-passes (is_job t r) s.jobs.out a.job a.found) in
+      let some = some-counted (is_job t r) (is_job t r) s.jobs.out a.job a.found (find-passes (is_job t r) s.jobs.out a.job a.found) in
       let less = left-less is_due t r s.server_numbers s.servers in
       omega arith
 

@@ -14,7 +14,7 @@ use Rattle.rpc_laws.specs.Front.{front_header, front_body}
 use Rattle.rpc_laws.specs.Requests.{first_packet, next_packet, given, answered}
 use Rattle.node_laws.specs.OlderRequests.{takes_request}
 use Rattle.node_laws.specs.RequestHistory.{gives_request, answer_by, ring_by, first_by, ask_by}
-use Rattle.node_laws.proofs.TableLemmas.{none-counted}
+use Rattle.rpc_base.proofs.FirstLemmas.{none-counted}
 use Rattle.node_laws.proofs.TellLemmas.{count-new}
 use Rattle.node_laws.specs.Valid.{is_due}
 

@@ -23,7 +23,7 @@ use Rattle.node_laws.specs.OlderRequests.{takes_request}
 use Rattle.node_laws.specs.RequestHistory.{takes_newer, ring_by, TellsRequest, is_listed, TellsRequests}
 use Rattle.node_laws.proofs.Allowed.{Allowed, Leads}
 use Rattle.node_laws.proofs.EndsLemmas.{standing, ends-after}
-use Rattle.node_laws.proofs.FindLemmas.{at-found, missing-none}
+use Rattle.rpc_base.proofs.FindLemmas.{at-found, missing-none}
 use Rattle.node_laws.proofs.LeftLemmas.{falls-always}
 use Rattle.node_laws.proofs.LookLemmas.{request_on}
 use Rattle.node_laws.proofs.NewestLemmas.{stands-slot, own-left, Newest, IsOver, newest-of}
@@ -32,11 +32,12 @@ use Rattle.node_laws.proofs.RequestLemmas.{concerns, takes-concerns, ToldRequest
 use Rattle.node_laws.proofs.RunLaws.{run_leads}
 use Rattle.node_laws.proofs.ServantLemmas.{left-after}
 use Rattle.node_laws.proofs.ServerLemmas.{few-requests}
-use Rattle.node_laws.proofs.TableLemmas.{any-counted, none-counted, found-any, found-holds, found-passes, some-counted}
+use Rattle.rpc_base.proofs.FirstLemmas.{any-counted, none-counted, found-any, found-holds, some-counted}
 use Rattle.node_laws.proofs.TellLemmas.{count-new}
 use Rattle.node_laws.proofs.Places.{request_of}
 use Rattle.node_laws.specs.Valid.{SoundServer, left_of, left, to_come, Valid}
 use Rattle.node_laws.proofs.ValidLemmas.{valid_after, valid_new}
+use Rattle.rpc_base.proofs.TakingLemmas.{find-passes}
 
 -- what is told at a moment
 record Tells (past : List Fact) (s : Lists) : Type 0 where
@@ -150,7 +151,7 @@ module _ (past : List Fact) (s : Lists) (k : Tells past s) where
       by : (o : Option Server) → find (is_server t) s.servers ≡ o → request_on r o ≡ Some q → list_any (λ f. ends_session t f.event) past ≡ false
       by None found e = cc
       by (Some v) found e =
-          let some = some-counted (is_server t) (is_server t) s.servers v found (found-passes (is_server t) s.servers v found) in
+          let some = some-counted (is_server t) (is_server t) s.servers v found (find-passes (is_server t) s.servers v found) in
           let all = k.ended t in
           none-any (list_any (λ f. ends_session t f.event) past) (count_by (λ f. ends_session t f.event) past) (any-counted (λ f. ends_session t f.event) past) (omega arith)
 

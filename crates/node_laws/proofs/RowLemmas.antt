@@ -1,6 +1,6 @@
 -- What the rows of the server rule tell: which packet begins a request, and which goes on with it.
-use Rattle.std.proofs.Common.{◌≡◌, ◌+◌, ◌≤◌, Bool, true, false, not, ◌&&◌, ◌||◌, cond, ltb, Option, Some, None, refl, arith}
-use Rattle.std.specs.Prelude.{◌==◌}
+use Rattle.std.proofs.Common.{◌≡◌, ◌+◌, ◌≤◌, Bool, true, false, not, ◌&&◌, ◌||◌, cond, ltb, length, Option, Some, None, refl, arith}
+use Rattle.std.specs.Prelude.{◌==◌, option_map}
 use Rattle.std.proofs.lemmas.Bool.{eqb-true, ltb-true, ltb-false, and_parts, or_parts, not-false, not-true}
 use Rattle.packet_header.specs.Parts.{packet_count}
 use Rattle.packet_header.specs.declared.packet.MessageHeader.{MessageHeader}
@@ -9,7 +9,7 @@ use Rattle.rpc_base.specs.declared.state.DropReason.TheVariants.{Old, NotFirst, 
 use Rattle.rpc_laws.specs.declared.rows.ServerRow.{ServerRow}
 use Rattle.rpc_laws.specs.declared.rows.ServerRow.TheVariants.{Drops, Begins, Takes, Repeats}
 use Rattle.rpc_laws.specs.declared.tables.Served.{Served}
-use Rattle.rpc_laws.specs.ServerTable.{is_rfr, is_last, makes_job, new_row, is_past_end, is_worked_on, own_row, slot_row}
+use Rattle.rpc_laws.specs.ServerTable.{is_rfr, is_last, makes_job, new_row, is_past_end, is_worked_on, newest_of, own_row, slot_row}
 use Rattle.rpc_outside.specs.declared.service.Mode.{Mode}
 use Rattle.rpc_laws.specs.Service.{is_handled}
 use Rattle.node_laws.proofs.Allowed.{Newer}
@@ -60,12 +60,12 @@ new-takes mode working full lacks h e =
     let five = not-takes lacks (Drops NoMemory) Begins (drops-takes NoMemory) four.1 in
     begins-takes five.1
 
-own-begins : (mode : Mode) (full lacks : Bool) (l : Served) (h : MessageHeader) → own_row mode full lacks l h ≡ Begins → ⊥
+own-begins : (mode : Mode) (full lacks : Bool) (l : Served) (h : MessageHeader) → own_row mode full lacks (newest_of l) h ≡ Begins → ⊥
 own-begins mode full lacks l h e =
     let one = not-begins _ (Drops Mismatch) _ (drops-begins Mismatch) e in
     let two = not-begins (ltb l.taken h.number) (Drops Ahead) _ (drops-begins Ahead) one.1 in
-    let three = not-begins (ltb h.number l.taken) _ _ (before-begins (is_worked_on l h)) two.1 in
-    let four = not-begins (is_rfr h.kind && is_past_end l.size l.answer h.number) (Drops Beyond) _ (drops-begins Beyond) three.1 in
+    let three = not-begins (ltb h.number l.taken) _ _ (before-begins (is_worked_on (newest_of l) h.number)) two.1 in
+    let four = not-begins (is_rfr h.kind && is_past_end l.size (option_map length l.answer) h.number) (Drops Beyond) _ (drops-begins Beyond) three.1 in
     let five = not-begins (makes_job mode h && full) (Drops JobsFull) _ (drops-begins JobsFull) four.1 in
     let six = not-begins (lacks && is_last h) (Drops NoMemory) Takes (drops-begins NoMemory) five.1 in
     takes-begins six.1
@@ -79,11 +79,11 @@ sized-by : (rfr low typed same : Bool) → cond rfr low (not (typed && same)) �
 sized-by true low typed same e f = cc
 sized-by false low typed same e f = (and_parts typed same (not-false (typed && same) e)).1
 
-own-next : (mode : Mode) (full lacks : Bool) (l : Served) (h : MessageHeader) → own_row mode full lacks l h ≡ Takes → Next l h
+own-next : (mode : Mode) (full lacks : Bool) (l : Served) (h : MessageHeader) → own_row mode full lacks (newest_of l) h ≡ Takes → Next l h
 own-next mode full lacks l h e =
     let one = not-takes _ (Drops Mismatch) _ (drops-takes Mismatch) e in
     let two = not-takes (ltb l.taken h.number) (Drops Ahead) _ (drops-takes Ahead) one.1 in
-    let three = not-takes (ltb h.number l.taken) _ _ (before-takes (is_worked_on l h)) two.1 in
+    let three = not-takes (ltb h.number l.taken) _ _ (before-takes (is_worked_on (newest_of l) h.number)) two.1 in
     let low = ltb-false l.taken h.number two.0 in
     let high = ltb-false h.number l.taken three.0 in
     record {
@@ -102,7 +102,7 @@ starts-slot mode full lacks (Some l) h e =
     let one = not-begins (ltb h.request l.number) (Drops Old) _ (drops-begins Old) e in
     by (ltb l.number h.request) refl one.1
   where
-    by : (b : Bool) → ltb l.number h.request ≡ b → cond b (new_row mode l.working full lacks h) (own_row mode full lacks l h) ≡ Begins → Starts (Some l) h
+    by : (b : Bool) → ltb l.number h.request ≡ b → cond b (new_row mode l.working full lacks h) (own_row mode full lacks (newest_of l) h) ≡ Begins → Starts (Some l) h
     by true t k = record { first = new-first mode l.working full lacks h k; newer = ltb-true l.number h.request t }
     by false t k = absurd (own-begins mode full lacks l h k)
 
@@ -120,7 +120,7 @@ continues-slot mode full lacks (Some l) h e =
     let low = ltb-false h.request l.number one.0 in
     by (ltb l.number h.request) refl low one.1
   where
-    by : (b : Bool) → ltb l.number h.request ≡ b → l.number ≤ h.request → cond b (new_row mode l.working full lacks h) (own_row mode full lacks l h) ≡ Takes → Continues (Some l) h
+    by : (b : Bool) → ltb l.number h.request ≡ b → l.number ≤ h.request → cond b (new_row mode l.working full lacks h) (own_row mode full lacks (newest_of l) h) ≡ Takes → Continues (Some l) h
     by true t low k = absurd (new-takes mode l.working full lacks h k)
     by false t low k =
         let high = ltb-false l.number h.request t in
@@ -158,7 +158,7 @@ repeats-slot mode full lacks (Some l) h e =
     let low = ltb-false h.request l.number one.0 in
     by (ltb l.number h.request) refl low one.1
   where
-    by : (b : Bool) → ltb l.number h.request ≡ b → l.number ≤ h.request → cond b (new_row mode l.working full lacks h) (own_row mode full lacks l h) ≡ Repeats → Repeated (Some l) h
+    by : (b : Bool) → ltb l.number h.request ≡ b → l.number ≤ h.request → cond b (new_row mode l.working full lacks h) (own_row mode full lacks (newest_of l) h) ≡ Repeats → Repeated (Some l) h
     by true t low k = absurd (new-repeats mode l.working full lacks h k)
     by false t low k =
         let high = ltb-false l.number h.request t in

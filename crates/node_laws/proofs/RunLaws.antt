@@ -38,7 +38,6 @@ use Rattle.rpc_laws.specs.Steps.{Then}
 use Rattle.node_laws.specs.NodeRun.{Notes, Group, pairs_client, pairs_server, refuses, connects, disconnects, sets_rate, asks, delivers, polls, works, misses, NodeRun}
 use Rattle.node_laws.proofs.Allowed.{Allowed, Stands, MayFinish, MayClose, AllowedBy, allowed-plain, AllAllowed, Leads, LeadsBy, leads-of}
 use Rattle.node_laws.proofs.ControlLemmas.{hears-all-lawful}
-use Rattle.node_laws.proofs.TableLemmas.{found-passes}
 use Rattle.node_laws.proofs.LeadsLemmas.{valid_leads, LeadsAt, leads-at, Lawful, lawful-goes, lawful-then, lawful-until, lawful-chain, groups-chain}
 use Rattle.node_laws.proofs.PostLemmas.{posts-lawful}
 use Rattle.node_laws.proofs.ReplyLemmas.{replies-allowed}
@@ -48,6 +47,7 @@ use Rattle.node_laws.proofs.TimerLemmas.{timers-lawful}
 use Rattle.node_laws.proofs.Places.{request_of}
 use Rattle.node_laws.specs.Valid.{Valid}
 use Rattle.node_laws.proofs.ValidLemmas.{valid_new}
+use Rattle.rpc_base.proofs.TakingLemmas.{find-passes}
 
 -- a packet is handled
 front-is : (ring : List Arrival) (d : Arrival) → slice_get ring 0 ≡ Some d → (front_header ring ≡ message_of d.bytes) × (front_body ring ≡ body_of d.bytes)
@@ -83,7 +83,7 @@ finish-allowed clock s job answer k false e may = (inr may, tt)
 
 own-finish : (s : Lists) (session request : ℕ) (job : Job) → find (is_job session request) s.jobs.out ≡ Some job → MayFinish s job.session job.request
 own-finish s session request job e =
-    let parts = and_parts (job.session == session) (job.request == request) (found-passes (is_job session request) s.jobs.out job e) in
+    let parts = and_parts (job.session == session) (job.request == request) (find-passes (is_job session request) s.jobs.out job e) in
     let one : job.session ≡ session = eqb-true job.session session parts.0 in
     let other : job.request ≡ request = eqb-true job.request request parts.1 in
     record { job = job; found = ap₂ (λ (a b : ℕ). find (is_job a b) s.jobs.out) one other ∙ e }

@@ -15,10 +15,11 @@ use Rattle.rpc_laws.specs.declared.tables.Served.{Served}
 use Rattle.rpc_laws.specs.declared.tables.Server.{Server}
 use Rattle.rpc_laws.specs.Requests.{is_server, is_request, server_end, took_packet, given, answered, servers_after, server_numbers_after}
 use Rattle.node_laws.proofs.Allowed.{Allowed, MayServe, MayGive}
-use Rattle.node_laws.proofs.FindLemmas.{changed-le, none-found}
+use Rattle.rpc_base.proofs.FindLemmas.{changed-le, none-found}
 use Rattle.node_laws.proofs.LeftLemmas.{Falls, falls-due, took-left, changed-left, own-left}
-use Rattle.node_laws.proofs.TableLemmas.{found-holds, found-passes, found-changed}
+use Rattle.rpc_base.proofs.FirstLemmas.{found-holds, found-changed}
 use Rattle.node_laws.specs.Valid.{is_due, SoundServer, left_in, left_on, left, to_come, to_give, Valid}
+use Rattle.rpc_base.proofs.TakingLemmas.{find-passes}
 
 module _ (test : Served → Bool) (falls : Falls test) where
   made-by : (r m k : ℕ) (b : Bool) (v : Server) (o p : Option Server) → left_on test r k p ≤ left_on test r m o → left_on test r k (cond b (Some v) p) ≤ left_on test r m (cond b (Some v) o)
@@ -95,7 +96,7 @@ module _ (t r : ℕ) (s : Lists) (valid : Valid s) (f : Served → Served) (numb
   worked-own : MayGive s t r → 1 + to_give t r s.server_numbers (at_first (is_server t) (λ v. record v { slots = at_first (is_request r) f v.slots }) s.servers) ≤ to_give t r s.server_numbers s.servers
   worked-own a =
       let sound = found-holds (is_server t) SoundServer s.servers a.server valid.served a.found in
-      let after : find (is_server t) (at_first (is_server t) (λ v. record v { slots = at_first (is_request r) f v.slots }) s.servers) ≡ Some (record a.server { slots = at_first (is_request r) f a.server.slots }) = found-changed (is_server t) (λ v. record v { slots = at_first (is_request r) f v.slots }) (is_server t) a.server s.servers (found-passes (is_server t) s.servers a.server a.found) a.found a.found in
+      let after : find (is_server t) (at_first (is_server t) (λ v. record v { slots = at_first (is_request r) f v.slots }) s.servers) ≡ Some (record a.server { slots = at_first (is_request r) f a.server.slots }) = found-changed (is_server t) (λ v. record v { slots = at_first (is_request r) f v.slots }) (is_server t) a.server s.servers (find-passes (is_server t) s.servers a.server a.found) a.found a.found in
       let less = own-left f numbers over r a.server a.served sound a.is_served a.due in
       rw (after, a.found) less
 

@@ -24,15 +24,16 @@ use Rattle.rpc_laws.specs.ServerTable.{slot_row, server_row, is_last, took_facts
 use Rattle.rpc_outside.specs.declared.service.Mode.{Mode}
 use Rattle.rpc_laws.specs.Service.{is_mode_background}
 use Rattle.node_laws.proofs.Allowed.{Newer, NoneOlder, MayServe, Stands, MayGive, AllAllowed}
-use Rattle.node_laws.proofs.FindLemmas.{push-found, none-found, missing-none}
+use Rattle.rpc_base.proofs.FindLemmas.{push-found, none-found, missing-none}
 use Rattle.node_laws.proofs.FlushLemmas.{Flushes, no-more-same, flushes-none, flushes-owner}
 use Rattle.node_laws.proofs.LeadsLemmas.{allowed-join}
 use Rattle.node_laws.proofs.LookLemmas.{look-own}
 use Rattle.node_laws.proofs.QueueLemmas.{flushed-none}
 use Rattle.node_laws.proofs.RowLemmas.{Starts, starts-slot, Continues, continues-slot, repeats-slot, last-parts, not-begins, not-takes, not-repeats, drops-begins, drops-takes, drops-repeats}
 use Rattle.node_laws.proofs.ServerLemmas.{few-requests, request-slot}
-use Rattle.node_laws.proofs.TableLemmas.{found-holds, found-own, found-passes, found-changed, found-any, none-counted, sum-fewer}
+use Rattle.rpc_base.proofs.FirstLemmas.{found-holds, found-own, found-changed, found-any, none-counted, sum-fewer}
 use Rattle.node_laws.specs.Valid.{is_due, RunWhole, SoundServer, Valid}
+use Rattle.rpc_base.proofs.TakingLemmas.{find-passes}
 
 -- a row that holds of a session that is there, with its peer
 pub record Known (mode : Mode) (full lacks : Bool) (o : Option Server) (h : MessageHeader) (row : ServerRow) : Type 0 where
@@ -81,13 +82,13 @@ module _ (clock : ℕ) (s : Lists) (v : Server) (sound : SoundServer v) (h : Mes
   -- the server session after the packet is taken
   next-server : find (is_server h.session) (at_first (is_server h.session) (λ w. record w { slots = took_packet h.request (front_header s.ring) (front_body s.ring) w.slots }) s.servers) ≡ Some (record v { slots = took_packet h.request (Some h) (front_body s.ring) v.slots })
   next-server =
-      rw front (found-changed (is_server h.session) (λ w. record w { slots = took_packet h.request (Some h) (front_body s.ring) w.slots }) (is_server h.session) v s.servers (found-passes (is_server h.session) s.servers v found) found found)
+      rw front (found-changed (is_server h.session) (λ w. record w { slots = took_packet h.request (Some h) (front_body s.ring) w.slots }) (is_server h.session) v s.servers (find-passes (is_server h.session) s.servers v found) found found)
 
   -- a newer number isn't in its slot
   missing-by : (o : Option Served) → find (is_request h.request) v.slots ≡ o → Newer h.request (find (in_slot_of h.request) v.slots) → o ≡ None
   missing-by None e newer = refl
   missing-by (Some q) e newer =
-      let own = found-passes (is_request h.request) v.slots q e in
+      let own = find-passes (is_request h.request) v.slots q e in
       let number : q.number ≡ h.request = eqb-true q.number h.request own in
       let slot : find (in_slot_of h.request) v.slots ≡ Some q = found-own (is_request h.request) (in_slot_of h.request) v.slots q (sound.apart (h.request % 8)) e (request-slot h.request q own) in
       let less : q.number < h.request = rw slot at newer in
@@ -160,7 +161,7 @@ module _ (clock : ℕ) (s : Lists) (v : Server) (sound : SoundServer v) (h : Mes
 
   next-found : (l : Served) (b : Bool) → b ≡ true → find (is_request h.request) v.slots ≡ Some l → find (is_request h.request) (cond b (at_first (is_request h.request) (next_packet (front_body s.ring)) v.slots) (without_first (in_slot_of h.request) v.slots ++ first_packet h.request h (front_body s.ring) ∷ [])) ≡ Some (next_packet (front_body s.ring) l)
   next-found l true t e =
-      found-changed (is_request h.request) (next_packet (front_body s.ring)) (is_request h.request) l v.slots (found-passes (is_request h.request) v.slots l e) e e
+      found-changed (is_request h.request) (next_packet (front_body s.ring)) (is_request h.request) l v.slots (find-passes (is_request h.request) v.slots l e) e e
   next-found l false t e = cc
 
   stands-next : (l : Served) → find (is_request h.request) v.slots ≡ Some l → Stands (at_first (is_server h.session) (λ w. record w { slots = took_packet h.request (front_header s.ring) (front_body s.ring) w.slots }) s.servers) h.session h.request
@@ -207,7 +208,7 @@ module _ (clock : ℕ) (s : Lists) (valid : Valid s) (h : MessageHeader) (front 
       let sound = found-holds (is_server h.session) SoundServer s.servers v valid.served known.is_server in
       let starts = starts-slot mode full lacks (find (in_slot_of h.request) v.slots) h known.slot in
       let older = flushes_older s.me s.queued (find (is_server h.session) s.servers) h.request in
-      let number : v.way.number ≡ h.session = eqb-true v.way.number h.session (found-passes (is_server h.session) s.servers v known.is_server) in
+      let number : v.way.number ≡ h.session = eqb-true v.way.number h.session (find-passes (is_server h.session) s.servers v known.is_server) in
       let flushes = older-flushed clock s s.me h.session h.request (find (is_server h.session) s.servers) v known.is_server number in
       let flushed = record s { queued = flushes.0.queue } in
       let took : AllAllowed clock flushed (took_facts mode s.me answer h (front_body s.ring)) = took-by clock flushed s.me answer h (front_body s.ring) (is_last h) (is_mode_background mode) (may-begin clock flushed v sound h front known.is_server starts.newer flushes.1) (may-give-first clock flushed v sound h front known.is_server s.me starts) (stands-first clock flushed v sound h front known.is_server starts.newer) in

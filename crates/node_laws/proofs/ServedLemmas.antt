@@ -18,8 +18,9 @@ use Rattle.rpc_laws.specs.Requests.{is_server, is_request, server_end, took_pack
 use Rattle.node_laws.proofs.Allowed.{Allowed, MayGive, MayFinish}
 use Rattle.node_laws.proofs.LeftLemmas.{none-left}
 use Rattle.node_laws.proofs.ServerLemmas.{sound-took, sound-changed}
-use Rattle.node_laws.proofs.TableLemmas.{found-holds, found-passes, some-counted, all-push, all-kept, all-first, all-left, sum-grown, sum-fewer}
+use Rattle.rpc_base.proofs.FirstLemmas.{found-holds, some-counted, all-push, all-kept, all-first, all-left, sum-grown, sum-fewer}
 use Rattle.node_laws.specs.Valid.{to_come, is_due, SoundServer, left_in, left_on, Valid}
+use Rattle.rpc_base.proofs.TakingLemmas.{find-passes}
 
 module _ (s : Lists) (valid : Valid s) (t r : ℕ) where
   -- a request that is run or given has all its packets
@@ -36,7 +37,7 @@ module _ (s : Lists) (valid : Valid s) (t r : ℕ) where
   finish-whole : MayFinish s t r → (v : Server) (q : Served) → find (is_server t) s.servers ≡ Some v → find (is_request r) v.slots ≡ Some q → packet_count q.size ≤ q.taken
   finish-whole a v q server served =
       let few = valid.runs t r in
-      let some = some-counted (is_job t r) (is_job t r) s.jobs.out a.job a.found (found-passes (is_job t r) s.jobs.out a.job a.found) in
+      let some = some-counted (is_job t r) (is_job t r) s.jobs.out a.job a.found (find-passes (is_job t r) s.jobs.out a.job a.found) in
       let none : left_in is_due r v.slots ≤ 0 = none-by (find (is_server t) s.servers) v server (omega arith) in
       none-left r v q (found-holds (is_server t) SoundServer s.servers v valid.served server) served none
     where

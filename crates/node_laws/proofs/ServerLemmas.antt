@@ -10,8 +10,8 @@ use Rattle.rpc_base.specs.Tables.{at_first, without_first}
 use Rattle.rpc_laws.specs.declared.tables.Served.{Served}
 use Rattle.rpc_laws.specs.declared.tables.Server.{Server}
 use Rattle.rpc_laws.specs.Requests.{is_request, in_slot_of, first_packet, next_packet, took_packet}
-use Rattle.node_laws.proofs.FindLemmas.{count-out}
-use Rattle.node_laws.proofs.TableLemmas.{count-fewer, all-push, all-kept, all-first, all-left, sum-grown, sum-fewer}
+use Rattle.rpc_base.proofs.FindLemmas.{count-out}
+use Rattle.rpc_base.proofs.FirstLemmas.{count-fewer, all-push, all-kept, all-first, all-left, sum-grown, sum-fewer}
 use Rattle.node_laws.specs.Valid.{RunWhole, SoundServer}
 
 -- the requests that stand in a slot

@@ -21,7 +21,7 @@ use Rattle.rpc_laws.specs.Requests.{is_server, is_request, server_end, took_pack
 use Rattle.rpc_laws.specs.Sessions.{is_client, is_live, has_call, client_end, opened_end, comes_to, connects, requests, clients_told, asks, begins, posts, sends, takes, rolls, breaks, ends, clients_after}
 use Rattle.node_laws.proofs.Allowed.{Allowed}
 use Rattle.node_laws.proofs.StateLemmas.{connected-live}
-use Rattle.node_laws.proofs.TableLemmas.{sum-changed, sum-grown, sum-fewer}
+use Rattle.rpc_base.proofs.FirstLemmas.{sum-changed, sum-grown, sum-fewer}
 use Rattle.node_laws.proofs.ToldSame.{told-same}
 
 -- the credits of a client session that a fact makes, and of a server session

@@ -17,7 +17,7 @@ use Rattle.rpc_laws.specs.Calls.{has_request, is_active, asked_packets, known_pa
 use Rattle.rpc_laws.specs.ClientTable.{is_cr, is_same_size, is_of_turn}
 use Rattle.rpc_laws.specs.Posting.{holds_slot}
 use Rattle.rpc_laws.specs.Sessions.{is_live}
-use Rattle.node_laws.proofs.TableLemmas.{found-holds, found-own, count-fewer, all-changed, sum-changed, sum-grown}
+use Rattle.rpc_base.proofs.FirstLemmas.{found-holds, found-own, count-fewer, all-changed, sum-changed, sum-grown}
 use Rattle.node_laws.specs.Valid.{unanswered_of, ToldAfter, InOrder, OrderOf, CallInOrder, Sound}
 
 -- an active call has the slot of its request

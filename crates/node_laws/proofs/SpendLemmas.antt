@@ -13,7 +13,7 @@ use Rattle.rpc_laws.specs.Calls.{is_call, moved, begun}
 use Rattle.rpc_laws.specs.Sessions.{is_client, client_end, opened_end, clients_told, requests, asks, ends}
 use Rattle.packet_header.specs.declared.packet.ControlHeader.{ControlHeader}
 use Rattle.node_laws.proofs.ToldSame.{told-same}
-use Rattle.node_laws.proofs.TableLemmas.{sum-changed, sum-grown, sum-left, sum-fewer}
+use Rattle.rpc_base.proofs.FirstLemmas.{sum-changed, sum-grown, sum-left, sum-fewer}
 use Rattle.node_laws.specs.Valid.{to_come}
 
 -- an event that takes nothing

@@ -16,15 +16,16 @@ use Rattle.rpc_laws.specs.Front.{front_header}
 use Rattle.rpc_laws.specs.Queues.{is_queued, put_queued, queued_after}
 use Rattle.rpc_laws.specs.Requests.{is_server, is_request, in_slot_of, given, answered, servers_after}
 use Rattle.node_laws.proofs.Allowed.{Allowed, NoneQueued, NoneOlder, MayServe, MayLeave, Stands}
-use Rattle.node_laws.proofs.FindLemmas.{missing-none, skip-found}
+use Rattle.rpc_base.proofs.FindLemmas.{missing-none, skip-found}
 use Rattle.node_laws.proofs.FlushLemmas.{no-more-same}
 use Rattle.node_laws.proofs.LeftLemmas.{own-slot, same-slot}
 use Rattle.node_laws.proofs.LookLemmas.{request_on, off-number, look-own, look-other, look-made, taken, Replaces, look-next, look-first, look-others}
 use Rattle.node_laws.proofs.PutLemmas.{none-put, none-ready}
 use Rattle.node_laws.proofs.QueueLemmas.{no-more-out, none-stays}
-use Rattle.node_laws.proofs.TableLemmas.{found-holds, found-passes}
+use Rattle.rpc_base.proofs.FirstLemmas.{found-holds}
 use Rattle.node_laws.proofs.Places.{request_of}
 use Rattle.node_laws.specs.Valid.{SoundServer, Valid}
+use Rattle.rpc_base.proofs.TakingLemmas.{find-passes}
 
 -- no reply to a request that doesn't stand is queued
 abbrev pub Standing : List Server → List Queued → Type 0
@@ -71,7 +72,7 @@ module _ (s : Lists) (valid : Valid s) (standing : Standing s.servers s.queued) 
   pub own-numbered : (r : ℕ) (q : Served) → request_of n r s.servers ≡ Some q → q.number ≡ r
   own-numbered r q e =
       let found : find (is_request r) a.server.slots ≡ Some q = sym (ap (λ o. request_on r o) a.found) ∙ e in
-      eqb-true q.number r (found-passes (is_request r) a.server.slots q found)
+      eqb-true q.number r (find-passes (is_request r) a.server.slots q found)
 
   -- the one whose slot it takes has no reply queued
   pub older-clean : (r : ℕ) (q : Served) → k % 8 ≡ r % 8 → list_any (is_request k) a.server.slots ≡ false → request_of n r s.servers ≡ Some q → NoneQueued (Reply n r) s.queued
@@ -120,7 +121,7 @@ module _ (s : Lists) (valid : Valid s) (standing : Standing s.servers s.queued) 
   slot-clean r q e =
       let slot : find (in_slot_of r) a.server.slots ≡ Some q = own-slot r a.server q (found-holds (is_server n) SoundServer s.servers a.server valid.served a.found) e in
       let clean : NoneOlder n (Some q) s.queued = rw slot at (a.clean r) in
-      let number : q.number ≡ r = eqb-true q.number r (found-passes (is_request r) a.server.slots q e) in
+      let number : q.number ≡ r = eqb-true q.number r (find-passes (is_request r) a.server.slots q e) in
       rw number at clean
 
   over-by : (r : ℕ) (o : Option Served) → request_of n r s.servers ≡ o → NoneQueued (Reply n r) s.queued

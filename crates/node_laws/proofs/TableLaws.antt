@@ -20,11 +20,11 @@ use Rattle.node_laws.proofs.Allowed.{Allowed, Leads}
 use Rattle.node_laws.proofs.BeginLemmas.{begin-spends}
 use Rattle.node_laws.proofs.CountLemmas.{holders-after, asks-after, none-held}
 use Rattle.node_laws.proofs.EndedLaws.{Knows, knows-after, knows-new}
-use Rattle.node_laws.proofs.FindLemmas.{at-found}
+use Rattle.rpc_base.proofs.FindLemmas.{at-found}
 use Rattle.node_laws.proofs.NumberLemmas.{numbered-at, numbered-found, one-holder}
 use Rattle.node_laws.proofs.RunLaws.{run_leads}
 use Rattle.node_laws.proofs.SpendLemmas.{to_begin}
-use Rattle.node_laws.proofs.TableLemmas.{found-le, any-counted, none-counted}
+use Rattle.rpc_base.proofs.FirstLemmas.{found-le, any-counted, none-counted}
 use Rattle.node_laws.proofs.TakenLemmas.{none-taken-after}
 use Rattle.node_laws.proofs.ToldLemmas.{NoneTaken, told-after}
 use Rattle.node_laws.proofs.TellLemmas.{count-new, ToldProgress, ToldCall, Told}

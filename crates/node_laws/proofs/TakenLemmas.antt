@@ -20,9 +20,9 @@ use Rattle.rpc_laws.specs.Sessions.{is_client, has_call, client_end, opened_end,
 use Rattle.node_laws.specs.CallHistory.{takes_of}
 use Rattle.node_laws.specs.Valid.{EightTurns}
 use Rattle.node_laws.proofs.Allowed.{Allowed, MayTake}
-use Rattle.node_laws.proofs.FindLemmas.{changed-le}
+use Rattle.rpc_base.proofs.FindLemmas.{changed-le}
 use Rattle.node_laws.proofs.OpenLemmas.{future-le, open_of, open_for}
-use Rattle.node_laws.proofs.TableLemmas.{found-holds, some-counted}
+use Rattle.rpc_base.proofs.FirstLemmas.{found-holds, some-counted}
 use Rattle.node_laws.proofs.ToldLemmas.{future_of, future_for, NoneTaken}
 use Rattle.node_laws.proofs.TellLemmas.{count-new}
 use Rattle.node_laws.proofs.ToldSame.{told-same}

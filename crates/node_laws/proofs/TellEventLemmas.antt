@@ -17,9 +17,9 @@ use Rattle.rpc_laws.specs.Calls.{is_call, is_active, moved, sent_packet}
 use Rattle.rpc_laws.specs.Sessions.{is_client, has_call, client_end, opened_end, requests, clients_told, sends, ends}
 use Rattle.node_laws.specs.CallHistory.{takes_of, posted_by, rolls_by, TellsActive}
 use Rattle.node_laws.specs.EndedCalls.{asks_on, begins_as}
-use Rattle.node_laws.proofs.FindLemmas.{changed-holds, push-kept, push-found, push-other, skip-found, count-out, none-found}
+use Rattle.rpc_base.proofs.FindLemmas.{changed-holds, push-kept, push-found, push-other, skip-found, count-out, none-found}
 use Rattle.node_laws.proofs.SoundLemmas.{both-at, sent-request, sent-got, sent-posted}
-use Rattle.node_laws.proofs.TableLemmas.{found-le}
+use Rattle.rpc_base.proofs.FirstLemmas.{found-le}
 use Rattle.node_laws.proofs.TellLemmas.{count-new, ToldProgress, ToldCall, Told}
 use Rattle.node_laws.proofs.ToldSame.{told-same}
 use Rattle.node_laws.specs.Valid.{holders}

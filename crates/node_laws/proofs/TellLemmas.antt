@@ -17,13 +17,14 @@ use Rattle.rpc_laws.specs.Calls.{is_call, is_active}
 use Rattle.rpc_laws.specs.Sessions.{is_client, has_call}
 use Rattle.node_laws.specs.CallHistory.{takes_of, posted_next, posted_by, rolls_next, rolls_by, TellsActive}
 use Rattle.node_laws.specs.EndedCalls.{asks_on, begins_as}
-use Rattle.node_laws.proofs.FindLemmas.{this-changed}
+use Rattle.rpc_base.proofs.FindLemmas.{this-changed}
 use Rattle.node_laws.proofs.NumberLemmas.{by_number}
 use Rattle.node_laws.proofs.SoundLemmas.{by_request}
-use Rattle.node_laws.proofs.TableLemmas.{found-holds, found-passes, found-changed}
+use Rattle.rpc_base.proofs.FirstLemmas.{found-holds, found-changed}
 use Rattle.node_laws.proofs.Places.{Place}
 use Rattle.node_laws.specs.Valid.{Sound, Valid}
 use Rattle.node_laws.proofs.WindowLemmas.{same-found}
+use Rattle.rpc_base.proofs.TakingLemmas.{find-passes}
 
 -- whether a fact concerns call c of session n, with request r
 abbrev pub concerns : ℕ → ℕ → ℕ → Event → Bool
@@ -103,8 +104,8 @@ pub record Focus (xs ys : List Client) (m : ℕ) (y z : Client) (c : ℕ) (d e :
 
 pub focus-of : (xs : List Client) (p : Client → Bool) (f : Client → Client) (m : ℕ) (y : Client) (test : Call → Bool) (g : Call → Call) (c : ℕ) (d : Call) → find p xs ≡ Some y → find (is_client m) xs ≡ Some y → (f y).way.number ≡ y.way.number → (f y).calls ≡ at_first test g y.calls → find test y.calls ≡ Some d → find (is_call c) y.calls ≡ Some d → (g d).what.number ≡ d.what.number → Focus xs (at_first p f xs) m y (f y) c d (g d)
 focus-of xs p f m y test g c d found old way calls tested own same =
-    let number : y.way.number ≡ m = eqb-true y.way.number m (found-passes (is_client m) xs y old) in
-    let call : d.what.number ≡ c = eqb-true d.what.number c (found-passes (is_call c) y.calls d own) in
+    let number : y.way.number ≡ m = eqb-true y.way.number m (find-passes (is_client m) xs y old) in
+    let call : d.what.number ≡ c = eqb-true d.what.number c (find-passes (is_call c) y.calls d own) in
     let passes : is_client m (f y) ≡ true = eq-eqb (f y).way.number m (way ∙ number) in
     let called : is_call c (g d) ≡ true = eq-eqb (g d).what.number c (same ∙ call) in
     record {
@@ -168,7 +169,7 @@ module _ (s : Lists) (v : Valid s) (m : ℕ) (y : Client) (d : Call) (place : Pl
       let second : find (is_active p.request) y.calls ≡ Some d = rw request at own in
       let third : find (is_active p.request) y.calls ≡ Some b = rw same at first in
       let equal : b ≡ d = same-found (find (is_active p.request) y.calls) b d third second in
-      let number : b.what.number ≡ k = eqb-true b.what.number k (found-passes (is_call k) x.calls b call) in
+      let number : b.what.number ≡ k = eqb-true b.what.number k (find-passes (is_call k) x.calls b call) in
       absurd (apart (sym session) (sym number ∙ ap (λ (i : Call). i.what.number) equal))
 
   pub other-number : (c : Bool) → (d.what.number == k) ≡ c → c ≡ false
@@ -176,12 +177,12 @@ module _ (s : Lists) (v : Valid s) (m : ℕ) (y : Client) (d : Call) (place : Pl
   other-number true e =
       let same : d.what.number ≡ k = eqb-true d.what.number k e in
       let own = by_number s m y d v place in
-      let number : b.what.number ≡ k = eqb-true b.what.number k (found-passes (is_call k) x.calls b call) in
+      let number : b.what.number ≡ k = eqb-true b.what.number k (find-passes (is_call k) x.calls b call) in
       let there : Place s.clients n x b = record { test = is_call k; client = client; call = call } in
       let theirs = by_number s n x b v there in
       let first : find (has_call k) s.clients ≡ Some x = subst (λ (i : ℕ). find (has_call i) s.clients ≡ Some x) number theirs.client in
       let second : find (has_call k) s.clients ≡ Some y = subst (λ (i : ℕ). find (has_call i) s.clients ≡ Some y) same own.client in
       let equal : x ≡ y = same-found (find (has_call k) s.clients) x y first second in
-      let mine : y.way.number ≡ m = eqb-true y.way.number m (found-passes (is_client m) s.clients y place.client) in
-      let yours : x.way.number ≡ n = eqb-true x.way.number n (found-passes (is_client n) s.clients x client) in
+      let mine : y.way.number ≡ m = eqb-true y.way.number m (find-passes (is_client m) s.clients y place.client) in
+      let yours : x.way.number ≡ n = eqb-true x.way.number n (find-passes (is_client n) s.clients x client) in
       absurd (apart (sym yours ∙ (ap (λ (i : Client). i.way.number) equal ∙ mine)) (sym same))

@@ -31,10 +31,11 @@ use Rattle.node_laws.proofs.FlushLemmas.{flushes-owner, calls-flushed, no-more-s
 use Rattle.node_laws.proofs.LeadsLemmas.{valid_after_all, allowed-join, Lawful, lawful-goes, lawful-then, lawful-visits, lawful-each}
 use Rattle.node_laws.proofs.NumberLemmas.{numbered-found, by_number}
 use Rattle.node_laws.proofs.QueueLemmas.{flushed-none}
-use Rattle.node_laws.proofs.TableLemmas.{found-changed, found-passes}
+use Rattle.rpc_base.proofs.FirstLemmas.{found-changed}
 use Rattle.node_laws.proofs.Places.{Place}
 use Rattle.node_laws.specs.Valid.{client_no, Valid}
 use Rattle.node_laws.proofs.ValidLemmas.{valid_after}
+use Rattle.rpc_base.proofs.TakingLemmas.{find-passes}
 
 -- a call of a session that broke, and what its calls leave when they end
 found-first : (number : ℕ) (c : Call) (cs calls : List Call) → number ≡ c.what.number → calls ≡ c ∷ cs → find (is_call number) calls ≡ Some c
@@ -54,7 +55,7 @@ lost-allowed clock s me n y (c ∷ cs) v found e broken clean =
     let may : MayLose s number = record { session = n; client = y; call = c; place = place; same = refl; broken = broken; unqueued = none-of n c.progress s.queued clean.0 } in
     let next = after clock s (plain me (DonePeerLost number)) in
     let own = by_number s n y c v place in
-    let kept : find (is_client n) next.clients ≡ Some (ends number y) = found-changed (has_call number) (ends number) (is_client n) y s.clients (found-passes (is_client n) s.clients y found) own.client found in
+    let kept : find (is_client n) next.clients ≡ Some (ends number y) = found-changed (has_call number) (ends number) (is_client n) y s.clients (find-passes (is_client n) s.clients y found) own.client found in
     (may, lost-allowed clock next me n (ends number y) cs (valid_after clock s (plain me (DonePeerLost number)) v may) kept (rest-left number c cs y.calls refl e) broken clean.1)
 
 -- a call is looked at
@@ -92,7 +93,7 @@ module _ (clock : ℕ) (s : Lists) (v : Valid s) (x : Client) (found : find (is_
       let valid : Valid flushed = rw all.flushes.same at sound in
       let may : MayBreak flushed n = record { client = x; found = found; clean = all.clean } in
       let broken = after clock flushed (plain s.me (Broken n)) in
-      let kept : find (is_client n) broken.clients ≡ Some (breaks x) = found-changed (is_client n) breaks (is_client n) x s.clients (found-passes (is_client n) s.clients x found) found found in
+      let kept : find (is_client n) broken.clients ≡ Some (breaks x) = found-changed (is_client n) breaks (is_client n) x s.clients (find-passes (is_client n) s.clients x found) found found in
       let lost : AllAllowed clock broken losing = lost-allowed clock broken s.me n (breaks x) x.calls (valid_after clock flushed (plain s.me (Broken n)) valid may) kept refl refl all.clean in
       let rest : AllAllowed clock (after_all clock s flushing) (plain s.me (Broken n) ∷ losing) = rw all.flushes.same (may, lost) in
       allowed-join clock s flushing (plain s.me (Broken n) ∷ losing) all.flushes.allowed rest
@@ -111,7 +112,7 @@ module _ (clock timeout : ℕ) (s : Lists) (v : Valid s) where
   call-allowed : (number : ℕ) (x : Client) → find (is_client x.way.number) s.clients ≡ Some x → (o : Option Call) → find (is_call number) x.calls ≡ o → AllAllowed clock s (call_facts clock timeout s.me s.queued x o)
   call-allowed number x found None call = tt
   call-allowed number x found (Some c) call =
-      let same : c.what.number ≡ number = eqb-true c.what.number number (found-passes (is_call number) x.calls c call) in
+      let same : c.what.number ≡ number = eqb-true c.what.number number (find-passes (is_call number) x.calls c call) in
       let own : find (is_call c.what.number) x.calls ≡ Some c = subst (λ (n : ℕ). find (is_call n) x.calls ≡ Some c) (sym same) call in
       progress-allowed x found c own c.progress refl
 

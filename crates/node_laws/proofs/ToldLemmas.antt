@@ -18,14 +18,15 @@ use Rattle.rpc_laws.specs.Front.{control_of, front_header, front_body}
 use Rattle.rpc_laws.specs.Sessions.{is_client, has_call, comes_to, connects, asks, begins, posts, takes, rolls, breaks, clients_after}
 use Rattle.node_laws.specs.CallHistory.{takes_of}
 use Rattle.node_laws.proofs.Allowed.{Allowed, MayAsk, MayBegin, MayPost, MayTake, MayRoll}
-use Rattle.node_laws.proofs.FindLemmas.{changed-holds, none-found}
+use Rattle.rpc_base.proofs.FindLemmas.{changed-holds, none-found}
 use Rattle.node_laws.proofs.NumberLemmas.{by_number}
 use Rattle.node_laws.proofs.OpenLemmas.{future}
 use Rattle.node_laws.proofs.SoundLemmas.{by_request, took-request, reply-got, reply-posted}
-use Rattle.node_laws.proofs.TableLemmas.{found-holds, found-passes, found-le}
+use Rattle.rpc_base.proofs.FirstLemmas.{found-holds, found-le}
 use Rattle.node_laws.proofs.TellEventLemmas.{noted, own-moved, took-active, posted-active, rolled-active, begun-active, told-sent, told-kept, told-requests, told-made, told-opened, told-ended, asked-by}
 use Rattle.node_laws.proofs.TellLemmas.{Told, told-stays, Focus, focus-of, focus-told, other-request, other-number}
 use Rattle.node_laws.specs.Valid.{Sound, holders, Valid}
+use Rattle.rpc_base.proofs.TakingLemmas.{find-passes}
 
 -- how often a request may still begin, of a session that is there or may come
 abbrev pub future_of : ℕ → Option Client → ℕ
@@ -104,7 +105,7 @@ module _ (who : Who) (bytes second : List ℕ) (past : List Fact) (s : Lists) (v
       let now = noted who (Asked i m y room) bytes second ∷ past in
       let stays = told-stays past (noted who (Asked i m y room) bytes second) c n (find (is_client n) s.clients) (λ x d p e g h. refl) t in
       changed-holds (Told now c n) (is_client m) (asks (record { number = i; req_type = y; room = room; ask = bytes })) (is_client n) (λ x. refl) s.clients (λ x e own told.
-      let mine : x.way.number ≡ m = eqb-true x.way.number m (found-passes (is_client m) s.clients x e) in
+      let mine : x.way.number ≡ m = eqb-true x.way.number m (find-passes (is_client m) s.clients x e) in
       let theirs : x.way.number ≡ n = eqb-true x.way.number n own in
       let session : (m == n) ≡ true = eq-eqb m n (sym mine ∙ theirs) in
       asked-by now c n s.clients i y room bytes x.calls (i == c) refl (λ same. first-is _ _ (and-is (i == c) (m == n) same session)) (λ same. no-call x e i same a.next) told) stays

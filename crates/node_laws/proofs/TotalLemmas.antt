@@ -16,7 +16,8 @@ use Rattle.node_laws.specs.Valid.{Valid}
 use Rattle.node_laws.specs.Windows.{Windows, LiveAt, OfLive, LiveQueued}
 use Rattle.node_laws.proofs.CreditLaws.{Found, all-found}
 use Rattle.node_laws.proofs.QueueFitsLemmas.{session-fits}
-use Rattle.node_laws.proofs.TableLemmas.{counted-cons, found-passes}
+use Rattle.rpc_base.proofs.FirstLemmas.{counted-cons}
+use Rattle.rpc_base.proofs.TakingLemmas.{find-passes}
 
 -- the queued packets of a session, where it is live, and its free credits
 abbrev share : List Queued → Client → ℕ
@@ -64,7 +65,7 @@ module _ (xs : List Client) where
   covered-at : (q : Queued) (qs : List Queued) (n r : ℕ) → q.owner ≡ Ask n r → (o : Option Client) → find (is_client n) xs ≡ o → LiveAt o → sum_by (share qs) xs + 1 ≤ sum_by (share (q ∷ qs)) xs
   covered-at q qs n r is None e live = absurd live
   covered-at q qs n r is (Some x) e live =
-      let own : is_ask_of x.way.number (Ask n r) ≡ true = flip n x.way.number (found-passes (is_client n) xs x e) in
+      let own : is_ask_of x.way.number (Ask n r) ≡ true = flip n x.way.number (find-passes (is_client n) xs x e) in
       let mine : is_ask_of x.way.number q.owner ≡ true = rw is own in
       sum-more (is_client n) (share qs) (share (q ∷ qs)) (share-less q qs) xs x e (share-more q qs x live mine)
 

@@ -30,7 +30,7 @@ use Rattle.node_laws.proofs.ServedLemmas.{alone-after, served-after}
 use Rattle.node_laws.proofs.ShareLemmas.{shares-after}
 use Rattle.node_laws.proofs.StateLemmas.{connected-live}
 use Rattle.node_laws.proofs.ToldSame.{told-same}
-use Rattle.node_laws.proofs.TableLemmas.{all-push, all-kept, all-changed, sum-grown, sum-fewer}
+use Rattle.rpc_base.proofs.FirstLemmas.{all-push, all-kept, all-changed, sum-grown, sum-fewer}
 use Rattle.node_laws.specs.Valid.{NumberedFrom, client_no, unanswered_of, Sound, holders, to_come, Valid}
 
 -- sessions stay sound

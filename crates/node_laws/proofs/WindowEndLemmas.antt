@@ -15,14 +15,15 @@ use Rattle.rpc_laws.specs.Calls.{is_call, has_request, is_active, begun, rolled_
 use Rattle.rpc_laws.specs.Posting.{holds_slot, is_taken}
 use Rattle.rpc_laws.specs.Sessions.{is_client, has_call, begins, rolls, ends}
 use Rattle.node_laws.proofs.Allowed.{MayBegin, MayRoll, MayEnd}
-use Rattle.node_laws.proofs.FindLemmas.{this-out, this-changed, none-found}
+use Rattle.rpc_base.proofs.FindLemmas.{this-out, this-changed, none-found}
 use Rattle.node_laws.proofs.NumberLemmas.{by_number}
 use Rattle.node_laws.proofs.SoundLemmas.{by_request, active-holds}
-use Rattle.node_laws.proofs.TableLemmas.{found-holds, found-passes, none-counted, count-fewer}
+use Rattle.rpc_base.proofs.FirstLemmas.{found-holds, none-counted, count-fewer}
 use Rattle.node_laws.proofs.Places.{Place}
 use Rattle.node_laws.specs.Valid.{Sound, Valid}
 use Rattle.node_laws.proofs.WindowLemmas.{window-changed, moved-inside, same-found, own-request, inside-some}
 use Rattle.node_laws.specs.Windows.{InsideOf, Inside, Stands, InWindow}
+use Rattle.rpc_base.proofs.TakingLemmas.{find-passes}
 
 -- an owner that is this call
 owner-is : (o : Owner) (i r session request : ℕ) → o ≡ Ask i r → i ≡ session → r ≡ request → same_owner o (Ask session request) ≡ false → ⊥
@@ -57,7 +58,7 @@ module _ (s : Lists) (v : Valid s) where
       let own = by_number s a.session a.client a.call v a.active.place in
       let found : find (has_call number) s.clients ≡ Some a.client = rw a.same own.client in
       let called : find (is_call number) a.client.calls ≡ Some a.call = rw a.same own.call in
-      let session_is = eqb-true a.client.way.number a.session (found-passes (is_client a.session) s.clients a.client a.active.place.client) in
+      let session_is = eqb-true a.client.way.number a.session (find-passes (is_client a.session) s.clients a.client a.active.place.client) in
       window-changed (has_call number) (rolls number posted got) (λ x. refl) s.clients o k (λ i r is x e t inside.
       let client = same-found (find (has_call number) s.clients) x a.client e found in
       moved-inside r k (is_call number) (rolled_back got) x.calls (λ p. refl) (λ c calls active here.
@@ -96,7 +97,7 @@ module _ (s : Lists) (v : Valid s) where
       let own = by_number s session y d v place in
       let found : find (has_call number) s.clients ≡ Some y = rw same own.client in
       let called : find (is_call number) y.calls ≡ Some d = rw same own.call in
-      let session_is = eqb-true y.way.number session (found-passes (is_client session) s.clients y place.client) in
+      let session_is = eqb-true y.way.number session (find-passes (is_client session) s.clients y place.client) in
       window-changed (has_call number) (ends number) (λ x. refl) s.clients o k (λ i r is x e t inside.
       let client = same-found (find (has_call number) s.clients) x y e found in
       let calls : find (is_call number) x.calls ≡ Some d = rw client called in

@@ -17,12 +17,13 @@ use Rattle.rpc_laws.specs.Calls.{has_request, is_active, moved, posted_up_to, se
 use Rattle.rpc_laws.specs.Front.{front_header, front_body}
 use Rattle.rpc_laws.specs.Sessions.{is_client, client_end, opened_end, requests, clients_told, asks, posts, sends, takes}
 use Rattle.node_laws.proofs.Allowed.{MayPost, MayTake}
-use Rattle.node_laws.proofs.FindLemmas.{changed-holds, push-kept, push-other}
+use Rattle.rpc_base.proofs.FindLemmas.{changed-holds, push-kept, push-other}
 use Rattle.node_laws.proofs.SoundLemmas.{by_request, sent-request, sent-got, sent-posted, order-found, took-request, reply-got, reply-posted}
-use Rattle.node_laws.proofs.TableLemmas.{found-holds, found-passes, found-changed}
+use Rattle.rpc_base.proofs.FirstLemmas.{found-holds, found-changed}
 use Rattle.node_laws.proofs.ToldSame.{told-same}
 use Rattle.node_laws.specs.Windows.{InsideOf, Inside, Stands, InWindow}
 use Rattle.node_laws.specs.Valid.{Sound, Valid}
+use Rattle.rpc_base.proofs.TakingLemmas.{find-passes}
 
 -- a session changes
 module _ (p : Client → Bool) (f : Client → Client) (same : (x : Client) → (f x).way.number ≡ x.way.number) (xs : List Client) where
@@ -116,8 +117,8 @@ module _ (s : Lists) (v : Valid s) where
       let sound = found-holds (is_client session) Sound s.clients a.client v.sound a.active.place.client in
       let own : find (is_active request) a.client.calls ≡ Some a.call = rw a.same (by_request a.client a.active.place.test a.call a.progress sound a.active.place.call a.active.active) in
       let order = order-found a.client a.active.place.test a.call a.progress sound a.active.place.call a.active.active in
-      let client : find (is_client session) (at_first (is_client session) (posts request n) s.clients) ≡ Some (posts request n a.client) = found-changed (is_client session) (posts request n) (is_client session) a.client s.clients (found-passes (is_client session) s.clients a.client a.active.place.client) a.active.place.client a.active.place.client in
-      let active : has_request request (option_map (posted_up_to n) a.call.progress) ≡ true = same-request request (posted_up_to n) (λ p. refl) a.call.progress ∙ found-passes (is_active request) a.client.calls a.call own in
+      let client : find (is_client session) (at_first (is_client session) (posts request n) s.clients) ≡ Some (posts request n a.client) = found-changed (is_client session) (posts request n) (is_client session) a.client s.clients (find-passes (is_client session) s.clients a.client a.active.place.client) a.active.place.client a.active.place.client in
+      let active : has_request request (option_map (posted_up_to n) a.call.progress) ≡ true = same-request request (posted_up_to n) (λ p. refl) a.call.progress ∙ find-passes (is_active request) a.client.calls a.call own in
       let call : find (is_active request) (at_first (is_active request) (moved (posted_up_to n)) a.client.calls) ≡ Some (moved (posted_up_to n) a.call) = found-changed (is_active request) (moved (posted_up_to n)) (is_active request) a.call a.client.calls active own own in
       let turn = a.turn in
       let was = order.posted in
@@ -136,7 +137,7 @@ module _ (s : Lists) (v : Valid s) where
       let progress : c.progress ≡ Some a.progress = ap (λ (d : Call). d.progress) call ∙ a.active.active in
       let was = inside-some k c.progress a.progress progress here in
       let number : x.way.number ≡ i = eqb-true x.way.number i t in
-      let session_is : x.way.number ≡ session = eqb-true x.way.number session (found-passes (is_client session) s.clients x e) in
+      let session_is : x.way.number ≡ session = eqb-true x.way.number session (find-passes (is_client session) s.clients x e) in
       let request_is : a.progress.request ≡ r = own-request r c.progress a.progress progress active in
       let apart : k ≡ n → ⊥ = took-apart o i r session request k n is (sym number ∙ session_is) (sym request_is ∙ a.same) other in
       let turn = a.turn in

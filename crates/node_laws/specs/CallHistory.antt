@@ -1,5 +1,5 @@
--- What the facts tell of a call, against what the table of calls says of it. The facts so far stand with the
--- newest first: each reading goes by the latest fact that concerns it.
+-- What the facts tell of a call, against what the table of calls says of it. The facts so far stand
+-- with the newest first: each reading goes by the latest fact that concerns it.
 use Rattle.std.specs.Prelude.{ℕ, ◌≡◌, ◌+◌, ◌==◌, ◌&&◌, not, Bool, true, false, Option, Some, None, List, [], ◌∷◌, count_by, slice_get, if◌then◌else◌}
 use Rattle.std.specs.List.{list_any}
 use Rattle.rpc_base.specs.declared.event.Event.{Event}
@@ -32,7 +32,8 @@ takes_of s r _ = false
 -- one more than the number of the packet posted last, or GOT of a later rollback; 0 where it begins
 abbrev pub posted_next : (call session request : ℕ) → Event → ℕ → ℕ
 posted_next c s r (Begun call request) n = if call == c then 0 else n
-posted_next c s r (Posted (Ask session request) k) n = if session == s && request == r then k + 1 else n
+posted_next c s r (Posted (Ask session request) k) n =
+    if session == s && request == r then k + 1 else n
 posted_next c s r (Rolled call posted got) n = if call == c then got else n
 posted_next c s r _ n = n
 
@@ -53,8 +54,8 @@ abbrev pub rolls_by : (call session request : ℕ) → List Fact → ℕ
 rolls_by c s r [] = 0
 rolls_by c s r (f ∷ past) = rolls_next c s r f.event (rolls_by c s r past)
 
--- an active call of session s began as its request; it has got as many replies as were taken, and its other
--- counts are those of the facts
+-- an active call of session s began as its request; it has got as many replies as were taken, and
+-- its other counts are those of the facts
 pub record TellsActive (past : List Fact) (call s : ℕ) (p : Progress) : Type 0 where
   pub begun : list_any (λ f. begins_as call p.request f.event) past ≡ true
   pub got : p.got ≡ count_by (λ f. takes_of s p.request f.event) past
@@ -71,8 +72,11 @@ pub record TellsCall (past : List Fact) (s : ℕ) (c : Call) : Type 0 where
   pub asked : list_any (λ f. asks_on c.what.number s f.event) past ≡ true
   pub progress : TellsProgress past c.what.number s c.progress
 
--- a call is in the table exactly where it was asked and isn't over, and the table says of each call of
--- session s what the facts tell
+-- a call is in the table exactly where it was asked and isn't over, and the table says of each call
+-- of session s what the facts tell
 pub record TellsTable (past : List Fact) (t : Lists) : Type 0 where
-  pub listed : (call : ℕ) → list_any (has_call call) t.clients ≡ (list_any (λ f. asks_call call f.event) past && not (list_any (λ f. ends_call call f.event) past))
-  pub calls : (s i : ℕ) (x : Client) (c : Call) → slice_get t.clients s ≡ Some x → slice_get x.calls i ≡ Some c → TellsCall past s c
+  pub listed : (call : ℕ) → list_any (has_call call) t.clients
+      ≡ (list_any (λ f. asks_call call f.event) past
+      && not (list_any (λ f. ends_call call f.event) past))
+  pub calls : (s i : ℕ) (x : Client) (c : Call) → slice_get t.clients s ≡ Some x
+      → slice_get x.calls i ≡ Some c → TellsCall past s c

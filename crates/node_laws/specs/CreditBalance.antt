@@ -1,6 +1,7 @@
--- Credit: at every moment, the unanswered packets of a client session that is connected or closing and its free
--- credits make its limit, and a packet is posted only where a credit is free. Both are read from the facts alone, and in two ways. The unanswered packets are numbers that stand
--- in a list of their own, and free credits are a count that the facts change.
+-- Credit: at every moment, the unanswered packets of a client session that is connected or closing
+-- and its free credits make its limit, and a packet is posted only where a credit is free. Both are
+-- read from the facts alone, and in two ways. The unanswered packets are numbers that stand in a
+-- list of their own, and free credits are a count that the facts change.
 use Rattle.std.specs.Prelude.{ℕ, ◌≡◌, ◌≤◌, ◌+◌, ◌-◌, ◌==◌, ◌&&◌, Bool, true, false, Option, Some, None, List, [], ◌∷◌, ◌++◌, length, sum_by, if◌then◌else◌}
 use Rattle.std.specs.List.{find, list_any, AllByRecursion}
 use Rattle.rpc_base.specs.Tables.{at_first, without_first}
@@ -9,16 +10,17 @@ use Rattle.rpc_base.specs.declared.event.Event.TheVariants.{Opened, PairedClient
 use Rattle.rpc_base.specs.declared.fact.Fact.{Fact}
 use Rattle.rpc_base.specs.declared.owner.Owner.TheVariants.{Ask}
 
--- a call that was Asked and isn't over: its number, its session, the request number that it began as, if it
--- did, and the numbers of its packets that were Posted since it began or was rolled back last, and not Took
+-- a call that was Asked and isn't over: its number, its session, the request number that it began
+-- as, if it did, and the numbers of its packets that were Posted since it began or was rolled back
+-- last, and not Took
 pub record CallAccount : Type 0 where
   pub number : ℕ
   pub session : ℕ
   pub request : Option ℕ
   pub packets : List ℕ
 
--- a client session: its number, its limit, its free credits, and whether it is live: connected, also where it is
--- spent, or closing
+-- a client session: its number, its limit, its free credits, and whether it is live: connected,
+-- also where it is spent, or closing
 pub record SessionAccount : Type 0 where
   pub number : ℕ
   pub limit : ℕ
@@ -116,8 +118,8 @@ regains n x = record x { free = x.free + n }
 abbrev pub fails : SessionAccount → SessionAccount
 fails x = record x { live = false; free = 0 }
 
--- a packet takes one credit, and its answer gives it back. A rollback gives back POSTED - GOT credits to the
--- session of its call, which is looked up among the calls before it
+-- a packet takes one credit, and its answer gives it back. A rollback gives back POSTED - GOT
+-- credits to the session of its call, which is looked up among the calls before it
 abbrev pub sessions_after : Event → List CallAccount → List SessionAccount → List SessionAccount
 sessions_after (PairedClient s peer t credits) calls xs = xs ++ opened s credits ∷ []
 sessions_after (Opened s peer credits) calls xs = xs ++ connecting s credits ∷ []
@@ -136,7 +138,8 @@ sessions_after _ calls xs = xs
 
 -- the accounts after a fact with this event
 abbrev pub accounts_after : Event → Accounts → Accounts
-accounts_after e a = record { calls = calls_after e a.calls; sessions = sessions_after e a.calls a.sessions }
+accounts_after e a =
+    record { calls = calls_after e a.calls; sessions = sessions_after e a.calls a.sessions }
 
 -- before any fact
 abbrev pub no_accounts : Accounts
@@ -164,15 +167,18 @@ abbrev pub CanSpend : Option SessionAccount → Type 0
 CanSpend None = ⊥
 CanSpend (Some x) = HasCredit x
 
--- a client packet is posted only where a credit of its session is free: `spends` never takes one from 0
+-- a client packet is posted only where a credit of its session is free: `spends` never takes one
+-- from 0
 abbrev pub MaySpend : Event → List SessionAccount → Type 0
 MaySpend (Posted (Ask s r) k) xs = CanSpend (find (is_session s) xs)
 MaySpend _ xs = Unit {0}
 
--- from these accounts on each live session balances at every moment, and no packet is posted without a free credit
+-- from these accounts on each live session balances at every moment, and no packet is posted
+-- without a free credit
 abbrev pub CreditFrom : Accounts → List Fact → Type 0
 CreditFrom a [] = Balanced a
-CreditFrom a (f ∷ g) = Balanced a × MaySpend f.event a.sessions × CreditFrom (accounts_after f.event a) g
+CreditFrom a (f ∷ g) =
+    Balanced a × MaySpend f.event a.sessions × CreditFrom (accounts_after f.event a) g
 
 -- so it is from the beginning of a history
 abbrev pub Credit : List Fact → Type 0

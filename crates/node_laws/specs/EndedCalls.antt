@@ -35,7 +35,8 @@ pub record BeganAs (past : List Fact) (c s r : ℕ) : Type 0 where
   pub asked : list_any (λ f. asks_on c s f.event) past ≡ true
   pub begun : list_any (λ f. begins_as c r f.event) past ≡ true
 
--- between these facts and those, no packet of request r of session s is queued, and none of those posts one
+-- between these facts and those, no packet of request r of session s is queued, and none of those
+-- posts one
 pub record HandsBack (past rest : List Fact) (s r : ℕ) : Type 0 where
   pub unqueued : list_any (λ q. same_owner q.owner (Ask s r)) (queued_by past) ≡ false
   pub unposted : list_any (λ f. posts_of s r f.event) rest ≡ false
@@ -44,4 +45,5 @@ pub record HandsBack (past rest : List Fact) (s r : ℕ) : Type 0 where
 abbrev pub EndsClean : List Fact → List Fact → Type 0
 EndsClean past [] = Unit {0}
 EndsClean past (f ∷ rest) =
-    ((c s r : ℕ) → ends_call c f.event ≡ true → BeganAs past c s r → HandsBack past rest s r) × EndsClean (f ∷ past) rest
+    ((c s r : ℕ) → ends_call c f.event ≡ true → BeganAs past c s r → HandsBack past rest s r)
+    × EndsClean (f ∷ past) rest

@@ -31,4 +31,5 @@ pub record LeavesNone (past rest : List Fact) (t : ℕ) : Type 0 where
 abbrev pub SessionsEndClean : List Fact → List Fact → Type 0
 SessionsEndClean past [] = Unit {0}
 SessionsEndClean past (f ∷ rest) =
-    ((t : ℕ) → ends_session t f.event ≡ true → LeavesNone past rest t) × SessionsEndClean (f ∷ past) rest
+    ((t : ℕ) → ends_session t f.event ≡ true → LeavesNone past rest t)
+    × SessionsEndClean (f ∷ past) rest

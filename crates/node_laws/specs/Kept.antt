@@ -5,8 +5,8 @@ use Rattle.node_laws.specs.QueuedPackets.{QueuedOnce}
 use Rattle.node_laws.specs.Valid.{EightTurns, Valid}
 use Rattle.node_laws.specs.Windows.{Windows, LiveQueued}
 
--- the tables are in order; and each queued packet of a call is an unanswered one of an active call of a live session,
--- and queued once
+-- the tables are in order; and each queued packet of a call is an unanswered one of an active call
+-- of a live session, and queued once
 pub record Kept (s : Lists) : Type 0 where
   pub valid : Valid s
   pub eight : AllByRecursion EightTurns s.clients

@@ -19,14 +19,16 @@ use Rattle.node_laws.specs.RingLimit.{RingWithin, InboxWithin}
 
 -- of every run of a node, whatever its service, its number and its limits
 abbrev pub OfEveryRun : ((ring : ℕ) → List Fact → Timed → Type 0) → Type 0
-OfEveryRun P = (v : Serving) (me : ℕ) (limits : Limits) (g : List Fact) (t : Timed) → NodeRun v me limits g t → P limits.ring g t
+OfEveryRun P =
+    (v : Serving) (me : ℕ) (limits : Limits) (g : List Fact) (t : Timed) → NodeRun v me limits g t
+    → P limits.ring g t
 
 -- what always holds of a node's lists does
 abbrev pub ListsAreKept : Type 0
 ListsAreKept = OfEveryRun (λ ring g t. Kept t.lists)
 
--- the unanswered packets and the free credits of each live session make its limit, and no packet is posted
--- without a free credit
+-- the unanswered packets and the free credits of each live session make its limit, and no packet is
+-- posted without a free credit
 abbrev pub CreditBalances : Type 0
 CreditBalances = OfEveryRun (λ ring g t. Credit g)
 
@@ -38,8 +40,8 @@ HappensAtMostOnce = OfEveryRun (λ ring g t. Once g)
 abbrev pub EndedCallsAreNotQueued : Type 0
 EndedCallsAreNotQueued = OfEveryRun (λ ring g t. EndsClean [] g)
 
--- no reply to an older request is queued where a packet of a newer one of its slot is taken, and none is posted
--- later
+-- no reply to an older request is queued where a packet of a newer one of its slot is taken, and
+-- none is posted later
 abbrev pub OlderRequestsAreNotQueued : Type 0
 OlderRequestsAreNotQueued = OfEveryRun (λ ring g t. BeginsClean [] g)
 
@@ -63,8 +65,8 @@ RingFits = OfEveryRun (λ ring g t. RingWithin ring [] g)
 abbrev pub InboxFits : Type 0
 InboxFits = OfEveryRun (λ ring g t. InboxWithin [] g)
 
--- no packet of a call is queued twice, the queued packets of a live session and its free credits are no more than
--- its limit, and those of all sessions no more than the ring is long
+-- no packet of a call is queued twice, the queued packets of a live session and its free credits
+-- are no more than its limit, and those of all sessions no more than the ring is long
 abbrev pub QueuedPacketsFit : Type 0
 QueuedPacketsFit = OfEveryRun (λ ring g t. QueueAlwaysFits ring g)
 

@@ -5,6 +5,7 @@ use Rattle.rpc_base.specs.declared.event.Event.{Event}
 use Rattle.rpc_base.specs.declared.event.Event.TheVariants.{Made, PairedClient, PairedServer, Worked, Missed}
 use Rattle.rpc_base.specs.declared.fact.Fact.{Fact}
 use Rattle.rpc_base.specs.declared.limits.Limits.{Limits}
+use Rattle.rpc_base.specs.declared.limits.TheConstants.{MOST_CREDITS, SESSION_NUMBERS}
 use Rattle.rpc_outside.specs.declared.service.Mode.{Mode}
 use Rattle.rpc_laws.specs.declared.tables.Timed.{Timed}
 use Rattle.rpc_laws.specs.AtMostOnce.{works_request}
@@ -25,12 +26,13 @@ pub record Notes (event : Event) (s : Timed) (x : List Fact) (t : Timed) : Type 
 -- an end of a session has 1 to 256 credits
 pub record IsCredits (credits : ℕ) : Type 0 where
   pub some : 1 ≤ credits
-  pub few : credits ≤ 256
+  pub few : credits ≤ MOST_CREDITS
 
--- an end of a pair may be made, for an end of this number: its credits are few, and nothing refuses it
+-- an end of a pair may be made, for an end of this number: its credits are few, and nothing refuses
+-- it
 pub record MayPair (refusal : Option Event) (other credits : ℕ) : Type 0 where
   pub credits_fit : IsCredits credits
-  pub other_is : other < 65535
+  pub other_is : other < SESSION_NUMBERS
   pub fits : refusal ≡ None
 
 -- why an end of a pair isn't made: a client end or a server end is refused
@@ -38,31 +40,41 @@ abbrev pub Refuses : ℕ → Event → Timed → Type 0
 Refuses credits event s =
     (client_refusal credits s.lists ≡ Some event) ⊎ (server_refusal credits s.lists ≡ Some event)
 
--- what is noted at once: an application call with its answer or refusal; a datagram is delivered; a poll; and, by
--- the world, that a job that is out was worked, or that there was none to work
+-- what is noted at once: an application call with its answer or refusal; a datagram is delivered; a
+-- poll; and, by the world, that a job that is out was worked, or that there was none to work
 pub data Group (mode : ℕ → Mode) (s : Timed) (x : List Fact) (t : Timed) : Type 0 where
-  pairs_client : (peer server credits : ℕ) → MayPair (client_refusal credits s.lists) server credits → Notes (PairedClient (length s.lists.clients) peer server credits) s x t → Group mode s x t
-  pairs_server : (peer client credits : ℕ) → MayPair (server_refusal credits s.lists) client credits → Notes (PairedServer s.lists.server_numbers peer client credits) s x t → Group mode s x t
-  refuses : (credits : ℕ) → (event : Event) → Refuses credits event s → Notes event s x t → Group mode s x t
-  connects : (peer credits rate : ℕ) → IsCredits credits → Connects peer credits rate s x t → Group mode s x t
+  pairs_client : (peer server credits : ℕ) → MayPair (client_refusal credits s.lists) server credits
+      → Notes (PairedClient (length s.lists.clients) peer server credits) s x t → Group mode s x t
+  pairs_server : (peer client credits : ℕ) → MayPair (server_refusal credits s.lists) client credits
+      → Notes (PairedServer s.lists.server_numbers peer client credits) s x t → Group mode s x t
+  refuses : (credits : ℕ) → (event : Event) → Refuses credits event s → Notes event s x t
+      → Group mode s x t
+  connects : (peer credits rate : ℕ) → IsCredits credits → Connects peer credits rate s x t
+      → Group mode s x t
   disconnects : (session : ℕ) → Disconnects session s x t → Group mode s x t
   sets_rate : (session rate : ℕ) → SetsRate session rate s x t → Group mode s x t
-  asks : (session req_type : ℕ) → (ask : List ℕ) → (room : ℕ) → Asks session req_type ask room s x t → Group mode s x t
+  asks : (session req_type : ℕ) → (ask : List ℕ) → (room : ℕ) → Asks session req_type ask room s x t
+      → Group mode s x t
   delivers : (peer : ℕ) → (bytes : List ℕ) → Delivers peer bytes s x t → Group mode s x t
   polls : (now : ℕ) → Poll mode now s x t → Group mode s x t
-  works : (session request : ℕ) → list_any (is_job session request) s.lists.jobs.out ≡ true → Notes (Worked session request) s x t → Group mode s x t
+  works : (session request : ℕ) → list_any (is_job session request) s.lists.jobs.out ≡ true
+      → Notes (Worked session request) s x t → Group mode s x t
   misses : (i : ℕ) → Notes (Missed i) s x t → Group mode s x t
 
--- g is what a node notes from when it is made, with this number, these limits and this service, and t what it is
--- then: one group after another, no job is worked twice, and each Ran has the service's answer after what ran in
--- the event loop before it. The Made that the world notes of it stands before g
-pub record NodeRun (v : Serving) (me : ℕ) (limits : Limits) (g : List Fact) (t : Timed) : Type 0 where
+-- g is what a node notes from when it is made, with this number, these limits and this service, and
+-- t what it is then: one group after another, no job is worked twice, and each Ran has the
+-- service's answer after what ran in the event loop before it. The Made that the world notes of it
+-- stands before g
+pub record NodeRun (v : Serving) (me : ℕ) (limits : Limits) (g : List Fact) (t : Timed)
+    : Type 0 where
   pub steps : Chain (Group v.mode) (new_node me limits) g t
-  pub worked_once : (session request : ℕ) → count_by (λ f. works_request session request f.event) g ≤ 1
+  pub worked_once : (session request : ℕ) → count_by (λ f. works_request session request f.event) g
+      ≤ 1
   pub answers : Answers v [] g
 
 -- the same where g may begin with that Made
-pub record MadeRun (v : Serving) (me : ℕ) (limits : Limits) (g : List Fact) (t : Timed) : Type 0 where
+pub record MadeRun (v : Serving) (me : ℕ) (limits : Limits) (g : List Fact) (t : Timed)
+    : Type 0 where
   pub rest : List Fact
   pub made : (g ≡ rest) ⊎ (g ≡ plain me (Made limits.ring) ∷ rest)
   pub run : NodeRun v me limits rest t

@@ -1,5 +1,5 @@
--- A request whose packets are taken: no reply to an older request of its slot is queued, and none is posted
--- later.
+-- A request whose packets are taken: no reply to an older request of its slot is queued, and none
+-- is posted later.
 use Rattle.std.specs.Prelude.{ℕ, ◌≡◌, ◌<◌, ◌%◌, ◌==◌, ◌&&◌, Bool, true, false, List, [], ◌∷◌}
 use Rattle.std.specs.List.{list_any}
 use Rattle.rpc_base.specs.Owners.{same_owner}
@@ -24,7 +24,8 @@ pub record IsOlder (old r : ℕ) : Type 0 where
   pub below : old < r
   pub slot : old % 8 ≡ r % 8
 
--- between these facts and those, no reply to request r of session t is queued, and none of those posts one
+-- between these facts and those, no reply to request r of session t is queued, and none of those
+-- posts one
 pub record GivesUp (past rest : List Fact) (t r : ℕ) : Type 0 where
   pub unqueued : list_any (λ q. same_owner q.owner (Reply t r)) (queued_by past) ≡ false
   pub unposted : list_any (λ f. posts_reply t r f.event) rest ≡ false
@@ -33,4 +34,5 @@ pub record GivesUp (past rest : List Fact) (t r : ℕ) : Type 0 where
 abbrev pub BeginsClean : List Fact → List Fact → Type 0
 BeginsClean past [] = Unit {0}
 BeginsClean past (f ∷ rest) =
-    ((t r old : ℕ) → takes_request t r f.event ≡ true → IsOlder old r → GivesUp past rest t old) × BeginsClean (f ∷ past) rest
+    ((t r old : ℕ) → takes_request t r f.event ≡ true → IsOlder old r → GivesUp past rest t old)
+    × BeginsClean (f ∷ past) rest

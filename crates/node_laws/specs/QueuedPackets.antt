@@ -1,5 +1,6 @@
--- The packets of calls that are queued: each at most once, with the free credits of its session no more than the
--- session's limit, and with the free credits of all live sessions no more than the receive ring is long.
+-- The packets of calls that are queued: each at most once, with the free credits of its session no
+-- more than the session's limit, and with the free credits of all live sessions no more than the
+-- receive ring is long.
 use Rattle.std.specs.Prelude.{ℕ, ◌≡◌, ◌≤◌, ◌+◌, ◌==◌, Bool, true, false, List, [], ◌∷◌, count_by, sum_by, if◌then◌else◌}
 use Rattle.std.specs.List.{AllByRecursion}
 use Rattle.rpc_base.specs.declared.fact.Fact.{Fact}
@@ -40,19 +41,21 @@ asks_in queued = count_by (λ q. is_ask q.owner) queued
 abbrev pub free_credits : List SessionAccount → ℕ
 free_credits xs = sum_by (λ x. if x.live then x.free else 0) xs
 
--- so it is of a queue and of all client sessions, at a node whose ring has this length: each packet is queued once,
--- each session is within its limit, and all of them fit the ring
-pub record QueueFits (ring : ℕ) (queued : List Queued) (sessions : List SessionAccount) : Type 0 where
+-- so it is of a queue and of all client sessions, at a node whose ring has this length: each packet
+-- is queued once, each session is within its limit, and all of them fit the ring
+pub record QueueFits (ring : ℕ) (queued : List Queued) (sessions : List SessionAccount)
+    : Type 0 where
   pub once : QueuedOnce queued
   pub within : AllByRecursion (IsWithin queued) sessions
   pub total : asks_in queued + free_credits sessions ≤ ring
 
--- between the facts so far, the newest first, which leave these accounts, and those that follow; and at each moment
--- after
+-- between the facts so far, the newest first, which leave these accounts, and those that follow;
+-- and at each moment after
 abbrev pub QueueFitsFrom : (ring : ℕ) → List Fact → Accounts → List Fact → Type 0
 QueueFitsFrom ring past a [] = QueueFits ring (queued_by past) a.sessions
 QueueFitsFrom ring past a (f ∷ g) =
-    QueueFits ring (queued_by past) a.sessions × QueueFitsFrom ring (f ∷ past) (accounts_after f.event a) g
+    QueueFits ring (queued_by past) a.sessions
+    × QueueFitsFrom ring (f ∷ past) (accounts_after f.event a) g
 
 -- so it is at every moment of a history
 abbrev pub QueueAlwaysFits : (ring : ℕ) → List Fact → Type 0

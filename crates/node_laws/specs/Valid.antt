@@ -93,8 +93,8 @@ pub record SoundServer (v : Server) : Type 0 where
   pub apart : (slot : ℕ) → count_by (λ q. q.number % 8 == slot) v.slots ≤ 1
   pub whole : AllByRecursion RunWhole v.slots
 
--- whether something of request r may still come, by the newest request of its slot: not where that one is
--- newer, and where it is r itself as a test tells
+-- whether something of request r may still come, by the newest request of its slot: not where that
+-- one is newer, and where it is r itself as a test tells
 abbrev pub left_of : (Served → Bool) → ℕ → Option Served → ℕ
 left_of test r None = 1
 left_of test r (Some l) =
@@ -109,7 +109,8 @@ abbrev pub left_on : (Served → Bool) → ℕ → ℕ → Option Server → ℕ
 left_on test r other None = other
 left_on test r other (Some v) = left_in test r v.slots
 
--- of session t, which may come where its number wasn't used, and otherwise is over where it isn't there
+-- of session t, which may come where its number wasn't used, and otherwise is over where it isn't
+-- there
 abbrev pub left : (Served → Bool) → (t r used : ℕ) → List Server → ℕ
 left test t r used servers = left_on test r (to_come used t) (find (is_server t) servers)
 
@@ -125,9 +126,10 @@ jobs_of t r jobs = count_by (is_job t r) jobs
 abbrev pub to_run : ℕ → ℕ → Lists → ℕ
 to_run t r s = to_give t r s.server_numbers s.servers + jobs_of t r s.jobs.out
 
--- sessions are numbered in order, no call number stands twice or comes again, each session is sound, only connected
--- sessions have calls, no request may run twice, and the credits of the live sessions are no more than the ring is
--- long. A session that broke has its calls until each is told to be over
+-- sessions are numbered in order, no call number stands twice or comes again, each session is
+-- sound, only connected sessions have calls, no request may run twice, and the credits of the live
+-- sessions are no more than the ring is long. A session that broke has its calls until each is told
+-- to be over
 pub record Valid (s : Lists) : Type 0 where
   pub numbered : NumberedFrom client_no 0 s.clients
   pub alone : (t : ℕ) → count_by (is_server t) s.servers + to_come s.server_numbers t ≤ 1

@@ -1,5 +1,5 @@
--- The queued packets of an active call have numbers from what it has got up to below what it posted, and no
--- packet is queued of a call that isn't active, nor of a session that isn't live.
+-- The queued packets of an active call have numbers from what it has got up to below what it
+-- posted, and no packet is queued of a call that isn't active, nor of a session that isn't live.
 use Rattle.std.specs.Prelude.{ℕ, ◌≡◌, ◌≤◌, ◌<◌, true, Option, Some, None, List}
 use Rattle.std.specs.List.{AllByRecursion, find}
 use Rattle.rpc_base.specs.declared.owner.Owner.{Owner}

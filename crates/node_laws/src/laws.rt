@@ -1,10 +1,10 @@
 //! Laws of the runs of one node, each proved of the definitions in `specs/`.
 ghost use Rattle.node_laws.specs.Laws.{CreditBalances, EndedCallsAreNotQueued, EndedSessionsAreNotQueued, HappensAtMostOnce, InboxFits, ListsAreKept, OlderRequestsAreNotQueued, QueuedPacketsFit, RequestsTellTheHistory, RingFits, SharesFit, TablesTellTheHistory};
 
-/// At the end of a run a node's tables are in order: sessions and calls have numbers of their own, each
-/// count of a call is in its bounds, only connected sessions have calls, no request may run twice, and
-/// the credits of the live sessions fit the ring. And each queued packet of a call is an unanswered one
-/// of an active call of a live session, and is queued once.
+/// At the end of a run a node's tables are in order: sessions and calls have numbers of their own,
+/// each count of a call is in its bounds, only connected sessions have calls, no request may run
+/// twice, and the credits of the live sessions fit the ring. And each queued packet of a call is an
+/// unanswered one of an active call of a live session, and is queued once.
 pub fn lists_are_kept()
     ensures { ListsAreKept }
 {}
@@ -25,8 +25,8 @@ pub fn ended_calls_are_not_queued()
     ensures { EndedCallsAreNotQueued }
 {}
 
-/// Where a packet of a request is taken, no reply to an older request of its slot is queued, and none is
-/// posted later.
+/// Where a packet of a request is taken, no reply to an older request of its slot is queued, and
+/// none is posted later.
 pub fn older_requests_are_not_queued()
     ensures { OlderRequestsAreNotQueued }
 {}
@@ -42,9 +42,9 @@ pub fn tables_tell_the_history()
     ensures { TablesTellTheHistory }
 {}
 
-/// At the end of a run a request is in the table exactly where a packet of it was taken, and none of a
-/// greater number of its slot, and its session didn't end; and its type and size, how far it has come, its bytes and its answer are
-/// those of the facts.
+/// At the end of a run a request is in the table exactly where a packet of it was taken, and none
+/// of a greater number of its slot, and its session didn't end; and its type and size, how far it
+/// has come, its bytes and its answer are those of the facts.
 pub fn requests_tell_the_history()
     ensures { RequestsTellTheHistory }
 {}
@@ -59,15 +59,15 @@ pub fn inbox_fits()
     ensures { InboxFits }
 {}
 
-/// At no moment of a run is a packet of a call queued twice; and the queued packets of a live client
-/// session and its free credits are no more than its limit, and those of all sessions no more than the
-/// ring is long.
+/// At no moment of a run is a packet of a call queued twice; and the queued packets of a live
+/// client session and its free credits are no more than its limit, and those of all sessions no
+/// more than the ring is long.
 pub fn queued_packets_fit()
     ensures { QueuedPacketsFit }
 {}
 
-/// At the end of a run the credits of a node's live sessions, of both kinds, are no more than its ring is
-/// long.
+/// At the end of a run the credits of a node's live sessions, of both kinds, are no more than its
+/// ring is long.
 pub fn shares_fit()
     ensures { SharesFit }
 {}

@@ -1,6 +1,6 @@
-//! The laws of one node's facts, whatever arrives: what its credits make, what happens at most once,
-//! what a call that is over and an older request leave, and what its tables tell of its history. It
-//! runs nothing.
+//! The laws of one node's facts, whatever arrives: what its credits make, what happens at most
+//! once, what a call that is over and an older request leave, and what its tables tell of its
+//! history. It runs nothing.
 #![tactic(auto)]
 
 mod laws;

@@ -38,10 +38,6 @@ module _ {A : Type 0} (p : A → Bool) where
   find-by x xs true h ih = cc
   find-by x xs false h ih = ih h
 
-  pub find-none : (xs : List A) → list_any p xs ≡ false → find p xs ≡ None
-  find-none [] h = refl
-  find-none (x ∷ xs) h = find-by x xs (p x) h (find-none xs)
-
   first-by : (f : A → A) (x : A) (xs : List A) (b : Bool) → (b || list_any p xs) ≡ false → (list_any p xs ≡ false → at_first p f xs ≡ xs) → cond b (f x ∷ xs) (x ∷ at_first p f xs) ≡ x ∷ xs
   first-by f x xs true h ih = cc
   first-by f x xs false h ih = ap (λ (ys : List A). x ∷ ys) (ih h)

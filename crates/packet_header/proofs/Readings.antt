@@ -18,6 +18,7 @@ use Rattle.packet_header.specs.Refusals.{FirstOutside, IsOfKind, Refuses, length
 use Rattle.packet_header.proofs.Faults.{control-no_fault, message-no_fault, no_fault-control, no_fault-message}
 use Rattle.packet_header.proofs.KindBytes.{IsKindOf, kind_of-byte, kind_of-none, kind_of-control, kind_of-message}
 use Rattle.packet_header.proofs.Lengths.{length-tested, tested-length}
+use Rattle.rpc_base.proofs.BasicLemmas.{unless-true}
 
 -- the two tests before the kind
 short_no : (n : ℕ) → 16 ≤ n → nat_lt n 16 ≡ false
@@ -214,19 +215,15 @@ first_outside-decoded offset bytes (inr (kind, of_kind, fault)) =
 misfits : (fault : Option ℕ) (fits : Bool) (p : Packet) (want got : ℕ) → fault ≡ None → fits ≡ false → checked fault fits p want got ≡ Err (Length want got)
 misfits fault fits p want got f g = rw (f, g) refl
 
-untrue : (b : Bool) → (b ≡ true → ⊥) → b ≡ false
-untrue true h = absurd (h refl)
-untrue false h = refl
-
 message_read-misfits : (m : MessageHeader) (n : ℕ) → MessageInRange m → (MessageLength m.kind m.size m.number n → ⊥) → message_read m n ≡ Err (Length (wanted m.kind m.size m.number) n)
 unfolding message_read
 message_read-misfits m n range other =
-    misfits _ _ (Message m) _ n (message-no_fault m range) (untrue _ (λ t. other (tested-length m.kind m.size m.number n t)))
+    misfits _ _ (Message m) _ n (message-no_fault m range) (unless-true _ (λ t. other (tested-length m.kind m.size m.number n t)))
 
 control_read-misfits : (c : ControlHeader) (n : ℕ) → ControlInRange c → (n ≡ 16 → ⊥) → control_read c 0 n ≡ Err (Length 16 n)
 unfolding control_read
 control_read-misfits c n range other =
-    misfits _ _ (Control c) 16 n (control-no_fault c range) (untrue _ (λ t. other (eqb-true n 16 t)))
+    misfits _ _ (Control c) 16 n (control-no_fault c range) (unless-true _ (λ t. other (eqb-true n 16 t)))
 
 misfit-decoded : (p : Packet) (bytes : List ℕ) → HasHead p bytes → InRange p → ¬ HasLength p (length bytes) → decoded bytes ≡ Err (Length (length_of p) (length bytes))
 misfit-decoded (Message m) bytes h range other =

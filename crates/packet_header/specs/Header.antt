@@ -1,5 +1,6 @@
 -- What a datagram's header says: its bytes, the ranges of its fields, and the datagram's length.
 use Rattle.std.specs.Prelude.{◌≡◌, ◌≤◌, ◌<◌, ℕ, ◌+◌, ◌⊎◌, Bool, true, false, List, length, drop, slice_index, Option, Some, None, unwrap_or}
+use Rattle.rpc_base.specs.declared.limits.TheConstants.{SESSION_NUMBERS}
 use Rattle.byteorder.specs.Endian.{big_number}
 use Rattle.packet_header.specs.declared.packet.Kind.{Kind}
 use Rattle.packet_header.specs.declared.packet.Kind.TheVariants.{Request, Rfr, Cr, Response}
@@ -50,7 +51,7 @@ pub record HasControlHead (c : ControlHeader) (bytes : List ℕ) : Type 0 where
   pub magic : slice_index bytes 0 ≡ 225
   pub kind : slice_index bytes 1 ≡ control_code c.kind
   pub client : number_at 2 2 bytes ≡ c.client
-  pub server : number_at 4 2 bytes ≡ unwrap_or c.server 65535
+  pub server : number_at 4 2 bytes ≡ unwrap_or c.server SESSION_NUMBERS
   pub credits : number_at 6 2 bytes ≡ c.credits
   pub status : slice_index bytes 8 ≡ c.status
   pub padding : number_at 9 7 bytes ≡ 0

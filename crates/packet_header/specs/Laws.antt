@@ -14,7 +14,8 @@ IsHeadOf p head = AreBytes head × (length head ≡ 16) × HasHead p head
 
 -- there is one header of this packet
 abbrev pub HasOneHead : Packet → Type 0
-HasOneHead p = (head : List ℕ) × IsHeadOf p head × ((other : List ℕ) → IsHeadOf p other → other ≡ head)
+HasOneHead p =
+    (head : List ℕ) × IsHeadOf p head × ((other : List ℕ) → IsHeadOf p other → other ≡ head)
 
 -- a request number is below 2^48
 abbrev pub RequestFits : Packet → Type 0

@@ -1,4 +1,5 @@
 pub mod Header
+pub mod Kinds
 pub mod Laws
 pub mod Parts
 pub mod Ranges

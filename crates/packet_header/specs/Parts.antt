@@ -1,6 +1,11 @@
 -- How a message is cut into packets of at most 1,024 bytes.
-use Rattle.std.specs.Prelude.{ℕ, ◌-◌, ◌*◌, max, min, List, take, drop}
+use Rattle.std.specs.Prelude.{ℕ, ◌≤◌, ◌-◌, ◌*◌, max, min, List, take, drop}
 use Rattle.std.specs.Int.{div_ceil}
+use Rattle.rpc_base.specs.declared.limits.TheConstants.{MOST_MESSAGE_BYTES}
+
+-- a message has at most 1,048,576 bytes
+abbrev pub IsMessage : ℕ → Type 0
+IsMessage size = size ≤ MOST_MESSAGE_BYTES
 
 -- so many packets carry n bytes: n / 1,024, rounded up, and at least one
 abbrev pub packet_count : ℕ → ℕ

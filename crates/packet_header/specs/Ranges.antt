@@ -8,6 +8,7 @@ use Rattle.packet_header.specs.declared.ranges.Span.{Span}
 use Rattle.packet_header.specs.declared.ranges.MessageRow.{MessageRow}
 use Rattle.packet_header.specs.declared.ranges.ControlRow.{ControlRow}
 use Rattle.packet_header.specs.Parts.{packet_count}
+use Rattle.rpc_base.specs.declared.limits.TheConstants.{MOST_CREDITS, MOST_MESSAGE_BYTES, SESSION_NUMBERS}
 
 -- the numbers from low to high, both among them
 abbrev pub span : ℕ → ℕ → Span
@@ -23,19 +24,28 @@ within s n = nat_le s.lowest n && nat_le n s.highest
 
 -- session numbers: all but 0xFFFF
 abbrev pub sessions : Span
-sessions = span 0 65534
+sessions = span 0 (SESSION_NUMBERS - 1)
 
 -- types, sizes and packet numbers of the packets that carry a call; size is the size field's number
 abbrev pub message_row : Kind → ℕ → MessageRow
-message_row Request size = record { types = span 0 255; sizes = span 0 1048576; numbers = span 0 (packet_count size - 1) }
+message_row Request size =
+    record {
+      types = span 0 255;
+      sizes = span 0 MOST_MESSAGE_BYTES;
+      numbers = span 0
+          (packet_count size - 1);
+    }
 message_row Rfr size = record { types = span 0 0; sizes = span 0 0; numbers = span 1 2046 }
 message_row Cr size = record { types = span 0 0; sizes = span 0 0; numbers = span 0 1022 }
-message_row Response size = record { types = span 0 255; sizes = span 0 1048576; numbers = span 0 2046 }
+message_row Response size =
+    record { types = span 0 255; sizes = span 0 MOST_MESSAGE_BYTES; numbers = span 0 2046 }
 
--- whether there is a server session, the credits, and the status besides 0, of the packets that open
--- and close sessions; status is the status field's number
+-- whether there is a server session, the credits, and the status besides 0, of the packets that
+-- open and close sessions; status is the status field's number
 abbrev pub control_row : ControlKind → ℕ → ControlRow
-control_row ConnectRequest status = record { has_server = false; credits = span 1 256; refusal = 0 }
-control_row ConnectReply status = record { has_server = not (status == 1); credits = span 1 256; refusal = 1 }
+control_row ConnectRequest status =
+    record { has_server = false; credits = span 1 MOST_CREDITS; refusal = 0 }
+control_row ConnectReply status =
+    record { has_server = not (status == 1); credits = span 1 MOST_CREDITS; refusal = 1 }
 control_row DisconnectRequest status = record { has_server = true; credits = span 0 0; refusal = 0 }
 control_row DisconnectReply status = record { has_server = true; credits = span 0 0; refusal = 2 }

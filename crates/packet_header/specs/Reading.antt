@@ -1,5 +1,6 @@
 -- What a datagram is read as: a packet, or the first reason why it is none.
 use Rattle.std.specs.Prelude.{ℕ, ◌+◌, ◌==◌, nat_lt, nat_le, ◌&&◌, ◌||◌, not, Bool, true, false, if◌then◌else◌, List, [], ◌∷◌, length, drop, slice_index, Option, Some, None, Result, Ok, Err}
+use Rattle.rpc_base.specs.declared.limits.TheConstants.{SESSION_NUMBERS}
 use Rattle.packet_header.specs.declared.packet.Kind.{Kind}
 use Rattle.packet_header.specs.declared.packet.Kind.TheVariants.{Request, Rfr, Cr, Response}
 use Rattle.packet_header.specs.declared.packet.ControlKind.{ControlKind}
@@ -42,7 +43,7 @@ message_at kind bytes = record {
 
 -- 0xFFFF is no server
 abbrev pub server_of : ℕ → Option ℕ
-server_of number = if number == 65535 then None else Some number
+server_of number = if number == SESSION_NUMBERS then None else Some number
 
 -- the fields as they stand
 unfoldable pub control_at : ControlKind → List ℕ → ControlHeader
@@ -114,7 +115,8 @@ checked None false p want got = Err (Length want got)
 -- a datagram of a call, by its fields and its length
 unfoldable pub message_read : MessageHeader → (length : ℕ) → Result Packet BadPacket
 message_read m n =
-    checked (message_fault m) (n == wanted m.kind m.size m.number || is_full_part m.kind m.size n) (Message m) (wanted m.kind m.size m.number) n
+    checked (message_fault m) (n == wanted m.kind m.size m.number || is_full_part m.kind m.size n)
+    (Message m) (wanted m.kind m.size m.number) n
 
 -- a datagram of session control, by its fields and its length
 unfoldable pub control_read : ControlHeader → (padding length : ℕ) → Result Packet BadPacket
@@ -124,7 +126,8 @@ control_read c padding n = checked (control_fault c padding) (n == 16) (Control 
 abbrev pub read_as : Option AnyKind → List ℕ → Result Packet BadPacket
 read_as None bytes = Err (NoKind (slice_index bytes 1))
 read_as (Some (OfMessage kind)) bytes = message_read (message_at kind bytes) (length bytes)
-read_as (Some (OfControl kind)) bytes = control_read (control_at kind bytes) (number_at 9 7 bytes) (length bytes)
+read_as (Some (OfControl kind)) bytes =
+    control_read (control_at kind bytes) (number_at 9 7 bytes) (length bytes)
 
 -- a datagram: the first 16 bytes are wanted, then the magic byte, and then a kind
 unfoldable pub decoded : List ℕ → Result Packet BadPacket

@@ -18,8 +18,11 @@ pub record IsOfKind (code : ℕ) (bytes : List ℕ) : Type 0 where
 -- the first field outside its range stands at this offset
 abbrev pub FirstOutside : ℕ → List ℕ → Type 0
 FirstOutside offset bytes =
-    ((kind : Kind) × IsOfKind (kind_code kind) bytes × (first_outside (message_fields (message_at kind bytes)) ≡ Some offset))
-    ⊎ ((kind : ControlKind) × IsOfKind (control_code kind) bytes × (first_outside (control_fields (control_at kind bytes) (number_at 9 7 bytes)) ≡ Some offset))
+    ((kind : Kind) × IsOfKind (kind_code kind) bytes
+    × (first_outside (message_fields (message_at kind bytes)) ≡ Some offset))
+    ⊎ ((kind : ControlKind) × IsOfKind (control_code kind) bytes
+    × (first_outside (control_fields (control_at kind bytes) (number_at 9 7 bytes))
+    ≡ Some offset))
 
 -- the length that a refusal names
 abbrev pub length_of : Packet → ℕ

@@ -6,10 +6,10 @@ ghost use Rattle.packet_header.specs.Header.{AreBytes, HasControlHead, HasHead, 
 use crate::layout::{HEAD_BYTES, MAGIC, NO_SESSION};
 use crate::packet::{ControlHeader, ControlKind, Kind, MessageHeader, Packet};
 use byteorder::{BigEndian, ByteOrder};
-use rpc_base::SessionNo;
+use rpc_base::{SESSION_NUMBERS, SessionNo};
 
-/// Writes the header of a packet whose fields are in the ranges of its kind. Each such packet has one
-/// header.
+/// Writes the header of a packet whose fields are in the ranges of its kind. Each such packet has
+/// one header.
 pub fn encode(packet: &Packet, out: &mut [u8; HEAD_BYTES])
     requires { InRange packet.now }
     ensures head { HasHead packet.now out.new }
@@ -85,7 +85,7 @@ fn control_head(header: &ControlHeader) -> [u8; HEAD_BYTES]
 
 /// What stands in the server's place.
 fn server_number(server: Option<SessionNo>) -> u16
-    ensures { result ≡ unwrap_or server 65535 }
+    ensures { result ≡ unwrap_or server SESSION_NUMBERS }
 {
     match server {
         Some(session) => session.0,

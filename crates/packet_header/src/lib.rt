@@ -18,7 +18,7 @@ pub use layout::{HEAD_BYTES, MAGIC};
 pub use packet::{
     ACCEPTED, BadPacket, ControlHeader, ControlKind, GONE, Kind, MessageHeader, NO_ROOM, Packet,
 };
-pub use parts::{MOST_MESSAGE_BYTES, PART_BYTES, count, part_len};
+pub use parts::{PART_BYTES, count, part_len};
 pub use range_test::is_in_range;
 
 #[cfg(test)]

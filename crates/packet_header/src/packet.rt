@@ -1,4 +1,8 @@
 //! The packets as values.
+ghost use Rattle.std.specs.Prelude.{◌≡◌};
+ghost use Rattle.packet_header.specs.Kinds.{is_asking, is_cr, is_last, is_response, is_rfr};
+
+use crate::parts::count;
 use rpc_base::{RequestNo, SessionNo};
 
 /// The status of a control packet that accepts or is done.
@@ -23,6 +27,36 @@ pub enum Kind {
     Response,
 }
 
+impl Kind {
+    /// Whether a packet asks for the next part of the response.
+    pub fn is_rfr(self) -> bool
+        ensures { result ≡ is_rfr self }
+    {
+        matches!(self, Kind::Rfr)
+    }
+
+    /// Whether a packet gives a credit back.
+    pub fn is_cr(self) -> bool
+        ensures { result ≡ is_cr self }
+    {
+        matches!(self, Kind::Cr)
+    }
+
+    /// Whether a packet is a part of the response.
+    pub fn is_response(self) -> bool
+        ensures { result ≡ is_response self }
+    {
+        matches!(self, Kind::Response)
+    }
+
+    /// Whether a client sends the packet to a server.
+    pub fn is_asking(self) -> bool
+        ensures { result ≡ is_asking self }
+    {
+        matches!(self, Kind::Request | Kind::Rfr)
+    }
+}
+
 /// The header of a packet that carries a call.
 #[derive(Clone, Copy, Debug, PartialEq, Eq)]
 pub struct MessageHeader {
@@ -36,6 +70,15 @@ pub struct MessageHeader {
     /// The number of this packet, counted from 0 in its direction of the call.
     pub number: u16,
     pub request: RequestNo,
+}
+
+impl MessageHeader {
+    /// Whether the packet is the last of its request.
+    pub fn is_last(&self) -> bool
+        ensures { result ≡ is_last self.now }
+    {
+        !self.kind.is_rfr() && u32::from(self.number) + 1 == count(self.size)
+    }
 }
 
 /// The kinds of packet that open and close sessions.

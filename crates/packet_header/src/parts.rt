@@ -5,9 +5,6 @@ ghost use Rattle.packet_header.specs.Parts.{packet_count, part_size};
 /// The bytes of a message that one packet carries at most.
 pub const PART_BYTES: u32 = 1024;
 
-/// The bytes of the largest message.
-pub const MOST_MESSAGE_BYTES: u32 = 1_048_576;
-
 /// How many packets carry a message of `size` bytes. An empty message takes one.
 pub fn count(size: u32) -> u32
     ensures { result ≡ packet_count size }

@@ -4,7 +4,8 @@ ghost use Rattle.packet_header.specs.Ranges.{control_row, message_row, sessions,
 
 use crate::layout::NO_SESSION;
 use crate::packet::{ControlKind, GONE, Kind, NO_ROOM};
-use crate::parts::{MOST_MESSAGE_BYTES, count};
+use crate::parts::count;
+use rpc_base::{MOST_CREDITS, MOST_MESSAGE_BYTES};
 
 /// The greatest number of a packet: a request and a response of 1,024 packets each, where the
 /// response's first answers the request's last.
@@ -12,9 +13,6 @@ const LAST_NUMBER: u32 = 2046;
 
 /// The greatest number of a CR: the last of 1,024 request packets is answered by a response.
 const LAST_CR: u32 = 1022;
-
-/// The most credits of a session, in packets.
-const MOST_CREDITS: u32 = 256;
 
 /// The numbers from `lowest` to `highest`, both among them.
 #[derive(Clone, Copy)]
@@ -89,7 +87,7 @@ impl ControlRow {
     pub fn of(kind: ControlKind, status: u8) -> ControlRow
         ensures { result ≡ control_row kind status }
     {
-        let some = Span::new(1, MOST_CREDITS);
+        let some = Span::new(1, u32::from(MOST_CREDITS));
         let none = Span::new(0, 0);
         let (has_server, credits, refusal) = match kind {
             ControlKind::ConnectRequest => (false, some, 0),

@@ -2,8 +2,8 @@
 use rpc_base::{Owner, Peer, Place};
 use std::marker::Model;
 
-/// A packet that waits to be sent: its owner, its number in its direction of the call, the place of its
-/// bytes in the pool, and the peer it goes to. A packet without a body names no place.
+/// A packet that waits to be sent: its owner, its number in its direction of the call, the place of
+/// its bytes in the pool, and the peer it goes to. A packet without a body names no place.
 #[derive(Clone, Copy, Debug, PartialEq, Eq)]
 pub struct Entry {
     pub owner: Owner,

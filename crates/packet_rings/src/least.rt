@@ -37,7 +37,8 @@ pub fn take_least(entries: &mut HeapCircularBuffer<Entry>, owner: &Owner) -> Opt
     requires within { length entries.old.items ≤ entries.old.capacity }
     ensures taken { result ≡ least (is_of owner.now) number_of entries.old.items }
     ensures within { length entries.new.items ≤ entries.new.capacity }
-    ensures left { entries.new ≡ buffer (without_least (is_of owner.now) number_of entries.old.items) entries.old.capacity }
+    ensures left { entries.new ≡ buffer (without_least (is_of owner.now) number_of
+        entries.old.items) entries.old.capacity }
 {
     let Some(number) = least_of(entries, owner) else {
         return None;

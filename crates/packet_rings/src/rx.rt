@@ -27,8 +27,8 @@ impl Model for RxRing {
 }
 
 impl RxRing {
-    /// An empty ring of `size` datagrams, whose memory is taken here. A ring of size 0 is always full.
-    /// `NoMemory` comes only where there is no memory for it.
+    /// An empty ring of `size` datagrams, whose memory is taken here. A ring of size 0 is always
+    /// full. `NoMemory` comes only where there is no memory for it.
     pub fn new(alloc: Global, size: u32) -> Result<RxRing, NoMemory>
         ensures { IfOk result (λ r. r ≡ ring [] size) }
     {
@@ -63,7 +63,8 @@ impl RxRing {
     /// nothing changed.
     pub fn push(&mut self, datagram: Datagram) -> Result<(), Datagram>
         ensures full { IsErr result ↔ (length self.old.items ≡ self.old.size) }
-        ensures pushed { OnOk result (self.new ≡ ring (self.old.items ++ datagram ∷ []) self.old.size) }
+        ensures pushed { OnOk result (self.new
+            ≡ ring (self.old.items ++ datagram ∷ []) self.old.size) }
         ensures unchanged { OnErr result (self.new ≡ self.old) }
         ensures handed_back { IfErr result (λ back. back ≡ datagram) }
     {

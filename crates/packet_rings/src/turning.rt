@@ -13,7 +13,8 @@ use rpc_base::Owner;
 fn turn(entries: &mut HeapCircularBuffer<Entry>)
     requires some { 0 < length entries.old.items }
     requires within { length entries.old.items ≤ entries.old.capacity }
-    ensures { entries.new ≡ buffer (drop 1 entries.old.items ++ take 1 entries.old.items) entries.old.capacity }
+    ensures { entries.new ≡ buffer (drop 1 entries.old.items ++ take 1 entries.old.items)
+        entries.old.capacity }
 {
     if let Some(entry) = entries.pop_front() {
         // One place is free, so the ring gives up nothing.
@@ -25,20 +26,22 @@ fn turn(entries: &mut HeapCircularBuffer<Entry>)
 fn turn_by(entries: &mut HeapCircularBuffer<Entry>, count: usize)
     requires some { count ≤ length entries.old.items }
     requires within { length entries.old.items ≤ entries.old.capacity }
-    ensures { entries.new ≡ buffer (drop count entries.old.items ++ take count entries.old.items) entries.old.capacity }
+    ensures { entries.new ≡ buffer (drop count entries.old.items ++ take count entries.old.items)
+        entries.old.capacity }
 {
     for _i in 0..count {
         turn(entries);
     }
 }
 
-// Moves the entries in front of that owner's first packet of this number to the back, and tells how many
-// they are: all where it has none.
+// Moves the entries in front of that owner's first packet of this number to the back, and tells how
+// many they are: all where it has none.
 fn turn_to(entries: &mut HeapCircularBuffer<Entry>, owner: &Owner, number: u16) -> usize
     requires within { length entries.old.items ≤ entries.old.capacity }
     ensures before { result ≡ position_or_len (is_entry owner.now number) entries.old.items }
     ensures bound { result ≤ length entries.old.items }
-    ensures turned { entries.new ≡ buffer (drop result entries.old.items ++ take result entries.old.items) entries.old.capacity }
+    ensures turned { entries.new ≡ buffer (drop result entries.old.items
+        ++ take result entries.old.items) entries.old.capacity }
 {
     let len = entries.len();
     for i in 0..len {
@@ -50,8 +53,8 @@ fn turn_to(entries: &mut HeapCircularBuffer<Entry>, owner: &Owner, number: u16) 
     len
 }
 
-/// Takes out that owner's first packet of this number, if it has one. The ring turns once, so that the
-/// others end where they stood.
+/// Takes out that owner's first packet of this number, if it has one. The ring turns once, so that
+/// the others end where they stood.
 pub fn take_out(
     entries: &mut HeapCircularBuffer<Entry>,
     owner: &Owner,
@@ -60,7 +63,8 @@ pub fn take_out(
     requires within { length entries.old.items ≤ entries.old.capacity }
     ensures taken { result ≡ find (is_entry owner.now number) entries.old.items }
     ensures within { length entries.new.items ≤ entries.new.capacity }
-    ensures left { entries.new ≡ buffer (without_first (is_entry owner.now number) entries.old.items) entries.old.capacity }
+    ensures left { entries.new ≡ buffer (without_first (is_entry owner.now number)
+        entries.old.items) entries.old.capacity }
 {
     let len = entries.len();
     let before = turn_to(entries, owner, number);

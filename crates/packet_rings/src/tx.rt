@@ -34,8 +34,8 @@ impl Model for TxRing {
 }
 
 impl TxRing {
-    /// An empty ring of `size` entries, whose memory is taken here. A ring of size 0 takes no entry.
-    /// `NoMemory` comes only where there is no memory for it.
+    /// An empty ring of `size` entries, whose memory is taken here. A ring of size 0 takes no
+    /// entry. `NoMemory` comes only where there is no memory for it.
     pub fn new(alloc: Global, size: u32) -> Result<TxRing, NoMemory>
         ensures { IfOk result (λ r. r ≡ ring [] size) }
     {
@@ -111,14 +111,18 @@ impl TxRing {
     /// others keep their order. None exactly where the owner has no entry.
     pub fn flush(&mut self, owner: Owner) -> Option<Entry>
         ensures taken { result ≡ least (is_of owner) number_of self.old.items }
-        ensures left { self.new ≡ ring (without_least (is_of owner) number_of self.old.items) self.old.size }
+        ensures left { self.new ≡ ring (without_least (is_of owner) number_of self.old.items)
+            self.old.size }
         ensures none { IsNone result ↔ (list_any (is_of owner) self.old.items ≡ false) }
         ensures unchanged { IfNone result (self.new ≡ self.old) }
         ensures listed { IfSome result (λ e. Contains self.old.items e × IsTrue (is_of owner e)) }
         ensures lowest { IfSome result (λ e. NoneLower owner e.number self.old.items) }
-        // Of equals it stood nearest to the front, and what stood before and after it is left in order.
-        ensures nearest { IfSome result (λ e. TakenOut (is_entry owner e.number) e self.old.items self.new.items) }
-        ensures others { filter (is_not_of owner) self.new.items ≡ filter (is_not_of owner) self.old.items }
+        // Of equals it stood nearest to the front, and what stood before and after it is left in
+        // order.
+        ensures nearest { IfSome result (λ e. TakenOut (is_entry owner e.number) e self.old.items
+            self.new.items) }
+        ensures others { filter (is_not_of owner) self.new.items
+            ≡ filter (is_not_of owner) self.old.items }
         ensures fewer { IfSome result (λ _. length self.new.items + 1 ≡ length self.old.items) }
         // It takes away the one place that it names.
         ensures places { IfSome result (λ e. (p : ℕ) →

@@ -36,3 +36,21 @@ pub breaks-item : {X : Type 0} (f : X → List ℕ) (xs : List X) (i : ℕ) (d x
 breaks-item f xs i d x below is a b old mid new before between after first second =
     subst (Breaks a old new before after) (flat_map-around f xs i d x below is)
     (breaks-further a old new before after _ (flat_map f (drop (i + 1) xs)) (puts-breaks a b old mid new before between after _ _ first second))
+
+-- a part of the items was put after those before it
+pub puts-part : {X : Type 0} (f : X → List ℕ) (done part : List X)
+    → (a b c : List ℕ) (old mid new : Option (List ℕ)) (before between after : ℕ)
+    → Puts a b old mid before between (flat_map f done) → Puts b c mid new between after (flat_map f part)
+    → Puts a c old new before after (flat_map f (done ++ part))
+puts-part f done part a b c old mid new before between after first second =
+    rw (flat_map-append f done part) (puts-then a b c old mid new before between after _ _ first second)
+
+-- a fault came in a part of the items
+pub breaks-part : {X : Type 0} (f : X → List ℕ) (whole done part rest : List X) → whole ≡ (done ++ part) ++ rest
+    → (a b : List ℕ) (old mid new : Option (List ℕ)) (before between after : ℕ)
+    → Puts a b old mid before between (flat_map f done) → Breaks b mid new between after (flat_map f part)
+    → Breaks a old new before after (flat_map f whole)
+breaks-part f whole done part rest is a b old mid new before between after first second =
+    let both : Breaks a old new before after (flat_map f (done ++ part)) =
+    rw (flat_map-append f done part) (puts-breaks a b old mid new before between after _ _ first second) in
+    rw (is, flat_map-append f (done ++ part) rest) (breaks-further a old new before after _ (flat_map f rest) both)

@@ -2,7 +2,7 @@
 use Rattle.std.proofs.Common.{◌≡◌, ℕ, List, [], ◌++◌, Option, Result, Ok, Err, refl, sym, ap, subst, ◌∙◌, append_assoc, append-nil}
 use Rattle.rpc_outside.proofs.Printing.{wrote-nothing, wrote-then, wrote-broke, broke-longer, prints-then}
 use Rattle.rpc_outside.specs.Writing.{Wrote, Broke, Prints}
-use Rattle.report_text.specs.Page.{Puts, Breaks, Fills}
+use Rattle.report_text.specs.Page.{Puts, Breaks, Filled}
 
 -- a text that fits stays on the page
 pub puts-held : (held : List ℕ) (known : Option (List ℕ)) (count : ℕ) (text : List ℕ) → Puts held (held ++ text) known known count count text
@@ -14,7 +14,7 @@ puts-nothing held known count = record { moved = []; whole = append-nil held; wr
 
 -- what the page held was written, and then the text
 pub fills-past : {T E : Type 0} (held : List ℕ) (old mid new : Option (List ℕ)) (before between after : ℕ) (result : Result T E) (text : List ℕ)
-    → Wrote old mid before between held → Prints mid new between after result text → Fills held [] old new before after result text
+    → Wrote old mid before between held → Prints mid new between after result text → Filled held [] old new before after result text
 fills-past held old mid new before between after (Ok _) text first second = record {
   moved = held ++ text;
   whole = sym (append-nil (held ++ text));
@@ -44,7 +44,7 @@ puts-breaks a b old mid new before between after text more first second =
 
 -- one text was put, and then another one or a front of it
 pub fills-then : {T E : Type 0} (a b c : List ℕ) (old mid new : Option (List ℕ)) (before between after : ℕ) (result : Result T E) (text more : List ℕ)
-    → Puts a b old mid before between text → Fills b c mid new between after result more → Fills a c old new before after result (text ++ more)
+    → Puts a b old mid before between text → Filled b c mid new between after result more → Filled a c old new before after result (text ++ more)
 fills-then a b c old mid new before between after (Ok _) text more first second =
     puts-then a b c old mid new before between after text more first second
 fills-then a b c old mid new before between after (Err _) text more first second =
@@ -58,8 +58,8 @@ breaks-further held old new before after text more broke =
 
 -- the same of two texts, put as one
 pub fills-two : {T E : Type 0} (a b c : List ℕ) (old mid new : Option (List ℕ)) (before between after : ℕ) (result : Result T E) (text more last : List ℕ)
-    → Puts a b old mid before between text → Fills b c mid new between after result (more ++ last)
-    → Fills a c old new before after result (text ++ more ++ last)
+    → Puts a b old mid before between text → Filled b c mid new between after result (more ++ last)
+    → Filled a c old new before after result (text ++ more ++ last)
 fills-two a b c old mid new before between after result text more last first second =
     rw (append_assoc text more last) (fills-then a b c old mid new before between after result text (more ++ last) first second)
 

@@ -20,11 +20,15 @@ OwnerFits Control = Unit {0}
 abbrev pub EventFits : Event → Type 0
 EventFits (Made ring) = ring < 2 ^ 64
 EventFits (Opened session peer credits) = (session < 2 ^ 64) × (peer < 2 ^ 64) × (credits < 2 ^ 64)
-EventFits (PairedClient session peer server credits) = (session < 2 ^ 64) × (peer < 2 ^ 64) × (server < 2 ^ 64) × (credits < 2 ^ 64)
-EventFits (PairedServer session peer client credits) = (session < 2 ^ 64) × (peer < 2 ^ 64) × (client < 2 ^ 64) × (credits < 2 ^ 64)
-EventFits (NconnectRing shares credits ring) = (shares < 2 ^ 64) × (credits < 2 ^ 64) × (ring < 2 ^ 64)
+EventFits (PairedClient session peer server credits) =
+    (session < 2 ^ 64) × (peer < 2 ^ 64) × (server < 2 ^ 64) × (credits < 2 ^ 64)
+EventFits (PairedServer session peer client credits) =
+    (session < 2 ^ 64) × (peer < 2 ^ 64) × (client < 2 ^ 64) × (credits < 2 ^ 64)
+EventFits (NconnectRing shares credits ring) =
+    (shares < 2 ^ 64) × (credits < 2 ^ 64) × (ring < 2 ^ 64)
 EventFits NconnectNumbers = Unit {0}
-EventFits (Accepted session peer client credits) = (session < 2 ^ 64) × (peer < 2 ^ 64) × (client < 2 ^ 64) × (credits < 2 ^ 64)
+EventFits (Accepted session peer client credits) =
+    (session < 2 ^ 64) × (peer < 2 ^ 64) × (client < 2 ^ 64) × (credits < 2 ^ 64)
 EventFits (Declined peer client credits) = (peer < 2 ^ 64) × (client < 2 ^ 64) × (credits < 2 ^ 64)
 EventFits (Starved peer client credits) = (peer < 2 ^ 64) × (client < 2 ^ 64) × (credits < 2 ^ 64)
 EventFits (Connected session server) = (session < 2 ^ 64) × (server < 2 ^ 64)
@@ -39,7 +43,8 @@ EventFits (Ended session) = session < 2 ^ 64
 EventFits (Broken session) = session < 2 ^ 64
 EventFits (Rated session rate) = (session < 2 ^ 64) × (rate < 2 ^ 64)
 EventFits (Nrate session state) = session < 2 ^ 64
-EventFits (Asked call session req_type room) = (call < 2 ^ 64) × (session < 2 ^ 64) × (req_type < 2 ^ 64) × (room < 2 ^ 64)
+EventFits (Asked call session req_type room) =
+    (call < 2 ^ 64) × (session < 2 ^ 64) × (req_type < 2 ^ 64) × (room < 2 ^ 64)
 EventFits (NcallTooLarge session len) = (session < 2 ^ 64) × (len < 2 ^ 64)
 EventFits (NcallState session state) = session < 2 ^ 64
 EventFits (Begun call request) = (call < 2 ^ 64) × (request < 2 ^ 64)
@@ -56,7 +61,8 @@ EventFits (Again owner number) = OwnerFits owner × (number < 2 ^ 64)
 EventFits (Dropped reason) = Unit {0}
 EventFits (Given session request) = (session < 2 ^ 64) × (request < 2 ^ 64)
 EventFits (Worked session request) = (session < 2 ^ 64) × (request < 2 ^ 64)
-EventFits (Ran session request req_type) = (session < 2 ^ 64) × (request < 2 ^ 64) × (req_type < 2 ^ 64)
+EventFits (Ran session request req_type) =
+    (session < 2 ^ 64) × (request < 2 ^ 64) × (req_type < 2 ^ 64)
 EventFits (Rolled call posted got) = (call < 2 ^ 64) × (posted < 2 ^ 64) × (got < 2 ^ 64)
 EventFits (DoneOk call) = call < 2 ^ 64
 EventFits (DoneTooSmall call size) = (call < 2 ^ 64) × (size < 2 ^ 64)

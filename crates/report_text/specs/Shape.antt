@@ -13,9 +13,11 @@ abbrev pub shape_text : Shape → List ℕ
 shape_text (Word a) = a.now
 shape_text (One a) = a.0.now ++ decimal a.1
 shape_text (Two a b) = a.0.now ++ decimal a.1 ++ b.0.now ++ decimal b.1
-shape_text (Three a b c) = a.0.now ++ decimal a.1 ++ b.0.now ++ decimal b.1 ++ c.0.now ++ decimal c.1
+shape_text (Three a b c) =
+    a.0.now ++ decimal a.1 ++ b.0.now ++ decimal b.1 ++ c.0.now ++ decimal c.1
 shape_text (Four a b c d) =
-    a.0.now ++ decimal a.1 ++ b.0.now ++ decimal b.1 ++ c.0.now ++ decimal c.1 ++ d.0.now ++ decimal d.1
+    a.0.now ++ decimal a.1 ++ b.0.now ++ decimal b.1 ++ c.0.now ++ decimal c.1 ++ d.0.now
+    ++ decimal d.1
 shape_text (Ending a word) = a.0.now ++ decimal a.1 ++ word.now
 shape_text (State a state) = a.0.now ++ decimal a.1 ++ codes " " ++ state_text state
 shape_text (Reason reason) = codes "dropped " ++ reason_text reason

@@ -1,4 +1,5 @@
--- The text of a report: its first line, a line for each fact, and a last line with their number. Every line ends with a line feed.
+-- The text of a report: its first line, a line for each fact, and a last line with their number.
+-- Every line ends with a line feed.
 use Rattle.std.specs.Prelude.{ℕ, List, ◌++◌, length, codes, decimal, flat_map}
 use Rattle.rpc_base.specs.declared.event.Event.{Event}
 use Rattle.rpc_base.specs.declared.event.Event.TheVariants.{Made, Opened, PairedClient, PairedServer, NconnectRing, NconnectNumbers, Accepted, Declined, Starved, Connected, FailedNoRoom, FailedNoAnswer, Closing, NcloseState, NcloseBusy, ClosedHeard, ClosedUnheard, Ended, Broken, Rated, Nrate, Asked, NcallTooLarge, NcallState, Begun, Posted, Flushed, Sent, Unsent, Arrived, Overflowed, Bad, Heard, Took, Again, Dropped, Given, Worked, Ran, Rolled, DoneOk, DoneTooSmall, DonePeerLost, Polled, Missed, Carried, Lost, Repeated, Ticked}

@@ -28,7 +28,8 @@ pub fn tail_for(event: Event) -> Tail
 /// The words and numbers of the line of an event.
 #[tactic(auto, unfolding(crate::specs::Text::event_text))]
 pub fn shape_for(event: Event) -> Shape
-    ensures { (first second : List ℕ) → event_text event first second ≡ with_tail (tail_of event) (shape_text result) first second }
+    ensures { (first second : List ℕ) → event_text event first second
+        ≡ with_tail (tail_of event) (shape_text result) first second }
 {
     match event {
         Event::Made { ring } => One(("made ring ", u64::from(ring))),

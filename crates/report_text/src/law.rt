@@ -30,8 +30,9 @@ fn facts_fit(facts: &[Fact])
     }
 }
 
-/// A law: two histories with the same report are the same, where no fact has other bytes than those that
-/// its line shows. The loops look at nothing but the types of the numbers, which are below 2^64.
+/// A law: two histories with the same report are the same, where no fact has other bytes than those
+/// that its line shows. The loops look at nothing but the types of the numbers, which are below
+/// 2^64.
 pub fn text_tells(one: &[Fact], other: &[Fact])
     requires one { AllTold one.now }
     requires other { AllTold other.now }

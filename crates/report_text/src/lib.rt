@@ -1,6 +1,8 @@
-//! The text of a report: a line for each fact of a history. It knows nothing of how facts come about.
+//! The text of a report: a line for each fact of a history. It knows nothing of how facts come
+//! about.
 #![tactic(auto)]
 
+mod digits;
 mod events;
 mod law;
 mod line;

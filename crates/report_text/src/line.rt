@@ -18,7 +18,8 @@ use rpc_outside::{Failed, Sink};
 
 /// Puts the words and numbers of a line.
 fn put_shape<K: Sink>(sink: &mut K, page: &mut Page, shape: &Shape) -> Result<(), Failed>
-    ensures { Fills page.old page.new (K.written sink.old) (K.written sink.new) (K.faults sink.old) (K.faults sink.new) result (shape_text shape.now) }
+    ensures { Fills K.written K.faults sink.old sink.new page.old page.new result
+        (shape_text shape.now) }
 {
     match shape {
         Shape::Word(word) => put_word(sink, page, word),
@@ -41,7 +42,8 @@ fn put_shape_bytes<K: Sink>(
     shape: &Shape,
     bytes: &[u8],
 ) -> Result<(), Failed>
-    ensures { Fills page.old page.new (K.written sink.old) (K.written sink.new) (K.faults sink.old) (K.faults sink.new) result (shape_text shape.now ++ codes " " ++ bytes_text bytes.now) }
+    ensures { Fills K.written K.faults sink.old sink.new page.old page.new result
+        (shape_text shape.now ++ codes " " ++ bytes_text bytes.now) }
 {
     put_shape(sink, page, shape)?;
     put_more_bytes(sink, page, bytes)
@@ -55,7 +57,9 @@ fn put_shape_both<K: Sink>(
     first: &[u8],
     second: &[u8],
 ) -> Result<(), Failed>
-    ensures { Fills page.old page.new (K.written sink.old) (K.written sink.new) (K.faults sink.old) (K.faults sink.new) result (shape_text shape.now ++ codes " " ++ bytes_text first.now ++ codes " " ++ bytes_text second.now) }
+    ensures { Fills K.written K.faults sink.old sink.new page.old page.new result
+        (shape_text shape.now ++ codes " " ++ bytes_text first.now
+        ++ codes " " ++ bytes_text second.now) }
 {
     put_shape_bytes(sink, page, shape, first)?;
     put_more_bytes(sink, page, second)
@@ -63,7 +67,8 @@ fn put_shape_both<K: Sink>(
 
 /// Puts what happened.
 fn put_event<K: Sink>(sink: &mut K, page: &mut Page, fact: &Fact) -> Result<(), Failed>
-    ensures { Fills page.old page.new (K.written sink.old) (K.written sink.new) (K.faults sink.old) (K.faults sink.new) result (event_text fact.now.event fact.now.first fact.now.second) }
+    ensures { Fills K.written K.faults sink.old sink.new page.old page.new result
+        (event_text fact.now.event fact.now.first fact.now.second) }
 {
     let shape = shape_for(fact.event);
     match tail_for(fact.event) {
@@ -75,7 +80,7 @@ fn put_event<K: Sink>(sink: &mut K, page: &mut Page, fact: &Fact) -> Result<(), 
 
 /// Puts where it happened.
 fn put_who<K: Sink>(sink: &mut K, page: &mut Page, who: Who) -> Result<(), Failed>
-    ensures { Fills page.old page.new (K.written sink.old) (K.written sink.new) (K.faults sink.old) (K.faults sink.new) result (who_text who) }
+    ensures { Fills K.written K.faults sink.old sink.new page.old page.new result (who_text who) }
 {
     match who {
         Who::Node(node) => put_number(sink, page, u64::from(node.0)),
@@ -85,7 +90,8 @@ fn put_who<K: Sink>(sink: &mut K, page: &mut Page, who: Who) -> Result<(), Faile
 
 /// Puts where it happened and a space.
 fn put_head<K: Sink>(sink: &mut K, page: &mut Page, who: Who) -> Result<(), Failed>
-    ensures { Fills page.old page.new (K.written sink.old) (K.written sink.new) (K.faults sink.old) (K.faults sink.new) result (who_text who ++ codes " ") }
+    ensures { Fills K.written K.faults sink.old sink.new page.old page.new result
+        (who_text who ++ codes " ") }
 {
     put_who(sink, page, who)?;
     put_word(sink, page, " ")
@@ -93,7 +99,9 @@ fn put_head<K: Sink>(sink: &mut K, page: &mut Page, who: Who) -> Result<(), Fail
 
 /// Puts a line without its line feed.
 fn put_fact<K: Sink>(sink: &mut K, page: &mut Page, fact: &Fact) -> Result<(), Failed>
-    ensures { Fills page.old page.new (K.written sink.old) (K.written sink.new) (K.faults sink.old) (K.faults sink.new) result (who_text fact.now.who ++ codes " " ++ event_text fact.now.event fact.now.first fact.now.second) }
+    ensures { Fills K.written K.faults sink.old sink.new page.old page.new result
+        (who_text fact.now.who ++ codes " "
+        ++ event_text fact.now.event fact.now.first fact.now.second) }
 {
     put_head(sink, page, fact.who)?;
     put_event(sink, page, fact)
@@ -101,7 +109,8 @@ fn put_fact<K: Sink>(sink: &mut K, page: &mut Page, fact: &Fact) -> Result<(), F
 
 /// Puts the line of a fact.
 pub fn put_line<K: Sink>(sink: &mut K, page: &mut Page, fact: &Fact) -> Result<(), Failed>
-    ensures { Fills page.old page.new (K.written sink.old) (K.written sink.new) (K.faults sink.old) (K.faults sink.new) result (line_text fact.now) }
+    ensures { Fills K.written K.faults sink.old sink.new page.old page.new result
+        (line_text fact.now) }
 {
     put_fact(sink, page, fact)?;
     put_last(sink, page, "\n")

@@ -24,6 +24,7 @@ use Rattle.end_laws.proofs.ListLemmas.{all-first, all-add, all-without, all-at, 
 use Rattle.ring_laws.proofs.ClientSteps.{no_roll}
 use Rattle.ring_laws.proofs.Counting.{total, total-sum_by}
 use Rattle.ring_laws.proofs.Frames.{ClientTag, ServerTag, client_tag, server_tag, bones_of}
+use Rattle.node_laws.proofs.StateLemmas.{connected-live}
 
 -- an active call wasn't rolled back since its last reply
 abbrev pub Unrolled : Call → Type 0
@@ -93,17 +94,6 @@ calm-step clock hand l (DoneOk c) first second calm m h = changes (has_call c) _
 calm-step clock hand l (DoneTooSmall c size) first second calm m h = changes (has_call c) _ l.clients (λ x k. record { connected = k.connected; calls = all-without Unrolled (is_call c) x.calls k.calls }) h
 calm-step clock hand l (DonePeerLost c) first second calm m h = changes (has_call c) _ l.clients (λ x k. record { connected = k.connected; calls = all-without Unrolled (is_call c) x.calls k.calls }) h
 calm-step clock hand l _ first second calm m h = h
-
--- a session that is connected is live
-pub connected-live : (state : SessionState) → is_connected state ≡ true → is_live state ≡ true
-connected-live IsConnected h = refl
-connected-live Spent h = refl
-connected-live Unknown h = cc
-connected-live Connecting h = cc
-connected-live IsClosing h = cc
-connected-live Closed h = cc
-connected-live Failed h = cc
-connected-live IsBroken h = cc
 
 -- the credits of connected sessions are their limits
 live-all : (xs : List Client) → AllByRecursion CalmClient xs → total live_credits xs ≡ total (λ (c : ClientTag). c.limit) (map client_tag xs)

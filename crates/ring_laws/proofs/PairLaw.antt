@@ -37,7 +37,8 @@ use Rattle.ring_laws.proofs.OwnersLaw.{OwnersIn, owners-in}
 use Rattle.ring_laws.proofs.PairPlaces.{StandsIn, PairAt, Pairs, AllValid}
 use Rattle.ring_laws.proofs.PairSteps.{Standing, standing-after}
 use Rattle.ring_laws.proofs.RingLaw.{met-net, met-node, met-made, met-pair, rough-roll, rough-repeat, calm-parts, grows-paired}
-use Rattle.ring_laws.proofs.WithinSteps.{no_repeat, part-same, and-false, own-fact, fact, load-noted, load-net, nodes-net, load-made, load-pair, lists1, lists2, nodes1, nodes2, is_server1, paired-nodes}
+use Rattle.ring_laws.proofs.WithinSteps.{no_repeat, part-same, own-fact, fact, load-noted, load-net, nodes-net, load-made, load-pair, lists1, lists2, nodes1, nodes2, is_server1, paired-nodes}
+use Rattle.rpc_base.proofs.BasicLemmas.{and-false}
 
 -- the lists of each node stay valid
 valid-net : (w : Moment) (f : Fact) → f.who ≡ Net → AllValid w → AllValid (moved w f)

@@ -17,16 +17,17 @@ use Rattle.rpc_laws.specs.Front.{control_of, front_header, front_body}
 use Rattle.rpc_laws.specs.Sessions.{is_client, is_live, has_call, comes_to, connects, breaks, ends, clients_after}
 use Rattle.node_laws.proofs.Allowed.{Allowed as Lawful, MayPost, MayEnd, MayLose}
 use Rattle.node_laws.proofs.SoundLemmas.{by_request}
-use Rattle.node_laws.proofs.TableLemmas.{found-holds}
+use Rattle.rpc_base.proofs.FirstLemmas.{found-holds}
 use Rattle.node_laws.specs.Valid.{Sound, Valid}
 use Rattle.node_laws.proofs.WindowEndLemmas.{window-begun, window-ended, whole-unqueued}
 use Rattle.node_laws.specs.Windows.{InsideOf, Inside, InWindow}
 use Rattle.node_laws.proofs.WindowLemmas.{inside-some, window-made, window-opened, window-kept, window-told, window-sent, window-asked, window-posted, window-new, window-took}
 use Rattle.end_laws.proofs.Allowed.{is_packet}
 use Rattle.end_laws.proofs.ListLemmas.{all-found}
-use Rattle.ring_laws.proofs.CalmSteps.{CalmClient, CalmNode, connected-live}
+use Rattle.ring_laws.proofs.CalmSteps.{CalmClient, CalmNode}
 use Rattle.ring_laws.proofs.ClientSteps.{no_roll}
 use Rattle.ring_laws.proofs.Loads.{posted_ask, took_reply}
+use Rattle.node_laws.proofs.StateLemmas.{connected-live}
 
 -- what is posted next isn't unanswered yet
 posted-outside : (l : Lists) (v : Valid l) (n r k : ℕ) → MayPost l n r k → InWindow l.clients (Ask n r) k → ⊥

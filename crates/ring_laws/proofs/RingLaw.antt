@@ -36,6 +36,7 @@ use Rattle.ring_laws.proofs.MirrorSteps.{grows-made, mirrors-made, pair_frame, g
 use Rattle.ring_laws.proofs.SentReads.{Reads, sent-reads}
 use Rattle.ring_laws.proofs.WithinSteps.{no_repeat, within-node, within-net, within-made, within-pair, lists1, lists2, nodes1, nodes2, is_server1, paired-nodes}
 use Rattle.ring_laws.proofs.WorldSteps.{client-found, server-found}
+use Rattle.rpc_base.proofs.BasicLemmas.{or-false}
 
 end-more : (fs gs : List Bones) → Grows fs gs → (n : ℕ) (b : Bool) (s : ℕ) → EndOf fs n b s → EndOf gs n b s
 end-more fs gs g n true s e = (e.0, g.servers n s e.0 e.1)
@@ -180,10 +181,6 @@ rough-roll _ h = refl
 pub rough-repeat : (e : Event) → is_rough e ≡ false → no_repeat e ≡ true
 rough-repeat (Repeated i) h = cc
 rough-repeat _ h = refl
-
-or-false : (a b : Bool) → (a || b) ≡ false → (a ≡ false) × (b ≡ false)
-or-false true b h = cc
-or-false false b h = (refl, h)
 
 pub calm-parts : (f : Fact) (past : List Fact) → Calm (f ∷ past) → (is_rough f.event ≡ false) × Calm past
 calm-parts f past h = or-false (is_rough f.event) (list_any (λ g. is_rough g.event) past) h

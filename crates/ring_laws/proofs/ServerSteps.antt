@@ -28,6 +28,7 @@ use Rattle.end_laws.proofs.JobLemmas.{new-is}
 use Rattle.ring_laws.proofs.ClientSteps.{front-counts, front-queued}
 use Rattle.ring_laws.proofs.Counting.{count, count-append, count-drop, count-less, count-found}
 use Rattle.ring_laws.proofs.Loads.{count-put, count-ready, count-arrived, Filter, asks, own_reply, own_job, server_packets, sent_reply, given_ask}
+use Rattle.rpc_base.proofs.BasicLemmas.{false-true}
 
 -- a packet that a server session takes asks
 goes-kind : (k : Kind) (q : Served) (h : MessageHeader) → GoesOn k q h → is_ask k ≡ true
@@ -54,21 +55,18 @@ packet-moves p t r k s session request number e =
     let two = and_parts (request == r) (number == k) one.1 in
     rw (eqb-true session t one.0, eqb-true request r two.0, eqb-true number k two.1) refl
 
-false-not : {A : Type 0} → false ≡ true → A
-false-not e = cc
-
 pub owes-moves : (p : Filter) (t r k s : ℕ) (e : Event) (bytes : List ℕ) → owes (is_packet r k) t e bytes ≡ true → owes p s e bytes ≡ (t == s && p r k)
 owes-moves p t r k s (Took (Reply session request) number) bytes h = packet-moves p t r k s session request number h
-owes-moves p t r k s (Took (Ask session request) number) bytes h = false-not h
-owes-moves p t r k s (Took Control number) bytes h = false-not h
+owes-moves p t r k s (Took (Ask session request) number) bytes h = false-true h
+owes-moves p t r k s (Took Control number) bytes h = false-true h
 owes-moves p t r k s (Again (Reply session request) number) bytes h = packet-moves p t r k s session request number h
-owes-moves p t r k s (Again (Ask session request) number) bytes h = false-not h
-owes-moves p t r k s (Again Control number) bytes h = false-not h
+owes-moves p t r k s (Again (Ask session request) number) bytes h = false-true h
+owes-moves p t r k s (Again Control number) bytes h = false-true h
 owes-moves p t r k s (Ran session request y) bytes h = packet-moves p t r k s session request (packet_count (length bytes) - 1) h
-owes-moves p t r k s _ bytes h = false-not h
+owes-moves p t r k s _ bytes h = false-true h
 
 owed-counts : (p : Filter) (me t r k s : ℕ) (latest : Option Fact) → Owes latest me t r k → cond {A = ℕ} (t == s && p r k) 1 0 ≤ cond (is_owed p me s latest) 1 0
-owed-counts p me t r k s None o = false-not o
+owed-counts p me t r k s None o = false-true o
 owed-counts p me t r k s (Some f) o =
     let parts = and_parts (is_at me f.who) (owes (is_packet r k) t f.event f.first) o in
     let same = owes-moves p t r k s f.event f.first parts.1 in

@@ -29,6 +29,7 @@ use Rattle.ring_laws.proofs.Frames.{frame, Mirrors, FitsIn}
 use Rattle.ring_laws.proofs.Loads.{Filter, all, Pairing, client_packets, server_packets, free_of, limit_of, posted_ask, took_reply, sent_ask, sent_reply, given_ask, given_reply, ask_to, reply_to, on_way, client_part, server_part, owed, free, limit, load, Within}
 use Rattle.ring_laws.proofs.ServerSteps.{server-step}
 use Rattle.ring_laws.proofs.WorldSteps.{if_at, flight-node, hand-gives}
+use Rattle.rpc_base.proofs.BasicLemmas.{and-false}
 
 -- a number of one node, where it changes
 here-now : (f : Lists → ℕ) (nodes : List Lists) (n k : ℕ) (l m : Lists) → slice_get nodes n ≡ Some l → (n == k) ≡ true → value f (slice_get (slice_set nodes n m) k) ≡ f m
@@ -159,10 +160,6 @@ added-by f [] l zero none = none
 added-by f [] l (suc k) none = refl
 added-by f (z ∷ zs) l zero none = refl
 added-by f (z ∷ zs) l (suc k) none = added-by f zs l k none
-
-pub and-false : (b : Bool) → (b && false) ≡ false
-and-false true = refl
-and-false false = refl
 
 pub load-made : (p : Filter) (w : Moment) (ring : ℕ) (x : Pairing) → load p x (moved w (plain (length w.nodes) (Made ring))) ≤ load p x w
 load-made p w ring x =

@@ -1,5 +1,5 @@
--- While no datagram was repeated and no call rolled back, a packet that is on its way is unanswered, and stands in
--- one place only.
+-- While no datagram was repeated and no call rolled back, a packet that is on its way is
+-- unanswered, and stands in one place only.
 use Rattle.std.specs.Prelude.{ℕ, ◌≡◌, ◌≤◌, ◌<◌, ◌+◌, ◌-◌, ◌==◌, ◌&&◌, not, Bool, false, Option, Some, None, List, length, count_by, slice_get, true}
 use Rattle.std.specs.Bool.{MatchBool}
 use Rattle.std.specs.List.{find, AllByRecursion}
@@ -39,15 +39,16 @@ is_asking t r k (Some h) = is_ask h.kind && (h.session == t && (h.request == r &
 -- the reply to it, for client session s
 abbrev pub is_replying : (s r k : ℕ) → Option MessageHeader → Bool
 is_replying s r k None = false
-is_replying s r k (Some h) = not (is_ask h.kind) && (h.session == s && (h.request == r && h.number == k))
+is_replying s r k (Some h) =
+    not (is_ask h.kind) && (h.session == s && (h.request == r && h.number == k))
 
 -- a job of request r of session t, whose last packet is k
 abbrev pub is_job_of : (t r k : ℕ) → Job → Bool
 is_job_of t r k j = j.session == t && (j.request == r && packet_count (length j.ask) - 1 == k)
 
--- in how many places packet k of request r of a session stands: queued at the client end, in flight to the server
--- end, in the ring there, as a job that is out, queued there as a reply, in flight back, and in the ring of the
--- client end
+-- in how many places packet k of request r of a session stands: queued at the client end, in flight
+-- to the server end, in the ring there, as a job that is out, queued there as a reply, in flight
+-- back, and in the ring of the client end
 abbrev pub places : (flight : List InFlight) → (n s : ℕ) → Lists → (m t : ℕ) → Lists → (r k : ℕ) → ℕ
 places flight n s client m t server r k =
     count_by (is_queued (Ask s r) k) client.queued
@@ -59,7 +60,8 @@ places flight n s client m t server r k =
     + count_by (λ a. is_replying s r k (message_of a.bytes)) client.ring
 
 -- client session s of node n and server session t of node m are the ends of one session
-pub record AreEndsOf (w : Moment) (n s : ℕ) (client : Lists) (x : Client) (m t : ℕ) (server : Lists) (v : Server) : Type 0 where
+pub record AreEndsOf (w : Moment) (n s : ℕ) (client : Lists) (x : Client) (m t : ℕ) (server : Lists)
+    (v : Server) : Type 0 where
   pub is_client : slice_get w.nodes n ≡ Some client
   pub client_there : slice_get client.clients s ≡ Some x
   pub is_server : slice_get w.nodes m ≡ Some server
@@ -70,13 +72,16 @@ pub record AreEndsOf (w : Moment) (n s : ℕ) (client : Lists) (x : Client) (m t
   pub number : v.way.other ≡ s
 
 -- a packet of the session stands once at most, and only while it is unanswered
-pub record StandsOnce (w : Moment) (n s : ℕ) (client : Lists) (x : Client) (m t : ℕ) (server : Lists) (r k : ℕ) : Type 0 where
+pub record StandsOnce (w : Moment) (n s : ℕ) (client : Lists) (x : Client) (m t : ℕ)
+    (server : Lists) (r k : ℕ) : Type 0 where
   pub once : places w.flight n s client m t server r k ≤ 1
   pub unanswered : 1 ≤ places w.flight n s client m t server r k → IsUnanswered x r k
 
 -- so does each packet of each session
 abbrev pub AllStandOnce : Moment → Type 0
-AllStandOnce w = (n s : ℕ) (client : Lists) (x : Client) (m t : ℕ) (server : Lists) (v : Server) → AreEndsOf w n s client x m t server v → (r k : ℕ) → StandsOnce w n s client x m t server r k
+AllStandOnce w =
+    (n s : ℕ) (client : Lists) (x : Client) (m t : ℕ) (server : Lists) (v : Server)
+    → AreEndsOf w n s client x m t server v → (r k : ℕ) → StandsOnce w n s client x m t server r k
 
 -- a datagram for a node is a packet of a session that has an end there, and it is unanswered
 pub record IsOpen (w : Moment) (to : ℕ) (bytes : List ℕ) : Type 0 where
@@ -91,11 +96,12 @@ pub record IsOpen (w : Moment) (to : ℕ) (bytes : List ℕ) : Type 0 where
   pub server : Lists
   pub end : Server
   pub ends : AreEndsOf w home number client session node other server end
-  pub comes : MatchBool (is_ask header.kind) ((to ≡ node) × (header.session ≡ other)) ((to ≡ home) × (header.session ≡ number))
+  pub comes : MatchBool (is_ask header.kind) ((to ≡ node) × (header.session ≡ other))
+      ((to ≡ home) × (header.session ≡ number))
   pub unanswered : IsUnanswered session header.request header.number
 
--- packet k of request r is unanswered, in a session with this end at node n: its client end where it asks, and its
--- server end where it doesn't
+-- packet k of request r is unanswered, in a session with this end at node n: its client end where
+-- it asks, and its server end where it doesn't
 pub record IsOpenAt (w : Moment) (asks : Bool) (n number r k : ℕ) : Type 0 where
   pub home : ℕ
   pub session : ℕ
@@ -119,13 +125,17 @@ IsOpenOwner w n Control k = Unit {0}
 abbrev pub IsOpenJob : Moment → ℕ → Job → Type 0
 IsOpenJob w n j = IsOpenAt w false n j.session j.request (packet_count (length j.ask) - 1)
 
--- each packet of each session stands once at most, and what is in flight, in a ring, queued or a job is unanswered
+-- each packet of each session stands once at most, and what is in flight, in a ring, queued or a
+-- job is unanswered
 pub record IsTidy (w : Moment) : Type 0 where
   pub once : AllStandOnce w
   pub flight : AllByRecursion (λ c. IsOpen w c.to c.bytes) w.flight
-  pub rings : (n : ℕ) (l : Lists) → slice_get w.nodes n ≡ Some l → AllByRecursion (λ a. IsOpen w n a.bytes) l.ring
-  pub queued : (n : ℕ) (l : Lists) → slice_get w.nodes n ≡ Some l → AllByRecursion (λ q. IsOpenOwner w n q.owner q.number) l.queued
-  pub jobs : (n : ℕ) (l : Lists) → slice_get w.nodes n ≡ Some l → AllByRecursion (IsOpenJob w n) l.jobs.out
+  pub rings : (n : ℕ) (l : Lists) → slice_get w.nodes n ≡ Some l
+      → AllByRecursion (λ a. IsOpen w n a.bytes) l.ring
+  pub queued : (n : ℕ) (l : Lists) → slice_get w.nodes n ≡ Some l
+      → AllByRecursion (λ q. IsOpenOwner w n q.owner q.number) l.queued
+  pub jobs : (n : ℕ) (l : Lists) → slice_get w.nodes n ≡ Some l
+      → AllByRecursion (IsOpenJob w n) l.jobs.out
 
 -- so it is at each calm moment
 abbrev pub PairsOnce : List Fact → Type 0

@@ -1,3 +1,7 @@
+pub mod BasicLemmas
+pub mod ChangedLemmas
+pub mod FindLemmas
+pub mod FirstLemmas
 pub mod LeastLemmas
 pub mod TablesLemmas
 pub mod TakingLemmas

@@ -1,9 +1,12 @@
 -- Changing the first element that passes, by the place at which it stands.
-use Rattle.std.proofs.Common.{◌≡◌, ℕ, zero, suc, ◌+◌, ◌<◌, ◌≤◌, Bool, true, false, not, ◌||◌, cond, ltb, Option, Some, None, List, [], ◌∷◌, ◌++◌, length, take, drop, sym, ap, ◌∙◌, refl, arith, rules, tests, ltb-true}
+use Rattle.std.proofs.Common.{◌≡◌, ℕ, zero, suc, ◌+◌, ◌<◌, ◌≤◌, Bool, true, false, not, ◌||◌, cond, ltb, Option, Some, None, List, [], ◌∷◌, ◌++◌, length, get_or, take, drop, sym, ap, ◌∙◌, refl, arith, rules, tests, ltb-true}
 use Rattle.std.specs.List.{slice_get, position, position_or_len, remove, find, list_any, slice_set}
 use Rattle.std.proofs.lemmas.List.Folds.{find_at}
 use Rattle.std.proofs.Math.Numerals.{one-add}
 use Rattle.rpc_base.specs.Tables.{at_first, without_first}
+use Rattle.rpc_base.proofs.BasicLemmas.{found-at, found-below, found-none}
+use Rattle.std.proofs.lemmas.List.Sums.{passes_at_first}
+use Rattle.std.proofs.lemmas.Option.{slice_get-get_or}
 
 at_first-cons : {A : Type 0} (p : A → Bool) (f : A → A) (y : A) (ys : List A) (i : ℕ) (x : A) (b : Bool) → ((j : ℕ) → j ≡ position_or_len p ys → slice_get ys j ≡ Some x → at_first p f ys ≡ slice_set ys j (f x)) → i ≡ cond (not b) (1 + position_or_len p ys) 0 → slice_get (y ∷ ys) i ≡ Some x → cond b (f y ∷ ys) (y ∷ at_first p f ys) ≡ slice_set (y ∷ ys) i (f x)
 at_first-cons p f y ys i x true ih e h = let g = rw e at h in rw e (cc)
@@ -59,19 +62,11 @@ any-past p [] h = refl
 any-past p (y ∷ ys) h = let m = missing-cons p y ys (p y) h in rw m.0 (any-past p ys m.1)
 
 -- what `position` tells
-split-some : (n m i : ℕ) (b : Bool) → ltb n m ≡ b → cond b (Some n) None ≡ Some i → (i ≡ n) × (i < m)
-split-some n m i true t e = let same : i ≡ n = cc in (same, rw same (ltb-true n m t))
-split-some n m i false t e = cc
-
 position-some : {A : Type 0} (p : A → Bool) (xs : List A) (i : ℕ) → position p xs ≡ Some i → (i ≡ position_or_len p xs) × (i < length xs)
-position-some p xs i e = split-some (position_or_len p xs) (length xs) i _ refl e
-
-split-none : (n m : ℕ) (b : Bool) → ltb n m ≡ b → cond b (Some n) None ≡ None → m ≤ n
-split-none n m true t e = cc
-split-none n m false t e = search (rules, tests)
+position-some p xs i e = found-below (position_or_len p xs) (length xs) i _ refl e
 
 position-none : {A : Type 0} (p : A → Bool) (xs : List A) → position p xs ≡ None → length xs ≤ position_or_len p xs
-position-none p xs e = split-none (position_or_len p xs) (length xs) _ refl e
+position-none p xs e = found-none (position_or_len p xs) (length xs) _ refl e
 
 -- the first element that passes stands at its position, or there is none
 pub at_first-found : {A : Type 0} (p : A → Bool) (f : A → A) (xs : List A) (i : ℕ) (x : A) → position p xs ≡ Some i → slice_get xs i ≡ Some x → at_first p f xs ≡ slice_set xs i (f x)
@@ -97,3 +92,14 @@ any-found p xs i e = let (same, within) = position-some p xs i e in any-at p xs 
 
 pub any-missing : {A : Type 0} (p : A → Bool) (xs : List A) → position p xs ≡ None → list_any p xs ≡ false
 any-missing p xs e = any-past p xs (position-none p xs e)
+
+-- the element at a position that was found passes
+pub position-at : {A : Type 0} (p : A → Bool) (xs : List A) (i : ℕ) (d : A) → position p xs ≡ Some i → (i < length xs) × (p (get_or xs i d) ≡ true)
+position-at p xs i d e =
+    let (same, within) = found-at (position_or_len p xs) (length xs) i _ refl e in
+    (rw same within, rw same (passes_at_first p xs d within))
+
+-- the first that passes is replaced, by its place
+pub at_first-replaced : {A : Type 0} (p : A → Bool) (v : A) (xs : List A) (i : ℕ) → position p xs ≡ Some i → at_first p (λ x. v) xs ≡ slice_set xs i v
+at_first-replaced p v xs i e =
+    at_first-found p (λ x. v) xs i (get_or xs i v) e (slice_get-get_or xs i v (position-at p xs i v e).0)

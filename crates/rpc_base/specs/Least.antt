@@ -1,4 +1,5 @@
--- Of the elements that pass a test, the one of least number; among equals the one nearest to the front.
+-- Of the elements that pass a test, the one of least number; among equals the one nearest to the
+-- front.
 use Rattle.std.specs.Prelude.{ℕ, Bool, ◌&&◌, ◌==◌, List, [], ◌∷◌, Option, None, Some, nat_le, if◌then◌else◌}
 use Rattle.std.specs.List.{find}
 use Rattle.rpc_base.specs.Tables.{without_first}
@@ -11,7 +12,9 @@ smaller n (Some m) = if nat_le n m then n else m
 -- the least number among the elements that pass
 abbrev pub least_number : {A : Type 0} → (A → Bool) → (A → ℕ) → List A → Option ℕ
 least_number passes number [] = None
-least_number passes number (x ∷ xs) = if passes x then Some (smaller (number x) (least_number passes number xs)) else least_number passes number xs
+least_number passes number (x ∷ xs) =
+    if passes x then Some (smaller (number x) (least_number passes number xs))
+    else least_number passes number xs
 
 -- the first element that passes and has this number
 abbrev pub bearer : {A : Type 0} → (A → Bool) → (A → ℕ) → List A → Option ℕ → Option A

@@ -143,8 +143,8 @@ pub enum Event {
         owner: Owner,
         number: u16,
     },
-    /// One datagram was handed to the link: `first` is its head, `second` its body. The number is 0 for
-    /// control.
+    /// One datagram was handed to the link: `first` is its head, `second` its body. The number is 0
+    /// for control.
     Sent {
         peer: Peer,
         owner: Owner,

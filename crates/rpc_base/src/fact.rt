@@ -10,8 +10,8 @@ pub enum Who {
     Net,
 }
 
-/// Something that happened. The event holds numbers alone; `first` and `second` are its bytes, empty
-/// where the event has none.
+/// Something that happened. The event holds numbers alone; `first` and `second` are its bytes,
+/// empty where the event has none.
 #[derive(Debug, Drop)]
 pub struct Fact {
     pub who: Who,

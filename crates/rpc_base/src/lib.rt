@@ -15,7 +15,10 @@ mod state;
 
 pub use event::Event;
 pub use fact::{Fact, Who};
-pub use limits::Limits;
+pub use limits::{
+    LEAST_RING, Limits, MOST_CALLS, MOST_CREDITS, MOST_GIVEN, MOST_JOBS, MOST_MESSAGE_BYTES,
+    MOST_RING, MOST_TIMEOUT, SESSION_NUMBERS, USUAL_JOBS, USUAL_RING, USUAL_TIMEOUT,
+};
 pub use listed::Listed;
 pub use memory::NoMemory;
 pub use numbers::{CallNo, NodeId, Peer, Place, SessionNo};

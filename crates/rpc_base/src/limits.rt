@@ -1,6 +1,43 @@
-//! The limits of an endpoint.
+//! The limits: those of the protocol, and those that an endpoint is made with.
 ghost use Rattle.std.specs.Prelude.{◌≡◌, ℕ, ◌≤◌, ◌↔◌, IsTrue};
 ghost use Rattle.rpc_base.specs.Limits.{Fits};
+
+/// The bytes of the largest message.
+pub const MOST_MESSAGE_BYTES: u32 = 1_048_576;
+
+/// The credits of a session, in packets: at least 1, and no more than these.
+pub const MOST_CREDITS: u16 = 256;
+
+/// An endpoint uses so many numbers of client sessions, and as many of server sessions, from 0 on.
+/// The next number stands for none in a header.
+pub const SESSION_NUMBERS: u16 = 65_535;
+
+/// A client session takes no more calls.
+pub const MOST_CALLS: u64 = 1 << 45;
+
+/// An endpoint gives no more background jobs.
+pub const MOST_GIVEN: u64 = 1 << 61;
+
+/// A receive ring has so many places at least.
+pub const LEAST_RING: u32 = 32;
+
+/// A receive ring has no more places.
+pub const MOST_RING: u32 = 4_096;
+
+/// No more background jobs may be out at one time; the fewest are 1.
+pub const MOST_JOBS: u32 = 1_024;
+
+/// The longest timeout, in microseconds; the shortest is 1.
+pub const MOST_TIMEOUT: u64 = 60_000_000;
+
+/// The places of a receive ring where nothing else is said.
+pub const USUAL_RING: u32 = 1_024;
+
+/// The background jobs that may be out at one time where nothing else is said.
+pub const USUAL_JOBS: u32 = 64;
+
+/// The timeout, in microseconds, where nothing else is said.
+pub const USUAL_TIMEOUT: u64 = 5_000;
 
 /// What an endpoint is made with.
 #[derive(Clone, Copy, Debug, PartialEq, Eq)]
@@ -18,20 +55,24 @@ impl Limits {
     pub fn fits(&self) -> bool
         ensures { IsTrue result ↔ Fits self.now }
     {
-        (32..=4096).contains(&self.ring)
-            && (1..=1024).contains(&self.jobs)
-            && (1..=60_000_000).contains(&self.timeout)
+        (LEAST_RING..=MOST_RING).contains(&self.ring)
+            && (1..=MOST_JOBS).contains(&self.jobs)
+            && (1..=MOST_TIMEOUT).contains(&self.timeout)
     }
 
     /// A ring of 1,024 places, 64 jobs and a timeout of 5,000 microseconds.
     pub fn usual() -> Limits
-        ensures values { result ≡ record { ring = 1024; jobs = 64; timeout = 5000 } }
+        ensures values { result ≡ record {
+          ring = USUAL_RING;
+          jobs = USUAL_JOBS;
+          timeout = USUAL_TIMEOUT;
+        } }
         ensures fits { Fits result }
     {
         Limits {
-            ring: 1024,
-            jobs: 64,
-            timeout: 5000,
+            ring: USUAL_RING,
+            jobs: USUAL_JOBS,
+            timeout: USUAL_TIMEOUT,
         }
     }
 }

@@ -60,8 +60,8 @@ impl<T> Listed<T> {
         self.items.as_slice()
     }
 
-    /// Puts an item at the end. `NoMemory` comes only where there is no memory for it, and then nothing
-    /// changed.
+    /// Puts an item at the end. `NoMemory` comes only where there is no memory for it, and then
+    /// nothing changed.
     pub fn push(&mut self, item: T) -> Result<(), NoMemory>
     where
         T: Drop,

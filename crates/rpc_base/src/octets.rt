@@ -39,8 +39,8 @@ impl Octets {
         self.items.is_empty()
     }
 
-    /// Puts more bytes at the end. `NoMemory` comes only where there is no memory for them, and then
-    /// nothing changed.
+    /// Puts more bytes at the end. `NoMemory` comes only where there is no memory for them, and
+    /// then nothing changed.
     pub fn append(&mut self, more: &[u8]) -> Result<(), NoMemory>
         ensures appended { OnOk result (self.new ≡ self.old ++ more.now) }
         ensures unchanged { OnErr result (self.new ≡ self.old) }

@@ -3,8 +3,8 @@ ghost use Rattle.std.specs.Prelude.{◌≡◌, ℕ, ◌+◌, ◌*◌, ◌/◌, �
 
 use std::marker::Model;
 
-/// The number of a request, below 2^48. The t-th request (from 0) that begins in slot i of a session
-/// has the number `i + 8 * t`.
+/// The number of a request, below 2^48. The t-th request (from 0) that begins in slot i of a
+/// session has the number `i + 8 * t`.
 #[derive(Clone, Copy, Debug, PartialEq, Eq)]
 pub struct RequestNo(u64);
 
@@ -19,7 +19,8 @@ impl Model for RequestNo {
 }
 
 impl RequestNo {
-    /// The number of the request that begins in `slot` at its turn `turn`, turns being counted from 0.
+    /// The number of the request that begins in `slot` at its turn `turn`, turns being counted from
+    /// 0.
     pub fn of(slot: u8, turn: u64) -> RequestNo
         requires slot { slot < 8 }
         requires turn { turn < 2 ^ 45 }

@@ -14,7 +14,7 @@ use Rattle.rpc_laws.specs.declared.tables.Served.{Served}
 use Rattle.rpc_laws.specs.ControlSteps.{own_request, retry_row}
 use Rattle.rpc_laws.specs.ControlTable.{control_row, control_facts, control_reply}
 use Rattle.rpc_laws.specs.Facts.{plain}
-use Rattle.rpc_laws.specs.Groups.{connect_by, client_refusal, disconnect_fact, rate_fact}
+use Rattle.rpc_laws.specs.Groups.{connect_by, client_refusal, disconnect_fact, rate_fact, shares}
 use Rattle.rpc_laws.specs.NodeLists.{after, after_all, new_lists}
 use Rattle.rpc_laws.specs.Sessions.{client_end, opened_end}
 use Rattle.rpc_laws.specs.UsualLimits.{with_ring}
@@ -171,6 +171,10 @@ closing = after 0 joined (plain 0 (BeginsClosing 0))
 
 row-closing : disconnect_fact 0 joined ≡ plain 0 (BeginsClosing 0)
 row-closing = refl
+
+-- its credits are shares of its node until it is closed
+row-shares : shares closing ≡ 4
+row-shares = refl
 
 row-not-twice : disconnect_fact 0 closing ≡ plain 0 (NcloseState 0 Closing)
 row-not-twice = refl

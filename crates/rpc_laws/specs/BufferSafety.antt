@@ -1,5 +1,5 @@
--- What is sent: each packet goes to the session's peer, and its head and body spell the packet of its owner. A control
--- packet spells a request or an answer of the session that it names.
+-- What is sent: each packet goes to the session's peer, and its head and body spell the packet of
+-- its owner. A control packet spells a request or an answer of the session that it names.
 use Rattle.std.specs.Prelude.{ℕ, ◌≡◌, ◌+◌, true, Option, Some, None, List, [], ◌∷◌, ◌++◌, length, slice_get}
 use Rattle.std.specs.List.{find, slice_set}
 use Rattle.packet_header.specs.declared.packet.ControlHeader.{ControlHeader}
@@ -54,10 +54,13 @@ clock_after Net e clock = ticked e clock
 -- a claim at each fact, about the nodes' lists that the facts before it leave
 abbrev pub EachFact : (List Lists → Fact → Type 0) → ℕ → List Lists → List Fact → Type 0
 EachFact P clock nodes [] = Unit {0}
-EachFact P clock nodes (f ∷ h) = P nodes f × EachFact P (clock_after f.who f.event clock) (nodes_after clock nodes f) h
+EachFact P clock nodes (f ∷ h) =
+    P nodes f × EachFact P (clock_after f.who f.event clock) (nodes_after clock nodes f) h
 
--- the head and the body spell the packet that the owner has by its node's tables, and it goes to its peer
-pub record SpellsOwn (nodes : List Lists) (n peer : ℕ) (owner : Owner) (number : ℕ) (head body : List ℕ) : Type 0 where
+-- the head and the body spell the packet that the owner has by its node's tables, and it goes to
+-- its peer
+pub record SpellsOwn (nodes : List Lists) (n peer : ℕ) (owner : Owner) (number : ℕ)
+    (head body : List ℕ) : Type 0 where
   pub lists : Lists
   pub is_node : slice_get nodes n ≡ Some lists
   pub out : Outgoing
@@ -73,18 +76,24 @@ pub record IsOpened (s : Lists) (peer session : ℕ) (x : Client) : Type 0 where
   pub found : find (is_client session) s.clients ≡ Some x
   pub to_peer : x.way.peer ≡ peer
 
--- a control packet that a node may send to a peer: a session's own request; the answer that a live server session is
--- the other end of the peer's, with its credits; that there is no room; the request to end a server session that the
--- client session doesn't have; or the answer that a server session isn't there any more
+-- a control packet that a node may send to a peer: a session's own request; the answer that a live
+-- server session is the other end of the peer's, with its credits; that there is no room; the
+-- request to end a server session that the client session doesn't have; or the answer that a server
+-- session isn't there any more
 pub data OwnControl (s : Lists) (peer : ℕ) (h : ControlHeader) : Type 0 where
   asks : (x : Client) → IsOpened s peer h.client x → own_request x ≡ Some h → OwnControl s peer h
-  confirms : (t : ℕ) → (v : Server) → h ≡ connect_reply h (Some t) v.credits 0 → find (is_server t) s.servers ≡ Some v → is_end_of peer h.client v ≡ true → OwnControl s peer h
+  confirms : (t : ℕ) → (v : Server) → h ≡ connect_reply h (Some t) v.credits 0
+      → find (is_server t) s.servers ≡ Some v → is_end_of peer h.client v ≡ true
+      → OwnControl s peer h
   declines : h ≡ connect_reply h None h.credits 1 → OwnControl s peer h
-  disowns : (x : Client) → IsOpened s peer h.client x → h ≡ disconnect_as DisconnectRequest h 0 → reply_row h.server 0 x ≡ Disowns → OwnControl s peer h
-  over : (status : ℕ) → h ≡ disconnect_as DisconnectReply h status → named_end peer h.client h.server s.servers ≡ None → OwnControl s peer h
+  disowns : (x : Client) → IsOpened s peer h.client x → h ≡ disconnect_as DisconnectRequest h 0
+      → reply_row h.server 0 x ≡ Disowns → OwnControl s peer h
+  over : (status : ℕ) → h ≡ disconnect_as DisconnectReply h status
+      → named_end peer h.client h.server s.servers ≡ None → OwnControl s peer h
 
 -- the head spells such a packet, and there is no body
-pub record SpellsControl (nodes : List Lists) (n peer number : ℕ) (head body : List ℕ) : Type 0 where
+pub record SpellsControl (nodes : List Lists) (n peer number : ℕ) (head body : List ℕ)
+    : Type 0 where
   pub lists : Lists
   pub is_node : slice_get nodes n ≡ Some lists
   pub header : ControlHeader

@@ -1,8 +1,8 @@
--- The table of calls: a call waits from Asked, is active from Begun, and leaves the table at its Done.
+-- The table of calls: a call waits from Asked, is active from Begun, and leaves the table at its
+-- Done.
 use Rattle.std.specs.Prelude.{ℕ, ◌+◌, ◌-◌, ◌==◌, Bool, true, false, Option, Some, None, option_map, is_none, List, [], ◌∷◌, ◌++◌, length, if◌then◌else◌}
+pub use Rattle.packet_header.specs.Kinds.{is_response}
 use Rattle.packet_header.specs.Parts.{packet_count}
-use Rattle.packet_header.specs.declared.packet.Kind.{Kind}
-use Rattle.packet_header.specs.declared.packet.Kind.TheVariants.{Response}
 use Rattle.packet_header.specs.declared.packet.MessageHeader.{MessageHeader}
 use Rattle.rpc_laws.specs.declared.tables.Asking.{Asking}
 use Rattle.rpc_laws.specs.declared.tables.Call.{Call}
@@ -26,8 +26,8 @@ is_waiting c = is_none c.progress
 abbrev pub asked_packets : Asking → ℕ
 asked_packets a = packet_count (length a.ask)
 
--- how many client packets the call is known to have: those of its request and, from the first packet
--- of the answer on, one for each further packet of the answer
+-- how many client packets the call is known to have: those of its request and, from the first
+-- packet of the answer on, one for each further packet of the answer
 abbrev pub known_packets : ℕ → Option ℕ → ℕ
 known_packets asked None = asked
 known_packets asked (Some size) = asked + packet_count size - 1
@@ -38,7 +38,19 @@ asking a calls = calls ++ record { what = a; progress = None } ∷ []
 
 -- Begun as r: nothing is posted, nothing taken
 abbrev pub begun : ℕ → Call → Call
-begun r c = record c { progress = Some (record { request = r; got = 0; posted = 0; rolls = 0; mark = 0; answer = None; parts = [] }) }
+begun r c =
+    record
+    c {
+      progress = Some (record {
+        request = r;
+        got = 0;
+        posted = 0;
+        rolls = 0;
+        mark = 0;
+        answer = None;
+        parts = [];
+      });
+    }
 
 abbrev pub moved : (Progress → Progress) → Call → Call
 moved change c = record c { progress = option_map change c.progress }
@@ -47,14 +59,15 @@ moved change c = record c { progress = option_map change c.progress }
 abbrev pub posted_up_to : ℕ → Progress → Progress
 posted_up_to k p = record p { posted = k + 1 }
 
-abbrev pub is_response : Kind → Bool
-is_response Response = true
-is_response _ = false
-
 -- one more reply in turn. A Response adds its part, and the first one tells the answer's size
 abbrev pub with_reply : MessageHeader → List ℕ → Progress → Progress
 with_reply h body p =
-    if is_response h.kind then record p { got = p.got + 1; answer = Some h.size; parts = p.parts ++ body }
+    if is_response h.kind then record p {
+      got = p.got + 1;
+      answer = Some h.size;
+      parts = p.parts
+          ++ body;
+    }
     else record p { got = p.got + 1 }
 
 -- Took, at this clock: the reply is there, no rollback came since, and the mark is now

@@ -1,9 +1,8 @@
 -- The client rule: what a CR or Response does at a node. The first row that holds decides.
 use Rattle.std.specs.Prelude.{ℕ, ◌+◌, ◌-◌, ◌==◌, nat_lt, nat_le, Bool, true, false, not, ◌&&◌, ◌||◌, Option, Some, None, is_none, List, [], ◌∷◌, if◌then◌else◌}
 use Rattle.std.specs.List.{find, list_any}
+pub use Rattle.packet_header.specs.Kinds.{is_cr}
 use Rattle.packet_header.specs.Parts.{part_size}
-use Rattle.packet_header.specs.declared.packet.Kind.{Kind}
-use Rattle.packet_header.specs.declared.packet.Kind.TheVariants.{Cr}
 use Rattle.packet_header.specs.declared.packet.MessageHeader.{MessageHeader}
 use Rattle.rpc_base.specs.declared.event.Event.TheVariants.{Took, Dropped, DoneOk, DoneTooSmall}
 use Rattle.rpc_base.specs.declared.fact.Fact.{Fact}
@@ -23,10 +22,6 @@ use Rattle.rpc_laws.specs.Facts.{plain, with_bytes}
 use Rattle.rpc_laws.specs.Queues.{is_queued}
 use Rattle.rpc_laws.specs.Sessions.{is_connected}
 
-abbrev pub is_cr : Kind → Bool
-is_cr Cr = true
-is_cr _ = false
-
 -- every later packet of an answer has the size that its first one told
 abbrev pub is_same_size : Option ℕ → ℕ → Bool
 is_same_size None size = true
@@ -36,11 +31,13 @@ is_same_size (Some told) size = told == size
 abbrev pub is_of_turn : (asked req_type : ℕ) → Option ℕ → MessageHeader → ℕ → Bool
 is_of_turn asked req_type answer h body_len =
     if nat_lt (h.number + 1) asked then is_cr h.kind
-    else is_response h.kind && (h.req_type == req_type) && is_same_size answer h.size && (body_len == part_size h.size (h.number + 1 - asked))
+    else is_response h.kind && (h.req_type == req_type) && is_same_size answer h.size
+    && (body_len == part_size h.size (h.number + 1 - asked))
 
--- for a call that asks by so many packets, has taken `got` replies and posted its packets below `posted`;
--- is_waiting: its packet of the reply's number is queued
-abbrev pub turn_row : Bool → (asked req_type got posted : ℕ) → Option ℕ → MessageHeader → ℕ → ClientRow
+-- for a call that asks by so many packets, has taken `got` replies and posted its packets below
+-- `posted`; is_waiting: its packet of the reply's number is queued
+abbrev pub turn_row : Bool → (asked req_type got posted : ℕ) → Option ℕ → MessageHeader → ℕ
+    → ClientRow
 turn_row is_waiting asked req_type got posted answer h body_len =
     if nat_lt h.number got then Drops Past
     else (if nat_lt got h.number || nat_le posted h.number then Drops Ahead
@@ -50,7 +47,8 @@ turn_row is_waiting asked req_type got posted answer h body_len =
 
 abbrev pub progress_row : List Queued → Asking → Progress → MessageHeader → ℕ → ClientRow
 progress_row queued a p h body_len =
-    turn_row (list_any (is_queued (Ask h.session h.request) h.number) queued) (asked_packets a) a.req_type p.got p.posted p.answer h body_len
+    turn_row (list_any (is_queued (Ask h.session h.request) h.number) queued) (asked_packets a)
+    a.req_type p.got p.posted p.answer h body_len
 
 abbrev pub active_row : List Queued → Asking → Option Progress → MessageHeader → ℕ → ClientRow
 active_row queued a None h body_len = Drops NoCall
@@ -67,8 +65,8 @@ client_row queued (Some x) peer h body_len =
     else (if not (x.way.peer == peer) then Drops WrongPeer
     else call_row queued (find (is_active h.request) x.calls) h body_len)
 
--- the end of a call: TooSmall where its answer's first packet tells a size above its room, Ok where the
--- last packet was taken
+-- the end of a call: TooSmall where its answer's first packet tells a size above its room, Ok where
+-- the last packet was taken
 abbrev pub end_row : Bool → (asked room got : ℕ) → Option ℕ → EndRow
 end_row is_first asked room got None = GoesOn
 end_row is_first asked room got (Some size) =
@@ -83,7 +81,8 @@ end_facts me number parts (EndsTooSmall size) = plain me (DoneTooSmall number si
 
 abbrev pub ending_of : ℕ → Asking → Progress → Progress → List Fact
 ending_of me a before now =
-    end_facts me a.number now.parts (end_row (is_none before.answer) (asked_packets a) a.room now.got now.answer)
+    end_facts me a.number now.parts (end_row (is_none before.answer) (asked_packets a) a.room
+    now.got now.answer)
 
 abbrev pub progress_ending : ℕ → Asking → MessageHeader → List ℕ → Option Progress → List Fact
 progress_ending me a h body None = []

@@ -1,4 +1,5 @@
--- Session control in a poll: the packets of the inbox are handled, and client sessions send their own requests.
+-- Session control in a poll: the packets of the inbox are handled, and client sessions send their
+-- own requests.
 use Rattle.std.specs.Prelude.{ℕ, ◌≡◌, ◌-◌, ◌==◌, ◌||◌, not, nat_lt, nat_le, Bool, Option, Some, None, List, [], ◌∷◌, ◌++◌, length, map, slice_get, if◌then◌else◌}
 use Rattle.packet_header.specs.Header.{AreBytes, Spells}
 use Rattle.packet_header.specs.declared.packet.ControlHeader.{ControlHeader}
@@ -21,7 +22,8 @@ use Rattle.rpc_laws.specs.Front.{control_of}
 use Rattle.rpc_laws.specs.GoBackN.{WatchesSession}
 use Rattle.rpc_laws.specs.Steps.{Rel, Goes, Then, Until, Visits}
 
--- a control packet is handed to the link at once: it is Sent where the link took it, and otherwise Unsent
+-- a control packet is handed to the link at once: it is Sent where the link took it, and otherwise
+-- Unsent
 abbrev pub control_fact : Bool → (me peer : ℕ) → List ℕ → Fact
 control_fact taken me peer head =
     if taken then with_two me (Sent peer Control 0) head [] else with_bytes me (Unsent peer) head
@@ -47,28 +49,43 @@ pub record Hears (s : Timed) (x : List Fact) (t : Timed) : Type 0 where
   -- whether memory for a server session is wanting
   pub lacks : Bool
   pub said : List Fact
-  pub speaks : SpeaksIf s.lists.me front.peer (control_reply header (control_row lacks front.peer header s.lists)) said
-  pub facts : x ≡ plain s.lists.me Heard ∷ control_facts s.lists front.peer header (control_row lacks front.peer header s.lists) ++ said
+  pub speaks : SpeaksIf s.lists.me front.peer
+      (control_reply header (control_row lacks front.peer header s.lists)) said
+  pub facts : x ≡ plain s.lists.me Heard ∷ control_facts s.lists front.peer header
+      (control_row lacks front.peer header s.lists) ++ said
   pub goes : Goes s x t
 
 -- until the inbox is empty
 abbrev pub HearsAll : Rel
 HearsAll = Until Hears (λ t. t.lists.inbox ≡ [])
 
--- a request of a session's own is sent in the first poll, and again each time that a timeout has passed since the
--- last one, nine times in all; at the next timeout the session gives up
+-- a request of a session's own is sent in the first poll, and again each time that a timeout has
+-- passed since the last one, nine times in all; at the next timeout the session gives up
 abbrev pub retry_row : (clock timeout sends sent_at : ℕ) → RetryRow
 retry_row clock timeout sends sent_at =
     if not (sends == 0 || nat_le timeout (clock - sent_at)) then Rests
     else (if nat_lt sends 9 then Asks
     else GivesUp)
 
--- that request, where the session has one: to connect while it is Connecting, to disconnect while it is Closing
+-- that request, where the session has one: to connect while it is Connecting, to disconnect while
+-- it is Closing
 abbrev pub request_by : SessionState → (number other credits : ℕ) → Option ControlHeader
 request_by Connecting number other credits =
-    Some (record { kind = ConnectRequest; client = number; server = None; credits = credits; status = 0 })
+    Some (record {
+      kind = ConnectRequest;
+      client = number;
+      server = None;
+      credits = credits;
+      status = 0;
+    })
 request_by Closing number other credits =
-    Some (record { kind = DisconnectRequest; client = number; server = Some other; credits = 0; status = 0 })
+    Some (record {
+      kind = DisconnectRequest;
+      client = number;
+      server = Some other;
+      credits = 0;
+      status = 0;
+    })
 request_by state number other credits = None
 
 abbrev pub own_request : Client → Option ControlHeader
@@ -88,7 +105,8 @@ RetriesBy GivesUp me x h facts = facts ≡ map (plain me) (given_up x.state x.wa
 
 abbrev pub RetriesAs : Option ControlHeader → (clock timeout me : ℕ) → Client → List Fact → Type 0
 RetriesAs None clock timeout me x facts = facts ≡ []
-RetriesAs (Some h) clock timeout me x facts = RetriesBy (retry_row clock timeout x.sends x.sent_at) me x h facts
+RetriesAs (Some h) clock timeout me x facts =
+    RetriesBy (retry_row clock timeout x.sends x.sent_at) me x h facts
 
 abbrev pub RetriesOf : (clock timeout me : ℕ) → Option Client → List Fact → Type 0
 RetriesOf clock timeout me None facts = facts ≡ []

@@ -46,13 +46,15 @@ end_row (Some v) = Ends
 
 abbrev pub named_end : ℕ → ℕ → Option ℕ → List Server → Option Server
 named_end peer client None servers = None
-named_end peer client (Some t) servers = find (λ v. is_server t v && is_end_of peer client v) servers
+named_end peer client (Some t) servers =
+    find (λ v. is_server t v && is_end_of peer client v) servers
 
 abbrev pub disconnect_row : ℕ → ControlHeader → Lists → ControlRow
 disconnect_row peer h s = end_row (named_end peer h.client h.server s.servers)
 
--- a connect reply that names server session t: it connects a session that is Connecting with just these credits.
--- A session with that server session leaves it as it is; every other one doesn't want it
+-- a connect reply that names server session t: it connects a session that is Connecting with just
+-- these credits. A session with that server session leaves it as it is; every other one doesn't
+-- want it
 abbrev pub joined_row : SessionState → (limit other t credits : ℕ) → ControlRow
 joined_row Connecting limit other t credits = if credits == limit then Connects t else Ignores
 joined_row Connected limit other t credits = if other == t then Ignores else Disowns
@@ -96,7 +98,8 @@ control_row lacks peer h s = control_row_of h.kind lacks peer h s
 -- a server session ends: the queued replies of its slots are taken out, in the order of the slots
 abbrev pub session_flushes : ℕ → List Queued → Server → List Fact
 session_flushes me queued v =
-    flat_map (λ slot. flushes me queued v.way.number (find (in_slot_of slot) v.slots)) (0 ∷ 1 ∷ 2 ∷ 3 ∷ 4 ∷ 5 ∷ 6 ∷ 7 ∷ [])
+    flat_map (λ slot. flushes me queued v.way.number (find (in_slot_of slot) v.slots))
+    (0 ∷ 1 ∷ 2 ∷ 3 ∷ 4 ∷ 5 ∷ 6 ∷ 7 ∷ [])
 
 abbrev pub session_end : ℕ → List Queued → Option Server → List Fact
 session_end me queued None = []
@@ -116,7 +119,13 @@ control_facts s peer h _ = []
 -- the packet that is sent to the peer: it names the same client session
 abbrev pub connect_reply : ControlHeader → Option ℕ → (credits status : ℕ) → ControlHeader
 connect_reply h server credits status =
-    record { kind = ConnectReply; client = h.client; server = server; credits = credits; status = status }
+    record {
+      kind = ConnectReply;
+      client = h.client;
+      server = server;
+      credits = credits;
+      status = status;
+    }
 
 -- and the same server session
 abbrev pub disconnect_as : ControlKind → ControlHeader → (status : ℕ) → ControlHeader

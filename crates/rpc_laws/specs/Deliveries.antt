@@ -1,5 +1,5 @@
--- A delivery: Bad exactly where the datagram spells no packet, otherwise Overflowed exactly where the ring (or
--- for a control packet the inbox) is full, otherwise Arrived.
+-- A delivery: Bad exactly where the datagram spells no packet, otherwise Overflowed exactly where
+-- the ring (or for a control packet the inbox) is full, otherwise Arrived.
 use Rattle.std.specs.Prelude.{ℕ, ◌≡◌, nat_lt, List, [], ◌∷◌, length, if◌then◌else◌}
 use Rattle.rpc_base.specs.declared.event.Event.{Event}
 use Rattle.rpc_base.specs.declared.event.Event.TheVariants.{Arrived, Overflowed, Bad}
@@ -27,6 +27,7 @@ delivery s peer bytes =
 abbrev pub delivery_facts : Lists → ℕ → List ℕ → List Fact
 delivery_facts s peer bytes = with_bytes s.me (delivery s peer bytes) bytes ∷ []
 
-pub record Delivers (peer : ℕ) (bytes : List ℕ) (s : Timed) (x : List Fact) (t : Timed) : Type 0 where
+pub record Delivers (peer : ℕ) (bytes : List ℕ) (s : Timed) (x : List Fact) (t : Timed)
+    : Type 0 where
   pub facts : x ≡ delivery_facts s.lists peer bytes
   pub goes : Goes s x t

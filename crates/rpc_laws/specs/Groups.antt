@@ -6,6 +6,7 @@ use Rattle.rpc_base.specs.declared.event.Event.TheVariants.{Opened, Closing, Ncl
 use Rattle.rpc_base.specs.declared.fact.Fact.{Fact}
 use Rattle.rpc_base.specs.declared.state.SessionState.{SessionState}
 use Rattle.rpc_base.specs.declared.state.SessionState.TheVariants.{Unknown, Connected, Spent}
+use Rattle.rpc_base.specs.declared.limits.TheConstants.{MOST_CALLS, MOST_MESSAGE_BYTES, SESSION_NUMBERS}
 use Rattle.rpc_laws.specs.declared.tables.Client.{Client}
 use Rattle.rpc_laws.specs.declared.tables.Lists.{Lists}
 use Rattle.rpc_laws.specs.declared.tables.Timed.{Timed}
@@ -15,7 +16,7 @@ use Rattle.rpc_laws.specs.Steps.{Goes}
 
 -- a session is spent where it is Connected and 2^45 calls were asked on it
 abbrev pub told_state : SessionState → ℕ → SessionState
-told_state Connected asked = if nat_lt asked (2 ^ 45) then Connected else Spent
+told_state Connected asked = if nat_lt asked MOST_CALLS then Connected else Spent
 told_state state asked = state
 
 -- the state of a client session, Unknown where its number was never used
@@ -24,17 +25,19 @@ state_of None = Unknown
 state_of (Some x) = told_state x.state x.asked
 
 abbrev pub ask_by_state : SessionState → (session req_type room : ℕ) → List ℕ → Lists → Fact
-ask_by_state Connected session req_type room ask s = with_bytes s.me (Asked s.asked session req_type room) ask
+ask_by_state Connected session req_type room ask s =
+    with_bytes s.me (Asked s.asked session req_type room) ask
 ask_by_state state session req_type room ask s = plain s.me (NcallState session state)
 
--- a call of more than 1,048,576 bytes is refused, then one on a session that isn't Connected; every other
--- one is accepted, with the next number
+-- a call of more than 1,048,576 bytes is refused, then one on a session that isn't Connected; every
+-- other one is accepted, with the next number
 abbrev pub ask_fact : (session req_type room : ℕ) → List ℕ → Lists → Fact
 ask_fact session req_type room ask s =
-    if nat_lt 1048576 (length ask) then plain s.me (NcallTooLarge session (length ask))
+    if nat_lt MOST_MESSAGE_BYTES (length ask) then plain s.me (NcallTooLarge session (length ask))
     else ask_by_state (state_of (find (is_client session) s.clients)) session req_type room ask s
 
-pub record Asks (session req_type : ℕ) (ask : List ℕ) (room : ℕ) (s : Timed) (x : List Fact) (t : Timed) : Type 0 where
+pub record Asks (session req_type : ℕ) (ask : List ℕ) (room : ℕ) (s : Timed) (x : List Fact)
+    (t : Timed) : Type 0 where
   pub facts : x ≡ ask_fact session req_type room ask s.lists ∷ []
   pub goes : Goes s x t
 
@@ -48,10 +51,10 @@ shares s = sum_by live_credits s.clients + sum_by (λ v. v.credits) s.servers
 
 -- 65,535 numbers of client sessions were used, and so many of server sessions
 abbrev pub clients_spent : Lists → Bool
-clients_spent s = nat_le 65535 (length s.clients)
+clients_spent s = nat_le SESSION_NUMBERS (length s.clients)
 
 abbrev pub servers_spent : Lists → Bool
-servers_spent s = nat_le 65535 s.server_numbers
+servers_spent s = nat_le SESSION_NUMBERS s.server_numbers
 
 -- the credits of its live sessions, with so many more, would exceed a node's ring
 abbrev pub has_no_room : ℕ → Lists → Bool
@@ -78,7 +81,8 @@ pair_refusal credits s = refusal_by (clients_spent s || servers_spent s) credits
 abbrev pub connect_by : Option Event → (peer credits rate : ℕ) → Lists → List Fact
 connect_by (Some refusal) peer credits rate s = plain s.me refusal ∷ []
 connect_by None peer credits rate s =
-    plain s.me (Opened (length s.clients) peer credits) ∷ (if rate == 0 then [] else plain s.me (Rated (length s.clients) rate) ∷ [])
+    plain s.me (Opened (length s.clients) peer credits)
+    ∷ (if rate == 0 then [] else plain s.me (Rated (length s.clients) rate) ∷ [])
 
 pub record Connects (peer credits rate : ℕ) (s : Timed) (x : List Fact) (t : Timed) : Type 0 where
   pub facts : x ≡ connect_by (client_refusal credits s.lists) peer credits rate s.lists
@@ -89,7 +93,8 @@ abbrev pub pending : Option Client → ℕ
 pending None = 0
 pending (Some x) = length x.calls
 
--- a disconnect is refused where the session is neither Connected nor Spent, and then where calls are pending
+-- a disconnect is refused where the session is neither Connected nor Spent, and then where calls
+-- are pending
 abbrev pub disconnect_by : SessionState → (session calls : ℕ) → Event
 disconnect_by state session calls =
     if not (is_connected state) then NcloseState session state
@@ -98,7 +103,8 @@ disconnect_by state session calls =
 
 abbrev pub disconnect_fact : ℕ → Lists → Fact
 disconnect_fact session s =
-    let x = find (is_client session) s.clients in plain s.me (disconnect_by (state_of x) session (pending x))
+    let x = find (is_client session) s.clients in
+    plain s.me (disconnect_by (state_of x) session (pending x))
 
 pub record Disconnects (session : ℕ) (s : Timed) (x : List Fact) (t : Timed) : Type 0 where
   pub facts : x ≡ disconnect_fact session s.lists ∷ []
@@ -109,7 +115,8 @@ abbrev pub rate_by : SessionState → (session rate : ℕ) → Event
 rate_by state session rate = if is_live state then Rated session rate else Nrate session state
 
 abbrev pub rate_fact : (session rate : ℕ) → Lists → Fact
-rate_fact session rate s = plain s.me (rate_by (state_of (find (is_client session) s.clients)) session rate)
+rate_fact session rate s =
+    plain s.me (rate_by (state_of (find (is_client session) s.clients)) session rate)
 
 pub record SetsRate (session rate : ℕ) (s : Timed) (x : List Fact) (t : Timed) : Type 0 where
   pub facts : x ≡ rate_fact session rate s.lists ∷ []

@@ -4,6 +4,7 @@ use Rattle.std.specs.List.{find}
 use Rattle.rpc_base.specs.Tables.{without_first}
 use Rattle.rpc_base.specs.declared.event.Event.{Event}
 use Rattle.rpc_base.specs.declared.event.Event.TheVariants.{Given, Ran}
+use Rattle.rpc_base.specs.declared.limits.TheConstants.{MOST_GIVEN}
 use Rattle.rpc_laws.specs.declared.tables.Job.{Job}
 use Rattle.rpc_laws.specs.declared.tables.Jobs.{Jobs}
 use Rattle.rpc_laws.specs.declared.tables.Served.{Served}
@@ -17,7 +18,8 @@ job_of t q = record { session = t; request = q.number; req_type = q.req_type; as
 -- request r of session t becomes a job, where it is there
 abbrev pub new_job : ℕ → ℕ → List Server → List Job
 new_job t r servers =
-    option_to_list (option_map (job_of t) (option_and_then (λ v. find (is_request r) v.slots) (find (is_server t) servers)))
+    option_to_list (option_map (job_of t)
+    (option_and_then (λ v. find (is_request r) v.slots) (find (is_server t) servers)))
 
 -- whether a job is that of request r of session t
 abbrev pub is_job : ℕ → ℕ → Job → Bool
@@ -29,7 +31,8 @@ no_jobs limit = record { limit = limit; given = 0; out = [] }
 
 -- a job is out from Given to its Ran; the servers are those before the fact
 abbrev pub jobs_after : Event → List Server → Jobs → Jobs
-jobs_after (Given t r) servers jobs = record jobs { given = jobs.given + 1; out = jobs.out ++ new_job t r servers }
+jobs_after (Given t r) servers jobs =
+    record jobs { given = jobs.given + 1; out = jobs.out ++ new_job t r servers }
 jobs_after (Ran t r y) servers jobs = record jobs { out = without_first (is_job t r) jobs.out }
 jobs_after _ servers jobs = jobs
 
@@ -37,6 +40,7 @@ jobs_after _ servers jobs = jobs
 abbrev pub usual_jobs : ℕ
 usual_jobs = 64
 
--- the jobs are full: as many as the limit were given and aren't finished, or 2^61 were given in the node's life
+-- the jobs are full: as many as the limit were given and aren't finished, or 2^61 were given in the
+-- node's life
 abbrev pub are_full : Jobs → Bool
-are_full jobs = nat_le jobs.limit (length jobs.out) || nat_le (2 ^ 61) jobs.given
+are_full jobs = nat_le jobs.limit (length jobs.out) || nat_le MOST_GIVEN jobs.given

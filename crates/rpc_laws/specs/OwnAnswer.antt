@@ -11,15 +11,20 @@ use Rattle.rpc_laws.specs.AtMostOnce.{is_at}
 use Rattle.rpc_laws.specs.Facts.{plain, with_bytes, with_two}
 use Rattle.rpc_laws.specs.Service.{is_inline}
 
--- client session s of node n is connected with t of peer m: by pairing, or it was opened to m and then connected
+-- client session s of node n is connected with t of peer m: by pairing, or it was opened to m and
+-- then connected
 pub data IsClientEnd (past : List Fact) (n s m t : ℕ) : Type 0 where
-  paired : (limit : ℕ) → Contains past (plain n (PairedClient s m t limit)) → IsClientEnd past n s m t
-  connected : (limit : ℕ) → Contains past (plain n (Opened s m limit)) → Contains past (plain n (Connected s t)) → IsClientEnd past n s m t
+  paired : (limit : ℕ) → Contains past (plain n (PairedClient s m t limit))
+      → IsClientEnd past n s m t
+  connected : (limit : ℕ) → Contains past (plain n (Opened s m limit))
+      → Contains past (plain n (Connected s t)) → IsClientEnd past n s m t
 
 -- server session t of node m is for s of peer n: by pairing, or it was accepted
 pub data IsServerEnd (past : List Fact) (n s m t : ℕ) : Type 0 where
-  paired : (credits : ℕ) → Contains past (plain m (PairedServer t n s credits)) → IsServerEnd past n s m t
-  accepted : (credits : ℕ) → Contains past (plain m (Accepted t n s credits)) → IsServerEnd past n s m t
+  paired : (credits : ℕ) → Contains past (plain m (PairedServer t n s credits))
+      → IsServerEnd past n s m t
+  accepted : (credits : ℕ) → Contains past (plain m (Accepted t n s credits))
+      → IsServerEnd past n s m t
 
 -- (n, s) and (m, t) are ends of one session, by the facts so far
 pub record AreEnds (past : List Fact) (n s m t : ℕ) : Type 0 where
@@ -48,10 +53,12 @@ abbrev pub ran_inline : Event → List ℕ → Served
 ran_inline (Ran t r req_type) ask = if is_inline req_type then (req_type, ask) ∷ [] else []
 ran_inline _ ask = []
 
--- the types and the bytes of what ran inline at node m so far, in order; the facts stand with the newest first
+-- the types and the bytes of what ran inline at node m so far, in order; the facts stand with the
+-- newest first
 abbrev pub served_by : ℕ → List Fact → Served
 served_by m [] = []
-served_by m (f ∷ past) = served_by m past ++ (if is_at m f.who then ran_inline f.event f.first else [])
+served_by m (f ∷ past) =
+    served_by m past ++ (if is_at m f.who then ran_inline f.event f.first else [])
 
 -- a Ran is of a call, on its own bytes, and its answer is the service's after what it served so far
 pub record OwnRun (past : List Fact) (m t r req_type : ℕ) (ask answer : List ℕ) : Type 0 where

@@ -1,5 +1,5 @@
--- Pacing: when the packets of a client session with a rate are due. Those of other sessions, and replies, are ready
--- at once.
+-- Pacing: when the packets of a client session with a rate are due. Those of other sessions, and
+-- replies, are ready at once.
 use Rattle.std.specs.Prelude.{ℕ, ◌+◌, ◌-◌, ◌*◌, ◌^◌, ◌==◌, ◌&&◌, nat_lt, max, min, Bool, Option, Some, None, option_map, List, [], ◌∷◌, ◌++◌, length}
 use Rattle.std.specs.Int.{div_ceil}
 use Rattle.std.specs.List.{filter, find}
@@ -39,23 +39,29 @@ due_at clock p = max clock p.next
 
 -- after a packet of so many bytes the next one is due so much later; the sum stops at 2^64 - 1
 abbrev pub delayed : (clock size : ℕ) → Pace → Pace
-delayed clock size p = record p { next = min (due_at clock p + div_ceil (size * 1000) p.rate) (2 ^ 64 - 1) }
+delayed clock size p =
+    record p { next = min (due_at clock p + div_ceil (size * 1000) p.rate) (2 ^ 64 - 1) }
 
 -- when a packet that is posted is due, where it is paced
 abbrev pub due_of : (clock : ℕ) → Event → List Pace → Option ℕ
-due_of clock (Posted (Ask session r) k) paces = option_map (due_at clock) (find (is_paced session) paces)
+due_of clock (Posted (Ask session r) k) paces =
+    option_map (due_at clock) (find (is_paced session) paces)
 due_of clock _ paces = None
 
--- a session's rate is that of its last Rated, and 0 before; each packet that is paced delays the next one
+-- a session's rate is that of its last Rated, and 0 before; each packet that is paced delays the
+-- next one
 abbrev pub paces_after : (clock : ℕ) → Event → List Client → List Pace → List Pace
-paces_after clock (Opened s peer credits) clients paces = paces ++ record { session = s; rate = 0; next = 0 } ∷ []
-paces_after clock (PairedClient s peer t credits) clients paces = paces ++ record { session = s; rate = 0; next = 0 } ∷ []
-paces_after clock (Rated s rate) clients paces = at_first (is_pace_of s) (λ p. record p { rate = rate }) paces
+paces_after clock (Opened s peer credits) clients paces =
+    paces ++ record { session = s; rate = 0; next = 0 } ∷ []
+paces_after clock (PairedClient s peer t credits) clients paces =
+    paces ++ record { session = s; rate = 0; next = 0 } ∷ []
+paces_after clock (Rated s rate) clients paces =
+    at_first (is_pace_of s) (λ p. record p { rate = rate }) paces
 paces_after clock (Posted (Ask s r) k) clients paces =
     at_first (is_paced s) (delayed clock (packet_size r k (find (is_client s) clients))) paces
 paces_after clock _ clients paces = paces
 
--- the queued packets that may be sent at this clock, in the order in which they are: in the sending of a poll those
--- that are due by then, behind those that were ready before
+-- the queued packets that may be sent at this clock, in the order in which they are: in the sending
+-- of a poll those that are due by then, behind those that were ready before
 abbrev pub line : (clock : ℕ) → List Queued → List Queued
 line clock queued = filter (λ q. is_due clock q.due) queued

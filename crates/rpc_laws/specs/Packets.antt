@@ -1,6 +1,7 @@
 -- Call packets: the packet that a queued entry stands for, with its body and its receiver.
-use Rattle.std.specs.Prelude.{ℕ, ◌+◌, ◌-◌, nat_lt, Option, Some, None, option_map, [], length, if◌then◌else◌}
+use Rattle.std.specs.Prelude.{◌≡◌, ℕ, ◌+◌, ◌-◌, nat_lt, Option, Some, None, option_map, List, [], length, if◌then◌else◌}
 use Rattle.std.specs.List.{find}
+use Rattle.packet_header.specs.Header.{HasHead, InRange}
 use Rattle.packet_header.specs.Parts.{packet_count, part}
 use Rattle.packet_header.specs.declared.packet.Kind.TheVariants.{Request, Rfr, Cr, Response}
 use Rattle.packet_header.specs.declared.packet.Packet.TheVariants.{Message}
@@ -24,26 +25,59 @@ abbrev pub client_packet : Way → Asking → ℕ → ℕ → Outgoing
 client_packet way a r k =
     if nat_lt k (asked_packets a) then record {
       peer = way.peer;
-      packet = Message (record { kind = Request; req_type = a.req_type; size = length a.ask; session = way.other; number = k; request = r });
+      packet =
+          Message (record {
+            kind = Request;
+            req_type = a.req_type;
+            size = length a.ask;
+            session = way.other;
+            number = k;
+            request = r;
+          });
       body = part a.ask k;
     }
     else record {
       peer = way.peer;
-      packet = Message (record { kind = Rfr; req_type = 0; size = 0; session = way.other; number = k; request = r });
+      packet =
+          Message (record {
+            kind = Rfr;
+            req_type = 0;
+            size = 0;
+            session = way.other;
+            number = k;
+            request = r;
+          });
       body = [];
     }
 
--- server packet k of a request: a credit return before its last packet, and then the parts of the answer
+-- server packet k of a request: a credit return before its last packet, and then the parts of the
+-- answer
 abbrev pub server_packet : Way → Served → ℕ → Option Outgoing
 server_packet way q k =
     if nat_lt (k + 1) (packet_count q.size) then Some (record {
       peer = way.peer;
-      packet = Message (record { kind = Cr; req_type = 0; size = 0; session = way.other; number = k; request = q.number });
+      packet =
+          Message (record {
+            kind = Cr;
+            req_type = 0;
+            size = 0;
+            session = way.other;
+            number = k;
+            request = q.number;
+          });
       body = [];
     })
     else option_map (λ answer. record {
       peer = way.peer;
-      packet = Message (record { kind = Response; req_type = q.req_type; size = length answer; session = way.other; number = k; request = q.number });
+      packet =
+          Message (record {
+            kind = Response;
+            req_type = q.req_type;
+            size = length answer;
+            session = way.other;
+            number = k;
+            request = q.number;
+          });
       body = part answer (k + 1 - packet_count q.size);
     }) q.answer
 
@@ -71,3 +105,8 @@ owner_packet s Control k = None
 
 abbrev pub outgoing : Lists → Queued → Option Outgoing
 outgoing s q = owner_packet s q.owner q.number
+
+-- a packet, whose fields are in their ranges, is sent with this header and body
+abbrev pub IsSpelled : Option Outgoing → (head body : List ℕ) → Type 0
+IsSpelled None head body = ⊥
+IsSpelled (Some o) head body = HasHead o.packet head × (body ≡ o.body) × InRange o.packet

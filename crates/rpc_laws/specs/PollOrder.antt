@@ -1,5 +1,5 @@
--- A poll: finished jobs, the inbox, the packets of the ring in order of arrival, the timers, posting, sending, and
--- the Polled that ends it.
+-- A poll: finished jobs, the inbox, the packets of the ring in order of arrival, the timers,
+-- posting, sending, and the Polled that ends it.
 use Rattle.std.specs.Prelude.{ℕ, ◌≡◌, ◌⊎◌, ◌-◌, ◌<◌, ◌≤◌, max, Bool, true, false, Option, Some, None, option_and_then, List, [], ◌∷◌, length, slice_get, if◌then◌else◌}
 use Rattle.std.specs.List.{find}
 use Rattle.packet_header.specs.Parts.{packet_count}
@@ -40,13 +40,16 @@ is_working (Some q) = q.working
 -- whether a job's request waits for it: it is the newest of its slot, and a worker has it
 abbrev pub is_awaited : Job → List Server → Bool
 is_awaited job servers =
-    is_working (option_and_then (λ v. find (is_request job.request) v.slots) (find (is_server job.session) servers))
+    is_working (option_and_then (λ v. find (is_request job.request) v.slots)
+    (find (is_server job.session) servers))
 
--- a job is finished: the handler ran on its bytes and gave this answer, and the packet that answers the last one of
--- its request is posted where the request waits for it
+-- a job is finished: the handler ran on its bytes and gave this answer, and the packet that answers
+-- the last one of its request is posted where the request waits for it
 abbrev pub finished_facts : List ℕ → Lists → Job → List Fact
 finished_facts answer s job =
-    with_two s.me (Ran job.session job.request job.req_type) job.ask answer ∷ (if is_awaited job s.servers then plain s.me (Posted (Reply job.session job.request) (packet_count (length job.ask) - 1)) ∷ [] else [])
+    with_two s.me (Ran job.session job.request job.req_type) job.ask answer
+    ∷ (if is_awaited job s.servers then plain s.me
+    (Posted (Reply job.session job.request) (packet_count (length job.ask) - 1)) ∷ [] else [])
 
 -- the job of this request is finished, while fewer replies are queued than the ring is long
 pub record Finishes (session request : ℕ) (s : Timed) (x : List Fact) (t : Timed) : Type 0 where
@@ -70,7 +73,8 @@ FinishesSome = Chain FinishesOne
 abbrev pub asks_facts : (ℕ → Mode) → Bool → List ℕ → Lists → ℕ → MessageHeader → List ℕ → List Fact
 asks_facts mode lacks answer s peer h body =
     let v = find (is_server h.session) s.servers in
-    served_facts (mode h.req_type) s.me answer s.queued v h body (server_row (mode h.req_type) (are_full s.jobs) lacks v peer h)
+    served_facts (mode h.req_type) s.me answer s.queued v h body
+    (server_row (mode h.req_type) (are_full s.jobs) lacks v peer h)
 
 abbrev pub replies_facts : Lists → ℕ → MessageHeader → List ℕ → List Fact
 replies_facts s peer h body =
@@ -78,7 +82,8 @@ replies_facts s peer h body =
     reply_facts s.me x h body (client_row s.queued x peer h (length body))
 
 -- a Request or RFR goes by the server rule, a CR or Response by the client rule
-abbrev pub handling_by : (ℕ → Mode) → Bool → List ℕ → Kind → Lists → ℕ → MessageHeader → List ℕ → List Fact
+abbrev pub handling_by : (ℕ → Mode) → Bool → List ℕ → Kind → Lists → ℕ → MessageHeader → List ℕ
+    → List Fact
 handling_by mode lacks answer Request s peer h body = asks_facts mode lacks answer s peer h body
 handling_by mode lacks answer Rfr s peer h body = asks_facts mode lacks answer s peer h body
 handling_by mode lacks answer Cr s peer h body = replies_facts s peer h body
@@ -93,7 +98,8 @@ pub record Handles (mode : ℕ → Mode) (s : Timed) (x : List Fact) (t : Timed)
   pub reads : message_of front.bytes ≡ Some header
   pub lacks : Bool
   pub answer : List ℕ
-  pub facts : x ≡ handling_by mode lacks answer header.kind s.lists front.peer header (body_of front.bytes)
+  pub facts : x ≡ handling_by mode lacks answer header.kind s.lists front.peer header
+      (body_of front.bytes)
   pub goes : Goes s x t
 
 -- the ring is empty, or as many replies are queued as it is long
@@ -111,8 +117,8 @@ Serves i = Then (NotesAll (next_begun i)) (NotesAll (next_posted i))
 abbrev pub PostsAll : Rel
 PostsAll s x t = Visits Serves (length s.lists.clients) s x t
 
--- the front of the queue is sent, where it is ready or due by now: to its peer, with the head and the body of its
--- packet
+-- the front of the queue is sent, where it is ready or due by now: to its peer, with the head and
+-- the body of its packet
 pub record Sends (s : Timed) (x : List Fact) (t : Timed) : Type 0 where
   pub entry : Queued
   pub is_front : slice_get s.lists.queued 0 ≡ Some entry
@@ -143,11 +149,12 @@ pub record Closes (s : Timed) (x : List Fact) (t : Timed) : Type 0 where
 abbrev pub raised : ℕ → Timed → Timed
 raised now s = record s { clock = max s.clock now }
 
--- the seven steps in their order. Which jobs are finished, and how far the sending comes, is told by the first and
--- the sixth
+-- the seven steps in their order. Which jobs are finished, and how far the sending comes, is told
+-- by the first and the sixth
 abbrev pub PollBy : (finishing sending : Rel) → (ℕ → Mode) → ℕ → Rel
 PollBy finishing sending mode now s x t =
-    Then finishing (Then HearsAll (Then (HandlesAll mode) (Then TimesAll (Then PostsAll (Then sending Closes))))) (raised now s) x t
+    Then finishing (Then HearsAll (Then (HandlesAll mode)
+    (Then TimesAll (Then PostsAll (Then sending Closes))))) (raised now s) x t
 
 -- a poll of a node of which nothing more is known
 abbrev pub Poll : (ℕ → Mode) → ℕ → Rel

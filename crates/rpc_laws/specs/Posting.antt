@@ -22,7 +22,8 @@ is_taken calls slot = list_any (λ c. holds_slot slot c.progress) calls
 
 -- the lowest free slot, from 0 to 7
 abbrev pub lowest_free : List Call → Option ℕ
-lowest_free calls = position (λ slot. not (is_taken calls slot)) (0 ∷ 1 ∷ 2 ∷ 3 ∷ 4 ∷ 5 ∷ 6 ∷ 7 ∷ [])
+lowest_free calls =
+    position (λ slot. not (is_taken calls slot)) (0 ∷ 1 ∷ 2 ∷ 3 ∷ 4 ∷ 5 ∷ 6 ∷ 7 ∷ [])
 
 -- the number of the next request of a slot
 abbrev pub next_turn : List ℕ → ℕ → ℕ
@@ -31,7 +32,8 @@ next_turn turns slot = slot + 8 * slice_index turns slot
 -- the oldest waiting call begins in the lowest free slot
 abbrev pub beginning : Client → Option Event
 beginning x =
-    option_and_then (λ c. option_map (λ slot. Begun c.what.number (next_turn x.turns slot)) (lowest_free x.calls)) (find is_waiting x.calls)
+    option_and_then (λ c. option_map (λ slot. Begun c.what.number (next_turn x.turns slot))
+    (lowest_free x.calls)) (find is_waiting x.calls)
 
 abbrev pub has_postable : Asking → Option Progress → Bool
 has_postable a None = false

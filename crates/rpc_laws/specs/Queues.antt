@@ -1,4 +1,5 @@
--- The receive ring and the inbox of a node, and the packets that it posted and that are neither sent nor flushed.
+-- The receive ring and the inbox of a node, and the packets that it posted and that are neither
+-- sent nor flushed.
 use Rattle.std.specs.Prelude.{ℕ, Bool, true, false, ◌&&◌, ◌==◌, Option, Some, None, List, [], ◌∷◌, ◌++◌, drop, map, count_by, nat_le, if◌then◌else◌}
 use Rattle.rpc_base.specs.declared.event.Event.{Event}
 use Rattle.rpc_base.specs.declared.event.Event.TheVariants.{Arrived, Heard, Took, Again, Dropped, Posted, Sent, Flushed, Polled}
@@ -14,7 +15,8 @@ use Rattle.rpc_base.specs.Tables.{without_first}
 
 -- the message datagrams that arrived, less the front one at each Took, Again and Dropped
 abbrev pub ring_after : Event → List ℕ → List Arrival → List Arrival
-ring_after (Arrived peer) bytes ring = if is_message bytes then ring ++ record { peer = peer; bytes = bytes } ∷ [] else ring
+ring_after (Arrived peer) bytes ring =
+    if is_message bytes then ring ++ record { peer = peer; bytes = bytes } ∷ [] else ring
 ring_after (Took owner k) bytes ring = drop 1 ring
 ring_after (Again owner k) bytes ring = drop 1 ring
 ring_after (Dropped why) bytes ring = drop 1 ring
@@ -22,7 +24,8 @@ ring_after _ bytes ring = ring
 
 -- the control datagrams that arrived, less the front one at each Heard
 abbrev pub inbox_after : Event → List ℕ → List Arrival → List Arrival
-inbox_after (Arrived peer) bytes inbox = if is_control bytes then inbox ++ record { peer = peer; bytes = bytes } ∷ [] else inbox
+inbox_after (Arrived peer) bytes inbox =
+    if is_control bytes then inbox ++ record { peer = peer; bytes = bytes } ∷ [] else inbox
 inbox_after Heard bytes inbox = drop 1 inbox
 inbox_after _ bytes inbox = inbox
 
@@ -49,10 +52,11 @@ is_due clock (Some d) = nat_le d clock
 abbrev pub made_ready : (clock : ℕ) → Queued → Queued
 made_ready clock q = if is_due clock q.due then record q { due = None } else q
 
--- what was Posted, with the time when it is due where it is paced, less what was Sent or Flushed. A reply may stand
--- in it twice: one is taken out
+-- what was Posted, with the time when it is due where it is paced, less what was Sent or Flushed. A
+-- reply may stand in it twice: one is taken out
 abbrev pub queued_after : Event → (due : Option ℕ) → List Queued → List Queued
-queued_after (Posted owner k) due queued = put_queued (record { owner = owner; number = k; due = due }) queued
+queued_after (Posted owner k) due queued =
+    put_queued (record { owner = owner; number = k; due = due }) queued
 queued_after (Sent peer owner k) due queued = without_first (is_queued owner k) queued
 queued_after (Flushed owner k) due queued = without_first (is_queued owner k) queued
 queued_after (Polled now) due queued = map (made_ready now) queued
@@ -74,7 +78,8 @@ put n (m ∷ ms) = if nat_le n m then n ∷ m ∷ ms else m ∷ put n ms
 -- the numbers of an owner's queued packets, ascending: the order in which they are flushed
 abbrev pub numbers_of : Owner → List Queued → List ℕ
 numbers_of owner [] = []
-numbers_of owner (q ∷ qs) = if same_owner q.owner owner then put q.number (numbers_of owner qs) else numbers_of owner qs
+numbers_of owner (q ∷ qs) =
+    if same_owner q.owner owner then put q.number (numbers_of owner qs) else numbers_of owner qs
 
 -- an owner's queued packets are taken out unsent, in ascending number
 abbrev pub flush_facts : ℕ → List Queued → Owner → List Fact

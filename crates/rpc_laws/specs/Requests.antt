@@ -21,12 +21,24 @@ in_slot_of r q = q.number % 8 == r % 8
 
 abbrev pub server_end : ℕ → ℕ → ℕ → ℕ → Server
 server_end number peer other credits =
-    record { way = record { number = number; peer = peer; other = other }; credits = credits; slots = [] }
+    record {
+      way = record { number = number; peer = peer; other = other };
+      credits = credits;
+      slots = [];
+    }
 
 -- a request begins with its first packet
 abbrev pub first_packet : ℕ → MessageHeader → List ℕ → Served
 first_packet r h body =
-    record { number = r; req_type = h.req_type; size = h.size; taken = 1; ask = body; working = false; answer = None }
+    record {
+      number = r;
+      req_type = h.req_type;
+      size = h.size;
+      taken = 1;
+      ask = body;
+      working = false;
+      answer = None;
+    }
 
 -- one more packet in turn; the bytes of a request are the bodies of its packets, joined
 abbrev pub next_packet : List ℕ → Served → Served
@@ -47,18 +59,23 @@ given q = record q { ask = []; working = true }
 abbrev pub answered : List ℕ → Served → Served
 answered bytes q = record q { ask = []; working = false; answer = Some bytes }
 
--- a session stands there from Accepted or its pairing to Ended. answer is the fact's; head and body are those of
--- the packet at the front of the ring
-abbrev pub servers_after : Event → List ℕ → Option MessageHeader → List ℕ → List Server → List Server
-servers_after (PairedServer t peer s credits) answer head body xs = xs ++ server_end t peer s credits ∷ []
-servers_after (Accepted t peer s credits) answer head body xs = xs ++ server_end t peer s credits ∷ []
+-- a session stands there from Accepted or its pairing to Ended. answer is the fact's; head and body
+-- are those of the packet at the front of the ring
+abbrev pub servers_after : Event → List ℕ → Option MessageHeader → List ℕ → List Server
+    → List Server
+servers_after (PairedServer t peer s credits) answer head body xs =
+    xs ++ server_end t peer s credits ∷ []
+servers_after (Accepted t peer s credits) answer head body xs =
+    xs ++ server_end t peer s credits ∷ []
 servers_after (Ended t) answer head body xs = without_first (is_server t) xs
 servers_after (Took (Reply t r) k) answer head body xs =
     at_first (is_server t) (λ v. record v { slots = took_packet r head body v.slots }) xs
 servers_after (Given t r) answer head body xs =
     at_first (is_server t) (λ v. record v { slots = at_first (is_request r) given v.slots }) xs
 servers_after (Ran t r y) answer head body xs =
-    at_first (is_server t) (λ v. record v { slots = at_first (is_request r) (answered answer) v.slots }) xs
+    at_first (is_server t) (λ v. record v {
+      slots = at_first (is_request r) (answered answer) v.slots;
+    }) xs
 servers_after _ answer head body xs = xs
 
 -- how many numbers of server sessions were used

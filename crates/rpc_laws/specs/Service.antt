@@ -35,12 +35,14 @@ is_background req_type = is_mode_background (plain_mode req_type)
 abbrev pub is_served : ℕ → Bool
 is_served req_type = is_inline req_type || is_background req_type
 
--- the answer to a request, where the tallies before it add up to this total; only a tally looks at it
+-- the answer to a request, where the tallies before it add up to this total; only a tally looks at
+-- it
 abbrev pub answer_with : ℕ → ℕ → List ℕ → List ℕ
-answer_with total req_type ask = if req_type == 3 then tally total ask else plain_answer [] req_type ask
+answer_with total req_type ask =
+    if req_type == 3 then tally total ask else plain_answer [] req_type ask
 
--- what a service is: the modes of its types, and its answer to a request of a type after those that it served
--- in the event loop so far
+-- what a service is: the modes of its types, and its answer to a request of a type after those that
+-- it served in the event loop so far
 pub record Serving : Type 0 where
   pub mode : ℕ → Mode
   pub answer : Served → ℕ → List ℕ → List ℕ
@@ -57,7 +59,8 @@ served_after mode _ ask served = served
 -- and after some facts
 abbrev pub served_after_all : (ℕ → Mode) → Served → List Fact → Served
 served_after_all mode served [] = served
-served_after_all mode served (f ∷ g) = served_after_all mode (served_after mode f.event f.first served) g
+served_after_all mode served (f ∷ g) =
+    served_after_all mode (served_after mode f.event f.first served) g
 
 -- a Ran has the service's answer to its bytes after what was served so far
 abbrev pub AnswersAt : Serving → Served → Event → List ℕ → List ℕ → Type 0
@@ -68,4 +71,5 @@ AnswersAt v served _ ask answer = Unit {0}
 abbrev pub Answers : Serving → Served → List Fact → Type 0
 Answers v served [] = Unit {0}
 Answers v served (f ∷ g) =
-    AnswersAt v served f.event f.first f.second × Answers v (served_after v.mode f.event f.first served) g
+    AnswersAt v served f.event f.first f.second
+    × Answers v (served_after v.mode f.event f.first served) g

@@ -1,5 +1,5 @@
--- Client sessions with their calls, as the facts of a node leave them. The calls of a session stand in the
--- order of their numbers: those that are active, and then those that wait.
+-- Client sessions with their calls, as the facts of a node leave them. The calls of a session stand
+-- in the order of their numbers: those that are active, and then those that wait.
 use Rattle.std.specs.Prelude.{ℕ, ◌+◌, ◌-◌, ◌%◌, ◌==◌, Bool, true, false, Option, Some, None, List, [], ◌∷◌, ◌++◌, slice_index, slice_set, if◌then◌else◌}
 use Rattle.std.specs.List.{list_any}
 use Rattle.rpc_base.specs.declared.event.Event.{Event}
@@ -14,6 +14,7 @@ use Rattle.packet_header.specs.declared.packet.MessageHeader.{MessageHeader}
 use Rattle.rpc_laws.specs.declared.tables.Asking.{Asking}
 use Rattle.rpc_laws.specs.declared.tables.Client.{Client}
 use Rattle.rpc_base.specs.Tables.{at_first, without_first}
+use Rattle.rpc_base.specs.declared.limits.TheConstants.{SESSION_NUMBERS}
 use Rattle.rpc_laws.specs.Front.{control_of}
 use Rattle.rpc_laws.specs.Calls.{is_call, is_active, asking, begun, moved, posted_up_to, rolled_back, sent_packet, took_reply}
 
@@ -29,7 +30,8 @@ is_connected Connected = true
 is_connected Spent = true
 is_connected _ = false
 
--- whether a session's credits count: it is live from Opened or its pairing until it failed, is closed or broke
+-- whether a session's credits count: it is live from Opened or its pairing until it failed, is
+-- closed or broke
 abbrev pub is_live : SessionState → Bool
 is_live Connecting = true
 is_live Connected = true
@@ -56,11 +58,12 @@ client_end number peer other credits = record {
 
 -- no session's number
 abbrev pub no_session : ℕ
-no_session = 65535
+no_session = SESSION_NUMBERS
 
 -- Opened: the server's number isn't known yet
 abbrev pub opened_end : ℕ → ℕ → ℕ → Client
-opened_end number peer credits = record (client_end number peer no_session credits) { state = Connecting }
+opened_end number peer credits =
+    record (client_end number peer no_session credits) { state = Connecting }
 
 -- another state, in which none of the session's own requests was sent
 abbrev pub comes_to : SessionState → Client → Client
@@ -70,8 +73,8 @@ comes_to state x = record x { state = state; sends = 0; sent_at = 0 }
 abbrev pub connects : ℕ → Client → Client
 connects t x = record (comes_to Connected x) { way = record x.way { other = t } }
 
--- whether a control packet is a session's own request: while it is Connecting that to connect, and while it is
--- Closing that to disconnect its server session
+-- whether a control packet is a session's own request: while it is Connecting that to connect, and
+-- while it is Closing that to disconnect its server session
 abbrev pub is_request_of : ControlKind → Option ℕ → SessionState → ℕ → Bool
 is_request_of ConnectRequest server Connecting other = true
 is_request_of DisconnectRequest (Some t) Closing other = t == other
@@ -80,7 +83,8 @@ is_request_of _ server state other = false
 -- one more of its own requests was sent, at this clock
 abbrev pub requests : (clock : ℕ) → ControlHeader → Client → Client
 requests clock h x =
-    if is_request_of h.kind h.server x.state x.way.other then record x { sends = x.sends + 1; sent_at = clock } else x
+    if is_request_of h.kind h.server x.state x.way.other then record
+    x { sends = x.sends + 1; sent_at = clock } else x
 
 -- a control packet with this header was sent, if it is one
 abbrev pub clients_told : (clock : ℕ) → Option ControlHeader → List Client → List Client
@@ -92,7 +96,8 @@ abbrev pub turned : ℕ → List ℕ → List ℕ
 turned slot turns = slice_set turns slot (slice_index turns slot + 1)
 
 abbrev pub begins : ℕ → ℕ → Client → Client
-begins number r x = record x { turns = turned (r % 8) x.turns; calls = at_first (is_call number) (begun r) x.calls }
+begins number r x =
+    record x { turns = turned (r % 8) x.turns; calls = at_first (is_call number) (begun r) x.calls }
 
 -- Asked
 abbrev pub asks : Asking → Client → Client
@@ -100,10 +105,12 @@ asks a x = record x { asked = x.asked + 1; calls = asking a x.calls }
 
 -- Posted takes one credit
 abbrev pub posts : ℕ → ℕ → Client → Client
-posts r k x = record x { free = x.free - 1; calls = at_first (is_active r) (moved (posted_up_to k)) x.calls }
+posts r k x =
+    record x { free = x.free - 1; calls = at_first (is_active r) (moved (posted_up_to k)) x.calls }
 
 abbrev pub sends : (clock r k : ℕ) → Client → Client
-sends clock r k x = record x { calls = at_first (is_active r) (moved (sent_packet clock k)) x.calls }
+sends clock r k x =
+    record x { calls = at_first (is_active r) (moved (sent_packet clock k)) x.calls }
 
 -- Took gives one credit back
 abbrev pub takes : (clock r : ℕ) → Option MessageHeader → List ℕ → Client → Client
@@ -126,25 +133,36 @@ breaks x = record x { state = IsBroken; free = 0 }
 abbrev pub ends : ℕ → Client → Client
 ends number x = record x { calls = without_first (is_call number) x.calls }
 
--- the event happened at this clock; bytes are the fact's, head and body those of the packet at the front
--- of the ring
-abbrev pub clients_after : ℕ → Event → List ℕ → Option MessageHeader → List ℕ → List Client → List Client
-clients_after clock (PairedClient s peer t credits) bytes head body xs = xs ++ client_end s peer t credits ∷ []
-clients_after clock (Opened s peer credits) bytes head body xs = xs ++ opened_end s peer credits ∷ []
+-- the event happened at this clock; bytes are the fact's, head and body those of the packet at the
+-- front of the ring
+abbrev pub clients_after : ℕ → Event → List ℕ → Option MessageHeader → List ℕ → List Client
+    → List Client
+clients_after clock (PairedClient s peer t credits) bytes head body xs =
+    xs ++ client_end s peer t credits ∷ []
+clients_after clock (Opened s peer credits) bytes head body xs =
+    xs ++ opened_end s peer credits ∷ []
 clients_after clock (IsConnected s t) bytes head body xs = at_first (is_client s) (connects t) xs
-clients_after clock (FailedNoRoom s) bytes head body xs = at_first (is_client s) (comes_to Failed) xs
-clients_after clock (FailedNoAnswer s) bytes head body xs = at_first (is_client s) (comes_to Failed) xs
-clients_after clock (BeginsClosing s) bytes head body xs = at_first (is_client s) (comes_to Closing) xs
+clients_after clock (FailedNoRoom s) bytes head body xs =
+    at_first (is_client s) (comes_to Failed) xs
+clients_after clock (FailedNoAnswer s) bytes head body xs =
+    at_first (is_client s) (comes_to Failed) xs
+clients_after clock (BeginsClosing s) bytes head body xs =
+    at_first (is_client s) (comes_to Closing) xs
 clients_after clock (ClosedHeard s) bytes head body xs = at_first (is_client s) (comes_to Closed) xs
-clients_after clock (ClosedUnheard s) bytes head body xs = at_first (is_client s) (comes_to Closed) xs
-clients_after clock (Sent peer Control k) bytes head body xs = clients_told clock (control_of bytes) xs
+clients_after clock (ClosedUnheard s) bytes head body xs =
+    at_first (is_client s) (comes_to Closed) xs
+clients_after clock (Sent peer Control k) bytes head body xs =
+    clients_told clock (control_of bytes) xs
 clients_after clock (Asked c s y room) bytes head body xs =
     at_first (is_client s) (asks (record { number = c; req_type = y; room = room; ask = bytes })) xs
 clients_after clock (Begun c r) bytes head body xs = at_first (has_call c) (begins c r) xs
 clients_after clock (Posted (Ask s r) k) bytes head body xs = at_first (is_client s) (posts r k) xs
-clients_after clock (Sent peer (Ask s r) k) bytes head body xs = at_first (is_client s) (sends clock r k) xs
-clients_after clock (Took (Ask s r) k) bytes head body xs = at_first (is_client s) (takes clock r head body) xs
-clients_after clock (Rolled c posted got) bytes head body xs = at_first (has_call c) (rolls c posted got) xs
+clients_after clock (Sent peer (Ask s r) k) bytes head body xs =
+    at_first (is_client s) (sends clock r k) xs
+clients_after clock (Took (Ask s r) k) bytes head body xs =
+    at_first (is_client s) (takes clock r head body) xs
+clients_after clock (Rolled c posted got) bytes head body xs =
+    at_first (has_call c) (rolls c posted got) xs
 clients_after clock (Broken s) bytes head body xs = at_first (is_client s) breaks xs
 clients_after clock (DoneOk c) bytes head body xs = at_first (has_call c) (ends c) xs
 clients_after clock (DoneTooSmall c size) bytes head body xs = at_first (has_call c) (ends c) xs

@@ -1,4 +1,5 @@
--- Steps of a node: each leads from the node as it was, by the facts that it notes, to the node as it is.
+-- Steps of a node: each leads from the node as it was, by the facts that it notes, to the node as
+-- it is.
 use Rattle.std.specs.Prelude.{ℕ, zero, suc, ◌≡◌, Option, Some, None, List, [], ◌∷◌, ◌++◌}
 use Rattle.rpc_base.specs.declared.event.Event.{Event}
 use Rattle.rpc_base.specs.declared.fact.Fact.{Fact}
@@ -26,10 +27,12 @@ pub record Then (P Q : Rel) (s : Timed) (x : List Fact) (t : Timed) : Type 0 whe
 -- P any number of times, one after another
 pub data Chain (P : Rel) (s : Timed) : List Fact → Timed → Type 0 where
   none : Chain P s [] s
-  more : {x : List Fact} {t : Timed} → Chain P s x t → (y : List Fact) → (u : Timed) → P t y u → Chain P s (x ++ y) u
+  more : {x : List Fact} {t : Timed} → Chain P s x t → (y : List Fact) → (u : Timed) → P t y u
+      → Chain P s (x ++ y) u
 
 -- P any number of times, until Over holds
-pub record Until (P : Rel) (Over : Timed → Type 0) (s : Timed) (x : List Fact) (t : Timed) : Type 0 where
+pub record Until (P : Rel) (Over : Timed → Type 0) (s : Timed) (x : List Fact) (t : Timed)
+    : Type 0 where
   pub steps : Chain P s x t
   pub over : Over t
 
@@ -39,7 +42,8 @@ Visits P zero s x t = (x ≡ []) × (t ≡ s)
 Visits P (suc n) s x t = Then (Visits P n) (P n) s x t
 
 -- the next event, where there is one, is noted
-pub record NotesNext (next : Lists → Option Event) (s : Timed) (x : List Fact) (t : Timed) : Type 0 where
+pub record NotesNext (next : Lists → Option Event) (s : Timed) (x : List Fact) (t : Timed)
+    : Type 0 where
   pub event : Event
   pub is_next : next s.lists ≡ Some event
   pub facts : x ≡ plain s.lists.me event ∷ []

@@ -46,7 +46,8 @@ pub enum EndRow {
 pub enum ControlRow {
     /// It has no effect.
     Ignores,
-    /// A connect request whose server session is there: its number and its credits are told once more.
+    /// A connect request whose server session is there: its number and its credits are told once
+    /// more.
     Confirms { server: SessionNo, credits: u16 },
     /// A connect request for which there is no room.
     Declines,

@@ -14,13 +14,14 @@ pub struct Arrival {
 pub struct Queued {
     pub owner: Owner,
     pub number: u16,
-    /// The clock, in microseconds, from which on it may be sent, where it is paced and wasn't ready yet when a
-    /// poll ended. `None` where it is ready.
+    /// The clock, in microseconds, from which on it may be sent, where it is paced and wasn't ready
+    /// yet when a poll ended. `None` where it is ready.
     pub due: Option<u64>,
 }
 
-/// What never changes of one end of a session once it is connected: its number here, the peer, and its number
-/// there. A client end that isn't connected yet has 65,535 there, which is no session's number.
+/// What never changes of one end of a session once it is connected: its number here, the peer, and
+/// its number there. A client end that isn't connected yet has 65,535 there, which is no session's
+/// number.
 #[derive(Clone, Copy, Debug, PartialEq, Eq)]
 pub struct Way {
     pub number: SessionNo,
@@ -28,8 +29,8 @@ pub struct Way {
     pub other: SessionNo,
 }
 
-/// What never changes of a call: its number, its type, the room for its answer in bytes, and its own
-/// bytes.
+/// What never changes of a call: its number, its type, the room for its answer in bytes, and its
+/// own bytes.
 #[derive(Debug, Drop)]
 pub struct Asking {
     pub number: CallNo,
@@ -70,8 +71,8 @@ pub struct Client {
     pub state: SessionState,
     pub limit: u16,
     pub free: u64,
-    /// How many connect requests were sent since it was opened, or disconnect requests since it began to close;
-    /// 0 in each other state.
+    /// How many connect requests were sent since it was opened, or disconnect requests since it
+    /// began to close; 0 in each other state.
     pub sends: u64,
     /// The clock, in microseconds, when the last of them was sent; 0 where none was.
     pub sent_at: u64,
@@ -92,8 +93,8 @@ pub struct Served {
     pub taken: u64,
     /// The bytes of the request taken so far, none where they went with a job.
     pub ask: Octets,
-    /// Whether a worker has it: from when its job was given, with its bytes, until the handler's answer is
-    /// there.
+    /// Whether a worker has it: from when its job was given, with its bytes, until the handler's
+    /// answer is there.
     pub working: bool,
     /// The handler's answer, once it ran.
     pub answer: Option<Octets>,
@@ -162,7 +163,8 @@ pub struct Lists {
     pub ring: Listed<Arrival>,
     /// The control packets that arrived and weren't handled.
     pub inbox: Listed<Arrival>,
-    /// Those that are ready first, in the order in which they are sent, and then the others, by due time.
+    /// Those that are ready first, in the order in which they are sent, and then the others, by due
+    /// time.
     pub queued: Listed<Queued>,
     /// The rates of all client sessions, in the order of their numbers.
     pub paces: Listed<Pace>,
@@ -180,7 +182,8 @@ pub struct Timed {
     pub clock: u64,
 }
 
-/// A job of a node that was worked and isn't finished. Only a world that says when jobs are worked knows these.
+/// A job of a node that was worked and isn't finished. Only a world that says when jobs are worked
+/// knows these.
 #[derive(Debug, Drop)]
 pub struct WorkedJob {
     pub node: NodeId,

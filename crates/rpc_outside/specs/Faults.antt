@@ -1,4 +1,5 @@
--- Counts of faults: an object of the outside counts its calls that failed. A count is a 64-bit number that stops at its end.
+-- Counts of faults: an object of the outside counts its calls that failed. A count is a 64-bit
+-- number that stops at its end.
 use Rattle.std.specs.Prelude.{◌≡◌, ℕ, ◌+◌, ◌-◌, ◌^◌, ◌<◌, ◌≤◌, min, Result, MatchResult}
 
 -- the greatest count
@@ -19,6 +20,7 @@ pub record IsQuiet (old new : ℕ) : Type 0 where
   pub same : new ≡ old
   pub room : old < end_of_count
 
--- a call answers an error only where a fault came, and leaves the count unchanged where it answers well
+-- a call answers an error only where a fault came, and leaves the count unchanged where it answers
+-- well
 abbrev pub HasCause : {T E : Type 0} → ℕ → ℕ → Result T E → Type 0
 HasCause old new result = MatchResult result (λ _. new ≡ old) (λ _. HasRisen old new)

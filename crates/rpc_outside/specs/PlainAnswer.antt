@@ -1,6 +1,7 @@
 -- The plain service: what it serves, and what it answers. Numbers are big-endian.
 use Rattle.std.specs.Prelude.{ℕ, ◌+◌, ◌-◌, ◌%◌, ◌^◌, Bool, ◌&&◌, ◌||◌, ◌==◌, nat_le, if◌then◌else◌, List, [], length, map, reverse, sum_by}
 use Rattle.std.specs.List.{range_with_len}
+use Rattle.rpc_base.specs.declared.limits.TheConstants.{MOST_MESSAGE_BYTES}
 use Rattle.byteorder.specs.Endian.{big_number, big_bytes}
 use Rattle.rpc_outside.specs.declared.service.Mode.{Mode}
 use Rattle.rpc_outside.specs.declared.service.Mode.TheVariants.{Inline, Background, Unserved}
@@ -35,9 +36,12 @@ tally total ask = if length ask == 8 then big_bytes 8 (total_with total 3 ask) e
 abbrev pub counted : ℕ → List ℕ
 counted n = map (λ j. j % 256) (range_with_len 0 n)
 
--- fill: as many bytes as the request's 4 bytes say; none where it hasn't 4, or says more than a message has
+-- fill: as many bytes as the request's 4 bytes say; none where it hasn't 4, or says more than a
+-- message has
 abbrev pub fill : List ℕ → List ℕ
-fill ask = if length ask == 4 && nat_le (big_number 4 ask) 1048576 then counted (big_number 4 ask) else []
+fill ask =
+    if length ask == 4 && nat_le (big_number 4 ask) MOST_MESSAGE_BYTES then counted
+    (big_number 4 ask) else []
 
 -- echo, reverse and fill look at nothing but the request
 abbrev pub steady_answer : ℕ → List ℕ → List ℕ
@@ -48,7 +52,8 @@ steady_answer req_type ask =
 
 -- a worker's answer: none to the types that it doesn't serve
 abbrev pub background_answer : ℕ → List ℕ → List ℕ
-background_answer req_type ask = if is_in_background req_type then steady_answer (req_type - 128) ask else []
+background_answer req_type ask =
+    if is_in_background req_type then steady_answer (req_type - 128) ask else []
 
 abbrev pub plain_answer : Served → ℕ → List ℕ → List ℕ
 plain_answer served req_type ask =

@@ -1,5 +1,5 @@
-//! A source and a sink over the readers and writers of std. They tell what those tell of content: of
-//! standard input and standard output, nothing.
+//! A source and a sink over the readers and writers of std. They tell what those tell of content:
+//! of standard input and standard output, nothing.
 ghost use Rattle.std.specs.Prelude.{◌≡◌};
 
 use crate::failed::Failed;
@@ -56,7 +56,8 @@ impl<W> IoSink<W> {
         IoSink { writer, faults: 0 }
     }
 
-    /// Gives the writer back, to be flushed after the last write: it may hold bytes back until then.
+    /// Gives the writer back, to be flushed after the last write: it may hold bytes back until
+    /// then.
     pub fn into_writer(self) -> W
         ensures { result ≡ self.writer }
     {

@@ -38,7 +38,8 @@ impl<S> Kept<S> {
     fn keep(&mut self, piece: &[u8])
         ensures source { self.new.source ≡ self.old.source }
         ensures lost { self.old.bytes ≡ None → self.new.bytes ≡ None }
-        ensures kept { IfSome self.old.bytes (λ old. IfSome self.new.bytes (λ new. new.items ≡ old.items ++ piece.now)) }
+        ensures kept { IfSome self.old.bytes (λ old. IfSome self.new.bytes
+            (λ new. new.items ≡ old.items ++ piece.now)) }
     {
         let kept = match &mut self.bytes {
             Some(bytes) => bytes.extend_from_slice(piece).is_ok(),
@@ -59,12 +60,14 @@ impl<S: Source> Source for Kept<S> {
     fn read(&mut self, out: &mut [u8]) -> Result<usize, Failed>
         requires { 0 < length out.old }
         ensures within { IfOk result (λ n. n ≤ length out.new) }
-        ensures bytes { IfOk result (λ n. Consumes (S.left self.old.source) (S.left self.new.source) (take n out.new)) }
+        ensures bytes { IfOk result (λ n. Consumes (S.left self.old.source) (S.left self.new.source)
+            (take n out.new)) }
         ensures end { IfOk result (λ n. n ≡ 0 → IsAtEnd (S.left self.old.source)) }
         ensures kept { OnErr result (Keeps (S.left self.old.source) (S.left self.new.source)) }
         ensures cause { HasCause (S.faults self.old.source) (S.faults self.new.source) result }
         ensures lost { self.old.bytes ≡ None → self.new.bytes ≡ None }
-        ensures at_hand { IfOk result (λ n. IfSome self.old.bytes (λ old. IfSome self.new.bytes (λ new. new.items ≡ old.items ++ take n out.new))) }
+        ensures at_hand { IfOk result (λ n. IfSome self.old.bytes
+            (λ old. IfSome self.new.bytes (λ new. new.items ≡ old.items ++ take n out.new))) }
         ensures same { OnErr result (self.new.bytes ≡ self.old.bytes) }
     {
         let count = self.source.read(out)?;

@@ -1,5 +1,6 @@
-//! What the library meets at its edges: where bytes come from and where they go. Each trait has a form in
-//! memory, which fails exactly where it is told to. It knows nothing of packets, scripts or reports.
+//! What the library meets at its edges: where bytes come from and where they go. Each trait has a
+//! form in memory, which fails exactly where it is told to. It knows nothing of packets, scripts or
+//! reports.
 #![tactic(auto)]
 
 mod calls;

@@ -50,13 +50,15 @@ impl Source for MemSource {
 
     ghost faults = { λ s. s.log.faults };
 
-    /// Gives as many bytes as are left and fit into `out`. It fails exactly where its call is named.
+    /// Gives as many bytes as are left and fit into `out`. It fails exactly where its call is
+    /// named.
     fn read(&mut self, out: &mut [u8]) -> Result<usize, Failed>
         requires { 0 < length out.old }
         ensures named { IsErr result ↔ IsNamed self.old.log }
         ensures fills { IfOk result (λ n. n ≡ min (length self.old.left) (length out.new)) }
         ensures within { IfOk result (λ n. n ≤ length out.new) }
-        ensures bytes { IfOk result (λ n. Consumes (Some self.old.left) (Some self.new.left) (take n out.new)) }
+        ensures bytes { IfOk result (λ n. Consumes (Some self.old.left) (Some self.new.left)
+            (take n out.new)) }
         ensures end { IfOk result (λ n. n ≡ 0 → IsAtEnd (Some self.old.left)) }
         ensures kept { OnErr result (Keeps (Some self.old.left) (Some self.new.left)) }
         ensures cause { HasCause self.old.log.faults self.new.log.faults result }
@@ -93,11 +95,15 @@ impl Model for MemSink {
 }
 
 impl MemSink {
-    /// A sink with room for `room` bytes in all, for which it takes the memory now. `fails` names the
-    /// calls that fail, the first call having number 0. `NoMemory` comes only where there is no memory,
-    /// and never without room, as no memory is taken then.
+    /// A sink with room for `room` bytes in all, for which it takes the memory now. `fails` names
+    /// the calls that fail, the first call having number 0. `NoMemory` comes only where there is no
+    /// memory, and never without room, as no memory is taken then.
     pub fn new(alloc: Global, room: u32, fails: Vec<u64>) -> Result<MemSink, NoMemory>
-        ensures made { IfOk result (λ s. s ≡ record { written = []; room = room; log = fresh fails.items }) }
+        ensures made { IfOk result (λ s. s ≡ record {
+          written = [];
+          room = room;
+          log = fresh fails.items;
+        }) }
         ensures succeeds { room ≡ 0 → IsOk result }
     {
         let bytes = Vec::with_capacity(alloc, room as usize)?;
@@ -121,14 +127,16 @@ impl Sink for MemSink {
 
     ghost faults = { λ s. s.log.faults };
 
-    /// Writes the whole piece. It fails exactly where its call is named, or where the piece doesn't fit
-    /// into what is left of its room.
+    /// Writes the whole piece. It fails exactly where its call is named, or where the piece doesn't
+    /// fit into what is left of its room.
     fn write(&mut self, piece: &[u8]) -> Result<usize, Failed>
-        ensures fails { IsErr result ↔ (IsNamed self.old.log ⊎ (self.old.room < length self.old.written + length piece.now)) }
+        ensures fails { IsErr result ↔ (IsNamed self.old.log
+            ⊎ (self.old.room < length self.old.written + length piece.now)) }
         ensures whole { IfOk result (λ n. n ≡ length piece.now) }
         ensures within { IfOk result (λ n. n ≤ length piece.now) }
         ensures some { IfOk result (λ n. 0 < length piece.now → 0 < n) }
-        ensures bytes { IfOk result (λ n. Appends (Some self.old.written) (Some self.new.written) (take n piece.now)) }
+        ensures bytes { IfOk result (λ n. Appends (Some self.old.written) (Some self.new.written)
+            (take n piece.now)) }
         ensures kept { OnErr result (Keeps (Some self.old.written) (Some self.new.written)) }
         ensures cause { HasCause self.old.log.faults self.new.log.faults result }
         ensures room { self.new.room ≡ self.old.room }

@@ -7,10 +7,8 @@ ghost use Rattle.rpc_outside.specs.PlainAnswer.{fill, tally, total_with, plain_m
 
 use crate::service::{Duty, Mode, Service};
 use byteorder::{BigEndian, ByteOrder};
+use rpc_base::MOST_MESSAGE_BYTES;
 use std::marker::Model;
-
-/// No message has more bytes.
-const MOST_MESSAGE_BYTES: u32 = 1_048_576;
 
 /// The type of a tally.
 const TALLY: u8 = 3;
@@ -43,7 +41,7 @@ fn fill_count(ask: &[u8]) -> u32
 /// How many bytes a fill is.
 fn fill_len(ask: &[u8]) -> u32
     ensures length { result ≡ length (fill ask.now) }
-    ensures most { result ≤ 1048576 }
+    ensures most { result ≤ MOST_MESSAGE_BYTES }
 {
     if ask.len() != FILL_BYTES {
         return 0;
@@ -85,8 +83,8 @@ fn tally_number(ask: &[u8]) -> u64
     BigEndian::read_u64(ask)
 }
 
-/// The total with a tally, which is its answer. A request of another length changes nothing and has no
-/// answer.
+/// The total with a tally, which is its answer. A request of another length changes nothing and has
+/// no answer.
 fn tally(total: u64, ask: &[u8], out: &mut [u8]) -> u64
     requires { length (tally total ask.now) ≡ length out.old }
     ensures answer { out.new ≡ tally total ask.now }
@@ -100,8 +98,8 @@ fn tally(total: u64, ask: &[u8], out: &mut [u8]) -> u64
     total
 }
 
-/// The service of the program: echo, reverse, tally and fill, in the event loop and, but for the tally, by
-/// workers. Contracts see the total of its tallies.
+/// The service of the program: echo, reverse, tally and fill, in the event loop and, but for the
+/// tally, by workers. Contracts see the total of its tallies.
 #[derive(Debug, Drop)]
 pub struct PlainService {
     total: u64,

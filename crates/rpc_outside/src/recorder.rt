@@ -6,8 +6,8 @@ ghost use Rattle.rpc_outside.specs.Recording.{Grew};
 use rpc_base::{Event, Fact, NoMemory, Octets, Who};
 use std::alloc::Global;
 
-/// A place where facts are noted, in order of happening. No call fails because of it: a recorder that
-/// finds no memory is not whole from then on.
+/// A place where facts are noted, in order of happening. No call fails because of it: a recorder
+/// that finds no memory is not whole from then on.
 pub trait Recorder {
     // The facts, where the recorder tells them.
     ghost facts: { Self → Option (List Fact) };
@@ -17,7 +17,8 @@ pub trait Recorder {
 
     /// Notes one fact: who did what, with the bytes that belong to it.
     fn note(&mut self, who: Who, event: Event, first: &[u8], second: &[u8])
-        ensures { Grew facts whole self.old self.new (record { who = who; event = event; first = first.now; second = second.now } ∷ []) };
+        ensures { Grew facts whole self.old self.new
+            (record { who = who; event = event; first = first.now; second = second.now } ∷ []) };
 }
 
 /// A recorder that keeps facts in memory.
@@ -63,7 +64,13 @@ impl MemRecorder {
 
     fn keep(&mut self, who: Who, event: Event, first: &[u8], second: &[u8]) -> Result<(), NoMemory>
         ensures whole { self.new.whole ≡ self.old.whole }
-        ensures kept { OnOk result (self.new.facts.items ≡ self.old.facts.items ++ record { who = who; event = event; first = first.now; second = second.now } ∷ []) }
+        ensures kept { OnOk result (self.new.facts.items
+            ≡ self.old.facts.items ++ record {
+              who = who;
+              event = event;
+              first = first.now;
+              second = second.now;
+            } ∷ []) }
     {
         let alloc = *self.facts.allocator();
         let first = Octets::copy(alloc, first)?;
@@ -84,7 +91,8 @@ impl Recorder for MemRecorder {
     ghost whole = { λ r. r.whole };
 
     fn note(&mut self, who: Who, event: Event, first: &[u8], second: &[u8]) {
-        // What comes after a fact that was lost is kept no more: the facts stay a front of the history.
+        // What comes after a fact that was lost is kept no more: the facts stay a front of the
+        // history.
         if self.whole && self.keep(who, event, first, second).is_err() {
             self.whole = false;
         }

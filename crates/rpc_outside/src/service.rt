@@ -4,6 +4,8 @@ ghost use Rattle.rpc_outside.specs.declared.service.Mode.{Mode};
 ghost use Rattle.rpc_outside.specs.declared.service.Mode.TheVariants.{Inline, Background, Unserved};
 ghost use Rattle.rpc_outside.specs.Served.{Served};
 
+use rpc_base::MOST_MESSAGE_BYTES;
+
 /// How the requests of a type are handled.
 #[derive(Clone, Copy, Debug, PartialEq, Eq)]
 pub enum Mode {
@@ -30,20 +32,25 @@ pub trait Service {
     fn mode(&self, req_type: u8) -> Mode
         ensures { result ≡ mode_of req_type };
 
-    /// The length of the answer in bytes, at most 1,048,576. The type is served, and the request is a
-    /// message, of at most 1,048,576 bytes.
+    /// The length of the answer in bytes, at most 1,048,576. The type is served, and the request is
+    /// a message, of at most 1,048,576 bytes.
     fn room(&self, req_type: u8, ask: &[u8]) -> u32
         requires served { mode_of req_type ≢ Unserved }
-        requires message { length ask.now ≤ 1048576 }
-        ensures length { (served : Served) → stands self.now served → length (answer served req_type ask.now) ≡ result }
-        ensures most { result ≤ 1048576 };
+        requires message { length ask.now ≤ MOST_MESSAGE_BYTES }
+        ensures length { (served : Served) → stands self.now served
+            → length (answer served req_type ask.now) ≡ result }
+        ensures most { result ≤ MOST_MESSAGE_BYTES };
 
-    /// Fills `out`, which has the answer's length, with the answer. The type is one that is handled inline.
+    /// Fills `out`, which has the answer's length, with the answer. The type is one that is handled
+    /// inline.
     fn serve(&mut self, req_type: u8, ask: &[u8], out: &mut [u8])
         requires inline { mode_of req_type ≡ Inline }
-        requires room { (served : Served) → stands self.old served → length (answer served req_type ask.now) ≡ length out.old }
-        ensures answer { (served : Served) → stands self.old served → out.new ≡ answer served req_type ask.now }
-        ensures next { (served : Served) → stands self.old served → stands self.new (served ++ (req_type, ask.now) ∷ []) };
+        requires room { (served : Served) → stands self.old served
+            → length (answer served req_type ask.now) ≡ length out.old }
+        ensures answer { (served : Served) → stands self.old served
+            → out.new ≡ answer served req_type ask.now }
+        ensures next { (served : Served) → stands self.old served
+            → stands self.new (served ++ (req_type, ask.now) ∷ []) };
 
     // A worker's answer does not depend on what was served.
     ghost steady: { (req_type : ℕ) (ask : List ℕ) (one other : Served) → mode_of req_type ≡ Background → answer one req_type ask ≡ answer other req_type ask };

@@ -13,9 +13,9 @@ pub trait Source {
     // How many calls failed so far.
     ghost faults: { Self → ℕ };
 
-    /// Moves bytes from the front of what is left to the front of `out`, which isn't empty, and tells how
-    /// many. 0 says that nothing is left. `Failed` leaves what is left as it was, and comes only where the
-    /// source counts one more fault.
+    /// Moves bytes from the front of what is left to the front of `out`, which isn't empty, and
+    /// tells how many. 0 says that nothing is left. `Failed` leaves what is left as it was, and
+    /// comes only where the source counts one more fault.
     fn read(&mut self, out: &mut [u8]) -> Result<usize, Failed>
         requires { 0 < length out.old }
         ensures within { IfOk result (λ n. n ≤ length out.new) }

@@ -6,7 +6,9 @@ use Rattle.node_laws.specs.EndedCalls.{EndsClean}
 use Rattle.node_laws.specs.OlderRequests.{BeginsClean}
 use Rattle.rpc_base.specs.declared.fact.Fact.{Fact}
 use Rattle.report_text.specs.Text.{text}
+use Rattle.report_text.specs.Told.{AllTold}
 use Rattle.ring_laws.specs.CalmRing.{MessagesFit}
+use Rattle.ring_laws.specs.PairsOnce.{PairsOnce}
 use Rattle.rpc_laws.specs.AtMostOnce.{Once}
 use Rattle.rpc_laws.specs.BufferSafety.{SendsItsOwn}
 use Rattle.rpc_laws.specs.OwnAnswer.{Own}
@@ -21,6 +23,7 @@ use Rattle.script_grammar.specs.declared.bad.BadScript.{BadScript as Bad}
 use Rattle.script_grammar.specs.declared.bad.BadWhy.TheVariants.{Later}
 use Rattle.script_grammar.specs.declared.line.Line.{Line}
 use Rattle.script_grammar.specs.Script.{script_of}
+use Rattle.script_grammar.specs.declared.reading.TheConstants.{MOST_BYTES}
 use Rattle.sim_script.specs.FollowsScript.{Follows}
 use Rattle.world_laws.specs.Laws.{EachNode, EndTells, KeepsRing}
 
@@ -29,20 +32,27 @@ pub record Untouched (old new : Option (List ℕ)) (before after : ℕ) : Type 0
   pub kept : Keeps old new
   pub quiet : after ≡ before
 
--- the report of a history that follows the script was written. In that history no request runs twice, and
--- no call begins or ends twice; each handler ran on its call's bytes, and each call ended with its own
--- handler's answer; each packet that was sent is its owner's; no message finds a full ring before a datagram is
--- repeated or a call is rolled back; and at every moment of each node the
--- unanswered packets and free credits of a live session make its limit, no packet of a call that is over
--- is queued, no reply to an older request is queued where a packet of a newer one of its slot is taken, and the
--- receive ring isn't longer than its room. At the end each node's table of requests says what its facts tell
-pub record Reports (script : List Line) (old new : Option (List ℕ)) (before after : ℕ) : Type 0 where
+-- the report of the history of the script was written: no other history follows the script, and the
+-- report shows each fact with all its bytes, so the text names that one history. In it no request
+-- runs twice, and no call begins or ends twice; each handler ran on its call's bytes, and each call
+-- ended with its own handler's answer; each packet that was sent is its owner's; before a datagram
+-- is repeated or a call is rolled back no message finds a full ring, and each packet of a session
+-- stands in one place at most, and only while it is unanswered; and at every moment of each node
+-- the unanswered packets and free credits of a live session make its limit, no packet of a call
+-- that is over is queued, no reply to an older request is queued where a packet of a newer one of
+-- its slot is taken, and the receive ring isn't longer than its room. At the end each node's table
+-- of requests says what its facts tell
+pub record Reports (script : List Line) (old new : Option (List ℕ)) (before after : ℕ)
+    : Type 0 where
   pub history : List Fact
   pub follows : Follows script history
+  pub one : (h : List Fact) → Follows script h → h ≡ history
+  pub told : AllTold history
   pub once : Once history
   pub own : Own history
   pub sends_own : SendsItsOwn history
   pub fits : MessagesFit history
+  pub stands_once : PairsOnce history
   pub credit : EachNode Credit history
   pub ends_clean : EachNode (EndsClean []) history
   pub begins_clean : EachNode (BeginsClean []) history
@@ -51,7 +61,8 @@ pub record Reports (script : List Line) (old new : Option (List ℕ)) (before af
   pub wrote : Wrote old new before after (text history)
 
 -- a front of such a report was written, and the sink failed
-pub record BreaksOff (script : List Line) (old new : Option (List ℕ)) (before after : ℕ) : Type 0 where
+pub record BreaksOff (script : List Line) (old new : Option (List ℕ)) (before after : ℕ)
+    : Type 0 where
   pub history : List Fact
   pub follows : Follows script history
   pub broke : Broke old new before after (text history)
@@ -68,18 +79,26 @@ IsRefused bytes bad = (script_of bytes ≡ Err bad) ⊎ IsLater bytes bad
 
 -- what running the bytes of a script may end with
 abbrev pub RunsBytes : Status → List ℕ → Option (List ℕ) → Option (List ℕ) → ℕ → ℕ → Type 0
-RunsBytes Done bytes old new before after = (script : List Line) × (script_of bytes ≡ Ok script) × (later_of script ≡ None) × Reports script old new before after
-RunsBytes (BadScript bad) bytes old new before after = IsRefused bytes bad × Untouched old new before after
-RunsBytes WriteFault bytes old new before after = (script : List Line) × (script_of bytes ≡ Ok script) × (later_of script ≡ None) × BreaksOff script old new before after
+RunsBytes Done bytes old new before after =
+    (script : List Line) × (script_of bytes ≡ Ok script) × (later_of script ≡ None)
+    × Reports script old new before after
+RunsBytes (BadScript bad) bytes old new before after =
+    IsRefused bytes bad × Untouched old new before after
+RunsBytes WriteFault bytes old new before after =
+    (script : List Line) × (script_of bytes ≡ Ok script) × (later_of script ≡ None)
+    × BreaksOff script old new before after
 RunsBytes NoMemory bytes old new before after = Unit {0}
 RunsBytes Usage bytes old new before after = ⊥
 RunsBytes ReadFault bytes old new before after = ⊥
 
 -- the same of a script that was read
 abbrev pub RunsScript : Status → List Line → Option (List ℕ) → Option (List ℕ) → ℕ → ℕ → Type 0
-RunsScript Done script old new before after = (later_of script ≡ None) × Reports script old new before after
-RunsScript (BadScript bad) script old new before after = (bad.why ≡ Later) × (later_of script ≡ Some bad.line) × Untouched old new before after
-RunsScript WriteFault script old new before after = (later_of script ≡ None) × BreaksOff script old new before after
+RunsScript Done script old new before after =
+    (later_of script ≡ None) × Reports script old new before after
+RunsScript (BadScript bad) script old new before after =
+    (bad.why ≡ Later) × (later_of script ≡ Some bad.line) × Untouched old new before after
+RunsScript WriteFault script old new before after =
+    (later_of script ≡ None) × BreaksOff script old new before after
 RunsScript NoMemory script old new before after = Unit {0}
 RunsScript Usage script old new before after = ⊥
 RunsScript ReadFault script old new before after = ⊥
@@ -91,31 +110,35 @@ Drained left more bytes = IfSome left (λ all. (all ≡ bytes) × (more ≡ Some
 -- what reading the source may give
 abbrev pub Gives : Input → Option (List ℕ) → Option (List ℕ) → ℕ → ℕ → Type 0
 Gives (Whole bytes) left more read again = (again ≡ read) × Drained left more bytes
-Gives TooLong left more read again = (again ≡ read) × IfSome left (λ all. 16777216 < length all)
+Gives TooLong left more read again = (again ≡ read) × IfSome left (λ all. MOST_BYTES < length all)
 Gives Fault left more read again = HasRisen read again
 Gives Memory left more read again = Unit {0}
 
 -- the source was read to its end, and its bytes are the script's
 abbrev pub ReadScript : List Line → Option (List ℕ) → Option (List ℕ) → Type 0
-ReadScript script left more = IfSome left (λ bytes. (script_of bytes ≡ Ok script) × (more ≡ Some []))
+ReadScript script left more =
+    IfSome left (λ bytes. (script_of bytes ≡ Ok script) × (more ≡ Some []))
 
 -- Done: the whole source was read without a fault, and the report of its script written
-pub record Completes (left more : Option (List ℕ)) (read again : ℕ) (old new : Option (List ℕ)) (before after : ℕ) : Type 0 where
+pub record Completes (left more : Option (List ℕ)) (read again : ℕ) (old new : Option (List ℕ))
+    (before after : ℕ) : Type 0 where
   pub quiet : again ≡ read
   pub script : List Line
   pub bytes : ReadScript script left more
   pub served : later_of script ≡ None
   pub reports : Reports script old new before after
 
--- BadScript: the source was read without a fault to its end or past the longest script, and its bytes
--- are refused
-pub record Refuses (bad : Bad) (left more : Option (List ℕ)) (read again : ℕ) (old new : Option (List ℕ)) (before after : ℕ) : Type 0 where
+-- BadScript: the source was read without a fault to its end or past the longest script, and its
+-- bytes are refused
+pub record Refuses (bad : Bad) (left more : Option (List ℕ)) (read again : ℕ)
+    (old new : Option (List ℕ)) (before after : ℕ) : Type 0 where
   pub quiet : again ≡ read
   pub refused : IfSome left (λ bytes. IsRefused bytes bad)
   pub sink : Untouched old new before after
 
 -- WriteFault: as Done, but the sink failed on the way
-pub record FailsToWrite (left more : Option (List ℕ)) (read again : ℕ) (old new : Option (List ℕ)) (before after : ℕ) : Type 0 where
+pub record FailsToWrite (left more : Option (List ℕ)) (read again : ℕ) (old new : Option (List ℕ))
+    (before after : ℕ) : Type 0 where
   pub quiet : again ≡ read
   pub script : List Line
   pub bytes : ReadScript script left more
@@ -123,26 +146,35 @@ pub record FailsToWrite (left more : Option (List ℕ)) (read again : ℕ) (old 
   pub breaks : BreaksOff script old new before after
 
 -- ReadFault: the source failed, and nothing was written
-pub record FailsToRead (read again : ℕ) (old new : Option (List ℕ)) (before after : ℕ) : Type 0 where
+pub record FailsToRead (read again : ℕ) (old new : Option (List ℕ)) (before after : ℕ)
+    : Type 0 where
   pub fault : HasRisen read again
   pub sink : Untouched old new before after
 
 -- what a simulation may end with, by what its source has left and its sink has written
-abbrev pub Simulates : Status → Option (List ℕ) → Option (List ℕ) → ℕ → ℕ → Option (List ℕ) → Option (List ℕ) → ℕ → ℕ → Type 0
-Simulates Done left more read again old new before after = Completes left more read again old new before after
-Simulates (BadScript bad) left more read again old new before after = Refuses bad left more read again old new before after
-Simulates ReadFault left more read again old new before after = FailsToRead read again old new before after
-Simulates WriteFault left more read again old new before after = FailsToWrite left more read again old new before after
+abbrev pub Simulates : Status → Option (List ℕ) → Option (List ℕ) → ℕ → ℕ → Option (List ℕ)
+    → Option (List ℕ) → ℕ → ℕ → Type 0
+Simulates Done left more read again old new before after =
+    Completes left more read again old new before after
+Simulates (BadScript bad) left more read again old new before after =
+    Refuses bad left more read again old new before after
+Simulates ReadFault left more read again old new before after =
+    FailsToRead read again old new before after
+Simulates WriteFault left more read again old new before after =
+    FailsToWrite left more read again old new before after
 Simulates NoMemory left more read again old new before after = Unit {0}
 Simulates Usage left more read again old new before after = ⊥
 
--- the headline: Done, the source read to its end, and the report of a history that follows the script
-pub record Succeeds (script : List Line) (status : Status) (more : Option (List ℕ)) (old new : Option (List ℕ)) (before after : ℕ) : Type 0 where
+-- the headline: Done, the source read to its end, and the report of a history that follows the
+-- script
+pub record Succeeds (script : List Line) (status : Status) (more : Option (List ℕ))
+    (old new : Option (List ℕ)) (before after : ℕ) : Type 0 where
   pub done : status ≡ Done
   pub ended : more ≡ Some []
   pub reports : Reports script old new before after
 
 -- nothing was read or written
-pub record NothingDone (left more : Option (List ℕ)) (read again : ℕ) (old new : Option (List ℕ)) (before after : ℕ) : Type 0 where
+pub record NothingDone (left more : Option (List ℕ)) (read again : ℕ) (old new : Option (List ℕ))
+    (before after : ℕ) : Type 0 where
   pub source : Untouched left more read again
   pub sink : Untouched old new before after

@@ -4,10 +4,8 @@ ghost use Rattle.rpc_tools.specs.Outcomes.{Gives};
 
 use rpc_base::Octets;
 use rpc_outside::Source;
+use script_grammar::MOST_BYTES;
 use std::alloc::Global;
-
-/// A script has at most so many bytes.
-const MOST_BYTES: usize = 16_777_216;
 
 /// The bytes that one call of the source may give.
 const CHUNK: usize = 4096;
@@ -27,7 +25,8 @@ pub enum Input {
 
 /// Reads the source to its end, to a fault, or until more bytes came than the longest script has.
 pub fn read_all<S: Source>(alloc: Global, source: &mut S) -> Input
-    ensures { Gives result (S.left source.old) (S.left source.new) (S.faults source.old) (S.faults source.new) }
+    ensures { Gives result (S.left source.old) (S.left source.new) (S.faults source.old)
+        (S.faults source.new) }
 {
     let mut bytes = Octets::from(Vec::new(alloc));
     let mut chunk = [0u8; CHUNK];

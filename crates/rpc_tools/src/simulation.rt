@@ -10,7 +10,8 @@ use sim_script::{BadScript, BadWhy, ReadError, Script, print, read};
 use std::alloc::Global;
 
 fn run_script<K: Sink>(alloc: Global, script: &Script, sink: &mut K) -> Status
-    ensures { RunsScript result script.now (K.written sink.old) (K.written sink.new) (K.faults sink.old) (K.faults sink.new) }
+    ensures { RunsScript result script.now (K.written sink.old) (K.written sink.new)
+        (K.faults sink.old) (K.faults sink.new) }
 {
     if let Some(line) = World::later(script) {
         return Status::BadScript(BadScript {
@@ -28,7 +29,8 @@ fn run_script<K: Sink>(alloc: Global, script: &Script, sink: &mut K) -> Status
 }
 
 fn run_bytes<K: Sink>(alloc: Global, bytes: &[u8], sink: &mut K) -> Status
-    ensures { RunsBytes result bytes.now (K.written sink.old) (K.written sink.new) (K.faults sink.old) (K.faults sink.new) }
+    ensures { RunsBytes result bytes.now (K.written sink.old) (K.written sink.new)
+        (K.faults sink.old) (K.faults sink.new) }
 {
     match read(alloc, bytes) {
         Ok(script) => run_script(alloc, &script, sink),
@@ -39,7 +41,9 @@ fn run_bytes<K: Sink>(alloc: Global, bytes: &[u8], sink: &mut K) -> Status
 
 /// Reads the source to its end, runs the script and writes the report of its history.
 pub fn sim<S: Source, K: Sink>(alloc: Global, source: &mut S, sink: &mut K) -> Status
-    ensures { Simulates result (S.left source.old) (S.left source.new) (S.faults source.old) (S.faults source.new) (K.written sink.old) (K.written sink.new) (K.faults sink.old) (K.faults sink.new) }
+    ensures { Simulates result (S.left source.old) (S.left source.new) (S.faults source.old)
+        (S.faults source.new) (K.written sink.old) (K.written sink.new) (K.faults sink.old)
+        (K.faults sink.new) }
 {
     match read_all(alloc, source) {
         Input::Whole(bytes) => run_bytes(alloc, bytes.bytes(), sink),

@@ -27,9 +27,10 @@ fn is_sim(words: &[String]) -> bool
     }
 }
 
-/// Runs the program on the words after its name. `sim` reads a script from the source and writes the
-/// report of its history to the sink; every other line of words is `Usage`. A script with a `connect`, a
-/// `disconnect` or a `rate` is refused as `Later`, with the number of its first such line.
+/// Runs the program on the words after its name. `sim` reads a script from the source and writes
+/// the report of its history to the sink; every other line of words is `Usage`. A script with a
+/// `connect`, a `disconnect` or a `rate` is refused as `Later`, with the number of its first such
+/// line.
 pub fn run<S: Source, K: Sink>(
     alloc: Global,
     words: &[String],
@@ -38,14 +39,21 @@ pub fn run<S: Source, K: Sink>(
 ) -> Status
     ensures usage { (result ≡ Status.Usage) ↔ (map string_bytes words.now ≢ codes "sim" ∷ []) }
     ensures refuses { result ≡ Status.Usage
-        → NothingDone (S.left source.old) (S.left source.new) (S.faults source.old) (S.faults source.new) (K.written sink.old) (K.written sink.new) (K.faults sink.old) (K.faults sink.new) }
+        → NothingDone (S.left source.old) (S.left source.new) (S.faults source.old)
+        (S.faults source.new) (K.written sink.old) (K.written sink.new) (K.faults sink.old)
+        (K.faults sink.new) }
     ensures simulates { map string_bytes words.now ≡ codes "sim" ∷ []
-        → Simulates result (S.left source.old) (S.left source.new) (S.faults source.old) (S.faults source.new) (K.written sink.old) (K.written sink.new) (K.faults sink.old) (K.faults sink.new) }
-    ensures headline { (bytes : List ℕ) (script : List Line) → map string_bytes words.now ≡ codes "sim" ∷ []
+        → Simulates result (S.left source.old) (S.left source.new) (S.faults source.old)
+        (S.faults source.new) (K.written sink.old) (K.written sink.new) (K.faults sink.old)
+        (K.faults sink.new) }
+    ensures headline { (bytes : List ℕ) (script : List Line)
+        → map string_bytes words.now ≡ codes "sim" ∷ []
         → S.left source.old ≡ Some bytes → script_of bytes ≡ Ok script → later_of script ≡ None
-        → IsQuiet (S.faults source.old) (S.faults source.new) → IsQuiet (K.faults sink.old) (K.faults sink.new)
+        → IsQuiet (S.faults source.old) (S.faults source.new)
+        → IsQuiet (K.faults sink.old) (K.faults sink.new)
         → result ≢ Status.NoMemory
-        → Succeeds script result (S.left source.new) (K.written sink.old) (K.written sink.new) (K.faults sink.old) (K.faults sink.new) }
+        → Succeeds script result (S.left source.new) (K.written sink.old) (K.written sink.new)
+        (K.faults sink.old) (K.faults sink.new) }
 {
     if !is_sim(words) {
         return Status::Usage;

@@ -1,14 +1,15 @@
 -- Two nodes are paired, or the first refusal is noted.
-use Rattle.std.proofs.Common.{◌≡◌, ◌≢◌, ◌<◌, ℕ, zero, suc, Bool, true, false, cond, Option, Some, None, List, [], ◌∷◌, ◌++◌, length, refl, sym, ap, subst, ◌∙◌, append_assoc, arith}
+use Rattle.std.proofs.Common.{◌≡◌, ◌≢◌, ◌<◌, ◌+◌, ℕ, zero, suc, Bool, true, false, ◌||◌, cond, leb-false, Option, Some, None, List, [], ◌∷◌, ◌++◌, length, refl, sym, ap, subst, ◌∙◌, append_assoc, arith}
 use Rattle.std.specs.List.{slice_get, slice_set}
 use Rattle.rpc_base.specs.declared.event.Event.{Event}
 use Rattle.rpc_base.specs.declared.event.Event.TheVariants.{PairedClient, PairedServer, NconnectNumbers, NconnectRing}
 use Rattle.rpc_base.specs.declared.fact.Fact.{Fact}
+use Rattle.end_laws.proofs.ListLemmas.{length-slice_set}
 use Rattle.node_tables.specs.Noted.{Noted}
 use Rattle.rpc_laws.specs.declared.tables.Lists.{Lists}
 use Rattle.rpc_laws.specs.declared.tables.Timed.{Timed}
 use Rattle.rpc_laws.specs.Facts.{plain}
-use Rattle.rpc_laws.specs.Groups.{pair_refusal}
+use Rattle.rpc_laws.specs.Groups.{clients_spent, has_no_room, pair_refusal, servers_spent, shares}
 use Rattle.sim_script.specs.FollowsScript.{Pairs, PairsEnds, noted}
 use Rattle.rpc_world.specs.Answered.{Plainly, Play}
 use Rattle.sim_node.specs.Answering.{Quiet}
@@ -67,7 +68,19 @@ ends-by a b credits p q s asked client client2 answers server server2 f g h othe
       grew = n.grew ∙ rw m.grew (append_assoc f _ _);
       does = record { client = client; server = server; is_client = is_a; is_server = found_b; ends = ends };
       plain = plainly-append (at_client ∷ []) (at_server ∷ []) s.totals s.totals s.totals (plainly-quiet client.lists.me (at_client ∷ []) s.totals (refl, tt) (λ served. ((tt, tt), refl, refl))) (plainly-quiet server.lists.me (at_server ∷ []) s.totals (refl, tt) (λ served. ((tt, tt), refl, refl)));
+      services = ap (λ (k : ℕ). length s.totals + k) (sym (length-slice_set (slice_set s.stage.nodes a client2) b server2 ∙ length-slice_set s.stage.nodes a client2));
     }
+
+-- what nothing refuses has a number of each kind that isn't spent
+unspent-by : (a b c : Bool) (e : Event) → cond (a || b) (Some NconnectNumbers) (cond c (Some e) None) ≡ None → (a ≡ false) × (b ≡ false)
+unspent-by true b c e h = cc
+unspent-by false true c e h = cc
+unspent-by false false c e h = (refl, refl)
+
+unspent : (credits : ℕ) (l : Lists) → pair_refusal credits l ≡ None → (length l.clients < 65535) × (l.server_numbers < 65535)
+unspent credits l h =
+    let free = unspent-by (clients_spent l) (servers_spent l) (has_no_room credits l) (NconnectRing (shares l) credits l.room) h in
+    (leb-false _ _ free.0, leb-false _ _ free.1)
 
 -- a place that is within a list has something
 pub at-place : {A : Type 0} (xs : List A) (i : ℕ) → i < length xs → (x : A) × (slice_get xs i ≡ Some x)
@@ -85,6 +98,7 @@ server-refuses a b credits s server true f g place is_b _ (e, is, grew) =
       grew = grew;
       does = record { client = client; server = server; is_client = is_a; is_server = is_b; pairs = rw is (refl, refl) };
       plain = plainly-refused server.lists credits e s.totals is;
+      services = refl;
     }
 
 -- both agree
@@ -99,6 +113,7 @@ server-agrees a b credits s t server false f g h is_b _ (is, same_facts) made =
       grew = made.grew ∙ ap (λ (x : List Fact). x ++ made.group) same_facts;
       does = record { client = d.client; server = d.server; is_client = d.is_client; is_server = d.is_server; pairs = rw none d.ends };
       plain = made.plain;
+      services = made.services;
     }
 
 -- A refuses
@@ -111,6 +126,7 @@ client-refuses a b credits s client true f g place is_a _ (e, is, grew) =
       grew = grew;
       does = record { client = client; server = server; is_client = is_a; is_server = is_b; pairs = rw is (refl, refl) };
       plain = plainly-refused client.lists credits e s.totals is;
+      services = refl;
     }
 
 -- A agrees, and B is asked
@@ -125,6 +141,7 @@ client-agrees a b credits s t client false f g h is_a _ (is, same_facts) made =
       grew = made.grew ∙ ap (λ (x : List Fact). x ++ made.group) same_facts;
       does = record { client = d.client; server = d.server; is_client = d.is_client; is_server = d.is_server; pairs = rw none d.pairs };
       plain = made.plain;
+      services = made.services;
     }
 
 -- a stage as it is seen
@@ -137,3 +154,7 @@ seen-long s t n view less = subst (λ (z : Play). n < length z.stage.nodes) view
 pub ends-seen : (a b credits : ℕ) (s t u : Play) (f g : List Fact) → s ≡ t → Performed (TakesEnds a b credits) s u f g → Performed (TakesEnds a b credits) t u f g
 ends-seen a b credits s t u f g view p =
     subst (λ (z : Play). Performed (TakesEnds a b credits) z u f g) view p
+
+pub fits-unspent : (n m credits : ℕ) (s t : Play) (x : Timed) → s ≡ t → m ≡ n → TakesEnd n credits t.stage → slice_get s.stage.nodes m ≡ Some x → (length x.lists.clients < 65535) × (x.lists.server_numbers < 65535)
+fits-unspent n m credits s t x view same fits at =
+    unspent credits x.lists (fits x (seen-at s t n x view (subst (λ (k : ℕ). slice_get s.stage.nodes k ≡ Some x) same at)))

@@ -17,7 +17,12 @@ use Rattle.end_laws.proofs.SendsLaw.{course-sends}
 use Rattle.end_laws.proofs.StillLeads.{pairs-only}
 use Rattle.end_laws.specs.Moments.{first_moment}
 use Rattle.end_laws.specs.OnlyPairs.{LeavesSessions, OnlyPairs, PairsOnly}
+use Rattle.one_history.proofs.ScriptTold.{all-told}
+use Rattle.one_history.proofs.StagesOnce.{one-history}
+use Rattle.report_text.specs.Told.{AllTold}
 use Rattle.ring_laws.specs.CalmRing.{MessagesFit}
+use Rattle.ring_laws.specs.PairsOnce.{PairsOnce}
+use Rattle.ring_laws.proofs.PairLaw.{course-pairs, first-tidy, first-valid}
 use Rattle.ring_laws.proofs.RingLaw.{course-fits, first-met}
 use Rattle.rpc_world.specs.Served.{is_served, later_of}
 use Rattle.script_grammar.specs.declared.line.Command.{Command}
@@ -44,7 +49,7 @@ served-only : (lines : List Line) → find (λ line. not (is_served line.command
 served-only [] e = tt
 served-only (line ∷ lines) e = served-by line lines (is_served line.command) refl e (λ rest. served-only lines rest)
 
-none-later : (o : Option Line) → option_map (λ line. line.number) o ≡ None → o ≡ None
+pub none-later : (o : Option Line) → option_map (λ line. line.number) o ≡ None → o ≡ None
 none-later None e = refl
 none-later (Some line) e = cc
 
@@ -69,6 +74,20 @@ pub follows-fits : (script : List Line) (h : List Fact) → IsScript script → 
 follows-fits script h is only follows =
     let made = follows-course script h (script-two script is) only follows in
     course-fits first_moment h made.end made.course first-right (λ calm. first-met)
+
+-- so long each packet stands in one place at most, and only while it is unanswered
+pub follows-stands-once : (script : List Line) (h : List Fact) → IsScript script → OnlyPairs h → Follows script h → PairsOnce h
+follows-stands-once script h is only follows =
+    let made = follows-course script h (script-two script is) only follows in
+    course-pairs first_moment h made.end made.course first-right first-valid (λ calm. first-tidy first-met)
+
+-- no other history follows the script
+pub follows-one : (script : List Line) (h : List Fact) → Follows script h → (g : List Fact) → Follows script g → g ≡ h
+follows-one script h follows = λ g other. one-history script g h other follows
+
+-- no fact has other bytes than its line of the report shows
+pub follows-told : (script : List Line) (h : List Fact) → Follows script h → AllTold h
+follows-told script h follows = all-told script h follows
 
 -- no request runs twice, and no call begins or ends twice
 pub follows-once : (script : List Line) (h : List Fact) → IsScript script → Follows script h → Once h

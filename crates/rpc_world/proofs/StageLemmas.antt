@@ -8,11 +8,13 @@ use Rattle.network_model.specs.declared.stage.Stage.{Stage}
 use Rattle.sim_script.specs.FollowsScript.{Carries, Joins, Round, Settles, Times, Unless, WorksAndPolls, is_polled}
 use Rattle.rpc_world.specs.Answered.{Plainly, Play}
 use Rattle.rpc_world.specs.Performed.{Performed, MakesRound}
+use Rattle.rpc_world.specs.Before.{IsNumbered}
 use Rattle.rpc_world.proofs.PlainLemmas.{plainly-append, plainly-none}
+use Rattle.rpc_world.proofs.StaysLemmas.{performed-numbered, stays-round}
 
 -- nothing yet
 pub performed-none : (P : Stage → List Fact → Stage → Type 0) (s : Play) (f : List Fact) → P s.stage [] s.stage → Performed P s s f f
-performed-none P s f p = record { group = []; grew = sym (append-nil f); does = p; plain = plainly-none s.totals }
+performed-none P s f p = record { group = []; grew = sym (append-nil f); does = p; plain = plainly-none s.totals; services = omega arith }
 
 -- P, and then Q
 pub performed-joins : (P Q : Stage → List Fact → Stage → Type 0) (s t u : Play) (f g h : List Fact) → Performed P s t f g → Performed Q t u g h → Performed (Joins P Q) s u f h
@@ -21,6 +23,7 @@ performed-joins P Q s t u f g h p q = record {
   grew = q.grew ∙ rw p.grew (append_assoc f p.group q.group);
   does = record { between = t.stage; group = p.group; rest = q.group; joined = refl; does = p.does; follows = q.does };
   plain = plainly-append p.group q.group s.totals t.totals u.totals p.plain q.plain;
+  services = omega (arith, p.services, q.services);
 }
 
 -- the copies in flight are carried, and then the nodes worked and polled
@@ -30,6 +33,7 @@ round-by s t u f g h p q = record {
   grew = q.grew ∙ rw p.grew (append_assoc f p.group q.group);
   does = record { between = t.stage; group = p.group; rest = q.group; joined = refl; does = p.does; follows = q.does };
   plain = plainly-append p.group q.group s.totals t.totals u.totals p.plain q.plain;
+  services = omega (arith, p.services, q.services);
 }
 
 -- i rounds of n were made: what the others do completes the n
@@ -38,6 +42,8 @@ pub record Goes (n i : ℕ) (s t : Play) (f g : List Fact) : Type 0 where
   pub grew : g ≡ f ++ group
   pub rest : (k : ℕ) (x : List Fact) (u : Stage) → i + k ≡ n → Settles k t.stage x u → Settles n s.stage (group ++ x) u
   pub plain : Plainly group s.totals t.totals
+  pub services : length t.totals + length s.stage.nodes ≡ length s.totals + length t.stage.nodes
+  pub numbered : IsNumbered s → IsNumbered t
 
 pub goes-none : (n : ℕ) (s : Play) (f : List Fact) → Goes n 0 s s f f
 goes-none n s f = record {
@@ -45,6 +51,8 @@ goes-none n s f = record {
   grew = sym (append-nil f);
   rest = λ k x u e d. let same : k ≡ n = omega (arith, e) in rw (← same) d;
   plain = plainly-none s.totals;
+  services = omega arith;
+  numbered = λ m. m;
 }
 
 more-round : (k : ℕ) (quiet : Bool) (t u v : Stage) (x y : List Fact) → Round t x u → quiet ≡ list_all (λ f. is_polled f.event) x → Unless quiet (Settles k) u y v → Settles (suc k) t (x ++ y) v
@@ -66,6 +74,8 @@ goes-more n i quiet s t u f g h p loud m = record {
       let more : i + suc k ≡ n = omega (arith, e) in
       rw (append_assoc p.group m.made.group x) (p.rest (suc k) (m.made.group ++ x) v more (more-round k false t.stage u.stage v m.made.group x m.made.does (sym loud ∙ m.quiet) d));
   plain = plainly-append p.group m.made.group s.totals t.totals u.totals p.plain m.made.plain;
+  services = omega (arith, p.services, m.made.services);
+  numbered = λ first. performed-numbered Round stays-round t u g h m.made (p.numbered first);
 }
 
 -- a round in which there was nothing but polls is the last
@@ -78,6 +88,7 @@ settles-quiet n i quiet s t u f g h within p still m =
       grew = m.made.grew ∙ rw (p.grew, append-nil m.made.group) (append_assoc f p.group m.made.group);
       does = p.rest (suc k) (m.made.group ++ []) u.stage more (more-round k true t.stage u.stage u.stage m.made.group [] m.made.does (sym still ∙ m.quiet) (refl, refl));
       plain = plainly-append p.group (m.made.group ++ []) s.totals t.totals u.totals p.plain (rw (append-nil m.made.group) m.made.plain);
+      services = omega (arith, p.services, m.made.services);
     }
 
 -- all n were made
@@ -89,6 +100,7 @@ settles-all n i s t f g e p =
       grew = p.grew ∙ rw (append-nil p.group) refl;
       does = p.rest 0 [] t.stage over (refl, refl);
       plain = rw (append-nil p.group) p.plain;
+      services = p.services;
     }
 
 pub back-part : (f x h : List Fact) → h ≡ f ++ x → take (length h - length f) (drop (length f) h) ≡ x

@@ -19,7 +19,8 @@ total_at n totals = get_or totals n 0
 abbrev pub facts_at : ℕ → List Fact → List Fact
 facts_at n x = filter (λ f. is_at n f.who) x
 
--- at each node the facts answer as the plain service does, and none of them tells that something was wanting
+-- at each node the facts answer as the plain service does, and none of them tells that something
+-- was wanting
 pub record Plainly (x : List Fact) (old new : List ℕ) : Type 0 where
   pub whole : Whole x
   pub serves : (n : ℕ) → ServesAll (total_at n old) (total_at n new) (facts_at n x)

@@ -1,3 +1,4 @@
 pub mod Answered
+pub mod Before
 pub mod Performed
 pub mod Served

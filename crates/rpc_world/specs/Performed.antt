@@ -1,5 +1,5 @@
 -- What a command did to the world.
-use Rattle.std.specs.Prelude.{◌≡◌, ℕ, Bool, true, false, Option, Some, None, List, [], ◌∷◌, ◌++◌, slice_get}
+use Rattle.std.specs.Prelude.{◌≡◌, ◌+◌, ℕ, Bool, true, false, Option, Some, None, List, [], ◌∷◌, ◌++◌, length, slice_get}
 use Rattle.std.specs.List.{list_all}
 use Rattle.rpc_base.specs.declared.event.Event.{Event}
 use Rattle.rpc_base.specs.declared.fact.Fact.{Fact}
@@ -10,12 +10,16 @@ use Rattle.rpc_laws.specs.Groups.{pair_refusal}
 use Rattle.sim_script.specs.FollowsScript.{PairsBy, PairsEnds, Round, is_polled}
 use Rattle.rpc_world.specs.Answered.{Plainly, Play}
 
--- the facts grew by a group by which P leads from the old stage to the new one, and which answers plainly
-pub record Performed (P : Stage → List Fact → Stage → Type 0) (old new : Play) (before now : List Fact) : Type 0 where
+-- the facts grew by a group by which P leads from the old stage to the new one, and which answers
+-- plainly; as many services came as nodes
+pub record Performed (P : Stage → List Fact → Stage → Type 0) (old new : Play)
+    (before now : List Fact) : Type 0 where
   pub group : List Fact
   pub grew : now ≡ before ++ group
   pub does : P old.stage group new.stage
   pub plain : Plainly group old.totals new.totals
+  pub services : length new.totals + length old.stage.nodes
+      ≡ length old.totals + length new.stage.nodes
 
 -- node n is there, and has this number
 abbrev pub IsNode : Stage → ℕ → Type 0
@@ -23,7 +27,8 @@ IsNode s n = (x : Timed) × (slice_get s.nodes n ≡ Some x) × (x.lists.me ≡ 
 
 -- nothing refuses node n an end of a pair with these credits
 abbrev pub TakesEnd : (n credits : ℕ) → Stage → Type 0
-TakesEnd n credits s = (x : Timed) → slice_get s.nodes n ≡ Some x → pair_refusal credits x.lists ≡ None
+TakesEnd n credits s =
+    (x : Timed) → slice_get s.nodes n ≡ Some x → pair_refusal credits x.lists ≡ None
 
 -- both ends of a pair were made
 pub record TakesEnds (a b credits : ℕ) (s : Stage) (x : List Fact) (t : Stage) : Type 0 where
@@ -35,7 +40,8 @@ pub record TakesEnds (a b credits : ℕ) (s : Stage) (x : List Fact) (t : Stage)
 
 -- whether a node takes no end of a pair: then why was noted, and otherwise nothing
 abbrev pub NotesRefusal : Bool → Option Event → ℕ → List Fact → List Fact → Type 0
-NotesRefusal true refusal me before now = (e : Event) × (refusal ≡ Some e) × (now ≡ before ++ plain me e ∷ [])
+NotesRefusal true refusal me before now =
+    (e : Event) × (refusal ≡ Some e) × (now ≡ before ++ plain me e ∷ [])
 NotesRefusal false refusal me before now = (refusal ≡ None) × (now ≡ before)
 
 -- the server's node was asked for its end, where the client's node takes its own

@@ -22,4 +22,5 @@ is_served (Settle rounds) = true
 
 -- the number of the first line whose command isn't served
 abbrev pub later_of : List Line → Option ℕ
-later_of lines = option_map (λ line. line.number) (find (λ line. not (is_served line.command)) lines)
+later_of lines =
+    option_map (λ line. line.number) (find (λ line. not (is_served line.command)) lines)

@@ -1,16 +1,15 @@
 //! `call`: a node is asked a call.
-ghost use Rattle.std.specs.Prelude.{◌≡◌, ◌%◌, map, IfOk, OnOk};
+ghost use Rattle.std.specs.Prelude.{◌≡◌, ◌<◌, ◌≤◌, ◌%◌, length, map, IfOk, OnOk};
 ghost use Rattle.std.specs.List.{range_with_len};
 ghost use Rattle.rpc_laws.specs.Groups.{Asks};
 ghost use Rattle.sim_script.specs.FollowsScript.{AtNode, ask_bytes};
 ghost use Rattle.rpc_world.specs.Performed.{Performed};
+ghost use Rattle.rpc_world.specs.Before.{IsNumbered};
 
 use crate::finished::keep;
 use crate::network::launch;
 use crate::running::Running;
-use crate::stepping::is_there;
-use packet_header::MOST_MESSAGE_BYTES;
-use rpc_base::{Fact, Listed, NoMemory, NodeId, Octets, SessionNo};
+use rpc_base::{Fact, Listed, MOST_MESSAGE_BYTES, NoMemory, NodeId, Octets, SessionNo};
 use sim_script::AskBytes;
 use std::alloc::{AllocError, Global};
 
@@ -36,8 +35,6 @@ fn bytes_of(alloc: Global, ask: &AskBytes) -> Result<Octets, NoMemory>
     }
 }
 
-// A room above the largest message comes of no script, nor does a node that isn't there; they end as want
-// of memory.
 fn ask_on(
     alloc: Global,
     stage: &mut Running,
@@ -48,13 +45,14 @@ fn ask_on(
     ask: &[u8],
     room: u32,
 ) -> Result<(), NoMemory>
+    requires node { node < length stage.old.stage.nodes }
+    requires room { room ≤ MOST_MESSAGE_BYTES }
+    requires numbered { IsNumbered stage.old }
     ensures { OnOk result
-        (Performed (AtNode (Asks session req_type ask.now room) node) stage.old stage.new facts.old facts.new) }
+        (Performed (AtNode (Asks session req_type ask.now room) node)
+        stage.old stage.new facts.old facts.new) }
 {
     let place = usize::from(node.0);
-    if !is_there(stage, node) || room > MOST_MESSAGE_BYTES {
-        return Err(NoMemory);
-    }
     let before = facts.len();
     let asked = stage.nodes.at_mut(place);
     asked.ask(alloc, facts, session, req_type, ask, room)?;
@@ -74,8 +72,12 @@ pub fn call_on(
     ask: &AskBytes,
     room: u32,
 ) -> Result<(), NoMemory>
+    requires node { node < length stage.old.stage.nodes }
+    requires room { room ≤ MOST_MESSAGE_BYTES }
+    requires numbered { IsNumbered stage.old }
     ensures { OnOk result
-        (Performed (AtNode (Asks session req_type (ask_bytes ask.now) room) node) stage.old stage.new facts.old facts.new) }
+        (Performed (AtNode (Asks session req_type (ask_bytes ask.now) room) node)
+        stage.old stage.new facts.old facts.new) }
 {
     let bytes = bytes_of(alloc, ask)?;
     ask_on(

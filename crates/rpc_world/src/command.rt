@@ -1,8 +1,11 @@
 //! What each command of a script does to the world.
-ghost use Rattle.std.specs.Prelude.{◌≡◌, OnOk};
+ghost use Rattle.std.specs.Prelude.{◌≡◌, ◌<◌, ◌+◌, ◌^◌, true, length, OnOk};
 ghost use Rattle.rpc_base.specs.declared.event.Event.{Event};
 ghost use Rattle.sim_script.specs.FollowsScript.{Does, OfNet, Ticks, or_missed};
 ghost use Rattle.rpc_world.specs.Performed.{Performed};
+ghost use Rattle.rpc_world.specs.Before.{IsNumbered, Names};
+ghost use Rattle.rpc_world.specs.Served.{is_served};
+ghost use Rattle.script_grammar.specs.Conditions.{IsInRange};
 
 use crate::calling::call_on;
 use crate::making::make_node;
@@ -12,6 +15,7 @@ use crate::running::Running;
 use crate::settling::settle;
 use crate::stepping::{arrive, poll_node, work_job};
 use rpc_base::{Event, Fact, Listed, NoMemory};
+use script_grammar::MOST_TICK;
 use sim_script::Command;
 use std::alloc::Global;
 
@@ -22,7 +26,8 @@ fn lose(
     copy: u32,
 ) -> Result<(), NoMemory>
     ensures { OnOk result
-        (Performed (OfNet (or_missed stage.old.stage.flight copy (Event.Lost copy))) stage.old stage.new facts.old facts.new) }
+        (Performed (OfNet (or_missed stage.old.stage.flight copy (Event.Lost copy)))
+        stage.old stage.new facts.old facts.new) }
 {
     if (copy as usize) < stage.flight.len() {
         perform_net(alloc, stage, facts, &Event::Lost { copy })
@@ -38,7 +43,8 @@ fn repeat(
     copy: u32,
 ) -> Result<(), NoMemory>
     ensures { OnOk result
-        (Performed (OfNet (or_missed stage.old.stage.flight copy (Event.Repeated copy))) stage.old stage.new facts.old facts.new) }
+        (Performed (OfNet (or_missed stage.old.stage.flight copy (Event.Repeated copy)))
+        stage.old stage.new facts.old facts.new) }
 {
     if (copy as usize) < stage.flight.len() {
         perform_net(alloc, stage, facts, &Event::Repeated { copy })
@@ -53,21 +59,26 @@ fn tick(
     facts: &mut Listed<Fact>,
     by: u32,
 ) -> Result<(), NoMemory>
+    requires clock { stage.old.stage.clock + by < 2 ^ 64 }
     ensures { OnOk result (Performed (Ticks by) stage.old stage.new facts.old facts.new) }
 {
-    stage.clock = stage.clock.checked_add(u64::from(by)).ok_or(NoMemory)?;
+    stage.clock += u64::from(by);
     note_of_net(alloc, facts, &Event::Ticked { by })?;
     Ok(())
 }
 
-/// Does what a command says. A command that isn't served ends as want of memory; `World::later` tells
-/// it beforehand.
+/// Does what a command says that is served.
 pub fn execute(
     alloc: Global,
     stage: &mut Running,
     facts: &mut Listed<Fact>,
     command: &Command,
 ) -> Result<(), NoMemory>
+    requires served { is_served command.now ≡ true }
+    requires ranges { IsInRange command.now }
+    requires names { Names (length stage.old.stage.nodes) command.now }
+    requires numbered { IsNumbered stage.old }
+    requires clock { stage.old.stage.clock + MOST_TICK < 2 ^ 64 }
     ensures { OnOk result (Performed (Does command.now) stage.old stage.new facts.old facts.new) }
 {
     match command {
@@ -87,6 +98,8 @@ pub fn execute(
         Command::Tick { by } => tick(alloc, stage, facts, *by),
         Command::Work { node, job } => work_job(alloc, stage, facts, *node, *job),
         Command::Settle { rounds } => settle(alloc, stage, facts, *rounds),
-        _ => Err(NoMemory),
+        Command::Connect { .. } => unreachable!(),
+        Command::Disconnect { .. } => unreachable!(),
+        Command::Rate { .. } => unreachable!(),
     }
 }

@@ -19,12 +19,7 @@ fn place_of(
         && (job.session.0 == session.0 && job.request.get() == request.get()))
 }
 
-fn take_out(
-    worked: &mut Listed<WorkedJob>,
-    node: NodeId,
-    session: SessionNo,
-    request: RequestNo,
-)
+fn take_out(worked: &mut Listed<WorkedJob>, node: NodeId, session: SessionNo, request: RequestNo)
     ensures { worked.new ≡ without_first (is_worked node session request) worked.old }
 {
     if let Some(place) = place_of(worked, node, session, request) {
@@ -43,7 +38,11 @@ fn keep_of(worked: &mut Listed<WorkedJob>, node: NodeId, event: &Event) -> Resul
                 request: *request,
             })
         }
-        Event::Ran { session, request, .. } => {
+        Event::Ran {
+            session,
+            request,
+            ..
+        } => {
             take_out(worked, node, *session, *request);
             Ok(())
         }

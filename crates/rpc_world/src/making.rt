@@ -1,11 +1,12 @@
 //! A node is made.
-ghost use Rattle.std.specs.Prelude.{OnOk};
+ghost use Rattle.std.specs.Prelude.{◌<◌, length, OnOk};
 ghost use Rattle.sim_script.specs.FollowsScript.{Makes};
 ghost use Rattle.rpc_world.specs.Performed.{Performed};
 
 use crate::running::Running;
 use rpc_base::{Event, Fact, Listed, NoMemory, NodeId, Octets, Who};
 use rpc_outside::PlainService;
+use script_grammar::MOST_NODES;
 use sim_node::Node;
 use std::alloc::Global;
 
@@ -16,9 +17,10 @@ pub fn make_node(
     facts: &mut Listed<Fact>,
     ring: u32,
 ) -> Result<(), NoMemory>
+    requires few { length stage.old.stage.nodes < MOST_NODES }
     ensures { OnOk result (Performed (Makes ring) stage.old stage.new facts.old facts.new) }
 {
-    let number = u8::try_from(stage.nodes.len()).map_err(|_| NoMemory)?;
+    let number = stage.nodes.len() as u8;
     let who = Who::Node(NodeId(number));
     let first = Octets::from(Vec::new(alloc));
     let second = Octets::from(Vec::new(alloc));

@@ -28,7 +28,8 @@ pub fn note_of_net(alloc: Global, facts: &mut Listed<Fact>, event: &Event) -> Re
 
 fn send_of(flight: &mut Net, from: NodeId, fact: &Fact) -> Result<(), NoMemory>
     ensures { OnOk result
-        (flight.new ≡ flight_after_node from fact.now.event fact.now.first fact.now.second flight.old) }
+        (flight.new ≡ flight_after_node from fact.now.event fact.now.first fact.now.second
+        flight.old) }
 {
     match &fact.event {
         Event::Sent { peer, .. } => {

@@ -6,15 +6,12 @@ ghost use Rattle.sim_script.specs.FollowsScript.{Pairs};
 ghost use Rattle.rpc_world.specs.Performed.{Performed, AsksServer, NotesRefusal, TakesEnd, TakesEnds};
 
 use crate::running::Running;
-use rpc_base::{Event, Fact, Listed, NoMemory, NodeId, Octets, Peer, SessionNo, Who};
+use rpc_base::{
+    Event, Fact, Listed, MOST_CREDITS, NoMemory, NodeId, Octets, Peer, SESSION_NUMBERS, SessionNo,
+    Who,
+};
 use sim_node::Node;
 use std::alloc::Global;
-
-/// So many numbers of client or of server sessions a node has.
-const MOST_SESSIONS: u64 = 65_535;
-
-/// So many credits a session has at most.
-const MOST_CREDITS: u16 = 256;
 
 fn note_refusal(
     alloc: Global,
@@ -43,9 +40,11 @@ fn refuse(
     credits: u16,
 ) -> Result<bool, NoMemory>
     ensures { IfOk result
-        (λ refuses. NotesRefusal refuses (pair_refusal credits node.now.lists) node.now.lists.me facts.old facts.new) }
+        (λ refuses. NotesRefusal refuses (pair_refusal credits node.now.lists) node.now.lists.me
+        facts.old facts.new) }
 {
-    if node.next_client() as u64 >= MOST_SESSIONS || node.next_server() >= MOST_SESSIONS {
+    let spent = u64::from(SESSION_NUMBERS);
+    if node.next_client() as u64 >= spent || node.next_server() >= spent {
         note_refusal(alloc, facts, node.me(), &Event::NconnectNumbers)?;
         return Ok(true);
     }
@@ -63,16 +62,13 @@ fn refuse(
     Ok(false)
 }
 
-// The number of the next session of a table.
-fn next_number(count: u64) -> Result<SessionNo, NoMemory>
-    ensures number { IfOk result (λ r. r ≡ count) }
-    ensures below { IfOk result (λ r. r < 65535) }
+// The number of the next session of a table, whose numbers aren't spent.
+fn next_number(count: u64) -> SessionNo
+    requires { count < SESSION_NUMBERS }
+    ensures number { result ≡ count }
+    ensures below { result < SESSION_NUMBERS }
 {
-    let number = u16::try_from(count).map_err(|_| NoMemory)?;
-    if number == u16::MAX {
-        return Err(NoMemory);
-    }
-    Ok(SessionNo(number))
+    SessionNo(count as u16)
 }
 
 // Both ends are made.
@@ -88,14 +84,15 @@ fn make_ends(
     requires client { a < length stage.old.stage.nodes }
     requires server { b < length stage.old.stage.nodes }
     requires some { 1 ≤ credits }
-    requires most { credits ≤ 256 }
+    requires most { credits ≤ MOST_CREDITS }
     requires client_fits { TakesEnd a credits stage.old.stage }
     requires server_fits { TakesEnd b credits stage.old.stage }
-    ensures { OnOk result (Performed (TakesEnds a b credits) stage.old stage.new facts.old facts.new) }
+    ensures { OnOk result (Performed (TakesEnds a b credits) stage.old stage.new facts.old
+        facts.new) }
 {
     let (client, server) = (usize::from(a.0), usize::from(b.0));
-    let of_client = next_number(stage.nodes.at(client).next_client() as u64)?;
-    let of_server = next_number(stage.nodes.at(server).next_server())?;
+    let of_client = next_number(stage.nodes.at(client).next_client() as u64);
+    let of_server = next_number(stage.nodes.at(server).next_server());
     let asking = stage.nodes.at_mut(client);
     asking.pair_client(alloc, facts, Peer(b.0), of_server, credits)?;
     let serving = stage.nodes.at_mut(server);
@@ -116,9 +113,10 @@ fn pair_at_server(
     requires client { a < length stage.old.stage.nodes }
     requires server { b < length stage.old.stage.nodes }
     requires some { 1 ≤ credits }
-    requires most { credits ≤ 256 }
+    requires most { credits ≤ MOST_CREDITS }
     requires client_fits { TakesEnd a credits stage.old.stage }
-    ensures { OnOk result (Performed (AsksServer a b credits) stage.old stage.new facts.old facts.new) }
+    ensures { OnOk result (Performed (AsksServer a b credits) stage.old stage.new facts.old
+        facts.new) }
 {
     if refuse(alloc, facts, stage.nodes.at(usize::from(b.0)), credits)? {
         return Ok(());
@@ -127,9 +125,8 @@ fn pair_at_server(
     Ok(())
 }
 
-/// `pair A B`: gives `a` a client session and `b` a server session, each with the other's number, or notes
-/// the first refusal. Nodes that aren't there, or are one, and credits out of their range come of no script;
-/// they end as want of memory.
+/// `pair A B`: gives `a` a client session and `b` a server session, each with the other's number,
+/// or notes the first refusal.
 pub fn pair(
     alloc: Global,
     stage: &mut Running,
@@ -138,15 +135,13 @@ pub fn pair(
     b: NodeId,
     credits: u16,
 ) -> Result<(), NoMemory>
+    requires two { b ≢ a }
+    requires client { a < length stage.old.stage.nodes }
+    requires server { b < length stage.old.stage.nodes }
+    requires some { 1 ≤ credits }
+    requires most { credits ≤ MOST_CREDITS }
     ensures { OnOk result (Performed (Pairs a b credits) stage.old stage.new facts.old facts.new) }
 {
-    let count = stage.nodes.len();
-    if b.0 == a.0 || usize::from(a.0) >= count || usize::from(b.0) >= count {
-        return Err(NoMemory);
-    }
-    if credits == 0 || credits > MOST_CREDITS {
-        return Err(NoMemory);
-    }
     if refuse(alloc, facts, stage.nodes.at(usize::from(a.0)), credits)? {
         return Ok(());
     }

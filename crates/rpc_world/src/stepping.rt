@@ -1,9 +1,11 @@
-//! Steps of the nodes: a poll, jobs that are worked, and a copy that is taken out of flight and delivered.
-ghost use Rattle.std.specs.Prelude.{◌≡◌, IsTrue, OnOk};
+//! Steps of the nodes: a poll, jobs that are worked, and a copy that is taken out of flight and
+//! delivered.
+ghost use Rattle.std.specs.Prelude.{◌≡◌, ◌<◌, length, IsTrue, OnOk};
 ghost use Rattle.rpc_laws.specs.Deliveries.{Delivers};
 ghost use Rattle.rpc_laws.specs.Working.{Works};
 ghost use Rattle.sim_script.specs.FollowsScript.{AtNode, Arrives, Carries, PollsNode, WorksNode};
 ghost use Rattle.rpc_world.specs.Performed.{IsNode, Performed};
+ghost use Rattle.rpc_world.specs.Before.{IsNumbered};
 
 use crate::finished::keep;
 use crate::network::{launch, note_of_net, perform_net};
@@ -12,8 +14,8 @@ use network_model::Copy;
 use rpc_base::{Event, Fact, Listed, NoMemory, NodeId, Peer};
 use std::alloc::Global;
 
-/// Whether there is a node of this number, which knows it.
-pub fn is_there(stage: &Running, node: NodeId) -> bool
+// Whether there is a node of this number, which knows it.
+fn is_there(stage: &Running, node: NodeId) -> bool
     ensures { IsTrue result → IsNode stage.now.stage node }
 {
     let place = usize::from(node.0);
@@ -27,12 +29,11 @@ pub fn poll_node(
     facts: &mut Listed<Fact>,
     node: NodeId,
 ) -> Result<(), NoMemory>
+    requires node { node < length stage.old.stage.nodes }
+    requires numbered { IsNumbered stage.old }
     ensures { OnOk result (Performed (PollsNode node) stage.old stage.new facts.old facts.new) }
 {
     let place = usize::from(node.0);
-    if !is_there(stage, node) || place >= stage.services.len() {
-        return Err(NoMemory);
-    }
     let before = facts.len();
     let now = stage.clock;
     let polled = stage.nodes.at_mut(place);
@@ -44,7 +45,8 @@ pub fn poll_node(
     Ok(())
 }
 
-/// `work A J`: works that waiting job of the node, in the order of giving from 0, or notes that there is none.
+/// `work A J`: works that waiting job of the node, in the order of giving from 0, or notes that
+/// there is none.
 pub fn work_job(
     alloc: Global,
     stage: &mut Running,
@@ -52,13 +54,13 @@ pub fn work_job(
     node: NodeId,
     job: u32,
 ) -> Result<(), NoMemory>
+    requires node { node < length stage.old.stage.nodes }
+    requires numbered { IsNumbered stage.old }
     ensures { OnOk result
-        (Performed (AtNode (Works stage.old.stage.worked job) node) stage.old stage.new facts.old facts.new) }
+        (Performed (AtNode (Works stage.old.stage.worked job) node)
+        stage.old stage.new facts.old facts.new) }
 {
     let place = usize::from(node.0);
-    if !is_there(stage, node) {
-        return Err(NoMemory);
-    }
     let before = facts.len();
     let worked = stage.nodes.at_mut(place);
     worked.work(alloc, facts, &stage.worked, job)?;
@@ -74,12 +76,11 @@ pub fn work_node(
     facts: &mut Listed<Fact>,
     node: NodeId,
 ) -> Result<(), NoMemory>
+    requires node { node < length stage.old.stage.nodes }
+    requires numbered { IsNumbered stage.old }
     ensures { OnOk result (Performed (WorksNode node) stage.old stage.new facts.old facts.new) }
 {
     let place = usize::from(node.0);
-    if !is_there(stage, node) {
-        return Err(NoMemory);
-    }
     let before = facts.len();
     let worked = stage.nodes.at_mut(place);
     worked.work_all(alloc, facts, &stage.worked)?;
@@ -88,6 +89,9 @@ pub fn work_node(
     Ok(())
 }
 
+// A copy for a number that is no node's ends as want of memory. No script leads there, since a node
+// sends to those alone that it was paired with; the network of the endpoint's world will carry
+// copies to nodes alone.
 fn deliver_at(
     alloc: Global,
     stage: &mut Running,
@@ -97,7 +101,8 @@ fn deliver_at(
     bytes: &[u8],
 ) -> Result<(), NoMemory>
     ensures { OnOk result
-        (Performed (AtNode (Delivers sender bytes.now) node) stage.old stage.new facts.old facts.new) }
+        (Performed (AtNode (Delivers sender bytes.now) node)
+        stage.old stage.new facts.old facts.new) }
 {
     let place = usize::from(node.0);
     if !is_there(stage, node) {
@@ -118,16 +123,10 @@ fn deliver_to(
     copy: &Copy,
 ) -> Result<(), NoMemory>
     ensures { OnOk result
-        (Performed (AtNode (Delivers copy.now.from copy.now.bytes) copy.now.to) stage.old stage.new facts.old facts.new) }
+        (Performed (AtNode (Delivers copy.now.from copy.now.bytes) copy.now.to)
+        stage.old stage.new facts.old facts.new) }
 {
-    deliver_at(
-        alloc,
-        stage,
-        facts,
-        copy.to,
-        copy.from,
-        copy.bytes.bytes(),
-    )
+    deliver_at(alloc, stage, facts, copy.to, copy.from, copy.bytes.bytes())
 }
 
 /// `arrive I`: takes the copy out of flight and delivers it.
@@ -148,16 +147,17 @@ pub fn arrive(
     Ok(())
 }
 
-/// Carries copy 0, which has to be in flight: where it isn't, that ends as want of memory.
+/// Carries copy 0, which is in flight.
 pub fn carry_first(
     alloc: Global,
     stage: &mut Running,
     facts: &mut Listed<Fact>,
 ) -> Result<(), NoMemory>
+    requires { 0 < length stage.old.stage.flight }
     ensures { OnOk result (Performed (Carries 0) stage.old stage.new facts.old facts.new) }
 {
     let Some(taken) = stage.flight.carry(0) else {
-        return Err(NoMemory);
+        unreachable!();
     };
     note_of_net(alloc, facts, &Event::Carried { copy: 0 })?;
     deliver_to(alloc, stage, facts, &taken)?;

@@ -1,7 +1,10 @@
--- The commands: the words and ranges of each. All words of a line are taken before any number is read, so that Shape comes before Number, and numbers before the bytes of a call, so that Number comes before Hex.
+-- The commands: the words and ranges of each. All words of a line are taken before any number is
+-- read, so that Shape comes before Number, and numbers before the bytes of a call, so that Number
+-- comes before Hex.
 use Rattle.std.specs.Prelude.{ℕ, List, [], ◌∷◌, codes, Option, Some, None, Result, Ok, Err, ok_or, if◌then◌else◌}
 use Rattle.script_grammar.specs.declared.bad.BadWhy.{BadWhy}
 use Rattle.script_grammar.specs.declared.bad.BadWhy.TheVariants.{Word}
+use Rattle.script_grammar.specs.declared.command.TheConstants.{LAST_SESSION, LAST_TYPE, LEAST_CREDITS, LEAST_RING, LEAST_ROUNDS, MOST_CREDITS, MOST_RING, MOST_ROOM, MOST_ROUNDS, MOST_TICK}
 use Rattle.script_grammar.specs.declared.line.Command.{Command}
 use Rattle.script_grammar.specs.declared.line.Command.TheVariants as command
 use Rattle.script_grammar.specs.declared.verb.Verb.{Verb}
@@ -14,7 +17,7 @@ use Rattle.script_grammar.specs.Words.{◌>>=◌, is_word, next_word, last_word}
 unfoldable pub ring_in : List (List ℕ) → Result ℕ BadWhy
 ring_in words = do
   ring ← last_word (codes "ring=") words
-  number_in 32 4096 ring
+  number_in LEAST_RING MOST_RING ring
 
 -- `A B credits=C`, C from 1 to 256
 unfoldable pub ends_in : List (List ℕ) → Result (ℕ × ℕ × ℕ) BadWhy
@@ -24,7 +27,7 @@ ends_in words = do
   credits ← last_word (codes "credits=") words
   a ← node_in a
   b ← node_in b
-  credits ← number_in 1 256 credits
+  credits ← number_in LEAST_CREDITS MOST_CREDITS credits
   Ok (a, b, credits)
 
 -- `A S`, S up to 65,534
@@ -33,7 +36,7 @@ session_in words = do
   (node, words) ← next_word words
   session ← last_word [] words
   node ← node_in node
-  session ← number_in 0 65534 session
+  session ← number_in 0 LAST_SESSION session
   Ok (node, session)
 
 -- `A S B`, B any number of 32 bits
@@ -43,7 +46,7 @@ rate_in words = do
   (session, words) ← next_word words
   rate ← last_word [] words
   node ← node_in node
-  session ← number_in 0 65534 session
+  session ← number_in 0 LAST_SESSION session
   rate ← number_in 0 4294967295 rate
   Ok (node, session, rate)
 
@@ -56,9 +59,9 @@ call_parts_in words = do
   (ask, words) ← next_word words
   room ← last_word (codes "room=") words
   node ← node_in node
-  session ← number_in 0 65534 session
-  req_type ← number_in 0 255 req_type
-  room ← number_in 0 1048576 room
+  session ← number_in 0 LAST_SESSION session
+  req_type ← number_in 0 LAST_TYPE req_type
+  room ← number_in 0 MOST_ROOM room
   Ok (node, session, req_type, ask, room)
 
 -- `A`
@@ -112,13 +115,13 @@ plain_in verb.Repeat words = do
   copy ← only_number_in 0 4294967295 words
   Ok (command.Repeat copy)
 plain_in verb.Tick words = do
-  by ← only_number_in 0 1000000000 words
+  by ← only_number_in 0 MOST_TICK words
   Ok (command.Tick by)
 plain_in verb.Work words = do
   (node, job) ← job_in words
   Ok (command.Work node job)
 plain_in verb.Settle words = do
-  rounds ← only_number_in 1 1000000 words
+  rounds ← only_number_in LEAST_ROUNDS MOST_ROUNDS words
   Ok (command.Settle rounds)
 
 -- what follows the word `call`

@@ -1,4 +1,5 @@
--- What `read` may answer of a script: what the grammar says of it, or, at any time, that memory ran out.
+-- What `read` may answer of a script: what the grammar says of it, or, at any time, that memory ran
+-- out.
 use Rattle.std.specs.Prelude.{◌≡◌, List, Result, Ok, Err}
 use Rattle.script_grammar.specs.declared.bad.BadScript.{BadScript}
 use Rattle.script_grammar.specs.declared.bad.ReadError.{ReadError}

@@ -12,7 +12,9 @@ names_one nodes node = if nat_lt node nodes then None else Some why.Node
 
 -- two such nodes have to differ
 unfoldable pub names_two : ℕ → ℕ → ℕ → Option BadWhy
-names_two nodes a b = if nat_lt a nodes && nat_lt b nodes then (if a == b then Some why.Same else None) else Some why.Node
+names_two nodes a b =
+    if nat_lt a nodes && nat_lt b nodes then (if a == b then Some why.Same else None)
+    else Some why.Node
 
 -- what is wrong with the nodes that a command names
 unfoldable pub misnamed : ℕ → Command → Option BadWhy
@@ -33,7 +35,8 @@ misnamed nodes (Settle rounds) = None
 -- a node line comes before the other commands, and makes at most the eighth node
 unfoldable pub node_admitted : Before → Result Before BadWhy
 node_admitted before =
-    if before.begun || nat_le 8 before.nodes then Err why.Nodes else Ok (record before { nodes = before.nodes + 1 })
+    if before.begun || nat_le 8 before.nodes then Err why.Nodes
+    else Ok (record before { nodes = before.nodes + 1 })
 
 -- what follows, unless something is wrong
 abbrev pub unless : Option BadWhy → Before → Result Before BadWhy
@@ -42,7 +45,8 @@ unless None after = Ok after
 
 -- another command comes after at least two node lines, and names declared nodes
 unfoldable pub other_admitted : Before → Option BadWhy → Result Before BadWhy
-other_admitted before wrong = if nat_lt before.nodes 2 then Err why.Nodes else unless wrong (record before { begun = true })
+other_admitted before wrong =
+    if nat_lt before.nodes 2 then Err why.Nodes else unless wrong (record before { begun = true })
 
 -- what stands before the next line, where a command may come here
 unfoldable pub admitted : Before → Command → Result Before BadWhy

@@ -1,6 +1,7 @@
 -- A script: its head, its commands in order, and the first bad line.
 use Rattle.std.specs.Prelude.{◌==◌, ℕ, ◌+◌, Bool, ◌||◌, nat_lt, List, [], ◌∷◌, ◌++◌, length, codes, nat_eq, false, Result, Ok, Err, if◌then◌else◌}
 use Rattle.std.specs.List.{starts_with}
+use Rattle.script_grammar.specs.declared.reading.TheConstants.{MOST_BYTES, MOST_LINES}
 use Rattle.script_grammar.specs.declared.bad.BadScript.{BadScript}
 use Rattle.script_grammar.specs.declared.bad.BadWhy.{BadWhy}
 use Rattle.script_grammar.specs.declared.bad.BadWhy.TheVariants.{TooLong, Lines, First, Nodes}
@@ -33,15 +34,17 @@ put_before front (Ok lines) = Ok (front ++ lines)
 put_before front (Err bad) = Err bad
 
 -- a line's command before the commands of the lines after it
-abbrev pub with_line : ℕ → Result (Command × Before) BadWhy → (Before → Result (List Line) BadScript) → Result (List Line) BadScript
-with_line number (Ok (command, after)) rest = put_before (record { number = number; command = command } ∷ []) (rest after)
+abbrev pub with_line : ℕ → Result (Command × Before) BadWhy
+    → (Before → Result (List Line) BadScript) → Result (List Line) BadScript
+with_line number (Ok (command, after)) rest =
+    put_before (record { number = number; command = command } ∷ []) (rest after)
 with_line number (Err why) rest = bad_at number why
 
 -- the commands from line `number` on; there is no line 100,001, and two nodes at the end
 unfoldable pub lines_in : ℕ → Before → List (List ℕ) → Result (List Line) BadScript
 lines_in number before [] = if nat_lt before.nodes 2 then bad_at number Nodes else Ok []
 lines_in number before (line ∷ lines) =
-    if nat_lt 100000 number then bad_at number Lines
+    if nat_lt MOST_LINES number then bad_at number Lines
     else (if is_passed_over line then lines_in (number + 1) before lines
     else with_line number (line_in before line) (λ after. lines_in (number + 1) after lines))
 
@@ -53,4 +56,5 @@ text_in (head ∷ lines) =
 
 -- what the grammar says of a text: its commands, or its first bad line
 unfoldable pub script_of : List ℕ → Result (List Line) BadScript
-script_of text = if nat_lt 16777216 (length text) then bad_at 0 TooLong else text_in (lines_of text)
+script_of text =
+    if nat_lt MOST_BYTES (length text) then bad_at 0 TooLong else text_in (lines_of text)

@@ -1,4 +1,5 @@
--- What may be answered of a part of a script: what the grammar says of it, or, at any time, that memory ran out.
+-- What may be answered of a part of a script: what the grammar says of it, or, at any time, that
+-- memory ran out.
 use Rattle.std.specs.Prelude.{◌≡◌, Result, Ok, Err}
 use Rattle.script_grammar.specs.declared.bad.BadWhy.{BadWhy}
 use Rattle.script_grammar.specs.declared.refusal.Refusal.{Refusal}

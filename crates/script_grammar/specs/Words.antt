@@ -25,8 +25,10 @@ next_word [] = Err Shape
 next_word ([] ∷ words) = Err Shape
 next_word (word ∷ words) = Ok (word, words)
 
--- the last word, which has to be there, after the key that it has to begin with; no word may be empty
+-- the last word, which has to be there, after the key that it has to begin with; no word may be
+-- empty
 unfoldable pub last_word : List ℕ → List (List ℕ) → Result (List ℕ) BadWhy
 last_word key ([] ∷ []) = Err Shape
-last_word key (word ∷ []) = if starts_with nat_eq word key then Ok (drop (length key) word) else Err Shape
+last_word key (word ∷ []) =
+    if starts_with nat_eq word key then Ok (drop (length key) word) else Err Shape
 last_word key _ = Err Shape

@@ -12,8 +12,8 @@ use crate::text::is_word;
 use rpc_base::Octets;
 use std::alloc::Global;
 
-/// No call sends more bytes.
-const MOST_BYTES: u32 = 2_097_152;
+/// No call of a script sends more bytes.
+pub const MOST_BYTES: u32 = 2_097_152;
 /// No call has more hexadecimal digits.
 const MOST_DIGITS: usize = 4_194_304;
 
@@ -56,7 +56,8 @@ fn count(word: &[u8]) -> Result<AskBytes, BadWhy>
 fn bytes_of(alloc: Global, word: &[u8]) -> Result<Vec<u8>, Refusal>
     ensures len { IfOk result (λ bytes. 2 * length bytes.items ≤ length word.now) }
     ensures ok { IfOk result (λ bytes. hex_bytes word.now ≡ Some bytes.items) }
-    ensures err { IfErr result (λ refusal. IsRefusal refusal (ok_or (hex_bytes word.now) BadWhy.Hex)) }
+    ensures err { IfErr result (λ refusal. IsRefusal refusal
+        (ok_or (hex_bytes word.now) BadWhy.Hex)) }
 {
     let mut bytes = Vec::with_capacity(alloc, word.len() / 2)?;
     let mut rest = word;

@@ -24,14 +24,15 @@ pub enum BadWhy {
     /// The bytes of a call are neither `-`, nor an even count of lower-case hexadecimal digits, nor
     /// `*` and a number; or there are more than 2,097,152 of them.
     Hex,
-    /// A ninth node line, a node line after another command, or another command before two nodes; where
-    /// the script ends with fewer than two nodes, one past its last line.
+    /// A ninth node line, a node line after another command, or another command before two nodes;
+    /// where the script ends with fewer than two nodes, one past its last line.
     Nodes,
     /// A node that no line before declares.
     Node,
     /// A pair or a connect of a node with itself.
     Same,
-    /// A command that isn't served yet. `read` never answers it: the world tells which commands it serves.
+    /// A command that isn't served yet. `read` never answers it: the world tells which commands it
+    /// serves.
     Later,
 }
 

@@ -9,7 +9,7 @@ use rpc_base::NodeId;
 /// A script has so many nodes at least, before its other commands.
 pub const FEWEST_NODES: u8 = 2;
 /// A script has no more nodes.
-const MOST_NODES: u8 = 8;
+pub const MOST_NODES: u8 = 8;
 
 /// The node lines that came, and whether another command came.
 #[derive(Clone, Copy, Debug, PartialEq, Eq)]

@@ -16,27 +16,31 @@ use rpc_base::{NodeId, SessionNo};
 use std::alloc::Global;
 
 /// A ring has so many places at least.
-const LEAST_RING: u32 = 32;
+pub const LEAST_RING: u32 = rpc_base::LEAST_RING;
 /// A ring has no more places.
-const MOST_RING: u32 = 4_096;
-/// A session has no more credits; the fewest are 1.
-const MOST_CREDITS: u32 = 256;
+pub const MOST_RING: u32 = rpc_base::MOST_RING;
+/// A session has so many credits at least.
+pub const LEAST_CREDITS: u32 = 1;
+/// A session has no more credits.
+pub const MOST_CREDITS: u32 = rpc_base::MOST_CREDITS as u32;
 /// No number of a session is higher.
-const LAST_SESSION: u32 = 65_534;
+pub const LAST_SESSION: u32 = rpc_base::SESSION_NUMBERS as u32 - 1;
 /// No request type is higher.
-const LAST_TYPE: u32 = 255;
+pub const LAST_TYPE: u32 = 255;
 /// No response buffer has more bytes.
-const MOST_ROOM: u32 = 1_048_576;
+pub const MOST_ROOM: u32 = rpc_base::MOST_MESSAGE_BYTES;
 /// The clock goes on by no more microseconds at once.
-const MOST_TICK: u32 = 1_000_000_000;
-/// No settle has more rounds; the fewest are 1.
-const MOST_ROUNDS: u32 = 1_000_000;
+pub const MOST_TICK: u32 = 1_000_000_000;
+/// A settle has so many rounds at least.
+pub const LEAST_ROUNDS: u32 = 1;
+/// No settle has more rounds.
+pub const MOST_ROUNDS: u32 = 1_000_000;
 
 /// `ring=R`.
 #[tactic(auto, unfolding(crate::specs::Commands::ring_in))]
 fn ring(words: Words) -> Result<u32, BadWhy>
     ensures value { result ≡ ring_in words.entry }
-    ensures range { IfOk result (λ ring. (32 ≤ ring) × (ring ≤ 4096)) }
+    ensures range { IfOk result (λ ring. (LEAST_RING ≤ ring) × (ring ≤ MOST_RING)) }
 {
     let ring = words.last(b"ring=")?;
     number(ring, LEAST_RING, MOST_RING)
@@ -46,14 +50,14 @@ fn ring(words: Words) -> Result<u32, BadWhy>
 #[tactic(auto, unfolding(crate::specs::Commands::ends_in))]
 fn ends(words: Words) -> Result<(NodeId, NodeId, u16), BadWhy>
     ensures value { result ≡ ends_in words.entry }
-    ensures range { IfOk result (λ p. (1 ≤ p.2) × (p.2 ≤ 256)) }
+    ensures range { IfOk result (λ p. (LEAST_CREDITS ≤ p.2) × (p.2 ≤ MOST_CREDITS)) }
 {
     let (a, words) = words.next()?;
     let (b, words) = words.next()?;
     let credits = words.last(b"credits=")?;
     let a = node(a)?;
     let b = node(b)?;
-    let credits = number(credits, 1, MOST_CREDITS)?;
+    let credits = number(credits, LEAST_CREDITS, MOST_CREDITS)?;
     Ok((a, b, credits as u16))
 }
 
@@ -89,7 +93,7 @@ fn rate(words: Words) -> Result<(NodeId, SessionNo, u32), BadWhy>
 #[tactic(auto, unfolding(crate::specs::Commands::call_parts_in))]
 fn call_parts(words: Words) -> Result<(NodeId, SessionNo, u8, &[u8], u32), BadWhy>
     ensures ok { IfOk result (λ p. call_parts_in words.entry ≡ Ok (p.0, p.1, p.2, p.3.now, p.4)) }
-    ensures range { IfOk result (λ p. (p.1 ≤ 65534) × (p.4 ≤ 1048576)) }
+    ensures range { IfOk result (λ p. (p.1 ≤ LAST_SESSION) × (p.4 ≤ MOST_ROOM)) }
     ensures err { IfErr result (λ why. call_parts_in words.entry ≡ Err why) }
 {
     let (a, words) = words.next()?;
@@ -183,7 +187,7 @@ pub fn plain(verb: Verb, words: Words) -> Result<Command, BadWhy>
             Command::Work { node, job }
         }
         Verb::Settle => Command::Settle {
-            rounds: only_number(words, 1, MOST_ROUNDS)?,
+            rounds: only_number(words, LEAST_ROUNDS, MOST_ROUNDS)?,
         },
     })
 }

@@ -17,9 +17,9 @@ use crate::text::{is_word, next_line};
 use std::alloc::Global;
 
 /// No script has more bytes.
-const MOST_BYTES: usize = 16_777_216;
+pub const MOST_BYTES: usize = 16_777_216;
 /// No script has more lines.
-const MOST_LINES: u32 = 100_000;
+pub const MOST_LINES: u32 = 100_000;
 /// The line after the head.
 const FIRST_COMMAND: u32 = 2;
 
@@ -63,10 +63,12 @@ impl Reader {
     fn take(&mut self, alloc: Global, line: &[u8]) -> Result<(), ReadError>
         requires number { self.old.number ≤ 100001 }
         requires ranges { All (λ line. IsInRange line.command) self.old.lines.items }
-        ensures taken { IfOk result (λ _. (rest : List (List ℕ)) → said_of self.old (line.now ∷ rest) ≡ said_of self.new rest) }
+        ensures taken { IfOk result (λ _. (rest : List (List ℕ))
+            → said_of self.old (line.now ∷ rest) ≡ said_of self.new rest) }
         ensures number { OnOk result (self.new.number ≤ 100001) }
         ensures ranges { OnOk result (All (λ line. IsInRange line.command) self.new.lines.items) }
-        ensures bad { IfErr result (λ error. (rest : List (List ℕ)) → IsReading (Err error) (said_of self.old (line.now ∷ rest))) }
+        ensures bad { IfErr result (λ error. (rest : List (List ℕ))
+            → IsReading (Err error) (said_of self.old (line.now ∷ rest))) }
     {
         if self.number > MOST_LINES {
             return Err(bad_at(self.number, BadWhy::Lines));
@@ -90,7 +92,8 @@ impl Reader {
 
     /// The lines, where none is left.
     fn finish(self) -> Result<Vec<Line>, ReadError>
-        ensures ok { IfOk result (λ lines. (said_of self [] ≡ Ok lines.items) × (lines.items ≡ self.lines.items)) }
+        ensures ok { IfOk result (λ lines. (said_of self [] ≡ Ok lines.items)
+            × (lines.items ≡ self.lines.items)) }
         ensures bad { IfErr result (λ error. IsReading (Err error) (said_of self [])) }
     {
         if self.before.nodes < FEWEST_NODES {
@@ -102,9 +105,11 @@ impl Reader {
 
 /// Reads what stands below the head.
 fn read_lines(alloc: Global, text: &[u8]) -> Result<Vec<Line>, ReadError>
-    ensures ok { IfOk result (λ lines. lines_in 2 (record { nodes = 0; begun = false }) (lines_of text.now) ≡ Ok lines.items) }
+    ensures ok { IfOk result (λ lines. lines_in 2 (record { nodes = 0; begun = false })
+        (lines_of text.now) ≡ Ok lines.items) }
     ensures ranges { IfOk result (λ lines. All (λ line. IsInRange line.command) lines.items) }
-    ensures bad { IfErr result (λ error. IsReading (Err error) (lines_in 2 (record { nodes = 0; begun = false }) (lines_of text.now))) }
+    ensures bad { IfErr result (λ error. IsReading (Err error)
+        (lines_in 2 (record { nodes = 0; begun = false }) (lines_of text.now))) }
 {
     let mut reader = Reader {
         number: FIRST_COMMAND,
@@ -135,8 +140,8 @@ fn read_text(alloc: Global, bytes: &[u8]) -> Result<Vec<Line>, ReadError>
     }
 }
 
-/// Reads a script. `Bad` names its first bad line, exactly where the grammar refuses it; `NoMemory` comes
-/// only where there is no memory for its commands.
+/// Reads a script. `Bad` names its first bad line, exactly where the grammar refuses it; `NoMemory`
+/// comes only where there is no memory for its commands.
 pub fn read(alloc: Global, bytes: &[u8]) -> Result<Script, ReadError>
     ensures { IsReading result (script_of bytes.now) }
 {

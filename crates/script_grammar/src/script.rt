@@ -5,9 +5,9 @@ ghost use Rattle.script_grammar.specs.Conditions.{IsScript};
 use crate::line::Line;
 use std::marker::Model;
 
-/// The commands of a script with their lines, in order. Contracts see it as the list of them. The line
-/// numbers rise, each number of a command is in its range, 2 to 8 node lines come first, and the
-/// commands after them name no other nodes.
+/// The commands of a script with their lines, in order. Contracts see it as the list of them. The
+/// line numbers rise, each number of a command is in its range, 2 to 8 node lines come first, and
+/// the commands after them name no other nodes.
 #[derive(Debug, Drop)]
 pub struct Script {
     lines: Vec<Line>,

@@ -118,7 +118,8 @@ impl<'a> Words<'a> {
         }
     }
 
-    /// What stands after `key` in the last word, which has to be there, not empty, and to begin with it.
+    /// What stands after `key` in the last word, which has to be there, not empty, and to begin
+    /// with it.
     pub fn last(self, key: &[u8]) -> Result<&'a [u8], BadWhy>
         ensures ok { IfOk result (λ word. last_word key.now self.entry ≡ Ok word.now) }
         ensures err { IfErr result (λ why. last_word key.now self.entry ≡ Err why) }

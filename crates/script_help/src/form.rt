@@ -1,4 +1,8 @@
 //! The form of each command: "Scripts" of docs/FORMATS.md, row by row.
+use script_grammar::{
+    LAST_SESSION, LAST_TYPE, LEAST_CREDITS, LEAST_RING, LEAST_ROUNDS, MOST_CREDITS, MOST_RING,
+    MOST_ROOM, MOST_ROUNDS, MOST_TICK,
+};
 
 /// One word of a command after its first.
 #[derive(Clone, Copy, Debug, PartialEq, Eq)]
@@ -23,16 +27,46 @@ pub struct Form {
     pub fields: &'static [Field],
 }
 
+const RING: Field = Field::Number {
+    key: "ring=",
+    low: LEAST_RING,
+    high: MOST_RING,
+};
+
 const CREDITS: Field = Field::Number {
     key: "credits=",
-    low: 1,
-    high: 256,
+    low: LEAST_CREDITS,
+    high: MOST_CREDITS,
 };
 
 const SESSION: Field = Field::Number {
     key: "",
     low: 0,
-    high: 65_534,
+    high: LAST_SESSION,
+};
+
+const TYPE: Field = Field::Number {
+    key: "",
+    low: 0,
+    high: LAST_TYPE,
+};
+
+const ROOM: Field = Field::Number {
+    key: "room=",
+    low: 0,
+    high: MOST_ROOM,
+};
+
+const TICK: Field = Field::Number {
+    key: "",
+    low: 0,
+    high: MOST_TICK,
+};
+
+const ROUNDS: Field = Field::Number {
+    key: "",
+    low: LEAST_ROUNDS,
+    high: MOST_ROUNDS,
 };
 
 const ANY: Field = Field::Number {
@@ -41,15 +75,12 @@ const ANY: Field = Field::Number {
     high: u32::MAX,
 };
 
-const FORMS: [Form; 13] = [
+/// The commands, in the order of the table.
+pub const FORMS: [Form; 13] = [
     Form {
         name: "node",
         usage: "node ring=R",
-        fields: &[Field::Number {
-            key: "ring=",
-            low: 32,
-            high: 4_096,
-        }],
+        fields: &[RING],
     },
     Form {
         name: "pair",
@@ -74,21 +105,7 @@ const FORMS: [Form; 13] = [
     Form {
         name: "call",
         usage: "call A S Y ASK room=R",
-        fields: &[
-            Field::Node,
-            SESSION,
-            Field::Number {
-                key: "",
-                low: 0,
-                high: 255,
-            },
-            Field::Ask,
-            Field::Number {
-                key: "room=",
-                low: 0,
-                high: 1_048_576,
-            },
-        ],
+        fields: &[Field::Node, SESSION, TYPE, Field::Ask, ROOM],
     },
     Form {
         name: "poll",
@@ -113,11 +130,7 @@ const FORMS: [Form; 13] = [
     Form {
         name: "tick",
         usage: "tick T",
-        fields: &[Field::Number {
-            key: "",
-            low: 0,
-            high: 1_000_000_000,
-        }],
+        fields: &[TICK],
     },
     Form {
         name: "work",
@@ -127,11 +140,7 @@ const FORMS: [Form; 13] = [
     Form {
         name: "settle",
         usage: "settle K",
-        fields: &[Field::Number {
-            key: "",
-            low: 1,
-            high: 1_000_000,
-        }],
+        fields: &[ROUNDS],
     },
 ];
 

@@ -10,10 +10,12 @@ use Rattle.server_core.specs.declared.slot.SlotRequest.{SlotRequest}
 use Rattle.server_core.specs.declared.slot.Stored.{Stored}
 use Rattle.server_core.specs.Asked.{bytes_answered, bytes_taken}
 use Rattle.server_core.specs.Finishing.{is_waiting}
-use Rattle.server_core.specs.Session.{IsSession, Session, is_in_slot, newest}
+use Rattle.server_core.specs.Session.{IsSession, Session, answer_of, ask_of, is_at_work, is_in_slot, newest}
 use Rattle.server_core.specs.Shown.{shown, shown_request}
-use Rattle.server_core.proofs.ListLemmas.{found-own, found-passes, found-shown}
+use Rattle.server_core.proofs.ListLemmas.{found-shown}
 use Rattle.server_core.proofs.SlotLemmas.{by-number}
+use Rattle.rpc_base.proofs.TakingLemmas.{find-passes}
+use Rattle.rpc_base.proofs.FirstLemmas.{found-own}
 
 -- what is shown of the request with a number
 numbered-shown : (pool : Pool) (s : Session) (r : ℕ) (o : Option SlotRequest) → find (λ x. eqb x.number r) s.slots ≡ o → find (is_request r) (shown pool s).slots ≡ option_map (shown_request pool) o
@@ -24,7 +26,7 @@ numbered-shown pool s r o e =
 other-cases : (s : Session) (r : ℕ) (o : Option SlotRequest) → IsSession s → IfSome (newest r s) (λ q. q.number ≢ r) → find (λ x. eqb x.number r) s.slots ≡ o → o ≡ None
 other-cases s r None h other e = refl
 other-cases s r (Some q) h other e =
-    let same = eqb-true q.number r (found-passes (λ x. eqb x.number r) s.slots q e) in
+    let same = eqb-true q.number r (find-passes (λ x. eqb x.number r) s.slots q e) in
     let slot = found-own (λ x. eqb x.number r) (is_in_slot (r % 8)) s.slots q (h.apart (r % 8)) e (eq-eqb (q.number % 8) (r % 8) (ap (λ n. n % 8) same)) in
     let away : q.number ≢ r = rw slot at other in
     absurd (away same)
@@ -39,11 +41,11 @@ pub asked-none : (pool : Pool) (s : Session) (r : ℕ) → IsSession s → IfSom
 asked-none pool s r h other =
     rw (none-numbered pool s r h other) refl
 
-pub asked-own : (pool : Pool) (s : Session) (r : ℕ) (q : SlotRequest) (p : ℕ) (b : Buffer) → IsSession s → newest r s ≡ Some q → q.number ≡ r → q.ask ≡ Some p → buf_at pool p ≡ Some b → take (1024 * q.taken) (bytes_of b) ≡ bytes_taken (find (is_request r) (shown pool s).slots)
+pub asked-own : (pool : Pool) (s : Session) (r : ℕ) (q : SlotRequest) (p : ℕ) (b : Buffer) → IsSession s → newest r s ≡ Some q → q.number ≡ r → ask_of q.state ≡ Some p → buf_at pool p ≡ Some b → take (1024 * q.taken) (bytes_of b) ≡ bytes_taken (find (is_request r) (shown pool s).slots)
 asked-own pool s r q p b h found same is there = rw (own-numbered pool s r q h found same, is, there) refl
 
 -- its bytes went with a job
-pub asked-gone : (pool : Pool) (s : Session) (r : ℕ) (q : SlotRequest) → IsSession s → newest r s ≡ Some q → q.number ≡ r → q.ask ≡ None → [] ≡ bytes_taken (find (is_request r) (shown pool s).slots)
+pub asked-gone : (pool : Pool) (s : Session) (r : ℕ) (q : SlotRequest) → IsSession s → newest r s ≡ Some q → q.number ≡ r → ask_of q.state ≡ None → [] ≡ bytes_taken (find (is_request r) (shown pool s).slots)
 asked-gone pool s r q h found same is = rw (own-numbered pool s r q h found same, is) refl
 
 -- its answer
@@ -58,17 +60,17 @@ pub answer-unplaced : (o : Option Stored) → option_map (λ a. a.place) o ≡ N
 answer-unplaced None e = refl
 answer-unplaced (Some a) e = cc
 
-pub answer-own : (pool : Pool) (s : Session) (r : ℕ) (q : SlotRequest) (p : ℕ) (b : Buffer) → IsSession s → newest r s ≡ Some q → q.number ≡ r → option_map (λ a. a.place) q.answer ≡ Some p → buf_at pool p ≡ Some b → bytes_of b ≡ bytes_answered (find (is_request r) (shown pool s).slots)
+pub answer-own : (pool : Pool) (s : Session) (r : ℕ) (q : SlotRequest) (p : ℕ) (b : Buffer) → IsSession s → newest r s ≡ Some q → q.number ≡ r → option_map (λ a. a.place) (answer_of q.state) ≡ Some p → buf_at pool p ≡ Some b → bytes_of b ≡ bytes_answered (find (is_request r) (shown pool s).slots)
 answer-own pool s r q p b h found same is there =
-    let (a, one, place) = answer-placed q.answer p is in
+    let (a, one, place) = answer-placed (answer_of q.state) p is in
     rw (own-numbered pool s r q h found same, one, place, there) refl
 
-pub answer-later : (pool : Pool) (s : Session) (r : ℕ) (q : SlotRequest) → IsSession s → newest r s ≡ Some q → q.number ≡ r → q.answer ≡ None → [] ≡ bytes_answered (find (is_request r) (shown pool s).slots)
+pub answer-later : (pool : Pool) (s : Session) (r : ℕ) (q : SlotRequest) → IsSession s → newest r s ≡ Some q → q.number ≡ r → answer_of q.state ≡ None → [] ≡ bytes_answered (find (is_request r) (shown pool s).slots)
 answer-later pool s r q h found same is = rw (own-numbered pool s r q h found same, is) refl
 
 -- whether it waits for a worker's answer
 pub waiting-none : (pool : Pool) (s : Session) (r : ℕ) → IsSession s → IfSome (newest r s) (λ q. q.number ≢ r) → is_waiting r (shown pool s) ≡ false
 waiting-none pool s r h other = rw (none-numbered pool s r h other) refl
 
-pub waiting-own : (pool : Pool) (s : Session) (r : ℕ) (q : SlotRequest) → IsSession s → newest r s ≡ Some q → q.number ≡ r → is_waiting r (shown pool s) ≡ q.working
+pub waiting-own : (pool : Pool) (s : Session) (r : ℕ) (q : SlotRequest) → IsSession s → newest r s ≡ Some q → q.number ≡ r → is_waiting r (shown pool s) ≡ (is_at_work q.state)
 waiting-own pool s r q h found same = rw (own-numbered pool s r q h found same) refl

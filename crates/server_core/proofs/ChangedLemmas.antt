@@ -3,7 +3,8 @@ use Rattle.std.proofs.Common.{◌≡◌, ◌≤◌, Bool, true, false, ◌||◌,
 use Rattle.std.specs.Prelude.{count_by, map}
 use Rattle.std.specs.List.{find, list_any}
 use Rattle.rpc_base.specs.Tables.{at_first, without_first}
-use Rattle.server_core.proofs.ListLemmas.{counted-cons}
+use Rattle.rpc_base.proofs.FirstLemmas.{counted-cons}
+use Rattle.rpc_base.proofs.BasicLemmas.{or-false}
 
 module _ {A : Type 0} (p : A → Bool) where
   -- what is counted of the rest
@@ -29,21 +30,9 @@ module _ {A : Type 0} (p : A → Bool) where
   none-cons y ys true t ih e = cc
   none-cons y ys false t ih e = ih e
 
-  pub none-any : (xs : List A) → find p xs ≡ None → list_any p xs ≡ false
-  none-any [] e = refl
-  none-any (y ∷ ys) e = none-cons y ys (p y) refl (none-any ys) e
-
   some-cons : (x y : A) (ys : List A) (b : Bool) → (find p ys ≡ Some x → list_any p ys ≡ true) → cond b (Some y) (find p ys) ≡ Some x → (b || list_any p ys) ≡ true
   some-cons x y ys true ih e = refl
   some-cons x y ys false ih e = ih e
-
-  pub some-any : (xs : List A) (x : A) → find p xs ≡ Some x → list_any p xs ≡ true
-  some-any [] x e = cc
-  some-any (y ∷ ys) x e = some-cons x y ys (p y) (some-any ys x) e
-
-  or-parts : (a b : Bool) → (a || b) ≡ false → (a ≡ false) × (b ≡ false)
-  or-parts true b e = cc
-  or-parts false b e = (refl, e)
 
   rest-cons : (t : A → Bool) (y : A) (ys : List A) (b : Bool) → p y ≡ false → list_any p ys ≡ false → list_any p (without_first t ys) ≡ false → list_any p (cond b ys (y ∷ without_first t ys)) ≡ false
   rest-cons t y ys true here rest ih = rest
@@ -52,14 +41,14 @@ module _ {A : Type 0} (p : A → Bool) where
   pub any-without : (t : A → Bool) (xs : List A) → list_any p xs ≡ false → list_any p (without_first t xs) ≡ false
   any-without t [] e = refl
   any-without t (y ∷ ys) e =
-      let parts = or-parts (p y) (list_any p ys) e in
+      let parts = or-false (p y) (list_any p ys) e in
       rest-cons t y ys (t y) parts.0 parts.1 (any-without t ys parts.1)
 
   -- a change of the last
   pub at_first-last : (f : A → A) (y : A) (xs : List A) → list_any p xs ≡ false → p y ≡ true → at_first p f (xs ++ y ∷ []) ≡ xs ++ f y ∷ []
   at_first-last f y [] e t = rw t refl
   at_first-last f y (x ∷ xs) e t =
-      let parts = or-parts (p x) (list_any p xs) e in
+      let parts = or-false (p x) (list_any p xs) e in
       rw parts.0 (ap (λ zs. x ∷ zs) (at_first-last f y xs parts.1 t))
 
   -- two changes of one element
@@ -79,26 +68,6 @@ module _ {A : Type 0} (p : A → Bool) where
   pub at_first-agree : (f g : A → A) (x : A) (xs : List A) → f x ≡ g x → find p xs ≡ Some x → at_first p f xs ≡ at_first p g xs
   at_first-agree f g x [] same e = cc
   at_first-agree f g x (y ∷ ys) same e = agree-cons f g x y ys (p y) same (at_first-agree f g x ys same) e
-
--- two tests that find one element change that one
-module _ {A : Type 0} (p q : A → Bool) (f : A → A) (c : A) where
-  same-later : (x : A) (xs : List A) (b : Bool) → p x ≡ true → x ≡ c → q x ≡ b → q c ≡ true → f x ∷ xs ≡ cond b (f x ∷ xs) (x ∷ at_first q f xs)
-  same-later x xs true t is u passes = refl
-  same-later x xs false t is u passes = let clash : q x ≡ true = ap q is ∙ passes in cc
-
-  other-later : (x : A) (xs : List A) (b : Bool) → q x ≡ b → p x ≡ false → p c ≡ true → (find q xs ≡ Some c → at_first p f xs ≡ at_first q f xs) → cond b (Some x) (find q xs) ≡ Some c → x ∷ at_first p f xs ≡ cond b (f x ∷ xs) (x ∷ at_first q f xs)
-  other-later x xs true u t passes ih e =
-      let is : x ≡ c = cc in
-      let clash : p x ≡ true = ap p is ∙ passes in cc
-  other-later x xs false u t passes ih e = ap (λ ys. x ∷ ys) (ih e)
-
-  same-cons : (x : A) (xs : List A) (b : Bool) → p x ≡ b → p c ≡ true → q c ≡ true → (find p xs ≡ Some c → find q xs ≡ Some c → at_first p f xs ≡ at_first q f xs) → cond b (Some x) (find p xs) ≡ Some c → cond (q x) (Some x) (find q xs) ≡ Some c → cond b (f x ∷ xs) (x ∷ at_first p f xs) ≡ cond (q x) (f x ∷ xs) (x ∷ at_first q f xs)
-  same-cons x xs true t mine yours ih e g = let is : x ≡ c = cc in same-later x xs (q x) t is refl yours
-  same-cons x xs false t mine yours ih e g = other-later x xs (q x) refl t mine (ih e) g
-
-  pub same-first : (xs : List A) → p c ≡ true → q c ≡ true → find p xs ≡ Some c → find q xs ≡ Some c → at_first p f xs ≡ at_first q f xs
-  same-first [] mine yours e g = refl
-  same-first (x ∷ xs) mine yours e g = same-cons x xs (p x) refl mine yours (same-first xs mine yours) e g
 
 -- what is shown of a list in which one element was changed or taken out
 module _ {A B : Type 0} (g : A → B) (test : A → Bool) (t : B → Bool) (tests : (x : A) → t (g x) ≡ test x) where

@@ -23,21 +23,21 @@ use Rattle.rpc_base.specs.declared.fact.Fact.{Fact}
 use Rattle.rpc_base.specs.declared.owner.Owner.{Owner}
 use Rattle.rpc_laws.specs.Queues.{numbers_of, put}
 use Rattle.rpc_outside.specs.Recording.{Grew}
-use Rattle.server_core.specs.Flushing.{HoldsAll, HoldsReplies, IsSent, has_begun, named_by, queued_of, ring_after, without_replies}
+use Rattle.server_core.specs.Flushing.{HoldsAll, HoldsReplies, has_begun, named_by, queued_of, ring_after, without_replies}
 use Rattle.server_core.specs.declared.step.Step.{Step}
 use Rattle.rpc_laws.specs.declared.rows.ServerRow.{ServerRow}
 use Rattle.server_core.specs.KeepsPool.{IsKept, LeavesOthers, names}
 use Rattle.server_core.specs.Replies.{IsHeld, IsReplyIn, place_of, released_at}
 use Rattle.server_core.specs.Serving.{IsUnheld}
-use Rattle.server_core.specs.Session.{Session, is_in_slot, newest, owner_of}
+use Rattle.server_core.specs.Session.{Session, answer_of, is_in_slot, newest, owner_of}
 use Rattle.server_core.specs.Shown.{shown}
 use Rattle.server_core.specs.declared.slot.SlotRequest.{SlotRequest}
 use Rattle.server_core.specs.declared.slot.Stored.{Stored}
-use Rattle.server_core.proofs.ListLemmas.{found-holds}
 use Rattle.server_core.proofs.OtherLemmas.{IsSame, answer-away, found-names, same-kept, same-one}
 use Rattle.server_core.proofs.PoolLemmas.{ChangesOne}
 use Rattle.server_core.proofs.ReplyLemmas.{kept-answer, placed-part}
-use Rattle.server_core.proofs.SpareLemmas.{full-used}
+use Rattle.rpc_base.proofs.FirstLemmas.{found-holds}
+use Rattle.buffer_pool.proofs.CountLemmas.{full_used}
 
 -- the numbers of an owner's entries, one taken out after another
 module _ (owner : Owner) where
@@ -150,7 +150,7 @@ refs-released p pool full = ap refs_in (changed_own pool.uses p _ Empty (full_wi
 
 spare-released : (p : ℕ) (pool : Pool) → IsFull pool p → spare_of (released p pool) ≡ spare_of pool
 spare-released p pool full =
-    omega (arith, sum_by-set (λ u. cond {A = ℕ} (is_empty u) 1 0) pool.uses p (Full (refs_of pool p - 1)) Empty (full_within pool.uses p full), full-used (use_at pool p) full)
+    omega (arith, sum_by-set (λ u. cond {A = ℕ} (is_empty u) 1 0) pool.uses p (Full (refs_of pool p - 1)) Empty (full_within pool.uses p full), full_used (use_at pool p) full)
 
 -- a reply is taken out of the ring
 module _ (n : ℕ) (q : SlotRequest) (pool : Pool) (old new : List EntryValue) (passes : EntryValue → Bool) (e : EntryValue) (holds : HoldsReplies n pool old q) (out : TakenOut passes e old new) (own : is_of (owner_of n q) e ≡ true) (kept : IsKept pool q) where
@@ -167,7 +167,7 @@ module _ (n : ℕ) (q : SlotRequest) (pool : Pool) (old new : List EntryValue) (
   weight-own p k is same = rw (own, ← is, eq-eqb k p same) refl
 
   -- the place of the reply, where it has one, is the answer's
-  answer-is : (k : ℕ) → Some k ≡ e.place → (a : Stored) × (q.answer ≡ Some a) × (k ≡ a.place)
+  answer-is : (k : ℕ) → Some k ≡ e.place → (a : Stored) × (answer_of q.state ≡ Some a) × (k ≡ a.place)
   answer-is k is = let (a, answer, same, _) = placed-part q e.number k (is ∙ reply.place_is) in (a, answer, same)
 
   held-cases : (place : Option ℕ) → place ≡ e.place → IsHeld pool place
@@ -180,7 +180,7 @@ module _ (n : ℕ) (q : SlotRequest) (pool : Pool) (old new : List EntryValue) (
   pub flush-held : IsHeld pool e.place
   flush-held = held-cases e.place refl
 
-  refs-cases : (place : Option ℕ) → place ≡ e.place → (a : Stored) → q.answer ≡ Some a → refs_of pool a.place ≡ named_by (owner_of n q) a.place old → refs_of (released_at place pool) a.place ≡ named_by (owner_of n q) a.place new
+  refs-cases : (place : Option ℕ) → place ≡ e.place → (a : Stored) → answer_of q.state ≡ Some a → refs_of pool a.place ≡ named_by (owner_of n q) a.place old → refs_of (released_at place pool) a.place ≡ named_by (owner_of n q) a.place new
   refs-cases None is a answer all = omega (arith, all, sum a.place, weight-none a.place is)
   refs-cases (Some k) is a answer all =
       let (b, other, place) = answer-is k is in
@@ -188,14 +188,14 @@ module _ (n : ℕ) (q : SlotRequest) (pool : Pool) (old new : List EntryValue) (
       let full = (kept-answer pool q a kept answer).full in
       rw same (omega (arith, refs-released a.place pool full, all, sum a.place, weight-own a.place k is same))
 
-  refs-all : (o : Option Stored) → q.answer ≡ o → IfSome o (λ a. refs_of pool a.place ≡ named_by (owner_of n q) a.place old) → IfSome o (λ a. refs_of (released_at e.place pool) a.place ≡ named_by (owner_of n q) a.place new)
+  refs-all : (o : Option Stored) → answer_of q.state ≡ o → IfSome o (λ a. refs_of pool a.place ≡ named_by (owner_of n q) a.place old) → IfSome o (λ a. refs_of (released_at e.place pool) a.place ≡ named_by (owner_of n q) a.place new)
   refs-all None answer all = tt
   refs-all (Some a) answer all = refs-cases e.place refl a answer all
 
   pub flush-holds : HoldsReplies n (released_at e.place pool) new q
   flush-holds = record {
     each = (all-taken (λ x. is_of (owner_of n q) x ≡ true → IsReplyIn q x) passes e old new out holds.each).1;
-    all = refs-all q.answer refl holds.all;
+    all = refs-all (answer_of q.state) refl holds.all;
   }
 
   spare-cases : (place : Option ℕ) → place ≡ e.place → spare_of (released_at place pool) ≡ spare_of pool
@@ -235,7 +235,7 @@ unheld-cases n q pool es None none all = tt
 unheld-cases n q pool es (Some a) none all = all ∙ named-none (owner_of n q) a.place es none
 
 pub flush-unheld : (n : ℕ) (q : SlotRequest) (pool : Pool) (es : List EntryValue) → HoldsReplies n pool es q → list_any (is_of (owner_of n q)) es ≡ false → IsUnheld pool q
-flush-unheld n q pool es holds none = unheld-cases n q pool es q.answer none holds.all
+flush-unheld n q pool es holds none = unheld-cases n q pool es (answer_of q.state) none holds.all
 
 -- a recorder came to keep one list after another
 module _ {R : Type 0} (facts : R → Option (List Fact)) (whole : R → Bool) where
@@ -262,7 +262,7 @@ empty-cases n q pool (Some a) unheld = unheld
 
 pub empty-holds : (n : ℕ) (pool : Pool) (o : Option SlotRequest) → IfSome o (IsUnheld pool) → IfSome o (HoldsReplies n pool [])
 empty-holds n pool None unheld = tt
-empty-holds n pool (Some q) unheld = record { each = tt; all = empty-cases n q pool q.answer unheld }
+empty-holds n pool (Some q) unheld = record { each = tt; all = empty-cases n q pool (answer_of q.state) unheld }
 
 -- where the entries hold each reply of a session, they hold those to the newest request of a slot
 newest-cases : (s : Session) (pool : Pool) (es : List EntryValue) (r : ℕ) (o : Option SlotRequest) → newest r s ≡ o → HoldsAll s pool es → IfSome o (HoldsReplies s.number pool es)
@@ -281,32 +281,3 @@ fewer-cases n (Some q) es true = omega (arith, length-filter (is_not_of (owner_o
 pub ring-room : (row : ServerRow) (step : Step) (n : ℕ) (o : Option SlotRequest) (old new : Ring EntryValue) → new ≡ ring (ring_after row step n o old.items) old.size → length old.items < old.size → length new.items < new.size
 ring-room row step n o old new is room =
     omega (arith, ap (λ r. length r.items) is, ap (λ r. r.size) is, fewer-cases n o old.items (has_begun row step), room)
-
--- where each reply has a part of the answer, and no entry names that, none is queued
-unnamed-cons : (n p : ℕ) (q : SlotRequest) (e : EntryValue) (es : List EntryValue) (b : Bool) → is_of (owner_of n q) e ≡ b → (is_of (owner_of n q) e ≡ true → e.place ≡ Some p) → named_by (owner_of n q) p (e ∷ es) ≡ 0 → (named_by (owner_of n q) p es ≡ 0 → list_any (is_of (owner_of n q)) es ≡ false) → (b || list_any (is_of (owner_of n q)) es) ≡ false
-unnamed-cons n p q e es true of place none ih =
-    let at = place of in
-    let one : weight (owner_of n q) p e ≡ 1 = rw (of, at, eq-eqb p p refl) refl in
-    absurd (omega (arith, sum_by-cons (weight (owner_of n q) p) e es, one, none))
-unnamed-cons n p q e es false of place none ih =
-    let zero_there : weight (owner_of n q) p e ≡ 0 = rw of refl in
-    ih (omega (arith, sum_by-cons (weight (owner_of n q) p) e es, zero_there, none))
-
-unnamed-all : (n p : ℕ) (q : SlotRequest) (es : List EntryValue) → AllByRecursion (λ e. is_of (owner_of n q) e ≡ true → e.place ≡ Some p) es → named_by (owner_of n q) p es ≡ 0 → list_any (is_of (owner_of n q)) es ≡ false
-unnamed-all n p q [] all none = refl
-unnamed-all n p q (e ∷ es) all none = unnamed-cons n p q e es (is_of (owner_of n q) e) refl all.0 none (unnamed-all n p q es all.1)
-
-sent-place : (q : SlotRequest) (a : Stored) (k : ℕ) → packet_count q.size ≡ 1 → q.answer ≡ Some a → place_of q k ≡ Some a.place
-sent-place q a k one is = rw (is, le-ltb (k + 1) (packet_count q.size) (omega (arith, one))) refl
-
-sent-placed : (n : ℕ) (q : SlotRequest) (a : Stored) → packet_count q.size ≡ 1 → q.answer ≡ Some a → (es : List EntryValue) → AllByRecursion (λ e. is_of (owner_of n q) e ≡ true → IsReplyIn q e) es → AllByRecursion (λ e. is_of (owner_of n q) e ≡ true → e.place ≡ Some a.place) es
-sent-placed n q a one is [] all = tt
-sent-placed n q a one is (e ∷ es) all = ((λ of. (all.0 of).place_is ∙ sent-place q a e.number one is), sent-placed n q a one is es all.1)
-
-sent-cases : (n : ℕ) (pool : Pool) (es : List EntryValue) (q : SlotRequest) (o : Option Stored) → q.answer ≡ o → IsSome o → packet_count q.size ≡ 1 → IfSome o (λ a. refs_of pool a.place ≡ 0) → IfSome o (λ a. refs_of pool a.place ≡ named_by (owner_of n q) a.place es) → AllByRecursion (λ e. is_of (owner_of n q) e ≡ true → IsReplyIn q e) es → list_any (is_of (owner_of n q)) es ≡ false
-sent-cases n pool es q None is some one none all each = cc
-sent-cases n pool es q (Some a) is some one none all each =
-    unnamed-all n a.place q es (sent-placed n q a one is es each) (omega (arith, none, all))
-
-pub sent-none : (n : ℕ) (pool : Pool) (es : List EntryValue) (q : SlotRequest) → HoldsReplies n pool es q → IsSent pool q → list_any (is_of (owner_of n q)) es ≡ false
-sent-none n pool es q holds sent = sent-cases n pool es q q.answer refl sent.some sent.one sent.none holds.all holds.each

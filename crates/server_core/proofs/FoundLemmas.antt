@@ -70,10 +70,6 @@ module _ {A : Type 0} (p : A → Bool) where
   no-cons x xs true ih e = cc
   no-cons x xs false ih e = ih e
 
-  pub none-any : (xs : List A) → find p xs ≡ None → list_any p xs ≡ false
-  none-any [] e = refl
-  none-any (x ∷ xs) e = no-cons x xs (p x) (none-any xs) e
-
   passes-cons : (x y : A) (xs : List A) (b : Bool) → p x ≡ b → (find p xs ≡ Some y → p y ≡ true) → cond b (Some x) (find p xs) ≡ Some y → p y ≡ true
   passes-cons x y xs true t ih e = let same : x ≡ y = cc in rw same at t
   passes-cons x y xs false t ih e = ih e

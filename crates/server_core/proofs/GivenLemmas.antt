@@ -1,4 +1,5 @@
 -- The older request of a slot is given up.
+use Rattle.server_core.specs.Session.{ask_of, answer_of}
 use Rattle.std.proofs.Common.{◌≡◌, ℕ, suc, add-one, drop, drop-cons, ◌+◌, ◌<◌, ◌≤◌, Bool, true, false, cond, Option, Some, None, List, [], ◌∷◌, length, get_or, set, refl, sym, ap, ◌∙◌, inl, inr, arith}
 use Rattle.std.specs.Prelude.{IfSome, map}
 use Rattle.std.specs.List.{AllByRecursion, find}
@@ -16,7 +17,8 @@ use Rattle.server_core.specs.Serving.{IsUnheld, given_up, without_answer, withou
 use Rattle.server_core.specs.Shown.{shown_request}
 use Rattle.server_core.proofs.ChangedLemmas.{without-none}
 use Rattle.server_core.proofs.PlaceLemmas.{IsBeside, answer-apart, ask-apart, gone-keeps, gone-same, taken-out}
-use Rattle.server_core.proofs.PoolLemmas.{ChangesOne, ask-away, names-cons, one-emptied, unnamed-cases}
+use Rattle.server_core.proofs.PoolLemmas.{ChangesOne, ask-away, names-cons, one-emptied}
+use Rattle.buffer_pool.proofs.PlacesLemmas.{unnamed-cases}
 
 -- no place fewer is spare
 spare-emptied : (pool : Pool) (p : ℕ) → spare_of pool ≤ spare_of (emptied p pool)
@@ -39,7 +41,7 @@ spare-ask pool (Some p) = spare-emptied pool p
 
 pub spare-given : (pool : Pool) (o : Option SlotRequest) → spare_of pool ≤ spare_of (given_up o pool)
 spare-given pool None = omega arith
-spare-given pool (Some q) = omega (arith, spare-ask pool q.ask, spare-answer (without_ask q.ask pool) q.answer)
+spare-given pool (Some q) = omega (arith, spare-ask pool (ask_of q.state), spare-answer (without_ask (ask_of q.state) pool) (answer_of q.state))
 
 -- the others keep the pool, and show the same
 module _ (test : SlotRequest → Bool) (pool : Pool) (slots : List SlotRequest) (keeps : KeepsPool pool slots) where
@@ -62,19 +64,19 @@ use-kept : (p : ℕ) (o : Option ℕ) (pool : Pool) → ask_names p o ≡ 0 → 
 use-kept p None pool e = refl
 use-kept p (Some a) pool e = (one-emptied a pool).other_uses p (λ same. ask-away a p e (sym same))
 
-pub answer-full : (pool : Pool) (q : SlotRequest) (rest : List SlotRequest) → IsBeside pool q rest → IfSome q.answer (λ a. IsFull (without_ask q.ask pool) a.place)
-answer-full pool q rest beside = by q.answer (λ a is. (answer-apart pool q a rest beside is).1) beside.own.answer
+pub answer-full : (pool : Pool) (q : SlotRequest) (rest : List SlotRequest) → IsBeside pool q rest → IfSome (answer_of q.state) (λ a. IsFull (without_ask (ask_of q.state) pool) a.place)
+answer-full pool q rest beside = by (answer_of q.state) (λ a is. (answer-apart pool q a rest beside is).1) beside.own.answer
   where
-    by : (o : Option Stored) → ((a : Stored) → o ≡ Some a → ask_names a.place q.ask ≡ 0) → IfSome o (IsStored pool) → IfSome o (λ a. IsFull (without_ask q.ask pool) a.place)
+    by : (o : Option Stored) → ((a : Stored) → o ≡ Some a → ask_names a.place (ask_of q.state) ≡ 0) → IfSome o (IsStored pool) → IfSome o (λ a. IsFull (without_ask (ask_of q.state) pool) a.place)
     by None other kept = tt
-    by (Some a) other kept = ap is_full (use-kept a.place q.ask pool (other a refl)) ∙ kept.full
+    by (Some a) other kept = ap is_full (use-kept a.place (ask_of q.state) pool (other a refl)) ∙ kept.full
 
-pub answer-unheld : (pool : Pool) (q : SlotRequest) (rest : List SlotRequest) → IsBeside pool q rest → IsUnheld pool q → IfSome q.answer (λ a. refs_of (without_ask q.ask pool) a.place ≡ 0)
-answer-unheld pool q rest beside unheld = by q.answer (λ a is. (answer-apart pool q a rest beside is).1) unheld
+pub answer-unheld : (pool : Pool) (q : SlotRequest) (rest : List SlotRequest) → IsBeside pool q rest → IsUnheld pool q → IfSome (answer_of q.state) (λ a. refs_of (without_ask (ask_of q.state) pool) a.place ≡ 0)
+answer-unheld pool q rest beside unheld = by (answer_of q.state) (λ a is. (answer-apart pool q a rest beside is).1) unheld
   where
-    by : (o : Option Stored) → ((a : Stored) → o ≡ Some a → ask_names a.place q.ask ≡ 0) → IfSome o (λ a. refs_of pool a.place ≡ 0) → IfSome o (λ a. refs_of (without_ask q.ask pool) a.place ≡ 0)
+    by : (o : Option Stored) → ((a : Stored) → o ≡ Some a → ask_names a.place (ask_of q.state) ≡ 0) → IfSome o (λ a. refs_of pool a.place ≡ 0) → IfSome o (λ a. refs_of (without_ask (ask_of q.state) pool) a.place ≡ 0)
     by None other none = tt
-    by (Some a) other none = ap refs_in (use-kept a.place q.ask pool (other a refl)) ∙ none
+    by (Some a) other none = ap refs_in (use-kept a.place (ask_of q.state) pool (other a refl)) ∙ none
 
 -- its own place is full, and no entry names it
 pub ask-full : (pool : Pool) (size : ℕ) (o : Option ℕ) → IfSome o (IsAsked pool size) → IfSome o (IsFull pool) × IfSome o (λ p. refs_of pool p ≡ 0)
@@ -99,7 +101,7 @@ front-beside pool q rest keeps = record {
 
 -- the others are unheld as before, once it is given up
 unheld-off : (p : ℕ) (pool new : Pool) (q : SlotRequest) → ChangesOne p pool new → own_names p q ≡ 0 → IsUnheld pool q → IsUnheld new q
-unheld-off p pool new q one e unheld = by q.answer (omega (arith, e)) unheld
+unheld-off p pool new q one e unheld = by (answer_of q.state) (omega (arith, e)) unheld
   where
     by : (o : Option Stored) → answer_names p o ≡ 0 → IfSome o (λ a. refs_of pool a.place ≡ 0) → IfSome o (λ a. refs_of new a.place ≡ 0)
     by None none free = tt
@@ -112,19 +114,19 @@ unheld-all p pool new (q ∷ qs) one e all =
     (unheld-off p pool new q one (omega (arith, sum, e)) all.0, unheld-all p pool new qs one (omega (arith, sum, e)) all.1)
 
 module _ (pool : Pool) (q : SlotRequest) (rest : List SlotRequest) (beside : IsBeside pool q rest) (unheld : AllByRecursion (IsUnheld pool) rest) where
-  unheld-ask : (o : Option ℕ) → q.ask ≡ o → AllByRecursion (IsUnheld (without_ask o pool)) rest
+  unheld-ask : (o : Option ℕ) → ask_of q.state ≡ o → AllByRecursion (IsUnheld (without_ask o pool)) rest
   unheld-ask None e = unheld
   unheld-ask (Some p) e = unheld-all p pool (emptied p pool) rest (one-emptied p pool) (ask-apart pool q p rest beside e) unheld
 
   abbrev unasked : Pool
-  unasked = without_ask q.ask pool
+  unasked = without_ask (ask_of q.state) pool
 
   unheld-answer : (o : Option Stored) → ((a : Stored) → o ≡ Some a → names a.place rest ≡ 0) → AllByRecursion (IsUnheld (without_answer o unasked)) rest
-  unheld-answer None free = unheld-ask q.ask refl
-  unheld-answer (Some a) free = unheld-all a.place unasked (emptied a.place unasked) rest (one-emptied a.place unasked) (free a refl) (unheld-ask q.ask refl)
+  unheld-answer None free = unheld-ask (ask_of q.state) refl
+  unheld-answer (Some a) free = unheld-all a.place unasked (emptied a.place unasked) rest (one-emptied a.place unasked) (free a refl) (unheld-ask (ask_of q.state) refl)
 
   pub unheld-rest : AllByRecursion (IsUnheld (without_buffers q pool)) rest
-  unheld-rest = unheld-answer q.answer (λ a is. (answer-apart pool q a rest beside is).0)
+  unheld-rest = unheld-answer (answer_of q.state) (λ a is. (answer-apart pool q a rest beside is).0)
 
 -- the front one of those that are left
 pub next-front : (items : List SlotRequest) (i : ℕ) (q : SlotRequest) → i < length items → q ≡ get_or items i q → drop i items ≡ q ∷ drop (i + 1) items

@@ -1,4 +1,5 @@
 -- What the begin of a request, and the sending of a reply, make of a list that holds each reply of a session.
+use Rattle.rpc_base.proofs.FirstLemmas.{all-left, all-push, found-holds, found-own}
 use Rattle.std.proofs.Common.{◌≡◌, ℕ, ◌%◌, Bool, true, false, ◌||◌, cond, eqb, Option, Some, None, List, [], ◌∷◌, ◌++◌, refl, sym, ap, subst, ◌∙◌}
 use Rattle.std.specs.Prelude.{IsTrue}
 use Rattle.std.specs.List.{AllByRecursion, find, list_any}
@@ -17,18 +18,18 @@ use Rattle.server_core.specs.Flushing.{HoldsAll, HoldsReplies, is_reply_of, name
 use Rattle.server_core.specs.KeepsPool.{IsKept, KeepsPool, LeavesOthers}
 use Rattle.server_core.specs.Replies.{IsReplyIn, IsReplyTo, is_owner, released_at, request_of}
 use Rattle.server_core.specs.Serving.{begun, first_given, first_taken, given_up, gone_on, with_slots}
-use Rattle.server_core.specs.Session.{IsSession, Session, is_in_slot, newest, owner_of}
+use Rattle.server_core.specs.Session.{IsSession, Session, answer_of, is_in_slot, newest, owner_of}
 use Rattle.server_core.specs.Steps.{IsReply}
 use Rattle.server_core.specs.declared.slot.SlotRequest.{SlotRequest}
 use Rattle.server_core.proofs.ChangedLemmas.{self-first}
 use Rattle.server_core.proofs.FlushLemmas.{all-taken, flush-holds, flush-others}
 use Rattle.server_core.proofs.HoldLemmas.{AreOwn, KeepsUses, and-none, and-one, any-behind, any-left, named-unplaced, none-pass, own-as, posted-any, rest-as, rest-behind, rest-left, uses-beside}
 use Rattle.server_core.proofs.HoldStepLemmas.{alone-newest, put-together, rest-new, rest-other}
-use Rattle.server_core.proofs.ListLemmas.{all-append, all-without, found-holds, found-own, found-passes}
 use Rattle.server_core.proofs.OtherLemmas.{first-others, given-others}
 use Rattle.server_core.proofs.PlaceLemmas.{taken-out}
 use Rattle.server_core.proofs.ReplyLemmas.{number-slot}
 use Rattle.server_core.proofs.SlotLemmas.{none-left}
+use Rattle.rpc_base.proofs.TakingLemmas.{find-passes}
 
 -- a list of one, or none
 abbrev pub listed : Option SlotRequest → List SlotRequest
@@ -41,7 +42,7 @@ only r s = with_slots (listed (newest r s)) s
 
 only-cases : (i : ℕ) (s : Session) (o : Option SlotRequest) → find (is_in_slot i) s.slots ≡ o → find (is_in_slot i) (listed o) ≡ o
 only-cases i s None found = refl
-only-cases i s (Some q) found = rw (found-passes (is_in_slot i) s.slots q found) refl
+only-cases i s (Some q) found = rw (find-passes (is_in_slot i) s.slots q found) refl
 
 only-newest : (r : ℕ) (s : Session) → newest r (only r s) ≡ newest r s
 only-newest r s = only-cases (r % 8) s (newest r s) refl
@@ -72,7 +73,7 @@ module _ (n r : ℕ) (rest : List SlotRequest) (other : AllByRecursion (λ x. eq
       let no = none-any (is_owner n (Reply n r)) rest (other-owner n r r n rest refl other) in
       cc
 
-  fresh : (es : List EntryValue) → AreOwn n rest es → AllByRecursion (λ e. is_of (Reply n r) e ≡ false) es
+  pub fresh : (es : List EntryValue) → AreOwn n rest es → AllByRecursion (λ e. is_of (Reply n r) e ≡ false) es
   fresh [] all = tt
   fresh (e ∷ es) all = (fresh-by e.owner all.0 (is_of (Reply n r) e) refl, fresh es all.1)
 
@@ -89,7 +90,7 @@ module _ (pool : Pool) (s : Session) (r : ℕ) (h : IsSession s) (keeps : KeepsP
   rest-cases [] all = tt
   rest-cases (x ∷ xs) all = (ne_eqb x.number r (λ same. let is = number-slot r x (eq-eqb x.number r same) in let no = all.0 in cc), rest-cases xs all.1)
 
-  rest-apart : AllByRecursion (λ x. eqb x.number r ≡ false) rest
+  pub rest-apart : AllByRecursion (λ x. eqb x.number r ≡ false) rest
   rest-apart = rest-cases rest (none-pass (is_in_slot (r % 8)) (is_in_slot (r % 8)) rest (none-left s h (r % 8)))
 
   uses-cases : (new : Pool) (t : List SlotRequest) (o : Option SlotRequest) → newest r s ≡ o → LeavesOthers (listed o) t pool new → KeepsUses rest pool new
@@ -101,7 +102,7 @@ module _ (pool : Pool) (s : Session) (r : ℕ) (h : IsSession s) (keeps : KeepsP
     begun-is = ap (λ m. without_first (is_in_slot (m % 8)) s.slots ++ d ∷ []) number
 
     behind-new : AllByRecursion (HoldsReplies s.number new es) rest
-    behind-new = rest-as s.number pool new es rest (all-without (is_in_slot (r % 8)) d (IsKept pool) s.slots keeps.kept) (uses-cases new t (newest r s) refl leaves) holds.each
+    behind-new = rest-as s.number pool new es rest (all-left (is_in_slot (r % 8)) (IsKept pool) s.slots keeps.kept) (uses-cases new t (newest r s) refl leaves) holds.each
 
     own-new : AreOwn s.number (begun d s.slots) es
     own-new = rw begun-is (own-as s.number rest (rest ++ d ∷ []) (λ o. any-behind (is_owner s.number o) (is_owner s.number o) rest d) es holds.own)
@@ -116,35 +117,35 @@ module _ (pool : Pool) (s : Session) (r : ℕ) (h : IsSession s) (keeps : KeepsP
     mine-named p = ap (λ m. named_by (Reply s.number m) p es) number ∙ named-unplaced (Reply s.number r) p es (fresh-each s.number r rest rest-apart (λ e. e.place ≡ None) es none-yet)
 
     -- without a reply
-    pub begun-holds : d.answer ≡ None → HoldsAll (with_slots (begun d s.slots) s) new es
+    pub begun-holds : answer_of d.state ≡ None → HoldsAll (with_slots (begun d s.slots) s) new es
     begun-holds none = record {
       own = own-new;
-      each = rw begun-is (all-append (HoldsReplies s.number new es) rest d behind-new (record { each = mine-each; all = rw none tt }));
+      each = rw begun-is (all-push (HoldsReplies s.number new es) rest d behind-new (record { each = mine-each; all = rw none tt }));
     }
 
     -- with one behind the entries
     begun-behind : (k : ℕ) (e : EntryValue) → IsReply r k (with_slots (begun d s.slots) s) new e → HoldsReplies s.number new (es ++ e ∷ []) d → HoldsAll (with_slots (begun d s.slots) s) new (es ++ e ∷ [])
     begun-behind k e reply mine = record {
-      own = all-append _ es e own-new (λ of. posted-any (with_slots (begun d s.slots) s) e reply.stands);
-      each = rw begun-is (all-append (HoldsReplies s.number new (es ++ e ∷ [])) rest d (rest-behind s.number r e reply.owner new es rest rest-apart behind-new) mine);
+      own = all-push _ es e own-new (λ of. posted-any (with_slots (begun d s.slots) s) e reply.stands);
+      each = rw begun-is (all-push (HoldsReplies s.number new (es ++ e ∷ [])) rest d (rest-behind s.number r e reply.owner new es rest rest-apart behind-new) mine);
     }
 
-    pub first-holds : (k : ℕ) (e : EntryValue) → d.answer ≡ None → IsReply r k (with_slots (begun d s.slots) s) new e → IsReplyIn d e → HoldsAll (with_slots (begun d s.slots) s) new (es ++ e ∷ [])
+    pub first-holds : (k : ℕ) (e : EntryValue) → answer_of d.state ≡ None → IsReply r k (with_slots (begun d s.slots) s) new e → IsReplyIn d e → HoldsAll (with_slots (begun d s.slots) s) new (es ++ e ∷ [])
     first-holds k e none reply mine =
-        begun-behind k e reply (record { each = all-append _ es e mine-each (λ of. mine); all = rw none tt })
+        begun-behind k e reply (record { each = all-push _ es e mine-each (λ of. mine); all = rw none tt })
 
 -- each way of the begin leaves the places of all but the older request
 pub given-leaves : (pool : Pool) (s : Session) (head : MessageHeader) → LeavesOthers (listed (newest head.request s)) (begun (first_given head) (listed (newest head.request s))) pool (given_up (newest head.request s) pool)
 given-leaves pool s head =
     subst (λ o. LeavesOthers (listed (newest head.request s)) (begun (first_given head) (listed (newest head.request s))) pool (given_up o pool)) (only-newest head.request s) (given-others pool (only head.request s) head)
 
-pub first-leaves : (pool : Pool) (s : Session) (head : MessageHeader) (k : ℕ) (b : Buffer) → lowest_empty (given_up (newest head.request s) pool) ≡ Some k → LeavesOthers (listed (newest head.request s)) (begun (first_taken head k None) (listed (newest head.request s))) pool (filled k b (given_up (newest head.request s) pool))
+pub first-leaves : (pool : Pool) (s : Session) (head : MessageHeader) (k : ℕ) (b : Buffer) → lowest_empty (given_up (newest head.request s) pool) ≡ Some k → LeavesOthers (listed (newest head.request s)) (begun (first_taken head k) (listed (newest head.request s))) pool (filled k b (given_up (newest head.request s) pool))
 first-leaves pool s head k b lowest =
     let same = only-newest head.request s in
-    subst (λ o. lowest_empty (given_up o pool) ≡ Some k → LeavesOthers (listed (newest head.request s)) (begun (first_taken head k None) (listed (newest head.request s))) pool (filled k b (given_up o pool))) same (first-others pool (only head.request s) head k b) lowest
+    subst (λ o. lowest_empty (given_up o pool) ≡ Some k → LeavesOthers (listed (newest head.request s)) (begun (first_taken head k) (listed (newest head.request s))) pool (filled k b (given_up o pool))) same (first-others pool (only head.request s) head k b) lowest
 
 -- a reply is sent, or taken out unsent
-owner-is : (n m : ℕ) (o : Owner) → same_owner (Reply n m) o ≡ true → o ≡ Reply n m
+pub owner-is : (n m : ℕ) (o : Owner) → same_owner (Reply n m) o ≡ true → o ≡ Reply n m
 owner-is n m (Reply t k) of =
     let parts = and_parts (eqb n t) (eqb m k) of in
     ap (λ x. Reply x k) (sym (eqb-true n t parts.0)) ∙ ap (λ x. Reply n x) (sym (eqb-true m k parts.1))
@@ -160,7 +161,7 @@ module _ (pool : Pool) (s : Session) (h : IsSession s) (keeps : KeepsPool pool s
   sent-of r q found own =
       let n = s.number in
       let after = released_at e.place pool in
-      let slot : q.number % 8 ≡ r % 8 = eqb-true (q.number % 8) (r % 8) (found-passes (is_in_slot (r % 8)) s.slots q found) in
+      let slot : q.number % 8 ≡ r % 8 = eqb-true (q.number % 8) (r % 8) (find-passes (is_in_slot (r % 8)) s.slots q found) in
       let at : newest q.number s ≡ Some q = ap (λ i. find (is_in_slot i) s.slots) slot ∙ found in
       let mine : HoldsReplies n pool old q = found-holds (is_in_slot (r % 8)) (HoldsReplies n pool old) s.slots q holds.each found in
       let kept : IsKept pool q = found-holds (is_in_slot (r % 8)) (IsKept pool) s.slots q keeps.kept found in
@@ -174,7 +175,7 @@ module _ (pool : Pool) (s : Session) (h : IsSession s) (keeps : KeepsPool pool s
   sent-cases : (o : Option SlotRequest) → request_of s e ≡ o → IsReplyTo o e → HoldsAll s (released_at e.place pool) new
   sent-cases None found posted = absurd posted
   sent-cases (Some q) found posted =
-      let own : e.owner ≡ Reply s.number q.number = owner-is s.number q.number e.owner (found-passes (is_owner s.number e.owner) s.slots q found) in
+      let own : e.owner ≡ Reply s.number q.number = owner-is s.number q.number e.owner (find-passes (is_owner s.number e.owner) s.slots q found) in
       sent-of q.number q (found-own (is_owner s.number e.owner) (is_in_slot (q.number % 8)) s.slots q (h.apart (q.number % 8)) found (eq-eqb (q.number % 8) (q.number % 8) refl)) own
 
   pub sent-holds : IsReplyTo (request_of s e) e → HoldsAll s (released_at e.place pool) new
@@ -203,7 +204,7 @@ module _ (pool : Pool) (s : Session) (r : ℕ) (q : SlotRequest) (found : newest
   pub older-gone : (es : List EntryValue) → list_any (is_of (owner_of s.number q)) es ≡ false → HoldsAll s pool es → HoldsAll (without_newest r s) pool es
   older-gone es none holds = record {
     own = all-own-left es none holds.own;
-    each = all-without (is_in_slot (r % 8)) q (HoldsReplies s.number pool es) s.slots holds.each;
+    each = all-left (is_in_slot (r % 8)) (HoldsReplies s.number pool es) s.slots holds.each;
   }
 
 -- and there was none where none began

@@ -19,15 +19,16 @@ use Rattle.rpc_base.specs.declared.owner.Owner.TheVariants.{Reply}
 use Rattle.server_core.specs.Flushing.{HoldsReplies, is_reply_of, named_by}
 use Rattle.server_core.specs.KeepsPool.{IsKept, LeavesOthers, answer_names, names, own_names}
 use Rattle.server_core.specs.Replies.{IsReplyIn, IsReplyTo, is_owner, request_of}
-use Rattle.server_core.specs.Session.{Session, owner_of}
+use Rattle.server_core.specs.Session.{Session, answer_of, owner_of}
 use Rattle.server_core.specs.declared.slot.SlotRequest.{SlotRequest}
 use Rattle.server_core.specs.declared.slot.Stored.{Stored}
 use Rattle.server_core.proofs.FlushLemmas.{all-taken}
 use Rattle.server_core.proofs.FoundLemmas.{found-any}
-use Rattle.server_core.proofs.ListLemmas.{all-append, counted-cons}
 use Rattle.server_core.proofs.PlaceLemmas.{IsBeside}
-use Rattle.server_core.proofs.PoolLemmas.{named-one, names-cons}
+use Rattle.server_core.proofs.PoolLemmas.{names-cons}
 use Rattle.server_core.proofs.ReplyLemmas.{kept-answer}
+use Rattle.rpc_base.proofs.FirstLemmas.{all-push, counted-cons}
+use Rattle.buffer_pool.proofs.PlacesLemmas.{named-one}
 
 -- a place that requests name and that has a use is used as before
 abbrev pub KeepsUses : List SlotRequest → (before after : Pool) → Type 0
@@ -50,15 +51,15 @@ module _ (n : ℕ) (pool new : Pool) (es : List EntryValue) where
   refs-as owner None same all = tt
   refs-as owner (Some a) same all = ap refs_in (same a refl) ∙ all
 
-  answer-named : (q : SlotRequest) (a : Stored) → q.answer ≡ Some a → 1 ≤ own_names a.place q
+  answer-named : (q : SlotRequest) (a : Stored) → answer_of q.state ≡ Some a → 1 ≤ own_names a.place q
   answer-named q a is =
-      let one : answer_names a.place q.answer ≡ 1 = ap (answer_names a.place) is ∙ named-one a.place a.place refl in
+      let one : answer_names a.place (answer_of q.state) ≡ 1 = ap (answer_names a.place) is ∙ named-one a.place a.place refl in
       omega (arith, one)
 
   one-as : (q : SlotRequest) → IsKept pool q → ((p : ℕ) → 1 ≤ own_names p q → is_empty (use_at pool p) ≡ false → use_at new p ≡ use_at pool p) → HoldsReplies n pool es q → HoldsReplies n new es q
   one-as q kept same holds = record {
     each = holds.each;
-    all = refs-as (owner_of n q) q.answer (λ a is. same a.place (answer-named q a is) (full-not-empty (use_at pool a.place) (kept-answer pool q a kept is).full)) holds.all;
+    all = refs-as (owner_of n q) (answer_of q.state) (λ a is. same a.place (answer-named q a is) (full-not-empty (use_at pool a.place) (kept-answer pool q a kept is).full)) holds.all;
   }
 
   pub rest-as : (rest : List SlotRequest) → AllByRecursion (IsKept pool) rest → KeepsUses rest pool new → AllByRecursion (HoldsReplies n pool es) rest → AllByRecursion (HoldsReplies n new es) rest
@@ -77,7 +78,7 @@ pub and-one : (b c : Bool) → b ≡ true → c ≡ true → (b && c) ≡ true
 and-one b c e f = rw (e, f) refl
 
 module _ (n r : ℕ) (e : EntryValue) (own : e.owner ≡ Reply n r) where
-  not-of : (q : SlotRequest) → eqb q.number r ≡ false → is_of (owner_of n q) e ≡ false
+  pub not-of : (q : SlotRequest) → eqb q.number r ≡ false → is_of (owner_of n q) e ≡ false
   not-of q other = rw own (and-none (eqb n n) (eqb r q.number) (ne_eqb r q.number (λ same. eqb-false q.number r other (sym same))))
 
   pub one-of : (q : SlotRequest) → q.number ≡ r → is_of (owner_of n q) e ≡ true
@@ -100,8 +101,8 @@ module _ (n r : ℕ) (e : EntryValue) (own : e.owner ≡ Reply n r) where
 
     one-behind : (q : SlotRequest) → eqb q.number r ≡ false → HoldsReplies n pool es q → HoldsReplies n pool (es ++ e ∷ []) q
     one-behind q other holds = record {
-      each = all-append (λ x. IsTrue (is_of (owner_of n q) x) → IsReplyIn q x) es e holds.each (λ of. let off = not-of q other in cc);
-      all = all-behind (owner_of n q) q.answer (not-of q other) holds.all;
+      each = all-push (λ x. IsTrue (is_of (owner_of n q) x) → IsReplyIn q x) es e holds.each (λ of. let off = not-of q other in cc);
+      all = all-behind (owner_of n q) (answer_of q.state) (not-of q other) holds.all;
     }
 
     pub rest-behind : (rest : List SlotRequest) → AllByRecursion (λ q. eqb q.number r ≡ false) rest → AllByRecursion (HoldsReplies n pool es) rest → AllByRecursion (HoldsReplies n pool (es ++ e ∷ [])) rest
@@ -120,7 +121,7 @@ module _ (n r : ℕ) (e : EntryValue) (own : e.owner ≡ Reply n r) (pool : Pool
   one-left : (q : SlotRequest) → eqb q.number r ≡ false → HoldsReplies n pool old q → HoldsReplies n pool new q
   one-left q other holds = record {
     each = (all-taken (λ x. is_of (owner_of n q) x ≡ true → IsReplyIn q x) passes e old new out holds.each).1;
-    all = all-left (owner_of n q) q.answer (not-of n r e own q other) holds.all;
+    all = all-left (owner_of n q) (answer_of q.state) (not-of n r e own q other) holds.all;
   }
 
   pub rest-left : (rest : List SlotRequest) → AllByRecursion (λ q. eqb q.number r ≡ false) rest → AllByRecursion (HoldsReplies n pool old) rest → AllByRecursion (HoldsReplies n pool new) rest

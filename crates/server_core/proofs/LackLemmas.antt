@@ -1,16 +1,14 @@
 -- Where memory is wanting, the drop is that of the server rule.
 use Rattle.std.proofs.Common.{◌≡◌, ℕ, Bool, true, false, not, ◌&&◌, ◌||◌, cond, ltb, Option, Some, None, refl}
-use Rattle.std.specs.Prelude.{◌==◌}
+use Rattle.std.specs.Prelude.{◌==◌, option_map}
 use Rattle.std.specs.List.{find}
-use Rattle.packet_header.specs.Parts.{packet_count}
 use Rattle.packet_header.specs.declared.packet.MessageHeader.{MessageHeader}
 use Rattle.rpc_base.specs.declared.state.DropReason.TheVariants.{Ahead, Beyond, JobsFull, Mismatch, NoMemory, NotFirst, Old, Unserved, Working, WrongPeer}
 use Rattle.rpc_laws.specs.declared.rows.ServerRow.{ServerRow}
 use Rattle.rpc_laws.specs.declared.rows.ServerRow.TheVariants.{Drops, Begins, Takes, Repeats}
-use Rattle.rpc_laws.specs.declared.tables.Served.{Served}
 use Rattle.rpc_laws.specs.declared.tables.Server.{Server}
 use Rattle.rpc_laws.specs.Requests.{in_slot_of}
-use Rattle.rpc_laws.specs.ServerTable.{is_last, is_past_end, is_rfr, is_worked_on, makes_job, server_row, slot_row}
+use Rattle.rpc_laws.specs.ServerTable.{Newest, is_last, is_mismatch, is_past_end, is_rfr, is_worked_on, makes_job, new_row, newest_of, newest_row, own_row, server_row, slot_row}
 use Rattle.rpc_laws.specs.Service.{is_handled}
 use Rattle.rpc_outside.specs.declared.service.Mode.{Mode}
 use Rattle.server_core.specs.declared.step.Step.{Step}
@@ -54,19 +52,19 @@ own-lacks false false false w true f h k = cc
 own-lacks false false false w false true h k = cc
 own-lacks false false false w false false h k = rw k refl
 
-slot-cases : (mode : Mode) (full : Bool) (l : Served) (h : MessageHeader) (a b : Bool) → Lacking h (cond a (Drops Old) (cond b (cond (is_rfr h.kind || not (h.number == 0)) (Drops NotFirst) (cond l.working (Drops Working) (cond (not (is_handled mode)) (Drops Unserved) (cond (makes_job mode h && full) (Drops JobsFull) Begins)))) (cond (cond (is_rfr h.kind) (ltb h.number (packet_count l.size)) (not (h.req_type == l.req_type && h.size == l.size))) (Drops Mismatch) (cond (ltb l.taken h.number) (Drops Ahead) (cond (ltb h.number l.taken) (cond (is_worked_on l h) (Drops Working) Repeats) (cond (is_rfr h.kind && is_past_end l.size l.answer h.number) (Drops Beyond) (cond (makes_job mode h && full) (Drops JobsFull) Takes))))))) → cond a (Drops Old) (cond b (cond (is_rfr h.kind || not (h.number == 0)) (Drops NotFirst) (cond l.working (Drops Working) (cond (not (is_handled mode)) (Drops Unserved) (cond (makes_job mode h && full) (Drops JobsFull) (Drops NoMemory))))) (cond (cond (is_rfr h.kind) (ltb h.number (packet_count l.size)) (not (h.req_type == l.req_type && h.size == l.size))) (Drops Mismatch) (cond (ltb l.taken h.number) (Drops Ahead) (cond (ltb h.number l.taken) (cond (is_worked_on l h) (Drops Working) Repeats) (cond (is_rfr h.kind && is_past_end l.size l.answer h.number) (Drops Beyond) (cond (makes_job mode h && full) (Drops JobsFull) (cond (is_last h) (Drops NoMemory) Takes))))))) ≡ Drops NoMemory
-slot-cases mode full l h true b k = cc
-slot-cases mode full l h false true k = new-lacks (is_rfr h.kind || not (h.number == 0)) l.working (not (is_handled mode)) (makes_job mode h && full) h k
-slot-cases mode full l h false false k =
-    own-lacks (cond (is_rfr h.kind) (ltb h.number (packet_count l.size)) (not (h.req_type == l.req_type && h.size == l.size))) (ltb l.taken h.number) (ltb h.number l.taken) (is_worked_on l h) (is_rfr h.kind && is_past_end l.size l.answer h.number) (makes_job mode h && full) h k
+slot-cases : (mode : Mode) (full : Bool) (n : Newest) (h : MessageHeader) (a b : Bool) → Lacking h (cond a (Drops Old) (cond b (new_row mode n.working full false h) (own_row mode full false n h))) → cond a (Drops Old) (cond b (new_row mode n.working full true h) (own_row mode full true n h)) ≡ Drops NoMemory
+slot-cases mode full n h true b k = cc
+slot-cases mode full n h false true k = new-lacks (is_rfr h.kind || not (h.number == 0)) n.working (not (is_handled mode)) (makes_job mode h && full) h k
+slot-cases mode full n h false false k =
+    own-lacks (is_mismatch n h) (ltb n.taken h.number) (ltb h.number n.taken) (is_worked_on n h.number) (is_rfr h.kind && is_past_end n.size n.answer h.number) (makes_job mode h && full) h k
 
-slot-lacks : (mode : Mode) (full : Bool) (o : Option Served) (h : MessageHeader) → Lacking h (slot_row mode full false o h) → slot_row mode full true o h ≡ Drops NoMemory
+slot-lacks : (mode : Mode) (full : Bool) (o : Option Newest) (h : MessageHeader) → Lacking h (newest_row mode full false o h) → newest_row mode full true o h ≡ Drops NoMemory
 slot-lacks mode full None h k =
     new-lacks (is_rfr h.kind || not (h.number == 0)) false (not (is_handled mode)) (makes_job mode h && full) h k
-slot-lacks mode full (Some l) h k = slot-cases mode full l h (ltb h.request l.number) (ltb l.number h.request) k
+slot-lacks mode full (Some n) h k = slot-cases mode full n h (ltb h.request n.number) (ltb n.number h.request) k
 
 peer-lacks : (mode : Mode) (full : Bool) (v : Server) (h : MessageHeader) (b : Bool) → Lacking h (cond (not b) (Drops WrongPeer) (slot_row mode full false (find (in_slot_of h.request) v.slots) h)) → cond (not b) (Drops WrongPeer) (slot_row mode full true (find (in_slot_of h.request) v.slots) h) ≡ Drops NoMemory
-peer-lacks mode full v h true k = slot-lacks mode full (find (in_slot_of h.request) v.slots) h k
+peer-lacks mode full v h true k = slot-lacks mode full (option_map newest_of (find (in_slot_of h.request) v.slots)) h k
 peer-lacks mode full v h false k = cc
 
 pub lacks-row : (mode : Mode) (full : Bool) (v : Server) (peer : ℕ) (h : MessageHeader) (row : ServerRow) (step : Step) → server_row mode full false (Some v) peer h ≡ row → IsStepOf mode h row step → step ≡ Dropped NoMemory → server_row mode full true (Some v) peer h ≡ Drops NoMemory

@@ -10,6 +10,7 @@ mod OtherLemmas
 mod PartLemmas
 mod PlaceLemmas
 mod PoolLemmas
+mod RecountLemmas
 mod ReplyLemmas
 mod RowLemmas
 mod SlotLemmas
@@ -20,6 +21,7 @@ pub mod FlushLemmas
 pub mod FoundLemmas
 pub mod IdleLemmas
 pub mod NoteLemmas
+pub mod QueuedLemmas
 pub mod SpareLemmas
 pub mod StepLemmas
 pub mod TableLemmas

@@ -13,10 +13,10 @@ use Rattle.server_core.specs.declared.slot.Stored.{Stored}
 use Rattle.server_core.specs.KeepsPool.{LeavesOthers, answer_names, ask_names, names, own_names}
 use Rattle.server_core.specs.Replies.{held_at, place_of}
 use Rattle.server_core.specs.Serving.{begun, first_given, first_taken, given_up, gone_on, last_given, next_taken, without_answer, without_ask}
-use Rattle.server_core.specs.Session.{Session, is_in_slot, newest}
-use Rattle.server_core.proofs.ListLemmas.{sum-changed, sum-without}
-use Rattle.server_core.proofs.PlaceLemmas.{lowest-empty}
-use Rattle.server_core.proofs.PoolLemmas.{ChangesOne, ask-away as away-ask, names-cons, one-changed, one-emptied, one-filled, one-held, unnamed-cases, unnamed-one}
+use Rattle.server_core.specs.Session.{Session, answer_of, ask_of, is_in_slot, newest}
+use Rattle.server_core.proofs.PoolLemmas.{ChangesOne, ask-away as away-ask, names-cons, one-changed, one-emptied, one-filled, one-held}
+use Rattle.buffer_pool.proofs.PlacesLemmas.{lowest-empty, unnamed-cases, unnamed-one}
+use Rattle.rpc_base.proofs.ChangedLemmas.{sum-changed, sum-without}
 
 -- one place is as it was
 pub record IsSame (p : ℕ) (pool new : Pool) : Type 0 where
@@ -41,12 +41,12 @@ pub still-used : (p : ℕ) (pool new : Pool) → IsSame p pool new → is_empty 
 still-used p pool new same used = ap is_empty same.use_is ∙ used
 
 -- the places of a request that doesn't name this one
-pub ask-away : (p : ℕ) (q : SlotRequest) (a : ℕ) → own_names p q ≡ 0 → q.ask ≡ Some a → p ≢ a
+pub ask-away : (p : ℕ) (q : SlotRequest) (a : ℕ) → own_names p q ≡ 0 → ask_of q.state ≡ Some a → p ≢ a
 ask-away p q a e is = λ same.
     let none : ask_names p (Some a) ≡ 0 = ap (ask_names p) (sym is) ∙ omega (arith, e) in
     away-ask a p none (sym same)
 
-pub answer-away : (p : ℕ) (q : SlotRequest) (a : Stored) → own_names p q ≡ 0 → q.answer ≡ Some a → p ≢ a.place
+pub answer-away : (p : ℕ) (q : SlotRequest) (a : Stored) → own_names p q ≡ 0 → answer_of q.state ≡ Some a → p ≢ a.place
 answer-away p q a e is = λ same.
     let none : answer_names p (Some a) ≡ 0 = ap (answer_names p) (sym is) ∙ omega (arith, e) in
     unnamed-cases a.place p _ refl none (sym same)
@@ -65,11 +65,11 @@ names-less p test (y ∷ ys) = less-cons p test y ys (test y) (names-less p test
 
 -- the older request of a slot is given up
 module _ (p : ℕ) (pool : Pool) where
-  ask-same : (q : SlotRequest) (o : Option ℕ) → own_names p q ≡ 0 → q.ask ≡ o → IsSame p pool (without_ask o pool)
+  ask-same : (q : SlotRequest) (o : Option ℕ) → own_names p q ≡ 0 → ask_of q.state ≡ o → IsSame p pool (without_ask o pool)
   ask-same q None e is = same-kept p pool
   ask-same q (Some a) e is = same-one p a pool (emptied a pool) (one-emptied a pool) (ask-away p q a e is)
 
-  answer-same : (new : Pool) (q : SlotRequest) (o : Option Stored) → own_names p q ≡ 0 → q.answer ≡ o → IsSame p new (without_answer o new)
+  answer-same : (new : Pool) (q : SlotRequest) (o : Option Stored) → own_names p q ≡ 0 → answer_of q.state ≡ o → IsSame p new (without_answer o new)
   answer-same new q None e is = same-kept p new
   answer-same new q (Some a) e is = same-one p a.place new (emptied a.place new) (one-emptied a.place new) (answer-away p q a e is)
 
@@ -77,7 +77,7 @@ module _ (p : ℕ) (pool : Pool) where
   given-cases test slots None e none = same-kept p pool
   given-cases test slots (Some q) e none =
       let own = found-names p test slots q e none in
-      same-then p pool (without_ask q.ask pool) (given_up (Some q) pool) (ask-same q q.ask own refl) (answer-same (without_ask q.ask pool) q q.answer own refl)
+      same-then p pool (without_ask (ask_of q.state) pool) (given_up (Some q) pool) (ask-same q (ask_of q.state) own refl) (answer-same (without_ask (ask_of q.state) pool) q (answer_of q.state) own refl)
 
 -- a request begins
 begun-names : (p : ℕ) (slots : List SlotRequest) (d : SlotRequest) → names p slots ≡ 0 → own_names p d ≡ 0 → names p (begun d slots) ≡ 0
@@ -104,17 +104,17 @@ module _ (pool : Pool) (s : Session) (head : MessageHeader) (k : ℕ) (b : Buffe
   asked-same p none used =
       same-then p pool given (filled k b given) (given-same p none) (same-one p k given (filled k b given) (one-filled k b given) (asked-away p none used))
 
-  pub first-others : LeavesOthers s.slots (begun (first_taken head k None) s.slots) pool (filled k b given)
+  pub first-others : LeavesOthers s.slots (begun (first_taken head k) s.slots) pool (filled k b given)
   first-others = λ p none used.
       let same = asked-same p none used in
       let off = unnamed-one k p (λ e. asked-away p none used (sym e)) in
-      (begun-names p s.slots (first_taken head k None) none (omega (arith, off)), same.use_is, same.buf_is)
+      (begun-names p s.slots (first_taken head k) none (omega (arith, off)), same.use_is, same.buf_is)
 
 -- a request goes on
 gone-names : (p : ℕ) (slots : List SlotRequest) (q d : SlotRequest) → find (is_in_slot (d.number % 8)) slots ≡ Some q → names p slots ≡ 0 → own_names p d ≡ 0 → names p (gone_on d slots) ≡ 0
 gone-names p slots q d e none own = omega (arith, sum-changed (is_in_slot (d.number % 8)) q (own_names p) (λ x. d) slots e, none, own)
 
-held-same : (p : ℕ) (pool : Pool) (q : SlotRequest) (o : Option Stored) (b : Bool) → own_names p q ≡ 0 → q.answer ≡ o → IsSame p pool (held_at (cond b None (option_map (λ a. a.place) o)) pool)
+held-same : (p : ℕ) (pool : Pool) (q : SlotRequest) (o : Option Stored) (b : Bool) → own_names p q ≡ 0 → answer_of q.state ≡ o → IsSame p pool (held_at (cond b None (option_map (λ a. a.place) o)) pool)
 held-same p pool q o true own is = same-kept p pool
 held-same p pool q None false own is = same-kept p pool
 held-same p pool q (Some a) false own is = same-one p a.place pool (held a.place pool) (one-held a.place pool) (answer-away p q a own is)
@@ -126,39 +126,39 @@ module _ (pool : Pool) (s : Session) (q : SlotRequest) (r : ℕ) (found : newest
   -- a place of its answer is held
   pub held-others : (k : ℕ) → LeavesOthers s.slots s.slots pool (held_at (place_of q k) pool)
   held-others k = λ p none used.
-      let same = held-same p pool q q.answer _ (own-none p none) refl in
+      let same = held-same p pool q (answer_of q.state) _ (own-none p none) refl in
       (none, same.use_is, same.buf_is)
 
   -- its bytes are written
-  pub part-others : (a : ℕ) → q.ask ≡ Some a → (b : Buffer) → LeavesOthers s.slots s.slots pool (changed a b pool)
+  pub part-others : (a : ℕ) → ask_of q.state ≡ Some a → (b : Buffer) → LeavesOthers s.slots s.slots pool (changed a b pool)
   part-others a is b = λ p none used.
       let same = same-one p a pool (changed a b pool) (one-changed a b pool) (ask-away p q a (own-none p none) is) in
       (none, same.use_is, same.buf_is)
 
   -- it goes to a worker, with its bytes
-  pub last-given-others : q.number ≡ r → q.answer ≡ None → (a : ℕ) → q.ask ≡ Some a → LeavesOthers s.slots (gone_on (last_given q) s.slots) pool (emptied a pool)
+  pub last-given-others : q.number ≡ r → answer_of q.state ≡ None → (a : ℕ) → ask_of q.state ≡ Some a → LeavesOthers s.slots (gone_on (last_given q) s.slots) pool (emptied a pool)
   last-given-others number none_yet a is = λ p none used.
       let own = own-none p none in
       let same = same-one p a pool (emptied a pool) (one-emptied a pool) (ask-away p q a own is) in
       let at : find (is_in_slot (q.number % 8)) s.slots ≡ Some q = ap (λ n. newest n s) number ∙ found in
       (gone-names p s.slots q (last_given q) at none (omega (arith, own)), same.use_is, same.buf_is)
 
-  pub next-others : q.number ≡ r → (k : ℕ) → LeavesOthers s.slots (gone_on (next_taken q.answer q) s.slots) pool (held_at (place_of q k) pool)
+  pub next-others : q.number ≡ r → (k : ℕ) → LeavesOthers s.slots (gone_on (next_taken q) s.slots) pool (held_at (place_of q k) pool)
   next-others number k = λ p none used.
       let own = own-none p none in
-      let same = held-same p pool q q.answer _ own refl in
+      let same = held-same p pool q (answer_of q.state) _ own refl in
       let at : find (is_in_slot (q.number % 8)) s.slots ≡ Some q = ap (λ n. newest n s) number ∙ found in
-      (gone-names p s.slots q (next_taken q.answer q) at none own, same.use_is, same.buf_is)
+      (gone-names p s.slots q (next_taken q) at none own, same.use_is, same.buf_is)
 
   -- its answer is there
-  pub last-others : (d : SlotRequest) → q.number ≡ r → d.number ≡ q.number → d.ask ≡ q.ask → (j : ℕ) → (b : Buffer) → (a : Stored) → d.answer ≡ Some a → lowest_empty pool ≡ Some j → a.place ≡ j → LeavesOthers s.slots (gone_on d s.slots) pool (held a.place (filled j b pool))
+  pub last-others : (d : SlotRequest) → q.number ≡ r → d.number ≡ q.number → ask_of d.state ≡ (ask_of q.state) → (j : ℕ) → (b : Buffer) → (a : Stored) → answer_of d.state ≡ Some a → lowest_empty pool ≡ Some j → a.place ≡ j → LeavesOthers s.slots (gone_on d s.slots) pool (held a.place (filled j b pool))
   last-others d number same_number asked j b a is lowest place = λ p none used.
       let own = own-none p none in
       let away = not-lowest pool p j used lowest in
       let apart : p ≢ a.place = λ e. away (e ∙ place) in
       let first = same-one p j pool (filled j b pool) (one-filled j b pool) away in
       let same = same-then p pool (filled j b pool) (held a.place (filled j b pool)) first (same-one p a.place (filled j b pool) (held a.place (filled j b pool)) (one-held a.place (filled j b pool)) apart) in
-      let out : answer_names p d.answer ≡ 0 = ap (answer_names p) is ∙ unnamed-one a.place p (λ e. apart (sym e)) in
+      let out : answer_names p (answer_of d.state) ≡ 0 = ap (answer_names p) is ∙ unnamed-one a.place p (λ e. apart (sym e)) in
       let at : find (is_in_slot (d.number % 8)) s.slots ≡ Some q = ap (λ n. newest n s) (same_number ∙ number) ∙ found in
       (gone-names p s.slots q d at none (omega (arith, own, out, ap (ask_names p) asked)), same.use_is, same.buf_is)
 

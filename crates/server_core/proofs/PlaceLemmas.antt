@@ -1,4 +1,6 @@
 -- A request beside the others of its session: what becomes of its places.
+use Rattle.rpc_base.proofs.FirstLemmas.{all-left, all-push, found-holds}
+use Rattle.server_core.specs.Session.{ask_of, answer_of}
 use Rattle.std.proofs.Common.{◌≡◌, ◌≢◌, ℕ, ◌+◌, ◌<◌, ◌≤◌, Bool, true, false, cond, ltb, ltb-true, Option, Some, None, List, [], ◌∷◌, ◌++◌, length, take, drop, get_or, refl, sym, ap, ◌∙◌, inl, inr, arith}
 use Rattle.std.specs.Prelude.{IfSome, map, position}
 use Rattle.std.specs.List.{AllByRecursion, find, position_or_len}
@@ -8,39 +10,22 @@ use Rattle.std.proofs.lemmas.List.Sums.{passes_at_first, sum_by-append, sum_by-s
 use Rattle.message_buffer.specs.Buffer.{Buffer, overwritten, written}
 use Rattle.buffer_pool.specs.declared.usage.Use.TheVariants.{Empty, Full}
 use Rattle.buffer_pool.specs.Uses.{is_empty, is_full, refs_in}
-use Rattle.buffer_pool.specs.Pool.{Pool, buf_at, changed, emptied, filled, held, lowest_empty, spare_of, use_at}
+use Rattle.buffer_pool.specs.Pool.{Pool, buf_at, changed, emptied, filled, held, lowest_empty}
 use Rattle.buffer_pool.proofs.PoolLemmas.{changed_own, held_refs}
 use Rattle.rpc_base.specs.Tables.{at_first, without_first}
 use Rattle.server_core.specs.declared.slot.Stored.{Stored}
 use Rattle.server_core.specs.declared.slot.SlotRequest.{SlotRequest}
-use Rattle.server_core.specs.KeepsPool.{HasSize, IsAsked, IsKept, IsStored, KeepsPool, answer_names, ask_names, names, own_names}
+use Rattle.server_core.specs.KeepsPool.{IsAsked, IsKept, IsStored, KeepsPool, answer_names, ask_names, names, own_names}
 use Rattle.server_core.specs.Serving.{without_answer, without_ask, without_buffers}
 use Rattle.server_core.specs.Shown.{shown_request}
-use Rattle.server_core.proofs.ListLemmas.{all-append, all-without, found-holds, sum-changed, sum-without}
-use Rattle.server_core.proofs.PoolLemmas.{ask-away, ask-empty, ask-off, keeps-off, map-off, named-one, names-cons, names-empty, one-changed, one-emptied, one-filled, one-held, unnamed-one}
-
--- the lowest empty place is one of the pool's, and empty
-found-at : (n m i : ℕ) (b : Bool) → ltb n m ≡ b → cond b (Some n) None ≡ Some i → (i ≡ n) × (n < m)
-found-at n m i true t e = let same : i ≡ n = cc in (same, ltb-true n m t)
-found-at n m i false t e = cc
-
-position-at : {A : Type 0} (p : A → Bool) (xs : List A) (i : ℕ) (d : A) → position p xs ≡ Some i → (i < length xs) × (p (get_or xs i d) ≡ true)
-position-at p xs i d e =
-    let (same, within) = found-at (position_or_len p xs) (length xs) i _ refl e in
-    (rw same within, rw same (passes_at_first p xs d within))
+use Rattle.server_core.proofs.PoolLemmas.{ask-away, ask-empty, ask-off, keeps-off, map-off, names-cons, names-empty, one-changed, one-emptied, one-filled, one-held}
+use Rattle.rpc_base.proofs.TablesLemmas.{position-at}
+use Rattle.buffer_pool.proofs.PlacesLemmas.{lowest-empty, buffer-within, unnamed-one, named-one}
+use Rattle.message_buffer.specs.Messages.{HasSize}
+use Rattle.rpc_base.proofs.ChangedLemmas.{sum-changed, sum-without}
 
 pub lowest-within : (pool : Pool) (p : ℕ) → lowest_empty pool ≡ Some p → p < length pool.uses
 lowest-within pool p e = (position-at is_empty pool.uses p Empty e).0
-
-pub lowest-empty : (pool : Pool) (p : ℕ) → lowest_empty pool ≡ Some p → is_empty (use_at pool p) ≡ true
-lowest-empty pool p e = (position-at is_empty pool.uses p Empty e).1
-
--- a filled place was one of the spare ones
-pub spare-filled : (s : Pool) (p : ℕ) (buf : Buffer) → lowest_empty s ≡ Some p → spare_of (filled p buf s) + 1 ≡ spare_of s
-spare-filled s p buf e =
-    let one = sum_by-set (λ u. cond (is_empty u) 1 0) s.uses p (Full 0) Empty (lowest-within s p e) in
-    let was : cond {A = ℕ} (is_empty (get_or s.uses p Empty)) 1 0 ≡ 1 = ap (λ b. cond {A = ℕ} b 1 0) (lowest-empty s p e) in
-    omega (arith, one, was)
 
 -- a request that isn't among the others, each with its places
 pub record IsBeside (pool : Pool) (q : SlotRequest) (rest : List SlotRequest) : Type 0 where
@@ -53,7 +38,7 @@ pub taken-out : (pool : Pool) (test : SlotRequest → Bool) (slots : List SlotRe
 taken-out pool test slots q e keeps = record {
   own = found-holds test (IsKept pool) slots q keeps.kept e;
   others = record {
-    kept = all-without test q (IsKept pool) slots keeps.kept;
+    kept = all-left test (IsKept pool) slots keeps.kept;
     apart = λ p. omega (arith, sum-without test q (own_names p) slots e, keeps.apart p);
   };
   apart = λ p. omega (arith, sum-without test q (own_names p) slots e, keeps.apart p);
@@ -78,31 +63,31 @@ module _ (test : SlotRequest → Bool) (q d : SlotRequest) where
 -- put behind the others
 pub put-behind : (pool : Pool) (d : SlotRequest) (rest : List SlotRequest) → IsBeside pool d rest → KeepsPool pool (rest ++ d ∷ [])
 put-behind pool d rest beside = record {
-  kept = all-append (IsKept pool) rest d beside.others.kept beside.own;
+  kept = all-push (IsKept pool) rest d beside.others.kept beside.own;
   apart = λ p. omega (arith, sum_by-append (own_names p) rest (d ∷ []), names-cons p d [], beside.apart p);
 }
 
 -- a request's own places are no one else's
-ask-named : (p : ℕ) (q : SlotRequest) → q.ask ≡ Some p → ask_names p q.ask ≡ 1
+ask-named : (p : ℕ) (q : SlotRequest) → ask_of q.state ≡ Some p → ask_names p (ask_of q.state) ≡ 1
 ask-named p q is = ap (ask_names p) is ∙ named-one p p refl
 
-pub ask-apart : (pool : Pool) (q : SlotRequest) (p : ℕ) (rest : List SlotRequest) → IsBeside pool q rest → q.ask ≡ Some p → names p rest ≡ 0
+pub ask-apart : (pool : Pool) (q : SlotRequest) (p : ℕ) (rest : List SlotRequest) → IsBeside pool q rest → ask_of q.state ≡ Some p → names p rest ≡ 0
 ask-apart pool q p rest beside is = omega (arith, beside.apart p, ask-named p q is)
 
-answer-named : (p : ℕ) (q : SlotRequest) (a : Stored) → q.answer ≡ Some a → a.place ≡ p → answer_names p q.answer ≡ 1
+answer-named : (p : ℕ) (q : SlotRequest) (a : Stored) → answer_of q.state ≡ Some a → a.place ≡ p → answer_names p (answer_of q.state) ≡ 1
 answer-named p q a is same = ap (answer_names p) is ∙ named-one a.place p same
 
-pub answer-apart : (pool : Pool) (q : SlotRequest) (a : Stored) (rest : List SlotRequest) → IsBeside pool q rest → q.answer ≡ Some a → (names a.place rest ≡ 0) × (ask_names a.place q.ask ≡ 0)
+pub answer-apart : (pool : Pool) (q : SlotRequest) (a : Stored) (rest : List SlotRequest) → IsBeside pool q rest → answer_of q.state ≡ Some a → (names a.place rest ≡ 0) × (ask_names a.place (ask_of q.state) ≡ 0)
 answer-apart pool q a rest beside is =
     let named = answer-named a.place q a is refl in
     (omega (arith, beside.apart a.place, named), omega (arith, beside.apart a.place, named))
 
-pub both-apart : (pool : Pool) (q : SlotRequest) (p : ℕ) (a : Stored) (rest : List SlotRequest) → IsBeside pool q rest → q.ask ≡ Some p → q.answer ≡ Some a → p ≢ a.place
+pub both-apart : (pool : Pool) (q : SlotRequest) (p : ℕ) (a : Stored) (rest : List SlotRequest) → IsBeside pool q rest → ask_of q.state ≡ Some p → answer_of q.state ≡ Some a → p ≢ a.place
 both-apart pool q p a rest beside asked is =
     ask-away p a.place (ap (ask_names a.place) (sym asked) ∙ (answer-apart pool q a rest beside is).1)
 
 -- a request with the same places, size and answer
-pub beside-as : (pool : Pool) (q d : SlotRequest) (rest : List SlotRequest) → d.ask ≡ q.ask → d.size ≡ q.size → d.answer ≡ q.answer → IsBeside pool q rest → IsBeside pool d rest
+pub beside-as : (pool : Pool) (q d : SlotRequest) (rest : List SlotRequest) → ask_of d.state ≡ (ask_of q.state) → d.size ≡ q.size → answer_of d.state ≡ (answer_of q.state) → IsBeside pool q rest → IsBeside pool d rest
 beside-as pool q d rest ask size answer beside = record {
   own = record {
     ask = rw (ask, size) beside.own.ask;
@@ -113,7 +98,7 @@ beside-as pool q d rest ask size answer beside = record {
 }
 
 -- its bytes are put in the lowest empty place
-pub beside-asked : (pool : Pool) (p : ℕ) (b : Buffer) (d : SlotRequest) (rest : List SlotRequest) → KeepsPool pool rest → lowest_empty pool ≡ Some p → buf_at (filled p b pool) p ≡ Some b → d.ask ≡ Some p → d.answer ≡ None → HasSize d.size (Some b) → IsBeside (filled p b pool) d rest
+pub beside-asked : (pool : Pool) (p : ℕ) (b : Buffer) (d : SlotRequest) (rest : List SlotRequest) → KeepsPool pool rest → lowest_empty pool ≡ Some p → buf_at (filled p b pool) p ≡ Some b → ask_of d.state ≡ Some p → answer_of d.state ≡ None → HasSize d.size (Some b) → IsBeside (filled p b pool) d rest
 beside-asked pool p b d rest keeps lowest there ask none size =
     let free = names-empty pool p rest (lowest-empty pool p lowest) keeps.kept in
     let own = changed_own pool.uses p (Full 0) Empty (lowest-within pool p lowest) in
@@ -130,16 +115,16 @@ beside-asked pool p b d rest keeps lowest there ask none size =
     }
 
 -- its answer is put in the lowest empty place
-pub beside-answered : (pool : Pool) (p : ℕ) (b : Buffer) (q d : SlotRequest) (a : Stored) (rest : List SlotRequest) → IsBeside pool q rest → q.answer ≡ None → lowest_empty pool ≡ Some p → buf_at (filled p b pool) p ≡ Some b → d.ask ≡ q.ask → d.size ≡ q.size → d.answer ≡ Some a → a.place ≡ p → HasSize a.size (Some b) → IsBeside (filled p b pool) d rest
+pub beside-answered : (pool : Pool) (p : ℕ) (b : Buffer) (q d : SlotRequest) (a : Stored) (rest : List SlotRequest) → IsBeside pool q rest → answer_of q.state ≡ None → lowest_empty pool ≡ Some p → buf_at (filled p b pool) p ≡ Some b → ask_of d.state ≡ (ask_of q.state) → d.size ≡ q.size → answer_of d.state ≡ Some a → a.place ≡ p → HasSize a.size (Some b) → IsBeside (filled p b pool) d rest
 beside-answered pool p b q d a rest beside none lowest there ask size answer place fits =
     let empty = lowest-empty pool p lowest in
     let free = names-empty pool p rest empty beside.others.kept in
-    let other = ask-empty pool p q.size q.ask empty beside.own.ask in
+    let other = ask-empty pool p q.size (ask_of q.state) empty beside.own.ask in
     let own = changed_own pool.uses p (Full 0) Empty (lowest-within pool p lowest) in
     let one = one-filled p b pool in
     record {
       own = record {
-        ask = rw (ask, size) (ask-off p pool (filled p b pool) one q.size q.ask other beside.own.ask);
+        ask = rw (ask, size) (ask-off p pool (filled p b pool) one q.size (ask_of q.state) other beside.own.ask);
         answer = rw answer (record { full = rw place (ap is_full own); size = rw (place, there) fits });
       };
       others = keeps-off p pool (filled p b pool) one rest free beside.others;
@@ -150,14 +135,14 @@ beside-answered pool p b q d a rest beside none lowest there ask size answer pla
     }
 
 -- its answer is held
-pub beside-held : (pool : Pool) (q : SlotRequest) (a : Stored) (rest : List SlotRequest) → IsBeside pool q rest → q.answer ≡ Some a → IsBeside (held a.place pool) q rest
+pub beside-held : (pool : Pool) (q : SlotRequest) (a : Stored) (rest : List SlotRequest) → IsBeside pool q rest → answer_of q.state ≡ Some a → IsBeside (held a.place pool) q rest
 beside-held pool q a rest beside is =
     let (free, other) = answer-apart pool q a rest beside is in
     let one = one-held a.place pool in
     let stored : IsStored pool a = rw is at beside.own.answer in
     record {
       own = record {
-        ask = ask-off a.place pool (held a.place pool) one q.size q.ask other beside.own.ask;
+        ask = ask-off a.place pool (held a.place pool) one q.size (ask_of q.state) other beside.own.ask;
         answer = rw is (record { full = (held_refs pool a.place stored.full).0; size = stored.size });
       };
       others = keeps-off a.place pool (held a.place pool) one rest free beside.others;
@@ -178,16 +163,7 @@ answer-written pool p b (Some a) other kept = record {
   size = rw ((one-changed p b pool).other_bufs a.place (λ same. other a refl (sym same))) kept.size;
 }
 
-pub buffer-within : (bufs : List (Option Buffer)) (p : ℕ) (b : Buffer) → get_or bufs p None ≡ Some b → p < length bufs
-buffer-within bufs p b e = elim (cases_lt p (length bufs)) [
-  | inl within ↦ within
-  | inr past ↦ (let none = get_or_past bufs p None past in absurd (some-none b (sym e ∙ none)))
-]
-  where
-    some-none : (b : Buffer) → Some b ≡ None → ⊥
-    some-none b e = cc
-
-pub beside-written : (pool : Pool) (at : ℕ) (body : List ℕ) (b : Buffer) (q : SlotRequest) (p : ℕ) (rest : List SlotRequest) → IsBeside pool q rest → q.ask ≡ Some p → buf_at pool p ≡ Some b → at + length body ≤ b.len → IsBeside (changed p (written at body b) pool) q rest
+pub beside-written : (pool : Pool) (at : ℕ) (body : List ℕ) (b : Buffer) (q : SlotRequest) (p : ℕ) (rest : List SlotRequest) → IsBeside pool q rest → ask_of q.state ≡ Some p → buf_at pool p ≡ Some b → at + length body ≤ b.len → IsBeside (changed p (written at body b) pool) q rest
 beside-written pool at body b q p rest beside is there within =
     let one = one-changed p (written at body b) pool in
     let own = changed_own pool.bufs p (Some (written at body b)) None (buffer-within pool.bufs p b there) in
@@ -197,7 +173,7 @@ beside-written pool at body b q p rest beside is there within =
     record {
       own = record {
         ask = rw is (record { full = asked.full; size_is = rw own (size.0, omega (arith, same, size.1)); unnamed = asked.unnamed });
-        answer = answer-written pool p (written at body b) q.answer (λ a e. both-apart pool q p a rest beside is e) beside.own.answer;
+        answer = answer-written pool p (written at body b) (answer_of q.state) (λ a e. both-apart pool q p a rest beside is e) beside.own.answer;
       };
       others = keeps-off p pool (changed p (written at body b) pool) one rest (ask-apart pool q p rest beside is) beside.others;
       apart = beside.apart;
@@ -205,33 +181,33 @@ beside-written pool at body b q p rest beside is there within =
 
 -- it is given up, and its places are empty
 module _ (pool : Pool) (q : SlotRequest) (rest : List SlotRequest) (beside : IsBeside pool q rest) where
-  asked-up : (o : Option ℕ) → q.ask ≡ o → KeepsPool (without_ask o pool) rest
+  asked-up : (o : Option ℕ) → ask_of q.state ≡ o → KeepsPool (without_ask o pool) rest
   asked-up None e = beside.others
   asked-up (Some p) e = keeps-off p pool (emptied p pool) (one-emptied p pool) rest (ask-apart pool q p rest beside e) beside.others
 
-  asked-same : (o : Option ℕ) → q.ask ≡ o → map (shown_request (without_ask o pool)) rest ≡ map (shown_request pool) rest
+  asked-same : (o : Option ℕ) → ask_of q.state ≡ o → map (shown_request (without_ask o pool)) rest ≡ map (shown_request pool) rest
   asked-same None e = refl
   asked-same (Some p) e = map-off p pool (emptied p pool) (one-emptied p pool) rest (ask-apart pool q p rest beside e)
 
   abbrev unasked : Pool
-  unasked = without_ask q.ask pool
+  unasked = without_ask (ask_of q.state) pool
 
   answer-up : (o : Option Stored) → ((a : Stored) → o ≡ Some a → names a.place rest ≡ 0) → KeepsPool (without_answer o unasked) rest
-  answer-up None free = asked-up q.ask refl
-  answer-up (Some a) free = keeps-off a.place unasked (emptied a.place unasked) (one-emptied a.place unasked) rest (free a refl) (asked-up q.ask refl)
+  answer-up None free = asked-up (ask_of q.state) refl
+  answer-up (Some a) free = keeps-off a.place unasked (emptied a.place unasked) (one-emptied a.place unasked) rest (free a refl) (asked-up (ask_of q.state) refl)
 
   answer-same : (o : Option Stored) → ((a : Stored) → o ≡ Some a → names a.place rest ≡ 0) → map (shown_request (without_answer o unasked)) rest ≡ map (shown_request pool) rest
-  answer-same None free = asked-same q.ask refl
-  answer-same (Some a) free = map-off a.place unasked (emptied a.place unasked) (one-emptied a.place unasked) rest (free a refl) ∙ asked-same q.ask refl
+  answer-same None free = asked-same (ask_of q.state) refl
+  answer-same (Some a) free = map-off a.place unasked (emptied a.place unasked) (one-emptied a.place unasked) rest (free a refl) ∙ asked-same (ask_of q.state) refl
 
   pub gone-keeps : KeepsPool (without_buffers q pool) rest
-  gone-keeps = answer-up q.answer (λ a is. (answer-apart pool q a rest beside is).0)
+  gone-keeps = answer-up (answer_of q.state) (λ a is. (answer-apart pool q a rest beside is).0)
 
   pub gone-same : map (shown_request (without_buffers q pool)) rest ≡ map (shown_request pool) rest
-  gone-same = answer-same q.answer (λ a is. (answer-apart pool q a rest beside is).0)
+  gone-same = answer-same (answer_of q.state) (λ a is. (answer-apart pool q a rest beside is).0)
 
 -- its bytes leave the pool, and it goes on without them
-pub beside-given : (pool : Pool) (q d : SlotRequest) (p : ℕ) (rest : List SlotRequest) → IsBeside pool q rest → q.ask ≡ Some p → q.answer ≡ None → d.ask ≡ None → d.answer ≡ None → IsBeside (emptied p pool) d rest
+pub beside-given : (pool : Pool) (q d : SlotRequest) (p : ℕ) (rest : List SlotRequest) → IsBeside pool q rest → ask_of q.state ≡ Some p → answer_of q.state ≡ None → ask_of d.state ≡ None → answer_of d.state ≡ None → IsBeside (emptied p pool) d rest
 beside-given pool q d p rest beside is none asked answer = record {
   own = record { ask = rw asked tt; answer = rw answer tt };
   others = keeps-off p pool (emptied p pool) (one-emptied p pool) rest (ask-apart pool q p rest beside is) beside.others;

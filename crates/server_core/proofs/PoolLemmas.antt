@@ -1,4 +1,5 @@
 -- What a session's places are in the pool, before and after a call of the session.
+use Rattle.server_core.specs.Session.{ask_of, answer_of}
 use Rattle.std.proofs.Common.{◌≡◌, ◌≢◌, ℕ, ◌+◌, ◌-◌, ◌<◌, Bool, true, false, cond, eqb, Option, Some, None, List, [], ◌∷◌, length, get_or, set, refl, ap, ◌∙◌, inl, inr, arith}
 use Rattle.std.specs.Prelude.{IfSome, map, option_map}
 use Rattle.std.specs.List.{AllByRecursion}
@@ -6,15 +7,16 @@ use Rattle.std.proofs.lemmas.Bool.{cases_eq, eq-eqb, eqb-false, ne_eqb}
 use Rattle.std.proofs.lemmas.List.Sums.{sum_by-cons}
 use Rattle.message_buffer.specs.Buffer.{Buffer}
 use Rattle.buffer_pool.specs.declared.usage.Use.{Use}
-use Rattle.buffer_pool.specs.declared.usage.Use.TheVariants.{Empty, Full, Lent}
+use Rattle.buffer_pool.specs.declared.usage.Use.TheVariants.{Empty, Full}
 use Rattle.buffer_pool.specs.Uses.{is_empty, is_full, refs_in}
 use Rattle.buffer_pool.specs.Pool.{Pool, IsFull, buf_at, changed, emptied, filled, held, refs_of, released, use_at}
-use Rattle.buffer_pool.proofs.PoolLemmas.{changed_other, changed_own, full_within}
+use Rattle.buffer_pool.proofs.PoolLemmas.{changed_other}
 use Rattle.server_core.specs.declared.slot.Stored.{Stored}
 use Rattle.server_core.specs.declared.slot.SlotRequest.{SlotRequest}
 use Rattle.server_core.specs.KeepsPool.{IsAsked, IsKept, IsStored, KeepsPool, answer_names, ask_names, names, own_names}
 use Rattle.server_core.specs.Replies.{IsHeld, released_at}
 use Rattle.server_core.specs.Shown.{answer_in, ask_in, shown_request}
+use Rattle.buffer_pool.proofs.PlacesLemmas.{full-empty, full-cases, unnamed-cases, unnamed-one}
 
 -- one place of a pool changed, and each other is as it was
 pub record ChangesOne (p : ℕ) (pool new : Pool) : Type 0 where
@@ -37,18 +39,8 @@ one-changed p b pool = record { other_uses = λ q n. refl; other_bufs = λ q n. 
 pub names-cons : (p : ℕ) (q : SlotRequest) (qs : List SlotRequest) → names p (q ∷ qs) ≡ own_names p q + names p qs
 names-cons p q qs = sum_by-cons (own_names p) q qs
 
-pub unnamed-cases : (a p : ℕ) (b : Bool) → eqb a p ≡ b → cond {A = ℕ} b 1 0 ≡ 0 → a ≢ p
-unnamed-cases a p true t e = absurd (omega arith)
-unnamed-cases a p false t e = eqb-false a p t
-
 pub ask-away : (a p : ℕ) → ask_names p (Some a) ≡ 0 → a ≢ p
 ask-away a p e = unnamed-cases a p _ refl e
-
-pub unnamed-one : (a p : ℕ) → a ≢ p → cond {A = ℕ} (eqb a p) 1 0 ≡ 0
-unnamed-one a p other = ap (λ b. cond {A = ℕ} b 1 0) (ne_eqb a p other)
-
-pub named-one : (a p : ℕ) → a ≡ p → cond {A = ℕ} (eqb a p) 1 0 ≡ 1
-named-one a p same = ap (λ b. cond {A = ℕ} b 1 0) (eq-eqb a p same)
 
 -- where a place that a request doesn't name changed, the request is kept and shown as before
 module _ (p : ℕ) (pool new : Pool) (one : ChangesOne p pool new) where
@@ -69,7 +61,7 @@ module _ (p : ℕ) (pool new : Pool) (one : ChangesOne p pool new) where
       }
 
   pub kept-off : (q : SlotRequest) → own_names p q ≡ 0 → IsKept pool q → IsKept new q
-  kept-off q e kept = record { ask = ask-off q.size q.ask (omega (arith, e)) kept.ask; answer = answer-off q.answer (omega (arith, e)) kept.answer }
+  kept-off q e kept = record { ask = ask-off q.size (ask_of q.state) (omega (arith, e)) kept.ask; answer = answer-off (answer_of q.state) (omega (arith, e)) kept.answer }
 
   shown-answer : (o : Option Stored) → answer_names p o ≡ 0 → option_map (answer_in new) o ≡ option_map (answer_in pool) o
   shown-answer None e = refl
@@ -81,7 +73,7 @@ module _ (p : ℕ) (pool new : Pool) (one : ChangesOne p pool new) where
 
   pub shown-off : (q : SlotRequest) → own_names p q ≡ 0 → shown_request new q ≡ shown_request pool q
   shown-off q e =
-      rw (shown-ask q.taken q.ask (omega (arith, e)), shown-answer q.answer (omega (arith, e))) refl
+      rw (shown-ask q.taken (ask_of q.state) (omega (arith, e)), shown-answer (answer_of q.state) (omega (arith, e))) refl
 
   all-off : (qs : List SlotRequest) → names p qs ≡ 0 → AllByRecursion (IsKept pool) qs → AllByRecursion (IsKept new) qs
   all-off [] e all = tt
@@ -98,12 +90,6 @@ module _ (p : ℕ) (pool new : Pool) (one : ChangesOne p pool new) where
       let sum = names-cons p q qs in
       rw (shown-off q (omega (arith, sum, e)), map-off qs (omega (arith, sum, e))) refl
 
--- a place is not both full and empty
-full-empty : (u : Use) → is_full u ≡ true → is_empty u ≡ true → ⊥
-full-empty Empty full empty = cc
-full-empty (Full refs) full empty = cc
-full-empty Lent full empty = cc
-
 pub empty-other : (pool : Pool) (p q : ℕ) → IsFull pool q → is_empty (use_at pool p) ≡ true → q ≢ p
 empty-other pool p q full empty = λ same. full-empty (use_at pool p) (rw same at full) empty
 
@@ -118,20 +104,12 @@ ask-empty pool p size (Some a) empty kept = unnamed-one a p (empty-other pool p 
 
 pub own-empty : (pool : Pool) (p : ℕ) (q : SlotRequest) → is_empty (use_at pool p) ≡ true → IsKept pool q → own_names p q ≡ 0
 own-empty pool p q empty kept =
-    omega (arith, ask-empty pool p q.size q.ask empty kept.ask, answer-empty pool p q.answer empty kept.answer)
+    omega (arith, ask-empty pool p q.size (ask_of q.state) empty kept.ask, answer-empty pool p (answer_of q.state) empty kept.answer)
 
 pub names-empty : (pool : Pool) (p : ℕ) (qs : List SlotRequest) → is_empty (use_at pool p) ≡ true → AllByRecursion (IsKept pool) qs → names p qs ≡ 0
 names-empty pool p [] empty kept = refl
 names-empty pool p (q ∷ qs) empty kept =
     omega (arith, names-cons p q qs, names-empty pool p qs empty kept.1, own-empty pool p q empty kept.0)
-
--- a place that isn't named for a request is released: no request's bytes are there
-full-cases : (uses : List Use) (p q : ℕ) (u : Use) → is_full u ≡ true → is_full (get_or uses q Empty) ≡ true → is_full (get_or (set uses p u) q Empty) ≡ true
-full-cases uses p q u full was =
-    elim (cases_eq q p) [
-      | inl same ↦ (let within : p < length uses = rw same at (full_within uses q was) in rw same (ap is_full (changed_own uses p u Empty within) ∙ full))
-      | inr other ↦ ap is_full (changed_other uses p q u Empty other) ∙ was
-    ]
 
 answer-used : (pool : Pool) (p : ℕ) (u : Use) (o : Option Stored) → is_full u ≡ true → IfSome o (IsStored pool) → IfSome o (IsStored (record { uses = set pool.uses p u; bufs = pool.bufs }))
 answer-used pool p u None full kept = tt
@@ -149,7 +127,7 @@ ask-used pool p size u (Some a) full some kept =
     }
 
 kept-used : (pool : Pool) (p : ℕ) (u : Use) (q : SlotRequest) → is_full u ≡ true → 0 < refs_of pool p → IsKept pool q → IsKept (record { uses = set pool.uses p u; bufs = pool.bufs }) q
-kept-used pool p u q full some kept = record { ask = ask-used pool p q.size u q.ask full some kept.ask; answer = answer-used pool p u q.answer full kept.answer }
+kept-used pool p u q full some kept = record { ask = ask-used pool p q.size u (ask_of q.state) full some kept.ask; answer = answer-used pool p u (answer_of q.state) full kept.answer }
 
 all-released : (pool : Pool) (p : ℕ) (qs : List SlotRequest) → 0 < refs_of pool p → AllByRecursion (IsKept pool) qs → AllByRecursion (IsKept (released p pool)) qs
 all-released pool p [] some all = tt

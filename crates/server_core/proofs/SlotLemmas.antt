@@ -10,8 +10,9 @@ use Rattle.server_core.specs.declared.slot.SlotRequest.{SlotRequest}
 use Rattle.server_core.specs.Serving.{begun, gone_on, with_slots}
 use Rattle.server_core.specs.Session.{IsInTurn, IsSession, Session, is_in_slot, newest}
 use Rattle.server_core.proofs.ChangedLemmas.{count-own-without, count-without-less}
-use Rattle.server_core.proofs.ListLemmas.{all-append, count-fewer, counted-cons, found-own, sum-changed}
 use Rattle.server_core.proofs.PlaceLemmas.{all-back}
+use Rattle.rpc_base.proofs.FirstLemmas.{all-push, counted-cons, found-own, count-fewer}
+use Rattle.rpc_base.proofs.ChangedLemmas.{sum-changed}
 
 -- each number below eight is one of eight
 eight-of : (m : ℕ) → m < 8 → cond {A = ℕ} (eqb m 0) 1 0 + cond {A = ℕ} (eqb m 1) 1 0 + cond {A = ℕ} (eqb m 2) 1 0 + cond {A = ℕ} (eqb m 3) 1 0 + cond {A = ℕ} (eqb m 4) 1 0 + cond {A = ℕ} (eqb m 5) 1 0 + cond {A = ℕ} (eqb m 6) 1 0 + cond {A = ℕ} (eqb m 7) 1 0 ≡ 1
@@ -100,7 +101,7 @@ begun-session s d h turn = record {
         | inl here ↦ (let none : count_by (is_in_slot i) (without_first (is_in_slot (d.number % 8)) s.slots) ≡ 0 = ap (λ k. count_by (is_in_slot k) (without_first (is_in_slot (d.number % 8)) s.slots)) (sym here) ∙ none-left s h (d.number % 8) in omega (arith, sum, none, own, one-most (is_in_slot i d)))
         | inr away ↦ (let off : cond {A = ℕ} (is_in_slot i d) 1 0 ≡ 0 = ap (λ b. cond {A = ℕ} b 1 0) (ne_eqb (d.number % 8) i away) in omega (arith, sum, own, off, rest-apart s h (d.number % 8) i))
       ];
-  in_turn = all-append IsInTurn (without_first (is_in_slot (d.number % 8)) s.slots) d (rest-turn s h (d.number % 8)) turn;
+  in_turn = all-push IsInTurn (without_first (is_in_slot (d.number % 8)) s.slots) d (rest-turn s h (d.number % 8)) turn;
 }
   where
     one-most : (t : Bool) → cond {A = ℕ} t 1 0 ≤ 1

@@ -4,8 +4,7 @@ use Rattle.std.specs.Prelude.{IfSome, option_map}
 use Rattle.std.specs.List.{find}
 use Rattle.std.proofs.lemmas.List.Sums.{sum_by-append, sum_by-cons, sum_by-set}
 use Rattle.message_buffer.specs.Buffer.{Buffer}
-use Rattle.buffer_pool.specs.declared.usage.Use.{Use}
-use Rattle.buffer_pool.specs.declared.usage.Use.TheVariants.{Empty, Full, Lent}
+use Rattle.buffer_pool.specs.declared.usage.Use.TheVariants.{Empty, Full}
 use Rattle.buffer_pool.specs.Uses.{is_empty, is_full}
 use Rattle.buffer_pool.specs.Pool.{Pool, IsFull, emptied, filled, held, lowest_empty, refs_of, spare_of, use_at}
 use Rattle.buffer_pool.proofs.PoolLemmas.{changed_own, full_within}
@@ -16,25 +15,22 @@ use Rattle.server_core.specs.declared.slot.Stored.{Stored}
 use Rattle.server_core.specs.KeepsPool.{IsKept, IsStored, KeepsPool, KeepsSpare, answer_places, ask_places, own_places, places}
 use Rattle.server_core.specs.Replies.{held_at, place_of}
 use Rattle.server_core.specs.Serving.{begun, first_given, first_taken, given_up, gone_on, last_given, next_taken, without_answer, without_ask}
-use Rattle.server_core.specs.Session.{IsSession, Session, is_in_slot, newest}
+use Rattle.server_core.specs.Session.{IsSession, Session, answer_of, ask_of, is_in_slot, newest}
 use Rattle.server_core.proofs.ChangedLemmas.{without-none}
 use Rattle.server_core.proofs.GivenLemmas.{answer-full, ask-full}
-use Rattle.server_core.proofs.ListLemmas.{found-holds, sum-changed, sum-without}
-use Rattle.server_core.proofs.PlaceLemmas.{lowest-within, spare-filled, taken-out}
+use Rattle.server_core.proofs.PlaceLemmas.{lowest-within, taken-out}
 use Rattle.server_core.proofs.SlotLemmas.{most-slots}
-
-pub full-used : (u : Use) → is_full u ≡ true → cond {A = ℕ} (is_empty u) 1 0 ≡ 0
-full-used Empty full = cc
-full-used (Full refs) full = refl
-full-used Lent full = cc
+use Rattle.rpc_base.proofs.FirstLemmas.{found-holds}
+use Rattle.buffer_pool.proofs.CountLemmas.{spare_filled, full_used}
+use Rattle.rpc_base.proofs.ChangedLemmas.{sum-changed, sum-without}
 
 pub spare-emptied : (pool : Pool) (p : ℕ) → IsFull pool p → spare_of (emptied p pool) ≡ spare_of pool + 1
 spare-emptied pool p full =
-    omega (arith, sum_by-set (λ u. cond {A = ℕ} (is_empty u) 1 0) pool.uses p Empty Empty (full_within pool.uses p full), full-used (use_at pool p) full)
+    omega (arith, sum_by-set (λ u. cond {A = ℕ} (is_empty u) 1 0) pool.uses p Empty Empty (full_within pool.uses p full), full_used (use_at pool p) full)
 
 spare-held : (pool : Pool) (p : ℕ) → IsFull pool p → spare_of (held p pool) ≡ spare_of pool
 spare-held pool p full =
-    omega (arith, sum_by-set (λ u. cond {A = ℕ} (is_empty u) 1 0) pool.uses p (Full (refs_of pool p + 1)) Empty (full_within pool.uses p full), full-used (use_at pool p) full)
+    omega (arith, sum_by-set (λ u. cond {A = ℕ} (is_empty u) 1 0) pool.uses p (Full (refs_of pool p + 1)) Empty (full_within pool.uses p full), full_used (use_at pool p) full)
 
 -- the older request of a slot is given up
 spare-answer : (pool : Pool) (o : Option Stored) → IfSome o (λ a. IsFull pool a.place) → spare_of (without_answer o pool) ≡ spare_of pool + answer_places o
@@ -49,8 +45,8 @@ given-cases : (test : SlotRequest → Bool) (pool : Pool) (slots : List SlotRequ
 given-cases test pool slots None keeps e = rw (without-none test slots e) refl
 given-cases test pool slots (Some q) keeps e =
     let beside = taken-out pool test slots q e keeps in
-    let asked = spare-ask pool q.ask (ask-full pool q.size q.ask beside.own.ask).0 in
-    let answer = spare-answer (without_ask q.ask pool) q.answer (answer-full pool q (without_first test slots) beside) in
+    let asked = spare-ask pool (ask_of q.state) (ask-full pool q.size (ask_of q.state) beside.own.ask).0 in
+    let answer = spare-answer (without_ask (ask_of q.state) pool) (answer_of q.state) (answer-full pool q (without_first test slots) beside) in
     omega (arith, asked, answer, sum-without test q own_places slots e)
 
 -- a request begins
@@ -66,9 +62,9 @@ module _ (pool : Pool) (s : Session) (head : MessageHeader) (k : ℕ) (b : Buffe
   abbrev given : Pool
   given = given_up (newest head.request s) pool
 
-  pub first-spare : KeepsSpare s.slots (begun (first_taken head k None) s.slots) pool (filled k b given)
+  pub first-spare : KeepsSpare s.slots (begun (first_taken head k) s.slots) pool (filled k b given)
   first-spare =
-      omega (arith, given-cases (is_in_slot (head.request % 8)) pool s.slots (newest head.request s) keeps refl, spare-filled given k b lowest, begun-places s.slots (first_taken head k None))
+      omega (arith, given-cases (is_in_slot (head.request % 8)) pool s.slots (newest head.request s) keeps refl, spare_filled given k b lowest, begun-places s.slots (first_taken head k))
 
 -- a request goes on
 held-cases : (pool : Pool) (o : Option Stored) (b : Bool) → IfSome o (IsStored pool) → spare_of (held_at (cond b None (option_map (λ a. a.place) o)) pool) ≡ spare_of pool
@@ -81,21 +77,21 @@ module _ (pool : Pool) (s : Session) (q : SlotRequest) (r : ℕ) (keeps : KeepsP
   own-kept = found-holds (is_in_slot (r % 8)) (IsKept pool) s.slots q keeps.kept found
 
   pub held-spare : (k : ℕ) → KeepsSpare s.slots s.slots pool (held_at (place_of q k) pool)
-  held-spare k = ap (λ n. n + places s.slots) (held-cases pool q.answer _ own-kept.answer)
+  held-spare k = ap (λ n. n + places s.slots) (held-cases pool (answer_of q.state) _ own-kept.answer)
 
-  pub next-spare : q.number ≡ r → (k : ℕ) → KeepsSpare s.slots (gone_on (next_taken q.answer q) s.slots) pool (held_at (place_of q k) pool)
+  pub next-spare : q.number ≡ r → (k : ℕ) → KeepsSpare s.slots (gone_on (next_taken q) s.slots) pool (held_at (place_of q k) pool)
   next-spare number k =
       let at : find (is_in_slot (q.number % 8)) s.slots ≡ Some q = ap (λ n. newest n s) number ∙ found in
-      omega (arith, held-spare k, sum-changed (is_in_slot (q.number % 8)) q own_places (λ x. next_taken q.answer q) s.slots at)
+      omega (arith, held-spare k, sum-changed (is_in_slot (q.number % 8)) q own_places (λ x. next_taken q) s.slots at)
 
-  pub last-spare : (d : SlotRequest) → q.number ≡ r → d.number ≡ q.number → d.ask ≡ q.ask → q.answer ≡ None → (j : ℕ) (b : Buffer) (a : Stored) → d.answer ≡ Some a → lowest_empty pool ≡ Some j → a.place ≡ j → KeepsSpare s.slots (gone_on d s.slots) pool (held a.place (filled j b pool))
+  pub last-spare : (d : SlotRequest) → q.number ≡ r → d.number ≡ q.number → ask_of d.state ≡ (ask_of q.state) → answer_of q.state ≡ None → (j : ℕ) (b : Buffer) (a : Stored) → answer_of d.state ≡ Some a → lowest_empty pool ≡ Some j → a.place ≡ j → KeepsSpare s.slots (gone_on d s.slots) pool (held a.place (filled j b pool))
   last-spare d number same asked none j b a is lowest place =
       let at : find (is_in_slot (d.number % 8)) s.slots ≡ Some q = ap (λ n. newest n s) (same ∙ number) ∙ found in
       let full : IsFull (filled j b pool) a.place = rw place (ap is_full (changed_own pool.uses j (Full 0) Empty (lowest-within pool j lowest))) in
-      omega (arith, spare-filled pool j b lowest, spare-held (filled j b pool) a.place full, sum-changed (is_in_slot (d.number % 8)) q own_places (λ x. d) s.slots at, ap answer_places none, ap answer_places is, ap ask_places asked)
+      omega (arith, spare_filled pool j b lowest, spare-held (filled j b pool) a.place full, sum-changed (is_in_slot (d.number % 8)) q own_places (λ x. d) s.slots at, ap answer_places none, ap answer_places is, ap ask_places asked)
 
   -- it goes to a worker, with its bytes
-  pub last-given-spare : q.number ≡ r → q.answer ≡ None → (p : ℕ) → q.ask ≡ Some p → IsFull pool p → KeepsSpare s.slots (gone_on (last_given q) s.slots) pool (emptied p pool)
+  pub last-given-spare : q.number ≡ r → answer_of q.state ≡ None → (p : ℕ) → ask_of q.state ≡ Some p → IsFull pool p → KeepsSpare s.slots (gone_on (last_given q) s.slots) pool (emptied p pool)
   last-given-spare number none p is full =
       let at : find (is_in_slot (q.number % 8)) s.slots ≡ Some q = ap (λ n. newest n s) number ∙ found in
       omega (arith, spare-emptied pool p full, sum-changed (is_in_slot (q.number % 8)) q own_places (λ x. last_given q) s.slots at, ap answer_places none, ap ask_places is)
@@ -111,7 +107,7 @@ answer-most (Some a) = omega arith
 
 twice-most : (slots : List SlotRequest) → places slots ≤ 2 * length slots
 twice-most [] = omega arith
-twice-most (q ∷ qs) = omega (arith, sum_by-cons own_places q qs, ask-most q.ask, answer-most q.answer, twice-most qs)
+twice-most (q ∷ qs) = omega (arith, sum_by-cons own_places q qs, ask-most (ask_of q.state), answer-most (answer_of q.state), twice-most qs)
 
 pub places-most : (s : Session) → IsSession s → places s.slots ≤ 16
 places-most s h = omega (arith, twice-most s.slots, most-slots s h)

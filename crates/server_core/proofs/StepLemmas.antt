@@ -1,4 +1,6 @@
 -- A packet that is taken is the step of the definitions over histories.
+use Rattle.server_core.specs.declared.slot.SlotState.TheVariants.{Taking, Working, Answered}
+use Rattle.server_core.specs.declared.slot.SlotState.{SlotState}
 use Rattle.std.proofs.Common.{◌≡◌, ◌≢◌, ℕ, ◌+◌, ◌%◌, ◌<◌, ◌≤◌, Bool, true, false, eqb, Option, Some, None, List, [], ◌∷◌, ◌++◌, length, take, refl, sym, ap, ◌∙◌, inl, inr, arith}
 use Rattle.std.specs.Prelude.{IfSome, IsSome, option_map}
 use Rattle.std.specs.List.{find}
@@ -18,22 +20,26 @@ use Rattle.rpc_laws.specs.Requests.{answered, first_packet, given, in_slot_of, i
 use Rattle.server_core.specs.declared.slot.SlotRequest.{SlotRequest}
 use Rattle.server_core.specs.declared.slot.Stored.{Stored}
 use Rattle.server_core.specs.KeepsPool.{IsAsked, IsKept}
-use Rattle.rpc_laws.specs.ServerTable.{is_last, is_rfr}
-use Rattle.server_core.specs.Rows.{gives_job, is_past}
+use Rattle.rpc_laws.specs.ServerTable.{is_last, is_past_end, is_rfr, makes_job}
+use Rattle.server_core.specs.Rows.{as_newest}
 use Rattle.server_core.specs.Serving.{IsFirstPart, next_taken}
-use Rattle.server_core.specs.Session.{HasCome, IsInTurn, IsSession, Session, is_in_slot, newest}
-use Rattle.server_core.specs.Shown.{ask_in, message_in, shown, shown_request}
+use Rattle.server_core.specs.Session.{HasCome, IsInTurn, IsSession, Session, answer_of, ask_of, is_at_work, is_in_slot, newest}
+use Rattle.server_core.specs.Shown.{ask_in, shown, shown_request}
 use Rattle.server_core.specs.Steps.{asked_with, begun_with, bytes_with, first_shown, gave, gone_on_as, grown, ran, took}
-use Rattle.server_core.proofs.ChangedLemmas.{any-without, at_first-agree, at_first-last, at_first-twice, none-any, some-any}
-use Rattle.server_core.proofs.ListLemmas.{found-own, found-passes, found-shown}
-use Rattle.server_core.proofs.RowLemmas.{message-length}
+use Rattle.server_core.proofs.ChangedLemmas.{any-without, at_first-agree, at_first-last, at_first-twice}
+use Rattle.server_core.proofs.ListLemmas.{found-shown}
 use Rattle.server_core.proofs.SlotLemmas.{by-number}
+use Rattle.rpc_base.proofs.TakingLemmas.{find-passes}
+use Rattle.rpc_base.proofs.FirstLemmas.{found-own, found-any}
+use Rattle.rpc_base.proofs.FindLemmas.{missing-none}
+use Rattle.message_buffer.proofs.MessageLemmas.{message-length}
+use Rattle.message_buffer.specs.Messages.{message_in}
 
 -- no request has a number greater than the newest of its slot
 none-cases : (s : Session) (r : ℕ) (o : Option SlotRequest) → IsSession s → IfSome (newest r s) (λ q. q.number < r) → find (λ x. eqb x.number r) s.slots ≡ o → o ≡ None
 none-cases s r None h newer e = refl
 none-cases s r (Some q) h newer e =
-    let same = eqb-true q.number r (found-passes (λ x. eqb x.number r) s.slots q e) in
+    let same = eqb-true q.number r (find-passes (λ x. eqb x.number r) s.slots q e) in
     let slot = found-own (λ x. eqb x.number r) (is_in_slot (r % 8)) s.slots q (h.apart (r % 8)) e (eq-eqb (q.number % 8) (r % 8) (ap (λ n. n % 8) same)) in
     let less : q.number < r = rw slot at newer in
     absurd (omega (arith, less, same))
@@ -45,17 +51,17 @@ none-shown pool s r h newer =
 -- a request that begins
 pub took-begun : (v : Server) (h : MessageHeader) (body : List ℕ) → find (is_request h.request) v.slots ≡ None → took h body v ≡ begun_with (first_packet h.request h body) v ∷ []
 took-begun v h body none =
-    rw (eq-eqb v.way.number v.way.number refl, none-any (is_request h.request) v.slots none) refl
+    rw (eq-eqb v.way.number v.way.number refl, missing-none (is_request h.request) v.slots none) refl
 
 pub ran-begun : (v : Server) (h : MessageHeader) (body answer : List ℕ) → find (is_request h.request) v.slots ≡ None → ran h body answer v ≡ begun_with (answered answer (first_packet h.request h body)) v ∷ []
 ran-begun v h body answer none =
-    let rest = any-without (is_request h.request) (in_slot_of h.request) v.slots (none-any (is_request h.request) v.slots none) in
+    let rest = any-without (is_request h.request) (in_slot_of h.request) v.slots (missing-none (is_request h.request) v.slots none) in
     let last = at_first-last (is_request h.request) (answered answer) (first_packet h.request h body) (without_first (in_slot_of h.request) v.slots) rest (eq-eqb h.request h.request refl) in
     rw (took-begun v h body none, eq-eqb v.way.number v.way.number refl, last) refl
 
 pub gave-begun : (v : Server) (h : MessageHeader) (body : List ℕ) → find (is_request h.request) v.slots ≡ None → gave h body v ≡ begun_with (given (first_shown h [] None)) v ∷ []
 gave-begun v h body none =
-    let rest = any-without (is_request h.request) (in_slot_of h.request) v.slots (none-any (is_request h.request) v.slots none) in
+    let rest = any-without (is_request h.request) (in_slot_of h.request) v.slots (missing-none (is_request h.request) v.slots none) in
     let last = at_first-last (is_request h.request) given (first_packet h.request h body) (without_first (in_slot_of h.request) v.slots) rest (eq-eqb h.request h.request refl) in
     rw (took-begun v h body none, eq-eqb v.way.number v.way.number refl, last) refl
 
@@ -84,7 +90,7 @@ first-took h body b first long = rw (first-bytes h.size body b first long) refl
 -- a request that begins with its only packet, once its handler ran
 pub ran-whole : (v : Server) (h : MessageHeader) (body answer : List ℕ) → find (is_request h.request) v.slots ≡ None → ran h body answer v ≡ gone_on_as h.request (answered answer) (begun_with (given (first_shown h [] None)) v) ∷ []
 ran-whole v h body answer none =
-    let rest = any-without (is_request h.request) (in_slot_of h.request) v.slots (none-any (is_request h.request) v.slots none) in
+    let rest = any-without (is_request h.request) (in_slot_of h.request) v.slots (missing-none (is_request h.request) v.slots none) in
     let last = at_first-last (is_request h.request) (answered answer) (given (first_shown h [] None)) (without_first (in_slot_of h.request) v.slots) rest (eq-eqb h.request h.request refl) in
     ran-begun v h body answer none ∙ rw last refl
 
@@ -96,7 +102,7 @@ module _ (pool : Pool) (s : Session) (q : SlotRequest) (head : MessageHeader) (s
 
   took-next : (body : List ℕ) → took head body (shown pool s) ≡ gone_on_as head.request (next_packet body) (shown pool s) ∷ []
   took-next body =
-      rw (eq-eqb s.number s.number refl, some-any (is_request head.request) (shown pool s).slots (shown_request pool q) own-shown) refl
+      rw (eq-eqb s.number s.number refl, found-any (is_request head.request) (shown pool s).slots (shown_request pool q) own-shown) refl
 
   module _ (body bytes : List ℕ) (joined : (shown_request pool q).ask ++ body ≡ bytes) where
     agree : next_packet body (shown_request pool q) ≡ grown bytes (shown_request pool q)
@@ -137,60 +143,71 @@ more-cases pool size taken (Some p) kept behind =
 
 pub more-bytes : (pool : Pool) (q : SlotRequest) (body : List ℕ) → IsKept pool q → packet_count q.size ≤ q.taken → length body ≡ 0 → (shown_request pool q).ask ++ body ≡ bytes_with pool q
 more-bytes pool q body kept behind none =
-    rw (no-bytes body none) (append-nil (ask_in pool q.taken q.ask) ∙ more-cases pool q.size q.taken q.ask kept.ask behind)
+    rw (no-bytes body none) (append-nil (ask_in pool q.taken (ask_of q.state)) ∙ more-cases pool q.size q.taken (ask_of q.state) kept.ask behind)
 
 -- the bytes of a whole request
-pub whole-bytes : (pool : Pool) (q : SlotRequest) (p : ℕ) (b : Buffer) → IsKept pool q → q.ask ≡ Some p → buf_at pool p ≡ Some b → packet_count q.size ≤ q.taken + 1 → bytes_of b ≡ bytes_with pool q
+pub whole-bytes : (pool : Pool) (q : SlotRequest) (p : ℕ) (b : Buffer) → IsKept pool q → ask_of q.state ≡ Some p → buf_at pool p ≡ Some b → packet_count q.size ≤ q.taken + 1 → bytes_of b ≡ bytes_with pool q
 whole-bytes pool q p b kept is there behind =
     let asked : IsAsked pool q.size p = rw is at kept.ask in
     let long : length (bytes_of b) ≡ q.size = ap (λ o. length (message_in o)) (sym there) ∙ message-length (buf_at pool p) q.size asked.size_is in
     rw (is, there) (sym (front-whole (bytes_of b) (q.taken + 1) (omega (arith, ap packet_count long, behind))))
 
 -- the counts of a request with one packet more
-past-cases : (size taken : ℕ) (ask : Option ℕ) (working : Bool) (o : Option Stored) → HasCome size taken ask working o → is_past size o taken ≡ false → (working ≡ false) × HasCome size (taken + 1) ask working o
-past-cases size taken ask working None come there = cc
-past-cases size taken ask working (Some a) come there = (
-  come.1,
-  (
-    come.0,
-    come.1,
-    record {
-      answer = come.2.answer;
-      whole = omega (arith, come.2.whole);
-      known = omega (arith, leb-false (packet_count size + packet_count a.size) (taken + 1) there);
-    },
-  ),
+past-cases : (size taken : ℕ) (at : SlotState) → HasCome size taken at → is_past_end size (option_map (λ (a : Stored). a.size) (answer_of at)) taken ≡ false → (is_at_work at ≡ false) × HasCome size (taken + 1) at
+past-cases size taken (Taking p) come there = cc
+past-cases size taken Working come there = cc
+past-cases size taken (Answered a) come there = (
+  refl,
+  record {
+    answer = come.answer;
+    whole = omega (arith, come.whole);
+    known = omega (arith, leb-false (packet_count size + packet_count a.size) (taken + 1) there);
+  },
 )
 
-pub more-turn : (q : SlotRequest) → IsInTurn q → is_past q.size q.answer q.taken ≡ false → (q.working ≡ false) × IsInTurn (next_taken q.answer q)
-more-turn q turn there =
-    let parts = past-cases q.size q.taken q.ask q.working q.answer turn.come there in
-    (parts.0, record { size = turn.size; some = omega arith; come = parts.1 })
+pub past-idle : (q : SlotRequest) → IsInTurn q → is_past_end q.size (as_newest q).answer q.taken ≡ false → is_at_work q.state ≡ false
+past-idle q turn there = (past-cases q.size q.taken q.state turn.come there).0
+
+pub more-turn : (q : SlotRequest) → IsInTurn q → q.queued + 1 < 4294967295 → is_past_end q.size (as_newest q).answer q.taken ≡ false → IsInTurn (next_taken q)
+more-turn q turn room there = record {
+  size = turn.size;
+  some = omega arith;
+  come = (past-cases q.size q.taken q.state turn.come there).1;
+  few = λ none. room;
+}
 
 -- a request that takes its own packets
-pub record IsTaking (q : SlotRequest) : Type 0 where
-  pub none : q.answer ≡ None
-  pub idle : q.working ≡ false
-  pub some : IsSome q.ask
+taking-cases : (size taken : ℕ) (at : SlotState) → HasCome size taken at → taken < packet_count size → (p : ℕ) × (at ≡ Taking p)
+taking-cases size taken (Taking p) come early = (p, refl)
+taking-cases size taken Working come early = absurd (omega (arith, come, early))
+taking-cases size taken (Answered a) come early = absurd (omega (arith, come.whole, early))
 
-taking-cases : (size taken : ℕ) (ask : Option ℕ) (working : Bool) (o : Option Stored) → HasCome size taken ask working o → taken < packet_count size → (o ≡ None) × (working ≡ false) × IsSome ask
-taking-cases size taken ask working (Some a) come early = absurd (omega (arith, come.2.whole, early))
-taking-cases size taken ask true None come early = absurd (omega (arith, come.0, early))
-taking-cases size taken ask false None come early = (refl, refl, come.1)
+pub is-taking : (q : SlotRequest) → IsInTurn q → q.taken < packet_count q.size → (p : ℕ) × (q.state ≡ Taking p)
+is-taking q turn early = taking-cases q.size q.taken q.state turn.come early
 
-pub is-taking : (q : SlotRequest) → IsInTurn q → q.taken < packet_count q.size → IsTaking q
-is-taking q turn early =
-    let parts = taking-cases q.size q.taken q.ask q.working q.answer turn.come early in
-    record { none = parts.0; idle = parts.1; some = parts.2 }
+pub taking-by : (at : SlotState) (p : ℕ) → Some p ≡ ask_of at → at ≡ Taking p
+taking-by (Taking x) p e = cc
+taking-by Working p e = cc
+taking-by (Answered a) p e = cc
 
-pub part-turn : (q : SlotRequest) → IsInTurn q → q.taken + 1 < packet_count q.size → IsInTurn (next_taken q.answer q)
-part-turn q turn early =
-    let taking = is-taking q turn (omega (arith, early)) in
-    record { size = turn.size; some = omega arith; come = rw (taking.none, taking.idle) (early, taking.some) }
+pub at-work : (at : SlotState) → is_at_work at ≡ true → at ≡ Working
+at-work (Taking x) e = cc
+at-work Working e = refl
+at-work (Answered a) e = cc
 
-pub no-some : (o : Option ℕ) → o ≡ None → IsSome o → ⊥
-no-some None is some = cc
-no-some (Some p) is some = cc
+pub part-turn : (q : SlotRequest) → IsInTurn q → q.queued + 1 < 4294967295 → q.taken + 1 < packet_count q.size → IsInTurn (next_taken q)
+part-turn q turn room early =
+    let (p, taking) = is-taking q turn (omega (arith, early)) in
+    record { size = turn.size; some = omega arith; come = rw taking early; few = λ none. room }
+
+-- a request of which one packet more can be taken is at no worker
+idle-cases : (size taken : ℕ) (at : SlotState) → HasCome size taken at → HasCome size (taken + 1) at → is_at_work at ≡ false
+idle-cases size taken (Taking p) come next = refl
+idle-cases size taken Working come next = absurd (omega (arith, come, next))
+idle-cases size taken (Answered a) come next = refl
+
+pub next-idle : (q : SlotRequest) → IsInTurn q → IsInTurn (next_taken q) → is_at_work q.state ≡ false
+next-idle q turn next = idle-cases q.size q.taken q.state turn.come next.come
 
 -- a type that is served, and not by a worker
 pub is-inline : (mode : Mode) → mode ≢ Unserved → is_mode_background mode ≡ false → mode ≡ Inline
@@ -199,7 +216,7 @@ is-inline Background served other = cc
 is-inline Unserved served other = absurd (served refl)
 
 -- the last packet of a request whose handler runs inline
-pub last-inline : (mode : Mode) (h : MessageHeader) → is_rfr h.kind ≡ false → h.number + 1 ≡ packet_count h.size → is_mode_background mode ≡ false → (is_last h ≡ true) × (gives_job mode h ≡ false)
+pub last-inline : (mode : Mode) (h : MessageHeader) → is_rfr h.kind ≡ false → h.number + 1 ≡ packet_count h.size → is_mode_background mode ≡ false → (is_last h ≡ true) × (makes_job mode h ≡ false)
 last-inline mode h part last other =
     let is : is_last h ≡ true = rw (part, eq-eqb (h.number + 1) (packet_count h.size) last) refl in
     (is, rw (is, other) refl)

@@ -15,8 +15,10 @@ use Rattle.server_core.specs.Steps.{IsReply, gone_on_as}
 abbrev pub is_waiting : ℕ → Server → Bool
 is_waiting r v = is_working (find (is_request r) v.slots)
 
--- these bytes are the answer to the request that waits for them, and the entry is the reply to its last packet
-pub record IsFinished (r : ℕ) (bytes : List ℕ) (s w : Session) (before after : Pool) (e : EntryValue) : Type 0 where
+-- these bytes are the answer to the request that waits for them, and the entry is the reply to its
+-- last packet
+pub record IsFinished (r : ℕ) (bytes : List ℕ) (s w : Session) (before after : Pool)
+    (e : EntryValue) : Type 0 where
   pub waited : is_waiting r (shown before s) ≡ true
   pub shown_is : shown after w ≡ gone_on_as r (answered bytes) (shown before s)
   pub last : IfSome (newest r s) (λ q. e.number + 1 ≡ packet_count q.size)

@@ -1,5 +1,7 @@
--- The replies to an older request, which are taken out of the transmit ring before a newer one begins.
-use Rattle.std.specs.Prelude.{◌≡◌, ℕ, ◌%◌, ◌&&◌, ◌==◌, Bool, true, false, List, [], ◌∷◌, map, count_by, Option, Some, None, IfSome, IsSome, IsTrue, if◌then◌else◌}
+-- The replies to an older request, which are taken out of the transmit ring before a newer one
+-- begins.
+use Rattle.std.specs.Prelude.{◌≡◌, ℕ, ◌%◌, ◌&&◌, ◌==◌, Bool, true, false, List, [], ◌∷◌, map}
+use Rattle.std.specs.Prelude.{count_by, Option, Some, None, IfSome, IsSome, IsTrue, if◌then◌else◌}
 use Rattle.std.specs.List.{AllByRecursion, filter, list_any}
 use Rattle.buffer_pool.specs.Pool.{Pool, refs_of}
 use Rattle.packet_header.specs.Parts.{packet_count}
@@ -22,24 +24,19 @@ use Rattle.server_core.specs.declared.step.Step.{Step}
 use Rattle.server_core.specs.declared.step.Step.TheVariants.{Took, Again, Ran, Give, Dropped}
 use Rattle.server_core.specs.Replies.{IsReplyIn, is_owner}
 use Rattle.server_core.specs.Serving.{with_slots}
-use Rattle.server_core.specs.Session.{Session, is_in_slot, owner_of}
+use Rattle.server_core.specs.Session.{Session, answer_of, is_in_slot, owner_of}
 
 -- how many of an owner's entries name a place
 abbrev pub named_by : Owner → ℕ → List EntryValue → ℕ
 named_by owner p entries = count_by (λ e. is_of owner e && is_place p e.place) entries
 
--- a ring holds each reply to a request that is neither sent nor flushed: its entries are such replies, and
--- the answer has as many references as they name it
-pub record HoldsReplies (session : ℕ) (pool : Pool) (entries : List EntryValue) (q : SlotRequest) : Type 0 where
+-- a ring holds each reply to a request that is neither sent nor flushed: its entries are such
+-- replies, and the answer has as many references as they name it
+pub record HoldsReplies (session : ℕ) (pool : Pool) (entries : List EntryValue) (q : SlotRequest)
+    : Type 0 where
   pub each : AllByRecursion (λ e. IsTrue (is_of (owner_of session q) e) → IsReplyIn q e) entries
-  pub all : IfSome q.answer (λ a. refs_of pool a.place ≡ named_by (owner_of session q) a.place entries)
-
--- a request of one packet with an answer that no entry names: no reply to it is queued, since each has a part of
--- the answer
-pub record IsSent (pool : Pool) (q : SlotRequest) : Type 0 where
-  pub one : packet_count q.size ≡ 1
-  pub some : IsSome q.answer
-  pub none : IfSome q.answer (λ a. refs_of pool a.place ≡ 0)
+  pub all : IfSome (answer_of q.state)
+      (λ a. refs_of pool a.place ≡ named_by (owner_of session q) a.place entries)
 
 -- whether an entry is a reply of a session
 abbrev pub is_reply_of : ℕ → Owner → Bool
@@ -47,10 +44,13 @@ is_reply_of session (Reply t r) = session == t
 is_reply_of session (Ask t r) = false
 is_reply_of session Control = false
 
--- a list of entries holds each reply of a session that is neither sent nor flushed: each entry of the session is
--- a reply to one of its requests, and each answer has as many references as they name it
+-- a list of entries holds each reply of a session that is neither sent nor flushed: each entry of
+-- the session is a reply to one of its requests, and each answer has as many references as they
+-- name it
 pub record HoldsAll (s : Session) (pool : Pool) (entries : List EntryValue) : Type 0 where
-  pub own : AllByRecursion (λ e. IsTrue (is_reply_of s.number e.owner) → IsTrue (list_any (is_owner s.number e.owner) s.slots)) entries
+  pub own : AllByRecursion
+      (λ e. IsTrue (is_reply_of s.number e.owner)
+      → IsTrue (list_any (is_owner s.number e.owner) s.slots)) entries
   pub each : AllByRecursion (HoldsReplies s.number pool entries) s.slots
 
 -- a session without the newest request of the slot of r
@@ -83,7 +83,8 @@ bare who e = record { who = who; event = e; first = []; second = [] }
 abbrev pub flushed_facts : Who → ℕ → Option SlotRequest → List EntryValue → List Fact
 flushed_facts who session None entries = []
 flushed_facts who session (Some q) entries =
-    map (λ k. bare who (Flushed (owner_of session q) k)) (numbers_of (owner_of session q) (queued_of entries))
+    map (λ k. bare who (Flushed (owner_of session q) k))
+    (numbers_of (owner_of session q) (queued_of entries))
 
 -- whether a packet of this row, which did this, began a request: not where memory was wanting
 abbrev pub has_begun : ServerRow → Step → Bool
@@ -97,8 +98,11 @@ has_begun Repeats step = false
 has_begun (Drops why) step = false
 
 -- the ring after it, and the facts of what left the ring
-abbrev pub ring_after : ServerRow → Step → ℕ → Option SlotRequest → List EntryValue → List EntryValue
-ring_after row step session older entries = if has_begun row step then without_replies session older entries else entries
+abbrev pub ring_after : ServerRow → Step → ℕ → Option SlotRequest
+    → List EntryValue → List EntryValue
+ring_after row step session older entries =
+    if has_begun row step then without_replies session older entries else entries
 
 abbrev pub flushes : ServerRow → Step → Who → ℕ → Option SlotRequest → List EntryValue → List Fact
-flushes row step who session older entries = if has_begun row step then flushed_facts who session older entries else []
+flushes row step who session older entries =
+    if has_begun row step then flushed_facts who session older entries else []

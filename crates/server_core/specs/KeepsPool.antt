@@ -1,16 +1,15 @@
 -- What a session needs of the pool that it works on.
-use Rattle.std.specs.Prelude.{◌≡◌, ℕ, ◌+◌, ◌≤◌, ◌==◌, false, if◌then◌else◌, List, sum_by, Option, Some, None, IfSome}
+use Rattle.server_core.specs.Session.{ask_of, answer_of}
+use Rattle.std.specs.Prelude.{◌≡◌, ℕ, ◌+◌, ◌≤◌, ◌==◌, false, if◌then◌else◌, List, sum_by, Option}
+use Rattle.std.specs.Prelude.{Some, None, IfSome}
 use Rattle.std.specs.List.{AllByRecursion}
 use Rattle.message_buffer.specs.Buffer.{Buffer, capacity_of}
+use Rattle.buffer_pool.specs.Places.{LeavesUnnamed}
 use Rattle.buffer_pool.specs.Pool.{Pool, IsFull, buf_at, refs_of, spare_of, use_at}
 use Rattle.buffer_pool.specs.Uses.{is_empty}
 use Rattle.server_core.specs.declared.slot.Stored.{Stored}
 use Rattle.server_core.specs.declared.slot.SlotRequest.{SlotRequest}
-
--- the buffer of a message of this size
-abbrev pub HasSize : ℕ → Option Buffer → Type 0
-HasSize size None = ⊥
-HasSize size (Some b) = (b.len ≡ size) × (size ≤ capacity_of b)
+use Rattle.message_buffer.specs.Messages.{HasSize}
 
 -- the pool has the buffer of a message
 pub record IsStored (pool : Pool) (a : Stored) : Type 0 where
@@ -25,8 +24,8 @@ pub record IsAsked (pool : Pool) (size p : ℕ) : Type 0 where
 
 -- the pool has the request's buffer unless that went with a job, and the answer's once there is one
 pub record IsKept (pool : Pool) (q : SlotRequest) : Type 0 where
-  pub ask : IfSome q.ask (IsAsked pool q.size)
-  pub answer : IfSome q.answer (IsStored pool)
+  pub ask : IfSome (ask_of q.state) (IsAsked pool q.size)
+  pub answer : IfSome (answer_of q.state) (IsStored pool)
 
 -- how often a request's place is this one
 abbrev pub ask_names : ℕ → Option ℕ → ℕ
@@ -40,7 +39,7 @@ answer_names p (Some a) = if a.place == p then 1 else 0
 
 -- how often a request names a place
 abbrev pub own_names : ℕ → SlotRequest → ℕ
-own_names p q = ask_names p q.ask + answer_names p q.answer
+own_names p q = ask_names p (ask_of q.state) + answer_names p (answer_of q.state)
 
 abbrev pub names : ℕ → List SlotRequest → ℕ
 names p slots = sum_by (own_names p) slots
@@ -50,12 +49,13 @@ pub record KeepsPool (pool : Pool) (slots : List SlotRequest) : Type 0 where
   pub kept : AllByRecursion (IsKept pool) slots
   pub apart : (p : ℕ) → names p slots ≤ 1
 
--- a place with a use that no request of the session named is named by none of it then, and is as it was
+-- a place with a use that no request of the session named is named by none of it then, and is as it
+-- was
 abbrev pub LeavesOthers : (old new : List SlotRequest) → (before after : Pool) → Type 0
-LeavesOthers old new before after =
-    (p : ℕ) → names p old ≡ 0 → is_empty (use_at before p) ≡ false → (names p new ≡ 0) × (use_at after p ≡ use_at before p) × (buf_at after p ≡ buf_at before p)
+LeavesOthers = LeavesUnnamed names
 
--- how many places a request names: one unless its bytes went with a job, and one more from its answer on
+-- how many places a request names: one unless its bytes went with a job, and one more from its
+-- answer on
 abbrev pub ask_places : Option ℕ → ℕ
 ask_places None = 0
 ask_places (Some p) = 1
@@ -65,7 +65,7 @@ answer_places None = 0
 answer_places (Some a) = 1
 
 abbrev pub own_places : SlotRequest → ℕ
-own_places q = ask_places q.ask + answer_places q.answer
+own_places q = ask_places (ask_of q.state) + answer_places (answer_of q.state)
 
 -- how many those of a session name
 abbrev pub places : List SlotRequest → ℕ

@@ -2,7 +2,10 @@
 use Rattle.std.specs.Prelude.{◌≡◌, ◌≢◌, ℕ, Bool, List, [], ◌∷◌, ◌++◌, Option, Some}
 use Rattle.packet_header.specs.declared.packet.MessageHeader.{MessageHeader}
 use Rattle.packet_rings.specs.Values.{EntryValue}
-use Rattle.rpc_base.specs.declared.event.Event.TheVariants.{Posted, Took as TookEvent, Again as AgainEvent, Dropped as DroppedEvent, Given as GivenEvent, Ran as RanEvent}
+use Rattle.rpc_base.specs.declared.event.Event.TheVariants.{Posted, Took as TookEvent}
+use Rattle.rpc_base.specs.declared.event.Event.TheVariants.{Again as AgainEvent}
+use Rattle.rpc_base.specs.declared.event.Event.TheVariants.{Dropped as DroppedEvent}
+use Rattle.rpc_base.specs.declared.event.Event.TheVariants.{Given as GivenEvent, Ran as RanEvent}
 use Rattle.rpc_base.specs.declared.fact.Fact.{Fact}
 use Rattle.rpc_base.specs.declared.fact.Who.{Who}
 use Rattle.rpc_base.specs.declared.fact.Who.TheVariants.{Node}
@@ -18,17 +21,24 @@ use Rattle.rpc_outside.specs.declared.service.Mode.{Mode}
 use Rattle.server_core.specs.declared.step.Step.{Step}
 use Rattle.server_core.specs.declared.step.Step.TheVariants.{Took, Again, Ran, Give, Dropped}
 use Rattle.server_core.specs.Flushing.{bare, flushes, queued_of}
-use Rattle.server_core.specs.Session.{Session, newest}
+use Rattle.server_core.specs.Session.{Session, answer_of, newest}
 use Rattle.server_core.specs.Steps.{IfRan, IsAnswer, Steps, asked_with, gone_on_as}
 
--- the facts of a handler that ran after the packet. session is the session's number, ask all that was taken of the
--- request with the packet, and answer what its handler answered
+-- the facts of a handler that ran after the packet. session is the session's number, ask all that
+-- was taken of the request with the packet, and answer what its handler answered
 abbrev pub ran_facts : Who → (session : ℕ) → MessageHeader → (ask answer : List ℕ) → List Fact
 ran_facts who session h ask answer =
-    bare who (TookEvent (Reply session h.request) h.number) ∷ record { who = who; event = RanEvent session h.request h.req_type; first = ask; second = answer } ∷ []
+    bare who (TookEvent (Reply session h.request) h.number) ∷
+    record {
+      who = who;
+      event = RanEvent session h.request h.req_type;
+      first = ask;
+      second = answer;
+    } ∷ []
 
 -- the facts of a step before its last ones, which come once a handler ran, and the last ones
-abbrev pub first_facts : Who → (session : ℕ) → MessageHeader → (ask answer : List ℕ) → Step → List Fact
+abbrev pub first_facts : Who → (session : ℕ) → MessageHeader → (ask answer : List ℕ) → Step →
+    List Fact
 first_facts who session h ask answer (Took reply) = []
 first_facts who session h ask answer (Again reply) = []
 first_facts who session h ask answer (Ran reply) = ran_facts who session h ask answer
@@ -37,42 +47,64 @@ first_facts who session h ask answer (Dropped why) = []
 
 abbrev pub last_facts : Who → (session : ℕ) → MessageHeader → Step → List Fact
 last_facts who session h (Took reply) =
-    bare who (TookEvent (Reply session h.request) h.number) ∷ bare who (Posted (Reply session h.request) h.number) ∷ []
+    bare who (TookEvent (Reply session h.request) h.number) ∷
+    bare who (Posted (Reply session h.request) h.number) ∷ []
 last_facts who session h (Again reply) =
-    bare who (AgainEvent (Reply session h.request) h.number) ∷ bare who (Posted (Reply session h.request) h.number) ∷ []
+    bare who (AgainEvent (Reply session h.request) h.number) ∷
+    bare who (Posted (Reply session h.request) h.number) ∷ []
 last_facts who session h (Ran reply) = bare who (Posted (Reply session h.request) h.number) ∷ []
 last_facts who session h (Give parcel) =
-    bare who (TookEvent (Reply session h.request) h.number) ∷ bare who (GivenEvent session h.request) ∷ []
+    bare who (TookEvent (Reply session h.request) h.number) ∷
+    bare who (GivenEvent session h.request) ∷ []
 last_facts who session h (Dropped why) = bare who (DroppedEvent why) ∷ []
 
 -- all of them, in order
-abbrev pub step_facts : Who → (session : ℕ) → MessageHeader → (ask answer : List ℕ) → Step → List Fact
-step_facts who session h ask answer step = first_facts who session h ask answer step ++ last_facts who session h step
+abbrev pub step_facts : Who → (session : ℕ) → MessageHeader → (ask answer : List ℕ) → Step →
+    List Fact
+step_facts who session h ask answer step =
+    first_facts who session h ask answer step ++ last_facts who session h step
 
--- and those of the packet: where a request begins, the replies to the older one of its slot are flushed first
-abbrev pub packet_facts : Who → Session → List EntryValue → ServerRow → MessageHeader → (ask answer : List ℕ) → Step → List Fact
+-- and those of the packet: where a request begins, the replies to the older one of its slot are
+-- flushed first
+abbrev pub packet_facts : Who → Session → List EntryValue → ServerRow → MessageHeader →
+    (ask answer : List ℕ) → Step → List Fact
 packet_facts who s entries row h ask answer step =
-    flushes row step who s.number (newest h.request s) entries ++ step_facts who s.number h ask answer step
+    flushes row step who s.number (newest h.request s) entries ++
+    step_facts who s.number h ask answer step
 
 -- they are the facts of the server rule at a node, unless memory was wanting
-abbrev pub IsByRule : Mode → Session → List EntryValue → ServerRow → MessageHeader → (body : List ℕ) → Server → Step → Type 0
+abbrev pub IsByRule : Mode → Session → List EntryValue → ServerRow → MessageHeader →
+    (body : List ℕ) → Server → Step → Type 0
 IsByRule mode s entries row h body v step =
-    (me : ℕ) → (answer : List ℕ) → step ≢ Dropped NoMemory → packet_facts (Node me) s entries row h (asked_with h body v) answer step ≡ served_facts mode me answer (queued_of entries) (Some v) h body row
+    (me : ℕ) → (answer : List ℕ) → step ≢ Dropped NoMemory →
+    packet_facts (Node me) s entries row h (asked_with h body v) answer step
+    ≡ served_facts mode me answer (queued_of entries) (Some v) h body row
 
--- those that are noted while the packet is handled: of the replies that are flushed, and of a handler that runs
-abbrev pub early_facts : Who → Session → List EntryValue → ServerRow → MessageHeader → (ask answer : List ℕ) → Step → List Fact
+-- those that are noted while the packet is handled: of the replies that are flushed, and of a
+-- handler that runs
+abbrev pub early_facts : Who → Session → List EntryValue → ServerRow → MessageHeader →
+    (ask answer : List ℕ) → Step → List Fact
 early_facts who s entries row h ask answer step =
-    flushes row step who s.number (newest h.request s) entries ++ first_facts who s.number h ask answer step
+    flushes row step who s.number (newest h.request s) entries ++
+    first_facts who s.number h ask answer step
 
--- what a packet makes of the session, what is noted, and that the answer of a handler that ran is the service's
-pub record Handled {R : Type 0} (facts : R → Option (List Fact)) (whole : R → Bool) (before now : R) (noted : (answer : List ℕ) → List Fact) (answer_of : Served → ℕ → List ℕ → List ℕ) (stands after : Served → Type 0) (h : MessageHeader) (body : List ℕ) (v w : Server) (step : Step) : Type 0 where
+-- what a packet makes of the session, what is noted, and that the answer of a handler that ran is
+-- the service's
+pub record Handled {R : Type 0} (facts : R → Option (List Fact)) (whole : R → Bool) (before now : R)
+    (noted : (answer : List ℕ) → List Fact) (answer_of : Served → ℕ → List ℕ → List ℕ)
+    (stands after : Served → Type 0) (h : MessageHeader) (body : List ℕ) (v w : Server)
+    (step : Step) : Type 0 where
   pub answer : List ℕ
   pub steps : Steps step answer h body v w
-  pub by_service : IfRan step (IsAnswer answer_of stands after h.req_type (asked_with h body v) answer)
+  pub by_service :
+      IfRan step (IsAnswer answer_of stands after h.req_type (asked_with h body v) answer)
   pub grew : Grew facts whole before now (noted answer)
 
 -- a request that is taken with all its bytes is answered by its handler
-pub record IsServed {R : Type 0} (facts : R → Option (List Fact)) (whole : R → Bool) (before now : R) (who : Who) (session : ℕ) (answer_of : Served → ℕ → List ℕ → List ℕ) (stands after : Served → Type 0) (h : MessageHeader) (ask : List ℕ) (v w : Server) : Type 0 where
+pub record IsServed {R : Type 0} (facts : R → Option (List Fact)) (whole : R → Bool)
+    (before now : R) (who : Who) (session : ℕ) (answer_of : Served → ℕ → List ℕ → List ℕ)
+    (stands after : Served → Type 0) (h : MessageHeader) (ask : List ℕ) (v w : Server)
+    : Type 0 where
   pub answer : List ℕ
   pub shown_is : w ≡ gone_on_as h.request (answered answer) v
   pub by_service : IsAnswer answer_of stands after h.req_type ask answer

@@ -1,5 +1,6 @@
 -- The replies to the packets of a request: their entries, their headers and what is sent.
-use Rattle.std.specs.Prelude.{◌≡◌, ℕ, ◌+◌, ◌<◌, ◌==◌, ◌&&◌, nat_lt, Bool, false, not, List, Option, Some, None, option_and_then, option_map, IfSome, if◌then◌else◌}
+use Rattle.std.specs.Prelude.{◌≡◌, ℕ, ◌+◌, ◌<◌, ◌==◌, ◌&&◌, nat_lt, Bool, false, not, List, Option}
+use Rattle.std.specs.Prelude.{Some, None, option_and_then, option_map, IfSome, if◌then◌else◌}
 use Rattle.std.specs.List.{find}
 use Rattle.rpc_base.specs.declared.owner.Owner.{Owner}
 use Rattle.rpc_base.specs.declared.owner.Owner.TheVariants.{Ask, Reply, Control}
@@ -14,19 +15,23 @@ use Rattle.packet_rings.specs.Values.{EntryValue}
 use Rattle.rpc_laws.specs.declared.tables.Outgoing.{Outgoing}
 use Rattle.rpc_laws.specs.declared.tables.Server.{Server}
 use Rattle.rpc_laws.specs.Packets.{reply_packet}
+use Rattle.rpc_laws.specs.ServerTable.{is_worked_on}
 use Rattle.server_core.specs.declared.slot.Stored.{Stored}
 use Rattle.server_core.specs.declared.slot.SlotRequest.{SlotRequest}
-use Rattle.server_core.specs.Rows.{is_worked_on}
-use Rattle.server_core.specs.Session.{Session, newest, owner_of}
+use Rattle.server_core.specs.Rows.{as_newest}
+use Rattle.server_core.specs.Session.{Session, answer_of, newest, owner_of}
 use Rattle.server_core.specs.Shown.{shown}
 
 -- where the bytes of a reply are: a credit return has none
 abbrev pub place_of : SlotRequest → ℕ → Option ℕ
-place_of q k = if nat_lt (k + 1) (packet_count q.size) then None else option_map (λ a. a.place) q.answer
+place_of q k =
+    if nat_lt (k + 1) (packet_count q.size) then None
+    else option_map (λ a. a.place) (answer_of q.state)
 
 -- the entry of the reply to packet k of a request
 abbrev pub entry_at : (session peer k : ℕ) → SlotRequest → EntryValue
-entry_at session peer k q = record { owner = owner_of session q; number = k; place = place_of q k; peer = peer }
+entry_at session peer k q =
+    record { owner = owner_of session q; number = k; place = place_of q k; peer = peer }
 
 -- the size of the answer, once there is one
 abbrev pub answer_size : Option Stored → ℕ
@@ -36,8 +41,23 @@ answer_size (Some a) = a.size
 -- the header of that reply
 abbrev pub head_of : (client k : ℕ) → SlotRequest → MessageHeader
 head_of client k q =
-    if nat_lt (k + 1) (packet_count q.size) then record { kind = Cr; req_type = 0; size = 0; session = client; number = k; request = q.number }
-    else record { kind = Response; req_type = q.req_type; size = answer_size q.answer; session = client; number = k; request = q.number }
+    if nat_lt (k + 1) (packet_count q.size)
+    then record {
+      kind = Cr;
+      req_type = 0;
+      size = 0;
+      session = client;
+      number = k;
+      request = q.number;
+    }
+    else record {
+      kind = Response;
+      req_type = q.req_type;
+      size = answer_size (answer_of q.state);
+      session = client;
+      number = k;
+      request = q.number;
+    }
 
 -- whether an owner's packets are the replies to a request
 abbrev pub is_owner : ℕ → Owner → SlotRequest → Bool
@@ -47,10 +67,11 @@ is_owner session owner q = same_owner (owner_of session q) owner
 abbrev pub request_of : Session → EntryValue → Option SlotRequest
 request_of s e = find (is_owner s.number e.owner) s.slots
 
--- the entry is the reply to a packet of the request that was taken, and no worker has its answer yet
+-- the entry is the reply to a packet of the request that was taken, and no worker has its answer
+-- yet
 pub record IsReplyIn (q : SlotRequest) (e : EntryValue) : Type 0 where
   pub taken : e.number < q.taken
-  pub there : is_worked_on q e.number ≡ false
+  pub there : is_worked_on (as_newest q) e.number ≡ false
   pub place_is : e.place ≡ place_of q e.number
 
 abbrev pub IsReplyTo : Option SlotRequest → EntryValue → Type 0
@@ -59,7 +80,8 @@ IsReplyTo (Some q) e = IsReplyIn q e
 
 -- the packet of an owner, by the definitions over histories
 abbrev pub owner_reply : Owner → ℕ → Server → Option Outgoing
-owner_reply (Reply session r) k v = if v.way.number == session then reply_packet r k (Some v) else None
+owner_reply (Reply session r) k v =
+    if v.way.number == session then reply_packet r k (Some v) else None
 owner_reply (Ask session r) k v = None
 owner_reply Control k v = None
 
@@ -67,23 +89,21 @@ owner_reply Control k v = None
 abbrev pub packet_of : Pool → Session → EntryValue → Option Outgoing
 packet_of pool s e = owner_reply e.owner e.number (shown pool s)
 
--- the packet, whose fields are in their ranges, is sent with this header and body
-abbrev pub IsSpelled : Option Outgoing → (head body : List ℕ) → Type 0
-IsSpelled None head body = ⊥
-IsSpelled (Some o) head body = HasHead o.packet head × (body ≡ o.body) × InRange o.packet
-
--- one reference more can be counted to the answer
+-- one reply more can be queued: its reference to the answer can be counted, and itself
 abbrev pub CanHold : Pool → SlotRequest → Type 0
-CanHold pool q = IfSome q.answer (λ a. refs_of pool a.place < 4294967295)
+CanHold pool q =
+    IfSome (answer_of q.state) (λ a. refs_of pool a.place < 4294967295)
+    × (q.queued + 1 < 4294967295)
 
--- whether packet k of a request was taken and has its reply: where a worker has the request, that to its last
--- packet is to come
+-- whether packet k of a request was taken and has its reply: where a worker has the request, that
+-- to its last packet is to come
 abbrev pub has_reply : SlotRequest → ℕ → Bool
-has_reply q k = nat_lt k q.taken && not (is_worked_on q k)
+has_reply q k = nat_lt k q.taken && not (is_worked_on (as_newest q) k)
 
 -- the entry of the reply to packet k of a request, where there is one
 abbrev pub entry_if : (session peer r k : ℕ) → SlotRequest → Option EntryValue
-entry_if session peer r k q = if q.number == r && has_reply q k then Some (entry_at session peer k q) else None
+entry_if session peer r k q =
+    if q.number == r && has_reply q k then Some (entry_at session peer k q) else None
 
 -- that of the newest request of its slot, where it has this number
 abbrev pub taken_entry : (r k : ℕ) → Session → Option EntryValue

@@ -1,11 +1,15 @@
 -- The newest requests of one server session as its callers see them, and what always holds of them.
-use Rattle.std.specs.Prelude.{◌≡◌, ℕ, ◌+◌, ◌%◌, ◌<◌, ◌≤◌, ◌==◌, Bool, true, false, List, [], count_by, Option, Some, None, IsSome, option_map}
+use Rattle.std.specs.Prelude.{◌≡◌, ℕ, ◌+◌, ◌%◌, ◌<◌, ◌≤◌, ◌==◌, Bool, true, false, List, []}
+use Rattle.std.specs.Prelude.{count_by, Option, Some, None, IsSome, option_map}
 use Rattle.std.specs.List.{AllByRecursion, find}
 use Rattle.rpc_base.specs.declared.owner.Owner.{Owner}
 use Rattle.rpc_base.specs.declared.owner.Owner.TheVariants.{Reply}
-use Rattle.packet_header.specs.Parts.{packet_count}
+use Rattle.rpc_base.specs.declared.limits.TheConstants.{MOST_CREDITS, SESSION_NUMBERS}
+use Rattle.packet_header.specs.Parts.{packet_count, IsMessage}
 use Rattle.server_core.specs.declared.slot.Stored.{Stored}
 use Rattle.server_core.specs.declared.slot.SlotRequest.{SlotRequest}
+use Rattle.server_core.specs.declared.slot.SlotState.{SlotState}
+use Rattle.server_core.specs.declared.slot.SlotState.TheVariants.{Taking, Working, Answered}
 
 pub record Session : Type 0 where
   -- the session's number here and at the client, and the client's peer
@@ -24,9 +28,23 @@ is_in_slot i q = q.number % 8 == i
 abbrev pub newest : ℕ → Session → Option SlotRequest
 newest r s = find (is_in_slot (r % 8)) s.slots
 
--- a message has at most 1,048,576 bytes
-abbrev pub IsMessage : ℕ → Type 0
-IsMessage size = size ≤ 1048576
+-- where the pool has the bytes of a request, as long as packets of it are to come
+abbrev pub ask_of : SlotState → Option ℕ
+ask_of (Taking ask) = Some ask
+ask_of Working = None
+ask_of (Answered answer) = None
+
+-- whether a worker has it, or its handler runs
+abbrev pub is_at_work : SlotState → Bool
+is_at_work (Taking ask) = false
+is_at_work Working = true
+is_at_work (Answered answer) = false
+
+-- the answer, once it is there
+abbrev pub answer_of : SlotState → Option Stored
+answer_of (Taking ask) = None
+answer_of Working = None
+answer_of (Answered answer) = Some answer
 
 -- all packets of the request were taken, and no more than there are
 pub record IsAnswered (size taken answer_size : ℕ) : Type 0 where
@@ -34,34 +52,32 @@ pub record IsAnswered (size taken answer_size : ℕ) : Type 0 where
   pub whole : packet_count size ≤ taken
   pub known : taken + 1 ≤ packet_count size + packet_count answer_size
 
--- before its answer is there, a request takes its own packets, whose bytes are in the pool; or a worker has
--- it, with all its bytes
-abbrev pub IsOpen : (size taken : ℕ) → Option ℕ → (working : Bool) → Type 0
-IsOpen size taken ask true = (taken ≡ packet_count size) × (ask ≡ None)
-IsOpen size taken ask false = (taken < packet_count size) × IsSome ask
-
--- how far a request has come. Once its answer is there, its own bytes are given up
-abbrev pub HasCome : (size taken : ℕ) → Option ℕ → (working : Bool) → Option Stored → Type 0
-HasCome size taken ask working None = IsOpen size taken ask working
-HasCome size taken ask working (Some a) = (ask ≡ None) × (working ≡ false) × IsAnswered size taken a.size
+-- how far a request has come
+abbrev pub HasCome : (size taken : ℕ) → SlotState → Type 0
+HasCome size taken (Taking ask) = taken < packet_count size
+HasCome size taken Working = taken ≡ packet_count size
+HasCome size taken (Answered answer) = IsAnswered size taken answer.size
 
 -- the packets of a request are taken in turn
 pub record IsInTurn (q : SlotRequest) : Type 0 where
   pub size : IsMessage q.size
   pub some : 1 ≤ q.taken
-  pub come : HasCome q.size q.taken q.ask q.working q.answer
+  pub come : HasCome q.size q.taken q.state
+  -- before its answer is there, one reply more can be counted
+  pub few : answer_of q.state ≡ None → q.queued < 4294967295
 
 -- a slot has one newest request
 pub record IsSession (s : Session) : Type 0 where
-  pub number : s.number < 65535
-  pub client : s.client < 65535
-  pub few : s.credits ≤ 256
+  pub number : s.number < SESSION_NUMBERS
+  pub client : s.client < SESSION_NUMBERS
+  pub few : s.credits ≤ MOST_CREDITS
   pub apart : (i : ℕ) → count_by (is_in_slot i) s.slots ≤ 1
   pub in_turn : AllByRecursion IsInTurn s.slots
 
 -- no request began
 abbrev pub new_session : (number client peer credits : ℕ) → Session
-new_session number client peer credits = record { number = number; client = client; peer = peer; credits = credits; slots = [] }
+new_session number client peer credits =
+    record { number = number; client = client; peer = peer; credits = credits; slots = [] }
 
 -- whose packets the replies to a request are
 abbrev pub owner_of : ℕ → SlotRequest → Owner

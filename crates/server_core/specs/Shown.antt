@@ -9,12 +9,8 @@ use Rattle.rpc_laws.specs.declared.tables.Way.{Way}
 use Rattle.rpc_laws.specs.Requests.{servers_after}
 use Rattle.server_core.specs.declared.slot.Stored.{Stored}
 use Rattle.server_core.specs.declared.slot.SlotRequest.{SlotRequest}
-use Rattle.server_core.specs.Session.{Session}
-
--- the message in a buffer
-abbrev pub message_in : Option Buffer → List ℕ
-message_in None = []
-message_in (Some b) = bytes_of b
+use Rattle.server_core.specs.Session.{Session, answer_of, ask_of, is_at_work}
+use Rattle.message_buffer.specs.Messages.{message_in}
 
 -- what never changes of the session
 abbrev pub way_of : Session → Way
@@ -36,15 +32,17 @@ shown_request pool q = record {
   req_type = q.req_type;
   size = q.size;
   taken = q.taken;
-  ask = ask_in pool q.taken q.ask;
-  working = q.working;
-  answer = option_map (answer_in pool) q.answer;
+  ask = ask_in pool q.taken (ask_of q.state);
+  working = is_at_work q.state;
+  answer = option_map (answer_in pool) (answer_of q.state);
 }
 
 -- the whole session
 abbrev pub shown : Pool → Session → Server
-shown pool s = record { way = way_of s; credits = s.credits; slots = map (shown_request pool) s.slots }
+shown pool s =
+    record { way = way_of s; credits = s.credits; slots = map (shown_request pool) s.slots }
 
 -- the session is opened
 abbrev pub paired : (number client peer credits : ℕ) → List Server
-paired number client peer credits = servers_after (PairedServer number peer client credits) [] None [] []
+paired number client peer credits =
+    servers_after (PairedServer number peer client credits) [] None [] []

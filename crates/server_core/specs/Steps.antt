@@ -1,12 +1,16 @@
--- What a Request or RFR, or a finished job, does to a session, in the words of the definitions over histories.
-use Rattle.std.specs.Prelude.{◌≡◌, ◌≢◌, ℕ, ◌+◌, ◌<◌, ◌≤◌, Bool, true, false, List, [], ◌∷◌, ◌++◌, length, take, Option, Some, None, IfSome}
+-- What a Request or RFR, or a finished job, does to a session, in the words of the definitions over
+-- histories.
+use Rattle.std.specs.Prelude.{◌≡◌, ◌≢◌, ℕ, ◌+◌, ◌<◌, ◌≤◌, Bool, true, false, List, [], ◌∷◌, ◌++◌}
+use Rattle.std.specs.Prelude.{length, take, Option, Some, None, IfSome}
 use Rattle.std.specs.List.{AllByRecursion}
 use Rattle.rpc_base.specs.Tables.{at_first, without_first}
-use Rattle.rpc_base.specs.declared.event.Event.TheVariants.{Took as TookEvent, Given as GivenEvent, Ran as RanEvent}
+use Rattle.rpc_base.specs.declared.event.Event.TheVariants.{Took as TookEvent, Given as GivenEvent}
+use Rattle.rpc_base.specs.declared.event.Event.TheVariants.{Ran as RanEvent}
 use Rattle.rpc_base.specs.declared.owner.Owner.TheVariants.{Reply}
 use Rattle.rpc_base.specs.declared.state.DropReason.TheVariants.{NoMemory}
+use Rattle.packet_header.specs.Kinds.{is_asking, is_last, is_rfr}
 use Rattle.packet_header.specs.Header.{MessageInRange, MessageLength}
-use Rattle.packet_header.specs.Parts.{packet_count, part_size}
+use Rattle.packet_header.specs.Parts.{packet_count, part_size, IsMessage}
 use Rattle.packet_header.specs.declared.packet.MessageHeader.{MessageHeader}
 use Rattle.message_buffer.specs.Buffer.{bytes_of}
 use Rattle.buffer_pool.specs.Pool.{Pool}
@@ -16,7 +20,7 @@ use Rattle.rpc_laws.specs.declared.rows.ServerRow.TheVariants.{Drops, Begins, Ta
 use Rattle.rpc_laws.specs.declared.tables.Server.{Server}
 use Rattle.rpc_laws.specs.declared.tables.Served.{Served as ServedRequest}
 use Rattle.rpc_laws.specs.Requests.{in_slot_of, is_request, servers_after}
-use Rattle.rpc_laws.specs.ServerTable.{is_last, is_rfr, whole_ask}
+use Rattle.rpc_laws.specs.ServerTable.{is_past_end, is_worked_on, makes_job, whole_ask}
 use Rattle.rpc_outside.specs.Served.{Served}
 use Rattle.rpc_outside.specs.declared.service.Mode.{Mode}
 use Rattle.rpc_outside.specs.declared.service.Mode.TheVariants.{Unserved}
@@ -25,8 +29,9 @@ use Rattle.server_core.specs.declared.slot.SlotRequest.{SlotRequest}
 use Rattle.server_core.specs.declared.step.Step.{Step}
 use Rattle.server_core.specs.declared.step.Step.TheVariants.{Took, Again, Ran, Give, Dropped}
 use Rattle.server_core.specs.Replies.{IsHeld, IsReplyTo, request_of}
-use Rattle.server_core.specs.Rows.{gives_job, is_asking, is_past, is_worked_on}
-use Rattle.server_core.specs.Session.{IsMessage, Session, newest}
+use Rattle.server_core.specs.Counting.{repeated}
+use Rattle.server_core.specs.Rows.{as_newest}
+use Rattle.server_core.specs.Session.{Session, answer_of, ask_of, newest}
 use Rattle.server_core.specs.Shown.{ask_in}
 
 -- a Request or RFR of the session, with the fields and the body of such a packet
@@ -53,17 +58,19 @@ IsAgain (Dropped why) = ⊥
 -- the step is the row's. Memory is wanted for a request that begins, and for an answer
 abbrev pub IsStepOf : Mode → MessageHeader → ServerRow → Step → Type 0
 IsStepOf mode h (Drops why) step = step ≡ Dropped why
-IsStepOf mode h Begins step = HasTaken (is_last h) (gives_job mode h) true step
-IsStepOf mode h Takes step = HasTaken (is_last h) (gives_job mode h) (is_last h) step
+IsStepOf mode h Begins step = HasTaken (is_last h) (makes_job mode h) true step
+IsStepOf mode h Takes step = HasTaken (is_last h) (makes_job mode h) (is_last h) step
 IsStepOf mode h Repeats step = IsAgain step
 
 -- the session once the packet was taken
 abbrev pub took : MessageHeader → List ℕ → Server → List Server
-took h body v = servers_after (TookEvent (Reply v.way.number h.request) h.number) [] (Some h) body (v ∷ [])
+took h body v =
+    servers_after (TookEvent (Reply v.way.number h.request) h.number) [] (Some h) body (v ∷ [])
 
 -- and once its request's handler ran, with this answer
 abbrev pub ran : MessageHeader → List ℕ → (answer : List ℕ) → Server → List Server
-ran h body answer v = servers_after (RanEvent v.way.number h.request h.req_type) answer None [] (took h body v)
+ran h body answer v =
+    servers_after (RanEvent v.way.number h.request h.req_type) answer None [] (took h body v)
 
 -- and once it was given to a worker
 abbrev pub gave : MessageHeader → List ℕ → Server → List Server
@@ -81,11 +88,13 @@ Steps (Ran reply) answer h body v w = ran h body answer v ≡ w ∷ []
 Steps (Give parcel) answer h body v w = gave h body v ≡ w ∷ []
 Steps (Dropped why) answer h body v w = w ≡ v
 
--- a handler's answer to a request, for each list of served requests that the service stands for: it stands for
--- one request more then
-abbrev pub IsAnswer : (Served → ℕ → List ℕ → List ℕ) → (stands after : Served → Type 0) → ℕ → (ask answer : List ℕ) → Type 0
+-- a handler's answer to a request, for each list of served requests that the service stands for: it
+-- stands for one request more then
+abbrev pub IsAnswer : (Served → ℕ → List ℕ → List ℕ) → (stands after : Served → Type 0) → ℕ
+    → (ask answer : List ℕ) → Type 0
 IsAnswer answer_of stands after req_type ask answer =
-    (served : Served) → stands served → (answer ≡ answer_of served req_type ask) × after (served ++ (req_type, ask) ∷ [])
+    (served : Served) → stands served
+    → (answer ≡ answer_of served req_type ask) × after (served ++ (req_type, ask) ∷ [])
 
 -- where a handler ran, the answer is its own
 abbrev pub IfRan : Step → Type 0 → Type 0
@@ -95,26 +104,29 @@ IfRan (Ran reply) claim = claim
 IfRan (Give parcel) claim = Unit {0}
 IfRan (Dropped why) claim = Unit {0}
 
--- a packet that is dropped leaves the pool as it was. Where memory was wanting for an answer, the bytes of the
--- packet may stand in its request's buffer already, behind those that were taken
+-- a packet that is dropped leaves the pool as it was. Where memory was wanting for an answer, the
+-- bytes of the packet may stand in its request's buffer already, behind those that were taken
 abbrev pub LeavesPool : Step → (before after : Pool) → Type 0
 LeavesPool (Took reply) before after = Unit {0}
 LeavesPool (Again reply) before after = Unit {0}
 LeavesPool (Ran reply) before after = Unit {0}
 LeavesPool (Give parcel) before after = Unit {0}
-LeavesPool (Dropped why) before after = (after.uses ≡ before.uses) × (why ≢ NoMemory → after ≡ before)
+LeavesPool (Dropped why) before after =
+    (after.uses ≡ before.uses) × (why ≢ NoMemory → after ≡ before)
 
 -- a request names no buffer of its bytes
 abbrev pub HasNoBytes : Option SlotRequest → Type 0
-HasNoBytes o = IfSome o (λ q. q.ask ≡ None)
+HasNoBytes o = IfSome o (λ q. ask_of q.state ≡ None)
 
 -- a parcel has the whole request, and room for its answer
-pub record IsParcel (answer : Served → ℕ → List ℕ → List ℕ) (stands : Served → Type 0) (h : MessageHeader) (body : List ℕ) (v : Server) (p : Parcel) : Type 0 where
+pub record IsParcel (answer : Served → ℕ → List ℕ → List ℕ) (stands : Served → Type 0)
+    (h : MessageHeader) (body : List ℕ) (v : Server) (p : Parcel) : Type 0 where
   pub session : p.session ≡ v.way.number
   pub request : p.request ≡ h.request
   pub req_type : p.req_type ≡ h.req_type
   pub ask : bytes_of p.ask ≡ asked_with h body v
-  pub room : (served : Served) → stands served → length (answer served p.req_type (bytes_of p.ask)) ≡ p.out.len
+  pub room : (served : Served) → stands served
+      → length (answer served p.req_type (bytes_of p.ask)) ≡ p.out.len
   pub most : IsMessage p.out.len
 
 -- a claim of the parcel, where one is given
@@ -133,13 +145,14 @@ UnlessRan (Ran reply) claim = Unit {0}
 UnlessRan (Give parcel) claim = claim
 UnlessRan (Dropped why) claim = claim
 
--- what holds unless a packet was taken
-abbrev pub UnlessTaken : Step → Type 0 → Type 0
-UnlessTaken (Took reply) claim = Unit {0}
-UnlessTaken (Again reply) claim = claim
-UnlessTaken (Ran reply) claim = Unit {0}
-UnlessTaken (Give parcel) claim = Unit {0}
-UnlessTaken (Dropped why) claim = claim
+-- a packet that is dropped leaves the session as it was. One that was taken before has one reply
+-- more queued
+abbrev pub LeavesSession : Step → (r : ℕ) → (before after : Session) → Type 0
+LeavesSession (Took reply) r before after = Unit {0}
+LeavesSession (Again reply) r before after = after ≡ repeated r before
+LeavesSession (Ran reply) r before after = Unit {0}
+LeavesSession (Give parcel) r before after = Unit {0}
+LeavesSession (Dropped why) r before after = after ≡ before
 
 -- a claim of the reply: a packet that was taken has one, unless its request was given to a worker
 abbrev pub IfReply : Step → (EntryValue → Type 0) → Type 0
@@ -176,7 +189,7 @@ pub record IsPart (h : MessageHeader) (body_len : ℕ) (q : SlotRequest) : Type 
 -- it asks for the next part of the answer, which is there
 pub record IsMore (h : MessageHeader) (body_len : ℕ) (q : SlotRequest) : Type 0 where
   pub behind : packet_count q.size ≤ h.number
-  pub there : is_past q.size q.answer h.number ≡ false
+  pub there : is_past_end q.size (as_newest q).answer h.number ≡ false
   pub none : body_len ≡ 0
 
 -- the packet is the next one of a request
@@ -196,7 +209,15 @@ AreServed mode_of slots = AllByRecursion (λ q. mode_of q.req_type ≢ Unserved)
 
 -- a request as it begins, with the bytes of its buffer
 abbrev pub first_shown : MessageHeader → List ℕ → Option (List ℕ) → ServedRequest
-first_shown h bytes answer = record { number = h.request; req_type = h.req_type; size = h.size; taken = 1; ask = take 1024 bytes; working = false; answer = answer }
+first_shown h bytes answer = record {
+  number = h.request;
+  req_type = h.req_type;
+  size = h.size;
+  taken = 1;
+  ask = take 1024 bytes;
+  working = false;
+  answer = answer;
+}
 
 -- it stands behind all others, and the older one of its slot is gone
 abbrev pub begun_with : ServedRequest → Server → Server
@@ -212,13 +233,13 @@ gone_on_as r change v = record v { slots = at_first (is_request r) change v.slot
 
 -- the bytes of a request with one packet more than were taken
 abbrev pub bytes_with : Pool → SlotRequest → List ℕ
-bytes_with pool q = ask_in pool (q.taken + 1) q.ask
+bytes_with pool q = ask_in pool (q.taken + 1) (ask_of q.state)
 
 -- the packet was taken before, and has its reply
 pub record IsTakenIn (h : MessageHeader) (q : SlotRequest) : Type 0 where
   pub same : q.number ≡ h.request
   pub taken : h.number < q.taken
-  pub there : is_worked_on q h.number ≡ false
+  pub there : is_worked_on (as_newest q) h.number ≡ false
 
 abbrev pub IsTakenBefore : MessageHeader → Option SlotRequest → Type 0
 IsTakenBefore h None = ⊥

@@ -1,14 +1,14 @@
-//! The buffers of a request and of its answer, made before anything else changes: the want of memory
-//! leaves all as it was.
+//! The buffers of a request and of its answer, made before anything else changes: the want of
+//! memory leaves all as it was.
 ghost use Rattle.std.specs.Prelude.{◌≡◌, ◌≢◌, ◌≤◌, ◌++◌, ◌∷◌, [], length, take, IfOk};
 ghost use Rattle.message_buffer.specs.Buffer.{bytes_of, capacity_of};
 ghost use Rattle.rpc_outside.specs.declared.service.Mode.TheVariants.{Inline, Unserved};
 ghost use Rattle.rpc_outside.specs.Served.{Served};
 ghost use Rattle.server_core.specs.Serving.{IsFirstPart};
-ghost use Rattle.server_core.specs.Session.{IsMessage};
+ghost use Rattle.packet_header.specs.Parts.{IsMessage};
 
 use message_buffer::MsgBuf;
-use rpc_base::NoMemory;
+use rpc_base::{MOST_MESSAGE_BYTES, NoMemory};
 use rpc_outside::Service;
 use std::alloc::Global;
 
@@ -32,9 +32,10 @@ pub(crate) fn make_room<V: Service>(
     ask: &[u8],
 ) -> Result<MsgBuf, NoMemory>
     requires served { V.mode_of req_type ≢ Unserved }
-    requires message { length ask.now ≤ 1048576 }
+    requires message { length ask.now ≤ MOST_MESSAGE_BYTES }
     ensures message { IfOk result (λ b. IsMessage b.len × (b.len ≤ capacity_of b)) }
-    ensures room { IfOk result (λ b. (served : Served) → V.stands service.now served → length (V.answer served req_type ask.now) ≡ b.len) }
+    ensures room { IfOk result (λ b. (served : Served) → V.stands service.now served →
+        length (V.answer served req_type ask.now) ≡ b.len) }
 {
     let room = service.room(req_type, ask);
     let mut answer = MsgBuf::new(alloc, room)?;
@@ -42,14 +43,18 @@ pub(crate) fn make_room<V: Service>(
     Ok(answer)
 }
 
-/// Runs the handler of a type that is handled inline, and gives its answer in the buffer that was made for it.
+/// Runs the handler of a type that is handled inline, and gives its answer in the buffer that was
+/// made for it.
 pub(crate) fn serve<V: Service>(service: &mut V, req_type: u8, ask: &[u8], room: MsgBuf) -> MsgBuf
     requires inline { V.mode_of req_type ≡ Inline }
     requires message { IsMessage room.len × (room.len ≤ capacity_of room) }
-    requires room { (served : Served) → V.stands service.old served → length (V.answer served req_type ask.now) ≡ room.len }
+    requires room { (served : Served) → V.stands service.old served →
+        length (V.answer served req_type ask.now) ≡ room.len }
     ensures message { IsMessage result.len × (result.len ≤ capacity_of result) }
-    ensures answer { (served : Served) → V.stands service.old served → bytes_of result ≡ V.answer served req_type ask.now }
-    ensures next { (served : Served) → V.stands service.old served → V.stands service.new (served ++ (req_type, ask.now) ∷ []) }
+    ensures answer { (served : Served) → V.stands service.old served →
+        bytes_of result ≡ V.answer served req_type ask.now }
+    ensures next { (served : Served) → V.stands service.old served →
+        V.stands service.new (served ++ (req_type, ask.now) ∷ []) }
 {
     let mut answer = room;
     service.serve(req_type, ask, answer.whole_mut());

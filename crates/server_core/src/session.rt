@@ -1,6 +1,7 @@
 //! A server session.
 ghost use Rattle.std.specs.Prelude.{◌≡◌, ◌<◌, ◌≤◌, [], ◌∷◌};
 ghost use Rattle.buffer_pool.specs.Pool.{Pool};
+ghost use Rattle.server_core.specs.Counting.{CountsQueued};
 ghost use Rattle.server_core.specs.Flushing.{HoldsAll};
 ghost use Rattle.server_core.specs.KeepsPool.{KeepsPool};
 ghost use Rattle.server_core.specs.Session.{IsSession, new_session, owner_in};
@@ -18,11 +19,11 @@ mod serving;
 mod taking;
 
 use crate::slots::Slots;
-use rpc_base::{Owner, Peer, SessionNo};
+use rpc_base::{MOST_CREDITS, Owner, Peer, SESSION_NUMBERS, SessionNo};
 use std::marker::Model;
 
-/// The newest requests of one server session. Contracts see its numbers, its peer, its credits and the
-/// newest request of each slot, in the order in which they began.
+/// The newest requests of one server session. Contracts see its numbers, its peer, its credits and
+/// the newest request of each slot, in the order in which they began.
 #[derive(Drop)]
 pub struct ServerSession {
     number: SessionNo,
@@ -37,22 +38,35 @@ impl Model for ServerSession {
 
     ghost Value = { Session };
 
-    ghost view = { λ s. record { number = s.number; client = s.client; peer = s.peer; credits = s.credits; slots = s.slots } };
+    ghost view = { λ s. record {
+      number = s.number;
+      client = s.client;
+      peer = s.peer;
+      credits = s.credits;
+      slots = s.slots;
+    } };
 
-    ghost invariant = { λ s. IsSession (record { number = s.number; client = s.client; peer = s.peer; credits = s.credits; slots = s.slots }) };
+    ghost invariant = { λ s. IsSession (record {
+      number = s.number;
+      client = s.client;
+      peer = s.peer;
+      credits = s.credits;
+      slots = s.slots;
+    }) };
 }
 
 impl ServerSession {
-    /// A session in which no request began, by its number here and at the client, each below 65,535,
-    /// with the client's peer and 1 to 256 credits.
+    /// A session in which no request began, by its number here and at the client, each below
+    /// 65,535, with the client's peer and 1 to 256 credits.
     pub fn new(session: SessionNo, client: SessionNo, peer: Peer, credits: u16) -> ServerSession
-        requires session { session < 65535 }
-        requires client { client < 65535 }
+        requires session { session < SESSION_NUMBERS }
+        requires client { client < SESSION_NUMBERS }
         requires some { 1 ≤ credits }
-        requires most { credits ≤ 256 }
+        requires most { credits ≤ MOST_CREDITS }
         ensures session { result ≡ new_session session client peer credits }
         ensures keeps_pool { (pool : Pool) → KeepsPool pool result.slots }
         ensures holds { (pool : Pool) → HoldsAll result pool [] }
+        ensures queued { CountsQueued result [] }
         ensures step { (pool : Pool) → paired session client peer credits ≡ shown pool result ∷ [] }
     {
         ServerSession {
@@ -92,8 +106,8 @@ impl ServerSession {
         self.credits
     }
 
-    /// Whose packets the replies to the newest request of a slot, 0 to 7, are. None comes exactly where
-    /// no request began there.
+    /// Whose packets the replies to the newest request of a slot, 0 to 7, are. None comes exactly
+    /// where no request began there.
     pub fn owner(&self, slot: u8) -> Option<Owner>
         requires { slot < 8 }
         ensures { result ≡ owner_in slot self.now }

@@ -2,19 +2,22 @@
 ghost use Rattle.std.specs.Prelude.{◌≡◌, ◌<◌, ◌≤◌, ◌↔◌, IsTrue, false, option_map};
 ghost use Rattle.packet_header.specs.Header.{MessageInRange};
 ghost use Rattle.packet_header.specs.declared.packet.Kind.TheVariants.{Response};
-ghost use Rattle.rpc_laws.specs.ServerTable.{is_last, is_rfr};
+ghost use Rattle.rpc_laws.specs.ServerTable.{is_mismatch, is_past_end, is_worked_on, makes_job};
+ghost use Rattle.rpc_laws.specs.ServerTable.{own_row};
 ghost use Rattle.rpc_laws.specs.Service.{is_mode_background};
-ghost use Rattle.server_core.specs.Flushing.{IsSent};
 ghost use Rattle.server_core.specs.KeepsPool.{IsKept};
-ghost use Rattle.server_core.specs.Replies.{CanHold, answer_size, entry_at, has_reply, head_of, place_of};
-ghost use Rattle.server_core.specs.Rows.{gives_job, is_mismatch, is_past, is_worked_on, own_row, repeated_row};
-ghost use Rattle.server_core.specs.Serving.{IsUnheld, first_given, last_given};
-ghost use Rattle.server_core.specs.Session.{IsInTurn, IsMessage, owner_of};
+ghost use Rattle.server_core.specs.Replies.{CanHold, answer_size, entry_at, has_reply, head_of};
+ghost use Rattle.server_core.specs.Replies.{place_of};
+ghost use Rattle.server_core.specs.Rows.{as_newest};
+ghost use Rattle.server_core.specs.Serving.{IsUnheld, first_given, last_given, one_left};
+ghost use Rattle.server_core.specs.Session.{IsInTurn, answer_of, ask_of, is_at_work};
+ghost use Rattle.server_core.specs.Session.{owner_of};
+ghost use Rattle.packet_header.specs.Parts.{IsMessage};
 
 use buffer_pool::BufferPool;
 use packet_header::{Kind, MessageHeader, count};
 use packet_rings::Entry;
-use rpc_base::{DropReason, Owner, Peer, Place, RequestNo, SessionNo};
+use rpc_base::{DropReason, Owner, Peer, Place, RequestNo, SESSION_NUMBERS, SessionNo};
 use rpc_laws::ServerRow;
 use rpc_outside::Mode;
 
@@ -27,6 +30,21 @@ pub struct Stored {
     pub size: u32,
 }
 
+/// What a request waits for. A request of one packet begins as `Working`.
+///
+/// ```text
+/// Taking -- its last packet --> Working -- its handler ran --> Answered
+/// ```
+#[derive(Clone, Copy, Debug)]
+pub enum SlotState {
+    /// Packets of it are to come. The pool has its bytes at this place.
+    Taking { ask: Place },
+    /// All its packets came. A worker has it with its bytes, or its handler runs.
+    Working,
+    /// Its answer is there, and its bytes are given up.
+    Answered { answer: Stored },
+}
+
 /// The newest request of a slot. What the server table reads of its buffers stands here, so that it
 /// reads no buffer.
 #[derive(Clone, Copy, Debug)]
@@ -37,12 +55,9 @@ pub struct SlotRequest {
     pub size: u32,
     /// Client packets taken in turn.
     pub taken: u16,
-    /// Where the pool has the request, as long as packets of it are to come.
-    pub ask: Option<Place>,
-    /// Whether a worker has it, or its handler runs.
-    pub working: bool,
-    /// The answer, once the handler ran.
-    pub answer: Option<Stored>,
+    /// Replies that are neither sent nor flushed.
+    pub queued: u32,
+    pub state: SlotState,
 }
 
 impl SlotRequest {
@@ -55,22 +70,50 @@ impl SlotRequest {
             req_type: head.req_type,
             size: head.size,
             taken: 1,
-            ask: None,
-            working: true,
-            answer: None,
+            queued: 0,
+            state: SlotState::Working,
         }
     }
 
-    /// The request once its last packet was taken, and a worker or its handler has it with its bytes.
+    /// The request once its last packet was taken, and a worker or its handler has it with its
+    /// bytes.
     pub fn last_given(self) -> SlotRequest
-        requires { self.taken < 65535 }
+        requires { self.taken < u16.MAX }
         ensures { result ≡ last_given self }
     {
         SlotRequest {
             taken: self.taken + 1,
-            ask: None,
-            working: true,
+            state: SlotState::Working,
             ..self
+        }
+    }
+
+    /// Where the pool has the bytes of the request, as long as packets of it are to come.
+    pub fn ask(&self) -> Option<Place>
+        ensures { result ≡ ask_of self.now.state }
+    {
+        match self.state {
+            SlotState::Taking { ask } => Some(ask),
+            SlotState::Working => None,
+            SlotState::Answered { answer: _ } => None,
+        }
+    }
+
+    /// Whether a worker has the request, or its handler runs.
+    pub fn is_working(&self) -> bool
+        ensures { result ≡ is_at_work self.now.state }
+    {
+        matches!(self.state, SlotState::Working)
+    }
+
+    /// The answer, once it is there.
+    pub fn answer(&self) -> Option<Stored>
+        ensures { result ≡ answer_of self.now.state }
+    {
+        match self.state {
+            SlotState::Taking { ask: _ } => None,
+            SlotState::Working => None,
+            SlotState::Answered { answer } => Some(answer),
         }
     }
 
@@ -84,11 +127,11 @@ impl SlotRequest {
         }
     }
 
-    /// What the server table says of a Request or RFR of the request's own number. `mode` is that of its
-    /// type, and `jobs_full` tells whether the node's jobs are full.
+    /// What the server table says of a Request or RFR of the request's own number. `mode` is that
+    /// of its type, and `jobs_full` tells whether the node's jobs are full.
     pub fn row(&self, head: &MessageHeader, mode: Mode, jobs_full: bool) -> ServerRow
         requires { IsInTurn self.now }
-        ensures { result ≡ own_row mode jobs_full self.now head.now }
+        ensures { result ≡ own_row mode jobs_full false (as_newest self.now) head.now }
     {
         if self.is_mismatch(head) {
             return ServerRow::Drops(DropReason::Mismatch);
@@ -97,9 +140,12 @@ impl SlotRequest {
             return ServerRow::Drops(DropReason::Ahead);
         }
         if head.number < self.taken {
-            return self.repeated_row(head.number);
+            if self.is_worked_on(head.number) {
+                return ServerRow::Drops(DropReason::Working);
+            }
+            return ServerRow::Repeats;
         }
-        if is_an_rfr(head.kind) && self.is_past(head.number) {
+        if head.kind.is_rfr() && self.is_past(head.number) {
             return ServerRow::Drops(DropReason::Beyond);
         }
         if makes_job(head, mode) && jobs_full {
@@ -108,25 +154,15 @@ impl SlotRequest {
         ServerRow::Takes
     }
 
-    // That of a packet that was taken before.
-    fn repeated_row(&self, number: u16) -> ServerRow
-        ensures { result ≡ repeated_row self.now number }
-    {
-        if self.is_worked_on(number) {
-            return ServerRow::Drops(DropReason::Working);
-        }
-        ServerRow::Repeats
-    }
-
     // Whether a worker has the request whose last packet this is.
     fn is_worked_on(&self, number: u16) -> bool
-        ensures { result ≡ is_worked_on self.now number }
+        ensures { result ≡ is_worked_on (as_newest self.now) number }
     {
-        u32::from(number) + 1 == count(self.size) && self.working
+        u32::from(number) + 1 == count(self.size) && self.is_working()
     }
 
-    /// Whether a packet of the request was taken and has its reply. That to the last one is to come where a
-    /// worker has the request.
+    /// Whether a packet of the request was taken and has its reply. That to the last one is to come
+    /// where a worker has the request.
     pub fn has_reply(&self, number: u16) -> bool
         ensures { result ≡ has_reply self.now number }
     {
@@ -135,9 +171,9 @@ impl SlotRequest {
 
     // A part of another message, or a request for a part of the answer before its first one.
     fn is_mismatch(&self, head: &MessageHeader) -> bool
-        ensures { result ≡ is_mismatch self.now head.now }
+        ensures { result ≡ is_mismatch (as_newest self.now) head.now }
     {
-        if is_an_rfr(head.kind) {
+        if head.kind.is_rfr() {
             u32::from(head.number) < count(self.size)
         } else {
             !(head.req_type == self.req_type && head.size == self.size)
@@ -147,9 +183,9 @@ impl SlotRequest {
     // Whether the answer has no part that a packet of this number asks for.
     fn is_past(&self, number: u16) -> bool
         requires { IsInTurn self.now }
-        ensures { result ≡ is_past self.now.size self.now.answer number }
+        ensures { result ≡ is_past_end self.now.size (as_newest self.now).answer number }
     {
-        match self.answer {
+        match self.answer() {
             None => true,
             Some(answer) => count(self.size) + count(answer.size) <= u32::from(number) + 1,
         }
@@ -167,9 +203,9 @@ impl SlotRequest {
 
     /// Where the pool has the answer, if it is there.
     pub fn answer_place(&self) -> Option<Place>
-        ensures { result ≡ option_map (λ a. a.place) self.now.answer }
+        ensures { result ≡ option_map (λ a. a.place) (answer_of self.now.state) }
     {
-        match self.answer {
+        match self.answer() {
             None => None,
             Some(answer) => Some(answer.place),
         }
@@ -187,14 +223,28 @@ impl SlotRequest {
         }
     }
 
-    /// Whether one reference more can be counted to the answer.
+    /// Whether one reply more can be queued: its reference to the answer can be counted, and
+    /// itself.
     pub fn can_hold(&self, pool: &BufferPool) -> bool
         requires { IsKept pool.now self.now }
         ensures { IsTrue result ↔ CanHold pool.now self.now }
     {
-        match self.answer {
+        if self.queued >= u32::MAX - 1 {
+            return false;
+        }
+        match self.answer() {
             None => true,
             Some(answer) => pool.refs(answer.place) < u32::MAX,
+        }
+    }
+
+    /// The request once one of its replies was sent, or taken out unsent.
+    pub fn left(self) -> SlotRequest
+        ensures { result ≡ one_left self }
+    {
+        SlotRequest {
+            queued: self.queued.saturating_sub(1),
+            ..self
         }
     }
 
@@ -203,41 +253,29 @@ impl SlotRequest {
         requires { IsKept pool.now self.now }
         ensures { IsTrue result ↔ IsUnheld pool.now self.now }
     {
-        match self.answer {
+        match self.answer() {
             None => true,
             Some(answer) => pool.refs(answer.place) == 0,
         }
     }
 
-    /// Whether the references alone tell that no reply to the request is queued: it is of one packet, so that
-    /// each reply has a part of the answer, to which no reference is left.
-    pub fn is_surely_sent(&self, pool: &BufferPool) -> bool
-        requires { IsKept pool.now self.now }
-        ensures { IsTrue result → IsSent pool.now self.now }
-    {
-        match self.answer {
-            None => false,
-            Some(answer) => count(self.size) == 1 && pool.refs(answer.place) == 0,
-        }
-    }
-
     // The size of the answer, 0 where there is none yet.
     fn answer_size(&self) -> u32
-        ensures { result ≡ answer_size self.now.answer }
+        ensures { result ≡ answer_size (answer_of self.now.state) }
     {
-        match self.answer {
+        match self.answer() {
             None => 0,
             Some(answer) => answer.size,
         }
     }
 
-    /// The header of the reply to a packet that was taken: a credit return before the last packet of the
-    /// request, and from then on the parts of the answer.
+    /// The header of the reply to a packet that was taken: a credit return before the last packet
+    /// of the request, and from then on the parts of the answer.
     pub fn head(&self, client: SessionNo, number: u16) -> MessageHeader
         requires turn { IsInTurn self.now }
         requires taken { number < self.now.taken }
-        requires there { is_worked_on self.now number ≡ false }
-        requires client { client < 65535 }
+        requires there { is_worked_on (as_newest self.now) number ≡ false }
+        requires client { client < SESSION_NUMBERS }
         ensures head { result ≡ head_of client number self.now }
         ensures in_range { MessageInRange result }
     {
@@ -266,9 +304,17 @@ fn answer_head(
     request: RequestNo,
 ) -> MessageHeader
     requires size { IsMessage size }
-    requires session { session < 65535 }
+    requires session { session < SESSION_NUMBERS }
     requires number { number ≤ 2046 }
-    ensures head { result ≡ record { kind = Response; req_type = req_type; size = size; session = session; number = number; request = request } }
+    ensures head { result ≡ record {
+      kind = Response;
+      req_type = req_type;
+      size = size;
+      session =
+          session;
+      number = number;
+      request = request;
+    } }
     ensures in_range { MessageInRange result }
 {
     MessageHeader {
@@ -281,13 +327,6 @@ fn answer_head(
     }
 }
 
-// Whether a packet is the last of its request.
-fn is_last(head: &MessageHeader) -> bool
-    ensures { result ≡ is_last head.now }
-{
-    !is_an_rfr(head.kind) && u32::from(head.number) + 1 == count(head.size)
-}
-
 /// Whether requests of a mode are given to a worker.
 pub fn is_background(mode: Mode) -> bool
     ensures { result ≡ is_mode_background mode }
@@ -297,19 +336,9 @@ pub fn is_background(mode: Mode) -> bool
 
 /// Whether a packet makes a background job: the last one of a request whose mode is Background.
 pub fn makes_job(head: &MessageHeader, mode: Mode) -> bool
-    ensures { result ≡ gives_job mode head.now }
+    ensures { result ≡ makes_job mode head.now }
 {
-    is_last(head) && is_background(mode)
-}
-
-/// Whether a packet asks for a part of the answer.
-pub fn is_an_rfr(kind: Kind) -> bool
-    ensures { result ≡ is_rfr kind }
-{
-    match kind {
-        Kind::Rfr => true,
-        _ => false,
-    }
+    head.is_last() && is_background(mode)
 }
 
 impl Default for SlotRequest {
@@ -320,9 +349,8 @@ impl Default for SlotRequest {
             req_type: 0,
             size: 0,
             taken: 0,
-            ask: None,
-            working: false,
-            answer: None,
+            queued: 0,
+            state: SlotState::Working,
         }
     }
 }

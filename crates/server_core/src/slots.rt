@@ -1,10 +1,11 @@
 //! The list of a session's newest requests.
-ghost use Rattle.std.specs.Prelude.{◌≡◌, ◌<◌, ◌≤◌, ◌==◌, ◌%◌, ◌↔◌, IsTrue, [], ◌∷◌, ◌++◌, length, option_copied, position, slice_get, slice_set};
+ghost use Rattle.std.specs.Prelude.{◌≡◌, ◌<◌, ◌≤◌, ◌==◌, ◌%◌, ◌↔◌, IsTrue, [], ◌∷◌, ◌++◌, length};
+ghost use Rattle.std.specs.Prelude.{option_copied, position, slice_get, slice_set};
 ghost use Rattle.std.specs.List.{AllByRecursion, find, remove};
 ghost use Rattle.rpc_base.specs.Tables.{at_first, without_first};
 ghost use Rattle.server_core.specs.KeepsPool.{KeepsPool};
 ghost use Rattle.server_core.specs.Replies.{is_owner};
-ghost use Rattle.server_core.specs.Serving.{IsUnheld, gone_on};
+ghost use Rattle.server_core.specs.Serving.{IsUnheld, gone_on, one_left};
 ghost use Rattle.server_core.specs.Session.{is_in_slot};
 
 use crate::slot::SlotRequest;
@@ -13,8 +14,8 @@ use buffer_pool::BufferPool;
 use rpc_base::{Owner, SessionNo};
 use std::marker::Model;
 
-/// The newest request of each slot in which one began, at most eight, which lie in the session itself.
-/// Contracts see the list, in the order in which they began.
+/// The newest request of each slot in which one began, at most eight, which lie in the session
+/// itself. Contracts see the list, in the order in which they began.
 #[derive(Drop)]
 pub struct Slots {
     items: ArrayVec<SlotRequest, 8>,
@@ -125,6 +126,25 @@ impl Slots {
         if let Some(at) = self.place_of(request.number.slot()) {
             self.set(at, request);
         }
+    }
+
+    /// An entry of the request whose replies are this owner's in the session was sent, or taken out
+    /// unsent.
+    pub fn leave(&mut self, session: SessionNo, owner: Owner)
+        ensures { self.new ≡ at_first (is_owner session owner) one_left self.old }
+    {
+        if let Some(at) = self.place_of_owner(session, owner) {
+            let request = self.at(at).left();
+            self.set(at, request);
+        }
+    }
+
+    fn place_of_owner(&self, session: SessionNo, owner: Owner) -> Option<usize>
+        ensures { result ≡ position (is_owner session owner) self.now }
+    {
+        self.as_slice()
+            .iter()
+            .position(|request| request.owner(session).is_same(owner))
     }
 
     /// The newest request of a slot is taken out, if there is one.

@@ -10,21 +10,13 @@ use Rattle.std.proofs.lemmas.List.Sums.{passes_at_first, sum_by-set}
 use Rattle.session_slots.specs.declared.active.Active.{Active}
 use Rattle.session_slots.specs.declared.waiting.Waiting.{Waiting}
 use Rattle.session_slots.specs.Slots.{Slots, Activates, IsLastTurn, IsNewNumber, IsSound, call_if, lowest_free}
-
--- what `position` tells of the place that it finds
-none_of : {A : Type 0} (o : Option A) → is_none o ≡ true → o ≡ None
-none_of None e = refl
-none_of (Some x) e = cc
-
-found : (n m i : ℕ) (b : Bool) → ltb n m ≡ b → cond b (Some n) None ≡ Some i → (i ≡ n) × (n < m)
-found n m i true t e = let same : i ≡ n = cc in (same, ltb-true n m t)
-found n m i false t e = cc
+use Rattle.rpc_base.proofs.BasicLemmas.{none-is, found-at}
 
 -- the lowest free slot is one of them, and is free
 free_at : (xs : List (Option Active)) (i : ℕ) → position is_none xs ≡ Some i → (i < length xs) × (get_or xs i None ≡ None)
 free_at xs i e =
-    let (same, within) = found (position_or_len is_none xs) (length xs) i _ refl e in
-    (rw same within, rw same (none_of _ (passes_at_first is_none xs None within)))
+    let (same, within) = found-at (position_or_len is_none xs) (length xs) i _ refl e in
+    (rw same within, rw same (none-is _ (passes_at_first is_none xs None within)))
 
 -- a slot has the call of its own request, and of no other
 own : (r call : ℕ) → call_if r (record { request = r; call = call }) ≡ Some call

@@ -1,5 +1,6 @@
 -- The slots of a client session, and what each call makes of them.
 use Rattle.std.specs.Prelude.{◌≡◌, ◌≢◌, ◌⊎◌, ◌↔◌, ℕ, ◌+◌, ◌*◌, ◌/◌, ◌%◌, ◌<◌, ◌≤◌, ◌^◌, ◌==◌, if◌then◌else◌, Option, Some, None, IsSome, is_none, option_and_then, List, [], ◌∷◌, ◌++◌, length, drop, replicate, sum, position, slice_get, slice_index, slice_index_or, slice_set}
+use Rattle.rpc_base.specs.declared.limits.TheConstants.{MOST_CALLS}
 use Rattle.session_slots.specs.declared.active.Active.{Active}
 use Rattle.session_slots.specs.declared.waiting.Waiting.{Waiting}
 
@@ -22,9 +23,10 @@ IsLastTurn slot turns (Some a) = a.request + 8 ≡ slot + 8 * turns
 pub record IsSound (t : Slots) : Type 0 where
   pub slots : length t.slots ≡ 8
   pub turns : length t.turns ≡ 8
-  pub newest : (i : ℕ) → i < 8 → IsLastTurn i (slice_index t.turns i) (slice_index_or t.slots i None)
+  pub newest : (i : ℕ) → i < 8 → IsLastTurn i (slice_index t.turns i)
+      (slice_index_or t.slots i None)
   pub counted : sum t.turns + length t.waiting ≤ t.taken
-  pub within : t.taken ≤ 2 ^ 45
+  pub within : t.taken ≤ MOST_CALLS
 
 -- no request began, and no call was taken
 abbrev pub all_free : Slots

@@ -4,7 +4,7 @@ ghost use Rattle.session_slots.specs.Slots.{Activates, Begins, Deactivates, IsAc
 
 use crate::active::Active;
 use crate::waiting::Waiting;
-use rpc_base::{CallNo, RequestNo};
+use rpc_base::{CallNo, MOST_CALLS, RequestNo};
 use std::alloc::Global;
 use std::collections::VecDeque;
 use std::marker::Model;
@@ -31,8 +31,8 @@ impl Model for SlotTable {
 }
 
 impl SlotTable {
-    /// A table with all slots free and no waiting call. It takes no memory yet; `wait` takes its own
-    /// from `alloc`.
+    /// A table with all slots free and no waiting call. It takes no memory yet; `wait` takes its
+    /// own from `alloc`.
     pub fn new(alloc: Global) -> SlotTable
         ensures { result ≡ all_free }
     {
@@ -55,7 +55,7 @@ impl SlotTable {
     /// The call waits behind all others. Fewer than 2^45 calls were taken before: then no turn
     /// passes what a request number holds. Err is want of memory alone, and hands the call back.
     pub fn wait(&mut self, w: Waiting) -> Result<(), Waiting>
-        requires { self.old.taken < 2 ^ 45 }
+        requires { self.old.taken < MOST_CALLS }
         ensures waits { OnOk result (self.new ≡ waited w self.old) }
         ensures unchanged { OnErr result (self.new ≡ self.old) }
         ensures handed_back { IfErr result (λ back. back ≡ w) }

@@ -13,8 +13,8 @@ use Rattle.client_core.specs.declared.call.ActiveCall.{ActiveCall}
 use Rattle.client_core.specs.Shown.{shown_active}
 use Rattle.client_core.specs.Timeouts.{is_numbered}
 use Rattle.client_core.specs.Watching.{call_number}
-use Rattle.client_core.proofs.CallsLemmas.{all-append, all-at_first, counted-cons}
 use Rattle.sim_client.specs.Ends.{Ascends}
+use Rattle.rpc_base.proofs.FirstLemmas.{all-push, counted-cons, all-kept}
 
 -- what holds of two lists
 module _ {A : Type 0} (P : A → Type 0) where
@@ -38,14 +38,14 @@ module _ {A : Type 0} (P : A → Type 0) where
 pub ascends-end : (cs : List Call) (c : Call) → Ascends cs → AllByRecursion (λ d. d.what.number < c.what.number) cs → Ascends (cs ++ c ∷ [])
 ascends-end [] c up below = (tt, tt)
 ascends-end (d ∷ ds) c up below =
-    (all-append (λ e. d.what.number < e.what.number) ds c up.0 below.0, ascends-end ds c up.1 below.1)
+    (all-push (λ e. d.what.number < e.what.number) ds c up.0 below.0, ascends-end ds c up.1 below.1)
 
 -- a call that keeps its number is changed
 module _ (p : Call → Bool) (f : Call → Call) (same : (c : Call) → (f c).what ≡ c.what) where
   changed-cons : (c : Call) (cs : List Call) (b : Bool) → Ascends (c ∷ cs) → Ascends (at_first p f cs) → Ascends (cond b (f c ∷ cs) (c ∷ at_first p f cs))
   changed-cons c cs true up ih = rw (same c) up
   changed-cons c cs false up ih =
-      (all-at_first p f (λ d. c.what.number < d.what.number) cs (λ d here passes. rw (same d) here) up.0, ih)
+      (all-kept p f (λ d. c.what.number < d.what.number) cs (λ d here passes. rw (same d) here) up.0, ih)
 
   pub ascends-changed : (cs : List Call) → Ascends cs → Ascends (at_first p f cs)
   ascends-changed [] up = tt

@@ -34,12 +34,13 @@ use Rattle.client_core.specs.declared.active.Active.{Active}
 use Rattle.rpc_base.specs.Least.{least}
 use Rattle.client_core.specs.Shown.{IsAloneAfter, after_outcome, asked, begun_event as event_begun, end_event, ending_facts, packet_of, posted_event as event_posted, sent_event, shown, shown_active, shown_waiting, stepped, took}
 use Rattle.client_core.specs.Timeouts.{is_numbered}
-use Rattle.client_core.proofs.CallsLemmas.{all-at_first, found-passes}
 use Rattle.client_core.proofs.OneCallLemmas.{by-request, least-found}
 use Rattle.client_core.proofs.OutcomeLemmas.{active-found}
 use Rattle.client_core.proofs.ShownLemmas.{found-shown, none-shown}
 use Rattle.sim_client.specs.Ends.{Ascends, begun_event, is_above, next_above, posted_event, shown_end, told_call}
 use Rattle.sim_client.proofs.AscendsLemmas.{ascends-before, ascends-changed, ascends-end, ascends-front, ascends-without, few-numbered, least-first, unlisted}
+use Rattle.rpc_base.proofs.TakingLemmas.{find-passes}
+use Rattle.rpc_base.proofs.FirstLemmas.{all-kept}
 
 -- a lost peer changes no call
 pub calls-end : (b : Bool) (pool : Pool) (peer : ℕ) (s : Session) → (shown_end b pool peer s).calls ≡ (shown pool peer s).calls
@@ -194,7 +195,7 @@ pub record IsEntry (peer r k : ℕ) (s : Session) (e : EntryValue) : Type 0 wher
 is-entry : (peer r k : ℕ) (s : Session) (e : EntryValue) (o : Option ActiveCall) → call_as r s ≡ o → Some e ≡ option_and_then (entry_if s.number peer k) o → IsEntry peer r k s e
 is-entry peer r k s e None f is = cc
 is-entry peer r k s e (Some c) f is =
-    let own = eqb-true c.request r (found-passes (is_request r) s.active c f) in
+    let own = eqb-true c.request r (find-passes (is_request r) s.active c f) in
     record { call = c; found = f; request = own; same = entry-cases s.number peer r k c e (ltb k c.posted) own is }
 
 pub entry-is : (peer r k : ℕ) (s : Session) (e : EntryValue) → Some e ≡ posted_entry peer r k s → IsEntry peer r k s e
@@ -271,13 +272,13 @@ abbrev up_of : Client → Type 0
 up_of x = Ascends x.calls
 
 ended-ascend : (clock call : ℕ) (o : Outcome) (xs : List Client) → AllByRecursion up_of xs → AllByRecursion up_of (clients_after clock (end_event call o) [] None [] xs)
-ended-ascend clock call Ok xs all = all-at_first (has_call call) (ends call) up_of xs (λ x up here. ascends-without (is_call call) x.calls up) all
-ended-ascend clock call (TooSmall size) xs all = all-at_first (has_call call) (ends call) up_of xs (λ x up here. ascends-without (is_call call) x.calls up) all
-ended-ascend clock call PeerLost xs all = all-at_first (has_call call) (ends call) up_of xs (λ x up here. ascends-without (is_call call) x.calls up) all
+ended-ascend clock call Ok xs all = all-kept (has_call call) (ends call) up_of xs (λ x up here. ascends-without (is_call call) x.calls up) all
+ended-ascend clock call (TooSmall size) xs all = all-kept (has_call call) (ends call) up_of xs (λ x up here. ascends-without (is_call call) x.calls up) all
+ended-ascend clock call PeerLost xs all = all-kept (has_call call) (ends call) up_of xs (λ x up here. ascends-without (is_call call) x.calls up) all
 
 took-ascends : (clock : ℕ) (h : MessageHeader) (body : List ℕ) (x : Client) → up_of x → AllByRecursion up_of (took clock h body x)
 took-ascends clock h body x up =
-    all-at_first (is_client x.way.number) (takes clock h.request (Some h) body) up_of (x ∷ []) (λ y old here. ascends-changed (is_active h.request) (moved (took_reply clock (Some h) body)) (λ c. refl) y.calls old) (up, tt)
+    all-kept (is_client x.way.number) (takes clock h.request (Some h) body) up_of (x ∷ []) (λ y old here. ascends-changed (is_active h.request) (moved (took_reply clock (Some h) body)) (λ c. refl) y.calls old) (up, tt)
 
 reply-all : (clock : ℕ) (r : Reply) (h : MessageHeader) (body : List ℕ) (x : Client) → up_of x → AllByRecursion up_of (after_outcome clock r h body x)
 reply-all clock Took h body x up = took-ascends clock h body x up

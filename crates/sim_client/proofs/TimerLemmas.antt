@@ -32,13 +32,15 @@ use Rattle.client_core.specs.Session.{IsSession, Session, queued_in}
 use Rattle.client_core.specs.Shown.{IsAlone, done_event, rolled_event, shown, shown_active, shown_broken, shown_waiting, stepped, way_of}
 use Rattle.client_core.specs.Timeouts.{after_roll, call_numbered, call_timer, is_numbered, rolled_call, timer_told}
 use Rattle.client_core.specs.Watching.{call_number, is_after, next_told, told}
-use Rattle.client_core.proofs.CallsLemmas.{all-at_first, found-passes, sum-at_first}
+use Rattle.client_core.proofs.CallsLemmas.{sum-at_first}
 use Rattle.client_core.proofs.EndedLemmas.{any-found}
 use Rattle.client_core.proofs.OneCallLemmas.{by-request, least-found, least-none-of}
 use Rattle.client_core.proofs.ShownLemmas.{found-shown}
 use Rattle.sim_client.specs.Ends.{Ascends, progress_of, shown_end}
 use Rattle.sim_client.proofs.AscendsLemmas.{ascends-changed, ascends-without, few-numbered, least-first}
 use Rattle.sim_client.proofs.EndLemmas.{active-ascends, calls-end}
+use Rattle.rpc_base.proofs.TakingLemmas.{find-passes}
+use Rattle.rpc_base.proofs.FirstLemmas.{all-kept}
 
 -- an element that passes another test is not missed by that
 module _ {A : Type 0} (p q : A → Bool) where
@@ -139,7 +141,7 @@ module _ (now timeout n : ℕ) (queued b : Bool) (pool : Pool) (peer : ℕ) (s :
 -- a rollback
 keeps-rolled : (pool : Pool) (test : ActiveCall → Bool) (calls : List ActiveCall) → KeepsPool pool calls → KeepsPool pool (at_first test rolled_call calls)
 keeps-rolled pool test calls keeps = record {
-  kept = all-at_first test rolled_call (IsKept pool) calls (λ c kept passes. record { ask = kept.ask; answer = kept.answer; size = kept.size; room = kept.room; unnamed = kept.unnamed }) keeps.kept;
+  kept = all-kept test rolled_call (IsKept pool) calls (λ c kept passes. record { ask = kept.ask; answer = kept.answer; size = kept.size; room = kept.room; unnamed = kept.unnamed }) keeps.kept;
   apart = λ p. rw (sum-at_first test rolled_call (λ c. cond (eqb c.ask p) 1 0 + cond (eqb c.answer p) 1 0) calls (λ c. refl)) (keeps.apart p);
 }
 
@@ -155,7 +157,7 @@ chosen x y z false t e = cc
 roll-cases : (n : ℕ) (b : Bool) (pool : Pool) (peer : ℕ) (s new : Session) → b ≡ false → Ascends (shown pool peer s).calls → KeepsPool pool s.active → (o : Option ActiveCall) → call_numbered n s ≡ o → IsSome o → IfSome o (λ c. new ≡ after_roll c s) → IfSome o (λ c. (pool : Pool) → (clock peer : ℕ) → stepped clock (rolled_event c) (shown pool peer s) ≡ shown pool peer new ∷ []) → RollsEnd n b pool peer s new
 roll-cases n b pool peer s new connected up keeps None e some session step = cc
 roll-cases n b pool peer s new connected up keeps (Some c) e some session step =
-    let own : c.call ≡ n = eqb-true c.call n (found-passes (is_numbered n) s.active c e) in
+    let own : c.call ≡ n = eqb-true c.call n (find-passes (is_numbered n) s.active c e) in
     let there : has_call n (shown pool peer s) ≡ true = any-found (is_call n) (shown_active pool c) (shown pool peer s).calls (numbered-shown pool peer n s c e) in
     let is : shown pool peer new ≡ rolls n c.posted c.got (shown pool peer s) = chosen (shown pool peer s) (shown pool peer new) (rolls n c.posted c.got (shown pool peer s)) (has_call n (shown pool peer s)) there (rw own at (step pool 0 peer)) in
     let calls : Ascends (rolls n c.posted c.got (shown pool peer s)).calls = ascends-changed (is_call n) (moved (rolled_back c.got)) (λ d. refl) (shown pool peer s).calls up in

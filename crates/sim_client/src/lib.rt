@@ -5,6 +5,3 @@
 mod end;
 
 pub use end::ClientEnd;
-
-#[cfg(test)]
-mod tests;

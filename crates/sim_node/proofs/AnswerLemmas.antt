@@ -1,6 +1,6 @@
 -- What the plain service answers to the facts of a node, one after another.
 use Rattle.std.proofs.Common.{◌≡◌, ℕ, ◌+◌, ◌%◌, ◌^◌, Bool, true, false, not, ◌&&◌, ◌||◌, cond, eqb, Option, Some, None, List, [], ◌∷◌, ◌++◌, length, refl, sym, ap, subst, ◌∙◌, arith}
-use Rattle.std.specs.Prelude.{◌==◌, map, nat_le, nat_lt, sum_by}
+use Rattle.std.specs.Prelude.{◌==◌, map, nat_le, nat_lt, option_map, sum_by}
 use Rattle.std.specs.List.{find, list_any}
 use Rattle.std.proofs.lemmas.Bool.{eqb-true}
 use Rattle.std.proofs.lemmas.List.Sums.{sum_by_push}
@@ -34,7 +34,7 @@ use Rattle.rpc_laws.specs.Jobs.{are_full}
 use Rattle.rpc_laws.specs.PollOrder.{replies_facts}
 use Rattle.rpc_laws.specs.Queues.{flush_facts, is_queued, numbers_of}
 use Rattle.rpc_laws.specs.Requests.{in_slot_of}
-use Rattle.rpc_laws.specs.ServerTable.{flushes, flushes_older, is_last, is_past_end, is_rfr, is_worked_on, makes_job, new_row, own_row, served_facts, server_row, slot_row, took_facts, whole_ask}
+use Rattle.rpc_laws.specs.ServerTable.{flushes, flushes_older, is_last, is_past_end, is_rfr, is_worked_on, makes_job, new_row, newest_of, own_row, served_facts, server_row, slot_row, took_facts, whole_ask}
 use Rattle.rpc_laws.specs.Service.{answer_with, is_handled, is_mode_background, is_mode_inline, plain_serving, runs_inline, served_after_all}
 use Rattle.rpc_laws.specs.Sessions.{is_client, is_connected}
 use Rattle.rpc_laws.proofs.AnswerLemmas.{answers-append, served-append}
@@ -156,9 +156,9 @@ new-whole : (mode : Mode) (working full : Bool) (h : MessageHeader) → wants (n
 new-whole mode working full h =
     either wants (is_rfr h.kind || not (h.number == 0)) (Drops NotFirst) _ refl (either wants working (Drops Working) _ refl (either wants (not (is_handled mode)) (Drops Unserved) _ refl (either wants (makes_job mode h && full) (Drops JobsFull) Begins refl refl)))
 
-own-whole : (mode : Mode) (full : Bool) (l : ServedRequest) (h : MessageHeader) → wants (own_row mode full false l h) ≡ false
+own-whole : (mode : Mode) (full : Bool) (l : ServedRequest) (h : MessageHeader) → wants (own_row mode full false (newest_of l) h) ≡ false
 own-whole mode full l h =
-    either wants (cond (is_rfr h.kind) (nat_lt h.number (packet_count l.size)) (not (h.req_type == l.req_type && h.size == l.size))) (Drops Mismatch) _ refl (either wants (nat_lt l.taken h.number) (Drops Ahead) _ refl (either wants (nat_lt h.number l.taken) _ _ (either wants (is_worked_on l h) (Drops Working) Repeats refl refl) (either wants (is_rfr h.kind && is_past_end l.size l.answer h.number) (Drops Beyond) _ refl (either wants (makes_job mode h && full) (Drops JobsFull) Takes refl refl))))
+    either wants (cond (is_rfr h.kind) (nat_lt h.number (packet_count l.size)) (not (h.req_type == l.req_type && h.size == l.size))) (Drops Mismatch) _ refl (either wants (nat_lt l.taken h.number) (Drops Ahead) _ refl (either wants (nat_lt h.number l.taken) _ _ (either wants (is_worked_on (newest_of l) h.number) (Drops Working) Repeats refl refl) (either wants (is_rfr h.kind && is_past_end l.size (option_map length l.answer) h.number) (Drops Beyond) _ refl (either wants (makes_job mode h && full) (Drops JobsFull) Takes refl refl))))
 
 slot-whole : (mode : Mode) (full : Bool) (o : Option ServedRequest) (h : MessageHeader) → wants (slot_row mode full false o h) ≡ false
 slot-whole mode full None h = new-whole mode false full h

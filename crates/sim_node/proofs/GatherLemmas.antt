@@ -6,7 +6,6 @@ use Rattle.std.proofs.lemmas.Bool.Decides.{nat_tests}
 use Rattle.rpc_base.specs.declared.fact.Fact.{Fact}
 use Rattle.rpc_base.specs.declared.owner.Owner.TheVariants.{Ask}
 use Rattle.client_core.specs.declared.active.Active.{Active}
-use Rattle.client_core.proofs.CallsLemmas.{found-holds}
 use Rattle.rpc_laws.specs.declared.tables.Call.{Call}
 use Rattle.rpc_laws.specs.declared.tables.Progress.{Progress}
 use Rattle.rpc_laws.specs.declared.tables.Queued.{Queued}
@@ -15,6 +14,7 @@ use Rattle.rpc_laws.specs.Queues.{flush_facts}
 use Rattle.sim_client.specs.Ends.{Ascends, is_above, told_call}
 use Rattle.sim_node.proofs.NextLemmas.{is_next, told-none, told-some}
 use Rattle.sim_node.specs.Watching.{flushed}
+use Rattle.rpc_base.proofs.FirstLemmas.{found-holds}
 
 -- the packets of all calls
 module _ (F : Call → List Fact) where

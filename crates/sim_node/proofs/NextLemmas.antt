@@ -5,7 +5,6 @@ use Rattle.std.specs.List.{AllByRecursion, find}
 use Rattle.std.proofs.lemmas.Bool.{eq-eqb, ne_eqb}
 use Rattle.rpc_base.specs.declared.fact.Fact.{Fact}
 use Rattle.client_core.specs.declared.active.Active.{Active}
-use Rattle.client_core.proofs.CallsLemmas.{found-holds, found-passes}
 use Rattle.rpc_laws.specs.declared.tables.Call.{Call}
 use Rattle.rpc_laws.specs.declared.tables.Client.{Client}
 use Rattle.rpc_laws.specs.declared.tables.Progress.{Progress}
@@ -14,6 +13,8 @@ use Rattle.rpc_laws.specs.Calls.{is_call}
 use Rattle.sim_client.specs.Ends.{Ascends, is_above, next_above, told_call, told_of}
 use Rattle.sim_node.specs.Apart.{IsApart}
 use Rattle.sim_node.specs.Watching.{ActiveAt, LooksAt, calls_at, calls_in, next_at, number_at}
+use Rattle.rpc_base.proofs.FirstLemmas.{found-holds}
+use Rattle.rpc_base.proofs.TakingLemmas.{find-passes}
 
 pub some-same : {A : Type 0} (x y : A) → Some x ≡ Some y → x ≡ y
 some-same x y h = cc
@@ -41,7 +42,7 @@ module _ (after : Option ℕ) (cs : List Call) where
   told-none-of : (o : Option Call) → find (is_next after) cs ≡ o → None ≡ option_and_then told_call o → find (is_next after) cs ≡ None
   told-none-of None found e = found
   told-none-of (Some c) found e =
-      none-by c c.progress refl (both (is_some c.progress) (is_above after c) (found-passes (is_next after) cs c found)).0 e
+      none-by c c.progress refl (both (is_some c.progress) (is_above after c) (find-passes (is_next after) cs c found)).0 e
 
   pub told-none : (o : Option Active) → o ≡ None → o ≡ option_and_then told_call (find (is_next after) cs) → find (is_next after) cs ≡ None
   told-none o none e = told-none-of (find (is_next after) cs) refl (sym none ∙ e)

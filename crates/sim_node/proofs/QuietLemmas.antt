@@ -8,7 +8,6 @@ use Rattle.rpc_base.specs.declared.event.Event.TheVariants.{Flushed, Rolled, Bro
 use Rattle.rpc_base.specs.declared.fact.Fact.{Fact}
 use Rattle.rpc_base.specs.declared.owner.Owner.{Owner}
 use Rattle.packet_header.specs.declared.packet.MessageHeader.{MessageHeader}
-use Rattle.client_core.proofs.CallsLemmas.{found-passes}
 use Rattle.rpc_laws.specs.declared.rows.TimerRow.{TimerRow}
 use Rattle.rpc_laws.specs.declared.rows.TimerRow.TheVariants.{Waits, RollsBack, Breaks}
 use Rattle.rpc_laws.specs.declared.tables.Call.{Call}
@@ -28,6 +27,7 @@ use Rattle.sim_client.specs.Ends.{Ascends, is_above}
 use Rattle.sim_node.specs.Watching.{calls_at, calls_in}
 use Rattle.sim_node.proofs.ApartLemmas.{found-any}
 use Rattle.sim_node.proofs.NextLemmas.{both, is_next}
+use Rattle.rpc_base.proofs.TakingLemmas.{find-passes}
 
 abbrev pub has_number : ℕ → Call → Bool
 has_number m c = is_call m c && is_some c.progress
@@ -146,7 +146,7 @@ next-above (Some n) c = refl
 
 pub next-passes : (after : Option ℕ) (n : ℕ) (cs : List Call) → Next after n cs → (above after n ≡ true) × (list_any (has_number n) cs ≡ true)
 next-passes after n cs next =
-    let (active, up) = both (is_some next.call.progress) (is_above after next.call) (found-passes (is_next after) cs next.call next.found) in
+    let (active, up) = both (is_some next.call.progress) (is_above after next.call) (find-passes (is_next after) cs next.call next.found) in
     let own : has_number n next.call ≡ true = rw (eq-eqb next.call.what.number n next.number, active) refl in
     (ap (λ k. above after k) (sym next.number) ∙ sym (next-above after next.call) ∙ up, found-any (is_next after) (has_number n) cs next.call next.found own)
 

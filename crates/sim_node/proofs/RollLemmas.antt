@@ -10,7 +10,6 @@ use Rattle.rpc_base.specs.declared.fact.Fact.{Fact}
 use Rattle.rpc_base.specs.declared.owner.Owner.{Owner}
 use Rattle.rpc_base.specs.declared.owner.Owner.TheVariants.{Ask}
 use Rattle.client_core.specs.declared.active.Active.{Active}
-use Rattle.client_core.proofs.CallsLemmas.{found-passes}
 use Rattle.rpc_laws.specs.declared.rows.TimerRow.{TimerRow}
 use Rattle.rpc_laws.specs.declared.rows.TimerRow.TheVariants.{RollsBack}
 use Rattle.rpc_laws.specs.declared.tables.Call.{Call}
@@ -37,6 +36,7 @@ use Rattle.sim_node.proofs.ApartLemmas.{Keeps, any-same, apart-kept, found-any, 
 use Rattle.sim_node.proofs.AsideLemmas.{with_clients, noted-with}
 use Rattle.sim_node.proofs.HearLemmas.{ends-keeps, get-set}
 use Rattle.sim_node.proofs.PostLemmas.{set-own}
+use Rattle.rpc_base.proofs.TakingLemmas.{find-passes}
 
 -- packets that are taken out
 abbrev pub packet : Owner → ℕ → Queued
@@ -83,7 +83,7 @@ module _ (i : ℕ) (a s c : Timed) (ys : List Client) (f g : List Fact) (view : 
   rolled-noted t active q aside =
       let p : ActiveAt i t a.lists.clients = rw view active in
       let same : p.client ≡ q.client = some-same p.client q.client (sym p.place ∙ q.place) in
-      let has : has_call t.call p.client ≡ true = found-any (is_call t.call) (is_call t.call) p.client.calls p.call p.found (found-passes (is_call t.call) p.client.calls p.call p.found) in
+      let has : has_call t.call p.client ≡ true = found-any (is_call t.call) (is_call t.call) p.client.calls p.call p.found (find-passes (is_call t.call) p.client.calls p.call p.found) in
       let it = changed-told t.call i a.lists.asked (rolls t.call t.posted t.got) a.lists.clients ys (rolls-keeps t.call t.posted t.got) here.0 q (ap (λ (x : Client). has_call t.call x) (sym same) ∙ has) in
       let n = noted-with a (with_clients ys a) c ys a.lists.servers (plain a.lists.me (Rolled t.call t.posted t.got)) f g refl it.0 refl refl aside in
       let apart : IsApart c = rw aside.rest (it.1, here.1) in
@@ -225,7 +225,7 @@ module _ (timeout i : ℕ) (a : Active) (s : Timed) (active : ActiveAt i a s.lis
       let x = active.client in
       let progress : progress_of a.call x ≡ Some active.progress = ap (λ (o : Option Call). option_and_then (λ c. c.progress) o) active.found ∙ active.is_active in
       let is : row_of s.clock timeout x.way.number s.lists.queued active.progress ≡ row = if-some (λ p. row_of s.clock timeout x.way.number s.lists.queued p ≡ row) (progress_of a.call x) active.progress progress (at x active.place) in
-      let number : active.call.what.number ≡ a.call = eqb-true active.call.what.number a.call (found-passes (is_call a.call) x.calls active.call active.found) in
+      let number : active.call.what.number ≡ a.call = eqb-true active.call.what.number a.call (find-passes (is_call a.call) x.calls active.call active.found) in
       rw (active.place, active.found, active.is_active, number, is) refl
 
   pub watch-rolls : (row : TimerRow) (t : Timed) (f g : List Fact) → row ≡ RollsBack → RowAt timeout i a.call row s → ((x : Client) → slice_get s.lists.clients i ≡ Some x → Noted (rolled s.lists.me x.way.number s.lists.queued a) s t f g) → Makes (Watches timeout i a.call) s t f g

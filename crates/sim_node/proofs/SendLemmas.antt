@@ -9,7 +9,6 @@ use Rattle.rpc_base.specs.declared.fact.Fact.{Fact}
 use Rattle.rpc_base.specs.declared.owner.Owner.{Owner}
 use Rattle.rpc_base.specs.declared.owner.Owner.TheVariants.{Ask, Reply}
 use Rattle.packet_header.specs.Header.{AreBytes}
-use Rattle.client_core.specs.Shown.{IsSpelled}
 use Rattle.rpc_laws.specs.declared.tables.Call.{Call}
 use Rattle.rpc_laws.specs.declared.tables.Client.{Client}
 use Rattle.rpc_laws.specs.declared.tables.Outgoing.{Outgoing}
@@ -20,13 +19,12 @@ use Rattle.rpc_laws.specs.declared.tables.Timed.{Timed}
 use Rattle.rpc_laws.specs.declared.tables.Way.{Way}
 use Rattle.rpc_laws.specs.Calls.{is_active, moved, sent_packet, asked_packets}
 use Rattle.rpc_laws.specs.Facts.{with_two}
-use Rattle.rpc_laws.specs.Packets.{ask_packet, call_packet, client_packet, outgoing, owner_packet, reply_packet, request_packet}
+use Rattle.rpc_laws.specs.Packets.{ask_packet, call_packet, client_packet, outgoing, owner_packet, reply_packet, request_packet, IsSpelled, IsSpelled as IsReplySpelled}
 use Rattle.rpc_laws.specs.PollOrder.{Sends}
 use Rattle.rpc_laws.specs.Requests.{is_request, is_server}
 use Rattle.rpc_laws.specs.Queues.{is_due}
 use Rattle.rpc_laws.specs.Sessions.{is_client, has_call, sends}
 use Rattle.node_tables.specs.Noted.{Makes, Noted}
-use Rattle.server_core.specs.Replies.{IsSpelled as IsReplySpelled}
 use Rattle.sim_client.proofs.AscendsLemmas.{ascends-changed}
 use Rattle.sim_node.specs.Apart.{IsApart}
 use Rattle.sim_node.specs.Aside.{NotedAside}

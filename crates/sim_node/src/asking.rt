@@ -11,8 +11,9 @@ ghost use Rattle.sim_node.specs.Apart.{Apart, IsApart};
 use crate::clients::place_of_end;
 use crate::noting::{note, note_aside};
 use crate::tables::Tables;
-use packet_header::MOST_MESSAGE_BYTES;
-use rpc_base::{CallNo, Event, Fact, Listed, NoMemory, SessionNo, SessionState};
+use rpc_base::{
+    CallNo, Event, Fact, Listed, MOST_MESSAGE_BYTES, NoMemory, SessionNo, SessionState,
+};
 use sim_client::ClientEnd;
 use std::alloc::Global;
 

@@ -26,6 +26,3 @@ mod watching;
 mod working;
 
 pub use node::Node;
-
-#[cfg(test)]
-mod tests;

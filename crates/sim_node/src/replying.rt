@@ -2,9 +2,8 @@
 ghost use Rattle.std.specs.Prelude.{◌≡◌, ◌<◌, length, slice_get, Some, None, IfOk, OnOk};
 ghost use Rattle.node_tables.specs.Noted.{Makes};
 ghost use Rattle.packet_header.specs.Header.{AreBytes};
-ghost use Rattle.rpc_laws.specs.Packets.{reply_packet};
+ghost use Rattle.rpc_laws.specs.Packets.{reply_packet, IsSpelled};
 ghost use Rattle.rpc_laws.specs.PollOrder.{Sends};
-ghost use Rattle.server_core.specs.Replies.{IsSpelled};
 ghost use Rattle.sim_node.specs.Apart.{IsApart};
 
 use crate::noting::note;

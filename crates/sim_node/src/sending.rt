@@ -3,8 +3,7 @@ ghost use Rattle.std.specs.Prelude.{◌≡◌, ◌<◌, length, slice_get, Some,
 ghost use Rattle.std.specs.List.{position};
 ghost use Rattle.node_tables.specs.Noted.{Makes};
 ghost use Rattle.packet_header.specs.Header.{AreBytes};
-ghost use Rattle.client_core.specs.Shown.{IsSpelled};
-ghost use Rattle.rpc_laws.specs.Packets.{ask_packet};
+ghost use Rattle.rpc_laws.specs.Packets.{ask_packet, IsSpelled};
 ghost use Rattle.rpc_laws.specs.PollOrder.{Sends, SendsAll};
 ghost use Rattle.rpc_laws.specs.Sessions.{is_client, sends};
 ghost use Rattle.rpc_base.specs.Tables.{at_first};

@@ -7,7 +7,7 @@ ghost use Rattle.rpc_laws.specs.Facts.{plain};
 ghost use Rattle.rpc_laws.specs.Front.{front_header, front_body};
 ghost use Rattle.rpc_laws.specs.Requests.{is_server};
 ghost use Rattle.rpc_laws.specs.ServerTable.{is_last, is_rfr, flushes_older};
-ghost use Rattle.server_core.specs.Rows.{is_asking};
+ghost use Rattle.packet_header.specs.Kinds.{is_asking};
 ghost use Rattle.server_core.specs.Steps.{IsAsking};
 ghost use Rattle.sim_node.specs.Apart.{IsApart};
 ghost use Rattle.sim_node.specs.Serving.{TakesAt, answered_with, ask_of, parts_of, plain_asks, row_here, session_of, taking, took_ran, total_then};

@@ -38,7 +38,12 @@ pub record AtNode (P : Rel) (n : ℕ) (s : Stage) (x : List Fact) (t : Stage) : 
   pub now : Timed
   pub is_node : slice_get s.nodes n ≡ Some before
   pub step : P before x now
-  pub left : t ≡ record { nodes = slice_set s.nodes n now; flight = flight_after_all s.flight x; worked = worked_after_all s.worked x; clock = s.clock }
+  pub left : t ≡ record {
+    nodes = slice_set s.nodes n now;
+    flight = flight_after_all s.flight x;
+    worked = worked_after_all s.worked x;
+    clock = s.clock;
+  }
 
 -- node R: the next node is made, with a ring of R places, 64 jobs and a timeout of 5,000
 pub record Makes (ring : ℕ) (s : Stage) (x : List Fact) (t : Stage) : Type 0 where
@@ -50,17 +55,25 @@ abbrev pub noted : Timed → Fact → Timed
 noted s f = record { lists = after s.clock s.lists f; clock = s.clock }
 
 -- A gets a client session and B a server session, each with the other's number
-pub record PairsEnds (a b credits : ℕ) (client server : Timed) (s : Stage) (x : List Fact) (t : Stage) : Type 0 where
+pub record PairsEnds (a b credits : ℕ) (client server : Timed) (s : Stage) (x : List Fact)
+    (t : Stage) : Type 0 where
   pub at_client : Fact
   pub at_server : Fact
-  pub for_client : at_client ≡ plain client.lists.me (PairedClient (length client.lists.clients) b server.lists.server_numbers credits)
-  pub for_server : at_server ≡ plain server.lists.me (PairedServer server.lists.server_numbers a (length client.lists.clients) credits)
+  pub for_client : at_client ≡ plain client.lists.me
+      (PairedClient (length client.lists.clients) b server.lists.server_numbers credits)
+  pub for_server : at_server ≡ plain server.lists.me
+      (PairedServer server.lists.server_numbers a (length client.lists.clients) credits)
   pub facts : x ≡ at_client ∷ at_server ∷ []
-  pub left : t ≡ record s { nodes = slice_set (slice_set s.nodes a (noted client at_client)) b (noted server at_server) }
+  pub left : t ≡ record s {
+    nodes = slice_set (slice_set s.nodes a (noted client at_client)) b
+        (noted server at_server);
+  }
 
 -- the first refusal is noted at its node, and nothing changes
-abbrev pub PairsBy : Option Event → Option Event → (a b credits : ℕ) → (client server : Timed) → Stage → List Fact → Stage → Type 0
-PairsBy (Some e) at_server a b credits client server s x t = (x ≡ plain client.lists.me e ∷ []) × (t ≡ s)
+abbrev pub PairsBy : Option Event → Option Event → (a b credits : ℕ) → (client server : Timed)
+    → Stage → List Fact → Stage → Type 0
+PairsBy (Some e) at_server a b credits client server s x t =
+    (x ≡ plain client.lists.me e ∷ []) × (t ≡ s)
 PairsBy None (Some e) a b credits client server s x t = (x ≡ plain server.lists.me e ∷ []) × (t ≡ s)
 PairsBy None None a b credits client server s x t = PairsEnds a b credits client server s x t
 
@@ -70,7 +83,8 @@ pub record Pairs (a b credits : ℕ) (s : Stage) (x : List Fact) (t : Stage) : T
   pub server : Timed
   pub is_client : slice_get s.nodes a ≡ Some client
   pub is_server : slice_get s.nodes b ≡ Some server
-  pub pairs : PairsBy (pair_refusal credits client.lists) (pair_refusal credits server.lists) a b credits client server s x t
+  pub pairs : PairsBy (pair_refusal credits client.lists) (pair_refusal credits server.lists) a b
+      credits client server s x t
 
 -- an event of the network alone
 pub record OfNet (e : Event) (s : Stage) (x : List Fact) (t : Stage) : Type 0 where
@@ -87,7 +101,8 @@ pub record Carries (i : ℕ) (s : Stage) (x : List Fact) (t : Stage) : Type 0 wh
   pub is_copy : slice_get s.flight i ≡ Some copy
   pub delivered : List Fact
   pub facts : x ≡ of_net (Carried i) ∷ delivered
-  pub arrives : AtNode (Delivers copy.from copy.bytes) copy.to (record s { flight = remove s.flight i }) delivered t
+  pub arrives : AtNode (Delivers copy.from copy.bytes) copy.to
+      (record s { flight = remove s.flight i }) delivered t
 
 -- arrive I
 abbrev pub Arrives : ℕ → Stage → List Fact → Stage → Type 0
@@ -98,13 +113,14 @@ pub record Ticks (by : ℕ) (s : Stage) (x : List Fact) (t : Stage) : Type 0 whe
   pub facts : x ≡ of_net (Ticked by) ∷ []
   pub left : t ≡ record s { clock = s.clock + by }
 
--- a poll of node n at the world's clock: its worked jobs are finished in the order of working, and it sends until
--- nothing is ready
+-- a poll of node n at the world's clock: its worked jobs are finished in the order of working, and
+-- it sends until nothing is ready
 abbrev pub PollsNode : ℕ → Stage → List Fact → Stage → Type 0
 PollsNode n s x t = AtNode (PollBy (FinishesWorked s.worked) SendsAll plain_mode s.clock) n s x t
 
 -- one group, and then the others
-pub record Joins (P Q : Stage → List Fact → Stage → Type 0) (s : Stage) (h : List Fact) (t : Stage) : Type 0 where
+pub record Joins (P Q : Stage → List Fact → Stage → Type 0) (s : Stage) (h : List Fact) (t : Stage)
+    : Type 0 where
   pub between : Stage
   pub group : List Fact
   pub rest : List Fact
@@ -135,10 +151,11 @@ WorksFirst (suc n) s x t = Joins (WorksFirst n) (WorksNode n) s x t
 abbrev pub WorksAndPolls : ℕ → Stage → List Fact → Stage → Type 0
 WorksAndPolls n s x t = Joins (WorksFirst n) (PollsFirst n) s x t
 
--- a round carries copy 0 as many times as copies were in flight at its start, and then works and polls each
--- node
+-- a round carries copy 0 as many times as copies were in flight at its start, and then works and
+-- polls each node
 abbrev pub Round : Stage → List Fact → Stage → Type 0
-Round s x t = Joins (Times (Carries 0) (length s.flight)) (λ u. WorksAndPolls (length u.nodes) u) s x t
+Round s x t =
+    Joins (Times (Carries 0) (length s.flight)) (λ u. WorksAndPolls (length u.nodes) u) s x t
 
 abbrev pub is_polled : Event → Bool
 is_polled (Polled now) = true
@@ -149,7 +166,8 @@ abbrev pub Unless : Bool → (Stage → List Fact → Stage → Type 0) → Stag
 Unless true P s x t = (x ≡ []) × (t ≡ s)
 Unless false P s x t = P s x t
 
-pub record RoundAnd (P : Stage → List Fact → Stage → Type 0) (s : Stage) (x : List Fact) (t : Stage) : Type 0 where
+pub record RoundAnd (P : Stage → List Fact → Stage → Type 0) (s : Stage) (x : List Fact) (t : Stage)
+    : Type 0 where
   pub between : Stage
   pub round : List Fact
   pub rest : List Fact

@@ -1,4 +1,5 @@
-//! Scripts of the simulation: what they are, which histories follow them, and the report of a history.
+//! Scripts of the simulation: what they are, which histories follow them, and the report of a
+//! history.
 #![tactic(auto)]
 
 mod report;

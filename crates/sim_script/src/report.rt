@@ -8,17 +8,18 @@ use report_text::{print_facts, text_tells};
 use rpc_laws::History;
 use rpc_outside::{Failed, Sink};
 
-/// Writes the report of a history: a first line, a line for each fact, and a last line with their number.
-/// It takes no memory. `Failed` comes only where the sink counts one more fault; a front of the report was
-/// then written.
+/// Writes the report of a history: a first line, a line for each fact, and a last line with their
+/// number. It takes no memory. `Failed` comes only where the sink counts one more fault; a front of
+/// the report was then written.
 pub fn print<K: Sink>(history: &History, sink: &mut K) -> Result<(), Failed>
-    ensures { Prints (K.written sink.old) (K.written sink.new) (K.faults sink.old) (K.faults sink.new) result (text history.now) }
+    ensures { Prints (K.written sink.old) (K.written sink.new) (K.faults sink.old)
+        (K.faults sink.new) result (text history.now) }
 {
     print_facts(history.facts(), sink)
 }
 
-/// A law: two histories with the same report are the same, where no fact has other bytes than those that
-/// its line shows. So a report names one history.
+/// A law: two histories with the same report are the same, where no fact has other bytes than those
+/// that its line shows. So a report names one history.
 pub fn report_tells(one: &History, other: &History)
     requires one { AllTold one.now }
     requires other { AllTold other.now }

@@ -34,7 +34,8 @@ use Rattle.server_core.specs.declared.step.Step.{Step}
 use Rattle.server_core.specs.declared.step.Step.TheVariants.{Took, Again, Ran, Give, Dropped}
 use Rattle.sim_server.specs.Ends.{WhereTaken, after_row, answer_bytes, ask_with, asked_bytes, gives, gives_job, is_taken, is_wanting, job_given, parcel_of, replied, runs, shown_job, taken, takes, total_after_row}
 use Rattle.sim_server.proofs.ServiceLemmas.{answer-is, by-worker, total-next}
-use Rattle.server_core.proofs.FoundLemmas.{found-any, found-changed, found-passes, found-shown, none-any, none-without}
+use Rattle.server_core.proofs.FoundLemmas.{found-any, found-changed, found-passes, found-shown, none-without}
+use Rattle.rpc_base.proofs.FindLemmas.{missing-none}
 
 -- the number of the newest request of a slot
 abbrev number_of : Option SlotRequest → Option ℕ
@@ -72,7 +73,7 @@ module _ (h : MessageHeader) (body : List ℕ) (v : Server) where
   takes-found : (o : Option ServedRequest) → find (is_request h.request) v.slots ≡ o → find (is_request h.request) (takes h body v).slots ≡ Some (joined_to o)
   takes-found None e =
       let rest : find (is_request h.request) (without_first (in_slot_of h.request) v.slots) ≡ None = none-without (is_request h.request) (in_slot_of h.request) v.slots e in
-      rw (none-any (is_request h.request) v.slots e, find-append (is_request h.request) (without_first (in_slot_of h.request) v.slots) (first_packet h.request h body ∷ []), rest, eq-eqb h.request h.request refl) refl
+      rw (missing-none (is_request h.request) v.slots e, find-append (is_request h.request) (without_first (in_slot_of h.request) v.slots) (first_packet h.request h body ∷ []), rest, eq-eqb h.request h.request refl) refl
   takes-found (Some l) e =
       rw (found-any (is_request h.request) v.slots l e, found-changed (is_request h.request) (next_packet body) v.slots (λ x. refl), e) refl
 

@@ -22,7 +22,7 @@ use Rattle.rpc_outside.specs.PlainStands.{PlainStands}
 use Rattle.rpc_outside.specs.declared.service.Mode.{Mode}
 use Rattle.server_core.specs.Finishing.{is_waiting}
 use Rattle.server_core.specs.Rows.{row_of}
-use Rattle.server_core.specs.Session.{IsSession, Session, is_in_slot, newest}
+use Rattle.server_core.specs.Session.{IsSession, Session, is_at_work, is_in_slot, newest}
 use Rattle.server_core.specs.Shown.{shown}
 use Rattle.server_core.specs.Steps.{IfGiven, IsAsking, IsParcel, IsStepOf, UnlessRan}
 use Rattle.server_core.specs.declared.slot.SlotRequest.{SlotRequest}
@@ -33,7 +33,8 @@ use Rattle.server_core.proofs.StepLemmas.{asked-begun, none-shown}
 use Rattle.server_core.proofs.TableLemmas.{row-begins}
 use Rattle.sim_server.specs.Ends.{WhereTaken, after_row, gives, gives_job, is_taken, is_wanting, parcel_of, plain_row, runs, taken, takes}
 use Rattle.sim_server.proofs.EndLemmas.{Handled, HasStepped, row-end}
-use Rattle.server_core.proofs.FoundLemmas.{found-any, found-other, found-without, none-any}
+use Rattle.server_core.proofs.FoundLemmas.{found-any, found-other, found-without}
+use Rattle.rpc_base.proofs.FindLemmas.{missing-none}
 
 or-none : {A : Type 0} (o : Option A) → option_or o None ≡ o
 or-none None = refl
@@ -53,7 +54,7 @@ module _ (h : MessageHeader) (body : List ℕ) (v : Server) (r : ℕ) (other : r
   takes-other None e apart =
       let off : (x : ServedRequest) → is_request r x ≡ true → in_slot_of h.request x ≡ false = λ x p. ap (λ n. eqb (n % 8) (h.request % 8)) (eqb-true x.number r p) ∙ apart refl in
       let rest = found-without (is_request r) (in_slot_of h.request) v.slots off in
-      rw (none-any (is_request h.request) v.slots e, find-append (is_request r) (without_first (in_slot_of h.request) v.slots) (first_packet h.request h body ∷ []), rest, ne_eqb h.request r (λ same. other (sym same))) (or-none (find (is_request r) v.slots))
+      rw (missing-none (is_request h.request) v.slots e, find-append (is_request r) (without_first (in_slot_of h.request) v.slots) (first_packet h.request h body ∷ []), rest, ne_eqb h.request r (λ same. other (sym same))) (or-none (find (is_request r) v.slots))
   takes-other (Some l) e apart =
       rw (found-any (is_request h.request) v.slots l e) (found-other (is_request r) (is_request h.request) (next_packet body) v.slots (λ x. refl) away)
 
@@ -69,7 +70,7 @@ keeps-by total h ask body v r idle apart was = elim (cases_eq r h.request) [
 
 -- where a request begins no worker has the newest one of its slot
 module _ (pool : Pool) (s : Session) (sound : IsSession s) where
-  no-work : (r : ℕ) (o : Option SlotRequest) → newest r s ≡ o → IfSome o (λ q. q.working ≡ false) → is_waiting r (shown pool s) ≡ false
+  no-work : (r : ℕ) (o : Option SlotRequest) → newest r s ≡ o → IfSome o (λ q. is_at_work q.state ≡ false) → is_waiting r (shown pool s) ≡ false
   no-work r None e idle = waiting-none pool s r sound (rw e tt)
   no-work r (Some q) e idle = elim (cases_eq q.number r) [
     | inl same ↦ waiting-own pool s r q sound e same ∙ idle
@@ -79,7 +80,7 @@ module _ (pool : Pool) (s : Session) (sound : IsSession s) where
   apart-cases : (mode : Mode) (full : Bool) (h : MessageHeader) (r : ℕ) (b : Bool) → eqb (r % 8) (h.request % 8) ≡ b → row_of mode full h s ≡ Begins → is_waiting r (shown pool s) ≡ true → b ≡ false
   apart-cases mode full h r true t e was =
       let slot : newest h.request s ≡ newest r s = ap (λ k. find (is_in_slot k) s.slots) (sym (eqb-true (r % 8) (h.request % 8) t)) in
-      let idle : IfSome (newest r s) (λ q. q.working ≡ false) = subst (λ o. IfSome o (λ q. q.working ≡ false)) slot (begins-idle mode full h s e) in
+      let idle : IfSome (newest r s) (λ q. is_at_work q.state ≡ false) = subst (λ o. IfSome o (λ q. is_at_work q.state ≡ false)) slot (begins-idle mode full h s e) in
       let none = no-work r (newest r s) refl idle in cc
   apart-cases mode full h r false t e was = refl
 

@@ -6,6 +6,3 @@
 mod end;
 
 pub use end::ServerEnd;
-
-#[cfg(test)]
-mod tests;

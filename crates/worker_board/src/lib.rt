@@ -1,4 +1,5 @@
-//! Requests on their way to a worker and back. It knows nothing of threads or of what a request asks.
+//! Requests on their way to a worker and back. It knows nothing of threads or of what a request
+//! asks.
 #![tactic(auto)]
 
 use message_buffer::MsgBuf;

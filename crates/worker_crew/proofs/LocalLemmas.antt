@@ -5,6 +5,7 @@ use Rattle.std.proofs.lemmas.List.{map-append}
 use Rattle.std.proofs.lemmas.List.Sorted.{IsPermutation-middle, IsPermutation-sym}
 use Rattle.worker_board.specs.declared.Parcel.{Parcel}
 use Rattle.worker_crew.specs.Local.{Local, Works, answered}
+use Rattle.rpc_base.proofs.FirstLemmas.{all-both}
 
 around : {A B : Type 0} (f : A → B) (x : A) (xs ys : List A) → map f (xs ++ x ∷ ys) ≡ map f xs ++ f x ∷ map f ys
 around f x xs ys = map-append f xs (x ∷ ys)
@@ -22,13 +23,6 @@ goes-in f x xs ys zs e =
     let same : zs ++ ys ≡ xs ++ x ∷ ys = ap (λ l. l ++ ys) e ∙ append_assoc xs (x ∷ []) ys in
     subst (λ l. IsPermutation (f x ∷ map f (xs ++ ys)) (map f l)) (sym same) (IsPermutation-sym _ _ back)
 
-all-append : {A : Type 0} (P : A → Type 0) (xs ys : List A) → AllByRecursion P xs → AllByRecursion P ys → AllByRecursion P (xs ++ ys)
-all-append P [] ys h k = k
-all-append P (x ∷ xs) ys h k = (h.0, all-append P xs ys h.1 k)
-
-pub all-with : {A : Type 0} (P : A → Type 0) (xs : List A) (x : A) → AllByRecursion P xs → P x → AllByRecursion P (xs ++ x ∷ [])
-all-with P xs x h k = all-append P xs (x ∷ []) h (k, tt)
-
 all-take : {A : Type 0} (P : A → Type 0) (n : ℕ) (xs : List A) → AllByRecursion P xs → AllByRecursion P (take n xs)
 all-take P zero xs h = tt
 all-take P (suc n) [] h = tt
@@ -40,7 +34,7 @@ all-drop P (suc n) [] h = tt
 all-drop P (suc n) (x ∷ xs) h = all-drop P n xs h.1
 
 pub all-without : {A : Type 0} (P : A → Type 0) (xs : List A) (i : ℕ) → AllByRecursion P xs → AllByRecursion P (remove xs i)
-all-without P xs i h = all-append P (take i xs) (drop (suc i) xs) (all-take P i xs h) (all-drop P (suc i) xs h)
+all-without P xs i h = all-both P (take i xs) (drop (suc i) xs) (all-take P i xs h) (all-drop P (suc i) xs h)
 
 pub works : (answer : ℕ → List ℕ → List ℕ) (j limit given : ℕ) (waiting worked left done : List Parcel) (job back : Parcel) (old : Local)
     → record { limit = limit; given = given; waiting = waiting; worked = worked } ≡ old → slice_get waiting j ≡ Some job

@@ -17,8 +17,8 @@ pub record Local : Type 0 where
 abbrev pub out_of : Local → List Job
 out_of s = map job_of (s.waiting ++ s.worked)
 
--- no more jobs are out than the limit; those that wait have room for their answers, those that are worked
--- have them
+-- no more jobs are out than the limit; those that wait have room for their answers, those that are
+-- worked have them
 pub record IsSound (answer : ℕ → List ℕ → List ℕ) (s : Local) : Type 0 where
   pub few : length s.waiting + length s.worked ≤ s.limit
   pub room : AllByRecursion (HasRoom answer) s.waiting
@@ -29,11 +29,16 @@ abbrev pub answered : (ℕ → List ℕ → List ℕ) → Parcel → Parcel
 answered answer p = record p { out = written 0 (answer p.req_type (bytes_of p.ask)) p.out }
 
 -- waiting job j is worked, and comes behind those worked before
-pub record Works (answer : ℕ → List ℕ → List ℕ) (j session request : ℕ) (old new : Local) : Type 0 where
+pub record Works (answer : ℕ → List ℕ → List ℕ) (j session request : ℕ) (old new : Local)
+    : Type 0 where
   pub job : Parcel
   pub is_job : slice_get old.waiting j ≡ Some job
   pub named : (session ≡ job.session) × (request ≡ job.request)
-  pub left : new ≡ record old { waiting = remove old.waiting j; worked = old.worked ++ answered answer job ∷ [] }
+  pub left : new ≡ record old {
+    waiting = remove old.waiting j;
+    worked = old.worked
+        ++ answered answer job ∷ [];
+  }
 
 -- the job waits behind all others
 abbrev pub given_to : Parcel → Local → Local

@@ -6,18 +6,15 @@ ghost use Rattle.worker_crew.specs.Jobs.{job_of, HasRoom, IsAnswered, IsFull, Ta
 ghost use Rattle.worker_crew.specs.Local.{Works, answered, given_to, out_of};
 
 use crate::workers::{Finished, Workers};
-use rpc_base::{NoMemory, RequestNo, SessionNo};
+use rpc_base::{MOST_GIVEN, NoMemory, RequestNo, SessionNo};
 use rpc_outside::Duty;
 use std::alloc::Global;
 use std::collections::VecDeque;
 use std::marker::Model;
 use worker_board::Parcel;
 
-/// After so many jobs no more are taken.
-const MOST_GIVEN: u64 = 1 << 61;
-
-/// Workers that work a job when they are told to, on the thread that tells them. Contracts see the jobs
-/// that wait, in order of giving, and those that are worked, in order of working.
+/// Workers that work a job when they are told to, on the thread that tells them. Contracts see the
+/// jobs that wait, in order of giving, and those that are worked, in order of working.
 #[derive(Debug, Drop)]
 pub struct LocalWorkers<D: Duty> {
     duty: D,
@@ -40,12 +37,17 @@ impl<D: Duty> Model for LocalWorkers<D> {
 }
 
 impl<D: Duty> LocalWorkers<D> {
-    /// Workers by this duty, to which at most `jobs` jobs may be given and not taken. The memory for them
-    /// is taken here; `NoMemory` comes only where there is none, and never for no jobs.
+    /// Workers by this duty, to which at most `jobs` jobs may be given and not taken. The memory
+    /// for them is taken here; `NoMemory` comes only where there is none, and never for no jobs.
     pub fn new(alloc: Global, duty: D, jobs: u32) -> Result<LocalWorkers<D>, NoMemory>
     where
         D: Drop,
-        ensures made { IfOk result (λ w. w ≡ record { limit = jobs; given = 0; waiting = []; worked = [] }) }
+        ensures made { IfOk result (λ w. w ≡ record {
+          limit = jobs;
+          given = 0;
+          waiting = [];
+          worked = [];
+        }) }
         ensures succeeds { jobs ≡ 0 → IsOk result }
     {
         let waiting = VecDeque::with_capacity(alloc, jobs as usize)?;
@@ -59,8 +61,8 @@ impl<D: Duty> LocalWorkers<D> {
         })
     }
 
-    /// Works waiting job `j`, in order of giving from 0 on, and tells whose it is. `None` comes exactly
-    /// where there is no such job, and then nothing changed.
+    /// Works waiting job `j`, in order of giving from 0 on, and tells whose it is. `None` comes
+    /// exactly where there is no such job, and then nothing changed.
     pub fn work(&mut self, j: u32) -> Option<(SessionNo, RequestNo)>
         ensures none { IsNone result ↔ (length self.old.waiting ≤ j) }
         ensures unchanged { IfNone result (self.new ≡ self.old) }
@@ -130,11 +132,13 @@ impl<D: Duty> Workers for LocalWorkers<D> {
     fn give(&mut self, job: Parcel) -> Result<(), Parcel>
         requires room { HasRoom D.answer job }
         ensures waits { OnOk result (self.new ≡ given_to job self.old) }
-        ensures full { IsErr result ↔ IsFull self.old.limit (length (out_of self.old)) self.old.given }
+        ensures full { IsErr result ↔ IsFull self.old.limit (length (out_of self.old))
+            self.old.given }
         ensures out { OnOk result (IsPermutation (job_of job ∷ out_of self.old) (out_of self.new)) }
         ensures given { OnOk result (self.new.given ≡ self.old.given + 1) }
         ensures handed_back { IfErr result (λ back. back ≡ job) }
-        ensures unchanged { OnErr result ((out_of self.new ≡ out_of self.old) × (self.new.given ≡ self.old.given)) }
+        ensures unchanged { OnErr result ((out_of self.new ≡ out_of self.old)
+            × (self.new.given ≡ self.old.given)) }
         ensures same { OnErr result (self.new ≡ self.old) }
         ensures worked { Some self.new.worked ≡ Some self.old.worked }
         ensures limit { self.new.limit ≡ self.old.limit }
@@ -154,11 +158,13 @@ impl<D: Duty> Workers for LocalWorkers<D> {
     /// As the trait says; nothing else changes.
     fn take(&mut self) -> Option<Finished>
         ensures lists { self.new ≡ record self.old { worked = drop 1 self.old.worked } }
-        ensures out { IfSome result (λ f. IsPermutation (out_of self.old) (job_of f.parcel ∷ out_of self.new)) }
+        ensures out { IfSome result (λ f. IsPermutation (out_of self.old)
+            (job_of f.parcel ∷ out_of self.new)) }
         ensures answered { IfSome result (λ f. (f.worked ≡ true) × IsAnswered D.answer f.parcel) }
         ensures first { TakesFirst (Some self.old.worked) (Some self.new.worked) result }
         ensures unchanged { IfNone result (out_of self.new ≡ out_of self.old) }
-        ensures unfinished { IfNone result (FoundUnfinished (Some self.old.worked) (length (out_of self.old)) 0 0) }
+        ensures unfinished { IfNone result (FoundUnfinished (Some self.old.worked)
+            (length (out_of self.old)) 0 0) }
         ensures given { self.new.given ≡ self.old.given }
         ensures limit { self.new.limit ≡ self.old.limit }
     {

@@ -33,15 +33,17 @@ pub trait Workers {
     // How often a job was looked at and found unfinished.
     ghost looks: { Self → ℕ };
 
-    /// Gives a job, whose buffer for the answer has the answer's length. Err comes exactly where the
-    /// workers are full, and hands the job back.
+    /// Gives a job, whose buffer for the answer has the answer's length. Err comes exactly where
+    /// the workers are full, and hands the job back.
     fn give(&mut self, job: Parcel) -> Result<(), Parcel>
         requires room { HasRoom answer job }
-        ensures full { IsErr result ↔ IsFull (limit self.old) (length (out self.old)) (given self.old) }
+        ensures full { IsErr result ↔ IsFull (limit self.old) (length (out self.old))
+            (given self.old) }
         ensures out { OnOk result (IsPermutation (job_of job ∷ out self.old) (out self.new)) }
         ensures given { OnOk result (given self.new ≡ given self.old + 1) }
         ensures handed_back { IfErr result (λ back. back ≡ job) }
-        ensures unchanged { OnErr result ((out self.new ≡ out self.old) × (given self.new ≡ given self.old)) }
+        ensures unchanged { OnErr result ((out self.new ≡ out self.old)
+            × (given self.new ≡ given self.old)) }
         ensures worked { worked self.new ≡ worked self.old }
         ensures limit { limit self.new ≡ limit self.old }
         ensures looks { looks self.new ≡ looks self.old };
@@ -52,11 +54,13 @@ pub trait Workers {
 
     /// Takes a job that is worked: it was given, its buffer has the answer, and it comes once.
     fn take(&mut self) -> Option<Finished>
-        ensures out { IfSome result (λ f. IsPermutation (out self.old) (job_of f.parcel ∷ out self.new)) }
+        ensures out { IfSome result (λ f. IsPermutation (out self.old)
+            (job_of f.parcel ∷ out self.new)) }
         ensures answered { IfSome result (λ f. (f.worked ≡ true) × IsAnswered answer f.parcel) }
         ensures first { TakesFirst (worked self.old) (worked self.new) result }
         ensures unchanged { IfNone result (out self.new ≡ out self.old) }
-        ensures unfinished { IfNone result (FoundUnfinished (worked self.old) (length (out self.old)) (looks self.old) (looks self.new)) }
+        ensures unfinished { IfNone result (FoundUnfinished (worked self.old)
+            (length (out self.old)) (looks self.old) (looks self.new)) }
         ensures given { given self.new ≡ given self.old }
         ensures limit { limit self.new ≡ limit self.old }
         ensures looks { looks self.old ≤ looks self.new };

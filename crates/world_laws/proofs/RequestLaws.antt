@@ -3,7 +3,7 @@ use Rattle.std.proofs.Common.{◌≡◌, ◌+◌, ℕ, cond, Bool, List, [], ◌
 use Rattle.std.specs.Prelude.{◌||◌, count_by, if◌then◌else◌}
 use Rattle.std.specs.List.{list_any}
 use Rattle.node_laws.proofs.RequestTableLaws.{requests_tell}
-use Rattle.node_laws.proofs.TableLemmas.{counted-cons}
+use Rattle.rpc_base.proofs.FirstLemmas.{counted-cons}
 use Rattle.node_laws.specs.CallHistory.{latest_first}
 use Rattle.node_laws.specs.EndedSessions.{ends_session}
 use Rattle.node_laws.specs.OlderRequests.{takes_request}

@@ -2,7 +2,7 @@
 use Rattle.std.proofs.Common.{◌≡◌, ◌<◌, ◌||◌, ◌⊎◌, inl, inr, ℕ, zero, suc, nat_lt, Bool, true, false, cond, List, [], ◌∷◌, ◌++◌, length, Option, Some, None, slice_get, refl, sym, ap, ◌∙◌, subst, append_assoc, arith, leb-false}
 use Rattle.std.specs.Bool.{MatchBool}
 use Rattle.std.specs.List.{list_all, remove, slice_set}
-use Rattle.end_laws.proofs.ListLemmas.{false-true, set-other}
+use Rattle.end_laws.proofs.ListLemmas.{set-other}
 use Rattle.end_laws.specs.TwoNodes.{PairsTwo, PairsTwoNodes}
 use Rattle.network_model.specs.declared.stage.Stage.{Stage}
 use Rattle.node_laws.specs.NodeRun.{IsCredits, MayPair, Notes, asks, connects, delivers, disconnects, pairs_client, pairs_server, polls, refuses, sets_rate}
@@ -32,6 +32,7 @@ use Rattle.end_laws.proofs.OwnFacts.{Still, asks-own, connects-own, delivers-own
 use Rattle.world_laws.proofs.RunLemmas.{Runs, Running, NodeRuns, runs-none, mine-group, one-group, step-runs, at-runs-all, at-runs, net-runs, made-runs}
 use Rattle.world_laws.proofs.WorkLemmas.{times_worked, worked-cons}
 use Rattle.world_laws.proofs.WorkSteps.{all-groups, all-mine, works-group, works-mine}
+use Rattle.rpc_base.proofs.BasicLemmas.{false-true}
 
 -- session control is not kept out here
 not-still : {l : Lists} → Still false l

@@ -8,7 +8,7 @@ use Rattle.node_laws.proofs.Allowed.{Allowed, AllAllowed, allowed-of}
 use Rattle.node_laws.proofs.JobLemmas.{run-spends}
 use Rattle.node_laws.proofs.LeftLemmas.{falls-due}
 use Rattle.node_laws.proofs.ServantLemmas.{left-after}
-use Rattle.node_laws.proofs.TableLemmas.{sum-fewer}
+use Rattle.rpc_base.proofs.FirstLemmas.{sum-fewer}
 use Rattle.node_laws.proofs.ValidLemmas.{valid_after}
 use Rattle.node_laws.specs.Valid.{is_due, jobs_of, to_give, Valid}
 use Rattle.rpc_base.specs.Tables.{without_first}
@@ -27,6 +27,7 @@ use Rattle.rpc_laws.specs.Jobs.{is_job}
 use Rattle.rpc_laws.specs.NodeLists.{after, after_all}
 use Rattle.rpc_laws.specs.Working.{is_worked, worked_after, worked_after_all, worked_after_node, worked_at}
 use Rattle.end_laws.proofs.OwnFacts.{AllOwn, is_work}
+use Rattle.rpc_base.proofs.BasicLemmas.{and-false}
 
 abbrev pub to_work : List WorkedJob → (t r : ℕ) → Lists → ℕ
 to_work worked t r l =
@@ -63,10 +64,6 @@ module _ {A : Type 0} (p : A → Bool) where
   pub any-out : (q : A → Bool) (xs : List A) → ((x : A) → q x ≡ true → p x ≡ false) → list_any p (without_first q xs) ≡ list_any p xs
   any-out q [] apart = refl
   any-out q (x ∷ xs) apart = out-by q x xs (q x) refl (apart x) (any-out q xs apart)
-
-and-false : (b : Bool) → (b && false) ≡ false
-and-false true = refl
-and-false false = refl
 
 -- entries of another request, and of another node
 other-request : (me t r n k : ℕ) → (n == t && k == r) ≡ false → (w : WorkedJob) → is_worked me n k w ≡ true → is_worked me t r w ≡ false

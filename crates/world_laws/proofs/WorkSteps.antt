@@ -21,6 +21,7 @@ use Rattle.rpc_laws.specs.Working.{is_worked, waiting_of, work_of, worked_after_
 use Rattle.rpc_outside.specs.PlainAnswer.{plain_mode}
 use Rattle.world_laws.proofs.RunLemmas.{Groups, Mine, mine-works}
 use Rattle.world_laws.proofs.WorkLemmas.{AllMay, AllNode, any-same, times_worked, to_work, works-spend}
+use Rattle.rpc_base.proofs.BasicLemmas.{not-true}
 
 -- a job that waits is out, and wasn't worked
 pub record Waits (worked : List WorkedJob) (me : ℕ) (out : List Job) (job : Job) : Type 0 where
@@ -48,10 +49,6 @@ waits-more worked me out job j w =
 all-more : (worked : List WorkedJob) (me : ℕ) (out : List Job) (job : Job) (jobs : List Job) → AllByRecursion (Waits worked me out) jobs → AllByRecursion (Waits worked me (job ∷ out)) jobs
 all-more worked me out job [] h = tt
 all-more worked me out job (j ∷ jobs) h = (waits-more worked me out job j h.0, all-more worked me out job jobs h.1)
-
-not-true : (b : Bool) → not b ≡ true → b ≡ false
-not-true true e = cc
-not-true false e = refl
 
 wait-by : (worked : List WorkedJob) (me : ℕ) (job : Job) (out : List Job) (b : Bool) → not (list_any (is_worked me job.session job.request) worked) ≡ b → AllByRecursion (Waits worked me out) (filter (λ (j : Job). not (list_any (is_worked me j.session j.request) worked)) out) → AllByRecursion (Waits worked me (job ∷ out)) (cond b (job ∷ filter (λ (j : Job). not (list_any (is_worked me j.session j.request) worked)) out) (filter (λ (j : Job). not (list_any (is_worked me j.session j.request) worked)) out))
 wait-by worked me job out true e h =

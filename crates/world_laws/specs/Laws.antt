@@ -17,9 +17,12 @@ use Rattle.sim_script.specs.FollowsScript.{Follows}
 use Rattle.world_laws.specs.FewCredits.{PairsFewCredits}
 use Rattle.world_laws.specs.NodeFacts.{facts_of, ring_of, RunsOf}
 
--- of every history that follows a script in which each pairing is of two nodes and has 1 to 256 credits
+-- of every history that follows a script in which each pairing is of two nodes and has 1 to 256
+-- credits
 abbrev pub OfEveryHistory : (List Fact → Type 0) → Type 0
-OfEveryHistory P = (script : List Line) (h : List Fact) → PairsTwoNodes script → PairsFewCredits script → Follows script h → P h
+OfEveryHistory P =
+    (script : List Line) (h : List Fact) → PairsTwoNodes script → PairsFewCredits script
+    → Follows script h → P h
 
 -- of each node of a history: of the facts of each number
 abbrev pub EachNode : (List Fact → Type 0) → List Fact → Type 0
@@ -35,15 +38,20 @@ KeepsRing facts = RingWithin (ring_of facts) [] facts
 
 -- in this stage the table of requests of each node says what the node's facts tell
 abbrev pub TablesTell : List Fact → Stage → Type 0
-TablesTell h end = (n : ℕ) (t : Timed) → slice_get end.nodes n ≡ Some t → TellsRequests (latest_first [] (facts_of n h)) t.lists
+TablesTell h end =
+    (n : ℕ) (t : Timed) → slice_get end.nodes n ≡ Some t
+    → TellsRequests (latest_first [] (facts_of n h)) t.lists
 
 -- so it does in the stage that a history of the script leaves
 abbrev pub EndTells : List Line → List Fact → Type 0
 EndTells script h = (f : Follows script h) → TablesTell h f.0
 
--- each node's facts are its Made and a run that leaves it as it is at the end; no other number has facts
+-- each node's facts are its Made and a run that leaves it as it is at the end; no other number has
+-- facts
 abbrev pub FollowsRuns : Type 0
-FollowsRuns = (script : List Line) (h : List Fact) → PairsTwoNodes script → PairsFewCredits script → (f : Follows script h) → RunsOf h f.0
+FollowsRuns =
+    (script : List Line) (h : List Fact) → PairsTwoNodes script → PairsFewCredits script
+    → (f : Follows script h) → RunsOf h f.0
 
 -- no request runs twice at a node, and no call begins or ends twice
 abbrev pub HappensAtMostOnce : Type 0
@@ -57,13 +65,16 @@ CreditBalances = OfEveryNode Credit
 abbrev pub EndedCallsAreNotQueued : Type 0
 EndedCallsAreNotQueued = OfEveryNode (EndsClean [])
 
--- where a packet of a request is taken, no reply to an older request of its slot is queued or posted later
+-- where a packet of a request is taken, no reply to an older request of its slot is queued or
+-- posted later
 abbrev pub OlderRequestsAreNotQueued : Type 0
 OlderRequestsAreNotQueued = OfEveryNode (BeginsClean [])
 
 -- at the end the table of requests of each node says what the node's facts tell
 abbrev pub RequestsTellTheHistory : Type 0
-RequestsTellTheHistory = (script : List Line) (h : List Fact) → PairsTwoNodes script → PairsFewCredits script → EndTells script h
+RequestsTellTheHistory =
+    (script : List Line) (h : List Fact) → PairsTwoNodes script → PairsFewCredits script
+    → EndTells script h
 
 -- a node's ring is never longer than the one that it was made with
 abbrev pub RingFits : Type 0

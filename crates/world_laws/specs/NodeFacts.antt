@@ -16,8 +16,8 @@ use Rattle.rpc_laws.specs.UsualLimits.{with_ring}
 abbrev pub facts_of : ℕ → List Fact → List Fact
 facts_of n h = filter (λ f. is_at n f.who) h
 
--- these facts are node n's Made, and then a run of a node with this number and the ring that it was made with.
--- The run leaves the node as t
+-- these facts are node n's Made, and then a run of a node with this number and the ring that it was
+-- made with. The run leaves the node as t
 pub record IsRun (n : ℕ) (facts : List Fact) (t : Timed) : Type 0 where
   pub ring : ℕ
   pub later : List Fact

@@ -1,5 +1,6 @@
-//! Laws of every history that follows a script, of each of its nodes. Each pairing of the script is of two
-//! nodes, and each session that it pairs or connects has 1 to 256 credits, as in every `Script`.
+//! Laws of every history that follows a script, of each of its nodes. Each pairing of the script is
+//! of two nodes, and each session that it pairs or connects has 1 to 256 credits, as in every
+//! `Script`.
 ghost use Rattle.std.specs.Prelude.{List};
 ghost use Rattle.rpc_base.specs.declared.fact.Fact.{Fact};
 ghost use Rattle.script_grammar.specs.Conditions.{IsScript};
@@ -7,7 +8,8 @@ ghost use Rattle.script_grammar.specs.declared.line.Line.{Line};
 ghost use Rattle.world_laws.specs.FewCredits.{PairsFewCredits};
 ghost use Rattle.world_laws.specs.Laws.{CreditBalances, EndedCallsAreNotQueued, EndedSessionsAreNotQueued, FollowsRuns, HappensAtMostOnce, InboxFits, OlderRequestsAreNotQueued, RequestsTellTheHistory, RingFits};
 
-/// The facts of each node are its `Made` and a run of that node, which leaves it as the history does.
+/// The facts of each node are its `Made` and a run of that node, which leaves it as the history
+/// does.
 pub fn follows_runs()
     ensures { FollowsRuns }
 {}
@@ -17,8 +19,8 @@ pub fn happens_at_most_once()
     ensures { HappensAtMostOnce }
 {}
 
-/// At every moment, the unanswered packets of a live client session of a node and its free credits make its
-/// limit.
+/// At every moment, the unanswered packets of a live client session of a node and its free credits
+/// make its limit.
 pub fn credit_balances()
     ensures { CreditBalances }
 {}
@@ -28,15 +30,15 @@ pub fn ended_calls_are_not_queued()
     ensures { EndedCallsAreNotQueued }
 {}
 
-/// Where a packet of a request is taken, no reply to an older request of its slot is queued at its node, and
-/// none is posted there later.
+/// Where a packet of a request is taken, no reply to an older request of its slot is queued at its
+/// node, and none is posted there later.
 pub fn older_requests_are_not_queued()
     ensures { OlderRequestsAreNotQueued }
 {}
 
-/// At the end of a history a request is in its node's table exactly where a packet of it was taken there, and
-/// none of a greater number of its slot; and its type and size, how far it has come, its bytes and its answer
-/// are those of the node's facts.
+/// At the end of a history a request is in its node's table exactly where a packet of it was taken
+/// there, and none of a greater number of its slot; and its type and size, how far it has come, its
+/// bytes and its answer are those of the node's facts.
 pub fn requests_tell_the_history()
     ensures { RequestsTellTheHistory }
 {}
@@ -46,7 +48,8 @@ pub fn ring_fits()
     ensures { RingFits }
 {}
 
-/// Where a server session ends no reply of it is queued at its node, and none is posted there later.
+/// Where a server session ends no reply of it is queued at its node, and none is posted there
+/// later.
 pub fn ended_sessions_are_not_queued()
     ensures { EndedSessionsAreNotQueued }
 {}
@@ -56,7 +59,8 @@ pub fn inbox_fits()
     ensures { InboxFits }
 {}
 
-/// Each session that a `Script` pairs or connects has 1 to 256 credits, so these laws are of all its histories.
+/// Each session that a `Script` pairs or connects has 1 to 256 credits, so these laws are of all
+/// its histories.
 pub fn scripts_pair_few()
     ensures { (script : List Line) → IsScript script → PairsFewCredits script }
 {}

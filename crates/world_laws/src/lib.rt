@@ -1,4 +1,5 @@
-//! The laws of one node's facts, of every node in every history that follows a script. It runs nothing.
+//! The laws of one node's facts, of every node in every history that follows a script. It runs
+//! nothing.
 #![tactic(auto)]
 
 mod laws;

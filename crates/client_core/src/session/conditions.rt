@@ -11,8 +11,8 @@ use packet_rings::Entry;
 use rpc_base::{Peer, RequestNo};
 
 impl ClientSession {
-    /// The entry of a packet that the active call with this request number posted. None comes exactly
-    /// where no active call has the number, or it didn't post the packet.
+    /// The entry of a packet that the active call with this request number posted. None comes
+    /// exactly where no active call has the number, or it didn't post the packet.
     pub fn entry(&self, request: RequestNo, number: u16, peer: Peer) -> Option<Entry>
         ensures entry { result ≡ posted_entry peer request number self.now }
         ensures stands { IfSome result (λ e. IsPacketOf (call_of self.now e) e) }
@@ -26,8 +26,8 @@ impl ClientSession {
         Some(call.entry(self.number, number, peer))
     }
 
-    /// Whether there is a reference to the place of an entry, if it has one, as `sent` and `flushed` want
-    /// it.
+    /// Whether there is a reference to the place of an entry, if it has one, as `sent` and
+    /// `flushed` want it.
     pub fn is_held(&self, pool: &BufferPool, entry: &Entry) -> bool
         requires keeps_pool { KeepsPool pool.now self.now.active }
         requires posted { IsPacketOf (call_of self.now entry.now) entry.now }
@@ -39,12 +39,14 @@ impl ClientSession {
         }
     }
 
-    /// Whether no reference is left to the request of the active call with this number, as `on_reply`
-    /// wants it where the call ends. True where there is no such call.
+    /// Whether no reference is left to the request of the active call with this number, as
+    /// `on_reply` wants it where the call ends. True where there is no such call.
     pub fn is_unheld(&self, pool: &BufferPool, request: RequestNo) -> bool
         requires keeps_pool { KeepsPool pool.now self.now.active }
-        ensures unheld { IfSome (call_as request self.now) (λ c. IsTrue result ↔ IsUnheld pool.now c) }
-        ensures for_reply { IsTrue result → (queued : Bool) → (number : ℕ) → NextIsUnheld pool.now queued number (call_as request self.now) }
+        ensures unheld { IfSome (call_as request self.now)
+            (λ c. IsTrue result ↔ IsUnheld pool.now c) }
+        ensures for_reply { IsTrue result → (queued : Bool) → (number : ℕ)
+            → NextIsUnheld pool.now queued number (call_as request self.now) }
     {
         let Some(call) = self.calls.of_request(request) else {
             return true;

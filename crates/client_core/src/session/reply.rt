@@ -20,18 +20,18 @@ ghost use Rattle.client_core.specs.Session.{IsInTurn};
 ghost use Rattle.client_core.specs.Replies.{IsDone, IsPart, IsTaken, IsUnheld, NextIsUnheld, Replies, after_reply, answered, call_as, end_of, reply_row, returned, rewritten_at, row_told, sized, with_part, without_buffers, without_call};
 
 use super::ClientSession;
-use crate::call::{ActiveCall, is_a_response};
+use crate::call::ActiveCall;
 use crate::outcome::{Done, Outcome, Reply};
 use buffer_pool::BufferPool;
 use message_buffer::MsgBuf;
 use packet_header::{MessageHeader, PART_BYTES, count};
-use rpc_base::{DropReason, SessionNo};
+use rpc_base::{DropReason, MOST_MESSAGE_BYTES, SessionNo};
 use rpc_laws::{ClientRow, EndRow};
 
 impl ClientSession {
-    /// Handles a CR or Response of this session at `now`, in microseconds, by the client table. `queued`
-    /// tells whether the call's packet of the reply's number is queued. A part of an answer goes straight
-    /// into the response buffer.
+    /// Handles a CR or Response of this session at `now`, in microseconds, by the client table.
+    /// `queued` tells whether the call's packet of the reply's number is queued. A part of an
+    /// answer goes straight into the response buffer.
     pub fn on_reply(
         &mut self,
         pool: &mut BufferPool,
@@ -43,22 +43,32 @@ impl ClientSession {
         requires keeps_pool { KeepsPool pool.old self.old.active }
         requires in_range { MessageInRange head.now }
         requires session { head.now.session ≡ self.old.number }
-        // What is queued of a call has numbers from `got` on, so that no entry is left where this is the
-        // only unanswered packet.
-        requires unheld { NextIsUnheld pool.old queued head.now.number (call_as head.now.request self.old) }
-        ensures row { row_told result ≡ reply_row queued head.now (length body.now) (call_as head.now.request self.old) }
+        // What is queued of a call has numbers from `got` on, so that no entry is left where this
+        // is the only unanswered packet.
+        requires unheld { NextIsUnheld pool.old queued head.now.number
+            (call_as head.now.request self.old) }
+        ensures row { row_told result ≡ reply_row queued head.now (length body.now)
+            (call_as head.now.request self.old) }
         // As the client rule says of what is shown, whatever else is queued.
-        ensures rule { (queue : List Queued) → list_any (is_queued (Ask head.now.session head.now.request) head.now.number) queue ≡ queued →
-            (peer : ℕ) → client_row queue (Some (shown pool.old peer self.old)) peer head.now (length body.now) ≡ row_told result }
-        ensures facts { row_told result ≡ Takes → (me peer : ℕ) → client_ending me head.now body.now (Some (shown pool.old peer self.old)) ≡ ending_facts me result }
-        // As the facts Took and Done of the definitions, where no other active call has this call's number.
+        ensures rule { (queue : List Queued) → list_any
+            (is_queued (Ask head.now.session head.now.request) head.now.number) queue ≡ queued →
+            (peer : ℕ) → client_row queue (Some (shown pool.old peer self.old)) peer head.now
+            (length body.now) ≡ row_told result }
+        ensures facts { row_told result ≡ Takes → (me peer : ℕ)
+            → client_ending me head.now body.now (Some (shown pool.old peer self.old))
+            ≡ ending_facts me result }
+        // As the facts Took and Done of the definitions, where no other active call has this call's
+        // number.
         ensures step { IsAloneAfter result self.old → (peer : ℕ) →
-            after_outcome now result head.now body.now (shown pool.old peer self.old) ≡ shown pool.new peer self.new ∷ [] }
+            after_outcome now result head.now body.now (shown pool.old peer self.old)
+            ≡ shown pool.new peer self.new ∷ [] }
         ensures replies { Replies result now head.now body.now self.old self.new pool.old pool.new }
         ensures others { LeavesOthers self.old.active self.new.active pool.old pool.new }
         ensures entries { RepliesKeep result head.now.request self.old self.new }
-        ensures counts { (entries : List EntryValue) → Counts pool.old entries → Counts pool.new entries }
-        ensures queued { (entries : List EntryValue) → CountsQueued self.old entries → CountsQueued self.new entries }
+        ensures counts { (entries : List EntryValue) → Counts pool.old entries
+            → Counts pool.new entries }
+        ensures queued { (entries : List EntryValue) → CountsQueued self.old entries
+            → CountsQueued self.new entries }
         ensures keeps_pool { KeepsPool pool.new self.new.active }
     {
         let Some(call) = self.calls.of_request(head.request) else {
@@ -84,11 +94,12 @@ impl ClientSession {
         requires of_call { head.now.request ≡ call.request }
         requires turn { IsInTurn call }
         requires taken { IsTaken call head.now (length body.now) }
-        requires small { is_response head.now.kind ≡ true → head.now.size ≤ 1048576 }
+        requires small { is_response head.now.kind ≡ true → head.now.size ≤ MOST_MESSAGE_BYTES }
         requires unheld { call.posted ≡ call.got + 1 → IsUnheld pool.old call }
         ensures took { row_told result ≡ Takes }
         ensures replies { Replies result now head.now body.now self.old self.new pool.old pool.new }
-        ensures counts { (entries : List EntryValue) → Counts pool.old entries → Counts pool.new entries }
+        ensures counts { (entries : List EntryValue) → Counts pool.old entries
+            → Counts pool.new entries }
         ensures keeps_pool { KeepsPool pool.new self.new.active }
     {
         match call.end_row(head) {
@@ -121,10 +132,11 @@ impl ClientSession {
         requires active { call_as call.request self.old ≡ Some call }
         requires taken { IsTaken call head.now (length body.now) }
         requires goes_on { end_of head.now call ≡ GoesOn }
-        requires small { is_response head.now.kind ≡ true → head.now.size ≤ 1048576 }
+        requires small { is_response head.now.kind ≡ true → head.now.size ≤ MOST_MESSAGE_BYTES }
         ensures session { self.new ≡ after_reply now head.now call self.old }
         ensures pool { pool.new ≡ answered call head.now body.now pool.old }
-        ensures counts { (entries : List EntryValue) → Counts pool.old entries → Counts pool.new entries }
+        ensures counts { (entries : List EntryValue) → Counts pool.old entries
+            → Counts pool.new entries }
         ensures keeps_pool { KeepsPool pool.new self.new.active }
     {
         self.credits.give_back(call.request.slot());
@@ -140,7 +152,8 @@ impl ClientSession {
         ensures done { IsDone self.old.number outcome call pool.old result }
         ensures session { self.new ≡ without_call call self.old }
         ensures pool { pool.new ≡ without_buffers call pool.old }
-        ensures counts { (entries : List EntryValue) → Counts pool.old entries → Counts pool.new entries }
+        ensures counts { (entries : List EntryValue) → Counts pool.old entries
+            → Counts pool.new entries }
         ensures keeps_pool { KeepsPool pool.new self.new.active }
     {
         self.credits.roll(call.request.slot());
@@ -166,7 +179,7 @@ fn write_part(pool: &mut BufferPool, call: &ActiveCall, head: &MessageHeader, bo
     requires part { is_response head.now.kind ≡ true → IsPart call.now head.now (length body.now) }
     ensures { pool.new ≡ answered call.now head.now body.now pool.old }
 {
-    if is_a_response(head.kind) {
+    if head.kind.is_response() {
         put_part(pool, call, head, body);
     }
 }
@@ -174,7 +187,8 @@ fn write_part(pool: &mut BufferPool, call: &ActiveCall, head: &MessageHeader, bo
 fn put_part(pool: &mut BufferPool, call: &ActiveCall, head: &MessageHeader, body: &[u8])
     requires kept { IsKept pool.old call.now }
     requires part { IsPart call.now head.now (length body.now) }
-    ensures { pool.new ≡ rewritten_at call.now.answer (with_part call.now head.now body.now) (buf_at pool.old call.now.answer) pool.old }
+    ensures { pool.new ≡ rewritten_at call.now.answer (with_part call.now head.now body.now)
+        (buf_at pool.old call.now.answer) pool.old }
 {
     let at = PART_BYTES * (u32::from(head.number) + 1 - count(call.len));
     let buf = pool.get_mut(call.answer);
@@ -182,8 +196,8 @@ fn put_part(pool: &mut BufferPool, call: &ActiveCall, head: &MessageHeader, body
     buf.write(at, body);
 }
 
-// Takes the two buffers of an active call out of the pool. The response buffer has no bytes where the
-// call didn't end well.
+// Takes the two buffers of an active call out of the pool. The response buffer has no bytes where
+// the call didn't end well.
 fn take_buffers(
     pool: &mut BufferPool,
     session: SessionNo,

@@ -30,12 +30,18 @@ impl ClientSession {
     /// tells whether the call's packet `got` is queued.
     pub fn check(&self, call: CallNo, now: u64, queued: bool, timeout: u64) -> Timer
         requires active { IsSome (call_numbered call self.now) }
-        ensures told { IfSome (call_numbered call self.now) (λ c. result ≡ timer_told (call_timer now timeout queued c) c) }
+        ensures told { IfSome (call_numbered call self.now)
+            (λ c. result ≡ timer_told (call_timer now timeout queued c) c) }
         // Where the call hasn't timed out with no packet queued, it hasn't whatever is queued.
-        ensures quiet { queued ≡ false → result ≡ Quiet → IfSome (call_numbered call self.now) (λ c. (b : Bool) → call_timer now timeout b c ≡ Waits) }
+        ensures quiet { queued ≡ false → result ≡ Quiet
+            → IfSome (call_numbered call self.now)
+            (λ c. (b : Bool) → call_timer now timeout b c ≡ Waits) }
         // As the timer rule says of what is shown, whatever else is queued.
-        ensures rule { IfSome (call_numbered call self.now) (λ c. (queue : List Queued) → list_any (is_queued (Ask self.now.number c.request) c.got) queue ≡ queued →
-            (pool : Pool) → IfSome (shown_active pool c).progress (λ p. row_of now timeout self.now.number queue p ≡ call_timer now timeout queued c)) }
+        ensures rule { IfSome (call_numbered call self.now)
+            (λ c. (queue : List Queued) → list_any (is_queued (Ask self.now.number c.request) c.got)
+            queue ≡ queued →
+            (pool : Pool) → IfSome (shown_active pool c).progress
+            (λ p. row_of now timeout self.now.number queue p ≡ call_timer now timeout queued c)) }
     {
         let Some(call) = self.calls.of_number(call) else {
             unreachable!()
@@ -43,20 +49,25 @@ impl ClientSession {
         told(call.timer(now, queued, timeout), &call)
     }
 
-    /// An active call is rolled back, of which no packet is queued any more and which was rolled back
-    /// fewer than eight times without a reply: the credits of its unanswered packets come back, and those
-    /// packets are to be posted again.
+    /// An active call is rolled back, of which no packet is queued any more and which was rolled
+    /// back fewer than eight times without a reply: the credits of its unanswered packets come
+    /// back, and those packets are to be posted again.
     pub fn roll(&mut self, call: CallNo)
         requires active { IsSome (call_numbered call self.old) }
         requires few { IfSome (call_numbered call self.old) (λ c. c.rolls < 8) }
         requires idle { IfSome (call_numbered call self.old) (λ c. c.queued ≡ 0) }
-        ensures session { IfSome (call_numbered call self.old) (λ c. self.new ≡ after_roll c self.old) }
+        ensures session { IfSome (call_numbered call self.old)
+            (λ c. self.new ≡ after_roll c self.old) }
         ensures step { IfSome (call_numbered call self.old) (λ c. (pool : Pool) → (clock peer : ℕ) →
-            stepped clock (rolled_event c) (shown pool peer self.old) ≡ shown pool peer self.new ∷ []) }
+            stepped clock (rolled_event c) (shown pool peer self.old)
+            ≡ shown pool peer self.new ∷ []) }
         ensures others { (pool : Pool) → LeavesOthers self.old.active self.new.active pool pool }
-        ensures entries { IfSome (call_numbered call self.old) (λ c. KeepsOthers c.request self.old self.new) }
-        ensures queued { (entries : List EntryValue) → CountsQueued self.old entries → CountsQueued self.new entries }
-        ensures keeps_pool { (pool : Pool) → KeepsPool pool self.old.active → KeepsPool pool self.new.active }
+        ensures entries { IfSome (call_numbered call self.old)
+            (λ c. KeepsOthers c.request self.old self.new) }
+        ensures queued { (entries : List EntryValue) → CountsQueued self.old entries
+            → CountsQueued self.new entries }
+        ensures keeps_pool { (pool : Pool) → KeepsPool pool self.old.active
+            → KeepsPool pool self.new.active }
     {
         let Some(call) = self.calls.of_number(call) else {
             unreachable!()
@@ -65,9 +76,9 @@ impl ClientSession {
         self.calls.replace(call.request, call.rolled());
     }
 
-    /// The next call of a session that lost its peer, of which no packet is queued any more: the active
-    /// calls end in the order of their numbers, and then those that wait, oldest first. None comes
-    /// exactly where no call is left.
+    /// The next call of a session that lost its peer, of which no packet is queued any more: the
+    /// active calls end in the order of their numbers, and then those that wait, oldest first. None
+    /// comes exactly where no call is left.
     pub fn lose(&mut self, pool: &mut BufferPool) -> Option<Done>
         requires keeps_pool { KeepsPool pool.old self.old.active }
         requires unheld { AllByRecursion (IsUnheld pool.old) self.old.active }
@@ -75,12 +86,16 @@ impl ClientSession {
         ensures unchanged { IfNone result ((self.new ≡ self.old) × (pool.new ≡ pool.old)) }
         // As the fact Done of the definitions, where no other active call has this call's number.
         ensures step { IfSome result (λ d. IsAlone d.call self.old → (clock peer : ℕ) →
-            stepped clock (done_event d) (shown_broken pool.old peer self.old) ≡ shown_broken pool.new peer self.new ∷ []) }
-        ensures loses { IfSome result (λ d. Loses (next_lost self.old) d self.old self.new pool.old pool.new) }
+            stepped clock (done_event d) (shown_broken pool.old peer self.old)
+            ≡ shown_broken pool.new peer self.new ∷ []) }
+        ensures loses { IfSome result (λ d. Loses (next_lost self.old) d self.old self.new pool.old
+            pool.new) }
         ensures others { LeavesOthers self.old.active self.new.active pool.old pool.new }
         ensures entries { LossKeeps (next_lost self.old) self.old self.new }
-        ensures counts { (entries : List EntryValue) → Counts pool.old entries → Counts pool.new entries }
-        ensures queued { (entries : List EntryValue) → CountsQueued self.old entries → CountsQueued self.new entries }
+        ensures counts { (entries : List EntryValue) → Counts pool.old entries
+            → Counts pool.new entries }
+        ensures queued { (entries : List EntryValue) → CountsQueued self.old entries
+            → CountsQueued self.new entries }
         ensures keeps_pool { KeepsPool pool.new self.new.active }
     {
         if let Some(call) = self.calls.next() {

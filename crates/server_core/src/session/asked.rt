@@ -12,11 +12,12 @@ use packet_header::PART_BYTES;
 use rpc_base::RequestNo;
 
 impl ServerSession {
-    /// The bytes taken so far of the newest request of a slot, where it has this number. There are none
-    /// where another request or none is the newest there, or where they went with a job.
+    /// The bytes taken so far of the newest request of a slot, where it has this number. There are
+    /// none where another request or none is the newest there, or where they went with a job.
     pub fn asked<'a>(&self, pool: &'a BufferPool, request: RequestNo) -> &'a [u8]
         requires keeps_pool { KeepsPool pool.now self.now.slots }
-        ensures { result.now ≡ bytes_taken (find (is_request request) (shown pool.now self.now).slots) }
+        ensures { result.now ≡ bytes_taken
+            (find (is_request request) (shown pool.now self.now).slots) }
     {
         let Some(newest) = self.slots.of_slot(request.slot()) else {
             return &[];
@@ -24,17 +25,18 @@ impl ServerSession {
         if newest.number.get() != request.get() {
             return &[];
         }
-        let Some(place) = newest.ask else {
+        let Some(place) = newest.ask() else {
             return &[];
         };
         first_packets(pool.get(place).bytes(), newest.taken)
     }
 
-    /// The bytes of the answer to the newest request of a slot, where it has this number. There are none
-    /// where another request or none is the newest there, or its answer isn't there.
+    /// The bytes of the answer to the newest request of a slot, where it has this number. There are
+    /// none where another request or none is the newest there, or its answer isn't there.
     pub fn answer<'a>(&self, pool: &'a BufferPool, request: RequestNo) -> &'a [u8]
         requires keeps_pool { KeepsPool pool.now self.now.slots }
-        ensures { result.now ≡ bytes_answered (find (is_request request) (shown pool.now self.now).slots) }
+        ensures { result.now ≡ bytes_answered
+            (find (is_request request) (shown pool.now self.now).slots) }
     {
         let Some(newest) = self.slots.of_slot(request.slot()) else {
             return &[];

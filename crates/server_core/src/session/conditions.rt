@@ -12,9 +12,9 @@ use packet_rings::Entry;
 use rpc_base::RequestNo;
 
 impl ServerSession {
-    /// The entry of the reply to a packet that was taken of the newest request of a slot, which has this
-    /// number. None comes exactly where another request or none is the newest there, the packet wasn't
-    /// taken, or it is the last one of a request that a worker has.
+    /// The entry of the reply to a packet that was taken of the newest request of a slot, which has
+    /// this number. None comes exactly where another request or none is the newest there, the
+    /// packet wasn't taken, or it is the last one of a request that a worker has.
     pub fn entry(&self, request: RequestNo, number: u16) -> Option<Entry>
         ensures entry { result ≡ taken_entry request number self.now }
         ensures stands { IfSome result (λ e. IsReplyTo (request_of self.now e) e) }
@@ -28,8 +28,8 @@ impl ServerSession {
         Some(newest.entry(self.number, number, self.peer))
     }
 
-    /// Whether there is a reference to the place of an entry, if it has one, as `sent` and `flushed` want
-    /// it.
+    /// Whether there is a reference to the place of an entry, if it has one, as `sent` and
+    /// `flushed` want it.
     pub fn is_held(&self, pool: &BufferPool, entry: &Entry) -> bool
         requires keeps_pool { KeepsPool pool.now self.now.slots }
         requires posted { IsReplyTo (request_of self.now entry.now) entry.now }
@@ -41,11 +41,12 @@ impl ServerSession {
         }
     }
 
-    /// Whether one reference more can be counted to the answer of the newest request of the slot of this
-    /// number, as `on_packet` wants it. True where there is no such request.
+    /// Whether one reply more to the newest request of the slot of this number can be queued, as
+    /// `on_packet` wants it. True where there is no such request.
     pub fn can_hold(&self, pool: &BufferPool, request: RequestNo) -> bool
         requires keeps_pool { KeepsPool pool.now self.now.slots }
-        ensures can_hold { IfSome (newest request self.now) (λ q. IsTrue result ↔ CanHold pool.now q) }
+        ensures can_hold { IfSome (newest request self.now)
+            (λ q. IsTrue result ↔ CanHold pool.now q) }
         ensures for_packet { IsTrue result → IfSome (newest request self.now) (CanHold pool.now) }
     {
         let Some(newest) = self.slots.of_slot(request.slot()) else {
@@ -54,17 +55,30 @@ impl ServerSession {
         newest.can_hold(pool)
     }
 
-    /// Whether no reference is left to the answer of the newest request of the slot of this number, as
-    /// `on_packet` wants it where a newer one begins. True where there is no such request.
+    /// Whether no reference is left to the answer of the newest request of the slot of this number,
+    /// as `on_packet` wants it where a newer one begins. True where there is no such request.
     pub fn is_unheld(&self, pool: &BufferPool, request: RequestNo) -> bool
         requires keeps_pool { KeepsPool pool.now self.now.slots }
-        ensures unheld { IfSome (newest request self.now) (λ q. IsTrue result ↔ IsUnheld pool.now q) }
+        ensures unheld { IfSome (newest request self.now)
+            (λ q. IsTrue result ↔ IsUnheld pool.now q) }
         ensures for_packet { IsTrue result → IfSome (newest request self.now) (IsUnheld pool.now) }
     {
         let Some(newest) = self.slots.of_slot(request.slot()) else {
             return true;
         };
         newest.is_unheld(pool)
+    }
+
+    /// Whether no reply to the newest request of the slot of this number is queued. True where
+    /// there is no such request.
+    pub fn is_unqueued(&self, request: RequestNo) -> bool
+        ensures unqueued { IfSome (newest request self.now) (λ q. IsTrue result ↔ (q.queued ≡ 0)) }
+        ensures for_packet { IsTrue result → IfSome (newest request self.now) (λ q. q.queued ≡ 0) }
+    {
+        let Some(newest) = self.slots.of_slot(request.slot()) else {
+            return true;
+        };
+        newest.queued == 0
     }
 
     /// Whether no reference is left to any answer, as `finish` wants it.

@@ -2,9 +2,10 @@
 ghost use Rattle.std.specs.Prelude.{◌≡◌, List, []};
 ghost use Rattle.std.specs.List.{AllByRecursion};
 ghost use Rattle.packet_rings.specs.Values.{EntryValue};
-ghost use Rattle.server_core.specs.Counting.{Counts};
+ghost use Rattle.server_core.specs.Keeping.{StillCounts};
 ghost use Rattle.server_core.specs.KeepsPool.{KeepsPool};
 ghost use Rattle.server_core.specs.Serving.{IsUnheld, all_given_up};
+ghost use Rattle.buffer_pool.specs.Counting.{Counts};
 
 use super::ServerSession;
 use super::taking::empty_buffers;
@@ -16,7 +17,7 @@ impl ServerSession {
         requires keeps_pool { KeepsPool pool.old self.slots }
         requires unheld { AllByRecursion (IsUnheld pool.old) self.slots }
         ensures pool { pool.new ≡ all_given_up self.slots pool.old }
-        ensures counts { (entries : List EntryValue) → Counts pool.old entries → Counts pool.new entries }
+        ensures counts { StillCounts pool.old pool.new }
     {
         for request in self.slots.as_slice() {
             empty_buffers(pool, request);

@@ -3,12 +3,14 @@ ghost use Rattle.std.specs.Prelude.{◌≡◌, IfSome};
 ghost use Rattle.buffer_pool.specs.Pool.{spare_of};
 ghost use Rattle.packet_rings.specs.Rings.{ring};
 ghost use Rattle.rpc_outside.specs.Recording.{Grew};
-ghost use Rattle.server_core.specs.Counting.{Counts};
-ghost use Rattle.server_core.specs.Flushing.{HoldsAll, HoldsReplies, flushed_facts, without_newest, without_replies};
+ghost use Rattle.server_core.specs.Counting.{CountsQueued, IsCounted};
+ghost use Rattle.server_core.specs.Flushing.{HoldsAll, HoldsReplies, flushed_facts, without_newest};
+ghost use Rattle.server_core.specs.Flushing.{without_replies};
 ghost use Rattle.server_core.specs.KeepsPool.{KeepsPool, LeavesOthers};
 ghost use Rattle.server_core.specs.Serving.{IsUnheld};
 ghost use Rattle.server_core.specs.Session.{newest};
 ghost use Rattle.server_core.specs.Shown.{shown};
+ghost use Rattle.buffer_pool.specs.Counting.{Counts};
 
 use super::ServerSession;
 use buffer_pool::BufferPool;
@@ -17,9 +19,9 @@ use rpc_base::{Event, RequestNo, Who};
 use rpc_outside::Recorder;
 
 impl ServerSession {
-    // Takes the queued replies to the newest request of the slot of this number out of the ring, the least
-    // number first, gives their references up, and notes each. The ring is looked at only where the references
-    // don't tell that none is queued.
+    // Takes the queued replies to the newest request of the slot of this number out of the ring,
+    // the least number first, gives their references up, and notes each. The ring is looked at only
+    // as long as one is left.
     pub(super) fn flush_older<R: Recorder>(
         &self,
         pool: &mut BufferPool,
@@ -29,24 +31,34 @@ impl ServerSession {
         rec: &mut R,
     )
         requires keeps_pool { KeepsPool pool.old self.now.slots }
-        requires queued { IfSome (newest request self.now) (HoldsReplies self.now.number pool.old tx.old.items) }
-        ensures ring { tx.new ≡ ring (without_replies self.now.number (newest request self.now) tx.old.items) tx.old.size }
-        ensures noted { Grew R.facts R.whole rec.old rec.new (flushed_facts who.now self.now.number (newest request self.now) tx.old.items) }
+        requires queued { IfSome (newest request self.now)
+            (HoldsReplies self.now.number pool.old tx.old.items) }
+        requires counted { IfSome (newest request self.now)
+            (IsCounted self.now.number tx.old.items) }
+        ensures ring { tx.new ≡ ring
+            (without_replies self.now.number (newest request self.now) tx.old.items) tx.old.size }
+        ensures noted { Grew R.facts R.whole rec.old rec.new
+            (flushed_facts who.now self.now.number (newest request self.now) tx.old.items) }
         ensures unheld { IfSome (newest request self.now) (IsUnheld pool.new) }
         ensures shown { shown pool.new self.now ≡ shown pool.old self.now }
         ensures spare { spare_of pool.new ≡ spare_of pool.old }
         ensures others { LeavesOthers self.now.slots self.now.slots pool.old pool.new }
-        ensures holds { HoldsAll self.now pool.old tx.old.items → HoldsAll (without_newest request self.now) pool.new tx.new.items }
+        ensures holds { HoldsAll self.now pool.old tx.old.items →
+            HoldsAll (without_newest request self.now) pool.new tx.new.items }
+        ensures queued { CountsQueued self.now tx.old.items →
+            CountsQueued (without_newest request self.now) tx.new.items }
         ensures counts { Counts pool.old tx.old.items → Counts pool.new tx.new.items }
         ensures keeps_pool { KeepsPool pool.new self.now.slots }
     {
         let Some(older) = self.slots.of_slot(request.slot()) else {
             return;
         };
-        if older.is_surely_sent(pool) {
-            return;
-        }
-        while let Some(entry) = tx.flush(older.owner(self.number)) {
+        let mut left = older.queued;
+        while left > 0 {
+            let Some(entry) = tx.flush(older.owner(self.number)) else {
+                unreachable!()
+            };
+            left -= 1;
             pool.release_at(entry.place);
             let flushed = Event::Flushed {
                 owner: older.owner(self.number),

@@ -1,5 +1,6 @@
 //! Background jobs: a request goes to a worker with its bytes, and its answer comes back.
-ghost use Rattle.std.specs.Prelude.{◌≡◌, ◌≢◌, ℕ, ◌<◌, ◌≤◌, ◌+◌, List, [], ◌∷◌, ◌++◌, IfNone, IfSome, None, Some, false, true};
+ghost use Rattle.std.specs.Prelude.{◌≡◌, ◌≢◌, ℕ, ◌<◌, ◌≤◌, ◌+◌, List, [], ◌∷◌, ◌++◌, IfNone};
+ghost use Rattle.std.specs.Prelude.{IfSome, None, Some, false, true};
 ghost use Rattle.packet_header.specs.Parts.{packet_count};
 ghost use Rattle.message_buffer.specs.Buffer.{bytes_of};
 ghost use Rattle.buffer_pool.specs.Pool.{buf_at, spare_of};
@@ -7,18 +8,24 @@ ghost use Rattle.packet_rings.specs.Values.{EntryValue};
 ghost use Rattle.rpc_laws.specs.Requests.{answered, given};
 ghost use Rattle.rpc_outside.specs.declared.service.Mode.{Mode};
 ghost use Rattle.rpc_outside.specs.declared.service.Mode.TheVariants.{Unserved};
-ghost use Rattle.server_core.specs.Counting.{Counts};
+ghost use Rattle.server_core.specs.Counting.{CountsQueued};
 ghost use Rattle.server_core.specs.Finishing.{IsFinished, IsLeft};
 ghost use Rattle.server_core.specs.Flushing.{HoldsAll, without_newest};
+ghost use Rattle.server_core.specs.Keeping.{CountsWith, HoldsWith, QueuedWith, StillCounts};
+ghost use Rattle.server_core.specs.Keeping.{StillHolds, StillQueued};
 ghost use Rattle.server_core.specs.KeepsPool.{IsAsked, KeepsPool, KeepsSpare, LeavesOthers};
 ghost use Rattle.server_core.specs.Serving.{IsUnheld, first_given, last_given};
-ghost use Rattle.server_core.specs.Session.{IsInTurn, IsMessage, IsSession, newest};
+ghost use Rattle.server_core.specs.declared.slot.SlotState.TheVariants.{Taking, Working};
+ghost use Rattle.server_core.specs.Session.{IsInTurn, IsSession, newest};
 ghost use Rattle.server_core.specs.Shown.{shown};
-ghost use Rattle.server_core.specs.Steps.{AreServed, HasNoBytes, IsReply, begun_with, first_shown, gone_on_as, grown};
+ghost use Rattle.server_core.specs.Steps.{AreServed, HasNoBytes, IsReply, begun_with, first_shown};
+ghost use Rattle.server_core.specs.Steps.{gone_on_as, grown};
+ghost use Rattle.packet_header.specs.Parts.{IsMessage};
+ghost use Rattle.buffer_pool.specs.Counting.{Counts};
 
 use super::ServerSession;
 use super::taking::{give_up, put_message};
-use crate::slot::SlotRequest;
+use crate::slot::{SlotRequest, SlotState};
 use buffer_pool::BufferPool;
 use message_buffer::MsgBuf;
 use packet_header::MessageHeader;
@@ -27,37 +34,46 @@ use rpc_base::Place;
 use worker_board::Parcel;
 
 impl ServerSession {
-    /// A job of this session is finished, and its parcel has the answer. The pool has an empty place. The
-    /// reply is to be put into the transmit ring; its place is held. None comes exactly where the request
-    /// isn't the newest of its slot or no worker has it, and then nothing changes.
+    /// A job of this session is finished, and its parcel has the answer. The pool has an empty
+    /// place. The reply is to be put into the transmit ring; its place is held. None comes exactly
+    /// where the request isn't the newest of its slot or no worker has it, and then nothing
+    /// changes.
     pub fn on_finished(&mut self, pool: &mut BufferPool, parcel: Parcel) -> Option<Entry>
         requires session { parcel.session ≡ self.old.number }
         requires answer { IsMessage parcel.out.len }
         requires keeps_pool { KeepsPool pool.old self.old.slots }
         requires spare { 0 < spare_of pool.old }
-        ensures finished { IfSome result (IsFinished parcel.request (bytes_of parcel.out) self.old self.new pool.old pool.new) }
+        ensures finished { IfSome result
+            (IsFinished parcel.request (bytes_of parcel.out) self.old self.new pool.old pool.new) }
         ensures no_bytes { IfSome result (λ e. HasNoBytes (newest parcel.request self.new)) }
         ensures left { IfNone result (IsLeft parcel.request self.old self.new pool.old pool.new) }
         ensures sound { IsSession self.old }
-        ensures all_served { (mode_of : ℕ → Mode) → AreServed mode_of self.old.slots → AreServed mode_of self.new.slots }
+        ensures all_served { (mode_of : ℕ → Mode) → AreServed mode_of self.old.slots →
+            AreServed mode_of self.new.slots }
         ensures spare { KeepsSpare self.old.slots self.new.slots pool.old pool.new }
         ensures others { LeavesOthers self.old.slots self.new.slots pool.old pool.new }
-        ensures holds { (entries : List EntryValue) → HoldsAll self.old pool.old entries → IfSome result (λ e. HoldsAll self.new pool.new (entries ++ e ∷ [])) }
-        ensures still_holds { (entries : List EntryValue) → HoldsAll self.old pool.old entries → IfNone result (HoldsAll self.new pool.new entries) }
-        ensures counts { (entries : List EntryValue) → Counts pool.old entries → IfSome result (λ e. Counts pool.new (entries ++ e ∷ [])) }
+        ensures holds { (entries : List EntryValue) → HoldsAll self.old pool.old entries →
+            IfSome result (λ e. HoldsAll self.new pool.new (entries ++ e ∷ [])) }
+        ensures still_holds { (entries : List EntryValue) → HoldsAll self.old pool.old entries →
+            IfNone result (HoldsAll self.new pool.new entries) }
+        ensures queued { (entries : List EntryValue) → CountsQueued self.old entries →
+            IfSome result (λ e. CountsQueued self.new (entries ++ e ∷ [])) }
+        ensures counts { (entries : List EntryValue) → Counts pool.old entries →
+            IfSome result (λ e. Counts pool.new (entries ++ e ∷ [])) }
         ensures keeps_pool { KeepsPool pool.new self.new.slots }
     {
         let Some(request) = self.slots.of_slot(parcel.request.slot()) else {
             return None;
         };
-        if request.number.get() != parcel.request.get() || !request.working {
+        if request.number.get() != parcel.request.get() || !request.is_working() {
             return None;
         }
         let reply = self.put_answer(pool, request, parcel.out);
         Some(reply)
     }
 
-    // The answer to a request that a worker has is there: it is held for the reply to its last packet.
+    // The answer to a request that a worker has is there: it is held for the reply to its last
+    // packet.
     pub(super) fn put_answer(
         &mut self,
         pool: &mut BufferPool,
@@ -68,25 +84,28 @@ impl ServerSession {
         requires spare { 0 < spare_of pool.old }
         requires found { newest request.number self.old ≡ Some request }
         requires turn { IsInTurn request }
-        requires working { request.working ≡ true }
+        requires working { request.state ≡ Working }
         requires answer { IsMessage answer.len }
-        ensures shown { shown pool.new self.new ≡ gone_on_as request.number (answered (bytes_of answer)) (shown pool.old self.old) }
+        ensures shown { shown pool.new self.new
+            ≡ gone_on_as request.number (answered (bytes_of answer)) (shown pool.old self.old) }
         ensures last { result.number + 1 ≡ packet_count request.size }
         ensures reply { IsReply request.number result.number self.new pool.new result }
         ensures no_bytes { HasNoBytes (newest request.number self.new) }
-        ensures served { (mode_of : ℕ → Mode) → AreServed mode_of self.old.slots → AreServed mode_of self.new.slots }
+        ensures served { (mode_of : ℕ → Mode) → AreServed mode_of self.old.slots →
+            AreServed mode_of self.new.slots }
         ensures spare { KeepsSpare self.old.slots self.new.slots pool.old pool.new }
         ensures others { LeavesOthers self.old.slots self.new.slots pool.old pool.new }
-        ensures holds { (entries : List EntryValue) → HoldsAll self.old pool.old entries → HoldsAll self.new pool.new (entries ++ result ∷ []) }
-        ensures counts { (entries : List EntryValue) → Counts pool.old entries → Counts pool.new (entries ++ result ∷ []) }
+        ensures holds { HoldsWith (result ∷ []) self.old self.new pool.old pool.new }
+        ensures queued { QueuedWith (result ∷ []) self.old self.new }
+        ensures counts { CountsWith (result ∷ []) pool.old pool.new }
         ensures keeps_pool { KeepsPool pool.new self.new.slots }
     {
         let answer = put_message(pool, answer);
         pool.hold(answer.place);
         let number = request.taken - 1;
         let request = SlotRequest {
-            working: false,
-            answer: Some(answer),
+            queued: request.queued + 1,
+            state: SlotState::Answered { answer },
             ..request
         };
         let reply = request.entry(self.number, number, self.peer);
@@ -100,24 +119,31 @@ impl ServerSession {
         requires unheld { IfSome (newest head.now.request self.old) (IsUnheld pool.old) }
         requires size { IsMessage head.now.size }
         requires one { packet_count head.now.size ≡ 1 }
-        ensures shown { shown pool.new self.new ≡ begun_with (given (first_shown head.now [] None)) (shown pool.old self.old) }
+        ensures shown { shown pool.new self.new
+            ≡ begun_with (given (first_shown head.now [] None)) (shown pool.old self.old) }
         ensures newest { newest head.now.request self.new ≡ Some (first_given head.now) }
         ensures number { self.new.number ≡ self.old.number }
         ensures sound { IsSession self.new }
-        ensures served { (mode_of : ℕ → Mode) → mode_of head.now.req_type ≢ Unserved → AreServed mode_of self.old.slots → AreServed mode_of self.new.slots }
+        ensures served { (mode_of : ℕ → Mode) → mode_of head.now.req_type ≢ Unserved →
+            AreServed mode_of self.old.slots → AreServed mode_of self.new.slots }
         ensures more { spare_of pool.old ≤ spare_of pool.new }
         ensures spare { KeepsSpare self.old.slots self.new.slots pool.old pool.new }
         ensures others { LeavesOthers self.old.slots self.new.slots pool.old pool.new }
-        ensures holds { (entries : List EntryValue) → HoldsAll (without_newest head.now.request self.old) pool.old entries → HoldsAll self.new pool.new entries }
-        ensures counts { (entries : List EntryValue) → Counts pool.old entries → Counts pool.new entries }
+        ensures holds { StillHolds (without_newest head.now.request self.old) self.new pool.old
+            pool.new }
+        ensures queued { (entries : List EntryValue) →
+            HoldsAll (without_newest head.now.request self.old) pool.old entries →
+            CountsQueued (without_newest head.now.request self.old) entries →
+            CountsQueued self.new entries }
+        ensures counts { StillCounts pool.old pool.new }
         ensures keeps_pool { KeepsPool pool.new self.new.slots }
     {
         give_up(&mut self.slots, pool, head.request.slot());
         self.slots.push(SlotRequest::given(head));
     }
 
-    // The last packet of a request is taken, whose bytes stand in its buffer already: that leaves the pool, and a
-    // worker or the handler has it.
+    // The last packet of a request is taken, whose bytes stand in its buffer already: that leaves
+    // the pool, and a worker or the handler has it.
     pub(super) fn take_working(
         &mut self,
         pool: &mut BufferPool,
@@ -126,22 +152,24 @@ impl ServerSession {
     ) -> MsgBuf
         requires keeps_pool { KeepsPool pool.old self.old.slots }
         requires found { newest request.number self.old ≡ Some request }
-        requires asked { request.ask ≡ Some place }
+        requires taking { request.state ≡ Taking place }
         requires kept { IsAsked pool.old request.size place }
-        requires none { request.answer ≡ None }
         requires size { IsMessage request.size }
         requires last { request.taken + 1 ≡ packet_count request.size }
         ensures ask { buf_at pool.old place ≡ Some result }
-        ensures shown { shown pool.new self.new ≡ gone_on_as request.number (λ x. given (grown [] x)) (shown pool.old self.old) }
+        ensures shown { shown pool.new self.new
+            ≡ gone_on_as request.number (λ x. given (grown [] x)) (shown pool.old self.old) }
         ensures newest { newest request.number self.new ≡ Some (last_given request) }
         ensures number { self.new.number ≡ self.old.number }
         ensures sound { IsSession self.new }
-        ensures served { (mode_of : ℕ → Mode) → AreServed mode_of self.old.slots → AreServed mode_of self.new.slots }
+        ensures served { (mode_of : ℕ → Mode) → AreServed mode_of self.old.slots →
+            AreServed mode_of self.new.slots }
         ensures more { spare_of pool.new ≡ spare_of pool.old + 1 }
         ensures spare { KeepsSpare self.old.slots self.new.slots pool.old pool.new }
         ensures others { LeavesOthers self.old.slots self.new.slots pool.old pool.new }
-        ensures holds { (entries : List EntryValue) → HoldsAll self.old pool.old entries → HoldsAll self.new pool.new entries }
-        ensures counts { (entries : List EntryValue) → Counts pool.old entries → Counts pool.new entries }
+        ensures holds { StillHolds self.old self.new pool.old pool.new }
+        ensures queued { StillQueued self.old self.new }
+        ensures counts { StillCounts pool.old pool.new }
         ensures keeps_pool { KeepsPool pool.new self.new.slots }
     {
         let Ok(ask) = pool.take(place) else {

@@ -20,7 +20,8 @@ impl ServerSession {
         who: &Who,
         rec: &mut R,
     )
-        ensures { Grew R.facts R.whole rec.old rec.new (last_facts who.now self.now.number head.now step.now) }
+        ensures { Grew R.facts R.whole rec.old rec.new
+            (last_facts who.now self.now.number head.now step.now) }
     {
         match step {
             Step::Took { reply: _ } => {
@@ -42,7 +43,8 @@ impl ServerSession {
         }
     }
 
-    // Notes that the last packet of a request was taken and that its handler ran, with the bytes of both messages.
+    // Notes that the last packet of a request was taken and that its handler ran, with the bytes of
+    // both messages.
     pub(super) fn note_ran<R: Recorder>(
         &self,
         head: &MessageHeader,
@@ -51,7 +53,8 @@ impl ServerSession {
         who: &Who,
         rec: &mut R,
     )
-        ensures { Grew R.facts R.whole rec.old rec.new (ran_facts who.now self.now.number head.now ask.now answer.now) }
+        ensures { Grew R.facts R.whole rec.old rec.new
+            (ran_facts who.now self.now.number head.now ask.now answer.now) }
     {
         rec.note(*who, self.took(head), &[], &[]);
         rec.note(*who, self.ran(head), ask, answer);
@@ -68,7 +71,8 @@ impl ServerSession {
     }
 
     fn took(&self, head: &MessageHeader) -> Event
-        ensures { result ≡ Event.Took (Owner.Reply self.now.number head.now.request) head.now.number }
+        ensures { result ≡ Event.Took (Owner.Reply self.now.number head.now.request)
+            head.now.number }
     {
         Event::Took {
             owner: self.owner_of(head),
@@ -77,7 +81,8 @@ impl ServerSession {
     }
 
     fn answered_again(&self, head: &MessageHeader) -> Event
-        ensures { result ≡ Event.Again (Owner.Reply self.now.number head.now.request) head.now.number }
+        ensures { result ≡ Event.Again (Owner.Reply self.now.number head.now.request)
+            head.now.number }
     {
         Event::Again {
             owner: self.owner_of(head),
@@ -86,7 +91,8 @@ impl ServerSession {
     }
 
     fn posted(&self, head: &MessageHeader) -> Event
-        ensures { result ≡ Event.Posted (Owner.Reply self.now.number head.now.request) head.now.number }
+        ensures { result ≡ Event.Posted (Owner.Reply self.now.number head.now.request)
+            head.now.number }
     {
         Event::Posted {
             owner: self.owner_of(head),

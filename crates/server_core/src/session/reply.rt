@@ -1,14 +1,19 @@
 //! The replies to the packets of a request: what they are, and what becomes of their references.
-ghost use Rattle.std.specs.Prelude.{◌≡◌, Bool, List};
+ghost use Rattle.std.specs.Prelude.{◌≡◌, ℕ, Bool, List};
 ghost use Rattle.packet_header.specs.Header.{AreBytes};
 ghost use Rattle.packet_rings.specs.Values.{EntryValue};
 ghost use Rattle.rpc_base.specs.Taking.{TakenOut};
-ghost use Rattle.server_core.specs.Counting.{Counts};
+ghost use Rattle.server_core.specs.Counting.{CountsQueued, left_at};
 ghost use Rattle.server_core.specs.Flushing.{HoldsAll};
+ghost use Rattle.server_core.specs.Keeping.{LeftCounts, LeftHolds, LeftQueued};
 ghost use Rattle.server_core.specs.KeepsPool.{KeepsPool};
-ghost use Rattle.server_core.specs.Replies.{IsHeld, IsReplyTo, IsSpelled, packet_of, released_at, request_of};
-ghost use Rattle.server_core.specs.Session.{IsSession};
+ghost use Rattle.server_core.specs.Replies.{IsHeld, IsReplyTo, packet_of, released_at};
+ghost use Rattle.server_core.specs.Replies.{request_of};
+ghost use Rattle.server_core.specs.Steps.{AreServed};
+ghost use Rattle.rpc_outside.specs.declared.service.Mode.{Mode};
 ghost use Rattle.server_core.specs.Shown.{shown};
+ghost use Rattle.rpc_laws.specs.Packets.{IsSpelled};
+ghost use Rattle.buffer_pool.specs.Counting.{Counts};
 
 use super::ServerSession;
 use buffer_pool::BufferPool;
@@ -46,38 +51,39 @@ impl ServerSession {
     pub fn sent(&mut self, pool: &mut BufferPool, entry: &Entry)
         requires keeps_pool { KeepsPool pool.old self.old.slots }
         requires held { IsHeld pool.old entry.now.place }
-        ensures session { self.new ≡ self.old }
+        ensures session { self.new ≡ left_at entry.now self.old }
         ensures shown { shown pool.new self.new ≡ shown pool.old self.old }
         ensures pool { pool.new ≡ released_at entry.now.place pool.old }
-        // The entries without this one hold each reply of the session that is neither sent nor flushed, as before.
-        ensures holds { (passes : EntryValue → Bool) → (old new : List EntryValue) → TakenOut passes entry.now old new → HoldsAll self.old pool.old old → IsReplyTo (request_of self.old entry.now) entry.now → HoldsAll self.new pool.new new }
-        ensures counts { (passes : EntryValue → Bool) → (old new : List EntryValue) → TakenOut passes entry.now old new → Counts pool.old old → Counts pool.new new }
+        // The entries without this one hold each reply of the session that is neither sent nor
+        // flushed, as before.
+        ensures holds { LeftHolds entry.now self.old self.new pool.old pool.new }
+        ensures queued { LeftQueued entry.now self.old self.new }
+        ensures served { (mode_of : ℕ → Mode) → AreServed mode_of self.old.slots →
+            AreServed mode_of self.new.slots }
+        ensures counts { LeftCounts entry.now pool.old pool.new }
         ensures keeps_pool { KeepsPool pool.new self.new.slots }
     {
-        self.sound();
         pool.release_at(entry.place);
+        self.slots.leave(self.number, entry.owner);
     }
 
     /// An entry that was posted is taken out unsent: its reference is given up.
     pub fn flushed(&mut self, pool: &mut BufferPool, entry: &Entry)
         requires keeps_pool { KeepsPool pool.old self.old.slots }
         requires held { IsHeld pool.old entry.now.place }
-        ensures session { self.new ≡ self.old }
+        ensures session { self.new ≡ left_at entry.now self.old }
         ensures shown { shown pool.new self.new ≡ shown pool.old self.old }
         ensures pool { pool.new ≡ released_at entry.now.place pool.old }
-        // The entries without this one hold each reply of the session that is neither sent nor flushed, as before.
-        ensures holds { (passes : EntryValue → Bool) → (old new : List EntryValue) → TakenOut passes entry.now old new → HoldsAll self.old pool.old old → IsReplyTo (request_of self.old entry.now) entry.now → HoldsAll self.new pool.new new }
-        ensures counts { (passes : EntryValue → Bool) → (old new : List EntryValue) → TakenOut passes entry.now old new → Counts pool.old old → Counts pool.new new }
+        // The entries without this one hold each reply of the session that is neither sent nor
+        // flushed, as before.
+        ensures holds { LeftHolds entry.now self.old self.new pool.old pool.new }
+        ensures queued { LeftQueued entry.now self.old self.new }
+        ensures served { (mode_of : ℕ → Mode) → AreServed mode_of self.old.slots →
+            AreServed mode_of self.new.slots }
+        ensures counts { LeftCounts entry.now pool.old pool.new }
         ensures keeps_pool { KeepsPool pool.new self.new.slots }
     {
-        self.sound();
         pool.release_at(entry.place);
-    }
-
-    // What always holds of a session holds of this one.
-    fn sound(&self)
-        ensures { IsSession self.now }
-    {
-        let _number = self.number;
+        self.slots.leave(self.number, entry.owner);
     }
 }

@@ -1,24 +1,31 @@
 //! The server table: what a Request or RFR does to the session that it is for.
-ghost use Rattle.std.specs.Prelude.{◌≡◌, false, true, ◌<◌, List, [], ◌∷◌, ◌++◌, IfSome, Some, length};
+ghost use Rattle.rpc_outside.specs.declared.service.Mode.{Mode};
+ghost use Rattle.std.specs.Prelude.{◌≡◌, ℕ, false, true, ◌<◌, List, [], ◌∷◌, ◌++◌, IfSome, Some};
+ghost use Rattle.std.specs.Prelude.{length};
 ghost use Rattle.packet_rings.specs.Rings.{ring};
 ghost use Rattle.packet_rings.specs.Values.{EntryValue};
 ghost use Rattle.buffer_pool.specs.Pool.{Pool, spare_of};
 ghost use Rattle.rpc_base.specs.declared.state.DropReason.TheVariants.{NoMemory};
 ghost use Rattle.rpc_laws.specs.declared.rows.ServerRow.TheVariants.{Begins, Drops};
 ghost use Rattle.server_core.specs.declared.step.Step.TheVariants.{Dropped};
-ghost use Rattle.rpc_laws.specs.ServerTable.{server_row};
-ghost use Rattle.server_core.specs.Counting.{Counts};
+ghost use Rattle.rpc_laws.specs.Service.{is_handled};
+ghost use Rattle.rpc_laws.specs.ServerTable.{new_row, server_row};
+ghost use Rattle.server_core.specs.Counting.{CountsQueued, IsCounted, repeated};
 ghost use Rattle.server_core.specs.Flushing.{HoldsAll, HoldsReplies, replies_of, ring_after};
+ghost use Rattle.server_core.specs.Keeping.{CountsWith, HoldsWith, QueuedWith};
 ghost use Rattle.server_core.specs.KeepsPool.{KeepsPool, KeepsSpare, LeavesOthers};
 ghost use Rattle.server_core.specs.Noting.{Handled, IsByRule, early_facts, packet_facts};
-ghost use Rattle.server_core.specs.Rows.{is_handled, new_row, row_of};
+ghost use Rattle.server_core.specs.Rows.{row_of};
 ghost use Rattle.server_core.specs.Replies.{CanHold};
 ghost use Rattle.server_core.specs.Session.{IsSession, newest};
-ghost use Rattle.server_core.specs.Steps.{AreServed, HasNoBytes, IfGiven, IfRan, IfReply, IsAsking, IsParcel, IsReply, IsStepOf, IsTakenBefore, LeavesPool, UnlessRan, UnlessTaken, asked_with};
+ghost use Rattle.server_core.specs.Steps.{AreServed, HasNoBytes, IfGiven, IfRan, IfReply, IsAsking};
+ghost use Rattle.server_core.specs.Steps.{IsParcel, IsReply, IsStepOf, IsTakenBefore, LeavesPool};
+ghost use Rattle.server_core.specs.Steps.{LeavesSession, UnlessRan, asked_with};
 ghost use Rattle.server_core.specs.Shown.{shown};
+ghost use Rattle.buffer_pool.specs.Counting.{Counts};
 
 use super::ServerSession;
-use crate::slot::{is_an_rfr, makes_job};
+use crate::slot::{SlotRequest, makes_job};
 use crate::step::Step;
 use buffer_pool::BufferPool;
 use packet_header::MessageHeader;
@@ -29,12 +36,12 @@ use rpc_outside::{Mode, Recorder, Service};
 use std::alloc::Global;
 
 impl ServerSession {
-    /// Handles a Request or RFR of this session, by the server table. `jobs_full` tells whether the node's
-    /// jobs are full. The pool has an empty place. Where the packet begins a newer request, the ring has
-    /// each reply to the older one of its slot that is neither sent nor flushed; they are taken out. The
-    /// facts are noted as `who`. The reply is to be put into the ring; its place is held. A parcel is to be
-    /// given to a worker. The buffers are made first: want of memory is a drop, after which the packet may
-    /// come again.
+    /// Handles a Request or RFR of this session, by the server table. `jobs_full` tells whether the
+    /// node's jobs are full. The pool has an empty place. Where the packet begins a newer request,
+    /// the ring has each reply to the older one of its slot that is neither sent nor flushed; they
+    /// are taken out. The facts are noted as `who`. The reply is to be put into the ring; its place
+    /// is held. A parcel is to be given to a worker. The buffers are made first: want of memory is
+    /// a drop, after which the packet may come again.
     pub fn on_packet<V: Service, R: Recorder>(
         &mut self,
         alloc: Global,
@@ -50,36 +57,71 @@ impl ServerSession {
         requires keeps_pool { KeepsPool pool.old self.old.slots }
         requires spare { 0 < spare_of pool.old }
         requires asking { IsAsking head.now (length body.now) }
-        requires queued { row_of (V.mode_of head.now.req_type) jobs_full head.now self.old ≡ Begins → IfSome (newest head.now.request self.old) (HoldsReplies self.old.number pool.old tx.old.items) }
+        requires queued { let mode = V.mode_of head.now.req_type in
+            let row = row_of mode jobs_full head.now self.old in
+            row ≡ Begins → IfSome (newest head.now.request self.old)
+            (HoldsReplies self.old.number pool.old tx.old.items) }
+        requires counted { let mode = V.mode_of head.now.req_type in
+            let row = row_of mode jobs_full head.now self.old in
+            row ≡ Begins → IfSome (newest head.now.request self.old)
+            (IsCounted self.old.number tx.old.items) }
         requires can_hold { IfSome (newest head.now.request self.old) (CanHold pool.old) }
         // All packets of a session are handled by services of one type.
         requires all_served { AreServed V.mode_of self.old.slots }
-        ensures row { IsStepOf (V.mode_of head.now.req_type) head.now (row_of (V.mode_of head.now.req_type) jobs_full head.now self.old) result }
+        ensures row { let mode = V.mode_of head.now.req_type in
+            let row = row_of mode jobs_full head.now self.old in
+            IsStepOf mode head.now row result }
         // As the server rule says of what is shown.
-        ensures rule { server_row (V.mode_of head.now.req_type) jobs_full false (Some (shown pool.old self.old)) self.old.peer head.now ≡ row_of (V.mode_of head.now.req_type) jobs_full head.now self.old }
+        ensures rule { let mode = V.mode_of head.now.req_type in
+            let row = row_of mode jobs_full head.now self.old in
+            server_row mode jobs_full false (Some (shown pool.old self.old)) self.old.peer head.now
+            ≡ row }
         // And where memory was wanting, as it says then.
-        ensures lacks { result ≡ Dropped NoMemory → server_row (V.mode_of head.now.req_type) jobs_full true (Some (shown pool.old self.old)) self.old.peer head.now ≡ Drops NoMemory }
-        ensures ring { tx.new ≡ ring (ring_after (row_of (V.mode_of head.now.req_type) jobs_full head.now self.old) result self.old.number (newest head.now.request self.old) tx.old.items) tx.old.size }
-        // As the facts Took, Ran and Given of the definitions, which are noted. The answer of a handler that ran is
-        // that of each list of requests that the service stands for.
-        ensures handled { Handled R.facts R.whole rec.old rec.new (λ answer. packet_facts who self.old tx.old.items (row_of (V.mode_of head.now.req_type) jobs_full head.now self.old) head.now (asked_with head.now body.now (shown pool.old self.old)) answer result) V.answer (V.stands service.old) (V.stands service.new) head.now body.now (shown pool.old self.old) (shown pool.new self.new) result }
+        ensures lacks { result ≡ Dropped NoMemory →
+            server_row (V.mode_of head.now.req_type) jobs_full true (Some (shown pool.old self.old))
+            self.old.peer head.now ≡ Drops NoMemory }
+        ensures ring { let mode = V.mode_of head.now.req_type in
+            let row = row_of mode jobs_full head.now self.old in
+            tx.new ≡ ring (ring_after row result self.old.number (newest head.now.request self.old)
+            tx.old.items) tx.old.size }
+        // As the facts Took, Ran and Given of the definitions, which are noted. The answer of a
+        // handler that ran is that of each list of requests that the service stands for.
+        ensures handled { let mode = V.mode_of head.now.req_type in
+            let row = row_of mode jobs_full head.now self.old in
+            Handled R.facts R.whole rec.old rec.new
+            (λ answer. packet_facts who self.old tx.old.items row head.now
+            (asked_with head.now body.now (shown pool.old self.old)) answer result) V.answer
+            (V.stands service.old) (V.stands service.new) head.now body.now
+            (shown pool.old self.old) (shown pool.new self.new) result }
         // These are the facts of the server rule.
-        ensures facts { head.now.session ≡ self.old.number →
-            IsByRule (V.mode_of head.now.req_type) self.old tx.old.items (row_of (V.mode_of head.now.req_type) jobs_full head.now self.old) head.now body.now (shown pool.old self.old) result }
-        ensures reply { IfReply result (IsReply head.now.request head.now.number self.new pool.new) }
-        ensures give { IfGiven result (IsParcel V.answer (V.stands service.old) head.now body.now (shown pool.old self.old)) }
+        ensures facts { let mode = V.mode_of head.now.req_type in
+            let row = row_of mode jobs_full head.now self.old in
+            let before = shown pool.old self.old in
+            head.now.session ≡ self.old.number →
+            IsByRule mode self.old tx.old.items row head.now body.now before result }
+        ensures reply { IfReply result
+            (IsReply head.now.request head.now.number self.new pool.new) }
+        ensures give { IfGiven result
+            (IsParcel V.answer (V.stands service.old) head.now body.now (shown pool.old self.old)) }
         // A request whose handler ran has given its bytes up.
         ensures no_bytes { IfRan result (HasNoBytes (newest head.now.request self.new)) }
         ensures service { UnlessRan result (service.new ≡ service.old) }
-        ensures session { UnlessTaken result (self.new ≡ self.old) }
+        ensures session { LeavesSession result head.now.request self.old self.new }
         ensures pool { LeavesPool result pool.old pool.new }
         ensures all_served { AreServed V.mode_of self.new.slots }
         ensures spare { KeepsSpare self.old.slots self.new.slots pool.old pool.new }
         ensures others { LeavesOthers self.old.slots self.new.slots pool.old pool.new }
-        // The ring with the reply holds each reply of the session that is neither sent nor flushed, as before.
-        ensures holds { HoldsAll self.old pool.old tx.old.items → HoldsAll self.new pool.new (tx.new.items ++ replies_of result) }
-        // The places have as many references as the entries of the ring and the reply name them, as before.
-        ensures counts { Counts pool.old tx.old.items → Counts pool.new (tx.new.items ++ replies_of result) }
+        // The ring with the reply holds each reply of the session that is neither sent nor flushed,
+        // as before.
+        ensures holds { HoldsAll self.old pool.old tx.old.items →
+            HoldsAll self.new pool.new (tx.new.items ++ replies_of result) }
+        // Each request counts the entries among them that are its own, as before.
+        ensures queued { HoldsAll self.old pool.old tx.old.items →
+            CountsQueued self.old tx.old.items →
+            CountsQueued self.new (tx.new.items ++ replies_of result) }
+        // The places have as many references as these entries name them, as before.
+        ensures counts { Counts pool.old tx.old.items →
+            Counts pool.new (tx.new.items ++ replies_of result) }
         ensures keeps_pool { KeepsPool pool.new self.new.slots }
     {
         let step = self.step(alloc, pool, tx, service, head, body, jobs_full, &who, rec);
@@ -103,26 +145,54 @@ impl ServerSession {
         requires keeps_pool { KeepsPool pool.old self.old.slots }
         requires spare { 0 < spare_of pool.old }
         requires asking { IsAsking head.now (length body.now) }
-        requires queued { row_of (V.mode_of head.now.req_type) jobs_full head.now self.old ≡ Begins → IfSome (newest head.now.request self.old) (HoldsReplies self.old.number pool.old tx.old.items) }
+        requires queued { let mode = V.mode_of head.now.req_type in
+            let row = row_of mode jobs_full head.now self.old in
+            row ≡ Begins → IfSome (newest head.now.request self.old)
+            (HoldsReplies self.old.number pool.old tx.old.items) }
+        requires counted { let mode = V.mode_of head.now.req_type in
+            let row = row_of mode jobs_full head.now self.old in
+            row ≡ Begins → IfSome (newest head.now.request self.old)
+            (IsCounted self.old.number tx.old.items) }
         requires can_hold { IfSome (newest head.now.request self.old) (CanHold pool.old) }
         requires all_served { AreServed V.mode_of self.old.slots }
-        ensures row { IsStepOf (V.mode_of head.now.req_type) head.now (row_of (V.mode_of head.now.req_type) jobs_full head.now self.old) result }
-        ensures rule { server_row (V.mode_of head.now.req_type) jobs_full false (Some (shown pool.old self.old)) self.old.peer head.now ≡ row_of (V.mode_of head.now.req_type) jobs_full head.now self.old }
+        ensures row { let mode = V.mode_of head.now.req_type in
+            let row = row_of mode jobs_full head.now self.old in
+            IsStepOf mode head.now row result }
+        ensures rule { let mode = V.mode_of head.now.req_type in
+            let row = row_of mode jobs_full head.now self.old in
+            server_row mode jobs_full false (Some (shown pool.old self.old)) self.old.peer head.now
+            ≡ row }
         ensures sound { IsSession self.old }
-        ensures ring { tx.new ≡ ring (ring_after (row_of (V.mode_of head.now.req_type) jobs_full head.now self.old) result self.old.number (newest head.now.request self.old) tx.old.items) tx.old.size }
-        ensures handled { Handled R.facts R.whole rec.old rec.new (λ answer. early_facts who.now self.old tx.old.items (row_of (V.mode_of head.now.req_type) jobs_full head.now self.old) head.now (asked_with head.now body.now (shown pool.old self.old)) answer result) V.answer (V.stands service.old) (V.stands service.new) head.now body.now (shown pool.old self.old) (shown pool.new self.new) result }
-        ensures reply { IfReply result (IsReply head.now.request head.now.number self.new pool.new) }
-        ensures give { IfGiven result (IsParcel V.answer (V.stands service.old) head.now body.now (shown pool.old self.old)) }
+        ensures ring { let mode = V.mode_of head.now.req_type in
+            let row = row_of mode jobs_full head.now self.old in
+            tx.new ≡ ring (ring_after row result self.old.number (newest head.now.request self.old)
+            tx.old.items) tx.old.size }
+        ensures handled { let mode = V.mode_of head.now.req_type in
+            let row = row_of mode jobs_full head.now self.old in
+            Handled R.facts R.whole rec.old rec.new
+            (λ answer. early_facts who.now self.old tx.old.items row head.now
+            (asked_with head.now body.now (shown pool.old self.old)) answer result) V.answer
+            (V.stands service.old) (V.stands service.new) head.now body.now
+            (shown pool.old self.old) (shown pool.new self.new) result }
+        ensures reply { IfReply result
+            (IsReply head.now.request head.now.number self.new pool.new) }
+        ensures give { IfGiven result
+            (IsParcel V.answer (V.stands service.old) head.now body.now (shown pool.old self.old)) }
         // A request whose handler ran has given its bytes up.
         ensures no_bytes { IfRan result (HasNoBytes (newest head.now.request self.new)) }
         ensures service { UnlessRan result (service.new ≡ service.old) }
-        ensures session { UnlessTaken result (self.new ≡ self.old) }
+        ensures session { LeavesSession result head.now.request self.old self.new }
         ensures pool { LeavesPool result pool.old pool.new }
         ensures all_served { AreServed V.mode_of self.new.slots }
         ensures spare { KeepsSpare self.old.slots self.new.slots pool.old pool.new }
         ensures others { LeavesOthers self.old.slots self.new.slots pool.old pool.new }
-        ensures holds { HoldsAll self.old pool.old tx.old.items → HoldsAll self.new pool.new (tx.new.items ++ replies_of result) }
-        ensures counts { Counts pool.old tx.old.items → Counts pool.new (tx.new.items ++ replies_of result) }
+        ensures holds { HoldsAll self.old pool.old tx.old.items →
+            HoldsAll self.new pool.new (tx.new.items ++ replies_of result) }
+        ensures queued { HoldsAll self.old pool.old tx.old.items →
+            CountsQueued self.old tx.old.items →
+            CountsQueued self.new (tx.new.items ++ replies_of result) }
+        ensures counts { Counts pool.old tx.old.items →
+            Counts pool.new (tx.new.items ++ replies_of result) }
         ensures keeps_pool { KeepsPool pool.new self.new.slots }
     {
         let mode = service.mode(head.req_type);
@@ -138,33 +208,43 @@ impl ServerSession {
     }
 
     // A packet that was taken before is answered once more.
-    fn repeat(&self, pool: &mut BufferPool, head: &MessageHeader) -> Entry
-        requires keeps_pool { KeepsPool pool.old self.now.slots }
-        requires can_hold { IfSome (newest head.now.request self.now) (CanHold pool.old) }
-        requires again { IsTakenBefore head.now (newest head.now.request self.now) }
-        ensures reply { IsReply head.now.request head.now.number self.now pool.new result }
-        ensures shown { shown pool.new self.now ≡ shown pool.old self.now }
-        ensures spare { KeepsSpare self.now.slots self.now.slots pool.old pool.new }
-        ensures others { LeavesOthers self.now.slots self.now.slots pool.old pool.new }
-        ensures holds { (entries : List EntryValue) → HoldsAll self.now pool.old entries → HoldsAll self.now pool.new (entries ++ result ∷ []) }
-        ensures counts { (entries : List EntryValue) → Counts pool.old entries → Counts pool.new (entries ++ result ∷ []) }
-        ensures keeps_pool { KeepsPool pool.new self.now.slots }
+    fn repeat(&mut self, pool: &mut BufferPool, head: &MessageHeader) -> Entry
+        requires keeps_pool { KeepsPool pool.old self.old.slots }
+        requires can_hold { IfSome (newest head.now.request self.old) (CanHold pool.old) }
+        requires again { IsTakenBefore head.now (newest head.now.request self.old) }
+        ensures session { self.new ≡ repeated head.now.request self.old }
+        ensures reply { IsReply head.now.request head.now.number self.new pool.new result }
+        ensures shown { shown pool.new self.new ≡ shown pool.old self.old }
+        ensures served { (mode_of : ℕ → Mode) → AreServed mode_of self.old.slots →
+            AreServed mode_of self.new.slots }
+        ensures spare { KeepsSpare self.old.slots self.new.slots pool.old pool.new }
+        ensures others { LeavesOthers self.old.slots self.new.slots pool.old pool.new }
+        ensures holds { HoldsWith (result ∷ []) self.old self.new pool.old pool.new }
+        ensures queued { QueuedWith (result ∷ []) self.old self.new }
+        ensures counts { CountsWith (result ∷ []) pool.old pool.new }
+        ensures keeps_pool { KeepsPool pool.new self.new.slots }
     {
         let Some(request) = self.slots.of_slot(head.request.slot()) else {
             unreachable!()
         };
         let reply = request.entry(self.number, head.number, self.peer);
         pool.hold_at(reply.place);
+        self.slots.replace(SlotRequest {
+            queued: request.queued + 1,
+            ..request
+        });
         reply
     }
 
-    /// What the server table says of a Request or RFR of this session, but for the want of memory. `mode`
-    /// is that of its type, and `jobs_full` tells whether the node's jobs are full. Nothing changes.
+    /// What the server table says of a Request or RFR of this session, but for the want of memory.
+    /// `mode` is that of its type, and `jobs_full` tells whether the node's jobs are full. Nothing
+    /// changes.
     pub fn row(&self, head: &MessageHeader, mode: Mode, jobs_full: bool) -> ServerRow
         ensures row { result ≡ row_of mode jobs_full head.now self.now }
         // As the server rule says of what is shown.
         ensures rule { (pool : Pool) → KeepsPool pool self.now.slots →
-            server_row mode jobs_full false (Some (shown pool self.now)) self.now.peer head.now ≡ result }
+            server_row mode jobs_full false (Some (shown pool self.now)) self.now.peer head.now
+            ≡ result }
         ensures sound { IsSession self.now }
     {
         self.slot_row(head, mode, jobs_full)
@@ -182,27 +262,25 @@ impl ServerSession {
             return ServerRow::Drops(DropReason::Old);
         }
         if head.request.get() > request.number.get() {
-            return new_row(head, mode, jobs_full, request.working);
+            return new_row(head, mode, jobs_full, request.is_working());
         }
         request.row(head, mode, jobs_full)
     }
 }
 
+// Whether requests of a mode are served.
 fn is_handled(mode: Mode) -> bool
     ensures { result ≡ is_handled mode }
 {
-    match mode {
-        Mode::Inline | Mode::Background => true,
-        Mode::Unserved => false,
-    }
+    matches!(mode, Mode::Inline | Mode::Background)
 }
 
-// A number greater than each before it in its slot. `working` tells whether a worker has the newest request
-// of the slot.
+// A number greater than each before it in its slot. `working` tells whether a worker has the newest
+// request of the slot.
 fn new_row(head: &MessageHeader, mode: Mode, jobs_full: bool, working: bool) -> ServerRow
-    ensures { result ≡ new_row working mode jobs_full head.now }
+    ensures { result ≡ new_row mode working jobs_full false head.now }
 {
-    if is_an_rfr(head.kind) || head.number != 0 {
+    if head.kind.is_rfr() || head.number != 0 {
         return ServerRow::Drops(DropReason::NotFirst);
     }
     if working {

@@ -1,19 +1,22 @@
 //! The handler of a request runs.
 ghost use Rattle.std.specs.Prelude.{◌≡◌, ℕ, ◌<◌, ◌≤◌, ◌+◌, List, [], ◌∷◌, ◌++◌, Some, length, true};
-ghost use Rattle.packet_header.specs.Parts.{packet_count};
+ghost use Rattle.packet_header.specs.Parts.{packet_count, IsMessage};
 ghost use Rattle.message_buffer.specs.Buffer.{capacity_of};
 ghost use Rattle.buffer_pool.specs.Pool.{spare_of};
 ghost use Rattle.packet_rings.specs.Values.{EntryValue};
 ghost use Rattle.rpc_outside.specs.Served.{Served};
 ghost use Rattle.rpc_outside.specs.declared.service.Mode.{Mode};
 ghost use Rattle.rpc_outside.specs.declared.service.Mode.TheVariants.{Inline};
-ghost use Rattle.server_core.specs.Counting.{Counts};
+ghost use Rattle.server_core.specs.Counting.{CountsQueued};
 ghost use Rattle.server_core.specs.Flushing.{HoldsAll};
+ghost use Rattle.server_core.specs.Keeping.{CountsWith, HoldsWith, QueuedWith};
 ghost use Rattle.server_core.specs.KeepsPool.{KeepsPool, KeepsSpare, LeavesOthers};
 ghost use Rattle.server_core.specs.Noting.{IsServed};
-ghost use Rattle.server_core.specs.Session.{IsInTurn, IsMessage, newest};
+ghost use Rattle.server_core.specs.declared.slot.SlotState.TheVariants.{Working};
+ghost use Rattle.server_core.specs.Session.{IsInTurn, newest};
 ghost use Rattle.server_core.specs.Shown.{shown};
 ghost use Rattle.server_core.specs.Steps.{AreServed, HasNoBytes, IsReply};
+ghost use Rattle.buffer_pool.specs.Counting.{Counts};
 
 use super::ServerSession;
 use crate::running::serve;
@@ -26,8 +29,8 @@ use rpc_base::Who;
 use rpc_outside::{Recorder, Service};
 
 impl ServerSession {
-    // The handler of a request that was taken with its last packet runs, which is noted with the bytes of both
-    // messages. The answer is held for the reply to that packet.
+    // The handler of a request that was taken with its last packet runs, which is noted with the
+    // bytes of both messages. The answer is held for the reply to that packet.
     pub(super) fn answer_inline<V: Service, R: Recorder>(
         &mut self,
         pool: &mut BufferPool,
@@ -43,20 +46,25 @@ impl ServerSession {
         requires spare { 0 < spare_of pool.old }
         requires found { newest request.number self.old ≡ Some request }
         requires turn { IsInTurn request }
-        requires working { request.working ≡ true }
+        requires working { request.state ≡ Working }
         requires own { request.number ≡ head.now.request }
         requires last { head.now.number + 1 ≡ packet_count request.size }
         requires inline { V.mode_of head.now.req_type ≡ Inline }
         requires message { IsMessage room.len × (room.len ≤ capacity_of room) }
-        requires room { (served : Served) → V.stands service.old served → length (V.answer served head.now.req_type ask.now) ≡ room.len }
-        ensures answers { IsServed R.facts R.whole rec.old rec.new who.now self.old.number V.answer (V.stands service.old) (V.stands service.new) head.now ask.now (shown pool.old self.old) (shown pool.new self.new) }
+        requires room { (served : Served) → V.stands service.old served →
+            length (V.answer served head.now.req_type ask.now) ≡ room.len }
+        ensures answers { IsServed R.facts R.whole rec.old rec.new who.now self.old.number V.answer
+            (V.stands service.old) (V.stands service.new) head.now ask.now (shown pool.old self.old)
+            (shown pool.new self.new) }
         ensures reply { IsReply head.now.request head.now.number self.new pool.new result }
         ensures no_bytes { HasNoBytes (newest head.now.request self.new) }
-        ensures served { (mode_of : ℕ → Mode) → AreServed mode_of self.old.slots → AreServed mode_of self.new.slots }
+        ensures served { (mode_of : ℕ → Mode) → AreServed mode_of self.old.slots →
+            AreServed mode_of self.new.slots }
         ensures spare { KeepsSpare self.old.slots self.new.slots pool.old pool.new }
         ensures others { LeavesOthers self.old.slots self.new.slots pool.old pool.new }
-        ensures holds { (entries : List EntryValue) → HoldsAll self.old pool.old entries → HoldsAll self.new pool.new (entries ++ result ∷ []) }
-        ensures counts { (entries : List EntryValue) → Counts pool.old entries → Counts pool.new (entries ++ result ∷ []) }
+        ensures holds { HoldsWith (result ∷ []) self.old self.new pool.old pool.new }
+        ensures queued { QueuedWith (result ∷ []) self.old self.new }
+        ensures counts { CountsWith (result ∷ []) pool.old pool.new }
         ensures keeps_pool { KeepsPool pool.new self.new.slots }
     {
         let answer = serve(service, head.req_type, ask, room);

@@ -1,31 +1,43 @@
-//! What a packet that is taken does: a request begins or goes on, and its handler runs after its last
-//! packet.
-ghost use Rattle.std.specs.Prelude.{◌≡◌, ◌≢◌, ℕ, ◌<◌, ◌≤◌, ◌+◌, ◌*◌, List, [], ◌∷◌, ◌++◌, length, map, take, IfSome, None, Some, false, true};
+//! What a packet that is taken does: a request begins or goes on, and its handler runs after its
+//! last packet.
+ghost use Rattle.std.specs.Prelude.{◌≡◌, ◌≢◌, ℕ, ◌<◌, ◌≤◌, ◌+◌, ◌*◌, List, [], ◌∷◌, ◌++◌, length};
+ghost use Rattle.std.specs.Prelude.{map, take, IfSome, None, Some, false, true};
 ghost use Rattle.std.specs.List.{find};
 ghost use Rattle.rpc_base.specs.Tables.{without_first};
-ghost use Rattle.packet_header.specs.Parts.{packet_count, part_size};
+ghost use Rattle.packet_header.specs.Parts.{packet_count, part_size, IsMessage};
 ghost use Rattle.message_buffer.specs.Buffer.{bytes_of, capacity_of};
-ghost use Rattle.buffer_pool.specs.Pool.{IsFull, buf_at, emptied, filled, lowest_empty, refs_of, spare_of};
+ghost use Rattle.buffer_pool.specs.Pool.{IsFull, buf_at, emptied, filled, lowest_empty, refs_of};
+ghost use Rattle.buffer_pool.specs.Pool.{spare_of};
 ghost use Rattle.packet_rings.specs.Rings.{ring};
 ghost use Rattle.packet_rings.specs.Values.{EntryValue};
 ghost use Rattle.rpc_laws.specs.declared.rows.ServerRow.TheVariants.{Begins};
-ghost use Rattle.rpc_laws.specs.ServerTable.{is_last};
+ghost use Rattle.rpc_laws.specs.ServerTable.{is_last, makes_job};
 ghost use Rattle.rpc_outside.specs.declared.service.Mode.{Mode};
 ghost use Rattle.rpc_outside.specs.declared.service.Mode.TheVariants.{Unserved};
-ghost use Rattle.server_core.specs.Counting.{Counts};
-ghost use Rattle.server_core.specs.Flushing.{HoldsAll, HoldsReplies, replies_of, ring_after, without_newest};
-ghost use Rattle.server_core.specs.KeepsPool.{IsKept, KeepsPool, KeepsSpare, LeavesOthers, own_names};
+ghost use Rattle.server_core.specs.Counting.{CountsQueued, IsCounted};
+ghost use Rattle.server_core.specs.Flushing.{HoldsAll, HoldsReplies, replies_of, ring_after};
+ghost use Rattle.server_core.specs.Flushing.{without_newest};
+ghost use Rattle.server_core.specs.Keeping.{CountsWith, HoldsWith, QueuedWith, StillCounts};
+ghost use Rattle.server_core.specs.Keeping.{StillHolds};
+ghost use Rattle.server_core.specs.KeepsPool.{IsKept, KeepsPool, KeepsSpare, LeavesOthers};
+ghost use Rattle.server_core.specs.KeepsPool.{own_names};
 ghost use Rattle.server_core.specs.Noting.{Handled, early_facts, first_facts};
-ghost use Rattle.server_core.specs.Rows.{gives_job};
 ghost use Rattle.server_core.specs.Replies.{CanHold};
-ghost use Rattle.server_core.specs.Serving.{IsUnheld, given_up, gone_on, next_taken, with_slots, without_answer, without_ask, without_buffers};
-ghost use Rattle.server_core.specs.Session.{IsInTurn, IsMessage, IsSession, is_in_slot, newest};
+ghost use Rattle.server_core.specs.Serving.{IsUnheld, given_up, gone_on, next_taken, with_slots};
+ghost use Rattle.server_core.specs.Serving.{without_answer, without_ask, without_buffers};
+ghost use Rattle.server_core.specs.declared.slot.SlotState.TheVariants.{Taking};
+ghost use Rattle.server_core.specs.Session.{IsInTurn, IsSession, ask_of, is_in_slot};
+ghost use Rattle.server_core.specs.Session.{newest};
 ghost use Rattle.server_core.specs.Shown.{ask_in, shown, shown_request};
-ghost use Rattle.server_core.specs.Steps.{AreServed, HasNoBytes, HasTaken, IfGiven, IfRan, IfReply, IsBeginning, IsNextOf, IsParcel, IsReply, LeavesPool, UnlessRan, UnlessTaken, asked_with, begun_with, bytes_with, first_shown, gone_on_as, grown};
+ghost use Rattle.server_core.specs.Steps.{AreServed, HasNoBytes, HasTaken, IfGiven, IfRan, IfReply};
+ghost use Rattle.server_core.specs.Steps.{IsBeginning, IsNextOf, IsParcel, IsReply, LeavesPool};
+ghost use Rattle.server_core.specs.Steps.{LeavesSession, UnlessRan, asked_with, begun_with};
+ghost use Rattle.server_core.specs.Steps.{bytes_with, first_shown, gone_on_as, grown};
+ghost use Rattle.buffer_pool.specs.Counting.{Counts};
 
 use super::ServerSession;
 use crate::running::{make_message, make_room};
-use crate::slot::{SlotRequest, Stored, is_an_rfr, is_background};
+use crate::slot::{SlotRequest, SlotState, Stored, is_background};
 use crate::slots::Slots;
 use crate::step::Step;
 use buffer_pool::BufferPool;
@@ -38,8 +50,9 @@ use std::alloc::Global;
 use worker_board::Parcel;
 
 impl ServerSession {
-    // A new request begins with this packet. Where it is the only one, its handler runs, or it goes to a
-    // worker. The buffers are made first, and then the replies to the older request of the slot are flushed.
+    // A new request begins with this packet. Where it is the only one, its handler runs, or it goes
+    // to a worker. The buffers are made first, and then the replies to the older request of the
+    // slot are flushed.
     pub(super) fn begin<V: Service, R: Recorder>(
         &mut self,
         alloc: Global,
@@ -55,25 +68,41 @@ impl ServerSession {
         requires session { IsSession self.old }
         requires keeps_pool { KeepsPool pool.old self.old.slots }
         requires spare { 0 < spare_of pool.old }
-        requires queued { IfSome (newest head.now.request self.old) (HoldsReplies self.old.number pool.old tx.old.items) }
+        requires queued { IfSome (newest head.now.request self.old)
+            (HoldsReplies self.old.number pool.old tx.old.items) }
+        requires counted { IfSome (newest head.now.request self.old)
+            (IsCounted self.old.number tx.old.items) }
         requires beginning { IsBeginning head.now (length body.now) self.old }
         requires mode { V.mode_of head.now.req_type ≡ mode }
         requires served { mode ≢ Unserved }
         requires all_served { AreServed V.mode_of self.old.slots }
-        ensures taken { HasTaken (is_last head.now) (gives_job mode head.now) true result }
-        ensures ring { tx.new ≡ ring (ring_after Begins result self.old.number (newest head.now.request self.old) tx.old.items) tx.old.size }
-        ensures handled { Handled R.facts R.whole rec.old rec.new (λ answer. early_facts who.now self.old tx.old.items Begins head.now (asked_with head.now body.now (shown pool.old self.old)) answer result) V.answer (V.stands service.old) (V.stands service.new) head.now body.now (shown pool.old self.old) (shown pool.new self.new) result }
-        ensures reply { IfReply result (IsReply head.now.request head.now.number self.new pool.new) }
-        ensures give { IfGiven result (IsParcel V.answer (V.stands service.old) head.now body.now (shown pool.old self.old)) }
+        ensures taken { HasTaken (is_last head.now) (makes_job mode head.now) true result }
+        ensures ring { tx.new ≡ ring
+            (ring_after Begins result self.old.number (newest head.now.request self.old)
+            tx.old.items) tx.old.size }
+        ensures handled { Handled R.facts R.whole rec.old rec.new
+            (λ answer. early_facts who.now self.old tx.old.items Begins head.now
+            (asked_with head.now body.now (shown pool.old self.old)) answer result) V.answer
+            (V.stands service.old) (V.stands service.new) head.now body.now
+            (shown pool.old self.old) (shown pool.new self.new) result }
+        ensures reply { IfReply result
+            (IsReply head.now.request head.now.number self.new pool.new) }
+        ensures give { IfGiven result
+            (IsParcel V.answer (V.stands service.old) head.now body.now (shown pool.old self.old)) }
         ensures no_bytes { IfRan result (HasNoBytes (newest head.now.request self.new)) }
         ensures service { UnlessRan result (service.new ≡ service.old) }
-        ensures session { UnlessTaken result (self.new ≡ self.old) }
+        ensures session { LeavesSession result head.now.request self.old self.new }
         ensures pool { LeavesPool result pool.old pool.new }
         ensures all_served { AreServed V.mode_of self.new.slots }
         ensures spare { KeepsSpare self.old.slots self.new.slots pool.old pool.new }
         ensures others { LeavesOthers self.old.slots self.new.slots pool.old pool.new }
-        ensures holds { HoldsAll self.old pool.old tx.old.items → HoldsAll self.new pool.new (tx.new.items ++ replies_of result) }
-        ensures counts { Counts pool.old tx.old.items → Counts pool.new (tx.new.items ++ replies_of result) }
+        ensures holds { HoldsAll self.old pool.old tx.old.items →
+            HoldsAll self.new pool.new (tx.new.items ++ replies_of result) }
+        ensures queued { HoldsAll self.old pool.old tx.old.items →
+            CountsQueued self.old tx.old.items →
+            CountsQueued self.new (tx.new.items ++ replies_of result) }
+        ensures counts { Counts pool.old tx.old.items →
+            Counts pool.new (tx.new.items ++ replies_of result) }
         ensures keeps_pool { KeepsPool pool.new self.new.slots }
     {
         if count(head.size) > 1 {
@@ -104,7 +133,14 @@ impl ServerSession {
 
     // The job of a request that goes to a worker.
     fn parcel(&self, head: &MessageHeader, ask: MsgBuf, out: MsgBuf) -> Parcel
-        ensures { result ≡ record { session = self.now.number; request = head.now.request; req_type = head.now.req_type; ask = ask; out = out } }
+        ensures { result ≡ record {
+          session = self.now.number;
+          request =
+              head.now.request;
+          req_type = head.now.req_type;
+          ask = ask;
+          out = out;
+        } }
     {
         Parcel {
             session: self.number,
@@ -115,8 +151,8 @@ impl ServerSession {
         }
     }
 
-    // The next packet of a request is taken. After its last one the handler runs, or the request goes to a
-    // worker. The buffer of the answer is made first.
+    // The next packet of a request is taken. After its last one the handler runs, or the request
+    // goes to a worker. The buffer of the answer is made first.
     pub(super) fn take<V: Service, R: Recorder>(
         &mut self,
         alloc: Global,
@@ -134,29 +170,37 @@ impl ServerSession {
         requires next { IsNextOf head.now (length body.now) (newest head.now.request self.old) }
         requires mode { V.mode_of head.now.req_type ≡ mode }
         requires all_served { AreServed V.mode_of self.old.slots }
-        ensures taken { HasTaken (is_last head.now) (gives_job mode head.now) (is_last head.now) result }
-        ensures handled { Handled R.facts R.whole rec.old rec.new (λ answer. first_facts who.now self.old.number head.now (asked_with head.now body.now (shown pool.old self.old)) answer result) V.answer (V.stands service.old) (V.stands service.new) head.now body.now (shown pool.old self.old) (shown pool.new self.new) result }
-        ensures reply { IfReply result (IsReply head.now.request head.now.number self.new pool.new) }
-        ensures give { IfGiven result (IsParcel V.answer (V.stands service.old) head.now body.now (shown pool.old self.old)) }
+        ensures taken { HasTaken (is_last head.now) (makes_job mode head.now) (is_last head.now)
+            result }
+        ensures handled { Handled R.facts R.whole rec.old rec.new
+            (λ answer. first_facts who.now self.old.number head.now
+            (asked_with head.now body.now (shown pool.old self.old)) answer result) V.answer
+            (V.stands service.old) (V.stands service.new) head.now body.now
+            (shown pool.old self.old) (shown pool.new self.new) result }
+        ensures reply { IfReply result
+            (IsReply head.now.request head.now.number self.new pool.new) }
+        ensures give { IfGiven result
+            (IsParcel V.answer (V.stands service.old) head.now body.now (shown pool.old self.old)) }
         ensures no_bytes { IfRan result (HasNoBytes (newest head.now.request self.new)) }
         ensures service { UnlessRan result (service.new ≡ service.old) }
-        ensures session { UnlessTaken result (self.new ≡ self.old) }
+        ensures session { LeavesSession result head.now.request self.old self.new }
         ensures pool { LeavesPool result pool.old pool.new }
         ensures all_served { AreServed V.mode_of self.new.slots }
         ensures spare { KeepsSpare self.old.slots self.new.slots pool.old pool.new }
         ensures others { LeavesOthers self.old.slots self.new.slots pool.old pool.new }
-        ensures holds { (entries : List EntryValue) → HoldsAll self.old pool.old entries → HoldsAll self.new pool.new (entries ++ replies_of result) }
-        ensures counts { (entries : List EntryValue) → Counts pool.old entries → Counts pool.new (entries ++ replies_of result) }
+        ensures holds { HoldsWith (replies_of result) self.old self.new pool.old pool.new }
+        ensures queued { QueuedWith (replies_of result) self.old self.new }
+        ensures counts { CountsWith (replies_of result) pool.old pool.new }
         ensures keeps_pool { KeepsPool pool.new self.new.slots }
     {
         let Some(request) = self.slots.of_slot(head.request.slot()) else {
             unreachable!()
         };
-        if is_an_rfr(head.kind) {
+        if head.kind.is_rfr() {
             let reply = self.take_next(pool, request);
             return Step::Took { reply: Some(reply) };
         }
-        let Some(place) = request.ask else {
+        let Some(place) = request.ask() else {
             unreachable!()
         };
         self.write_part(pool, &request, place, body);
@@ -186,13 +230,20 @@ impl ServerSession {
         requires many { 1 < packet_count head.now.size }
         requires len { ask.len ≡ head.now.size }
         requires room { ask.len ≤ capacity_of ask }
-        ensures shown { shown pool.new self.new ≡ begun_with (first_shown head.now (bytes_of ask) None) (shown pool.old self.old) }
-        ensures served { (mode_of : ℕ → Mode) → mode_of head.now.req_type ≢ Unserved → AreServed mode_of self.old.slots → AreServed mode_of self.new.slots }
+        ensures shown { shown pool.new self.new
+            ≡ begun_with (first_shown head.now (bytes_of ask) None) (shown pool.old self.old) }
+        ensures served { (mode_of : ℕ → Mode) → mode_of head.now.req_type ≢ Unserved →
+            AreServed mode_of self.old.slots → AreServed mode_of self.new.slots }
         ensures reply { IsReply head.now.request 0 self.new pool.new result }
         ensures spare { KeepsSpare self.old.slots self.new.slots pool.old pool.new }
         ensures others { LeavesOthers self.old.slots self.new.slots pool.old pool.new }
-        ensures holds { (entries : List EntryValue) → HoldsAll (without_newest head.now.request self.old) pool.old entries → HoldsAll self.new pool.new (entries ++ result ∷ []) }
-        ensures counts { (entries : List EntryValue) → Counts pool.old entries → Counts pool.new (entries ++ result ∷ []) }
+        ensures holds { HoldsWith (result ∷ []) (without_newest head.now.request self.old) self.new
+            pool.old pool.new }
+        ensures queued { (entries : List EntryValue) →
+            HoldsAll (without_newest head.now.request self.old) pool.old entries →
+            CountsQueued (without_newest head.now.request self.old) entries →
+            CountsQueued self.new (entries ++ result ∷ []) }
+        ensures counts { CountsWith (result ∷ []) pool.old pool.new }
         ensures keeps_pool { KeepsPool pool.new self.new.slots }
     {
         give_up(&mut self.slots, pool, head.request.slot());
@@ -202,9 +253,8 @@ impl ServerSession {
             req_type: head.req_type,
             size: head.size,
             taken: 1,
-            ask: Some(ask.place),
-            working: false,
-            answer: None,
+            queued: 1,
+            state: SlotState::Taking { ask: ask.place },
         };
         let reply = request.entry(self.number, 0, self.peer);
         self.slots.push(request);
@@ -215,42 +265,47 @@ impl ServerSession {
     fn take_next(&mut self, pool: &mut BufferPool, request: SlotRequest) -> Entry
         requires keeps_pool { KeepsPool pool.old self.old.slots }
         requires found { newest request.number self.old ≡ Some request }
-        requires turn { IsInTurn (next_taken request.answer request) }
-        requires idle { request.working ≡ false }
+        requires turn { IsInTurn (next_taken request) }
         requires can_hold { CanHold pool.old request }
-        ensures shown { shown pool.new self.new ≡ gone_on_as request.number (grown (bytes_with pool.old request)) (shown pool.old self.old) }
+        ensures shown { shown pool.new self.new
+            ≡ gone_on_as request.number (grown (bytes_with pool.old request))
+            (shown pool.old self.old) }
         ensures reply { IsReply request.number request.taken self.new pool.new result }
-        ensures served { (mode_of : ℕ → Mode) → AreServed mode_of self.old.slots → AreServed mode_of self.new.slots }
+        ensures served { (mode_of : ℕ → Mode) → AreServed mode_of self.old.slots →
+            AreServed mode_of self.new.slots }
         ensures spare { KeepsSpare self.old.slots self.new.slots pool.old pool.new }
         ensures others { LeavesOthers self.old.slots self.new.slots pool.old pool.new }
-        ensures holds { (entries : List EntryValue) → HoldsAll self.old pool.old entries → HoldsAll self.new pool.new (entries ++ result ∷ []) }
-        ensures counts { (entries : List EntryValue) → Counts pool.old entries → Counts pool.new (entries ++ result ∷ []) }
+        ensures holds { HoldsWith (result ∷ []) self.old self.new pool.old pool.new }
+        ensures queued { QueuedWith (result ∷ []) self.old self.new }
+        ensures counts { CountsWith (result ∷ []) pool.old pool.new }
         ensures keeps_pool { KeepsPool pool.new self.new.slots }
     {
         let reply = request.entry(self.number, request.taken, self.peer);
         pool.hold_at(reply.place);
         self.slots.replace(SlotRequest {
             taken: request.taken + 1,
+            queued: request.queued + 1,
             ..request
         });
         reply
     }
 
-    // The bytes of the next packet of a request go to their place in its buffer. What is shown doesn't
-    // change: the packet isn't taken yet.
+    // The bytes of the next packet of a request go to their place in its buffer. What is shown
+    // doesn't change: the packet isn't taken yet.
     fn write_part(&self, pool: &mut BufferPool, request: &SlotRequest, place: Place, body: &[u8])
         requires session { IsSession self.now }
         requires keeps_pool { KeepsPool pool.old self.now.slots }
         requires found { newest request.now.number self.now ≡ Some request.now }
-        requires asked { request.now.ask ≡ Some place }
+        requires taking { request.now.state ≡ Taking place }
         requires within { request.now.taken < packet_count request.now.size }
         requires long { length body.now ≡ part_size request.now.size request.now.taken }
         ensures shown { shown pool.new self.now ≡ shown pool.old self.now }
-        ensures bytes { bytes_with pool.new request.now ≡ ask_in pool.old request.now.taken request.now.ask ++ body.now }
+        ensures bytes { bytes_with pool.new request.now
+            ≡ ask_in pool.old request.now.taken (ask_of request.now.state) ++ body.now }
         ensures uses { pool.new.uses ≡ pool.old.uses }
         ensures others { LeavesOthers self.now.slots self.now.slots pool.old pool.new }
-        ensures holds { (entries : List EntryValue) → HoldsAll self.now pool.old entries → HoldsAll self.now pool.new entries }
-        ensures counts { (entries : List EntryValue) → Counts pool.old entries → Counts pool.new entries }
+        ensures holds { StillHolds self.now self.now pool.old pool.new }
+        ensures counts { StillCounts pool.old pool.new }
         ensures keeps_pool { KeepsPool pool.new self.now.slots }
     {
         let at = PART_BYTES * u32::from(request.taken);
@@ -258,7 +313,8 @@ impl ServerSession {
     }
 }
 
-/// The newest request of a slot is given up, of which no reply is queued: its buffers leave the pool.
+/// The newest request of a slot is given up, of which no reply is queued: its buffers leave the
+/// pool.
 pub(super) fn give_up(slots: &mut Slots, pool: &mut BufferPool, slot: u8)
     requires keeps_pool { KeepsPool pool.old slots.old }
     requires unheld { IfSome (find (is_in_slot slot) slots.old) (IsUnheld pool.old) }
@@ -279,8 +335,8 @@ pub(super) fn empty_buffers(pool: &mut BufferPool, request: &SlotRequest)
     requires unheld { IsUnheld pool.old request.now }
     ensures { pool.new ≡ without_buffers request.now pool.old }
 {
-    empty_ask(pool, request.ask);
-    empty_answer(pool, request.answer);
+    empty_ask(pool, request.ask());
+    empty_answer(pool, request.answer());
 }
 
 // Drops the buffer of a place to which there is no reference.

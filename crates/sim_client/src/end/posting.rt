@@ -2,10 +2,9 @@
 ghost use Rattle.std.specs.Prelude.{◌≡◌, ℕ, Some, option_map, IfNone, IfOk, IfSome, OnOk};
 ghost use Rattle.packet_header.specs.Header.{AreBytes};
 ghost use Rattle.rpc_base.specs.declared.owner.Owner.TheVariants.{Ask};
-ghost use Rattle.rpc_laws.specs.Packets.{ask_packet};
+ghost use Rattle.rpc_laws.specs.Packets.{ask_packet, IsSpelled};
 ghost use Rattle.rpc_laws.specs.Posting.{beginning, if_connected, posting};
 ghost use Rattle.rpc_laws.specs.Sessions.{begins, posts, sends};
-ghost use Rattle.client_core.specs.Shown.{IsSpelled};
 ghost use Rattle.sim_client.specs.Ends.{begun_event, posted_event};
 
 use super::ClientEnd;

@@ -1,8 +1,7 @@
 //! The replies of a server end.
 ghost use Rattle.std.specs.Prelude.{◌≡◌, Some, IfOk, OnOk};
 ghost use Rattle.packet_header.specs.Header.{AreBytes};
-ghost use Rattle.rpc_laws.specs.Packets.{reply_packet};
-ghost use Rattle.server_core.specs.Replies.{IsSpelled};
+ghost use Rattle.rpc_laws.specs.Packets.{reply_packet, IsSpelled};
 
 use super::ServerEnd;
 use packet_header::HEAD_BYTES;

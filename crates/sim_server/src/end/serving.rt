@@ -14,10 +14,11 @@ ghost use Rattle.server_core.specs.KeepsPool.{KeepsPool};
 ghost use Rattle.server_core.specs.Replies.{CanHold};
 ghost use Rattle.server_core.specs.Serving.{IsUnheld};
 ghost use Rattle.server_core.specs.Finishing.{is_waiting};
-ghost use Rattle.server_core.specs.Session.{IsMessage, IsSession, newest};
+ghost use Rattle.server_core.specs.Session.{IsSession, newest};
 ghost use Rattle.server_core.specs.Shown.{shown};
 ghost use Rattle.server_core.specs.Steps.{AreServed, IsAsking};
 ghost use Rattle.sim_server.specs.Ends.{WhereTaken, after_row, answer_bytes, ask_with, asked_bytes, finished, gives_job, is_numbered, is_wanting, job_given, parcel_of, plain_row, shown_job, total_after_row};
+ghost use Rattle.packet_header.specs.Parts.{IsMessage};
 
 use super::ServerEnd;
 use buffer_pool::BufferPool;
@@ -150,12 +151,13 @@ fn may_serve(session: &ServerSession, pool: &BufferPool, request: RequestNo, row
     ensures spare { IsTrue result → 0 < spare_of pool.now }
     ensures can_hold { IsTrue result → IfSome (newest request session.now) (CanHold pool.now) }
     ensures unheld { IsTrue result → row ≡ Begins → IfSome (newest request session.now) (IsUnheld pool.now) }
+    ensures unqueued { IsTrue result → row ≡ Begins → IfSome (newest request session.now) (λ q. q.queued ≡ 0) }
 {
     if pool.spare() == 0 || !session.can_hold(pool, request) {
         return false;
     }
     match row {
-        ServerRow::Begins => session.is_unheld(pool, request),
+        ServerRow::Begins => session.is_unheld(pool, request) && session.is_unqueued(request),
         _ => true,
     }
 }

@@ -8,10 +8,13 @@ returns-in-Ok-print g c =
       record {
         history = c.in-Ok.world;
         follows = r.follows;
+        one = r.one;
+        told = r.told;
         once = r.once;
         own = r.own;
         sends_own = r.sends_own;
         fits = r.fits;
+        stands_once = r.stands_once;
         credit = r.credit;
         ends_clean = r.ends_clean;
         begins_clean = r.begins_clean;

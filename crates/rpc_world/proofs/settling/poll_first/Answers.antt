@@ -1,5 +1,7 @@
-use Rattle.std.proofs.Common.{refl, add-one}
+use Rattle.std.proofs.Common.{add-one, arith, refl}
+use Rattle.sim_script.specs.FollowsScript.{PollsFirst}
 use Rattle.rpc_world.proofs.StageLemmas.{performed-none, performed-joins}
+use Rattle.rpc_world.proofs.StaysLemmas.{performed-long, performed-numbered, stays-polls}
 use Rattle.rpc_world.proofs.settling.poll_first.Goals as goal
 
 pub nodes-init : goal.nodes-init
@@ -7,3 +9,12 @@ nodes-init c = performed-none _ _ _ (refl, refl)
 
 pub nodes-preserved : goal.nodes-preserved
 nodes-preserved c = rw add-one (performed-joins _ _ _ _ _ _ _ _ c.nodes.invariant c.in_ok-poll_node.ensures)
+
+pub poll_node-requires-clause-node : goal.poll_node-requires-clause-node
+poll_node-requires-clause-node c =
+    let same = performed-long (PollsFirst c.nodes.i) (stays-polls c.nodes.i) _ _ _ _ c.nodes.invariant in
+    omega (arith, same, c.nodes-test.true, c.requires.count)
+
+pub poll_node-requires-clause-numbered : goal.poll_node-requires-clause-numbered
+poll_node-requires-clause-numbered c =
+    performed-numbered (PollsFirst c.nodes.i) (stays-polls c.nodes.i) _ _ _ _ c.nodes.invariant c.requires.numbered

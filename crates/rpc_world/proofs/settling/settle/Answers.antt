@@ -14,3 +14,6 @@ returns-then-branch c =
 
 pub returns : goal.returns
 returns c = settles-all _ _ _ _ _ _ (omega arith) c.rounds.invariant
+
+pub make_round-requires : goal.make_round-requires
+make_round-requires c = record { numbered = c.rounds.invariant.numbered c.requires.numbered }

@@ -1,8 +1,14 @@
 use Rattle.std.proofs.Common.{◌≡◌, length, rules}
+use Rattle.sim_script.specs.FollowsScript.{WorksFirst}
 use Rattle.rpc_world.proofs.StageLemmas.{performed-joins}
+use Rattle.rpc_world.proofs.StaysLemmas.{performed-numbered, stays-works}
 use Rattle.rpc_world.proofs.settling.work_and_poll.Goals as goal
 
 pub returns : goal.returns
 returns c =
-    let n : c.in_ok-count.count ≡ length c.args.stage.now.stage.nodes = search rules in
+    let n : c.len-count.result ≡ length c.args.stage.now.stage.nodes = search rules in
     rw (← n) (performed-joins _ _ _ _ _ _ _ _ c.in_ok-work_first.ensures c.in_ok-poll_first.ensures)
+
+pub poll_first-requires-clause-numbered : goal.poll_first-requires-clause-numbered
+poll_first-requires-clause-numbered c =
+    performed-numbered (WorksFirst _) (stays-works _) _ _ _ _ c.in_ok-work_first.ensures c.requires.numbered

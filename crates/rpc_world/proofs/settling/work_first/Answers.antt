@@ -1,5 +1,7 @@
-use Rattle.std.proofs.Common.{refl, add-one}
+use Rattle.std.proofs.Common.{add-one, arith, refl}
+use Rattle.sim_script.specs.FollowsScript.{WorksFirst}
 use Rattle.rpc_world.proofs.StageLemmas.{performed-none, performed-joins}
+use Rattle.rpc_world.proofs.StaysLemmas.{performed-long, performed-numbered, stays-works}
 use Rattle.rpc_world.proofs.settling.work_first.Goals as goal
 
 pub workers-init : goal.workers-init
@@ -7,3 +9,12 @@ workers-init c = performed-none _ _ _ (refl, refl)
 
 pub workers-preserved : goal.workers-preserved
 workers-preserved c = rw add-one (performed-joins _ _ _ _ _ _ _ _ c.workers.invariant c.in_ok-work_node.ensures)
+
+pub work_node-requires-clause-node : goal.work_node-requires-clause-node
+work_node-requires-clause-node c =
+    let same = performed-long (WorksFirst c.workers.i) (stays-works c.workers.i) _ _ _ _ c.workers.invariant in
+    omega (arith, same, c.workers-test.true, c.requires.count)
+
+pub work_node-requires-clause-numbered : goal.work_node-requires-clause-numbered
+work_node-requires-clause-numbered c =
+    performed-numbered (WorksFirst c.workers.i) (stays-works c.workers.i) _ _ _ _ c.workers.invariant c.requires.numbered

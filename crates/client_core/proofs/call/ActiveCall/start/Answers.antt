@@ -1,12 +1,13 @@
 use Rattle.std.proofs.Common.{◌≡◌, refl, ap, ◌∙◌, arith}
 use Rattle.message_buffer.specs.Buffer.{capacity_of}
 use Rattle.buffer_pool.specs.Pool.{spare_of}
-use Rattle.client_core.proofs.PoolLemmas.{first-buffer, second-buffer, spare-filled}
+use Rattle.client_core.proofs.PoolLemmas.{first-buffer, second-buffer}
 use Rattle.client_core.proofs.call.ActiveCall.start.Goals as goal
+use Rattle.buffer_pool.proofs.CountLemmas.{spare_filled}
 
 pub put-answer-requires : goal.put-answer-requires
 put-answer-requires c =
-    omega (arith, ap spare_of c.put-ask.ensures.pool, spare-filled c.args.pool.now _ c.args.waiting.req c.put-ask.ensures.place, c.requires)
+    omega (arith, ap spare_of c.put-ask.ensures.pool, spare_filled c.args.pool.now _ c.args.waiting.req c.put-ask.ensures.place, c.requires)
 
 pub returns-clause-call : goal.returns-clause-call
 returns-clause-call c =

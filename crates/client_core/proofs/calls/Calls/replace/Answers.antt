@@ -1,7 +1,7 @@
 use Rattle.std.proofs.Common.{sym}
 use Rattle.rpc_base.proofs.TablesLemmas.{at_first-missing}
 use Rattle.client_core.specs.Replies.{is_request}
-use Rattle.client_core.proofs.ChangedLemmas.{at_first-replaced}
+use Rattle.rpc_base.proofs.TablesLemmas.{at_first-replaced}
 use Rattle.client_core.proofs.calls.Calls.replace.Goals as goal
 
 pub returns-in-Some : goal.returns-in-Some

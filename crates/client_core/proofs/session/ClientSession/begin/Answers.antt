@@ -6,15 +6,15 @@ use Rattle.client_core.proofs.SessionLemmas.{begun-session, few-active, started-
 use Rattle.client_core.proofs.ShownLemmas.{beginning-step, call-begins, nothing-begins}
 use Rattle.client_core.proofs.OthersLemmas.{begun-leaves, find-front}
 use Rattle.client_core.specs.Posting.{is_owner}
-use Rattle.client_core.proofs.CountLemmas.{counts-filled}
 use Rattle.buffer_pool.specs.Pool.{filled}
 use Rattle.std.proofs.Common.{sym, ◌∙◌}
 use Rattle.rpc_base.specs.declared.owner.Owner.TheVariants.{Ask}
 use Rattle.packet_rings.specs.Entries.{is_of}
 use Rattle.std.proofs.Common.{◌≡◌}
 use Rattle.std.specs.Prelude.{count_by}
-use Rattle.client_core.proofs.CallsLemmas.{all-append}
 use Rattle.client_core.proofs.session.ClientSession.begin.Goals as goal
+use Rattle.rpc_base.proofs.FirstLemmas.{all-push}
+use Rattle.buffer_pool.proofs.CountingLemmas.{counts-filled}
 
 pub push-requires : goal.push-requires
 push-requires c =
@@ -80,4 +80,4 @@ returns-clause-queued c = λ entries all none.
     let before = rw (← c.self.view_is) at all in
     let fresh = rw (← c.self.view_is) at none in
     let own : c.start-call.result.queued ≡ count_by (is_of (Ask c.self.inside.number c.start-call.result.request)) entries = ap (λ x. x.queued) is ∙ sym fresh ∙ ap (λ x. count_by (is_of (Ask c.self.inside.number x.request)) entries) (sym is) in
-    rw c.push.ensures (all-append (λ x. x.queued ≡ count_by (is_of (Ask c.self.inside.number x.request)) entries) c.self.inside.calls c.start-call.result before own)
+    rw c.push.ensures (all-push (λ x. x.queued ≡ count_by (is_of (Ask c.self.inside.number x.request)) entries) c.self.inside.calls c.start-call.result before own)

@@ -3,11 +3,11 @@ use Rattle.credit_book.specs.Credits.{rolled}
 use Rattle.client_core.specs.KeepsPool.{IsKept}
 use Rattle.client_core.specs.Replies.{is_request}
 use Rattle.client_core.proofs.AnswerLemmas.{keeps-without}
-use Rattle.client_core.proofs.CallsLemmas.{found-holds}
 use Rattle.client_core.proofs.OneCallLemmas.{ended-session, is-active}
 use Rattle.client_core.proofs.PlacesLemmas.{two-places}
 use Rattle.client_core.proofs.CountLemmas.{counts-ended}
 use Rattle.client_core.proofs.session.ClientSession.end.Goals as goal
+use Rattle.rpc_base.proofs.FirstLemmas.{found-holds}
 
 pub end-requires : goal.end-requires
 end-requires c = is-active _ c.args.call c.self.invariant.1 (rw (← c.self.view_is) at c.requires.active)

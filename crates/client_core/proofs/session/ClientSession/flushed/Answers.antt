@@ -7,9 +7,9 @@ use Rattle.client_core.proofs.OthersLemmas.{gone-leaves, leaving-keeps, stays}
 use Rattle.client_core.proofs.PoolLemmas.{keeps-left, keeps-released}
 use Rattle.client_core.proofs.SentLemmas.{left-shown}
 use Rattle.client_core.proofs.SessionLemmas.{left-session}
-use Rattle.client_core.proofs.CountLemmas.{counts-released}
 use Rattle.client_core.proofs.QueuedLemmas.{left-queued}
 use Rattle.client_core.proofs.session.ClientSession.flushed.Goals as goal
+use Rattle.buffer_pool.proofs.CountingLemmas.{counts-released}
 
 pub invariant_of-self : goal.invariant_of-self
 invariant_of-self c = rw c.leave.ensures (c.self.invariant.0, left-session _ (is_owner c.self.inside.number c.entry.inside.owner) c.self.invariant.1)

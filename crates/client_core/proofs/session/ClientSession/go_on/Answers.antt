@@ -5,11 +5,11 @@ use Rattle.client_core.specs.KeepsPool.{IsKept}
 use Rattle.client_core.specs.Replies.{is_request, replied}
 use Rattle.client_core.proofs.AnswerLemmas.{keeps-replied}
 use Rattle.client_core.proofs.CallLemmas.{goes-not-small, part-of, replied-turn}
-use Rattle.client_core.proofs.CallsLemmas.{found-holds}
-use Rattle.client_core.proofs.ChangedLemmas.{same-change}
+use Rattle.rpc_base.proofs.ChangedLemmas.{same-change}
 use Rattle.client_core.proofs.OneCallLemmas.{changed-session, own-turn, own-unanswered}
 use Rattle.client_core.proofs.CountLemmas.{counts-answered}
 use Rattle.client_core.proofs.session.ClientSession.go_on.Goals as goal
+use Rattle.rpc_base.proofs.FirstLemmas.{found-holds}
 
 pub give_back-requires-clause-charged : goal.give_back-requires-clause-charged
 give_back-requires-clause-charged c =

@@ -1,8 +1,8 @@
 use Rattle.std.proofs.Common.{sym}
 use Rattle.client_core.specs.KeepsPool.{IsKept}
 use Rattle.client_core.specs.Replies.{is_request}
-use Rattle.client_core.proofs.CallsLemmas.{found-holds}
 use Rattle.client_core.proofs.session.ClientSession.is_unheld.Goals as goal
+use Rattle.rpc_base.proofs.FirstLemmas.{found-holds}
 
 pub refs-requires : goal.refs-requires
 refs-requires c =

@@ -4,16 +4,16 @@ use Rattle.client_core.specs.Replies.{IsUnheld}
 use Rattle.client_core.specs.Shown.{IsAlone, done_event, shown_broken, stepped}
 use Rattle.client_core.specs.contracts.session.ClientSession.{the_view}
 use Rattle.client_core.specs.Watching.{call_number, is_after}
-use Rattle.client_core.proofs.CallsLemmas.{found-holds}
-use Rattle.client_core.proofs.LostLemmas.{lose-step, some-each}
+use Rattle.client_core.proofs.LostLemmas.{lose-step}
 use Rattle.client_core.proofs.OneCallLemmas.{by-request, least-found, least-none-of}
 use Rattle.client_core.proofs.OthersLemmas.{end-leaves, end-others}
 use Rattle.client_core.specs.Replies.{is_request}
 use Rattle.rpc_base.specs.declared.owner.Owner.TheVariants.{Ask}
 use Rattle.packet_rings.specs.Entries.{is_of}
 use Rattle.std.specs.Prelude.{count_by}
-use Rattle.client_core.proofs.ChangedLemmas.{all-without}
 use Rattle.client_core.proofs.session.ClientSession.lose.Goals as goal
+use Rattle.rpc_base.proofs.FirstLemmas.{found-holds, all-left}
+use Rattle.rpc_base.proofs.BasicLemmas.{if-map}
 
 pub end-requires-clause-active : goal.end-requires-clause-active
 end-requires-clause-active c =
@@ -43,7 +43,7 @@ pub returns-clause-step : goal.returns-clause-step
 returns-clause-step c =
     let keeps = rw (← c.self.view_is) at c.requires.keeps_pool in
     let given = rw (← c.self.view_is) at c.give_up.ensures.given_up in
-    rw (← c.self.view_is) (some-each (λ d. GivesUp d (the_view c.self.inside) c.give_up.new.self) (λ d. IsAlone d.call (the_view c.self.inside) → (clock peer : ℕ) → stepped clock (done_event d) (shown_broken c.args.pool.now peer (the_view c.self.inside)) ≡ shown_broken c.args.pool.now peer c.give_up.new.self ∷ []) c.give_up.result (λ d gives alone clock peer.
+    rw (← c.self.view_is) (if-map (λ d. GivesUp d (the_view c.self.inside) c.give_up.new.self) (λ d. IsAlone d.call (the_view c.self.inside) → (clock peer : ℕ) → stepped clock (done_event d) (shown_broken c.args.pool.now peer (the_view c.self.inside)) ≡ shown_broken c.args.pool.now peer c.give_up.new.self ∷ []) c.give_up.result (λ d gives alone clock peer.
     let lost : Loses (next_lost (the_view c.self.inside)) d (the_view c.self.inside) c.give_up.new.self c.args.pool.now c.args.pool.now = rw (← c.in_default.ensures) (gives, refl) in
     lose-step c.args.pool.now c.args.pool.now clock peer d (the_view c.self.inside) c.give_up.new.self c.self.invariant.1 keeps alone lost) given)
 
@@ -59,4 +59,4 @@ returns-in-Some-clause-entries c =
 pub returns-in-Some-clause-queued : goal.returns-in-Some-clause-queued
 returns-in-Some-clause-queued c = λ entries all.
     let before = rw (← c.self.view_is) at all in
-    rw (c.end.ensures.session, ← c.self.view_is) (all-without (is_request c.in-Some.call.request) c.in-Some.call (λ x. x.queued ≡ count_by (is_of (Ask c.self.inside.number x.request)) entries) c.self.inside.calls before)
+    rw (c.end.ensures.session, ← c.self.view_is) (all-left (is_request c.in-Some.call.request) (λ x. x.queued ≡ count_by (is_of (Ask c.self.inside.number x.request)) entries) c.self.inside.calls before)

@@ -2,12 +2,12 @@ use Rattle.std.proofs.Common.{◌≡◌, Some, sym, ap, ◌∙◌}
 use Rattle.packet_header.specs.Parts.{part}
 use Rattle.buffer_pool.specs.Pool.{buf_at}
 use Rattle.client_core.specs.Session.{IsInTurn}
-use Rattle.client_core.specs.Shown.{message_in}
 use Rattle.client_core.specs.KeepsPool.{IsKept}
 use Rattle.client_core.specs.Posting.{call_of, is_owner}
-use Rattle.client_core.proofs.CallsLemmas.{found-holds}
 use Rattle.client_core.proofs.PacketLemmas.{no-body, part-body, part-within, placed-part, spelled}
 use Rattle.client_core.proofs.session.ClientSession.packet.Goals as goal
+use Rattle.rpc_base.proofs.FirstLemmas.{found-holds}
+use Rattle.message_buffer.specs.Messages.{message_in}
 
 pub head-header-requires-clause-turn : goal.head-header-requires-clause-turn
 head-header-requires-clause-turn c =

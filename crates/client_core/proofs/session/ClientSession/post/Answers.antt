@@ -4,17 +4,17 @@ use Rattle.credit_book.specs.Credits.{charged}
 use Rattle.client_core.specs.Session.{can_post}
 use Rattle.client_core.specs.KeepsPool.{held_at}
 use Rattle.client_core.specs.Shown.{posted_event}
-use Rattle.client_core.proofs.CallsLemmas.{found-passes}
 use Rattle.client_core.proofs.ShownLemmas.{posting-shown, posting-step}
 use Rattle.client_core.proofs.PoolLemmas.{entry-held, keeps-posting, may-hold}
 use Rattle.client_core.proofs.SessionLemmas.{entry-stands, nothing-posted, posted-session}
 use Rattle.client_core.proofs.OthersLemmas.{post-leaves, posting-keeps, stays}
 use Rattle.client_core.specs.Posting.{one_posted}
-use Rattle.client_core.proofs.CountLemmas.{counts-held}
 use Rattle.client_core.specs.Posting.{place_of}
 use Rattle.client_core.proofs.QueuedLemmas.{post-queued}
 use Rattle.client_core.proofs.SessionLemmas.{request-call}
 use Rattle.client_core.proofs.session.ClientSession.post.Goals as goal
+use Rattle.rpc_base.proofs.TakingLemmas.{find-passes}
+use Rattle.buffer_pool.proofs.CountingLemmas.{counts-held}
 
 pub hold_at-requires : goal.hold_at-requires
 hold_at-requires c =
@@ -59,7 +59,7 @@ pub returns-clause-step : goal.returns-clause-step
 returns-clause-step c = λ clock.
     let charged_is : c.charge.new.self ≡ charged (c.in-Some.call.request % 8) c.self.inside.credits = c.charge.ensures.charged ∙ ap (λ n. charged n c.self.inside.credits) c.slot.ensures in
     let found = sym c.in-Some.ensures.call in
-    let more = found-passes can_post c.self.inside.calls c.in-Some.call found in
+    let more = find-passes can_post c.self.inside.calls c.in-Some.call found in
     rw (← c.self.view_is, c.next_entry-entry.ensures, c.hold_at.ensures, charged_is, c.post_next.ensures.calls)
     (posting-step clock c.args.pool.now c.args.peer c.entry.inside.place _ c.in-Some.call c.self.invariant.1 found more (rw charged_is at c.charge.ensures.limit))
 

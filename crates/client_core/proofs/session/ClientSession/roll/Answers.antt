@@ -5,17 +5,17 @@ use Rattle.client_core.specs.Timeouts.{is_numbered, rolled_call}
 use Rattle.client_core.specs.contracts.session.ClientSession.{the_view}
 use Rattle.std.proofs.lemmas.Bool.{eqb-true}
 use Rattle.client_core.proofs.CallLemmas.{rolled-turn}
-use Rattle.client_core.proofs.CallsLemmas.{found-passes}
 use Rattle.client_core.proofs.LostLemmas.{roll-step}
-use Rattle.client_core.proofs.ChangedLemmas.{same-change}
+use Rattle.rpc_base.proofs.ChangedLemmas.{same-change}
 use Rattle.client_core.proofs.OneCallLemmas.{by-request, changed-session, own-turn}
 use Rattle.client_core.proofs.OthersLemmas.{roll-leaves, roll-others}
 use Rattle.client_core.proofs.RollLemmas.{keeps-rolled}
 use Rattle.rpc_base.specs.declared.owner.Owner.TheVariants.{Ask}
 use Rattle.packet_rings.specs.Entries.{is_of}
 use Rattle.std.specs.Prelude.{count_by}
-use Rattle.client_core.proofs.CallsLemmas.{all-at_first}
 use Rattle.client_core.proofs.session.ClientSession.roll.Goals as goal
+use Rattle.rpc_base.proofs.TakingLemmas.{find-passes}
+use Rattle.rpc_base.proofs.FirstLemmas.{all-kept}
 
 pub invariant_of-self : goal.invariant_of-self
 invariant_of-self c =
@@ -38,7 +38,7 @@ returns-clause-session c =
 pub returns-clause-step : goal.returns-clause-step
 returns-clause-step c =
     let found = by-request _ (is_numbered c.args.call) c.in-Some.call c.self.invariant.1 (sym c.in-Some.ensures) in
-    let own = eqb-true c.in-Some.call.call c.args.call (found-passes (is_numbered c.args.call) c.self.inside.calls c.in-Some.call (sym c.in-Some.ensures)) in
+    let own = eqb-true c.in-Some.call.call c.args.call (find-passes (is_numbered c.args.call) c.self.inside.calls c.in-Some.call (sym c.in-Some.ensures)) in
     let credits = c.roll.ensures.rolled ∙ ap (λ n. rolled n c.self.inside.credits) c.slot.ensures in
     rw (← c.self.view_is, ← c.in-Some.ensures, c.replace.ensures, c.rolled.ensures, credits, same-change (is_request c.in-Some.call.request) c.in-Some.call rolled_call c.self.inside.calls found)
     (λ pool clock peer. roll-step pool clock peer c.args.call c.in-Some.call (the_view c.self.inside) c.self.invariant.1 (sym c.in-Some.ensures) own)
@@ -66,4 +66,4 @@ returns-clause-queued c = λ entries all.
     let found = by-request _ (is_numbered c.args.call) c.in-Some.call c.self.invariant.1 (sym c.in-Some.ensures) in
     let before = rw (← c.self.view_is) at all in
     rw (c.replace.ensures, c.rolled.ensures, same-change (is_request c.in-Some.call.request) c.in-Some.call rolled_call c.self.inside.calls found)
-    (all-at_first (is_request c.in-Some.call.request) rolled_call (λ x. x.queued ≡ count_by (is_of (Ask c.self.inside.number x.request)) entries) c.self.inside.calls (λ x here passes. here) before)
+    (all-kept (is_request c.in-Some.call.request) rolled_call (λ x. x.queued ≡ count_by (is_of (Ask c.self.inside.number x.request)) entries) c.self.inside.calls (λ x here passes. here) before)

@@ -8,9 +8,9 @@ use Rattle.client_core.proofs.SessionLemmas.{marked-session}
 use Rattle.client_core.proofs.SentLemmas.{sent-step}
 use Rattle.client_core.proofs.OthersLemmas.{gone-leaves, marked-own, marking-keeps, stays}
 use Rattle.client_core.specs.Posting.{marked}
-use Rattle.client_core.proofs.CountLemmas.{counts-released}
 use Rattle.client_core.proofs.QueuedLemmas.{left-queued, marked-less, marked-request}
 use Rattle.client_core.proofs.session.ClientSession.sent.Goals as goal
+use Rattle.buffer_pool.proofs.CountingLemmas.{counts-released}
 
 pub invariant_of-self : goal.invariant_of-self
 invariant_of-self c = rw c.mark.ensures (c.self.invariant.0, marked-session _ _ _ _ c.self.invariant.1)

@@ -3,11 +3,11 @@ use Rattle.client_core.specs.KeepsPool.{IsKept}
 use Rattle.client_core.specs.Replies.{call_as, is_request}
 use Rattle.client_core.proofs.AnswerLemmas.{answered-gone, answered-refs, keeps-written}
 use Rattle.client_core.proofs.CallLemmas.{ends-last, ok-not-goes, ok-not-small, part-of, small-not-goes}
-use Rattle.client_core.proofs.CallsLemmas.{found-holds}
 use Rattle.client_core.proofs.PlacesLemmas.{two-places}
 use Rattle.client_core.proofs.CountLemmas.{counts-answered}
 use Rattle.client_core.specs.Counting.{Counts}
 use Rattle.client_core.proofs.session.ClientSession.take.Goals as goal
+use Rattle.rpc_base.proofs.FirstLemmas.{found-holds}
 
 pub write_part-requires-clause-kept : goal.write_part-requires-clause-kept
 write_part-requires-clause-kept c =

@@ -1,4 +1,4 @@
-use Rattle.rpc_world.proofs.ServedLaws.{follows-fits, follows-only, follows-sends-own, follows-own, follows-once, follows-credit, follows-ends-clean, follows-begins-clean, follows-ring, follows-requests}
+use Rattle.rpc_world.proofs.ServedLaws.{follows-fits, follows-only, follows-sends-own, follows-own, follows-once, follows-credit, follows-ends-clean, follows-begins-clean, follows-ring, follows-requests, follows-one, follows-told, follows-stands-once}
 use Rattle.rpc_world.proofs.world.World.run.Goals as goal
 
 pub returns-clause-sends_own : goal.returns-clause-sends_own
@@ -27,3 +27,12 @@ returns-clause-requests c = follows-requests _ _ c.in_ok-world.ensures.script
 
 pub returns-clause-fits : goal.returns-clause-fits
 returns-clause-fits c = follows-fits _ _ c.in_ok-world.ensures.script (follows-only _ _ c.in_ok-world.ensures.script c.requires c.in_ok-world.ensures.follows) c.in_ok-world.ensures.follows
+
+pub returns-clause-stands_once : goal.returns-clause-stands_once
+returns-clause-stands_once c = follows-stands-once _ _ c.in_ok-world.ensures.script (follows-only _ _ c.in_ok-world.ensures.script c.requires c.in_ok-world.ensures.follows) c.in_ok-world.ensures.follows
+
+pub returns-clause-one : goal.returns-clause-one
+returns-clause-one c = follows-one _ _ c.in_ok-world.ensures.follows
+
+pub returns-clause-told : goal.returns-clause-told
+returns-clause-told c = follows-told _ _ c.in_ok-world.ensures.follows

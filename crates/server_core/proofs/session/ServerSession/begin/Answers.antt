@@ -7,8 +7,9 @@ use Rattle.server_core.specs.Shown.{shown}
 use Rattle.server_core.specs.Steps.{begun_with, first_shown, gone_on_as}
 use Rattle.server_core.proofs.FlushLemmas.{grew-none, grew-then}
 use Rattle.server_core.proofs.StepLemmas.{asked-begun, first-took, gave-begun, none-shown, ran-whole, took-begun, whole-first}
-use Rattle.server_core.specs.Counting.{Counts}
+use Rattle.server_core.specs.Counting.{CountsQueued}
 use Rattle.server_core.proofs.session.ServerSession.begin.Goals as goal
+use Rattle.buffer_pool.specs.Counting.{Counts}
 
 pub make_message-requires-clause-first : goal.make_message-requires-clause-first
 make_message-requires-clause-first g c =
@@ -95,3 +96,19 @@ pub returns-clause-counts : goal.returns-clause-counts
 returns-clause-counts g c = λ counts.
     let items = c.flush_older-2.new.tx.items in
     c.answer_inline-reply.ensures.counts items (c.begin_working-2.ensures.counts items (c.flush_older-2.ensures.counts counts))
+
+pub returns-then-count-gt1-clause-queued : goal.returns-then-count-gt1-clause-queued
+returns-then-count-gt1-clause-queued g c = λ holds counted.
+    let items = c.flush_older.new.tx.items in
+    c.begin_first-reply.ensures.queued items (c.flush_older.ensures.holds holds) (c.flush_older.ensures.queued counted)
+
+pub returns-then-is_background-clause-queued : goal.returns-then-is_background-clause-queued
+returns-then-is_background-clause-queued g c = λ holds counted.
+    let items = c.flush_older-then-is_background.new.tx.items in
+    let all : CountsQueued c.begin_working.new.self items = c.begin_working.ensures.queued items (c.flush_older-then-is_background.ensures.holds holds) (c.flush_older-then-is_background.ensures.queued counted) in
+    rw (append-nil items) all
+
+pub returns-clause-queued : goal.returns-clause-queued
+returns-clause-queued g c = λ holds counted.
+    let items = c.flush_older-2.new.tx.items in
+    c.answer_inline-reply.ensures.queued items (c.begin_working-2.ensures.queued items (c.flush_older-2.ensures.holds holds) (c.flush_older-2.ensures.queued counted))

@@ -1,3 +1,5 @@
+use Rattle.server_core.specs.Counting.{CountsQueued}
+use Rattle.server_core.proofs.QueuedLemmas.{given-counted}
 use Rattle.std.proofs.Common.{refl, arith}
 use Rattle.server_core.specs.Serving.{begun, first_given, given_up}
 use Rattle.server_core.specs.contracts.session.ServerSession.{the_view}
@@ -75,3 +77,13 @@ returns-clause-counts c = λ entries counts.
     let keeps = rw (← c.self.view_is) at c.requires.keeps_pool in
     let unheld = rw (← c.self.view_is) at c.requires.unheld in
     rw (c.give_up.ensures.pool, c.slot.ensures) (counts-given (is_in_slot (c.args.head.now.request % 8)) c.args.pool.now s.slots entries keeps unheld counts)
+
+pub returns-clause-queued : goal.returns-clause-queued
+returns-clause-queued c = λ entries holds counted.
+    let s = the_view c.self.inside in
+    let head = c.args.head.now in
+    let keeps = rw (← c.self.view_is) at c.requires.keeps_pool in
+    let before : HoldsAll (without_newest head.request s) c.args.pool.now entries = rw (← c.self.view_is) at holds in
+    let all : CountsQueued (without_newest head.request s) entries = rw (← c.self.view_is) at counted in
+    rw (c.push.ensures, c.given.ensures, c.give_up.ensures.slots, c.slot.ensures)
+    (given-counted c.args.pool.now s head.request c.self.invariant keeps (first_given head) refl c.args.pool.now entries before all refl)

@@ -1,8 +1,8 @@
 use Rattle.std.proofs.Common.{sym}
 use Rattle.server_core.specs.KeepsPool.{IsKept}
 use Rattle.server_core.specs.Session.{is_in_slot}
-use Rattle.server_core.proofs.ListLemmas.{found-holds}
 use Rattle.server_core.proofs.session.ServerSession.can_hold.Goals as goal
+use Rattle.rpc_base.proofs.FirstLemmas.{found-holds}
 
 pub can_hold-requires : goal.can_hold-requires
 can_hold-requires c =

@@ -1,19 +1,21 @@
 -- the replies that left the ring gave their references up and were noted
-use Rattle.std.proofs.Common.{◌≡◌, List, ◌++◌, Some, length, filter}
+use Rattle.std.proofs.Common.{◌≡◌, List, ◌++◌, Some, filter}
+use Rattle.std.specs.Prelude.{count_by}
 use Rattle.buffer_pool.specs.Pool.{spare_of}
-use Rattle.packet_rings.specs.Entries.{is_not_of}
+use Rattle.packet_rings.specs.Entries.{is_not_of, is_of}
 use Rattle.rpc_base.specs.declared.fact.Fact.{Fact}
 use Rattle.rpc_outside.specs.Recording.{Grew}
-use Rattle.server_core.specs.Counting.{Counts}
 use Rattle.server_core.specs.Flushing.{HoldsAll, HoldsReplies, flushed_facts}
 use Rattle.server_core.specs.KeepsPool.{KeepsPool, LeavesOthers}
 use Rattle.server_core.specs.Session.{owner_of}
 use Rattle.server_core.specs.Shown.{shown}
 use Rattle.server_core.proofs.session.ServerSession.flush_older.Given as goal
+use Rattle.buffer_pool.specs.Counting.{Counts}
 
-abbrev pub invariant-loop-entry : goal.invariant-loop-entry
-invariant-loop-entry g l = record {
+abbrev pub invariant-loop-left : goal.invariant-loop-left
+invariant-loop-left g l = record {
   holds : HoldsReplies l.fn.self.number l.pool l.tx.items l.older;
+  left : l.left ≡ count_by (is_of (owner_of l.fn.self.number l.older)) l.tx.items;
   kept : filter (is_not_of (owner_of l.fn.self.number l.older)) l.tx.items ≡ filter (is_not_of (owner_of l.fn.self.number l.older)) l.fn.tx.items;
   size : l.tx.size ≡ l.fn.tx.size;
   noted : (x : List Fact) × Grew g.R.Recorder.facts g.R.Recorder.whole l.fn.rec l.rec x × (x ++ flushed_facts l.fn.who l.fn.self.number (Some l.older) l.tx.items ≡ flushed_facts l.fn.who l.fn.self.number (Some l.older) l.fn.tx.items);
@@ -25,5 +27,5 @@ invariant-loop-entry g l = record {
   keeps : KeepsPool l.pool l.fn.self.slots;
 }
 
-abbrev pub decreases-loop-entry : goal.decreases-loop-entry
-decreases-loop-entry g l = length l.tx.items
+abbrev pub decreases-loop-left : goal.decreases-loop-left
+decreases-loop-left g l = l.left

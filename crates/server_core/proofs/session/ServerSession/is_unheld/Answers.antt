@@ -1,8 +1,8 @@
 use Rattle.std.proofs.Common.{sym}
 use Rattle.server_core.specs.KeepsPool.{IsKept}
 use Rattle.server_core.specs.Session.{is_in_slot}
-use Rattle.server_core.proofs.ListLemmas.{found-holds}
 use Rattle.server_core.proofs.session.ServerSession.is_unheld.Goals as goal
+use Rattle.rpc_base.proofs.FirstLemmas.{found-holds}
 
 pub is_unheld-requires : goal.is_unheld-requires
 is_unheld-requires c =

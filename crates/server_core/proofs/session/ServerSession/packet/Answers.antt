@@ -4,9 +4,9 @@ use Rattle.server_core.specs.contracts.session.ServerSession.{the_view}
 use Rattle.server_core.specs.KeepsPool.{IsKept}
 use Rattle.server_core.specs.Replies.{is_owner}
 use Rattle.server_core.specs.Session.{IsInTurn}
-use Rattle.server_core.proofs.ListLemmas.{found-holds}
 use Rattle.server_core.proofs.ReplyLemmas.{part-within, placed-full, spelled-placed, spelled-unplaced}
 use Rattle.server_core.proofs.session.ServerSession.packet.Goals as goal
+use Rattle.rpc_base.proofs.FirstLemmas.{found-holds}
 
 pub head-header-requires-clause-turn : goal.head-header-requires-clause-turn
 head-header-requires-clause-turn c =

@@ -1,24 +1,26 @@
-use Rattle.std.proofs.Common.{◌≡◌, ◌-◌, ◌<◌, ◌∙◌, Some, ap, refl, arith}
+use Rattle.server_core.specs.Counting.{CountsQueued}
+use Rattle.server_core.proofs.QueuedLemmas.{gone-counted}
+use Rattle.std.proofs.Common.{◌≡◌, ◌-◌, ◌<◌, ◌∙◌, Some, ap, refl, sym, arith}
 use Rattle.buffer_pool.specs.Pool.{filled, held, refs_of}
 use Rattle.server_core.specs.Flushing.{HoldsAll}
 use Rattle.server_core.specs.Replies.{IsReplyIn}
 use Rattle.server_core.specs.Steps.{IsReply}
 use Rattle.server_core.proofs.HoldStepLemmas.{answer-holds, late-placed, worked-more}
 use Rattle.server_core.specs.Serving.{gone_on, with_slots, worked}
-use Rattle.server_core.specs.Session.{newest}
+use Rattle.server_core.specs.Session.{answer_of, ask_of, newest}
 use Rattle.server_core.specs.contracts.session.ServerSession.{the_view}
 use Rattle.server_core.proofs.BeginLemmas.{answer-held, idle-reply, is-reply}
 use Rattle.server_core.proofs.SlotLemmas.{gone-session}
-use Rattle.server_core.proofs.TakeLemmas.{gone-newest, gone-served, last-held, last-keeps, worked-on, worked-shows, worked-turn}
+use Rattle.server_core.proofs.TakeLemmas.{gone-newest, gone-served, last-held, last-keeps, worked-shows, worked-turn, worked-whole}
 use Rattle.server_core.proofs.OtherLemmas.{last-others}
 use Rattle.server_core.proofs.SpareLemmas.{last-spare}
-use Rattle.server_core.proofs.CountLemmas.{counts-filled, counts-placed}
 use Rattle.buffer_pool.proofs.CountLemmas.{lowest_at}
 use Rattle.buffer_pool.specs.Pool.{IsFull}
 use Rattle.buffer_pool.specs.Uses.{is_full}
 use Rattle.buffer_pool.specs.declared.usage.Use.TheVariants.{Empty, Full}
 use Rattle.buffer_pool.proofs.PoolLemmas.{changed_own}
 use Rattle.server_core.proofs.session.ServerSession.put_answer.Goals as goal
+use Rattle.buffer_pool.proofs.CountingLemmas.{counts-filled, counts-placed}
 
 pub overflow_sub-number : goal.overflow_sub-number
 overflow_sub-number c = c.requires.turn.some
@@ -32,26 +34,32 @@ pub returns-clause-shown : goal.returns-clause-shown
 returns-clause-shown c =
     let found = rw (← c.self.view_is) at c.requires.found in
     let keeps = rw (← c.self.view_is) at c.requires.keeps_pool in
-    let on = worked-on c.args.request c.requires.turn c.requires.working in
+    let whole_is = worked-whole c.args.request c.requires.turn c.requires.working in
+    let none = ap answer_of c.requires.working in
+    let gone = ap ask_of c.requires.working in
     let there = rw c.put_message-answer.ensures.pool at c.put_message-answer.ensures.there in
     rw (c.replace.ensures, c.hold.ensures, c.put_message-answer.ensures.pool, ← c.self.view_is)
-    (worked-shows c.args.pool.now (the_view c.self.inside) c.args.request c.self.invariant found keeps c.put_message-answer.result.place c.args.answer c.put_message-answer.result on.none c.put_message-answer.ensures.place there refl c.put_message-answer.ensures.size c.put_message-answer.ensures.fits on.gone)
+    (worked-shows c.args.pool.now (the_view c.self.inside) c.args.request c.self.invariant found keeps c.put_message-answer.result.place c.args.answer c.put_message-answer.result none c.put_message-answer.ensures.place there refl c.put_message-answer.ensures.size c.put_message-answer.ensures.fits gone)
 
 pub returns-clause-last : goal.returns-clause-last
 returns-clause-last c =
-    let on = worked-on c.args.request c.requires.turn c.requires.working in
-    rw c.entry-reply.ensures (omega (arith, on.whole, c.requires.turn.some))
+    let whole_is = worked-whole c.args.request c.requires.turn c.requires.working in
+    let none = ap answer_of c.requires.working in
+    let gone = ap ask_of c.requires.working in
+    rw c.entry-reply.ensures (omega (arith, whole_is, c.requires.turn.some))
 
 pub returns-clause-reply : goal.returns-clause-reply
 returns-clause-reply c =
     let found = rw (← c.self.view_is) at c.requires.found in
     let keeps = rw (← c.self.view_is) at c.requires.keeps_pool in
-    let on = worked-on c.args.request c.requires.turn c.requires.working in
+    let whole_is = worked-whole c.args.request c.requires.turn c.requires.working in
+    let none = ap answer_of c.requires.working in
+    let gone = ap ask_of c.requires.working in
     let there = rw c.put_message-answer.ensures.pool at c.put_message-answer.ensures.there in
     let d = (worked c.put_message-answer.result c.args.request) in
     let whole = gone-session (the_view c.self.inside) c.args.request d c.self.invariant (worked-turn c.args.request c.put_message-answer.result c.requires.turn c.requires.working (rw c.put_message-answer.ensures.size c.requires.answer)) refl found in
     let below : c.args.request.taken - 1 < d.taken = omega (arith, c.requires.turn.some) in
-    let some : 0 < refs_of c.hold.new.self c.put_message-answer.result.place = rw (c.hold.ensures, c.put_message-answer.ensures.pool) (last-held c.args.pool.now (the_view c.self.inside) c.args.request c.self.invariant found keeps d refl refl refl c.put_message-answer.result.place c.args.answer c.put_message-answer.result on.none refl c.put_message-answer.ensures.place there refl c.put_message-answer.ensures.size c.put_message-answer.ensures.fits) in
+    let some : 0 < refs_of c.hold.new.self c.put_message-answer.result.place = rw (c.hold.ensures, c.put_message-answer.ensures.pool) (last-held c.args.pool.now (the_view c.self.inside) c.args.request c.self.invariant found keeps d refl (sym gone) refl c.put_message-answer.result.place c.args.answer c.put_message-answer.result none refl c.put_message-answer.ensures.place there refl c.put_message-answer.ensures.size c.put_message-answer.ensures.fits) in
     rw (c.entry-reply.ensures, c.replace.ensures)
     (is-reply c.hold.new.self (with_slots (gone_on d c.self.inside.slots) (the_view c.self.inside)) d (c.args.request.taken - 1) whole (gone-newest c.args.pool.now (the_view c.self.inside) c.args.request c.self.invariant found keeps d refl) below (idle-reply d (c.args.request.taken - 1) refl) (answer-held c.hold.new.self d c.put_message-answer.result (c.args.request.taken - 1) refl some))
 
@@ -65,24 +73,28 @@ pub returns-clause-keeps_pool : goal.returns-clause-keeps_pool
 returns-clause-keeps_pool c =
     let found = rw (← c.self.view_is) at c.requires.found in
     let keeps = rw (← c.self.view_is) at c.requires.keeps_pool in
-    let on = worked-on c.args.request c.requires.turn c.requires.working in
+    let whole_is = worked-whole c.args.request c.requires.turn c.requires.working in
+    let none = ap answer_of c.requires.working in
+    let gone = ap ask_of c.requires.working in
     let there = rw c.put_message-answer.ensures.pool at c.put_message-answer.ensures.there in
     rw (c.replace.ensures, c.hold.ensures, c.put_message-answer.ensures.pool)
-    (last-keeps c.args.pool.now (the_view c.self.inside) c.args.request c.self.invariant found keeps (worked c.put_message-answer.result c.args.request) refl refl refl c.put_message-answer.result.place c.args.answer c.put_message-answer.result on.none refl c.put_message-answer.ensures.place there refl c.put_message-answer.ensures.size c.put_message-answer.ensures.fits)
+    (last-keeps c.args.pool.now (the_view c.self.inside) c.args.request c.self.invariant found keeps (worked c.put_message-answer.result c.args.request) refl (sym gone) refl c.put_message-answer.result.place c.args.answer c.put_message-answer.result none refl c.put_message-answer.ensures.place there refl c.put_message-answer.ensures.size c.put_message-answer.ensures.fits)
 
 pub returns-clause-others : goal.returns-clause-others
 returns-clause-others c =
     let found = rw (← c.self.view_is) at c.requires.found in
     rw (c.replace.ensures, c.hold.ensures, c.put_message-answer.ensures.pool, ← c.self.view_is)
-    (last-others c.args.pool.now (the_view c.self.inside) c.args.request c.args.request.number found (worked c.put_message-answer.result c.args.request) refl refl refl c.put_message-answer.result.place c.args.answer c.put_message-answer.result refl c.put_message-answer.ensures.place refl)
+    (last-others c.args.pool.now (the_view c.self.inside) c.args.request c.args.request.number found (worked c.put_message-answer.result c.args.request) refl refl (sym (ap ask_of c.requires.working)) c.put_message-answer.result.place c.args.answer c.put_message-answer.result refl c.put_message-answer.ensures.place refl)
 
 pub returns-clause-spare : goal.returns-clause-spare
 returns-clause-spare c =
     let found = rw (← c.self.view_is) at c.requires.found in
     let keeps = rw (← c.self.view_is) at c.requires.keeps_pool in
-    let on = worked-on c.args.request c.requires.turn c.requires.working in
+    let whole_is = worked-whole c.args.request c.requires.turn c.requires.working in
+    let none = ap answer_of c.requires.working in
+    let gone = ap ask_of c.requires.working in
     rw (c.replace.ensures, c.hold.ensures, c.put_message-answer.ensures.pool, ← c.self.view_is)
-    (last-spare c.args.pool.now (the_view c.self.inside) c.args.request c.args.request.number keeps found (worked c.put_message-answer.result c.args.request) refl refl refl on.none c.put_message-answer.result.place c.args.answer c.put_message-answer.result refl c.put_message-answer.ensures.place refl)
+    (last-spare c.args.pool.now (the_view c.self.inside) c.args.request c.args.request.number keeps found (worked c.put_message-answer.result c.args.request) refl refl (sym gone) none c.put_message-answer.result.place c.args.answer c.put_message-answer.result refl c.put_message-answer.ensures.place refl)
 
 pub returns-clause-holds : goal.returns-clause-holds
 returns-clause-holds c = λ entries holds.
@@ -91,15 +103,17 @@ returns-clause-holds c = λ entries holds.
     let a = c.put_message-answer.result in
     let d = worked a q in
     let k = q.taken - 1 in
-    let on = worked-on q c.requires.turn c.requires.working in
+    let whole_is = worked-whole q c.requires.turn c.requires.working in
+    let none = ap answer_of c.requires.working in
+    let gone = ap ask_of c.requires.working in
     let found = rw (← c.self.view_is) at c.requires.found in
     let keeps = rw (← c.self.view_is) at c.requires.keeps_pool in
     let before : HoldsAll s c.args.pool.now entries = rw (← c.self.view_is) at holds in
     let after : c.hold.new.self ≡ held a.place (filled a.place c.args.answer c.args.pool.now) = c.hold.ensures ∙ ap (held a.place) c.put_message-answer.ensures.pool in
     let reply : IsReply q.number k (with_slots (gone_on d s.slots) s) (held a.place (filled a.place c.args.answer c.args.pool.now)) c.entry-reply.result = rw c.entry-reply.ensures (rw (c.replace.ensures, after, c.entry-reply.ensures) at (returns-clause-reply c)) in
     let mine : IsReplyIn d c.entry-reply.result = rw c.entry-reply.ensures (record { taken = omega (arith, c.requires.turn.some); there = idle-reply d k refl; place_is = refl }) in
-    let place : c.entry-reply.result.place ≡ Some a.place = ap (λ e. e.place) c.entry-reply.ensures ∙ late-placed d a k refl (omega (arith, on.whole, c.requires.turn.some)) in
-    rw (c.replace.ensures, after) (answer-holds c.args.pool.now s q c.self.invariant found keeps entries before d a.place c.args.answer a k c.entry-reply.result refl refl on.none refl c.put_message-answer.ensures.place refl (λ x r. worked-more q a x on.whole c.requires.working r) reply place mine)
+    let place : c.entry-reply.result.place ≡ Some a.place = ap (λ e. e.place) c.entry-reply.ensures ∙ late-placed d a k refl (omega (arith, whole_is, c.requires.turn.some)) in
+    rw (c.replace.ensures, after) (answer-holds c.args.pool.now s q c.self.invariant found keeps entries before d a.place c.args.answer a k c.entry-reply.result refl (sym gone) none refl c.put_message-answer.ensures.place refl (λ x r. worked-more q a x whole_is c.requires.working r) reply place mine)
 
 pub returns-clause-no_bytes : goal.returns-clause-no_bytes
 returns-clause-no_bytes c =
@@ -107,16 +121,29 @@ returns-clause-no_bytes c =
     let keeps = rw (← c.self.view_is) at c.requires.keeps_pool in
     let d = worked c.put_message-answer.result c.args.request in
     let own : newest c.args.request.number (with_slots (gone_on d c.self.inside.slots) (the_view c.self.inside)) ≡ Some d = gone-newest c.args.pool.now (the_view c.self.inside) c.args.request c.self.invariant found keeps d refl in
-    rw (c.replace.ensures, own) (worked-on c.args.request c.requires.turn c.requires.working).gone
+    rw (c.replace.ensures, own) refl
 
 pub returns-clause-counts : goal.returns-clause-counts
 returns-clause-counts c = λ entries counts.
     let q = c.args.request in
     let a = c.put_message-answer.result in
     let pool = c.args.pool.now in
-    let on = worked-on q c.requires.turn c.requires.working in
+    let whole_is = worked-whole q c.requires.turn c.requires.working in
+    let none = ap answer_of c.requires.working in
+    let gone = ap ask_of c.requires.working in
     let lowest = c.put_message-answer.ensures.place in
     let full : IsFull (filled a.place c.args.answer pool) a.place = ap is_full (changed_own pool.uses a.place (Full 0) Empty (lowest_at pool a.place lowest).0) in
-    let place : c.entry-reply.result.place ≡ Some a.place = ap (λ e. e.place) c.entry-reply.ensures ∙ late-placed (worked a q) a (q.taken - 1) refl (omega (arith, on.whole, c.requires.turn.some)) in
+    let place : c.entry-reply.result.place ≡ Some a.place = ap (λ e. e.place) c.entry-reply.ensures ∙ late-placed (worked a q) a (q.taken - 1) refl (omega (arith, whole_is, c.requires.turn.some)) in
     rw (c.hold.ensures, c.put_message-answer.ensures.pool)
     (counts-placed (filled a.place c.args.answer pool) entries (counts-filled pool entries counts a.place c.args.answer lowest) a.place c.entry-reply.result place full)
+
+pub returns-clause-queued : goal.returns-clause-queued
+returns-clause-queued c = λ entries counted.
+    let s = the_view c.self.inside in
+    let q = c.args.request in
+    let found = rw (← c.self.view_is) at c.requires.found in
+    let all : CountsQueued s entries = rw (← c.self.view_is) at counted in
+    rw c.replace.ensures (gone-counted s q c.self.invariant found (worked c.put_message-answer.result q) refl entries c.entry-reply.result refl (ap (λ e. e.owner) c.entry-reply.ensures) all)
+
+pub overflow_add-request : goal.overflow_add-request
+overflow_add-request c = omega (arith, c.requires.turn.few (ap answer_of c.requires.working))

@@ -1,5 +1,10 @@
+use Rattle.std.proofs.Common.{◌%◌}
+use Rattle.server_core.specs.Counting.{CountsQueued}
+use Rattle.server_core.specs.Session.{IsInTurn, is_in_slot}
+use Rattle.server_core.proofs.QueuedLemmas.{still-counted}
 use Rattle.packet_header.proofs.PartsLemmas.{packet_count_most}
-use Rattle.std.proofs.Common.{refl, arith}
+use Rattle.server_core.specs.Session.{answer_of, ask_of}
+use Rattle.std.proofs.Common.{ap, refl, arith}
 use Rattle.server_core.specs.Serving.{last_given}
 use Rattle.server_core.specs.contracts.session.ServerSession.{the_view}
 use Rattle.server_core.proofs.SlotLemmas.{gone-session}
@@ -8,8 +13,9 @@ use Rattle.server_core.proofs.OtherLemmas.{last-given-others}
 use Rattle.server_core.proofs.SpareLemmas.{last-given-spare, spare-emptied}
 use Rattle.server_core.specs.Flushing.{HoldsAll}
 use Rattle.server_core.proofs.HoldStepLemmas.{given-holds}
-use Rattle.server_core.proofs.CountLemmas.{counts-emptied}
 use Rattle.server_core.proofs.session.ServerSession.take_working.Goals as goal
+use Rattle.rpc_base.proofs.FirstLemmas.{found-holds}
+use Rattle.buffer_pool.proofs.CountingLemmas.{counts-emptied}
 
 pub take-requires : goal.take-requires
 take-requires c = c.requires.kept.full
@@ -20,14 +26,14 @@ unreachable-requires c = absurd (omega (arith, c.requires.kept.unnamed, c.in_def
 pub invariant_of-self : goal.invariant_of-self
 invariant_of-self c =
     let found = rw (← c.self.view_is) at c.requires.found in
-    rw (c.replace.ensures, c.last_given.ensures) (gone-session (the_view c.self.inside) c.args.request (last_given c.args.request) c.self.invariant (given-turn c.args.request c.requires.none c.requires.size c.requires.last) refl found)
+    rw (c.replace.ensures, c.last_given.ensures) (gone-session (the_view c.self.inside) c.args.request (last_given c.args.request) c.self.invariant (given-turn c.args.request c.requires.size c.requires.last ((found-holds (is_in_slot (c.args.request.number % 8)) IsInTurn c.self.inside.slots c.args.request c.self.invariant.in_turn found).few (ap answer_of c.requires.taking))) refl found)
 
 pub returns-clause-shown : goal.returns-clause-shown
 returns-clause-shown c =
     let found = rw (← c.self.view_is) at c.requires.found in
     let keeps = rw (← c.self.view_is) at c.requires.keeps_pool in
     rw (c.replace.ensures, c.last_given.ensures, c.in-Ok.ensures.taken.2, ← c.self.view_is)
-    (given-shows c.args.pool.now (the_view c.self.inside) c.args.request c.self.invariant found keeps c.args.place c.requires.asked c.requires.none)
+    (given-shows c.args.pool.now (the_view c.self.inside) c.args.request c.self.invariant found keeps c.args.place (ap ask_of c.requires.taking) (ap answer_of c.requires.taking))
 
 pub returns-clause-served : goal.returns-clause-served
 returns-clause-served c = λ mode_of all.
@@ -40,20 +46,20 @@ returns-clause-keeps_pool c =
     let found = rw (← c.self.view_is) at c.requires.found in
     let keeps = rw (← c.self.view_is) at c.requires.keeps_pool in
     rw (c.replace.ensures, c.last_given.ensures, c.in-Ok.ensures.taken.2)
-    (given-keeps c.args.pool.now (the_view c.self.inside) c.args.request c.self.invariant found keeps c.args.place c.requires.asked c.requires.none)
+    (given-keeps c.args.pool.now (the_view c.self.inside) c.args.request c.self.invariant found keeps c.args.place (ap ask_of c.requires.taking) (ap answer_of c.requires.taking))
 
 pub returns-clause-others : goal.returns-clause-others
 returns-clause-others c =
     let found = rw (← c.self.view_is) at c.requires.found in
     rw (c.replace.ensures, c.last_given.ensures, c.in-Ok.ensures.taken.2, ← c.self.view_is)
-    (last-given-others c.args.pool.now (the_view c.self.inside) c.args.request c.args.request.number found refl c.requires.none c.args.place c.requires.asked)
+    (last-given-others c.args.pool.now (the_view c.self.inside) c.args.request c.args.request.number found refl (ap answer_of c.requires.taking) c.args.place (ap ask_of c.requires.taking))
 
 pub returns-clause-spare : goal.returns-clause-spare
 returns-clause-spare c =
     let found = rw (← c.self.view_is) at c.requires.found in
     let keeps = rw (← c.self.view_is) at c.requires.keeps_pool in
     rw (c.replace.ensures, c.last_given.ensures, c.in-Ok.ensures.taken.2, ← c.self.view_is)
-    (last-given-spare c.args.pool.now (the_view c.self.inside) c.args.request c.args.request.number keeps found refl c.requires.none c.args.place c.requires.asked c.requires.kept.full)
+    (last-given-spare c.args.pool.now (the_view c.self.inside) c.args.request c.args.request.number keeps found refl (ap answer_of c.requires.taking) c.args.place (ap ask_of c.requires.taking) c.requires.kept.full)
 
 pub returns-clause-holds : goal.returns-clause-holds
 returns-clause-holds c = λ entries holds.
@@ -61,7 +67,7 @@ returns-clause-holds c = λ entries holds.
     let keeps = rw (← c.self.view_is) at c.requires.keeps_pool in
     let before : HoldsAll (the_view c.self.inside) c.args.pool.now entries = rw (← c.self.view_is) at holds in
     rw (c.replace.ensures, c.last_given.ensures, c.in-Ok.ensures.taken.2)
-    (given-holds c.args.pool.now (the_view c.self.inside) c.args.request c.self.invariant found keeps entries before c.args.place c.requires.asked c.requires.none c.requires.last)
+    (given-holds c.args.pool.now (the_view c.self.inside) c.args.request c.self.invariant found keeps entries before c.args.place (ap ask_of c.requires.taking) (ap answer_of c.requires.taking) c.requires.last)
 
 pub returns-clause-newest : goal.returns-clause-newest
 returns-clause-newest c =
@@ -81,3 +87,11 @@ last_given-requires c = omega (arith, packet_count_most c.args.request.size c.re
 pub returns-clause-counts : goal.returns-clause-counts
 returns-clause-counts c = λ entries counts.
     rw c.in-Ok.ensures.taken.2 (counts-emptied c.args.pool.now entries counts c.args.place c.requires.kept.full c.requires.kept.unnamed)
+
+pub returns-clause-queued : goal.returns-clause-queued
+returns-clause-queued c = λ entries counted.
+    let s = the_view c.self.inside in
+    let q = c.args.request in
+    let found = rw (← c.self.view_is) at c.requires.found in
+    let all : CountsQueued s entries = rw (← c.self.view_is) at counted in
+    rw (c.replace.ensures, c.last_given.ensures) (still-counted s q c.self.invariant found (last_given q) refl entries refl all)

@@ -1,7 +1,6 @@
 use Rattle.std.proofs.Common.{◌%◌, sym}
-use Rattle.rpc_base.proofs.TablesLemmas.{at_first-missing}
+use Rattle.rpc_base.proofs.TablesLemmas.{at_first-missing, at_first-replaced}
 use Rattle.server_core.specs.Session.{is_in_slot}
-use Rattle.server_core.proofs.ListLemmas.{at_first-replaced}
 use Rattle.server_core.proofs.slots.Slots.replace.Goals as goal
 
 pub returns-in-Some : goal.returns-in-Some

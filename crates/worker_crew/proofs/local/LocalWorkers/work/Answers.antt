@@ -2,8 +2,9 @@ use Rattle.std.proofs.Common.{◌∙◌, subst, sym, ap, arith, length}
 use Rattle.std.specs.List.{AllByRecursion}
 use Rattle.std.proofs.lemmas.List.{length-append}
 use Rattle.worker_crew.specs.Jobs.{HasRoom, IsAnswered}
-use Rattle.worker_crew.proofs.LocalLemmas.{all-at, all-with, all-without, works}
+use Rattle.worker_crew.proofs.LocalLemmas.{all-at, all-without, works}
 use Rattle.worker_crew.proofs.local.LocalWorkers.work.Goals as goal
+use Rattle.rpc_base.proofs.FirstLemmas.{all-push}
 
 pub invariant_of-self-2 : goal.invariant_of-self-2
 invariant_of-self-2 g c =
@@ -13,7 +14,7 @@ invariant_of-self-2 g c =
         few = omega (arith, sound.few, c.in-Some.ensures.fewer, pushed);
         room = subst (AllByRecursion (HasRoom g.D.Duty.answer)) (sym c.take_out.ensures.others) (all-without (HasRoom g.D.Duty.answer) c.self.inside.waiting.items c.args.j sound.room);
         answered = subst (AllByRecursion (IsAnswered g.D.Duty.answer)) (sym c.put_last.ensures.items)
-            (all-with (IsAnswered g.D.Duty.answer) c.self.inside.worked.items _ sound.answered c.answer_job-worked.ensures.answer);
+            (all-push (IsAnswered g.D.Duty.answer) c.self.inside.worked.items _ sound.answered c.answer_job-worked.ensures.answer);
       },
       omega (arith, c.self.invariant.1, c.take_out.ensures.capacity),
       omega (arith, c.self.invariant.2, c.put_last.ensures.capacity),

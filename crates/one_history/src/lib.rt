@@ -1,0 +1,7 @@
+//! Laws of one history: two histories that follow one script are the same, and so are two that follow
+//! scripts and have the same report. The program calls none of them.
+#![tactic(auto)]
+
+mod laws;
+
+pub use laws::{facts_tell_their_bytes, reports_have_one_history, scripts_have_one_history};
