@@ -1,6 +1,7 @@
 -- References to a place that may be absent, since an entry without a body names none; and the places
 -- that others name.
-use Rattle.std.specs.Prelude.{◌≡◌, ℕ, ◌<◌, false, Option, Some, None, IfSome}
+use Rattle.std.specs.Prelude.{◌≡◌, ℕ, ◌<◌, ◌≤◌, false, List, Option, Some, None, IfSome}
+use Rattle.std.specs.List.{AllByRecursion}
 use Rattle.buffer_pool.specs.Pool.{Pool, IsFull, buf_at, held, refs_of, released, use_at}
 use Rattle.buffer_pool.specs.Uses.{is_empty}
 
@@ -29,3 +30,9 @@ abbrev pub LeavesUnnamed : {A : Type 0} → (ℕ → A → ℕ) → (old new : A
 LeavesUnnamed names old new before after =
     (p : ℕ) → names p old ≡ 0 → is_empty (use_at before p) ≡ false
     → (names p new ≡ 0) × (use_at after p ≡ use_at before p) × (buf_at after p ≡ buf_at before p)
+
+-- the pool has what each of these needs of it, and none of the places that they name is named twice
+pub record KeepsAll {A : Type 0} (IsKept : Pool → A → Type 0) (names : ℕ → List A → ℕ)
+    (pool : Pool) (xs : List A) : Type 0 where
+  pub kept : AllByRecursion (IsKept pool) xs
+  pub apart : (p : ℕ) → names p xs ≤ 1

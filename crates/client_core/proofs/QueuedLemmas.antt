@@ -22,7 +22,7 @@ use Rattle.client_core.specs.Posting.{IsPacketOf, call_of, is_owner, marked, one
 use Rattle.client_core.specs.Replies.{Replies, is_request, replied}
 use Rattle.client_core.specs.Session.{IsSession, Session, can_post, is_in_slot}
 use Rattle.rpc_base.proofs.ChangedLemmas.{same-first}
-use Rattle.rpc_base.proofs.FirstLemmas.{found-holds, counted-cons, count-fewer, all-kept, all-left}
+use Rattle.rpc_base.proofs.FirstLemmas.{found-holds, counted-cons, counted-none, count-fewer, all-kept, all-left}
 
 -- one call has each request number
 request-slot : (r : ℕ) (x : ActiveCall) → is_request r x ≡ true → is_in_slot (r % 8) x ≡ true
@@ -137,15 +137,6 @@ reply-queued now h body s new pool after es (Ended d) replies all =
 reply-queued now h body s new pool after es (Dropped why) replies all = rw replies.0 all
 
 -- where no packet of a call is queued, no entry is its own
-module _ {A : Type 0} (p : A → Bool) where
-  none-cons : (x : A) (xs : List A) (b : Bool) → p x ≡ b → count_by p (x ∷ xs) ≡ 0 → (count_by p xs ≡ 0 → list_any p xs ≡ false) → (b || list_any p xs) ≡ false
-  none-cons x xs true t none ih = absurd (omega (arith, counted-cons p x xs true t, none))
-  none-cons x xs false t none ih = ih (omega (arith, counted-cons p x xs false t, none))
-
-  none-counted : (xs : List A) → count_by p xs ≡ 0 → list_any p xs ≡ false
-  none-counted [] none = refl
-  none-counted (x ∷ xs) none = none-cons x xs (p x) refl none (none-counted xs)
-
 pub idle-call : (n : ℕ) (p : ActiveCall → Bool) (c : ActiveCall) (es : List EntryValue) (xs : List ActiveCall) → find p xs ≡ Some c → AreQueued n xs es → c.queued ≡ 0 → list_any (is_of (Ask n c.request)) es ≡ false
 idle-call n p c es xs e all none =
-    none-counted (is_of (Ask n c.request)) es (sym (found-holds p (λ x. x.queued ≡ count_by (is_of (Ask n x.request)) es) xs c all e) ∙ none)
+    counted-none (is_of (Ask n c.request)) es (sym (found-holds p (λ x. x.queued ≡ count_by (is_of (Ask n x.request)) es) xs c all e) ∙ none)

@@ -1,10 +1,11 @@
 -- What a session needs of the pool that it works on, and what it makes of it.
-use Rattle.std.specs.Prelude.{◌≡◌, ℕ, ◌+◌, ◌<◌, ◌≤◌, ◌==◌, false, if◌then◌else◌, List, sum_by, Option, Some, None, IfSome}
+use Rattle.std.specs.Prelude.{◌≡◌, ℕ, ◌+◌, ◌<◌, ◌≤◌, ◌==◌, if◌then◌else◌, List, sum_by, Option}
+use Rattle.std.specs.Prelude.{Some, None, IfSome}
 use Rattle.std.specs.List.{AllByRecursion}
 use Rattle.message_buffer.specs.Buffer.{Buffer, capacity_of}
-pub use Rattle.buffer_pool.specs.Places.{IsHeld, LeavesUnnamed, MayHold, held_at, released_at}
-use Rattle.buffer_pool.specs.Pool.{Pool, IsFull, buf_at, held, refs_of, released, use_at}
-use Rattle.buffer_pool.specs.Uses.{is_empty}
+use Rattle.buffer_pool.specs.Places.{KeepsAll, LeavesUnnamed}
+pub use Rattle.buffer_pool.specs.Places.{IsHeld, MayHold, held_at, released_at}
+use Rattle.buffer_pool.specs.Pool.{Pool, IsFull, buf_at, refs_of}
 use Rattle.packet_rings.specs.Values.{EntryValue}
 use Rattle.client_core.specs.declared.call.ActiveCall.{ActiveCall}
 use Rattle.message_buffer.specs.Messages.{HasSize}
@@ -28,14 +29,15 @@ pub record IsKept (pool : Pool) (c : ActiveCall) : Type 0 where
 
 -- how often calls name a place
 abbrev pub names : ℕ → List ActiveCall → ℕ
-names p calls = sum_by (λ c. (if c.ask == p then 1 else 0) + (if c.answer == p then 1 else 0)) calls
+names p calls =
+    sum_by (λ c. (if c.ask == p then 1 else 0) + (if c.answer == p then 1 else 0)) calls
 
 -- the pool has the buffers of all active calls, each in a place of its own
-pub record KeepsPool (pool : Pool) (calls : List ActiveCall) : Type 0 where
-  pub kept : AllByRecursion (IsKept pool) calls
-  pub apart : (p : ℕ) → names p calls ≤ 1
+abbrev pub KeepsPool : Pool → List ActiveCall → Type 0
+KeepsPool = KeepsAll IsKept names
 
--- a place with a use that no call of the session named is named by none of it then, and is as it was
+-- a place with a use that no call of the session named is named by none of it then, and is as it
+-- was
 abbrev pub LeavesOthers : (old new : List ActiveCall) → (before after : Pool) → Type 0
 LeavesOthers = LeavesUnnamed names
 

@@ -7,9 +7,9 @@ ghost use Rattle.buffer_pool.specs.Pool.{Pool, spare_of};
 ghost use Rattle.credit_book.specs.Credits.{limit_of};
 ghost use Rattle.rpc_laws.specs.Posting.{beginning, posting};
 ghost use Rattle.session_slots.specs.Slots.{lowest_free};
-ghost use Rattle.rpc_base.specs.Taking.{TakenOut};
 ghost use Rattle.rpc_base.specs.declared.owner.Owner.TheVariants.{Ask};
 ghost use Rattle.packet_rings.specs.Entries.{is_of};
+ghost use Rattle.packet_rings.specs.Still.{Still, StillWith, StillWithout};
 ghost use Rattle.packet_rings.specs.Values.{EntryValue};
 ghost use Rattle.client_core.specs.Counting.{Counts, CountsQueued};
 ghost use Rattle.client_core.specs.KeepsEntries.{KeepsEntries};
@@ -59,9 +59,21 @@ impl Model for ClientSession {
 
     ghost Value = { Session };
 
-    ghost view = { λ s. record { number = s.number; server = s.server; credits = s.credits; slots = s.slots; active = s.calls } };
+    ghost view = { λ s. record {
+      number = s.number;
+      server = s.server;
+      credits = s.credits;
+      slots = s.slots;
+      active = s.calls;
+    } };
 
-    ghost invariant = { λ s. (s.waiting ≡ length s.slots.waiting) × IsSession (record { number = s.number; server = s.server; credits = s.credits; slots = s.slots; active = s.calls }) };
+    ghost invariant = { λ s. (s.waiting ≡ length s.slots.waiting) × IsSession (record {
+      number = s.number;
+      server = s.server;
+      credits = s.credits;
+      slots = s.slots;
+      active = s.calls;
+    }) };
 }
 
 impl ClientSession {
@@ -177,8 +189,7 @@ impl ClientSession {
         ensures starts { IfSome result (λ b. Starts b.0 b.1 self.old self.new pool.old pool.new) }
         ensures others { LeavesOthers self.old.active self.new.active pool.old pool.new }
         ensures entries { KeepsEntries self.old self.new }
-        ensures counts { (entries : List EntryValue) → Counts pool.old entries
-            → Counts pool.new entries }
+        ensures counts { Still (Counts pool.old) (Counts pool.new) }
         // No entry of the call that begins is there yet.
         ensures queued { (entries : List EntryValue) → CountsQueued self.old entries
             → IfSome result (λ b. count_by (is_of (Ask self.old.number b.1)) entries ≡ 0
@@ -222,10 +233,10 @@ impl ClientSession {
         ensures held { IfSome result (λ e. IsHeld pool.new e.place) }
         ensures others { LeavesOthers self.old.active self.new.active pool.old pool.new }
         ensures entries { KeepsEntries self.old self.new }
-        ensures counts { IfSome result (λ e. (entries : List EntryValue) → Counts pool.old entries
-            → Counts pool.new (entries ++ e ∷ [])) }
-        ensures queued { IfSome result (λ e. (entries : List EntryValue)
-            → CountsQueued self.old entries → CountsQueued self.new (entries ++ e ∷ [])) }
+        ensures counts { IfSome result
+            (λ e. StillWith (e ∷ []) (Counts pool.old) (Counts pool.new)) }
+        ensures queued { IfSome result
+            (λ e. StillWith (e ∷ []) (CountsQueued self.old) (CountsQueued self.new)) }
         ensures keeps_pool { KeepsPool pool.new self.new.active }
     {
         if self.credits.free() == 0 {
@@ -264,11 +275,9 @@ impl ClientSession {
         ensures others { IsPacketOf (call_of self.old entry.now) entry.now
             → LeavesOthers self.old.active self.new.active pool.old pool.new }
         ensures entries { KeepsEntries self.old self.new }
-        ensures counts { (passes : EntryValue → Bool) → (old new : List EntryValue)
-            → TakenOut passes entry.now old new → Counts pool.old old → Counts pool.new new }
-        ensures queued { (passes : EntryValue → Bool) → (old new : List EntryValue)
-            → TakenOut passes entry.now old new → IsPacketOf (call_of self.old entry.now) entry.now
-            → CountsQueued self.old old → CountsQueued self.new new }
+        ensures counts { StillWithout entry.now (Counts pool.old) (Counts pool.new) }
+        ensures queued { IsPacketOf (call_of self.old entry.now) entry.now
+            → StillWithout entry.now (CountsQueued self.old) (CountsQueued self.new) }
         ensures keeps_pool { KeepsPool pool.new self.new.active }
     {
         pool.release_at(entry.place);
@@ -285,11 +294,9 @@ impl ClientSession {
         ensures others { IsPacketOf (call_of self.old entry.now) entry.now
             → LeavesOthers self.old.active self.new.active pool.old pool.new }
         ensures entries { KeepsEntries self.old self.new }
-        ensures counts { (passes : EntryValue → Bool) → (old new : List EntryValue)
-            → TakenOut passes entry.now old new → Counts pool.old old → Counts pool.new new }
-        ensures queued { (passes : EntryValue → Bool) → (old new : List EntryValue)
-            → TakenOut passes entry.now old new → IsPacketOf (call_of self.old entry.now) entry.now
-            → CountsQueued self.old old → CountsQueued self.new new }
+        ensures counts { StillWithout entry.now (Counts pool.old) (Counts pool.new) }
+        ensures queued { IsPacketOf (call_of self.old entry.now) entry.now
+            → StillWithout entry.now (CountsQueued self.old) (CountsQueued self.new) }
         ensures keeps_pool { KeepsPool pool.new self.new.active }
     {
         pool.release_at(entry.place);

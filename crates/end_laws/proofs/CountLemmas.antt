@@ -38,11 +38,3 @@ module _ {A : Type 0} (p : A → Bool) where
   pub count-none : (xs : List A) → count_by p xs ≡ 0 → AllByRecursion (λ x. p x ≡ false) xs
   count-none [] h = tt
   count-none (x ∷ xs) h = let n = none-cons x xs (p x) refl (sym (count-cons x xs) ∙ h) in (n.0, count-none xs n.1)
-
-  pub none-count : (xs : List A) → AllByRecursion (λ x. p x ≡ false) xs → count_by p xs ≡ 0
-  none-count [] h = refl
-  none-count (x ∷ xs) h =
-      let whole = count-cons x xs in
-      let one : cond {A = ℕ} (p x) 1 0 ≡ 0 = ap {B = ℕ} (λ (b : Bool). cond b 1 0) h.0 in
-      let rest = none-count xs h.1 in
-      omega arith

@@ -20,7 +20,8 @@ use Rattle.rpc_laws.specs.Jobs.{is_job, job_of, new_job, jobs_after}
 use Rattle.rpc_laws.specs.Requests.{is_server, is_request, in_slot_of, first_packet, next_packet, took_packet, given, answered, servers_after}
 use Rattle.end_laws.proofs.Allowed.{TakesOf, IsWhole, May}
 use Rattle.end_laws.proofs.AskSteps.{slots-found}
-use Rattle.end_laws.proofs.CountLemmas.{count-append, count-one, count-out, count-none, none-count}
+use Rattle.rpc_base.proofs.FirstLemmas.{all-fail}
+use Rattle.end_laws.proofs.CountLemmas.{count-append, count-one, count-out, count-none}
 use Rattle.end_laws.proofs.ListLemmas.{all-both, all-map, all-add, all-without, all-found, find-first, find-after, find-without, find-add}
 use Rattle.end_laws.proofs.QueueLemmas.{server-after, stands-same, RightNode}
 use Rattle.end_laws.proofs.Rights.{Stands, JobFits, JobsRight, stands-right}
@@ -200,7 +201,7 @@ given-jobs hand l t r first second i m =
       long = right.long;
     } in
     let all = fit-all hand l (Given t r) first second i.sound m (λ a b x. x) i.jobs in
-    let idle : count_by (is_job t r) l.jobs.out ≡ 0 = none-count (is_job t r) l.jobs.out (all-idle l.servers t r q l.jobs.out stands w.idle i.jobs.out) in
+    let idle : count_by (is_job t r) l.jobs.out ≡ 0 = all-fail (is_job t r) l.jobs.out (all-idle l.servers t r q l.jobs.out stands w.idle i.jobs.out) in
     let once : (a b : ℕ) → count_by (is_job a b) (l.jobs.out ++ new ∷ []) ≤ 1 = λ a b. given-once a b l.jobs.out new _ refl
     (λ e. let parts = and_parts (t == a) (q.number == b) e in
     let same : (t ≡ a) × (r ≡ b) = (eqb-true t a parts.0, sym number ∙ eqb-true q.number b parts.1) in

@@ -51,6 +51,18 @@ module _ {A : Type 0} (p : A → Bool) where
   none-counted [] e = refl
   none-counted (y ∷ ys) e = none-counted-cons y ys (p y) refl (none-counted ys) e
 
+  counted-none-cons : (y : A) (ys : List A) (b : Bool) → p y ≡ b → count_by p (y ∷ ys) ≡ 0 → (count_by p ys ≡ 0 → list_any p ys ≡ false) → (b || list_any p ys) ≡ false
+  counted-none-cons y ys true t none ih = absurd (omega (arith, counted-cons y ys true t, none))
+  counted-none-cons y ys false t none ih = ih (omega (arith, counted-cons y ys false t, none))
+
+  pub counted-none : (xs : List A) → count_by p xs ≡ 0 → list_any p xs ≡ false
+  counted-none [] none = refl
+  counted-none (y ∷ ys) none = counted-none-cons y ys (p y) refl none (counted-none ys)
+
+  pub all-fail : (xs : List A) → AllByRecursion (λ x. p x ≡ false) xs → count_by p xs ≡ 0
+  all-fail [] all = refl
+  all-fail (y ∷ ys) all = omega (arith, counted-cons y ys false all.0, all-fail ys all.1)
+
   found-any-cons : (y x : A) (ys : List A) (b : Bool) → (find p ys ≡ Some x → list_any p ys ≡ true) → cond b (Some y) (find p ys) ≡ Some x → (b || list_any p ys) ≡ true
   found-any-cons y x ys true ih e = refl
   found-any-cons y x ys false ih e = ih e

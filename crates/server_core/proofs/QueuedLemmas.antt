@@ -1,8 +1,8 @@
 -- Each request counts as many queued replies as entries are its own, before and after a call of its session.
-use Rattle.rpc_base.proofs.FirstLemmas.{all-left, all-push, counted-cons, found-holds, found-own}
+use Rattle.rpc_base.proofs.FirstLemmas.{all-fail, all-left, all-push, found-holds, found-own}
 use Rattle.std.proofs.Common.{◌≡◌, ℕ, ◌+◌, ◌-◌, ◌%◌, ◌<◌, Bool, true, false, ◌||◌, not, cond, eqb, Option, Some, None, List, [], ◌∷◌, ◌++◌, filter, refl, sym, ap, subst, ◌∙◌, arith}
 use Rattle.std.specs.Prelude.{IfSome, count_by}
-use Rattle.std.specs.List.{AllByRecursion, find, list_any}
+use Rattle.std.specs.List.{AllByRecursion, find}
 use Rattle.std.proofs.lemmas.Bool.{eq-eqb, eqb-true}
 use Rattle.std.proofs.lemmas.List.Sums.{sum_by-append, sum_by-cons}
 use Rattle.buffer_pool.specs.Pool.{Pool}
@@ -27,20 +27,6 @@ use Rattle.server_core.proofs.PlaceLemmas.{all-back}
 use Rattle.server_core.proofs.ReplyLemmas.{number-few}
 use Rattle.server_core.proofs.SlotLemmas.{by-number}
 use Rattle.rpc_base.proofs.ChangedLemmas.{same-first}
-
--- how many pass, where none or one does
-module _ {A : Type 0} (p : A → Bool) where
-  none-cons : (x : A) (xs : List A) (b : Bool) → p x ≡ b → count_by p (x ∷ xs) ≡ 0 → (count_by p xs ≡ 0 → list_any p xs ≡ false) → (b || list_any p xs) ≡ false
-  none-cons x xs true t none ih = absurd (omega (arith, counted-cons p x xs true t, none))
-  none-cons x xs false t none ih = ih (omega (arith, counted-cons p x xs false t, none))
-
-  pub none-counted : (xs : List A) → count_by p xs ≡ 0 → list_any p xs ≡ false
-  none-counted [] none = refl
-  none-counted (x ∷ xs) none = none-cons x xs (p x) refl none (none-counted xs)
-
-  pub count-fails : (xs : List A) → AllByRecursion (λ x. p x ≡ false) xs → count_by p xs ≡ 0
-  count-fails [] all = refl
-  count-fails (x ∷ xs) all = omega (arith, counted-cons p x xs false all.0, count-fails xs all.1)
 
 -- an entry more, and one that is taken out
 abbrev weight : Owner → EntryValue → ℕ
@@ -177,7 +163,7 @@ module _ (pool : Pool) (s : Session) (r : ℕ) (h : IsSession s) (keeps : KeepsP
 
   no-reply : count_by (is_of (owner_of s.number d)) es ≡ 0
   no-reply =
-      ap (λ m. count_by (is_of (Reply s.number m)) es) number ∙ count-fails (is_of (Reply s.number r)) es (fresh s.number r others (rest-apart pool s r h keeps) es holds.own)
+      ap (λ m. count_by (is_of (Reply s.number m)) es) number ∙ all-fail (is_of (Reply s.number r)) es (fresh s.number r others (rest-apart pool s r h keeps) es holds.own)
 
   pub given-counted : d.queued ≡ 0 → CountsQueued (with_slots (begun d s.slots) s) es
   given-counted none = rw begun-is (all-push (IsCounted s.number es) others d all (none ∙ sym no-reply))

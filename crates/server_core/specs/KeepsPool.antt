@@ -1,12 +1,11 @@
 -- What a session needs of the pool that it works on.
 use Rattle.server_core.specs.Session.{ask_of, answer_of}
-use Rattle.std.specs.Prelude.{◌≡◌, ℕ, ◌+◌, ◌≤◌, ◌==◌, false, if◌then◌else◌, List, sum_by, Option}
+use Rattle.std.specs.Prelude.{◌≡◌, ℕ, ◌+◌, ◌==◌, if◌then◌else◌, List, sum_by, Option}
 use Rattle.std.specs.Prelude.{Some, None, IfSome}
 use Rattle.std.specs.List.{AllByRecursion}
 use Rattle.message_buffer.specs.Buffer.{Buffer, capacity_of}
-use Rattle.buffer_pool.specs.Places.{LeavesUnnamed}
-use Rattle.buffer_pool.specs.Pool.{Pool, IsFull, buf_at, refs_of, spare_of, use_at}
-use Rattle.buffer_pool.specs.Uses.{is_empty}
+use Rattle.buffer_pool.specs.Places.{KeepsAll, LeavesUnnamed}
+use Rattle.buffer_pool.specs.Pool.{Pool, IsFull, buf_at, refs_of, spare_of}
 use Rattle.server_core.specs.declared.slot.Stored.{Stored}
 use Rattle.server_core.specs.declared.slot.SlotRequest.{SlotRequest}
 use Rattle.message_buffer.specs.Messages.{HasSize}
@@ -45,9 +44,8 @@ abbrev pub names : ℕ → List SlotRequest → ℕ
 names p slots = sum_by (own_names p) slots
 
 -- the pool has the buffers of all requests, each in a place of its own
-pub record KeepsPool (pool : Pool) (slots : List SlotRequest) : Type 0 where
-  pub kept : AllByRecursion (IsKept pool) slots
-  pub apart : (p : ℕ) → names p slots ≤ 1
+abbrev pub KeepsPool : Pool → List SlotRequest → Type 0
+KeepsPool = KeepsAll IsKept names
 
 -- a place with a use that no request of the session named is named by none of it then, and is as it
 -- was

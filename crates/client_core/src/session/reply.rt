@@ -12,7 +12,7 @@ ghost use Rattle.message_buffer.specs.Buffer.{capacity_of, with_len};
 ghost use Rattle.buffer_pool.specs.Pool.{buf_at};
 ghost use Rattle.packet_header.specs.Header.{MessageInRange};
 ghost use Rattle.rpc_laws.specs.Calls.{is_response};
-ghost use Rattle.packet_rings.specs.Values.{EntryValue};
+ghost use Rattle.packet_rings.specs.Still.{Still};
 ghost use Rattle.client_core.specs.Counting.{Counts, CountsQueued};
 ghost use Rattle.client_core.specs.KeepsEntries.{RepliesKeep};
 ghost use Rattle.client_core.specs.KeepsPool.{IsKept, KeepsPool, LeavesOthers};
@@ -65,10 +65,8 @@ impl ClientSession {
         ensures replies { Replies result now head.now body.now self.old self.new pool.old pool.new }
         ensures others { LeavesOthers self.old.active self.new.active pool.old pool.new }
         ensures entries { RepliesKeep result head.now.request self.old self.new }
-        ensures counts { (entries : List EntryValue) → Counts pool.old entries
-            → Counts pool.new entries }
-        ensures queued { (entries : List EntryValue) → CountsQueued self.old entries
-            → CountsQueued self.new entries }
+        ensures counts { Still (Counts pool.old) (Counts pool.new) }
+        ensures queued { Still (CountsQueued self.old) (CountsQueued self.new) }
         ensures keeps_pool { KeepsPool pool.new self.new.active }
     {
         let Some(call) = self.calls.of_request(head.request) else {
@@ -98,8 +96,7 @@ impl ClientSession {
         requires unheld { call.posted ≡ call.got + 1 → IsUnheld pool.old call }
         ensures took { row_told result ≡ Takes }
         ensures replies { Replies result now head.now body.now self.old self.new pool.old pool.new }
-        ensures counts { (entries : List EntryValue) → Counts pool.old entries
-            → Counts pool.new entries }
+        ensures counts { Still (Counts pool.old) (Counts pool.new) }
         ensures keeps_pool { KeepsPool pool.new self.new.active }
     {
         match call.end_row(head) {
@@ -135,8 +132,7 @@ impl ClientSession {
         requires small { is_response head.now.kind ≡ true → head.now.size ≤ MOST_MESSAGE_BYTES }
         ensures session { self.new ≡ after_reply now head.now call self.old }
         ensures pool { pool.new ≡ answered call head.now body.now pool.old }
-        ensures counts { (entries : List EntryValue) → Counts pool.old entries
-            → Counts pool.new entries }
+        ensures counts { Still (Counts pool.old) (Counts pool.new) }
         ensures keeps_pool { KeepsPool pool.new self.new.active }
     {
         self.credits.give_back(call.request.slot());
@@ -152,8 +148,7 @@ impl ClientSession {
         ensures done { IsDone self.old.number outcome call pool.old result }
         ensures session { self.new ≡ without_call call self.old }
         ensures pool { pool.new ≡ without_buffers call pool.old }
-        ensures counts { (entries : List EntryValue) → Counts pool.old entries
-            → Counts pool.new entries }
+        ensures counts { Still (Counts pool.old) (Counts pool.new) }
         ensures keeps_pool { KeepsPool pool.new self.new.active }
     {
         self.credits.roll(call.request.slot());

@@ -7,7 +7,7 @@ ghost use Rattle.rpc_laws.specs.declared.tables.Queued.{Queued};
 ghost use Rattle.rpc_laws.specs.GoBackN.{row_of};
 ghost use Rattle.rpc_laws.specs.Queues.{is_queued};
 ghost use Rattle.client_core.specs.declared.outcome.Timer.TheVariants.{Quiet};
-ghost use Rattle.packet_rings.specs.Values.{EntryValue};
+ghost use Rattle.packet_rings.specs.Still.{Still};
 ghost use Rattle.client_core.specs.Counting.{Counts, CountsQueued};
 ghost use Rattle.client_core.specs.KeepsEntries.{KeepsOthers, LossKeeps};
 ghost use Rattle.client_core.specs.KeepsPool.{KeepsPool, LeavesOthers};
@@ -64,8 +64,7 @@ impl ClientSession {
         ensures others { (pool : Pool) → LeavesOthers self.old.active self.new.active pool pool }
         ensures entries { IfSome (call_numbered call self.old)
             (λ c. KeepsOthers c.request self.old self.new) }
-        ensures queued { (entries : List EntryValue) → CountsQueued self.old entries
-            → CountsQueued self.new entries }
+        ensures queued { Still (CountsQueued self.old) (CountsQueued self.new) }
         ensures keeps_pool { (pool : Pool) → KeepsPool pool self.old.active
             → KeepsPool pool self.new.active }
     {
@@ -92,10 +91,8 @@ impl ClientSession {
             pool.new) }
         ensures others { LeavesOthers self.old.active self.new.active pool.old pool.new }
         ensures entries { LossKeeps (next_lost self.old) self.old self.new }
-        ensures counts { (entries : List EntryValue) → Counts pool.old entries
-            → Counts pool.new entries }
-        ensures queued { (entries : List EntryValue) → CountsQueued self.old entries
-            → CountsQueued self.new entries }
+        ensures counts { Still (Counts pool.old) (Counts pool.new) }
+        ensures queued { Still (CountsQueued self.old) (CountsQueued self.new) }
         ensures keeps_pool { KeepsPool pool.new self.new.active }
     {
         if let Some(call) = self.calls.next() {

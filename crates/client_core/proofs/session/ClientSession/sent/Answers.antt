@@ -39,7 +39,7 @@ returns-clause-counts c = λ passes old new out counts.
     rw (c.release_at.ensures, ap (λ e. released_at e.place c.args.pool.now) c.entry.view_is) (counts-released c.args.pool.now old counts passes c.args.entry.now new out c.requires.held)
 
 pub returns-clause-queued : goal.returns-clause-queued
-returns-clause-queued c = λ passes old new out posted all.
+returns-clause-queued c = λ posted passes old new out all.
     let before = rw (← c.self.view_is) at all in
     let stands = rw (← c.self.view_is, ← c.entry.view_is) at posted in
     let taken = rw (← c.entry.view_is) at out in

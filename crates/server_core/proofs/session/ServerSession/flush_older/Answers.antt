@@ -1,7 +1,7 @@
 use Rattle.std.proofs.Common.{arith}
 use Rattle.server_core.specs.Counting.{CountsQueued}
 use Rattle.server_core.specs.Flushing.{without_newest}
-use Rattle.server_core.proofs.QueuedLemmas.{count-out, none-counted, none-older, older-counted, weight-own}
+use Rattle.server_core.proofs.QueuedLemmas.{count-out, none-older, older-counted, weight-own}
 use Rattle.std.proofs.Common.{◌≡◌, ◌%◌, false, List, ◌∷◌, [], ◌++◌, Some, None, true, filter, map, refl, subst, sym, ap, ◌∙◌, append-nil, append_assoc}
 use Rattle.std.specs.List.{list_any}
 use Rattle.packet_rings.specs.Entries.{is_not_of, is_of, number_of}
@@ -19,7 +19,7 @@ use Rattle.server_core.proofs.FlushLemmas.{filter-none, flush-held, flush-holds,
 use Rattle.server_core.proofs.HoldBeginLemmas.{none-gone, older-gone, reply-is, sent-of}
 use Rattle.server_core.proofs.PoolLemmas.{keeps-released}
 use Rattle.server_core.proofs.session.ServerSession.flush_older.Goals as goal
-use Rattle.rpc_base.proofs.FirstLemmas.{found-holds, none-counted as counted-none}
+use Rattle.rpc_base.proofs.FirstLemmas.{counted-none, found-holds, none-counted}
 use Rattle.buffer_pool.proofs.CountingLemmas.{counts-released}
 
 pub release_at-requires : goal.release_at-requires
@@ -79,7 +79,7 @@ returns-clause-ring g c =
     let old = c.loop-left.tx.items in
     let inv = c.loop-left.invariant in
     let found : newest c.args.request c.args.self.now ≡ Some q = ap (newest c.args.request) (sym c.self.view_is) ∙ rw c.slot.ensures at (sym c.in-Some.ensures) in
-    let none : list_any (is_of (owner_of n q)) old ≡ false = none-counted (is_of (owner_of n q)) old (omega (arith, c.loop-left.invariant.left, c.loop-left-test.false)) in
+    let none : list_any (is_of (owner_of n q)) old ≡ false = counted-none (is_of (owner_of n q)) old (omega (arith, c.loop-left.invariant.left, c.loop-left-test.false)) in
     let left = sym (filter-none (owner_of n q) old none) ∙ inv.kept in
     rw found (rw (← left, ← inv.size) refl)
 
@@ -90,7 +90,7 @@ returns-clause-noted g c =
     let old = c.loop-left.tx.items in
     let (x, grew, whole) = c.loop-left.invariant.noted in
     let found : newest c.args.request c.args.self.now ≡ Some q = ap (newest c.args.request) (sym c.self.view_is) ∙ rw c.slot.ensures at (sym c.in-Some.ensures) in
-    let none : list_any (is_of (owner_of n q)) old ≡ false = none-counted (is_of (owner_of n q)) old (omega (arith, c.loop-left.invariant.left, c.loop-left-test.false)) in
+    let none : list_any (is_of (owner_of n q)) old ≡ false = counted-none (is_of (owner_of n q)) old (omega (arith, c.loop-left.invariant.left, c.loop-left-test.false)) in
     let all : x ≡ flushed_facts c.args.who.now n (Some q) c.args.tx.now.items = sym (append-nil x) ∙ rw (numbers-none (owner_of n q) old none) at whole in
     rw (found, ← all) grew
 
@@ -101,7 +101,7 @@ returns-clause-unheld g c =
     let old = c.loop-left.tx.items in
     let inv = c.loop-left.invariant in
     let found : newest c.args.request c.args.self.now ≡ Some q = ap (newest c.args.request) (sym c.self.view_is) ∙ rw c.slot.ensures at (sym c.in-Some.ensures) in
-    let none : list_any (is_of (owner_of n q)) old ≡ false = none-counted (is_of (owner_of n q)) old (omega (arith, c.loop-left.invariant.left, c.loop-left-test.false)) in
+    let none : list_any (is_of (owner_of n q)) old ≡ false = counted-none (is_of (owner_of n q)) old (omega (arith, c.loop-left.invariant.left, c.loop-left-test.false)) in
     rw found (flush-unheld n q c.loop-left.pool old inv.holds none)
 
 pub returns-clause-holds : goal.returns-clause-holds
@@ -110,7 +110,7 @@ returns-clause-holds g c = λ holds.
     let q = c.in-Some.older in
     let old = c.loop-left.tx.items in
     let found : newest c.args.request s ≡ Some q = ap (newest c.args.request) (sym c.self.view_is) ∙ rw c.slot.ensures at (sym c.in-Some.ensures) in
-    let none : list_any (is_of (owner_of s.number q)) old ≡ false = none-counted (is_of (owner_of s.number q)) old (omega (arith, c.loop-left.invariant.left, c.loop-left-test.false)) in
+    let none : list_any (is_of (owner_of s.number q)) old ≡ false = counted-none (is_of (owner_of s.number q)) old (omega (arith, c.loop-left.invariant.left, c.loop-left-test.false)) in
     (older-gone c.loop-left.pool s c.args.request q found old none (c.loop-left.invariant.all holds))
 
 pub returns-in_default-clause-holds : goal.returns-in_default-clause-holds
@@ -129,7 +129,7 @@ unreachable-requires g c =
     let old = c.loop-left.tx.items in
     let owner_is : c.owner.result ≡ owner_of n q = c.owner.ensures ∙ ap (λ s. owner_of s.number q) c.self.view_is in
     let none : list_any (is_of (owner_of n q)) old ≡ false = rw owner_is at (c.in_default-flush.ensures.none.0 refl) in
-    absurd (omega (arith, c.loop-left.invariant.left, c.loop-left-test.true, counted-none (is_of (owner_of n q)) old none))
+    absurd (omega (arith, c.loop-left.invariant.left, c.loop-left-test.true, none-counted (is_of (owner_of n q)) old none))
 
 pub returns-clause-queued : goal.returns-clause-queued
 returns-clause-queued g c = λ counted.
@@ -139,7 +139,7 @@ returns-clause-queued g c = λ counted.
     let inv = c.loop-left.invariant in
     let found : newest c.args.request s ≡ Some q = ap (newest c.args.request) (sym c.self.view_is) ∙ rw c.slot.ensures at (sym c.in-Some.ensures) in
     let sound : IsSession s = subst IsSession c.self.view_is c.self.invariant in
-    let none : list_any (is_of (owner_of s.number q)) old ≡ false = none-counted (is_of (owner_of s.number q)) old (omega (arith, inv.left, c.loop-left-test.false)) in
+    let none : list_any (is_of (owner_of s.number q)) old ≡ false = counted-none (is_of (owner_of s.number q)) old (omega (arith, inv.left, c.loop-left-test.false)) in
     let all : CountsQueued (without_newest c.args.request s) (filter (is_not_of (owner_of s.number q)) c.args.tx.now.items) = older-counted c.args.pool.now s c.args.request q sound c.requires.keeps_pool found c.args.tx.now.items counted in
     rw (sym (filter-none (owner_of s.number q) old none) ∙ inv.kept) all
 

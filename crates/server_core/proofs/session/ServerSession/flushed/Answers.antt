@@ -25,7 +25,7 @@ returns-clause-keeps_pool c =
     (recount-keeps (λ n. n - 1) (is_owner c.self.inside.number c.entry.inside.owner) (the_view c.self.inside) (released_at c.args.entry.now.place c.args.pool.now) (keeps-released c.args.pool.now c.args.entry.now.place c.self.inside.slots c.requires.held keeps))
 
 pub returns-clause-holds : goal.returns-clause-holds
-returns-clause-holds c = λ passes old new out holds posted.
+returns-clause-holds c = λ posted passes old new out holds.
     let keeps = rw (← c.self.view_is) at c.requires.keeps_pool in
     let before = rw (← c.self.view_is) at holds in
     let stands = rw (← c.self.view_is) at posted in
@@ -33,7 +33,7 @@ returns-clause-holds c = λ passes old new out holds posted.
     (recount-holds (λ n. n - 1) (is_owner c.self.inside.number c.entry.inside.owner) (the_view c.self.inside) (released_at c.args.entry.now.place c.args.pool.now) new (sent-holds c.args.pool.now (the_view c.self.inside) c.self.invariant keeps passes c.args.entry.now old new out before stands))
 
 pub returns-clause-queued : goal.returns-clause-queued
-returns-clause-queued c = λ passes old new out posted counted.
+returns-clause-queued c = λ posted passes old new out counted.
     let before = rw (← c.self.view_is) at counted in
     let stands = rw (← c.self.view_is, ← c.entry.view_is) at posted in
     let taken = rw (← c.entry.view_is) at out in
