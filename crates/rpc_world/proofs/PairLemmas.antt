@@ -4,6 +4,7 @@ use Rattle.std.specs.List.{slice_get, slice_set}
 use Rattle.rpc_base.specs.declared.event.Event.{Event}
 use Rattle.rpc_base.specs.declared.event.Event.TheVariants.{PairedClient, PairedServer, NconnectNumbers, NconnectRing}
 use Rattle.rpc_base.specs.declared.fact.Fact.{Fact}
+use Rattle.rpc_base.specs.declared.limits.TheConstants.{SESSION_NUMBERS}
 use Rattle.end_laws.proofs.ListLemmas.{length-slice_set}
 use Rattle.node_tables.specs.Noted.{Noted}
 use Rattle.rpc_laws.specs.declared.tables.Lists.{Lists}
@@ -77,7 +78,7 @@ unspent-by true b c e h = cc
 unspent-by false true c e h = cc
 unspent-by false false c e h = (refl, refl)
 
-unspent : (credits : ℕ) (l : Lists) → pair_refusal credits l ≡ None → (length l.clients < 65535) × (l.server_numbers < 65535)
+unspent : (credits : ℕ) (l : Lists) → pair_refusal credits l ≡ None → (length l.clients < SESSION_NUMBERS) × (l.server_numbers < SESSION_NUMBERS)
 unspent credits l h =
     let free = unspent-by (clients_spent l) (servers_spent l) (has_no_room credits l) (NconnectRing (shares l) credits l.room) h in
     (leb-false _ _ free.0, leb-false _ _ free.1)
@@ -155,6 +156,6 @@ pub ends-seen : (a b credits : ℕ) (s t u : Play) (f g : List Fact) → s ≡ t
 ends-seen a b credits s t u f g view p =
     subst (λ (z : Play). Performed (TakesEnds a b credits) z u f g) view p
 
-pub fits-unspent : (n m credits : ℕ) (s t : Play) (x : Timed) → s ≡ t → m ≡ n → TakesEnd n credits t.stage → slice_get s.stage.nodes m ≡ Some x → (length x.lists.clients < 65535) × (x.lists.server_numbers < 65535)
+pub fits-unspent : (n m credits : ℕ) (s t : Play) (x : Timed) → s ≡ t → m ≡ n → TakesEnd n credits t.stage → slice_get s.stage.nodes m ≡ Some x → (length x.lists.clients < SESSION_NUMBERS) × (x.lists.server_numbers < SESSION_NUMBERS)
 fits-unspent n m credits s t x view same fits at =
     unspent credits x.lists (fits x (seen-at s t n x view (subst (λ (k : ℕ). slice_get s.stage.nodes k ≡ Some x) same at)))

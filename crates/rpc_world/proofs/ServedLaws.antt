@@ -85,10 +85,6 @@ follows-stands-once script h is only follows =
 pub follows-one : (script : List Line) (h : List Fact) → Follows script h → (g : List Fact) → Follows script g → g ≡ h
 follows-one script h follows = λ g other. one-history script g h other follows
 
--- no fact has other bytes than its line of the report shows
-pub follows-told : (script : List Line) (h : List Fact) → Follows script h → AllTold h
-follows-told script h follows = all-told script h follows
-
 -- no request runs twice, and no call begins or ends twice
 pub follows-once : (script : List Line) (h : List Fact) → IsScript script → Follows script h → Once h
 follows-once script h is follows = once-each script h (script-two script is) (script-few script is) follows

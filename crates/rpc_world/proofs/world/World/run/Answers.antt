@@ -1,4 +1,5 @@
-use Rattle.rpc_world.proofs.ServedLaws.{follows-fits, follows-only, follows-sends-own, follows-own, follows-once, follows-credit, follows-ends-clean, follows-begins-clean, follows-ring, follows-requests, follows-one, follows-told, follows-stands-once}
+use Rattle.rpc_world.proofs.ServedLaws.{follows-fits, follows-only, follows-sends-own, follows-own, follows-once, follows-credit, follows-ends-clean, follows-begins-clean, follows-ring, follows-requests, follows-one, follows-stands-once}
+use Rattle.one_history.proofs.ScriptTold.{all-told}
 use Rattle.rpc_world.proofs.world.World.run.Goals as goal
 
 pub returns-clause-sends_own : goal.returns-clause-sends_own
@@ -35,4 +36,4 @@ pub returns-clause-one : goal.returns-clause-one
 returns-clause-one c = follows-one _ _ c.in_ok-world.ensures.follows
 
 pub returns-clause-told : goal.returns-clause-told
-returns-clause-told c = follows-told _ _ c.in_ok-world.ensures.follows
+returns-clause-told c = all-told _ _ c.in_ok-world.ensures.follows
