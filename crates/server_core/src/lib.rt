@@ -11,3 +11,6 @@ mod step;
 
 pub use session::ServerSession;
 pub use step::Step;
+
+#[cfg(test)]
+mod tests;
