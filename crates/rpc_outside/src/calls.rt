@@ -1,8 +1,9 @@
 //! The calls of an object in memory, some of which are told to fail.
-ghost use Rattle.std.specs.Prelude.{◌≡◌, ◌↔◌, IsTrue};
-ghost use Rattle.rpc_outside.specs.CallLog.{CallLog, IsNamed, fresh, passed, failed};
-ghost use Rattle.rpc_outside.specs.Faults.{HasRisen};
+ghost use Rattle.std.specs.Prelude.{◌≡◌, ◌↔◌, IsTrue, IsErr};
+ghost use Rattle.rpc_outside.specs.CallLog.{CallLog, IsNamed, IsLogged, fresh, passed, failed};
+ghost use Rattle.rpc_outside.specs.Faults.{HasCause, HasRisen};
 
+use crate::failed::Failed;
 use std::marker::Model;
 
 /// Numbers the calls of an object from 0, and knows which of them are to fail.
@@ -53,5 +54,19 @@ impl Calls {
     {
         self.made = self.made.saturating_add(1);
         self.faults = self.faults.saturating_add(1);
+    }
+
+    /// Counts the call that comes next, which fails exactly where it is named.
+    pub fn make(&mut self) -> Result<(), Failed>
+        ensures named { IsErr result ↔ IsNamed self.old }
+        ensures logged { IsLogged self.old self.new result }
+        ensures cause { HasCause self.old.faults self.new.faults result }
+    {
+        if self.is_named() {
+            self.fail();
+            return Err(Failed);
+        }
+        self.pass();
+        Ok(())
     }
 }

@@ -1,11 +1,17 @@
-//! A source and a sink that never fail and take no memory.
-ghost use Rattle.std.specs.Prelude.{◌≡◌, ℕ, ◌<◌, ◌≤◌, length, take, min, None, Some, Ok, IfOk};
+//! A source, a sink and a link that never fail and take no memory.
+ghost use Rattle.std.specs.Prelude.{◌≡◌, ℕ, ◌<◌, ◌≤◌, ◌↔◌, [], length, take, min, None, Some, Ok, IfOk, IsOk};
 ghost use Rattle.std.specs.Io.KnownBytes.{Consumes, IsAtEnd};
+ghost use Rattle.rpc_outside.specs.declared.link.Got.TheVariants.{Nothing};
+ghost use Rattle.rpc_outside.specs.declared.link.Taken.TheVariants.{Whole};
+ghost use Rattle.rpc_outside.specs.Linking.{AreCarried, Comes, IfPacket, inbound};
 
+use crate::arrivals::Arrivals;
 use crate::copying::copy_front;
 use crate::failed::Failed;
+use crate::link::{Got, Link, MOST_LINK_BYTES, Taken};
 use crate::sink::Sink;
 use crate::source::Source;
+use rpc_base::{Octets, Peer};
 use std::marker::Model;
 
 /// A source that never fails. Contracts see the bytes that are left.
@@ -44,7 +50,8 @@ impl Source for FirmSource {
         requires { 0 < length out.old }
         ensures fills { result ≡ Ok (min (length self.old) (length out.new)) }
         ensures within { IfOk result (λ n. n ≤ length out.new) }
-        ensures bytes { IfOk result (λ n. Consumes (Some self.old) (Some self.new) (take n out.new)) }
+        ensures bytes { IfOk result (λ n. Consumes (Some self.old) (Some self.new)
+            (take n out.new)) }
         ensures end { IfOk result (λ n. n ≡ 0 → IsAtEnd (Some self.old)) }
     {
         let count = copy_front(&self.bytes[self.at..], out);
@@ -76,5 +83,79 @@ impl Sink for FirmSink {
         ensures { result ≡ Ok (length piece.now) }
     {
         Ok(piece.len())
+    }
+}
+
+/// A link that is never busy, and neither keeps nor tells what is sent. Every address is that of
+/// peer 0. Contracts see the datagrams that were given out, and those that wait.
+#[derive(Debug, Drop)]
+pub struct FirmLink {
+    arrivals: Arrivals,
+}
+
+impl Model for FirmLink {
+    ghost use Rattle.rpc_outside.specs.Linking.{Inbound};
+
+    ghost Value = { Inbound };
+
+    ghost view = { λ l. l.arrivals };
+}
+
+impl FirmLink {
+    /// A link to which these datagrams come, each of at most 2,048 bytes.
+    pub fn new(arrivals: Vec<(Peer, Octets)>) -> FirmLink
+        requires { AreCarried arrivals.items }
+        ensures { result ≡ inbound [] arrivals.items }
+    {
+        FirmLink {
+            arrivals: Arrivals::new(arrivals),
+        }
+    }
+}
+
+impl Link for FirmLink {
+    ghost sent = { λ _. None };
+
+    ghost received = { λ l. Some l.received };
+
+    ghost waiting = { λ l. Some l.waiting };
+
+    ghost faults = { λ _. 0 };
+
+    ghost busies = { λ _. 0 };
+
+    /// Takes every address.
+    fn bind(&mut self, _addr: &str) -> Result<(), Failed>
+        ensures bound { IsOk result }
+        ensures unchanged { self.new ≡ self.old }
+    {
+        Ok(())
+    }
+
+    /// Peer 0.
+    fn peer(&mut self, _addr: &str) -> Result<Peer, Failed>
+        ensures peer { result ≡ Ok 0 }
+        ensures unchanged { self.new ≡ self.old }
+    {
+        Ok(Peer(0))
+    }
+
+    /// Takes the datagram whole.
+    fn send(&mut self, _to: Peer, _head: &[u8], _body: &[u8]) -> Result<Taken, Failed>
+        ensures taken { result ≡ Ok Whole }
+        ensures unchanged { self.new ≡ self.old }
+    {
+        Ok(Taken::Whole)
+    }
+
+    /// Gives out the datagram that waits longest. Nothing comes exactly where none waits.
+    fn recv(&mut self, out: &mut [u8; MOST_LINK_BYTES]) -> Result<Got, Failed>
+        ensures packet { IfOk result (λ got. IfPacket got (Comes (λ l. Some l.waiting)
+            (λ l. Some l.received) self.old self.new out.new)) }
+        ensures nothing { (result ≡ Ok Nothing) ↔ (self.old.waiting ≡ []) }
+        ensures unchanged { result ≡ Ok Nothing → self.new ≡ self.old }
+        ensures received { IsOk result }
+    {
+        Ok(self.arrivals.next(out))
     }
 }

@@ -3,12 +3,15 @@
 //! reports.
 #![tactic(auto)]
 
+mod arrivals;
 mod calls;
 mod copying;
 mod edges;
 mod failed;
 mod firm;
 mod kept;
+mod link;
+mod mem_link;
 mod memory;
 mod plain;
 mod recorder;
@@ -21,8 +24,10 @@ mod writing;
 
 pub use edges::{IoSink, IoSource};
 pub use failed::Failed;
-pub use firm::{FirmSink, FirmSource};
+pub use firm::{FirmLink, FirmSink, FirmSource};
 pub use kept::Kept;
+pub use link::{Got, Link, MOST_LINK_BYTES, Taken};
+pub use mem_link::MemLink;
 pub use memory::{MemSink, MemSource};
 pub use plain::{PlainDuty, PlainService};
 pub use recorder::{MemRecorder, NoRecord, Recorder};

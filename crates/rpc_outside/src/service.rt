@@ -53,7 +53,9 @@ pub trait Service {
             → stands self.new (served ++ (req_type, ask.now) ∷ []) };
 
     // A worker's answer does not depend on what was served.
-    ghost steady: { (req_type : ℕ) (ask : List ℕ) (one other : Served) → mode_of req_type ≡ Background → answer one req_type ask ≡ answer other req_type ask };
+    ghost steady: { (req_type : ℕ) (ask : List ℕ) (one other : Served)
+        → mode_of req_type ≡ Background
+        → answer one req_type ask ≡ answer other req_type ask };
 }
 
 /// A handler that a worker runs. It depends on its arguments alone.

@@ -19,7 +19,8 @@ pub trait Source {
     fn read(&mut self, out: &mut [u8]) -> Result<usize, Failed>
         requires { 0 < length out.old }
         ensures within { IfOk result (λ n. n ≤ length out.new) }
-        ensures bytes { IfOk result (λ n. Consumes (left self.old) (left self.new) (take n out.new)) }
+        ensures bytes { IfOk result (λ n. Consumes (left self.old) (left self.new)
+            (take n out.new)) }
         ensures end { IfOk result (λ n. n ≡ 0 → IsAtEnd (left self.old)) }
         ensures kept { OnErr result (Keeps (left self.old) (left self.new)) }
         ensures cause { HasCause (faults self.old) (faults self.new) result };

@@ -1,33 +1,30 @@
 //! Each form once, with calls that fail in mid-stream.
-ghost use Rattle.std.specs.Prelude.{◌≤◌, length};
+ghost use Rattle.std.specs.Prelude.{◌≤◌, length, IfOk};
+ghost use Rattle.rpc_outside.specs.Linking.{AreCarried};
 
 use super::*;
-use rpc_base::{Event, NodeId, Who};
+use rpc_base::{Event, NodeId, Octets, Peer, Who};
 use std::alloc::Global;
 use std::test::Fail;
 
-/// Reads to the end in pieces of three bytes, and tells the sizes of the pieces, or where it failed.
-fn read_sizes<S: Source>(source: &mut S) -> ([usize; 4], bool) {
-    let mut sizes = [0; 4];
-    for size in sizes.iter_mut() {
-        let mut out = [0; 3];
-        match source.read(&mut out) {
-            Ok(count) => *size = count,
-            Err(_) => return (sizes, true),
-        }
-    }
-    (sizes, false)
+/// The sizes of three reads, each of three bytes at most.
+fn read_sizes<S: Source>(source: &mut S) -> [Result<usize, Failed>; 3] {
+    let mut out = [0; 3];
+    let first = source.read(&mut out);
+    let second = source.read(&mut out);
+    let third = source.read(&mut out);
+    [first, second, third]
 }
 
 #[test]
 fn a_source_fails_at_its_named_calls(rt: HostRuntime) -> Result<(), Fail> {
     let alloc = rt.alloc();
-    let mut whole = MemSource::new(Vec::from_slice(alloc, b"hello")?, Vec::new(alloc));
-    assert_eq!(rt; read_sizes(&mut whole), ([3, 2, 0, 0], false));
     let mut named = MemSource::new(Vec::from_slice(alloc, b"hello")?, vec![in alloc; 1]?);
-    assert_eq!(rt; read_sizes(&mut named), ([3, 0, 0, 0], true));
+    assert_eq!(rt; read_sizes(&mut named), [Ok(3), Err(Failed), Ok(2)]);
     let mut firm = FirmSource::new(Vec::from_slice(alloc, b"hello")?);
-    assert_eq!(rt; read_sizes(&mut firm), ([3, 2, 0, 0], false));
+    assert_eq!(rt; read_sizes(&mut firm), [Ok(3), Ok(2), Ok(0)]);
+    let mut read = IoSource::new(b"hello".as_slice());
+    assert_eq!(rt; read_sizes(&mut read), [Ok(3), Ok(2), Ok(0)]);
     Ok(())
 }
 
@@ -35,24 +32,83 @@ fn a_source_fails_at_its_named_calls(rt: HostRuntime) -> Result<(), Fail> {
 fn a_sink_fails_at_its_named_calls_and_past_its_room(rt: HostRuntime) -> Result<(), Fail> {
     let alloc = rt.alloc();
     let mut sink = MemSink::new(alloc, 5, vec![in alloc; 1]?)?;
-    let answers = [b"he", b"ll", b"lo", b"oh"].map(|piece| write_all(&mut sink, piece));
-    assert_eq!(rt; answers, [Ok(()), Err(Failed), Ok(()), Err(Failed)]);
+    write_all(&mut sink, b"he")?;
+    assert_eq!(rt; write_all(&mut sink, b"ll"), Err(Failed));
+    write_all(&mut sink, b"lo")?;
+    assert_eq!(rt; write_all(&mut sink, b"oh"), Err(Failed));
     assert_eq!(rt; sink.bytes(), b"helo".as_slice());
-    assert_eq!(rt; write_all(&mut FirmSink::new(), b"hello"), Ok(()));
+    write_all(&mut FirmSink::new(), b"hello")?;
+    let mut written = IoSink::new(Vec::new(alloc));
+    write_all(&mut written, b"hello")?;
+    assert_eq!(rt; written.into_writer().as_slice(), b"hello".as_slice());
+    Ok(())
+}
+
+/// One datagram from peer 7.
+fn arrivals(alloc: Global) -> Result<Vec<(Peer, Octets)>, Fail>
+    ensures { IfOk result (λ v. AreCarried v.items) }
+{
+    Ok(vec![in alloc; (Peer(7), Octets::copy(alloc, b"hello")?)]?)
+}
+
+/// Makes a call of each kind, and tells which of them failed.
+fn failures<L: Link>(link: &mut L) -> [bool; 4] {
+    let bind = link.bind("127.0.0.1:7000").is_err();
+    let peer = link.peer("127.0.0.1:7001").is_err();
+    let send = link.send(Peer(1), b"hel", b"lo").is_err();
+    let recv = link.recv(&mut [0; MOST_LINK_BYTES]).is_err();
+    [bind, peer, send, recv]
+}
+
+#[test]
+fn a_link_fails_at_each_call_in_turn(rt: HostRuntime) -> Result<(), Fail> {
+    let alloc = rt.alloc();
+    for call in 0..4 {
+        let fails = vec![in alloc; call]?;
+        let mut link = MemLink::new(alloc, arrivals(alloc)?, 1, fails, Vec::new(alloc))?;
+        let mut expected = [false; 4];
+        expected[call as usize] = true;
+        assert_eq!(rt; failures(&mut link), expected);
+        assert_eq!(rt; link.sent(0).is_none(), call == 2);
+    }
+    assert_eq!(rt; failures(&mut FirmLink::new(arrivals(alloc)?)), [false; 4]);
     Ok(())
 }
 
 #[test]
-fn a_reader_and_a_writer_of_std_serve(rt: HostRuntime) -> Result<(), Fail> {
-    let mut source = IoSource::new(b"hello".as_slice());
-    assert_eq!(rt; read_sizes(&mut source), ([3, 2, 0, 0], false));
-    let mut sink = IoSink::new(Vec::new(rt.alloc()));
-    write_all(&mut sink, b"hello")?;
-    let written = sink.into_writer();
-    assert_eq!(rt; written.as_slice(), b"hello".as_slice());
-    let mut room = [0; 2];
-    let mut full = IoSink::new(room.as_mut_slice());
-    assert_eq!(rt; write_all(&mut full, b"hello"), Err(Failed));
+fn a_link_is_busy_at_each_send_in_turn(rt: HostRuntime) -> Result<(), Fail> {
+    let alloc = rt.alloc();
+    for send in 0..3 {
+        let busy = vec![in alloc; send]?;
+        let mut link = MemLink::new(alloc, Vec::new(alloc), 2, Vec::new(alloc), busy)?;
+        let mut expected = [Ok(Taken::Whole); 3];
+        expected[send as usize] = Ok(Taken::Busy);
+        let first = link.send(Peer(1), b"a", b"");
+        let second = link.send(Peer(2), b"b", b"");
+        let third = link.send(Peer(3), b"c", b"");
+        assert_eq!(rt; [first, second, third], expected);
+        assert_eq!(rt; link.send(Peer(4), b"d", b""), Err(Failed));
+    }
+    Ok(())
+}
+
+#[test]
+fn a_link_sends_and_gives_out_datagrams(rt: HostRuntime) -> Result<(), Fail> {
+    let alloc = rt.alloc();
+    let none = Vec::new(alloc);
+    let mut link = MemLink::new(alloc, arrivals(alloc)?, 1, none, Vec::new(alloc))?;
+    let mut out = [0; MOST_LINK_BYTES];
+    assert_eq!(rt;
+        link.recv(&mut out),
+        Ok(Got::Packet {
+            peer: Peer(7),
+            len: 5
+        })
+    );
+    assert_eq!(rt; &out[..5], b"hello".as_slice());
+    assert_eq!(rt; link.recv(&mut out), Ok(Got::Nothing));
+    assert_eq!(rt; link.send(Peer(1), b"hel", b"lo"), Ok(Taken::Whole));
+    assert_eq!(rt; link.sent(0), Some((Peer(1), b"hello".as_slice())));
     Ok(())
 }
 
@@ -78,72 +134,31 @@ fn the_plain_service_answers_by_its_table(rt: HostRuntime) -> Result<(), Fail> {
     let alloc = rt.alloc();
     let mut service = PlainService::new();
     // the type, the request and its answer, one after another
-    let table: [(u8, &[u8], &[u8]); 17] = [
-        (1, b"", b""),
+    let table: [(u8, &[u8], &[u8]); 8] = [
         (1, b"hello", b"hello"),
-        (2, b"", b""),
         (2, b"hello", b"olleh"),
-        (3, b"\0\0\0\0\0\0\0\x07", b"\0\0\0\0\0\0\0\x07"),
-        (3, b"\0\0\0\0\0\0\x01\0", b"\0\0\0\0\0\0\x01\x07"),
+        (3, b"\0\0\0\0\0\0\x01\x07", b"\0\0\0\0\0\0\x01\x07"),
+        (3, &[255; 8], b"\0\0\0\0\0\0\x01\x06"),
         (3, b"\0\0\0\0\0\0\x01", b""),
-        (3, b"\0\0\0\0\0\0\0\0\x01", b""),
-        (3, b"\0\0\0\0\0\0\0\0", b"\0\0\0\0\0\0\x01\x07"),
-        (
-            3,
-            b"\xff\xff\xff\xff\xff\xff\xff\xff",
-            b"\0\0\0\0\0\0\x01\x06",
-        ),
         (4, b"\0\0\0\x03", b"\0\x01\x02"),
-        (4, b"\0\0\0\0", b""),
-        (4, b"\0\0\x03", b""),
-        (4, b"\0\0\0\0\x03", b""),
         (4, b"\0\x10\0\x01", b""),
-        (0, b"a", b""),
-        (129, b"a", b""),
+        (5, b"a", b""),
     ];
     for (req_type, ask, answer) in table {
         let out = answer_of(alloc, &mut service, req_type, ask)?;
         assert_eq!(rt; out.as_slice(), answer);
     }
     let most = answer_of(alloc, &mut service, 4, b"\0\x10\0\0")?;
-    assert_eq!(rt; most.len(), 1_048_576);
-    assert_eq!(rt; (most[255], most[256], most[1_048_575]), (255, 0, 255));
+    assert_eq!(rt; (most.len(), most.last().copied()), (1_048_576, Some(255)));
     Ok(())
 }
 
 #[test]
-fn the_plain_service_has_three_modes(rt: HostRuntime) {
-    let service = PlainService::new();
-    let table = [
-        (0, Mode::Unserved),
-        (1, Mode::Inline),
-        (4, Mode::Inline),
-        (5, Mode::Unserved),
-        (128, Mode::Unserved),
-        (129, Mode::Background),
-        (130, Mode::Background),
-        (131, Mode::Unserved),
-        (132, Mode::Background),
-        (133, Mode::Unserved),
-        (255, Mode::Unserved),
-    ];
-    for (req_type, mode) in table {
-        assert_eq!(rt; service.mode(req_type), mode);
-    }
-    assert_eq!(rt; service.room(129, b"abc"), 3);
-    assert_eq!(rt; service.room(132, b"\0\0\x02\0"), 512);
-}
-
-#[test]
-fn the_plain_duty_answers_three_types(rt: HostRuntime) {
+fn the_plain_duty_answers_to_a_worker(rt: HostRuntime) {
+    assert_eq!(rt; PlainService::new().mode(132), Mode::Background);
     let mut out = [0; 3];
-    PlainDuty.handle(129, b"abc", &mut out);
-    assert_eq!(rt; &out, b"abc");
     PlainDuty.handle(130, b"abc", &mut out);
     assert_eq!(rt; &out, b"cba");
-    PlainDuty.handle(132, b"\0\0\0\x03", &mut out);
-    assert_eq!(rt; &out, b"\0\x01\x02");
-    PlainDuty.handle(1, b"abc", &mut []);
 }
 
 #[test]
@@ -155,13 +170,7 @@ fn a_recorder_keeps_facts_in_order(rt: HostRuntime) -> Result<(), Fail> {
     assert!(rt; recorder.whole());
     assert_eq!(rt; recorder.facts().len(), 2);
     let facts = recorder.into_facts();
-    assert_eq!(rt;
-        (facts[0].event, facts[1].who),
-        (Event::Ticked { by: 5 }, Who::Node(NodeId(1)))
-    );
-    assert_eq!(rt;
-        (facts[1].first.bytes(), facts[1].second.bytes()),
-        (b"a".as_slice(), b"bc".as_slice())
-    );
+    assert_eq!(rt; facts[0].event, Event::Ticked { by: 5 });
+    assert_eq!(rt; facts[1].second.bytes(), b"bc".as_slice());
     Ok(())
 }

@@ -1,0 +1,93 @@
+//! Where datagrams go and where they come from.
+ghost use Rattle.std.specs.Prelude.{◌≡◌, ℕ, List, [], ◌++◌, Option, IfOk, IfSome, OnErr};
+ghost use Rattle.rpc_outside.specs.Faults.{HasCause, HasRisen};
+ghost use Rattle.rpc_outside.specs.declared.link.Got.TheVariants.{Nothing};
+ghost use Rattle.rpc_outside.specs.declared.link.Taken.TheVariants.{Whole, Busy};
+ghost use Rattle.rpc_outside.specs.Linking.{Carried, Comes, IfPacket, NoneComes, with_last};
+
+use crate::failed::Failed;
+use rpc_base::Peer;
+
+/// The bytes of the largest datagram that a link gives out.
+pub const MOST_LINK_BYTES: usize = 2_048;
+
+/// What a link did with the datagram that it was handed.
+#[derive(Clone, Copy, Debug, PartialEq, Eq)]
+pub enum Taken {
+    /// It sent the datagram.
+    Whole,
+    /// It could not take the datagram now, and sent nothing.
+    Busy,
+}
+
+/// What came to a link.
+#[derive(Clone, Copy, Debug, PartialEq, Eq)]
+pub enum Got {
+    /// A datagram of `len` bytes, at most 2,048, from this peer.
+    Packet { peer: Peer, len: usize },
+    /// No datagram.
+    Nothing,
+}
+
+/// Sends datagrams, and gives out those that came.
+pub trait Link {
+    // The datagrams that were sent, where the link tells them.
+    ghost sent: { Self → Option (List Carried) };
+
+    // The datagrams that were given out, where the link tells them.
+    ghost received: { Self → Option (List Carried) };
+
+    // The datagrams that came and were not given out, where the link tells them.
+    ghost waiting: { Self → Option (List Carried) };
+
+    // How many calls failed so far.
+    ghost faults: { Self → ℕ };
+
+    // How many sends were answered Busy so far.
+    ghost busies: { Self → ℕ };
+
+    /// Takes this address for the link's own. `Failed` comes only where the link counts one more
+    /// fault, as for an address that it can't read or reach.
+    fn bind(&mut self, addr: &str) -> Result<(), Failed>
+        ensures sent { sent self.new ≡ sent self.old }
+        ensures lists { NoneComes waiting received self.old self.new }
+        ensures busies { busies self.new ≡ busies self.old }
+        ensures cause { HasCause (faults self.old) (faults self.new) result };
+
+    /// Tells by which number the link knows the peer of this address. `Failed` comes only where the
+    /// link counts one more fault, as for an address that it can't read or reach.
+    fn peer(&mut self, addr: &str) -> Result<Peer, Failed>
+        ensures sent { sent self.new ≡ sent self.old }
+        ensures lists { NoneComes waiting received self.old self.new }
+        ensures busies { busies self.new ≡ busies self.old }
+        ensures cause { HasCause (faults self.old) (faults self.new) result };
+
+    /// Sends head and body as one datagram, or nothing where it answers Busy or `Failed`. Busy
+    /// comes only where the link counts one more busy answer, and `Failed` only where it counts one
+    /// more fault.
+    fn send(&mut self, to: Peer, head: &[u8], body: &[u8]) -> Result<Taken, Failed>
+        ensures whole { IfOk result (λ t. t ≡ Whole
+            → (sent self.new ≡ with_last (to, head.now ++ body.now) (sent self.old))
+            × (busies self.new ≡ busies self.old)) }
+        ensures busy { IfOk result (λ t. t ≡ Busy → (sent self.new ≡ sent self.old)
+            × HasRisen (busies self.old) (busies self.new)) }
+        ensures fault { OnErr result ((sent self.new ≡ sent self.old)
+            × (busies self.new ≡ busies self.old)) }
+        ensures lists { NoneComes waiting received self.old self.new }
+        ensures cause { HasCause (faults self.old) (faults self.new) result };
+
+    /// Gives out the datagram that waits longest: its bytes become the front of `out`. Nothing
+    /// comes, where the link tells what waits, only where no datagram does. `Failed` comes only
+    /// where the link counts one more fault.
+    fn recv(&mut self, out: &mut [u8; MOST_LINK_BYTES]) -> Result<Got, Failed>
+        ensures packet { IfOk result (λ got. IfPacket got
+            (Comes waiting received self.old self.new out.new)) }
+        ensures nothing { IfOk result (λ got. got ≡ Nothing
+            → NoneComes waiting received self.old self.new) }
+        ensures end { IfOk result (λ got. got ≡ Nothing
+            → IfSome (waiting self.old) (λ ds. ds ≡ [])) }
+        ensures fault { OnErr result (NoneComes waiting received self.old self.new) }
+        ensures sent { sent self.new ≡ sent self.old }
+        ensures busies { busies self.new ≡ busies self.old }
+        ensures cause { HasCause (faults self.old) (faults self.new) result };
+}
