@@ -17,7 +17,17 @@ impl Model for Entry {
 
     ghost Value = { EntryValue };
 
-    ghost view = { λ e. record { owner = e.owner; number = e.number; place = e.place; peer = e.peer } };
+    ghost view = { λ e. record {
+      owner = e.owner;
+      number = e.number;
+      place = e.place;
+      peer = e.peer;
+    } };
 
-    ghost inverse = { λ e. record { owner = e.owner; number = e.number; place = e.place; peer = e.peer } };
+    ghost inverse = { λ e. record {
+      owner = e.owner;
+      number = e.number;
+      place = e.place;
+      peer = e.peer;
+    } };
 }

@@ -23,7 +23,8 @@ impl Model for RxRing {
 
     ghost view = { λ r. ring r.datagrams.items r.datagrams.capacity };
 
-    ghost invariant = { λ r. (length r.datagrams.items ≤ r.datagrams.capacity) × (r.datagrams.capacity < 2 ^ 32) };
+    ghost invariant = { λ r. (length r.datagrams.items ≤ r.datagrams.capacity)
+        × (r.datagrams.capacity < 2 ^ 32) };
 }
 
 impl RxRing {

@@ -30,7 +30,8 @@ impl Model for TxRing {
 
     ghost view = { λ r. ring r.entries.items r.entries.capacity };
 
-    ghost invariant = { λ r. (length r.entries.items ≤ r.entries.capacity) × (r.entries.capacity < 2 ^ 32) };
+    ghost invariant = { λ r. (length r.entries.items ≤ r.entries.capacity)
+        × (r.entries.capacity < 2 ^ 32) };
 }
 
 impl TxRing {
