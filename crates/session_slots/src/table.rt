@@ -25,9 +25,19 @@ impl Model for SlotTable {
 
     ghost Value = { Slots };
 
-    ghost view = { λ t. record { slots = t.slots; turns = t.turns; waiting = t.waiting.items; taken = t.taken } };
+    ghost view = { λ t. record {
+      slots = t.slots;
+      turns = t.turns;
+      waiting = t.waiting.items;
+      taken = t.taken;
+    } };
 
-    ghost invariant = { λ t. IsSound (record { slots = t.slots; turns = t.turns; waiting = t.waiting.items; taken = t.taken }) };
+    ghost invariant = { λ t. IsSound (record {
+      slots = t.slots;
+      turns = t.turns;
+      waiting = t.waiting.items;
+      taken = t.taken;
+    }) };
 }
 
 impl SlotTable {
