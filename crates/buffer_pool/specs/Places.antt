@@ -1,5 +1,5 @@
--- References to a place that may be absent, since an entry without a body names none; and the places
--- that others name.
+-- References to a place that may be absent, since an entry without a body names none; and the
+-- places that others name.
 use Rattle.std.specs.Prelude.{◌≡◌, ℕ, ◌<◌, ◌≤◌, false, List, Option, Some, None, IfSome}
 use Rattle.std.specs.List.{AllByRecursion}
 use Rattle.buffer_pool.specs.Pool.{Pool, IsFull, buf_at, held, refs_of, released, use_at}
