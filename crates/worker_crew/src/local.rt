@@ -31,9 +31,19 @@ impl<D: Duty> Model for LocalWorkers<D> {
 
     ghost Value = { Local };
 
-    ghost view = { λ w. record { limit = w.jobs; given = w.given; waiting = w.waiting.items; worked = w.worked.items } };
+    ghost view = { λ w. record {
+      limit = w.jobs;
+      given = w.given;
+      waiting = w.waiting.items;
+      worked = w.worked.items;
+    } };
 
-    ghost invariant = { λ w. IsSound D.answer (record { limit = w.jobs; given = w.given; waiting = w.waiting.items; worked = w.worked.items }) × (w.jobs ≤ deque_capacity w.waiting) × (w.jobs ≤ deque_capacity w.worked) };
+    ghost invariant = { λ w. IsSound D.answer (record {
+      limit = w.jobs;
+      given = w.given;
+      waiting = w.waiting.items;
+      worked = w.worked.items;
+    }) × (w.jobs ≤ deque_capacity w.waiting) × (w.jobs ≤ deque_capacity w.worked) };
 }
 
 impl<D: Duty> LocalWorkers<D> {
@@ -66,7 +76,8 @@ impl<D: Duty> LocalWorkers<D> {
     pub fn work(&mut self, j: u32) -> Option<(SessionNo, RequestNo)>
         ensures none { IsNone result ↔ (length self.old.waiting ≤ j) }
         ensures unchanged { IfNone result (self.new ≡ self.old) }
-        ensures worked { IfSome result (λ named. Works D.answer j named.0 named.1 self.old self.new) }
+        ensures worked { IfSome result (λ named. Works D.answer j named.0 named.1 self.old
+            self.new) }
     {
         let Some(job) = take_out(&mut self.waiting, j) else {
             return None;

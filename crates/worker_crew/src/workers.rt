@@ -50,7 +50,8 @@ pub trait Workers {
 
     /// Whether as many jobs as the limit are given and not taken, or 2^61 jobs were given so far.
     fn full(&self) -> bool
-        ensures { IsTrue result ↔ IsFull (limit self.now) (length (out self.now)) (given self.now) };
+        ensures { IsTrue result
+            ↔ IsFull (limit self.now) (length (out self.now)) (given self.now) };
 
     /// Takes a job that is worked: it was given, its buffer has the answer, and it comes once.
     fn take(&mut self) -> Option<Finished>
