@@ -2,6 +2,7 @@
 use Rattle.std.proofs.Common.{◌≡◌, ℕ, zero, suc, Bool, true, false, not, ◌&&◌, ◌==◌, List, [], ◌∷◌, ◌++◌, refl, sym, ap, ap₂, ◌∙◌, append_assoc, true≢false}
 use Rattle.std.proofs.lemmas.Bool.{and_parts}
 use Rattle.std.proofs.Common.{eq-eqb}
+use Rattle.rpc_base.proofs.BasicLemmas.{not-true}
 
 -- whether a list is without this element
 abbrev pub free : ℕ → List ℕ → Bool
@@ -45,10 +46,6 @@ tail (x ∷ xs) = xs
 abbrev head : List ℕ → ℕ
 head [] = 0
 head (x ∷ xs) = x
-
-not-true : (b : Bool) → not b ≡ true → b ≡ false
-not-true true e = absurd (true≢false (sym e))
-not-true false e = refl
 
 clash : (c y : ℕ) (b : Bool) → y ≡ c → not (y == c) && b ≡ true → ⊥
 clash c y b e f = true≢false (sym (eq-eqb y c e) ∙ not-true (y == c) (and_parts _ _ f).0)

@@ -41,4 +41,5 @@ tail_of _ = Nothing
 abbrev pub with_tail : Tail → List ℕ → List ℕ → List ℕ → List ℕ
 with_tail Nothing line first second = line
 with_tail First line first second = line ++ codes " " ++ bytes_text first
-with_tail Both line first second = line ++ codes " " ++ bytes_text first ++ codes " " ++ bytes_text second
+with_tail Both line first second =
+    line ++ codes " " ++ bytes_text first ++ codes " " ++ bytes_text second
