@@ -1,4 +1,5 @@
--- What a call makes of a claim on the entries that are neither sent nor flushed, for any list of them.
+-- What a call makes of a claim on the entries that are neither sent nor flushed, for any list of
+-- them.
 use Rattle.std.specs.Prelude.{List, ◌++◌, Bool}
 use Rattle.rpc_base.specs.Taking.{TakenOut}
 use Rattle.packet_rings.specs.Values.{EntryValue}
