@@ -9,7 +9,8 @@ use std::fmt;
 /// The first line of a script.
 const HEAD: &str = "erpc-sim 1";
 
-/// A bad line with what was expected in its place, as `line 3: Number: ring=31 is not from 32 to 4096`.
+/// A bad line with what was expected in its place, as `line 3: Number: ring=31 is not from 32 to
+/// 4096`.
 #[derive(Clone, Copy)]
 pub struct Explanation<'a> {
     bad: BadScript,
@@ -53,8 +54,8 @@ fn word(line: &[u8], i: usize) -> &[u8] {
 }
 
 impl<'a> Explanation<'a> {
-    /// Looks up the bad line in its script. Where the script doesn't have that line, the text goes by the
-    /// reason alone.
+    /// Looks up the bad line in its script. Where the script doesn't have that line, the text goes
+    /// by the reason alone.
     pub fn of(script: &'a [u8], bad: BadScript) -> Explanation<'a> {
         Explanation {
             bad,
@@ -180,7 +181,8 @@ impl<'a> fmt::Display for Explanation<'a> {
             BadWhy::Number => self.fmt_number(f),
             BadWhy::Hex => write!(
                 f,
-                "{} is not -, an even count of lower-case hexadecimal digits, or *N with N from 0 to {MOST_ASK_BYTES}",
+                "{} is not -, an even count of lower-case hexadecimal digits, or *N with N from 0 \
+                 to {MOST_ASK_BYTES}",
                 Shown(word(self.text(), 4))
             ),
             BadWhy::Nodes => self.fmt_nodes(f),

@@ -4,8 +4,8 @@ use std::fmt;
 /// No more bytes of a word are shown.
 const MOST_SHOWN: usize = 40;
 
-/// A word, cut where it is long. A byte that is no visible ASCII character is shown as a question mark, so
-/// that no script can steer a terminal; which byte that is comes after the word.
+/// A word, cut where it is long. A byte that is no visible ASCII character is shown as a question
+/// mark, so that no script can steer a terminal; which byte that is comes after the word.
 #[derive(Clone, Copy)]
 pub struct Shown<'a>(pub &'a [u8]);
 

@@ -72,15 +72,19 @@ fn each_bad_command_is_explained(rt: HostRuntime) -> Result<(), Fail> {
     let cases = [
         (
             "nod ring=32",
-            "line 4: Word: nod is not a command; these are: node pair connect disconnect rate call poll arrive lose repeat tick work settle",
+            "line 4: Word: nod is not a command; these are: node pair connect disconnect rate call \
+             poll arrive lose repeat tick work settle",
         ),
         (
             "p\tll 0",
-            "line 4: Word: p?ll (? stands for byte 9) is not a command; these are: node pair connect disconnect rate call poll arrive lose repeat tick work settle",
+            "line 4: Word: p?ll (? stands for byte 9) is not a command; these are: node pair \
+             connect disconnect rate call poll arrive lose repeat tick work settle",
         ),
         (
             "p\tl\x1b[31m 0",
-            "line 4: Word: p?l?[31m (each ? stands for a byte that is not visible) is not a command; these are: node pair connect disconnect rate call poll arrive lose repeat tick work settle",
+            "line 4: Word: p?l?[31m (each ? stands for a byte that is not visible) is not a \
+             command; these are: node pair connect disconnect rate call poll arrive lose repeat \
+             tick work settle",
         ),
         (" poll 0", "line 4: Word: the line begins with a blank"),
         (
@@ -102,7 +106,8 @@ fn each_bad_command_is_explained(rt: HostRuntime) -> Result<(), Fail> {
         ("poll x", "line 4: Number: x is not the number of a node"),
         (
             "call 0 0 1 abc room=0",
-            "line 4: Hex: abc is not -, an even count of lower-case hexadecimal digits, or *N with N from 0 to 2097152",
+            "line 4: Hex: abc is not -, an even count of lower-case hexadecimal digits, or *N with \
+             N from 0 to 2097152",
         ),
         (
             "poll 2",
