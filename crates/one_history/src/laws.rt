@@ -17,8 +17,8 @@ pub fn scripts_have_one_history()
     ensures stage { (script : List Line) → LeavesOneStage script }
 {}
 
-/// No fact of a history that follows a script has other bytes than those that its line of the report
-/// shows.
+/// No fact of a history that follows a script has other bytes than those that its line of the
+/// report shows.
 pub fn facts_tell_their_bytes()
     ensures { (script : List Line) (h : List Fact) → Follows script h → AllTold h }
 {}

@@ -1,5 +1,5 @@
-//! Laws of one history: two histories that follow one script are the same, and so are two that follow
-//! scripts and have the same report. The program calls none of them.
+//! Laws of one history: two histories that follow one script are the same, and so are two that
+//! follow scripts and have the same report. The program calls none of them.
 #![tactic(auto)]
 
 mod laws;
