@@ -43,4 +43,6 @@ count_in word =
 -- `-`, `*` with a count, or digits
 unfoldable pub ask_in : List ℕ → Result AskBytes BadWhy
 ask_in word =
-    if is_word word (codes "-") then Ok (Given []) else (if starts_with nat_eq word (codes "*") then count_in (drop 1 word) else given_in word)
+    if is_word word (codes "-") then Ok (Given [])
+    else (if starts_with nat_eq word (codes "*") then count_in (drop 1 word)
+    else given_in word)

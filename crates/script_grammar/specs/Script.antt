@@ -52,7 +52,8 @@ lines_in number before (line ∷ lines) =
 unfoldable pub text_in : List (List ℕ) → Result (List Line) BadScript
 text_in [] = bad_at 1 First
 text_in (head ∷ lines) =
-    if is_word head (codes "erpc-sim 1") then lines_in 2 (record { nodes = 0; begun = false }) lines else bad_at 1 First
+    if is_word head (codes "erpc-sim 1") then lines_in 2 (record { nodes = 0; begun = false }) lines
+    else bad_at 1 First
 
 -- what the grammar says of a text: its commands, or its first bad line
 unfoldable pub script_of : List ℕ → Result (List Line) BadScript

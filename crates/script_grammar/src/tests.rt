@@ -159,7 +159,8 @@ fn nodes_come_first_and_are_at_most_eight(rt: HostRuntime) -> Result<(), Fail> {
 
 /// Row *one echo*: ten lines, of which nine are commands.
 const ECHO: &[u8] =
-    b"erpc-sim 1\nnode ring=32\nnode ring=32\npair 0 1 credits=1\ncall 0 0 1 68656c6c6f room=64\npoll 0\narrive 0\npoll 1\narrive 0\npoll 0\n";
+    b"erpc-sim 1\nnode ring=32\nnode ring=32\npair 0 1 credits=1\n\
+      call 0 0 1 68656c6c6f room=64\npoll 0\narrive 0\npoll 1\narrive 0\npoll 0\n";
 
 #[test]
 fn one_echo_is_read_whole(rt: HostRuntime) -> Result<(), Fail> {
@@ -225,15 +226,18 @@ fn each_command_is_read(rt: HostRuntime) -> Result<(), Fail> {
         ),
         (
             b"call 0 1 255 *2097152 room=1048576",
-            "Call { node: NodeId(0), session: SessionNo(1), req_type: 255, ask: Count(2097152), room: 1048576 }",
+            "Call { node: NodeId(0), session: SessionNo(1), req_type: 255, ask: Count(2097152), \
+             room: 1048576 }",
         ),
         (
             b"call 0 0 0 - room=0",
-            "Call { node: NodeId(0), session: SessionNo(0), req_type: 0, ask: Given(Octets { items: [] }), room: 0 }",
+            "Call { node: NodeId(0), session: SessionNo(0), req_type: 0, ask: Given(Octets { \
+             items: [] }), room: 0 }",
         ),
         (
             b"call 0 0 0 09af room=0",
-            "Call { node: NodeId(0), session: SessionNo(0), req_type: 0, ask: Given(Octets { items: [9, 175] }), room: 0 }",
+            "Call { node: NodeId(0), session: SessionNo(0), req_type: 0, ask: Given(Octets { \
+             items: [9, 175] }), room: 0 }",
         ),
         (b"poll 1", "Poll { node: NodeId(1) }"),
         (b"arrive 4294967295", "Arrive { copy: 4294967295 }"),
