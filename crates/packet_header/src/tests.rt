@@ -1,5 +1,5 @@
-//! The tables of the header, at the edges of each of their cells. A head is written as one number, in
-//! the order of its bytes: magic byte, kind, and then the fields.
+//! The tables of the header, at the edges of each of their cells. A head is written as one number,
+//! in the order of its bytes: magic byte, kind, and then the fields.
 use crate::packet::{BadPacket, ControlHeader, ControlKind, Kind, MessageHeader, Packet};
 use crate::{count, decode, encode, part_len};
 use rpc_base::{RequestNo, SessionNo};
@@ -209,7 +209,8 @@ fn a_request_and_its_refusals(rt: HostRuntime) {
     }
 }
 
-/// A datagram that begins with this head and goes on with `hello`, `len` bytes in all; none is longer.
+/// A datagram that begins with this head and goes on with `hello`, `len` bytes in all; none is
+/// longer.
 fn outcome(head: u128, len: usize) -> Result<Packet, BadPacket> {
     let mut datagram = [0; 21];
     datagram[..16].copy_from_slice(&head.to_be_bytes());
