@@ -1,4 +1,5 @@
-//! Faults of the outside: the source's second read, the sink's second write, and words that are no tool.
+//! Faults of the outside: the source's second read, the sink's second write, and words that are no
+//! tool.
 use crate::status::Status;
 use crate::tools::run;
 use rpc_outside::{FirmSink, FirmSource, MemSink, MemSource};
@@ -7,7 +8,8 @@ use std::alloc::{AllocError, Global};
 use std::test::Fail;
 
 const SCRIPT: &str =
-    "erpc-sim 1\nnode ring=32\nnode ring=32\npair 0 1 credits=1\ncall 0 0 1 68656c6c6f room=64\npoll 0\narrive 0\npoll 1\narrive 0\npoll 0\n";
+    "erpc-sim 1\nnode ring=32\nnode ring=32\npair 0 1 credits=1\ncall 0 0 1 68656c6c6f room=64\n\
+     poll 0\narrive 0\npoll 1\narrive 0\npoll 0\n";
 
 /// The first line of the report of the script above.
 const FIRST_LINE: &str = "erpc-report 1\n";

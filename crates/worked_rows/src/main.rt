@@ -1,6 +1,6 @@
-//! The worked rows: each script of the folder is run in memory, and its report compared with what stands
-//! beside it, a whole report, lines that come in this order, each as often as it stands there, or counts of
-//! lines.
+//! The worked rows: each script of the folder is run in memory, and its report compared with what
+//! stands beside it, a whole report, lines that come in this order, each as often as it stands
+//! there, or counts of lines.
 #![tactic(auto)]
 
 use rpc_outside::{MemSink, MemSource};
