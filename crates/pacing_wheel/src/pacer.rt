@@ -1,0 +1,207 @@
+//! The pacer.
+ghost use Rattle.std.specs.Prelude.{◌≡◌, ◌<◌, ◌≤◌, ◌↔◌, ◌+◌, [], false, length, option_map, slice_get};
+ghost use Rattle.std.specs.Prelude.{IfOk, IfSome, IsNone, IsTrue};
+ghost use Rattle.std.specs.List.{find, list_any, position};
+ghost use Rattle.std.specs.VecDeque.{deque_capacity};
+ghost use Rattle.rpc_base.specs.Tables.{without_first};
+ghost use Rattle.rpc_base.specs.Least.{least, least_number, smaller, without_least};
+ghost use Rattle.packet_rings.specs.Entries.{option_is};
+ghost use Rattle.pacing_wheel.specs.Wheel.{added, due_of, entry_of, is_due, is_entry_of, is_of};
+ghost use Rattle.pacing_wheel.specs.Wheel.{number_of, wheel};
+
+use packet_rings::Entry;
+use rpc_base::{NoMemory, Owner};
+use std::alloc::Global;
+use std::collections::VecDeque;
+use std::marker::Model;
+
+/// An entry that waits, and the time in microseconds from which on it may be sent.
+#[derive(Clone, Copy, Debug)]
+pub struct Paced {
+    pub due: u64,
+    pub entry: Entry,
+}
+
+/// The packets that were posted and aren't due yet, in a list of fixed size: by the times when they
+/// are due, and among equals by their adding.
+#[derive(Drop)]
+pub struct Pacer {
+    waiting: VecDeque<Paced>,
+    size: u32,
+}
+
+impl Model for Pacer {
+    ghost use Rattle.std.specs.Prelude.{◌≤◌, ◌<◌, ◌^◌, length};
+    ghost use Rattle.std.specs.VecDeque.{deque_capacity};
+    ghost use Rattle.std.specs.List.Sorted.{IsNonDecreasingBy};
+    ghost use Rattle.pacing_wheel.specs.Wheel.{Wheel, due_of, wheel};
+
+    ghost Value = { Wheel };
+
+    ghost view = { λ p. wheel p.waiting.items p.size };
+
+    ghost invariant = { λ p. (length p.waiting.items ≤ p.size)
+        × (p.size ≤ deque_capacity p.waiting) × (p.size < 2 ^ 32)
+        × IsNonDecreasingBy due_of p.waiting.items };
+}
+
+impl Pacer {
+    /// A pacer of `size` entries, whose memory is taken here. `NoMemory` comes only where there is
+    /// no memory for it.
+    pub fn new(alloc: Global, size: u32) -> Result<Pacer, NoMemory>
+        ensures { IfOk result (λ p. p ≡ wheel [] size) }
+    {
+        let waiting = VecDeque::with_capacity(alloc, size as usize)?;
+        Ok(Pacer { waiting, size })
+    }
+
+    /// How many entries wait.
+    pub fn len(&self) -> u32
+        ensures len { result ≡ length self.now.items }
+        ensures within { result ≤ self.now.size }
+    {
+        self.waiting.len() as u32
+    }
+
+    /// How many entries may wait.
+    pub fn size(&self) -> u32
+        ensures size { result ≡ self.now.size }
+        ensures within { length self.now.items ≤ self.now.size }
+    {
+        self.size
+    }
+
+    /// Tells whether no entry waits.
+    pub fn is_empty(&self) -> bool
+        ensures { IsTrue result ↔ (self.now.items ≡ []) }
+    {
+        self.waiting.is_empty()
+    }
+
+    /// Puts an entry behind those that are due no later, in a pacer that isn't full. `due` is in
+    /// microseconds.
+    pub fn add(&mut self, due: u64, entry: Entry)
+        requires room { length self.old.items < self.old.size }
+        ensures { self.new ≡ wheel (added due entry self.old.items) self.old.size }
+    {
+        let place = self.waiting.partition_point(|paced| paced.due <= due);
+        let Ok(()) = self.waiting.insert(place, Paced { due, entry }) else {
+            unreachable!()
+        };
+    }
+
+    /// Takes out the entry that is due first, among equals the one added first, where it is due at
+    /// `now`, in microseconds. None comes exactly where no entry is.
+    pub fn release(&mut self, now: u64) -> Option<Entry>
+        ensures released { result
+            ≡ option_map entry_of (least (is_due now) due_of self.old.items) }
+        ensures left { self.new
+            ≡ wheel (without_least (is_due now) due_of self.old.items) self.old.size }
+        ensures none { IsNone result ↔ (list_any (is_due now) self.old.items ≡ false) }
+    {
+        if !is_front_due(&self.waiting, now) {
+            return None;
+        }
+        let Some(paced) = self.waiting.pop_front() else {
+            unreachable!()
+        };
+        Some(entry_in(&paced))
+    }
+
+    /// The least number among that owner's entries. None comes exactly where it has no entry.
+    pub fn least(&self, owner: Owner) -> Option<u16>
+        ensures least { result ≡ least_number (is_of owner) number_of self.now.items }
+        ensures none { IsNone result ↔ (list_any (is_of owner) self.now.items ≡ false) }
+    {
+        least_of(&self.waiting, &owner)
+    }
+
+    /// Tells whether that owner's packet of this number waits.
+    pub fn holds(&self, owner: Owner, number: u16) -> bool
+        ensures { result ≡ list_any (is_entry_of owner number) self.now.items }
+    {
+        self.waiting.iter().any(|paced| paced.entry.owner.is_same(owner)
+            && paced.entry.number == number)
+    }
+
+    /// Takes out that owner's entry of least number, among equals the one that is due first. The
+    /// others keep their order. None comes exactly where the owner has no entry.
+    pub fn flush(&mut self, owner: Owner) -> Option<Entry>
+        ensures taken { result
+            ≡ option_map entry_of (least (is_of owner) number_of self.old.items) }
+        ensures left { self.new
+            ≡ wheel (without_least (is_of owner) number_of self.old.items) self.old.size }
+        ensures none { IsNone result ↔ (list_any (is_of owner) self.old.items ≡ false) }
+    {
+        let Some(number) = least_of(&self.waiting, &owner) else {
+            return None;
+        };
+        let Some(paced) = take_out(&mut self.waiting, &owner, number) else {
+            unreachable!()
+        };
+        Some(entry_in(&paced))
+    }
+}
+
+fn entry_in(paced: &Paced) -> Entry
+    ensures { result ≡ paced.now.entry }
+{
+    paced.entry
+}
+
+// The smaller of a number and another that may be there.
+fn smaller_of(number: u16, other: Option<u16>) -> u16
+    ensures { result ≡ smaller number other }
+{
+    match other {
+        Some(other) => number.min(other),
+        None => number,
+    }
+}
+
+// The least number among that owner's entries, if it has one.
+fn least_of(waiting: &VecDeque<Paced>, owner: &Owner) -> Option<u16>
+    ensures { result ≡ least_number (is_of owner.now) number_of waiting.now.items }
+{
+    let mut least = None;
+    for paced in waiting {
+        if paced.entry.owner.is_same(*owner) {
+            least = Some(smaller_of(paced.entry.number, least));
+        }
+    }
+    least
+}
+
+// Whether there is a front entry and it is due.
+fn is_front_due(waiting: &VecDeque<Paced>, now: u64) -> bool
+    ensures { result ≡ option_is (is_due now) (slice_get waiting.now.items 0) }
+{
+    match waiting.front() {
+        Some(paced) => paced.due <= now,
+        None => false,
+    }
+}
+
+// Where that owner's first packet of this number waits, if it does.
+fn place_of(waiting: &VecDeque<Paced>, owner: &Owner, number: u16) -> Option<usize>
+    ensures { result ≡ position (is_entry_of owner.now number) waiting.now.items }
+{
+    waiting.iter().position(|paced| paced.entry.owner.is_same(*owner)
+        && paced.entry.number == number)
+}
+
+// Takes it out.
+fn take_out(waiting: &mut VecDeque<Paced>, owner: &Owner, number: u16) -> Option<Paced>
+    ensures taken { result ≡ find (is_entry_of owner.now number) waiting.old.items }
+    ensures left { waiting.new.items
+        ≡ without_first (is_entry_of owner.now number) waiting.old.items }
+    ensures capacity { deque_capacity waiting.new ≡ deque_capacity waiting.old }
+{
+    let Some(place) = place_of(waiting, owner, number) else {
+        return None;
+    };
+    let Some(paced) = waiting.remove(place) else {
+        unreachable!()
+    };
+    Some(paced)
+}
