@@ -1,6 +1,6 @@
 //! The pacer.
 ghost use Rattle.std.specs.Prelude.{◌≡◌, ◌<◌, ◌≤◌, ◌↔◌, ◌+◌, [], false, length, option_map, slice_get};
-ghost use Rattle.std.specs.Prelude.{IfOk, IfSome, IsNone, IsTrue};
+ghost use Rattle.std.specs.Prelude.{IfOk, IsNone, IsOk, IsTrue};
 ghost use Rattle.std.specs.List.{find, list_any, position};
 ghost use Rattle.std.specs.VecDeque.{deque_capacity};
 ghost use Rattle.rpc_base.specs.Tables.{without_first};
@@ -47,9 +47,10 @@ impl Model for Pacer {
 
 impl Pacer {
     /// A pacer of `size` entries, whose memory is taken here. `NoMemory` comes only where there is
-    /// no memory for it.
+    /// no memory for it; one of size 0 takes none.
     pub fn new(alloc: Global, size: u32) -> Result<Pacer, NoMemory>
-        ensures { IfOk result (λ p. p ≡ wheel [] size) }
+        ensures made { IfOk result (λ p. p ≡ wheel [] size) }
+        ensures succeeds { size ≡ 0 → IsOk result }
     {
         let waiting = VecDeque::with_capacity(alloc, size as usize)?;
         Ok(Pacer { waiting, size })
