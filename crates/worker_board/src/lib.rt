@@ -2,8 +2,18 @@
 //! asks.
 #![tactic(auto)]
 
+mod board;
+mod moves;
+mod rule;
+mod ticket;
+mod view;
+mod word;
+
+pub use board::{Board, DispatchSeat, HandSeat};
 use message_buffer::MsgBuf;
 use rpc_base::{RequestNo, SessionNo};
+pub use ticket::Ticket;
+pub use word::{MOST_OFFERS, MOST_PLACES};
 
 /// A request that a worker answers, with both its buffers. It is moved whole.
 #[derive(Debug, Drop)]

@@ -1,0 +1,7 @@
+pub mod CountsLemmas
+pub mod WordLemmas
+pub mod FrameLemmas
+pub mod DispatcherLemmas
+pub mod HandLemmas
+pub mod SeatsLemmas
+pub mod StartLemmas

@@ -1,0 +1,20 @@
+use Rattle.std.proofs.Common.{rules, ap, ◌∙◌, Some}
+use Rattle.worker_board.proofs.HandLemmas.{tries, gives_back, hand_is, holds_now}
+use Rattle.worker_board.proofs.board.Board.claim.Goals as goal
+use Rattle.worker_board.proofs.WordLemmas.{taken_first}
+
+pub compare_exchange-found-requires : goal.compare_exchange-found-requires
+compare_exchange-found-requires g c =
+    (search rules, search rules, tries g.D.Duty.answer _ _ _ _ c.generation-first.result _ _ (search rules) (hand_is _ _ c.args.seat.now.works) c.args.seat.now.idle (search rules) (search rules))
+
+pub exchange-parcel-requires : goal.exchange-parcel-requires
+exchange-parcel-requires g c = let t = c.compare_exchange-found.ensures.2.0 c.if-found-ready.false in (search rules, (Some t.0, taken_first _ _ _ _ (ap (λ m. m.1) t.2)))
+
+pub load-requires : goal.load-requires
+load-requires g c = let t = c.compare_exchange-found.ensures.2.0 c.if-found-ready.false in let now = c.exchange-parcel.ensures.3 in let p = c.place-index.result in
+    let same = ap (λ m. m.0) now ∙ ap (λ m. m.0) t.2 in (
+      search rules,
+      search rules,
+      gives_back g.D.Duty.answer _ _ _ _ _ (ap (λ m. m.1) now) (search rules) (hand_is _ _ (ap (λ v. v.role) same ∙ c.args.seat.now.works)) (ap (λ v. v.turn) same)
+          (holds_now c.exchange-parcel.new.seat.me.0 c.args.seat.now.seat.me.0.held c.place-index.result _ _ (ap (λ v. v.held) same)),
+    )

@@ -1,0 +1,16 @@
+use Rattle.std.proofs.Common.{rules, ap, ◌∙◌}
+use Rattle.worker_board.specs.Counts.{times}
+use Rattle.worker_board.proofs.DispatcherLemmas.{names}
+use Rattle.worker_board.proofs.SeatsLemmas.{sends_out}
+use Rattle.worker_board.proofs.board.Board.hand.Goals as goal
+
+pub compare_exchange-requires : goal.compare_exchange-requires
+compare_exchange-requires g c = (search rules, search rules, names g.D.Duty.answer _ _ _ c.args.number (search rules) c.args.seat.now.dispatches c.args.seat.now.idle)
+
+pub split_seat-seat-requires : goal.split_seat-seat-requires
+split_seat-seat-requires g c = let same = c.compare_exchange.ensures.2 in (
+  search rules,
+  search rules,
+  sends_out g.D.Duty.answer _ _ (ap (λ m. m.0.role) same ∙ c.args.seat.now.dispatches) (ap (λ m. m.0.turn) same ∙ c.args.seat.now.idle)
+      (ap (λ m. times m.0.next m.0.used) same ∙ c.requires.unused),
+)

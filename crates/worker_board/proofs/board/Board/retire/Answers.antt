@@ -1,0 +1,11 @@
+use Rattle.std.proofs.Common.{rules, ap, ◌∙◌}
+use Rattle.worker_board.proofs.DispatcherLemmas.{sums}
+use Rattle.worker_board.proofs.SeatsLemmas.{takes_in}
+use Rattle.worker_board.proofs.board.Board.retire.Goals as goal
+
+pub join_seat-requires : goal.join_seat-requires
+join_seat-requires g c = (search rules, search rules, c.args.hand.empty, search rules, takes_in g.D.Duty.answer _ _ _ _ _ c.args.seat.now.dispatches c.args.seat.now.idle c.args.hand.works c.args.hand.idle c.requires.free)
+
+pub load-requires : goal.load-requires
+load-requires g c = let same = c.join_seat.ensures.2 in
+    (search rules, search rules, sums g.D.Duty.answer _ _ _ (search rules) (ap (λ m. m.0.role) same ∙ c.args.seat.now.dispatches) (ap (λ m. m.0.turn) same ∙ c.args.seat.now.idle))

@@ -1,0 +1,24 @@
+use Rattle.std.proofs.Common.{rules, arith, ap, sym, subst, ◌∙◌, Some}
+use Rattle.worker_board.specs.Word.{IsOpen, offers_at}
+use Rattle.worker_board.specs.Word.{newest}
+use Rattle.worker_board.proofs.DispatcherLemmas.{numbers, takes_back, releases}
+use Rattle.worker_board.proofs.board.Board.take_back.Goals as goal
+use Rattle.worker_board.proofs.WordLemmas.{taken_first}
+
+pub load-requires : goal.load-requires
+load-requires g c = (search rules, search rules, numbers g.D.Duty.answer _ _ _ _ (search rules) c.args.seat.now.dispatches c.args.seat.now.idle c.requires.offered)
+
+pub compare_exchange-found-requires : goal.compare_exchange-found-requires
+compare_exchange-found-requires g c = let same = c.load.ensures.2.0 in (
+  search rules,
+  search rules,
+  takes_back g.D.Duty.answer _ _ _ _ _ _ (search rules) (ap (λ m. m.0.role) same ∙ c.args.seat.now.dispatches) (ap (λ m. m.0.turn) same ∙ c.args.seat.now.idle)
+      (subst (λ m. IsOpen (offers_at m.0.ledger c.args.place)) (sym same) c.requires.offered) (omega (arith, c.load.ensures.2.1, ap (λ m. newest (offers_at m.0.ledger c.args.place)) same)) (omega arith),
+)
+
+pub exchange-parcel-requires : goal.exchange-parcel-requires
+exchange-parcel-requires g c = let t = c.compare_exchange-found.ensures.2.0 c.if-found-ready.false in (search rules, (Some t.0, taken_first _ _ _ _ (ap (λ m. m.1) t.2)))
+
+pub load-requires-2 : goal.load-requires-2
+load-requires-2 g c = let t = c.compare_exchange-found.ensures.2.0 c.if-found-ready.false in let now = c.exchange-parcel.ensures.3 in let same = c.load.ensures.2.0 in
+    (search rules, search rules, releases g.D.Duty.answer _ _ _ _ _ (ap (λ m. m.1) now) (search rules) (ap (λ m. m.0.role) now ∙ ap (λ m. m.0.role) t.2 ∙ ap (λ m. m.0.role) same ∙ c.args.seat.now.dispatches) (ap (λ m. m.0.turn) now ∙ ap (λ m. m.0.turn) t.2))

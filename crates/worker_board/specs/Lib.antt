@@ -1,0 +1,6 @@
+pub mod Tickets
+pub mod Counts
+pub mod Word
+pub mod Rule
+pub mod Moves
+pub mod Seats

@@ -1,0 +1,71 @@
+//! Boards and seats are made, and hands come back.
+ghost use Rattle.std.specs.Prelude.{◌≡◌, ◌<◌, ◌≤◌, IfOk};
+ghost use Rattle.worker_board.specs.declared.view.Role.TheVariants.{Hand};
+ghost use Rattle.worker_board.specs.Rule.{first_view, fresh};
+ghost use Rattle.worker_board.specs.Moves.{taken_in, RanOnce};
+ghost use Rattle.worker_board.specs.Seats.{IsSeatOf, IsHandOf, places_of, view_of, hand_view, number_at, IsUnused, HoldsNone, with_hand};
+
+use super::{Board, DispatchSeat, HandSeat};
+use crate::moves::{Names, SendsOut, Sums, TakesIn};
+use crate::word::MOST_PLACES;
+use atomic_table::Table;
+use rpc_base::NoMemory;
+use rpc_outside::Duty;
+use std::alloc::Global;
+
+impl<D: Duty> Board<D> {
+    /// A board with `places` places, none of which was ever offered, and the seat of its
+    /// dispatcher. `NoMemory` comes only where there is no memory for the places.
+    pub fn new(alloc: Global, places: u32) -> Result<(Board<D>, DispatchSeat), NoMemory>
+        requires places { (0 < places) × (places ≤ MOST_PLACES) }
+        ensures places { IfOk result (λ made. places_of made.0 ≡ places) }
+        ensures board { IfOk result (λ made. IsSeatOf made.0 made.1) }
+        ensures view { IfOk result (λ made. view_of made.1 ≡ first_view places) }
+    {
+        let count = places as usize;
+        let words = Vec::from_elem(alloc, 0u64, count)?;
+        let (table, seat) = Table::vacant(alloc, words.as_slice(), count, &count)?;
+        Ok((Board { table, places }, DispatchSeat { seat }))
+    }
+
+    /// How many places the board has.
+    pub fn places(&self) -> u32
+        ensures { result ≡ places_of self.now }
+    {
+        self.places
+    }
+
+    /// Sends out a hand with a number that no hand had before.
+    pub fn hand(&self, seat: &mut DispatchSeat, number: u8) -> HandSeat
+        requires board { IsSeatOf self.now seat.old }
+        requires unused { IsUnused number (view_of seat.old) }
+        ensures board { IsSeatOf self.now seat.new × IsHandOf self.now result }
+        ensures view { view_of seat.new ≡ with_hand number (view_of seat.old) }
+        ensures hand { hand_view result ≡ fresh (Hand number) }
+        ensures number { number_at result ≡ number }
+    {
+        let shared = &self.table.shared;
+        let same = number as u64;
+        shared.compare_exchange::<Names>(&mut seat.seat, 0, same, same);
+        let seat = shared.split_seat::<SendsOut>(&mut seat.seat);
+        HandSeat { seat, number }
+    }
+
+    /// Takes in a hand that holds no claim, with the lists of what it ran and lost. No ticket
+    /// stands twice in what the dispatcher's seat knows to be run.
+    pub fn retire(&self, seat: &mut DispatchSeat, hand: HandSeat)
+        requires board { IsSeatOf self.now seat.old × IsHandOf self.now hand }
+        requires free { HoldsNone (hand_view hand) }
+        ensures board { IsSeatOf self.now seat.new }
+        ensures view { view_of seat.new ≡ taken_in (view_of seat.old) (hand_view hand) }
+        ensures once { RanOnce (places_of self.now) (view_of seat.new) }
+    {
+        let HandSeat {
+            seat: other,
+            number: _,
+        } = hand;
+        let shared = &self.table.shared;
+        shared.join_seat::<TakesIn>(&mut seat.seat, other);
+        shared.load::<Sums>(&mut seat.seat, 0);
+    }
+}
