@@ -1,5 +1,5 @@
 -- The dispatcher's steps keep the rule.
-use Rattle.std.proofs.Common.{◌≡◌, ℕ, zero, suc, ◌+◌, ◌*◌, ◌/◌, ◌%◌, ◌<◌, ◌≤◌, ◌≢◌, List, [], ◌∷◌, length, get_or, set, sym, refl, ap, ◌∙◌, subst, inl, ⊎_elim, arith, cond, eqb, eqb-true, true, false, length-set, get_or-set_other, get_or-set_same, suc-ne-zero, le_refl}
+use Rattle.std.proofs.Common.{◌≡◌, ℕ, zero, suc, ◌+◌, ◌*◌, ◌/◌, ◌%◌, ◌<◌, ◌≤◌, ◌≢◌, List, [], ◌∷◌, length, get_or, set, sym, refl, ap, ◌∙◌, subst, inl, inr, ⊎_elim, arith, cond, eqb, eqb-true, true, false, length-set, get_or-set_other, get_or-set_same, suc-ne-zero, le_refl}
 use mathlib.Core.Logic.{dite}
 use mathlib.Core.Option.{none, some, some-injective, some-ne-none}
 use mathlib.Core.Option as maybe
@@ -20,7 +20,7 @@ use Rattle.worker_board.specs.declared.view.Role.TheVariants.{Dispatcher, Hand, 
 use Rattle.worker_board.specs.declared.view.End.{End}
 use Rattle.worker_board.specs.declared.view.End.TheVariants.{Open, Collected, TakenBack}
 use Rattle.worker_board.specs.Counts.{total, only, both_of, has_turn, holds, ran, times, is_hand, hand_of}
-use Rattle.worker_board.specs.Word.{Phase, closed, ready, claimed, done, digit, word_at, IsOpen, IsClosed, IsCurrent, offer_of, ended, newest, run_of, runs_of, OlderEnded, offers_at}
+use Rattle.worker_board.specs.Word.{IsUnfinished, Phase, closed, ready, claimed, done, digit, word_at, IsOpen, IsClosed, IsCurrent, offer_of, ended, newest, run_of, runs_of, OlderEnded, offers_at}
 use Rattle.worker_board.specs.Rule.{Slot, Answer, Home, IsHand, IsPastReady, HasRoom, InPhase, held_of, PlaceOk, Ruled}
 use Rattle.worker_board.specs.Moves.{Seated, note, noting, turned_to, offered, ended_as, missed, lost_at, opened, released, numbered, named, readied, LostBefore, summed, looked, took}
 use Rattle.worker_board.proofs.CountsLemmas.{total-set, term_le, only-same, only-other, only-is}
@@ -247,20 +247,20 @@ module _ (answer : Answer) where
       v : View
       v = m.0
 
-      unready : (near : p < length s.homes) → get_or s.words p 0 % PHASES ≢ OVER → (LostBefore m.0 p → m.0.out ≡ [] → ⊥) → Goes s p id m (looked answer (step n p 0 0 none) m) (get_or s.words p 0)
-      unready near not sure = (noting p (get_or s.words p 0) (missed m.0 p), keeps, tt, dispatcher_notes s r id p m.0 (offer_no p (newest (offers_at m.0.ledger p)) ∷ m.0.misses) m.0.lost m.0.next me role near idle (lost_now s r id p (get_or s.words p 0) m.0 me role near (le_refl _)), ((λ e. absurd (not e)), (λ _. refl), λ had none-out. absurd (sure had none-out)))
+      unready : (near : p < length s.homes) → get_or s.words p 0 % PHASES ≢ OVER → (LostBefore m.0 p → m.0.out ≡ [] → ⊥) → IsUnfinished (newest (offers_at m.0.ledger p)) (get_or s.words p 0) → Goes s p id m (looked answer (step n p 0 0 none) m) (get_or s.words p 0)
+      unready near not sure found = (noting p (get_or s.words p 0) (missed m.0 p), keeps, tt, dispatcher_notes s r id p m.0 (offer_no p (newest (offers_at m.0.ledger p)) ∷ m.0.misses) m.0.lost m.0.next me role near idle (lost_now s r id p (get_or s.words p 0) m.0 me role near (le_refl _)), ((λ e. absurd (not e)), (λ _. refl), (λ had none-out. absurd (sure had none-out)), (λ e. absurd (not e)), λ _. found))
 
       go : (near : p < length s.homes) (ph : Phase) → (mine s r id p m.0 me role near).phase ≡ ph → InPhase answer (offers_at m.0.ledger p) (get_elem? s.homes p) (total (has_turn p) s.views) ph
           → get_or s.words p 0 ≡ PHASES * newest (offers_at m.0.ledger p) + digit ph → Goes s p id m (looked answer (step n p 0 0 none) m) (get_or s.words p 0)
       go near closed is k word = absurd (not_both (offers_at m.0.ledger p) live k.0)
-      go near ready is k word = unready near (λ e. absurd (omega arith)) (λ had _. let past = subst (λ (x : View). (k : ℕ) (t : OfferNo) → get_elem? x.lost k ≡ some t → IsPastReady t s.words) (is_dispatcher s r id m.0 me role).1 r.lost had.0 _ had.1 in absurd (omega arith))
-      go near claimed is k word = unready near (λ e. absurd (omega arith)) (λ had none-out. someone s r p near ((mine s r id p m.0 me role near).held ∙ ap (held_of answer) is) (ap (λ (x : View). x.out) (is_dispatcher s r id m.0 me role).1 ∙ none-out))
+      go near ready is k word = unready near (λ e. absurd (omega arith)) (λ had _. let past = subst (λ (x : View). (k : ℕ) (t : OfferNo) → get_elem? x.lost k ≡ some t → IsPastReady t s.words) (is_dispatcher s r id m.0 me role).1 r.lost had.0 _ had.1 in absurd (omega arith)) (inl word)
+      go near claimed is k word = unready near (λ e. absurd (omega arith)) (λ had none-out. someone s r p near ((mine s r id p m.0 me role near).held ∙ ap (held_of answer) is) (ap (λ (x : View). x.out) (is_dispatcher s r id m.0 me role).1 ∙ none-out)) (inr word)
       go near done is k word = let x = k.2.0 in (
         noting p (get_or s.words p 0) (turned_to (ended_as Collected m.0 p) (suc p)),
         takes p (Some x),
         k.2.1,
         dispatcher_ends s r id p (get_or s.words p 0) m.0 Collected done x me role near idle (λ e. cc) live is k.1 refl refl word (le_refl _),
-        ((λ _. (x, (k.2.2, k.2.3), refl)), (λ not. absurd (not (omega arith))), λ _ _. omega arith),
+        ((λ _. (x, (k.2.2, k.2.3), refl)), (λ not. absurd (not (omega arith))), (λ _ _. omega arith), (λ _. word), λ not. absurd (not (omega arith))),
       )
 
   pub takes_back : (n id : ℕ) (m : Seated) (p old new : ℕ) → p < n → m.0.role ≡ Dispatcher → m.0.turn ≡ 0 → IsOpen (offers_at m.0.ledger p) → old ≡ PHASES * newest (offers_at m.0.ledger p) + READY → new ≡ old + 2

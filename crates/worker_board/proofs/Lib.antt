@@ -5,3 +5,4 @@ pub mod DispatcherLemmas
 pub mod HandLemmas
 pub mod SeatsLemmas
 pub mod StartLemmas
+pub mod NotesLemmas

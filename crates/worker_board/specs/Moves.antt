@@ -17,7 +17,7 @@ use Rattle.worker_board.specs.declared.view.End.TheVariants.{Open, Collected, Ta
 use Rattle.worker_board.specs.declared.view.Role.{Role}
 use Rattle.worker_board.specs.declared.view.Role.TheVariants.{Dispatcher, Hand, Spent}
 use Rattle.worker_board.specs.Counts.{without, removed, ran}
-use Rattle.worker_board.specs.Word.{closed, word_at, job_of, Offers, IsNewest, offer_of, ended, newest, offers_at}
+use Rattle.worker_board.specs.Word.{closed, word_of, IsUnfinished, word_at, job_of, Offers, IsNewest, offer_of, ended, newest, offers_at}
 use Rattle.worker_board.specs.Rule.{Slot, Answer, HasRoom, IsAnswered, fresh}
 
 -- a seat: its view, and the slots that are out with it
@@ -126,6 +126,8 @@ looked answer st m r n =
     × (n ≡ took_slot st.word r (Some x) (ended_as Collected m.0 st.word) m.1))
     × (r % PHASES ≢ OVER → n ≡ kept_slots st.word r (missed m.0 st.word) m.1)
     × (LostBefore m.0 st.word → m.0.out ≡ [] → r % PHASES ≡ OVER)
+    × (r % PHASES ≡ OVER → r ≡ word_of (newest (offers_at m.0.ledger st.word)) OVER)
+    × (r % PHASES ≢ OVER → IsUnfinished (newest (offers_at m.0.ledger st.word)) r)
 
 -- a job was taken back as it was offered, or the exchange found another word
 abbrev pub took : Told

@@ -1,14 +1,16 @@
 -- The words of the clauses: what a seat is known to be, and what its view says of a place.
-use Rattle.std.specs.Prelude.{◌≡◌, ℕ, [], length}
+use Rattle.std.specs.Prelude.{◌≡◌, ◌≢◌, ℕ, List, [], ◌++◌, length}
 use Rattle.worker_board.specs.Tickets.{OfferNo}
+use Rattle.worker_board.specs.declared.word.TheConstants.{READY}
 use Rattle.worker_board.specs.declared.Parcel.{Parcel}
 use Rattle.worker_board.specs.declared.board.Board.{Board}
 use Rattle.worker_board.specs.declared.board.DispatchSeat.{DispatchSeat}
 use Rattle.worker_board.specs.declared.board.HandSeat.{HandSeat}
+use Rattle.worker_board.specs.declared.view.Note.{Note}
 use Rattle.worker_board.specs.declared.view.View.{View}
 use Rattle.worker_board.specs.Counts.{times}
-use Rattle.worker_board.specs.Word.{IsOpen, IsClosed, job_of, IsNewest, newest, offers_at}
-use Rattle.worker_board.specs.Moves.{Has, claim, sent_out}
+use Rattle.worker_board.specs.Word.{word_of, IsUnfinished, IsOpen, IsClosed, job_of, IsNewest, newest, offers_at}
+use Rattle.worker_board.specs.Moves.{Has, claim, note, sent_out}
 
 -- what a view says between two calls
 abbrev pub known : View → View
@@ -38,6 +40,34 @@ module _ {D : Type 0} where
   -- the hand's seat is this board's
   abbrev pub IsHandOf : Board D → HandSeat → Type 0
   IsHandOf b s = s.seat.table_id ≡ b.table.shared.table_id
+
+-- what the steps of the dispatcher left words at, newest first
+abbrev pub notes_of : DispatchSeat → List Note
+notes_of s = s.seat.me.0.notes
+
+-- what the steps of a hand left words at
+abbrev pub hand_notes : HandSeat → List Note
+hand_notes s = s.seat.me.0.notes
+
+-- no note was forgotten
+abbrev pub Grows : List Note → List Note → Type 0
+Grows old new = (more : List Note) × (new ≡ more ++ old)
+
+-- no note was forgotten, and there is one that says so of the place's word
+abbrev pub Saw : ℕ → (ℕ → Type 0) → List Note → List Note → Type 0
+Saw p says old new = (w : ℕ) × says w × Has new (note p w) × Grows old new
+
+-- the place's word was left at this generation and phase
+abbrev pub LeftAt : ℕ → ℕ → ℕ → List Note → List Note → Type 0
+LeftAt p g phase old new = Saw p (λ w. w ≡ word_of g phase) old new
+
+-- the place's word was another than that of this generation being ready
+abbrev pub FoundOther : ℕ → ℕ → List Note → List Note → Type 0
+FoundOther p g old new = Saw p (λ w. w ≢ word_of g READY) old new
+
+-- the place's word was that of this generation being ready or claimed
+abbrev pub FoundUnfinished : ℕ → ℕ → List Note → List Note → Type 0
+FoundUnfinished p g old new = Saw p (IsUnfinished g) old new
 
 -- the place was never offered, or its last offer was collected or taken back
 abbrev pub IsFree : View → ℕ → Type 0

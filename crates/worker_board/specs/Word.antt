@@ -1,5 +1,5 @@
 -- The word of a place, and the dispatcher's list of the place's offers, newest first, that it shows.
-use Rattle.std.specs.Prelude.{◌≡◌, ◌≢◌, ℕ, ◌+◌, ◌*◌, List, [], ◌∷◌, length, ◌==◌, cond, slice_index_or}
+use Rattle.std.specs.Prelude.{◌≡◌, ◌≢◌, ℕ, ◌+◌, ◌*◌, ◌⊎◌, List, [], ◌∷◌, length, ◌==◌, cond, slice_index_or}
 use Rattle.message_buffer.specs.Buffer.{bytes_of}
 use Rattle.worker_board.specs.declared.word.TheConstants.{PHASES, READY, CLAIMED, OVER}
 use Rattle.worker_board.specs.declared.Parcel.{Parcel}
@@ -21,6 +21,14 @@ digit closed = OVER
 digit ready = READY
 digit claimed = CLAIMED
 digit done = OVER
+
+-- the word of a generation in a phase
+abbrev pub word_of : ℕ → ℕ → ℕ
+word_of g phase = PHASES * g + phase
+
+-- the job of the generation is not finished
+abbrev pub IsUnfinished : ℕ → ℕ → Type 0
+IsUnfinished g w = (w ≡ word_of g READY) ⊎ (w ≡ word_of g CLAIMED)
 
 -- the word of a place with these offers
 abbrev pub word_at : List Offer → Phase → ℕ

@@ -4,7 +4,7 @@ ghost use Rattle.worker_board.specs.declared.view.End.TheVariants.{Collected, Ta
 ghost use Rattle.worker_board.specs.Tickets.{offer_no};
 ghost use Rattle.worker_board.specs.Rule.{HasRoom};
 ghost use Rattle.worker_board.specs.Moves.{offered, ended_as, missed, lost_at, Came, LostBefore};
-ghost use Rattle.worker_board.specs.Seats.{IsSeatOf, places_of, view_of, IsFree, IsOffered, generation, next_generation, IsOfferOf, AllRetired};
+ghost use Rattle.worker_board.specs.Seats.{IsSeatOf, places_of, view_of, notes_of, LeftAt, FoundOther, FoundUnfinished, IsFree, IsOffered, generation, next_generation, IsOfferOf, AllRetired};
 
 use super::{Board, DispatchSeat};
 use crate::moves::{Looks, Numbers, Opens, Readies, Releases, TakesBack};
@@ -23,6 +23,8 @@ impl<D: Duty> Board<D> {
         ensures board { IsSeatOf self.now seat.new }
         ensures view { view_of seat.new ≡ offered (view_of seat.old) place parcel }
         ensures ticket { result ≡ offer_no place (next_generation (view_of seat.old) place) }
+        ensures left { LeftAt place (next_generation (view_of seat.old) place) READY
+            (notes_of seat.old) (notes_of seat.new) }
     {
         let index = place as usize;
         let shared = &self.table.shared;
@@ -45,6 +47,10 @@ impl<D: Duty> Board<D> {
         ensures collected { IfSome result (λ _. view_of seat.new
             ≡ ended_as Collected (view_of seat.old) place) }
         ensures missed { IfNone result (view_of seat.new ≡ missed (view_of seat.old) place) }
+        ensures left { IfSome result (λ _. LeftAt place (generation (view_of seat.old) place) OVER
+            (notes_of seat.old) (notes_of seat.new)) }
+        ensures found { IfNone result (FoundUnfinished place (generation (view_of seat.old) place)
+            (notes_of seat.old) (notes_of seat.new)) }
         ensures sure { LostBefore (view_of seat.old) place → AllRetired (view_of seat.old)
             → IsSome result }
     {
@@ -71,6 +77,10 @@ impl<D: Duty> Board<D> {
             ≡ ended_as TakenBack (view_of seat.old) place) }
         ensures lost { IfNone result (view_of seat.new
             ≡ lost_at (view_of seat.old) place (generation (view_of seat.old) place)) }
+        ensures left { IfSome result (λ _. LeftAt place (generation (view_of seat.old) place) OVER
+            (notes_of seat.old) (notes_of seat.new)) }
+        ensures found { IfNone result (FoundOther place (generation (view_of seat.old) place)
+            (notes_of seat.old) (notes_of seat.new)) }
     {
         let index = place as usize;
         let shared = &self.table.shared;

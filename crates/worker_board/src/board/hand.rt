@@ -3,7 +3,7 @@ ghost use Rattle.std.specs.Prelude.{◌≡◌, ◌<◌, IfSome, IfNone};
 ghost use Rattle.worker_board.specs.Word.{job_of};
 ghost use Rattle.worker_board.specs.Rule.{HasRoom, IsAnswered};
 ghost use Rattle.worker_board.specs.Moves.{lost_at, won, worked};
-ghost use Rattle.worker_board.specs.Seats.{IsHandOf, places_of, hand_view, number_at, HoldsClaim};
+ghost use Rattle.worker_board.specs.Seats.{IsHandOf, places_of, hand_view, hand_notes, LeftAt, FoundOther, number_at, HoldsClaim};
 
 use super::{Board, HandSeat};
 use crate::moves::{Finishes, Releases, Reopens, Tries};
@@ -24,6 +24,10 @@ impl<D: Duty> Board<D> {
         ensures room { IfSome result (HasRoom D.answer) }
         ensures lost { IfNone result (hand_view seat.new
             ≡ lost_at (hand_view seat.old) ticket.place ticket.generation) }
+        ensures left { IfSome result (λ _. LeftAt ticket.place ticket.generation CLAIMED
+            (hand_notes seat.old) (hand_notes seat.new)) }
+        ensures found { IfNone result (FoundOther ticket.place ticket.generation
+            (hand_notes seat.old) (hand_notes seat.new)) }
     {
         let index = ticket.place() as usize;
         let shared = &self.table.shared;
@@ -48,6 +52,8 @@ impl<D: Duty> Board<D> {
         ensures number { number_at seat.new ≡ number_at seat.old }
         ensures view { hand_view seat.new
             ≡ worked (hand_view seat.old) ticket.place ticket.generation }
+        ensures left { LeftAt ticket.place ticket.generation OVER (hand_notes seat.old)
+            (hand_notes seat.new) }
     {
         let index = ticket.place() as usize;
         let shared = &self.table.shared;

@@ -1,9 +1,9 @@
 //! Boards and seats are made, and hands come back.
-ghost use Rattle.std.specs.Prelude.{◌≡◌, ◌<◌, ◌≤◌, IfOk};
+ghost use Rattle.std.specs.Prelude.{◌≡◌, ◌<◌, ◌≤◌, ◌++◌, IfOk};
 ghost use Rattle.worker_board.specs.declared.view.Role.TheVariants.{Hand};
 ghost use Rattle.worker_board.specs.Rule.{first_view, fresh};
 ghost use Rattle.worker_board.specs.Moves.{taken_in, RanOnce};
-ghost use Rattle.worker_board.specs.Seats.{IsSeatOf, IsHandOf, places_of, view_of, hand_view, number_at, IsUnused, HoldsNone, with_hand};
+ghost use Rattle.worker_board.specs.Seats.{IsSeatOf, IsHandOf, places_of, view_of, hand_view, notes_of, hand_notes, Grows, number_at, IsUnused, HoldsNone, with_hand};
 
 use super::{Board, DispatchSeat, HandSeat};
 use crate::moves::{Names, SendsOut, Sums, TakesIn};
@@ -43,6 +43,7 @@ impl<D: Duty> Board<D> {
         ensures view { view_of seat.new ≡ with_hand number (view_of seat.old) }
         ensures hand { hand_view result ≡ fresh (Hand number) }
         ensures number { number_at result ≡ number }
+        ensures notes { Grows (notes_of seat.old) (notes_of seat.new) }
     {
         let shared = &self.table.shared;
         let same = number as u64;
@@ -58,6 +59,7 @@ impl<D: Duty> Board<D> {
         requires free { HoldsNone (hand_view hand) }
         ensures board { IsSeatOf self.now seat.new }
         ensures view { view_of seat.new ≡ taken_in (view_of seat.old) (hand_view hand) }
+        ensures notes { Grows (hand_notes hand ++ notes_of seat.old) (notes_of seat.new) }
         ensures once { RanOnce (places_of self.now) (view_of seat.new) }
     {
         let HandSeat {

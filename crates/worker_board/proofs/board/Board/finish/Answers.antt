@@ -5,6 +5,7 @@ use Rattle.worker_board.specs.Word.{job_of}
 use Rattle.worker_board.specs.Moves.{claim}
 use Rattle.worker_board.proofs.HandLemmas.{reopens, finishes, hand_is, has_counts}
 use Rattle.worker_board.proofs.board.Board.finish.Goals as goal
+use Rattle.worker_board.proofs.NotesLemmas.{note_at, grows_one, saw_one, then_saw}
 
 pub load-requires : goal.load-requires
 load-requires g c = (
@@ -23,3 +24,8 @@ store-requires g c = let now = c.exchange-empty.ensures.3 in let same = ap (λ m
       finishes g.D.Duty.answer _ _ _ _ _ _ of c.args.parcel _ (ap (λ m. m.1) now) (search rules)
           (hand_is _ _ (ap (λ v. v.role) same ∙ c.args.seat.now.works)) (ap (λ v. v.turn) same) at (sym c.place-index.ensures) refl c.requires.answer (omega (arith, c.generation.ensures)),
     )
+
+pub returns-clause-left : goal.returns-clause-left
+returns-clause-left g c = let now = c.exchange-empty.ensures.3 in
+    then_saw c.args.ticket.place _ _ _ _ (grows_one _ _ _ _ (ap (λ m. m.0.notes) now ∙ ap (λ m. m.0.notes) c.load.ensures.2))
+    (saw_one c.args.ticket.place _ _ _ _ (ap (λ m. m.0.notes) c.store.ensures.2 ∙ note_at _ _ _ _ c.place-index.ensures) (omega (arith, c.generation.ensures)))

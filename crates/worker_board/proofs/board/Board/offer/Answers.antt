@@ -5,6 +5,7 @@ use Rattle.worker_board.proofs.DispatcherLemmas.{opens, readies}
 use Rattle.worker_board.proofs.WordLemmas.{next_generation}
 use Rattle.worker_board.proofs.board.Board.offer.Goals as goal
 use Rattle.worker_board.proofs.board.Board.offer.Goals.{then-found-eq0, else-found-eq0}
+use Rattle.worker_board.proofs.NotesLemmas.{grows_one, saw_one, then_saw}
 
 pub load-found-requires : goal.load-found-requires
 load-found-requires g c = (search rules, search rules, opens g.D.Duty.answer _ _ _ _ (search rules) c.args.seat.now.dispatches c.args.seat.now.idle c.requires.free)
@@ -28,3 +29,12 @@ invariant_of-seat g c = let now = c.exchange-empty.ensures.3 in let did = c.load
       idle = ap (λ m. m.0.turn) r;
       dispatches = ap (λ m. m.0.role) r ∙ ap (λ m. m.0.role) same ∙ c.args.seat.now.dispatches;
     }
+
+pub returns-clause-left : goal.returns-clause-left
+returns-clause-left g c = let now = c.exchange-empty.ensures.3 in let did = c.load-found.ensures.2.0 in let has = ap (λ m. m.1) now in
+    let same = now ∙ ap (λ m. (m.0, (c.args.place, Some c.args.parcel) ∷ rest m.1)) did in let next = next_generation (offers_at c.args.seat.now.seat.me.0.ledger c.args.place) _ c.load-found.ensures.2.1 in
+    let r = c.store.ensures.2 c.args.parcel (has ∙ ap (λ l. (c.args.place, Some c.args.parcel) ∷ rest l) (sym has)) in
+    let generation : c.if-found-eq0.generation ≡ length (offers_at c.args.seat.now.seat.me.0.ledger c.args.place) =
+    elim c.if-found-eq0.branch [ then-found-eq0 w ↦ omega (arith, next.0 w.if-found-eq0.true, w.generation-is) | else-found-eq0 w ↦ omega (arith, next.1 w.if-found-eq0.false, w.generation-is) ] in
+    then_saw c.args.place _ _ _ _ (grows_one _ _ _ _ (ap (λ m. m.0.notes) same))
+    (saw_one c.args.place _ _ _ _ (ap (λ m. m.0.notes) r) (omega (arith, generation)))
