@@ -4,3 +4,4 @@ pub mod Word
 pub mod Rule
 pub mod Moves
 pub mod Seats
+pub mod Rows

@@ -90,8 +90,8 @@ impl<D: Duty> Board<D> {
         if found != ready {
             return None;
         }
-        let parcel = shared.exchange(&mut seat.seat, index, None);
+        let job = shared.exchange(&mut seat.seat, index, None);
         shared.load::<Releases>(&mut seat.seat, index);
-        parcel
+        job
     }
 }
