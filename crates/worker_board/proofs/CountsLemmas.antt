@@ -1,11 +1,17 @@
 -- Sums over lists that change at one place.
-use Rattle.std.proofs.Common.{◌≡◌, ℕ, zero, suc, ◌+◌, ◌<◌, ◌≤◌, ◌≢◌, List, [], ◌∷◌, ◌++◌, set, sym, refl, ap, ◌∙◌, arith, cond, inl, inr, ⊎_elim, ◌⊎◌, eqb, eq-eqb, ne_eqb, true, false}
+use Rattle.std.proofs.Common.{◌≡◌, ℕ, zero, suc, ◌+◌, ◌<◌, ◌≤◌, ◌≢◌, List, [], ◌∷◌, ◌++◌, length, set, sym, refl, ap, ◌∙◌, arith, cond, inl, inr, ⊎_elim, ◌⊎◌, eqb, eq-eqb, ne_eqb, true, false}
 use mathlib.Core.Logic.{dite}
 use native.Mathlib.Decide.{ℕ_discrete}
 use mathlib.Core.Option.{some, some-injective, some-ne-none}
 use lib.ListN.{get_elem?}
 use Rattle.worker_board.specs.declared.view.Claim.{Claim}
 use Rattle.worker_board.specs.Counts.{total, only, without, times, removed}
+
+-- what stands at a place stands below the length
+pub at_lt : {A : Type 0} (l : List A) (i : ℕ) (a : A) → get_elem? l i ≡ some a → i < length l
+at_lt [] i a e = absurd (some-ne-none a (sym e))
+at_lt (x ∷ xs) zero a e = omega arith
+at_lt (x ∷ xs) (suc i) a e = omega (arith, at_lt xs i a e)
 
 -- what two lists that are one have at a place is the one's or the other's
 pub at_append : {A : Type 0} (l m : List A) (k : ℕ) (a : A) → get_elem? (l ++ m) k ≡ some a → ((i : ℕ) × (get_elem? l i ≡ some a)) ⊎ ((i : ℕ) × (get_elem? m i ≡ some a))

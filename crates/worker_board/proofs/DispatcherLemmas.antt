@@ -7,7 +7,7 @@ use native.Mathlib.Decide.{ℕ_discrete}
 use lib.ListN.{get_elem?}
 use prog.Atomic.{either}
 use Rattle.std.specs.Prelude.{Some, None}
-use Rattle.atomic_table.specs.Table.{Act, step, keeps, takes, gives, Valid, stepped, carried_after, Allows}
+use Rattle.atomic_table.specs.Table.{step, keeps, takes, gives, Allows}
 use Rattle.atomic_table.proofs.Lists.{set_here, set_else, exchanged}
 use Rattle.worker_board.specs.Tickets.{OfferNo, offer_no}
 use Rattle.worker_board.specs.declared.word.TheConstants.{PHASES, READY, OVER}
@@ -23,9 +23,9 @@ use Rattle.worker_board.specs.Counts.{total, only, both_of, has_turn, holds, ran
 use Rattle.worker_board.specs.Word.{IsUnfinished, Phase, closed, ready, claimed, done, digit, word_at, IsOpen, IsClosed, IsCurrent, offer_of, ended, newest, run_of, runs_of, OlderEnded, offers_at}
 use Rattle.worker_board.specs.Rule.{Slot, Answer, Home, IsHand, IsPastReady, HasRoom, InPhase, held_of, PlaceOk, Ruled}
 use Rattle.worker_board.specs.Moves.{Seated, note, noting, turned_to, offered, ended_as, missed, lost_at, opened, released, numbered, named, readied, LostBefore, summed, looked, took}
-use Rattle.worker_board.proofs.CountsLemmas.{total-set, term_le, only-same, only-other, only-is}
+use Rattle.worker_board.proofs.CountsLemmas.{at_lt, total-set, term_le, only-same, only-other, only-is}
 use Rattle.worker_board.proofs.WordLemmas.{not_both, closed_phase, word_open, word_ended, word_below, closed_ended, older_ended, all_ended, runs_ended, runs_offered, lost_stays, some_term}
-use Rattle.worker_board.proofs.FrameLemmas.{St, state, moved}
+use Rattle.worker_board.proofs.FrameLemmas.{Table, state, Allowed, moved}
 
 pub suc_inj : {a b : ℕ} → suc a ≡ suc b → a ≡ b
 suc_inj e = omega arith
@@ -40,10 +40,10 @@ turn_counts vs j p v me is = omega (arith, term_le (has_turn p) vs j v me, only-
 
 module _ (answer : Answer) where
   -- the dispatcher's view, and its number
-  pub is_dispatcher : (s : St) (r : Ruled answer s) (id : ℕ) (v : View) → get_elem? s.views id ≡ some v → v.role ≡ Dispatcher → (id ≡ 0) × (r.dispatcher ≡ v)
+  pub is_dispatcher : (s : Table) (r : Ruled answer s) (id : ℕ) (v : View) → get_elem? s.views id ≡ some v → v.role ≡ Dispatcher → (id ≡ 0) × (r.dispatcher ≡ v)
   is_dispatcher s r id v me role = let z = r.one_dispatcher id v me role in (z, some-injective r.dispatcher v (sym r.first ∙ subst (λ (x : ℕ). get_elem? s.views x ≡ some v) z me))
 
-  pub dispatcher_moved : (s : St) (r : Ruled answer s) (id p n : ℕ) (v : View) (hs : List (maybe.Option Slot)) (lg : List (List Offer)) (t : ℕ) (ms ls : List OfferNo) (nx : ℕ)
+  pub dispatcher_moved : (s : Table) (r : Ruled answer s) (id p n : ℕ) (v : View) (hs : List (maybe.Option Slot)) (lg : List (List Offer)) (t : ℕ) (ms ls : List OfferNo) (nx : ℕ)
       → v.role ≡ Dispatcher → get_elem? s.views id ≡ some v → p < length s.homes
       → length hs ≡ length s.homes → ((q : ℕ) → q ≢ p → get_elem? hs q ≡ get_elem? s.homes q)
       → length lg ≡ length v.ledger → ((q : ℕ) → q ≢ p → offers_at lg q ≡ offers_at v.ledger q)
@@ -56,7 +56,7 @@ module _ (answer : Answer) where
   dispatcher_moved s r id p n v hs lg t ms ls nx role me near long-hs homes long-lg same turns here still turn up lost =
       let b = is_dispatcher s r id v me role in let w : View = record v { turn = t; notes = note p n ∷ v.notes; ledger = lg; misses = ms; lost = ls; next = nx } in
       let at : (q : ℕ) → offers_at v.ledger q ≡ offers_at r.dispatcher.ledger q = λ q. ap (λ (x : View). offers_at x.ledger q) (sym b.1) in
-      let one : id < length s.views = in_range s.views id v me in
+      let one : id < length s.views = at_lt s.views id v me in
       let keep : (k : ℕ) (j : ℕ) (u : View) (c : Claim) → get_elem? s.views j ≡ some u → get_elem? u.held k ≡ some c → c.ticket.place ≡ p → IsCurrent c (offers_at lg p) = λ k j u c e at' is.
       still c (claim_counts s.views j k p u c e at' is) (subst (IsCurrent c) (ap (offers_at r.dispatcher.ledger) is ∙ sym (at p)) (r.claims j k u c e at').1) in
       moved answer s r id p n v w w hs me near long-hs homes
@@ -67,11 +67,6 @@ module _ (answer : Answer) where
       (λ i k u c ne e at' is. keep k i u c e at' is)
       (λ q on. let c = turn q on in inl (b.0, subst (λ (x : ℕ). IsClosed (offers_at lg x)) (sym c.0) c.1))
       (λ no. absurd (no b.0)) up refl lost
-    where
-      in_range : {A : Type 0} (l : List A) (i : ℕ) (a : A) → get_elem? l i ≡ some a → i < length l
-      in_range [] i a e = absurd (some-ne-none a (sym e))
-      in_range (x ∷ xs) zero a e = omega arith
-      in_range (x ∷ xs) (suc i) a e = omega (arith, in_range xs i a e)
 
   -- what the dispatcher's step leaves of the place that it steps at
   place_after : (p w₀ n id : ℕ) (h₀ h : Home) (vs : List View) (v w : View) (l₀ l : List Offer) (ph : Phase) → get_elem? vs id ≡ some v → w.held ≡ v.held → w.runs ≡ v.runs
@@ -86,12 +81,9 @@ module _ (answer : Answer) where
     past = past;
   }
 
-  abbrev Goes : St → ℕ → ℕ → Seated → (ℕ → Seated → Type 0) → ℕ → Type 0
-  Goes s i id m then k = (w : View) × (a : Act Slot) × Valid s.homes m.1 a × Ruled answer (stepped s i k id m.1 w a) × then (get_or s.words i 0) (w, carried_after m.1 a)
-
   -- nobody has the slot of a closed place while the dispatcher has none
-  unturned : (s : St) (r : Ruled answer s) (id p : ℕ) (v : View) → get_elem? s.views id ≡ some v → v.role ≡ Dispatcher → v.turn ≡ 0 → total (holds p) s.views ≡ 0 → total (has_turn p) s.views ≡ 0
-  unturned s r id p v me role idle none-held = let b = is_dispatcher s r id v me role in dite (ℕ_discrete (total (has_turn p) s.views) 0) (λ z. z) (λ nz.
+  slot_with_nobody : (s : Table) (r : Ruled answer s) (id p : ℕ) (v : View) → get_elem? s.views id ≡ some v → v.role ≡ Dispatcher → v.turn ≡ 0 → total (holds p) s.views ≡ 0 → total (has_turn p) s.views ≡ 0
+  slot_with_nobody s r id p v me role idle none-held = let b = is_dispatcher s r id v me role in dite (ℕ_discrete (total (has_turn p) s.views) 0) (λ z. z) (λ nz.
       let t = some_term (has_turn p) s.views (omega arith) in let u = t.1.0 in let on : u.turn ≡ suc p = only-is (suc p) u.turn t.1.2 in
       ⊎_elim (λ a. let same : u ≡ v = some-injective u v (sym t.1.1 ∙ subst (λ (x : ℕ). get_elem? s.views x ≡ some v) (b.0 ∙ sym a.0) me) in absurd (suc-ne-zero p (sym on ∙ ap (λ (x : View). x.turn) same ∙ idle)))
       (λ a. absurd (omega (arith, term_le (holds p) s.views t.0 u t.1.1))) (r.entitled t.0 p u t.1.1 on))
@@ -104,7 +96,7 @@ module _ (answer : Answer) where
       let is : k.phase ≡ closed = closed_phase answer l _ _ shut k.phase k.stands in
       let stands = subst (InPhase answer l (get_elem? s.homes p) (total (has_turn p) s.views)) is k.stands in
       let none-held : total (holds p) s.views ≡ 0 = k.held ∙ ap (held_of answer) is in
-      let zero-turns = unturned s r id p v me role idle none-held in
+      let zero-turns = slot_with_nobody s r id p v me role idle none-held in
       let w : View = noting p (get_or s.words p 0) (turned_to v (suc p)) in
       let turns : total (has_turn p) (set s.views id w) ≡ 1 = omega (arith, total-set (has_turn p) s.views id v w me, only-same (suc p) (suc p) refl, only-other (suc p) v.turn (λ e. suc-ne-zero p (sym e ∙ idle))) in
       let long = r.wide in (
@@ -121,11 +113,11 @@ module _ (answer : Answer) where
       )
 
   -- what the dispatcher knows of a place, by its own list of offers
-  pub mine : (s : St) (r : Ruled answer s) (id p : ℕ) (v : View) → get_elem? s.views id ≡ some v → v.role ≡ Dispatcher → p < length s.homes
+  pub place_known : (s : Table) (r : Ruled answer s) (id p : ℕ) (v : View) → get_elem? s.views id ≡ some v → v.role ≡ Dispatcher → p < length s.homes
       → PlaceOk answer p (get_or s.words p 0) (get_elem? s.homes p) s.views (offers_at v.ledger p)
-  mine s r id p v me role near = subst (λ (x : View). PlaceOk answer p (get_or s.words p 0) (get_elem? s.homes p) s.views (offers_at x.ledger p)) (is_dispatcher s r id v me role).1 (r.places p near)
+  place_known s r id p v me role near = subst (λ (x : View). PlaceOk answer p (get_or s.words p 0) (get_elem? s.homes p) s.views (offers_at x.ledger p)) (is_dispatcher s r id v me role).1 (r.places p near)
 
-  lost_now : (s : St) (r : Ruled answer s) (id p n : ℕ) (v : View) → get_elem? s.views id ≡ some v → v.role ≡ Dispatcher → p < length s.homes → get_or s.words p 0 ≤ n
+  lost_now : (s : Table) (r : Ruled answer s) (id p n : ℕ) (v : View) → get_elem? s.views id ≡ some v → v.role ≡ Dispatcher → p < length s.homes → get_or s.words p 0 ≤ n
       → (k : ℕ) (x : OfferNo) → get_elem? v.lost k ≡ some x → IsPastReady x (set s.words p n)
   lost_now s r id p n v me role near up = let long = r.wide in
       lost_stays s.words p n v.lost (omega arith) up (subst (λ (x : View). (k : ℕ) (t : OfferNo) → get_elem? x.lost k ≡ some t → IsPastReady t s.words) (is_dispatcher s r id v me role).1 r.lost)
@@ -140,7 +132,7 @@ module _ (answer : Answer) where
   releases_from : (n id : ℕ) (v : View) (p : ℕ) (more : List (ℕ × Slot)) → p < n → v.role ≡ Dispatcher → v.turn ≡ suc p
       → Allows (Ruled answer) n id (v, (p, None) ∷ more) p (λ y. y) (released (step n p 0 0 none) (v, (p, None) ∷ more))
   releases_from n id v p more inside role on s r wide me _ =
-      let near : p < length s.homes = omega arith in let l : List Offer = offers_at v.ledger p in let k = mine s r id p v me role near in let w : View = noting p (get_or s.words p 0) (turned_to v 0) in
+      let near : p < length s.homes = omega arith in let l : List Offer = offers_at v.ledger p in let k = place_known s r id p v me role near in let w : View = noting p (get_or s.words p 0) (turned_to v 0) in
       let now = total-set (has_turn p) s.views id v w me in let on' = only-same (suc p) v.turn on in let off = only-other (suc p) 0 (λ e. suc-ne-zero p (sym e)) in (
         w,
         gives,
@@ -167,7 +159,7 @@ module _ (answer : Answer) where
       → Allows (Ruled answer) n id (v, (p, Some x) ∷ more) p (λ _. new) (λ _. readied (step n p new 0 none) (v, (p, Some x) ∷ more) new)
   readies_from n id v p x more new inside role on shut fits is-new s r wide me _ =
       let near : p < length s.homes = omega arith in let b = is_dispatcher s r id v me role in let l : List Offer = offers_at v.ledger p in let o = offer_of x Open in
-      let k = mine s r id p v me role near in let is : k.phase ≡ closed = closed_phase answer l _ _ shut k.phase k.stands in
+      let k = place_known s r id p v me role near in let is : k.phase ≡ closed = closed_phase answer l _ _ shut k.phase k.stands in
       let stands = subst (InPhase answer l (get_elem? s.homes p) (total (has_turn p) s.views)) is k.stands in
       let none-held : total (holds p) s.views ≡ 0 = k.held ∙ ap (held_of answer) is in
       let word : get_or s.words p 0 ≡ word_at l closed = k.word_is ∙ ap (word_at l) is in let low = word_below l in
@@ -200,21 +192,21 @@ module _ (answer : Answer) where
       subst (λ (c : List (ℕ × Slot)). Allows (Ruled answer) n id (m.0, c) p (λ _. new) (λ _. readied (step n p new 0 none) (m.0, c) new)) (sym e) (readies_from n id m.0 p x more new inside role on shut fits is-new)
 
   -- a step that leaves all as it was, but for the dispatcher's lists of misses and losses
-  dispatcher_notes : (s : St) (r : Ruled answer s) (id p : ℕ) (v : View) (ms ls : List OfferNo) (nx : ℕ) → get_elem? s.views id ≡ some v → v.role ≡ Dispatcher → p < length s.homes → v.turn ≡ 0
+  dispatcher_notes : (s : Table) (r : Ruled answer s) (id p : ℕ) (v : View) (ms ls : List OfferNo) (nx : ℕ) → get_elem? s.views id ≡ some v → v.role ≡ Dispatcher → p < length s.homes → v.turn ≡ 0
       → ((k : ℕ) (x : OfferNo) → get_elem? ls k ≡ some x → IsPastReady x (set s.words p (get_or s.words p 0)))
       → Ruled answer (state (set s.words p (get_or s.words p 0)) s.homes (set s.views id record v { notes = note p (get_or s.words p 0) ∷ v.notes; misses = ms; lost = ls; next = nx }))
-  dispatcher_notes s r id p v ms ls nx me role near idle lost = let k = mine s r id p v me role near in let l : List Offer = offers_at v.ledger p in let w : View = record v { notes = note p (get_or s.words p 0) ∷ v.notes; misses = ms; lost = ls; next = nx } in
+  dispatcher_notes s r id p v ms ls nx me role near idle lost = let k = place_known s r id p v me role near in let l : List Offer = offers_at v.ledger p in let w : View = record v { notes = note p (get_or s.words p 0) ∷ v.notes; misses = ms; lost = ls; next = nx } in
       let turns : total (has_turn p) s.views ≡ total (has_turn p) (set s.views id w) = omega (arith, total-set (has_turn p) s.views id v w me) in
       dispatcher_moved s r id p (get_or s.words p 0) v s.homes v.ledger v.turn ms ls nx role me near refl (λ q ne. refl) refl (λ q ne. refl) (λ q ne. refl)
       (place_after p (get_or s.words p 0) (get_or s.words p 0) id (get_elem? s.homes p) _ s.views v w l l k.phase me refl refl k k.word_is (subst (λ (t : ℕ). InPhase answer l (get_elem? s.homes p) t k.phase) turns k.stands) refl (λ g. refl) k.past)
       (λ c _ cur. cur) (λ q e. absurd (suc-ne-zero q (sym e ∙ idle))) (le_refl _) lost
 
   -- the dispatcher ends its newest offer of a place, and takes the slot
-  dispatcher_ends : (s : St) (r : Ruled answer s) (id p new : ℕ) (v : View) (e : End) (ph : Phase) (x : Parcel) → (me : get_elem? s.views id ≡ some v) → (role : v.role ≡ Dispatcher) → (near : p < length s.homes) → v.turn ≡ 0
-      → e ≢ Open → IsOpen (offers_at v.ledger p) → (mine s r id p v me role near).phase ≡ ph → total (has_turn p) s.views ≡ 0 → held_of answer ph ≡ 0 → run_of closed e ≡ run_of ph Open
+  dispatcher_ends : (s : Table) (r : Ruled answer s) (id p new : ℕ) (v : View) (e : End) (ph : Phase) (x : Parcel) → (me : get_elem? s.views id ≡ some v) → (role : v.role ≡ Dispatcher) → (near : p < length s.homes) → v.turn ≡ 0
+      → e ≢ Open → IsOpen (offers_at v.ledger p) → (place_known s r id p v me role near).phase ≡ ph → total (has_turn p) s.views ≡ 0 → held_of answer ph ≡ 0 → run_of closed e ≡ run_of ph Open
       → new ≡ PHASES * newest (offers_at v.ledger p) + OVER → get_or s.words p 0 ≤ new
       → Ruled answer (state (set s.words p new) (set s.homes p none) (set s.views id (noting p new (turned_to (ended_as e v p) (suc p)))))
-  dispatcher_ends s r id p new v e ph x me role near idle over live is zero-turns zero-held same-runs is-new up = let k = mine s r id p v me role near in let l : List Offer = offers_at v.ledger p in let b = is_dispatcher s r id v me role in
+  dispatcher_ends s r id p new v e ph x me role near idle over live is zero-turns zero-held same-runs is-new up = let k = place_known s r id p v me role near in let l : List Offer = offers_at v.ledger p in let b = is_dispatcher s r id v me role in
       let w : View = noting p new (turned_to (ended_as e v p) (suc p)) in let long : length v.ledger ≡ length s.homes = ap (λ (u : View). length u.ledger) (sym b.1) ∙ r.long in
       let here : offers_at w.ledger p ≡ ended e l = set_offers v.ledger p (ended e l) (omega arith) in
       let none-held : total (holds p) s.views ≡ 0 = k.held ∙ ap (held_of answer) is ∙ zero-held in
@@ -230,8 +222,8 @@ module _ (answer : Answer) where
       (lost_now s r id p new v me role near up)
 
   -- a claim that is held is a hand's that is out
-  someone : (s : St) (r : Ruled answer s) (p : ℕ) → p < length s.homes → total (holds p) s.views ≡ 1 → r.dispatcher.out ≡ [] → ⊥
-  someone s r p near one none-out = let t = some_term (holds p) s.views (omega arith) in let u = t.1.0 in let c = some_term (λ (x : Claim). only p x.ticket.place) u.held t.1.2 in
+  claimed_by_a_hand : (s : Table) (r : Ruled answer s) (p : ℕ) → p < length s.homes → total (holds p) s.views ≡ 1 → r.dispatcher.out ≡ [] → ⊥
+  claimed_by_a_hand s r p near one none-out = let t = some_term (holds p) s.views (omega arith) in let u = t.1.0 in let c = some_term (λ (x : Claim). only p x.ticket.place) u.held t.1.2 in
       out_of u.role refl (r.claims t.0 c.0 u c.1.0 t.1.1 c.1.1).2
     where
       out_of : (who : Role) → (some_term (holds p) s.views (omega arith)).1.0.role ≡ who → IsHand who → ⊥
@@ -241,20 +233,20 @@ module _ (answer : Answer) where
 
   pub looks : (n id : ℕ) (m : Seated) (p : ℕ) → p < n → m.0.role ≡ Dispatcher → m.0.turn ≡ 0 → IsOpen (offers_at m.0.ledger p)
       → Allows (Ruled answer) n id m p (λ y. y) (looked answer (step n p 0 0 none) m)
-  looks n id m p inside role idle live s r wide me _ = let near : p < length s.homes = omega arith in let v : View = m.0 in let l : List Offer = offers_at v.ledger p in let k = mine s r id p v me role near in
+  looks n id m p inside role idle live s r wide me _ = let near : p < length s.homes = omega arith in let v : View = m.0 in let l : List Offer = offers_at v.ledger p in let k = place_known s r id p v me role near in
       go near k.phase refl k.stands (k.word_is ∙ word_open l k.phase live)
     where
       v : View
       v = m.0
 
-      unready : (near : p < length s.homes) → get_or s.words p 0 % PHASES ≢ OVER → (LostBefore m.0 p → m.0.out ≡ [] → ⊥) → IsUnfinished (newest (offers_at m.0.ledger p)) (get_or s.words p 0) → Goes s p id m (looked answer (step n p 0 0 none) m) (get_or s.words p 0)
+      unready : (near : p < length s.homes) → get_or s.words p 0 % PHASES ≢ OVER → (LostBefore m.0 p → m.0.out ≡ [] → ⊥) → IsUnfinished (newest (offers_at m.0.ledger p)) (get_or s.words p 0) → Allowed answer s p id m (looked answer (step n p 0 0 none) m) (get_or s.words p 0)
       unready near not sure found = (noting p (get_or s.words p 0) (missed m.0 p), keeps, tt, dispatcher_notes s r id p m.0 (offer_no p (newest (offers_at m.0.ledger p)) ∷ m.0.misses) m.0.lost m.0.next me role near idle (lost_now s r id p (get_or s.words p 0) m.0 me role near (le_refl _)), ((λ e. absurd (not e)), (λ _. refl), (λ had none-out. absurd (sure had none-out)), (λ e. absurd (not e)), λ _. found))
 
-      go : (near : p < length s.homes) (ph : Phase) → (mine s r id p m.0 me role near).phase ≡ ph → InPhase answer (offers_at m.0.ledger p) (get_elem? s.homes p) (total (has_turn p) s.views) ph
-          → get_or s.words p 0 ≡ PHASES * newest (offers_at m.0.ledger p) + digit ph → Goes s p id m (looked answer (step n p 0 0 none) m) (get_or s.words p 0)
+      go : (near : p < length s.homes) (ph : Phase) → (place_known s r id p m.0 me role near).phase ≡ ph → InPhase answer (offers_at m.0.ledger p) (get_elem? s.homes p) (total (has_turn p) s.views) ph
+          → get_or s.words p 0 ≡ PHASES * newest (offers_at m.0.ledger p) + digit ph → Allowed answer s p id m (looked answer (step n p 0 0 none) m) (get_or s.words p 0)
       go near closed is k word = absurd (not_both (offers_at m.0.ledger p) live k.0)
       go near ready is k word = unready near (λ e. absurd (omega arith)) (λ had _. let past = subst (λ (x : View). (k : ℕ) (t : OfferNo) → get_elem? x.lost k ≡ some t → IsPastReady t s.words) (is_dispatcher s r id m.0 me role).1 r.lost had.0 _ had.1 in absurd (omega arith)) (inl word)
-      go near claimed is k word = unready near (λ e. absurd (omega arith)) (λ had none-out. someone s r p near ((mine s r id p m.0 me role near).held ∙ ap (held_of answer) is) (ap (λ (x : View). x.out) (is_dispatcher s r id m.0 me role).1 ∙ none-out)) (inr word)
+      go near claimed is k word = unready near (λ e. absurd (omega arith)) (λ had none-out. claimed_by_a_hand s r p near ((place_known s r id p m.0 me role near).held ∙ ap (held_of answer) is) (ap (λ (x : View). x.out) (is_dispatcher s r id m.0 me role).1 ∙ none-out)) (inr word)
       go near done is k word = let x = k.2.0 in (
         noting p (get_or s.words p 0) (turned_to (ended_as Collected m.0 p) (suc p)),
         takes p (Some x),
@@ -265,13 +257,13 @@ module _ (answer : Answer) where
 
   pub takes_back : (n id : ℕ) (m : Seated) (p old new : ℕ) → p < n → m.0.role ≡ Dispatcher → m.0.turn ≡ 0 → IsOpen (offers_at m.0.ledger p) → old ≡ PHASES * newest (offers_at m.0.ledger p) + READY → new ≡ old + 2
       → Allows (Ruled answer) n id m p (λ y. either (eqb y old) new y) (took (step n p old new none) m)
-  takes_back n id m p old new inside role idle live is-old is-new s r wide me _ = let near : p < length s.homes = omega arith in let l : List Offer = offers_at m.0.ledger p in let k = mine s r id p m.0 me role near in
-      exchanged (get_or s.words p 0) old new (Goes s p id m (took (step n p old new none) m)) (hit near k.phase refl k.stands (k.word_is ∙ word_open l k.phase live)) (miss near k.phase k.stands (k.word_is ∙ word_open l k.phase live))
+  takes_back n id m p old new inside role idle live is-old is-new s r wide me _ = let near : p < length s.homes = omega arith in let l : List Offer = offers_at m.0.ledger p in let k = place_known s r id p m.0 me role near in
+      exchanged (get_or s.words p 0) old new (Allowed answer s p id m (took (step n p old new none) m)) (hit near k.phase refl k.stands (k.word_is ∙ word_open l k.phase live)) (miss near k.phase k.stands (k.word_is ∙ word_open l k.phase live))
     where
       G : ℕ → Type 0
-      G = Goes s p id m (took (step n p old new none) m)
+      G = Allowed answer s p id m (took (step n p old new none) m)
 
-      hit : (near : p < length s.homes) (ph : Phase) → (mine s r id p m.0 me role near).phase ≡ ph → InPhase answer (offers_at m.0.ledger p) (get_elem? s.homes p) (total (has_turn p) s.views) ph
+      hit : (near : p < length s.homes) (ph : Phase) → (place_known s r id p m.0 me role near).phase ≡ ph → InPhase answer (offers_at m.0.ledger p) (get_elem? s.homes p) (total (has_turn p) s.views) ph
           → get_or s.words p 0 ≡ PHASES * newest (offers_at m.0.ledger p) + digit ph → get_or s.words p 0 ≡ old → G new
       hit near closed is k word at = absurd (not_both (offers_at m.0.ledger p) live k.0)
       hit near claimed is k word at = absurd (omega arith)
@@ -309,7 +301,7 @@ module _ (answer : Answer) where
 
   pub numbers : (n id : ℕ) (m : Seated) (p : ℕ) → p < n → m.0.role ≡ Dispatcher → m.0.turn ≡ 0 → IsOpen (offers_at m.0.ledger p)
       → Allows (Ruled answer) n id m p (λ y. y) (numbered (step n p 0 0 none) m)
-  numbers n id m p inside role idle live s r wide me _ = let near : p < length s.homes = omega arith in let l : List Offer = offers_at m.0.ledger p in let k = mine s r id p m.0 me role near in
+  numbers n id m p inside role idle live s r wide me _ = let near : p < length s.homes = omega arith in let l : List Offer = offers_at m.0.ledger p in let k = place_known s r id p m.0 me role near in
       (noting p (get_or s.words p 0) m.0, keeps, tt, dispatcher_notes s r id p m.0 m.0.misses m.0.lost m.0.next me role near idle (lost_now s r id p (get_or s.words p 0) m.0 me role near (le_refl _)), (refl, below (newest l) k.phase (k.word_is ∙ word_open l k.phase live)))
     where
       below : (g : ℕ) (ph : Phase) → get_or s.words p 0 ≡ PHASES * g + digit ph → get_or s.words p 0 / PHASES ≡ g
@@ -361,5 +353,5 @@ module _ (answer : Answer) where
     keeps,
     tt,
     dispatcher_notes s r id 0 m.0 m.0.misses m.0.lost m.0.next me role near idle (lost_now s r id 0 (get_or s.words 0 0) m.0 me role near (le_refl _)),
-    (refl, λ p g h. let k = mine s r id p m.0 me role (subst (λ (x : ℕ). p < x) (sym wide) h) in omega (arith, term_le (ran p g) s.views id m.0 me, k.run g, at_most_once g k.phase (offers_at m.0.ledger p))),
+    (refl, λ p g h. let k = place_known s r id p m.0 me role (subst (λ (x : ℕ). p < x) (sym wide) h) in omega (arith, term_le (ran p g) s.views id m.0 me, k.run g, at_most_once g k.phase (offers_at m.0.ledger p))),
   )

@@ -5,7 +5,7 @@ use mathlib.Core.Option.{none, some, some-injective}
 use mathlib.Core.Option as maybe
 use native.Mathlib.Decide.{ℕ_discrete}
 use lib.ListN.{get_elem?}
-use Rattle.atomic_table.specs.Table.{State}
+use Rattle.atomic_table.specs.Table.{State, Act, Valid, stepped, carried_after}
 use Rattle.atomic_table.proofs.Lists.{at_set}
 use Rattle.worker_board.specs.Tickets.{OfferNo}
 use Rattle.worker_board.specs.declared.view.Note.{Note}
@@ -15,15 +15,15 @@ use Rattle.worker_board.specs.declared.view.View.{View}
 use Rattle.worker_board.specs.declared.view.Role.TheVariants.{Dispatcher}
 use Rattle.worker_board.specs.Counts.{total, has_turn, holds, ran, times, is_hand, hand_of}
 use Rattle.worker_board.specs.Word.{IsClosed, IsCurrent, offers_at}
-use Rattle.worker_board.specs.Moves.{note}
+use Rattle.worker_board.specs.Moves.{Seated, note}
 use Rattle.worker_board.proofs.WordLemmas.{notes_stay, notes_grow}
 use Rattle.worker_board.specs.Rule.{IsPastReady, Slot, Answer, Home, IsHand, InPhase, PlaceOk, Ruled}
 use Rattle.worker_board.proofs.CountsLemmas.{total-set}
 
-abbrev pub St : Type 0
-St = State Slot View
+abbrev pub Table : Type 0
+Table = State Slot View
 
-abbrev pub state : List ℕ → List (maybe.Option Slot) → List View → St
+abbrev pub state : List ℕ → List (maybe.Option Slot) → List View → Table
 state ws hs vs = record { words = ws; homes = hs; views = vs }
 
 -- two views are alike at a place
@@ -48,7 +48,7 @@ module _ (answer : Answer) where
         past = k.past;
       })
 
-  pub moved : (s : St) (r : Ruled answer s) (j p n : ℕ) (v w d : View) (hs : List (maybe.Option Slot))
+  pub moved : (s : Table) (r : Ruled answer s) (j p n : ℕ) (v w d : View) (hs : List (maybe.Option Slot))
       → get_elem? s.views j ≡ some v → p < length s.homes
       → length hs ≡ length s.homes → ((q : ℕ) → q ≢ p → get_elem? hs q ≡ get_elem? s.homes q)
       → get_elem? (set s.views j w) 0 ≡ some d → d.role ≡ Dispatcher → w.role ≡ v.role → d.out ≡ r.dispatcher.out → d.used ≡ r.dispatcher.used
@@ -104,3 +104,7 @@ module _ (answer : Answer) where
         hands = λ m. omega (arith, total-set (is_hand m) s.views j v w me, ap (hand_of m) role, r.hands m, ap (times m) out);
         once = λ m. subst (λ (x : List ℕ × List ℕ). (times m x.0 ≤ times m x.1) × (times m x.1 ≤ 1)) (λ i. (sym out i, sym used i)) (r.once m);
       }
+
+  -- a step to the word k can be taken, keeps the rule and tells what it should
+  abbrev pub Allowed : Table → ℕ → ℕ → Seated → (ℕ → Seated → Type 0) → ℕ → Type 0
+  Allowed s i id m then k = (w : View) × (a : Act Slot) × Valid s.homes m.1 a × Ruled answer (stepped s i k id m.1 w a) × then (get_or s.words i 0) (w, carried_after m.1 a)

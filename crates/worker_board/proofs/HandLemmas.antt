@@ -7,7 +7,7 @@ use native.Mathlib.Decide.{ℕ_discrete}
 use lib.ListN.{get_elem?}
 use prog.Atomic.{either}
 use Rattle.std.specs.Prelude.{Some, None}
-use Rattle.atomic_table.specs.Table.{Act, step, keeps, takes, gives, Valid, stepped, carried_after, Allows}
+use Rattle.atomic_table.specs.Table.{step, keeps, takes, gives, Allows}
 use Rattle.atomic_table.proofs.Lists.{set_here, set_else, exchanged}
 use Rattle.worker_board.specs.declared.word.TheConstants.{PHASES, READY, OVER}
 use Rattle.worker_board.specs.declared.view.Job.{Job}
@@ -25,16 +25,16 @@ use Rattle.worker_board.specs.Rule.{Slot, Answer, Home, Empty, IsHand, IsAnswere
 use Rattle.worker_board.specs.Moves.{Seated, Has, claim, note, noting, turned_to, lost_at, won, worked, reopened, released, worked_told, tried}
 use Rattle.worker_board.proofs.CountsLemmas.{total-set, term_le, terms_le, only-same, only-other, only-is, at_without, total-without, none-without}
 use Rattle.worker_board.proofs.WordLemmas.{not_both, word_open, lost_stays, offers_newest, some_term}
-use Rattle.worker_board.proofs.FrameLemmas.{St, state, Alike, moved}
+use Rattle.worker_board.proofs.FrameLemmas.{Table, state, Allowed, Alike, moved}
 use Rattle.worker_board.proofs.DispatcherLemmas.{suc_inj}
 
 module _ (answer : Answer) where
   -- a hand is not the dispatcher
-  not_first : (s : St) (r : Ruled answer s) (id : ℕ) (v : View) → get_elem? s.views id ≡ some v → IsHand v.role → id ≢ 0
+  not_first : (s : Table) (r : Ruled answer s) (id : ℕ) (v : View) → get_elem? s.views id ≡ some v → IsHand v.role → id ≢ 0
   not_first s r id v me hand z = let same : r.dispatcher ≡ v = some-injective r.dispatcher v (sym r.first ∙ subst (λ (x : ℕ). get_elem? s.views x ≡ some v) z me) in
       subst IsHand (sym (ap (λ (x : View). x.role) same) ∙ r.dispatches) hand
 
-  hand_moved : (s : St) (r : Ruled answer s) (id p n : ℕ) (v w : View) (hs : List (maybe.Option Slot))
+  hand_moved : (s : Table) (r : Ruled answer s) (id p n : ℕ) (v w : View) (hs : List (maybe.Option Slot))
       → IsHand v.role → w.role ≡ v.role → get_elem? s.views id ≡ some v → p < length s.homes
       → length hs ≡ length s.homes → ((q : ℕ) → q ≢ p → get_elem? hs q ≡ get_elem? s.homes q)
       → get_or s.words p 0 ≤ n → w.notes ≡ note p n ∷ v.notes → ((q : ℕ) → q ≢ p → Alike q v w)
@@ -48,9 +48,6 @@ module _ (answer : Answer) where
       (λ i k u c ne e at is. subst (λ (x : ℕ). IsCurrent c (offers_at r.dispatcher.ledger x)) is (r.claims i k u c e at).1)
       (λ q on. inr (turn q on)) (λ no shut. shut) up notes
       (lost_stays s.words p n r.dispatcher.lost (omega arith) up r.lost)
-
-  abbrev Goes : St → ℕ → ℕ → Seated → (ℕ → Seated → Type 0) → ℕ → Type 0
-  Goes s i id m then k = (w : View) × (a : Act Slot) × Valid s.homes m.1 a × Ruled answer (stepped s i k id m.1 w a) × then (get_or s.words i 0) (w, carried_after m.1 a)
 
   -- what a claim says of the newest offer, where that is open
   current_of : (x : Parcel) (l : List Offer) (p g : ℕ) → Offers (job_of x) l → g ≡ newest l → IsCurrent (claim p g (job_of x)) l
@@ -66,7 +63,7 @@ module _ (answer : Answer) where
       v = m.0
 
       G : ℕ → Type 0
-      G = Goes s p id m (tried answer (step n p old new none) m)
+      G = Allowed answer s p id m (tried answer (step n p old new none) m)
 
       l : List Offer
       l = offers_at r.dispatcher.ledger p
@@ -138,15 +135,15 @@ module _ (answer : Answer) where
           ready_claimed g (y ∷ ls) = ap (λ (z : ℕ). cond (g == length ls) z (runs_of g closed ls)) (run_same y.end)
 
   -- where a hand holds a claim of a place, the place is claimed
-  claimed_phase : (s : St) (r : Ruled answer s) (id p : ℕ) (v : View) (near : p < length s.homes) → get_elem? s.views id ≡ some v → 0 < holds p v → (ph : Phase) → (r.places p near).phase ≡ ph → ph ≡ claimed
+  claimed_phase : (s : Table) (r : Ruled answer s) (id p : ℕ) (v : View) (near : p < length s.homes) → get_elem? s.views id ≡ some v → 0 < holds p v → (ph : Phase) → (r.places p near).phase ≡ ph → ph ≡ claimed
   claimed_phase s r id p v near me has closed is = absurd (omega (arith, term_le (holds p) s.views id v me, (r.places p near).held, ap (held_of answer) is))
   claimed_phase s r id p v near me has ready is = absurd (omega (arith, term_le (holds p) s.views id v me, (r.places p near).held, ap (held_of answer) is))
   claimed_phase s r id p v near me has claimed is = refl
   claimed_phase s r id p v near me has done is = absurd (omega (arith, term_le (holds p) s.views id v me, (r.places p near).held, ap (held_of answer) is))
 
   -- who holds the claim alone may have the slot
-  untaken : (s : St) (r : Ruled answer s) (id p : ℕ) (v : View) → get_elem? s.views id ≡ some v → 0 < holds p v → v.turn ≡ 0 → total (holds p) s.views ≡ 1 → IsOpen (offers_at r.dispatcher.ledger p) → total (has_turn p) s.views ≡ 0
-  untaken s r id p v me has idle one live = dite (ℕ_discrete (total (has_turn p) s.views) 0) (λ z. z) (λ nz.
+  slot_with_no_other : (s : Table) (r : Ruled answer s) (id p : ℕ) (v : View) → get_elem? s.views id ≡ some v → 0 < holds p v → v.turn ≡ 0 → total (holds p) s.views ≡ 1 → IsOpen (offers_at r.dispatcher.ledger p) → total (has_turn p) s.views ≡ 0
+  slot_with_no_other s r id p v me has idle one live = dite (ℕ_discrete (total (has_turn p) s.views) 0) (λ z. z) (λ nz.
       let t = some_term (has_turn p) s.views (omega arith) in let u = t.1.0 in let on : u.turn ≡ suc p = only-is (suc p) u.turn t.1.2 in
       ⊎_elim (λ a. absurd (not_both (offers_at r.dispatcher.ledger p) live a.1))
       (λ (a : 0 < holds p u). dite (ℕ_discrete t.0 id)
@@ -155,7 +152,7 @@ module _ (answer : Answer) where
       (r.entitled t.0 p u t.1.1 on))
 
   -- a step of a hand at a place that it has claimed, which leaves the claim
-  stays_claimed : (s : St) (r : Ruled answer s) (id p : ℕ) (v : View) (t : ℕ) (h : maybe.Option Slot) → IsHand v.role → get_elem? s.views id ≡ some v → p < length s.homes → 0 < holds p v
+  stays_claimed : (s : Table) (r : Ruled answer s) (id p : ℕ) (v : View) (t : ℕ) (h : maybe.Option Slot) → IsHand v.role → get_elem? s.views id ≡ some v → p < length s.homes → 0 < holds p v
       → (IsOpen (offers_at r.dispatcher.ledger p) → total (holds p) s.views ≡ 1 → Empty (get_elem? s.homes p) (total (has_turn p) s.views) → Empty (some h) (total (has_turn p) (set s.views id (noting p (get_or s.words p 0) (turned_to v t)))))
       → ((q : ℕ) → q ≢ p → only (suc q) t ≡ only (suc q) v.turn) → ((q : ℕ) → t ≡ suc q → q ≡ p)
       → Ruled answer (state (set s.words p (get_or s.words p 0)) (set s.homes p h) (set s.views id (noting p (get_or s.words p 0) (turned_to v t))))
@@ -178,7 +175,7 @@ module _ (answer : Answer) where
   reopens n id m p inside hand idle has s r wide me _ = let near : p < length s.homes = omega arith in let v : View = m.0 in let w : View = noting p (get_or s.words p 0) (turned_to v (suc p)) in
       let k = r.places p near in let is : k.phase ≡ claimed = claimed_phase s r id p v near me has k.phase refl in
       let st = subst (InPhase answer (offers_at r.dispatcher.ledger p) (get_elem? s.homes p) (total (has_turn p) s.views)) is k.stands in
-      let zero-turns = untaken s r id p v me has idle (k.held ∙ ap (held_of answer) is) st.0 in
+      let zero-turns = slot_with_no_other s r id p v me has idle (k.held ∙ ap (held_of answer) is) st.0 in
       let turns : total (has_turn p) (set s.views id w) ≡ 1 = omega (arith, total-set (has_turn p) s.views id v w me, only-same (suc p) (suc p) refl, only-other (suc p) v.turn (λ e. suc-ne-zero p (sym e ∙ idle))) in (
         w,
         takes p None,

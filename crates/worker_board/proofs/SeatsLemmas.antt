@@ -1,5 +1,5 @@
 -- Hands that are sent out and come back keep the rule.
-use Rattle.std.proofs.Common.{◌≡◌, ℕ, zero, suc, ◌+◌, ◌<◌, ◌≤◌, ◌≢◌, ◌⊎◌, List, [], ◌∷◌, ◌++◌, length, get_or, set, sym, refl, ap, ◌∙◌, subst, ⊎_elim, arith, suc-ne-zero}
+use Rattle.std.proofs.Common.{◌≡◌, ℕ, suc, ◌+◌, ◌<◌, ◌≤◌, ◌≢◌, ◌⊎◌, List, [], ◌∷◌, ◌++◌, length, get_or, set, sym, refl, ap, ◌∙◌, subst, ⊎_elim, arith, suc-ne-zero}
 use mathlib.Core.Logic.{dite}
 use mathlib.Core.Option.{some, some-ne-none}
 use native.Mathlib.Decide.{ℕ_discrete}
@@ -16,13 +16,8 @@ use Rattle.worker_board.specs.Counts.{total, only, both_of, has_turn, holds, ran
 use Rattle.worker_board.specs.Word.{IsClosed, IsCurrent, offers_at}
 use Rattle.worker_board.specs.Rule.{Answer, Home, IsHand, IsPastReady, InPhase, PlaceOk, Ruled, fresh}
 use Rattle.worker_board.specs.Moves.{sent_out, new_hand, number_of, taken_in}
-use Rattle.worker_board.proofs.CountsLemmas.{at_append, total-append, total-set, term_le, only-same, only-other, times-removed}
+use Rattle.worker_board.proofs.CountsLemmas.{at_append, at_lt, total-append, total-set, term_le, only-same, only-other, times-removed}
 use Rattle.worker_board.proofs.DispatcherLemmas.{is_dispatcher}
-
-in_range : {A : Type 0} (l : List A) (i : ℕ) (a : A) → get_elem? l i ≡ some a → i < length l
-in_range [] i a e = absurd (some-ne-none a (sym e))
-in_range (x ∷ xs) zero a e = omega arith
-in_range (x ∷ xs) (suc i) a e = omega (arith, in_range xs i a e)
 
 no_claims : (l : List Claim) (p : ℕ) → l ≡ [] → total (λ (c : Claim). only p c.ticket.place) l ≡ 0
 no_claims l p e = ap (λ (cs : List Claim). total (λ (c : Claim). only p c.ticket.place) cs) e
@@ -45,7 +40,7 @@ module _ (answer : Answer) where
 
   pub sends_out : (id : ℕ) (v : View) → v.role ≡ Dispatcher → v.turn ≡ 0 → times v.next v.used ≡ 0 → Splits (Ruled answer) id v (sent_out v) (new_hand v)
   sends_out id v role idle unused s r me = let b = is_dispatcher answer s r id v me role in let w : View = sent_out v in let u : View = new_hand v in let vs : List View = set s.views id w in
-      let boss_at : (x : ℕ) (z : View) → get_elem? s.views x ≡ some z → x < length s.views = in_range s.views in
+      let boss_at : (x : ℕ) (z : View) → get_elem? s.views x ≡ some z → x < length s.views = at_lt s.views in
       let sum : (f : View → ℕ) → total f (vs ++ u ∷ []) + f v ≡ total f s.views + f w + f u = λ f. omega (arith, total-append f vs (u ∷ []), total-set f s.views id v w me) in
       let same_ledger : r.dispatcher.ledger ≡ v.ledger = ap (λ (x : View). x.ledger) b.1 in
       record {
@@ -93,7 +88,7 @@ module _ (answer : Answer) where
       = λ P j x e p q o. ⊎_elim (λ (t : (j ≡ other) × (u ≡ x)). p t.1) (λ (t : (j ≢ other) × (get_elem? vs j ≡ some x)). ⊎_elim (λ (a : (j ≡ id) × (d ≡ x)). q a.0 a.1) (λ (a : (j ≢ id) × (get_elem? s.views j ≡ some x)). o a.1) (at_set s.views id j d x t.1)) (at_set vs other j u x e) in
       record {
         dispatcher = d;
-        first = set_else vs other 0 u (λ z. apart (sym z ∙ sym b.0)) ∙ subst (λ (x : ℕ). get_elem? (set s.views id d) x ≡ some d) b.0 (set_here s.views id d (in_range s.views id v me));
+        first = set_else vs other 0 u (λ z. apart (sym z ∙ sym b.0)) ∙ subst (λ (x : ℕ). get_elem? (set s.views id d) x ≡ some d) b.0 (set_here s.views id d (at_lt s.views id v me));
         dispatches = role;
         one_dispatcher = λ j x e is. cases (λ i _. i ≡ 0) j x e (λ t. absurd (cc)) (λ a _. a ∙ b.0) (λ a. r.one_dispatcher j x a is);
         wide = r.wide;

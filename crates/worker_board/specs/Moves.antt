@@ -1,5 +1,5 @@
--- What each step tells: of the step, the seat before, the number found and the seat after. Each step
--- notes the word that it leaves.
+-- What each step tells: of the step, the seat before, the number found and the seat after. Each
+-- step notes the word that it leaves.
 use Rattle.std.specs.Prelude.{◌≡◌, ◌≢◌, ℕ, suc, ◌/◌, ◌%◌, ◌<◌, ◌≤◌, List, [], ◌∷◌, ◌++◌, Some, None, slice_set}
 use mathlib.Core.Option.{some}
 use lib.ListN.{get_elem?}
@@ -118,8 +118,8 @@ Came answer v p x = Offers (job_of x) (offers_at v.ledger p) × IsAnswered answe
 abbrev pub LostBefore : View → ℕ → Type 0
 LostBefore v p = Has v.lost (offer_no p (newest (offers_at v.ledger p)))
 
--- a finished job was taken out, or found unfinished; it is finished where a take-back of it was lost
--- and no hand is out
+-- a finished job was taken out, or the job was found unfinished; it is finished where a take-back
+-- of it was lost and no hand is out
 abbrev pub looked : Answer → Told
 looked answer st m r n =
     (r % PHASES ≡ OVER → (x : Parcel) × Came answer m.0 st.word x

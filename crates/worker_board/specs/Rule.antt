@@ -118,8 +118,8 @@ module _ (answer : Answer) where
     -- each claim is a hand's, of the newest offer of its place
     pub claims : (j k : ℕ) (v : View) (c : Claim) → get_elem? s.views j ≡ some v
         → get_elem? v.held k ≡ some c
-        → (c.ticket.place < length s.homes) × IsCurrent c (offers_at dispatcher.ledger c.ticket.place)
-        × IsHand v.role
+        → (c.ticket.place < length s.homes)
+        × IsCurrent c (offers_at dispatcher.ledger c.ticket.place) × IsHand v.role
     -- who has a slot is the dispatcher at a place with no open offer, or has a claim there
     pub entitled : (j p : ℕ) (v : View) → get_elem? s.views j ≡ some v → v.turn ≡ suc p
         → ((j ≡ 0) × IsClosed (offers_at dispatcher.ledger p)) ⊎ (0 < holds p v)

@@ -1,5 +1,6 @@
 -- The words of the clauses: what a seat is known to be, and what its view says of a place.
 use Rattle.std.specs.Prelude.{◌≡◌, ◌≢◌, ℕ, List, [], ◌++◌, length}
+use Rattle.atomic_table.specs.Seated.{TableId}
 use Rattle.worker_board.specs.Tickets.{OfferNo}
 use Rattle.worker_board.specs.declared.word.TheConstants.{READY}
 use Rattle.worker_board.specs.declared.Parcel.{Parcel}
@@ -28,18 +29,29 @@ hand_view s = known s.seat.me.0
 abbrev pub number_at : HandSeat → ℕ
 number_at s = s.number
 
+-- what tells the boards apart, of a seat and of a hand
+abbrev pub seat_board : DispatchSeat → TableId
+seat_board s = s.seat.table_id
+
+abbrev pub hand_board : HandSeat → TableId
+hand_board s = s.seat.table_id
+
 module _ {D : Type 0} where
+  -- the same of a board
+  abbrev pub board_id : Board D → TableId
+  board_id b = b.table.shared.table_id
+
   -- how many places a board has
   abbrev pub places_of : Board D → ℕ
   places_of b = b.places
 
   -- the dispatcher's seat is this board's
   abbrev pub IsSeatOf : Board D → DispatchSeat → Type 0
-  IsSeatOf b s = s.seat.table_id ≡ b.table.shared.table_id
+  IsSeatOf b s = seat_board s ≡ board_id b
 
   -- the hand's seat is this board's
   abbrev pub IsHandOf : Board D → HandSeat → Type 0
-  IsHandOf b s = s.seat.table_id ≡ b.table.shared.table_id
+  IsHandOf b s = hand_board s ≡ board_id b
 
 -- what the steps of the dispatcher left words at, newest first
 abbrev pub notes_of : DispatchSeat → List Note
@@ -53,9 +65,10 @@ hand_notes s = s.seat.me.0.notes
 abbrev pub Grows : List Note → List Note → Type 0
 Grows old new = (more : List Note) × (new ≡ more ++ old)
 
--- no note was forgotten, and there is one that says so of the place's word
+-- no note was forgotten, and one of those that were added says so of the place's word
 abbrev pub Saw : ℕ → (ℕ → Type 0) → List Note → List Note → Type 0
-Saw p says old new = (w : ℕ) × says w × Has new (note p w) × Grows old new
+Saw p says old new =
+    (w : ℕ) × says w × ((more : List Note) × Has more (note p w) × (new ≡ more ++ old))
 
 -- the place's word was left at this generation and phase
 abbrev pub LeftAt : ℕ → ℕ → ℕ → List Note → List Note → Type 0

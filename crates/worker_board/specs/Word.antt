@@ -1,4 +1,4 @@
--- The word of a place, and the dispatcher's list of the place's offers, newest first, that it shows.
+-- The word of a place, and the dispatcher's list of the place's offers, newest first.
 use Rattle.std.specs.Prelude.{◌≡◌, ◌≢◌, ℕ, ◌+◌, ◌*◌, ◌⊎◌, List, [], ◌∷◌, length, ◌==◌, cond, slice_index_or}
 use Rattle.message_buffer.specs.Buffer.{bytes_of}
 use Rattle.worker_board.specs.declared.word.TheConstants.{PHASES, READY, CLAIMED, OVER}
