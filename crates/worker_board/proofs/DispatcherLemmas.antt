@@ -21,8 +21,8 @@ use Rattle.worker_board.specs.declared.view.End.{End}
 use Rattle.worker_board.specs.declared.view.End.TheVariants.{Open, Collected, TakenBack}
 use Rattle.worker_board.specs.Counts.{total, only, both_of, has_turn, holds, ran, times, is_hand, hand_of}
 use Rattle.worker_board.specs.Word.{IsUnfinished, Phase, closed, ready, claimed, done, digit, word_at, IsOpen, IsClosed, IsCurrent, offer_of, ended, newest, run_of, runs_of, OlderEnded, offers_at}
-use Rattle.worker_board.specs.Rule.{Slot, Answer, Home, IsHand, IsPastReady, HasRoom, InPhase, held_of, PlaceOk, Ruled}
-use Rattle.worker_board.specs.Moves.{Seated, note, noting, turned_to, offered, ended_as, missed, lost_at, opened, released, numbered, named, readied, LostBefore, summed, looked, took}
+use Rattle.worker_board.specs.Rule.{Slot, Answer, Home, IsHand, IsPastReady, HasRoom, InPhase, held_of, PlaceLaw, BoardLaw}
+use Rattle.worker_board.specs.Moves.{Seated, note, noting, turned_to, offered, ended_as, missed, lost_at, Opened, Released, Numbered, Named, Readied, LostBefore, Summed, Looked, TookBack}
 use Rattle.worker_board.proofs.CountsLemmas.{at_lt, total-set, term_le, only-same, only-other, only-is}
 use Rattle.worker_board.proofs.WordLemmas.{not_both, closed_phase, word_open, word_ended, word_below, closed_ended, older_ended, all_ended, runs_ended, runs_offered, lost_stays, some_term}
 use Rattle.worker_board.proofs.FrameLemmas.{Table, state, Allowed, moved}
@@ -40,19 +40,19 @@ turn_counts vs j p v me is = omega (arith, term_le (has_turn p) vs j v me, only-
 
 module _ (answer : Answer) where
   -- the dispatcher's view, and its number
-  pub is_dispatcher : (s : Table) (r : Ruled answer s) (id : ℕ) (v : View) → get_elem? s.views id ≡ some v → v.role ≡ Dispatcher → (id ≡ 0) × (r.dispatcher ≡ v)
+  pub is_dispatcher : (s : Table) (r : BoardLaw answer s) (id : ℕ) (v : View) → get_elem? s.views id ≡ some v → v.role ≡ Dispatcher → (id ≡ 0) × (r.dispatcher ≡ v)
   is_dispatcher s r id v me role = let z = r.one_dispatcher id v me role in (z, some-injective r.dispatcher v (sym r.first ∙ subst (λ (x : ℕ). get_elem? s.views x ≡ some v) z me))
 
-  pub dispatcher_moved : (s : Table) (r : Ruled answer s) (id p n : ℕ) (v : View) (hs : List (maybe.Option Slot)) (lg : List (List Offer)) (t : ℕ) (ms ls : List OfferNo) (nx : ℕ)
+  pub dispatcher_moved : (s : Table) (r : BoardLaw answer s) (id p n : ℕ) (v : View) (hs : List (maybe.Option Slot)) (lg : List (List Offer)) (t : ℕ) (ms ls : List OfferNo) (nx : ℕ)
       → v.role ≡ Dispatcher → get_elem? s.views id ≡ some v → p < length s.homes
       → length hs ≡ length s.homes → ((q : ℕ) → q ≢ p → get_elem? hs q ≡ get_elem? s.homes q)
       → length lg ≡ length v.ledger → ((q : ℕ) → q ≢ p → offers_at lg q ≡ offers_at v.ledger q)
       → ((q : ℕ) → q ≢ p → only (suc q) t ≡ only (suc q) v.turn)
-      → PlaceOk answer p n (get_elem? hs p) (set s.views id record v { turn = t; notes = note p n ∷ v.notes; ledger = lg; misses = ms; lost = ls; next = nx }) (offers_at lg p)
+      → PlaceLaw answer p n (get_elem? hs p) (set s.views id record v { turn = t; notes = note p n ∷ v.notes; ledger = lg; misses = ms; lost = ls; next = nx }) (offers_at lg p)
       → ((c : Claim) → 0 < total (holds p) s.views → IsCurrent c (offers_at v.ledger p) → IsCurrent c (offers_at lg p))
       → ((q : ℕ) → t ≡ suc q → (q ≡ p) × IsClosed (offers_at lg p)) → get_or s.words p 0 ≤ n
       → ((k : ℕ) (x : OfferNo) → get_elem? ls k ≡ some x → IsPastReady x (set s.words p n))
-      → Ruled answer (state (set s.words p n) hs (set s.views id record v { turn = t; notes = note p n ∷ v.notes; ledger = lg; misses = ms; lost = ls; next = nx }))
+      → BoardLaw answer (state (set s.words p n) hs (set s.views id record v { turn = t; notes = note p n ∷ v.notes; ledger = lg; misses = ms; lost = ls; next = nx }))
   dispatcher_moved s r id p n v hs lg t ms ls nx role me near long-hs homes long-lg same turns here still turn up lost =
       let b = is_dispatcher s r id v me role in let w : View = record v { turn = t; notes = note p n ∷ v.notes; ledger = lg; misses = ms; lost = ls; next = nx } in
       let at : (q : ℕ) → offers_at v.ledger q ≡ offers_at r.dispatcher.ledger q = λ q. ap (λ (x : View). offers_at x.ledger q) (sym b.1) in
@@ -70,8 +70,8 @@ module _ (answer : Answer) where
 
   -- what the dispatcher's step leaves of the place that it steps at
   place_after : (p w₀ n id : ℕ) (h₀ h : Home) (vs : List View) (v w : View) (l₀ l : List Offer) (ph : Phase) → get_elem? vs id ≡ some v → w.held ≡ v.held → w.runs ≡ v.runs
-      → (k : PlaceOk answer p w₀ h₀ vs l₀) → n ≡ word_at l ph → InPhase answer l h (total (has_turn p) (set vs id w)) ph → held_of answer ph ≡ held_of answer k.phase
-      → ((g : ℕ) → runs_of g ph l ≡ runs_of g k.phase l₀) → OlderEnded l → PlaceOk answer p n h (set vs id w) l
+      → (k : PlaceLaw answer p w₀ h₀ vs l₀) → n ≡ word_at l ph → InPhase answer l h (total (has_turn p) (set vs id w)) ph → held_of answer ph ≡ held_of answer k.phase
+      → ((g : ℕ) → runs_of g ph l ≡ runs_of g k.phase l₀) → OlderEnded l → PlaceLaw answer p n h (set vs id w) l
   place_after p w₀ n id h₀ h vs v w l₀ l ph me held runs k word stands same-held same-runs past = record {
     phase = ph;
     word_is = word;
@@ -82,17 +82,17 @@ module _ (answer : Answer) where
   }
 
   -- nobody has the slot of a closed place while the dispatcher has none
-  slot_with_nobody : (s : Table) (r : Ruled answer s) (id p : ℕ) (v : View) → get_elem? s.views id ≡ some v → v.role ≡ Dispatcher → v.turn ≡ 0 → total (holds p) s.views ≡ 0 → total (has_turn p) s.views ≡ 0
+  slot_with_nobody : (s : Table) (r : BoardLaw answer s) (id p : ℕ) (v : View) → get_elem? s.views id ≡ some v → v.role ≡ Dispatcher → v.turn ≡ 0 → total (holds p) s.views ≡ 0 → total (has_turn p) s.views ≡ 0
   slot_with_nobody s r id p v me role idle none-held = let b = is_dispatcher s r id v me role in dite (ℕ_discrete (total (has_turn p) s.views) 0) (λ z. z) (λ nz.
       let t = some_term (has_turn p) s.views (omega arith) in let u = t.1.0 in let on : u.turn ≡ suc p = only-is (suc p) u.turn t.1.2 in
       ⊎_elim (λ a. let same : u ≡ v = some-injective u v (sym t.1.1 ∙ subst (λ (x : ℕ). get_elem? s.views x ≡ some v) (b.0 ∙ sym a.0) me) in absurd (suc-ne-zero p (sym on ∙ ap (λ (x : View). x.turn) same ∙ idle)))
       (λ a. absurd (omega (arith, term_le (holds p) s.views t.0 u t.1.1))) (r.entitled t.0 p u t.1.1 on))
 
   pub opens : (n id : ℕ) (m : Seated) (p : ℕ) → p < n → m.0.role ≡ Dispatcher → m.0.turn ≡ 0 → IsClosed (offers_at m.0.ledger p)
-      → Allows (Ruled answer) n id m p (λ y. y) (opened (step n p 0 0 none) m)
+      → Allows (BoardLaw answer) n id m p (λ y. y) (Opened (step n p 0 0 none) m)
   opens n id m p inside role idle shut s r wide me _ =
       let near : p < length s.homes = omega arith in let v : View = m.0 in let b = is_dispatcher s r id v me role in let l : List Offer = offers_at v.ledger p in
-      let k : PlaceOk answer p (get_or s.words p 0) (get_elem? s.homes p) s.views l = subst (λ (x : View). PlaceOk answer p (get_or s.words p 0) (get_elem? s.homes p) s.views (offers_at x.ledger p)) b.1 (r.places p near) in
+      let k : PlaceLaw answer p (get_or s.words p 0) (get_elem? s.homes p) s.views l = subst (λ (x : View). PlaceLaw answer p (get_or s.words p 0) (get_elem? s.homes p) s.views (offers_at x.ledger p)) b.1 (r.places p near) in
       let is : k.phase ≡ closed = closed_phase answer l _ _ shut k.phase k.stands in
       let stands = subst (InPhase answer l (get_elem? s.homes p) (total (has_turn p) s.views)) is k.stands in
       let none-held : total (holds p) s.views ≡ 0 = k.held ∙ ap (held_of answer) is in
@@ -113,11 +113,11 @@ module _ (answer : Answer) where
       )
 
   -- what the dispatcher knows of a place, by its own list of offers
-  pub place_known : (s : Table) (r : Ruled answer s) (id p : ℕ) (v : View) → get_elem? s.views id ≡ some v → v.role ≡ Dispatcher → p < length s.homes
-      → PlaceOk answer p (get_or s.words p 0) (get_elem? s.homes p) s.views (offers_at v.ledger p)
-  place_known s r id p v me role near = subst (λ (x : View). PlaceOk answer p (get_or s.words p 0) (get_elem? s.homes p) s.views (offers_at x.ledger p)) (is_dispatcher s r id v me role).1 (r.places p near)
+  pub place_known : (s : Table) (r : BoardLaw answer s) (id p : ℕ) (v : View) → get_elem? s.views id ≡ some v → v.role ≡ Dispatcher → p < length s.homes
+      → PlaceLaw answer p (get_or s.words p 0) (get_elem? s.homes p) s.views (offers_at v.ledger p)
+  place_known s r id p v me role near = subst (λ (x : View). PlaceLaw answer p (get_or s.words p 0) (get_elem? s.homes p) s.views (offers_at x.ledger p)) (is_dispatcher s r id v me role).1 (r.places p near)
 
-  lost_now : (s : Table) (r : Ruled answer s) (id p n : ℕ) (v : View) → get_elem? s.views id ≡ some v → v.role ≡ Dispatcher → p < length s.homes → get_or s.words p 0 ≤ n
+  lost_now : (s : Table) (r : BoardLaw answer s) (id p n : ℕ) (v : View) → get_elem? s.views id ≡ some v → v.role ≡ Dispatcher → p < length s.homes → get_or s.words p 0 ≤ n
       → (k : ℕ) (x : OfferNo) → get_elem? v.lost k ≡ some x → IsPastReady x (set s.words p n)
   lost_now s r id p n v me role near up = let long = r.wide in
       lost_stays s.words p n v.lost (omega arith) up (subst (λ (x : View). (k : ℕ) (t : OfferNo) → get_elem? x.lost k ≡ some t → IsPastReady t s.words) (is_dispatcher s r id v me role).1 r.lost)
@@ -130,7 +130,7 @@ module _ (answer : Answer) where
   given_back l h h' t t' one here done k = let none-out = k.1 in absurd (omega arith)
 
   releases_from : (n id : ℕ) (v : View) (p : ℕ) (more : List (ℕ × Slot)) → p < n → v.role ≡ Dispatcher → v.turn ≡ suc p
-      → Allows (Ruled answer) n id (v, (p, None) ∷ more) p (λ y. y) (released (step n p 0 0 none) (v, (p, None) ∷ more))
+      → Allows (BoardLaw answer) n id (v, (p, None) ∷ more) p (λ y. y) (Released (step n p 0 0 none) (v, (p, None) ∷ more))
   releases_from n id v p more inside role on s r wide me _ =
       let near : p < length s.homes = omega arith in let l : List Offer = offers_at v.ledger p in let k = place_known s r id p v me role near in let w : View = noting p (get_or s.words p 0) (turned_to v 0) in
       let now = total-set (has_turn p) s.views id v w me in let on' = only-same (suc p) v.turn on in let off = only-other (suc p) 0 (λ e. suc-ne-zero p (sym e)) in (
@@ -147,16 +147,16 @@ module _ (answer : Answer) where
       )
 
   pub releases : (n id : ℕ) (m : Seated) (p : ℕ) (more : List (ℕ × Slot)) → m.1 ≡ (p, None) ∷ more → p < n → m.0.role ≡ Dispatcher → m.0.turn ≡ suc p
-      → Allows (Ruled answer) n id m p (λ y. y) (released (step n p 0 0 none) m)
+      → Allows (BoardLaw answer) n id m p (λ y. y) (Released (step n p 0 0 none) m)
   releases n id m p more e inside role on =
-      subst (λ (c : List (ℕ × Slot)). Allows (Ruled answer) n id (m.0, c) p (λ y. y) (released (step n p 0 0 none) (m.0, c))) (sym e) (releases_from n id m.0 p more inside role on)
+      subst (λ (c : List (ℕ × Slot)). Allows (BoardLaw answer) n id (m.0, c) p (λ y. y) (Released (step n p 0 0 none) (m.0, c))) (sym e) (releases_from n id m.0 p more inside role on)
 
   set_offers : (lg : List (List Offer)) (p : ℕ) (l : List Offer) → p < length lg → offers_at (set lg p l) p ≡ l
   set_offers lg p l near = get_or-set_same lg p l [] near
 
   readies_from : (n id : ℕ) (v : View) (p : ℕ) (x : Parcel) (more : List (ℕ × Slot)) (new : ℕ) → p < n → v.role ≡ Dispatcher → v.turn ≡ suc p → IsClosed (offers_at v.ledger p) → HasRoom answer x
       → new ≡ PHASES * length (offers_at v.ledger p) + READY
-      → Allows (Ruled answer) n id (v, (p, Some x) ∷ more) p (λ _. new) (λ _. readied (step n p new 0 none) (v, (p, Some x) ∷ more) new)
+      → Allows (BoardLaw answer) n id (v, (p, Some x) ∷ more) p (λ _. new) (λ _. Readied (step n p new 0 none) (v, (p, Some x) ∷ more) new)
   readies_from n id v p x more new inside role on shut fits is-new s r wide me _ =
       let near : p < length s.homes = omega arith in let b = is_dispatcher s r id v me role in let l : List Offer = offers_at v.ledger p in let o = offer_of x Open in
       let k = place_known s r id p v me role near in let is : k.phase ≡ closed = closed_phase answer l _ _ shut k.phase k.stands in
@@ -173,7 +173,7 @@ module _ (answer : Answer) where
         dispatcher_moved s r id p new v (set s.homes p (some (Some x))) w.ledger 0 v.misses v.lost v.next role me near (length-set s.homes p (some (Some x))) (λ q ne. set_else s.homes p q (some (Some x)) ne)
             (length-set v.ledger p (o ∷ l)) (λ q ne. get_or-set_other v.ledger p q (o ∷ l) [] ne)
             (λ q ne. only-other (suc q) 0 (λ e. suc-ne-zero q (sym e)) ∙ sym (only-other (suc q) v.turn (λ e. ne (suc_inj (sym e ∙ on)))))
-            (subst (λ (ls : List Offer). PlaceOk answer p new (get_elem? (set s.homes p (some (Some x))) p) (set s.views id w) ls) (sym here)
+            (subst (λ (ls : List Offer). PlaceLaw answer p new (get_elem? (set s.homes p (some (Some x))) p) (set s.views id w) ls) (sym here)
             (place_after p (get_or s.words p 0) new id (get_elem? s.homes p) _ s.views v w l (o ∷ l) ready me refl refl k is-new
             (refl, turns, (x, set_here s.homes p (some (Some x)) near, refl, fits)) (ap (held_of answer) (sym is))
             (λ g. runs_offered g l x ∙ ap (λ ph. runs_of g ph l) (sym is)) (all_ended l shut k.past)))
@@ -187,14 +187,14 @@ module _ (answer : Answer) where
 
   pub readies : (n id : ℕ) (m : Seated) (p : ℕ) (x : Parcel) (more : List (ℕ × Slot)) (new : ℕ) → m.1 ≡ (p, Some x) ∷ more → p < n → m.0.role ≡ Dispatcher → m.0.turn ≡ suc p → IsClosed (offers_at m.0.ledger p) → HasRoom answer x
       → new ≡ PHASES * length (offers_at m.0.ledger p) + READY
-      → Allows (Ruled answer) n id m p (λ _. new) (λ _. readied (step n p new 0 none) m new)
+      → Allows (BoardLaw answer) n id m p (λ _. new) (λ _. Readied (step n p new 0 none) m new)
   readies n id m p x more new e inside role on shut fits is-new =
-      subst (λ (c : List (ℕ × Slot)). Allows (Ruled answer) n id (m.0, c) p (λ _. new) (λ _. readied (step n p new 0 none) (m.0, c) new)) (sym e) (readies_from n id m.0 p x more new inside role on shut fits is-new)
+      subst (λ (c : List (ℕ × Slot)). Allows (BoardLaw answer) n id (m.0, c) p (λ _. new) (λ _. Readied (step n p new 0 none) (m.0, c) new)) (sym e) (readies_from n id m.0 p x more new inside role on shut fits is-new)
 
   -- a step that leaves all as it was, but for the dispatcher's lists of misses and losses
-  dispatcher_notes : (s : Table) (r : Ruled answer s) (id p : ℕ) (v : View) (ms ls : List OfferNo) (nx : ℕ) → get_elem? s.views id ≡ some v → v.role ≡ Dispatcher → p < length s.homes → v.turn ≡ 0
+  dispatcher_notes : (s : Table) (r : BoardLaw answer s) (id p : ℕ) (v : View) (ms ls : List OfferNo) (nx : ℕ) → get_elem? s.views id ≡ some v → v.role ≡ Dispatcher → p < length s.homes → v.turn ≡ 0
       → ((k : ℕ) (x : OfferNo) → get_elem? ls k ≡ some x → IsPastReady x (set s.words p (get_or s.words p 0)))
-      → Ruled answer (state (set s.words p (get_or s.words p 0)) s.homes (set s.views id record v { notes = note p (get_or s.words p 0) ∷ v.notes; misses = ms; lost = ls; next = nx }))
+      → BoardLaw answer (state (set s.words p (get_or s.words p 0)) s.homes (set s.views id record v { notes = note p (get_or s.words p 0) ∷ v.notes; misses = ms; lost = ls; next = nx }))
   dispatcher_notes s r id p v ms ls nx me role near idle lost = let k = place_known s r id p v me role near in let l : List Offer = offers_at v.ledger p in let w : View = record v { notes = note p (get_or s.words p 0) ∷ v.notes; misses = ms; lost = ls; next = nx } in
       let turns : total (has_turn p) s.views ≡ total (has_turn p) (set s.views id w) = omega (arith, total-set (has_turn p) s.views id v w me) in
       dispatcher_moved s r id p (get_or s.words p 0) v s.homes v.ledger v.turn ms ls nx role me near refl (λ q ne. refl) refl (λ q ne. refl) (λ q ne. refl)
@@ -202,10 +202,10 @@ module _ (answer : Answer) where
       (λ c _ cur. cur) (λ q e. absurd (suc-ne-zero q (sym e ∙ idle))) (le_refl _) lost
 
   -- the dispatcher ends its newest offer of a place, and takes the slot
-  dispatcher_ends : (s : Table) (r : Ruled answer s) (id p new : ℕ) (v : View) (e : End) (ph : Phase) (x : Parcel) → (me : get_elem? s.views id ≡ some v) → (role : v.role ≡ Dispatcher) → (near : p < length s.homes) → v.turn ≡ 0
+  dispatcher_ends : (s : Table) (r : BoardLaw answer s) (id p new : ℕ) (v : View) (e : End) (ph : Phase) (x : Parcel) → (me : get_elem? s.views id ≡ some v) → (role : v.role ≡ Dispatcher) → (near : p < length s.homes) → v.turn ≡ 0
       → e ≢ Open → IsOpen (offers_at v.ledger p) → (place_known s r id p v me role near).phase ≡ ph → total (has_turn p) s.views ≡ 0 → held_of answer ph ≡ 0 → run_of closed e ≡ run_of ph Open
       → new ≡ PHASES * newest (offers_at v.ledger p) + OVER → get_or s.words p 0 ≤ new
-      → Ruled answer (state (set s.words p new) (set s.homes p none) (set s.views id (noting p new (turned_to (ended_as e v p) (suc p)))))
+      → BoardLaw answer (state (set s.words p new) (set s.homes p none) (set s.views id (noting p new (turned_to (ended_as e v p) (suc p)))))
   dispatcher_ends s r id p new v e ph x me role near idle over live is zero-turns zero-held same-runs is-new up = let k = place_known s r id p v me role near in let l : List Offer = offers_at v.ledger p in let b = is_dispatcher s r id v me role in
       let w : View = noting p new (turned_to (ended_as e v p) (suc p)) in let long : length v.ledger ≡ length s.homes = ap (λ (u : View). length u.ledger) (sym b.1) ∙ r.long in
       let here : offers_at w.ledger p ≡ ended e l = set_offers v.ledger p (ended e l) (omega arith) in
@@ -214,7 +214,7 @@ module _ (answer : Answer) where
       dispatcher_moved s r id p new v (set s.homes p none) w.ledger (suc p) v.misses v.lost v.next role me near (length-set s.homes p none) (λ q ne. set_else s.homes p q none ne)
       (length-set v.ledger p (ended e l)) (λ q ne. get_or-set_other v.ledger p q (ended e l) [] ne)
       (λ q ne. only-other (suc q) (suc p) (λ i. ne (sym (suc_inj i))) ∙ sym (only-other (suc q) v.turn (λ i. suc-ne-zero q (sym i ∙ idle))))
-      (subst (λ (ls : List Offer). PlaceOk answer p new (get_elem? (set s.homes p none) p) (set s.views id w) ls) (sym here)
+      (subst (λ (ls : List Offer). PlaceLaw answer p new (get_elem? (set s.homes p none) p) (set s.views id w) ls) (sym here)
       (place_after p (get_or s.words p 0) new id (get_elem? s.homes p) _ s.views v w l (ended e l) closed me refl refl k (is-new ∙ sym (word_ended l e live))
       (closed_ended l e over, ((λ z. absurd (omega arith)), (λ _. set_here s.homes p none near), omega arith)) (sym (ap (held_of answer) is ∙ zero-held))
       (λ g. runs_ended g l e ph live same-runs ∙ ap (λ i. runs_of g i l) (sym is)) (older_ended l e k.past)))
@@ -222,7 +222,7 @@ module _ (answer : Answer) where
       (lost_now s r id p new v me role near up)
 
   -- a claim that is held is a hand's that is out
-  claimed_by_a_hand : (s : Table) (r : Ruled answer s) (p : ℕ) → p < length s.homes → total (holds p) s.views ≡ 1 → r.dispatcher.out ≡ [] → ⊥
+  claimed_by_a_hand : (s : Table) (r : BoardLaw answer s) (p : ℕ) → p < length s.homes → total (holds p) s.views ≡ 1 → r.dispatcher.out ≡ [] → ⊥
   claimed_by_a_hand s r p near one none-out = let t = some_term (holds p) s.views (omega arith) in let u = t.1.0 in let c = some_term (λ (x : Claim). only p x.ticket.place) u.held t.1.2 in
       out_of u.role refl (r.claims t.0 c.0 u c.1.0 t.1.1 c.1.1).2
     where
@@ -232,18 +232,18 @@ module _ (answer : Answer) where
       out_of Spent is h = h
 
   pub looks : (n id : ℕ) (m : Seated) (p : ℕ) → p < n → m.0.role ≡ Dispatcher → m.0.turn ≡ 0 → IsOpen (offers_at m.0.ledger p)
-      → Allows (Ruled answer) n id m p (λ y. y) (looked answer (step n p 0 0 none) m)
+      → Allows (BoardLaw answer) n id m p (λ y. y) (Looked answer (step n p 0 0 none) m)
   looks n id m p inside role idle live s r wide me _ = let near : p < length s.homes = omega arith in let v : View = m.0 in let l : List Offer = offers_at v.ledger p in let k = place_known s r id p v me role near in
       go near k.phase refl k.stands (k.word_is ∙ word_open l k.phase live)
     where
       v : View
       v = m.0
 
-      unready : (near : p < length s.homes) → get_or s.words p 0 % PHASES ≢ OVER → (LostBefore m.0 p → m.0.out ≡ [] → ⊥) → IsUnfinished (newest (offers_at m.0.ledger p)) (get_or s.words p 0) → Allowed answer s p id m (looked answer (step n p 0 0 none) m) (get_or s.words p 0)
+      unready : (near : p < length s.homes) → get_or s.words p 0 % PHASES ≢ OVER → (LostBefore m.0 p → m.0.out ≡ [] → ⊥) → IsUnfinished (newest (offers_at m.0.ledger p)) (get_or s.words p 0) → Allowed answer s p id m (Looked answer (step n p 0 0 none) m) (get_or s.words p 0)
       unready near not sure found = (noting p (get_or s.words p 0) (missed m.0 p), keeps, tt, dispatcher_notes s r id p m.0 (offer_no p (newest (offers_at m.0.ledger p)) ∷ m.0.misses) m.0.lost m.0.next me role near idle (lost_now s r id p (get_or s.words p 0) m.0 me role near (le_refl _)), ((λ e. absurd (not e)), (λ _. refl), (λ had none-out. absurd (sure had none-out)), (λ e. absurd (not e)), λ _. found))
 
       go : (near : p < length s.homes) (ph : Phase) → (place_known s r id p m.0 me role near).phase ≡ ph → InPhase answer (offers_at m.0.ledger p) (get_elem? s.homes p) (total (has_turn p) s.views) ph
-          → get_or s.words p 0 ≡ PHASES * newest (offers_at m.0.ledger p) + digit ph → Allowed answer s p id m (looked answer (step n p 0 0 none) m) (get_or s.words p 0)
+          → get_or s.words p 0 ≡ PHASES * newest (offers_at m.0.ledger p) + digit ph → Allowed answer s p id m (Looked answer (step n p 0 0 none) m) (get_or s.words p 0)
       go near closed is k word = absurd (not_both (offers_at m.0.ledger p) live k.0)
       go near ready is k word = unready near (λ e. absurd (omega arith)) (λ had _. let past = subst (λ (x : View). (k : ℕ) (t : OfferNo) → get_elem? x.lost k ≡ some t → IsPastReady t s.words) (is_dispatcher s r id m.0 me role).1 r.lost had.0 _ had.1 in absurd (omega arith)) (inl word)
       go near claimed is k word = unready near (λ e. absurd (omega arith)) (λ had none-out. claimed_by_a_hand s r p near ((place_known s r id p m.0 me role near).held ∙ ap (held_of answer) is) (ap (λ (x : View). x.out) (is_dispatcher s r id m.0 me role).1 ∙ none-out)) (inr word)
@@ -256,12 +256,12 @@ module _ (answer : Answer) where
       )
 
   pub takes_back : (n id : ℕ) (m : Seated) (p old new : ℕ) → p < n → m.0.role ≡ Dispatcher → m.0.turn ≡ 0 → IsOpen (offers_at m.0.ledger p) → old ≡ PHASES * newest (offers_at m.0.ledger p) + READY → new ≡ old + 2
-      → Allows (Ruled answer) n id m p (λ y. either (eqb y old) new y) (took (step n p old new none) m)
+      → Allows (BoardLaw answer) n id m p (λ y. either (eqb y old) new y) (TookBack (step n p old new none) m)
   takes_back n id m p old new inside role idle live is-old is-new s r wide me _ = let near : p < length s.homes = omega arith in let l : List Offer = offers_at m.0.ledger p in let k = place_known s r id p m.0 me role near in
-      exchanged (get_or s.words p 0) old new (Allowed answer s p id m (took (step n p old new none) m)) (hit near k.phase refl k.stands (k.word_is ∙ word_open l k.phase live)) (miss near k.phase k.stands (k.word_is ∙ word_open l k.phase live))
+      exchanged (get_or s.words p 0) old new (Allowed answer s p id m (TookBack (step n p old new none) m)) (hit near k.phase refl k.stands (k.word_is ∙ word_open l k.phase live)) (miss near k.phase k.stands (k.word_is ∙ word_open l k.phase live))
     where
       G : ℕ → Type 0
-      G = Allowed answer s p id m (took (step n p old new none) m)
+      G = Allowed answer s p id m (TookBack (step n p old new none) m)
 
       hit : (near : p < length s.homes) (ph : Phase) → (place_known s r id p m.0 me role near).phase ≡ ph → InPhase answer (offers_at m.0.ledger p) (get_elem? s.homes p) (total (has_turn p) s.views) ph
           → get_or s.words p 0 ≡ PHASES * newest (offers_at m.0.ledger p) + digit ph → get_or s.words p 0 ≡ old → G new
@@ -300,7 +300,7 @@ module _ (answer : Answer) where
           past near ph k word not (suc i) x e = lost_now s r id p (get_or s.words p 0) m.0 me role near (le_refl _) i x e
 
   pub numbers : (n id : ℕ) (m : Seated) (p : ℕ) → p < n → m.0.role ≡ Dispatcher → m.0.turn ≡ 0 → IsOpen (offers_at m.0.ledger p)
-      → Allows (Ruled answer) n id m p (λ y. y) (numbered (step n p 0 0 none) m)
+      → Allows (BoardLaw answer) n id m p (λ y. y) (Numbered (step n p 0 0 none) m)
   numbers n id m p inside role idle live s r wide me _ = let near : p < length s.homes = omega arith in let l : List Offer = offers_at m.0.ledger p in let k = place_known s r id p m.0 me role near in
       (noting p (get_or s.words p 0) m.0, keeps, tt, dispatcher_notes s r id p m.0 m.0.misses m.0.lost m.0.next me role near idle (lost_now s r id p (get_or s.words p 0) m.0 me role near (le_refl _)), (refl, below (newest l) k.phase (k.word_is ∙ word_open l k.phase live)))
     where
@@ -312,14 +312,14 @@ module _ (answer : Answer) where
 
   -- the dispatcher notes the number of the next hand
   pub names : (n id : ℕ) (m : Seated) (number : ℕ) → 0 < n → m.0.role ≡ Dispatcher → m.0.turn ≡ 0
-      → Allows (Ruled answer) n id m 0 (λ y. either (eqb y number) number y) (named (step n 0 number number none) m)
+      → Allows (BoardLaw answer) n id m 0 (λ y. either (eqb y number) number y) (Named (step n 0 number number none) m)
   names n id m number inside role idle s r wide me _ = let near : 0 < length s.homes = omega arith in let y : ℕ = get_or s.words 0 0 in
       let same : (b : _) → eqb y number ≡ b → either b number y ≡ y = go y number in
       let stay : either (eqb y number) number y ≡ y = same (eqb y number) refl in (
         noting 0 y (record m.0 { next = number }),
         keeps,
         tt,
-        subst (λ (x : ℕ). Ruled answer (state (set s.words 0 x) s.homes (set s.views id (noting 0 y (record m.0 { next = number }))))) (sym stay)
+        subst (λ (x : ℕ). BoardLaw answer (state (set s.words 0 x) s.homes (set s.views id (noting 0 y (record m.0 { next = number }))))) (sym stay)
             (dispatcher_notes s r id 0 m.0 m.0.misses m.0.lost number me role near idle (lost_now s r id 0 y m.0 me role near (le_refl _))),
         refl,
       )
@@ -347,7 +347,7 @@ module _ (answer : Answer) where
       go true claimed TakenBack h = omega arith
       go true done TakenBack h = omega arith
 
-  pub sums : (n id : ℕ) (m : Seated) → 0 < n → m.0.role ≡ Dispatcher → m.0.turn ≡ 0 → Allows (Ruled answer) n id m 0 (λ y. y) (summed (step n 0 0 0 none) m)
+  pub sums : (n id : ℕ) (m : Seated) → 0 < n → m.0.role ≡ Dispatcher → m.0.turn ≡ 0 → Allows (BoardLaw answer) n id m 0 (λ y. y) (Summed (step n 0 0 0 none) m)
   sums n id m inside role idle s r wide me _ = let near : 0 < length s.homes = omega arith in (
     noting 0 (get_or s.words 0 0) m.0,
     keeps,

@@ -17,7 +17,7 @@ use Rattle.worker_board.specs.Counts.{total, has_turn, holds, ran, times, is_han
 use Rattle.worker_board.specs.Word.{IsClosed, IsCurrent, offers_at}
 use Rattle.worker_board.specs.Moves.{Seated, note}
 use Rattle.worker_board.proofs.WordLemmas.{notes_stay, notes_grow}
-use Rattle.worker_board.specs.Rule.{IsPastReady, Slot, Answer, Home, IsHand, InPhase, PlaceOk, Ruled}
+use Rattle.worker_board.specs.Rule.{IsPastReady, Slot, Answer, Home, IsHand, InPhase, PlaceLaw, BoardLaw}
 use Rattle.worker_board.proofs.CountsLemmas.{total-set}
 
 abbrev pub Table : Type 0
@@ -35,10 +35,10 @@ pub record Alike (q : ℕ) (v w : View) : Type 0 where
 module _ (answer : Answer) where
   -- what stays of a place that a step does not touch
   other_place : (q : ℕ) (w₀ w₁ : ℕ) (h₀ h₁ : Home) (vs : List View) (j : ℕ) (v w : View) (l₀ l₁ : List Offer) → get_elem? vs j ≡ some v → Alike q v w
-      → w₁ ≡ w₀ → h₁ ≡ h₀ → l₁ ≡ l₀ → PlaceOk answer q w₀ h₀ vs l₀ → PlaceOk answer q w₁ h₁ (set vs j w) l₁
+      → w₁ ≡ w₀ → h₁ ≡ h₀ → l₁ ≡ l₀ → PlaceLaw answer q w₀ h₀ vs l₀ → PlaceLaw answer q w₁ h₁ (set vs j w) l₁
   other_place q w₀ w₁ h₀ h₁ vs j v w l₀ l₁ me same ew eh el k =
       let turns : total (has_turn q) (set vs j w) ≡ total (has_turn q) vs = omega (arith, total-set (has_turn q) vs j v w me, same.turns) in
-      subst (λ (x : List Offer). PlaceOk answer q w₁ h₁ (set vs j w) x) (sym el) (subst (λ (x : Home). PlaceOk answer q w₁ x (set vs j w) l₀) (sym eh)
+      subst (λ (x : List Offer). PlaceLaw answer q w₁ h₁ (set vs j w) x) (sym el) (subst (λ (x : Home). PlaceLaw answer q w₁ x (set vs j w) l₀) (sym eh)
       record {
         phase = k.phase;
         word_is = ew ∙ k.word_is;
@@ -48,20 +48,20 @@ module _ (answer : Answer) where
         past = k.past;
       })
 
-  pub moved : (s : Table) (r : Ruled answer s) (j p n : ℕ) (v w d : View) (hs : List (maybe.Option Slot))
+  pub moved : (s : Table) (r : BoardLaw answer s) (j p n : ℕ) (v w d : View) (hs : List (maybe.Option Slot))
       → get_elem? s.views j ≡ some v → p < length s.homes
       → length hs ≡ length s.homes → ((q : ℕ) → q ≢ p → get_elem? hs q ≡ get_elem? s.homes q)
       → get_elem? (set s.views j w) 0 ≡ some d → d.role ≡ Dispatcher → w.role ≡ v.role → d.out ≡ r.dispatcher.out → d.used ≡ r.dispatcher.used
       → length d.ledger ≡ length s.homes → ((q : ℕ) → q ≢ p → offers_at d.ledger q ≡ offers_at r.dispatcher.ledger q)
       → ((q : ℕ) → q ≢ p → Alike q v w)
-      → PlaceOk answer p n (get_elem? hs p) (set s.views j w) (offers_at d.ledger p)
+      → PlaceLaw answer p n (get_elem? hs p) (set s.views j w) (offers_at d.ledger p)
       → ((k : ℕ) (c : Claim) → get_elem? w.held k ≡ some c → (c.ticket.place < length s.homes) × IsCurrent c (offers_at d.ledger c.ticket.place) × IsHand w.role)
       → ((i k : ℕ) (u : View) (c : Claim) → i ≢ j → get_elem? s.views i ≡ some u → get_elem? u.held k ≡ some c → c.ticket.place ≡ p → IsCurrent c (offers_at d.ledger p))
       → ((q : ℕ) → w.turn ≡ suc q → ((j ≡ 0) × IsClosed (offers_at d.ledger q)) ⊎ (0 < holds q w))
       → (j ≢ 0 → IsClosed (offers_at r.dispatcher.ledger p) → IsClosed (offers_at d.ledger p))
       → get_or s.words p 0 ≤ n → w.notes ≡ note p n ∷ v.notes
       → ((k : ℕ) (t : OfferNo) → get_elem? d.lost k ≡ some t → IsPastReady t (set s.words p n))
-      → Ruled answer (state (set s.words p n) hs (set s.views j w))
+      → BoardLaw answer (state (set s.words p n) hs (set s.views j w))
   moved s r j p n v w d hs me near long-hs homes dispatcher dispatches role out used long ledger alike here mine theirs turn closes up notes lost =
       let longer : (q : ℕ) → q < length hs → q < length s.homes = λ q h. subst (λ (x : ℕ). q < x) long-hs h in
       record {
@@ -72,8 +72,8 @@ module _ (answer : Answer) where
         wide = length-set s.words p n ∙ r.wide ∙ sym long-hs;
         long = long ∙ sym long-hs;
         places = λ q h. let inside : q < length s.homes = longer q h in let wide = r.wide in dite (ℕ_discrete q p)
-            (λ e. subst (λ (x : ℕ). PlaceOk answer x (get_or (set s.words p n) x 0) (get_elem? hs x) (set s.views j w) (offers_at d.ledger x)) (sym e)
-            (subst (λ (x : ℕ). PlaceOk answer p x (get_elem? hs p) (set s.views j w) (offers_at d.ledger p)) (sym (get_or-set_same s.words p n 0 (omega arith))) here))
+            (λ e. subst (λ (x : ℕ). PlaceLaw answer x (get_or (set s.words p n) x 0) (get_elem? hs x) (set s.views j w) (offers_at d.ledger x)) (sym e)
+            (subst (λ (x : ℕ). PlaceLaw answer p x (get_elem? hs p) (set s.views j w) (offers_at d.ledger p)) (sym (get_or-set_same s.words p n 0 (omega arith))) here))
             (λ ne. other_place q (get_or s.words q 0) _ (get_elem? s.homes q) _ s.views j v w (offers_at r.dispatcher.ledger q) _ me (alike q ne)
             (get_or-set_other s.words p q n 0 ne) (homes q ne) (ledger q ne) (r.places q inside));
         seen = λ i k u x e at. let ws = r.wide in ⊎_elim
@@ -107,4 +107,4 @@ module _ (answer : Answer) where
 
   -- a step to the word k can be taken, keeps the rule and tells what it should
   abbrev pub Allowed : Table → ℕ → ℕ → Seated → (ℕ → Seated → Type 0) → ℕ → Type 0
-  Allowed s i id m then k = (w : View) × (a : Act Slot) × Valid s.homes m.1 a × Ruled answer (stepped s i k id m.1 w a) × then (get_or s.words i 0) (w, carried_after m.1 a)
+  Allowed s i id m then k = (w : View) × (a : Act Slot) × Valid s.homes m.1 a × BoardLaw answer (stepped s i k id m.1 w a) × then (get_or s.words i 0) (w, carried_after m.1 a)

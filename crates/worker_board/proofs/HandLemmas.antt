@@ -20,9 +20,9 @@ use Rattle.worker_board.specs.declared.view.Role.TheVariants.{Hand}
 use Rattle.worker_board.specs.declared.view.End.{End}
 use Rattle.worker_board.specs.declared.view.End.TheVariants.{Open, Collected, TakenBack}
 use Rattle.worker_board.specs.Counts.{total, only, both_of, has_turn, holds, ran}
-use Rattle.worker_board.specs.Word.{Phase, closed, ready, claimed, done, word_at, IsOpen, job_of, Offers, IsCurrent, newest, run_of, runs_of, offers_at}
-use Rattle.worker_board.specs.Rule.{Slot, Answer, Home, Empty, IsHand, IsAnswered, InPhase, held_of, PlaceOk, Ruled}
-use Rattle.worker_board.specs.Moves.{Seated, Has, claim, note, noting, turned_to, lost_at, won, worked, reopened, released, worked_told, tried}
+use Rattle.worker_board.specs.Word.{Phase, closed, ready, claimed, done, word_at, IsOpen, job_of, IsOfferedJob, IsCurrent, newest, run_of, runs_of, offers_at}
+use Rattle.worker_board.specs.Rule.{Slot, Answer, Home, IsEmptyOrOut, IsHand, IsAnswered, InPhase, held_of, PlaceLaw, BoardLaw}
+use Rattle.worker_board.specs.Moves.{Seated, Has, claim, note, noting, turned_to, lost_at, won, worked, Reopened, Released, Finished, Tried}
 use Rattle.worker_board.proofs.CountsLemmas.{total-set, term_le, terms_le, only-same, only-other, only-is, at_without, total-without, none-without}
 use Rattle.worker_board.proofs.WordLemmas.{not_both, word_open, lost_stays, offers_newest, some_term}
 use Rattle.worker_board.proofs.FrameLemmas.{Table, state, Allowed, Alike, moved}
@@ -30,18 +30,18 @@ use Rattle.worker_board.proofs.DispatcherLemmas.{suc_inj}
 
 module _ (answer : Answer) where
   -- a hand is not the dispatcher
-  not_first : (s : Table) (r : Ruled answer s) (id : ℕ) (v : View) → get_elem? s.views id ≡ some v → IsHand v.role → id ≢ 0
+  not_first : (s : Table) (r : BoardLaw answer s) (id : ℕ) (v : View) → get_elem? s.views id ≡ some v → IsHand v.role → id ≢ 0
   not_first s r id v me hand z = let same : r.dispatcher ≡ v = some-injective r.dispatcher v (sym r.first ∙ subst (λ (x : ℕ). get_elem? s.views x ≡ some v) z me) in
       subst IsHand (sym (ap (λ (x : View). x.role) same) ∙ r.dispatches) hand
 
-  hand_moved : (s : Table) (r : Ruled answer s) (id p n : ℕ) (v w : View) (hs : List (maybe.Option Slot))
+  hand_moved : (s : Table) (r : BoardLaw answer s) (id p n : ℕ) (v w : View) (hs : List (maybe.Option Slot))
       → IsHand v.role → w.role ≡ v.role → get_elem? s.views id ≡ some v → p < length s.homes
       → length hs ≡ length s.homes → ((q : ℕ) → q ≢ p → get_elem? hs q ≡ get_elem? s.homes q)
       → get_or s.words p 0 ≤ n → w.notes ≡ note p n ∷ v.notes → ((q : ℕ) → q ≢ p → Alike q v w)
-      → PlaceOk answer p n (get_elem? hs p) (set s.views id w) (offers_at r.dispatcher.ledger p)
+      → PlaceLaw answer p n (get_elem? hs p) (set s.views id w) (offers_at r.dispatcher.ledger p)
       → ((k : ℕ) (c : Claim) → get_elem? w.held k ≡ some c → (c.ticket.place < length s.homes) × IsCurrent c (offers_at r.dispatcher.ledger c.ticket.place))
       → ((q : ℕ) → w.turn ≡ suc q → 0 < holds q w)
-      → Ruled answer (state (set s.words p n) hs (set s.views id w))
+      → BoardLaw answer (state (set s.words p n) hs (set s.views id w))
   hand_moved s r id p n v w hs hand role me near long-hs homes up notes alike here mine turn = let other = not_first s r id v me hand in let long = r.wide in
       moved answer s r id p n v w r.dispatcher hs me near long-hs homes (set_else s.views id 0 w (λ z. other (sym z)) ∙ r.first) r.dispatches role refl refl r.long (λ q ne. refl) alike here
       (λ k c e. let t = mine k c e in (t.0, t.1, subst IsHand (sym role) hand))
@@ -50,12 +50,12 @@ module _ (answer : Answer) where
       (lost_stays s.words p n r.dispatcher.lost (omega arith) up r.lost)
 
   -- what a claim says of the newest offer, where that is open
-  current_of : (x : Parcel) (l : List Offer) (p g : ℕ) → Offers (job_of x) l → g ≡ newest l → IsCurrent (claim p g (job_of x)) l
+  current_of : (x : Parcel) (l : List Offer) (p g : ℕ) → IsOfferedJob (job_of x) l → g ≡ newest l → IsCurrent (claim p g (job_of x)) l
   current_of x [] p g o e = o
   current_of x (y ∷ l) p g o e = (e, o)
 
   pub tries : (n id : ℕ) (m : Seated) (p g old new : ℕ) → p < n → IsHand m.0.role → m.0.turn ≡ 0 → old ≡ PHASES * g + READY → new ≡ old + 1
-      → Allows (Ruled answer) n id m p (λ y. either (eqb y old) new y) (tried answer (step n p old new none) m)
+      → Allows (BoardLaw answer) n id m p (λ y. either (eqb y old) new y) (Tried answer (step n p old new none) m)
   tries n id m p g old new inside hand idle is-old is-new s r wide me _ = let near : p < length s.homes = omega arith in let k = r.places p near in
       exchanged (get_or s.words p 0) old new G (hit near k.phase refl k.stands k.word_is) (miss near)
     where
@@ -63,7 +63,7 @@ module _ (answer : Answer) where
       v = m.0
 
       G : ℕ → Type 0
-      G = Allowed answer s p id m (tried answer (step n p old new none) m)
+      G = Allowed answer s p id m (Tried answer (step n p old new none) m)
 
       l : List Offer
       l = offers_at r.dispatcher.ledger p
@@ -120,7 +120,7 @@ module _ (answer : Answer) where
             ((λ _. (x, k.2.3, refl)), λ not. absurd (not at)),
           )
         where
-          claims-now : (x : Parcel) → p < length s.homes → Offers (job_of x) (offers_at r.dispatcher.ledger p) → old / PHASES ≡ newest (offers_at r.dispatcher.ledger p)
+          claims-now : (x : Parcel) → p < length s.homes → IsOfferedJob (job_of x) (offers_at r.dispatcher.ledger p) → old / PHASES ≡ newest (offers_at r.dispatcher.ledger p)
               → (i : ℕ) (c : Claim) → get_elem? (claim p (old / PHASES) (job_of x) ∷ m.0.held) i ≡ some c → (c.ticket.place < length s.homes) × IsCurrent c (offers_at r.dispatcher.ledger c.ticket.place)
           claims-now x near o gen zero c e = subst (λ (y : Claim). (y.ticket.place < length s.homes) × IsCurrent y (offers_at r.dispatcher.ledger y.ticket.place)) (some-injective (claim p (old / PHASES) (job_of x)) c e) (near, current_of x (offers_at r.dispatcher.ledger p) p (old / PHASES) o gen)
           claims-now x near o gen (suc i) c e = let t = r.claims id i m.0 c me e in (t.0, t.1)
@@ -135,14 +135,14 @@ module _ (answer : Answer) where
           ready_claimed g (y ∷ ls) = ap (λ (z : ℕ). cond (g == length ls) z (runs_of g closed ls)) (run_same y.end)
 
   -- where a hand holds a claim of a place, the place is claimed
-  claimed_phase : (s : Table) (r : Ruled answer s) (id p : ℕ) (v : View) (near : p < length s.homes) → get_elem? s.views id ≡ some v → 0 < holds p v → (ph : Phase) → (r.places p near).phase ≡ ph → ph ≡ claimed
+  claimed_phase : (s : Table) (r : BoardLaw answer s) (id p : ℕ) (v : View) (near : p < length s.homes) → get_elem? s.views id ≡ some v → 0 < holds p v → (ph : Phase) → (r.places p near).phase ≡ ph → ph ≡ claimed
   claimed_phase s r id p v near me has closed is = absurd (omega (arith, term_le (holds p) s.views id v me, (r.places p near).held, ap (held_of answer) is))
   claimed_phase s r id p v near me has ready is = absurd (omega (arith, term_le (holds p) s.views id v me, (r.places p near).held, ap (held_of answer) is))
   claimed_phase s r id p v near me has claimed is = refl
   claimed_phase s r id p v near me has done is = absurd (omega (arith, term_le (holds p) s.views id v me, (r.places p near).held, ap (held_of answer) is))
 
   -- who holds the claim alone may have the slot
-  slot_with_no_other : (s : Table) (r : Ruled answer s) (id p : ℕ) (v : View) → get_elem? s.views id ≡ some v → 0 < holds p v → v.turn ≡ 0 → total (holds p) s.views ≡ 1 → IsOpen (offers_at r.dispatcher.ledger p) → total (has_turn p) s.views ≡ 0
+  slot_with_no_other : (s : Table) (r : BoardLaw answer s) (id p : ℕ) (v : View) → get_elem? s.views id ≡ some v → 0 < holds p v → v.turn ≡ 0 → total (holds p) s.views ≡ 1 → IsOpen (offers_at r.dispatcher.ledger p) → total (has_turn p) s.views ≡ 0
   slot_with_no_other s r id p v me has idle one live = dite (ℕ_discrete (total (has_turn p) s.views) 0) (λ z. z) (λ nz.
       let t = some_term (has_turn p) s.views (omega arith) in let u = t.1.0 in let on : u.turn ≡ suc p = only-is (suc p) u.turn t.1.2 in
       ⊎_elim (λ a. absurd (not_both (offers_at r.dispatcher.ledger p) live a.1))
@@ -152,10 +152,10 @@ module _ (answer : Answer) where
       (r.entitled t.0 p u t.1.1 on))
 
   -- a step of a hand at a place that it has claimed, which leaves the claim
-  stays_claimed : (s : Table) (r : Ruled answer s) (id p : ℕ) (v : View) (t : ℕ) (h : maybe.Option Slot) → IsHand v.role → get_elem? s.views id ≡ some v → p < length s.homes → 0 < holds p v
-      → (IsOpen (offers_at r.dispatcher.ledger p) → total (holds p) s.views ≡ 1 → Empty (get_elem? s.homes p) (total (has_turn p) s.views) → Empty (some h) (total (has_turn p) (set s.views id (noting p (get_or s.words p 0) (turned_to v t)))))
+  stays_claimed : (s : Table) (r : BoardLaw answer s) (id p : ℕ) (v : View) (t : ℕ) (h : maybe.Option Slot) → IsHand v.role → get_elem? s.views id ≡ some v → p < length s.homes → 0 < holds p v
+      → (IsOpen (offers_at r.dispatcher.ledger p) → total (holds p) s.views ≡ 1 → IsEmptyOrOut (get_elem? s.homes p) (total (has_turn p) s.views) → IsEmptyOrOut (some h) (total (has_turn p) (set s.views id (noting p (get_or s.words p 0) (turned_to v t)))))
       → ((q : ℕ) → q ≢ p → only (suc q) t ≡ only (suc q) v.turn) → ((q : ℕ) → t ≡ suc q → q ≡ p)
-      → Ruled answer (state (set s.words p (get_or s.words p 0)) (set s.homes p h) (set s.views id (noting p (get_or s.words p 0) (turned_to v t))))
+      → BoardLaw answer (state (set s.words p (get_or s.words p 0)) (set s.homes p h) (set s.views id (noting p (get_or s.words p 0) (turned_to v t))))
   stays_claimed s r id p v t h hand me near has empty turns on =
       let k = r.places p near in let w : View = noting p (get_or s.words p 0) (turned_to v t) in let is : k.phase ≡ claimed = claimed_phase s r id p v near me has k.phase refl in
       let st = subst (InPhase answer (offers_at r.dispatcher.ledger p) (get_elem? s.homes p) (total (has_turn p) s.views)) is k.stands in
@@ -164,14 +164,14 @@ module _ (answer : Answer) where
       record {
         phase = claimed;
         word_is = k.word_is ∙ ap (word_at (offers_at r.dispatcher.ledger p)) is;
-        stands = (st.0, subst (λ (x : Home). Empty x (total (has_turn p) (set s.views id w))) (sym (set_here s.homes p h near)) (empty st.0 (k.held ∙ ap (held_of answer) is) st.1));
+        stands = (st.0, subst (λ (x : Home). IsEmptyOrOut x (total (has_turn p) (set s.views id w))) (sym (set_here s.homes p h near)) (empty st.0 (k.held ∙ ap (held_of answer) is) st.1));
         held = omega (arith, total-set (holds p) s.views id v w me, k.held, ap (held_of answer) is);
         run = λ g. omega (arith, total-set (ran p g) s.views id v w me, k.run g) ∙ ap (λ ph. runs_of g ph (offers_at r.dispatcher.ledger p)) is;
         past = k.past;
       }
       (λ i c e. let y = r.claims id i v c me e in (y.0, y.1)) (λ q e. subst (λ (y : ℕ). 0 < holds y v) (sym (on q e)) has)
 
-  pub reopens : (n id : ℕ) (m : Seated) (p : ℕ) → p < n → IsHand m.0.role → m.0.turn ≡ 0 → 0 < holds p m.0 → Allows (Ruled answer) n id m p (λ y. y) (reopened (step n p 0 0 none) m)
+  pub reopens : (n id : ℕ) (m : Seated) (p : ℕ) → p < n → IsHand m.0.role → m.0.turn ≡ 0 → 0 < holds p m.0 → Allows (BoardLaw answer) n id m p (λ y. y) (Reopened (step n p 0 0 none) m)
   reopens n id m p inside hand idle has s r wide me _ = let near : p < length s.homes = omega arith in let v : View = m.0 in let w : View = noting p (get_or s.words p 0) (turned_to v (suc p)) in
       let k = r.places p near in let is : k.phase ≡ claimed = claimed_phase s r id p v near me has k.phase refl in
       let st = subst (InPhase answer (offers_at r.dispatcher.ledger p) (get_elem? s.homes p) (total (has_turn p) s.views)) is k.stands in
@@ -186,7 +186,7 @@ module _ (answer : Answer) where
       )
 
   gives_back_from : (n id : ℕ) (v : View) (p : ℕ) (more : List (ℕ × Slot)) → p < n → IsHand v.role → v.turn ≡ suc p → 0 < holds p v
-      → Allows (Ruled answer) n id (v, (p, None) ∷ more) p (λ y. y) (released (step n p 0 0 none) (v, (p, None) ∷ more))
+      → Allows (BoardLaw answer) n id (v, (p, None) ∷ more) p (λ y. y) (Released (step n p 0 0 none) (v, (p, None) ∷ more))
   gives_back_from n id v p more inside hand on has s r wide me _ = let near : p < length s.homes = omega arith in let w : View = noting p (get_or s.words p 0) (turned_to v 0) in
       let now = total-set (has_turn p) s.views id v w me in let on' = only-same (suc p) v.turn on in let off = only-other (suc p) 0 (λ e. suc-ne-zero p (sym e)) in (
         w,
@@ -198,9 +198,9 @@ module _ (answer : Answer) where
       )
 
   pub gives_back : (n id : ℕ) (m : Seated) (p : ℕ) (more : List (ℕ × Slot)) → m.1 ≡ (p, None) ∷ more → p < n → IsHand m.0.role → m.0.turn ≡ suc p → 0 < holds p m.0
-      → Allows (Ruled answer) n id m p (λ y. y) (released (step n p 0 0 none) m)
+      → Allows (BoardLaw answer) n id m p (λ y. y) (Released (step n p 0 0 none) m)
   gives_back n id m p more e inside hand on has =
-      subst (λ (c : List (ℕ × Slot)). Allows (Ruled answer) n id (m.0, c) p (λ y. y) (released (step n p 0 0 none) (m.0, c))) (sym e) (gives_back_from n id m.0 p more inside hand on has)
+      subst (λ (c : List (ℕ × Slot)). Allows (BoardLaw answer) n id (m.0, c) p (λ y. y) (Released (step n p 0 0 none) (m.0, c))) (sym e) (gives_back_from n id m.0 p more inside hand on has)
 
   -- the run of the newest offer is counted
   runs_done : (l : List Offer) (p gen g : ℕ) → IsOpen l → gen ≡ newest l → runs_of g done l ≡ both_of p g p gen + runs_of g claimed l
@@ -230,13 +230,13 @@ module _ (answer : Answer) where
       cut-not false is h = omega arith
 
   -- a claim that is current has the generation and the job of the newest offer
-  current_is : (c : Claim) (x : Parcel) (l : List Offer) → IsCurrent c l → c.job ≡ job_of x → (c.ticket.generation ≡ newest l) × Offers (job_of x) l
+  current_is : (c : Claim) (x : Parcel) (l : List Offer) → IsCurrent c l → c.job ≡ job_of x → (c.ticket.generation ≡ newest l) × IsOfferedJob (job_of x) l
   current_is c x [] k e = absurd k
   current_is c x (y ∷ l) k e = (k.0, k.1 ∙ e)
 
   finishes_from : (n id : ℕ) (v : View) (p i new : ℕ) (c : Claim) (x : Parcel) (more : List (ℕ × Slot)) → p < n → IsHand v.role → v.turn ≡ suc p → get_elem? v.held i ≡ some c → c.ticket.place ≡ p → c.job ≡ job_of x
       → IsAnswered answer x → new ≡ PHASES * c.ticket.generation + OVER
-      → Allows (Ruled answer) n id (v, (p, Some x) ∷ more) p (λ _. new) (λ _. worked_told (step n p new 0 none) (v, (p, Some x) ∷ more) new)
+      → Allows (BoardLaw answer) n id (v, (p, Some x) ∷ more) p (λ _. new) (λ _. Finished (step n p new 0 none) (v, (p, Some x) ∷ more) new)
   finishes_from n id v p i new c x more inside hand on at place job out is-new s r wide me _ =
       let near : p < length s.homes = omega arith in let gen : ℕ = new / PHASES in let w : View = noting p new (turned_to (worked v p gen) 0) in let k = r.places p near in let l : List Offer = offers_at r.dispatcher.ledger p in
       let has : 0 < holds p v = omega (arith, term_le (λ (y : Claim). only p y.ticket.place) v.held i c at, only-same p c.ticket.place place) in
@@ -269,9 +269,9 @@ module _ (answer : Answer) where
 
   pub finishes : (n id : ℕ) (m : Seated) (p i new : ℕ) (c : Claim) (x : Parcel) (more : List (ℕ × Slot)) → m.1 ≡ (p, Some x) ∷ more → p < n → IsHand m.0.role → m.0.turn ≡ suc p → get_elem? m.0.held i ≡ some c → c.ticket.place ≡ p → c.job ≡ job_of x
       → IsAnswered answer x → new ≡ PHASES * c.ticket.generation + OVER
-      → Allows (Ruled answer) n id m p (λ _. new) (λ _. worked_told (step n p new 0 none) m new)
+      → Allows (BoardLaw answer) n id m p (λ _. new) (λ _. Finished (step n p new 0 none) m new)
   finishes n id m p i new c x more e inside hand on at place job out is-new =
-      subst (λ (y : List (ℕ × Slot)). Allows (Ruled answer) n id (m.0, y) p (λ _. new) (λ _. worked_told (step n p new 0 none) (m.0, y) new)) (sym e) (finishes_from n id m.0 p i new c x more inside hand on at place job out is-new)
+      subst (λ (y : List (ℕ × Slot)). Allows (BoardLaw answer) n id (m.0, y) p (λ _. new) (λ _. Finished (step n p new 0 none) (m.0, y) new)) (sym e) (finishes_from n id m.0 p i new c x more inside hand on at place job out is-new)
 
 pub has_counts : (v : View) (q p g : ℕ) (j : Job) → q ≡ p → Has v.held (claim p g j) → 0 < holds q v
 has_counts v q p g j is h = omega (arith, term_le (λ (y : Claim). only q y.ticket.place) v.held h.0 (claim p g j) h.1, only-same q p (sym is))

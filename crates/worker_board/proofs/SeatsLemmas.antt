@@ -14,7 +14,7 @@ use Rattle.worker_board.specs.declared.view.Role.{Role}
 use Rattle.worker_board.specs.declared.view.Role.TheVariants.{Dispatcher, Hand, Spent}
 use Rattle.worker_board.specs.Counts.{total, only, both_of, has_turn, holds, ran, times, is_hand, hand_of, removed}
 use Rattle.worker_board.specs.Word.{IsClosed, IsCurrent, offers_at}
-use Rattle.worker_board.specs.Rule.{Answer, Home, IsHand, IsPastReady, InPhase, PlaceOk, Ruled, fresh}
+use Rattle.worker_board.specs.Rule.{Answer, Home, IsHand, IsPastReady, InPhase, PlaceLaw, BoardLaw, fresh}
 use Rattle.worker_board.specs.Moves.{sent_out, new_hand, number_of, taken_in}
 use Rattle.worker_board.proofs.CountsLemmas.{at_append, at_lt, total-append, total-set, term_le, only-same, only-other, times-removed}
 use Rattle.worker_board.proofs.DispatcherLemmas.{is_dispatcher}
@@ -25,7 +25,7 @@ no_claims l p e = ap (λ (cs : List Claim). total (λ (c : Claim). only p c.tick
 module _ (answer : Answer) where
   -- a place stays right where the sums over the seats stay
   same_sums : (p w : ℕ) (h : Home) (vs us : List View) (l : List Offer) → total (has_turn p) us ≡ total (has_turn p) vs → total (holds p) us ≡ total (holds p) vs → ((g : ℕ) → total (ran p g) us ≡ total (ran p g) vs)
-      → PlaceOk answer p w h vs l → PlaceOk answer p w h us l
+      → PlaceLaw answer p w h vs l → PlaceLaw answer p w h us l
   same_sums p w h vs us l turns claims runs k = record {
     phase = k.phase;
     word_is = k.word_is;
@@ -38,7 +38,7 @@ module _ (answer : Answer) where
   idle_turn : (p : ℕ) (who : Role) → has_turn p (fresh who) ≡ 0
   idle_turn p who = only-other (suc p) 0 (λ e. suc-ne-zero p (sym e))
 
-  pub sends_out : (id : ℕ) (v : View) → v.role ≡ Dispatcher → v.turn ≡ 0 → times v.next v.used ≡ 0 → Splits (Ruled answer) id v (sent_out v) (new_hand v)
+  pub sends_out : (id : ℕ) (v : View) → v.role ≡ Dispatcher → v.turn ≡ 0 → times v.next v.used ≡ 0 → Splits (BoardLaw answer) id v (sent_out v) (new_hand v)
   sends_out id v role idle unused s r me = let b = is_dispatcher answer s r id v me role in let w : View = sent_out v in let u : View = new_hand v in let vs : List View = set s.views id w in
       let boss_at : (x : ℕ) (z : View) → get_elem? s.views x ≡ some z → x < length s.views = at_lt s.views in
       let sum : (f : View → ℕ) → total f (vs ++ u ∷ []) + f v ≡ total f s.views + f w + f u = λ f. omega (arith, total-append f vs (u ∷ []), total-set f s.views id v w me) in
@@ -52,7 +52,7 @@ module _ (answer : Answer) where
         wide = r.wide;
         long = ap length (sym same_ledger) ∙ r.long;
         places = λ p h. same_sums p _ _ s.views (vs ++ u ∷ []) (offers_at v.ledger p) (omega (arith, sum (has_turn p), idle_turn p (Hand v.next))) (omega (arith, sum (holds p))) (λ g. omega (arith, sum (ran p g)))
-            (subst (λ (x : List (List Offer)). PlaceOk answer p (get_or s.words p 0) (get_elem? s.homes p) s.views (offers_at x p)) same_ledger (r.places p h));
+            (subst (λ (x : List (List Offer)). PlaceLaw answer p (get_or s.words p 0) (get_elem? s.homes p) s.views (offers_at x p)) same_ledger (r.places p h));
         seen = λ j k x y e at. ⊎_elim (λ (t : get_elem? vs j ≡ some x). ⊎_elim
             (λ (a : (j ≡ id) × (w ≡ x)). r.seen id k v y me (subst (λ (z : View). get_elem? z.notes k ≡ some y) (sym a.1) at))
             (λ (a : (j ≢ id) × (get_elem? s.views j ≡ some x)). r.seen j k x y a.1 at) (at_set s.views id j w x t))
@@ -76,7 +76,7 @@ module _ (answer : Answer) where
       }
 
   -- an idle hand's view becomes part of the dispatcher's
-  pub takes_in : (id : ℕ) (v : View) (other : ℕ) (w : View) (m : ℕ) → v.role ≡ Dispatcher → v.turn ≡ 0 → w.role ≡ Hand m → w.turn ≡ 0 → w.held ≡ [] → Joins (Ruled answer) id v other w (taken_in v w) (fresh Spent)
+  pub takes_in : (id : ℕ) (v : View) (other : ℕ) (w : View) (m : ℕ) → v.role ≡ Dispatcher → v.turn ≡ 0 → w.role ≡ Hand m → w.turn ≡ 0 → w.held ≡ [] → Joins (BoardLaw answer) id v other w (taken_in v w) (fresh Spent)
   takes_in id v other w m role idle hand calm empty s r me apart them = let b = is_dispatcher answer s r id v me role in let d : View = taken_in v w in let u : View = fresh Spent in
       let vs : List View = set s.views id d in let there : get_elem? s.views other ≡ some w = sym (set_else s.views id other d apart) ∙ them in
       let sum : (f : View → ℕ) → total f (set vs other u) + f v + f w ≡ total f s.views + f d + f u = λ f. omega (arith, total-set f vs other w u them, total-set f s.views id v d me) in
@@ -97,7 +97,7 @@ module _ (answer : Answer) where
             (omega (arith, sum (has_turn p), idle_turn p Spent, only-other (suc p) w.turn (λ e. suc-ne-zero p (sym e ∙ calm))))
             (omega (arith, sum (holds p), no_claims w.held p empty))
             (λ g. omega (arith, sum (ran p g), total-append (λ (t : OfferNo). both_of p g t.place t.generation) w.runs v.runs))
-            (subst (λ (x : List (List Offer)). PlaceOk answer p (get_or s.words p 0) (get_elem? s.homes p) s.views (offers_at x p)) same_ledger (r.places p h));
+            (subst (λ (x : List (List Offer)). PlaceLaw answer p (get_or s.words p 0) (get_elem? s.homes p) s.views (offers_at x p)) same_ledger (r.places p h));
         seen = λ j k x y e at. cases (λ _ z. get_elem? z.notes k ≡ some y → y.word ≤ get_or s.words y.place 0) j x e
             (λ t q. absurd (some-ne-none y (sym (subst (λ (z : View). get_elem? z.notes k ≡ some y) (sym t) q))))
             (λ _ t q. ⊎_elim (λ n. r.seen other n.0 w y there n.1) (λ n. r.seen id n.0 v y me n.1)

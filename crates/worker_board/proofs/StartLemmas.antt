@@ -9,7 +9,7 @@ use Rattle.worker_board.specs.declared.view.Offer.{Offer}
 use Rattle.worker_board.specs.declared.view.View.{View}
 use Rattle.worker_board.proofs.CountsLemmas.{only-other}
 use Rattle.worker_board.specs.Word.{closed}
-use Rattle.worker_board.specs.Rule.{Slot, Answer, PlaceOk, Ruled, first_view}
+use Rattle.worker_board.specs.Rule.{Slot, Answer, PlaceLaw, BoardLaw, first_view}
 
 blank : (n i : ℕ) → i < n → get_elem? (map some (replicate {A = Slot} n None)) i ≡ some (some None)
 blank zero i near = absurd (omega arith)
@@ -21,7 +21,7 @@ alone d v zero e = (refl, some-injective d v e)
 alone d v (suc j) e = absurd (some-ne-none v (sym e))
 
 module _ (answer : Answer) where
-  pub starts : (ws : List ℕ) (n : ℕ) → length ws ≡ n → ((i : ℕ) → i < n → get_or ws i 0 ≡ 0) → Ruled answer (opening ws (replicate n None) (first_view n))
+  pub starts : (ws : List ℕ) (n : ℕ) → length ws ≡ n → ((i : ℕ) → i < n → get_or ws i 0 ≡ 0) → BoardLaw answer (opening ws (replicate n None) (first_view n))
   starts ws n wide zeros = let xs : List Slot = replicate n None in let long : length (map some xs) ≡ n = length-map xs some ∙ length-replicate n None in let d : View = first_view n in
       record {
         dispatcher = d;
@@ -30,7 +30,7 @@ module _ (answer : Answer) where
         one_dispatcher = λ j v e is. (alone d v j e).0;
         wide = wide ∙ sym long;
         long = length-replicate n [] ∙ sym long;
-        places = λ p h. let near : p < n = omega arith in subst (λ (l : List Offer). PlaceOk answer p (get_or ws p 0) (get_elem? (map some xs) p) (d ∷ []) l) (sym (get_or-replicate n p [] [] near)) record {
+        places = λ p h. let near : p < n = omega arith in subst (λ (l : List Offer). PlaceLaw answer p (get_or ws p 0) (get_elem? (map some xs) p) (d ∷ []) l) (sym (get_or-replicate n p [] [] near)) record {
           phase = closed;
           word_is = zeros p near;
           stands = (tt, ((λ _. blank n p near), (λ z. absurd (omega (arith, only-other (suc p) 0 (λ e. suc-ne-zero p (sym e))))), omega (arith, only-other (suc p) 0 (λ e. suc-ne-zero p (sym e)))));

@@ -12,7 +12,7 @@ use Rattle.worker_board.specs.declared.view.Offer.{Offer}
 use Rattle.worker_board.specs.declared.view.End.{End}
 use Rattle.worker_board.specs.declared.view.End.TheVariants.{Open}
 use Rattle.worker_board.specs.Counts.{total}
-use Rattle.worker_board.specs.Word.{Phase, closed, ready, claimed, done, digit, word_at, IsOpen, IsClosed, job_of, Offers, IsNewest, offer_of, ended, newest, run_of, runs_of, AllEnded, OlderEnded}
+use Rattle.worker_board.specs.Word.{Phase, closed, ready, claimed, done, digit, word_at, IsOpen, IsClosed, job_of, IsOfferedJob, IsNewest, offer_of, ended, newest, run_of, runs_of, AllEnded, OlderEnded}
 use Rattle.atomic_table.specs.Table.{rest}
 use Rattle.worker_board.specs.Moves.{note}
 use Rattle.worker_board.specs.Rule.{Slot, Answer, Home, InPhase, IsPastReady}
@@ -85,7 +85,7 @@ notes_grow ws p n xs near up old zero x e = let now = get_or-set_same ws p n 0 n
 notes_grow ws p n xs near up old (suc k) x e = notes_stay ws p n xs near up old k x e
 
 -- a parcel is of its own job
-pub offers_newest : (x : Parcel) (l : List Offer) → IsNewest x l → Offers (job_of x) l
+pub offers_newest : (x : Parcel) (l : List Offer) → IsNewest x l → IsOfferedJob (job_of x) l
 offers_newest x [] h = h
 offers_newest x (o ∷ l) h = ap job_of h
 

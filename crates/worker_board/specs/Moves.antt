@@ -17,7 +17,7 @@ use Rattle.worker_board.specs.declared.view.End.TheVariants.{Open, Collected, Ta
 use Rattle.worker_board.specs.declared.view.Role.{Role}
 use Rattle.worker_board.specs.declared.view.Role.TheVariants.{Dispatcher, Hand, Spent}
 use Rattle.worker_board.specs.Counts.{without, removed, ran}
-use Rattle.worker_board.specs.Word.{closed, word_of, IsUnfinished, word_at, job_of, Offers, IsNewest, offer_of, ended, newest, offers_at}
+use Rattle.worker_board.specs.Word.{closed, word_of, IsUnfinished, word_at, job_of, IsOfferedJob, IsNewest, offer_of, ended, newest, offers_at}
 use Rattle.worker_board.specs.Rule.{Slot, Answer, HasRoom, IsAnswered, fresh}
 
 -- a seat: its view, and the slots that are out with it
@@ -84,35 +84,35 @@ abbrev pub kept_slots : ℕ → ℕ → View → List (ℕ × Slot) → Seated
 kept_slots p w v c = (noting p w v, c)
 
 -- the empty slot of a place with no open offer was taken
-abbrev pub opened : Told
-opened st m r n = (n ≡ took_slot st.word r None m.0 m.1)
+abbrev pub Opened : Told
+Opened st m r n = (n ≡ took_slot st.word r None m.0 m.1)
     × (r ≡ word_at (offers_at m.0.ledger st.word) closed)
 
 -- the parcel in the slot was offered
-abbrev pub readied : Told
-readied st m r n = (x : Parcel) → m.1 ≡ (st.word, Some x) ∷ rest m.1
+abbrev pub Readied : Told
+Readied st m r n = (x : Parcel) → m.1 ≡ (st.word, Some x) ∷ rest m.1
     → n ≡ gave_slot st.word r (offered m.0 st.word x) m.1
 
 -- the word shows the generation of the open offer
-abbrev pub numbered : Told
-numbered st m r n = (n ≡ kept_slots st.word r m.0 m.1)
+abbrev pub Numbered : Told
+Numbered st m r n = (n ≡ kept_slots st.word r m.0 m.1)
     × (r / PHASES ≡ newest (offers_at m.0.ledger st.word))
 
 -- the empty slot of a claimed place was taken
-abbrev pub reopened : Told
-reopened st m r n = n ≡ took_slot st.word r None m.0 m.1
+abbrev pub Reopened : Told
+Reopened st m r n = n ≡ took_slot st.word r None m.0 m.1
 
 -- the slot was given back
-abbrev pub released : Told
-released st m r n = n ≡ gave_slot st.word r m.0 m.1
+abbrev pub Released : Told
+Released st m r n = n ≡ gave_slot st.word r m.0 m.1
 
 -- the parcel in the slot was worked
-abbrev pub worked_told : Told
-worked_told st m r n = n ≡ gave_slot st.word r (worked m.0 st.word (st.first / PHASES)) m.1
+abbrev pub Finished : Told
+Finished st m r n = n ≡ gave_slot st.word r (worked m.0 st.word (st.first / PHASES)) m.1
 
 -- the parcel of the newest offer of a place came with its answer
-abbrev pub Came : Answer → View → ℕ → Parcel → Type 0
-Came answer v p x = Offers (job_of x) (offers_at v.ledger p) × IsAnswered answer x
+abbrev pub IsAnswerTo : Answer → View → ℕ → Parcel → Type 0
+IsAnswerTo answer v p x = IsOfferedJob (job_of x) (offers_at v.ledger p) × IsAnswered answer x
 
 -- the newest offer of the place is one whose take-back was lost
 abbrev pub LostBefore : View → ℕ → Type 0
@@ -120,9 +120,9 @@ LostBefore v p = Has v.lost (offer_no p (newest (offers_at v.ledger p)))
 
 -- a finished job was taken out, or the job was found unfinished; it is finished where a take-back
 -- of it was lost and no hand is out
-abbrev pub looked : Answer → Told
-looked answer st m r n =
-    (r % PHASES ≡ OVER → (x : Parcel) × Came answer m.0 st.word x
+abbrev pub Looked : Answer → Told
+Looked answer st m r n =
+    (r % PHASES ≡ OVER → (x : Parcel) × IsAnswerTo answer m.0 st.word x
     × (n ≡ took_slot st.word r (Some x) (ended_as Collected m.0 st.word) m.1))
     × (r % PHASES ≢ OVER → n ≡ kept_slots st.word r (missed m.0 st.word) m.1)
     × (LostBefore m.0 st.word → m.0.out ≡ [] → r % PHASES ≡ OVER)
@@ -130,16 +130,16 @@ looked answer st m r n =
     × (r % PHASES ≢ OVER → IsUnfinished (newest (offers_at m.0.ledger st.word)) r)
 
 -- a job was taken back as it was offered, or the exchange found another word
-abbrev pub took : Told
-took st m r n =
+abbrev pub TookBack : Told
+TookBack st m r n =
     (r ≡ st.first → (x : Parcel) × IsNewest x (offers_at m.0.ledger st.word)
     × (n ≡ took_slot st.word st.second (Some x) (ended_as TakenBack m.0 st.word) m.1))
     × (r ≢ st.first
     → n ≡ kept_slots st.word r (lost_at m.0 st.word (st.first / PHASES)) m.1)
 
 -- a job was claimed, or the exchange found another word
-abbrev pub tried : Answer → Told
-tried answer st m r n =
+abbrev pub Tried : Answer → Told
+Tried answer st m r n =
     (r ≡ st.first → (x : Parcel) × HasRoom answer x
     × (n ≡ took_slot st.word st.second (Some x)
     (won m.0 st.word (st.first / PHASES) (job_of x)) m.1))
@@ -147,8 +147,8 @@ tried answer st m r n =
     → n ≡ kept_slots st.word r (lost_at m.0 st.word (st.first / PHASES)) m.1)
 
 -- the number of the next hand is known
-abbrev pub named : Told
-named st m r n = n ≡ kept_slots st.word r (record m.0 { next = st.first }) m.1
+abbrev pub Named : Told
+Named st m r n = n ≡ kept_slots st.word r (record m.0 { next = st.first }) m.1
 
 -- the dispatcher's view once a hand is out
 abbrev pub sent_out : View → View
@@ -177,5 +177,5 @@ taken_in v w = record v {
 abbrev pub RanOnce : ℕ → View → Type 0
 RanOnce n v = (p g : ℕ) → p < n → ran p g v ≤ 1
 
-abbrev pub summed : Told
-summed st m r n = (n ≡ kept_slots st.word r m.0 m.1) × RanOnce st.slots m.0
+abbrev pub Summed : Told
+Summed st m r n = (n ≡ kept_slots st.word r m.0 m.1) × RanOnce st.slots m.0

@@ -16,7 +16,7 @@ use Rattle.worker_board.specs.declared.view.View.{View}
 use Rattle.worker_board.specs.declared.view.Role.{Role}
 use Rattle.worker_board.specs.declared.view.Role.TheVariants.{Dispatcher, Hand, Spent}
 use Rattle.worker_board.specs.Counts.{total, has_turn, holds, ran, times, is_hand}
-use Rattle.worker_board.specs.Word.{Phase, closed, ready, claimed, done, word_at, IsOpen, IsClosed, job_of, Offers, IsNewest, IsCurrent, runs_of, OlderEnded, offers_at}
+use Rattle.worker_board.specs.Word.{Phase, closed, ready, claimed, done, word_at, IsOpen, IsClosed, job_of, IsOfferedJob, IsNewest, IsCurrent, runs_of, OlderEnded, offers_at}
 
 -- a view with nothing in it but its role
 abbrev pub fresh : Role → View
@@ -56,8 +56,8 @@ abbrev pub Home : Type 0
 Home = maybe.Option (maybe.Option Slot)
 
 -- a slot that is empty, or out with one seat
-abbrev pub Empty : Home → ℕ → Type 0
-Empty h t = (t ≡ 0 → h ≡ some (some None)) × (t ≡ 1 → h ≡ some none) × (t ≤ 1)
+abbrev pub IsEmptyOrOut : Home → ℕ → Type 0
+IsEmptyOrOut h t = (t ≡ 0 → h ≡ some (some None)) × (t ≡ 1 → h ≡ some none) × (t ≤ 1)
 
 -- a word shows that a generation is ready no more
 abbrev pub IsPastReady : OfferNo → List ℕ → Type 0
@@ -74,12 +74,12 @@ module _ (answer : Answer) where
 
   -- what the slot of a place holds in a phase, by the place's offers and by how many seats have it
   abbrev pub InPhase : List Offer → Home → ℕ → Phase → Type 0
-  InPhase l h t closed = IsClosed l × Empty h t
-  InPhase l h t claimed = IsOpen l × Empty h t
+  InPhase l h t closed = IsClosed l × IsEmptyOrOut h t
+  InPhase l h t claimed = IsOpen l × IsEmptyOrOut h t
   InPhase l h t ready = IsOpen l × (t ≡ 0)
       × ((x : Parcel) × (h ≡ some (some (Some x))) × IsNewest x l × HasRoom x)
   InPhase l h t done = IsOpen l × (t ≡ 0)
-      × ((x : Parcel) × (h ≡ some (some (Some x))) × Offers (job_of x) l × IsAnswered x)
+      × ((x : Parcel) × (h ≡ some (some (Some x))) × IsOfferedJob (job_of x) l × IsAnswered x)
 
   -- how many claims the seats hold of a place
   abbrev pub held_of : Phase → ℕ
@@ -90,7 +90,7 @@ module _ (answer : Answer) where
 
   -- of one place: its word, its slot, and what the seats and the dispatcher's list of its offers
   -- say of it
-  pub record PlaceOk (p w : ℕ) (h : Home) (views : List View) (l : List Offer) : Type 0 where
+  pub record PlaceLaw (p w : ℕ) (h : Home) (views : List View) (l : List Offer) : Type 0 where
     pub phase : Phase
     pub word_is : w ≡ word_at l phase
     pub stands : InPhase l h (total (has_turn p) views) phase
@@ -100,7 +100,7 @@ module _ (answer : Answer) where
     pub run : (g : ℕ) → total (ran p g) views ≡ runs_of g phase l
     pub past : OlderEnded l
 
-  pub record Ruled (s : State Slot View) : Type 0 where
+  pub record BoardLaw (s : State Slot View) : Type 0 where
     -- the dispatcher's view is the first, and the only one of its kind
     pub dispatcher : View
     pub first : get_elem? s.views 0 ≡ some dispatcher
@@ -110,7 +110,7 @@ module _ (answer : Answer) where
     pub wide : length s.words ≡ length s.homes
     pub long : length dispatcher.ledger ≡ length s.homes
     pub places : (p : ℕ) → p < length s.homes
-        → PlaceOk p (slice_index s.words p) (get_elem? s.homes p) s.views
+        → PlaceLaw p (slice_index s.words p) (get_elem? s.homes p) s.views
         (offers_at dispatcher.ledger p)
     -- no word is below what any step left it at
     pub seen : (j k : ℕ) (v : View) (x : Note) → get_elem? s.views j ≡ some v

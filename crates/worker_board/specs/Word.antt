@@ -55,9 +55,9 @@ job_of x = record {
 }
 
 -- the newest offer is of this job
-abbrev pub Offers : Job → List Offer → Type 0
-Offers j [] = ⊥
-Offers j (o ∷ older) = job_of o.parcel ≡ j
+abbrev pub IsOfferedJob : Job → List Offer → Type 0
+IsOfferedJob j [] = ⊥
+IsOfferedJob j (o ∷ older) = job_of o.parcel ≡ j
 
 -- the newest offer is of this very parcel, with all its bytes
 abbrev pub IsNewest : Parcel → List Offer → Type 0

@@ -9,18 +9,18 @@ use std::marker::PhantomData;
 pub struct Opens;
 
 impl Play<Option<Parcel>, View> for Opens {
-    ghost use Rattle.worker_board.specs.Moves.{opened};
+    ghost use Rattle.worker_board.specs.Moves.{Opened};
 
-    ghost then = { opened };
+    ghost then = { Opened };
 }
 
 /// The store of an offer: it gives the slot back, with the parcel in it.
 pub struct Readies;
 
 impl Play<Option<Parcel>, View> for Readies {
-    ghost use Rattle.worker_board.specs.Moves.{readied};
+    ghost use Rattle.worker_board.specs.Moves.{Readied};
 
-    ghost then = { readied };
+    ghost then = { Readied };
 }
 
 /// The load of a look: it takes the slot of a finished job.
@@ -29,36 +29,36 @@ pub struct Looks<D> {
 }
 
 impl<D: Duty> Play<Option<Parcel>, View> for Looks<D> {
-    ghost use Rattle.worker_board.specs.Moves.{looked};
+    ghost use Rattle.worker_board.specs.Moves.{Looked};
 
-    ghost then = { looked D.answer };
+    ghost then = { Looked D.answer };
 }
 
 /// The load of a take-back: it reads the generation.
 pub struct Numbers;
 
 impl Play<Option<Parcel>, View> for Numbers {
-    ghost use Rattle.worker_board.specs.Moves.{numbered};
+    ghost use Rattle.worker_board.specs.Moves.{Numbered};
 
-    ghost then = { numbered };
+    ghost then = { Numbered };
 }
 
 /// The exchange of a take-back: it takes the slot of a ready job.
 pub struct TakesBack;
 
 impl Play<Option<Parcel>, View> for TakesBack {
-    ghost use Rattle.worker_board.specs.Moves.{took};
+    ghost use Rattle.worker_board.specs.Moves.{TookBack};
 
-    ghost then = { took };
+    ghost then = { TookBack };
 }
 
 /// A load that gives the emptied slot back.
 pub struct Releases;
 
 impl Play<Option<Parcel>, View> for Releases {
-    ghost use Rattle.worker_board.specs.Moves.{released};
+    ghost use Rattle.worker_board.specs.Moves.{Released};
 
-    ghost then = { released };
+    ghost then = { Released };
 }
 
 /// The exchange of a claim: it takes the slot of a ready job.
@@ -67,36 +67,36 @@ pub struct Tries<D> {
 }
 
 impl<D: Duty> Play<Option<Parcel>, View> for Tries<D> {
-    ghost use Rattle.worker_board.specs.Moves.{tried};
+    ghost use Rattle.worker_board.specs.Moves.{Tried};
 
-    ghost then = { tried D.answer };
+    ghost then = { Tried D.answer };
 }
 
 /// The load of a finish: it takes the empty slot of a claimed job.
 pub struct Reopens;
 
 impl Play<Option<Parcel>, View> for Reopens {
-    ghost use Rattle.worker_board.specs.Moves.{reopened};
+    ghost use Rattle.worker_board.specs.Moves.{Reopened};
 
-    ghost then = { reopened };
+    ghost then = { Reopened };
 }
 
 /// The store of a finish: it gives the slot back, with the parcel in it.
 pub struct Finishes;
 
 impl Play<Option<Parcel>, View> for Finishes {
-    ghost use Rattle.worker_board.specs.Moves.{worked_told};
+    ghost use Rattle.worker_board.specs.Moves.{Finished};
 
-    ghost then = { worked_told };
+    ghost then = { Finished };
 }
 
 /// Tells the number of the next hand: an exchange of word 0 that leaves it as it was.
 pub struct Names;
 
 impl Play<Option<Parcel>, View> for Names {
-    ghost use Rattle.worker_board.specs.Moves.{named};
+    ghost use Rattle.worker_board.specs.Moves.{Named};
 
-    ghost then = { named };
+    ghost then = { Named };
 }
 
 /// The split by which a hand goes out.
@@ -127,7 +127,7 @@ impl Join<View> for TakesIn {
 pub struct Sums;
 
 impl Play<Option<Parcel>, View> for Sums {
-    ghost use Rattle.worker_board.specs.Moves.{summed};
+    ghost use Rattle.worker_board.specs.Moves.{Summed};
 
-    ghost then = { summed };
+    ghost then = { Summed };
 }

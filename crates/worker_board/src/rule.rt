@@ -11,9 +11,9 @@ pub struct Law<D> {
 }
 
 impl<D: Duty> TableRule<Option<Parcel>, View, usize> for Law<D> {
-    ghost use Rattle.worker_board.specs.Rule.{Ruled, first_view};
+    ghost use Rattle.worker_board.specs.Rule.{BoardLaw, first_view};
 
-    ghost holds = { λ places. Ruled D.answer };
+    ghost holds = { λ places. BoardLaw D.answer };
 
     ghost first = { λ places. first_view places };
 }

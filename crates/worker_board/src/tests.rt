@@ -1,10 +1,10 @@
 //! A board by hand, and a board whose tickets four threads claim.
-ghost use Rattle.std.specs.Prelude.{◌≡◌, ◌<◌, ◌≤◌, [], replicate, IfOk, OnOk, IfSome, IfNone};
+ghost use Rattle.std.specs.Prelude.{◌≡◌, ◌<◌, [], replicate, IfOk, OnOk, IfSome, IfNone};
 ghost use Rattle.rpc_outside.specs.PlainAnswer.{background_answer};
 ghost use Rattle.worker_board.specs.Rule.{HasRoom, IsAnswered};
 ghost use Rattle.worker_board.specs.Word.{job_of};
 ghost use Rattle.worker_board.specs.Seats.{IsSeatOf, IsHandOf, places_of, view_of, hand_view, HoldsClaim, HoldsNone};
-ghost use Rattle.worker_board.specs.Rows.{IsOfferedBelow, IsOfferedFrom, IsOnlyClaim, IsFreeHand};
+ghost use Rattle.worker_board.specs.Rows.{IsOfferedFrom, IsOnlyClaim, IsFreeHand};
 
 use crate::{Board, DispatchSeat, HandSeat, Parcel, Ticket};
 use message_buffer::MsgBuf;

@@ -3,7 +3,7 @@ ghost use Rattle.std.specs.Prelude.{◌≡◌, ◌<◌, IfSome, IfNone, IsSome};
 ghost use Rattle.worker_board.specs.declared.view.End.TheVariants.{Collected, TakenBack};
 ghost use Rattle.worker_board.specs.Tickets.{offer_no};
 ghost use Rattle.worker_board.specs.Rule.{HasRoom};
-ghost use Rattle.worker_board.specs.Moves.{offered, ended_as, missed, lost_at, Came, LostBefore};
+ghost use Rattle.worker_board.specs.Moves.{offered, ended_as, missed, lost_at, IsAnswerTo, LostBefore};
 ghost use Rattle.worker_board.specs.Seats.{IsSeatOf, places_of, view_of, notes_of, LeftAt, FoundOther, FoundUnfinished, IsFree, IsOffered, generation, next_generation, IsOfferOf, AllRetired};
 
 use super::{Board, DispatchSeat};
@@ -43,7 +43,7 @@ impl<D: Duty> Board<D> {
         requires place { place < places_of self.now }
         requires offered { IsOffered (view_of seat.old) place }
         ensures board { IsSeatOf self.now seat.new }
-        ensures answered { IfSome result (Came D.answer (view_of seat.old) place) }
+        ensures answered { IfSome result (IsAnswerTo D.answer (view_of seat.old) place) }
         ensures collected { IfSome result (λ _. view_of seat.new
             ≡ ended_as Collected (view_of seat.old) place) }
         ensures missed { IfNone result (view_of seat.new ≡ missed (view_of seat.old) place) }
