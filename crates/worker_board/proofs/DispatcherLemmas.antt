@@ -239,20 +239,21 @@ module _ (answer : Answer) where
       v : View
       v = m.0
 
-      unready : (near : p < length s.homes) → get_or s.words p 0 % PHASES ≢ OVER → (LostBefore m.0 p → m.0.out ≡ [] → ⊥) → IsUnfinished (newest (offers_at m.0.ledger p)) (get_or s.words p 0) → Allowed answer s p id m (Looked answer (step n p 0 0 none) m) (get_or s.words p 0)
-      unready near not sure found = (noting p (get_or s.words p 0) (missed m.0 p), keeps, tt, dispatcher_notes s r id p m.0 (offer_no p (newest (offers_at m.0.ledger p)) ∷ m.0.misses) m.0.lost m.0.next me role near idle (lost_now s r id p (get_or s.words p 0) m.0 me role near (le_refl _)), ((λ e. absurd (not e)), (λ _. refl), (λ had none-out. absurd (sure had none-out)), (λ e. absurd (not e)), λ _. found))
+      unready : (near : p < length s.homes) → get_or s.words p 0 % PHASES ≢ OVER → (LostBefore m.0 p → m.0.out ≡ [] → ⊥) → IsUnfinished (newest (offers_at m.0.ledger p)) (get_or s.words p 0) → (m.0.out ≡ [] → get_or s.words p 0 ≡ PHASES * newest (offers_at m.0.ledger p) + READY) → Allowed answer s p id m (Looked answer (step n p 0 0 none) m) (get_or s.words p 0)
+      unready near not sure found alone = (noting p (get_or s.words p 0) (missed m.0 p), keeps, tt, dispatcher_notes s r id p m.0 (offer_no p (newest (offers_at m.0.ledger p)) ∷ m.0.misses) m.0.lost m.0.next me role near idle (lost_now s r id p (get_or s.words p 0) m.0 me role near (le_refl _)), ((λ e. absurd (not e)), (λ _. refl), (λ had none-out. absurd (sure had none-out)), (λ e. absurd (not e)), (λ _. found), λ _ none-out. alone none-out))
 
       go : (near : p < length s.homes) (ph : Phase) → (place_known s r id p m.0 me role near).phase ≡ ph → InPhase answer (offers_at m.0.ledger p) (get_elem? s.homes p) (total (has_turn p) s.views) ph
           → get_or s.words p 0 ≡ PHASES * newest (offers_at m.0.ledger p) + digit ph → Allowed answer s p id m (Looked answer (step n p 0 0 none) m) (get_or s.words p 0)
       go near closed is k word = absurd (not_both (offers_at m.0.ledger p) live k.0)
-      go near ready is k word = unready near (λ e. absurd (omega arith)) (λ had _. let past = subst (λ (x : View). (k : ℕ) (t : OfferNo) → get_elem? x.lost k ≡ some t → IsPastReady t s.words) (is_dispatcher s r id m.0 me role).1 r.lost had.0 _ had.1 in absurd (omega arith)) (inl word)
-      go near claimed is k word = unready near (λ e. absurd (omega arith)) (λ had none-out. claimed_by_a_hand s r p near ((place_known s r id p m.0 me role near).held ∙ ap (held_of answer) is) (ap (λ (x : View). x.out) (is_dispatcher s r id m.0 me role).1 ∙ none-out)) (inr word)
+      go near ready is k word = unready near (λ e. absurd (omega arith)) (λ had _. let past = subst (λ (x : View). (k : ℕ) (t : OfferNo) → get_elem? x.lost k ≡ some t → IsPastReady t s.words) (is_dispatcher s r id m.0 me role).1 r.lost had.0 _ had.1 in absurd (omega arith)) (inl word) (λ _. word)
+      go near claimed is k word = let none : m.0.out ≡ [] → ⊥ = λ none-out. claimed_by_a_hand s r p near ((place_known s r id p m.0 me role near).held ∙ ap (held_of answer) is) (ap (λ (x : View). x.out) (is_dispatcher s r id m.0 me role).1 ∙ none-out) in
+          unready near (λ e. absurd (omega arith)) (λ _ none-out. none none-out) (inr word) (λ none-out. absurd (none none-out))
       go near done is k word = let x = k.2.0 in (
         noting p (get_or s.words p 0) (turned_to (ended_as Collected m.0 p) (suc p)),
         takes p (Some x),
         k.2.1,
         dispatcher_ends s r id p (get_or s.words p 0) m.0 Collected done x me role near idle (λ e. cc) live is k.1 refl refl word (le_refl _),
-        ((λ _. (x, (k.2.2, k.2.3), refl)), (λ not. absurd (not (omega arith))), (λ _ _. omega arith), (λ _. word), λ not. absurd (not (omega arith))),
+        ((λ _. (x, (k.2.2, k.2.3), refl)), (λ not. absurd (not (omega arith))), (λ _ _. omega arith), (λ _. word), (λ not. absurd (not (omega arith))), λ not _. absurd (not (omega arith))),
       )
 
   pub takes_back : (n id : ℕ) (m : Seated) (p old new : ℕ) → p < n → m.0.role ≡ Dispatcher → m.0.turn ≡ 0 → IsOpen (offers_at m.0.ledger p) → old ≡ PHASES * newest (offers_at m.0.ledger p) + READY → new ≡ old + 2

@@ -5,7 +5,7 @@ use mathlib.Core.Option.{some}
 use lib.ListN.{get_elem?}
 use Rattle.atomic_table.specs.Table.{Me, Step, rest}
 use Rattle.worker_board.specs.Tickets.{offer_no}
-use Rattle.worker_board.specs.declared.word.TheConstants.{PHASES, OVER}
+use Rattle.worker_board.specs.declared.word.TheConstants.{PHASES, READY, OVER}
 use Rattle.worker_board.specs.declared.Parcel.{Parcel}
 use Rattle.worker_board.specs.declared.view.Job.{Job}
 use Rattle.worker_board.specs.declared.view.Note.{Note}
@@ -119,7 +119,7 @@ abbrev pub LostBefore : View → ℕ → Type 0
 LostBefore v p = Has v.lost (offer_no p (newest (offers_at v.ledger p)))
 
 -- a finished job was taken out, or the job was found unfinished; it is finished where a take-back
--- of it was lost and no hand is out
+-- of it was lost and no hand is out; while no hand is out an unfinished job is ready
 abbrev pub Looked : Answer → Told
 Looked answer st m r n =
     (r % PHASES ≡ OVER → (x : Parcel) × IsAnswerTo answer m.0 st.word x
@@ -128,6 +128,8 @@ Looked answer st m r n =
     × (LostBefore m.0 st.word → m.0.out ≡ [] → r % PHASES ≡ OVER)
     × (r % PHASES ≡ OVER → r ≡ word_of (newest (offers_at m.0.ledger st.word)) OVER)
     × (r % PHASES ≢ OVER → IsUnfinished (newest (offers_at m.0.ledger st.word)) r)
+    × (r % PHASES ≢ OVER → m.0.out ≡ []
+    → r ≡ word_of (newest (offers_at m.0.ledger st.word)) READY)
 
 -- a job was taken back as it was offered, or the exchange found another word
 abbrev pub TookBack : Told

@@ -36,8 +36,9 @@ impl<D: Duty> Board<D> {
     }
 
     /// Takes a finished job out, with its answer. `None` comes exactly where the job was found
-    /// ready or claimed, and then it is one more of the seat's misses. It never comes for a job
-    /// whose take-back was lost once all hands are back.
+    /// ready or claimed, and then it is one more of the seat's misses. Once all hands are back no
+    /// job is claimed, so `None` then comes for a ready job alone, and never for one whose
+    /// take-back was lost.
     pub fn collect(&self, seat: &mut DispatchSeat, place: u32) -> Option<Parcel>
         requires board { IsSeatOf self.now seat.old }
         requires place { place < places_of self.now }
@@ -50,6 +51,9 @@ impl<D: Duty> Board<D> {
         ensures left { IfSome result (λ _. LeftAt place (generation (view_of seat.old) place) OVER
             (notes_of seat.old) (notes_of seat.new)) }
         ensures found { IfNone result (FoundUnfinished place (generation (view_of seat.old) place)
+            (notes_of seat.old) (notes_of seat.new)) }
+        ensures unclaimed { IfNone result (AllRetired (view_of seat.old)
+            → LeftAt place (generation (view_of seat.old) place) READY
             (notes_of seat.old) (notes_of seat.new)) }
         ensures sure { LostBefore (view_of seat.old) place → AllRetired (view_of seat.old)
             → IsSome result }

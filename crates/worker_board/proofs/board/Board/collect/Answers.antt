@@ -23,3 +23,7 @@ returns-clause-left g c = let t = c.load-found.ensures.2 in let no = c.if-found-
     if_some c.exchange-parcel.result (saw_then c.args.place _ _ _ _
     (saw_one c.args.place _ _ _ _ (ap (λ m. m.0.notes) c.exchange-parcel.ensures.3 ∙ ap (λ m. m.0.notes) (t.0 no).2) (t.3 no))
     (grows_one _ _ _ _ (ap (λ m. m.0.notes) c.load.ensures.2)))
+
+pub returns-then-found-ne-OVER-clause-unclaimed : goal.returns-then-found-ne-OVER-clause-unclaimed
+returns-then-found-ne-OVER-clause-unclaimed g c = λ none-out. let t = c.load-found.ensures.2 in
+    saw_one c.args.place _ _ _ _ (ap (λ m. m.0.notes) (t.1 c.if-found-ne-OVER.true)) (t.5 c.if-found-ne-OVER.true none-out)
