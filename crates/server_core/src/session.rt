@@ -117,4 +117,11 @@ impl ServerSession {
         };
         Some(request.owner(self.number))
     }
+
+    /// What always holds of a session holds of this one.
+    pub fn sound(&self)
+        ensures { IsSession self.now }
+    {
+        let _number = self.number;
+    }
 }
