@@ -1,0 +1,23 @@
+mod ActLemmas
+pub mod AscendsLemmas
+mod BesideLemmas
+mod EndLemmas
+mod GoneLemmas
+mod KeptLemmas
+pub mod ListLemmas
+mod PlaceLemmas
+mod PostedLemmas
+mod StandLemmas
+mod StoreLemmas
+mod TimerLemmas
+mod ReplyGoneLemmas
+mod FrontLemmas
+mod AskLemmas
+mod FlushLemmas
+mod UnheldLemmas
+mod ReplyLemmas
+mod RollLemmas
+mod LoseLemmas
+mod FinishLemmas
+mod ServeLemmas
+mod ReadLemmas

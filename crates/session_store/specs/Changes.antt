@@ -1,0 +1,128 @@
+-- What the client sessions of a store begin, post and become, as the definitions over histories
+-- have them.
+use Rattle.std.specs.Prelude.{ℕ, ◌≡◌, ◌<◌, ◌+◌, Bool, true, false, Option, Some, None, IfSome, List}
+use Rattle.std.specs.Prelude.{[], slice_get, slice_set, option_and_then, option_map}
+use Rattle.std.specs.List.{find, list_any}
+use Rattle.rpc_base.specs.declared.owner.Owner.TheVariants.{Ask, Reply}
+use Rattle.packet_header.specs.Parts.{packet_count}
+use Rattle.packet_rings.specs.Values.{EntryValue}
+use Rattle.client_core.specs.declared.active.Active.{Active}
+use Rattle.rpc_laws.specs.declared.tables.Call.{Call}
+use Rattle.rpc_laws.specs.declared.tables.Client.{Client}
+use Rattle.rpc_laws.specs.Posting.{beginning, if_connected, posting}
+use Rattle.rpc_laws.specs.GoBackN.{row_of}
+use Rattle.rpc_laws.specs.Sessions.{begins, ends, is_connected, posts, rolls}
+use Rattle.rpc_laws.specs.declared.rows.TimerRow.{TimerRow}
+use Rattle.rpc_laws.specs.declared.tables.Progress.{Progress}
+use Rattle.rpc_laws.specs.declared.tables.Queued.{Queued}
+use Rattle.rpc_laws.specs.declared.tables.Server.{Server}
+use Rattle.rpc_laws.specs.PollOrder.{is_working}
+use Rattle.rpc_laws.specs.Requests.{answered, is_request}
+use Rattle.server_core.specs.Steps.{gone_on_as}
+use Rattle.node_laws.specs.QueuedPackets.{is_ask_of}
+use Rattle.session_store.specs.Ends.{begun_event, posted_event, progress_of, told_of}
+use Rattle.session_store.specs.Queue.{is_owned}
+use Rattle.session_store.specs.Sides.{Shown}
+
+-- session i became f of what it was
+pub record ChangesAt (i : ℕ) (f : Client → Client) (old new : List Client) : Type 0 where
+  pub client : Client
+  pub place : slice_get old i ≡ Some client
+  pub changed : new ≡ slice_set old i (f client)
+
+-- session i began its next call, or there is none
+abbrev pub BeginsAt : ℕ → Option (ℕ × ℕ) → List Client → List Client → Type 0
+BeginsAt i None old new =
+    (option_and_then (if_connected beginning) (slice_get old i) ≡ None) × (new ≡ old)
+BeginsAt i (Some b) old new =
+    (option_and_then (if_connected beginning) (slice_get old i) ≡ Some (begun_event b))
+    × ChangesAt i (begins b.0 b.1) old new
+
+-- session i posted this packet next
+pub record PostsNext (i : ℕ) (p : ℕ × ℕ) (old new : List Client) : Type 0 where
+  pub client : Client
+  pub place : slice_get old i ≡ Some client
+  pub next : if_connected posting client ≡ Some (posted_event client.way.number p)
+  pub changed : new ≡ slice_set old i (posts p.0 p.1 client)
+
+-- session i posted its next packet, or there is none
+abbrev pub PostsAt : ℕ → Option (ℕ × ℕ) → List Client → List Client → Type 0
+PostsAt i None old new =
+    (option_and_then (if_connected posting) (slice_get old i) ≡ None) × (new ≡ old)
+PostsAt i (Some p) old new = PostsNext i p old new
+
+-- an active call of session i with fewer than eight rollbacks, of which no packet is queued
+pub record MayRoll (i number : ℕ) (s : Shown) : Type 0 where
+  pub client : Client
+  pub place : slice_get s.clients i ≡ Some client
+  pub connected : is_connected client.state ≡ true
+  pub progress : Progress
+  pub active : progress_of number client ≡ Some progress
+  pub few : progress.rolls < 8
+  pub idle : list_any (is_owned (Ask i progress.request)) s.queued ≡ false
+
+-- it was rolled back
+pub record RollsAt (i number : ℕ) (old new : List Client) : Type 0 where
+  pub client : Client
+  pub place : slice_get old i ≡ Some client
+  pub progress : Progress
+  pub active : progress_of number client ≡ Some progress
+  pub changed : new ≡ slice_set old i (rolls number progress.posted progress.got client)
+
+-- no packet of session i is queued
+abbrev pub IsIdle : ℕ → List Queued → Type 0
+IsIdle i queued = list_any (λ q. is_ask_of i q.owner) queued ≡ false
+
+-- what the timer rule says of an active call of session i, at this clock and with this timeout
+abbrev pub RowAt : (now timeout i number : ℕ) → TimerRow → Shown → Type 0
+RowAt now timeout i number row s =
+    IfSome (slice_get s.clients i) (λ x. IfSome (progress_of number x)
+    (λ p. row_of now timeout i s.queued p ≡ row))
+
+-- what is told of an active call of session i
+pub record ActiveAt (i : ℕ) (a : Active) (clients : List Client) : Type 0 where
+  pub client : Client
+  pub place : slice_get clients i ≡ Some client
+  pub progress : Progress
+  pub active : progress_of a.call client ≡ Some progress
+  pub told : a ≡ told_of a.call progress
+
+-- a session that has lost its peer
+abbrev pub IsLost : Option Client → Type 0
+IsLost o = IfSome o (λ x. is_connected x.state ≡ false)
+
+-- the calls of session i
+abbrev pub calls_in : Option Client → List Call
+calls_in None = []
+calls_in (Some x) = x.calls
+
+abbrev pub first_number : List Call → Option ℕ
+first_number calls = option_map (λ c. c.what.number) (slice_get calls 0)
+
+-- the first call of session i ended, or it has none
+abbrev pub LosesAt : ℕ → Option ℕ → List Client → List Client → Type 0
+LosesAt i None old new =
+    (first_number (calls_in (slice_get old i)) ≡ None) × (new ≡ old)
+LosesAt i (Some n) old new =
+    (first_number (calls_in (slice_get old i)) ≡ Some n) × ChangesAt i (ends n) old new
+
+-- whether a request waits for a worker's answer
+abbrev pub is_waited : ℕ → Server → Bool
+is_waited r v = is_working (find (is_request r) v.slots)
+
+-- it has it, and the entry is the reply to the request's last packet
+pub record AnswersAt (i r : ℕ) (bytes : List ℕ) (e : EntryValue) (old new : List Server)
+    : Type 0 where
+  pub server : Server
+  pub place : slice_get old i ≡ Some server
+  pub waited : is_waited r server ≡ true
+  pub owner : e.owner ≡ Reply server.way.number r
+  pub peer : e.peer ≡ server.way.peer
+  pub last : IfSome (find (is_request r) server.slots) (λ q. e.number + 1 ≡ packet_count q.size)
+  pub changed : new ≡ slice_set old i (gone_on_as r (answered bytes) server)
+
+-- server session i has the answer of a worker to a request that waited for it, or none waited
+abbrev pub FinishesAt : (i r : ℕ) → List ℕ → Option EntryValue → List Server → List Server → Type 0
+FinishesAt i r bytes None old new =
+    IfSome (slice_get old i) (λ v. is_waited r v ≡ false) × (new ≡ old)
+FinishesAt i r bytes (Some e) old new = AnswersAt i r bytes e old new

@@ -1,0 +1,7 @@
+pub mod Changes
+pub mod Effects
+pub mod Ends
+pub mod Hearing
+pub mod Queue
+pub mod Serving
+pub mod Sides

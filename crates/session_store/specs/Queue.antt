@@ -1,0 +1,55 @@
+-- The queue of a store, as it is seen: its front, and what is sent and flushed of it.
+use Rattle.std.specs.Prelude.{ℕ, ◌≡◌, Bool, Option, Some, None, IfSome, List, option_map, slice_get}
+use Rattle.std.specs.List.{find}
+use Rattle.rpc_base.specs.Owners.{same_owner}
+use Rattle.rpc_base.specs.Tables.{at_first}
+use Rattle.rpc_base.specs.declared.owner.Owner.{Owner}
+use Rattle.rpc_base.specs.declared.owner.Owner.TheVariants.{Ask, Reply, Control}
+use Rattle.packet_rings.specs.Values.{EntryValue}
+use Rattle.rpc_laws.specs.declared.tables.Client.{Client}
+use Rattle.rpc_laws.specs.declared.tables.Outgoing.{Outgoing}
+use Rattle.rpc_laws.specs.declared.tables.Queued.{Queued}
+use Rattle.rpc_laws.specs.Packets.{IsSpelled, ask_packet, reply_packet}
+use Rattle.rpc_laws.specs.Requests.{is_server}
+use Rattle.rpc_laws.specs.Sessions.{is_client, sends}
+use Rattle.session_store.specs.Sides.{Shown, queued_of}
+
+-- the packet of an owner, as the definitions over histories have it
+abbrev pub packet_in : Shown → Owner → ℕ → Option Outgoing
+packet_in s (Ask i r) k = ask_packet r k (find (is_client i) s.clients)
+packet_in s (Reply t r) k = reply_packet r k (find (is_server t) s.servers)
+packet_in s Control k = None
+
+-- the peer of an owner's session
+abbrev pub peer_in : Shown → Owner → Option ℕ
+peer_in s (Ask i r) = option_map (λ x. x.way.peer) (find (is_client i) s.clients)
+peer_in s (Reply t r) = option_map (λ v. v.way.peer) (find (is_server t) s.servers)
+peer_in s Control = None
+
+-- the front of the queue: its session is there, and it goes to the session's peer
+pub record IsFront (s : Shown) (e : EntryValue) : Type 0 where
+  pub front : slice_get s.queued 0 ≡ Some (queued_of e)
+  pub peer : peer_in s e.owner ≡ Some e.peer
+
+-- the front's packet is sent with this header and body
+abbrev pub SpellsFront : Shown → (head body : List ℕ) → Type 0
+SpellsFront s head body =
+    IfSome (slice_get s.queued 0) (λ q. IsSpelled (packet_in s q.owner q.number) head body)
+
+-- the client sessions once a packet was sent
+abbrev pub clients_sent : (now : ℕ) → Owner → ℕ → List Client → List Client
+clients_sent now (Ask i r) k xs = at_first (is_client i) (sends now r k) xs
+clients_sent now (Reply t r) k xs = xs
+clients_sent now Control k xs = xs
+
+-- and once the front was
+abbrev pub SendsFront : (now : ℕ) → List Queued → (old new : List Client) → Type 0
+SendsFront now queued old new =
+    IfSome (slice_get queued 0) (λ q. new ≡ clients_sent now q.owner q.number old)
+
+-- whether a queued packet is an owner's
+abbrev pub is_owned : Owner → Queued → Bool
+is_owned owner q = same_owner q.owner owner
+
+abbrev pub queued_number : Queued → ℕ
+queued_number q = q.number

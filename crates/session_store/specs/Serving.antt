@@ -1,0 +1,131 @@
+-- What a Request or RFR does to the server session that it is for, and to the queue.
+use Rattle.std.specs.Prelude.{◌≡◌, ◌≢◌, ℕ, ◌++◌, Bool, true, false, not, List, [], ◌∷◌, map}
+use Rattle.std.specs.Prelude.{Option, Some, None, IfSome, slice_get, slice_set, if◌then◌else◌}
+use Rattle.std.specs.List.{AllByRecursion, filter, find}
+use Rattle.rpc_base.specs.declared.event.Event.TheVariants.{Dropped as DroppedEvent}
+use Rattle.rpc_base.specs.declared.fact.Fact.{Fact}
+use Rattle.rpc_base.specs.declared.fact.Who.{Who}
+use Rattle.rpc_base.specs.declared.owner.Owner.TheVariants.{Reply}
+use Rattle.rpc_base.specs.declared.state.DropReason.TheVariants.{NoMemory}
+use Rattle.buffer_pool.specs.Counting.{Counts}
+use Rattle.buffer_pool.specs.Pool.{Pool}
+use Rattle.packet_header.specs.declared.packet.MessageHeader.{MessageHeader}
+use Rattle.packet_rings.specs.Rings.{Ring, ring}
+use Rattle.packet_rings.specs.Values.{EntryValue}
+use Rattle.rpc_laws.specs.Facts.{plain}
+use Rattle.rpc_laws.specs.Requests.{in_slot_of}
+use Rattle.rpc_laws.specs.ServerTable.{served_facts, server_row}
+use Rattle.rpc_laws.specs.declared.rows.ServerRow.{ServerRow}
+use Rattle.rpc_laws.specs.declared.rows.ServerRow.TheVariants.{Drops}
+use Rattle.rpc_laws.specs.declared.tables.Queued.{Queued}
+use Rattle.rpc_laws.specs.declared.tables.Served.{Served as ServedRequest}
+use Rattle.rpc_laws.specs.declared.tables.Server.{Server}
+use Rattle.rpc_outside.specs.Served.{Served}
+use Rattle.rpc_outside.specs.declared.service.Mode.{Mode}
+use Rattle.rpc_outside.specs.declared.service.Mode.TheVariants.{Unserved}
+use Rattle.server_core.specs.Counting.{CountsQueued}
+use Rattle.server_core.specs.Flushing.{HoldsAll, has_begun, replies_of, ring_after}
+use Rattle.server_core.specs.KeepsPool.{KeepsPool, KeepsSpare, LeavesOthers}
+use Rattle.server_core.specs.Noting.{Handled, IsByRule, packet_facts}
+use Rattle.server_core.specs.Replies.{CanHold}
+use Rattle.server_core.specs.Rows.{row_of}
+use Rattle.server_core.specs.Session.{IsSession, Session as Serving, newest}
+use Rattle.server_core.specs.Shown.{shown}
+use Rattle.server_core.specs.Steps.{AreServed, IfGiven, IfReply, IsParcel, IsReply, IsStepOf}
+use Rattle.server_core.specs.Steps.{asked_with}
+use Rattle.server_core.specs.declared.step.Step.{Step}
+use Rattle.server_core.specs.declared.step.Step.TheVariants.{Took, Again, Ran, Give, Dropped}
+use Rattle.session_store.specs.Queue.{is_owned}
+use Rattle.session_store.specs.Sides.{Shown, queued_of}
+
+abbrev pub listed_entry : Option EntryValue → List EntryValue
+listed_entry None = []
+listed_entry (Some e) = e ∷ []
+
+-- one reply more to each request can be counted
+abbrev pub ServerCanHold : Pool → Serving → Type 0
+ServerCanHold pool v = AllByRecursion (CanHold pool) v.slots
+
+-- all requests of a session are of types that are served
+abbrev pub ServerServed : (ℕ → Mode) → Serving → Type 0
+ServerServed mode_of v = AreServed mode_of v.slots
+
+-- the same of server session i, as it is seen
+abbrev pub AreServedAt : (ℕ → Mode) → ℕ → List Server → Type 0
+AreServedAt mode_of i servers = IfSome (slice_get servers i)
+    (λ v. AllByRecursion (λ q. mode_of q.req_type ≢ Unserved) v.slots)
+
+-- the session handled the packet
+pub record Handles {R : Type 0} (facts : R → Option (List Fact)) (whole : R → Bool)
+    (mode : Mode) (jobs_full : Bool) (who : Who) (h : MessageHeader) (body : List ℕ)
+    (answer_of : Served → ℕ → List ℕ → List ℕ) (stands then_stands : Served → Type 0)
+    (noted_before noted_now : R) (step : Step) (old new : Ring EntryValue) (v w : Serving)
+    (before after : Pool) : Type 0 where
+  pub row : IsStepOf mode h (row_of mode jobs_full h v) step
+  pub rule : server_row mode jobs_full false (Some (shown before v)) v.peer h
+      ≡ row_of mode jobs_full h v
+  pub lacks : step ≡ Dropped NoMemory
+      → server_row mode jobs_full true (Some (shown before v)) v.peer h ≡ Drops NoMemory
+  pub ring_is : new ≡ ring (ring_after (row_of mode jobs_full h v) step v.number
+      (newest h.request v) old.items) old.size
+  pub handled : Handled facts whole noted_before noted_now
+      (λ answer. packet_facts who v old.items (row_of mode jobs_full h v) h
+      (asked_with h body (shown before v)) answer step) answer_of stands then_stands h body
+      (shown before v) (shown after w) step
+  pub by_rule : h.session ≡ v.number
+      → IsByRule mode v old.items (row_of mode jobs_full h v) h body (shown before v) step
+  pub reply : IfReply step (IsReply h.request h.number w after)
+  pub give : IfGiven step (IsParcel answer_of stands h body (shown before v))
+  pub sound : IsSession w
+  pub spare : KeepsSpare v.slots w.slots before after
+  pub leaves : LeavesOthers v.slots w.slots before after
+  pub holds : HoldsAll v before old.items → HoldsAll w after (new.items ++ replies_of step)
+  pub queued : HoldsAll v before old.items → CountsQueued v old.items
+      → CountsQueued w (new.items ++ replies_of step)
+  pub counts : Counts before old.items → Counts after (new.items ++ replies_of step)
+  pub keeps : KeepsPool after w.slots
+
+-- the facts of a packet at a node, which are those of the server rule unless memory was wanting
+abbrev pub handled_facts : (me : ℕ) → List Fact → Step → List Fact
+handled_facts me ruled (Took reply) = ruled
+handled_facts me ruled (Again reply) = ruled
+handled_facts me ruled (Ran reply) = ruled
+handled_facts me ruled (Give parcel) = ruled
+handled_facts me ruled (Dropped NoMemory) = plain me (DroppedEvent NoMemory) ∷ []
+handled_facts me ruled (Dropped why) = ruled
+
+-- the queue without the replies to a request of session t
+abbrev pub without_owned : ℕ → Option ServedRequest → List Queued → List Queued
+without_owned t None queued = queued
+without_owned t (Some q) queued = filter (λ x. not (is_owned (Reply t q.number) x)) queued
+
+-- and once a packet was handled: where a request began, the replies to the older one of its slot
+-- are taken out, and the packet's reply is put behind
+abbrev pub queue_handled : ServerRow → Step → Server → MessageHeader → List Queued → List Queued
+queue_handled row step v h queued =
+    (if has_begun row step
+    then without_owned v.way.number (find (in_slot_of h.request) v.slots) queued else queued)
+    ++ map queued_of (replies_of step)
+
+-- what the server rule says of a packet to a session
+abbrev pub row_at : Mode → (jobs_full lacks : Bool) → MessageHeader → Server → ServerRow
+row_at mode jobs_full lacks h v = server_row mode jobs_full lacks (Some v) v.way.peer h
+
+-- server session i handled the packet as the node me, by the server rule
+pub record HandlesAt {R : Type 0} (facts : R → Option (List Fact)) (whole : R → Bool)
+    (mode : Mode) (jobs_full : Bool) (me i : ℕ) (h : MessageHeader) (body : List ℕ)
+    (answer_of : Served → ℕ → List ℕ → List ℕ) (stands then_stands : Served → Type 0)
+    (noted_before noted_now : R) (step : Step) (old new : Shown) : Type 0 where
+  pub server : Server
+  pub place : slice_get old.servers i ≡ Some server
+  pub row : IsStepOf mode h (row_at mode jobs_full false h server) step
+  pub lacks : step ≡ Dropped NoMemory → row_at mode jobs_full true h server ≡ Drops NoMemory
+  pub later : Server
+  pub handled : Handled facts whole noted_before noted_now (λ answer. handled_facts me
+      (served_facts mode me answer old.queued (Some server) h body
+      (row_at mode jobs_full false h server)) step) answer_of stands then_stands h body server later
+      step
+  pub give : IfGiven step (IsParcel answer_of stands h body server)
+  pub changed : new.servers ≡ slice_set old.servers i later
+  pub queue : new.queued ≡ queue_handled (row_at mode jobs_full false h server) step server h
+      old.queued

@@ -1,0 +1,168 @@
+-- Sessions that share a pool and a transmit ring: what they show, and what always holds of them.
+use Rattle.std.specs.Prelude.{◌≡◌, ℕ, ◌+◌, ◌*◌, ◌<◌, ◌≤◌, ◌==◌, ◌&&◌, Bool, true, false, Option}
+use Rattle.std.specs.Prelude.{Some, None, List, [], ◌∷◌, length, map, sum_by, slice_get}
+use Rattle.std.specs.List.{AllByRecursion, find, list_any}
+use Rattle.rpc_base.specs.declared.owner.Owner.{Owner}
+use Rattle.rpc_base.specs.declared.owner.Owner.TheVariants.{Ask, Reply, Control}
+use Rattle.buffer_pool.specs.Counting.{Counts}
+use Rattle.buffer_pool.specs.Pool.{Pool, spare_of}
+use Rattle.packet_rings.specs.Rings.{Ring}
+use Rattle.packet_rings.specs.Values.{EntryValue}
+use Rattle.rpc_laws.specs.declared.tables.Client.{Client}
+use Rattle.rpc_laws.specs.declared.tables.Queued.{Queued}
+use Rattle.rpc_laws.specs.declared.tables.Server.{Server}
+use Rattle.client_core.specs.Counting.{CountsQueued}
+use Rattle.client_core.specs.KeepsPool.{CanHold, KeepsPool, names}
+use Rattle.client_core.specs.Posting.{IsPacketOf, call_of}
+use Rattle.server_core.specs.Counting.{CountsQueued as CountsReplies}
+use Rattle.server_core.specs.Flushing.{HoldsAll}
+use Rattle.server_core.specs.KeepsPool.{KeepsPool as KeepsAnswers, names as slot_names}
+use Rattle.server_core.specs.KeepsPool.{places as slot_places}
+use Rattle.server_core.specs.Replies.{IsReplyTo, request_of}
+use Rattle.server_core.specs.Session.{Session as Serving}
+use Rattle.server_core.specs.Shown.{shown as shown_server}
+use Rattle.session_store.specs.Ends.{Ascends, shown_end}
+use Rattle.session_store.specs.declared.side.Side.{Side}
+
+-- a client session as the definitions over histories have it
+abbrev pub shown_side : Pool → Side → Client
+shown_side pool s = shown_end s.is_broken pool s.peer s.session
+
+abbrev pub queued_of : EntryValue → Queued
+queued_of e = record { owner = e.owner; number = e.number; due = None }
+
+abbrev pub listed_queued : Option EntryValue → List Queued
+listed_queued None = []
+listed_queued (Some e) = queued_of e ∷ []
+
+-- how often all client sessions name a place, and how many places they name
+abbrev pub names_in : ℕ → List Side → ℕ
+names_in p sides = sum_by (λ s. names p s.session.active) sides
+
+abbrev pub places_in : List Side → ℕ
+places_in sides = sum_by (λ s. 2 * length s.session.active) sides
+
+-- and the server sessions
+abbrev pub served_names : ℕ → List Serving → ℕ
+served_names p servers = sum_by (λ v. slot_names p v.slots) servers
+
+abbrev pub served_places : List Serving → ℕ
+served_places servers = sum_by (λ v. slot_places v.slots) servers
+
+-- what contracts see of all sessions and of the ring
+pub record Shown : Type 0 where
+  pub clients : List Client
+  pub servers : List Server
+  pub queued : List Queued
+  -- how long the ring may be, and how many places the pool has: those that are empty, and those
+  -- that the sessions name
+  pub size : ℕ
+  pub places : ℕ
+
+abbrev pub shown_of : Pool → List Side → List Serving → Ring EntryValue → Shown
+shown_of pool sides servers tx = record {
+  clients = map (shown_side pool) sides;
+  servers = map (shown_server pool) servers;
+  queued = map queued_of tx.items;
+  size = tx.size;
+  places = spare_of pool + places_in sides + served_places servers;
+}
+
+-- no session, and nothing queued
+abbrev pub no_sessions : (size places : ℕ) → Shown
+no_sessions size places =
+    record { clients = []; servers = []; queued = []; size = size; places = places }
+
+-- the entry is a packet that a call of the connected session posted
+abbrev pub IsOfSide : EntryValue → Option Side → Type 0
+IsOfSide e None = ⊥
+IsOfSide e (Some s) =
+    (e.peer ≡ s.peer) × (s.is_broken ≡ false) × IsPacketOf (call_of s.session e) e
+
+-- whether a server session has this number and this peer
+abbrev pub is_end : (number peer : ℕ) → Serving → Bool
+is_end number peer v = v.number == number && v.peer == peer
+
+-- the session of an entry is there and its peer is the entry's: that of a call's packet posted it.
+-- That a reply is one of its session's is what HoldsAll says
+abbrev pub IsOfOwner : List Side → List Serving → EntryValue → Owner → Type 0
+IsOfOwner sides servers e (Ask s r) = IsOfSide e (slice_get sides s)
+IsOfOwner sides servers e (Reply t r) = list_any (is_end t e.peer) servers ≡ true
+IsOfOwner sides servers e Control = ⊥
+
+abbrev pub IsOf : List Side → List Serving → EntryValue → Type 0
+IsOf sides servers e = IsOfOwner sides servers e e.owner
+
+-- the server session with a number has the request that the entry is a reply to
+abbrev pub has_number : ℕ → Serving → Bool
+has_number number v = v.number == number
+
+abbrev pub IsOfServer : EntryValue → Option Serving → Type 0
+IsOfServer e None = ⊥
+IsOfServer e (Some v) = IsReplyTo (request_of v e) e
+
+abbrev pub HasReply : ℕ → EntryValue → List Serving → Type 0
+HasReply number e servers = IsOfServer e (find (has_number number) servers)
+
+-- numbers that rise
+abbrev pub Rises : List ℕ → Type 0
+Rises [] = Unit {0}
+Rises (n ∷ ns) = AllByRecursion (λ m. n < m) ns × Rises ns
+
+abbrev pub numbers_in : List Serving → List ℕ
+numbers_in servers = map (λ v. v.number) servers
+
+-- what holds of one client session
+abbrev pub SideKept : Pool → Side → Type 0
+SideKept pool s = KeepsPool pool s.session.active
+
+abbrev pub SideQueued : List EntryValue → Side → Type 0
+SideQueued entries s = CountsQueued s.session entries
+
+abbrev pub SideAscends : Pool → Side → Type 0
+SideAscends pool s = Ascends (shown_side pool s).calls
+
+abbrev pub HasSlots : Side → Type 0
+HasSlots s = length s.session.active ≤ 8
+
+-- what a session wants to post
+abbrev pub MayPost : Pool → Side → Type 0
+MayPost pool s = KeepsPool pool s.session.active × CanHold pool s.session.active
+
+-- and of one server session
+abbrev pub ServerKept : Pool → Serving → Type 0
+ServerKept pool v = KeepsAnswers pool v.slots
+
+abbrev pub ServerHolds : Pool → List EntryValue → Serving → Type 0
+ServerHolds pool entries v = HoldsAll v pool entries
+
+abbrev pub ServerQueued : List EntryValue → Serving → Type 0
+ServerQueued entries v = CountsReplies v entries
+
+abbrev pub HasPlaces : Serving → Type 0
+HasPlaces v = slot_places v.slots ≤ 16
+
+pub record Kept (pool : Pool) (sides : List Side) (servers : List Serving) (tx : Ring EntryValue)
+    : Type 0 where
+  -- a client session's number is its place, and those of server sessions rise
+  pub numbered : (i : ℕ) → (s : Side) → slice_get sides i ≡ Some s → s.session.number ≡ i
+  pub rises : Rises (numbers_in servers)
+  -- the pool keeps each session, and no two name a place
+  pub keeps : AllByRecursion (SideKept pool) sides
+  pub serves : AllByRecursion (ServerKept pool) servers
+  pub apart : (p : ℕ) → names_in p sides + served_names p servers ≤ 1
+  -- the references to each place are the entries that name it
+  pub counted : Counts pool tx.items
+  -- each entry is a packet that its session posted, and the ring has each reply that is neither
+  -- sent nor flushed
+  pub stands : AllByRecursion (IsOf sides servers) tx.items
+  pub holds : AllByRecursion (ServerHolds pool tx.items) servers
+  -- each call, and each request, counts its entries
+  pub queued : AllByRecursion (SideQueued tx.items) sides
+  pub replies : AllByRecursion (ServerQueued tx.items) servers
+  pub ascends : AllByRecursion (SideAscends pool) sides
+  pub within : length tx.items ≤ tx.size
+  pub few : tx.size < 4294967295
+  -- each session has eight slots
+  pub slots : AllByRecursion HasSlots sides
+  pub served : AllByRecursion HasPlaces servers

@@ -1,0 +1,10 @@
+//! The sessions of an endpoint, on one pool and one transmit ring that they share. They note no
+//! facts and read no clock.
+#![tactic(auto)]
+
+mod server;
+mod side;
+mod store;
+
+pub use side::Side;
+pub use store::Store;

@@ -1,0 +1,157 @@
+//! Server sessions by their numbers, and the replies of one of them.
+ghost use Rattle.std.specs.Prelude.{◌≡◌, ◌<◌, length, slice_get, IfSome};
+ghost use Rattle.std.specs.List.{AllByRecursion, position};
+ghost use Rattle.buffer_pool.specs.Pool.{spare_of};
+ghost use Rattle.client_core.specs.KeepsPool.{IsHeld};
+ghost use Rattle.message_buffer.specs.Buffer.{bytes_of};
+ghost use Rattle.packet_header.specs.Header.{AreBytes};
+ghost use Rattle.packet_header.specs.Parts.{IsMessage};
+ghost use Rattle.session_store.specs.Effects.{ServerFinishes, ServerGone, ServerSpells, ServerStep};
+ghost use Rattle.session_store.specs.Serving.{Handles, ServerCanHold, ServerServed, listed_entry};
+ghost use Rattle.session_store.specs.Sides.{HasReply, ServerHolds, ServerKept, ServerQueued};
+ghost use Rattle.session_store.specs.Sides.{has_number};
+ghost use Rattle.server_core.specs.Flushing.{replies_of};
+ghost use Rattle.server_core.specs.Steps.{IsAsking, UnlessRan};
+
+use buffer_pool::BufferPool;
+use packet_header::{HEAD_BYTES, MessageHeader};
+use packet_rings::{Entry, TxRing};
+use rpc_base::{SessionNo, Who};
+use rpc_outside::{Recorder, Service};
+use server_core::{ServerSession, Step};
+use std::alloc::Global;
+use worker_board::Parcel;
+
+/// Where the server session with this number stands.
+pub fn place_of(servers: &Vec<ServerSession>, session: SessionNo) -> Option<usize>
+    ensures { result ≡ position (has_number session) servers.now.items }
+{
+    servers
+        .iter()
+        .position(|server| server.session().0 == session.0)
+}
+
+/// Writes the header of a reply, and lends its body.
+pub fn reply_at<'a>(
+    servers: &Vec<ServerSession>,
+    session: SessionNo,
+    pool: &'a BufferPool,
+    entry: &Entry,
+    head: &mut [u8; HEAD_BYTES],
+) -> &'a [u8]
+    requires keeps { AllByRecursion (ServerKept pool.now) servers.now.items }
+    requires stands { HasReply session entry.now servers.now.items }
+    ensures spells { ServerSpells session pool.now entry.now head.new result.now
+        servers.now.items }
+    ensures bytes { AreBytes head.new }
+{
+    let Some(place) = place_of(servers, session) else {
+        unreachable!()
+    };
+    servers[place].packet(pool, entry, head)
+}
+
+/// A reply was sent.
+pub fn reply_sent_at(
+    servers: &mut Vec<ServerSession>,
+    session: SessionNo,
+    pool: &mut BufferPool,
+    entry: &Entry,
+)
+    requires keeps { AllByRecursion (ServerKept pool.old) servers.old.items }
+    requires stands { HasReply session entry.now servers.old.items }
+    requires held { IsHeld pool.old entry.now.place }
+    ensures { ServerGone session entry.now servers.old.items servers.new.items pool.old pool.new }
+{
+    let Some(place) = place_of(servers, session) else {
+        unreachable!()
+    };
+    servers[place].sent(pool, entry);
+}
+
+/// A reply was taken out unsent.
+pub fn reply_flushed_at(
+    servers: &mut Vec<ServerSession>,
+    session: SessionNo,
+    pool: &mut BufferPool,
+    entry: &Entry,
+)
+    requires keeps { AllByRecursion (ServerKept pool.old) servers.old.items }
+    requires stands { HasReply session entry.now servers.old.items }
+    requires held { IsHeld pool.old entry.now.place }
+    ensures { ServerGone session entry.now servers.old.items servers.new.items pool.old pool.new }
+{
+    let Some(place) = place_of(servers, session) else {
+        unreachable!()
+    };
+    servers[place].flushed(pool, entry);
+}
+
+/// A job of the server session at place `i` is finished.
+pub fn finished_at(
+    servers: &mut Vec<ServerSession>,
+    i: usize,
+    pool: &mut BufferPool,
+    parcel: Parcel,
+) -> Option<Entry>
+    requires known { i < length servers.old.items }
+    requires keeps { AllByRecursion (ServerKept pool.old) servers.old.items }
+    requires session { IfSome (slice_get servers.old.items i) (λ v. parcel.session ≡ v.number) }
+    requires answer { IsMessage parcel.out.len }
+    requires spare { 0 < spare_of pool.old }
+    ensures { ServerFinishes i parcel.request (bytes_of parcel.out) result servers.old.items
+        servers.new.items pool.old pool.new }
+{
+    let server = &mut servers[i];
+    let reply = server.on_finished(pool, parcel);
+    server.sound();
+    reply
+}
+
+/// The server session at place `i` handles a Request or RFR. Its reply is to be put into the ring.
+pub fn asked_at<V: Service, R: Recorder>(
+    servers: &mut Vec<ServerSession>,
+    i: usize,
+    alloc: Global,
+    pool: &mut BufferPool,
+    tx: &mut TxRing,
+    service: &mut V,
+    head: &MessageHeader,
+    body: &[u8],
+    jobs_full: bool,
+    who: Who,
+    rec: &mut R,
+) -> Step
+    requires known { i < length servers.old.items }
+    requires keeps { AllByRecursion (ServerKept pool.old) servers.old.items }
+    requires holds { AllByRecursion (ServerHolds pool.old tx.old.items) servers.old.items }
+    requires queued { AllByRecursion (ServerQueued tx.old.items) servers.old.items }
+    requires can_hold { AllByRecursion (ServerCanHold pool.old) servers.old.items }
+    requires spare { 0 < spare_of pool.old }
+    requires asking { IsAsking head.now (length body.now) }
+    requires all_served { IfSome (slice_get servers.old.items i) (ServerServed V.mode_of) }
+    ensures handles { ServerStep i (λ v w. Handles R.facts R.whole (V.mode_of head.now.req_type)
+        jobs_full who head.now body.now V.answer (V.stands service.old) (V.stands service.new)
+        rec.old rec.new result tx.old tx.new v w pool.old pool.new) servers.old.items
+        servers.new.items }
+    ensures service { UnlessRan result (service.new ≡ service.old) }
+    ensures all_served { IfSome (slice_get servers.new.items i) (ServerServed V.mode_of) }
+{
+    let server = &mut servers[i];
+    let step = server.on_packet(alloc, pool, tx, service, head, body, jobs_full, who, rec);
+    server.sound();
+    step
+}
+
+/// The reply of a step, if it has one.
+pub fn reply_of(step: &Step) -> Option<Entry>
+    ensures { replies_of step.now ≡ listed_entry result }
+{
+    match step {
+        Step::Took { reply } => *reply,
+        Step::Again { reply } => Some(*reply),
+        Step::Ran { reply } => Some(*reply),
+        Step::Give(_) => None,
+        Step::Dropped(_) => None,
+    }
+}

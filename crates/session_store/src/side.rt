@@ -1,0 +1,174 @@
+//! A client session with its peer.
+ghost use Rattle.std.specs.Prelude.{◌≡◌, ◌<◌, ◌≤◌, length, slice_get, IfErr, IfSome, IsSome, OnErr};
+ghost use Rattle.std.specs.Prelude.{OnOk};
+ghost use Rattle.std.specs.List.{AllByRecursion};
+ghost use Rattle.buffer_pool.specs.Pool.{spare_of};
+ghost use Rattle.client_core.specs.KeepsPool.{IsHeld};
+ghost use Rattle.client_core.specs.Replies.{IsUnheld, NextIsUnheld, call_as};
+ghost use Rattle.client_core.specs.Timeouts.{call_numbered, timer_told};
+ghost use Rattle.client_core.specs.declared.call.ActiveCall.{ActiveCall};
+ghost use Rattle.packet_header.specs.Header.{AreBytes, MessageInRange};
+ghost use Rattle.session_store.specs.Effects.{SideBegins, SideFlushes, SideLoses, SidePosts};
+ghost use Rattle.session_store.specs.Effects.{SideReplies, SideRolls, SideSends, SideWaits};
+ghost use Rattle.session_store.specs.Effects.{SpellsIn};
+ghost use Rattle.session_store.specs.Sides.{IsOfSide, MayPost, SideKept};
+
+use buffer_pool::BufferPool;
+use client_core::{ClientSession, Done, Reply, Timer};
+use packet_header::{HEAD_BYTES, MessageHeader};
+use packet_rings::Entry;
+use rpc_base::{CallNo, MOST_CALLS, MOST_MESSAGE_BYTES, Peer, RequestNo};
+use rpc_laws::TimerRow;
+use session_slots::Waiting;
+
+/// A client session, its peer, and whether it lost that peer.
+#[derive(Drop)]
+pub struct Side {
+    pub peer: Peer,
+    pub is_broken: bool,
+    pub session: ClientSession,
+}
+
+/// Session `i` posts its next packet.
+pub fn post_at(sides: &mut Vec<Side>, i: usize, pool: &mut BufferPool) -> Option<Entry>
+    requires known { i < length sides.old.items }
+    requires keeps { AllByRecursion (MayPost pool.old) sides.old.items }
+    ensures { SidePosts i result sides.old.items sides.new.items pool.old pool.new }
+{
+    let side = &mut sides[i];
+    let peer = side.peer;
+    side.session.post(pool, peer)
+}
+
+/// The call of session `i` that waited longest begins, where a slot is free.
+pub fn begin_at(
+    sides: &mut Vec<Side>,
+    i: usize,
+    pool: &mut BufferPool,
+) -> Option<(CallNo, RequestNo)>
+    requires known { i < length sides.old.items }
+    requires keeps { AllByRecursion (SideKept pool.old) sides.old.items }
+    requires spare { 2 ≤ spare_of pool.old }
+    ensures { SideBegins i result sides.old.items sides.new.items pool.old pool.new }
+{
+    let side = &mut sides[i];
+    side.session.sound();
+    side.session.begin(pool)
+}
+
+/// Writes the header of an entry of session `i`, and lends its body.
+pub fn packet_at<'a>(
+    sides: &Vec<Side>,
+    i: usize,
+    pool: &'a BufferPool,
+    entry: &Entry,
+    head: &mut [u8; HEAD_BYTES],
+) -> &'a [u8]
+    requires keeps { AllByRecursion (SideKept pool.now) sides.now.items }
+    requires stands { IsOfSide entry.now (slice_get sides.now.items i) }
+    ensures spells { SpellsIn pool.now entry.now head.new result.now
+        (slice_get sides.now.items i) }
+    ensures bytes { AreBytes head.new }
+{
+    sides[i].session.packet(pool, entry, head)
+}
+
+/// An entry of session `i` was sent at `now`.
+pub fn sent_at(sides: &mut Vec<Side>, i: usize, pool: &mut BufferPool, entry: &Entry, now: u64)
+    requires known { i < length sides.old.items }
+    requires keeps { AllByRecursion (SideKept pool.old) sides.old.items }
+    requires held { IsHeld pool.old entry.now.place }
+    ensures { SideSends entry.now now i sides.old.items sides.new.items pool.old pool.new }
+{
+    let side = &mut sides[i];
+    side.session.sent(pool, entry, now);
+}
+
+/// An entry of session `i` was taken out unsent.
+pub fn flushed_at(sides: &mut Vec<Side>, i: usize, pool: &mut BufferPool, entry: &Entry)
+    requires known { i < length sides.old.items }
+    requires keeps { AllByRecursion (SideKept pool.old) sides.old.items }
+    requires held { IsHeld pool.old entry.now.place }
+    ensures { SideFlushes entry.now i sides.old.items sides.new.items pool.old pool.new }
+{
+    let side = &mut sides[i];
+    side.session.flushed(pool, entry);
+}
+
+/// A call waits on session `i`. Err is want of memory, with the call back.
+pub fn enqueue_at(sides: &mut Vec<Side>, i: usize, waiting: Waiting) -> Result<(), Waiting>
+    requires known { i < length sides.old.items }
+    requires message { waiting.req.len ≤ MOST_MESSAGE_BYTES }
+    requires turns { IfSome (slice_get sides.old.items i)
+        (λ s. s.session.slots.taken < MOST_CALLS) }
+    ensures waits { OnOk result (SideWaits i waiting sides.old.items sides.new.items) }
+    ensures unchanged { OnErr result (sides.new.items ≡ sides.old.items) }
+    ensures handed_back { IfErr result (λ back. back ≡ waiting) }
+{
+    let side = &mut sides[i];
+    side.session.enqueue(waiting)
+}
+
+/// Session `i` handles a reply to one of its calls at `now`. `is_waiting` tells whether the call's
+/// packet of the reply's number is queued.
+pub fn heard_at(
+    sides: &mut Vec<Side>,
+    i: usize,
+    pool: &mut BufferPool,
+    head: &MessageHeader,
+    body: &[u8],
+    is_waiting: bool,
+    now: u64,
+) -> Reply
+    requires known { i < length sides.old.items }
+    requires keeps { AllByRecursion (SideKept pool.old) sides.old.items }
+    requires in_range { MessageInRange head.now }
+    requires session { IfSome (slice_get sides.old.items i)
+        (λ s. head.now.session ≡ s.session.number) }
+    requires unheld { IfSome (slice_get sides.old.items i) (λ s. NextIsUnheld pool.old is_waiting
+        head.now.number (call_as head.now.request s.session)) }
+    ensures { SideReplies i now head.now body.now is_waiting result sides.old.items sides.new.items
+        pool.old pool.new }
+{
+    let side = &mut sides[i];
+    side.session.on_reply(pool, head, body, is_waiting, now)
+}
+
+/// A call of session `i` is rolled back, of which no packet is queued any more.
+pub fn roll_at(sides: &mut Vec<Side>, i: usize, call: CallNo)
+    requires known { i < length sides.old.items }
+    requires active { IfSome (slice_get sides.old.items i)
+        (λ s. IsSome (call_numbered call s.session)) }
+    requires few { IfSome (slice_get sides.old.items i)
+        (λ s. IfSome (call_numbered call s.session) (λ c. c.rolls < 8)) }
+    requires idle { IfSome (slice_get sides.old.items i)
+        (λ s. IfSome (call_numbered call s.session) (λ c. c.queued ≡ 0)) }
+    ensures { SideRolls i call sides.old.items sides.new.items }
+{
+    let side = &mut sides[i];
+    side.session.roll(call);
+}
+
+/// The next call of session `i` ends, which lost its peer and has no packet queued.
+pub fn lose_at(sides: &mut Vec<Side>, i: usize, pool: &mut BufferPool) -> Option<Done>
+    requires known { i < length sides.old.items }
+    requires keeps { AllByRecursion (SideKept pool.old) sides.old.items }
+    requires unheld { IfSome (slice_get sides.old.items i)
+        (λ s. AllByRecursion (IsUnheld pool.old) s.session.active) }
+    ensures { SideLoses i result sides.old.items sides.new.items pool.old pool.new }
+{
+    let side = &mut sides[i];
+    side.session.sound();
+    side.session.lose(pool)
+}
+
+/// The row that a look at a call's clock tells.
+pub fn told_row(timer: &Timer) -> TimerRow
+    ensures { (c : ActiveCall) → (row : TimerRow) → timer.now ≡ timer_told row c → row ≡ result }
+{
+    match timer {
+        Timer::Quiet => TimerRow::Waits,
+        Timer::Roll { .. } => TimerRow::RollsBack,
+        Timer::Lost => TimerRow::Breaks,
+    }
+}

@@ -1,0 +1,55 @@
+//! The sessions of an endpoint, with the pool and the ring that they share.
+ghost use Rattle.std.specs.Prelude.{◌≡◌, ◌<◌, IfOk};
+ghost use Rattle.session_store.specs.Sides.{no_sessions};
+
+mod clients;
+mod queue;
+mod servers;
+mod timers;
+
+use crate::side::Side;
+use buffer_pool::BufferPool;
+use packet_rings::TxRing;
+use rpc_base::NoMemory;
+use server_core::ServerSession;
+use std::alloc::Global;
+use std::marker::Model;
+
+/// All sessions, one pool for the buffers of their calls and requests, and one ring for their
+/// packets. Contracts see the sessions and the queue as the definitions over histories have them. A
+/// client session's number is its place; server sessions stand in the order of their numbers.
+#[derive(Drop)]
+pub struct Store {
+    pool: BufferPool,
+    tx: TxRing,
+    sides: Vec<Side>,
+    servers: Vec<ServerSession>,
+}
+
+impl Model for Store {
+    ghost use Rattle.session_store.specs.Sides.{Kept, Shown, shown_of};
+
+    ghost Value = { Shown };
+
+    ghost view = { λ s. shown_of s.pool s.sides.items s.servers.items s.tx };
+
+    ghost invariant = { λ s. Kept s.pool s.sides.items s.servers.items s.tx };
+}
+
+impl Store {
+    /// A store with no session, whose ring has room for `ring` packets, fewer than 2^32 - 1, and
+    /// whose pool has so many places. `NoMemory` comes where there is no memory for them.
+    pub fn new(alloc: Global, ring: u32, places: u32) -> Result<Store, NoMemory>
+        requires few { ring < 4294967295 }
+        ensures { IfOk result (λ s. s ≡ no_sessions ring places) }
+    {
+        let pool = BufferPool::new(alloc, places)?;
+        let tx = TxRing::new(alloc, ring)?;
+        Ok(Store {
+            pool,
+            tx,
+            sides: Vec::new(alloc),
+            servers: Vec::new(alloc),
+        })
+    }
+}

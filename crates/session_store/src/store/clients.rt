@@ -1,0 +1,235 @@
+//! The client sessions: calls are asked, begin and are answered.
+ghost use Rattle.std.specs.Prelude.{◌≡◌, ◌<◌, ◌≤◌, ◌+◌, ◌*◌, ◌++◌, [], ◌∷◌, length};
+ghost use Rattle.std.specs.Prelude.{option_and_then, option_map, slice_get, IfErr, IfSome, OnErr};
+ghost use Rattle.std.specs.Prelude.{OnOk};
+ghost use Rattle.std.specs.List.{AllByRecursion, list_any};
+ghost use Rattle.rpc_base.specs.declared.owner.Owner.TheVariants.{Ask};
+ghost use Rattle.rpc_base.specs.declared.state.SessionState.TheVariants.{Connected};
+ghost use Rattle.rpc_laws.specs.Groups.{state_of};
+ghost use Rattle.node_laws.specs.Windows.{Windows};
+ghost use Rattle.packet_header.specs.Header.{MessageInRange};
+ghost use Rattle.rpc_laws.specs.Queues.{is_queued};
+ghost use Rattle.rpc_laws.specs.Sessions.{asks, client_end};
+ghost use Rattle.session_store.specs.Changes.{BeginsAt, ChangesAt, PostsAt};
+ghost use Rattle.session_store.specs.Effects.{asking_in, packet_of_entry, request_in};
+ghost use Rattle.session_store.specs.Ends.{next_above, told_call};
+ghost use Rattle.session_store.specs.Hearing.{RepliesAt};
+ghost use Rattle.session_store.specs.Sides.{listed_queued};
+
+use super::Store;
+use crate::side::{Side, begin_at, enqueue_at, heard_at, post_at};
+use client_core::{Active, ClientSession, Reply};
+use packet_header::MessageHeader;
+use packet_rings::Entry;
+use rpc_base::{
+    CallNo, DropReason, MOST_CALLS, MOST_CREDITS, MOST_MESSAGE_BYTES, NoMemory, Owner, Peer,
+    RequestNo, SESSION_NUMBERS, SessionNo, SessionState,
+};
+use session_slots::Waiting;
+use std::alloc::Global;
+
+impl Store {
+    /// How many client sessions there are.
+    pub fn clients(&self) -> usize
+        ensures { result ≡ length self.now.clients }
+    {
+        self.sides.len()
+    }
+
+    /// A client session is made that is connected from the start, with 1 to 256 credits; its number
+    /// is its place, and the server's is below 65,535. `NoMemory` comes where there is no memory
+    /// for it.
+    pub fn pair_client(
+        &mut self,
+        alloc: Global,
+        peer: Peer,
+        server: SessionNo,
+        credits: u16,
+    ) -> Result<(), NoMemory>
+        requires numbers { length self.old.clients < SESSION_NUMBERS }
+        requires server { server < SESSION_NUMBERS }
+        requires some { 1 ≤ credits }
+        requires most { credits ≤ MOST_CREDITS }
+        ensures clients { OnOk result (self.new.clients ≡ self.old.clients
+            ++ client_end (length self.old.clients) peer server credits ∷ []) }
+        ensures servers { self.new.servers ≡ self.old.servers }
+        ensures queued { self.new.queued ≡ self.old.queued }
+        ensures size { self.new.size ≡ self.old.size }
+        ensures places { self.new.places ≡ self.old.places }
+        ensures unchanged { OnErr result (self.new ≡ self.old) }
+    {
+        let number = SessionNo(self.sides.len() as u16);
+        let session = ClientSession::new(alloc, number, server, credits);
+        let side = Side {
+            peer,
+            is_broken: false,
+            session,
+        };
+        self.sides.push(side)?;
+        Ok(())
+    }
+
+    /// The state of session `i`: Connected, Spent where 2^45 calls were asked on it, or Broken.
+    pub fn state(&self, i: usize) -> SessionState
+        requires known { i < length self.now.clients }
+        ensures { result ≡ state_of (slice_get self.now.clients i) }
+    {
+        let side = &self.sides[i];
+        if side.is_broken {
+            return SessionState::Broken;
+        }
+        if side.session.asked() == MOST_CALLS {
+            return SessionState::Spent;
+        }
+        SessionState::Connected
+    }
+
+    /// How many credits of session `i` are free, none where it lost its peer.
+    pub fn free(&self, i: usize) -> u16
+        requires known { i < length self.now.clients }
+        ensures { IfSome (slice_get self.now.clients i) (λ x. result ≡ x.free) }
+    {
+        let side = &self.sides[i];
+        if side.is_broken {
+            return 0;
+        }
+        side.session.free()
+    }
+
+    /// How many calls of session `i` are active or wait.
+    pub fn pending(&self, i: usize) -> u64
+        requires known { i < length self.now.clients }
+        ensures { IfSome (slice_get self.now.clients i) (λ x. result ≡ length x.calls) }
+    {
+        self.sides[i].session.pending()
+    }
+
+    /// The active call of session `i` of least number, above `after` if that is given. None comes
+    /// exactly where there is none.
+    pub fn active(&self, i: usize, after: Option<CallNo>) -> Option<Active>
+        requires known { i < length self.now.clients }
+        ensures { IfSome (slice_get self.now.clients i)
+            (λ x. result ≡ option_and_then told_call (next_above after x)) }
+    {
+        self.sides[i].session.active(after)
+    }
+
+    /// A call is asked on session `i`, which is Connected: it waits behind the session's others,
+    /// whose numbers are lower. Its request has at most 1,048,576 bytes. Err is want of memory,
+    /// with the call back.
+    pub fn ask(&mut self, i: usize, waiting: Waiting) -> Result<(), Waiting>
+        requires known { i < length self.old.clients }
+        requires message { waiting.req.len ≤ MOST_MESSAGE_BYTES }
+        requires connected { state_of (slice_get self.old.clients i) ≡ Connected }
+        requires above { IfSome (slice_get self.old.clients i)
+            (λ x. AllByRecursion (λ c. c.what.number < waiting.call) x.calls) }
+        ensures clients { OnOk result (ChangesAt i (asks (asking_in waiting)) self.old.clients
+            self.new.clients) }
+        ensures servers { self.new.servers ≡ self.old.servers }
+        ensures queued { self.new.queued ≡ self.old.queued }
+        ensures size { self.new.size ≡ self.old.size }
+        ensures places { self.new.places ≡ self.old.places }
+        ensures unchanged { OnErr result (self.new ≡ self.old) }
+        ensures handed_back { IfErr result (λ back. back ≡ waiting) }
+    {
+        enqueue_at(&mut self.sides, i, waiting)
+    }
+
+    /// The call of session `i` that waited longest begins, where a slot is free. A session that
+    /// lost its peer begins none.
+    pub fn begin(&mut self, i: usize) -> Option<(CallNo, RequestNo)>
+        requires known { i < length self.old.clients }
+        requires room { 16 * (length self.old.clients + length self.old.servers) + 2
+            ≤ self.old.places }
+        ensures clients { BeginsAt i result self.old.clients self.new.clients }
+        ensures servers { self.new.servers ≡ self.old.servers }
+        ensures queued { self.new.queued ≡ self.old.queued }
+        ensures size { self.new.size ≡ self.old.size }
+        ensures places { self.new.places ≡ self.old.places }
+    {
+        if self.sides[i].is_broken {
+            return None;
+        }
+        begin_at(&mut self.sides, i, &mut self.pool)
+    }
+
+    /// Session `i` posts its next packet: it is put behind the queue.
+    pub fn post(&mut self, i: usize) -> Option<Entry>
+        requires known { i < length self.old.clients }
+        requires room { IfSome (slice_get self.old.clients i)
+            (λ x. length self.old.queued + x.free ≤ self.old.size) }
+        ensures clients { PostsAt i (option_map packet_of_entry result) self.old.clients
+            self.new.clients }
+        ensures servers { self.new.servers ≡ self.old.servers }
+        ensures queued { self.new.queued ≡ self.old.queued ++ listed_queued result }
+        ensures size { self.new.size ≡ self.old.size }
+        ensures places { self.new.places ≡ self.old.places }
+        ensures owner { IfSome result (λ e. e.owner ≡ Ask i (request_in e.owner)) }
+    {
+        if self.sides[i].is_broken {
+            return None;
+        }
+        let posted = post_at(&mut self.sides, i, &mut self.pool);
+        let Some(entry) = posted else {
+            return None;
+        };
+        self.tx.push(entry);
+        Some(entry)
+    }
+
+    /// Session `i` handles a CR or Response to one of its calls, which came from a peer at `now`,
+    /// in microseconds.
+    pub fn on_reply(
+        &mut self,
+        i: usize,
+        peer: Peer,
+        head: &MessageHeader,
+        body: &[u8],
+        now: u64,
+    ) -> Reply
+        requires known { i < length self.old.clients }
+        requires in_range { MessageInRange head.now }
+        requires session { head.now.session ≡ i }
+        requires windows { Windows self.old.clients self.old.queued }
+        ensures clients { RepliesAt i now peer head.now body.now (list_any
+            (is_queued (Ask head.now.session head.now.request) head.now.number) self.old.queued)
+            result self.old.clients self.new.clients }
+        ensures servers { self.new.servers ≡ self.old.servers }
+        ensures queued { self.new.queued ≡ self.old.queued }
+        ensures size { self.new.size ≡ self.old.size }
+        ensures places { self.new.places ≡ self.old.places }
+    {
+        if self.sides[i].is_broken {
+            return Reply::Dropped(DropReason::NoSession);
+        }
+        if peer != self.sides[i].peer {
+            return Reply::Dropped(DropReason::WrongPeer);
+        }
+        let is_waiting = self.is_waiting(i, head.request, head.number);
+        heard_at(
+            &mut self.sides,
+            i,
+            &mut self.pool,
+            head,
+            body,
+            is_waiting,
+            now,
+        )
+    }
+
+    // Whether this packet of a call of session `i` is queued. The ring is looked at only where its
+    // call has a packet there.
+    pub(super) fn is_waiting(&self, i: usize, request: RequestNo, number: u16) -> bool
+        requires known { i < length self.now.clients }
+        ensures { result ≡ list_any (is_queued (Ask i request) number) self.now.queued }
+    {
+        if self.sides[i].session.queued(request) == 0 {
+            return false;
+        }
+        let owner = Owner::Ask {
+            session: self.sides[i].session.session(),
+            request,
+        };
+        self.tx.holds(owner, number)
+    }
+}

@@ -1,0 +1,131 @@
+//! The queue: its front is sent, and packets are taken out unsent.
+ghost use Rattle.std.specs.Prelude.{◌≡◌, ◌≢◌, ◌<◌, ◌*◌, [], drop, length, option_map, IfNone};
+ghost use Rattle.std.specs.Prelude.{IfSome};
+ghost use Rattle.rpc_base.specs.Least.{least, without_least};
+ghost use Rattle.rpc_base.specs.declared.owner.Owner.TheVariants.{Ask, Reply as OfReply};
+ghost use Rattle.packet_header.specs.Header.{AreBytes};
+ghost use Rattle.session_store.specs.Queue.{IsFront, SendsFront, SpellsFront, is_owned};
+ghost use Rattle.session_store.specs.Queue.{queued_number};
+ghost use Rattle.session_store.specs.Sides.{queued_of};
+
+use super::Store;
+use crate::server::{reply_at, reply_flushed_at, reply_sent_at};
+use crate::side::{flushed_at, packet_at, sent_at};
+use client_core::Reply;
+use packet_header::HEAD_BYTES;
+use packet_rings::Entry;
+use rpc_base::{Owner, RequestNo, SessionNo};
+
+impl Store {
+    /// The entry in front of the queue. None comes exactly where nothing is queued.
+    pub fn front(&self) -> Option<Entry>
+        ensures front { IfSome result (IsFront self.now) }
+        ensures none { IfNone result (self.now.queued ≡ []) }
+    {
+        self.tx.front().copied()
+    }
+
+    /// Writes the header of the entry in front of the queue, and lends its body.
+    pub fn packet<'a>(&'a self, head: &mut [u8; HEAD_BYTES]) -> &'a [u8]
+        requires some { self.now.queued ≢ [] }
+        ensures spells { SpellsFront self.now head.new result.now }
+        ensures bytes { AreBytes head.new }
+    {
+        let Some(entry) = self.tx.front().copied() else {
+            unreachable!()
+        };
+        match &entry.owner {
+            Owner::Ask { session, .. } => {
+                packet_at(
+                    &self.sides,
+                    usize::from(session.0),
+                    &self.pool,
+                    &entry,
+                    head,
+                )
+            }
+            Owner::Reply { session, .. } => reply_at(
+                &self.servers,
+                *session,
+                &self.pool,
+                &entry,
+                head,
+            ),
+            Owner::Control => unreachable!(),
+        }
+    }
+
+    /// The entry in front of the queue was sent at `now`, in microseconds.
+    pub fn sent(&mut self, now: u64)
+        requires some { self.old.queued ≢ [] }
+        ensures clients { SendsFront now self.old.queued self.old.clients self.new.clients }
+        ensures servers { self.new.servers ≡ self.old.servers }
+        ensures queued { self.new.queued ≡ drop 1 self.old.queued }
+        ensures size { self.new.size ≡ self.old.size }
+        ensures places { self.new.places ≡ self.old.places }
+    {
+        let Some(entry) = self.tx.pop() else {
+            unreachable!()
+        };
+        match &entry.owner {
+            Owner::Ask { session, .. } => {
+                sent_at(
+                    &mut self.sides,
+                    usize::from(session.0),
+                    &mut self.pool,
+                    &entry,
+                    now,
+                );
+            }
+            Owner::Reply { session, .. } => {
+                reply_sent_at(&mut self.servers, *session, &mut self.pool, &entry);
+            }
+            Owner::Control => unreachable!(),
+        }
+    }
+
+    /// Takes the queued packet of least number of a call of session `i` out, unsent. None comes
+    /// exactly where none of it is queued.
+    pub fn flush(&mut self, i: usize, request: RequestNo) -> Option<Entry>
+        requires known { i < length self.old.clients }
+        ensures taken { option_map queued_of result
+            ≡ least (is_owned (Ask i request)) queued_number self.old.queued }
+        ensures queued { self.new.queued
+            ≡ without_least (is_owned (Ask i request)) queued_number self.old.queued }
+        ensures clients { self.new.clients ≡ self.old.clients }
+        ensures servers { self.new.servers ≡ self.old.servers }
+        ensures size { self.new.size ≡ self.old.size }
+        ensures places { self.new.places ≡ self.old.places }
+    {
+        let owner = Owner::Ask {
+            session: self.sides[i].session.session(),
+            request,
+        };
+        let flushed = self.tx.flush(owner);
+        let Some(entry) = flushed else {
+            return None;
+        };
+        flushed_at(&mut self.sides, i, &mut self.pool, &entry);
+        Some(entry)
+    }
+
+    /// Takes the queued reply of least number to a request of a server session out, unsent. None
+    /// comes exactly where none of them is queued.
+    pub fn flush_reply(&mut self, session: SessionNo, request: RequestNo) -> Option<Entry>
+        ensures taken { option_map queued_of result
+            ≡ least (is_owned (OfReply session request)) queued_number self.old.queued }
+        ensures queued { self.new.queued
+            ≡ without_least (is_owned (OfReply session request)) queued_number self.old.queued }
+        ensures clients { self.new.clients ≡ self.old.clients }
+        ensures servers { self.new.servers ≡ self.old.servers }
+        ensures size { self.new.size ≡ self.old.size }
+        ensures places { self.new.places ≡ self.old.places }
+    {
+        let flushed = self.tx.flush(Owner::Reply { session, request });
+        let Some(entry) = flushed else {
+            return None;
+        };
+        reply_flushed_at(&mut self.servers, session, &mut self.pool, &entry);
+        Some(entry)
+    }
+}

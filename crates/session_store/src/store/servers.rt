@@ -1,0 +1,144 @@
+//! The server sessions: packets and the answers of workers.
+ghost use Rattle.std.specs.Prelude.{◌≡◌, ◌<◌, ◌≤◌, ◌+◌, ◌*◌, ◌++◌, [], ◌∷◌, length, slice_get};
+ghost use Rattle.std.specs.Prelude.{IfSome, OnErr, OnOk};
+ghost use Rattle.std.specs.List.{AllByRecursion, position};
+ghost use Rattle.message_buffer.specs.Buffer.{bytes_of};
+ghost use Rattle.packet_header.specs.Parts.{IsMessage};
+ghost use Rattle.rpc_laws.specs.Requests.{is_server, server_end};
+ghost use Rattle.session_store.specs.Changes.{FinishesAt};
+ghost use Rattle.server_core.specs.Steps.{IsAsking, UnlessRan};
+ghost use Rattle.session_store.specs.Serving.{AreServedAt, HandlesAt};
+ghost use Rattle.session_store.specs.Sides.{listed_queued};
+
+use super::Store;
+use crate::server::{asked_at, finished_at, place_of, reply_of};
+use packet_header::MessageHeader;
+use packet_rings::Entry;
+use rpc_base::{MOST_CREDITS, NoMemory, NodeId, Peer, SESSION_NUMBERS, SessionNo, Who};
+use rpc_outside::{Recorder, Service};
+use server_core::{ServerSession, Step};
+use std::alloc::Global;
+use worker_board::Parcel;
+
+impl Store {
+    /// How many server sessions there are.
+    pub fn servers(&self) -> usize
+        ensures { result ≡ length self.now.servers }
+    {
+        self.servers.len()
+    }
+
+    /// Where the server session with this number stands. None comes exactly where there is none.
+    pub fn place_of_server(&self, number: SessionNo) -> Option<usize>
+        ensures { result ≡ position (is_server number) self.now.servers }
+    {
+        place_of(&self.servers, number)
+    }
+
+    /// A server session is made that is connected from the start, with 1 to 256 credits. Its number
+    /// is above those of the others, and the client's is below 65,535. `NoMemory` comes where there
+    /// is no memory for it.
+    pub fn pair_server(
+        &mut self,
+        number: SessionNo,
+        client: SessionNo,
+        peer: Peer,
+        credits: u16,
+    ) -> Result<(), NoMemory>
+        requires number { number < SESSION_NUMBERS }
+        requires above { AllByRecursion (λ v. v.way.number < number) self.old.servers }
+        requires client { client < SESSION_NUMBERS }
+        requires some { 1 ≤ credits }
+        requires most { credits ≤ MOST_CREDITS }
+        ensures servers { OnOk result (self.new.servers ≡ self.old.servers
+            ++ server_end number peer client credits ∷ []) }
+        ensures clients { self.new.clients ≡ self.old.clients }
+        ensures queued { self.new.queued ≡ self.old.queued }
+        ensures size { self.new.size ≡ self.old.size }
+        ensures places { self.new.places ≡ self.old.places }
+        ensures unchanged { OnErr result (self.new ≡ self.old) }
+    {
+        let session = ServerSession::new(number, client, peer, credits);
+        self.servers.push(session)?;
+        Ok(())
+    }
+
+    /// The server session at place `i` handles a Request or RFR as the node `me`, by the server
+    /// table, and its facts are noted. Where a request begins, the queued replies to the older one
+    /// of its slot are flushed. The reply is put behind the queue. A parcel is to be given to a
+    /// worker; `jobs_full` tells whether the node's jobs are full. Want of memory is a drop, after
+    /// which the packet may come again.
+    pub fn on_packet<V: Service, R: Recorder>(
+        &mut self,
+        alloc: Global,
+        i: usize,
+        service: &mut V,
+        head: &MessageHeader,
+        body: &[u8],
+        jobs_full: bool,
+        me: NodeId,
+        rec: &mut R,
+    ) -> Step
+        requires known { i < length self.old.servers }
+        requires session { IfSome (slice_get self.old.servers i)
+            (λ v. head.now.session ≡ v.way.number) }
+        requires asking { IsAsking head.now (length body.now) }
+        requires ring { length self.old.queued < self.old.size }
+        requires room { 16 * (length self.old.clients + length self.old.servers) + 2
+            ≤ self.old.places }
+        requires all_served { AreServedAt V.mode_of i self.old.servers }
+        ensures handles { HandlesAt R.facts R.whole (V.mode_of head.now.req_type) jobs_full me i
+            head.now body.now V.answer (V.stands service.old) (V.stands service.new) rec.old rec.new
+            result self.old self.new }
+        ensures clients { self.new.clients ≡ self.old.clients }
+        ensures size { self.new.size ≡ self.old.size }
+        ensures places { self.new.places ≡ self.old.places }
+        ensures service { UnlessRan result (service.new ≡ service.old) }
+        ensures all_served { AreServedAt V.mode_of i self.new.servers }
+    {
+        let step = asked_at(
+            &mut self.servers,
+            i,
+            alloc,
+            &mut self.pool,
+            &mut self.tx,
+            service,
+            head,
+            body,
+            jobs_full,
+            Who::Node(me),
+            rec,
+        );
+        let Some(reply) = reply_of(&step) else {
+            return step;
+        };
+        self.tx.push(reply);
+        step
+    }
+
+    /// A job of the server session at place `i` is finished, and its parcel has the answer, of at
+    /// most 1,048,576 bytes. The reply to the request's last packet is put behind the queue. None
+    /// comes exactly where the request doesn't wait for the answer any more.
+    pub fn on_finished(&mut self, i: usize, parcel: Parcel) -> Option<Entry>
+        requires known { i < length self.old.servers }
+        requires session { IfSome (slice_get self.old.servers i)
+            (λ v. parcel.session ≡ v.way.number) }
+        requires answer { IsMessage parcel.out.len }
+        requires ring { length self.old.queued < self.old.size }
+        requires room { 16 * (length self.old.clients + length self.old.servers) + 2
+            ≤ self.old.places }
+        ensures servers { FinishesAt i parcel.request (bytes_of parcel.out) result self.old.servers
+            self.new.servers }
+        ensures clients { self.new.clients ≡ self.old.clients }
+        ensures queued { self.new.queued ≡ self.old.queued ++ listed_queued result }
+        ensures size { self.new.size ≡ self.old.size }
+        ensures places { self.new.places ≡ self.old.places }
+    {
+        let reply = finished_at(&mut self.servers, i, &mut self.pool, parcel);
+        let Some(entry) = reply else {
+            return None;
+        };
+        self.tx.push(entry);
+        Some(entry)
+    }
+}

@@ -1,0 +1,87 @@
+//! Timeouts: calls are rolled back, and a session loses its peer.
+ghost use Rattle.std.specs.Prelude.{◌≡◌, ◌<◌, length, option_map, slice_get, IfSome};
+ghost use Rattle.client_core.specs.declared.outcome.Outcome.TheVariants.{PeerLost};
+ghost use Rattle.rpc_laws.specs.Sessions.{breaks};
+ghost use Rattle.session_store.specs.Changes.{ActiveAt, ChangesAt, IsIdle, IsLost, LosesAt};
+ghost use Rattle.session_store.specs.Changes.{MayRoll, RollsAt, RowAt};
+
+use super::Store;
+use crate::side::{lose_at, roll_at, told_row};
+use client_core::{Active, Done, Timer};
+use rpc_base::CallNo;
+use rpc_laws::TimerRow;
+
+impl Store {
+    /// What the timer rule says at `now` of an active call of session `i`, with this timeout, both
+    /// in microseconds. The queue is looked at only where the clock says that the call timed out.
+    pub fn timer(&self, i: usize, active: &Active, now: u64, timeout: u64) -> TimerRow
+        requires known { i < length self.now.clients }
+        requires active { ActiveAt i active.now self.now.clients }
+        ensures { RowAt now timeout i active.now.call result self.now }
+    {
+        match self.sides[i]
+            .session
+            .check(active.call, now, false, timeout)
+        {
+            Timer::Quiet => TimerRow::Waits,
+            Timer::Roll { .. } | Timer::Lost => self.late_row(i, active, now, timeout),
+        }
+    }
+
+    // The timer's row of a call that the clock alone doesn't let wait.
+    fn late_row(&self, i: usize, active: &Active, now: u64, timeout: u64) -> TimerRow
+        requires known { i < length self.now.clients }
+        requires active { ActiveAt i active.now self.now.clients }
+        ensures { RowAt now timeout i active.now.call result self.now }
+    {
+        let is_waiting = self.is_waiting(i, active.request, active.got);
+        let timer = self.sides[i]
+            .session
+            .check(active.call, now, is_waiting, timeout);
+        told_row(&timer)
+    }
+
+    /// An active call of session `i` is rolled back, of which no packet is queued.
+    pub fn roll(&mut self, i: usize, call: CallNo)
+        requires known { i < length self.old.clients }
+        requires may { MayRoll i call self.old }
+        ensures clients { RollsAt i call self.old.clients self.new.clients }
+        ensures servers { self.new.servers ≡ self.old.servers }
+        ensures queued { self.new.queued ≡ self.old.queued }
+        ensures size { self.new.size ≡ self.old.size }
+        ensures places { self.new.places ≡ self.old.places }
+    {
+        roll_at(&mut self.sides, i, call);
+    }
+
+    /// Session `i` loses its peer; no packet of it is queued.
+    pub fn lose_peer(&mut self, i: usize)
+        requires known { i < length self.old.clients }
+        requires idle { IsIdle i self.old.queued }
+        ensures clients { ChangesAt i breaks self.old.clients self.new.clients }
+        ensures servers { self.new.servers ≡ self.old.servers }
+        ensures queued { self.new.queued ≡ self.old.queued }
+        ensures size { self.new.size ≡ self.old.size }
+        ensures places { self.new.places ≡ self.old.places }
+    {
+        let side = &mut self.sides[i];
+        side.is_broken = true;
+    }
+
+    /// The first call of session `i` ends, which lost its peer and has no packet queued. None comes
+    /// exactly where no call is left.
+    pub fn lose(&mut self, i: usize) -> Option<Done>
+        requires known { i < length self.old.clients }
+        requires lost { IsLost (slice_get self.old.clients i) }
+        requires idle { IsIdle i self.old.queued }
+        ensures clients { LosesAt i (option_map (λ d. d.call) result) self.old.clients
+            self.new.clients }
+        ensures ended_as { IfSome result (λ d. d.outcome ≡ PeerLost) }
+        ensures servers { self.new.servers ≡ self.old.servers }
+        ensures queued { self.new.queued ≡ self.old.queued }
+        ensures size { self.new.size ≡ self.old.size }
+        ensures places { self.new.places ≡ self.old.places }
+    {
+        lose_at(&mut self.sides, i, &mut self.pool)
+    }
+}
