@@ -134,10 +134,10 @@ connected-next : (next : Client → Option Event) (o : Option Client) (e : Event
 connected-next next None e h = h
 connected-next next (Some x) e h = next-by (is_connected x.state) (next x) e h
 
-begun-allowed : (i : ℕ) (s : Lists) (e : Event) → Valid s → next_begun i s ≡ Some e → Allowed s e
+pub begun-allowed : (i : ℕ) (s : Lists) (e : Event) → Valid s → next_begun i s ≡ Some e → Allowed s e
 begun-allowed i s e v h = begins-client s e i v (slice_get s.clients i) refl (connected-next beginning (slice_get s.clients i) e h)
 
-posted-allowed : (i : ℕ) (s : Lists) (e : Event) → Valid s → next_posted i s ≡ Some e → Allowed s e
+pub posted-allowed : (i : ℕ) (s : Lists) (e : Event) → Valid s → next_posted i s ≡ Some e → Allowed s e
 posted-allowed i s e v h = posts-client s e i v (slice_get s.clients i) refl h
 
 serves-lawful : (i : ℕ) → Lawful (Serves i)

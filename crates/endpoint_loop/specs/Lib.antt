@@ -1,0 +1,4 @@
+pub mod Fits
+pub mod Measures
+pub mod Noting
+pub mod Seen

@@ -1,0 +1,48 @@
+-- What a step of an endpoint notes, by any recorder.
+use Rattle.std.specs.Prelude.{◌≡◌, ℕ, Bool, true, false, Option, None, option_map, List, [], ◌∷◌, ◌++◌}
+use Rattle.rpc_base.specs.declared.event.Event.{Event}
+use Rattle.rpc_base.specs.declared.event.Event.TheVariants.{Sent}
+use Rattle.rpc_base.specs.declared.fact.Fact.{Fact}
+use Rattle.rpc_laws.specs.declared.tables.Lists.{Lists}
+use Rattle.rpc_laws.specs.declared.tables.Timed.{Timed}
+use Rattle.rpc_laws.specs.Steps.{Rel, NotesNext}
+use Rattle.rpc_outside.specs.Linking.{Carried}
+use Rattle.rpc_outside.specs.Recording.{Grew}
+
+-- there are facts by which the recorder grew, and by which P leads from the old node to the new one
+pub record Makes {R : Type 0} (facts : R → Option (List Fact)) (whole : R → Bool) (P : Rel)
+    (old new : Timed) (before now : R) : Type 0 where
+  pub noted : List Fact
+  pub grew : Grew facts whole before now noted
+  pub step : P old noted new
+
+-- whether there was a next event: then it was noted, and otherwise nothing changed
+abbrev pub NotesOne : {R : Type 0} → (R → Option (List Fact)) → (R → Bool)
+    → (Lists → Option Event) → Bool → Timed → Timed → R → R → Type 0
+NotesOne facts whole next true old new before now =
+    Makes facts whole (NotesNext next) old new before now
+NotesOne facts whole next false old new before now =
+    (next old.lists ≡ None) × (new ≡ old) × (now ≡ before)
+
+-- the datagrams of the Sent facts
+abbrev pub sent_by : Event → (first second : List ℕ) → List Carried
+sent_by (Sent peer owner k) first second = (peer, first ++ second) ∷ []
+sent_by _ first second = []
+
+abbrev pub sent_of : List Fact → List Carried
+sent_of [] = []
+sent_of (f ∷ fs) = sent_by f.event f.first f.second ++ sent_of fs
+
+-- and the link, where it tells what it sent, sent exactly the datagrams of the Sent facts
+pub record MakesSent {R L : Type 0} (facts : R → Option (List Fact)) (whole : R → Bool)
+    (sent : L → Option (List Carried)) (P : Rel) (old new : Timed) (before now : R) (from to : L)
+    : Type 0 where
+  pub makes : Makes facts whole P old new before now
+  pub took : sent to ≡ option_map (λ ds. ds ++ sent_of makes.noted) (sent from)
+
+-- nothing was sent, and nothing noted
+pub record SendsNone {R L : Type 0} (sent : L → Option (List Carried)) (old new : Timed)
+    (before now : R) (from to : L) : Type 0 where
+  pub node : new ≡ old
+  pub recorder : now ≡ before
+  pub link : sent to ≡ sent from

@@ -1,0 +1,42 @@
+-- A node as the definitions over histories have it.
+use Rattle.std.specs.Prelude.{ℕ, List, [], map}
+use Rattle.packet_rings.specs.Rings.{Ring}
+use Rattle.packet_rings.specs.Values.{DatagramValue}
+use Rattle.rpc_base.specs.declared.limits.Limits.{Limits}
+use Rattle.rpc_laws.specs.declared.tables.Arrival.{Arrival}
+use Rattle.rpc_laws.specs.declared.tables.Counted.{Counted}
+use Rattle.rpc_laws.specs.declared.tables.Jobs.{Jobs}
+use Rattle.rpc_laws.specs.declared.tables.Pace.{Pace}
+use Rattle.rpc_laws.specs.declared.tables.Timed.{Timed}
+use Rattle.session_store.specs.Sides.{Shown}
+
+abbrev pub arrival_of : DatagramValue → Arrival
+arrival_of d = record { peer = d.peer; bytes = d.bytes }
+
+-- what a node counts beside its sessions and rings
+pub record Tallies : Type 0 where
+  pub asked : ℕ
+  pub server_numbers : ℕ
+  pub counts : Counted
+
+-- a node of this number, with these limits, by what it keeps
+abbrev pub seen_node : (me : ℕ) → Limits → Tallies → List Pace → Jobs → (clock : ℕ)
+    → Ring DatagramValue → Shown → Timed
+seen_node me limits tallies paces jobs clock rx s = record {
+  lists = record {
+    me = me;
+    room = limits.ring;
+    timeout = limits.timeout;
+    asked = tallies.asked;
+    server_numbers = tallies.server_numbers;
+    counts = tallies.counts;
+    ring = map arrival_of rx.items;
+    inbox = [];
+    queued = s.queued;
+    paces = paces;
+    clients = s.clients;
+    servers = s.servers;
+    jobs = jobs;
+  };
+  clock = clock;
+}

@@ -1,0 +1,17 @@
+//! The end of a poll.
+ghost use Rattle.endpoint_loop.specs.Noting.{Makes};
+ghost use Rattle.rpc_laws.specs.PollOrder.{Closes};
+
+use crate::node::Node;
+use rpc_base::{Event, Who};
+use rpc_outside::Recorder;
+
+impl Node {
+    /// Step 7 of a poll: it ends with a Polled.
+    pub fn close<R: Recorder>(&mut self, rec: &mut R)
+        ensures { Makes R.facts R.whole Closes self.old self.new rec.old rec.new }
+    {
+        let event = Event::Polled { now: self.clock };
+        rec.note(Who::Node(self.me), event, &[], &[]);
+    }
+}

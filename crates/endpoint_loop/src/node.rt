@@ -1,0 +1,89 @@
+//! What an endpoint has, beside its service and its workers.
+ghost use Rattle.std.specs.Prelude.{◌≡◌, IfOk};
+ghost use Rattle.rpc_base.specs.Limits.{Fits as InRange};
+ghost use Rattle.rpc_laws.specs.NodeLists.{new_node};
+
+use packet_rings::RxRing;
+use rpc_base::{Limits, Listed, NoMemory, NodeId};
+use rpc_laws::{Counted, Jobs, Pace};
+use session_store::Store;
+use std::alloc::Global;
+use std::marker::Model;
+
+// Each side of a session has eight calls at most, with two buffers each.
+const PLACES_OF_SESSION: u32 = 16;
+
+// So many places more stay empty, so that a call or a request that begins finds its two.
+const PLACES_TO_BEGIN: u32 = 2;
+
+/// The lists of a node, with its sessions on one pool and one transmit ring. Contracts see them as
+/// the definitions over histories have them.
+#[derive(Drop)]
+pub struct Node {
+    pub(crate) me: NodeId,
+    pub(crate) limits: Limits,
+    /// How many calls were accepted.
+    pub(crate) asked: u64,
+    /// How many numbers of server sessions were used.
+    pub(crate) server_numbers: u64,
+    pub(crate) counts: Counted,
+    pub(crate) paces: Vec<Pace>,
+    pub(crate) jobs: Jobs,
+    /// In microseconds.
+    pub(crate) clock: u64,
+    pub(crate) rx: RxRing,
+    pub(crate) store: Store,
+}
+
+impl Model for Node {
+    ghost use Rattle.rpc_laws.specs.declared.tables.Timed.{Timed};
+    ghost use Rattle.endpoint_loop.specs.Fits.{Fits};
+    ghost use Rattle.endpoint_loop.specs.Seen.{seen_node};
+
+    ghost Value = { Timed };
+
+    ghost view = { λ n. seen_node n.me n.limits (record {
+      asked = n.asked;
+      server_numbers = n.server_numbers;
+      counts = n.counts;
+    }) n.paces.items n.jobs n.clock n.rx n.store };
+
+    ghost invariant = { λ n. Fits (seen_node n.me n.limits (record {
+      asked = n.asked;
+      server_numbers = n.server_numbers;
+      counts = n.counts;
+    }) n.paces.items n.jobs n.clock n.rx n.store) n.store.size n.store.places };
+}
+
+impl Node {
+    /// Node `me` with these limits, which are in their ranges. Its lists are empty, and its buffers
+    /// are enough for so many sessions. `NoMemory` comes where there is no memory for its rings and
+    /// its pool.
+    pub fn new(alloc: Global, me: NodeId, limits: Limits, sessions: u16) -> Result<Node, NoMemory>
+        requires limits { InRange limits }
+        ensures { IfOk result (λ n. n ≡ new_node me limits) }
+    {
+        let places = PLACES_OF_SESSION * sessions as u32 + PLACES_TO_BEGIN;
+        Ok(Node {
+            me,
+            limits,
+            asked: 0,
+            server_numbers: 0,
+            counts: Counted {
+                ran: 0,
+                given: 0,
+                dropped: 0,
+                overflowed: 0,
+            },
+            paces: Vec::new(alloc),
+            jobs: Jobs {
+                limit: limits.jobs,
+                given: 0,
+                out: Listed::new(alloc),
+            },
+            clock: 0,
+            rx: RxRing::new(alloc, limits.ring)?,
+            store: Store::new(alloc, 2 * limits.ring, places)?,
+        })
+    }
+}

@@ -1,0 +1,89 @@
+//! Step 6 of a poll: what is queued is sent.
+ghost use Rattle.std.specs.Prelude.{◌≡◌, ◌≢◌, ◌<◌, ◌↔◌, [], true, false, length, IfOk, IsTrue, OnErr};
+ghost use Rattle.endpoint_loop.specs.Noting.{MakesSent, SendsNone};
+ghost use Rattle.rpc_laws.specs.PollOrder.{Sends, SendsSome};
+ghost use Rattle.rpc_outside.specs.Faults.{HasCause, HasRisen};
+ghost use Rattle.rpc_outside.specs.Linking.{NoneComes};
+
+use crate::node::Node;
+use packet_header::HEAD_BYTES;
+use rpc_base::{Event, Who};
+use rpc_outside::{Failed, Link, Recorder, Taken};
+
+impl Node {
+    // Sends the front of the queue, where it lies. The result tells whether the link took it; where
+    // it was busy, or failed, the packet stays in front.
+    fn send_front<L: Link, R: Recorder>(
+        &mut self,
+        link: &mut L,
+        rec: &mut R,
+    ) -> Result<bool, Failed>
+        requires some { self.old.lists.queued ≢ [] }
+        ensures sent { IfOk result (λ went. went ≡ true →
+            MakesSent R.facts R.whole L.sent Sends self.old self.new rec.old rec.new link.old
+            link.new × (L.busies link.new ≡ L.busies link.old)) }
+        ensures busy { IfOk result (λ went. went ≡ false →
+            SendsNone L.sent self.old self.new rec.old rec.new link.old link.new
+            × HasRisen (L.busies link.old) (L.busies link.new)) }
+        ensures fault { OnErr result
+            (SendsNone L.sent self.old self.new rec.old rec.new link.old link.new) }
+        ensures fewer { IfOk result (λ went. went ≡ true →
+            length self.new.lists.queued < length self.old.lists.queued) }
+        ensures lists { NoneComes L.waiting L.received link.old link.new }
+        ensures cause { HasCause (L.faults link.old) (L.faults link.new) result }
+    {
+        let Some(entry) = self.store.front() else {
+            unreachable!()
+        };
+        let mut head = [0u8; HEAD_BYTES];
+        let body = self.store.packet(&mut head);
+        match link.send(entry.peer, &head, body)? {
+            Taken::Busy => Ok(false),
+            Taken::Whole => {
+                let event = Event::Sent {
+                    peer: entry.peer,
+                    owner: entry.owner,
+                    number: entry.number,
+                };
+                rec.note(Who::Node(self.me), event, &head, body);
+                self.store.sent(self.clock);
+                Ok(true)
+            }
+        }
+    }
+
+    // Whether nothing is queued.
+    fn is_all_sent(&self) -> bool
+        ensures { IsTrue result ↔ (self.now.lists.queued ≡ []) }
+    {
+        match self.store.front() {
+            Some(_entry) => false,
+            None => true,
+        }
+    }
+
+    /// Step 6 of a poll: what is queued is sent, the oldest first, until nothing is queued or the
+    /// link is busy or fails. The result tells whether the link was busy. What wasn't sent stays
+    /// queued in its order.
+    pub fn send_all<L: Link, R: Recorder>(
+        &mut self,
+        link: &mut L,
+        rec: &mut R,
+    ) -> Result<bool, Failed>
+        ensures sent { MakesSent R.facts R.whole L.sent SendsSome self.old self.new rec.old rec.new
+            link.old link.new }
+        ensures all { IfOk result (λ busy. busy ≡ false → (self.new.lists.queued ≡ [])
+            × (L.busies link.new ≡ L.busies link.old)) }
+        ensures busy { IfOk result (λ busy. busy ≡ true →
+            HasRisen (L.busies link.old) (L.busies link.new)) }
+        ensures lists { NoneComes L.waiting L.received link.old link.new }
+        ensures cause { HasCause (L.faults link.old) (L.faults link.new) result }
+    {
+        'packets: while !self.is_all_sent() {
+            if !self.send_front(link, rec)? {
+                return Ok(true);
+            }
+        }
+        Ok(false)
+    }
+}
