@@ -10,11 +10,11 @@ use session_store::Store;
 use std::alloc::Global;
 use std::marker::Model;
 
-// Each side of a session has eight calls at most, with two buffers each.
+// The places that the eight calls or requests of a session name, two each.
 const PLACES_OF_SESSION: u32 = 16;
 
-// So many places more stay empty, so that a call or a request that begins finds its two.
-const PLACES_TO_BEGIN: u32 = 2;
+// A job that is out may need so many for its answer.
+const PLACES_OF_JOB: u32 = 2;
 
 /// The lists of a node, with its sessions on one pool and one transmit ring. Contracts see them as
 /// the definitions over histories have them.
@@ -63,7 +63,7 @@ impl Node {
         requires limits { InRange limits }
         ensures { IfOk result (λ n. n ≡ new_node me limits) }
     {
-        let places = PLACES_OF_SESSION * sessions as u32 + PLACES_TO_BEGIN;
+        let places = PLACES_OF_SESSION * limits.ring + PLACES_OF_JOB * limits.jobs;
         Ok(Node {
             me,
             limits,
