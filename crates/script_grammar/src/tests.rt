@@ -158,8 +158,7 @@ fn nodes_come_first_and_are_at_most_eight(rt: HostRuntime) -> Result<(), Fail> {
 }
 
 /// Row *one echo*: ten lines, of which nine are commands.
-const ECHO: &[u8] =
-    b"erpc-sim 1\nnode ring=32\nnode ring=32\npair 0 1 credits=1\n\
+const ECHO: &[u8] = b"erpc-sim 1\nnode ring=32\nnode ring=32\npair 0 1 credits=1\n\
       call 0 0 1 68656c6c6f room=64\npoll 0\narrive 0\npoll 1\narrive 0\npoll 0\n";
 
 #[test]
