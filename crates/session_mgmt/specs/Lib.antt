@@ -1,0 +1,3 @@
+pub mod ClientEnds
+pub mod Ends
+pub mod Table

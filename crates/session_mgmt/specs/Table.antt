@@ -1,0 +1,85 @@
+-- The table of sessions as the tables of a node, and what its calls make of it.
+use Rattle.std.specs.Prelude.{◌≡◌, ℕ, ◌+◌, ◌≤◌, Bool, true, false, Option, Some, None, List, [], ◌∷◌, ◌++◌, map}
+use Rattle.std.specs.List.{find}
+use Rattle.packet_header.specs.declared.packet.ControlHeader.{ControlHeader}
+use Rattle.rpc_base.specs.declared.event.Event.{Event}
+use Rattle.rpc_base.specs.declared.event.Event.TheVariants.{NcloseBusy, NcloseState, NconnectNumbers, NconnectRing}
+use Rattle.rpc_base.specs.declared.fact.Fact.{Fact}
+use Rattle.rpc_base.specs.declared.state.SessionState.{SessionState}
+use Rattle.rpc_base.specs.declared.state.SessionState.TheVariants as SessionState
+use Rattle.rpc_laws.specs.declared.rows.ControlRow.{ControlRow}
+use Rattle.rpc_laws.specs.declared.rows.ControlRow.TheVariants.{Accepts, Closes, Confirms, Connects, Declines, Disowns, Ends, Fails, Ignores, Misses, Starves}
+use Rattle.rpc_laws.specs.declared.rows.RetryRow.{RetryRow}
+use Rattle.rpc_laws.specs.declared.rows.RetryRow.TheVariants.{Asks, GivesUp, Rests}
+use Rattle.rpc_laws.specs.declared.tables.Client.{Client}
+use Rattle.rpc_laws.specs.declared.tables.Lists.{Lists}
+use Rattle.rpc_laws.specs.ControlSteps.{given_up, own_request, retry_row}
+use Rattle.rpc_laws.specs.ControlTable.{control_facts, control_reply, control_row}
+use Rattle.rpc_laws.specs.Groups.{shares, state_of}
+use Rattle.rpc_laws.specs.NodeLists.{new_lists, one_more}
+use Rattle.rpc_laws.specs.Requests.{server_numbers_after, servers_after}
+use Rattle.rpc_laws.specs.Sessions.{clients_after, is_client}
+use Rattle.rpc_laws.specs.UsualLimits.{with_ring}
+use Rattle.session_mgmt.specs.Ends.{ServerEnds}
+use Rattle.session_mgmt.specs.declared.answers.Change.{Change}
+use Rattle.session_mgmt.specs.declared.answers.Change.TheVariants as Change
+use Rattle.session_mgmt.specs.declared.answers.CloseError.{CloseError}
+use Rattle.session_mgmt.specs.declared.answers.CloseError.TheVariants.{Busy, NotConnected}
+use Rattle.session_mgmt.specs.declared.answers.ConnectError.{ConnectError}
+use Rattle.session_mgmt.specs.declared.answers.ConnectError.TheVariants.{NoMemory, NumbersSpent, RingFull}
+use Rattle.session_mgmt.specs.declared.answers.Due.{Due}
+use Rattle.session_mgmt.specs.declared.answers.Due.TheVariants as Due
+use Rattle.session_mgmt.specs.declared.answers.Verdict.{Verdict}
+
+-- a node's tables with these sessions and nothing else
+abbrev pub table : ℕ → List Client → ServerEnds → Lists
+table ring clients servers = record (new_lists 0 (with_ring ring)) {
+  clients = clients;
+  servers = servers.live;
+  server_numbers = servers.used;
+}
+
+-- n is the credits of the live sessions, which don't exceed the ring
+pub record IsCounted (n : ℕ) (s : Lists) : Type 0 where
+  pub counted : n ≡ shares s
+  pub within : n ≤ s.room
+
+-- the sessions after an event that isn't of a call or a packet
+abbrev pub session_after : Event → Lists → Lists
+session_after e s = record s {
+  server_numbers = server_numbers_after e s.server_numbers;
+  clients = clients_after 0 e [] None [] s.clients;
+  servers = servers_after e [] None [] s.servers;
+}
+
+abbrev pub sessions_after : List Event → Lists → Lists
+sessions_after [] s = s
+sessions_after (e ∷ es) s = sessions_after es (session_after e s)
+
+-- one more client session
+abbrev pub with_client : Client → Lists → Lists
+with_client x s = record s { clients = s.clients ++ x ∷ [] }
+
+-- what a node notes of a refusal; it notes nothing of want of memory
+abbrev pub refused : ConnectError → Option Event
+refused NumbersSpent = Some NconnectNumbers
+refused (RingFull shares credits ring) = Some (NconnectRing shares credits ring)
+refused NoMemory = None
+
+abbrev pub closing : ℕ → CloseError → Event
+closing session (NotConnected state) = NcloseState session state
+closing session (Busy calls) = NcloseBusy session calls
+
+-- whether a session has a request of its own
+abbrev pub is_asking : SessionState → Bool
+is_asking SessionState.Connecting = true
+is_asking SessionState.Closing = true
+is_asking state = false
+
+-- its request was sent once more, at this clock; the count stops at 2^64 - 1
+abbrev pub sent_again : (clock : ℕ) → Client → Client
+sent_again clock x = record x { sends = one_more x.sends; sent_at = clock }
+
+-- how a session gives up
+abbrev pub given_up_by : ℕ → Lists → List Event
+given_up_by session s = given_up (state_of (find (is_client session) s.clients)) session
