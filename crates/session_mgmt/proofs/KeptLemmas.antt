@@ -15,6 +15,7 @@ use Rattle.std.proofs.lemmas.List.Folds.{list_any-append}
 use Rattle.rpc_base.specs.Tables.{without_first}
 use Rattle.rpc_base.specs.declared.limits.TheConstants.{SESSION_NUMBERS}
 use Rattle.rpc_base.proofs.BasicLemmas.{false-true}
+use Rattle.rpc_base.proofs.TakingLemmas.{find-passes}
 use Rattle.rpc_laws.specs.ControlTable.{is_end_of}
 use Rattle.rpc_laws.specs.Requests.{is_server, server_end}
 use Rattle.rpc_laws.specs.declared.tables.Server.{Server}
@@ -301,3 +302,48 @@ more-seen es new used v s now a same live entries =
 pub left-seen : (t number used : ℕ) (es new : List Kept) (s now : ServerEnds) → Ascend 0 used es → t ≡ number → s ≡ now → s.live ≡ servers_of es → new ≡ remove_entry (is_at (nat_cmp t)) es → servers_of new ≡ without_first (is_server number) now.live
 left-seen t number used es new s now a n same live entries =
     rw (← same, ← n, live, entries) (servers-left t 0 used es a)
+
+-- the session of a number, where it is the other end of a peer's
+abbrev only : (p k : ℕ) → Option Server → Option Server
+only p k None = None
+only p k (Some v) = cond (is_end_of p k v) (Some v) None
+
+both-none : (t p k low high : ℕ) (es : List Kept) → Ascend low high es → t < low → find (λ v. is_server t v && is_end_of p k v) (servers_of es) ≡ None
+both-none t p k low high [] a h = refl
+both-none t p k low high (e ∷ es) a h =
+    let other : (e.1.number == t) ≡ false = not-equal e.1.number t (λ same. absurd (omega (arith, a.0, a.1, same))) in
+    rw other (both-none t p k (e.0 + 1) high es a.2 (omega (arith, a.1)))
+
+both-by : (t p k : ℕ) (v : Server) (rest one : Option Server) (b : Bool) → (b ≡ true → rest ≡ None) → rest ≡ only p k one → cond (b && is_end_of p k v) (Some v) rest ≡ only p k (cond b (Some v) one)
+both-by t p k v rest one true none ih = rw (none refl) refl
+both-by t p k v rest one false none ih = ih
+
+both : (t p k low high : ℕ) (es : List Kept) → Ascend low high es → find (λ v. is_server t v && is_end_of p k v) (servers_of es) ≡ only p k (find (is_server t) (servers_of es))
+both t p k low high [] a = refl
+both t p k low high (e ∷ es) a =
+    both-by t p k (server_of e.1) _ _ (e.1.number == t) (λ h. both-none t p k (e.0 + 1) high es a.2 (omega (arith, a.0, eqb-true e.1.number t h))) (both t p k (e.0 + 1) high es a.2)
+
+module _ (n number p k used : ℕ) (es : List Kept) (s now : ServerEnds) (o : Option ServerEnd) (a : Ascend 0 used es) (same : n ≡ number) (view : s ≡ now) (live : s.live ≡ servers_of es) (got : o ≡ lookup (is_at (nat_cmp n)) es) where
+  pub own-end : find (is_server number) now.live ≡ option_map server_of o
+  own-end = rw (← view, ← same, live, got) (sym (named n 0 used es a))
+
+  pub other-end : find (λ v. is_server number v && is_end_of p k v) now.live ≡ only p k (option_map server_of o)
+  other-end =
+      rw (← view, ← same, live, got, named n 0 used es a) (both n p k 0 used es a)
+
+  -- where it is there
+  module _ (v : ServerEnd) (there : o ≡ Some v) where
+    own-there : find (is_server number) now.live ≡ Some (server_of v)
+    own-there = own-end ∙ ap (option_map server_of) there
+
+    pub own-number : v.number ≡ number
+    own-number = eqb-true v.number number (find-passes (is_server number) now.live (server_of v) own-there)
+
+    pub own-found : find (is_server v.number) now.live ≡ Some (server_of v)
+    own-found = ap (λ m. find (is_server m) now.live) own-number ∙ own-there
+
+    only-by : (b : Bool) → is_end_of p k (server_of v) ≡ b → only p k (Some (server_of v)) ≡ cond b (Some (server_of v)) None
+    only-by b h = rw h refl
+
+    pub other-by : (b : Bool) → is_end_of p k (server_of v) ≡ b → find (λ w. is_server number w && is_end_of p k w) now.live ≡ cond b (Some (server_of v)) None
+    other-by b h = other-end ∙ ap (λ q. only p k (option_map server_of q)) there ∙ only-by b h

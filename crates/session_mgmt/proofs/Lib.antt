@@ -1,3 +1,5 @@
+pub mod ChangeLemmas
 pub mod KeptLemmas
 pub mod NumberedLemmas
 pub mod PlaceLemmas
+pub mod ShareLemmas

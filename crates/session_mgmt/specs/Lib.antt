@@ -1,3 +1,4 @@
 pub mod ClientEnds
+pub mod Control
 pub mod Ends
 pub mod Table

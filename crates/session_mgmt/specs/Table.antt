@@ -1,5 +1,5 @@
 -- The table of sessions as the tables of a node, and what its calls make of it.
-use Rattle.std.specs.Prelude.{◌≡◌, ℕ, ◌+◌, ◌≤◌, Bool, true, false, Option, Some, None, List, [], ◌∷◌, ◌++◌, map}
+use Rattle.std.specs.Prelude.{◌≡◌, ℕ, ◌+◌, ◌≤◌, Bool, true, false, Option, Some, None, List, [], ◌∷◌, ◌++◌, map, option_map}
 use Rattle.std.specs.List.{find}
 use Rattle.packet_header.specs.declared.packet.ControlHeader.{ControlHeader}
 use Rattle.rpc_base.specs.declared.event.Event.{Event}
@@ -7,6 +7,7 @@ use Rattle.rpc_base.specs.declared.event.Event.TheVariants.{NcloseBusy, NcloseSt
 use Rattle.rpc_base.specs.declared.fact.Fact.{Fact}
 use Rattle.rpc_base.specs.declared.state.SessionState.{SessionState}
 use Rattle.rpc_base.specs.declared.state.SessionState.TheVariants as SessionState
+use Rattle.rpc_base.specs.Tables.{at_first}
 use Rattle.rpc_laws.specs.declared.rows.ControlRow.{ControlRow}
 use Rattle.rpc_laws.specs.declared.rows.ControlRow.TheVariants.{Accepts, Closes, Confirms, Connects, Declines, Disowns, Ends, Fails, Ignores, Misses, Starves}
 use Rattle.rpc_laws.specs.declared.rows.RetryRow.{RetryRow}
@@ -18,9 +19,10 @@ use Rattle.rpc_laws.specs.ControlTable.{control_facts, control_reply, control_ro
 use Rattle.rpc_laws.specs.Groups.{shares, state_of}
 use Rattle.rpc_laws.specs.NodeLists.{new_lists, one_more}
 use Rattle.rpc_laws.specs.Requests.{server_numbers_after, servers_after}
-use Rattle.rpc_laws.specs.Sessions.{clients_after, is_client}
+use Rattle.rpc_laws.specs.Sessions.{clients_after, is_client, is_live}
 use Rattle.rpc_laws.specs.UsualLimits.{with_ring}
 use Rattle.session_mgmt.specs.Ends.{ServerEnds}
+use Rattle.session_mgmt.specs.declared.clients.ClientEnd.{ClientEnd}
 use Rattle.session_mgmt.specs.declared.answers.Change.{Change}
 use Rattle.session_mgmt.specs.declared.answers.Change.TheVariants as Change
 use Rattle.session_mgmt.specs.declared.answers.CloseError.{CloseError}
@@ -83,3 +85,12 @@ sent_again clock x = record x { sends = one_more x.sends; sent_at = clock }
 -- how a session gives up
 abbrev pub given_up_by : ℕ → Lists → List Event
 given_up_by session s = given_up (state_of (find (is_client session) s.clients)) session
+
+-- another value in the place of the client session of its number
+abbrev pub with_changed : Client → Lists → Lists
+with_changed x s = record s { clients = at_first (is_client x.way.number) (λ y. x) s.clients }
+
+-- the session of this number is live, with these credits
+pub record WasLive (x : ClientEnd) (s : Lists) : Type 0 where
+  pub live : option_map (λ y. is_live y.state) (find (is_client x.number) s.clients) ≡ Some true
+  pub credits : option_map (λ y. y.limit) (find (is_client x.number) s.clients) ≡ Some x.credits

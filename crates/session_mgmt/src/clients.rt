@@ -1,17 +1,24 @@
 //! The client sessions by their numbers, and which of them are live.
-ghost use Rattle.std.specs.Prelude.{◌≡◌, ℕ, ◌<◌, ◌+◌, ◌++◌, ◌∷◌, [], true, false, IfSome, IfNone, IfOk, OnOk, OnErr, IsSome, option_map, option_and_then, length};
+ghost use Rattle.std.specs.Prelude.{◌≡◌, ℕ, ◌<◌, ◌+◌, ◌++◌, ◌∷◌, [], Some, true, false, IfSome, IfNone, IfOk, OnOk, OnErr, IsSome, option_map, option_and_then, length};
 ghost use Rattle.std.specs.List.{find, list_any};
 ghost use Rattle.std.specs.Ordering.{nat_cmp};
 ghost use Rattle.std.specs.BTreeMap.{is_at};
 ghost use Rattle.rpc_base.specs.Tables.{at_first};
 ghost use Rattle.rpc_laws.specs.Sessions.{is_client, is_live};
+ghost use Rattle.rpc_laws.specs.ControlSteps.{own_request};
+ghost use Rattle.session_mgmt.specs.Control.{due_of};
 ghost use Rattle.session_mgmt.specs.ClientEnds.{client_of, is_next, is_next_live, number_of, told};
 
+use crate::answers::Due;
+use packet_header::{ACCEPTED, ControlHeader, ControlKind};
 use rpc_base::{NoMemory, Peer, SESSION_NUMBERS, SessionNo, SessionState};
 use std::alloc::Global;
 use std::collections::BTreeSet;
 use std::marker::Model;
 use std::ops::Bound;
+
+/// A session sends its own request so many times.
+pub const MOST_SENDS: u64 = 9;
 
 /// The state of a client session whose number was used.
 #[derive(Clone, Copy, Debug)]
@@ -56,6 +63,59 @@ pub struct ClientEnd {
     pub sends: u64,
     /// The clock, in microseconds, when the last of them was sent.
     pub sent_at: u64,
+}
+
+impl ClientEnd {
+    /// The session in another state, in which none of its own requests was sent.
+    pub fn in_state(&self, state: ClientState) -> ClientEnd
+        ensures { result ≡ record self.now { state = state; sends = 0; sent_at = 0 } }
+    {
+        let mut end = *self;
+        end.state = state;
+        end.sends = 0;
+        end.sent_at = 0;
+        end
+    }
+
+    // The session's own request, where it has one.
+    fn own_request(&self) -> Option<ControlHeader>
+        ensures { result ≡ own_request (client_of self.now) }
+    {
+        match self.state {
+            ClientState::Connecting => Some(ControlHeader {
+                kind: ControlKind::ConnectRequest,
+                client: self.number,
+                server: None,
+                credits: self.credits,
+                status: ACCEPTED,
+            }),
+            ClientState::Closing => Some(ControlHeader {
+                kind: ControlKind::DisconnectRequest,
+                client: self.number,
+                server: Some(self.server),
+                credits: 0,
+                status: ACCEPTED,
+            }),
+            _ => None,
+        }
+    }
+
+    /// What the session does about its own request.
+    pub fn due(&self, now: u64, timeout: u64) -> Due
+        ensures { result ≡ due_of now timeout (Some (client_of self.now)) }
+    {
+        let Some(head) = self.own_request() else {
+            return Due::Idle;
+        };
+        if self.sends != 0 && now.saturating_sub(self.sent_at) < timeout {
+            return Due::Idle;
+        }
+        if self.sends < MOST_SENDS {
+            Due::Ask(head)
+        } else {
+            Due::GiveUp
+        }
+    }
 }
 
 /// The client sessions. Contracts see them in the order of their numbers, which begin with 0.

@@ -3,7 +3,9 @@
 #![tactic(auto)]
 
 mod answers;
+mod calls;
 mod clients;
+mod control;
 mod servers;
 mod table;
 

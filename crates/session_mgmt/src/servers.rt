@@ -1,5 +1,5 @@
 //! The live server sessions, by their numbers and by the client sessions that they are the other ends of.
-ghost use Rattle.std.specs.Prelude.{◌≡◌, ◌<◌, ◌+◌, ◌++◌, ◌∷◌, [], IfOk, OnErr, IfSome, IfNone, option_map, ℕ, true, false};
+ghost use Rattle.std.specs.Prelude.{◌≡◌, ◌<◌, ◌+◌, ◌++◌, ◌∷◌, ◌&&◌, [], Some, IfOk, OnErr, IfSome, IfNone, option_map, ℕ, true, false};
 ghost use Rattle.std.specs.List.{find, list_any};
 ghost use Rattle.std.specs.BTreeMap.{is_at};
 ghost use Rattle.rpc_base.specs.Tables.{without_first};
@@ -43,6 +43,13 @@ impl Model for Servers {
     ghost invariant = { λ s. AreKept s.by_number.entries s.by_client.keys s.used };
 }
 
+// Whether a session is the other end of the peer's client session.
+fn is_end_of(end: &ServerEnd, peer: Peer, client: SessionNo) -> bool
+    ensures { result ≡ is_end_of peer client (server_of end.now) }
+{
+    end.peer.0 == peer.0 && end.client.0 == client.0
+}
+
 // The lowest number that stands with a peer and its number of the session.
 fn lowest_place(places: &BTreeSet<(u8, u16, u16)>, peer: u8, client: u16) -> Option<u16>
     ensures taken { IfSome result (λ t. list_any (is_at (by_parts (peer, client, t))) places.now.keys ≡ true) }
@@ -83,6 +90,24 @@ impl Servers {
         ensures { option_map (λ v. server_of v.now) result ≡ find (is_server number) self.now.live }
     {
         self.by_number.get(&number.0)
+    }
+
+    /// The live session of this number, where it is the other end of the peer's client session.
+    pub fn other_end(&self, number: SessionNo, peer: Peer, client: SessionNo) -> Option<ServerEnd>
+        ensures named { option_map server_of result ≡ find (λ v. is_server number v && is_end_of peer client v) self.now.live }
+        ensures found { IfSome result (λ v. find (is_server v.number) self.now.live ≡ Some (server_of v)) }
+        ensures number { IfSome result (λ v. v.number ≡ number) }
+    {
+        match self.by_number.get(&number.0) {
+            Some(end) => {
+                if is_end_of(end, peer, client) {
+                    Some(*end)
+                } else {
+                    None
+                }
+            }
+            None => None,
+        }
     }
 
     /// The lowest live session that is the other end of the peer's client session.
