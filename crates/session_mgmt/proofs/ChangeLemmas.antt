@@ -1,5 +1,5 @@
 -- A client session that was found changes.
-use Rattle.std.proofs.Common.{◌≡◌, ℕ, Bool, true, false, List, Some, refl, sym, ap, ◌∙◌, arith}
+use Rattle.std.proofs.Common.{◌≡◌, ℕ, ◌+◌, ◌<◌, ◌^◌, true, List, Some, None, refl, sym, ap, ◌∙◌, arith}
 use Rattle.std.specs.Prelude.{◌==◌}
 use Rattle.std.specs.List.{find}
 use Rattle.std.proofs.lemmas.Bool.{eqb-true}
@@ -8,16 +8,19 @@ use Rattle.rpc_base.specs.Tables.{at_first}
 use Rattle.rpc_base.proofs.ChangedLemmas.{same-change}
 use Rattle.rpc_base.proofs.TakingLemmas.{find-passes}
 use Rattle.rpc_base.specs.declared.state.SessionState.{SessionState}
-use Rattle.rpc_base.specs.declared.state.SessionState.TheVariants as SessionState
+use Rattle.packet_header.specs.declared.packet.ControlHeader.{ControlHeader}
+use Rattle.packet_header.specs.declared.packet.ControlKind.TheVariants.{ConnectRequest, DisconnectRequest}
+use Rattle.rpc_laws.specs.ControlSteps.{own_request}
 use Rattle.rpc_laws.specs.Groups.{state_of, told_state}
-use Rattle.rpc_laws.specs.Sessions.{comes_to, connects, is_client, is_live}
+use Rattle.rpc_laws.specs.NodeLists.{one_more}
+use Rattle.rpc_laws.specs.Sessions.{clients_told, comes_to, connects, is_client, is_live, requests}
 use Rattle.rpc_laws.specs.declared.tables.Client.{Client}
 use Rattle.rpc_laws.specs.declared.tables.Lists.{Lists}
 use Rattle.session_mgmt.specs.declared.clients.ClientEnd.{ClientEnd}
 use Rattle.session_mgmt.specs.declared.clients.ClientState.{ClientState}
 use Rattle.session_mgmt.specs.declared.clients.ClientState.TheVariants.{Connecting, Connected, Closing, Closed, Failed, Broken}
 use Rattle.session_mgmt.specs.ClientEnds.{client_of, free_credits, told}
-use Rattle.session_mgmt.specs.Table.{WasLive, is_asking, with_changed}
+use Rattle.session_mgmt.specs.Table.{Tells, WasLive, is_asking, sent_again, with_changed}
 
 pub equal : (a b : ℕ) → a ≡ b → (a == b) ≡ true
 equal a b h = grind (arith, nat_tests)
@@ -70,3 +73,30 @@ asks-live SessionState.Unknown h = cc
 
 pub asking-live : (n : ℕ) (x : ClientEnd) (clients : List Client) → find (is_client n) clients ≡ Some (client_of x) → is_asking (state_of (find (is_client n) clients)) ≡ true → is_live (told x.state) ≡ true
 asking-live n x clients found h = asks-live (told x.state) (ap is_asking (sym (state-found n x clients found)) ∙ h)
+
+-- its own request, as it is told
+module _ (n clock : ℕ) (x : ClientEnd) (s : Lists) (found : find (is_client n) s.clients ≡ Some (client_of x)) (few : x.sends + 1 < 2 ^ 64) where
+  counted : one_more x.sends ≡ x.sends + 1
+  counted = omega (arith, few)
+
+  same-requests : (h : ControlHeader) → h.client ≡ x.number → requests clock h (client_of x) ≡ sent_again clock (client_of x) → record s { clients = at_first (is_client n) (sent_again clock) s.clients } ≡ record s { clients = clients_told clock (Some h) s.clients }
+  same-requests h client same =
+      let number : h.client ≡ n = client ∙ own n x s found in
+      ap (λ cs. record s { clients = cs }) (sym (same-change (is_client n) (client_of x) (sent_again clock) s.clients found)
+      ∙ ap (λ y. at_first (is_client n) (λ (z : Client). y) s.clients) (sym same)
+      ∙ same-change (is_client n) (client_of x) (requests clock h) s.clients found
+      ∙ ap (λ m. at_first (is_client m) (requests clock h) s.clients) (sym number))
+
+  tells-by : (state : ClientState) → x.state ≡ state → is_asking (told state) ≡ true → record s { clients = at_first (is_client n) (sent_again clock) s.clients } ≡ record s { clients = clients_told clock (own_request (client_of x)) s.clients }
+  tells-by Connecting e h = rw e (same-requests (record { kind = ConnectRequest; client = x.number; server = None; credits = x.credits; status = 0 }) refl (rw (e, counted) refl))
+  tells-by Closing e h = rw e (same-requests (record { kind = DisconnectRequest; client = x.number; server = Some x.server; credits = 0; status = 0 }) refl (rw (e, counted, equal x.server x.server refl) refl))
+  tells-by Connected e h = cc
+  tells-by Closed e h = cc
+  tells-by Failed e h = cc
+  tells-by Broken e h = cc
+
+  pub tells : is_asking (state_of (find (is_client n) s.clients)) ≡ true → record s { clients = at_first (is_client n) (sent_again clock) s.clients } ≡ record s { clients = clients_told clock (own_request (client_of x)) s.clients }
+  tells h = tells-by x.state refl (ap is_asking (sym (state-found n x s.clients found)) ∙ h)
+
+pub tells-found : (n clock : ℕ) (x : ClientEnd) (s new : Lists) → find (is_client n) s.clients ≡ Some (client_of x) → new ≡ record s { clients = at_first (is_client n) (sent_again clock) s.clients } → is_asking (state_of (find (is_client n) s.clients)) ≡ true → Tells n clock s new
+tells-found n clock x s new found step h = rw found (λ few. step ∙ tells n clock x s found few h)

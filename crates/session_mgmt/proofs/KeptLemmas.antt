@@ -1,6 +1,6 @@
 -- Server sessions as they are kept: found by number, and by the peer's number of the session.
 use Rattle.std.proofs.Common.{◌≡◌, ◌≢◌, ℕ, ◌+◌, ◌<◌, ◌≤◌, Bool, true, false, ◌&&◌, ◌||◌, cond, Option, Some, None, List, [], ◌∷◌, ◌++◌, refl, sym, ap, ◌∙◌, arith}
-use Rattle.std.specs.Prelude.{option_map, option_copied, ◌==◌, map}
+use Rattle.std.specs.Prelude.{option_map, option_copied, ◌==◌}
 use Rattle.std.proofs.Common.{Bor}
 use Rattle.std.specs.List.{find, list_any}
 use Rattle.std.specs.BTreeMap.{is_at, insert_entry}
@@ -17,7 +17,7 @@ use Rattle.rpc_base.specs.declared.limits.TheConstants.{SESSION_NUMBERS}
 use Rattle.rpc_base.proofs.BasicLemmas.{false-true}
 use Rattle.rpc_base.proofs.TakingLemmas.{find-passes}
 use Rattle.rpc_laws.specs.ControlTable.{is_end_of}
-use Rattle.rpc_laws.specs.Requests.{is_server, server_end}
+use Rattle.rpc_laws.specs.Requests.{is_server}
 use Rattle.rpc_laws.specs.declared.tables.Server.{Server}
 use Rattle.session_mgmt.specs.declared.servers.ServerEnd.{ServerEnd}
 use Rattle.session_mgmt.specs.Ends.{AreKept, Ascend, Kept, Place, ServerEnds, by_parts, servers_of, server_of, stands_at}
@@ -231,7 +231,6 @@ module _ (peer client : ℕ) where
 pub copied : (o : Option (Bor ServerEnd)) → option_map (λ v. server_of v.now) o ≡ option_map server_of (option_copied o)
 copied None = refl
 copied (Some v) = refl
-
 
 -- a number that is taken was used
 taken-by : (q : Place) (low high : ℕ) (es : List Kept) → Order q.2 high → Ascend low high es → list_any (stands_at q) es ≡ true → q.2 < high

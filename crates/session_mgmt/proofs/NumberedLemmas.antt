@@ -1,14 +1,13 @@
 -- Client sessions as they are kept: the number of each is its place.
 use Rattle.std.proofs.Common.{◌≡◌, ◌≢◌, ℕ, zero, suc, ◌+◌, ◌<◌, ◌≤◌, Bool, true, false, ◌&&◌, cond, Bor, Option, Some, None, List, [], ◌∷◌, ◌++◌, length, refl, sym, ap, ◌∙◌, arith, length-append, get_or, ltb, ltb-true, ltb-false}
-use Rattle.std.specs.Prelude.{option_map, option_copied, IfSome, is_some, slice_get, slice_set, ◌==◌, nat_lt}
+use Rattle.std.specs.Prelude.{option_map, option_copied, IfSome, is_some, slice_get, slice_set, ◌==◌}
 use Rattle.std.specs.List.{find, list_any}
 use Rattle.std.specs.BTreeMap.{is_at}
 use Rattle.std.specs.Ordering.{nat_cmp, is_eq}
-use Rattle.std.proofs.lemmas.Bool.{eqb-true, eqb-false}
+use Rattle.std.proofs.lemmas.Bool.{eqb-true}
 use Rattle.std.proofs.lemmas.Bool.Decides.{nat_tests}
 use Rattle.std.proofs.lemmas.List.{map-append, length-map}
 use Rattle.std.proofs.lemmas.Option.{slice_get-get_or}
-use Rattle.rpc_base.proofs.BasicLemmas.{false-true}
 use Rattle.rpc_base.specs.Tables.{at_first}
 use Rattle.rpc_base.specs.declared.limits.TheConstants.{SESSION_NUMBERS}
 use Rattle.rpc_laws.specs.Sessions.{is_client, is_live}

@@ -1,15 +1,11 @@
 -- The places between the first and the last of a peer and its number of a session.
-use Rattle.std.proofs.Common.{◌≡◌, ℕ, ◌<◌, ◌≤◌, Bool, true, false, Option, Some, None, List, [], ◌∷◌, refl, sym, ap, ◌∙◌, arith}
-use Rattle.std.specs.Prelude.{IfSome, IsTrue, slice_get}
+use Rattle.std.proofs.Common.{◌≡◌, ℕ, ◌<◌, ◌≤◌, false, List, [], ◌∷◌, arith}
 use Rattle.std.specs.List.{list_any}
-use Rattle.std.specs.Ordering.{nat_cmp, is_gt, ordering_then}
-use Rattle.std.specs.declared.cmp.Ordering.{Ordering}
-use Rattle.std.specs.declared.cmp.Ordering.TheVariants.{Less, Equal, Greater}
 use Rattle.std.specs.declared.ops.Bound.{Bound}
 use Rattle.std.specs.declared.ops.Bound.TheVariants.{Included, Excluded}
 use Rattle.std.specs.BTreeMap.{is_at}
 use Rattle.std.specs.BTreeMap.Range.{IsInRange, IsLeBy}
-use Rattle.std.specs.BTreeSet.{BTreeSet, IsKeyRangeOf, contains}
+use Rattle.std.specs.BTreeSet.{BTreeSet, IsKeyRangeOf}
 use Rattle.std.proofs.lemmas.Bool.Decides.{nat_tests}
 use Rattle.rpc_base.proofs.BasicLemmas.{unless-true}
 use Rattle.session_mgmt.specs.Ends.{Place, by_parts}
@@ -35,7 +31,7 @@ module _ (p c n : ℕ) where
       let own = rw e at range.1 in
       let parts = same k own.0 in
       unless-true _ (λ t. let h = rw e at (range.2 (p, c, u) (within u below) t) in
-          absurd (omega (arith, least k u parts.0 parts.1 h)))
+      absurd (omega (arith, least k u parts.0 parts.1 h)))
 
   pub none-between : (places : BTreeSet Place) (r : List Place) → IsKeyRangeOf by_parts start past places r → r ≡ [] → (u : ℕ) → u < n → list_any (is_at (by_parts (p, c, u))) places.keys ≡ false
   none-between places r range e u below = range.5 e (p, c, u) (within u below)

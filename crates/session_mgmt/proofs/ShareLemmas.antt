@@ -4,7 +4,7 @@ use Rattle.std.specs.Prelude.{option_map, sum_by}
 use Rattle.std.specs.List.{find}
 use Rattle.rpc_base.specs.Tables.{at_first, without_first}
 use Rattle.rpc_base.proofs.FirstLemmas.{sum-changed, sum-left}
-use Rattle.rpc_laws.specs.Groups.{live_credits, shares}
+use Rattle.rpc_laws.specs.Groups.{live_credits}
 use Rattle.rpc_laws.specs.Requests.{is_server}
 use Rattle.rpc_laws.specs.Sessions.{is_client, is_live}
 use Rattle.rpc_laws.specs.declared.tables.Client.{Client}

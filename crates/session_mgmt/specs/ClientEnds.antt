@@ -1,5 +1,5 @@
 -- The client ends of sessions as the definitions see them, and how they are kept.
-use Rattle.std.specs.Prelude.{◌≡◌, ℕ, ◌+◌, ◌<◌, ◌≤◌, ◌&&◌, nat_lt, Bool, true, false, Option, Some, None, List, [], ◌∷◌, map, length, option_map, slice_get}
+use Rattle.std.specs.Prelude.{◌≡◌, ℕ, ◌+◌, ◌≤◌, ◌&&◌, nat_lt, Bool, true, false, Option, Some, None, List, [], ◌∷◌, map, length, slice_get}
 use Rattle.std.specs.List.{list_any}
 use Rattle.std.specs.Ordering.{nat_cmp}
 use Rattle.std.specs.BTreeMap.{is_at}
@@ -7,7 +7,6 @@ use Rattle.rpc_base.specs.declared.limits.TheConstants.{SESSION_NUMBERS}
 use Rattle.rpc_laws.specs.declared.tables.Client.{Client}
 use Rattle.rpc_laws.specs.Sessions.{client_end, is_live}
 use Rattle.rpc_base.specs.declared.state.SessionState.{SessionState}
-use Rattle.rpc_base.specs.declared.state.SessionState.TheVariants as SessionState
 use Rattle.session_mgmt.specs.declared.clients.ClientEnd.{ClientEnd}
 use Rattle.session_mgmt.specs.declared.clients.ClientState.{ClientState}
 use Rattle.session_mgmt.specs.declared.clients.ClientState.TheVariants.{Connecting, Connected, Closing, Closed, Failed, Broken}

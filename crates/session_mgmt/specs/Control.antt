@@ -1,7 +1,6 @@
--- What a control packet does to the table, by the control rule, and what a session does about its own
--- request, by the retry rule.
+-- What a control packet does to the table, by the control rule, and what a session does about its
+-- own request, by the retry rule.
 use Rattle.std.specs.Prelude.{◌≡◌, ℕ, Bool, Option, Some, None, List, map}
-use Rattle.std.specs.List.{find}
 use Rattle.packet_header.specs.declared.packet.ControlHeader.{ControlHeader}
 use Rattle.rpc_base.specs.declared.event.Event.{Event}
 use Rattle.rpc_base.specs.declared.fact.Fact.{Fact}
@@ -39,7 +38,8 @@ abbrev pub events : List Fact → List Event
 events facts = map (λ f. f.event) facts
 
 -- the change, the answer and the sessions are those of a row
-pub record HandlesBy (row : ControlRow) (peer : ℕ) (h : ControlHeader) (v : Verdict) (old new : Lists) : Type 0 where
+pub record HandlesBy (row : ControlRow) (peer : ℕ) (h : ControlHeader) (v : Verdict)
+    (old new : Lists) : Type 0 where
   pub change : v.change ≡ change_of h row
   pub reply : v.reply ≡ control_reply h row
   pub sessions : new ≡ sessions_after (events (control_facts old peer h row)) old

@@ -1,37 +1,24 @@
 -- The table of sessions as the tables of a node, and what its calls make of it.
-use Rattle.std.specs.Prelude.{◌≡◌, ℕ, ◌+◌, ◌≤◌, Bool, true, false, Option, Some, None, List, [], ◌∷◌, ◌++◌, map, option_map}
+use Rattle.std.specs.Prelude.{◌≡◌, ℕ, ◌+◌, ◌<◌, ◌≤◌, ◌^◌, Bool, true, false, Option, Some, None, List, [], ◌∷◌, ◌++◌, option_map}
 use Rattle.std.specs.List.{find}
-use Rattle.packet_header.specs.declared.packet.ControlHeader.{ControlHeader}
 use Rattle.rpc_base.specs.declared.event.Event.{Event}
 use Rattle.rpc_base.specs.declared.event.Event.TheVariants.{NcloseBusy, NcloseState, NconnectNumbers, NconnectRing}
-use Rattle.rpc_base.specs.declared.fact.Fact.{Fact}
 use Rattle.rpc_base.specs.declared.state.SessionState.{SessionState}
-use Rattle.rpc_base.specs.declared.state.SessionState.TheVariants as SessionState
 use Rattle.rpc_base.specs.Tables.{at_first}
-use Rattle.rpc_laws.specs.declared.rows.ControlRow.{ControlRow}
-use Rattle.rpc_laws.specs.declared.rows.ControlRow.TheVariants.{Accepts, Closes, Confirms, Connects, Declines, Disowns, Ends, Fails, Ignores, Misses, Starves}
-use Rattle.rpc_laws.specs.declared.rows.RetryRow.{RetryRow}
-use Rattle.rpc_laws.specs.declared.rows.RetryRow.TheVariants.{Asks, GivesUp, Rests}
 use Rattle.rpc_laws.specs.declared.tables.Client.{Client}
 use Rattle.rpc_laws.specs.declared.tables.Lists.{Lists}
-use Rattle.rpc_laws.specs.ControlSteps.{given_up, own_request, retry_row}
-use Rattle.rpc_laws.specs.ControlTable.{control_facts, control_reply, control_row}
+use Rattle.rpc_laws.specs.ControlSteps.{given_up, own_request}
 use Rattle.rpc_laws.specs.Groups.{shares, state_of}
 use Rattle.rpc_laws.specs.NodeLists.{new_lists, one_more}
 use Rattle.rpc_laws.specs.Requests.{server_numbers_after, servers_after}
-use Rattle.rpc_laws.specs.Sessions.{clients_after, is_client, is_live}
+use Rattle.rpc_laws.specs.Sessions.{clients_after, clients_told, is_client, is_live}
 use Rattle.rpc_laws.specs.UsualLimits.{with_ring}
 use Rattle.session_mgmt.specs.Ends.{ServerEnds}
 use Rattle.session_mgmt.specs.declared.clients.ClientEnd.{ClientEnd}
-use Rattle.session_mgmt.specs.declared.answers.Change.{Change}
-use Rattle.session_mgmt.specs.declared.answers.Change.TheVariants as Change
 use Rattle.session_mgmt.specs.declared.answers.CloseError.{CloseError}
 use Rattle.session_mgmt.specs.declared.answers.CloseError.TheVariants.{Busy, NotConnected}
 use Rattle.session_mgmt.specs.declared.answers.ConnectError.{ConnectError}
 use Rattle.session_mgmt.specs.declared.answers.ConnectError.TheVariants.{NoMemory, NumbersSpent, RingFull}
-use Rattle.session_mgmt.specs.declared.answers.Due.{Due}
-use Rattle.session_mgmt.specs.declared.answers.Due.TheVariants as Due
-use Rattle.session_mgmt.specs.declared.answers.Verdict.{Verdict}
 
 -- a node's tables with these sessions and nothing else
 abbrev pub table : ℕ → List Client → ServerEnds → Lists
@@ -94,3 +81,16 @@ with_changed x s = record s { clients = at_first (is_client x.way.number) (λ y.
 pub record WasLive (x : ClientEnd) (s : Lists) : Type 0 where
   pub live : option_map (λ y. is_live y.state) (find (is_client x.number) s.clients) ≡ Some true
   pub credits : option_map (λ y. y.limit) (find (is_client x.number) s.clients) ≡ Some x.credits
+
+-- the packet that was sent is the session's own request, and is counted; a count that stands at
+-- 2^64 - 1 stays
+abbrev pub TellsOf : Option Client → (session clock : ℕ) → (old new : Lists) → Type 0
+TellsOf None session clock old new = Unit {0}
+TellsOf (Some x) session clock old new =
+    x.sends + 1 < 2 ^ 64 → new ≡ record old {
+      clients = clients_told clock
+          (own_request x) old.clients;
+    }
+
+abbrev pub Tells : (session clock : ℕ) → (old new : Lists) → Type 0
+Tells session clock old new = TellsOf (find (is_client session) old.clients) session clock old new

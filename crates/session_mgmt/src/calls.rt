@@ -1,4 +1,5 @@
-//! The calls by which an application opens, pairs and closes sessions, and a session's own requests.
+//! The calls by which an application opens, pairs and closes sessions, and a session's own
+//! requests.
 ghost use Rattle.std.specs.Prelude.{◌≡◌, ◌≤◌, ◌<◌, ◌+◌, ◌^◌, true, Some, None, IfErr, IfOk, OnErr, OnOk, IsSome, length};
 ghost use Rattle.std.specs.List.{find};
 ghost use Rattle.rpc_base.specs.Tables.{at_first};
@@ -6,7 +7,7 @@ ghost use Rattle.rpc_laws.specs.Groups.{client_refusal, disconnect_by, pair_refu
 ghost use Rattle.rpc_laws.specs.Sessions.{is_client};
 ghost use Rattle.session_mgmt.specs.ClientEnds.{client_of};
 ghost use Rattle.session_mgmt.specs.Control.{due_of};
-ghost use Rattle.session_mgmt.specs.Table.{closing, given_up_by, is_asking, refused, sent_again, session_after, sessions_after};
+ghost use Rattle.session_mgmt.specs.Table.{Tells, closing, given_up_by, is_asking, refused, sent_again, session_after, sessions_after};
 
 use crate::answers::{CloseError, ConnectError, Due};
 use crate::clients::{ClientEnd, ClientState};
@@ -14,14 +15,16 @@ use crate::table::SessionTable;
 use rpc_base::{Event, MOST_CREDITS, Peer, SESSION_NUMBERS, SessionNo, SessionState};
 
 impl SessionTable {
-    /// Opens the next client session to a peer, with 1 to 256 credits. It is Connecting. `NumbersSpent`
-    /// comes exactly where 65,535 numbers were used; then `RingFull` exactly where the credits of the
-    /// live sessions, with these, would exceed the ring; then `NoMemory`. After each nothing changed.
+    /// Opens the next client session to a peer, with 1 to 256 credits. It is Connecting.
+    /// `NumbersSpent` comes exactly where 65,535 numbers were used; then `RingFull` exactly where
+    /// the credits of the live sessions, with these, would exceed the ring; then `NoMemory`. After
+    /// each nothing changed.
     pub fn connect(&mut self, peer: Peer, credits: u16) -> Result<SessionNo, ConnectError>
         requires some { 1 ≤ credits }
         requires most { credits ≤ MOST_CREDITS }
         ensures number { IfOk result (λ s. s ≡ length self.old.clients) }
-        ensures opened { IfOk result (λ s. self.new ≡ session_after (Event.Opened s peer credits) self.old) }
+        ensures opened { IfOk result (λ s. self.new
+            ≡ session_after (Event.Opened s peer credits) self.old) }
         ensures accepted { OnOk result (client_refusal credits self.old ≡ None) }
         ensures refused { IfErr result (λ why. refused why ≡ client_refusal credits self.old) }
         ensures unchanged { OnErr result (self.new ≡ self.old) }
@@ -38,8 +41,8 @@ impl SessionTable {
         self.add_client(&end)
     }
 
-    /// The client end of a session that is Connected from the start. `server` is the peer's number of
-    /// it, below 65,535. Refusals as `connect`.
+    /// The client end of a session that is Connected from the start. `server` is the peer's number
+    /// of it, below 65,535. Refusals as `connect`.
     pub fn pair_client(
         &mut self,
         peer: Peer,
@@ -50,7 +53,8 @@ impl SessionTable {
         requires some { 1 ≤ credits }
         requires most { credits ≤ MOST_CREDITS }
         ensures number { IfOk result (λ s. s ≡ length self.old.clients) }
-        ensures paired { IfOk result (λ s. self.new ≡ session_after (Event.PairedClient s peer server credits) self.old) }
+        ensures paired { IfOk result (λ s. self.new
+            ≡ session_after (Event.PairedClient s peer server credits) self.old) }
         ensures accepted { OnOk result (client_refusal credits self.old ≡ None) }
         ensures refused { IfErr result (λ why. refused why ≡ client_refusal credits self.old) }
         ensures unchanged { OnErr result (self.new ≡ self.old) }
@@ -67,8 +71,8 @@ impl SessionTable {
         self.add_client(&end)
     }
 
-    /// The server end of such a session. `client` is the peer's number of it, below 65,535. Refusals
-    /// as `connect`, over the numbers of server sessions.
+    /// The server end of such a session. `client` is the peer's number of it, below 65,535.
+    /// Refusals as `connect`, over the numbers of server sessions.
     pub fn pair_server(
         &mut self,
         peer: Peer,
@@ -79,7 +83,8 @@ impl SessionTable {
         requires some { 1 ≤ credits }
         requires most { credits ≤ MOST_CREDITS }
         ensures number { IfOk result (λ t. t ≡ self.old.server_numbers) }
-        ensures paired { IfOk result (λ t. self.new ≡ session_after (Event.PairedServer t peer client credits) self.old) }
+        ensures paired { IfOk result (λ t. self.new
+            ≡ session_after (Event.PairedServer t peer client credits) self.old) }
         ensures accepted { OnOk result (server_refusal credits self.old ≡ None) }
         ensures refused { IfErr result (λ why. refused why ≡ server_refusal credits self.old) }
         ensures unchanged { OnErr result (self.new ≡ self.old) }
@@ -94,8 +99,8 @@ impl SessionTable {
         }
     }
 
-    /// Whether there are a number of either kind and room for so many credits, 1 to 256. It is never
-    /// `NoMemory`.
+    /// Whether there are a number of either kind and room for so many credits, 1 to 256. It is
+    /// never `NoMemory`.
     pub fn pair_room(&self, credits: u16) -> Result<(), ConnectError>
         requires some { 1 ≤ credits }
         requires most { credits ≤ MOST_CREDITS }
@@ -108,13 +113,15 @@ impl SessionTable {
         self.refuse(spent, credits)
     }
 
-    /// Begins to close a client session on which so many calls are pending, those that wait included.
-    /// `NotConnected` comes exactly where it is neither Connected nor Spent; then `Busy` exactly where
-    /// a call is pending. After each nothing changed.
+    /// Begins to close a client session on which so many calls are pending, those that wait
+    /// included. `NotConnected` comes exactly where it is neither Connected nor Spent; then `Busy`
+    /// exactly where a call is pending. After each nothing changed.
     pub fn disconnect(&mut self, session: SessionNo, calls: u64) -> Result<(), CloseError>
-        ensures accepted { OnOk result (disconnect_by (state_of (find (is_client session) self.old.clients)) session calls ≡ Event.Closing session) }
+        ensures accepted { OnOk result (disconnect_by (state_of (find
+            (is_client session) self.old.clients)) session calls ≡ Event.Closing session) }
         ensures closing { OnOk result (self.new ≡ session_after (Event.Closing session) self.old) }
-        ensures refused { IfErr result (λ why. closing session why ≡ disconnect_by (state_of (find (is_client session) self.old.clients)) session calls) }
+        ensures refused { IfErr result (λ why. closing session why
+            ≡ disconnect_by (state_of (find (is_client session) self.old.clients)) session calls) }
         ensures unchanged { OnErr result (self.new ≡ self.old) }
     {
         let Some(end) = self.own(session) else {
@@ -139,9 +146,11 @@ impl SessionTable {
     ) -> Result<(), CloseError>
         requires found { find (is_client session) self.old.clients ≡ Some (client_of end.now) }
         requires state { end.now.state ≡ ClientState.Connected }
-        ensures accepted { OnOk result (disconnect_by SessionState.Connected session calls ≡ Event.Closing session) }
+        ensures accepted { OnOk result (disconnect_by SessionState.Connected session calls
+            ≡ Event.Closing session) }
         ensures closing { OnOk result (self.new ≡ session_after (Event.Closing session) self.old) }
-        ensures refused { IfErr result (λ why. closing session why ≡ disconnect_by SessionState.Connected session calls) }
+        ensures refused { IfErr result (λ why. closing session why
+            ≡ disconnect_by SessionState.Connected session calls) }
         ensures unchanged { OnErr result (self.new ≡ self.old) }
     {
         if calls != 0 {
@@ -151,9 +160,10 @@ impl SessionTable {
         Ok(())
     }
 
-    /// What a client session does about its own request at the clock `now`, in microseconds. It is sent
-    /// at once, again each time that `timeout` has passed since it was sent last, and nine times in
-    /// all; at the next timeout the session gives up. `Idle` where it has none, or where it isn't time.
+    /// What a client session does about its own request at the clock `now`, in microseconds. It is
+    /// sent at once, again each time that `timeout` has passed since it was sent last, and nine
+    /// times in all; at the next timeout the session gives up. `Idle` where it has none, or where
+    /// it isn't time.
     pub fn due(&self, session: SessionNo, now: u64, timeout: u64) -> Due
         ensures { result ≡ due_of now timeout (find (is_client session) self.now.clients) }
     {
@@ -167,7 +177,11 @@ impl SessionTable {
     /// Closing.
     pub fn asked(&mut self, session: SessionNo, now: u64)
         requires { is_asking (state_of (find (is_client session) self.old.clients)) ≡ true }
-        ensures { self.new ≡ record self.old { clients = at_first (is_client session) (sent_again now) self.old.clients } }
+        ensures sent { self.new ≡ record self.old {
+          clients = at_first (is_client session)
+              (sent_again now) self.old.clients;
+        } }
+        ensures told { Tells session now self.old self.new }
     {
         if let Some(mut end) = self.own(session) {
             end.sends = end.sends.saturating_add(1);
@@ -176,8 +190,8 @@ impl SessionTable {
         }
     }
 
-    /// The session gave up its own request: one that was Connecting failed, and one that was Closing is
-    /// Closed. It has to be one of these.
+    /// The session gave up its own request: one that was Connecting failed, and one that was
+    /// Closing is Closed. It has to be one of these.
     pub fn gave_up(&mut self, session: SessionNo)
         requires { is_asking (state_of (find (is_client session) self.old.clients)) ≡ true }
         ensures { self.new ≡ sessions_after (given_up_by session self.old) self.old }

@@ -152,7 +152,10 @@ fn lowest_above(numbers: &BTreeSet<u16>, after: Option<u16>) -> Option<u16>
             None => None,
         },
         Some(after) => {
-            match numbers.range((Bound::Excluded(after), Bound::Unbounded)).next() {
+            match numbers
+                .range((Bound::Excluded(after), Bound::Unbounded))
+                .next()
+            {
                 Some(number) => Some(*number),
                 None => None,
             }
@@ -195,8 +198,8 @@ impl Clients {
         }
     }
 
-    /// A new session, which is live and has the next number, of which there has to be one. `NoMemory`
-    /// comes only where there is no memory for it, and then nothing changed.
+    /// A new session, which is live and has the next number, of which there has to be one.
+    /// `NoMemory` comes only where there is no memory for it, and then nothing changed.
     pub fn add(&mut self, end: &ClientEnd) -> Result<(), NoMemory>
         requires room { length self.old < SESSION_NUMBERS }
         requires number { end.now.number ≡ length self.old }
@@ -216,7 +219,8 @@ impl Clients {
 
     /// A session that is live changes, keeps its number, and is live still.
     pub fn change(&mut self, end: &ClientEnd)
-        requires was_live { option_map (λ x. is_live x.state) (find (is_client end.now.number) self.old) ≡ Some true }
+        requires was_live { option_map (λ x. is_live x.state) (find
+            (is_client end.now.number) self.old) ≡ Some true }
         requires live { is_live (told end.now.state) ≡ true }
         ensures { self.new ≡ at_first (is_client end.now.number) (λ x. client_of end.now) self.old }
     {
@@ -225,7 +229,8 @@ impl Clients {
 
     /// A session that is live comes to a state in which it isn't, and keeps its number.
     pub fn close(&mut self, end: &ClientEnd)
-        requires was_live { option_map (λ x. is_live x.state) (find (is_client end.now.number) self.old) ≡ Some true }
+        requires was_live { option_map (λ x. is_live x.state) (find
+            (is_client end.now.number) self.old) ≡ Some true }
         requires over { is_live (told end.now.state) ≡ false }
         ensures { self.new ≡ at_first (is_client end.now.number) (λ x. client_of end.now) self.old }
     {

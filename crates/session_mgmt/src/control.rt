@@ -53,6 +53,16 @@ fn ignore() -> Verdict
     }
 }
 
+// There is no memory for a session, and nothing is sent.
+fn starve() -> Verdict
+    ensures { result ≡ record { change = Change.Starved; reply = None } }
+{
+    Verdict {
+        change: Change::Starved,
+        reply: None,
+    }
+}
+
 // A server session that nobody uses is to be ended.
 fn disown(head: &ControlHeader) -> Verdict
     ensures { result ≡ record {
@@ -103,10 +113,7 @@ impl SessionTable {
                 change: Change::Accepted(number),
                 reply: Some(connect_reply(head, Some(number), head.credits, ACCEPTED)),
             },
-            Err(_) => Verdict {
-                change: Change::Starved,
-                reply: None,
-            },
+            Err(_) => starve(),
         }
     }
 
@@ -168,7 +175,9 @@ impl SessionTable {
         server: SessionNo,
     ) -> Verdict
         requires { find (is_client head.now.client) self.old.clients ≡ Some (client_of end.now) }
-        ensures { HandlesBy (joined_row (told end.now.state) end.now.credits end.now.server server head.now.credits) peer head.now result self.old self.new }
+        ensures { HandlesBy (joined_row
+            (told end.now.state) end.now.credits end.now.server server head.now.credits) peer
+            head.now result self.old self.new }
     {
         match end.state {
             ClientState::Connecting => self.connected(peer, head, end, server),
@@ -191,9 +200,11 @@ impl SessionTable {
         end: &ClientEnd,
         server: SessionNo,
     ) -> Verdict
-        requires found { find (is_client head.now.client) self.old.clients ≡ Some (client_of end.now) }
+        requires found { find (is_client head.now.client) self.old.clients
+            ≡ Some (client_of end.now) }
         requires state { end.now.state ≡ ClientState.Connecting }
-        ensures { HandlesBy (joined_row SessionState.Connecting end.now.credits end.now.server server head.now.credits) peer head.now result self.old self.new }
+        ensures { HandlesBy (joined_row SessionState.Connecting end.now.credits end.now.server
+            server head.now.credits) peer head.now result self.old self.new }
     {
         if head.credits != end.credits {
             return ignore();
@@ -210,7 +221,8 @@ impl SessionTable {
     // A connect reply names none.
     fn fail(&mut self, peer: Peer, head: &ControlHeader, end: &ClientEnd) -> Verdict
         requires { find (is_client head.now.client) self.old.clients ≡ Some (client_of end.now) }
-        ensures { HandlesBy (refused_row (told end.now.state)) peer head.now result self.old self.new }
+        ensures { HandlesBy (refused_row (told end.now.state)) peer head.now
+            result self.old self.new }
     {
         match end.state {
             ClientState::Connecting => {
@@ -233,7 +245,8 @@ impl SessionTable {
         server: SessionNo,
     ) -> Verdict
         requires { find (is_client head.now.client) self.old.clients ≡ Some (client_of end.now) }
-        ensures { HandlesBy (over_row (told end.now.state) end.now.server (Some server)) peer head.now result self.old self.new }
+        ensures { HandlesBy (over_row (told end.now.state) end.now.server
+            (Some server)) peer head.now result self.old self.new }
     {
         match end.state {
             ClientState::Closing => {

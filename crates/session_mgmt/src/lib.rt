@@ -11,3 +11,6 @@ mod table;
 
 pub use answers::{Change, CloseError, ConnectError, Due, Verdict};
 pub use table::SessionTable;
+
+#[cfg(test)]
+mod tests;

@@ -1,4 +1,5 @@
-//! The live server sessions, by their numbers and by the client sessions that they are the other ends of.
+//! The live server sessions, by their numbers and by the client sessions that they are the other
+//! ends of.
 ghost use Rattle.std.specs.Prelude.{◌≡◌, ◌<◌, ◌+◌, ◌++◌, ◌∷◌, ◌&&◌, [], Some, IfOk, OnErr, IfSome, IfNone, option_map, ℕ, true, false};
 ghost use Rattle.std.specs.List.{find, list_any};
 ghost use Rattle.std.specs.BTreeMap.{is_at};
@@ -52,7 +53,8 @@ fn is_end_of(end: &ServerEnd, peer: Peer, client: SessionNo) -> bool
 
 // The lowest number that stands with a peer and its number of the session.
 fn lowest_place(places: &BTreeSet<(u8, u16, u16)>, peer: u8, client: u16) -> Option<u16>
-    ensures taken { IfSome result (λ t. list_any (is_at (by_parts (peer, client, t))) places.now.keys ≡ true) }
+    ensures taken { IfSome result (λ t. list_any (is_at (by_parts
+        (peer, client, t))) places.now.keys ≡ true) }
     ensures least { IfSome result (λ t. (u : ℕ) → u < t → u < SESSION_NUMBERS
         → list_any (is_at (by_parts (peer, client, u))) places.now.keys ≡ false) }
     ensures none { IfNone result ((u : ℕ) → u < SESSION_NUMBERS
@@ -94,8 +96,10 @@ impl Servers {
 
     /// The live session of this number, where it is the other end of the peer's client session.
     pub fn other_end(&self, number: SessionNo, peer: Peer, client: SessionNo) -> Option<ServerEnd>
-        ensures named { option_map server_of result ≡ find (λ v. is_server number v && is_end_of peer client v) self.now.live }
-        ensures found { IfSome result (λ v. find (is_server v.number) self.now.live ≡ Some (server_of v)) }
+        ensures named { option_map server_of result
+            ≡ find (λ v. is_server number v && is_end_of peer client v) self.now.live }
+        ensures found { IfSome result (λ v. find (is_server v.number) self.now.live
+            ≡ Some (server_of v)) }
         ensures number { IfSome result (λ v. v.number ≡ number) }
     {
         match self.by_number.get(&number.0) {
@@ -112,7 +116,8 @@ impl Servers {
 
     /// The lowest live session that is the other end of the peer's client session.
     pub fn lowest(&self, peer: Peer, client: SessionNo) -> Option<&ServerEnd>
-        ensures { option_map (λ v. server_of v.now) result ≡ find (is_end_of peer client) self.now.live }
+        ensures { option_map (λ v. server_of v.now) result
+            ≡ find (is_end_of peer client) self.now.live }
     {
         match lowest_place(&self.by_client, peer.0, client.0) {
             Some(number) => self.by_number.get(&number),
@@ -122,7 +127,12 @@ impl Servers {
 
     /// A new session has the next number, of which there has to be one. `NoMemory` comes only where
     /// there is no memory for it, and then nothing changed.
-    pub fn add(&mut self, peer: Peer, client: SessionNo, credits: u16) -> Result<SessionNo, NoMemory>
+    pub fn add(
+        &mut self,
+        peer: Peer,
+        client: SessionNo,
+        credits: u16,
+    ) -> Result<SessionNo, NoMemory>
         requires { self.old.used < SESSION_NUMBERS }
         ensures number { IfOk result (λ t. t ≡ self.old.used) }
         ensures added { IfOk result (λ t. self.new ≡ record {
@@ -153,7 +163,10 @@ impl Servers {
 
     /// A session ends, if it is live.
     pub fn end(&mut self, number: SessionNo)
-        ensures { self.new ≡ record self.old { live = without_first (is_server number) self.old.live } }
+        ensures { self.new ≡ record self.old {
+          live = without_first
+              (is_server number) self.old.live;
+        } }
     {
         if let Some(end) = self.by_number.remove(&number.0) {
             self.by_client.remove(&(end.peer.0, end.client.0, number.0));

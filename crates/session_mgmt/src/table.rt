@@ -17,8 +17,8 @@ use crate::answers::{CloseError, ConnectError};
 use crate::clients::{ClientEnd, ClientState, Clients};
 use crate::servers::{ServerEnd, Servers};
 use packet_header::ControlHeader;
-use rpc_laws::ControlRow;
 use rpc_base::{Event, MOST_CREDITS, NoMemory, Peer, SESSION_NUMBERS, SessionNo, SessionState};
+use rpc_laws::ControlRow;
 use std::alloc::Global;
 use std::marker::Model;
 
@@ -94,7 +94,8 @@ impl SessionTable {
 
     /// The peer of a client session, `None` exactly where its number was never used.
     pub fn peer(&self, session: SessionNo) -> Option<Peer>
-        ensures { result ≡ option_map (λ x. x.way.peer) (find (is_client session) self.now.clients) }
+        ensures { result ≡ option_map (λ x. x.way.peer) (find
+            (is_client session) self.now.clients) }
     {
         match self.clients.named(session) {
             Some(end) => Some(end.peer),
@@ -153,9 +154,12 @@ impl SessionTable {
 
     /// The client session of this number, where it was opened to this peer.
     pub(crate) fn opened(&self, peer: Peer, session: SessionNo) -> Option<ClientEnd>
-        ensures found { IfSome result (λ x. find (is_client session) self.now.clients ≡ Some (client_of x)) }
+        ensures found { IfSome result (λ x. find (is_client session) self.now.clients
+            ≡ Some (client_of x)) }
         ensures peer { IfSome result (λ x. (x.peer == peer) ≡ true) }
-        ensures none { IfNone result ((row : Client → ControlRow) → opened_row row peer (find (is_client session) self.now.clients) ≡ ControlRow.Ignores) }
+        ensures none { IfNone result ((row : Client → ControlRow)
+            → opened_row row peer (find (is_client session) self.now.clients)
+            ≡ ControlRow.Ignores) }
     {
         match self.clients.named(session) {
             Some(end) => {
@@ -170,8 +174,10 @@ impl SessionTable {
 
     /// The live server session that a packet names, where it is the other end of the peer's.
     pub(crate) fn named_end(&self, peer: Peer, head: &ControlHeader) -> Option<ServerEnd>
-        ensures named { option_map server_of result ≡ named_end peer head.now.client head.now.server self.now.servers }
-        ensures found { IfSome result (λ v. find (is_server v.number) self.now.servers ≡ Some (server_of v)) }
+        ensures named { option_map server_of result
+            ≡ named_end peer head.now.client head.now.server self.now.servers }
+        ensures found { IfSome result (λ v. find (is_server v.number) self.now.servers
+            ≡ Some (server_of v)) }
         ensures number { IfSome result (λ v. head.now.server ≡ Some v.number) }
     {
         match head.server {
@@ -182,7 +188,8 @@ impl SessionTable {
 
     /// The lowest live server session that is the other end of the peer's client session.
     pub(crate) fn end_of(&self, peer: Peer, client: SessionNo) -> Option<&ServerEnd>
-        ensures { option_map (λ v. server_of v.now) result ≡ find (is_end_of peer client) self.now.servers }
+        ensures { option_map (λ v. server_of v.now) result
+            ≡ find (is_end_of peer client) self.now.servers }
     {
         self.servers.lowest(peer, client)
     }
@@ -211,7 +218,8 @@ impl SessionTable {
         requires number { end.now.number ≡ length self.old.clients }
         requires live { is_live (told end.now.state) ≡ true }
         ensures number { IfOk result (λ s. s ≡ end.now.number) }
-        ensures refused { IfErr result (λ why. refused why ≡ client_refusal end.now.credits self.old) }
+        ensures refused { IfErr result (λ why. refused why
+            ≡ client_refusal end.now.credits self.old) }
         ensures accepted { OnOk result (client_refusal end.now.credits self.old ≡ None) }
         ensures added { OnOk result (self.new ≡ with_client (client_of end.now) self.old) }
         ensures unchanged { OnErr result (self.new ≡ self.old) }
@@ -231,11 +239,17 @@ impl SessionTable {
 
     /// A server session of this peer's client session, with the next number. There has to be a
     /// number and room. `NoMemory` comes only where there is no memory for it.
-    pub(crate) fn add_server(&mut self, peer: Peer, client: SessionNo, credits: u16) -> Result<SessionNo, NoMemory>
+    pub(crate) fn add_server(
+        &mut self,
+        peer: Peer,
+        client: SessionNo,
+        credits: u16,
+    ) -> Result<SessionNo, NoMemory>
         requires numbers { servers_spent self.old ≡ false }
         requires room { shares self.old + credits ≤ self.old.room }
         ensures number { IfOk result (λ t. t ≡ self.old.server_numbers) }
-        ensures added { IfOk result (λ t. self.new ≡ session_after (Event.Accepted t peer client credits) self.old) }
+        ensures added { IfOk result (λ t. self.new
+            ≡ session_after (Event.Accepted t peer client credits) self.old) }
         ensures unchanged { OnErr result (self.new ≡ self.old) }
     {
         match self.servers.add(peer, client, credits) {

@@ -1,4 +1,4 @@
-use Rattle.std.proofs.Common.{◌≡◌, ◌∙◌, ap, arith, sym, refl, length}
+use Rattle.std.proofs.Common.{◌∙◌, ap, arith, refl}
 use Rattle.rpc_laws.specs.Sessions.{is_live}
 use Rattle.session_mgmt.specs.declared.clients.ClientEnd.{ClientEnd}
 use Rattle.session_mgmt.specs.ClientEnds.{told}

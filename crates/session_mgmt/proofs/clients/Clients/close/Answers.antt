@@ -1,4 +1,4 @@
-use Rattle.std.proofs.Common.{◌≡◌, ◌∙◌, ap, arith, rules, sym}
+use Rattle.std.proofs.Common.{◌∙◌, ap, rules}
 use Rattle.rpc_laws.specs.Sessions.{is_live}
 use Rattle.session_mgmt.specs.declared.clients.ClientEnd.{ClientEnd}
 use Rattle.session_mgmt.specs.ClientEnds.{told}

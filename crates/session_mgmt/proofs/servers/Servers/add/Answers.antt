@@ -1,4 +1,4 @@
-use Rattle.std.proofs.Common.{◌≡◌, ◌∙◌, ap, sym, arith, refl}
+use Rattle.std.proofs.Common.{ap, arith, refl}
 use Rattle.session_mgmt.specs.Ends.{ServerEnds}
 use Rattle.session_mgmt.proofs.KeptLemmas.{kept-more, kept-same, more-seen}
 use Rattle.session_mgmt.proofs.servers.Servers.add.Goals as goal

@@ -1,4 +1,4 @@
-use Rattle.std.proofs.Common.{◌∙◌, ap, refl}
+use Rattle.std.proofs.Common.{◌∙◌, ap}
 use Rattle.rpc_base.specs.declared.state.SessionState.TheVariants.{Closing}
 use Rattle.rpc_laws.specs.Sessions.{comes_to, is_live}
 use Rattle.session_mgmt.specs.declared.clients.ClientEnd.{ClientEnd}

@@ -1,6 +1,5 @@
 use Rattle.std.proofs.Common.{◌∙◌, ap, refl, sym}
 use Rattle.rpc_laws.specs.Sessions.{breaks, is_live}
-use Rattle.session_mgmt.specs.ClientEnds.{client_of}
 use Rattle.session_mgmt.proofs.ChangeLemmas.{alive, becomes, state-found}
 use Rattle.session_mgmt.proofs.table.SessionTable.broke.Goals as goal
 

@@ -1,4 +1,4 @@
-use Rattle.std.proofs.Common.{◌∙◌, ap, refl, sym}
+use Rattle.std.proofs.Common.{◌∙◌, ap, sym}
 use Rattle.rpc_base.specs.declared.state.SessionState.TheVariants.{Closed, Failed}
 use Rattle.rpc_laws.specs.Sessions.{comes_to}
 use Rattle.session_mgmt.specs.declared.clients.ClientEnd.{ClientEnd}
