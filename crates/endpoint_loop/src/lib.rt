@@ -8,3 +8,6 @@ mod posting;
 mod sending;
 
 pub use node::Node;
+
+#[cfg(test)]
+mod tests;
