@@ -1,4 +1,5 @@
 pub mod FitsLemmas
+pub mod HearLemmas
 pub mod NodeLemmas
 pub mod NotingLemmas
 pub mod PostLemmas

@@ -1,0 +1,102 @@
+//! Step 3 of a poll, for replies: a CR or Response in front of the receive ring is handled.
+ghost use Rattle.std.specs.Prelude.{◌≡◌, Some};
+ghost use Rattle.client_core.specs.Shown.{done_event, end_bytes};
+ghost use Rattle.endpoint_loop.specs.Hearing.{Drops, HearsReply};
+ghost use Rattle.endpoint_loop.specs.Noting.{Makes};
+ghost use Rattle.packet_header.specs.Header.{MessageInRange};
+ghost use Rattle.packet_header.specs.Reading.{body_of};
+ghost use Rattle.rpc_laws.specs.Front.{front_header};
+
+use crate::node::Node;
+use client_core::{Done, Outcome, Reply};
+use packet_header::{HEAD_BYTES, MessageHeader};
+use rpc_base::{DropReason, Event, Owner, Who};
+use rpc_outside::Recorder;
+
+// What follows the header of a datagram.
+fn body(bytes: &[u8]) -> &[u8]
+    ensures { result.now ≡ body_of bytes.now }
+{
+    bytes.get(HEAD_BYTES..).unwrap_or_default()
+}
+
+fn end_event(done: &Done) -> Event
+    ensures { result ≡ done_event done.now }
+{
+    match &done.outcome {
+        Outcome::Ok => Event::DoneOk { call: done.call },
+        Outcome::TooSmall { size } => Event::DoneTooSmall {
+            call: done.call,
+            size: *size,
+        },
+        Outcome::PeerLost => Event::DonePeerLost { call: done.call },
+    }
+}
+
+fn answer_of(done: &Done) -> &[u8]
+    ensures { result.now ≡ end_bytes done.now.outcome done.now.resp }
+{
+    match &done.outcome {
+        Outcome::Ok => done.resp.bytes(),
+        Outcome::TooSmall { .. } => &[],
+        Outcome::PeerLost => &[],
+    }
+}
+
+impl Node {
+    // The front of the receive ring is dropped for this reason.
+    fn drop_front<R: Recorder>(&mut self, reason: DropReason, rec: &mut R)
+        ensures { Makes R.facts R.whole (Drops reason) self.old self.new rec.old rec.new }
+    {
+        let event = Event::Dropped { reason };
+        rec.note(Who::Node(self.me), event, &[], &[]);
+        self.counts.dropped = self.counts.dropped.saturating_add(1);
+        self.rx.drop_front();
+    }
+
+    /// Handles the CR or Response in front of the receive ring, whose header is given, where its
+    /// bytes lie. What is given out is the call that it ended, with the call's buffers.
+    pub fn hear_reply<R: Recorder>(&mut self, head: &MessageHeader, rec: &mut R) -> Option<Done>
+        requires in_range { MessageInRange head.now }
+        requires front { front_header self.old.lists.ring ≡ Some head.now }
+        ensures { Makes R.facts R.whole (HearsReply head.now result) self.old self.new rec.old
+            rec.new }
+    {
+        let Some(front) = self.rx.front() else {
+            unreachable!()
+        };
+        let i = usize::from(head.session.0);
+        if i >= self.store.clients() {
+            self.drop_front(DropReason::NoSession, rec);
+            return None;
+        }
+        let owner = Owner::Ask {
+            session: head.session,
+            request: head.request,
+        };
+        let took = Event::Took {
+            owner,
+            number: head.number,
+        };
+        let reply = self
+            .store
+            .on_reply(i, front.peer(), head, body(front.bytes()), self.clock);
+        match reply {
+            Reply::Dropped(reason) => {
+                self.drop_front(reason, rec);
+                None
+            }
+            Reply::Took => {
+                rec.note(Who::Node(self.me), took, &[], &[]);
+                self.rx.drop_front();
+                None
+            }
+            Reply::Ended(done) => {
+                rec.note(Who::Node(self.me), took, &[], &[]);
+                rec.note(Who::Node(self.me), end_event(&done), answer_of(&done), &[]);
+                self.rx.drop_front();
+                Some(done)
+            }
+        }
+    }
+}
