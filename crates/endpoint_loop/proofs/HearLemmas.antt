@@ -156,7 +156,7 @@ front-there : (ds : List DatagramValue) (d : DatagramValue) → slice_get ds 0 �
 front-there [] d e = cc
 front-there (y ∷ ds) d e = let same : y ≡ d = cc in ap (λ (z : DatagramValue). Some (arrival_of z)) same
 
-body-there : (ds : List DatagramValue) (d : DatagramValue) → slice_get ds 0 ≡ Some d → front_body (map arrival_of ds) ≡ body_of d.bytes
+pub body-there : (ds : List DatagramValue) (d : DatagramValue) → slice_get ds 0 ≡ Some d → front_body (map arrival_of ds) ≡ body_of d.bytes
 body-there [] d e = cc
 body-there (y ∷ ds) d e = let same : y ≡ d = cc in ap (λ (z : DatagramValue). body_of z.bytes) same
 
@@ -360,3 +360,12 @@ module _ (me : ℕ) (limits : Limits) (tallies : Tallies) (paces : List Pace) (j
               over = refl;
             };
           }
+
+-- the header of the front of the ring
+pub none-front : (ds : List DatagramValue) → slice_get ds 0 ≡ None → front_header (map arrival_of ds) ≡ None
+none-front [] e = none-read
+none-front (d ∷ ds) e = cc
+
+pub head-there : (ds : List DatagramValue) (d : DatagramValue) → slice_get ds 0 ≡ Some d → front_header (map arrival_of ds) ≡ message_of d.bytes
+head-there [] d e = cc
+head-there (y ∷ ds) d e = let same : y ≡ d = cc in ap (λ (z : DatagramValue). message_of z.bytes) same

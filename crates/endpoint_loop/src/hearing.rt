@@ -1,17 +1,33 @@
 //! Step 3 of a poll, for replies: a CR or Response in front of the receive ring is handled.
-ghost use Rattle.std.specs.Prelude.{◌≡◌, Some};
+ghost use Rattle.std.specs.Prelude.{◌≡◌, ◌<◌, ◌+◌, ℕ, Some, IfSome, length};
 ghost use Rattle.client_core.specs.Shown.{done_event, end_bytes};
-ghost use Rattle.endpoint_loop.specs.Hearing.{Drops, HearsReply};
+ghost use Rattle.endpoint_loop.specs.Hearing.{Drops, HandlesReply, HearsReply, IsReply};
 ghost use Rattle.endpoint_loop.specs.Noting.{Makes};
-ghost use Rattle.packet_header.specs.Header.{MessageInRange};
-ghost use Rattle.packet_header.specs.Reading.{body_of};
-ghost use Rattle.rpc_laws.specs.Front.{front_header};
+ghost use Rattle.packet_header.specs.Header.{MessageInRange, MessageLength};
+ghost use Rattle.packet_header.specs.Reading.{body_of, message_of};
+ghost use Rattle.rpc_laws.specs.Front.{front_body, front_header};
+ghost use Rattle.rpc_laws.specs.Queues.{replies};
+ghost use Rattle.rpc_outside.specs.declared.service.Mode.{Mode};
 
 use crate::node::Node;
 use client_core::{Done, Outcome, Reply};
-use packet_header::{HEAD_BYTES, MessageHeader};
+use packet_header::{HEAD_BYTES, MessageHeader, Packet, decode};
 use rpc_base::{DropReason, Event, Owner, Who};
 use rpc_outside::Recorder;
+
+// The header of a datagram that is a packet of a call, which is as long as that tells.
+fn read(bytes: &[u8]) -> Option<MessageHeader>
+    ensures value { result ≡ message_of bytes.now }
+    ensures in_range { IfSome result (λ h. MessageInRange h) }
+    ensures long { IfSome result (λ h. MessageLength h.kind h.size h.number
+        (16 + length (body_of bytes.now))) }
+{
+    match decode(bytes) {
+        Ok(Packet::Message(head)) => Some(head),
+        Ok(Packet::Control(_)) => None,
+        Err(_) => None,
+    }
+}
 
 // What follows the header of a datagram.
 fn body(bytes: &[u8]) -> &[u8]
@@ -98,5 +114,34 @@ impl Node {
                 Some(done)
             }
         }
+    }
+
+    // The header of the packet in front of the receive ring. None comes exactly where the ring is
+    // empty, or its front is no packet of a call.
+    fn front_head(&self) -> Option<MessageHeader>
+        ensures value { result ≡ front_header self.now.lists.ring }
+        ensures in_range { IfSome result (λ h. MessageInRange h) }
+        ensures long { IfSome result (λ h. MessageLength h.kind h.size h.number
+            (16 + length (front_body self.now.lists.ring))) }
+    {
+        let Some(front) = self.rx.front() else {
+            return None;
+        };
+        read(front.bytes())
+    }
+
+    /// A turn of step 3 of a poll: handles the packet in front of the receive ring, which is a CR
+    /// or Response, while fewer replies are queued than the ring is long. What is given out is the
+    /// call that it ended, with the call's buffers.
+    pub fn handle_front<R: Recorder>(&mut self, rec: &mut R) -> Option<Done>
+        requires reply { IsReply (front_header self.old.lists.ring) }
+        requires room { replies self.old.lists.queued < self.old.lists.room }
+        ensures { (mode : ℕ → Mode) → Makes R.facts R.whole (HandlesReply mode result) self.old
+            self.new rec.old rec.new }
+    {
+        let Some(head) = self.front_head() else {
+            unreachable!()
+        };
+        self.hear_reply(&head, rec)
     }
 }
