@@ -56,8 +56,8 @@ impl Model for Node {
 }
 
 impl Node {
-    /// Node `me` with these limits, which are in their ranges. Its lists are empty. `NoMemory` comes
-    /// where there is no memory for its rings and its pool.
+    /// Node `me` with these limits, which are in their ranges. Its lists are empty. `NoMemory`
+    /// comes where there is no memory for its rings and its pool.
     pub fn new(alloc: Global, me: NodeId, limits: Limits) -> Result<Node, NoMemory>
         requires limits { InRange limits }
         ensures { IfOk result (λ n. n ≡ new_node me limits) }
