@@ -61,7 +61,7 @@ use Rattle.endpoint_loop.specs.Fits.{CallsAscend, Fits, FreesNone}
 use Rattle.endpoint_loop.specs.Hearing.{Drops, HearsReply}
 use Rattle.endpoint_loop.specs.Noting.{Makes}
 use Rattle.endpoint_loop.specs.Seen.{Tallies, arrival_of, seen_node}
-use Rattle.endpoint_loop.proofs.NotingLemmas.{grew-then}
+use Rattle.server_core.proofs.FlushLemmas.{grew-then}
 use Rattle.endpoint_loop.proofs.PostLemmas.{first-at, only-at}
 
 -- a call whose number stays

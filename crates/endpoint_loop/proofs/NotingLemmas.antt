@@ -8,33 +8,17 @@ use Rattle.rpc_laws.specs.declared.tables.Timed.{Timed}
 use Rattle.rpc_laws.specs.Steps.{Rel, NotesNext, Then, Chain, Until, Visits, none, more}
 use Rattle.rpc_outside.specs.Recording.{Grew}
 use Rattle.rpc_outside.specs.Linking.{Carried, NoneComes}
+use Rattle.server_core.proofs.FlushLemmas.{grew-none, grew-then}
 use Rattle.endpoint_loop.specs.Noting.{Makes, MakesSent, NotesOne, SendsNone, sent_by, sent_of}
 
-told-none : (o : Option (List Fact)) → o ≡ option_map (λ fs. fs ++ []) o
-told-none None = refl
-told-none (Some fs) = ap Some (sym (append-nil fs))
-
-told-then : (o : Option (List Fact)) (x y : List Fact) → option_map (λ fs. fs ++ y) (option_map (λ fs. fs ++ x) o) ≡ option_map (λ fs. fs ++ (x ++ y)) o
-told-then None x y = refl
-told-then (Some fs) x y = ap Some (append_assoc fs x y)
-
 module _ {R : Type 0} (facts : R → Option (List Fact)) (whole : R → Bool) where
-  pub grew-none : (r : R) → Grew facts whole r r []
-  grew-none r = record { since = λ t. t; told = λ t. told-none (facts r) }
-
-  pub grew-then : (a b c : R) (x y : List Fact) → Grew facts whole a b x → Grew facts whole b c y → Grew facts whole a c (x ++ y)
-  grew-then a b c x y p q = record {
-    since = λ t. p.since (q.since t);
-    told = λ t. q.told t ∙ ap (option_map (λ fs. fs ++ y)) (p.told (q.since t)) ∙ told-then (facts a) x y;
-  }
-
   pub makes-none : (P : Rel) (a : Timed) (r : R) → Makes facts whole (Chain P) a a r r
-  makes-none P a r = record { noted = []; grew = grew-none r; step = none }
+  makes-none P a r = record { noted = []; grew = grew-none facts whole r; step = none }
 
   pub makes-more : (P : Rel) (a b c : Timed) (f g h : R) → Makes facts whole (Chain P) a b f g → Makes facts whole P b c g h → Makes facts whole (Chain P) a c f h
   makes-more P a b c f g h p q = record {
     noted = p.noted ++ q.noted;
-    grew = grew-then f g h p.noted q.noted p.grew q.grew;
+    grew = grew-then facts whole f g h p.noted q.noted p.grew q.grew;
     step = more p.step q.noted c q.step;
   }
 
@@ -44,7 +28,7 @@ module _ {R : Type 0} (facts : R → Option (List Fact)) (whole : R → Bool) wh
   pub makes-then : (P Q : Rel) (a b c : Timed) (f g h : R) → Makes facts whole P a b f g → Makes facts whole Q b c g h → Makes facts whole (Then P Q) a c f h
   makes-then P Q a b c f g h p q = record {
     noted = p.noted ++ q.noted;
-    grew = grew-then f g h p.noted q.noted p.grew q.grew;
+    grew = grew-then facts whole f g h p.noted q.noted p.grew q.grew;
     step = record { between = b; front = p.noted; back = q.noted; joined = refl; first = p.step; second = q.step };
   }
 

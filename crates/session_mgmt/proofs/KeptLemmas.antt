@@ -14,7 +14,7 @@ use Rattle.std.proofs.lemmas.List.{map-append}
 use Rattle.std.proofs.lemmas.List.Folds.{list_any-append}
 use Rattle.rpc_base.specs.Tables.{without_first}
 use Rattle.rpc_base.specs.declared.limits.TheConstants.{SESSION_NUMBERS}
-use Rattle.rpc_base.proofs.BasicLemmas.{false-true}
+use Rattle.rpc_base.proofs.BasicLemmas.{false-true, or-false}
 use Rattle.rpc_base.proofs.TakingLemmas.{find-passes}
 use Rattle.rpc_laws.specs.ControlTable.{is_end_of}
 use Rattle.rpc_laws.specs.Requests.{is_server}
@@ -176,10 +176,6 @@ module _ (peer client : ℕ) where
   ours true c h t = sym t ∙ h
   ours false c h t = refl
 
-  or-first : (a b : Bool) → (a || b) ≡ false → a ≡ false
-  or-first true b h = h
-  or-first false b h = refl
-
   or-second : (a b : Bool) → (a || b) ≡ false → b ≡ false
   or-second true b h = cc
   or-second false b h = h
@@ -199,13 +195,13 @@ module _ (peer client : ℕ) where
   none-lowest low high [] a h = refl
   none-lowest low high (e ∷ es) a h =
       let below : e.0 < high = omega (arith, ascend-le (e.0 + 1) high es a.2) in
-      let here : stands_at (peer, client, e.0) e ≡ false = or-first _ _ (h e.0 below) in
+      let here : stands_at (peer, client, e.0) e ≡ false = (or-false _ _ (h e.0 below)).0 in
       let not-ours : (e.1.peer == peer && e.1.client == client) ≡ false = ours (e.1.peer == peer && e.1.client == client) (e.0 == e.0) here (equal-self e.0) in
       rw not-ours (none-lowest (e.0 + 1) high es a.2 (λ u within. or-second _ _ (h u within)))
 
   lowest-by : (t low high : ℕ) (e : Kept) (es : List Kept) → Order e.0 t → Ascend low high (e ∷ es) → list_any (stands_at (peer, client, t)) (e ∷ es) ≡ true → ((u : ℕ) → u < t → list_any (stands_at (peer, client, u)) (e ∷ es) ≡ false) → (list_any (stands_at (peer, client, t)) es ≡ true → ((u : ℕ) → u < t → list_any (stands_at (peer, client, u)) es ≡ false) → option_map server_of (lookup (is_at (nat_cmp t)) es) ≡ find (is_end_of peer client) (servers_of es)) → option_map server_of (lookup (is_at (nat_cmp t)) (e ∷ es)) ≡ find (is_end_of peer client) (servers_of (e ∷ es))
   lowest-by t low high e es (below h) a some least ih =
-      let here : stands_at (peer, client, e.0) e ≡ false = or-first _ _ (least e.0 h) in
+      let here : stands_at (peer, client, e.0) e ≡ false = (or-false _ _ (least e.0 h)).0 in
       let not-ours : (e.1.peer == peer && e.1.client == client) ≡ false = ours (e.1.peer == peer && e.1.client == client) (e.0 == e.0) here (equal-self e.0) in
       let apart : is_eq (nat_cmp t e.0) ≡ false = same-number t e.0 ∙ not-equal t e.0 (λ same. absurd (omega (arith, same, h))) in
       let later : list_any (stands_at (peer, client, t)) es ≡ true = or-right (stands_at (peer, client, t) e) (list_any (stands_at (peer, client, t)) es) some (stands-not (peer, client, t) e (λ same. absurd (omega (arith, same, h)))) in

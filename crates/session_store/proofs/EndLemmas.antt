@@ -7,6 +7,7 @@ use Rattle.std.specs.Option.{option_or}
 use Rattle.std.proofs.lemmas.Bool.{eq-eqb, eqb-true}
 use Rattle.std.proofs.lemmas.List.Folds.{find-append}
 use Rattle.rpc_base.specs.declared.owner.Owner.TheVariants.{Ask}
+use Rattle.rpc_base.proofs.BasicLemmas.{or-none}
 use Rattle.packet_header.specs.declared.packet.MessageHeader.{MessageHeader}
 use Rattle.message_buffer.specs.Buffer.{bytes_of, capacity_of}
 use Rattle.buffer_pool.specs.Pool.{Pool}
@@ -243,10 +244,6 @@ module _ (pool : Pool) (after : Option ℕ) where
       above-one : (after : Option ℕ) (x : ActiveCall) → (true && is_above after (shown_active pool x)) ≡ is_after after x
       above-one None x = refl
       above-one (Some n) x = refl
-
-or-none : {A : Type 0} (o : Option A) → option_or o None ≡ o
-or-none None = refl
-or-none (Some x) = refl
 
 told-shown : (pool : Pool) (o : Option ActiveCall) → option_map told o ≡ option_and_then told_call (option_map (shown_active pool) o)
 told-shown pool None = refl

@@ -1,10 +1,11 @@
 -- Timeouts, a session that loses its peer, and its calls that end then: what always holds of a store holds yet.
-use Rattle.std.proofs.Common.{◌≡◌, ℕ, ◌+◌, ◌≤◌, Bool, true, false, ◌||◌, cond, eqb, Option, Some, None, List, [], ◌∷◌, refl, sym, ap, subst, ◌∙◌, inl, inr, arith}
+use Rattle.std.proofs.Common.{◌≡◌, ℕ, ◌+◌, ◌≤◌, Bool, true, false, cond, eqb, Option, Some, None, List, [], ◌∷◌, refl, sym, ap, subst, ◌∙◌, inl, inr, arith}
 use Rattle.std.specs.Prelude.{IfSome, IsSome, map, option_map, slice_get, slice_set}
 use Rattle.std.specs.List.{AllByRecursion, list_any}
 use Rattle.std.proofs.lemmas.Bool.{cases_eq, eq-eqb}
 use Rattle.rpc_base.specs.declared.owner.Owner.{Owner}
 use Rattle.rpc_base.specs.declared.owner.Owner.TheVariants.{Ask, Reply, Control}
+use Rattle.rpc_base.proofs.BasicLemmas.{or-false}
 use Rattle.buffer_pool.specs.Pool.{Pool, refs_of, spare_of}
 use Rattle.packet_rings.specs.Rings.{Ring}
 use Rattle.packet_rings.specs.Values.{EntryValue}
@@ -66,14 +67,10 @@ module _ (sides : List Side) (servers : List Serving) (i : ℕ) (later : Side) w
   other-one e (Reply t r) other h = h
   other-one e Control other h = h
 
-  others-cons : (a b : Bool) → (a || b) ≡ false → (a ≡ false) × (b ≡ false)
-  others-cons true b t = cc
-  others-cons false b t = (refl, t)
-
   pub stands-idle : (es : List EntryValue) → list_any (λ e. is_ask_of i e.owner) es ≡ false → AllByRecursion (IsOf sides servers) es → AllByRecursion (IsOf (slice_set sides i later) servers) es
   stands-idle [] idle all = tt
   stands-idle (e ∷ es) idle all =
-      let parts = others-cons (is_ask_of i e.owner) (list_any (λ d. is_ask_of i d.owner) es) idle in
+      let parts = or-false (is_ask_of i e.owner) (list_any (λ d. is_ask_of i d.owner) es) idle in
       (other-one e e.owner parts.0 all.0, stands-idle es parts.1 all.1)
 
 -- no entry names a place of session i

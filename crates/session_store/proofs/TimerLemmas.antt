@@ -1,11 +1,10 @@
 -- What a look at a call's clock, a rollback and a loss are at a client end.
-use Rattle.std.proofs.Common.{◌≡◌, ℕ, ◌+◌, ◌<◌, Bool, true, false, cond, eqb, ltb, Option, Some, None, List, [], ◌∷◌, ◌++◌, refl, subst, sym, ap, ◌∙◌, ltb-true}
+use Rattle.std.proofs.Common.{◌≡◌, ℕ, ◌<◌, Bool, true, false, cond, ltb, Option, Some, None, List, [], ◌∷◌, ◌++◌, refl, subst, sym, ap, ◌∙◌, ltb-true}
 use Rattle.std.specs.Prelude.{IfSome, IsSome, map, option_map, slice_get}
 use Rattle.std.specs.List.{AllByRecursion, find, list_any}
 use Rattle.std.specs.Option.{option_or}
 use Rattle.std.proofs.lemmas.Bool.{eq-eqb, eqb-true}
 use Rattle.std.proofs.lemmas.List.Folds.{find-append}
-use Rattle.rpc_base.specs.Tables.{at_first}
 use Rattle.buffer_pool.specs.Pool.{Pool}
 use Rattle.rpc_laws.specs.declared.rows.TimerRow.TheVariants.{Waits, RollsBack, Breaks}
 use Rattle.rpc_laws.specs.declared.tables.Call.{Call}
@@ -13,18 +12,18 @@ use Rattle.rpc_laws.specs.declared.tables.Client.{Client}
 use Rattle.rpc_laws.specs.Calls.{is_call, moved, rolled_back}
 use Rattle.rpc_laws.specs.Sessions.{breaks, ends, has_call, rolls}
 use Rattle.session_slots.specs.declared.waiting.Waiting.{Waiting}
+use Rattle.client_core.proofs.RollLemmas.{keeps-rolled}
 use Rattle.client_core.specs.declared.call.ActiveCall.{ActiveCall}
 use Rattle.client_core.specs.declared.outcome.Done.{Done}
 use Rattle.client_core.specs.declared.outcome.Outcome.TheVariants.{PeerLost}
 use Rattle.client_core.specs.declared.outcome.Timer.TheVariants.{Roll}
-use Rattle.client_core.specs.KeepsPool.{IsKept, KeepsPool}
+use Rattle.client_core.specs.KeepsPool.{KeepsPool}
 use Rattle.client_core.specs.Losing.{Loses, next_lost}
 use Rattle.client_core.specs.Replies.{is_request}
 use Rattle.client_core.specs.Session.{Session}
 use Rattle.client_core.specs.Shown.{IsAlone, done_event, rolled_event, shown, shown_active, shown_broken, shown_waiting, stepped}
-use Rattle.client_core.specs.Timeouts.{after_roll, call_numbered, is_numbered, rolled_call, timer_told}
+use Rattle.client_core.specs.Timeouts.{after_roll, call_numbered, is_numbered, timer_told}
 use Rattle.client_core.specs.Watching.{call_number, is_after}
-use Rattle.client_core.proofs.CallsLemmas.{sum-at_first}
 use Rattle.client_core.proofs.EndedLemmas.{any-found}
 use Rattle.client_core.proofs.OneCallLemmas.{least-none-of}
 use Rattle.client_core.proofs.ShownLemmas.{found-shown}
@@ -32,7 +31,6 @@ use Rattle.session_store.specs.Ends.{Ascends, progress_of, shown_end}
 use Rattle.session_store.proofs.AscendsLemmas.{ascends-changed, ascends-without, few-numbered, least-first}
 use Rattle.session_store.proofs.EndLemmas.{active-ascends, calls-end}
 use Rattle.rpc_base.proofs.TakingLemmas.{find-passes}
-use Rattle.rpc_base.proofs.FirstLemmas.{all-kept}
 
 -- what is told of a clock tells its row
 few-cases : (r p g : ℕ) (c : ActiveCall) (x b : Bool) → ltb c.rolls 8 ≡ b → Roll r p g ≡ timer_told (cond x Waits (cond b RollsBack Breaks)) c → c.rolls < 8
@@ -60,12 +58,6 @@ pub progress-found : (b : Bool) (pool : Pool) (peer n : ℕ) (s : Session) (c : 
 progress-found b pool peer n s c e = rw (calls-end b pool peer s, numbered-shown pool peer n s c e) refl
 
 -- a rollback
-keeps-rolled : (pool : Pool) (test : ActiveCall → Bool) (calls : List ActiveCall) → KeepsPool pool calls → KeepsPool pool (at_first test rolled_call calls)
-keeps-rolled pool test calls keeps = record {
-  kept = all-kept test rolled_call (IsKept pool) calls (λ c kept passes. record { ask = kept.ask; answer = kept.answer; size = kept.size; room = kept.room; unnamed = kept.unnamed }) keeps.kept;
-  apart = λ p. rw (sum-at_first test rolled_call (λ c. cond (eqb c.ask p) 1 0 + cond (eqb c.answer p) 1 0) calls (λ c. refl)) (keeps.apart p);
-}
-
 pub record RollsEnd (n : ℕ) (b : Bool) (pool : Pool) (peer : ℕ) (s new : Session) : Type 0 where
   pub view : IfSome (progress_of n (shown_end b pool peer s)) (λ p. shown_end b pool peer new ≡ rolls n p.posted p.got (shown_end b pool peer s))
   pub calls : Ascends (shown_end b pool peer new).calls
