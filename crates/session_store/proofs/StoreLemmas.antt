@@ -17,20 +17,22 @@ use Rattle.packet_rings.proofs.MentionsLemmas.{mentions-le-length}
 use Rattle.node_laws.specs.QueuedPackets.{is_ask_of}
 use Rattle.rpc_laws.specs.Posting.{beginning, if_connected, posting}
 use Rattle.rpc_laws.specs.Sessions.{begins, posts}
+use Rattle.rpc_laws.specs.declared.tables.Call.{Call}
 use Rattle.rpc_laws.specs.declared.tables.Client.{Client}
 use Rattle.client_core.specs.declared.call.ActiveCall.{ActiveCall}
 use Rattle.client_core.specs.KeepsPool.{CanHold, KeepsPool}
 use Rattle.client_core.specs.Posting.{IsPacketOf, call_of, entry_of, is_owner, next_call, next_entry}
 use Rattle.client_core.specs.Session.{Session, call_in, is_in_slot}
+use Rattle.client_core.specs.Shown.{shown_active, shown_waiting}
 use Rattle.server_core.specs.KeepsPool.{places as slot_places}
 use Rattle.server_core.specs.Session.{Session as Serving}
 use Rattle.server_core.specs.Shown.{shown as shown_server}
 use Rattle.session_store.specs.Changes.{BeginsAt, PostsAt}
 use Rattle.session_store.specs.declared.side.Side.{Side}
 use Rattle.session_store.specs.Effects.{SideBegins, SidePosts, packet_of_entry, request_in}
-use Rattle.session_store.specs.Sides.{HasPlaces, HasSlots, IsOf, Kept, MayPost, Shown, SideAscends, SideKept, SideQueued, places_in, queued_of, served_places, shown_of, shown_side}
+use Rattle.session_store.specs.Sides.{HasPlaces, HasRoom, HasSlots, are_calls, has_calls, IsOf, Kept, MayPost, Shown, SideAscends, SideKept, SideQueued, places_in, queued_of, served_places, shown_of, shown_side}
 use Rattle.session_store.proofs.BesideLemmas.{rest-push}
-use Rattle.session_store.proofs.EndLemmas.{Steps, ask-owner, begun-next, next-owner, none-posted, none-same, post-next, post-steps, some-steps}
+use Rattle.session_store.proofs.EndLemmas.{Steps, ask-owner, begun-next, calls-end, next-owner, none-posted, none-same, post-next, post-steps, some-steps}
 use Rattle.session_store.proofs.KeptLemmas.{ClientActs, client-kept, client-places, clients-set, servers-same}
 use Rattle.session_store.proofs.ListLemmas.{all-at, all-from, get-map, got-same, set-own}
 use Rattle.session_store.proofs.PostedLemmas.{begun-length, begun-spare, free-slot, posted-free, posted-length, posted-number, posted-spare, slot-empty}
@@ -258,18 +260,28 @@ module _ (pool after : Pool) (sides now : List Side) (servers : List Serving) (t
   size-begin (Some b) h connected = begun-size pool after sides now servers tx i b kept h connected
 
 -- two places are spare for a call
-places-most : (sides : List Side) → AllByRecursion HasSlots sides → places_in sides ≤ 16 * length sides
-places-most [] all = omega arith
-places-most (s ∷ ss) all = omega (arith, sum_by-cons (λ x. 2 * length x.session.active) s ss, all.0, places-most ss all.1)
+active-most : (pool : Pool) (cs : List ActiveCall) (ws : List Call) → length cs ≤ 8 → 2 * length cs ≤ 16 * cond (are_calls (map (shown_active pool) cs ++ ws)) 1 0
+active-most pool [] ws few = omega arith
+active-most pool (c ∷ cs) ws few = omega (arith, few)
+
+side-most : (pool : Pool) (s : Side) → HasSlots s → 2 * length s.session.active ≤ 16 * cond (has_calls (shown_side pool s)) 1 0
+side-most pool s few =
+    rw (calls-end s.is_broken pool s.peer s.session) (active-most pool s.session.active (map shown_waiting s.session.slots.waiting) few)
+
+places-most : (pool : Pool) (sides : List Side) → AllByRecursion HasSlots sides → places_in sides ≤ 16 * count_by has_calls (map (shown_side pool) sides)
+places-most pool [] all = omega arith
+places-most pool (s ∷ ss) all =
+    let calls = counted-cons has_calls (shown_side pool s) (map (shown_side pool) ss) (has_calls (shown_side pool s)) refl in
+    omega (arith, sum_by-cons (λ x. 2 * length x.session.active) s ss, side-most pool s all.0, calls, places-most pool ss all.1)
 
 served-most : (servers : List Serving) → AllByRecursion HasPlaces servers → served_places servers ≤ 16 * length servers
 served-most [] all = omega arith
 served-most (v ∷ vs) all = omega (arith, sum_by-cons (λ x. slot_places x.slots) v vs, all.0, served-most vs all.1)
 
-pub two-spare : (pool : Pool) (sides : List Side) (servers : List Serving) (tx : Ring EntryValue) (seen : Shown) → Kept pool sides servers tx → shown_of pool sides servers tx ≡ seen → 16 * (length seen.clients + length seen.servers) + 2 ≤ seen.places → 2 ≤ spare_of pool
+pub two-spare : (pool : Pool) (sides : List Side) (servers : List Serving) (tx : Ring EntryValue) (seen : Shown) → Kept pool sides servers tx → shown_of pool sides servers tx ≡ seen → HasRoom seen → 2 ≤ spare_of pool
 two-spare pool sides servers tx seen kept view room =
-    let enough : 16 * (length (map (shown_side pool) sides) + length (map (shown_server pool) servers)) + 2 ≤ spare_of pool + places_in sides + served_places servers = rw (← view) at room in
-    omega (arith, enough, length-map sides (shown_side pool), length-map servers (shown_server pool), places-most sides kept.slots, served-most servers kept.served)
+    let enough : 16 * (count_by has_calls (map (shown_side pool) sides) + length (map (shown_server pool) servers)) + 2 ≤ spare_of pool + places_in sides + served_places servers = rw (← view) at room in
+    omega (arith, enough, length-map servers (shown_server pool), places-most pool sides kept.slots, served-most servers kept.served)
 
 pub ring-room : (pool : Pool) (sides : List Side) (servers : List Serving) (tx : Ring EntryValue) (seen : Shown) → shown_of pool sides servers tx ≡ seen → length seen.queued < seen.size → length tx.items < tx.size
 ring-room pool sides servers tx seen view room =

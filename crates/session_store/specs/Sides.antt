@@ -1,6 +1,6 @@
 -- Sessions that share a pool and a transmit ring: what they show, and what always holds of them.
 use Rattle.std.specs.Prelude.{◌≡◌, ℕ, ◌+◌, ◌*◌, ◌<◌, ◌≤◌, ◌==◌, ◌&&◌, Bool, true, false, Option}
-use Rattle.std.specs.Prelude.{Some, None, List, [], ◌∷◌, length, map, sum_by, slice_get}
+use Rattle.std.specs.Prelude.{Some, None, List, [], ◌∷◌, count_by, length, map, sum_by, slice_get}
 use Rattle.std.specs.List.{AllByRecursion, find, list_any}
 use Rattle.rpc_base.specs.declared.owner.Owner.{Owner}
 use Rattle.rpc_base.specs.declared.owner.Owner.TheVariants.{Ask, Reply, Control}
@@ -8,6 +8,7 @@ use Rattle.buffer_pool.specs.Counting.{Counts}
 use Rattle.buffer_pool.specs.Pool.{Pool, spare_of}
 use Rattle.packet_rings.specs.Rings.{Ring}
 use Rattle.packet_rings.specs.Values.{EntryValue}
+use Rattle.rpc_laws.specs.declared.tables.Call.{Call}
 use Rattle.rpc_laws.specs.declared.tables.Client.{Client}
 use Rattle.rpc_laws.specs.declared.tables.Queued.{Queued}
 use Rattle.rpc_laws.specs.declared.tables.Server.{Server}
@@ -67,6 +68,18 @@ shown_of pool sides servers tx = record {
   size = tx.size;
   places = spare_of pool + places_in sides + served_places servers;
 }
+
+abbrev pub are_calls : List Call → Bool
+are_calls [] = false
+are_calls (c ∷ cs) = true
+
+abbrev pub has_calls : Client → Bool
+has_calls x = are_calls x.calls
+
+-- the pool has a place for each buffer that the sessions may have, and for two more: a session has
+-- eight calls or requests at most, with two buffers each, and one without calls has no buffers
+abbrev pub HasRoom : Shown → Type 0
+HasRoom s = 16 * (count_by has_calls s.clients + length s.servers) + 2 ≤ s.places
 
 -- no session, and nothing queued
 abbrev pub no_sessions : (size places : ℕ) → Shown

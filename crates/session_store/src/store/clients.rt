@@ -14,7 +14,7 @@ ghost use Rattle.session_store.specs.Changes.{BeginsAt, ChangesAt, PostsAt};
 ghost use Rattle.session_store.specs.Effects.{asking_in, packet_of_entry, request_in};
 ghost use Rattle.session_store.specs.Ends.{next_above, told_call};
 ghost use Rattle.session_store.specs.Hearing.{RepliesAt};
-ghost use Rattle.session_store.specs.Sides.{listed_queued};
+ghost use Rattle.session_store.specs.Sides.{HasRoom, listed_queued};
 
 use super::Store;
 use crate::side::{Side, begin_at, enqueue_at, heard_at, post_at};
@@ -139,8 +139,7 @@ impl Store {
     /// lost its peer begins none.
     pub fn begin(&mut self, i: usize) -> Option<(CallNo, RequestNo)>
         requires known { i < length self.old.clients }
-        requires room { 16 * (length self.old.clients + length self.old.servers) + 2
-            ≤ self.old.places }
+        requires room { HasRoom self.old }
         ensures clients { BeginsAt i result self.old.clients self.new.clients }
         ensures servers { self.new.servers ≡ self.old.servers }
         ensures queued { self.new.queued ≡ self.old.queued }

@@ -8,7 +8,7 @@ ghost use Rattle.rpc_laws.specs.Requests.{is_server, server_end};
 ghost use Rattle.session_store.specs.Changes.{FinishesAt};
 ghost use Rattle.server_core.specs.Steps.{IsAsking, UnlessRan};
 ghost use Rattle.session_store.specs.Serving.{AreServedAt, HandlesAt};
-ghost use Rattle.session_store.specs.Sides.{listed_queued};
+ghost use Rattle.session_store.specs.Sides.{HasRoom, listed_queued};
 
 use super::Store;
 use crate::server::{asked_at, finished_at, place_of, reply_of};
@@ -84,8 +84,7 @@ impl Store {
             (λ v. head.now.session ≡ v.way.number) }
         requires asking { IsAsking head.now (length body.now) }
         requires ring { length self.old.queued < self.old.size }
-        requires room { 16 * (length self.old.clients + length self.old.servers) + 2
-            ≤ self.old.places }
+        requires room { HasRoom self.old }
         requires all_served { AreServedAt V.mode_of i self.old.servers }
         ensures handles { HandlesAt R.facts R.whole (V.mode_of head.now.req_type) jobs_full me i
             head.now body.now V.answer (V.stands service.old) (V.stands service.new) rec.old rec.new
@@ -125,8 +124,7 @@ impl Store {
             (λ v. parcel.session ≡ v.way.number) }
         requires answer { IsMessage parcel.out.len }
         requires ring { length self.old.queued < self.old.size }
-        requires room { 16 * (length self.old.clients + length self.old.servers) + 2
-            ≤ self.old.places }
+        requires room { HasRoom self.old }
         ensures servers { FinishesAt i parcel.request (bytes_of parcel.out) result self.old.servers
             self.new.servers }
         ensures clients { self.new.clients ≡ self.old.clients }
