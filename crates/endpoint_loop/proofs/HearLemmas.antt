@@ -252,6 +252,9 @@ module _ (me : ℕ) (limits : Limits) (tallies : Tallies) (paces : List Pace) (j
         left : map arrival_of q.items ≡ drop 1 (map arrival_of rx.items)
         left = ap (λ (z : Ring DatagramValue). map arrival_of z.items) rest ∙ sym (drop-map arrival_of 1 rx.items)
 
+        same-size : q.size ≡ rx.size
+        same-size = ap (λ (z : Ring DatagramValue). z.size) rest
+
         mid-clients : (r : Reply) (p : Told r) → mid.clients ≡ slice_set s.clients i (T r p)
         mid-clients r p = rw (header, body-here) (taken r p)
 
@@ -264,8 +267,8 @@ module _ (me : ℕ) (limits : Limits) (tallies : Tallies) (paces : List Pace) (j
               unpaced = fits.unpaced;
               over = rw p.changed (all-set FreesNone s.clients i p.later (λ closed. live-frees (is_live p.later.state) p.later.free (ap is_live state ∙ live) closed) (λ j y e other. all-at FreesNone s.clients j y fits.over e));
               ready = rw queued fits.ready;
-              replies = rw queued fits.replies;
-              packets = size ∙ fits.packets;
+              replies = rw (queued, same-size) fits.replies;
+              packets = rw same-size (size ∙ fits.packets);
               buffers = omega (arith, ap (λ (zs : List Client). length zs) p.changed, length-set s.clients i p.later, ap (λ (vs : List Server). length vs) servers, places, fits.buffers);
             }
 
@@ -273,7 +276,7 @@ module _ (me : ℕ) (limits : Limits) (tallies : Tallies) (paces : List Pace) (j
         took-as facts whole before now a b k session request packet grew = rw (← session, ← request, ← packet) grew
 
         goes-took : t.clients ≡ mid.clients → seen q t ≡ record { lists = mid; clock = clock }
-        goes-took e = rw (e, left, servers, queued) refl
+        goes-took e = rw (e, left, servers, queued, same-size) refl
 
         -- and its call goes on
         module _ (p : Told TookReply) where
@@ -308,9 +311,9 @@ module _ (me : ℕ) (limits : Limits) (tallies : Tallies) (paces : List Pace) (j
         told-done call PeerLost bytes head b xs = refl
 
         goes-done : (call : ℕ) (o : Outcome) (bytes : List ℕ) → t.clients ≡ at_first (has_call call) (ends call) mid.clients → seen q t ≡ record { lists = after clock mid (with_bytes me (end_event call o) bytes); clock = clock }
-        goes-done call EndedOk bytes e = rw (e, left, servers, queued) refl
-        goes-done call (TooSmall n) bytes e = rw (e, left, servers, queued) refl
-        goes-done call PeerLost bytes e = rw (e, left, servers, queued) refl
+        goes-done call EndedOk bytes e = rw (e, left, servers, queued, same-size) refl
+        goes-done call (TooSmall n) bytes e = rw (e, left, servers, queued, same-size) refl
+        goes-done call PeerLost bytes e = rw (e, left, servers, queued, same-size) refl
 
         -- and its call is over
         module _ (o : Done) (p : Told (Ended o)) where

@@ -25,7 +25,7 @@ abbrev pub seen_node : (me : ℕ) → Limits → Tallies → List Pace → Jobs 
 seen_node me limits tallies paces jobs clock rx s = record {
   lists = record {
     me = me;
-    room = limits.ring;
+    room = rx.size;
     timeout = limits.timeout;
     asked = tallies.asked;
     server_numbers = tallies.server_numbers;
