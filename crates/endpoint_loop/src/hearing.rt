@@ -15,8 +15,8 @@ use packet_header::{HEAD_BYTES, MessageHeader, Packet, decode};
 use rpc_base::{DropReason, Event, Owner, Who};
 use rpc_outside::Recorder;
 
-// The header of a datagram that is a packet of a call, which is as long as that tells.
-fn read(bytes: &[u8]) -> Option<MessageHeader>
+/// The header of a datagram that is a packet of a call, which is as long as that tells.
+pub fn read(bytes: &[u8]) -> Option<MessageHeader>
     ensures value { result ≡ message_of bytes.now }
     ensures in_range { IfSome result (λ h. MessageInRange h) }
     ensures long { IfSome result (λ h. MessageLength h.kind h.size h.number

@@ -1,9 +1,10 @@
 //! The endpoint: the event loop that owns the sessions of a node, its rings and its buffers. So far
-//! it begins and posts calls, sends packets and handles replies; the program runs the nodes of the
-//! simulation.
+//! it takes datagrams, handles replies, begins and posts calls, and sends packets; the program runs
+//! the nodes of the simulation.
 #![tactic(auto)]
 
 mod closing;
+mod delivering;
 mod hearing;
 mod node;
 mod posting;
