@@ -18,7 +18,8 @@ fn an_idle_node_polls_and_sends_nothing(rt: HostRuntime) -> Result<(), Fail> {
     assert!(rt; link.sent(0).is_none());
     assert!(rt; rec.whole());
     assert_eq!(rt; rec.facts().len(), 2);
-    assert!(rt; matches!(rec.facts()[0].event, Event::Bad { peer: Peer(1) }));
-    assert!(rt; matches!(rec.facts()[1].event, Event::Polled { now: 0 }));
+    let (bad, polled) = (&rec.facts()[0], &rec.facts()[1]);
+    assert!(rt; matches!(bad.event, Event::Bad { .. }));
+    assert!(rt; matches!(polled.event, Event::Polled { now: 0 }));
     Ok(())
 }
