@@ -1,5 +1,6 @@
 -- What always holds of a node, after a session began or posted.
-use Rattle.std.proofs.Common.{◌≡◌, ℕ, ◌+◌, ◌*◌, ◌≤◌, Bool, true, false, cond, Option, Some, None, List, [], ◌∷◌, ◌++◌, length, refl, ap, arith}
+use Rattle.std.proofs.Common.{◌≡◌, ℕ, ◌+◌, ◌*◌, ◌≤◌, Bool, true, false, cond, Option, Some, None}
+use Rattle.std.proofs.Common.{List, [], ◌∷◌, ◌++◌, length, refl, ap, arith}
 use Rattle.std.specs.Prelude.{slice_get, IfSome}
 use Rattle.std.specs.List.{AllByRecursion}
 use Rattle.std.proofs.lemmas.List.Sums.{sum_by-append}
@@ -37,10 +38,13 @@ free-of : (x : Client) (b : Bool) → is_live x.state ≡ b → FreesNone x → 
 free-of x true t none = omega arith
 free-of x false t none = omega (arith, none t)
 
-pub has-room : (s : Lists) (size i : ℕ) → Kept s → AllByRecursion FreesNone s.clients → AllByRecursion IsReady s.queued → replies s.queued ≤ s.room → size ≡ 2 * s.room → IfSome (slice_get s.clients i) (λ x. length s.queued + x.free ≤ size)
+pub has-room : (s : Lists) (size i : ℕ) → Kept s → AllByRecursion FreesNone s.clients
+    → AllByRecursion IsReady s.queued → replies s.queued ≤ s.room → size ≡ 2 * s.room
+    → IfSome (slice_get s.clients i) (λ x. length s.queued + x.free ≤ size)
 has-room s size i kept over ready few long = cases (slice_get s.clients i) refl
   where
-    cases : (o : Option Client) → slice_get s.clients i ≡ o → IfSome o (λ x. length s.queued + x.free ≤ size)
+    cases : (o : Option Client) → slice_get s.clients i ≡ o
+        → IfSome o (λ x. length s.queued + x.free ≤ size)
     cases None e = tt
     cases (Some x) e =
         let total = kept-total s kept in
@@ -53,11 +57,13 @@ ready-first : (a b : Option ℕ) → a ≡ None → stands_before a b ≡ true
 ready-first None b e = refl
 ready-first (Some d) b e = cc
 
-pub put-behind : (q : Queued) (qs : List Queued) → q.due ≡ None → AllByRecursion IsReady qs → put_queued q qs ≡ qs ++ q ∷ []
+pub put-behind : (q : Queued) (qs : List Queued) → q.due ≡ None → AllByRecursion IsReady qs
+    → put_queued q qs ≡ qs ++ q ∷ []
 put-behind q [] due all = refl
 put-behind q (p ∷ ps) due all = rw (ready-first p.due q.due all.0.1) (ap (λ xs. p ∷ xs) (put-behind q ps due all.1))
 
-pub replies-ask : (qs : List Queued) (q : Queued) → is_reply q.owner ≡ false → replies (qs ++ q ∷ []) ≡ replies qs
+pub replies-ask : (qs : List Queued) (q : Queued) → is_reply q.owner ≡ false
+    → replies (qs ++ q ∷ []) ≡ replies qs
 replies-ask qs q none =
     let one = counted-cons (λ (p : Queued). is_reply p.owner) q [] false none in
     omega (arith, sum_by-append (λ (p : Queued). cond (is_reply p.owner) 1 0) qs (q ∷ []), one)

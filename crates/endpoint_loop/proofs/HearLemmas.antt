@@ -1,5 +1,7 @@
 -- A reply, from its session to what the node notes.
-use Rattle.std.proofs.Common.{◌≡◌, ℕ, zero, suc, ◌+◌, ◌≤◌, ◌||◌, Bool, true, false, cond, Option, Some, None, List, [], ◌∷◌, length, drop, refl, sym, ap, subst, ◌∙◌, arith}
+use Rattle.std.proofs.Common.{◌≡◌, ℕ, zero, suc, ◌+◌, ◌≤◌, ◌||◌, Bool, true, false, cond, Option}
+use Rattle.std.proofs.Common.{Some, None, List, [], ◌∷◌, length, drop, refl, sym, ap, subst, ◌∙◌}
+use Rattle.std.proofs.Common.{arith}
 use Rattle.std.specs.Prelude.{map, not, slice_get, slice_set}
 use Rattle.std.specs.List.{find, list_any}
 use Rattle.std.proofs.lemmas.Bool.{eq-eqb}
@@ -9,16 +11,19 @@ use Rattle.client_core.specs.Replies.{row_told}
 use Rattle.client_core.specs.Shown.{done_event, done_fact, end_bytes, end_event, took as took_alone}
 use Rattle.client_core.specs.declared.outcome.Done.{Done}
 use Rattle.client_core.specs.declared.outcome.Outcome.{Outcome}
-use Rattle.client_core.specs.declared.outcome.Outcome.TheVariants.{Ok as EndedOk, TooSmall, PeerLost}
+use Rattle.client_core.specs.declared.outcome.Outcome.TheVariants.{Ok as EndedOk, TooSmall}
+use Rattle.client_core.specs.declared.outcome.Outcome.TheVariants.{PeerLost}
 use Rattle.client_core.specs.declared.outcome.Reply.{Reply}
-use Rattle.client_core.specs.declared.outcome.Reply.TheVariants.{Took as TookReply, Ended, Dropped as DroppedReply}
+use Rattle.client_core.specs.declared.outcome.Reply.TheVariants.{Took as TookReply, Ended}
+use Rattle.client_core.specs.declared.outcome.Reply.TheVariants.{Dropped as DroppedReply}
 use Rattle.packet_header.specs.Reading.{body_of, decoded, message_of}
 use Rattle.packet_header.specs.declared.packet.MessageHeader.{MessageHeader}
 use Rattle.packet_rings.specs.Rings.{Ring, ring}
 use Rattle.packet_rings.specs.Values.{DatagramValue}
 use Rattle.rpc_base.specs.Tables.{at_first}
 use Rattle.rpc_base.specs.declared.event.Event.{Event}
-use Rattle.rpc_base.specs.declared.event.Event.TheVariants.{Took, Dropped, DoneOk, DoneTooSmall, DonePeerLost}
+use Rattle.rpc_base.specs.declared.event.Event.TheVariants.{Took, Dropped, DoneOk, DoneTooSmall}
+use Rattle.rpc_base.specs.declared.event.Event.TheVariants.{DonePeerLost}
 use Rattle.rpc_base.specs.declared.fact.Fact.{Fact}
 use Rattle.rpc_base.specs.declared.limits.Limits.{Limits}
 use Rattle.rpc_base.specs.declared.owner.Owner.TheVariants.{Ask}
@@ -38,13 +43,15 @@ use Rattle.rpc_laws.specs.declared.tables.Queued.{Queued}
 use Rattle.rpc_laws.specs.declared.tables.Server.{Server}
 use Rattle.rpc_laws.specs.declared.tables.Timed.{Timed}
 use Rattle.rpc_laws.specs.Calls.{is_call, is_active, moved, took_reply, asked_packets, with_reply}
-use Rattle.rpc_laws.specs.ClientTable.{call_ending, client_row, end_facts, end_row, progress_ending, reply_facts}
+use Rattle.rpc_laws.specs.ClientTable.{call_ending, client_row, end_facts, end_row, progress_ending}
+use Rattle.rpc_laws.specs.ClientTable.{reply_facts}
 use Rattle.rpc_laws.specs.Facts.{plain, with_bytes}
 use Rattle.rpc_laws.specs.Front.{front_header, front_body}
 use Rattle.rpc_laws.specs.NodeLists.{after, after_all}
 use Rattle.rpc_laws.specs.PollOrder.{replies_facts}
 use Rattle.rpc_laws.specs.Queues.{is_queued}
-use Rattle.rpc_laws.specs.Sessions.{is_client, is_connected, is_live, has_call, ends, takes, clients_after}
+use Rattle.rpc_laws.specs.Sessions.{is_client, is_connected, is_live, has_call, ends, takes}
+use Rattle.rpc_laws.specs.Sessions.{clients_after}
 use Rattle.rpc_outside.specs.Recording.{Grew}
 use Rattle.node_laws.specs.Kept.{Kept}
 use Rattle.node_laws.specs.Valid.{client_no, holders}
@@ -66,7 +73,9 @@ use Rattle.endpoint_loop.proofs.PostLemmas.{first-at, only-at}
 
 -- a call whose number stays
 module _ (p : Call → Bool) (g : Call → Call) (same : (c : Call) → (g c).what ≡ c.what) (n : ℕ) where
-  any-cons : (c : Call) (cs : List Call) (b : Bool) → list_any (is_call n) (at_first p g cs) ≡ list_any (is_call n) cs → list_any (is_call n) (cond b (g c ∷ cs) (c ∷ at_first p g cs)) ≡ list_any (is_call n) (c ∷ cs)
+  any-cons : (c : Call) (cs : List Call) (b : Bool) → list_any (is_call n)
+      (at_first p g cs) ≡ list_any (is_call n) cs → list_any (is_call n)
+      (cond b (g c ∷ cs) (c ∷ at_first p g cs)) ≡ list_any (is_call n) (c ∷ cs)
   any-cons c cs true ih = rw (same c) refl
   any-cons c cs false ih = ap (λ b. is_call n c || b) ih
 
@@ -79,7 +88,8 @@ or-true true = refl
 or-true false = refl
 
 module _ (p q : Call → Bool) (c : Call) where
-  found-cons : (y : Call) (ys : List Call) (b : Bool) → cond b (Some y) (find p ys) ≡ Some c → q c ≡ true → (find p ys ≡ Some c → list_any q ys ≡ true) → (q y || list_any q ys) ≡ true
+  found-cons : (y : Call) (ys : List Call) (b : Bool) → cond b (Some y) (find p ys) ≡ Some c
+      → q c ≡ true → (find p ys ≡ Some c → list_any q ys ≡ true) → (q y || list_any q ys) ≡ true
   found-cons y ys true e t ih = let same : y ≡ c = cc in rw (ap q same ∙ t) refl
   found-cons y ys false e t ih = rw (ih e) (or-true (q y))
 
@@ -92,7 +102,9 @@ abbrev front-event : Event → List Fact → Event
 front-event e [] = e
 front-event e (f ∷ fs) = f.event
 
-row-number : (me number : ℕ) (parts : List ℕ) (row : EndRow) (call : ℕ) (o : Outcome) (bytes : List ℕ) → end_facts me number parts row ≡ with_bytes me (end_event call o) bytes ∷ [] → number ≡ call
+row-number : (me number : ℕ) (parts : List ℕ) (row : EndRow) (call : ℕ) (o : Outcome)
+    (bytes : List ℕ) → end_facts me number parts row ≡ with_bytes me (end_event call o) bytes ∷ []
+    → number ≡ call
 row-number me number parts GoesOn call o bytes e = cc
 row-number me number parts EndsOk call EndedOk bytes e =
     let same : DoneOk number ≡ DoneOk call = ap (front-event (DoneOk number)) e in cc
@@ -107,23 +119,29 @@ row-number me number parts (EndsTooSmall n) call (TooSmall size) bytes e =
 row-number me number parts (EndsTooSmall n) call PeerLost bytes e =
     let same : DoneTooSmall number n ≡ DonePeerLost call = ap (front-event (DoneOk number)) e in cc
 
-progress-number : (me : ℕ) (h : MessageHeader) (body : List ℕ) (c : Call) (d : Done) (o : Option Progress) → progress_ending me c.what h body o ≡ done_fact me d ∷ [] → c.what.number ≡ d.call
+progress-number : (me : ℕ) (h : MessageHeader) (body : List ℕ) (c : Call) (d : Done)
+    (o : Option Progress) → progress_ending me c.what h body o ≡ done_fact me d ∷ []
+    → c.what.number ≡ d.call
 progress-number me h body c d None e = cc
 progress-number me h body c d (Some p) e =
     let q = with_reply h body p in
     row-number me c.what.number q.parts (end_row _ (asked_packets c.what) c.what.room q.got q.answer) d.call d.outcome _ e
 
-ended-here : (me : ℕ) (h : MessageHeader) (body : List ℕ) (x : Client) (d : Done) (o : Option Call) → find (is_active h.request) x.calls ≡ o → call_ending me h body o ≡ done_fact me d ∷ [] → has_call d.call x ≡ true
+ended-here : (me : ℕ) (h : MessageHeader) (body : List ℕ) (x : Client) (d : Done) (o : Option Call)
+    → find (is_active h.request) x.calls ≡ o → call_ending me h body o ≡ done_fact me d ∷ []
+    → has_call d.call x ≡ true
 ended-here me h body x d None f e = cc
 ended-here me h body x d (Some c) f e =
     found-any (is_active h.request) (is_call d.call) c x.calls f (eq-eqb c.what.number d.call (progress-number me h body c d c.progress e))
 
 -- a session that takes a reply is live
-row-connected : (b : Bool) (why : DropReason) (r : ClientRow) → cond (not b) (DropsRow why) r ≡ Takes → b ≡ true
+row-connected : (b : Bool) (why : DropReason) (r : ClientRow) → cond (not b)
+    (DropsRow why) r ≡ Takes → b ≡ true
 row-connected true why r e = refl
 row-connected false why r e = cc
 
-took-live : (queue : List Queued) (x : Client) (peer : ℕ) (h : MessageHeader) (len : ℕ) → client_row queue (Some x) peer h len ≡ Takes → is_live x.state ≡ true
+took-live : (queue : List Queued) (x : Client) (peer : ℕ) (h : MessageHeader) (len : ℕ)
+    → client_row queue (Some x) peer h len ≡ Takes → is_live x.state ≡ true
 took-live queue x peer h len e = connected-live x.state (row-connected (is_connected x.state) NoSession _ e)
 
 live-frees : (b : Bool) (n : ℕ) → b ≡ true → b ≡ false → n ≡ 0
@@ -138,7 +156,8 @@ cond-one : (b : Bool) (x y z : Client) → b ≡ true → cond b (x ∷ []) (y �
 cond-one true x y z t e = cc
 cond-one false x y z t e = cc
 
-set-twice : (xs : List Client) (i : ℕ) (x y : Client) → slice_set (slice_set xs i x) i y ≡ slice_set xs i y
+set-twice : (xs : List Client) (i : ℕ) (x y : Client)
+    → slice_set (slice_set xs i x) i y ≡ slice_set xs i y
 set-twice [] i x y = refl
 set-twice (z ∷ xs) zero x y = refl
 set-twice (z ∷ xs) (suc i) x y = ap (λ (zs : List Client). z ∷ zs) (set-twice xs i x y)
@@ -148,41 +167,53 @@ none-read : message_of [] ≡ None
 unfolding decoded
 none-read = refl
 
-pub some-front : (ds : List DatagramValue) (h : MessageHeader) (o : Option DatagramValue) → o ≡ slice_get ds 0 → o ≡ None → front_header (map arrival_of ds) ≡ Some h → ⊥
+pub some-front : (ds : List DatagramValue) (h : MessageHeader) (o : Option DatagramValue)
+    → o ≡ slice_get ds 0 → o ≡ None → front_header (map arrival_of ds) ≡ Some h → ⊥
 some-front [] h o e n front = let none : None ≡ Some h = sym none-read ∙ front in cc
 some-front (d ∷ ds) h o e n front = cc
 
-front-there : (ds : List DatagramValue) (d : DatagramValue) → slice_get ds 0 ≡ Some d → slice_get (map arrival_of ds) 0 ≡ Some (arrival_of d)
+front-there : (ds : List DatagramValue) (d : DatagramValue) → slice_get ds 0 ≡ Some d
+    → slice_get (map arrival_of ds) 0 ≡ Some (arrival_of d)
 front-there [] d e = cc
 front-there (y ∷ ds) d e = let same : y ≡ d = cc in ap (λ (z : DatagramValue). Some (arrival_of z)) same
 
-pub body-there : (ds : List DatagramValue) (d : DatagramValue) → slice_get ds 0 ≡ Some d → front_body (map arrival_of ds) ≡ body_of d.bytes
+pub body-there : (ds : List DatagramValue) (d : DatagramValue) → slice_get ds 0 ≡ Some d
+    → front_body (map arrival_of ds) ≡ body_of d.bytes
 body-there [] d e = cc
 body-there (y ∷ ds) d e = let same : y ≡ d = cc in ap (λ (z : DatagramValue). body_of z.bytes) same
 
 -- a reply by another name of its peer, its body and what it did
-pub as-told : (i clock p q : ℕ) (h : MessageHeader) (b c : List ℕ) (w : Bool) (r : Reply) (xs ys : List Client) → p ≡ q → b ≡ c → RepliesAt i clock p h b w r xs ys → RepliesAt i clock q h c w r xs ys
+pub as-told : (i clock p q : ℕ) (h : MessageHeader) (b c : List ℕ) (w : Bool) (r : Reply)
+    (xs ys : List Client) → p ≡ q → b ≡ c → RepliesAt i clock p h b w r xs ys
+    → RepliesAt i clock q h c w r xs ys
 as-told i clock p q h b c w r xs ys e f a = rw (← e, ← f) a
 
-module _ (me : ℕ) (limits : Limits) (tallies : Tallies) (paces : List Pace) (jobs : Jobs) (clock : ℕ) (rx : Ring DatagramValue) (s : Shown) where
+module _ (me : ℕ) (limits : Limits) (tallies : Tallies) (paces : List Pace) (jobs : Jobs)
+    (clock : ℕ) (rx : Ring DatagramValue) (s : Shown) where
   abbrev seen : Ring DatagramValue → Shown → Timed
   seen q u = seen_node me limits tallies paces jobs clock q u
 
   abbrev old : Lists
   old = (seen rx s).lists
 
-  module _ (fits : Fits (seen rx s) s.size s.places) (h : MessageHeader) (d : DatagramValue) (header : front_header (map arrival_of rx.items) ≡ Some h) (here : slice_get rx.items 0 ≡ Some d) where
+  module _ (fits : Fits (seen rx s) s.size s.places) (h : MessageHeader) (d : DatagramValue)
+      (header : front_header (map arrival_of rx.items) ≡ Some h)
+      (here : slice_get rx.items 0 ≡ Some d) where
     is-front : slice_get old.ring 0 ≡ Some (arrival_of d)
     is-front = front-there rx.items d here
 
     body-here : front_body (map arrival_of rx.items) ≡ body_of d.bytes
     body-here = body-there rx.items d here
 
-    all-allowed : (x : List Fact) → x ≡ replies_facts old d.peer h (body_of d.bytes) → AllAllowed clock old x
+    all-allowed : (x : List Fact) → x ≡ replies_facts old d.peer h (body_of d.bytes)
+        → AllAllowed clock old x
     all-allowed x is = rw (is, ← body-here) (replies-allowed clock old fits.kept.valid h header d.peer)
 
     module _ {R : Type 0} (facts : R → Option (List Fact)) (whole : R → Bool) (before now : R) where
-      dropped : (why : DropReason) (u : Timed) → replies_facts old d.peer h (body_of d.bytes) ≡ plain me (Dropped why) ∷ [] → Makes facts whole (Drops why) (seen rx s) u before now → Makes facts whole (HearsReply h None) (seen rx s) u before now
+      dropped : (why : DropReason) (u : Timed)
+          → replies_facts old d.peer h (body_of d.bytes) ≡ plain me (Dropped why) ∷ []
+          → Makes facts whole (Drops why) (seen rx s) u before now
+          → Makes facts whole (HearsReply h None) (seen rx s) u before now
       dropped why u is makes = record {
         noted = makes.noted;
         grew = makes.grew;
@@ -196,12 +227,15 @@ module _ (me : ℕ) (limits : Limits) (tallies : Tallies) (paces : List Pace) (j
       }
 
       -- where there is no such session
-      pub node-unheard : (u : Timed) → length s.clients ≤ h.session → Makes facts whole (Drops NoSession) (seen rx s) u before now → Makes facts whole (HearsReply h None) (seen rx s) u before now
+      pub node-unheard : (u : Timed) → length s.clients ≤ h.session
+          → Makes facts whole (Drops NoSession) (seen rx s) u before now
+          → Makes facts whole (HearsReply h None) (seen rx s) u before now
       node-unheard u past makes =
           let none : find (is_client h.session) s.clients ≡ None = sym (numbered-get client_no 0 h.session h.session s.clients fits.kept.valid.numbered (omega arith)) ∙ slice_get_past s.clients h.session past in
           dropped NoSession u (rw none refl) makes
 
-    module _ (i : ℕ) (number : h.session ≡ i) (t : Shown) (servers : t.servers ≡ s.servers) (queued : t.queued ≡ s.queued) (size : t.size ≡ s.size) (places : t.places ≡ s.places) where
+    module _ (i : ℕ) (number : h.session ≡ i) (t : Shown) (servers : t.servers ≡ s.servers)
+        (queued : t.queued ≡ s.queued) (size : t.size ≡ s.size) (places : t.places ≡ s.places) where
       abbrev waits : Bool
       waits = list_any (is_queued (Ask h.session h.request) h.number) s.queued
 
@@ -237,7 +271,9 @@ module _ (me : ℕ) (limits : Limits) (tallies : Tallies) (paces : List Pace) (j
         pub fits-dropped : Fits (seen rx t) t.size t.places
         fits-dropped = rw (unchanged, servers, queued, size, places) fits
 
-        pub node-dropped : {R : Type 0} (facts : R → Option (List Fact)) (whole : R → Bool) (before now : R) (u : Timed) → Makes facts whole (Drops why) (seen rx t) u before now → Makes facts whole (HearsReply h None) (seen rx s) u before now
+        pub node-dropped : {R : Type 0} (facts : R → Option (List Fact)) (whole : R → Bool)
+            (before now : R) (u : Timed) → Makes facts whole (Drops why) (seen rx t) u before now
+            → Makes facts whole (HearsReply h None) (seen rx s) u before now
         node-dropped facts whole before now u makes =
             dropped facts whole before now why u (by-row (DroppedReply why) p) (subst (λ (z : Timed). Makes facts whole (Drops why) z u before now) same-node makes)
 
@@ -272,7 +308,10 @@ module _ (me : ℕ) (limits : Limits) (tallies : Tallies) (paces : List Pace) (j
               buffers = omega (arith, ap (λ (zs : List Client). length zs) p.changed, length-set s.clients i p.later, ap (λ (vs : List Server). length vs) servers, places, fits.buffers);
             }
 
-        took-as : {R : Type 0} (facts : R → Option (List Fact)) (whole : R → Bool) (before now : R) (a b k : ℕ) → a ≡ h.session → b ≡ h.request → k ≡ h.number → Grew facts whole before now (plain me (Took (Ask a b) k) ∷ []) → Grew facts whole before now (took ∷ [])
+        took-as : {R : Type 0} (facts : R → Option (List Fact)) (whole : R → Bool) (before now : R)
+            (a b k : ℕ) → a ≡ h.session → b ≡ h.request → k ≡ h.number
+            → Grew facts whole before now (plain me (Took (Ask a b) k) ∷ [])
+            → Grew facts whole before now (took ∷ [])
         took-as facts whole before now a b k session request packet grew = rw (← session, ← request, ← packet) grew
 
         goes-took : t.clients ≡ mid.clients → seen q t ≡ record { lists = mid; clock = clock }
@@ -292,7 +331,10 @@ module _ (me : ℕ) (limits : Limits) (tallies : Tallies) (paces : List Pace) (j
           pub fits-took : Fits (seen q t) t.size t.places
           fits-took = fits-taken (took ∷ []) TookReply p refl facts-took (goes-took clients-took) (subst CallsAscend later-took (ascends-T TookReply p)) (ap (λ (z : Client). z.state) (sym later-took))
 
-          pub node-took : {R : Type 0} (facts : R → Option (List Fact)) (whole : R → Bool) (before now : R) (a b k : ℕ) → a ≡ h.session → b ≡ h.request → k ≡ h.number → Grew facts whole before now (plain me (Took (Ask a b) k) ∷ []) → Makes facts whole (HearsReply h None) (seen rx s) (seen q t) before now
+          pub node-took : {R : Type 0} (facts : R → Option (List Fact)) (whole : R → Bool)
+              (before now : R) (a b k : ℕ) → a ≡ h.session → b ≡ h.request → k ≡ h.number
+              → Grew facts whole before now (plain me (Took (Ask a b) k) ∷ [])
+              → Makes facts whole (HearsReply h None) (seen rx s) (seen q t) before now
           node-took facts whole before now a b k session request packet grew = record {
             noted = took ∷ [];
             grew = took-as facts whole before now a b k session request packet grew;
@@ -305,7 +347,10 @@ module _ (me : ℕ) (limits : Limits) (tallies : Tallies) (paces : List Pace) (j
             };
           }
 
-        told-done : (call : ℕ) (o : Outcome) (bytes : List ℕ) (head : Option MessageHeader) (b : List ℕ) (xs : List Client) → clients_after clock (end_event call o) bytes head b xs ≡ at_first (has_call call) (ends call) xs
+        told-done : (call : ℕ) (o : Outcome) (bytes : List ℕ) (head : Option MessageHeader)
+            (b : List ℕ) (xs : List Client)
+            → clients_after clock (end_event call o) bytes head b xs ≡ at_first (has_call call)
+            (ends call) xs
         told-done call EndedOk bytes head b xs = refl
         told-done call (TooSmall n) bytes head b xs = refl
         told-done call PeerLost bytes head b xs = refl
@@ -351,7 +396,13 @@ module _ (me : ℕ) (limits : Limits) (tallies : Tallies) (paces : List Pace) (j
           pub fits-ended : Fits (seen q t) t.size t.places
           fits-ended = fits-taken (took ∷ done_fact me o ∷ []) (Ended o) p refl facts-ended (goes-done o.call o.outcome (end_bytes o.outcome o.resp) clients-ended) (subst CallsAscend later-ended (ascends-without (is_call o.call) (T (Ended o) p).calls (ascends-T (Ended o) p))) (ap (λ (z : Client). z.state) (sym later-ended))
 
-          pub node-ended : {R : Type 0} (facts : R → Option (List Fact)) (whole : R → Bool) (before between now : R) (a b k : ℕ) (event : Event) (bytes : List ℕ) → a ≡ h.session → b ≡ h.request → k ≡ h.number → event ≡ done_event o → bytes ≡ end_bytes o.outcome o.resp → Grew facts whole before between (plain me (Took (Ask a b) k) ∷ []) → Grew facts whole between now (with_bytes me event bytes ∷ []) → Makes facts whole (HearsReply h (Some o)) (seen rx s) (seen q t) before now
+          pub node-ended : {R : Type 0} (facts : R → Option (List Fact)) (whole : R → Bool)
+              (before between now : R) (a b k : ℕ) (event : Event) (bytes : List ℕ) → a ≡ h.session
+              → b ≡ h.request → k ≡ h.number → event ≡ done_event o
+              → bytes ≡ end_bytes o.outcome o.resp
+              → Grew facts whole before between (plain me (Took (Ask a b) k) ∷ [])
+              → Grew facts whole between now (with_bytes me event bytes ∷ [])
+              → Makes facts whole (HearsReply h (Some o)) (seen rx s) (seen q t) before now
           node-ended facts whole before between now a b k event bytes session request packet is_event is_bytes one two = record {
             noted = took ∷ done_fact me o ∷ [];
             grew = grew-then facts whole before between now (took ∷ []) (done_fact me o ∷ []) (took-as facts whole before between a b k session request packet one) (rw (← is_event, ← is_bytes) two);
@@ -365,10 +416,12 @@ module _ (me : ℕ) (limits : Limits) (tallies : Tallies) (paces : List Pace) (j
           }
 
 -- the header of the front of the ring
-pub none-front : (ds : List DatagramValue) → slice_get ds 0 ≡ None → front_header (map arrival_of ds) ≡ None
+pub none-front : (ds : List DatagramValue) → slice_get ds 0 ≡ None
+    → front_header (map arrival_of ds) ≡ None
 none-front [] e = none-read
 none-front (d ∷ ds) e = cc
 
-pub head-there : (ds : List DatagramValue) (d : DatagramValue) → slice_get ds 0 ≡ Some d → front_header (map arrival_of ds) ≡ message_of d.bytes
+pub head-there : (ds : List DatagramValue) (d : DatagramValue) → slice_get ds 0 ≡ Some d
+    → front_header (map arrival_of ds) ≡ message_of d.bytes
 head-there [] d e = cc
 head-there (y ∷ ds) d e = let same : y ≡ d = cc in ap (λ (z : DatagramValue). message_of z.bytes) same

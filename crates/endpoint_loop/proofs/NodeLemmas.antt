@@ -1,5 +1,6 @@
 -- What a step of the store is for the node, once its fact is noted.
-use Rattle.std.proofs.Common.{◌≡◌, ℕ, ◌≤◌, Bool, Option, Some, None, List, [], ◌∷◌, ◌++◌, length, refl, ap, ◌∙◌, arith}
+use Rattle.std.proofs.Common.{◌≡◌, ℕ, ◌≤◌, Bool, Option, Some, None, List, [], ◌∷◌, ◌++◌, length}
+use Rattle.std.proofs.Common.{refl, ap, ◌∙◌, arith}
 use Rattle.std.specs.Prelude.{option_and_then, slice_set}
 use Rattle.std.proofs.lemmas.List.{length-set}
 use Rattle.rpc_base.specs.Tables.{at_first}
@@ -35,17 +36,23 @@ use Rattle.endpoint_loop.specs.Fits.{Fits, FreesNone, IsReady}
 use Rattle.endpoint_loop.specs.Noting.{Makes}
 use Rattle.endpoint_loop.specs.Seen.{Tallies, seen_node}
 use Rattle.endpoint_loop.proofs.FitsLemmas.{put-behind, replies-ask}
-use Rattle.endpoint_loop.proofs.PostLemmas.{ascends-begun, ascends-posted, begins-told, none-paced, paces-stay, posts-told}
+use Rattle.endpoint_loop.proofs.PostLemmas.{ascends-begun, ascends-posted, begins-told, none-paced}
+use Rattle.endpoint_loop.proofs.PostLemmas.{paces-stay, posts-told}
 
-module _ {R : Type 0} (facts : R → Option (List Fact)) (whole : R → Bool) (i me : ℕ) (limits : Limits) (tallies : Tallies) (paces : List Pace) (jobs : Jobs) (clock : ℕ) (rx : Ring DatagramValue) (s t : Shown) (before now : R) where
+module _ {R : Type 0} (facts : R → Option (List Fact)) (whole : R → Bool) (i me : ℕ)
+    (limits : Limits) (tallies : Tallies) (paces : List Pace) (jobs : Jobs) (clock : ℕ)
+    (rx : Ring DatagramValue) (s t : Shown) (before now : R) where
   abbrev seen : Shown → Timed
   seen u = seen_node me limits tallies paces jobs clock rx u
 
-  module _ (fits : Fits (seen s) s.size s.places) (servers : t.servers ≡ s.servers) (size : t.size ≡ s.size) (places : t.places ≡ s.places) where
+  module _ (fits : Fits (seen s) s.size s.places) (servers : t.servers ≡ s.servers)
+      (size : t.size ≡ s.size) (places : t.places ≡ s.places) where
     same-length : (xs ys : List Client) (x : Client) → ys ≡ slice_set xs i x → length ys ≡ length xs
     same-length xs ys x e = ap (λ (zs : List Client). length zs) e ∙ length-set xs i x
 
-    module _ (e : EntryValue) (at : PostsAt i (Some (packet_of_entry e)) s.clients t.clients) (queued : t.queued ≡ s.queued ++ queued_of e ∷ []) (owner : e.owner ≡ Ask i (request_in e.owner)) where
+    module _ (e : EntryValue) (at : PostsAt i (Some (packet_of_entry e)) s.clients t.clients)
+        (queued : t.queued ≡ s.queued ++ queued_of e ∷ [])
+        (owner : e.owner ≡ Ask i (request_in e.owner)) where
       abbrev r : ℕ
       r = request_in e.owner
 
@@ -72,7 +79,9 @@ module _ {R : Type 0} (facts : R → Option (List Fact)) (whole : R → Bool) (i
       goes =
           rw (told.0, queue, servers, none-paced i paces fits.unpaced, paces-stay i _ paces fits.unpaced, put-behind entry s.queued refl fits.ready) refl
 
-      pub node-posted : (o : Owner) (k : ℕ) → o ≡ e.owner → k ≡ e.number → Grew facts whole before now (plain me (Posted o k) ∷ []) → Makes facts whole (NotesNext (next_posted i)) (seen s) (seen t) before now
+      pub node-posted : (o : Owner) (k : ℕ) → o ≡ e.owner → k ≡ e.number
+          → Grew facts whole before now (plain me (Posted o k) ∷ [])
+          → Makes facts whole (NotesNext (next_posted i)) (seen s) (seen t) before now
       node-posted o k is number grew = record {
         noted = plain me event ∷ [];
         grew = rw (← owner, ← is, ← number) grew;
@@ -91,7 +100,8 @@ module _ {R : Type 0} (facts : R → Option (List Fact)) (whole : R → Bool) (i
         buffers = omega (arith, same-length s.clients t.clients (posts r e.number at.client) at.changed, ap (λ (vs : List Server). length vs) servers, places, fits.buffers);
       }
 
-    module _ (p : ℕ × ℕ) (at : BeginsAt i (Some p) s.clients t.clients) (queued : t.queued ≡ s.queued) where
+    module _ (p : ℕ × ℕ) (at : BeginsAt i (Some p) s.clients t.clients)
+        (queued : t.queued ≡ s.queued) where
       abbrev began : Event
       began = Begun p.0 p.1
 
@@ -102,7 +112,8 @@ module _ {R : Type 0} (facts : R → Option (List Fact)) (whole : R → Bool) (i
           few : (c : ℕ) → holders c s.clients ≤ 1
           few c = omega (arith, fits.kept.valid.once c)
 
-      pub node-begun : Grew facts whole before now (plain me began ∷ []) → Makes facts whole (NotesNext (next_begun i)) (seen s) (seen t) before now
+      pub node-begun : Grew facts whole before now (plain me began ∷ [])
+          → Makes facts whole (NotesNext (next_begun i)) (seen s) (seen t) before now
       node-begun grew = record {
         noted = plain me began ∷ [];
         grew = grew;

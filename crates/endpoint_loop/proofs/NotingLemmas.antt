@@ -1,5 +1,6 @@
 -- What steps note, one after another.
-use Rattle.std.proofs.Common.{◌≡◌, ℕ, suc, ◌+◌, Bool, true, false, Option, Some, None, List, [], ◌∷◌, ◌++◌, refl, sym, ap, subst, ◌∙◌, append_assoc, append-nil, arith}
+use Rattle.std.proofs.Common.{◌≡◌, ℕ, suc, ◌+◌, Bool, true, false, Option, Some, None, List, []}
+use Rattle.std.proofs.Common.{◌∷◌, ◌++◌, refl, sym, ap, subst, ◌∙◌, append_assoc, append-nil, arith}
 use Rattle.std.specs.Prelude.{option_map}
 use Rattle.rpc_base.specs.declared.event.Event.{Event}
 use Rattle.rpc_base.specs.declared.fact.Fact.{Fact}
@@ -15,29 +16,35 @@ module _ {R : Type 0} (facts : R → Option (List Fact)) (whole : R → Bool) wh
   pub makes-none : (P : Rel) (a : Timed) (r : R) → Makes facts whole (Chain P) a a r r
   makes-none P a r = record { noted = []; grew = grew-none facts whole r; step = none }
 
-  pub makes-more : (P : Rel) (a b c : Timed) (f g h : R) → Makes facts whole (Chain P) a b f g → Makes facts whole P b c g h → Makes facts whole (Chain P) a c f h
+  pub makes-more : (P : Rel) (a b c : Timed) (f g h : R) → Makes facts whole (Chain P) a b f g
+      → Makes facts whole P b c g h → Makes facts whole (Chain P) a c f h
   makes-more P a b c f g h p q = record {
     noted = p.noted ++ q.noted;
     grew = grew-then facts whole f g h p.noted q.noted p.grew q.grew;
     step = more p.step q.noted c q.step;
   }
 
-  pub makes-until : (P : Rel) (Over : Timed → Type 0) (a b : Timed) (f g : R) → Makes facts whole (Chain P) a b f g → Over b → Makes facts whole (Until P Over) a b f g
+  pub makes-until : (P : Rel) (Over : Timed → Type 0) (a b : Timed) (f g : R)
+      → Makes facts whole (Chain P) a b f g → Over b → Makes facts whole (Until P Over) a b f g
   makes-until P Over a b f g p over = record { noted = p.noted; grew = p.grew; step = record { steps = p.step; over = over } }
 
-  pub makes-then : (P Q : Rel) (a b c : Timed) (f g h : R) → Makes facts whole P a b f g → Makes facts whole Q b c g h → Makes facts whole (Then P Q) a c f h
+  pub makes-then : (P Q : Rel) (a b c : Timed) (f g h : R) → Makes facts whole P a b f g
+      → Makes facts whole Q b c g h → Makes facts whole (Then P Q) a c f h
   makes-then P Q a b c f g h p q = record {
     noted = p.noted ++ q.noted;
     grew = grew-then facts whole f g h p.noted q.noted p.grew q.grew;
     step = record { between = b; front = p.noted; back = q.noted; joined = refl; first = p.step; second = q.step };
   }
 
-  pub makes-visit : (P : ℕ → Rel) (n : ℕ) (a b c : Timed) (f g h : R) → Makes facts whole (Visits P n) a b f g → Makes facts whole (P n) b c g h → Makes facts whole (Visits P (n + 1)) a c f h
+  pub makes-visit : (P : ℕ → Rel) (n : ℕ) (a b c : Timed) (f g h : R)
+      → Makes facts whole (Visits P n) a b f g → Makes facts whole (P n) b c g h
+      → Makes facts whole (Visits P (n + 1)) a c f h
   makes-visit P n a b c f g h p q =
       let e : n + 1 ≡ suc n = omega arith in
       rw e (makes-then (Visits P n) (P n) a b c f g h p q)
 
-  pub notes-one : (next : Lists → Option Event) (went : Bool) (a b : Timed) (f g : R) → went ≡ true → NotesOne facts whole next went a b f g → Makes facts whole (NotesNext next) a b f g
+  pub notes-one : (next : Lists → Option Event) (went : Bool) (a b : Timed) (f g : R) → went ≡ true
+      → NotesOne facts whole next went a b f g → Makes facts whole (NotesNext next) a b f g
   notes-one next true a b f g e p = p
   notes-one next false a b f g e p = cc
 
@@ -50,18 +57,23 @@ took-none : (o : Option (List Carried)) → o ≡ option_map (λ ds. ds ++ []) o
 took-none None = refl
 took-none (Some ds) = ap Some (sym (append-nil ds))
 
-took-then : (o : Option (List Carried)) (x y : List Carried) → option_map (λ ds. ds ++ y) (option_map (λ ds. ds ++ x) o) ≡ option_map (λ ds. ds ++ (x ++ y)) o
+took-then : (o : Option (List Carried)) (x y : List Carried) → option_map (λ ds. ds ++ y)
+    (option_map (λ ds. ds ++ x) o) ≡ option_map (λ ds. ds ++ (x ++ y)) o
 took-then None x y = refl
 took-then (Some ds) x y = ap Some (append_assoc ds x y)
 
-module _ {R L : Type 0} (facts : R → Option (List Fact)) (whole : R → Bool) (sent : L → Option (List Carried)) where
-  pub sent-none : (P : Rel) (a : Timed) (r : R) (l : L) → MakesSent facts whole sent (Chain P) a a r r l l
+module _ {R L : Type 0} (facts : R → Option (List Fact)) (whole : R → Bool)
+    (sent : L → Option (List Carried)) where
+  pub sent-none : (P : Rel) (a : Timed) (r : R) (l : L)
+      → MakesSent facts whole sent (Chain P) a a r r l l
   sent-none P a r l = record {
     makes = record { noted = []; grew = grew-none facts whole r; step = none };
     took = took-none (sent l);
   }
 
-  pub sent-more : (P : Rel) (a b c : Timed) (f g h : R) (k l m : L) → MakesSent facts whole sent (Chain P) a b f g k l → MakesSent facts whole sent P b c g h l m → MakesSent facts whole sent (Chain P) a c f h k m
+  pub sent-more : (P : Rel) (a b c : Timed) (f g h : R) (k l m : L)
+      → MakesSent facts whole sent (Chain P) a b f g k l → MakesSent facts whole sent P b c g h l m
+      → MakesSent facts whole sent (Chain P) a c f h k m
   sent-more P a b c f g h k l m p q = record {
     makes = record {
       noted = p.makes.noted ++ q.makes.noted;
@@ -71,7 +83,9 @@ module _ {R L : Type 0} (facts : R → Option (List Fact)) (whole : R → Bool) 
     took = q.took ∙ ap (option_map (λ ds. ds ++ sent_of q.makes.noted)) p.took ∙ took-then (sent k) (sent_of p.makes.noted) (sent_of q.makes.noted) ∙ ap (λ xs. option_map (λ ds. ds ++ xs) (sent k)) (sym (sent-append p.makes.noted q.makes.noted));
   }
 
-  pub sent-still : (P : Rel) (a b c : Timed) (f g h : R) (k l m : L) → MakesSent facts whole sent P a b f g k l → SendsNone sent b c g h l m → MakesSent facts whole sent P a c f h k m
+  pub sent-still : (P : Rel) (a b c : Timed) (f g h : R) (k l m : L)
+      → MakesSent facts whole sent P a b f g k l → SendsNone sent b c g h l m
+      → MakesSent facts whole sent P a c f h k m
   sent-still P a b c f g h k l m p q = record {
     makes = record {
       noted = p.makes.noted;
@@ -82,5 +96,7 @@ module _ {R L : Type 0} (facts : R → Option (List Fact)) (whole : R → Bool) 
   }
 
 -- nothing came meanwhile
-pub none-comes : {L : Type 0} (waiting received : L → Option (List Carried)) (k l m : L) → NoneComes waiting received k l → NoneComes waiting received l m → NoneComes waiting received k m
+pub none-comes : {L : Type 0} (waiting received : L → Option (List Carried)) (k l m : L)
+    → NoneComes waiting received k l → NoneComes waiting received l m
+    → NoneComes waiting received k m
 none-comes waiting received k l m p q = record { waits = q.waits ∙ p.waits; stays = q.stays ∙ p.stays }

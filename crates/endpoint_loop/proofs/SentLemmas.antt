@@ -1,5 +1,7 @@
 -- What a sent packet is for the node.
-use Rattle.std.proofs.Common.{◌≡◌, ℕ, ◌+◌, ◌≤◌, ◌<◌, Bool, true, false, cond, ltb, Option, Some, None, List, [], ◌∷◌, ◌++◌, length, drop, refl, sym, ap, subst, ◌∙◌, arith}
+use Rattle.std.proofs.Common.{◌≡◌, ℕ, ◌+◌, ◌≤◌, ◌<◌, Bool, true, false, cond, ltb, Option, Some}
+use Rattle.std.proofs.Common.{None, List, [], ◌∷◌, ◌++◌, length, drop, refl, sym, ap, subst, ◌∙◌}
+use Rattle.std.proofs.Common.{arith}
 use Rattle.std.specs.Prelude.{◌↔◌, is_some, map, not, option_map, slice_get, IfNone, IfSome, IsTrue}
 use Rattle.std.specs.List.{AllByRecursion, find}
 use Rattle.std.proofs.lemmas.Bool.{eq-eqb}
@@ -31,13 +33,15 @@ use Rattle.packet_header.specs.Parts.{packet_count}
 use Rattle.rpc_laws.specs.Calls.{asked_packets, is_active, moved, sent_packet}
 use Rattle.rpc_laws.specs.Facts.{plain, with_two}
 use Rattle.rpc_laws.specs.NodeLists.{after}
-use Rattle.rpc_laws.specs.Packets.{IsSpelled, ask_packet, call_packet, client_packet, outgoing, reply_packet, request_packet, server_packet}
+use Rattle.rpc_laws.specs.Packets.{IsSpelled, ask_packet, call_packet, client_packet, outgoing}
+use Rattle.rpc_laws.specs.Packets.{reply_packet, request_packet, server_packet}
 use Rattle.rpc_laws.specs.PollOrder.{Closes, Sends}
 use Rattle.rpc_laws.specs.Queues.{is_due, is_queued, is_reply, made_ready, replies}
 use Rattle.rpc_laws.specs.Requests.{is_request, is_server}
 use Rattle.rpc_laws.specs.Sessions.{is_client, sends}
 use Rattle.node_laws.proofs.KeptLemmas.{kept-after}
-use Rattle.session_store.specs.Queue.{IsFront, SendsFront, SpellsFront, clients_sent, packet_in, peer_in}
+use Rattle.session_store.specs.Queue.{IsFront, SendsFront, SpellsFront, clients_sent, packet_in}
+use Rattle.session_store.specs.Queue.{peer_in}
 use Rattle.session_store.specs.Sides.{Shown, queued_of}
 use Rattle.session_store.proofs.AscendsLemmas.{ascends-changed}
 use Rattle.endpoint_loop.specs.Fits.{CallsAscend, Fits, FreesNone, IsReady, is_of_call}
@@ -45,11 +49,13 @@ use Rattle.endpoint_loop.specs.Noting.{Makes, MakesSent}
 use Rattle.endpoint_loop.specs.Seen.{Tallies, seen_node}
 
 -- a packet goes to the peer of its session
-peer-by : (way : Way) (o p : Outgoing) (b : Bool) → o.peer ≡ way.peer → p.peer ≡ way.peer → (cond b o p).peer ≡ way.peer
+peer-by : (way : Way) (o p : Outgoing) (b : Bool) → o.peer ≡ way.peer → p.peer ≡ way.peer
+    → (cond b o p).peer ≡ way.peer
 peer-by way o p true h g = h
 peer-by way o p false h g = g
 
-peer-ask : (way : Way) (r k : ℕ) (o : Option Call) (out : Outgoing) → call_packet way r k o ≡ Some out → out.peer ≡ way.peer
+peer-ask : (way : Way) (r k : ℕ) (o : Option Call) (out : Outgoing)
+    → call_packet way r k o ≡ Some out → out.peer ≡ way.peer
 peer-ask way r k None out e = cc
 peer-ask way r k (Some c) out e =
     let same : client_packet way c.what r k ≡ out = some-same (client_packet way c.what r k) out e in
@@ -58,11 +64,13 @@ peer-ask way r k (Some c) out e =
     some-same : (x y : Outgoing) → Some x ≡ Some y → x ≡ y
     some-same x y h = cc
 
-answer-peer : (way : Way) (f : List ℕ → Outgoing) (o : Option (List ℕ)) (out : Outgoing) → ((a : List ℕ) → (f a).peer ≡ way.peer) → option_map f o ≡ Some out → out.peer ≡ way.peer
+answer-peer : (way : Way) (f : List ℕ → Outgoing) (o : Option (List ℕ)) (out : Outgoing)
+    → ((a : List ℕ) → (f a).peer ≡ way.peer) → option_map f o ≡ Some out → out.peer ≡ way.peer
 answer-peer way f None out each e = cc
 answer-peer way f (Some a) out each e = let same : f a ≡ out = cc in ap (λ (p : Outgoing). p.peer) (sym same) ∙ each a
 
-peer-served : (way : Way) (k : ℕ) (q : Served) (out : Outgoing) → server_packet way q k ≡ Some out → out.peer ≡ way.peer
+peer-served : (way : Way) (k : ℕ) (q : Served) (out : Outgoing) → server_packet way q k ≡ Some out
+    → out.peer ≡ way.peer
 peer-served way k q out e = by (ltb (k + 1) (packet_count q.size)) refl
   where
     by : (b : Bool) → ltb (k + 1) (packet_count q.size) ≡ b → out.peer ≡ way.peer
@@ -72,22 +80,27 @@ peer-served way k q out e = by (ltb (k + 1) (packet_count q.size)) refl
         first o h p = let same : o ≡ out = cc in ap (λ (x : Outgoing). x.peer) (sym same) ∙ p
     by false t = answer-peer way _ q.answer out (λ a. refl) (rw t at e)
 
-peer-reply : (way : Way) (k : ℕ) (o : Option Served) (out : Outgoing) → request_packet way k o ≡ Some out → out.peer ≡ way.peer
+peer-reply : (way : Way) (k : ℕ) (o : Option Served) (out : Outgoing)
+    → request_packet way k o ≡ Some out → out.peer ≡ way.peer
 peer-reply way k None out e = cc
 peer-reply way k (Some q) out e = peer-served way k q out e
 
 some-peer : (p q : ℕ) → Some p ≡ Some q → p ≡ q
 some-peer p q h = cc
 
-peer-of-ask : (r k : ℕ) (o : Option Client) (p : ℕ) (out : Outgoing) → ask_packet r k o ≡ Some out → option_map (λ (x : Client). x.way.peer) o ≡ Some p → out.peer ≡ p
+peer-of-ask : (r k : ℕ) (o : Option Client) (p : ℕ) (out : Outgoing) → ask_packet r k o ≡ Some out
+    → option_map (λ (x : Client). x.way.peer) o ≡ Some p → out.peer ≡ p
 peer-of-ask r k None p out e h = cc
 peer-of-ask r k (Some x) p out e h = peer-ask x.way r k (find (is_active r) x.calls) out e ∙ some-peer x.way.peer p h
 
-peer-of-reply : (r k : ℕ) (o : Option Server) (p : ℕ) (out : Outgoing) → reply_packet r k o ≡ Some out → option_map (λ (v : Server). v.way.peer) o ≡ Some p → out.peer ≡ p
+peer-of-reply : (r k : ℕ) (o : Option Server) (p : ℕ) (out : Outgoing)
+    → reply_packet r k o ≡ Some out → option_map (λ (v : Server). v.way.peer) o ≡ Some p
+    → out.peer ≡ p
 peer-of-reply r k None p out e h = cc
 peer-of-reply r k (Some v) p out e h = peer-reply v.way k (find (is_request r) v.slots) out e ∙ some-peer v.way.peer p h
 
-peer-of : (s : Shown) (o : Owner) (k p : ℕ) (out : Outgoing) → packet_in s o k ≡ Some out → peer_in s o ≡ Some p → out.peer ≡ p
+peer-of : (s : Shown) (o : Owner) (k p : ℕ) (out : Outgoing) → packet_in s o k ≡ Some out
+    → peer_in s o ≡ Some p → out.peer ≡ p
 peer-of s (Ask i r) k p out e h = peer-of-ask r k (find (is_client i) s.clients) p out e h
 peer-of s (Reply t r) k p out e h = peer-of-reply r k (find (is_server t) s.servers) p out e h
 peer-of s Control k p out e h = cc
@@ -100,7 +113,8 @@ pub record Spelled (o : Option Outgoing) (head body : List ℕ) : Type 0 where
   pub same : body ≡ out.body
   pub in_range : InRange out.packet
 
-spelled-out : (o : Option Outgoing) (head body : List ℕ) → IsSpelled o head body → Spelled o head body
+spelled-out : (o : Option Outgoing) (head body : List ℕ) → IsSpelled o head body
+    → Spelled o head body
 spelled-out None head body h = absurd h
 spelled-out (Some out) head body h = record { out = out; is = refl; has_head = h.0; same = h.1; in_range = h.2 }
 
@@ -113,14 +127,16 @@ same-own Control = refl
 own-queued : (q : Queued) → is_queued q.owner q.number q ≡ true
 own-queued q = rw (same-own q.owner, eq-eqb q.number q.number refl) refl
 
-front-out : (q : Queued) (qs : List Queued) → slice_get qs 0 ≡ Some q → without_first (is_queued q.owner q.number) qs ≡ drop 1 qs
+front-out : (q : Queued) (qs : List Queued) → slice_get qs 0 ≡ Some q
+    → without_first (is_queued q.owner q.number) qs ≡ drop 1 qs
 front-out q [] e = cc
 front-out q (p ∷ ps) e =
     let same : p ≡ q = cc in
     let here : is_queued q.owner q.number p ≡ true = ap (is_queued q.owner q.number) same ∙ own-queued q in
     rw here refl
 
-front-ready : (q : Queued) (qs : List Queued) → slice_get qs 0 ≡ Some q → AllByRecursion IsReady qs → IsReady q
+front-ready : (q : Queued) (qs : List Queued) → slice_get qs 0 ≡ Some q → AllByRecursion IsReady qs
+    → IsReady q
 front-ready q [] e all = cc
 front-ready q (p ∷ ps) e all = let same : p ≡ q = cc in subst IsReady same all.0
 
@@ -135,15 +151,21 @@ fewer-replies (q ∷ qs) = more (is_reply q.owner) refl
     more : (b : Bool) → is_reply q.owner ≡ b → replies qs ≤ replies (q ∷ qs)
     more b t = omega (arith, counted-cons (λ (p : Queued). is_reply p.owner) q qs b t)
 
-front-clients : (clock : ℕ) (q : Queued) (qs : List Queued) (xs ys : List Client) → slice_get qs 0 ≡ Some q → SendsFront clock qs xs ys → ys ≡ clients_sent clock q.owner q.number xs
+front-clients : (clock : ℕ) (q : Queued) (qs : List Queued) (xs ys : List Client)
+    → slice_get qs 0 ≡ Some q → SendsFront clock qs xs ys
+    → ys ≡ clients_sent clock q.owner q.number xs
 front-clients clock q [] xs ys e h = cc
 front-clients clock q (p ∷ ps) xs ys e h = let same : p ≡ q = cc in subst (λ (z : Queued). ys ≡ clients_sent clock z.owner z.number xs) same h
 
-front-spells : (s : Shown) (q : Queued) (qs : List Queued) (head body : List ℕ) → slice_get qs 0 ≡ Some q → IfSome (slice_get qs 0) (λ p. IsSpelled (packet_in s p.owner p.number) head body) → IsSpelled (packet_in s q.owner q.number) head body
+front-spells : (s : Shown) (q : Queued) (qs : List Queued) (head body : List ℕ)
+    → slice_get qs 0 ≡ Some q → IfSome (slice_get qs 0)
+    (λ p. IsSpelled (packet_in s p.owner p.number) head body)
+    → IsSpelled (packet_in s q.owner q.number) head body
 front-spells s q [] head body e h = cc
 front-spells s q (p ∷ ps) head body e h = let same : p ≡ q = cc in subst (λ (z : Queued). IsSpelled (packet_in s z.owner z.number) head body) same h
 
-module _ (me : ℕ) (limits : Limits) (tallies : Tallies) (paces : List Pace) (jobs : Jobs) (clock : ℕ) (rx : Ring DatagramValue) (s t : Shown) where
+module _ (me : ℕ) (limits : Limits) (tallies : Tallies) (paces : List Pace) (jobs : Jobs)
+    (clock : ℕ) (rx : Ring DatagramValue) (s t : Shown) where
   abbrev seen : Shown → Timed
   seen u = seen_node me limits tallies paces jobs clock rx u
 
@@ -152,17 +174,22 @@ module _ (me : ℕ) (limits : Limits) (tallies : Tallies) (paces : List Pace) (j
   goes-by (Reply i r) k p head body call clients servers queued = rw (clients, servers, queued) refl
   goes-by Control k p head body call clients servers queued = cc
 
-  sent-kept : (P : Client → Type 0) → ((r k : ℕ) (x : Client) → P x → P (sends clock r k x)) → (o : Owner) (k : ℕ) (xs : List Client) → AllByRecursion P xs → AllByRecursion P (clients_sent clock o k xs)
+  sent-kept : (P : Client → Type 0) → ((r k : ℕ) (x : Client) → P x → P (sends clock r k x))
+      → (o : Owner) (k : ℕ) (xs : List Client) → AllByRecursion P xs
+      → AllByRecursion P (clients_sent clock o k xs)
   sent-kept P step (Ask i r) k xs all = all-kept (is_client i) (sends clock r k) P xs (λ x h e. step r k x h) all
   sent-kept P step (Reply i r) k xs all = all
   sent-kept P step Control k xs all = all
 
-  sent-long : (o : Owner) (k : ℕ) (xs : List Client) → length (clients_sent clock o k xs) ≡ length xs
+  sent-long : (o : Owner) (k : ℕ) (xs : List Client)
+      → length (clients_sent clock o k xs) ≡ length xs
   sent-long (Ask i r) k xs = length-at_first (is_client i) (sends clock r k) xs
   sent-long (Reply i r) k xs = refl
   sent-long Control k xs = refl
 
-  module _ (fits : Fits (seen s) s.size s.places) (e : EntryValue) (front : IsFront s e) (went : SendsFront clock s.queued s.clients t.clients) (servers : t.servers ≡ s.servers) (queued : t.queued ≡ drop 1 s.queued) where
+  module _ (fits : Fits (seen s) s.size s.places) (e : EntryValue) (front : IsFront s e)
+      (went : SendsFront clock s.queued s.clients t.clients) (servers : t.servers ≡ s.servers)
+      (queued : t.queued ≡ drop 1 s.queued) where
     abbrev q : Queued
     q = queued_of e
 
@@ -176,7 +203,8 @@ module _ (me : ℕ) (limits : Limits) (tallies : Tallies) (paces : List Pace) (j
     goes p head body =
         goes-by e.owner e.number p head body ready.0 changed servers (front-out q s.queued front.front ∙ sym queued)
 
-    module _ (head body : List ℕ) (long : length head ≡ 16) (bytes : AreBytes head) (spells : SpellsFront s head body) where
+    module _ (head body : List ℕ) (long : length head ≡ 16) (bytes : AreBytes head)
+        (spells : SpellsFront s head body) where
       spelled : Spelled (packet_in s e.owner e.number) head body
       spelled = spelled-out (packet_in s e.owner e.number) head body (front-spells s q s.queued head body front.front spells)
 
@@ -185,7 +213,12 @@ module _ (me : ℕ) (limits : Limits) (tallies : Tallies) (paces : List Pace) (j
       packet-is (Reply i r) k = refl
       packet-is Control k = refl
 
-      pub node-sent : {R L : Type 0} (facts : R → Option (List Fact)) (whole : R → Bool) (sent : L → Option (List Carried)) (before now : R) (from to : L) (p : ℕ) (o : Owner) (k : ℕ) → p ≡ e.peer → o ≡ e.owner → k ≡ e.number → Grew facts whole before now (with_two me (Sent p o k) head body ∷ []) → sent to ≡ option_map (λ ds. ds ++ (p, head ++ body) ∷ []) (sent from) → MakesSent facts whole sent Sends (seen s) (seen t) before now from to
+      pub node-sent : {R L : Type 0} (facts : R → Option (List Fact)) (whole : R → Bool)
+          (sent : L → Option (List Carried)) (before now : R) (from to : L) (p : ℕ) (o : Owner)
+          (k : ℕ) → p ≡ e.peer → o ≡ e.owner → k ≡ e.number
+          → Grew facts whole before now (with_two me (Sent p o k) head body ∷ [])
+          → sent to ≡ option_map (λ ds. ds ++ (p, head ++ body) ∷ []) (sent from)
+          → MakesSent facts whole sent Sends (seen s) (seen t) before now from to
       node-sent facts whole sent before now from to p o k peer-is owner-is number-is grew took =
           let peer : spelled.out.peer ≡ p = peer-of s e.owner e.number e.peer spelled.out spelled.is front.peer ∙ sym peer-is in
           record {
@@ -223,11 +256,13 @@ module _ (me : ℕ) (limits : Limits) (tallies : Tallies) (paces : List Pace) (j
     }
 
 -- one packet less is queued
-pub front-fewer : (q : Queued) (qs rs : List Queued) → slice_get qs 0 ≡ Some q → rs ≡ drop 1 qs → length rs < length qs
+pub front-fewer : (q : Queued) (qs rs : List Queued) → slice_get qs 0 ≡ Some q → rs ≡ drop 1 qs
+    → length rs < length qs
 front-fewer q [] rs e is = cc
 front-fewer q (p ∷ ps) rs e is = omega (arith, ap (λ (xs : List Queued). length xs) is)
 
-pub none-queued : (o : Option EntryValue) (s : Shown) → IfSome o (IsFront s) → IfNone o (s.queued ≡ []) → IsTrue (not (is_some o)) ↔ (s.queued ≡ [])
+pub none-queued : (o : Option EntryValue) (s : Shown) → IfSome o (IsFront s)
+    → IfNone o (s.queued ≡ []) → IsTrue (not (is_some o)) ↔ (s.queued ≡ [])
 none-queued None s front none = ((λ _. none), λ _. refl)
 none-queued (Some e) s front none = ((λ h. cc), λ empty. never s.queued empty front.front)
   where
@@ -236,7 +271,8 @@ none-queued (Some e) s front none = ((λ h. cc), λ empty. never s.queued empty 
     never (q ∷ qs) e h = cc
 
 -- what is ready stays ready at the end of a poll
-pub still-ready : (now : ℕ) (qs : List Queued) → AllByRecursion IsReady qs → map (made_ready now) qs ≡ qs
+pub still-ready : (now : ℕ) (qs : List Queued) → AllByRecursion IsReady qs
+    → map (made_ready now) qs ≡ qs
 still-ready now [] all = refl
 still-ready now (q ∷ qs) all = rw (still-one q all.0.1) (ap (λ ps. q ∷ ps) (still-ready now qs all.1))
   where
@@ -247,8 +283,13 @@ still-ready now (q ∷ qs) all = rw (still-one q all.0.1) (ap (λ ps. q ∷ ps) 
         by None e = ap (λ (x : Option ℕ). record p { due = x }) (sym e)
         by (Some n) e = cc
 
-module _ {R : Type 0} (facts : R → Option (List Fact)) (whole : R → Bool) (me : ℕ) (limits : Limits) (tallies : Tallies) (paces : List Pace) (jobs : Jobs) (clock : ℕ) (rx : Ring DatagramValue) (s : Shown) (before now : R) (fits : Fits (seen_node me limits tallies paces jobs clock rx s) s.size s.places) where
-  pub node-closed : Grew facts whole before now (plain me (Polled clock) ∷ []) → Makes facts whole Closes (seen_node me limits tallies paces jobs clock rx s) (seen_node me limits tallies paces jobs clock rx s) before now
+module _ {R : Type 0} (facts : R → Option (List Fact)) (whole : R → Bool) (me : ℕ) (limits : Limits)
+    (tallies : Tallies) (paces : List Pace) (jobs : Jobs) (clock : ℕ) (rx : Ring DatagramValue)
+    (s : Shown) (before now : R)
+    (fits : Fits (seen_node me limits tallies paces jobs clock rx s) s.size s.places) where
+  pub node-closed : Grew facts whole before now (plain me (Polled clock) ∷ [])
+      → Makes facts whole Closes (seen_node me limits tallies paces jobs clock rx s)
+      (seen_node me limits tallies paces jobs clock rx s) before now
   node-closed grew = record {
     noted = plain me (Polled clock) ∷ [];
     grew = grew;

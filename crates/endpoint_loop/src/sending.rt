@@ -1,5 +1,6 @@
 //! Step 6 of a poll: what is queued is sent.
-ghost use Rattle.std.specs.Prelude.{◌≡◌, ◌≢◌, ◌<◌, ◌↔◌, [], true, false, length, IfOk, IsTrue, OnErr};
+ghost use Rattle.std.specs.Prelude.{◌≡◌, ◌≢◌, ◌<◌, ◌↔◌, [], true, false, length, IfOk, IsTrue};
+ghost use Rattle.std.specs.Prelude.{OnErr};
 ghost use Rattle.endpoint_loop.specs.Noting.{MakesSent, SendsNone};
 ghost use Rattle.rpc_laws.specs.PollOrder.{Sends, SendsSome};
 ghost use Rattle.rpc_outside.specs.Faults.{HasCause, HasRisen};

@@ -1,5 +1,6 @@
 -- A client session that was found changes.
-use Rattle.std.proofs.Common.{◌≡◌, ℕ, ◌+◌, ◌<◌, ◌^◌, true, List, Some, None, refl, sym, ap, ◌∙◌, arith}
+use Rattle.std.proofs.Common.{◌≡◌, ℕ, ◌+◌, ◌<◌, ◌^◌, true, List, Some, None, refl, sym, ap, ◌∙◌}
+use Rattle.std.proofs.Common.{arith}
 use Rattle.std.specs.Prelude.{◌==◌}
 use Rattle.std.specs.List.{find}
 use Rattle.std.proofs.lemmas.Bool.{eqb-true}
@@ -9,7 +10,8 @@ use Rattle.rpc_base.proofs.ChangedLemmas.{same-change}
 use Rattle.rpc_base.proofs.TakingLemmas.{find-passes}
 use Rattle.rpc_base.specs.declared.state.SessionState.{SessionState}
 use Rattle.packet_header.specs.declared.packet.ControlHeader.{ControlHeader}
-use Rattle.packet_header.specs.declared.packet.ControlKind.TheVariants.{ConnectRequest, DisconnectRequest}
+use Rattle.packet_header.specs.declared.packet.ControlKind.TheVariants.{ConnectRequest}
+use Rattle.packet_header.specs.declared.packet.ControlKind.TheVariants.{DisconnectRequest}
 use Rattle.rpc_laws.specs.ControlSteps.{own_request}
 use Rattle.rpc_laws.specs.Groups.{state_of, told_state}
 use Rattle.rpc_laws.specs.NodeLists.{one_more}
@@ -18,19 +20,23 @@ use Rattle.rpc_laws.specs.declared.tables.Client.{Client}
 use Rattle.rpc_laws.specs.declared.tables.Lists.{Lists}
 use Rattle.session_mgmt.specs.declared.clients.ClientEnd.{ClientEnd}
 use Rattle.session_mgmt.specs.declared.clients.ClientState.{ClientState}
-use Rattle.session_mgmt.specs.declared.clients.ClientState.TheVariants.{Connecting, Connected, Closing, Closed, Failed, Broken}
+use Rattle.session_mgmt.specs.declared.clients.ClientState.TheVariants.{Connecting, Connected}
+use Rattle.session_mgmt.specs.declared.clients.ClientState.TheVariants.{Closing, Closed, Failed}
+use Rattle.session_mgmt.specs.declared.clients.ClientState.TheVariants.{Broken}
 use Rattle.session_mgmt.specs.ClientEnds.{client_of, free_credits, told}
 use Rattle.session_mgmt.specs.Table.{Tells, WasLive, is_asking, sent_again, with_changed}
 
 pub equal : (a b : ℕ) → a ≡ b → (a == b) ≡ true
 equal a b h = grind (arith, nat_tests)
 
-module _ (n : ℕ) (x : ClientEnd) (s : Lists) (found : find (is_client n) s.clients ≡ Some (client_of x)) where
+module _ (n : ℕ) (x : ClientEnd) (s : Lists)
+    (found : find (is_client n) s.clients ≡ Some (client_of x)) where
   pub own : x.number ≡ n
   own = eqb-true x.number n (find-passes (is_client n) s.clients (client_of x) found)
 
   -- it is live
-  pub alive : (y : ClientEnd) → is_live (told x.state) ≡ true → y.number ≡ x.number → y.credits ≡ x.credits → WasLive y s
+  pub alive : (y : ClientEnd) → is_live (told x.state) ≡ true → y.number ≡ x.number
+      → y.credits ≡ x.credits → WasLive y s
   alive y live same credits =
       let number : y.number ≡ n = same ∙ own in
       record { live = rw (number, found, live) refl; credits = rw (number, found, credits) refl }
@@ -58,7 +64,9 @@ told-so Closed = refl
 told-so Failed = refl
 told-so Broken = refl
 
-pub state-found : (n : ℕ) (x : ClientEnd) (clients : List Client) → find (is_client n) clients ≡ Some (client_of x) → state_of (find (is_client n) clients) ≡ told x.state
+pub state-found : (n : ℕ) (x : ClientEnd) (clients : List Client)
+    → find (is_client n) clients ≡ Some (client_of x)
+    → state_of (find (is_client n) clients) ≡ told x.state
 state-found n x clients found = ap state_of found ∙ told-so x.state
 
 asks-live : (state : SessionState) → is_asking state ≡ true → is_live state ≡ true
@@ -71,11 +79,14 @@ asks-live SessionState.Failed h = cc
 asks-live SessionState.Broken h = cc
 asks-live SessionState.Unknown h = cc
 
-pub asking-live : (n : ℕ) (x : ClientEnd) (clients : List Client) → find (is_client n) clients ≡ Some (client_of x) → is_asking (state_of (find (is_client n) clients)) ≡ true → is_live (told x.state) ≡ true
+pub asking-live : (n : ℕ) (x : ClientEnd) (clients : List Client)
+    → find (is_client n) clients ≡ Some (client_of x)
+    → is_asking (state_of (find (is_client n) clients)) ≡ true → is_live (told x.state) ≡ true
 asking-live n x clients found h = asks-live (told x.state) (ap is_asking (sym (state-found n x clients found)) ∙ h)
 
 -- its own request, as it is told
-module _ (n clock : ℕ) (x : ClientEnd) (s : Lists) (found : find (is_client n) s.clients ≡ Some (client_of x)) (few : x.sends + 1 < 2 ^ 64) where
+module _ (n clock : ℕ) (x : ClientEnd) (s : Lists)
+    (found : find (is_client n) s.clients ≡ Some (client_of x)) (few : x.sends + 1 < 2 ^ 64) where
   counted : one_more x.sends ≡ x.sends + 1
   counted = omega (arith, few)
 

@@ -26,12 +26,16 @@ module _ (p c n : ℕ) where
   least : (k : Place) (u : ℕ) → k.0 ≡ p → k.1 ≡ c → IsLeBy by_parts k (p, c, u) → k.2 ≤ u
   least k u e f h = grind (arith, nat_tests, h)
 
-  pub none-lower : (places : BTreeSet Place) (r rest : List Place) (k : Place) → IsKeyRangeOf by_parts start past places r → r ≡ k ∷ rest → (u : ℕ) → u < k.2 → u < n → list_any (is_at (by_parts (p, c, u))) places.keys ≡ false
+  pub none-lower : (places : BTreeSet Place) (r rest : List Place) (k : Place)
+      → IsKeyRangeOf by_parts start past places r → r ≡ k ∷ rest → (u : ℕ) → u < k.2 → u < n
+      → list_any (is_at (by_parts (p, c, u))) places.keys ≡ false
   none-lower places r rest k range e u lower below =
       let own = rw e at range.1 in
       let parts = same k own.0 in
       unless-true _ (λ t. let h = rw e at (range.2 (p, c, u) (within u below) t) in
       absurd (omega (arith, least k u parts.0 parts.1 h)))
 
-  pub none-between : (places : BTreeSet Place) (r : List Place) → IsKeyRangeOf by_parts start past places r → r ≡ [] → (u : ℕ) → u < n → list_any (is_at (by_parts (p, c, u))) places.keys ≡ false
+  pub none-between : (places : BTreeSet Place) (r : List Place)
+      → IsKeyRangeOf by_parts start past places r → r ≡ [] → (u : ℕ) → u < n
+      → list_any (is_at (by_parts (p, c, u))) places.keys ≡ false
   none-between places r range e u below = range.5 e (p, c, u) (within u below)

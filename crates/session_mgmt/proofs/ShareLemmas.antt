@@ -1,5 +1,6 @@
 -- The credits of the live sessions, where a session changes, is over or ends.
-use Rattle.std.proofs.Common.{◌≡◌, ℕ, ◌+◌, ◌-◌, ◌≤◌, Bool, true, false, if◌then◌else◌, Option, Some, None, List, refl, sym, ap, ◌∙◌, arith}
+use Rattle.std.proofs.Common.{◌≡◌, ℕ, ◌+◌, ◌-◌, ◌≤◌, Bool, true, false, if◌then◌else◌, Option, Some}
+use Rattle.std.proofs.Common.{None, List, refl, sym, ap, ◌∙◌, arith}
 use Rattle.std.specs.Prelude.{option_map, sum_by}
 use Rattle.std.specs.List.{find}
 use Rattle.rpc_base.specs.Tables.{at_first, without_first}
@@ -26,23 +27,31 @@ credits-by : (b : Bool) (n m : ℕ) → b ≡ true → n ≡ m → (if b then n 
 credits-by true n m t e = e
 credits-by false n m t e = cc
 
-found-by : (x : ClientEnd) (clients : List Client) (o : Option Client) → find (is_client x.number) clients ≡ o → option_map (λ y. is_live y.state) o ≡ Some true → option_map (λ y. y.limit) o ≡ Some x.credits → Found x clients
+found-by : (x : ClientEnd) (clients : List Client) (o : Option Client)
+    → find (is_client x.number) clients ≡ o → option_map (λ y. is_live y.state) o ≡ Some true
+    → option_map (λ y. y.limit) o ≡ Some x.credits → Found x clients
 found-by x clients None f e g = cc
 found-by x clients (Some y) f e g =
     let live : is_live y.state ≡ true = cc in
     let credits : y.limit ≡ x.credits = cc in
     record { old = y; at = f; credits = credits-by (is_live y.state) y.limit x.credits live credits }
 
-found : (x : ClientEnd) (ring : ℕ) (clients : List Client) (servers : ServerEnds) (s : Lists) → table ring clients servers ≡ s → WasLive x s → Found x clients
+found : (x : ClientEnd) (ring : ℕ) (clients : List Client) (servers : ServerEnds) (s : Lists)
+    → table ring clients servers ≡ s → WasLive x s → Found x clients
 found x ring clients servers s same was =
     let here : WasLive x (table ring clients servers) = rw same was in
     found-by x clients _ refl here.live here.credits
 
-pub was-live : (x : ClientEnd) (ring : ℕ) (clients : List Client) (servers : ServerEnds) (s : Lists) → table ring clients servers ≡ s → WasLive x s → option_map (λ y. is_live y.state) (find (is_client x.number) clients) ≡ Some true
+pub was-live : (x : ClientEnd) (ring : ℕ) (clients : List Client) (servers : ServerEnds) (s : Lists)
+    → table ring clients servers ≡ s → WasLive x s → option_map (λ y. is_live y.state)
+    (find (is_client x.number) clients) ≡ Some true
 was-live x ring clients servers s same was =
     let here : WasLive x (table ring clients servers) = rw same was in here.live
 
-module _ (x : ClientEnd) (ring n : ℕ) (clients new : List Client) (servers : ServerEnds) (s : Lists) (same : table ring clients servers ≡ s) (was : WasLive x s) (changed : new ≡ at_first (is_client x.number) (λ y. client_of x) clients) (counted : IsCounted n (table ring clients servers)) where
+module _ (x : ClientEnd) (ring n : ℕ) (clients new : List Client) (servers : ServerEnds) (s : Lists)
+    (same : table ring clients servers ≡ s) (was : WasLive x s)
+    (changed : new ≡ at_first (is_client x.number) (λ y. client_of x) clients)
+    (counted : IsCounted n (table ring clients servers)) where
   sums : sum_by live_credits new + x.credits ≡ sum_by live_credits clients + live_credits (client_of x)
   sums =
       let h = found x ring clients servers s same was in
@@ -59,7 +68,8 @@ module _ (x : ClientEnd) (ring n : ℕ) (clients new : List Client) (servers : S
   over-by true m t = cc
   over-by false m t = refl
 
-  less : is_live (told x.state) ≡ false → sum_by live_credits new + x.credits ≡ sum_by live_credits clients
+  less : is_live (told x.state) ≡ false
+      → sum_by live_credits new + x.credits ≡ sum_by live_credits clients
   less over =
       let own : live_credits (client_of x) ≡ 0 = over-by (is_live (told x.state)) x.credits over in
       omega (arith, sums, own)
@@ -68,7 +78,8 @@ module _ (x : ClientEnd) (ring n : ℕ) (clients new : List Client) (servers : S
   pub shares-above : is_live (told x.state) ≡ false → x.credits ≤ n
   shares-above over = omega (arith, less over, counted.counted)
 
-  pub counted-closed : is_live (told x.state) ≡ false → IsCounted (n - x.credits) (table ring new servers)
+  pub counted-closed : is_live (told x.state) ≡ false → IsCounted (n - x.credits)
+      (table ring new servers)
   counted-closed over =
       record { counted = omega (arith, less over, counted.counted); within = omega (arith, counted.within) }
 

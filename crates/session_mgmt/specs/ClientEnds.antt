@@ -1,5 +1,6 @@
 -- The client ends of sessions as the definitions see them, and how they are kept.
-use Rattle.std.specs.Prelude.{◌≡◌, ℕ, ◌+◌, ◌≤◌, ◌&&◌, nat_lt, Bool, true, false, Option, Some, None, List, [], ◌∷◌, map, length, slice_get}
+use Rattle.std.specs.Prelude.{◌≡◌, ℕ, ◌+◌, ◌≤◌, ◌&&◌, nat_lt, Bool, true, false, Option, Some, None}
+use Rattle.std.specs.Prelude.{List, [], ◌∷◌, map, length, slice_get}
 use Rattle.std.specs.List.{list_any}
 use Rattle.std.specs.Ordering.{nat_cmp}
 use Rattle.std.specs.BTreeMap.{is_at}
@@ -9,7 +10,9 @@ use Rattle.rpc_laws.specs.Sessions.{client_end, is_live}
 use Rattle.rpc_base.specs.declared.state.SessionState.{SessionState}
 use Rattle.session_mgmt.specs.declared.clients.ClientEnd.{ClientEnd}
 use Rattle.session_mgmt.specs.declared.clients.ClientState.{ClientState}
-use Rattle.session_mgmt.specs.declared.clients.ClientState.TheVariants.{Connecting, Connected, Closing, Closed, Failed, Broken}
+use Rattle.session_mgmt.specs.declared.clients.ClientState.TheVariants.{Connecting, Connected}
+use Rattle.session_mgmt.specs.declared.clients.ClientState.TheVariants.{Closing, Closed, Failed}
+use Rattle.session_mgmt.specs.declared.clients.ClientState.TheVariants.{Broken}
 
 abbrev pub told : ClientState → SessionState
 told Connecting = SessionState.Connecting

@@ -5,7 +5,8 @@ use Rattle.packet_header.specs.declared.packet.ControlHeader.{ControlHeader}
 use Rattle.rpc_base.specs.declared.event.Event.{Event}
 use Rattle.rpc_base.specs.declared.fact.Fact.{Fact}
 use Rattle.rpc_laws.specs.declared.rows.ControlRow.{ControlRow}
-use Rattle.rpc_laws.specs.declared.rows.ControlRow.TheVariants.{Accepts, Closes, Connects, Declines, Ends, Fails, Starves}
+use Rattle.rpc_laws.specs.declared.rows.ControlRow.TheVariants.{Accepts, Closes, Connects, Declines}
+use Rattle.rpc_laws.specs.declared.rows.ControlRow.TheVariants.{Ends, Fails, Starves}
 use Rattle.rpc_laws.specs.declared.rows.RetryRow.{RetryRow}
 use Rattle.rpc_laws.specs.declared.rows.RetryRow.TheVariants.{Asks, GivesUp, Rests}
 use Rattle.rpc_laws.specs.declared.tables.Client.{Client}
@@ -14,7 +15,9 @@ use Rattle.rpc_laws.specs.ControlSteps.{own_request, retry_row}
 use Rattle.rpc_laws.specs.ControlTable.{control_facts, control_reply, control_row}
 use Rattle.session_mgmt.specs.Table.{sessions_after}
 use Rattle.session_mgmt.specs.declared.answers.Change.{Change}
-use Rattle.session_mgmt.specs.declared.answers.Change.TheVariants.{Accepted, Closed, Connected, Declined, Ended, Nothing, Refused, Starved}
+use Rattle.session_mgmt.specs.declared.answers.Change.TheVariants.{Accepted, Closed, Connected}
+use Rattle.session_mgmt.specs.declared.answers.Change.TheVariants.{Declined, Ended, Nothing}
+use Rattle.session_mgmt.specs.declared.answers.Change.TheVariants.{Refused, Starved}
 use Rattle.session_mgmt.specs.declared.answers.Due.{Due}
 use Rattle.session_mgmt.specs.declared.answers.Due.TheVariants.{Ask, GiveUp, Idle}
 use Rattle.session_mgmt.specs.declared.answers.Verdict.{Verdict}

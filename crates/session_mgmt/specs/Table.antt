@@ -1,8 +1,10 @@
 -- The table of sessions as the tables of a node, and what its calls make of it.
-use Rattle.std.specs.Prelude.{◌≡◌, ℕ, ◌+◌, ◌<◌, ◌≤◌, ◌^◌, Bool, true, false, Option, Some, None, List, [], ◌∷◌, ◌++◌, option_map}
+use Rattle.std.specs.Prelude.{◌≡◌, ℕ, ◌+◌, ◌<◌, ◌≤◌, ◌^◌, Bool, true, false, Option, Some, None}
+use Rattle.std.specs.Prelude.{List, [], ◌∷◌, ◌++◌, option_map}
 use Rattle.std.specs.List.{find}
 use Rattle.rpc_base.specs.declared.event.Event.{Event}
-use Rattle.rpc_base.specs.declared.event.Event.TheVariants.{NcloseBusy, NcloseState, NconnectNumbers, NconnectRing}
+use Rattle.rpc_base.specs.declared.event.Event.TheVariants.{NcloseBusy, NcloseState}
+use Rattle.rpc_base.specs.declared.event.Event.TheVariants.{NconnectNumbers, NconnectRing}
 use Rattle.rpc_base.specs.declared.state.SessionState.{SessionState}
 use Rattle.rpc_base.specs.Tables.{at_first}
 use Rattle.rpc_laws.specs.declared.tables.Client.{Client}
@@ -18,7 +20,8 @@ use Rattle.session_mgmt.specs.declared.clients.ClientEnd.{ClientEnd}
 use Rattle.session_mgmt.specs.declared.answers.CloseError.{CloseError}
 use Rattle.session_mgmt.specs.declared.answers.CloseError.TheVariants.{Busy, NotConnected}
 use Rattle.session_mgmt.specs.declared.answers.ConnectError.{ConnectError}
-use Rattle.session_mgmt.specs.declared.answers.ConnectError.TheVariants.{NoMemory, NumbersSpent, RingFull}
+use Rattle.session_mgmt.specs.declared.answers.ConnectError.TheVariants.{NoMemory, NumbersSpent}
+use Rattle.session_mgmt.specs.declared.answers.ConnectError.TheVariants.{RingFull}
 
 -- a node's tables with these sessions and nothing else
 abbrev pub table : ℕ → List Client → ServerEnds → Lists

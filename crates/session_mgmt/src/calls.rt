@@ -1,13 +1,16 @@
 //! The calls by which an application opens, pairs and closes sessions, and a session's own
 //! requests.
-ghost use Rattle.std.specs.Prelude.{◌≡◌, ◌≤◌, ◌<◌, ◌+◌, ◌^◌, true, Some, None, IfErr, IfOk, OnErr, OnOk, IsSome, length};
+ghost use Rattle.std.specs.Prelude.{◌≡◌, ◌≤◌, ◌<◌, ◌+◌, ◌^◌, true, Some, None, IfErr, IfOk, OnErr};
+ghost use Rattle.std.specs.Prelude.{OnOk, IsSome, length};
 ghost use Rattle.std.specs.List.{find};
 ghost use Rattle.rpc_base.specs.Tables.{at_first};
-ghost use Rattle.rpc_laws.specs.Groups.{client_refusal, disconnect_by, pair_refusal, server_refusal, state_of};
+ghost use Rattle.rpc_laws.specs.Groups.{client_refusal, disconnect_by, pair_refusal};
+ghost use Rattle.rpc_laws.specs.Groups.{server_refusal, state_of};
 ghost use Rattle.rpc_laws.specs.Sessions.{is_client};
 ghost use Rattle.session_mgmt.specs.ClientEnds.{client_of};
 ghost use Rattle.session_mgmt.specs.Control.{due_of};
-ghost use Rattle.session_mgmt.specs.Table.{Tells, closing, given_up_by, is_asking, refused, sent_again, session_after, sessions_after};
+ghost use Rattle.session_mgmt.specs.Table.{Tells, closing, given_up_by, is_asking, refused};
+ghost use Rattle.session_mgmt.specs.Table.{sent_again, session_after, sessions_after};
 
 use crate::answers::{CloseError, ConnectError, Due};
 use crate::clients::{ClientEnd, ClientState};

@@ -1,5 +1,7 @@
 //! The client sessions by their numbers, and which of them are live.
-ghost use Rattle.std.specs.Prelude.{◌≡◌, ℕ, ◌<◌, ◌+◌, ◌++◌, ◌∷◌, [], Some, true, false, IfSome, IfNone, IfOk, OnOk, OnErr, IsSome, option_map, option_and_then, length};
+ghost use Rattle.std.specs.Prelude.{◌≡◌, ℕ, ◌<◌, ◌+◌, ◌++◌, ◌∷◌, [], Some, true, false, IfSome};
+ghost use Rattle.std.specs.Prelude.{IfNone, IfOk, OnOk, OnErr, IsSome, option_map, option_and_then};
+ghost use Rattle.std.specs.Prelude.{length};
 ghost use Rattle.std.specs.List.{find, list_any};
 ghost use Rattle.std.specs.Ordering.{nat_cmp};
 ghost use Rattle.std.specs.BTreeMap.{is_at};

@@ -1,7 +1,8 @@
 //! What a control packet does to the sessions, and the packet that answers it.
 ghost use Rattle.std.specs.Prelude.{◌≡◌, Option, Some, None};
 ghost use Rattle.std.specs.List.{find};
-ghost use Rattle.rpc_laws.specs.ControlTable.{connect_reply, disconnect_as, joined_row, over_row, refused_row};
+ghost use Rattle.rpc_laws.specs.ControlTable.{connect_reply, disconnect_as, joined_row, over_row};
+ghost use Rattle.rpc_laws.specs.ControlTable.{refused_row};
 ghost use Rattle.rpc_laws.specs.Sessions.{is_client};
 ghost use Rattle.session_mgmt.specs.ClientEnds.{client_of, told};
 ghost use Rattle.session_mgmt.specs.Control.{Handles, HandlesBy};

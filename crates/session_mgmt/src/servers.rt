@@ -1,6 +1,7 @@
 //! The live server sessions, by their numbers and by the client sessions that they are the other
 //! ends of.
-ghost use Rattle.std.specs.Prelude.{◌≡◌, ◌<◌, ◌+◌, ◌++◌, ◌∷◌, ◌&&◌, [], Some, IfOk, OnErr, IfSome, IfNone, option_map, ℕ, true, false};
+ghost use Rattle.std.specs.Prelude.{◌≡◌, ◌<◌, ◌+◌, ◌++◌, ◌∷◌, ◌&&◌, [], Some, IfOk, OnErr, IfSome};
+ghost use Rattle.std.specs.Prelude.{IfNone, option_map, ℕ, true, false};
 ghost use Rattle.std.specs.List.{find, list_any};
 ghost use Rattle.std.specs.BTreeMap.{is_at};
 ghost use Rattle.rpc_base.specs.Tables.{without_first};

@@ -1,8 +1,12 @@
 //! The table of an endpoint's sessions, and how calls and control packets change it.
-ghost use Rattle.std.specs.Prelude.{◌≡◌, ◌≢◌, ℕ, ◌≤◌, ◌<◌, ◌+◌, ◌||◌, ◌∷◌, [], List, Option, Some, None, true, false, IfOk, IfErr, OnOk, OnErr, IsSome, IfSome, IfNone, option_map, length, ◌==◌};
+ghost use Rattle.std.specs.Prelude.{◌≡◌, ◌≢◌, ℕ, ◌≤◌, ◌<◌, ◌+◌, ◌||◌, ◌∷◌, [], List, Option, Some};
+ghost use Rattle.std.specs.Prelude.{None, true, false, IfOk, IfErr, OnOk, OnErr, IsSome, IfSome};
+ghost use Rattle.std.specs.Prelude.{IfNone, option_map, length, ◌==◌};
 ghost use Rattle.std.specs.List.{find};
 ghost use Rattle.rpc_base.specs.Tables.{at_first};
-ghost use Rattle.rpc_laws.specs.Groups.{client_refusal, clients_spent, disconnect_by, pair_refusal, refusal_by, server_refusal, servers_spent, shares, state_of};
+ghost use Rattle.rpc_laws.specs.Groups.{client_refusal, clients_spent, disconnect_by, pair_refusal};
+ghost use Rattle.rpc_laws.specs.Groups.{refusal_by, server_refusal, servers_spent, shares};
+ghost use Rattle.rpc_laws.specs.Groups.{state_of};
 ghost use Rattle.rpc_laws.specs.NodeLists.{new_lists};
 ghost use Rattle.rpc_laws.specs.ControlTable.{is_end_of, named_end, opened_row};
 ghost use Rattle.rpc_laws.specs.declared.tables.Client.{Client};
@@ -11,7 +15,9 @@ ghost use Rattle.rpc_laws.specs.Sessions.{is_client, is_live};
 ghost use Rattle.rpc_laws.specs.UsualLimits.{with_ring};
 ghost use Rattle.session_mgmt.specs.ClientEnds.{client_of, is_next_live, number_of, told};
 ghost use Rattle.session_mgmt.specs.Ends.{server_of};
-ghost use Rattle.session_mgmt.specs.Table.{WasLive, closing, given_up_by, is_asking, refused, sent_again, session_after, sessions_after, with_changed, with_client};
+ghost use Rattle.session_mgmt.specs.Table.{WasLive, closing, given_up_by, is_asking, refused};
+ghost use Rattle.session_mgmt.specs.Table.{sent_again, session_after, sessions_after, with_changed};
+ghost use Rattle.session_mgmt.specs.Table.{with_client};
 
 use crate::answers::{CloseError, ConnectError};
 use crate::clients::{ClientEnd, ClientState, Clients};

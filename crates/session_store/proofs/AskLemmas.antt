@@ -1,5 +1,7 @@
 -- A call waits on a session, and sessions are made: what always holds of a store holds then.
-use Rattle.std.proofs.Common.{◌≡◌, ℕ, zero, suc, ◌+◌, ◌*◌, ◌^◌, ◌<◌, Bool, true, false, cond, ltb, ltb-true, Option, Some, None, List, [], ◌∷◌, ◌++◌, length, refl, sym, ap, subst, ◌∙◌, arith}
+use Rattle.std.proofs.Common.{◌≡◌, ℕ, zero, suc, ◌+◌, ◌*◌, ◌^◌, ◌<◌, Bool, true, false, cond, ltb}
+use Rattle.std.proofs.Common.{ltb-true, Option, Some, None, List, [], ◌∷◌, ◌++◌, length, refl, sym}
+use Rattle.std.proofs.Common.{ap, subst, ◌∙◌, arith}
 use Rattle.std.specs.Prelude.{IfSome, OnErr, OnOk, Result, Ok, Err, map, slice_get, slice_set}
 use Rattle.std.specs.List.{AllByRecursion}
 use Rattle.std.proofs.lemmas.List.Sums.{sum_by-append, sum_by-cons}
@@ -21,7 +23,9 @@ use Rattle.session_store.specs.declared.side.Side.{Side}
 use Rattle.session_store.specs.Changes.{ChangesAt}
 use Rattle.session_store.specs.Effects.{SideWaits, asking_in}
 use Rattle.session_store.specs.Ends.{shown_end}
-use Rattle.session_store.specs.Sides.{HasSlots, IsOf, IsOfOwner, IsOfSide, Kept, Shown, SideAscends, places_in, served_places, SideKept, SideQueued, shown_of, shown_side}
+use Rattle.session_store.specs.Sides.{HasSlots, IsOf, IsOfOwner, IsOfSide, Kept, Shown, SideAscends}
+use Rattle.session_store.specs.Sides.{places_in, served_places, SideKept, SideQueued, shown_of}
+use Rattle.session_store.specs.Sides.{shown_side}
 use Rattle.session_store.proofs.EndLemmas.{Steps, ask-steps}
 use Rattle.session_store.proofs.KeptLemmas.{ClientActs, client-kept, clients-set}
 use Rattle.session_store.proofs.ListLemmas.{all-at, get-map, sum-set}
@@ -29,19 +33,26 @@ use Rattle.session_store.proofs.StandLemmas.{stands-all}
 
 -- a session that is connected is there, not broken, and has turns left
 module _ (pool : Pool) (s : Side) where
-  told-turns : (b : Bool) → told_state (shown_end b pool s.peer s.session).state (shown_end b pool s.peer s.session).asked ≡ Connected → (b ≡ false) × (s.session.slots.taken < 2 ^ 45)
+  told-turns : (b : Bool)
+      → told_state (shown_end b pool s.peer s.session).state (shown_end b pool s.peer s.session).asked ≡ Connected
+      → (b ≡ false) × (s.session.slots.taken < 2 ^ 45)
   told-turns true e = cc
   told-turns false e = (refl, few (ltb s.session.slots.taken (2 ^ 45)) refl e)
     where
-      few : (t : Bool) → ltb s.session.slots.taken (2 ^ 45) ≡ t → cond t Connected Spent ≡ Connected → s.session.slots.taken < 2 ^ 45
+      few : (t : Bool) → ltb s.session.slots.taken (2 ^ 45) ≡ t → cond t Connected Spent ≡ Connected
+          → s.session.slots.taken < 2 ^ 45
       few true t e = ltb-true s.session.slots.taken (2 ^ 45) t
       few false t e = cc
 
-  connected-turns : state_of (Some (shown_side pool s)) ≡ Connected → (s.is_broken ≡ false) × (s.session.slots.taken < 2 ^ 45)
+  connected-turns : state_of (Some (shown_side pool s)) ≡ Connected
+      → (s.is_broken ≡ false) × (s.session.slots.taken < 2 ^ 45)
   connected-turns e = told-turns s.is_broken e
 
-module _ (pool : Pool) (sides : List Side) (servers : List Serving) (tx : Ring EntryValue) (i : ℕ) (seen : Shown) (view : shown_of pool sides servers tx ≡ seen) (connected : state_of (slice_get seen.clients i) ≡ Connected) where
-  side-connected : (s : Side) → slice_get sides i ≡ Some s → (s.is_broken ≡ false) × (s.session.slots.taken < 2 ^ 45)
+module _ (pool : Pool) (sides : List Side) (servers : List Serving) (tx : Ring EntryValue) (i : ℕ)
+    (seen : Shown) (view : shown_of pool sides servers tx ≡ seen)
+    (connected : state_of (slice_get seen.clients i) ≡ Connected) where
+  side-connected : (s : Side) → slice_get sides i ≡ Some s
+      → (s.is_broken ≡ false) × (s.session.slots.taken < 2 ^ 45)
   side-connected s e =
       let here : state_of (slice_get (map (shown_side pool) sides) i) ≡ Connected = rw (← view) at connected in
       let own : state_of (Some (shown_side pool s)) ≡ Connected = rw (get-map (shown_side pool) sides i s e) at here in
@@ -50,11 +61,14 @@ module _ (pool : Pool) (sides : List Side) (servers : List Serving) (tx : Ring E
   pub has-turns : IfSome (slice_get sides i) (λ s. s.session.slots.taken < 2 ^ 45)
   has-turns = cases (slice_get sides i) refl
     where
-      cases : (o : Option Side) → slice_get sides i ≡ o → IfSome o (λ s. s.session.slots.taken < 2 ^ 45)
+      cases : (o : Option Side) → slice_get sides i ≡ o
+          → IfSome o (λ s. s.session.slots.taken < 2 ^ 45)
       cases None e = tt
       cases (Some s) e = (side-connected s e).1
 
-  module _ (w : Waiting) (now : List Side) (kept : Kept pool sides servers tx) (above : IfSome (slice_get seen.clients i) (λ x. AllByRecursion (λ c. c.what.number < w.call) x.calls)) (h : SideWaits i w sides now) where
+  module _ (w : Waiting) (now : List Side) (kept : Kept pool sides servers tx)
+      (above : IfSome (slice_get seen.clients i) (λ x. AllByRecursion (λ c. c.what.number < w.call) x.calls))
+      (h : SideWaits i w sides now) where
     abbrev asked_side : Side
     asked_side = record h.side { session = h.later }
 
@@ -90,11 +104,17 @@ module _ (pool : Pool) (sides : List Side) (servers : List Serving) (tx : Ring E
       changed = ap (map (shown_side pool)) h.changed ∙ clients-set pool pool sides servers i h.side asked_side tx tx h.at kept ask-acts ∙ ap (slice_set (map (shown_side pool) sides) i) asked-steps.view;
     })
 
-  pub kept-ask : {E : Type 0} (w : Waiting) (now : List Side) (r : Result (Unit {0}) E) → Kept pool sides servers tx → IfSome (slice_get seen.clients i) (λ x. AllByRecursion (λ c. c.what.number < w.call) x.calls) → OnOk r (SideWaits i w sides now) → OnErr r (now ≡ sides) → Kept pool now servers tx
+  pub kept-ask : {E : Type 0} (w : Waiting) (now : List Side) (r : Result (Unit {0}) E)
+      → Kept pool sides servers tx → IfSome (slice_get seen.clients i)
+      (λ x. AllByRecursion (λ c. c.what.number < w.call) x.calls) → OnOk r (SideWaits i w sides now)
+      → OnErr r (now ≡ sides) → Kept pool now servers tx
   kept-ask w now (Ok u) kept above h same = kept-asked w now kept above h
   kept-ask w now (Err e) kept above h same = rw same kept
 
-  pub clients-ask : {E : Type 0} (w : Waiting) (now : List Side) (r : Result (Unit {0}) E) → Kept pool sides servers tx → IfSome (slice_get seen.clients i) (λ x. AllByRecursion (λ c. c.what.number < w.call) x.calls) → OnOk r (SideWaits i w sides now) → OnOk r (ChangesAt i (asks (asking_in w)) seen.clients (map (shown_side pool) now))
+  pub clients-ask : {E : Type 0} (w : Waiting) (now : List Side) (r : Result (Unit {0}) E)
+      → Kept pool sides servers tx → IfSome (slice_get seen.clients i)
+      (λ x. AllByRecursion (λ c. c.what.number < w.call) x.calls) → OnOk r (SideWaits i w sides now)
+      → OnOk r (ChangesAt i (asks (asking_in w)) seen.clients (map (shown_side pool) now))
   clients-ask w now (Ok u) kept above h = asked-clients w now kept above h
   clients-ask w now (Err e) kept above h = tt
 
@@ -103,32 +123,41 @@ side-waits i w sides side later at (Ok u) waits step = record { side = side; at 
 side-waits i w sides side later at (Err e) waits step = tt
 
 -- one session more
-get-front : {A : Type 0} (xs : List A) (y x : A) (j : ℕ) → slice_get xs j ≡ Some x → slice_get (xs ++ y ∷ []) j ≡ Some x
+get-front : {A : Type 0} (xs : List A) (y x : A) (j : ℕ) → slice_get xs j ≡ Some x
+    → slice_get (xs ++ y ∷ []) j ≡ Some x
 get-front [] y x j e = cc
 get-front (z ∷ zs) y x zero e = e
 get-front (z ∷ zs) y x (suc j) e = get-front zs y x j e
 
 module _ (sides : List Side) (servers : List Serving) (s : Side) where
-  of-front : (d : EntryValue) (o : Owner) → IsOfOwner sides servers d o → IsOfOwner (sides ++ s ∷ []) servers d o
+  of-front : (d : EntryValue) (o : Owner) → IsOfOwner sides servers d o
+      → IsOfOwner (sides ++ s ∷ []) servers d o
   of-front d (Ask n r) h = cases (slice_get sides n) refl h
     where
-      cases : (o : Option Side) → slice_get sides n ≡ o → IsOfSide d o → IsOfSide d (slice_get (sides ++ s ∷ []) n)
+      cases : (o : Option Side) → slice_get sides n ≡ o → IsOfSide d o
+          → IsOfSide d (slice_get (sides ++ s ∷ []) n)
       cases None e h = absurd h
       cases (Some t) e h = subst (IsOfSide d) (sym (get-front sides s t n e)) h
   of-front d (Reply t r) h = h
   of-front d Control h = h
 
-  all-front : (ds : List EntryValue) → AllByRecursion (IsOf sides servers) ds → AllByRecursion (IsOf (sides ++ s ∷ []) servers) ds
+  all-front : (ds : List EntryValue) → AllByRecursion (IsOf sides servers) ds
+      → AllByRecursion (IsOf (sides ++ s ∷ []) servers) ds
   all-front [] all = tt
   all-front (d ∷ ds) all = (of-front d d.owner all.0, all-front ds all.1)
 
-  numbered-front : (n : ℕ) (ss : List Side) → s.session.number ≡ n + length ss → ((j : ℕ) → (t : Side) → slice_get ss j ≡ Some t → t.session.number ≡ n + j) → (j : ℕ) → (t : Side) → slice_get (ss ++ s ∷ []) j ≡ Some t → t.session.number ≡ n + j
+  numbered-front : (n : ℕ) (ss : List Side) → s.session.number ≡ n + length ss
+      → ((j : ℕ) → (t : Side) → slice_get ss j ≡ Some t → t.session.number ≡ n + j) → (j : ℕ)
+      → (t : Side) → slice_get (ss ++ s ∷ []) j ≡ Some t → t.session.number ≡ n + j
   numbered-front n [] own numbered zero t e = let same : s ≡ t = cc in omega (arith, own, ap (λ (x : Side). x.session.number) same)
   numbered-front n [] own numbered (suc j) t e = cc
   numbered-front n (u ∷ us) own numbered zero t e = numbered 0 t e
   numbered-front n (u ∷ us) own numbered (suc j) t e = omega (arith, numbered-front (suc n) us (omega (arith, own)) (λ k x f. omega (arith, numbered (suc k) x f)) j t e)
 
-pub kept-paired : (pool : Pool) (sides : List Side) (servers : List Serving) (tx : Ring EntryValue) (s : Side) (server credits : ℕ) → Kept pool sides servers tx → s.session ≡ new_session (length sides) server credits → s.is_broken ≡ false → Kept pool (sides ++ s ∷ []) servers tx
+pub kept-paired : (pool : Pool) (sides : List Side) (servers : List Serving) (tx : Ring EntryValue)
+    (s : Side) (server credits : ℕ) → Kept pool sides servers tx
+    → s.session ≡ new_session (length sides) server credits → s.is_broken ≡ false
+    → Kept pool (sides ++ s ∷ []) servers tx
 kept-paired pool sides servers tx s server credits kept session connected =
     let number : s.session.number ≡ length sides = ap (λ (x : Session). x.number) session in
     let none : s.session.active ≡ [] = ap (λ (x : Session). x.active) session in
@@ -151,11 +180,14 @@ kept-paired pool sides servers tx s server credits kept session connected =
     }
 
 module _ (pool : Pool) (sides now : List Side) (servers : List Serving) (i : ℕ) (w : Waiting) where
-  asked-places : SideWaits i w sides now → spare_of pool + places_in now + served_places servers ≡ spare_of pool + places_in sides + served_places servers
+  asked-places : SideWaits i w sides now
+      → spare_of pool + places_in now + served_places servers ≡ spare_of pool + places_in sides + served_places servers
   asked-places h =
       let same : places_in now ≡ places_in sides = ap places_in h.changed ∙ omega (arith, sum-set (λ s. 2 * length s.session.active) sides i h.side (record h.side { session = h.later }) h.at, ap (λ (x : Session). length x.active) h.step.waits) in
       omega (arith, same)
 
-  pub places-ask : {E : Type 0} (r : Result (Unit {0}) E) → OnOk r (SideWaits i w sides now) → OnErr r (now ≡ sides) → spare_of pool + places_in now + served_places servers ≡ spare_of pool + places_in sides + served_places servers
+  pub places-ask : {E : Type 0} (r : Result (Unit {0}) E) → OnOk r (SideWaits i w sides now)
+      → OnErr r (now ≡ sides)
+      → spare_of pool + places_in now + served_places servers ≡ spare_of pool + places_in sides + served_places servers
   places-ask (Ok u) h same = asked-places h
   places-ask (Err e) h same = rw same refl

@@ -1,6 +1,8 @@
 -- What the clauses of a client session tell of a client end: its view after a call, as the definitions over
 -- histories have it.
-use Rattle.std.proofs.Common.{◌≡◌, ◌≢◌, ℕ, ◌+◌, ◌<◌, Bool, true, false, not, ◌&&◌, ◌||◌, cond, eqb, ltb, Option, Some, None, List, [], ◌∷◌, ◌++◌, drop, refl, subst, sym, ap, ◌∙◌}
+use Rattle.std.proofs.Common.{◌≡◌, ◌≢◌, ℕ, ◌+◌, ◌<◌, Bool, true, false, not, ◌&&◌, ◌||◌, cond, eqb}
+use Rattle.std.proofs.Common.{ltb, Option, Some, None, List, [], ◌∷◌, ◌++◌, drop, refl, subst, sym}
+use Rattle.std.proofs.Common.{ap, ◌∙◌}
 use Rattle.std.specs.Prelude.{IfSome, IsTrue, is_some, map, option_and_then, option_map, slice_get}
 use Rattle.std.specs.List.{AllByRecursion, find, list_any}
 use Rattle.std.specs.Option.{option_or}
@@ -17,7 +19,8 @@ use Rattle.rpc_laws.specs.Calls.{is_active, is_call, begun, moved, took_reply}
 use Rattle.rpc_laws.specs.ClientTable.{client_ending}
 use Rattle.rpc_laws.specs.Packets.{ask_packet}
 use Rattle.rpc_laws.specs.Posting.{beginning, if_connected, posting}
-use Rattle.rpc_laws.specs.Sessions.{asks, begins, clients_after, ends, has_call, is_client, posts, sends, takes}
+use Rattle.rpc_laws.specs.Sessions.{asks, begins, clients_after, ends, has_call, is_client, posts}
+use Rattle.rpc_laws.specs.Sessions.{sends, takes}
 use Rattle.rpc_laws.specs.declared.tables.Asking.{Asking}
 use Rattle.rpc_laws.specs.declared.tables.Call.{Call}
 use Rattle.rpc_laws.specs.declared.tables.Client.{Client}
@@ -26,25 +29,33 @@ use Rattle.client_core.specs.declared.outcome.Outcome.{Outcome}
 use Rattle.client_core.specs.declared.outcome.Outcome.TheVariants.{Ok, TooSmall, PeerLost}
 use Rattle.client_core.specs.declared.outcome.Reply.{Reply}
 use Rattle.client_core.specs.declared.outcome.Reply.TheVariants.{Took, Ended, Dropped}
-use Rattle.client_core.specs.Posting.{Starts, after_posting, entry_at, entry_if, is_owner, next_call, next_entry, posted, posted_entry, entry_of}
+use Rattle.client_core.specs.Posting.{Starts, after_posting, entry_at, entry_if, is_owner}
+use Rattle.client_core.specs.Posting.{next_call, next_entry, posted, posted_entry, entry_of}
 use Rattle.client_core.specs.Replies.{call_as, is_request}
 use Rattle.client_core.specs.Session.{Session}
 use Rattle.client_core.specs.Watching.{is_after, next_told, told}
-use Rattle.client_core.specs.Shown.{IsAloneAfter, after_outcome, asked, begun_event as event_begun, end_event, ending_facts, posted_event as event_posted, sent_event, shown, shown_active, shown_waiting, stepped, took}
+use Rattle.client_core.specs.Shown.{IsAloneAfter, after_outcome, asked, begun_event as event_begun}
+use Rattle.client_core.specs.Shown.{end_event, ending_facts, posted_event as event_posted}
+use Rattle.client_core.specs.Shown.{sent_event, shown, shown_active, shown_waiting, stepped, took}
 use Rattle.client_core.specs.Timeouts.{is_numbered}
 use Rattle.client_core.proofs.ShownLemmas.{found-shown, none-shown}
-use Rattle.session_store.specs.Ends.{Ascends, begun_event, is_above, next_above, posted_event, shown_end, told_call}
-use Rattle.session_store.proofs.AscendsLemmas.{ascends-before, ascends-changed, ascends-end, ascends-front, ascends-without, few-numbered, least-first, unlisted}
+use Rattle.session_store.specs.Ends.{Ascends, begun_event, is_above, next_above, posted_event}
+use Rattle.session_store.specs.Ends.{shown_end, told_call}
+use Rattle.session_store.proofs.AscendsLemmas.{ascends-before, ascends-changed, ascends-end}
+use Rattle.session_store.proofs.AscendsLemmas.{ascends-front, ascends-without, few-numbered}
+use Rattle.session_store.proofs.AscendsLemmas.{least-first, unlisted}
 use Rattle.rpc_base.proofs.TakingLemmas.{find-passes}
 use Rattle.rpc_base.proofs.FirstLemmas.{all-kept}
 
 -- a lost peer changes no call
-pub calls-end : (b : Bool) (pool : Pool) (peer : ℕ) (s : Session) → (shown_end b pool peer s).calls ≡ (shown pool peer s).calls
+pub calls-end : (b : Bool) (pool : Pool) (peer : ℕ) (s : Session)
+    → (shown_end b pool peer s).calls ≡ (shown pool peer s).calls
 calls-end true pool peer s = refl
 calls-end false pool peer s = refl
 
 -- the active calls of an end stand in the order of their numbers
-pub active-ascends : (b : Bool) (pool : Pool) (peer : ℕ) (s : Session) → Ascends (shown_end b pool peer s).calls → Ascends (map (shown_active pool) s.active)
+pub active-ascends : (b : Bool) (pool : Pool) (peer : ℕ) (s : Session)
+    → Ascends (shown_end b pool peer s).calls → Ascends (map (shown_active pool) s.active)
 active-ascends b pool peer s up =
     ascends-front (map (shown_active pool) s.active) (map shown_waiting s.slots.waiting) (rw (calls-end b pool peer s) at up)
 
@@ -59,7 +70,9 @@ pub record Steps (f : Client → Client) (b : Bool) (pool after : Pool) (peer : 
   pub view : shown_end b after peer new ≡ f (shown_end b pool peer s)
   pub calls : Ascends (shown_end b after peer new).calls
 
-steps-of : (f : Client → Client) (b : Bool) (pool after : Pool) (peer : ℕ) (s new : Session) → b ≡ false → shown after peer new ≡ f (shown pool peer s) → Ascends (f (shown pool peer s)).calls → Steps f b pool after peer s new
+steps-of : (f : Client → Client) (b : Bool) (pool after : Pool) (peer : ℕ) (s new : Session)
+    → b ≡ false → shown after peer new ≡ f (shown pool peer s)
+    → Ascends (f (shown pool peer s)).calls → Steps f b pool after peer s new
 steps-of f b pool after peer s new connected e up = rw connected (record { view = e; calls = subst (λ (x : Client). Ascends x.calls) (sym e) up })
 
 -- a call is asked
@@ -70,7 +83,8 @@ ask-steps b pool peer w s new connected above up step =
     steps-of (asks a) b pool pool peer s new connected e (ascends-end (shown pool peer s).calls (record { what = a; progress = None }) (rw connected at up) (rw connected at above))
 
 -- a call begins
-any-later : {A : Type 0} (p : A → Bool) (xs ys : List A) → list_any p ys ≡ true → list_any p (xs ++ ys) ≡ true
+any-later : {A : Type 0} (p : A → Bool) (xs ys : List A) → list_any p ys ≡ true
+    → list_any p (xs ++ ys) ≡ true
 any-later p [] ys t = t
 any-later p (x ∷ xs) ys t = rw (any-later p xs ys t) (or-true (p x))
   where
@@ -78,15 +92,19 @@ any-later p (x ∷ xs) ys t = rw (any-later p xs ys t) (or-true (p x))
     or-true true = refl
     or-true false = refl
 
-front-waiting : (ws : List Waiting) (w : Waiting) → slice_get ws 0 ≡ Some w → map shown_waiting ws ≡ shown_waiting w ∷ map shown_waiting (drop 1 ws)
+front-waiting : (ws : List Waiting) (w : Waiting) → slice_get ws 0 ≡ Some w
+    → map shown_waiting ws ≡ shown_waiting w ∷ map shown_waiting (drop 1 ws)
 front-waiting [] w e = cc
 front-waiting (v ∷ vs) w e = let same : v ≡ w = cc in rw same refl
 
-module _ (b : Bool) (pool after : Pool) (peer : ℕ) (s new : Session) (connected : b ≡ false) (up : Ascends (shown_end b pool peer s).calls) where
+module _ (b : Bool) (pool after : Pool) (peer : ℕ) (s new : Session) (connected : b ≡ false)
+    (up : Ascends (shown_end b pool peer s).calls) where
   ascending : Ascends (shown pool peer s).calls
   ascending = rw (calls-end b pool peer s) at up
 
-  begins-one : (o : ℕ × ℕ) → Starts o.0 o.1 s new pool after → (list_any (is_numbered o.0) s.active ≡ false → stepped 0 (event_begun o) (shown pool peer s) ≡ shown after peer new ∷ []) → Steps (begins o.0 o.1) b pool after peer s new
+  begins-one : (o : ℕ × ℕ) → Starts o.0 o.1 s new pool after
+      → (list_any (is_numbered o.0) s.active ≡ false → stepped 0 (event_begun o) (shown pool peer s) ≡ shown after peer new ∷ [])
+      → Steps (begins o.0 o.1) b pool after peer s new
   begins-one o starts step =
       let front = front-waiting s.slots.waiting starts.waiting starts.begins.oldest in
       let lower = ascends-before (map (shown_active pool) s.active) (shown_waiting starts.waiting) (map shown_waiting (drop 1 s.slots.waiting)) (rw front at ascending) in
@@ -97,49 +115,69 @@ module _ (b : Bool) (pool after : Pool) (peer : ℕ) (s new : Session) (connecte
       steps-of (begins o.0 o.1) b pool after peer s new connected e (ascends-changed (is_call o.0) (begun o.1) (λ c. refl) (shown pool peer s).calls ascending)
 
   -- a packet is posted
-  posts-one : (e : EntryValue) (r : ℕ) → e.owner ≡ Ask s.number r → stepped 0 (event_posted e) (shown pool peer s) ≡ shown after peer new ∷ [] → Steps (posts r e.number) b pool after peer s new
+  posts-one : (e : EntryValue) (r : ℕ) → e.owner ≡ Ask s.number r → stepped 0 (event_posted e)
+      (shown pool peer s) ≡ shown after peer new ∷ []
+      → Steps (posts r e.number) b pool after peer s new
   posts-one e r own step =
       let is = chosen (shown pool peer s) (shown after peer new) (posts r e.number (shown pool peer s)) (eqb s.number s.number) (eq-eqb s.number s.number refl) (rw own at step) in
       steps-of (posts r e.number) b pool after peer s new connected is (ascends-changed (is_active r) (moved _) (λ c. refl) (shown pool peer s).calls ascending)
 
   -- and sent
-  pub sends-one : (now : ℕ) (e : EntryValue) (r : ℕ) → e.owner ≡ Ask s.number r → stepped now (sent_event e) (shown pool peer s) ≡ shown after peer new ∷ [] → Steps (sends now r e.number) b pool after peer s new
+  pub sends-one : (now : ℕ) (e : EntryValue) (r : ℕ) → e.owner ≡ Ask s.number r
+      → stepped now (sent_event e) (shown pool peer s) ≡ shown after peer new ∷ []
+      → Steps (sends now r e.number) b pool after peer s new
   sends-one now e r own step =
       let is = chosen (shown pool peer s) (shown after peer new) (sends now r e.number (shown pool peer s)) (eqb s.number s.number) (eq-eqb s.number s.number refl) (rw own at step) in
       steps-of (sends now r e.number) b pool after peer s new connected is (ascends-changed (is_active r) (moved _) (λ c. refl) (shown pool peer s).calls ascending)
 
-pub some-steps : (b : Bool) (pool after : Pool) (peer : ℕ) (s new : Session) → b ≡ false → Ascends (shown_end b pool peer s).calls → (o : Option (ℕ × ℕ)) → IfSome o (λ d. (clock peer : ℕ) → list_any (is_numbered d.0) s.active ≡ false → stepped clock (event_begun d) (shown pool peer s) ≡ shown after peer new ∷ []) → IfSome o (λ d. Starts d.0 d.1 s new pool after) → IfSome o (λ d. Steps (begins d.0 d.1) b pool after peer s new)
+pub some-steps : (b : Bool) (pool after : Pool) (peer : ℕ) (s new : Session) → b ≡ false
+    → Ascends (shown_end b pool peer s).calls → (o : Option (ℕ × ℕ))
+    → IfSome o (λ d. (clock peer : ℕ) → list_any (is_numbered d.0) s.active ≡ false → stepped clock (event_begun d) (shown pool peer s) ≡ shown after peer new ∷ [])
+    → IfSome o (λ d. Starts d.0 d.1 s new pool after)
+    → IfSome o (λ d. Steps (begins d.0 d.1) b pool after peer s new)
 some-steps b pool after peer s new connected up None step starts = tt
 some-steps b pool after peer s new connected up (Some d) step starts =
     begins-one b pool after peer s new connected up d starts (step 0 peer)
 
-pub begun-next : (b : Bool) (pool : Pool) (peer : ℕ) (s : Session) (o : Option (ℕ × ℕ)) → b ≡ false → beginning (shown pool peer s) ≡ option_map event_begun o → option_map begun_event o ≡ if_connected beginning (shown_end b pool peer s)
+pub begun-next : (b : Bool) (pool : Pool) (peer : ℕ) (s : Session) (o : Option (ℕ × ℕ)) → b ≡ false
+    → beginning (shown pool peer s) ≡ option_map event_begun o
+    → option_map begun_event o ≡ if_connected beginning (shown_end b pool peer s)
 begun-next b pool peer s None connected e = rw connected (sym e)
 begun-next b pool peer s (Some d) connected e = rw connected (sym e)
 
 -- an end without a call begins none
 -- the owner of the next packet
-pub next-owner : (peer : ℕ) (s : Session) (e : EntryValue) (t r : ℕ) (o : Option ActiveCall) → Some e ≡ option_map (entry_of s.number peer) o → e.owner ≡ Ask t r → e.owner ≡ Ask s.number r
+pub next-owner : (peer : ℕ) (s : Session) (e : EntryValue) (t r : ℕ) (o : Option ActiveCall)
+    → Some e ≡ option_map (entry_of s.number peer) o → e.owner ≡ Ask t r → e.owner ≡ Ask s.number r
 next-owner peer s e t r None is own = cc
 next-owner peer s e t r (Some c) is own =
     let same : e ≡ entry_of s.number peer c = cc in
     let asks : Ask s.number c.request ≡ Ask t r = sym (ap (λ x. x.owner) same) ∙ own in
     cc
 
-pub post-steps : (b : Bool) (pool after : Pool) (peer : ℕ) (s new : Session) (e : EntryValue) (t r : ℕ) → b ≡ false → Ascends (shown_end b pool peer s).calls → Some e ≡ next_entry peer s → e.owner ≡ Ask t r → ((clock : ℕ) → stepped clock (event_posted e) (shown pool peer s) ≡ shown after peer new ∷ []) → Steps (posts r e.number) b pool after peer s new
+pub post-steps : (b : Bool) (pool after : Pool) (peer : ℕ) (s new : Session) (e : EntryValue)
+    (t r : ℕ) → b ≡ false → Ascends (shown_end b pool peer s).calls → Some e ≡ next_entry peer s
+    → e.owner ≡ Ask t r
+    → ((clock : ℕ) → stepped clock (event_posted e) (shown pool peer s) ≡ shown after peer new ∷ [])
+    → Steps (posts r e.number) b pool after peer s new
 post-steps b pool after peer s new e t r connected up is own step =
     posts-one b pool after peer s new connected up e r (next-owner peer s e t r (next_call s) is own) (step 0)
 
-pub post-next : (b : Bool) (pool : Pool) (peer : ℕ) (s : Session) (e : EntryValue) (t r : ℕ) → b ≡ false → Some e ≡ next_entry peer s → e.owner ≡ Ask t r → posting (shown pool peer s) ≡ Some (event_posted e) → Some (posted_event (shown_end b pool peer s).way.number (r, e.number)) ≡ if_connected posting (shown_end b pool peer s)
+pub post-next : (b : Bool) (pool : Pool) (peer : ℕ) (s : Session) (e : EntryValue) (t r : ℕ)
+    → b ≡ false → Some e ≡ next_entry peer s → e.owner ≡ Ask t r
+    → posting (shown pool peer s) ≡ Some (event_posted e)
+    → Some (posted_event (shown_end b pool peer s).way.number (r, e.number)) ≡ if_connected posting (shown_end b pool peer s)
 post-next b pool peer s e t r connected is own turn =
     let mine = next-owner peer s e t r (next_call s) is own in
     rw (connected, turn, mine) refl
 
 -- nothing is posted
-pub none-posted : (b : Bool) (pool : Pool) (peer : ℕ) (s : Session) → b ≡ false → posting (shown pool peer s) ≡ None → None ≡ if_connected posting (shown_end b pool peer s)
+pub none-posted : (b : Bool) (pool : Pool) (peer : ℕ) (s : Session) → b ≡ false
+    → posting (shown pool peer s) ≡ None → None ≡ if_connected posting (shown_end b pool peer s)
 none-posted b pool peer s connected turn = rw (connected, turn) refl
 
-same-session : (peer : ℕ) (s : Session) (o : Option ActiveCall) → None ≡ option_map (entry_of s.number peer) o → after_posting o s ≡ s
+same-session : (peer : ℕ) (s : Session) (o : Option ActiveCall)
+    → None ≡ option_map (entry_of s.number peer) o → after_posting o s ≡ s
 same-session peer s None e = refl
 same-session peer s (Some c) e = cc
 
@@ -147,7 +185,8 @@ pub none-same : (peer : ℕ) (s : Session) → None ≡ next_entry peer s → po
 none-same peer s e = same-session peer s (next_call s) e
 
 -- the entry of a posted packet
-entry-cases : (n peer r k : ℕ) (c : ActiveCall) (e : EntryValue) (b : Bool) → c.request ≡ r → Some e ≡ cond b (Some (entry_at n peer k c)) None → e ≡ entry_at n peer k c
+entry-cases : (n peer r k : ℕ) (c : ActiveCall) (e : EntryValue) (b : Bool) → c.request ≡ r
+    → Some e ≡ cond b (Some (entry_at n peer k c)) None → e ≡ entry_at n peer k c
 entry-cases n peer r k c e true own is = cc
 entry-cases n peer r k c e false own is = cc
 
@@ -157,16 +196,22 @@ pub record IsEntry (peer r k : ℕ) (s : Session) (e : EntryValue) : Type 0 wher
   pub request : call.request ≡ r
   pub same : e ≡ entry_at s.number peer k call
 
-is-entry : (peer r k : ℕ) (s : Session) (e : EntryValue) (o : Option ActiveCall) → call_as r s ≡ o → Some e ≡ option_and_then (entry_if s.number peer k) o → IsEntry peer r k s e
+is-entry : (peer r k : ℕ) (s : Session) (e : EntryValue) (o : Option ActiveCall) → call_as r s ≡ o
+    → Some e ≡ option_and_then (entry_if s.number peer k) o → IsEntry peer r k s e
 is-entry peer r k s e None f is = cc
 is-entry peer r k s e (Some c) f is =
     let own = eqb-true c.request r (find-passes (is_request r) s.active c f) in
     record { call = c; found = f; request = own; same = entry-cases s.number peer r k c e (ltb k c.posted) own is }
 
-pub entry-is : (peer r k : ℕ) (s : Session) (e : EntryValue) → Some e ≡ posted_entry peer r k s → IsEntry peer r k s e
+pub entry-is : (peer r k : ℕ) (s : Session) (e : EntryValue) → Some e ≡ posted_entry peer r k s
+    → IsEntry peer r k s e
 entry-is peer r k s e is = is-entry peer r k s e (call_as r s) refl is
 
-pub sent-steps : (b : Bool) (pool after : Pool) (peer : ℕ) (s new : Session) (now r k : ℕ) (e : EntryValue) → b ≡ false → Ascends (shown_end b pool peer s).calls → Some e ≡ posted_entry peer r k s → ((peer : ℕ) → stepped now (sent_event e) (shown pool peer s) ≡ shown after peer new ∷ []) → Steps (sends now r k) b pool after peer s new
+pub sent-steps : (b : Bool) (pool after : Pool) (peer : ℕ) (s new : Session) (now r k : ℕ)
+    (e : EntryValue) → b ≡ false → Ascends (shown_end b pool peer s).calls
+    → Some e ≡ posted_entry peer r k s
+    → ((peer : ℕ) → stepped now (sent_event e) (shown pool peer s) ≡ shown after peer new ∷ [])
+    → Steps (sends now r k) b pool after peer s new
 sent-steps b pool after peer s new now r k e connected up is step =
     let entry = entry-is peer r k s e is in
     let own : e.owner ≡ Ask s.number r = ap (λ x. x.owner) entry.same ∙ ap (λ n. Ask s.number n) entry.request in
@@ -174,44 +219,52 @@ sent-steps b pool after peer s new now r k e connected up is step =
     rw number at (sends-one b pool after peer s new connected up now e r own (step peer))
 
 -- a posted packet is that of what is shown
-pub same-owners : (n r : ℕ) (xs : List ActiveCall) → find (is_owner n (Ask n r)) xs ≡ find (is_request r) xs
+pub same-owners : (n r : ℕ) (xs : List ActiveCall)
+    → find (is_owner n (Ask n r)) xs ≡ find (is_request r) xs
 same-owners n r [] = refl
 same-owners n r (x ∷ xs) = rw (eq-eqb n n refl, same-owners n r xs) refl
 
-pub ask-end : (b : Bool) (pool : Pool) (peer r k : ℕ) (s : Session) → ask_packet r k (Some (shown_end b pool peer s)) ≡ ask_packet r k (Some (shown pool peer s))
+pub ask-end : (b : Bool) (pool : Pool) (peer r k : ℕ) (s : Session)
+    → ask_packet r k (Some (shown_end b pool peer s)) ≡ ask_packet r k (Some (shown pool peer s))
 ask-end true pool peer r k s = refl
 ask-end false pool peer r k s = refl
 
 -- the next packet is one of a call
-ask-cases : (peer : ℕ) (s : Session) (e : EntryValue) (o : Option ActiveCall) → Some e ≡ option_map (entry_of s.number peer) o → (t : ℕ) × (r : ℕ) × (e.owner ≡ Ask t r)
+ask-cases : (peer : ℕ) (s : Session) (e : EntryValue) (o : Option ActiveCall)
+    → Some e ≡ option_map (entry_of s.number peer) o → (t : ℕ) × (r : ℕ) × (e.owner ≡ Ask t r)
 ask-cases peer s e None is = cc
 ask-cases peer s e (Some c) is =
     let same : e ≡ entry_of s.number peer c = cc in
     (s.number, c.request, ap (λ x. x.owner) same)
 
-pub ask-owner : (peer : ℕ) (s : Session) (e : EntryValue) → Some e ≡ next_entry peer s → (t : ℕ) × (r : ℕ) × (e.owner ≡ Ask t r)
+pub ask-owner : (peer : ℕ) (s : Session) (e : EntryValue) → Some e ≡ next_entry peer s
+    → (t : ℕ) × (r : ℕ) × (e.owner ≡ Ask t r)
 ask-owner peer s e is = ask-cases peer s e (next_call s) is
 
 -- a reply keeps the order of the calls
 abbrev up_of : Client → Type 0
 up_of x = Ascends x.calls
 
-ended-ascend : (clock call : ℕ) (o : Outcome) (xs : List Client) → AllByRecursion up_of xs → AllByRecursion up_of (clients_after clock (end_event call o) [] None [] xs)
+ended-ascend : (clock call : ℕ) (o : Outcome) (xs : List Client) → AllByRecursion up_of xs
+    → AllByRecursion up_of (clients_after clock (end_event call o) [] None [] xs)
 ended-ascend clock call Ok xs all = all-kept (has_call call) (ends call) up_of xs (λ x up here. ascends-without (is_call call) x.calls up) all
 ended-ascend clock call (TooSmall size) xs all = all-kept (has_call call) (ends call) up_of xs (λ x up here. ascends-without (is_call call) x.calls up) all
 ended-ascend clock call PeerLost xs all = all-kept (has_call call) (ends call) up_of xs (λ x up here. ascends-without (is_call call) x.calls up) all
 
-took-ascends : (clock : ℕ) (h : MessageHeader) (body : List ℕ) (x : Client) → up_of x → AllByRecursion up_of (took clock h body x)
+took-ascends : (clock : ℕ) (h : MessageHeader) (body : List ℕ) (x : Client) → up_of x
+    → AllByRecursion up_of (took clock h body x)
 took-ascends clock h body x up =
     all-kept (is_client x.way.number) (takes clock h.request (Some h) body) up_of (x ∷ []) (λ y old here. ascends-changed (is_active h.request) (moved (took_reply clock (Some h) body)) (λ c. refl) y.calls old) (up, tt)
 
-reply-all : (clock : ℕ) (r : Reply) (h : MessageHeader) (body : List ℕ) (x : Client) → up_of x → AllByRecursion up_of (after_outcome clock r h body x)
+reply-all : (clock : ℕ) (r : Reply) (h : MessageHeader) (body : List ℕ) (x : Client) → up_of x
+    → AllByRecursion up_of (after_outcome clock r h body x)
 reply-all clock Took h body x up = took-ascends clock h body x up
 reply-all clock (Ended d) h body x up = ended-ascend clock d.call d.outcome (took clock h body x) (took-ascends clock h body x up)
 reply-all clock (Dropped why) h body x up = (up, tt)
 
 -- no other active call has the number of one that is over
-alone-after : (pool : Pool) (r : Reply) (s : Session) → Ascends (map (shown_active pool) s.active) → IsAloneAfter r s
+alone-after : (pool : Pool) (r : Reply) (s : Session) → Ascends (map (shown_active pool) s.active)
+    → IsAloneAfter r s
 alone-after pool Took s up = tt
 alone-after pool (Ended d) s up = few-numbered pool s.active up d.call
 alone-after pool (Dropped why) s up = tt
@@ -221,14 +274,21 @@ pub record Replied (clock : ℕ) (r : Reply) (h : MessageHeader) (body : List �
   pub step : after_outcome clock r h body (shown_end b pool peer s) ≡ shown_end b after peer new ∷ []
   pub calls : Ascends (shown_end b after peer new).calls
 
-pub reply-steps : (clock : ℕ) (r : Reply) (h : MessageHeader) (body : List ℕ) (b : Bool) (pool after : Pool) (peer : ℕ) (s new : Session) → b ≡ false → Ascends (shown_end b pool peer s).calls → (IsAloneAfter r s → (peer : ℕ) → after_outcome clock r h body (shown pool peer s) ≡ shown after peer new ∷ []) → Replied clock r h body b pool after peer s new
+pub reply-steps : (clock : ℕ) (r : Reply) (h : MessageHeader) (body : List ℕ) (b : Bool)
+    (pool after : Pool) (peer : ℕ) (s new : Session) → b ≡ false
+    → Ascends (shown_end b pool peer s).calls
+    → (IsAloneAfter r s → (peer : ℕ) → after_outcome clock r h body (shown pool peer s) ≡ shown after peer new ∷ [])
+    → Replied clock r h body b pool after peer s new
 reply-steps clock r h body b pool after peer s new connected up step =
     let e = step (alone-after pool r s (active-ascends b pool peer s up)) peer in
     let all = reply-all clock r h body (shown pool peer s) (rw connected at up) in
     let left : AllByRecursion up_of (shown after peer new ∷ []) = rw e at all in
     rw connected (record { step = e; calls = left.0 })
 
-pub facts-end : (h : MessageHeader) (body : List ℕ) (r : Reply) (b : Bool) (pool : Pool) (peer : ℕ) (s : Session) → b ≡ false → ((me peer : ℕ) → client_ending me h body (Some (shown pool peer s)) ≡ ending_facts me r) → (me : ℕ) → client_ending me h body (Some (shown_end b pool peer s)) ≡ ending_facts me r
+pub facts-end : (h : MessageHeader) (body : List ℕ) (r : Reply) (b : Bool) (pool : Pool) (peer : ℕ)
+    (s : Session) → b ≡ false
+    → ((me peer : ℕ) → client_ending me h body (Some (shown pool peer s)) ≡ ending_facts me r)
+    → (me : ℕ) → client_ending me h body (Some (shown_end b pool peer s)) ≡ ending_facts me r
 facts-end h body r b pool peer s connected facts = λ me. rw connected (facts me peer)
 
 pub differ : (a b m n : ℕ) → a ≡ m → b ≡ n → IsTrue (not (eqb a (b + 1))) → m ≢ n + 1
@@ -237,19 +297,24 @@ differ a b m n left right t e =
 
 -- the first active call above a number
 module _ (pool : Pool) (after : Option ℕ) where
-  above-same : (xs : List ActiveCall) → AllByRecursion (λ x. (true && is_above after (shown_active pool x)) ≡ is_after after x) xs
+  above-same : (xs : List ActiveCall)
+      → AllByRecursion (λ x. (true && is_above after (shown_active pool x)) ≡ is_after after x) xs
   above-same [] = tt
   above-same (x ∷ xs) = (above-one after x, above-same xs)
     where
-      above-one : (after : Option ℕ) (x : ActiveCall) → (true && is_above after (shown_active pool x)) ≡ is_after after x
+      above-one : (after : Option ℕ) (x : ActiveCall)
+          → (true && is_above after (shown_active pool x)) ≡ is_after after x
       above-one None x = refl
       above-one (Some n) x = refl
 
-told-shown : (pool : Pool) (o : Option ActiveCall) → option_map told o ≡ option_and_then told_call (option_map (shown_active pool) o)
+told-shown : (pool : Pool) (o : Option ActiveCall)
+    → option_map told o ≡ option_and_then told_call (option_map (shown_active pool) o)
 told-shown pool None = refl
 told-shown pool (Some c) = refl
 
-pub next-end : (b : Bool) (pool : Pool) (peer : ℕ) (s : Session) (after : Option ℕ) → Ascends (shown_end b pool peer s).calls → next_told after s ≡ option_and_then told_call (next_above after (shown_end b pool peer s))
+pub next-end : (b : Bool) (pool : Pool) (peer : ℕ) (s : Session) (after : Option ℕ)
+    → Ascends (shown_end b pool peer s).calls
+    → next_told after s ≡ option_and_then told_call (next_above after (shown_end b pool peer s))
 next-end b pool peer s after up =
     let passes = λ (c : Call). is_some c.progress && is_above after c in
     let active = found-shown (shown_active pool) passes (is_after after) s.active (above-same pool after s.active) in

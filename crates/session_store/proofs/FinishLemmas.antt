@@ -1,5 +1,7 @@
 -- A worker's answer, and a server session that is made: what always holds of a store holds then.
-use Rattle.std.proofs.Common.{◌≡◌, ℕ, zero, suc, ◌+◌, ◌<◌, Bool, true, false, ◌||◌, Option, Some, None, List, [], ◌∷◌, ◌++◌, length, length-append, refl, sym, ap, subst, ◌∙◌, inl, inr, arith}
+use Rattle.std.proofs.Common.{◌≡◌, ℕ, zero, suc, ◌+◌, ◌<◌, Bool, true, false, ◌||◌, Option, Some}
+use Rattle.std.proofs.Common.{None, List, [], ◌∷◌, ◌++◌, length, length-append, refl, sym, ap}
+use Rattle.std.proofs.Common.{subst, ◌∙◌, inl, inr, arith}
 use Rattle.std.specs.Prelude.{IfSome, IsTrue, map, slice_get, slice_set}
 use Rattle.std.specs.List.{AllByRecursion, find, list_any}
 use Rattle.std.proofs.lemmas.Bool.{cases_eq, eq-eqb, ne_eqb}
@@ -18,14 +20,18 @@ use Rattle.server_core.proofs.AskedLemmas.{none-numbered, own-numbered}
 use Rattle.server_core.proofs.SpareLemmas.{places-most}
 use Rattle.server_core.specs.declared.slot.SlotRequest.{SlotRequest}
 use Rattle.server_core.specs.KeepsPool.{names as slot_names}
-use Rattle.server_core.specs.Session.{IsSession as IsServing, Session as Serving, newest, new_session}
+use Rattle.server_core.specs.Session.{IsSession as IsServing, Session as Serving, newest}
+use Rattle.server_core.specs.Session.{new_session}
 use Rattle.server_core.specs.Shown.{shown as shown_server}
 use Rattle.session_store.specs.declared.side.Side.{Side}
 use Rattle.session_store.specs.Changes.{AnswersAt, FinishesAt, is_waited}
 use Rattle.session_store.specs.Effects.{ServerFinishes}
-use Rattle.session_store.specs.Sides.{HasPlaces, IsOf, IsOfOwner, Kept, Rises, ServerHolds, ServerKept, ServerQueued, is_end, numbers_in, places_in, served_places, shown_side}
+use Rattle.session_store.specs.Sides.{HasPlaces, IsOf, IsOfOwner, Kept, Rises, ServerHolds}
+use Rattle.session_store.specs.Sides.{ServerKept, ServerQueued, is_end, numbers_in, places_in}
+use Rattle.session_store.specs.Sides.{served_places, shown_side}
 use Rattle.session_store.proofs.BesideLemmas.{rest-push}
-use Rattle.session_store.proofs.KeptLemmas.{ServerActs, clients-same, server-acted, server-places, servers-set}
+use Rattle.session_store.proofs.KeptLemmas.{ServerActs, clients-same, server-acted, server-places}
+use Rattle.session_store.proofs.KeptLemmas.{servers-set}
 use Rattle.session_store.proofs.ListLemmas.{all-at, get-map, set-own}
 use Rattle.session_store.proofs.ReplyGoneLemmas.{end-at}
 use Rattle.session_store.proofs.StandLemmas.{ends-all}
@@ -35,21 +41,27 @@ or-true : (a b : Bool) → b ≡ true → (a || b) ≡ true
 or-true true b t = refl
 or-true false b t = t
 
-pub any-set : {A : Type 0} (p : A → Bool) (xs : List A) (i : ℕ) (x y : A) → slice_get xs i ≡ Some x → p y ≡ true → list_any p (slice_set xs i y) ≡ true
+pub any-set : {A : Type 0} (p : A → Bool) (xs : List A) (i : ℕ) (x y : A) → slice_get xs i ≡ Some x
+    → p y ≡ true → list_any p (slice_set xs i y) ≡ true
 any-set p [] i x y e t = cc
 any-set p (z ∷ zs) zero x y e t = rw t refl
 any-set p (z ∷ zs) (suc i) x y e t = or-true (p z) (list_any p (slice_set zs i y)) (any-set p zs i x y e t)
 
-any-front : {A : Type 0} (p : A → Bool) (xs : List A) (y : A) → list_any p xs ≡ true → list_any p (xs ++ y ∷ []) ≡ true
+any-front : {A : Type 0} (p : A → Bool) (xs : List A) (y : A) → list_any p xs ≡ true
+    → list_any p (xs ++ y ∷ []) ≡ true
 any-front p [] y t = cc
 any-front p (x ∷ xs) y t = cases (p x) t (any-front p xs y)
   where
-    cases : (b : Bool) → (b || list_any p xs) ≡ true → (list_any p xs ≡ true → list_any p (xs ++ y ∷ []) ≡ true) → (b || list_any p (xs ++ y ∷ [])) ≡ true
+    cases : (b : Bool) → (b || list_any p xs) ≡ true
+        → (list_any p xs ≡ true → list_any p (xs ++ y ∷ []) ≡ true)
+        → (b || list_any p (xs ++ y ∷ [])) ≡ true
     cases true t ih = refl
     cases false t ih = ih t
 
 -- the session with a reply that it put behind the queue
-pub new-stands : (sides : List Side) (servers : List Serving) (i r : ℕ) (v w : Serving) (e : EntryValue) → slice_get servers i ≡ Some v → e.owner ≡ Reply w.number r → e.peer ≡ w.peer → IsOf sides (slice_set servers i w) e
+pub new-stands : (sides : List Side) (servers : List Serving) (i r : ℕ) (v w : Serving)
+    (e : EntryValue) → slice_get servers i ≡ Some v → e.owner ≡ Reply w.number r → e.peer ≡ w.peer
+    → IsOf sides (slice_set servers i w) e
 new-stands sides servers i r v w e at own peer =
     subst (IsOfOwner sides (slice_set servers i w) e) (sym own) (any-set (is_end w.number e.peer) servers i v w at (rw (eq-eqb w.number w.number refl, eq-eqb w.peer e.peer (sym peer)) refl))
 
@@ -57,7 +69,10 @@ pub own-reply : (n r : ℕ) (o : Owner) → o ≡ Reply n r → is_reply_of n o 
 own-reply n r o own = rw own (eq-eqb n n refl)
 
 -- an answer came
-module _ (pool after : Pool) (sides : List Side) (servers now : List Serving) (tx : Ring EntryValue) (i r : ℕ) (bytes : List ℕ) (e : EntryValue) (kept : Kept pool sides servers tx) (h : ServerFinishes i r bytes (Some e) servers now pool after) (has-room : length tx.items < tx.size) where
+module _ (pool after : Pool) (sides : List Side) (servers now : List Serving) (tx : Ring EntryValue)
+    (i r : ℕ) (bytes : List ℕ) (e : EntryValue) (kept : Kept pool sides servers tx)
+    (h : ServerFinishes i r bytes (Some e) servers now pool after)
+    (has-room : length tx.items < tx.size) where
   same-number : h.later.number ≡ h.server.number
   same-number = ap (λ (x : Server). x.way.number) h.step.finished.shown_is
 
@@ -95,7 +110,8 @@ module _ (pool after : Pool) (sides : List Side) (servers now : List Serving) (t
   finish-places = ap (λ vs. spare_of after + places_in sides + served_places vs) h.changed ∙ server-places pool after sides servers i h.server h.later tx (ring (tx.items ++ e ∷ []) tx.size) h.at kept finish-acts
 
 -- none came
-module _ (pool after : Pool) (sides : List Side) (servers now : List Serving) (tx : Ring EntryValue) (i r : ℕ) (bytes : List ℕ) (h : ServerFinishes i r bytes None servers now pool after) where
+module _ (pool after : Pool) (sides : List Side) (servers now : List Serving) (tx : Ring EntryValue)
+    (i r : ℕ) (bytes : List ℕ) (h : ServerFinishes i r bytes None servers now pool after) where
   left-servers : now ≡ servers
   left-servers = h.changed ∙ ap (slice_set servers i) h.step.left.session ∙ set-own servers i h.server h.at
 
@@ -112,14 +128,20 @@ module _ (pool after : Pool) (sides : List Side) (servers now : List Serving) (t
   left-at = (rw (get-map (shown_server pool) servers i h.server h.at) h.step.left.waited, left-shown)
 
 -- the newest request of a slot, as it is shown
-last-cases : (pool : Pool) (v : Serving) (r n : ℕ) → IsServing v → (o : Option SlotRequest) → newest r v ≡ o → is_waited r (shown_server pool v) ≡ true → IfSome o (λ q. n + 1 ≡ packet_count q.size) → IfSome (find (is_request r) (shown_server pool v).slots) (λ q. n + 1 ≡ packet_count q.size)
+last-cases : (pool : Pool) (v : Serving) (r n : ℕ) → IsServing v → (o : Option SlotRequest)
+    → newest r v ≡ o → is_waited r (shown_server pool v) ≡ true
+    → IfSome o (λ q. n + 1 ≡ packet_count q.size)
+    → IfSome (find (is_request r) (shown_server pool v).slots) (λ q. n + 1 ≡ packet_count q.size)
 last-cases pool v r n sound None e waited last = rw (none-numbered pool v r sound (rw e tt)) tt
 last-cases pool v r n sound (Some q) e waited last = elim (cases_eq q.number r) [
   | inl same ↦ rw (own-numbered pool v r q sound e same) last
   | inr other ↦ rw (none-numbered pool v r sound (rw e other)) tt
 ]
 
-module _ (pool after : Pool) (sides : List Side) (servers now : List Serving) (tx : Ring EntryValue) (i r : ℕ) (bytes : List ℕ) (e : EntryValue) (kept : Kept pool sides servers tx) (h : ServerFinishes i r bytes (Some e) servers now pool after) (has-room : length tx.items < tx.size) (sound : IsServing h.server) where
+module _ (pool after : Pool) (sides : List Side) (servers now : List Serving) (tx : Ring EntryValue)
+    (i r : ℕ) (bytes : List ℕ) (e : EntryValue) (kept : Kept pool sides servers tx)
+    (h : ServerFinishes i r bytes (Some e) servers now pool after)
+    (has-room : length tx.items < tx.size) (sound : IsServing h.server) where
   pub finish-at : AnswersAt i r bytes e (map (shown_server pool) servers) (map (shown_server after) now)
   finish-at =
       let f = h.step.finished in
@@ -138,12 +160,14 @@ module _ (pool after : Pool) (sides : List Side) (servers now : List Serving) (t
 
 -- a server session more
 module _ (sides : List Side) (servers : List Serving) (v : Serving) where
-  of-more : (d : EntryValue) (o : Owner) → IsOfOwner sides servers d o → IsOfOwner sides (servers ++ v ∷ []) d o
+  of-more : (d : EntryValue) (o : Owner) → IsOfOwner sides servers d o
+      → IsOfOwner sides (servers ++ v ∷ []) d o
   of-more d (Ask n r) h = h
   of-more d (Reply t r) h = any-front (is_end t d.peer) servers v h
   of-more d Control h = h
 
-  all-more : (ds : List EntryValue) → AllByRecursion (IsOf sides servers) ds → AllByRecursion (IsOf sides (servers ++ v ∷ [])) ds
+  all-more : (ds : List EntryValue) → AllByRecursion (IsOf sides servers) ds
+      → AllByRecursion (IsOf sides (servers ++ v ∷ [])) ds
   all-more [] all = tt
   all-more (d ∷ ds) all = (of-more d d.owner all.0, all-more ds all.1)
 
@@ -151,19 +175,26 @@ rises-end : (ns : List ℕ) (n : ℕ) → Rises ns → AllByRecursion (λ m. m <
 rises-end [] n up below = (tt, tt)
 rises-end (m ∷ ms) n up below = (all-push (λ k. m < k) ms n up.0 below.0, rises-end ms n up.1 below.1)
 
-numbers-end : (servers : List Serving) (v : Serving) → numbers_in (servers ++ v ∷ []) ≡ numbers_in servers ++ v.number ∷ []
+numbers-end : (servers : List Serving) (v : Serving)
+    → numbers_in (servers ++ v ∷ []) ≡ numbers_in servers ++ v.number ∷ []
 numbers-end [] v = refl
 numbers-end (w ∷ ws) v = ap (λ ns. w.number ∷ ns) (numbers-end ws v)
 
-below-numbers : (pool : Pool) (servers : List Serving) (n : ℕ) → AllByRecursion (λ v. v.way.number < n) (map (shown_server pool) servers) → AllByRecursion (λ m. m < n) (numbers_in servers)
+below-numbers : (pool : Pool) (servers : List Serving) (n : ℕ)
+    → AllByRecursion (λ v. v.way.number < n) (map (shown_server pool) servers)
+    → AllByRecursion (λ m. m < n) (numbers_in servers)
 below-numbers pool [] n all = tt
 below-numbers pool (v ∷ vs) n all = (all.0, below-numbers pool vs n all.1)
 
-number-below : (pool : Pool) (servers : List Serving) (n i : ℕ) (v : Serving) → AllByRecursion (λ x. x.way.number < n) (map (shown_server pool) servers) → slice_get servers i ≡ Some v → v.number < n
+number-below : (pool : Pool) (servers : List Serving) (n i : ℕ) (v : Serving)
+    → AllByRecursion (λ x. x.way.number < n) (map (shown_server pool) servers)
+    → slice_get servers i ≡ Some v → v.number < n
 number-below pool servers n i v all at = all-at (λ (x : Server). x.way.number < n) (map (shown_server pool) servers) i (shown_server pool v) all (get-map (shown_server pool) servers i v at)
 
 -- no reply of it is queued yet
-unowned : (pool : Pool) (sides : List Side) (servers : List Serving) (n : ℕ) → AllByRecursion (λ v. v.way.number < n) (map (shown_server pool) servers) → (e : EntryValue) (o : Owner) → IsOfOwner sides servers e o → is_reply_of n o ≡ false
+unowned : (pool : Pool) (sides : List Side) (servers : List Serving) (n : ℕ)
+    → AllByRecursion (λ v. v.way.number < n) (map (shown_server pool) servers) → (e : EntryValue)
+    (o : Owner) → IsOfOwner sides servers e o → is_reply_of n o ≡ false
 unowned pool sides servers n below e (Ask s r) h = refl
 unowned pool sides servers n below e (Reply t r) h =
     let server = end-at servers t e.peer h in
@@ -171,12 +202,19 @@ unowned pool sides servers n below e (Reply t r) h =
     ne_eqb n t (λ same. absurd (omega (arith, less, server.numbered, same)))
 unowned pool sides servers n below e Control h = refl
 
-new-own : (pool : Pool) (sides : List Side) (servers : List Serving) (n : ℕ) (P : EntryValue → Type 0) → AllByRecursion (λ v. v.way.number < n) (map (shown_server pool) servers) → (es : List EntryValue) → AllByRecursion (IsOf sides servers) es → AllByRecursion (λ e. IsTrue (is_reply_of n e.owner) → P e) es
+new-own : (pool : Pool) (sides : List Side) (servers : List Serving) (n : ℕ)
+    (P : EntryValue → Type 0) → AllByRecursion (λ v. v.way.number < n)
+    (map (shown_server pool) servers) → (es : List EntryValue)
+    → AllByRecursion (IsOf sides servers) es
+    → AllByRecursion (λ e. IsTrue (is_reply_of n e.owner) → P e) es
 new-own pool sides servers n P below [] all = tt
 new-own pool sides servers n P below (e ∷ es) all =
     (λ is. (let no = unowned pool sides servers n below e e.owner all.0 in cc), new-own pool sides servers n P below es all.1)
 
-pub kept-server : (pool : Pool) (sides : List Side) (servers : List Serving) (tx : Ring EntryValue) (v : Serving) (n client peer credits : ℕ) → Kept pool sides servers tx → AllByRecursion (λ x. x.way.number < n) (map (shown_server pool) servers) → v ≡ new_session n client peer credits → Kept pool sides (servers ++ v ∷ []) tx
+pub kept-server : (pool : Pool) (sides : List Side) (servers : List Serving) (tx : Ring EntryValue)
+    (v : Serving) (n client peer credits : ℕ) → Kept pool sides servers tx
+    → AllByRecursion (λ x. x.way.number < n) (map (shown_server pool) servers)
+    → v ≡ new_session n client peer credits → Kept pool sides (servers ++ v ∷ []) tx
 kept-server pool sides servers tx v n client peer credits kept below new =
     let slots : v.slots ≡ [] = ap (λ (x : Serving). x.slots) new in
     let number : v.number ≡ n = ap (λ (x : Serving). x.number) new in

@@ -10,14 +10,17 @@ use Rattle.rpc_laws.specs.Packets.{IsSpelled}
 use Rattle.rpc_laws.specs.declared.tables.Client.{Client}
 use Rattle.server_core.specs.Session.{Session as Serving}
 use Rattle.session_store.specs.declared.side.Side.{Side}
-use Rattle.session_store.specs.Queue.{IsFront, SendsFront, SpellsFront, clients_sent, packet_in, peer_in}
+use Rattle.session_store.specs.Queue.{IsFront, SendsFront, SpellsFront, clients_sent, packet_in}
+use Rattle.session_store.specs.Queue.{peer_in}
 use Rattle.session_store.specs.Sides.{IsOf, IsOfOwner, Kept, Shown, queued_of, shown_of, shown_side}
 use Rattle.session_store.proofs.GoneLemmas.{front-peer}
 use Rattle.session_store.proofs.ListLemmas.{all-at, get-map}
 use Rattle.session_store.proofs.ReplyGoneLemmas.{end-peer}
 
-module _ (pool : Pool) (sides : List Side) (servers : List Serving) (tx : Ring EntryValue) (kept : Kept pool sides servers tx) where
-  peer-cases : (e : EntryValue) (o : Owner) → e.owner ≡ o → slice_get tx.items 0 ≡ Some e → peer_in (shown_of pool sides servers tx) e.owner ≡ Some e.peer
+module _ (pool : Pool) (sides : List Side) (servers : List Serving) (tx : Ring EntryValue)
+    (kept : Kept pool sides servers tx) where
+  peer-cases : (e : EntryValue) (o : Owner) → e.owner ≡ o → slice_get tx.items 0 ≡ Some e
+      → peer_in (shown_of pool sides servers tx) e.owner ≡ Some e.peer
   peer-cases e (Ask i r) own front = front-peer pool sides servers tx kept i r e front own
   peer-cases e (Reply t r) own front = end-peer pool sides servers tx kept t r e front own
   peer-cases e Control own front = absurd (subst (IsOfOwner sides servers e) own (all-at (IsOf sides servers) tx.items 0 e kept.stands front))
@@ -42,12 +45,17 @@ module _ (pool : Pool) (sides : List Side) (servers : List Serving) (tx : Ring E
     pub no-control : (e : EntryValue) → slice_get tx.items 0 ≡ Some e → e.owner ≡ Control → ⊥
     no-control e front own = subst (IsOfOwner sides servers e) own (all-at (IsOf sides servers) tx.items 0 e kept.stands front)
 
-    pub spells-seen : (e : EntryValue) → slice_get tx.items 0 ≡ Some e → (head body : List ℕ) → IsSpelled (packet_in (shown_of pool sides servers tx) e.owner e.number) head body → SpellsFront seen head body
+    pub spells-seen : (e : EntryValue) → slice_get tx.items 0 ≡ Some e → (head body : List ℕ)
+        → IsSpelled (packet_in (shown_of pool sides servers tx) e.owner e.number) head body
+        → SpellsFront seen head body
     spells-seen e front head body h =
         let place : slice_get (map queued_of tx.items) 0 ≡ Some (queued_of e) = get-map queued_of tx.items 0 e front in
         rw (← view, place) h
 
-    pub sends-seen : (e : EntryValue) (now : ℕ) (clients : List Client) → slice_get tx.items 0 ≡ Some e → clients ≡ clients_sent now e.owner e.number (map (shown_side pool) sides) → SendsFront now seen.queued seen.clients clients
+    pub sends-seen : (e : EntryValue) (now : ℕ) (clients : List Client)
+        → slice_get tx.items 0 ≡ Some e
+        → clients ≡ clients_sent now e.owner e.number (map (shown_side pool) sides)
+        → SendsFront now seen.queued seen.clients clients
     sends-seen e now clients front h =
         let place : slice_get (map queued_of tx.items) 0 ≡ Some (queued_of e) = get-map queued_of tx.items 0 e front in
         rw (← view, place) h

@@ -1,5 +1,6 @@
 -- What an entry that leaves the ring does to its client session, to the pool and to all that always holds.
-use Rattle.std.proofs.Common.{◌≡◌, ◌≢◌, ℕ, zero, suc, ◌+◌, Bool, true, false, Option, Some, None, List, [], ◌∷◌, length, refl, sym, ap, subst, ◌∙◌, arith}
+use Rattle.std.proofs.Common.{◌≡◌, ◌≢◌, ℕ, zero, suc, ◌+◌, Bool, true, false, Option, Some, None}
+use Rattle.std.proofs.Common.{List, [], ◌∷◌, length, refl, sym, ap, subst, ◌∙◌, arith}
 use Rattle.std.specs.Prelude.{map, slice_get, slice_set}
 use Rattle.std.specs.List.{find}
 use Rattle.std.proofs.lemmas.Bool.{eq-eqb, eqb-true, ne_eqb}
@@ -17,7 +18,8 @@ use Rattle.rpc_laws.specs.Packets.{IsSpelled, ask_packet}
 use Rattle.rpc_laws.specs.Sessions.{is_client, sends}
 use Rattle.rpc_laws.specs.declared.tables.Client.{Client}
 use Rattle.client_core.specs.declared.call.ActiveCall.{ActiveCall}
-use Rattle.client_core.specs.Posting.{IsPacketOf, call_of, flushed_at, is_owner, marked, one_left, sent_at}
+use Rattle.client_core.specs.Posting.{IsPacketOf, call_of, flushed_at, is_owner, marked, one_left}
+use Rattle.client_core.specs.Posting.{sent_at}
 use Rattle.client_core.specs.Replies.{call_as, is_request}
 use Rattle.client_core.specs.Session.{Session}
 use Rattle.client_core.specs.Shown.{packet_of}
@@ -28,7 +30,8 @@ use Rattle.session_store.specs.declared.side.Side.{Side}
 use Rattle.session_store.specs.Effects.{Leaves, SideFlushes, SideSends, SpellsIn}
 use Rattle.session_store.specs.Ends.{shown_end}
 use Rattle.session_store.specs.Queue.{clients_sent, packet_in, peer_in}
-use Rattle.session_store.specs.Sides.{HasSlots, IsOf, IsOfSide, Kept, SideAscends, SideQueued, places_in, served_places, shown_of, shown_side}
+use Rattle.session_store.specs.Sides.{HasSlots, IsOf, IsOfSide, Kept, SideAscends, SideQueued}
+use Rattle.session_store.specs.Sides.{places_in, served_places, shown_of, shown_side}
 use Rattle.session_store.proofs.BesideLemmas.{rest-taken}
 use Rattle.session_store.proofs.EndLemmas.{Steps, ask-end, same-owners, sends-one}
 use Rattle.session_store.proofs.KeptLemmas.{ClientActs, client-kept, client-places, clients-set}
@@ -37,22 +40,28 @@ use Rattle.session_store.proofs.PostedLemmas.{spare-released}
 use Rattle.session_store.proofs.StandLemmas.{OfSide, all-taken, of-side, stands-all}
 use Rattle.session_store.proofs.StoreLemmas.{own-ask}
 
-pub sent-long : (e : EntryValue) (now : ℕ) (s new : Session) → new ≡ sent_at e now s → length new.active ≡ length s.active
+pub sent-long : (e : EntryValue) (now : ℕ) (s new : Session) → new ≡ sent_at e now s
+    → length new.active ≡ length s.active
 sent-long e now s new is = ap (λ (x : Session). length x.active) is ∙ length-at_first (is_owner s.number e.owner) (marked e.number now) s.active
 
-pub flushed-long : (e : EntryValue) (s new : Session) → new ≡ flushed_at e s → length new.active ≡ length s.active
+pub flushed-long : (e : EntryValue) (s new : Session) → new ≡ flushed_at e s
+    → length new.active ≡ length s.active
 flushed-long e s new is = ap (λ (x : Session). length x.active) is ∙ length-at_first (is_owner s.number e.owner) one_left s.active
 
 -- the first element that passes stands at this place
 module _ {A B : Type 0} (f : A → B) (p : B → Bool) where
-  pub find-map : (xs : List A) (i : ℕ) (x : A) → slice_get xs i ≡ Some x → p (f x) ≡ true → ((j : ℕ) (y : A) → slice_get xs j ≡ Some y → j ≢ i → p (f y) ≡ false) → find p (map f xs) ≡ Some (f x)
+  pub find-map : (xs : List A) (i : ℕ) (x : A) → slice_get xs i ≡ Some x → p (f x) ≡ true
+      → ((j : ℕ) (y : A) → slice_get xs j ≡ Some y → j ≢ i → p (f y) ≡ false)
+      → find p (map f xs) ≡ Some (f x)
   find-map [] i x e t others = cc
   find-map (y ∷ ys) zero x e t others = let same : y ≡ x = cc in let here : p (f y) ≡ true = ap (λ z. p (f z)) same ∙ t in rw here (ap (λ z. Some (f z)) same)
   find-map (y ∷ ys) (suc i) x e t others =
       let no = others 0 y refl (λ z. absurd (omega (arith, z))) in
       rw no (find-map ys i x e t (λ j z at other. others (suc j) z at (λ s. other (omega (arith, s)))))
 
-  pub first-map : (g : B → B) (xs : List A) (i : ℕ) (x : A) → slice_get xs i ≡ Some x → p (f x) ≡ true → ((j : ℕ) (y : A) → slice_get xs j ≡ Some y → j ≢ i → p (f y) ≡ false) → at_first p g (map f xs) ≡ slice_set (map f xs) i (g (f x))
+  pub first-map : (g : B → B) (xs : List A) (i : ℕ) (x : A) → slice_get xs i ≡ Some x
+      → p (f x) ≡ true → ((j : ℕ) (y : A) → slice_get xs j ≡ Some y → j ≢ i → p (f y) ≡ false)
+      → at_first p g (map f xs) ≡ slice_set (map f xs) i (g (f x))
   first-map g [] i x e t others = cc
   first-map g (y ∷ ys) zero x e t others = let same : y ≡ x = cc in let here : p (f y) ≡ true = ap (λ z. p (f z)) same ∙ t in rw here (ap (λ z. g (f z) ∷ map f ys) same)
   first-map g (y ∷ ys) (suc i) x e t others =
@@ -60,28 +69,37 @@ module _ {A B : Type 0} (f : A → B) (p : B → Bool) where
       rw no (ap (λ zs. f y ∷ zs) (first-map g ys i x e t (λ j z at other. others (suc j) z at (λ s. other (omega (arith, s))))))
 
 -- a client session by its number
-pub side-way : (pool : Pool) (s : Side) → ((shown_side pool s).way.peer ≡ s.peer) × ((shown_side pool s).way.number ≡ s.session.number)
+pub side-way : (pool : Pool) (s : Side)
+    → ((shown_side pool s).way.peer ≡ s.peer) × ((shown_side pool s).way.number ≡ s.session.number)
 side-way pool s = cases s.is_broken
   where
-    cases : (b : Bool) → ((shown_end b pool s.peer s.session).way.peer ≡ s.peer) × ((shown_end b pool s.peer s.session).way.number ≡ s.session.number)
+    cases : (b : Bool)
+        → ((shown_end b pool s.peer s.session).way.peer ≡ s.peer) × ((shown_end b pool s.peer s.session).way.number ≡ s.session.number)
     cases true = (refl, refl)
     cases false = (refl, refl)
 
-module _ (pool : Pool) (sides : List Side) (numbered : (j : ℕ) → (s : Side) → slice_get sides j ≡ Some s → s.session.number ≡ j) (i : ℕ) (side : Side) (there : slice_get sides i ≡ Some side) where
+module _ (pool : Pool) (sides : List Side)
+    (numbered : (j : ℕ) → (s : Side) → slice_get sides j ≡ Some s → s.session.number ≡ j) (i : ℕ)
+    (side : Side) (there : slice_get sides i ≡ Some side) where
   its-own : is_client i (shown_side pool side) ≡ true
   its-own = eq-eqb (shown_side pool side).way.number i ((side-way pool side).1 ∙ numbered i side there)
 
-  not-its : (j : ℕ) (s : Side) → slice_get sides j ≡ Some s → j ≢ i → is_client i (shown_side pool s) ≡ false
+  not-its : (j : ℕ) (s : Side) → slice_get sides j ≡ Some s → j ≢ i
+      → is_client i (shown_side pool s) ≡ false
   not-its j s at other = ne_eqb (shown_side pool s).way.number i (λ t. other (sym ((side-way pool s).1 ∙ numbered j s at) ∙ t))
 
   pub find-side : find (is_client i) (map (shown_side pool) sides) ≡ Some (shown_side pool side)
   find-side = find-map (shown_side pool) (is_client i) sides i side there its-own not-its
 
-  pub first-side : (g : Client → Client) → at_first (is_client i) g (map (shown_side pool) sides) ≡ slice_set (map (shown_side pool) sides) i (g (shown_side pool side))
+  pub first-side : (g : Client → Client)
+      → at_first (is_client i) g (map (shown_side pool) sides) ≡ slice_set (map (shown_side pool) sides) i (g (shown_side pool side))
   first-side g = first-map (shown_side pool) (is_client i) g sides i side there its-own not-its
 
 -- an entry of session i leaves the ring
-module _ (pool after : Pool) (sides : List Side) (servers : List Serving) (tx : Ring EntryValue) (i r : ℕ) (e : EntryValue) (passes : EntryValue → Bool) (left : List EntryValue) (kept : Kept pool sides servers tx) (out : TakenOut passes e tx.items left) (own : e.owner ≡ Ask i r) where
+module _ (pool after : Pool) (sides : List Side) (servers : List Serving) (tx : Ring EntryValue)
+    (i r : ℕ) (e : EntryValue) (passes : EntryValue → Bool) (left : List EntryValue)
+    (kept : Kept pool sides servers tx) (out : TakenOut passes e tx.items left)
+    (own : e.owner ≡ Ask i r) where
   pub gone-held : IsHeld pool e.place
   gone-held = cases e.place refl
     where
@@ -124,7 +142,10 @@ module _ (pool after : Pool) (sides : List Side) (servers : List Serving) (tx : 
         }
 
 -- it was sent
-module _ (pool after : Pool) (sides now : List Side) (servers : List Serving) (tx : Ring EntryValue) (i r : ℕ) (e : EntryValue) (passes : EntryValue → Bool) (left : List EntryValue) (kept : Kept pool sides servers tx) (out : TakenOut passes e tx.items left) (own : e.owner ≡ Ask i r) (clock : ℕ) (h : SideSends e clock i sides now pool after) where
+module _ (pool after : Pool) (sides now : List Side) (servers : List Serving) (tx : Ring EntryValue)
+    (i r : ℕ) (e : EntryValue) (passes : EntryValue → Bool) (left : List EntryValue)
+    (kept : Kept pool sides servers tx) (out : TakenOut passes e tx.items left)
+    (own : e.owner ≡ Ask i r) (clock : ℕ) (h : SideSends e clock i sides now pool after) where
   sent-of : IsOfSide e (Some h.side)
   sent-of = subst (IsOfSide e) h.at (gone-stands pool after sides servers tx i r e passes left kept out own)
 
@@ -146,7 +167,10 @@ module _ (pool after : Pool) (sides now : List Side) (servers : List Serving) (t
   sent-places = ap (λ xs. spare_of after + places_in xs + served_places servers) h.changed ∙ client-places pool after sides servers i h.side (record h.side { session = h.later }) tx (ring left tx.size) h.at kept sent-acts
 
 -- it was taken out unsent
-module _ (pool after : Pool) (sides now : List Side) (servers : List Serving) (tx : Ring EntryValue) (i r : ℕ) (e : EntryValue) (passes : EntryValue → Bool) (left : List EntryValue) (kept : Kept pool sides servers tx) (out : TakenOut passes e tx.items left) (own : e.owner ≡ Ask i r) (h : SideFlushes e i sides now pool after) where
+module _ (pool after : Pool) (sides now : List Side) (servers : List Serving) (tx : Ring EntryValue)
+    (i r : ℕ) (e : EntryValue) (passes : EntryValue → Bool) (left : List EntryValue)
+    (kept : Kept pool sides servers tx) (out : TakenOut passes e tx.items left)
+    (own : e.owner ≡ Ask i r) (h : SideFlushes e i sides now pool after) where
   flushed-of : IsOfSide e (Some h.side)
   flushed-of = subst (IsOfSide e) h.at (gone-stands pool after sides servers tx i r e passes left kept out own)
 
@@ -168,7 +192,10 @@ module _ (pool after : Pool) (sides now : List Side) (servers : List Serving) (t
   flushed-places = ap (λ xs. spare_of after + places_in xs + served_places servers) h.changed ∙ client-places pool after sides servers i h.side (record h.side { session = h.later }) tx (ring left tx.size) h.at kept flushed-acts
 
 -- its packet is that of what is shown
-packet-cases : (b : Bool) (pool : Pool) (peer r : ℕ) (s : Session) (e : EntryValue) (o : Option ActiveCall) → e.owner ≡ Ask s.number r → e.peer ≡ peer → call_as r s ≡ o → IsPacketOf (call_of s e) e → packet_of pool s e ≡ ask_packet r e.number (Some (shown_end b pool peer s))
+packet-cases : (b : Bool) (pool : Pool) (peer r : ℕ) (s : Session) (e : EntryValue)
+    (o : Option ActiveCall) → e.owner ≡ Ask s.number r → e.peer ≡ peer → call_as r s ≡ o
+    → IsPacketOf (call_of s e) e
+    → packet_of pool s e ≡ ask_packet r e.number (Some (shown_end b pool peer s))
 packet-cases b pool peer r s e None own to found h =
     let none : call_of s e ≡ None = ap (λ o. find (is_owner s.number o) s.active) own ∙ same-owners s.number r s.active ∙ found in
     absurd (subst (λ o. IsPacketOf o e) none h)
@@ -176,11 +203,15 @@ packet-cases b pool peer r s e (Some c) own to found h =
     let request = eqb-true c.request r (find-passes (is_request r) s.active c found) in
     rw (ask-end b pool peer r e.number s, active-found pool r s, found, own, to, same-owners s.number r s.active, found, request) refl
 
-pub packet-shown : (pool : Pool) (side : Side) (r : ℕ) (e : EntryValue) → e.owner ≡ Ask side.session.number r → IsOfSide e (Some side) → packet_of pool side.session e ≡ ask_packet r e.number (Some (shown_side pool side))
+pub packet-shown : (pool : Pool) (side : Side) (r : ℕ) (e : EntryValue)
+    → e.owner ≡ Ask side.session.number r → IsOfSide e (Some side)
+    → packet_of pool side.session e ≡ ask_packet r e.number (Some (shown_side pool side))
 packet-shown pool side r e own is = packet-cases side.is_broken pool side.peer r side.session e (call_as r side.session) own is.0 refl is.2
 
 -- the front of the ring
-module _ (pool : Pool) (sides : List Side) (servers : List Serving) (tx : Ring EntryValue) (kept : Kept pool sides servers tx) (i r : ℕ) (e : EntryValue) (front : slice_get tx.items 0 ≡ Some e) (own : e.owner ≡ Ask i r) where
+module _ (pool : Pool) (sides : List Side) (servers : List Serving) (tx : Ring EntryValue)
+    (kept : Kept pool sides servers tx) (i r : ℕ) (e : EntryValue)
+    (front : slice_get tx.items 0 ≡ Some e) (own : e.owner ≡ Ask i r) where
   front-side : OfSide sides i e
   front-side = of-side sides servers i r e own (all-at (IsOf sides servers) tx.items 0 e kept.stands front)
 
@@ -193,7 +224,8 @@ module _ (pool : Pool) (sides : List Side) (servers : List Serving) (tx : Ring E
   pub front-peer : peer_in (shown_of pool sides servers tx) e.owner ≡ Some e.peer
   front-peer = rw (own, front-found) (ap Some ((side-way pool front-side.side).0 ∙ sym front-side.is.0))
 
-  pub front-spells : (head body : List ℕ) → SpellsIn pool e head body (slice_get sides i) → IsSpelled (packet_in (shown_of pool sides servers tx) e.owner e.number) head body
+  pub front-spells : (head body : List ℕ) → SpellsIn pool e head body (slice_get sides i)
+      → IsSpelled (packet_in (shown_of pool sides servers tx) e.owner e.number) head body
   front-spells head body h =
       let here : IsSpelled (packet_of pool front-side.side.session e) head body = subst (SpellsIn pool e head body) front-side.at h in
       let number = kept.numbered i front-side.side front-side.at in

@@ -1,5 +1,6 @@
 -- What always holds of a store holds yet, once one of its sessions acted.
-use Rattle.std.proofs.Common.{◌≡◌, ◌≢◌, ℕ, zero, suc, ◌+◌, ◌*◌, ◌≤◌, ◌<◌, Bool, true, Some, List, [], ◌∷◌, length, refl, sym, ap, subst, ◌∙◌, inl, inr, arith}
+use Rattle.std.proofs.Common.{◌≡◌, ◌≢◌, ℕ, zero, suc, ◌+◌, ◌*◌, ◌≤◌, ◌<◌, Bool, true, Some, List}
+use Rattle.std.proofs.Common.{[], ◌∷◌, length, refl, sym, ap, subst, ◌∙◌, inl, inr, arith}
 use Rattle.std.specs.Prelude.{map, slice_get, slice_set}
 use Rattle.std.specs.List.{AllByRecursion}
 use Rattle.std.proofs.lemmas.Bool.{cases_eq, cases_lt}
@@ -17,21 +18,31 @@ use Rattle.server_core.specs.Session.{Session as Serving}
 use Rattle.server_core.specs.Shown.{shown as shown_server}
 use Rattle.session_store.specs.declared.side.Side.{Side}
 use Rattle.session_store.specs.Ends.{Ascends}
-use Rattle.session_store.specs.Sides.{HasPlaces, HasSlots, IsOf, Kept, Rises, ServerHolds, ServerKept, ServerQueued, SideAscends, SideKept, SideQueued, names_in, numbers_in, places_in, served_names, served_places, shown_side}
-use Rattle.session_store.proofs.ActLemmas.{Acts, apart-then, server-holds, server-kept, server-queued, server-shown, side-kept, side-queued, side-shown}
-use Rattle.session_store.proofs.BesideLemmas.{ask-no-reply, ask-other, ask-replies, reply-asks, reply-no-reply, reply-other}
-use Rattle.session_store.proofs.ListLemmas.{all-at, all-from, all-set, get-map, get-other, get-own, map-kept, map-same, map-set, sum-one, sum-set, sum-two}
+use Rattle.session_store.specs.Sides.{HasPlaces, HasSlots, IsOf, Kept, Rises, ServerHolds}
+use Rattle.session_store.specs.Sides.{ServerKept, ServerQueued, SideAscends, SideKept, SideQueued}
+use Rattle.session_store.specs.Sides.{names_in, numbers_in, places_in, served_names, served_places}
+use Rattle.session_store.specs.Sides.{shown_side}
+use Rattle.session_store.proofs.ActLemmas.{Acts, apart-then, server-holds, server-kept}
+use Rattle.session_store.proofs.ActLemmas.{server-queued, server-shown, side-kept, side-queued}
+use Rattle.session_store.proofs.ActLemmas.{side-shown}
+use Rattle.session_store.proofs.BesideLemmas.{ask-no-reply, ask-other, ask-replies, reply-asks}
+use Rattle.session_store.proofs.BesideLemmas.{reply-no-reply, reply-other}
+use Rattle.session_store.proofs.ListLemmas.{all-at, all-from, all-set, get-map, get-other, get-own}
+use Rattle.session_store.proofs.ListLemmas.{map-kept, map-same, map-set, sum-one, sum-set, sum-two}
 use Rattle.session_store.proofs.PlaceLemmas.{full-used, named-full, served-full}
 
 -- no session names an empty place
-sides-empty : (pool : Pool) (p : ℕ) (sides : List Side) → AllByRecursion (SideKept pool) sides → is_empty (use_at pool p) ≡ true → names_in p sides ≡ 0
+sides-empty : (pool : Pool) (p : ℕ) (sides : List Side) → AllByRecursion (SideKept pool) sides
+    → is_empty (use_at pool p) ≡ true → names_in p sides ≡ 0
 sides-empty pool p [] keeps empty = refl
 sides-empty pool p (s ∷ ss) keeps empty = elim (cases_lt 0 (names p s.session.active)) [
   | inl some ↦ (let used = full-used (use_at pool p) (named-full pool p s.session.active keeps.0.kept (omega (arith, some))) in cc)
   | inr none ↦ omega (arith, sum_by-cons (λ x. names p x.session.active) s ss, sides-empty pool p ss keeps.1 empty, none)
 ]
 
-servers-empty : (pool : Pool) (p : ℕ) (servers : List Serving) → AllByRecursion (ServerKept pool) servers → is_empty (use_at pool p) ≡ true → served_names p servers ≡ 0
+servers-empty : (pool : Pool) (p : ℕ) (servers : List Serving)
+    → AllByRecursion (ServerKept pool) servers → is_empty (use_at pool p) ≡ true
+    → served_names p servers ≡ 0
 servers-empty pool p [] keeps empty = refl
 servers-empty pool p (v ∷ vs) keeps empty = elim (cases_lt 0 (slot_names p v.slots)) [
   | inl some ↦ (let used = full-used (use_at pool p) (served-full pool p v.slots keeps.0.kept (omega (arith, some))) in cc)
@@ -39,10 +50,12 @@ servers-empty pool p (v ∷ vs) keeps empty = elim (cases_lt 0 (slot_names p v.s
 ]
 
 -- numbers that rise differ
-rises-later : (n : ℕ) (ns : List ℕ) (j m : ℕ) → AllByRecursion (λ x. n < x) ns → slice_get ns j ≡ Some m → n < m
+rises-later : (n : ℕ) (ns : List ℕ) (j m : ℕ) → AllByRecursion (λ x. n < x) ns
+    → slice_get ns j ≡ Some m → n < m
 rises-later n ns j m all e = all-at (λ x. n < x) ns j m all e
 
-pub rises-apart : (ns : List ℕ) (i j n m : ℕ) → Rises ns → slice_get ns i ≡ Some n → slice_get ns j ≡ Some m → j ≢ i → m ≢ n
+pub rises-apart : (ns : List ℕ) (i j n m : ℕ) → Rises ns → slice_get ns i ≡ Some n
+    → slice_get ns j ≡ Some m → j ≢ i → m ≢ n
 rises-apart [] i j n m up e d other = cc
 rises-apart (k ∷ ks) zero zero n m up e d other = absurd (other refl)
 rises-apart (k ∷ ks) zero (suc j) n m up e d other =
@@ -56,7 +69,10 @@ rises-apart (k ∷ ks) (suc i) zero n m up e d other =
 rises-apart (k ∷ ks) (suc i) (suc j) n m up e d other = rises-apart ks i j n m up.1 e d (λ t. other (ap suc t))
 
 -- the number of a session that changed is its place
-pub numbered-set : (sides : List Side) (i : ℕ) (side later : Side) → slice_get sides i ≡ Some side → later.session.number ≡ side.session.number → ((j : ℕ) → (s : Side) → slice_get sides j ≡ Some s → s.session.number ≡ j) → (j : ℕ) → (s : Side) → slice_get (slice_set sides i later) j ≡ Some s → s.session.number ≡ j
+pub numbered-set : (sides : List Side) (i : ℕ) (side later : Side) → slice_get sides i ≡ Some side
+    → later.session.number ≡ side.session.number
+    → ((j : ℕ) → (s : Side) → slice_get sides j ≡ Some s → s.session.number ≡ j) → (j : ℕ)
+    → (s : Side) → slice_get (slice_set sides i later) j ≡ Some s → s.session.number ≡ j
 numbered-set sides i side later there same numbered j s e = elim (cases_eq j i) [
   | inl here ↦ (
       let own = get-own sides i side later there in
@@ -77,7 +93,10 @@ pub record ClientActs (pool after : Pool) (sides : List Side) (servers : List Se
   pub slots : HasSlots later
   pub spare : spare_of after + 2 * length later.session.active ≡ spare_of pool + 2 * length side.session.active
 
-module _ (pool after : Pool) (sides : List Side) (servers : List Serving) (i : ℕ) (side later : Side) (old new : Ring EntryValue) (there : slice_get sides i ≡ Some side) (kept : Kept pool sides servers old) (h : ClientActs pool after sides servers i side later old new) where
+module _ (pool after : Pool) (sides : List Side) (servers : List Serving) (i : ℕ)
+    (side later : Side) (old new : Ring EntryValue) (there : slice_get sides i ≡ Some side)
+    (kept : Kept pool sides servers old)
+    (h : ClientActs pool after sides servers i side later old new) where
   abbrev mine : EntryValue → Bool
   mine e = is_ask_of i e.owner
 
@@ -87,17 +106,21 @@ module _ (pool after : Pool) (sides : List Side) (servers : List Serving) (i : �
   abbrev now : ℕ → ℕ
   now p = names p later.session.active
 
-  other-apart : (j : ℕ) (s : Side) → slice_get sides j ≡ Some s → j ≢ i → (p : ℕ) → names p s.session.active + before p ≤ 1
+  other-apart : (j : ℕ) (s : Side) → slice_get sides j ≡ Some s → j ≢ i → (p : ℕ)
+      → names p s.session.active + before p ≤ 1
   other-apart j s at other p = omega (arith, sum-two (λ x. names p x.session.active) sides i j side s there at other, kept.apart p)
 
-  server-apart : (j : ℕ) (v : Serving) → slice_get servers j ≡ Some v → (p : ℕ) → slot_names p v.slots + before p ≤ 1
+  server-apart : (j : ℕ) (v : Serving) → slice_get servers j ≡ Some v → (p : ℕ)
+      → slot_names p v.slots + before p ≤ 1
   server-apart j v at p =
       omega (arith, sum-one (λ x. slot_names p x.slots) servers j v at, sum-one (λ x. names p x.session.active) sides i side there, kept.apart p)
 
-  other-side : (j : ℕ) (s : Side) → slice_get sides j ≡ Some s → j ≢ i → shown_side after s ≡ shown_side pool s
+  other-side : (j : ℕ) (s : Side) → slice_get sides j ≡ Some s → j ≢ i
+      → shown_side after s ≡ shown_side pool s
   other-side j s at other = side-shown mine before now pool after old new h.acts s (all-at (SideKept pool) sides j s kept.keeps at) (other-apart j s at other)
 
-  any-server : (j : ℕ) (v : Serving) → slice_get servers j ≡ Some v → shown_server after v ≡ shown_server pool v
+  any-server : (j : ℕ) (v : Serving) → slice_get servers j ≡ Some v
+      → shown_server after v ≡ shown_server pool v
   any-server j v at = server-shown mine before now pool after old new h.acts v (all-at (ServerKept pool) servers j v kept.serves at) (server-apart j v at)
 
   pub clients-set : map (shown_side after) (slice_set sides i later) ≡ slice_set (map (shown_side pool) sides) i (shown_side after later)
@@ -147,7 +170,10 @@ pub record ServerActs (pool after : Pool) (sides : List Side) (servers : List Se
   pub served : HasPlaces w
   pub spare : spare_of after + slot_places w.slots ≡ spare_of pool + slot_places v.slots
 
-module _ (pool after : Pool) (sides : List Side) (servers : List Serving) (i : ℕ) (v w : Serving) (old new : Ring EntryValue) (there : slice_get servers i ≡ Some v) (kept : Kept pool sides servers old) (h : ServerActs pool after sides servers i v w old new) where
+module _ (pool after : Pool) (sides : List Side) (servers : List Serving) (i : ℕ) (v w : Serving)
+    (old new : Ring EntryValue) (there : slice_get servers i ≡ Some v)
+    (kept : Kept pool sides servers old)
+    (h : ServerActs pool after sides servers i v w old new) where
   abbrev its : EntryValue → Bool
   its e = is_reply_of v.number e.owner
 
@@ -157,17 +183,21 @@ module _ (pool after : Pool) (sides : List Side) (servers : List Serving) (i : �
   abbrev names-then : ℕ → ℕ
   names-then p = slot_names p w.slots
 
-  client-apart : (j : ℕ) (s : Side) → slice_get sides j ≡ Some s → (p : ℕ) → names p s.session.active + named p ≤ 1
+  client-apart : (j : ℕ) (s : Side) → slice_get sides j ≡ Some s → (p : ℕ)
+      → names p s.session.active + named p ≤ 1
   client-apart j s at p =
       omega (arith, sum-one (λ x. names p x.session.active) sides j s at, sum-one (λ x. slot_names p x.slots) servers i v there, kept.apart p)
 
-  beside-apart : (j : ℕ) (x : Serving) → slice_get servers j ≡ Some x → j ≢ i → (p : ℕ) → slot_names p x.slots + named p ≤ 1
+  beside-apart : (j : ℕ) (x : Serving) → slice_get servers j ≡ Some x → j ≢ i → (p : ℕ)
+      → slot_names p x.slots + named p ≤ 1
   beside-apart j x at other p = omega (arith, sum-two (λ y. slot_names p y.slots) servers i j v x there at other, kept.apart p)
 
-  any-side : (j : ℕ) (s : Side) → slice_get sides j ≡ Some s → shown_side after s ≡ shown_side pool s
+  any-side : (j : ℕ) (s : Side) → slice_get sides j ≡ Some s
+      → shown_side after s ≡ shown_side pool s
   any-side j s at = side-shown its named names-then pool after old new h.acts s (all-at (SideKept pool) sides j s kept.keeps at) (client-apart j s at)
 
-  other-server : (j : ℕ) (x : Serving) → slice_get servers j ≡ Some x → j ≢ i → shown_server after x ≡ shown_server pool x
+  other-server : (j : ℕ) (x : Serving) → slice_get servers j ≡ Some x → j ≢ i
+      → shown_server after x ≡ shown_server pool x
   other-server j x at other = server-shown its named names-then pool after old new h.acts x (all-at (ServerKept pool) servers j x kept.serves at) (beside-apart j x at other)
 
   number-apart : (j : ℕ) (x : Serving) → slice_get servers j ≡ Some x → j ≢ i → x.number ≢ v.number

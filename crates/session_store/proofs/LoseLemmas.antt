@@ -1,5 +1,6 @@
 -- Timeouts, a session that loses its peer, and its calls that end then: what always holds of a store holds yet.
-use Rattle.std.proofs.Common.{◌≡◌, ℕ, ◌+◌, ◌≤◌, Bool, true, false, cond, eqb, Option, Some, None, List, [], ◌∷◌, refl, sym, ap, subst, ◌∙◌, inl, inr, arith}
+use Rattle.std.proofs.Common.{◌≡◌, ℕ, ◌+◌, ◌≤◌, Bool, true, false, cond, eqb, Option, Some, None}
+use Rattle.std.proofs.Common.{List, [], ◌∷◌, refl, sym, ap, subst, ◌∙◌, inl, inr, arith}
 use Rattle.std.specs.Prelude.{IfSome, IsSome, map, option_map, slice_get, slice_set}
 use Rattle.std.specs.List.{AllByRecursion, list_any}
 use Rattle.std.proofs.lemmas.Bool.{cases_eq, eq-eqb}
@@ -38,12 +39,16 @@ use Rattle.server_core.specs.Replies.{request_of}
 use Rattle.server_core.specs.Session.{Session as Serving}
 use Rattle.server_core.specs.Shown.{shown as shown_server}
 use Rattle.session_store.specs.declared.side.Side.{Side}
-use Rattle.session_store.specs.Changes.{ActiveAt, ChangesAt, IsIdle, IsLost, LosesAt, RowAt, calls_in, first_number}
+use Rattle.session_store.specs.Changes.{ActiveAt, ChangesAt, IsIdle, IsLost, LosesAt, RowAt}
+use Rattle.session_store.specs.Changes.{calls_in, first_number}
 use Rattle.session_store.specs.Effects.{LosesNext, SideLoses}
 use Rattle.session_store.specs.Ends.{progress_of, shown_end}
-use Rattle.session_store.specs.Sides.{HasSlots, IsOf, IsOfOwner, IsOfSide, Kept, ServerHolds, Shown, SideAscends, SideKept, SideQueued, places_in, queued_of, served_places, shown_of, shown_side}
+use Rattle.session_store.specs.Sides.{HasSlots, IsOf, IsOfOwner, IsOfSide, Kept, ServerHolds, Shown}
+use Rattle.session_store.specs.Sides.{SideAscends, SideKept, SideQueued, places_in, queued_of}
+use Rattle.session_store.specs.Sides.{served_places, shown_of, shown_side}
 use Rattle.session_store.proofs.EndLemmas.{calls-end}
-use Rattle.session_store.proofs.KeptLemmas.{ClientActs, client-kept, client-places, clients-set, servers-same}
+use Rattle.session_store.proofs.KeptLemmas.{ClientActs, client-kept, client-places, clients-set}
+use Rattle.session_store.proofs.KeptLemmas.{servers-same}
 use Rattle.session_store.proofs.ListLemmas.{all-at, get-map, get-other, set-own, sum-one, sum-two}
 use Rattle.session_store.proofs.PlaceLemmas.{names-ask, names-later}
 use Rattle.session_store.proofs.ReplyGoneLemmas.{end-at, named-cases, reply-stands}
@@ -54,12 +59,14 @@ use Rattle.session_store.proofs.TimerLemmas.{breaks-end, lose-end, none-left, pr
 use Rattle.session_store.proofs.UnheldLemmas.{named-found, none-at, none-named, of-call}
 
 -- the entries of the ring, none of which is session i's
-idle-seen : (i : ℕ) (es : List EntryValue) → list_any (λ (q : Queued). is_ask_of i q.owner) (map queued_of es) ≡ list_any (λ e. is_ask_of i e.owner) es
+idle-seen : (i : ℕ) (es : List EntryValue) → list_any (λ (q : Queued). is_ask_of i q.owner)
+    (map queued_of es) ≡ list_any (λ e. is_ask_of i e.owner) es
 idle-seen i [] = refl
 idle-seen i (e ∷ es) = rw (idle-seen i es) refl
 
 module _ (sides : List Side) (servers : List Serving) (i : ℕ) (later : Side) where
-  other-one : (e : EntryValue) (o : Owner) → is_ask_of i o ≡ false → IsOfOwner sides servers e o → IsOfOwner (slice_set sides i later) servers e o
+  other-one : (e : EntryValue) (o : Owner) → is_ask_of i o ≡ false → IsOfOwner sides servers e o
+      → IsOfOwner (slice_set sides i later) servers e o
   other-one e (Ask s r) other h = elim (cases_eq s i) [
     | inl here ↦ (let yes : eqb s i ≡ true = eq-eqb s i here in cc)
     | inr away ↦ subst (IsOfSide e) (sym (get-other sides i s later away)) h
@@ -67,14 +74,19 @@ module _ (sides : List Side) (servers : List Serving) (i : ℕ) (later : Side) w
   other-one e (Reply t r) other h = h
   other-one e Control other h = h
 
-  pub stands-idle : (es : List EntryValue) → list_any (λ e. is_ask_of i e.owner) es ≡ false → AllByRecursion (IsOf sides servers) es → AllByRecursion (IsOf (slice_set sides i later) servers) es
+  pub stands-idle : (es : List EntryValue) → list_any (λ e. is_ask_of i e.owner) es ≡ false
+      → AllByRecursion (IsOf sides servers) es
+      → AllByRecursion (IsOf (slice_set sides i later) servers) es
   stands-idle [] idle all = tt
   stands-idle (e ∷ es) idle all =
       let parts = or-false (is_ask_of i e.owner) (list_any (λ d. is_ask_of i d.owner) es) idle in
       (other-one e e.owner parts.0 all.0, stands-idle es parts.1 all.1)
 
 -- no entry names a place of session i
-module _ (pool : Pool) (sides : List Side) (servers : List Serving) (tx : Ring EntryValue) (kept : Kept pool sides servers tx) (i : ℕ) (side : Side) (at : slice_get sides i ≡ Some side) (idle : list_any (λ e. is_ask_of i e.owner) tx.items ≡ false) (p : ℕ) (mine : 1 ≤ names p side.session.active) where
+module _ (pool : Pool) (sides : List Side) (servers : List Serving) (tx : Ring EntryValue)
+    (kept : Kept pool sides servers tx) (i : ℕ) (side : Side) (at : slice_get sides i ≡ Some side)
+    (idle : list_any (λ e. is_ask_of i e.owner) tx.items ≡ false) (p : ℕ)
+    (mine : 1 ≤ names p side.session.active) where
   module _ (k : ℕ) (d : EntryValue) (there : slice_get tx.items k ≡ Some d) where
     not-own : is_ask_of i d.owner ≡ false
     not-own = none-at (λ e. is_ask_of i e.owner) tx.items k d idle there
@@ -115,22 +127,27 @@ module _ (pool : Pool) (sides : List Side) (servers : List Serving) (tx : Ring E
   unheld-place = kept.counted p ∙ none-named p tx.items (λ k d there. unmentioned k d there d.place refl)
 
 module _ (pool : Pool) (cs : List ActiveCall) where
-  all-unheld : (ds : List ActiveCall) → ((p : ℕ) → 1 ≤ names p ds → refs_of pool p ≡ 0) → AllByRecursion (IsUnheld pool) ds
+  all-unheld : (ds : List ActiveCall) → ((p : ℕ) → 1 ≤ names p ds → refs_of pool p ≡ 0)
+      → AllByRecursion (IsUnheld pool) ds
   all-unheld [] each = tt
   all-unheld (d ∷ ds) each = (each d.ask (names-ask d ds), all-unheld ds (λ p n. each p (names-later p d ds n)))
 
 -- as it is looked at
-module _ (pool : Pool) (sides : List Side) (servers : List Serving) (tx : Ring EntryValue) (kept : Kept pool sides servers tx) (seen-as : Shown) (view : shown_of pool sides servers tx ≡ seen-as) (i : ℕ) where
+module _ (pool : Pool) (sides : List Side) (servers : List Serving) (tx : Ring EntryValue)
+    (kept : Kept pool sides servers tx) (seen-as : Shown)
+    (view : shown_of pool sides servers tx ≡ seen-as) (i : ℕ) where
   idle-entries : IsIdle i seen-as.queued → list_any (λ e. is_ask_of i e.owner) tx.items ≡ false
   idle-entries idle =
       let here : list_any (λ (q : Queued). is_ask_of i q.owner) (map queued_of tx.items) ≡ false = rw (← view) at idle in
       sym (idle-seen i tx.items) ∙ here
 
-  unheld-cases : IsIdle i seen-as.queued → (o : Option Side) → slice_get sides i ≡ o → IfSome o (λ s. AllByRecursion (IsUnheld pool) s.session.active)
+  unheld-cases : IsIdle i seen-as.queued → (o : Option Side) → slice_get sides i ≡ o
+      → IfSome o (λ s. AllByRecursion (IsUnheld pool) s.session.active)
   unheld-cases idle None e = tt
   unheld-cases idle (Some s) e = all-unheld pool s.session.active s.session.active (λ p n. unheld-place pool sides servers tx kept i s e (idle-entries idle) p n)
 
-  pub unheld-at : IsIdle i seen-as.queued → IfSome (slice_get sides i) (λ s. AllByRecursion (IsUnheld pool) s.session.active)
+  pub unheld-at : IsIdle i seen-as.queued → IfSome (slice_get sides i)
+      (λ s. AllByRecursion (IsUnheld pool) s.session.active)
   unheld-at idle = unheld-cases idle (slice_get sides i) refl
 
   -- the peer is lost
@@ -163,18 +180,22 @@ module _ (pool : Pool) (sides : List Side) (servers : List Serving) (tx : Ring E
     })
 
   -- its calls end
-  pub lost-broken : IsLost (slice_get seen-as.clients i) → (side : Side) → slice_get sides i ≡ Some side → side.is_broken ≡ true
+  pub lost-broken : IsLost (slice_get seen-as.clients i) → (side : Side)
+      → slice_get sides i ≡ Some side → side.is_broken ≡ true
   lost-broken lost side at =
       let here : IsLost (slice_get (map (shown_side pool) sides) i) = rw (← view) at lost in
       let own : is_connected (shown_side pool side).state ≡ false = rw (get-map (shown_side pool) sides i side at) at here in
       by side.is_broken own
     where
-      by : (b : Bool) → is_connected (shown_end b pool side.peer side.session).state ≡ false → b ≡ true
+      by : (b : Bool) → is_connected (shown_end b pool side.peer side.session).state ≡ false
+          → b ≡ true
       by true h = refl
       by false h = cc
 
 -- a waiting call that is given up takes no place
-lost-cases : (pool after : Pool) (old new : Session) (d : Done) (o : Option ActiveCall) → IsSession old → KeepsPool pool old.active → next_lost old ≡ o → Loses o d old new pool after → Spends pool after old new
+lost-cases : (pool after : Pool) (old new : Session) (d : Done) (o : Option ActiveCall)
+    → IsSession old → KeepsPool pool old.active → next_lost old ≡ o → Loses o d old new pool after
+    → Spends pool after old new
 lost-cases pool after old new d None sound keeps e g = record {
   number = ap (λ (x : Session). x.number) g.0.session;
   fewer = rw g.0.session (omega arith);
@@ -185,7 +206,8 @@ lost-cases pool after old new d (Some c) sound keeps e g =
     let own = by-request old test c sound found in
     ended-spends pool after old new test c keeps found own g.session g.pool
 
-lost-spends : (pool after : Pool) (old new : Session) (o : Option Done) → KeepsPool pool old.active → LosesNext o old new pool after → Spends pool after old new
+lost-spends : (pool after : Pool) (old new : Session) (o : Option Done) → KeepsPool pool old.active
+    → LosesNext o old new pool after → Spends pool after old new
 lost-spends pool after old new None keeps h = record {
   number = ap (λ (x : Session). x.number) h.unchanged.0;
   fewer = rw h.unchanged.0 (omega arith);
@@ -194,11 +216,16 @@ lost-spends pool after old new None keeps h = record {
 lost-spends pool after old new (Some d) keeps h = lost-cases pool after old new d (next_lost old) h.sound keeps refl h.loses
 
 -- the first call of session i ended, if there was one
-module _ (pool after : Pool) (sides now : List Side) (servers : List Serving) (tx : Ring EntryValue) (kept : Kept pool sides servers tx) (seen-as : Shown) (view : shown_of pool sides servers tx ≡ seen-as) (i : ℕ) (idle : IsIdle i seen-as.queued) (o : Option Done) (h : SideLoses i o sides now pool after) (broken : h.side.is_broken ≡ true) where
+module _ (pool after : Pool) (sides now : List Side) (servers : List Serving) (tx : Ring EntryValue)
+    (kept : Kept pool sides servers tx) (seen-as : Shown)
+    (view : shown_of pool sides servers tx ≡ seen-as) (i : ℕ) (idle : IsIdle i seen-as.queued)
+    (o : Option Done) (h : SideLoses i o sides now pool after)
+    (broken : h.side.is_broken ≡ true) where
   abbrev less : Side
   less = record h.side { session = h.later }
 
-  up-cases : (d : Option Done) → LosesNext d h.side.session h.later pool after → SideAscends after less
+  up-cases : (d : Option Done) → LosesNext d h.side.session h.later pool after
+      → SideAscends after less
   up-cases None g = rw (g.unchanged.0, g.unchanged.1) (all-at (SideAscends pool) sides i h.side kept.ascends h.at)
   up-cases (Some d) g = (lose-end h.side.is_broken pool after h.side.peer d h.side.session h.later broken (all-at (SideAscends pool) sides i h.side kept.ascends h.at) g.loses g.step).calls
 
@@ -231,7 +258,9 @@ module _ (pool after : Pool) (sides now : List Side) (servers : List Serving) (t
   place : slice_get (map (shown_side pool) sides) i ≡ Some (shown_side pool h.side)
   place = get-map (shown_side pool) sides i h.side h.at
 
-  loses-cases : (d : Option Done) → LosesNext d h.side.session h.later pool after → LosesAt i (option_map (λ (x : Done). x.call) d) (map (shown_side pool) sides) (map (shown_side after) now)
+  loses-cases : (d : Option Done) → LosesNext d h.side.session h.later pool after
+      → LosesAt i (option_map (λ (x : Done). x.call) d) (map (shown_side pool) sides)
+      (map (shown_side after) now)
   loses-cases None g =
       let none = sym (none-left h.side.is_broken pool h.side.peer h.side.session (g.none.0 refl)) in
       let same : shown_side after less ≡ shown_side pool h.side = rw (g.unchanged.0, g.unchanged.1) refl in
@@ -246,7 +275,9 @@ module _ (pool after : Pool) (sides now : List Side) (servers : List Serving) (t
   lose-clients = rw (← view) (loses-cases o h.step)
 
 -- a look at a call's clock
-module _ (pool : Pool) (sides : List Side) (servers : List Serving) (tx : Ring EntryValue) (seen-as : Shown) (view : shown_of pool sides servers tx ≡ seen-as) (i : ℕ) (a : Active) (is : ActiveAt i a seen-as.clients) (side : Side) (at : slice_get sides i ≡ Some side) where
+module _ (pool : Pool) (sides : List Side) (servers : List Serving) (tx : Ring EntryValue)
+    (seen-as : Shown) (view : shown_of pool sides servers tx ≡ seen-as) (i : ℕ) (a : Active)
+    (is : ActiveAt i a seen-as.clients) (side : Side) (at : slice_get sides i ≡ Some side) where
   its-client : is.client ≡ shown_side pool side
   its-client =
       let there : slice_get (map (shown_side pool) sides) i ≡ Some is.client = ap (λ (v : Shown). slice_get v.clients i) view ∙ is.place in
@@ -271,15 +302,21 @@ module _ (pool : Pool) (sides : List Side) (servers : List Serving) (tx : Ring E
   pub watched-active : IsSome (call_numbered a.call side.session)
   watched-active = rw watched.found refl
 
-  row-by : (now timeout : ℕ) (c : ActiveCall) (p : Progress) (row : TimerRow) → Some p ≡ (shown_active pool c).progress → call_timer now timeout (list_any (is_queued (Ask i c.request) c.got) seen-as.queued) c ≡ row → row_of now timeout i seen-as.queued p ≡ row
+  row-by : (now timeout : ℕ) (c : ActiveCall) (p : Progress) (row : TimerRow)
+      → Some p ≡ (shown_active pool c).progress
+      → call_timer now timeout (list_any (is_queued (Ask i c.request) c.got) seen-as.queued) c ≡ row
+      → row_of now timeout i seen-as.queued p ≡ row
   row-by now timeout c p row e h = subst (λ (o : Option Progress). IfSome o (λ x. row_of now timeout i seen-as.queued x ≡ row)) (sym e) h
 
-  pub row-at : (now timeout : ℕ) (row : TimerRow) → call_timer now timeout (list_any (is_queued (Ask i watched.call.request) watched.call.got) seen-as.queued) watched.call ≡ row → RowAt now timeout i a.call row seen-as
+  pub row-at : (now timeout : ℕ) (row : TimerRow)
+      → call_timer now timeout (list_any (is_queued (Ask i watched.call.request) watched.call.got) seen-as.queued) watched.call ≡ row
+      → RowAt now timeout i a.call row seen-as
   row-at now timeout row h =
       let found : slice_get seen-as.clients i ≡ Some is.client = is.place in
       rw (found, is.active) (row-by now timeout watched.call is.progress row watched.progress h)
 
-  told-same : (c : ActiveCall) (p : Progress) → Some p ≡ (shown_active pool c).progress → (p.request ≡ c.request) × (p.got ≡ c.got)
+  told-same : (c : ActiveCall) (p : Progress) → Some p ≡ (shown_active pool c).progress
+      → (p.request ≡ c.request) × (p.got ≡ c.got)
   told-same c p e =
       (subst (λ (o : Option Progress). IfSome o (λ x. x.request ≡ c.request)) (sym e) refl, subst (λ (o : Option Progress). IfSome o (λ x. x.got ≡ c.got)) (sym e) refl)
 
@@ -290,22 +327,31 @@ module _ (pool : Pool) (sides : List Side) (servers : List Serving) (tx : Ring E
   watched-got = ap (λ (x : Active). x.got) is.told ∙ (told-same watched.call is.progress watched.progress).1
 
   -- where the clock alone lets it wait
-  pub quiet-row : (now timeout : ℕ) → IfSome (call_numbered a.call side.session) (λ c. (b : Bool) → call_timer now timeout b c ≡ Waits) → RowAt now timeout i a.call Waits seen-as
+  pub quiet-row : (now timeout : ℕ) → IfSome (call_numbered a.call side.session)
+      (λ c. (b : Bool) → call_timer now timeout b c ≡ Waits)
+      → RowAt now timeout i a.call Waits seen-as
   quiet-row now timeout h =
       let waits : (b : Bool) → call_timer now timeout b watched.call ≡ Waits = rw watched.found at h in
       row-at now timeout Waits (waits (list_any (is_queued (Ask i watched.call.request) watched.call.got) seen-as.queued))
 
-  pub late-row : (now timeout : ℕ) (is_waiting : Bool) (t : Timer) (row : TimerRow) → is_waiting ≡ list_any (is_queued (Ask i a.request) a.got) seen-as.queued → IfSome (call_numbered a.call side.session) (λ c. t ≡ timer_told (call_timer now timeout is_waiting c) c) → ((c : ActiveCall) → (r : TimerRow) → t ≡ timer_told r c → r ≡ row) → RowAt now timeout i a.call row seen-as
+  pub late-row : (now timeout : ℕ) (is_waiting : Bool) (t : Timer) (row : TimerRow)
+      → is_waiting ≡ list_any (is_queued (Ask i a.request) a.got) seen-as.queued
+      → IfSome (call_numbered a.call side.session)
+      (λ c. t ≡ timer_told (call_timer now timeout is_waiting c) c)
+      → ((c : ActiveCall) → (r : TimerRow) → t ≡ timer_told r c → r ≡ row)
+      → RowAt now timeout i a.call row seen-as
   late-row now timeout is_waiting t row waits told back =
       let here : t ≡ timer_told (call_timer now timeout is_waiting watched.call) watched.call = rw watched.found at told in
       let same : is_waiting ≡ list_any (is_queued (Ask i watched.call.request) watched.call.got) seen-as.queued = waits ∙ ap (λ r. list_any (is_queued (Ask i r) a.got) seen-as.queued) watched-request ∙ ap (λ k. list_any (is_queued (Ask i watched.call.request) k) seen-as.queued) watched-got in
       row-at now timeout row (ap (λ b. call_timer now timeout b watched.call) (sym same) ∙ back watched.call (call_timer now timeout is_waiting watched.call) here)
 
 -- a call that is lost ends so
-lost-outcome : (old new : Session) (pool after : Pool) (d : Done) (o : Option ActiveCall) → Loses o d old new pool after → d.outcome ≡ PeerLost
+lost-outcome : (old new : Session) (pool after : Pool) (d : Done) (o : Option ActiveCall)
+    → Loses o d old new pool after → d.outcome ≡ PeerLost
 lost-outcome old new pool after d None g = g.0.done.ended_as
 lost-outcome old new pool after d (Some c) g = g.done.ended_as
 
-pub lost-as : (old new : Session) (pool after : Pool) (o : Option Done) → LosesNext o old new pool after → IfSome o (λ d. d.outcome ≡ PeerLost)
+pub lost-as : (old new : Session) (pool after : Pool) (o : Option Done)
+    → LosesNext o old new pool after → IfSome o (λ d. d.outcome ≡ PeerLost)
 lost-as old new pool after None h = tt
 lost-as old new pool after (Some d) h = lost-outcome old new pool after d (next_lost old) h.loses

@@ -1,5 +1,6 @@
 -- What a session's posting and its beginning do to its calls, to its credits and to the pool.
-use Rattle.std.proofs.Common.{◌≡◌, ◌≢◌, ℕ, ◌+◌, ◌%◌, ◌≤◌, ◌<◌, Bool, true, false, cond, ltb, Option, Some, None, List, [], ◌∷◌, length, refl, sym, ap, ◌∙◌, arith}
+use Rattle.std.proofs.Common.{◌≡◌, ◌≢◌, ℕ, ◌+◌, ◌%◌, ◌≤◌, ◌<◌, Bool, true, false, cond, ltb, Option}
+use Rattle.std.proofs.Common.{Some, None, List, [], ◌∷◌, length, refl, sym, ap, ◌∙◌, arith}
 use Rattle.std.specs.Prelude.{IfSome, option_map, count_by, is_none, is_some, ◌==◌}
 use Rattle.std.specs.List.{find, position_or_len}
 use Rattle.std.proofs.lemmas.Bool.{eqb-false}
@@ -16,17 +17,20 @@ use Rattle.credit_book.specs.Credits.{charged}
 use Rattle.session_slots.specs.Slots.{lowest_free}
 use Rattle.client_core.specs.declared.call.ActiveCall.{ActiveCall}
 use Rattle.client_core.specs.KeepsPool.{IsKept, KeepsPool}
-use Rattle.client_core.specs.Posting.{Starts, after_posting, entry_of, next_call, next_entry, one_posted, posted, started}
+use Rattle.client_core.specs.Posting.{Starts, after_posting, entry_of, next_call, next_entry}
+use Rattle.client_core.specs.Posting.{one_posted, posted, started}
 use Rattle.client_core.specs.Session.{IsSession, Session, call_in, can_post}
 use Rattle.client_core.proofs.CallsLemmas.{length-at_first}
 use Rattle.client_core.proofs.SessionLemmas.{free-at}
 
 -- places of a pool in which one is held or given up
-pub spare-held : (pool : Pool) (place : Option ℕ) → IfSome place (IsFull pool) → spare_of (held_at place pool) ≡ spare_of pool
+pub spare-held : (pool : Pool) (place : Option ℕ) → IfSome place (IsFull pool)
+    → spare_of (held_at place pool) ≡ spare_of pool
 spare-held pool None full = refl
 spare-held pool (Some p) full = spare_held pool p full
 
-pub spare-released : (pool : Pool) (place : Option ℕ) → IsHeld pool place → spare_of (released_at place pool) ≡ spare_of pool
+pub spare-released : (pool : Pool) (place : Option ℕ) → IsHeld pool place
+    → spare_of (released_at place pool) ≡ spare_of pool
 spare-released pool None some = refl
 spare-released pool (Some p) some = spare_released pool p some
 
@@ -39,7 +43,9 @@ pub record PostsCall (peer : ℕ) (s : Session) (e : EntryValue) : Type 0 where
   pub entry : e ≡ entry_of s.number peer call
 
 module _ (peer : ℕ) (s : Session) (e : EntryValue) where
-  posts-free : (b : Bool) (o : Option ActiveCall) → (s.credits.free == 0) ≡ b → find can_post s.active ≡ o → Some e ≡ option_map (entry_of s.number peer) (cond b None o) → PostsCall peer s e
+  posts-free : (b : Bool) (o : Option ActiveCall) → (s.credits.free == 0) ≡ b
+      → find can_post s.active ≡ o → Some e ≡ option_map (entry_of s.number peer) (cond b None o)
+      → PostsCall peer s e
   posts-free true o t f h = cc
   posts-free false None t f h = cc
   posts-free false (Some c) t f h =
@@ -53,7 +59,9 @@ module _ (peer : ℕ) (s : Session) (e : EntryValue) where
   posts-call h = posts-free (s.credits.free == 0) (find can_post s.active) refl refl h
 
 -- one packet was posted
-module _ (pool after : Pool) (peer : ℕ) (s new : Session) (e : EntryValue) (keeps : KeepsPool pool s.active) (is : Some e ≡ next_entry peer s) (changed : new ≡ posted s) (effect : after ≡ held_at e.place pool) where
+module _ (pool after : Pool) (peer : ℕ) (s new : Session) (e : EntryValue)
+    (keeps : KeepsPool pool s.active) (is : Some e ≡ next_entry peer s) (changed : new ≡ posted s)
+    (effect : after ≡ held_at e.place pool) where
   poster : PostsCall peer s e
   poster = posts-call peer s e is
 
@@ -86,27 +94,32 @@ module _ {A : Type 0} where
   count-most (None ∷ xs) = omega (arith, counted-cons is_some None xs false refl, count-most xs)
   count-most (Some x ∷ xs) = omega (arith, counted-cons is_some (Some x) xs true refl, count-most xs)
 
-  some-free : (xs : List (Option A)) → position_or_len is_none xs < length xs → count_by is_some xs < length xs
+  some-free : (xs : List (Option A)) → position_or_len is_none xs < length xs
+      → count_by is_some xs < length xs
   some-free [] h = absurd (omega (arith, h))
   some-free (None ∷ xs) h = omega (arith, counted-cons is_some None xs false refl, count-most xs)
   some-free (Some x ∷ xs) h = omega (arith, counted-cons is_some (Some x) xs true refl, some-free xs (omega (arith, h)))
 
-pub free-slot : (s : Session) (i : ℕ) → IsSession s → lowest_free s.slots ≡ Some i → length s.active < 8
+pub free-slot : (s : Session) (i : ℕ) → IsSession s → lowest_free s.slots ≡ Some i
+    → length s.active < 8
 free-slot s i sound e =
     let (same, within) = found-at (position_or_len is_none s.slots.slots) (length s.slots.slots) i _ refl e in
     omega (arith, sound.count, sound.sound.slots, some-free s.slots.slots within)
 
 -- no active call has it
-no-call : (o : Option ActiveCall) → {B : Type 0} (f : ActiveCall → B) → None ≡ option_map f o → o ≡ None
+no-call : (o : Option ActiveCall) → {B : Type 0} (f : ActiveCall → B) → None ≡ option_map f o
+    → o ≡ None
 no-call None f e = refl
 no-call (Some c) f e = cc
 
-pub slot-empty : (s : Session) (i : ℕ) → IsSession s → lowest_free s.slots ≡ Some i → call_in i s.active ≡ None
+pub slot-empty : (s : Session) (i : ℕ) → IsSession s → lowest_free s.slots ≡ Some i
+    → call_in i s.active ≡ None
 slot-empty s i sound e =
     let (within, none) = free-at s.slots.slots i e in
     no-call (call_in i s.active) _ (sym none ∙ sound.slots i (omega (arith, within, sound.sound.slots)))
 
-module _ (pool after : Pool) (s new : Session) (b : ℕ × ℕ) (h : Starts b.0 b.1 s new pool after) where
+module _ (pool after : Pool) (s new : Session) (b : ℕ × ℕ)
+    (h : Starts b.0 b.1 s new pool after) where
   abbrev middle : Pool
   middle = filled h.ask h.waiting.req pool
 

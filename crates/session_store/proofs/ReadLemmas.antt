@@ -10,7 +10,9 @@ use Rattle.session_store.specs.declared.side.Side.{Side}
 use Rattle.session_store.specs.Sides.{Shown, shown_of, shown_side}
 use Rattle.session_store.proofs.ListLemmas.{get-map}
 
-module _ (pool : Pool) (sides : List Side) (servers : List Serving) (tx : Ring EntryValue) (seen : Shown) (view : shown_of pool sides servers tx ≡ seen) (i : ℕ) (s : Side) (at : slice_get sides i ≡ Some s) where
+module _ (pool : Pool) (sides : List Side) (servers : List Serving) (tx : Ring EntryValue)
+    (seen : Shown) (view : shown_of pool sides servers tx ≡ seen) (i : ℕ) (s : Side)
+    (at : slice_get sides i ≡ Some s) where
   pub client-at : slice_get seen.clients i ≡ Some (shown_side pool s)
   client-at = ap (λ (v : Shown). slice_get v.clients i) (sym view) ∙ get-map (shown_side pool) sides i s at
 

@@ -1,11 +1,13 @@
 -- What a reply to a call does to all that always holds of a store.
-use Rattle.std.proofs.Common.{◌≡◌, ℕ, ◌+◌, ◌*◌, ◌≤◌, Bool, true, false, not, cond, eqb, Option, Some, None, List, length, refl, sym, ap, subst, ◌∙◌, arith}
+use Rattle.std.proofs.Common.{◌≡◌, ℕ, ◌+◌, ◌*◌, ◌≤◌, Bool, true, false, not, cond, eqb, Option}
+use Rattle.std.proofs.Common.{Some, None, List, length, refl, sym, ap, subst, ◌∙◌, arith}
 use Rattle.std.specs.Prelude.{IfSome, map, slice_get, slice_set, sum_by}
 use Rattle.std.specs.List.{AllByRecursion, find, list_any}
 use Rattle.std.proofs.lemmas.Bool.{eq-eqb, eqb-true, ne_eqb}
 use Rattle.rpc_base.specs.declared.owner.Owner.TheVariants.{Ask}
 use Rattle.rpc_base.specs.declared.state.DropReason.{DropReason}
-use Rattle.rpc_base.specs.declared.state.DropReason.TheVariants.{NoSession, WrongPeer, Past, Ahead, Mismatch, Queued as StillQueued}
+use Rattle.rpc_base.specs.declared.state.DropReason.TheVariants.{NoSession, WrongPeer, Past, Ahead}
+use Rattle.rpc_base.specs.declared.state.DropReason.TheVariants.{Mismatch, Queued as StillQueued}
 use Rattle.rpc_base.proofs.ChangedLemmas.{length-without}
 use Rattle.rpc_base.proofs.FirstLemmas.{found-holds}
 use Rattle.rpc_base.proofs.TakingLemmas.{find-passes}
@@ -31,7 +33,9 @@ use Rattle.client_core.specs.declared.outcome.Reply.{Reply}
 use Rattle.client_core.specs.declared.outcome.Reply.TheVariants.{Took, Ended, Dropped}
 use Rattle.client_core.specs.KeepsEntries.{RepliesKeep}
 use Rattle.client_core.specs.KeepsPool.{IsKept, KeepsPool}
-use Rattle.client_core.specs.Replies.{NextIsUnheld, Replies, answered, call_as, is_request, replied, reply_row, rewritten_at, row_told, with_part, without_buffers, without_call}
+use Rattle.client_core.specs.Replies.{NextIsUnheld, Replies, answered, call_as, is_request, replied}
+use Rattle.client_core.specs.Replies.{reply_row, rewritten_at, row_told, with_part, without_buffers}
+use Rattle.client_core.specs.Replies.{without_call}
 use Rattle.client_core.specs.Session.{Session}
 use Rattle.client_core.proofs.CallsLemmas.{length-at_first}
 use Rattle.client_core.proofs.PlacesLemmas.{two-places}
@@ -40,9 +44,12 @@ use Rattle.server_core.specs.Shown.{shown as shown_server}
 use Rattle.session_store.specs.declared.side.Side.{Side}
 use Rattle.session_store.specs.Effects.{SideReplies}
 use Rattle.session_store.specs.Hearing.{RepliesAt}
-use Rattle.session_store.specs.Sides.{HasSlots, IsOf, Kept, Shown, SideAscends, SideKept, SideQueued, places_in, queued_of, served_places, shown_of, shown_side}
+use Rattle.session_store.specs.Sides.{HasSlots, IsOf, Kept, Shown, SideAscends, SideKept}
+use Rattle.session_store.specs.Sides.{SideQueued, places_in, queued_of, served_places, shown_of}
+use Rattle.session_store.specs.Sides.{shown_side}
 use Rattle.session_store.proofs.EndLemmas.{Replied, facts-end, reply-steps}
-use Rattle.session_store.proofs.KeptLemmas.{ClientActs, client-kept, client-places, clients-set, servers-same}
+use Rattle.session_store.proofs.KeptLemmas.{ClientActs, client-kept, client-places, clients-set}
+use Rattle.session_store.proofs.KeptLemmas.{servers-same}
 use Rattle.session_store.proofs.ListLemmas.{all-at, get-map, set-own}
 use Rattle.session_store.proofs.StandLemmas.{stands-all, stands-but}
 use Rattle.session_store.proofs.UnheldLemmas.{entry-queued, next-unheld, none-queued}
@@ -53,16 +60,22 @@ pub record Spends (pool after : Pool) (old new : Session) : Type 0 where
   pub fewer : length new.active ≤ length old.active
   pub spare : spare_of after + 2 * length new.active ≡ spare_of pool + 2 * length old.active
 
-uses-cases : (c : ActiveCall) (h : MessageHeader) (body : List ℕ) (pool : Pool) (k : Bool) (o : Option Buffer) → (cond k (rewritten_at c.answer (with_part c h body) o pool) pool).uses ≡ pool.uses
+uses-cases : (c : ActiveCall) (h : MessageHeader) (body : List ℕ) (pool : Pool) (k : Bool)
+    (o : Option Buffer)
+    → (cond k (rewritten_at c.answer (with_part c h body) o pool) pool).uses ≡ pool.uses
 uses-cases c h body pool true None = refl
 uses-cases c h body pool true (Some b) = refl
 uses-cases c h body pool false o = refl
 
-answered-uses : (c : ActiveCall) (h : MessageHeader) (body : List ℕ) (pool : Pool) → (answered c h body pool).uses ≡ pool.uses
+answered-uses : (c : ActiveCall) (h : MessageHeader) (body : List ℕ) (pool : Pool)
+    → (answered c h body pool).uses ≡ pool.uses
 answered-uses c h body pool = uses-cases c h body pool (is_response h.kind) (buf_at pool c.answer)
 
 -- a call that is over gives its two places back
-pub ended-spends : (pool after : Pool) (old new : Session) (by : ActiveCall → Bool) (c : ActiveCall) → KeepsPool pool old.active → find by old.active ≡ Some c → find (is_request c.request) old.active ≡ Some c → new ≡ without_call c old → after ≡ without_buffers c pool → Spends pool after old new
+pub ended-spends : (pool after : Pool) (old new : Session) (by : ActiveCall → Bool) (c : ActiveCall)
+    → KeepsPool pool old.active → find by old.active ≡ Some c
+    → find (is_request c.request) old.active ≡ Some c → new ≡ without_call c old
+    → after ≡ without_buffers c pool → Spends pool after old new
 ended-spends pool after old new by c keeps found same session effect =
     let own = found-holds by (IsKept pool) old.active c keeps.kept found in
     let apart = two-places by c old.active found (keeps.apart c.ask) in
@@ -75,8 +88,10 @@ ended-spends pool after old new by c keeps found same session effect =
       spare = omega (arith, long, less, ap (λ (x : Pool). spare_of x) effect, spare_emptied (emptied c.ask pool) c.answer full, spare_emptied pool c.ask own.ask);
     }
 
-module _ (pool after : Pool) (old new : Session) (clock : ℕ) (h : MessageHeader) (body : List ℕ) (keeps : KeepsPool pool old.active) where
-  replies-spend : (r : Reply) → Replies r clock h body old new pool after → Spends pool after old new
+module _ (pool after : Pool) (old new : Session) (clock : ℕ) (h : MessageHeader) (body : List ℕ)
+    (keeps : KeepsPool pool old.active) where
+  replies-spend : (r : Reply) → Replies r clock h body old new pool after
+      → Spends pool after old new
   replies-spend Took g =
       let c = g.0 in
       let long = ap (λ (x : Session). length x.active) g.1.session ∙ length-at_first (is_request c.request) (replied clock h) old.active in
@@ -97,26 +112,37 @@ module _ (pool after : Pool) (old new : Session) (clock : ℕ) (h : MessageHeade
   }
 
 -- what is taken isn't queued
-idle-row : (a b c w : Bool) → Takes ≡ cond a (Drops Past) (cond b (Drops Ahead) (cond c (Drops Mismatch) (cond w (Drops StillQueued) Takes))) → w ≡ false
+idle-row : (a b c w : Bool) → Takes ≡ cond a (Drops Past)
+    (cond b (Drops Ahead) (cond c (Drops Mismatch) (cond w (Drops StillQueued) Takes))) → w ≡ false
 idle-row a b c false e = refl
 idle-row true b c true e = cc
 idle-row false true c true e = cc
 idle-row false false true true e = cc
 idle-row false false false true e = cc
 
-row-idle : (w : Bool) (h : MessageHeader) (n : ℕ) (o : Option ActiveCall) (c : ActiveCall) → o ≡ Some c → Takes ≡ reply_row w h n o → w ≡ false
+row-idle : (w : Bool) (h : MessageHeader) (n : ℕ) (o : Option ActiveCall) (c : ActiveCall)
+    → o ≡ Some c → Takes ≡ reply_row w h n o → w ≡ false
 row-idle w h n None c f e = cc
 row-idle w h n (Some d) c f e = idle-row _ _ _ w e
 
 -- session i handled a reply
-module _ (pool after : Pool) (sides now : List Side) (servers : List Serving) (tx : Ring EntryValue) (i clock : ℕ) (h : MessageHeader) (body : List ℕ) (is_waiting : Bool) (r : Reply) (kept : Kept pool sides servers tx) (g : SideReplies i clock h body is_waiting r sides now pool after) (connected : g.side.is_broken ≡ false) (session : h.session ≡ i) (windows : Windows (map (shown_side pool) sides) (map queued_of tx.items)) (waits : is_waiting ≡ list_any (is_entry (Ask i h.request) h.number) tx.items) where
+module _ (pool after : Pool) (sides now : List Side) (servers : List Serving) (tx : Ring EntryValue)
+    (i clock : ℕ) (h : MessageHeader) (body : List ℕ) (is_waiting : Bool) (r : Reply)
+    (kept : Kept pool sides servers tx)
+    (g : SideReplies i clock h body is_waiting r sides now pool after)
+    (connected : g.side.is_broken ≡ false) (session : h.session ≡ i)
+    (windows : Windows (map (shown_side pool) sides) (map queued_of tx.items))
+    (waits : is_waiting ≡ list_any (is_entry (Ask i h.request) h.number) tx.items) where
   abbrev heard : Side
   heard = record g.side { session = g.later }
 
   steps : Replied clock r h body g.side.is_broken pool after g.side.peer g.side.session g.later
   steps = reply-steps clock r h body g.side.is_broken pool after g.side.peer g.side.session g.later connected (all-at (SideAscends pool) sides i g.side kept.ascends g.at) g.step.step
 
-  stands-cases : (q : Reply) → row_told q ≡ reply_row is_waiting h (length body) (call_as h.request g.side.session) → Replies q clock h body g.side.session g.later pool after → RepliesKeep q h.request g.side.session g.later → AllByRecursion (IsOf (slice_set sides i heard) servers) tx.items
+  stands-cases : (q : Reply) → row_told q ≡ reply_row is_waiting h (length body)
+      (call_as h.request g.side.session) → Replies q clock h body g.side.session g.later pool after
+      → RepliesKeep q h.request g.side.session g.later
+      → AllByRecursion (IsOf (slice_set sides i heard) servers) tx.items
   stands-cases Took row replies entries = stands-all sides servers i g.side heard g.at refl refl entries tx.items kept.stands
   stands-cases (Dropped why) row replies entries = stands-all sides servers i g.side heard g.at refl refl entries tx.items kept.stands
   stands-cases (Ended d) row replies entries =
@@ -144,7 +170,9 @@ module _ (pool after : Pool) (sides now : List Side) (servers : List Serving) (t
   pub heard-kept : Kept after now servers tx
   heard-kept = subst (λ xs. Kept after xs servers tx) (sym g.changed) (client-kept pool after sides servers i g.side heard tx tx g.at kept heard-acts)
 
-  pub heard-clients : (peer : ℕ) → peer ≡ g.side.peer → RepliesAt i clock peer h body is_waiting r (map (shown_side pool) sides) (map (shown_side after) now)
+  pub heard-clients : (peer : ℕ) → peer ≡ g.side.peer
+      → RepliesAt i clock peer h body is_waiting r (map (shown_side pool) sides)
+      (map (shown_side after) now)
   heard-clients peer same = record {
     client = shown_side pool g.side;
     at = get-map (shown_side pool) sides i g.side g.at;
@@ -162,8 +190,12 @@ module _ (pool after : Pool) (sides now : List Side) (servers : List Serving) (t
   heard-places = ap (λ xs. spare_of after + places_in xs + served_places servers) g.changed ∙ client-places pool after sides servers i g.side heard tx tx g.at kept heard-acts
 
 -- a reply to a session that takes none
-module _ (pool : Pool) (sides : List Side) (i clock peer : ℕ) (h : MessageHeader) (body : List ℕ) (is_waiting : Bool) (side : Side) (at : slice_get sides i ≡ Some side) where
-  dropped-clients : (why : DropReason) → ((queue : List Queued) → client_row queue (Some (shown_side pool side)) peer h (length body) ≡ Drops why) → RepliesAt i clock peer h body is_waiting (Dropped why) (map (shown_side pool) sides) (map (shown_side pool) sides)
+module _ (pool : Pool) (sides : List Side) (i clock peer : ℕ) (h : MessageHeader) (body : List ℕ)
+    (is_waiting : Bool) (side : Side) (at : slice_get sides i ≡ Some side) where
+  dropped-clients : (why : DropReason)
+      → ((queue : List Queued) → client_row queue (Some (shown_side pool side)) peer h (length body) ≡ Drops why)
+      → RepliesAt i clock peer h body is_waiting (Dropped why) (map (shown_side pool) sides)
+      (map (shown_side pool) sides)
   dropped-clients why row =
       let place = get-map (shown_side pool) sides i side at in
       record {
@@ -176,26 +208,38 @@ module _ (pool : Pool) (sides : List Side) (i clock peer : ℕ) (h : MessageHead
         changed = sym (set-own (map (shown_side pool) sides) i (shown_side pool side) place);
       }
 
-  pub broken-clients : side.is_broken ≡ true → RepliesAt i clock peer h body is_waiting (Dropped NoSession) (map (shown_side pool) sides) (map (shown_side pool) sides)
+  pub broken-clients : side.is_broken ≡ true
+      → RepliesAt i clock peer h body is_waiting (Dropped NoSession) (map (shown_side pool) sides)
+      (map (shown_side pool) sides)
   broken-clients broken = dropped-clients NoSession (λ queue. rw broken refl)
 
-  pub other-clients : side.is_broken ≡ false → (peer ≡ side.peer → ⊥) → RepliesAt i clock peer h body is_waiting (Dropped WrongPeer) (map (shown_side pool) sides) (map (shown_side pool) sides)
+  pub other-clients : side.is_broken ≡ false → (peer ≡ side.peer → ⊥)
+      → RepliesAt i clock peer h body is_waiting (Dropped WrongPeer) (map (shown_side pool) sides)
+      (map (shown_side pool) sides)
   other-clients connected other =
       let differ : (eqb side.peer peer) ≡ false = ne_eqb side.peer peer (λ t. other (sym t)) in
       dropped-clients WrongPeer (λ queue. rw (connected, differ) refl)
 
 -- as it is looked at
-module _ (pool : Pool) (sides : List Side) (servers : List Serving) (tx : Ring EntryValue) (seen : Shown) (view : shown_of pool sides servers tx ≡ seen) (i : ℕ) where
-  pub seen-windows : Windows seen.clients seen.queued → Windows (map (shown_side pool) sides) (map queued_of tx.items)
+module _ (pool : Pool) (sides : List Side) (servers : List Serving) (tx : Ring EntryValue)
+    (seen : Shown) (view : shown_of pool sides servers tx ≡ seen) (i : ℕ) where
+  pub seen-windows : Windows seen.clients seen.queued → Windows (map (shown_side pool) sides)
+      (map queued_of tx.items)
   seen-windows w = rw (← view) at w
 
-  pub seen-waits : (r k : ℕ) → list_any (is_queued (Ask i r) k) seen.queued ≡ list_any (is_entry (Ask i r) k) tx.items
+  pub seen-waits : (r k : ℕ)
+      → list_any (is_queued (Ask i r) k) seen.queued ≡ list_any (is_entry (Ask i r) k) tx.items
   seen-waits r k = rw (← view) (entry-queued i r k tx.items)
 
-  pub seen-unheld : (h : MessageHeader) (is_waiting : Bool) → Kept pool sides servers tx → Windows seen.clients seen.queued → is_waiting ≡ list_any (is_entry (Ask i h.request) h.number) tx.items → IfSome (slice_get sides i) (λ s. NextIsUnheld pool is_waiting h.number (call_as h.request s.session))
+  pub seen-unheld : (h : MessageHeader) (is_waiting : Bool) → Kept pool sides servers tx
+      → Windows seen.clients seen.queued
+      → is_waiting ≡ list_any (is_entry (Ask i h.request) h.number) tx.items
+      → IfSome (slice_get sides i)
+      (λ s. NextIsUnheld pool is_waiting h.number (call_as h.request s.session))
   seen-unheld h is_waiting kept w waits = cases (slice_get sides i) refl
     where
-      cases : (o : Option Side) → slice_get sides i ≡ o → IfSome o (λ s. NextIsUnheld pool is_waiting h.number (call_as h.request s.session))
+      cases : (o : Option Side) → slice_get sides i ≡ o
+          → IfSome o (λ s. NextIsUnheld pool is_waiting h.number (call_as h.request s.session))
       cases None e = tt
       cases (Some s) e = next-unheld pool sides servers tx i h.request h.number s is_waiting kept e (seen-windows w) waits
 

@@ -1,6 +1,8 @@
 -- What a rollback does to all that always holds of a store.
-use Rattle.std.proofs.Common.{◌≡◌, ℕ, ◌+◌, ◌<◌, Bool, true, false, cond, Option, Some, None, List, [], ◌∷◌, length, refl, sym, ap, subst, ◌∙◌, arith}
-use Rattle.std.specs.Prelude.{IfSome, IsSome, count_by, map, option_and_then, option_map, slice_get, slice_set}
+use Rattle.std.proofs.Common.{◌≡◌, ℕ, ◌+◌, ◌<◌, Bool, true, false, cond, Option, Some, None, List}
+use Rattle.std.proofs.Common.{[], ◌∷◌, length, refl, sym, ap, subst, ◌∙◌, arith}
+use Rattle.std.specs.Prelude.{IfSome, IsSome, count_by, map, option_and_then, option_map, slice_get}
+use Rattle.std.specs.Prelude.{slice_set}
 use Rattle.std.specs.List.{find, list_any}
 use Rattle.std.specs.Option.{option_or}
 use Rattle.std.proofs.lemmas.List.Folds.{find-append}
@@ -23,7 +25,8 @@ use Rattle.client_core.specs.KeepsEntries.{KeepsOthers}
 use Rattle.client_core.specs.KeepsPool.{KeepsPool, LeavesOthers}
 use Rattle.client_core.specs.Replies.{is_request}
 use Rattle.client_core.specs.Session.{Session}
-use Rattle.client_core.specs.Shown.{parts_of, rolled_event, shown, shown_active, shown_waiting, stepped}
+use Rattle.client_core.specs.Shown.{parts_of, rolled_event, shown, shown_active, shown_waiting}
+use Rattle.client_core.specs.Shown.{stepped}
 use Rattle.client_core.specs.Timeouts.{after_roll, call_numbered, is_numbered, rolled_call}
 use Rattle.client_core.proofs.CallsLemmas.{length-at_first}
 use Rattle.client_core.proofs.ShownLemmas.{found-shown}
@@ -33,7 +36,8 @@ use Rattle.session_store.specs.Changes.{MayRoll, RollsAt}
 use Rattle.session_store.specs.Effects.{RollsBack, SideRolls}
 use Rattle.session_store.specs.Ends.{progress_of, shown_end}
 use Rattle.session_store.specs.Queue.{is_owned}
-use Rattle.session_store.specs.Sides.{HasSlots, Kept, Shown, SideAscends, SideKept, SideQueued, places_in, queued_of, served_places, shown_of, shown_side}
+use Rattle.session_store.specs.Sides.{HasSlots, Kept, Shown, SideAscends, SideKept, SideQueued}
+use Rattle.session_store.specs.Sides.{places_in, queued_of, served_places, shown_of, shown_side}
 use Rattle.session_store.proofs.EndLemmas.{calls-end}
 use Rattle.session_store.proofs.KeptLemmas.{ClientActs, client-kept, client-places, clients-set}
 use Rattle.session_store.proofs.ListLemmas.{all-at, get-map}
@@ -41,11 +45,26 @@ use Rattle.session_store.proofs.StandLemmas.{stands-but}
 use Rattle.session_store.proofs.TimerLemmas.{RollsEnd, numbered-same, progress-found, roll-end}
 
 -- what the session did
-rolls-by : (number : ℕ) (old new : Session) (o : Option ActiveCall) → call_numbered number old ≡ o → IsSome o → IfSome o (λ c. new ≡ after_roll c old) → IfSome o (λ c. (pool : Pool) → (clock peer : ℕ) → stepped clock (rolled_event c) (shown pool peer old) ≡ shown pool peer new ∷ []) → ((pool : Pool) → LeavesOthers old.active new.active pool pool) → IfSome o (λ c. KeepsOthers c.request old new) → ((es : List EntryValue) → CountsQueued old es → CountsQueued new es) → ((pool : Pool) → KeepsPool pool old.active → KeepsPool pool new.active) → RollsBack number old new
+rolls-by : (number : ℕ) (old new : Session) (o : Option ActiveCall) → call_numbered number old ≡ o
+    → IsSome o → IfSome o (λ c. new ≡ after_roll c old)
+    → IfSome o (λ c. (pool : Pool) → (clock peer : ℕ) → stepped clock (rolled_event c) (shown pool peer old) ≡ shown pool peer new ∷ [])
+    → ((pool : Pool) → LeavesOthers old.active new.active pool pool)
+    → IfSome o (λ c. KeepsOthers c.request old new)
+    → ((es : List EntryValue) → CountsQueued old es → CountsQueued new es)
+    → ((pool : Pool) → KeepsPool pool old.active → KeepsPool pool new.active)
+    → RollsBack number old new
 rolls-by number old new None e some session step leaves entries queued keeps = cc
 rolls-by number old new (Some c) e some session step leaves entries queued keeps = record { call = c; found = e; session = session; step = step; leaves = leaves; entries = entries; queued = queued; keeps = keeps }
 
-pub rolls-back : (number : ℕ) (old new : Session) → IsSome (call_numbered number old) → IfSome (call_numbered number old) (λ c. new ≡ after_roll c old) → IfSome (call_numbered number old) (λ c. (pool : Pool) → (clock peer : ℕ) → stepped clock (rolled_event c) (shown pool peer old) ≡ shown pool peer new ∷ []) → ((pool : Pool) → LeavesOthers old.active new.active pool pool) → IfSome (call_numbered number old) (λ c. KeepsOthers c.request old new) → ((es : List EntryValue) → CountsQueued old es → CountsQueued new es) → ((pool : Pool) → KeepsPool pool old.active → KeepsPool pool new.active) → RollsBack number old new
+pub rolls-back : (number : ℕ) (old new : Session) → IsSome (call_numbered number old)
+    → IfSome (call_numbered number old) (λ c. new ≡ after_roll c old)
+    → IfSome (call_numbered number old)
+    (λ c. (pool : Pool) → (clock peer : ℕ) → stepped clock (rolled_event c) (shown pool peer old) ≡ shown pool peer new ∷ [])
+    → ((pool : Pool) → LeavesOthers old.active new.active pool pool)
+    → IfSome (call_numbered number old) (λ c. KeepsOthers c.request old new)
+    → ((es : List EntryValue) → CountsQueued old es → CountsQueued new es)
+    → ((pool : Pool) → KeepsPool pool old.active → KeepsPool pool new.active)
+    → RollsBack number old new
 rolls-back number old new some session step leaves entries queued keeps = rolls-by number old new (call_numbered number old) refl some session step leaves entries queued keeps
 
 module _ (pool : Pool) (sides now : List Side) (servers : List Serving) (tx : Ring EntryValue) (i number : ℕ) (kept : Kept pool sides servers tx) (h : SideRolls i number sides now) (up : SideAscends pool (record h.side { session = h.later })) (idle : list_any (is_of (Ask i h.step.call.request)) tx.items ≡ false) where
@@ -79,11 +98,15 @@ module _ (pool : Pool) (sides now : List Side) (servers : List Serving) (tx : Ri
   rolled-set = ap (map (shown_side pool)) h.changed ∙ clients-set pool pool sides servers i h.side rolled_side tx tx h.at kept roll-acts
 
 -- an active call, as it is seen
-waits-cons : (n : ℕ) (w : Waiting) (ws : List Waiting) (b : Bool) → option_and_then (λ (c : Call). c.progress) (find (is_call n) (map shown_waiting ws)) ≡ None → option_and_then (λ (c : Call). c.progress) (cond b (Some (shown_waiting w)) (find (is_call n) (map shown_waiting ws))) ≡ None
+waits-cons : (n : ℕ) (w : Waiting) (ws : List Waiting) (b : Bool)
+    → option_and_then (λ (c : Call). c.progress) (find (is_call n) (map shown_waiting ws)) ≡ None
+    → option_and_then (λ (c : Call). c.progress)
+    (cond b (Some (shown_waiting w)) (find (is_call n) (map shown_waiting ws))) ≡ None
 waits-cons n w ws true ih = refl
 waits-cons n w ws false ih = ih
 
-progress-waits : (n : ℕ) (ws : List Waiting) → option_and_then (λ (c : Call). c.progress) (find (is_call n) (map shown_waiting ws)) ≡ None
+progress-waits : (n : ℕ) (ws : List Waiting) → option_and_then (λ (c : Call). c.progress)
+    (find (is_call n) (map shown_waiting ws)) ≡ None
 progress-waits n [] = refl
 progress-waits n (w ∷ ws) = waits-cons n w ws (is_call n (shown_waiting w)) (progress-waits n ws)
 
@@ -96,12 +119,15 @@ pub record Seen (pool : Pool) (n : ℕ) (s : Session) (p : Progress) : Type 0 wh
   pub rolls_are : p.rolls ≡ call.rolls
   pub request_is : p.request ≡ call.request
 
-some-seen : (pool : Pool) (n : ℕ) (s : Session) (p : Progress) (c : ActiveCall) → call_numbered n s ≡ Some c → Some p ≡ (shown_active pool c).progress → Seen pool n s p
+some-seen : (pool : Pool) (n : ℕ) (s : Session) (p : Progress) (c : ActiveCall)
+    → call_numbered n s ≡ Some c → Some p ≡ (shown_active pool c).progress → Seen pool n s p
 some-seen pool n s p c e t =
     let one : p ≡ progress_in c pool = cc in
     record { call = c; found = e; rolls_are = ap (λ (x : Progress). x.rolls) one; request_is = ap (λ (x : Progress). x.request) one }
 
-seen-cases : (b : Bool) (pool : Pool) (peer n : ℕ) (s : Session) (p : Progress) (o : Option ActiveCall) → call_numbered n s ≡ o → progress_of n (shown_end b pool peer s) ≡ Some p → Seen pool n s p
+seen-cases : (b : Bool) (pool : Pool) (peer n : ℕ) (s : Session) (p : Progress)
+    (o : Option ActiveCall) → call_numbered n s ≡ o
+    → progress_of n (shown_end b pool peer s) ≡ Some p → Seen pool n s p
 seen-cases b pool peer n s p (Some c) e h = some-seen pool n s p c e (sym h ∙ progress-found b pool peer n s c e)
 seen-cases b pool peer n s p None e h =
     let active : find (is_call n) (map (shown_active pool) s.active) ≡ None = found-shown (shown_active pool) (is_call n) (is_numbered n) s.active (numbered-same pool n s.active) ∙ ap (option_map (shown_active pool)) e in
@@ -109,21 +135,26 @@ seen-cases b pool peer n s p None e h =
     let gone : progress_of n (shown_end b pool peer s) ≡ None = ap (λ (cs : List Call). option_and_then (λ (c : Call). c.progress) (find (is_call n) cs)) (calls-end b pool peer s) ∙ ap (option_and_then (λ (c : Call). c.progress)) all ∙ progress-waits n s.slots.waiting in
     let differ : None ≡ Some p = sym gone ∙ h in cc
 
-pub seen : (b : Bool) (pool : Pool) (peer n : ℕ) (s : Session) (p : Progress) → progress_of n (shown_end b pool peer s) ≡ Some p → Seen pool n s p
+pub seen : (b : Bool) (pool : Pool) (peer n : ℕ) (s : Session) (p : Progress)
+    → progress_of n (shown_end b pool peer s) ≡ Some p → Seen pool n s p
 seen b pool peer n s p h = seen-cases b pool peer n s p (call_numbered n s) refl h
 
-entries-seen : (owner : Owner) (ds : List EntryValue) → list_any (is_owned owner) (map queued_of ds) ≡ list_any (is_of owner) ds
+entries-seen : (owner : Owner) (ds : List EntryValue) → list_any (is_owned owner)
+    (map queued_of ds) ≡ list_any (is_of owner) ds
 entries-seen owner [] = refl
 entries-seen owner (d ∷ ds) = rw (entries-seen owner ds) refl
 
-not-broken : (pool : Pool) (s : Side) → is_connected (shown_side pool s).state ≡ true → s.is_broken ≡ false
+not-broken : (pool : Pool) (s : Side) → is_connected (shown_side pool s).state ≡ true
+    → s.is_broken ≡ false
 not-broken pool s h = by s.is_broken h
   where
     by : (b : Bool) → is_connected (shown_end b pool s.peer s.session).state ≡ true → b ≡ false
     by true h = cc
     by false h = refl
 
-module _ (pool : Pool) (sides : List Side) (servers : List Serving) (tx : Ring EntryValue) (i number : ℕ) (view : Shown) (is : shown_of pool sides servers tx ≡ view) (may : MayRoll i number view) where
+module _ (pool : Pool) (sides : List Side) (servers : List Serving) (tx : Ring EntryValue)
+    (i number : ℕ) (view : Shown) (is : shown_of pool sides servers tx ≡ view)
+    (may : MayRoll i number view) where
   side-client : (s : Side) → slice_get sides i ≡ Some s → may.client ≡ shown_side pool s
   side-client s e =
       let place : slice_get (map (shown_side pool) sides) i ≡ Some may.client = ap (λ (v : Shown). slice_get v.clients i) is ∙ may.place in
@@ -135,21 +166,24 @@ module _ (pool : Pool) (sides : List Side) (servers : List Serving) (tx : Ring E
   side-seen : (s : Side) → slice_get sides i ≡ Some s → Seen pool number s.session may.progress
   side-seen s e = seen s.is_broken pool s.peer number s.session may.progress (ap (progress_of number) (sym (side-client s e)) ∙ may.active)
 
-  active-cases : (o : Option Side) → slice_get sides i ≡ o → IfSome o (λ s. IsSome (call_numbered number s.session))
+  active-cases : (o : Option Side) → slice_get sides i ≡ o
+      → IfSome o (λ s. IsSome (call_numbered number s.session))
   active-cases None e = tt
   active-cases (Some s) e = rw (side-seen s e).found refl
 
   pub roll-active-at : IfSome (slice_get sides i) (λ s. IsSome (call_numbered number s.session))
   roll-active-at = active-cases (slice_get sides i) refl
 
-  few-cases : (o : Option Side) → slice_get sides i ≡ o → IfSome o (λ s. IfSome (call_numbered number s.session) (λ c. c.rolls < 8))
+  few-cases : (o : Option Side) → slice_get sides i ≡ o
+      → IfSome o (λ s. IfSome (call_numbered number s.session) (λ c. c.rolls < 8))
   few-cases None e = tt
   few-cases (Some s) e = let c = side-seen s e in rw c.found (omega (arith, may.few, c.rolls_are))
 
   pub roll-few-at : IfSome (slice_get sides i) (λ s. IfSome (call_numbered number s.session) (λ c. c.rolls < 8))
   roll-few-at = few-cases (slice_get sides i) refl
 
-  module _ (now : List Side) (kept : Kept pool sides servers tx) (h : SideRolls i number sides now) where
+  module _ (now : List Side) (kept : Kept pool sides servers tx)
+      (h : SideRolls i number sides now) where
     connected : h.side.is_broken ≡ false
     connected = not-broken pool h.side (ap (λ (x : Client). is_connected x.state) (sym (side-client h.side h.at)) ∙ may.connected)
 
@@ -186,12 +220,14 @@ module _ (pool : Pool) (sides : List Side) (servers : List Serving) (tx : Ring E
         }
 
   -- none of its packets is queued
-  idle-by : (s : Side) (e : slice_get sides i ≡ Some s) → list_any (is_of (Ask i (side-seen s e).call.request)) tx.items ≡ false
+  idle-by : (s : Side) (e : slice_get sides i ≡ Some s)
+      → list_any (is_of (Ask i (side-seen s e).call.request)) tx.items ≡ false
   idle-by s e =
       let free : list_any (is_owned (Ask i may.progress.request)) (map queued_of tx.items) ≡ false = ap (λ (v : Shown). list_any (is_owned (Ask i may.progress.request)) v.queued) is ∙ may.idle in
       sym (entries-seen (Ask i (side-seen s e).call.request) tx.items) ∙ ap (λ r. list_any (is_owned (Ask i r)) (map queued_of tx.items)) (sym (side-seen s e).request_is) ∙ free
 
-  unqueued-cases : Kept pool sides servers tx → (o : Option Side) → slice_get sides i ≡ o → IfSome o (λ s. IfSome (call_numbered number s.session) (λ c. c.queued ≡ 0))
+  unqueued-cases : Kept pool sides servers tx → (o : Option Side) → slice_get sides i ≡ o
+      → IfSome o (λ s. IfSome (call_numbered number s.session) (λ c. c.queued ≡ 0))
   unqueued-cases kept None e = tt
   unqueued-cases kept (Some s) e =
       let c = side-seen s e in
@@ -200,5 +236,6 @@ module _ (pool : Pool) (sides : List Side) (servers : List Serving) (tx : Ring E
       let own = ap (λ n. count_by (is_of (Ask n c.call.request)) tx.items) (kept.numbered i s e) in
       rw c.found (counted ∙ own ∙ none)
 
-  pub roll-idle-at : Kept pool sides servers tx → IfSome (slice_get sides i) (λ s. IfSome (call_numbered number s.session) (λ c. c.queued ≡ 0))
+  pub roll-idle-at : Kept pool sides servers tx → IfSome (slice_get sides i)
+      (λ s. IfSome (call_numbered number s.session) (λ c. c.queued ≡ 0))
   roll-idle-at kept = unqueued-cases kept (slice_get sides i) refl

@@ -1,5 +1,7 @@
 -- What a packet to a server session does to all that always holds of a store.
-use Rattle.std.proofs.Common.{◌≡◌, ◌≢◌, ℕ, zero, suc, ◌+◌, ◌%◌, ◌≤◌, ◌<◌, Bool, true, false, not, cond, eqb, Option, Some, None, List, [], ◌∷◌, ◌++◌, length, length-append, refl, sym, ap, subst, ◌∙◌, arith}
+use Rattle.std.proofs.Common.{◌≡◌, ◌≢◌, ℕ, zero, suc, ◌+◌, ◌%◌, ◌≤◌, ◌<◌, Bool, true, false, not}
+use Rattle.std.proofs.Common.{cond, eqb, Option, Some, None, List, [], ◌∷◌, ◌++◌, length}
+use Rattle.std.proofs.Common.{length-append, refl, sym, ap, subst, ◌∙◌, arith}
 use Rattle.std.specs.Prelude.{IfSome, count_by, map, option_map, slice_get, slice_set}
 use Rattle.std.specs.List.{AllByRecursion, filter, find}
 use Rattle.std.proofs.lemmas.Bool.{and_parts, eq-eqb, eqb-true}
@@ -43,22 +45,30 @@ use Rattle.server_core.specs.Replies.{CanHold}
 use Rattle.server_core.specs.Rows.{row_of}
 use Rattle.server_core.specs.Session.{Session as Serving, answer_of, is_in_slot, newest, owner_of}
 use Rattle.server_core.specs.Shown.{shown as shown_server, shown_request}
-use Rattle.server_core.specs.Steps.{AreServed, IfReply, IsReply, IsStepOf, Steps, asked_with, gave, ran, took}
+use Rattle.server_core.specs.Steps.{AreServed, IfReply, IsReply, IsStepOf, Steps, asked_with, gave}
+use Rattle.server_core.specs.Steps.{ran, took}
 use Rattle.server_core.proofs.FlushLemmas.{ring-room}
 use Rattle.server_core.proofs.SpareLemmas.{places-most}
 use Rattle.session_store.specs.declared.side.Side.{Side}
 use Rattle.session_store.specs.Effects.{ServerStep}
 use Rattle.session_store.specs.Queue.{is_owned}
-use Rattle.session_store.specs.Serving.{AreServedAt, Handles, HandlesAt, ServerCanHold, ServerServed, handled_facts, queue_handled, row_at, without_owned}
-use Rattle.session_store.specs.Sides.{IsOf, Kept, ServerHolds, ServerQueued, Shown, places_in, queued_of, served_places, shown_of, shown_side}
+use Rattle.session_store.specs.Serving.{AreServedAt, Handles, HandlesAt, ServerCanHold}
+use Rattle.session_store.specs.Serving.{ServerServed, handled_facts, queue_handled, row_at}
+use Rattle.session_store.specs.Serving.{without_owned}
+use Rattle.session_store.specs.Sides.{IsOf, Kept, ServerHolds, ServerQueued, Shown, places_in}
+use Rattle.session_store.specs.Sides.{queued_of, served_places, shown_of, shown_side}
 use Rattle.session_store.proofs.BesideLemmas.{rest, rest-push}
 use Rattle.session_store.proofs.FinishLemmas.{new-stands, own-reply}
-use Rattle.session_store.proofs.KeptLemmas.{ServerActs, clients-same, server-acted, server-places, servers-set}
+use Rattle.session_store.proofs.KeptLemmas.{ServerActs, clients-same, server-acted, server-places}
+use Rattle.session_store.proofs.KeptLemmas.{servers-set}
 use Rattle.session_store.proofs.ListLemmas.{all-at, all-from, get-map}
 use Rattle.session_store.proofs.StandLemmas.{ends-all}
 
 -- one reply more can be counted
-can-slots : (pool : Pool) (entries : List EntryValue) (size n : ℕ) → Counts pool entries → length entries < size → size < 4294967295 → (qs : List SlotRequest) → AllByRecursion (λ q. q.queued ≡ count_by (is_of (owner_of n q)) entries) qs → AllByRecursion (CanHold pool) qs
+can-slots : (pool : Pool) (entries : List EntryValue) (size n : ℕ) → Counts pool entries
+    → length entries < size → size < 4294967295 → (qs : List SlotRequest)
+    → AllByRecursion (λ q. q.queued ≡ count_by (is_of (owner_of n q)) entries) qs
+    → AllByRecursion (CanHold pool) qs
 can-slots pool entries size n counted room few [] all = tt
 can-slots pool entries size n counted room few (q ∷ qs) all =
     ((refs (answer_of q.state), omega (arith, all.0, count_by-le-length (is_of (owner_of n q)) entries, room, few)), can-slots pool entries size n counted room few qs all.1)
@@ -67,14 +77,18 @@ can-slots pool entries size n counted room few (q ∷ qs) all =
     refs None = tt
     refs (Some a) = omega (arith, counted a.place, mentions-le-length a.place entries, room, few)
 
-pub may-hold : (pool : Pool) (sides : List Side) (servers : List Serving) (tx : Ring EntryValue) → Kept pool sides servers tx → length tx.items < tx.size → AllByRecursion (ServerCanHold pool) servers
+pub may-hold : (pool : Pool) (sides : List Side) (servers : List Serving) (tx : Ring EntryValue)
+    → Kept pool sides servers tx → length tx.items < tx.size
+    → AllByRecursion (ServerCanHold pool) servers
 may-hold pool sides servers tx kept room = all-from (ServerCanHold pool) servers (λ j v at. can-slots pool tx.items tx.size v.number kept.counted room kept.few v.slots (all-at (ServerQueued tx.items) servers j v kept.replies at))
 
-newest-cases : (pool : Pool) (v : Serving) (r : ℕ) (o : Option SlotRequest) → newest r v ≡ o → ServerCanHold pool v → IfSome o (CanHold pool)
+newest-cases : (pool : Pool) (v : Serving) (r : ℕ) (o : Option SlotRequest) → newest r v ≡ o
+    → ServerCanHold pool v → IfSome o (CanHold pool)
 newest-cases pool v r None e all = tt
 newest-cases pool v r (Some q) e all = found-holds (is_in_slot (r % 8)) (CanHold pool) v.slots q all e
 
-pub newest-can : (pool : Pool) (v : Serving) (r : ℕ) → ServerCanHold pool v → IfSome (newest r v) (CanHold pool)
+pub newest-can : (pool : Pool) (v : Serving) (r : ℕ) → ServerCanHold pool v → IfSome (newest r v)
+    (CanHold pool)
 newest-can pool v r all = newest-cases pool v r (newest r v) refl all
 
 -- a step keeps the session's peer
@@ -97,7 +111,8 @@ module _ (h : MessageHeader) (body : List ℕ) (v : Server) where
   one-way : (x w : Server) → x ∷ [] ≡ w ∷ [] → x.way ≡ v.way → w.way ≡ v.way
   one-way x w e same = let is : x ≡ w = cc in ap (λ (y : Server). y.way) (sym is) ∙ same
 
-  pub way-of : (w : Server) (step : Step) (answer : List ℕ) → Steps step answer h body v w → w.way ≡ v.way
+  pub way-of : (w : Server) (step : Step) (answer : List ℕ) → Steps step answer h body v w
+      → w.way ≡ v.way
   way-of w (Took reply) answer steps = one-way takes w (sym took-is ∙ steps) refl
   way-of w (Again reply) answer steps = ap (λ (x : Server). x.way) steps
   way-of w (Ran reply) answer steps = one-way (changes (answered answer)) w (sym (ran-is answer) ∙ steps) refl
@@ -105,7 +120,9 @@ module _ (h : MessageHeader) (body : List ℕ) (v : Server) where
   way-of w (Dropped why) answer steps = ap (λ (x : Server). x.way) steps
 
 -- a claim of the entries that a step puts behind the queue
-pub for-replies : (claim : EntryValue → Type 0) (Q : List EntryValue → Type 0) → Q [] → ((e : EntryValue) → claim e → Q (e ∷ [])) → (step : Step) → IfReply step claim → Q (replies_of step)
+pub for-replies : (claim : EntryValue → Type 0) (Q : List EntryValue → Type 0) → Q []
+    → ((e : EntryValue) → claim e → Q (e ∷ [])) → (step : Step) → IfReply step claim
+    → Q (replies_of step)
 for-replies claim Q none one (Took None) h = absurd h
 for-replies claim Q none one (Took (Some e)) h = one e h
 for-replies claim Q none one (Again e) h = one e h
@@ -114,7 +131,8 @@ for-replies claim Q none one (Give parcel) h = none
 for-replies claim Q none one (Dropped why) h = none
 
 -- the entries beside a session's own, and what holds of all, once the replies to an older request are out
-of-owner-own : (n r : ℕ) (e : EntryValue) (b : Bool) → is_of (Reply n r) e ≡ b → b ≡ true → is_reply_of n e.owner ≡ true
+of-owner-own : (n r : ℕ) (e : EntryValue) (b : Bool) → is_of (Reply n r) e ≡ b → b ≡ true
+    → is_reply_of n e.owner ≡ true
 of-owner-own n r e b t is = by e.owner (t ∙ is)
   where
     by : (o : Owner) → same_owner o (Reply n r) ≡ true → is_reply_of n o ≡ true
@@ -126,52 +144,65 @@ module _ (n : ℕ) where
   abbrev own_entry : EntryValue → Bool
   own_entry e = is_reply_of n e.owner
 
-  out-cons : (e : EntryValue) (xs ys : List EntryValue) (b : Bool) → (b ≡ true → own_entry e ≡ true) → rest own_entry xs ≡ rest own_entry ys → rest own_entry (cond (not b) (e ∷ xs) xs) ≡ rest own_entry (e ∷ ys)
+  out-cons : (e : EntryValue) (xs ys : List EntryValue) (b : Bool) → (b ≡ true → own_entry e ≡ true)
+      → rest own_entry xs ≡ rest own_entry ys
+      → rest own_entry (cond (not b) (e ∷ xs) xs) ≡ rest own_entry (e ∷ ys)
   out-cons e xs ys true own ih = rw (own refl) ih
   out-cons e xs ys false own ih = ap (λ zs. cond (not (own_entry e)) (e ∷ zs) zs) ih
 
-  rest-out : (r : ℕ) (es : List EntryValue) → rest own_entry (filter (is_not_of (Reply n r)) es) ≡ rest own_entry es
+  rest-out : (r : ℕ) (es : List EntryValue)
+      → rest own_entry (filter (is_not_of (Reply n r)) es) ≡ rest own_entry es
   rest-out r [] = refl
   rest-out r (e ∷ es) = out-cons e (filter (is_not_of (Reply n r)) es) es (is_of (Reply n r) e) (of-owner-own n r e (is_of (Reply n r) e) refl) (rest-out r es)
 
-  pub rest-after : (o : Option SlotRequest) (es : List EntryValue) (b : Bool) → rest own_entry (cond b (without_replies n o es) es) ≡ rest own_entry es
+  pub rest-after : (o : Option SlotRequest) (es : List EntryValue) (b : Bool)
+      → rest own_entry (cond b (without_replies n o es) es) ≡ rest own_entry es
   rest-after None es true = refl
   rest-after (Some q) es true = rest-out q.number es
   rest-after o es false = refl
 
 module _ (P : EntryValue → Type 0) where
-  filtered-cons : (e : EntryValue) (es : List EntryValue) (b : Bool) → P e → AllByRecursion P es → AllByRecursion P (cond b (e ∷ es) es)
+  filtered-cons : (e : EntryValue) (es : List EntryValue) (b : Bool) → P e → AllByRecursion P es
+      → AllByRecursion P (cond b (e ∷ es) es)
   filtered-cons e es true one all = (one, all)
   filtered-cons e es false one all = all
 
-  filtered : (p : EntryValue → Bool) (es : List EntryValue) → AllByRecursion P es → AllByRecursion P (filter p es)
+  filtered : (p : EntryValue → Bool) (es : List EntryValue) → AllByRecursion P es
+      → AllByRecursion P (filter p es)
   filtered p [] all = tt
   filtered p (e ∷ es) all = filtered-cons e (filter p es) (p e) all.0 (filtered p es all.1)
 
-  pub all-after : (n : ℕ) (o : Option SlotRequest) (es : List EntryValue) (b : Bool) → AllByRecursion P es → AllByRecursion P (cond b (without_replies n o es) es)
+  pub all-after : (n : ℕ) (o : Option SlotRequest) (es : List EntryValue) (b : Bool)
+      → AllByRecursion P es → AllByRecursion P (cond b (without_replies n o es) es)
   all-after n None es true all = all
   all-after n (Some q) es true all = filtered (is_not_of (owner_of n q)) es all
   all-after n o es false all = all
 
 -- as the queue is seen
-seen-cons : (o : Owner) (e : EntryValue) (xs : List EntryValue) (qs : List Queued) (b : Bool) → map queued_of xs ≡ qs → map queued_of (cond b (e ∷ xs) xs) ≡ cond b (queued_of e ∷ qs) qs
+seen-cons : (o : Owner) (e : EntryValue) (xs : List EntryValue) (qs : List Queued) (b : Bool)
+    → map queued_of xs ≡ qs → map queued_of (cond b (e ∷ xs) xs) ≡ cond b (queued_of e ∷ qs) qs
 seen-cons o e xs qs true ih = ap (λ zs. queued_of e ∷ zs) ih
 seen-cons o e xs qs false ih = ih
 
-seen-out : (o : Owner) (es : List EntryValue) → map queued_of (filter (is_not_of o) es) ≡ filter (λ x. not (is_owned o x)) (map queued_of es)
+seen-out : (o : Owner) (es : List EntryValue)
+    → map queued_of (filter (is_not_of o) es) ≡ filter (λ x. not (is_owned o x)) (map queued_of es)
 seen-out o [] = refl
 seen-out o (e ∷ es) = seen-cons o e (filter (is_not_of o) es) (filter (λ x. not (is_owned o x)) (map queued_of es)) (not (is_of o e)) (seen-out o es)
 
-seen-after : (pool : Pool) (n : ℕ) (o : Option SlotRequest) (es : List EntryValue) (b : Bool) → map queued_of (cond b (without_replies n o es) es) ≡ cond b (without_owned n (option_map (shown_request pool) o) (map queued_of es)) (map queued_of es)
+seen-after : (pool : Pool) (n : ℕ) (o : Option SlotRequest) (es : List EntryValue) (b : Bool)
+    → map queued_of (cond b (without_replies n o es) es) ≡ cond b (without_owned n (option_map (shown_request pool) o) (map queued_of es))
+    (map queued_of es)
 seen-after pool n None es true = refl
 seen-after pool n (Some q) es true = seen-out (Reply n q.number) es
 seen-after pool n o es false = refl
 
-slots-same : (pool : Pool) (r : ℕ) (qs : List SlotRequest) → AllByRecursion (λ x. in_slot_of r (shown_request pool x) ≡ is_in_slot (r % 8) x) qs
+slots-same : (pool : Pool) (r : ℕ) (qs : List SlotRequest)
+    → AllByRecursion (λ x. in_slot_of r (shown_request pool x) ≡ is_in_slot (r % 8) x) qs
 slots-same pool r [] = tt
 slots-same pool r (q ∷ qs) = (refl, slots-same pool r qs)
 
-older-shown : (pool : Pool) (v : Serving) (r : ℕ) → find (in_slot_of r) (shown_server pool v).slots ≡ option_map (shown_request pool) (newest r v)
+older-shown : (pool : Pool) (v : Serving) (r : ℕ) → find (in_slot_of r)
+    (shown_server pool v).slots ≡ option_map (shown_request pool) (newest r v)
 older-shown pool v r = found-shown (shown_request pool) (in_slot_of r) (is_in_slot (r % 8)) v.slots (slots-same pool r v.slots)
 
 -- the facts of the packet at a node
@@ -181,11 +212,14 @@ begun-none Begins why = refl
 begun-none Takes why = refl
 begun-none Repeats why = refl
 
-module _ (me : ℕ) (mode : Mode) (v : Serving) (entries : List EntryValue) (row : ServerRow) (h : MessageHeader) (body ask answer : List ℕ) (server : Server) where
+module _ (me : ℕ) (mode : Mode) (v : Serving) (entries : List EntryValue) (row : ServerRow)
+    (h : MessageHeader) (body ask answer : List ℕ) (server : Server) where
   abbrev ruled : List Fact
   ruled = served_facts mode me answer (map queued_of entries) (Some server) h body row
 
-  pub facts-same : (step : Step) → (step ≢ Dropped NoMemory → packet_facts (Node me) v entries row h ask answer step ≡ ruled) → packet_facts (Node me) v entries row h ask answer step ≡ handled_facts me ruled step
+  pub facts-same : (step : Step)
+      → (step ≢ Dropped NoMemory → packet_facts (Node me) v entries row h ask answer step ≡ ruled)
+      → packet_facts (Node me) v entries row h ask answer step ≡ handled_facts me ruled step
   facts-same (Took reply) rule = rule (λ e. cc)
   facts-same (Again reply) rule = rule (λ e. cc)
   facts-same (Ran reply) rule = rule (λ e. cc)
@@ -194,16 +228,25 @@ module _ (me : ℕ) (mode : Mode) (v : Serving) (entries : List EntryValue) (row
   facts-same (Dropped why) rule = rule (λ e. cc)
 
 -- requests of types that are served, as they are shown
-pub served-seen : (pool : Pool) (mode_of : ℕ → Mode) (qs : List SlotRequest) → AllByRecursion (λ q. mode_of q.req_type ≢ Unserved) (map (shown_request pool) qs) → AreServed mode_of qs
+pub served-seen : (pool : Pool) (mode_of : ℕ → Mode) (qs : List SlotRequest)
+    → AllByRecursion (λ q. mode_of q.req_type ≢ Unserved) (map (shown_request pool) qs)
+    → AreServed mode_of qs
 served-seen pool mode_of [] all = tt
 served-seen pool mode_of (q ∷ qs) all = (all.0, served-seen pool mode_of qs all.1)
 
-pub seen-served : (pool : Pool) (mode_of : ℕ → Mode) (qs : List SlotRequest) → AreServed mode_of qs → AllByRecursion (λ q. mode_of q.req_type ≢ Unserved) (map (shown_request pool) qs)
+pub seen-served : (pool : Pool) (mode_of : ℕ → Mode) (qs : List SlotRequest) → AreServed mode_of qs
+    → AllByRecursion (λ q. mode_of q.req_type ≢ Unserved) (map (shown_request pool) qs)
 seen-served pool mode_of [] all = tt
 seen-served pool mode_of (q ∷ qs) all = (all.0, seen-served pool mode_of qs all.1)
 
 -- server session i handled a packet
-module _ {R : Type 0} (facts : R → Option (List Fact)) (whole : R → Bool) (mode : Mode) (jobs_full : Bool) (me i : ℕ) (h : MessageHeader) (body : List ℕ) (answer_of : Served → ℕ → List ℕ → List ℕ) (stands then_stands : Served → Type 0) (noted_before noted_now : R) (step : Step) (old new : Ring EntryValue) (pool after : Pool) (sides : List Side) (servers now : List Serving) (kept : Kept pool sides servers old) (has-room : length old.items < old.size) (g : ServerStep i (λ v w. Handles facts whole mode jobs_full (Node me) h body answer_of stands then_stands noted_before noted_now step old new v w pool after) servers now) where
+module _ {R : Type 0} (facts : R → Option (List Fact)) (whole : R → Bool) (mode : Mode)
+    (jobs_full : Bool) (me i : ℕ) (h : MessageHeader) (body : List ℕ)
+    (answer_of : Served → ℕ → List ℕ → List ℕ) (stands then_stands : Served → Type 0)
+    (noted_before noted_now : R) (step : Step) (old new : Ring EntryValue) (pool after : Pool)
+    (sides : List Side) (servers now : List Serving) (kept : Kept pool sides servers old)
+    (has-room : length old.items < old.size)
+    (g : ServerStep i (λ v w. Handles facts whole mode jobs_full (Node me) h body answer_of stands then_stands noted_before noted_now step old new v w pool after) servers now) where
   abbrev row : ServerRow
   row = row_of mode jobs_full h g.server
 
@@ -296,7 +339,9 @@ module _ {R : Type 0} (facts : R → Option (List Fact)) (whole : R → Bool) (m
       ∙ ap (λ qs. qs ++ map queued_of (replies_of step)) (ap (map queued_of) items-are ∙ seen-after pool g.server.number older old.items begins ∙ ap (λ o. cond begins (without_owned g.server.number o (map queued_of old.items)) (map queued_of old.items)) (sym (older-shown pool g.server h.request)))
       ∙ ap (λ r. queue_handled r step server_seen h (map queued_of old.items)) row-seen
 
-  pub serve-at : (session : h.session ≡ g.server.number) (before then : Shown) → shown_of pool sides servers old ≡ before → shown_of after sides now final ≡ then → HandlesAt facts whole mode jobs_full me i h body answer_of stands then_stands noted_before noted_now step before then
+  pub serve-at : (session : h.session ≡ g.server.number) (before then : Shown)
+      → shown_of pool sides servers old ≡ before → shown_of after sides now final ≡ then
+      → HandlesAt facts whole mode jobs_full me i h body answer_of stands then_stands noted_before noted_now step before then
   serve-at session before then view later-view =
       let done = g.step.handled in
       let ruled = facts-same me mode g.server old.items row h body (asked_with h body server_seen) done.answer server_seen step (g.step.by_rule session me done.answer) in
@@ -316,12 +361,14 @@ module _ {R : Type 0} (facts : R → Option (List Fact)) (whole : R → Bool) (m
   pub final-none : replies_of step ≡ [] → final ≡ new
   final-none e = ap (λ rs. ring (new.items ++ rs) new.size) e ∙ ap (λ xs. ring xs new.size) (append-nil new.items)
 
-  pub final-one : (e : EntryValue) → replies_of step ≡ e ∷ [] → final ≡ ring (new.items ++ e ∷ []) new.size
+  pub final-one : (e : EntryValue) → replies_of step ≡ e ∷ []
+      → final ≡ ring (new.items ++ e ∷ []) new.size
   final-one e is = ap (λ rs. ring (new.items ++ rs) new.size) is
 
 -- server session i, as it is looked at
 module _ (pool : Pool) (servers : List Serving) (i : ℕ) where
-  pub served-at : (mode_of : ℕ → Mode) → AreServedAt mode_of i (map (shown_server pool) servers) → IfSome (slice_get servers i) (ServerServed mode_of)
+  pub served-at : (mode_of : ℕ → Mode) → AreServedAt mode_of i (map (shown_server pool) servers)
+      → IfSome (slice_get servers i) (ServerServed mode_of)
   served-at mode_of all = cases (slice_get servers i) refl
     where
       cases : (o : Option Serving) → slice_get servers i ≡ o → IfSome o (ServerServed mode_of)
@@ -333,21 +380,27 @@ module _ (pool : Pool) (servers : List Serving) (i : ℕ) where
   none-map : slice_get servers i ≡ None → slice_get (map (shown_server pool) servers) i ≡ None
   none-map e = by servers i e
     where
-      by : (vs : List Serving) (j : ℕ) → slice_get vs j ≡ None → slice_get (map (shown_server pool) vs) j ≡ None
+      by : (vs : List Serving) (j : ℕ) → slice_get vs j ≡ None
+          → slice_get (map (shown_server pool) vs) j ≡ None
       by [] j e = refl
       by (v ∷ vs) zero e = cc
       by (v ∷ vs) (suc j) e = by vs j e
 
-  pub at-served : (mode_of : ℕ → Mode) → IfSome (slice_get servers i) (ServerServed mode_of) → AreServedAt mode_of i (map (shown_server pool) servers)
+  pub at-served : (mode_of : ℕ → Mode) → IfSome (slice_get servers i) (ServerServed mode_of)
+      → AreServedAt mode_of i (map (shown_server pool) servers)
   at-served mode_of all = cases (slice_get servers i) refl
     where
-      cases : (o : Option Serving) → slice_get servers i ≡ o → AreServedAt mode_of i (map (shown_server pool) servers)
+      cases : (o : Option Serving) → slice_get servers i ≡ o
+          → AreServedAt mode_of i (map (shown_server pool) servers)
       cases None e = rw (none-map e) tt
       cases (Some v) e =
           let here : ServerServed mode_of v = rw e at all in
           rw (get-map (shown_server pool) servers i v e) (seen-served pool mode_of v.slots here)
 
-pub seen-own : (pool : Pool) (sides : List Side) (servers : List Serving) (tx : Ring EntryValue) (seen : Shown) (i n : ℕ) (v : Serving) → shown_of pool sides servers tx ≡ seen → IfSome (slice_get seen.servers i) (λ x. n ≡ x.way.number) → slice_get servers i ≡ Some v → n ≡ v.number
+pub seen-own : (pool : Pool) (sides : List Side) (servers : List Serving) (tx : Ring EntryValue)
+    (seen : Shown) (i n : ℕ) (v : Serving) → shown_of pool sides servers tx ≡ seen
+    → IfSome (slice_get seen.servers i) (λ x. n ≡ x.way.number) → slice_get servers i ≡ Some v
+    → n ≡ v.number
 seen-own pool sides servers tx seen i n v view session at =
     let here : IfSome (slice_get (map (shown_server pool) servers) i) (λ x. n ≡ x.way.number) = rw (← view) at session in
     rw (get-map (shown_server pool) servers i v at) at here

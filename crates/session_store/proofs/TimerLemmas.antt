@@ -1,5 +1,6 @@
 -- What a look at a call's clock, a rollback and a loss are at a client end.
-use Rattle.std.proofs.Common.{◌≡◌, ℕ, ◌<◌, Bool, true, false, cond, ltb, Option, Some, None, List, [], ◌∷◌, ◌++◌, refl, subst, sym, ap, ◌∙◌, ltb-true}
+use Rattle.std.proofs.Common.{◌≡◌, ℕ, ◌<◌, Bool, true, false, cond, ltb, Option, Some, None, List}
+use Rattle.std.proofs.Common.{[], ◌∷◌, ◌++◌, refl, subst, sym, ap, ◌∙◌, ltb-true}
 use Rattle.std.specs.Prelude.{IfSome, IsSome, map, option_map, slice_get}
 use Rattle.std.specs.List.{AllByRecursion, find, list_any}
 use Rattle.std.specs.Option.{option_or}
@@ -21,40 +22,49 @@ use Rattle.client_core.specs.KeepsPool.{KeepsPool}
 use Rattle.client_core.specs.Losing.{Loses, next_lost}
 use Rattle.client_core.specs.Replies.{is_request}
 use Rattle.client_core.specs.Session.{Session}
-use Rattle.client_core.specs.Shown.{IsAlone, done_event, rolled_event, shown, shown_active, shown_broken, shown_waiting, stepped}
+use Rattle.client_core.specs.Shown.{IsAlone, done_event, rolled_event, shown, shown_active}
+use Rattle.client_core.specs.Shown.{shown_broken, shown_waiting, stepped}
 use Rattle.client_core.specs.Timeouts.{after_roll, call_numbered, is_numbered, timer_told}
 use Rattle.client_core.specs.Watching.{call_number, is_after}
 use Rattle.client_core.proofs.EndedLemmas.{any-found}
 use Rattle.client_core.proofs.OneCallLemmas.{least-none-of}
 use Rattle.client_core.proofs.ShownLemmas.{found-shown}
 use Rattle.session_store.specs.Ends.{Ascends, progress_of, shown_end}
-use Rattle.session_store.proofs.AscendsLemmas.{ascends-changed, ascends-without, few-numbered, least-first}
+use Rattle.session_store.proofs.AscendsLemmas.{ascends-changed, ascends-without, few-numbered}
+use Rattle.session_store.proofs.AscendsLemmas.{least-first}
 use Rattle.session_store.proofs.EndLemmas.{active-ascends, calls-end}
 use Rattle.rpc_base.proofs.TakingLemmas.{find-passes}
 
 -- what is told of a clock tells its row
-few-cases : (r p g : ℕ) (c : ActiveCall) (x b : Bool) → ltb c.rolls 8 ≡ b → Roll r p g ≡ timer_told (cond x Waits (cond b RollsBack Breaks)) c → c.rolls < 8
+few-cases : (r p g : ℕ) (c : ActiveCall) (x b : Bool) → ltb c.rolls 8 ≡ b
+    → Roll r p g ≡ timer_told (cond x Waits (cond b RollsBack Breaks)) c → c.rolls < 8
 few-cases r p g c true b t e = cc
 few-cases r p g c false true t e = ltb-true c.rolls 8 t
 few-cases r p g c false false t e = cc
 
 -- what is told of a call's queued packets is told of the call with the number
-idle-cases : (r p g : ℕ) (c : ActiveCall) (x b : Bool) → Roll r p g ≡ timer_told (cond x Waits (cond b RollsBack Breaks)) c → c.request ≡ r
+idle-cases : (r p g : ℕ) (c : ActiveCall) (x b : Bool)
+    → Roll r p g ≡ timer_told (cond x Waits (cond b RollsBack Breaks)) c → c.request ≡ r
 idle-cases r p g c true b e = cc
 idle-cases r p g c false true e = cc
 idle-cases r p g c false false e = cc
 
 -- the call with a number as it is shown
-pub numbered-same : (pool : Pool) (n : ℕ) (xs : List ActiveCall) → AllByRecursion (λ x. is_call n (shown_active pool x) ≡ is_numbered n x) xs
+pub numbered-same : (pool : Pool) (n : ℕ) (xs : List ActiveCall)
+    → AllByRecursion (λ x. is_call n (shown_active pool x) ≡ is_numbered n x) xs
 numbered-same pool n [] = tt
 numbered-same pool n (x ∷ xs) = (refl, numbered-same pool n xs)
 
-numbered-shown : (pool : Pool) (peer n : ℕ) (s : Session) (c : ActiveCall) → call_numbered n s ≡ Some c → find (is_call n) (shown pool peer s).calls ≡ Some (shown_active pool c)
+numbered-shown : (pool : Pool) (peer n : ℕ) (s : Session) (c : ActiveCall)
+    → call_numbered n s ≡ Some c → find (is_call n)
+    (shown pool peer s).calls ≡ Some (shown_active pool c)
 numbered-shown pool peer n s c e =
     let active : find (is_call n) (map (shown_active pool) s.active) ≡ Some (shown_active pool c) = found-shown (shown_active pool) (is_call n) (is_numbered n) s.active (numbered-same pool n s.active) ∙ ap (option_map (shown_active pool)) e in
     find-append (is_call n) (map (shown_active pool) s.active) (map shown_waiting s.slots.waiting) ∙ ap (λ o. option_or o (find (is_call n) (map shown_waiting s.slots.waiting))) active
 
-pub progress-found : (b : Bool) (pool : Pool) (peer n : ℕ) (s : Session) (c : ActiveCall) → call_numbered n s ≡ Some c → progress_of n (shown_end b pool peer s) ≡ (shown_active pool c).progress
+pub progress-found : (b : Bool) (pool : Pool) (peer n : ℕ) (s : Session) (c : ActiveCall)
+    → call_numbered n s ≡ Some c
+    → progress_of n (shown_end b pool peer s) ≡ (shown_active pool c).progress
 progress-found b pool peer n s c e = rw (calls-end b pool peer s, numbered-shown pool peer n s c e) refl
 
 -- a rollback
@@ -67,7 +77,11 @@ chosen : (x y z : Client) (b : Bool) → b ≡ true → cond b (z ∷ []) (x ∷
 chosen x y z true t e = cc
 chosen x y z false t e = cc
 
-roll-cases : (n : ℕ) (b : Bool) (pool : Pool) (peer : ℕ) (s new : Session) → b ≡ false → Ascends (shown pool peer s).calls → KeepsPool pool s.active → (o : Option ActiveCall) → call_numbered n s ≡ o → IsSome o → IfSome o (λ c. new ≡ after_roll c s) → IfSome o (λ c. (pool : Pool) → (clock peer : ℕ) → stepped clock (rolled_event c) (shown pool peer s) ≡ shown pool peer new ∷ []) → RollsEnd n b pool peer s new
+roll-cases : (n : ℕ) (b : Bool) (pool : Pool) (peer : ℕ) (s new : Session) → b ≡ false
+    → Ascends (shown pool peer s).calls → KeepsPool pool s.active → (o : Option ActiveCall)
+    → call_numbered n s ≡ o → IsSome o → IfSome o (λ c. new ≡ after_roll c s)
+    → IfSome o (λ c. (pool : Pool) → (clock peer : ℕ) → stepped clock (rolled_event c) (shown pool peer s) ≡ shown pool peer new ∷ [])
+    → RollsEnd n b pool peer s new
 roll-cases n b pool peer s new connected up keeps None e some session step = cc
 roll-cases n b pool peer s new connected up keeps (Some c) e some session step =
     let own : c.call ≡ n = eqb-true c.call n (find-passes (is_numbered n) s.active c e) in
@@ -80,28 +94,39 @@ roll-cases n b pool peer s new connected up keeps (Some c) e some session step =
       keeps = rw session (keeps-rolled pool (is_request c.request) s.active keeps);
     }
 
-pub roll-end : (n : ℕ) (b : Bool) (pool : Pool) (peer : ℕ) (s new : Session) → b ≡ false → Ascends (shown_end b pool peer s).calls → KeepsPool pool s.active → IsSome (call_numbered n s) → IfSome (call_numbered n s) (λ c. new ≡ after_roll c s) → IfSome (call_numbered n s) (λ c. (pool : Pool) → (clock peer : ℕ) → stepped clock (rolled_event c) (shown pool peer s) ≡ shown pool peer new ∷ []) → RollsEnd n b pool peer s new
+pub roll-end : (n : ℕ) (b : Bool) (pool : Pool) (peer : ℕ) (s new : Session) → b ≡ false
+    → Ascends (shown_end b pool peer s).calls → KeepsPool pool s.active → IsSome (call_numbered n s)
+    → IfSome (call_numbered n s) (λ c. new ≡ after_roll c s) → IfSome (call_numbered n s)
+    (λ c. (pool : Pool) → (clock peer : ℕ) → stepped clock (rolled_event c) (shown pool peer s) ≡ shown pool peer new ∷ [])
+    → RollsEnd n b pool peer s new
 roll-end n b pool peer s new connected up keeps some session step =
     roll-cases n b pool peer s new connected (rw (calls-end b pool peer s) at up) keeps (call_numbered n s) refl some session step
 
 -- the peer is lost
-pub breaks-end : (b : Bool) (pool : Pool) (peer : ℕ) (s : Session) → shown_end true pool peer s ≡ breaks (shown_end b pool peer s)
+pub breaks-end : (b : Bool) (pool : Pool) (peer : ℕ) (s : Session)
+    → shown_end true pool peer s ≡ breaks (shown_end b pool peer s)
 breaks-end true pool peer s = refl
 breaks-end false pool peer s = refl
 
 -- the call that ends is the first
-first-active : (pool : Pool) (xs : List ActiveCall) (ys : List Call) (c : ActiveCall) → find (is_after None) xs ≡ Some c → slice_get (map (shown_active pool) xs ++ ys) 0 ≡ Some (shown_active pool c)
+first-active : (pool : Pool) (xs : List ActiveCall) (ys : List Call) (c : ActiveCall)
+    → find (is_after None) xs ≡ Some c
+    → slice_get (map (shown_active pool) xs ++ ys) 0 ≡ Some (shown_active pool c)
 first-active pool [] ys c e = cc
 first-active pool (x ∷ xs) ys c e = let same : x ≡ c = cc in rw same refl
 
-first-waiting : (ws : List Waiting) (w : Waiting) → slice_get ws 0 ≡ Some w → slice_get (map shown_waiting ws) 0 ≡ Some (shown_waiting w)
+first-waiting : (ws : List Waiting) (w : Waiting) → slice_get ws 0 ≡ Some w
+    → slice_get (map shown_waiting ws) 0 ≡ Some (shown_waiting w)
 first-waiting [] w e = cc
 first-waiting (v ∷ vs) w e = let same : v ≡ w = cc in rw same refl
 
 abbrev first_number : List Call → Option ℕ
 first_number cs = option_map (λ c. c.what.number) (slice_get cs 0)
 
-lost-first : (pool after : Pool) (peer : ℕ) (d : Done) (s new : Session) → Ascends (map (shown_active pool) s.active) → (o : Option ActiveCall) → next_lost s ≡ o → Loses o d s new pool after → (Some d.call ≡ first_number (shown pool peer s).calls) × (d.outcome ≡ PeerLost)
+lost-first : (pool after : Pool) (peer : ℕ) (d : Done) (s new : Session)
+    → Ascends (map (shown_active pool) s.active) → (o : Option ActiveCall) → next_lost s ≡ o
+    → Loses o d s new pool after
+    → (Some d.call ≡ first_number (shown pool peer s).calls) × (d.outcome ≡ PeerLost)
 lost-first pool after peer d s new up (Some c) e lost =
     let found = sym (least-first pool (is_after None) s.active up) ∙ e in
     (rw (first-active pool s.active (map shown_waiting s.slots.waiting) c found, lost.done.call) refl, lost.done.ended_as)
@@ -120,7 +145,10 @@ pub record Ends (n : ℕ) (b : Bool) (pool after : Pool) (peer : ℕ) (s new : S
   pub view : shown_end b after peer new ≡ ends n (shown_end b pool peer s)
   pub calls : Ascends (shown_end b after peer new).calls
 
-pub lose-end : (b : Bool) (pool after : Pool) (peer : ℕ) (d : Done) (s new : Session) → b ≡ true → Ascends (shown_end b pool peer s).calls → Loses (next_lost s) d s new pool after → (IsAlone d.call s → (clock peer : ℕ) → stepped clock (done_event d) (shown_broken pool peer s) ≡ shown_broken after peer new ∷ []) → Ends d.call b pool after peer s new
+pub lose-end : (b : Bool) (pool after : Pool) (peer : ℕ) (d : Done) (s new : Session) → b ≡ true
+    → Ascends (shown_end b pool peer s).calls → Loses (next_lost s) d s new pool after
+    → (IsAlone d.call s → (clock peer : ℕ) → stepped clock (done_event d) (shown_broken pool peer s) ≡ shown_broken after peer new ∷ [])
+    → Ends d.call b pool after peer s new
 lose-end b pool after peer d s new broken up lost step =
     let active = active-ascends b pool peer s up in
     let (next, outcome) = lost-first pool after peer d s new active (next_lost s) refl lost in
@@ -130,5 +158,6 @@ lose-end b pool after peer d s new broken up lost step =
     rw broken (record { next = next; view = is; calls = subst (λ (x : Client). Ascends x.calls) (sym is) calls })
 
 -- none is left
-pub none-left : (b : Bool) (pool : Pool) (peer : ℕ) (s : Session) → (s.active ≡ []) × (s.slots.waiting ≡ []) → None ≡ first_number (shown_end b pool peer s).calls
+pub none-left : (b : Bool) (pool : Pool) (peer : ℕ) (s : Session)
+    → (s.active ≡ []) × (s.slots.waiting ≡ []) → None ≡ first_number (shown_end b pool peer s).calls
 none-left b pool peer s empty = rw (calls-end b pool peer s, empty.0, empty.1) refl

@@ -1,5 +1,7 @@
 -- Where no packet of a call is queued, no entry names its request.
-use Rattle.std.proofs.Common.{◌≡◌, ◌≢◌, ℕ, zero, suc, ◌+◌, ◌≤◌, ◌<◌, Bool, true, false, ◌&&◌, ◌||◌, cond, eqb, ltb, Option, Some, None, List, [], ◌∷◌, refl, sym, ap, subst, ◌∙◌, inl, inr, arith}
+use Rattle.std.proofs.Common.{◌≡◌, ◌≢◌, ℕ, zero, suc, ◌+◌, ◌≤◌, ◌<◌, Bool, true, false, ◌&&◌, ◌||◌}
+use Rattle.std.proofs.Common.{cond, eqb, ltb, Option, Some, None, List, [], ◌∷◌, refl, sym, ap}
+use Rattle.std.proofs.Common.{subst, ◌∙◌, inl, inr, arith}
 use Rattle.std.specs.Prelude.{◌==◌, map, option_map, slice_get}
 use Rattle.std.specs.List.{AllByRecursion, find, list_any}
 use Rattle.std.proofs.lemmas.Bool.{and_parts, cases_eq, eq-eqb, eqb-true}
@@ -35,7 +37,8 @@ use Rattle.server_core.specs.KeepsPool.{names as slot_names}
 use Rattle.server_core.specs.Replies.{request_of}
 use Rattle.server_core.specs.Session.{Session as Serving}
 use Rattle.session_store.specs.declared.side.Side.{Side}
-use Rattle.session_store.specs.Sides.{IsOf, IsOfOwner, Kept, ServerHolds, SideQueued, queued_of, shown_side}
+use Rattle.session_store.specs.Sides.{IsOf, IsOfOwner, Kept, ServerHolds, SideQueued, queued_of}
+use Rattle.session_store.specs.Sides.{shown_side}
 use Rattle.session_store.proofs.EndLemmas.{calls-end, same-owners}
 use Rattle.session_store.proofs.GoneLemmas.{find-side}
 use Rattle.session_store.proofs.ListLemmas.{all-at, sum-one, sum-two}
@@ -57,7 +60,8 @@ owner-was n r (Ask s q) t =
 owner-was n r (Reply s q) t = cc
 owner-was n r Control t = cc
 
-of-cases : (s : Session) (e : EntryValue) (o : Option ActiveCall) → call_of s e ≡ o → IsPacketOf o e → OfCall s e
+of-cases : (s : Session) (e : EntryValue) (o : Option ActiveCall) → call_of s e ≡ o → IsPacketOf o e
+    → OfCall s e
 of-cases s e None f h = absurd h
 of-cases s e (Some c) f h =
     record { call = c; found = f; number = h.0; place = h.1; owner = owner-was s.number c.request e.owner (find-passes (is_owner s.number e.owner) s.active c f) }
@@ -66,11 +70,14 @@ pub of-call : (s : Session) (e : EntryValue) → IsPacketOf (call_of s e) e → 
 of-call s e h = of-cases s e (call_of s e) refl h
 
 -- places that no entry names
-pub none-named : (p : ℕ) (es : List EntryValue) → ((k : ℕ) (d : EntryValue) → slice_get es k ≡ Some d → mentions p (d ∷ []) ≡ 0) → mentions p es ≡ 0
+pub none-named : (p : ℕ) (es : List EntryValue)
+    → ((k : ℕ) (d : EntryValue) → slice_get es k ≡ Some d → mentions p (d ∷ []) ≡ 0)
+    → mentions p es ≡ 0
 none-named p [] each = refl
 none-named p (e ∷ es) each = omega (arith, mentions-cons p e es, each 0 e refl, none-named p es (λ k d at. each (suc k) d at))
 
-pub none-at : (p : EntryValue → Bool) (es : List EntryValue) (k : ℕ) (d : EntryValue) → list_any p es ≡ false → slice_get es k ≡ Some d → p d ≡ false
+pub none-at : (p : EntryValue → Bool) (es : List EntryValue) (k : ℕ) (d : EntryValue)
+    → list_any p es ≡ false → slice_get es k ≡ Some d → p d ≡ false
 none-at p [] k d none at = cc
 none-at p (e ∷ es) zero d none at = let same : e ≡ d = cc in ap p (sym same) ∙ left (p e) (list_any p es) none
   where
@@ -83,16 +90,20 @@ none-at p (e ∷ es) (suc k) d none at = none-at p es k d (right (p e) (list_any
     right true b t = cc
     right false b t = t
 
-pub named-found : (test : ActiveCall → Bool) (c : ActiveCall) (cs : List ActiveCall) → find test cs ≡ Some c → (p : ℕ) → c.ask ≡ p → 1 ≤ names p cs
+pub named-found : (test : ActiveCall → Bool) (c : ActiveCall) (cs : List ActiveCall)
+    → find test cs ≡ Some c → (p : ℕ) → c.ask ≡ p → 1 ≤ names p cs
 named-found test c cs f p same = omega (arith, found-le test (own_names p) cs c f, named-one c.ask p same)
 
-module _ (pool : Pool) (sides : List Side) (servers : List Serving) (tx : Ring EntryValue) (kept : Kept pool sides servers tx) (i r : ℕ) (side : Side) (at : slice_get sides i ≡ Some side) (c : ActiveCall) (found : call_as r side.session ≡ Some c) (own : c.request ≡ r) where
+module _ (pool : Pool) (sides : List Side) (servers : List Serving) (tx : Ring EntryValue)
+    (kept : Kept pool sides servers tx) (i r : ℕ) (side : Side) (at : slice_get sides i ≡ Some side)
+    (c : ActiveCall) (found : call_as r side.session ≡ Some c) (own : c.request ≡ r) where
   -- an entry that names the call's request is the call's
   module _ (k : ℕ) (d : EntryValue) (there : slice_get tx.items k ≡ Some d) where
     stands : IsOf sides servers d
     stands = all-at (IsOf sides servers) tx.items k d kept.stands there
 
-    same-session : (call : OfCall side.session d) → is_of (Ask i r) d ≡ false → call.call.ask ≡ c.ask → ⊥
+    same-session : (call : OfCall side.session d) → is_of (Ask i r) d ≡ false
+        → call.call.ask ≡ c.ask → ⊥
     same-session call other same =
         let apart : (x : ActiveCall) → is_request r x ≡ true → is_owner side.session.number d.owner x ≡ false = λ x t. by x (is_owner side.session.number d.owner x) refl t in
         let away = skip-found (is_request r) (is_owner side.session.number d.owner) side.session.active apart in
@@ -102,7 +113,8 @@ module _ (pool : Pool) (sides : List Side) (servers : List Serving) (tx : Ring E
         own-most : names c.ask side.session.active ≤ 1
         own-most = omega (arith, sum-one (λ s. names c.ask s.session.active) sides i side at, kept.apart c.ask)
 
-        by : (x : ActiveCall) (b : Bool) → is_owner side.session.number d.owner x ≡ b → is_request r x ≡ true → b ≡ false
+        by : (x : ActiveCall) (b : Bool) → is_owner side.session.number d.owner x ≡ b
+            → is_request r x ≡ true → b ≡ false
         by x false t u = refl
         by x true t u =
             let owner = owner-was side.session.number x.request d.owner t in
@@ -111,7 +123,8 @@ module _ (pool : Pool) (sides : List Side) (servers : List Serving) (tx : Ring E
             let no : true ≡ false = sym yes ∙ other in
             cc
 
-    of-ask : (t q : ℕ) → d.owner ≡ Ask t q → is_of (Ask i r) d ≡ false → (p : ℕ) → d.place ≡ Some p → p ≢ c.ask
+    of-ask : (t q : ℕ) → d.owner ≡ Ask t q → is_of (Ask i r) d ≡ false → (p : ℕ) → d.place ≡ Some p
+        → p ≢ c.ask
     of-ask t q its other p placed same =
         let its-side = of-side sides servers t q d its stands in
         let call = of-call its-side.side.session d its-side.is.2 in
@@ -128,11 +141,13 @@ module _ (pool : Pool) (sides : List Side) (servers : List Serving) (tx : Ring E
               omega (arith, mine, other-names, two, kept.apart c.ask))
         ]
       where
-        by-place : (x : ActiveCall) (b : Bool) (p : ℕ) → Some p ≡ cond b (Some x.ask) None → p ≡ x.ask
+        by-place : (x : ActiveCall) (b : Bool) (p : ℕ) → Some p ≡ cond b (Some x.ask) None
+            → p ≡ x.ask
         by-place x true p e = cc
         by-place x false p e = cc
 
-        same-session-as : (s : Side) → s ≡ side → (call : OfCall s.session d) → is_of (Ask i r) d ≡ false → call.call.ask ≡ c.ask → ⊥
+        same-session-as : (s : Side) → s ≡ side → (call : OfCall s.session d)
+            → is_of (Ask i r) d ≡ false → call.call.ask ≡ c.ask → ⊥
         same-session-as s one call other same =
             same-session (record { call = call.call; found = subst (λ (x : Side). call_of x.session d ≡ Some call.call) one call.found; number = call.number; place = call.place; owner = call.owner ∙ ap (λ (x : Side). Ask x.session.number call.call.request) one }) other same
 
@@ -144,12 +159,14 @@ module _ (pool : Pool) (sides : List Side) (servers : List Serving) (tx : Ring E
         let mine = named-found (is_request r) c side.session.active found p (sym same) in
         omega (arith, mine, theirs, sum-one (λ s. names p s.session.active) sides i side at, sum-one (λ v. slot_names p v.slots) servers server.place server.server server.at, kept.apart p)
 
-    of-owner : (o : Owner) → d.owner ≡ o → is_of (Ask i r) d ≡ false → (p : ℕ) → d.place ≡ Some p → p ≢ c.ask
+    of-owner : (o : Owner) → d.owner ≡ o → is_of (Ask i r) d ≡ false → (p : ℕ) → d.place ≡ Some p
+        → p ≢ c.ask
     of-owner (Ask t q) its other p placed = of-ask t q its other p placed
     of-owner (Reply t q) its other p placed = of-reply t q its p placed
     of-owner Control its other p placed = absurd (subst (IsOfOwner sides servers d) its stands)
 
-    placed-cases : (o : Option ℕ) → d.place ≡ o → is_of (Ask i r) d ≡ false → mentions c.ask (d ∷ []) ≡ 0
+    placed-cases : (o : Option ℕ) → d.place ≡ o → is_of (Ask i r) d ≡ false
+        → mentions c.ask (d ∷ []) ≡ 0
     placed-cases None e other = mentions-none c.ask d e
     placed-cases (Some p) e other = mentions-other c.ask p d e (of-owner d.owner refl other p e)
 
@@ -163,13 +180,19 @@ module _ (pool : Pool) (sides : List Side) (servers : List Serving) (tx : Ring E
       let there : find (is_active r) (shown_side pool side).calls ≡ Some (shown_active pool c) = ap (find (is_active r)) calls ∙ active-found pool r side.session ∙ ap (option_map (shown_active pool)) found in
       subst (Inside k) there h
 
-  window-one : (d : EntryValue) → InWindow (map (shown_side pool) sides) d.owner d.number → is_of (Ask i r) d ≡ true → (c.got ≤ d.number) × (d.number < c.posted)
+  window-one : (d : EntryValue) → InWindow (map (shown_side pool) sides) d.owner d.number
+      → is_of (Ask i r) d ≡ true → (c.got ≤ d.number) × (d.number < c.posted)
   window-one d h t =
       let owner : d.owner ≡ Ask i r = owner-is d.owner i r t in
       let w : Stands d.number r (find (is_client i) (map (shown_side pool) sides)) = subst (λ o. InWindow (map (shown_side pool) sides) o d.number) owner h in
       window-call d.number (subst (Stands d.number r) (find-side pool sides kept.numbered i side at) w)
 
-  none-cons : (d : EntryValue) (ds : List EntryValue) (number : ℕ) (b : Bool) → is_of (Ask i r) d ≡ b → number ≡ c.got → c.posted ≡ c.got + 1 → InWindow (map (shown_side pool) sides) d.owner d.number → (list_any (is_entry (Ask i r) number) ds ≡ false → list_any (is_of (Ask i r)) ds ≡ false) → ((b && d.number == number) || list_any (is_entry (Ask i r) number) ds) ≡ false → (b || list_any (is_of (Ask i r)) ds) ≡ false
+  none-cons : (d : EntryValue) (ds : List EntryValue) (number : ℕ) (b : Bool)
+      → is_of (Ask i r) d ≡ b → number ≡ c.got → c.posted ≡ c.got + 1
+      → InWindow (map (shown_side pool) sides) d.owner d.number
+      → (list_any (is_entry (Ask i r) number) ds ≡ false → list_any (is_of (Ask i r)) ds ≡ false)
+      → ((b && d.number == number) || list_any (is_entry (Ask i r) number) ds) ≡ false
+      → (b || list_any (is_of (Ask i r)) ds) ≡ false
   none-cons d ds number true t next last w ih none =
       let inside = window-one d w t in
       let same : (d.number == number) ≡ true = eq-eqb d.number number (omega (arith, inside.0, inside.1, next, last)) in
@@ -178,23 +201,33 @@ module _ (pool : Pool) (sides : List Side) (servers : List Serving) (tx : Ring E
   none-cons d ds number false t next last w ih none = ih none
 
   -- where its one unanswered packet isn't queued, none is
-  pub none-queued : (ds : List EntryValue) (number : ℕ) → number ≡ c.got → c.posted ≡ c.got + 1 → Windows (map (shown_side pool) sides) (map queued_of ds) → list_any (is_entry (Ask i r) number) ds ≡ false → list_any (is_of (Ask i r)) ds ≡ false
+  pub none-queued : (ds : List EntryValue) (number : ℕ) → number ≡ c.got → c.posted ≡ c.got + 1
+      → Windows (map (shown_side pool) sides) (map queued_of ds)
+      → list_any (is_entry (Ask i r) number) ds ≡ false → list_any (is_of (Ask i r)) ds ≡ false
   none-queued [] number next last w none = refl
   none-queued (d ∷ ds) number next last w none = none-cons d ds number (is_of (Ask i r) d) refl next last w.0 (none-queued ds number next last w.1) none
 
 -- so the condition of a reply holds
-pub next-unheld : (pool : Pool) (sides : List Side) (servers : List Serving) (tx : Ring EntryValue) (i r number : ℕ) (side : Side) (is_waiting : Bool) → Kept pool sides servers tx → slice_get sides i ≡ Some side → Windows (map (shown_side pool) sides) (map queued_of tx.items) → is_waiting ≡ list_any (is_entry (Ask i r) number) tx.items → NextIsUnheld pool is_waiting number (call_as r side.session)
+pub next-unheld : (pool : Pool) (sides : List Side) (servers : List Serving) (tx : Ring EntryValue)
+    (i r number : ℕ) (side : Side) (is_waiting : Bool) → Kept pool sides servers tx
+    → slice_get sides i ≡ Some side → Windows (map (shown_side pool) sides) (map queued_of tx.items)
+    → is_waiting ≡ list_any (is_entry (Ask i r) number) tx.items
+    → NextIsUnheld pool is_waiting number (call_as r side.session)
 next-unheld pool sides servers tx i r number side is_waiting kept at windows waits = cases (call_as r side.session) refl
   where
-    cases : (o : Option ActiveCall) → call_as r side.session ≡ o → NextIsUnheld pool is_waiting number o
+    cases : (o : Option ActiveCall) → call_as r side.session ≡ o
+        → NextIsUnheld pool is_waiting number o
     cases None f = tt
     cases (Some c) f = λ idle next last.
         let own : c.request ≡ r = eqb-true c.request r (find-passes (is_request r) side.session.active c f) in
         unheld-call pool sides servers tx kept i r side at c f own (none-queued pool sides servers tx kept i r side at c f own tx.items number next last windows (sym waits ∙ idle))
 
 -- a request of which its session has no packet queued
-module _ (pool : Pool) (sides : List Side) (servers : List Serving) (tx : Ring EntryValue) (kept : Kept pool sides servers tx) (i r : ℕ) (side : Side) (at : slice_get sides i ≡ Some side) where
-  uncalled-one : call_as r side.session ≡ None → (d : EntryValue) → IsOf sides servers d → is_of (Ask i r) d ≡ true → ⊥
+module _ (pool : Pool) (sides : List Side) (servers : List Serving) (tx : Ring EntryValue)
+    (kept : Kept pool sides servers tx) (i r : ℕ) (side : Side)
+    (at : slice_get sides i ≡ Some side) where
+  uncalled-one : call_as r side.session ≡ None → (d : EntryValue) → IsOf sides servers d
+      → is_of (Ask i r) d ≡ true → ⊥
   uncalled-one none d h t =
       let its = owner-is d.owner i r t in
       let of = of-side sides servers i r d its h in
@@ -205,36 +238,45 @@ module _ (pool : Pool) (sides : List Side) (servers : List Serving) (tx : Ring E
       let gone : call_of side.session d ≡ None = ap (λ o. find (is_owner side.session.number o) side.session.active) owned ∙ same-owners side.session.number r side.session.active ∙ none in
       subst (λ o. IsPacketOf o d) gone packet
 
-  uncalled-cons : (d : EntryValue) (b c : Bool) → is_of (Ask i r) d ≡ b → (is_of (Ask i r) d ≡ true → ⊥) → c ≡ false → (b || c) ≡ false
+  uncalled-cons : (d : EntryValue) (b c : Bool) → is_of (Ask i r) d ≡ b
+      → (is_of (Ask i r) d ≡ true → ⊥) → c ≡ false → (b || c) ≡ false
   uncalled-cons d true c t never rest = absurd (never t)
   uncalled-cons d false c t never rest = rest
 
-  uncalled : call_as r side.session ≡ None → (ds : List EntryValue) → AllByRecursion (IsOf sides servers) ds → list_any (is_of (Ask i r)) ds ≡ false
+  uncalled : call_as r side.session ≡ None → (ds : List EntryValue)
+      → AllByRecursion (IsOf sides servers) ds → list_any (is_of (Ask i r)) ds ≡ false
   uncalled none [] all = refl
   uncalled none (d ∷ ds) all = uncalled-cons d (is_of (Ask i r) d) (list_any (is_of (Ask i r)) ds) refl (uncalled-one none d all.0) (uncalled none ds all.1)
 
-  idle-cases : (o : Option ActiveCall) → call_as r side.session ≡ o → queued_in o ≡ 0 → list_any (is_of (Ask i r)) tx.items ≡ false
+  idle-cases : (o : Option ActiveCall) → call_as r side.session ≡ o → queued_in o ≡ 0
+      → list_any (is_of (Ask i r)) tx.items ≡ false
   idle-cases None f none = uncalled f tx.items kept.stands
   idle-cases (Some c) f none =
       let request : c.request ≡ r = eqb-true c.request r (find-passes (is_request r) side.session.active c f) in
       let number = kept.numbered i side at in
       sym (ap (λ n. list_any (is_of (Ask n c.request)) tx.items) number ∙ ap (λ q. list_any (is_of (Ask i q)) tx.items) request) ∙ idle-call side.session.number (is_request r) c tx.items side.session.active f (all-at (SideQueued tx.items) sides i side kept.queued at) none
 
-  pub idle-request : queued_in (call_as r side.session) ≡ 0 → list_any (is_of (Ask i r)) tx.items ≡ false
+  pub idle-request : queued_in (call_as r side.session) ≡ 0
+      → list_any (is_of (Ask i r)) tx.items ≡ false
   idle-request none = idle-cases (call_as r side.session) refl none
 
-  unentered : (k : ℕ) (ds : List EntryValue) → list_any (is_of (Ask i r)) ds ≡ false → list_any (is_entry (Ask i r) k) ds ≡ false
+  unentered : (k : ℕ) (ds : List EntryValue) → list_any (is_of (Ask i r)) ds ≡ false
+      → list_any (is_entry (Ask i r) k) ds ≡ false
   unentered k [] none = refl
   unentered k (d ∷ ds) none = cons (is_of (Ask i r) d) (list_any (is_of (Ask i r)) ds) none (unentered k ds)
     where
-      cons : (b c : Bool) → (b || c) ≡ false → (c ≡ false → list_any (is_entry (Ask i r) k) ds ≡ false) → ((b && d.number == k) || list_any (is_entry (Ask i r) k) ds) ≡ false
+      cons : (b c : Bool) → (b || c) ≡ false
+          → (c ≡ false → list_any (is_entry (Ask i r) k) ds ≡ false)
+          → ((b && d.number == k) || list_any (is_entry (Ask i r) k) ds) ≡ false
       cons true c t ih = cc
       cons false c t ih = ih t
 
-  pub idle-packet : (k : ℕ) → queued_in (call_as r side.session) ≡ 0 → list_any (is_entry (Ask i r) k) tx.items ≡ false
+  pub idle-packet : (k : ℕ) → queued_in (call_as r side.session) ≡ 0
+      → list_any (is_entry (Ask i r) k) tx.items ≡ false
   idle-packet k none = unentered k tx.items (idle-request none)
 
 -- the entries of the ring are what is seen of it
-pub entry-queued : (s r k : ℕ) (entries : List EntryValue) → list_any (is_queued (Ask s r) k) (map queued_of entries) ≡ list_any (is_entry (Ask s r) k) entries
+pub entry-queued : (s r k : ℕ) (entries : List EntryValue) → list_any (is_queued (Ask s r) k)
+    (map queued_of entries) ≡ list_any (is_entry (Ask s r) k) entries
 entry-queued s r k [] = refl
 entry-queued s r k (e ∷ es) = rw (entry-queued s r k es) refl

@@ -2,7 +2,9 @@ use Rattle.std.proofs.Common.{refl, sym, ap, ◌∙◌, arith}
 use Rattle.std.specs.Option.{option_copied}
 use Rattle.packet_header.specs.Reading.{body_of}
 use Rattle.packet_header.specs.declared.packet.MessageHeader.{MessageHeader}
-use Rattle.endpoint_loop.proofs.HearLemmas.{as-told, fits-dropped, fits-ended, fits-took, node-dropped, node-ended, node-took, node-unheard, some-front}
+use Rattle.endpoint_loop.proofs.HearLemmas.{as-told, fits-dropped, fits-ended, fits-took}
+use Rattle.endpoint_loop.proofs.HearLemmas.{node-dropped, node-ended, node-took, node-unheard}
+use Rattle.endpoint_loop.proofs.HearLemmas.{some-front}
 use Rattle.endpoint_loop.proofs.node.Node.hear_reply.Goals as goal
 
 pub unreachable-requires : goal.unreachable-requires

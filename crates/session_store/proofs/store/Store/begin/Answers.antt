@@ -1,4 +1,5 @@
-use Rattle.session_store.proofs.StoreLemmas.{clients-begin, connected-at, kept-begin, servers-begin, size-begin, two-spare}
+use Rattle.session_store.proofs.StoreLemmas.{clients-begin, connected-at, kept-begin, servers-begin}
+use Rattle.session_store.proofs.StoreLemmas.{size-begin, two-spare}
 use Rattle.session_store.proofs.store.Store.begin.Goals as goal
 
 pub begin_at-requires-clause-spare : goal.begin_at-requires-clause-spare

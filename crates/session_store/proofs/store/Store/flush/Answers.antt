@@ -6,7 +6,8 @@ use Rattle.packet_rings.specs.Entries.{is_entry, is_of, number_of}
 use Rattle.session_store.specs.Queue.{is_owned, queued_number}
 use Rattle.session_store.specs.Sides.{queued_of}
 use Rattle.session_store.proofs.FlushLemmas.{least-own, least-seen, number-at, without-seen}
-use Rattle.session_store.proofs.GoneLemmas.{flushed-clients, flushed-kept, flushed-places, gone-held}
+use Rattle.session_store.proofs.GoneLemmas.{flushed-clients, flushed-kept, flushed-places}
+use Rattle.session_store.proofs.GoneLemmas.{gone-held}
 use Rattle.session_store.proofs.store.Store.flush.Goals as goal
 
 pub returns-in_default-clause-taken : goal.returns-in_default-clause-taken

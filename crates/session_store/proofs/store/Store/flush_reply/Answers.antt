@@ -5,7 +5,8 @@ use Rattle.rpc_base.specs.declared.owner.Owner.TheVariants.{Reply}
 use Rattle.packet_rings.specs.Entries.{is_entry, is_of, number_of}
 use Rattle.session_store.specs.Sides.{queued_of}
 use Rattle.session_store.proofs.FlushLemmas.{least-reply, least-seen, without-seen}
-use Rattle.session_store.proofs.ReplyGoneLemmas.{reply-clients, reply-held, reply-kept, reply-places, reply-servers, reply-there}
+use Rattle.session_store.proofs.ReplyGoneLemmas.{reply-clients, reply-held, reply-kept}
+use Rattle.session_store.proofs.ReplyGoneLemmas.{reply-places, reply-servers, reply-there}
 use Rattle.session_store.proofs.store.Store.flush_reply.Goals as goal
 
 pub returns-in_default-clause-taken : goal.returns-in_default-clause-taken

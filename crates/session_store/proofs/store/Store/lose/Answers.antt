@@ -1,4 +1,5 @@
-use Rattle.session_store.proofs.LoseLemmas.{lose-clients, lose-kept, lose-places, lose-servers, lost-as, lost-broken, unheld-at}
+use Rattle.session_store.proofs.LoseLemmas.{lose-clients, lose-kept, lose-places, lose-servers}
+use Rattle.session_store.proofs.LoseLemmas.{lost-as, lost-broken, unheld-at}
 use Rattle.session_store.proofs.store.Store.lose.Goals as goal
 
 pub lose_at-requires-clause-unheld : goal.lose_at-requires-clause-unheld

@@ -1,5 +1,6 @@
 use Rattle.std.proofs.Common.{arith}
-use Rattle.session_store.proofs.FinishLemmas.{finish-at, finish-clients, finish-kept, finish-places, left-at, left-kept, left-places}
+use Rattle.session_store.proofs.FinishLemmas.{finish-at, finish-clients, finish-kept, finish-places}
+use Rattle.session_store.proofs.FinishLemmas.{left-at, left-kept, left-places}
 use Rattle.session_store.proofs.StoreLemmas.{ring-room, two-spare}
 use Rattle.session_store.proofs.store.Store.on_finished.Goals as goal
 

@@ -3,7 +3,9 @@ use Rattle.packet_rings.specs.Rings.{Ring}
 use Rattle.packet_rings.specs.Values.{EntryValue}
 use Rattle.session_store.specs.Serving.{listed_entry}
 use Rattle.session_store.specs.Sides.{Kept, shown_of}
-use Rattle.session_store.proofs.ServeLemmas.{at-served, final-none, final-one, may-hold, new-room, seen-own, serve-at, serve-clients, serve-kept, serve-places, served-at}
+use Rattle.session_store.proofs.ServeLemmas.{at-served, final-none, final-one, may-hold, new-room}
+use Rattle.session_store.proofs.ServeLemmas.{seen-own, serve-at, serve-clients, serve-kept}
+use Rattle.session_store.proofs.ServeLemmas.{serve-places, served-at}
 use Rattle.session_store.proofs.StoreLemmas.{ring-room, two-spare}
 use Rattle.session_store.proofs.store.Store.on_packet.Goals as goal
 

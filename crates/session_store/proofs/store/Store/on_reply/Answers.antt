@@ -5,7 +5,10 @@ use Rattle.rpc_laws.specs.Queues.{is_queued}
 use Rattle.session_store.specs.declared.side.Side.{Side}
 use Rattle.session_store.proofs.FlushLemmas.{there-at}
 use Rattle.session_store.proofs.ListLemmas.{got-same}
-use Rattle.session_store.proofs.ReplyLemmas.{broken-clients, heard-clients, heard-kept, heard-places, heard-servers, other-clients, peer-differs, peer-same, seen-unheld, seen-waits, seen-windows}
+use Rattle.session_store.proofs.ReplyLemmas.{broken-clients, heard-clients, heard-kept}
+use Rattle.session_store.proofs.ReplyLemmas.{heard-places, heard-servers, other-clients}
+use Rattle.session_store.proofs.ReplyLemmas.{peer-differs, peer-same, seen-unheld, seen-waits}
+use Rattle.session_store.proofs.ReplyLemmas.{seen-windows}
 use Rattle.session_store.proofs.StoreLemmas.{connected-at}
 use Rattle.session_store.proofs.store.Store.on_reply.Goals as goal
 

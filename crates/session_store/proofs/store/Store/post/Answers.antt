@@ -1,4 +1,6 @@
-use Rattle.session_store.proofs.StoreLemmas.{connected-at, kept-posted, may-post, posted-clients, posted-sum, room-there, unposted-clients, unposted-kept, unposted-sum}
+use Rattle.session_store.proofs.StoreLemmas.{connected-at, kept-posted, may-post, posted-clients}
+use Rattle.session_store.proofs.StoreLemmas.{posted-sum, room-there, unposted-clients}
+use Rattle.session_store.proofs.StoreLemmas.{unposted-kept, unposted-sum}
 use Rattle.session_store.proofs.store.Store.post.Goals as goal
 
 pub post_at-posted-requires-clause-keeps : goal.post_at-posted-requires-clause-keeps

@@ -1,4 +1,5 @@
-use Rattle.session_store.proofs.RollLemmas.{kept-roll, places-roll, roll-active-at, roll-few-at, roll-idle-at, rolled-clients}
+use Rattle.session_store.proofs.RollLemmas.{kept-roll, places-roll, roll-active-at, roll-few-at}
+use Rattle.session_store.proofs.RollLemmas.{roll-idle-at, rolled-clients}
 use Rattle.session_store.proofs.store.Store.roll.Goals as goal
 
 pub roll_at-requires-clause-active : goal.roll_at-requires-clause-active

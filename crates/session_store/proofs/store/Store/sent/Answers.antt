@@ -6,7 +6,8 @@ use Rattle.session_store.specs.Queue.{clients_sent}
 use Rattle.session_store.specs.Sides.{shown_side}
 use Rattle.session_store.proofs.FrontLemmas.{sends-seen}
 use Rattle.session_store.proofs.GoneLemmas.{sent-clients, sent-kept, sent-places}
-use Rattle.session_store.proofs.ReplyGoneLemmas.{end-reply, reply-clients, reply-kept, reply-places, reply-servers}
+use Rattle.session_store.proofs.ReplyGoneLemmas.{end-reply, reply-clients, reply-kept, reply-places}
+use Rattle.session_store.proofs.ReplyGoneLemmas.{reply-servers}
 use Rattle.session_store.proofs.StandLemmas.{front-taken}
 use Rattle.session_store.proofs.store.Store.sent.Goals as goal
 
