@@ -1,5 +1,6 @@
 -- How many references there are to each place, and how many places are spare, after one place changed.
-use Rattle.std.proofs.Common.{◌≡◌, ◌≢◌, ℕ, ◌+◌, ◌-◌, ◌<◌, Bool, true, false, cond, ltb, ltb-true, Some, None, length, refl, sym, ap, ◌∙◌, inl, inr, arith}
+use Rattle.std.proofs.Common.{◌≡◌, ◌≢◌, ℕ, ◌+◌, ◌-◌, ◌<◌, Bool, true, false, cond, ltb, ltb-true}
+use Rattle.std.proofs.Common.{Some, None, length, refl, sym, ap, ◌∙◌, inl, inr, arith}
 use Rattle.std.specs.List.{position_or_len}
 use Rattle.std.proofs.lemmas.Bool.{cases_eq}
 use Rattle.std.proofs.lemmas.List.Sums.{passes_at_first, sum_by-set}
@@ -7,7 +8,8 @@ use Rattle.message_buffer.specs.Buffer.{Buffer}
 use Rattle.buffer_pool.specs.declared.usage.Use.{Use}
 use Rattle.buffer_pool.specs.declared.usage.Use.TheVariants.{Empty, Full, Lent}
 use Rattle.buffer_pool.specs.Uses.{is_empty, is_full, refs_in}
-use Rattle.buffer_pool.specs.Pool.{Pool, IsFull, emptied, filled, held, lowest_empty, refs_of, released, spare_of, use_at}
+use Rattle.buffer_pool.specs.Pool.{Pool, IsFull, emptied, filled, held, lowest_empty, refs_of}
+use Rattle.buffer_pool.specs.Pool.{released, spare_of, use_at}
 use Rattle.buffer_pool.proofs.PoolLemmas.{changed_other, changed_own, full_from_refs, full_within}
 use Rattle.rpc_base.proofs.BasicLemmas.{found-at}
 
@@ -47,7 +49,8 @@ pub refs_released_other : (s : Pool) (p q : ℕ) → q ≢ p → refs_of (releas
 refs_released_other s p q other = ap refs_in (changed_other s.uses p q (Full (refs_of s p - 1)) Empty other)
 
 -- spare places
-pub spare_filled : (s : Pool) (p : ℕ) (b : Buffer) → lowest_empty s ≡ Some p → spare_of (filled p b s) + 1 ≡ spare_of s
+pub spare_filled : (s : Pool) (p : ℕ) (b : Buffer) → lowest_empty s ≡ Some p
+    → spare_of (filled p b s) + 1 ≡ spare_of s
 spare_filled s p b e =
     let at = lowest_at s p e in
     let one = sum_by-set (λ u. cond {A = ℕ} (is_empty u) 1 0) s.uses p (Full 0) Empty at.0 in
@@ -56,13 +59,28 @@ spare_filled s p b e =
 
 pub spare_emptied : (s : Pool) (p : ℕ) → IsFull s p → spare_of (emptied p s) ≡ spare_of s + 1
 spare_emptied s p full =
-    omega (arith, sum_by-set (λ u. cond {A = ℕ} (is_empty u) 1 0) s.uses p Empty Empty (full_within s.uses p full), full_used (use_at s p) full)
+    omega (
+      arith,
+      sum_by-set (λ u. cond {A = ℕ} (is_empty u) 1 0) s.uses p Empty Empty
+          (full_within s.uses p full),
+      full_used (use_at s p) full,
+    )
 
 pub spare_held : (s : Pool) (p : ℕ) → IsFull s p → spare_of (held p s) ≡ spare_of s
 spare_held s p full =
-    omega (arith, sum_by-set (λ u. cond {A = ℕ} (is_empty u) 1 0) s.uses p (Full (refs_of s p + 1)) Empty (full_within s.uses p full), full_used (use_at s p) full)
+    omega (
+      arith,
+      sum_by-set (λ u. cond {A = ℕ} (is_empty u) 1 0) s.uses p (Full (refs_of s p + 1))
+          Empty (full_within s.uses p full),
+      full_used (use_at s p) full,
+    )
 
 pub spare_released : (s : Pool) (p : ℕ) → 0 < refs_of s p → spare_of (released p s) ≡ spare_of s
 spare_released s p some =
     let full = full_from_refs s p some in
-    omega (arith, sum_by-set (λ u. cond {A = ℕ} (is_empty u) 1 0) s.uses p (Full (refs_of s p - 1)) Empty (full_within s.uses p full), full_used (use_at s p) full)
+    omega (
+      arith,
+      sum_by-set (λ u. cond {A = ℕ} (is_empty u) 1 0) s.uses p (Full (refs_of s p - 1))
+          Empty (full_within s.uses p full),
+      full_used (use_at s p) full,
+    )

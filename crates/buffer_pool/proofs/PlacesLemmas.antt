@@ -1,5 +1,6 @@
 -- What is done to a place of a pool, by the use of each: full places stay full, and none is full and empty.
-use Rattle.std.proofs.Common.{◌≡◌, ◌≢◌, ℕ, ◌<◌, Bool, true, false, cond, eqb, Option, Some, None, List, length, get_or, set, refl, sym, ap, ◌∙◌, inl, inr, arith}
+use Rattle.std.proofs.Common.{◌≡◌, ◌≢◌, ℕ, ◌<◌, Bool, true, false, cond, eqb, Option, Some, None}
+use Rattle.std.proofs.Common.{List, length, get_or, set, refl, sym, ap, ◌∙◌, inl, inr, arith}
 use Rattle.std.proofs.lemmas.Bool.{cases_eq, cases_lt, eq-eqb, eqb-false, ne_eqb}
 use Rattle.std.proofs.lemmas.List.{get_or_past}
 use Rattle.message_buffer.specs.Buffer.{Buffer}
@@ -11,7 +12,8 @@ use Rattle.buffer_pool.proofs.CountLemmas.{lowest_at}
 use Rattle.buffer_pool.proofs.PoolLemmas.{changed_other, changed_own, full_within}
 
 -- a full place that is filled or held anew is full, and each other one as it was
-pub full-cases : (uses : List Use) (p q : ℕ) (u : Use) → is_full u ≡ true → is_full (get_or uses q Empty) ≡ true → is_full (get_or (set uses p u) q Empty) ≡ true
+pub full-cases : (uses : List Use) (p q : ℕ) (u : Use) → is_full u ≡ true
+    → is_full (get_or uses q Empty) ≡ true → is_full (get_or (set uses p u) q Empty) ≡ true
 full-cases uses p q u full was =
     elim (cases_eq q p) [
       | inl same ↦ (let within : p < length uses = rw same at (full_within uses q was) in rw same (ap is_full (changed_own uses p u Empty within) ∙ full))

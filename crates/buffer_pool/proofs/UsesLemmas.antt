@@ -1,5 +1,7 @@
 -- The marks and the count of the empty places, as they are made and when one place changes.
-use Rattle.std.proofs.Common.{◌≡◌, ◌≤◌, ◌<◌, ◌+◌, ◌∙◌, ◌^◌, ℕ, zero, suc, Bool, true, false, not, cond, ltb, Some, None, List, [], ◌∷◌, length, get_or, set, map, replicate, position, count_by, refl, sym, ap, arith}
+use Rattle.std.proofs.Common.{◌≡◌, ◌≤◌, ◌<◌, ◌+◌, ◌∙◌, ◌^◌, ℕ, zero, suc, Bool, true, false, not}
+use Rattle.std.proofs.Common.{cond, ltb, Some, None, List, [], ◌∷◌, length, get_or, set, map}
+use Rattle.std.proofs.Common.{replicate, position, count_by, refl, sym, ap, arith}
 use mathlib.Core.Bool.{beq}
 use Rattle.std.specs.List.{position_or_len}
 use Rattle.std.proofs.lemmas.Bool.{ltb-false}
@@ -12,7 +14,8 @@ use Rattle.buffer_pool.specs.Uses.{is_empty, CountsEmpty}
 use Rattle.rpc_base.proofs.BasicLemmas.{found-none}
 
 -- the first place of a list of marks is that of the list that they mark
-first-map : {A : Type 0} (p : A → Bool) (xs : List A) → position_or_len (λ (b : Bool). b) (map p xs) ≡ position_or_len p xs
+first-map : {A : Type 0} (p : A → Bool) (xs : List A)
+    → position_or_len (λ (b : Bool). b) (map p xs) ≡ position_or_len p xs
 first-map p [] = refl
 first-map p (x ∷ xs) = ap (λ n. cond (not (p x)) (1 + n) 0) (first-map p xs)
 
@@ -26,7 +29,9 @@ count-step false n m k h f = omega (arith, f (omega arith))
 
 count-past : {A : Type 0} (p : A → Bool) (xs : List A) → length xs ≤ position_or_len p xs → count_by p xs ≡ 0
 count-past p [] h = refl
-count-past p (x ∷ xs) h = sum_by-cons (λ y. cond (p y) 1 0) x xs ∙ count-step (p x) (position_or_len p xs) (length xs) (count_by p xs) h (count-past p xs)
+count-past p (x ∷ xs) h =
+    sum_by-cons (λ y. cond (p y) 1 0) x xs ∙ count-step (p x) (position_or_len p xs) (length xs)
+    (count_by p xs) h (count-past p xs)
 
 pub count-none : {A : Type 0} (p : A → Bool) (xs : List A) → position p xs ≡ None → count_by p xs ≡ 0
 count-none p xs e = count-past p xs (found-none (position_or_len p xs) (length xs) _ refl e)
@@ -44,7 +49,8 @@ CountsEmpty-new n h = record {
 }
 
 -- the count when one place changes
-mark-at : (uses : List Use) (marks : List Bool) (p : ℕ) (d : Bool) → marks ≡ map is_empty uses → p < length uses → get_or marks p d ≡ is_empty (get_or uses p Empty)
+mark-at : (uses : List Use) (marks : List Bool) (p : ℕ) (d : Bool) → marks ≡ map is_empty uses
+    → p < length uses → get_or marks p d ≡ is_empty (get_or uses p Empty)
 mark-at uses marks p d e h = rw e (get_or-map is_empty uses p Empty d h)
 
 room-by : (b : Bool) (after before n : ℕ) → after + cond b 1 0 ≡ before + 1 → b ≡ false → after ≤ n → before < n
@@ -57,34 +63,56 @@ kept-by false false after before e s = omega arith
 kept-by true false after before e s = cc
 kept-by false true after before e s = cc
 
-pub count-room : (uses : List Use) (p : ℕ) → p < length uses → is_empty (get_or uses p Empty) ≡ false → count_by is_empty uses < length uses
+pub count-room : (uses : List Use) (p : ℕ) → p < length uses
+    → is_empty (get_or uses p Empty) ≡ false → count_by is_empty uses < length uses
 count-room uses p h e =
-    let changed : count_by is_empty (set uses p Empty) + cond (is_empty (get_or uses p Empty)) 1 0 ≡ count_by is_empty uses + 1 = sum_by-set (λ u. cond (is_empty u) 1 0) uses p Empty Empty h in
-    room-by (is_empty (get_or uses p Empty)) (count_by is_empty (set uses p Empty)) (count_by is_empty uses) (length uses) changed e (omega (arith, count_by-le-length is_empty (set uses p Empty), length-set uses p Empty))
+    let changed : count_by is_empty (set uses p Empty) + cond (is_empty (get_or uses p Empty)) 1 0
+    ≡ count_by is_empty uses + 1 =
+    sum_by-set (λ u. cond (is_empty u) 1 0) uses p Empty Empty h in
+    room-by (is_empty (get_or uses p Empty)) (count_by is_empty (set uses p Empty))
+    (count_by is_empty uses) (length uses) changed e
+    (omega (arith, count_by-le-length is_empty (set uses p Empty), length-set uses p Empty))
 
-recounted : (was is : Bool) (more spare before after : ℕ) → (was ≡ is → ⊥) → after + cond was 1 0 ≡ before + cond is 1 0 → spare ≡ before → (is ≡ true → more ≡ spare + 1) → (is ≡ false → more + 1 ≡ spare) → more ≡ after
+recounted : (was is : Bool) (more spare before after : ℕ) → (was ≡ is → ⊥)
+    → after + cond was 1 0 ≡ before + cond is 1 0 → spare ≡ before → (is ≡ true → more ≡ spare + 1)
+    → (is ≡ false → more + 1 ≡ spare) → more ≡ after
 recounted true true more spare before after n e s up down = absurd (n refl)
 recounted false false more spare before after n e s up down = absurd (n refl)
 recounted true false more spare before after n e s up down = omega (arith, down refl)
 recounted false true more spare before after n e s up down = omega (arith, up refl)
 
-pub CountsEmpty-set : (uses : List Use) (marks marks' : List Bool) (spare spare' p : ℕ) (next : Use) (was is : Bool) → CountsEmpty uses marks spare → p < length uses → was ≡ is_empty (get_or uses p Empty) → is ≡ is_empty next → (was ≡ is → ⊥) → marks' ≡ set marks p is → (is ≡ true → spare' ≡ spare + 1) → (is ≡ false → spare' + 1 ≡ spare) → CountsEmpty (set uses p next) marks' spare'
+pub CountsEmpty-set : (uses : List Use) (marks marks' : List Bool) (spare spare' p : ℕ) (next : Use)
+    (was is : Bool) → CountsEmpty uses marks spare → p < length uses
+    → was ≡ is_empty (get_or uses p Empty) → is ≡ is_empty next → (was ≡ is → ⊥)
+    → marks' ≡ set marks p is → (is ≡ true → spare' ≡ spare + 1) → (is ≡ false → spare' + 1 ≡ spare)
+    → CountsEmpty (set uses p next) marks' spare'
 CountsEmpty-set uses marks marks' spare spare' p next was is counts h w i n m up down =
-    let changed : count_by is_empty (set uses p next) + cond (is_empty (get_or uses p Empty)) 1 0 ≡ count_by is_empty uses + cond (is_empty next) 1 0 = sum_by-set (λ u. cond (is_empty u) 1 0) uses p next Empty h in
-    let same : count_by is_empty (set uses p next) + cond was 1 0 ≡ count_by is_empty uses + cond is 1 0 = rw (w, i) changed in
+    let changed : count_by is_empty (set uses p next) + cond (is_empty (get_or uses p Empty)) 1 0
+    ≡ count_by is_empty uses + cond (is_empty next) 1 0 =
+    sum_by-set (λ u. cond (is_empty u) 1 0) uses p next Empty h in
+    let same : count_by is_empty (set uses p next) + cond was 1 0
+    ≡ count_by is_empty uses + cond is 1 0 = rw (w, i) changed in
     record {
-      marks_are = m ∙ ap (λ xs. set xs p is) counts.marks_are ∙ ap (λ b. set (map is_empty uses) p b) i ∙ sym (map-set is_empty uses p next);
-      spare_is = recounted was is spare' spare (count_by is_empty uses) (count_by is_empty (set uses p next)) n same counts.spare_is up down;
+      marks_are = m ∙ ap (λ xs. set xs p is) counts.marks_are
+          ∙ ap (λ b. set (map is_empty uses) p b) i ∙ sym (map-set is_empty uses p next);
+      spare_is = recounted was is spare' spare (count_by is_empty uses)
+          (count_by is_empty (set uses p next)) n same counts.spare_is up down;
       few = omega (arith, counts.few, length-set uses p next);
     }
 
-pub CountsEmpty-same : (uses : List Use) (marks : List Bool) (spare p : ℕ) (next : Use) → CountsEmpty uses marks spare → p < length uses → is_empty (get_or uses p Empty) ≡ is_empty next → CountsEmpty (set uses p next) marks spare
+pub CountsEmpty-same : (uses : List Use) (marks : List Bool) (spare p : ℕ) (next : Use)
+    → CountsEmpty uses marks spare → p < length uses
+    → is_empty (get_or uses p Empty) ≡ is_empty next → CountsEmpty (set uses p next) marks spare
 CountsEmpty-same uses marks spare p next counts h e =
-    let changed : count_by is_empty (set uses p next) + cond (is_empty (get_or uses p Empty)) 1 0 ≡ count_by is_empty uses + cond (is_empty next) 1 0 = sum_by-set (λ u. cond (is_empty u) 1 0) uses p next Empty h in
+    let changed : count_by is_empty (set uses p next) + cond (is_empty (get_or uses p Empty)) 1 0
+    ≡ count_by is_empty uses + cond (is_empty next) 1 0 =
+    sum_by-set (λ u. cond (is_empty u) 1 0) uses p next Empty h in
     let kept : get_or (map is_empty uses) p false ≡ is_empty next = get_or-map is_empty uses p Empty false h ∙ e in
     record {
-      marks_are = counts.marks_are ∙ sym (set-get_or (map is_empty uses) p false) ∙ ap (λ b. set (map is_empty uses) p b) kept ∙ sym (map-set is_empty uses p next);
-      spare_is = counts.spare_is ∙ kept-by (is_empty (get_or uses p Empty)) (is_empty next) (count_by is_empty (set uses p next)) (count_by is_empty uses) changed e;
+      marks_are = counts.marks_are ∙ sym (set-get_or (map is_empty uses) p false)
+          ∙ ap (λ b. set (map is_empty uses) p b) kept ∙ sym (map-set is_empty uses p next);
+      spare_is = counts.spare_is ∙ kept-by (is_empty (get_or uses p Empty)) (is_empty next)
+          (count_by is_empty (set uses p next)) (count_by is_empty uses) changed e;
       few = omega (arith, counts.few, length-set uses p next);
     }
 

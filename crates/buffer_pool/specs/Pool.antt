@@ -1,6 +1,7 @@
 -- A pool as its callers see it, what its places tell, and the words for what is done to one of
 -- them.
-use Rattle.std.specs.Prelude.{◌≡◌, ℕ, ◌+◌, ◌-◌, true, List, Option, Some, None, length, map, replicate, position, count_by, is_some, slice_index_or, slice_set}
+use Rattle.std.specs.Prelude.{◌≡◌, ℕ, ◌+◌, ◌-◌, true, List, Option, Some, None, length, map}
+use Rattle.std.specs.Prelude.{replicate, position, count_by, is_some, slice_index_or, slice_set}
 use Rattle.message_buffer.specs.Buffer.{Buffer}
 use Rattle.buffer_pool.specs.declared.usage.Use.{Use}
 use Rattle.buffer_pool.specs.declared.usage.Use.TheVariants.{Empty, Full, Lent}

@@ -1,5 +1,6 @@
 -- A tree of truth values in one list: node 1 is the root, nodes 2 q and 2 q + 1 are below node q.
-use Rattle.std.specs.Prelude.{◌≡◌, ◌<◌, ◌≤◌, ℕ, zero, suc, ◌+◌, ◌*◌, ◌/◌, ◌^◌, ◌||◌, Bool, false, List, length, take, drop, slice_index_or}
+use Rattle.std.specs.Prelude.{◌≡◌, ◌<◌, ◌≤◌, ℕ, zero, suc, ◌+◌, ◌*◌, ◌/◌, ◌^◌, ◌||◌, Bool, false}
+use Rattle.std.specs.Prelude.{List, length, take, drop, slice_index_or}
 
 -- the value at a node, false past the end
 abbrev pub value_at : List Bool → ℕ → Bool

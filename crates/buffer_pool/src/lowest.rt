@@ -1,5 +1,6 @@
 //! Which of many places are empty, so that the lowest is found without a walk over all of them.
-ghost use Rattle.std.specs.Prelude.{◌≡◌, ◌<◌, ◌≤◌, ◌+◌, ◌*◌, ℕ, Bool, true, false, List, Some, length, replicate, take, drop, position, slice_set, IfOk, OnOk};
+ghost use Rattle.std.specs.Prelude.{◌≡◌, ◌<◌, ◌≤◌, ◌+◌, ◌*◌, ℕ, Bool, true, false, List, Some};
+ghost use Rattle.std.specs.Prelude.{length, replicate, take, drop, position, slice_set, IfOk, OnOk};
 ghost use Rattle.buffer_pool.specs.Tree.{doubled};
 
 use crate::tree::{first_leaf, join_up, shape_for};

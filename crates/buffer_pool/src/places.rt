@@ -1,5 +1,6 @@
 //! What each place is used for, how many are empty, and which of these is the lowest.
-ghost use Rattle.std.specs.Prelude.{◌≡◌, ◌<◌, ◌+◌, ℕ, true, false, List, Some, length, replicate, position, count_by, slice_get, slice_set, IfOk};
+ghost use Rattle.std.specs.Prelude.{◌≡◌, ◌<◌, ◌+◌, ℕ, true, false, List, Some, length, replicate};
+ghost use Rattle.std.specs.Prelude.{position, count_by, slice_get, slice_set, IfOk};
 ghost use Rattle.buffer_pool.specs.declared.usage.Use.{Use};
 ghost use Rattle.buffer_pool.specs.declared.usage.Use.TheVariants.{Empty};
 ghost use Rattle.buffer_pool.specs.Uses.{is_empty};

@@ -3,7 +3,8 @@ ghost use Rattle.std.specs.Prelude.{◌≡◌, ◌<◌, ℕ, List, Some, None, l
 ghost use Rattle.std.specs.Borrow.{sem};
 ghost use Rattle.buffer_pool.specs.Uses.{is_full};
 ghost use Rattle.buffer_pool.specs.Places.{IsHeld, MayHold, held_at, released_at};
-ghost use Rattle.buffer_pool.specs.Pool.{IsFull, IsLent, all_empty, buf_at, emptied, filled, held, lent, lowest_empty, refs_of, released, spare_of};
+ghost use Rattle.buffer_pool.specs.Pool.{IsFull, IsLent, all_empty, buf_at, emptied, filled, held};
+ghost use Rattle.buffer_pool.specs.Pool.{lent, lowest_empty, refs_of, released, spare_of};
 
 use crate::held::Held;
 use crate::places::Places;

@@ -1,6 +1,7 @@
 //! A tree of truth values in one list: node 1 is the root, and nodes 2 q and 2 q + 1 are below
 //! node q. A node above the leaves is true where one of the two below it is.
-ghost use Rattle.std.specs.Prelude.{◌≡◌, ◌≢◌, ◌<◌, ◌≤◌, ◌+◌, ◌*◌, ◌^◌, ◌||◌, ℕ, Bool, true, false, length, slice_index_or};
+ghost use Rattle.std.specs.Prelude.{◌≡◌, ◌≢◌, ◌<◌, ◌≤◌, ◌+◌, ◌*◌, ◌^◌, ◌||◌, ℕ, Bool, true, false};
+ghost use Rattle.std.specs.Prelude.{length, slice_index_or};
 ghost use Rattle.buffer_pool.specs.Tree.{IsJoined, doubled, value_at};
 
 /// How high a tree has to be, and how many leaves it then has, for this number of places.

@@ -3,7 +3,9 @@ use Rattle.std.proofs.Common.{◌≡◌, ℕ, ◌+◌, List, [], ◌∷◌, leng
 use Rattle.std.specs.Prelude.{sum}
 
 -- what eight numbers are together
-pub sum-eight : (xs : List ℕ) → length xs ≡ 8 → sum xs ≡ get_or xs 0 0 + get_or xs 1 0 + get_or xs 2 0 + get_or xs 3 0 + get_or xs 4 0 + get_or xs 5 0 + get_or xs 6 0 + get_or xs 7 0
+pub sum-eight : (xs : List ℕ) → length xs ≡ 8
+    → sum xs ≡ get_or xs 0 0 + get_or xs 1 0 + get_or xs 2 0 + get_or xs 3 0 + get_or xs 4 0
+    + get_or xs 5 0 + get_or xs 6 0 + get_or xs 7 0
 sum-eight [] e = absurd (omega arith)
 sum-eight (x0 ∷ []) e = absurd (omega arith)
 sum-eight (x0 ∷ x1 ∷ []) e = absurd (omega arith)

@@ -1,5 +1,6 @@
 -- A call of a session leaves the places of all but its own calls, and which entries stay packets of their calls.
-use Rattle.std.proofs.Common.{◌≡◌, ◌≢◌, ℕ, ◌+◌, ◌-◌, ◌≤◌, ◌<◌, Bool, true, false, cond, eqb, Option, Some, None, List, [], ◌∷◌, ◌++◌, get_or, refl, sym, ap, ◌∙◌, arith}
+use Rattle.std.proofs.Common.{◌≡◌, ◌≢◌, ℕ, ◌+◌, ◌-◌, ◌≤◌, ◌<◌, Bool, true, false, cond, eqb, Option}
+use Rattle.std.proofs.Common.{Some, None, List, [], ◌∷◌, ◌++◌, get_or, refl, sym, ap, ◌∙◌, arith}
 use Rattle.std.specs.List.{find}
 use Rattle.std.proofs.lemmas.Bool.{and_parts, eq-eqb, eqb-true, ne_eqb}
 use Rattle.std.proofs.lemmas.List.Sums.{sum_by-append}
@@ -22,7 +23,8 @@ use Rattle.client_core.specs.declared.outcome.Reply.TheVariants.{Took, Ended, Dr
 use Rattle.client_core.specs.KeepsEntries.{KeepsOthers, RepliesKeep}
 use Rattle.client_core.specs.KeepsPool.{LeavesOthers, held_at, names, released_at}
 use Rattle.client_core.specs.Posting.{IsPacketOf, call_of, is_owner, marked, one_left, one_posted, place_of}
-use Rattle.client_core.specs.Replies.{Replies, answered, is_request, replied, rewritten_at, with_part, without_buffers, without_call}
+use Rattle.client_core.specs.Replies.{Replies, answered, is_request, replied, rewritten_at}
+use Rattle.client_core.specs.Replies.{with_part, without_buffers, without_call}
 use Rattle.client_core.specs.Session.{Session, can_post}
 use Rattle.client_core.specs.Timeouts.{rolled_call}
 use Rattle.client_core.proofs.CallsLemmas.{sum-at_first}
@@ -39,12 +41,20 @@ own_names p c = cond (eqb c.ask p) 1 0 + cond (eqb c.answer p) 1 0
 
 -- both places of a call are named by its session
 module _ (test : ActiveCall → Bool) (c : ActiveCall) (p : ℕ) where
-  both-cons : (d : ActiveCall) (cs : List ActiveCall) (b : Bool) → names p (d ∷ cs) ≡ 0 → cond b (Some d) (find test cs) ≡ Some c → (find test cs ≡ Some c → names p cs ≡ 0 → (p ≢ c.ask) × (p ≢ c.answer)) → (p ≢ c.ask) × (p ≢ c.answer)
+  both-cons : (d : ActiveCall) (cs : List ActiveCall) (b : Bool) → names p (d ∷ cs) ≡ 0
+      → cond b (Some d) (find test cs) ≡ Some c
+      → (find test cs ≡ Some c → names p cs ≡ 0 → (p ≢ c.ask) × (p ≢ c.answer)) → (p ≢ c.ask)
+      × (p ≢ c.answer)
   both-cons d cs true none f ih =
       let same : d ≡ c = cc in
       let sum = names-cons p d cs in (
         λ here. absurd (omega (arith, sum, none, named-one d.ask p (ap (λ (x : ActiveCall). x.ask) same ∙ sym here))),
-        λ here. absurd (omega (arith, sum, none, named-one d.answer p (ap (λ (x : ActiveCall). x.answer) same ∙ sym here))),
+        λ here. absurd (omega (
+          arith,
+          sum,
+          none,
+          named-one d.answer p (ap (λ (x : ActiveCall). x.answer) same ∙ sym here),
+        )),
       )
   both-cons d cs false none f ih = ih f (omega (arith, names-cons p d cs, none))
 
@@ -55,25 +65,37 @@ module _ (test : ActiveCall → Bool) (c : ActiveCall) (p : ℕ) where
 -- the entries of a call that is changed, where its number and what it posted are kept
 pub record KeepsPackets (f : ActiveCall → ActiveCall) : Type 0 where
   pub request : (c : ActiveCall) → (f c).request ≡ c.request
-  pub packets : (c : ActiveCall) → (d : EntryValue) → d.number < c.posted → d.place ≡ place_of c d.number → (d.number < (f c).posted) × (d.place ≡ place_of (f c) d.number)
+  pub packets : (c : ActiveCall) → (d : EntryValue) → d.number < c.posted
+      → d.place ≡ place_of c d.number → (d.number < (f c).posted)
+      × (d.place ≡ place_of (f c) d.number)
 
 module _ (n : ℕ) (p : ActiveCall → Bool) (f : ActiveCall → ActiveCall) (keeps : KeepsPackets f) (d : EntryValue) where
   owner-same : (c : ActiveCall) → is_owner n d.owner (f c) ≡ is_owner n d.owner c
   owner-same c = ap (λ r. same_owner (Ask n r) d.owner) (keeps.request c)
 
-  stays-cons : (c : ActiveCall) (cs : List ActiveCall) (a b : Bool) → is_owner n d.owner c ≡ a → (IsPacketOf (find (is_owner n d.owner) cs) d → IsPacketOf (find (is_owner n d.owner) (at_first p f cs)) d) → IsPacketOf (cond a (Some c) (find (is_owner n d.owner) cs)) d → IsPacketOf (find (is_owner n d.owner) (cond b (f c ∷ cs) (c ∷ at_first p f cs))) d
+  stays-cons : (c : ActiveCall) (cs : List ActiveCall) (a b : Bool) → is_owner n d.owner c ≡ a
+      → (IsPacketOf (find (is_owner n d.owner) cs) d
+      → IsPacketOf (find (is_owner n d.owner) (at_first p f cs)) d)
+      → IsPacketOf (cond a (Some c) (find (is_owner n d.owner) cs)) d
+      → IsPacketOf (find (is_owner n d.owner) (cond b (f c ∷ cs) (c ∷ at_first p f cs))) d
   stays-cons c cs true true t ih h = let here : is_owner n d.owner (f c) ≡ true = owner-same c ∙ t in rw here (keeps.packets c d h.0 h.1)
   stays-cons c cs false true t ih h = let here : is_owner n d.owner (f c) ≡ false = owner-same c ∙ t in rw here h
   stays-cons c cs true false t ih h = rw t h
   stays-cons c cs false false t ih h = rw t (ih h)
 
-  pub stays : (cs : List ActiveCall) → IsPacketOf (find (is_owner n d.owner) cs) d → IsPacketOf (find (is_owner n d.owner) (at_first p f cs)) d
+  pub stays : (cs : List ActiveCall) → IsPacketOf (find (is_owner n d.owner) cs) d
+      → IsPacketOf (find (is_owner n d.owner) (at_first p f cs)) d
   stays [] h = h
   stays (c ∷ cs) h = stays-cons c cs (is_owner n d.owner c) (p c) refl (stays cs) h
 
 -- where the changed call isn't the one of the entry
-module _ (p q : ActiveCall → Bool) (f : ActiveCall → ActiveCall) (same : (c : ActiveCall) → q (f c) ≡ q c) (apart : (c : ActiveCall) → p c ≡ true → q c ≡ false) (d : EntryValue) where
-  beside-cons : (c : ActiveCall) (cs : List ActiveCall) (a b : Bool) → p c ≡ a → q c ≡ b → (IsPacketOf (find q cs) d → IsPacketOf (find q (at_first p f cs)) d) → IsPacketOf (cond b (Some c) (find q cs)) d → IsPacketOf (find q (cond a (f c ∷ cs) (c ∷ at_first p f cs))) d
+module _ (p q : ActiveCall → Bool) (f : ActiveCall → ActiveCall)
+    (same : (c : ActiveCall) → q (f c) ≡ q c) (apart : (c : ActiveCall) → p c ≡ true → q c ≡ false)
+    (d : EntryValue) where
+  beside-cons : (c : ActiveCall) (cs : List ActiveCall) (a b : Bool) → p c ≡ a → q c ≡ b
+      → (IsPacketOf (find q cs) d → IsPacketOf (find q (at_first p f cs)) d)
+      → IsPacketOf (cond b (Some c) (find q cs)) d
+      → IsPacketOf (find q (cond a (f c ∷ cs) (c ∷ at_first p f cs))) d
   beside-cons c cs true true s t ih h = let no : true ≡ false = sym t ∙ apart c s in cc
   beside-cons c cs true false s t ih h = let here : q (f c) ≡ false = same c ∙ t in rw here h
   beside-cons c cs false true s t ih h = rw t h
@@ -85,7 +107,10 @@ module _ (p q : ActiveCall → Bool) (f : ActiveCall → ActiveCall) (same : (c 
 
 -- where a call is taken out that isn't the one of the entry
 module _ (p q : ActiveCall → Bool) (apart : (c : ActiveCall) → p c ≡ true → q c ≡ false) (d : EntryValue) where
-  left-cons : (c : ActiveCall) (cs : List ActiveCall) (a b : Bool) → p c ≡ a → q c ≡ b → (IsPacketOf (find q cs) d → IsPacketOf (find q (without_first p cs)) d) → IsPacketOf (cond b (Some c) (find q cs)) d → IsPacketOf (find q (cond a cs (c ∷ without_first p cs))) d
+  left-cons : (c : ActiveCall) (cs : List ActiveCall) (a b : Bool) → p c ≡ a → q c ≡ b
+      → (IsPacketOf (find q cs) d → IsPacketOf (find q (without_first p cs)) d)
+      → IsPacketOf (cond b (Some c) (find q cs)) d
+      → IsPacketOf (find q (cond a cs (c ∷ without_first p cs))) d
   left-cons c cs true true s t ih h = let no : true ≡ false = sym t ∙ apart c s in cc
   left-cons c cs true false s t ih h = h
   left-cons c cs false true s t ih h = rw t h
@@ -119,22 +144,35 @@ module _ (n r : ℕ) (d : EntryValue) (other : is_of (Ask n r) d ≡ false) wher
 used-other : (pool : Pool) (p q : ℕ) → is_empty (use_at pool q) ≡ false → lowest_empty pool ≡ Some p → q ≢ p
 used-other pool p q used e = λ same. let empty : is_empty (use_at pool q) ≡ true = rw same (lowest-empty pool p e) in cc
 
-pub begun-leaves : (pool : Pool) (p q : ℕ) (b d : Buffer) (c : ActiveCall) (calls : List ActiveCall) → lowest_empty pool ≡ Some p → lowest_empty (filled p b pool) ≡ Some q → c.ask ≡ p → c.answer ≡ q → LeavesOthers calls (calls ++ c ∷ []) pool (filled q d (filled p b pool))
+pub begun-leaves : (pool : Pool) (p q : ℕ) (b d : Buffer) (c : ActiveCall) (calls : List ActiveCall)
+    → lowest_empty pool ≡ Some p → lowest_empty (filled p b pool) ≡ Some q → c.ask ≡ p
+    → c.answer ≡ q → LeavesOthers calls (calls ++ c ∷ []) pool (filled q d (filled p b pool))
 begun-leaves pool p q b d c calls first second ask answer = λ r none used.
     let away = used-other pool p r used first in
     let same : use_at (filled p b pool) r ≡ use_at pool r = changed_other pool.uses p r (Full 0) Empty away in
     let off = used-other (filled p b pool) q r (ap is_empty same ∙ used) second in
     let sum = sum_by-append (own_names r) calls (c ∷ []) in (
-      omega (arith, sum, none, names-cons r c [], away-none c.ask r (λ e. away (e ∙ ask)), away-none c.answer r (λ e. off (e ∙ answer))),
+      omega (
+        arith,
+        sum,
+        none,
+        names-cons r c [],
+        away-none c.ask r (λ e. away (e ∙ ask)),
+        away-none c.answer r (λ e. off (e ∙ answer)),
+      ),
       changed_other (filled p b pool).uses q r (Full 0) Empty off ∙ same,
       changed_other (filled p b pool).bufs q r (Some d) None off ∙ changed_other pool.bufs p r (Some b) None away,
     )
 
-front-cons : (q : ActiveCall → Bool) (d : EntryValue) (x c : ActiveCall) (xs : List ActiveCall) (b : Bool) → (IsPacketOf (find q xs) d → IsPacketOf (find q (xs ++ c ∷ [])) d) → IsPacketOf (cond b (Some x) (find q xs)) d → IsPacketOf (cond b (Some x) (find q (xs ++ c ∷ []))) d
+front-cons : (q : ActiveCall → Bool) (d : EntryValue) (x c : ActiveCall) (xs : List ActiveCall)
+    (b : Bool) → (IsPacketOf (find q xs) d → IsPacketOf (find q (xs ++ c ∷ [])) d)
+    → IsPacketOf (cond b (Some x) (find q xs)) d
+    → IsPacketOf (cond b (Some x) (find q (xs ++ c ∷ []))) d
 front-cons q d x c xs true ih h = h
 front-cons q d x c xs false ih h = ih h
 
-pub find-front : (q : ActiveCall → Bool) (d : EntryValue) (cs : List ActiveCall) (c : ActiveCall) → IsPacketOf (find q cs) d → IsPacketOf (find q (cs ++ c ∷ [])) d
+pub find-front : (q : ActiveCall → Bool) (d : EntryValue) (cs : List ActiveCall) (c : ActiveCall)
+    → IsPacketOf (find q cs) d → IsPacketOf (find q (cs ++ c ∷ [])) d
 find-front q d [] c h = absurd h
 find-front q d (x ∷ xs) c h = front-cons q d x c xs (q x) (find-front q d xs c) h
 
@@ -147,10 +185,15 @@ held-buf : (pool : Pool) (p a : ℕ) (b : Bool) → buf_at (held_at (cond b (Som
 held-buf pool p a true = refl
 held-buf pool p a false = refl
 
-pub post-leaves : (pool : Pool) (c : ActiveCall) (k : ℕ) (calls : List ActiveCall) → find can_post calls ≡ Some c → LeavesOthers calls (at_first can_post one_posted calls) pool (held_at (place_of c k) pool)
+pub post-leaves : (pool : Pool) (c : ActiveCall) (k : ℕ) (calls : List ActiveCall)
+    → find can_post calls ≡ Some c
+    → LeavesOthers calls (at_first can_post one_posted calls) pool (held_at (place_of c k) pool)
 post-leaves pool c k calls found = λ p none used.
-    let away = (found-both can_post c p calls found none).0 in
-    (sum-at_first can_post one_posted (own_names p) calls (λ x. refl) ∙ none, held-use pool p c.ask _ away, held-buf pool p c.ask _)
+    let away = (found-both can_post c p calls found none).0 in (
+      sum-at_first can_post one_posted (own_names p) calls (λ x. refl) ∙ none,
+      held-use pool p c.ask _ away,
+      held-buf pool p c.ask _,
+    )
 
 pub posting-keeps : KeepsPackets one_posted
 posting-keeps = record { request = λ c. refl; packets = λ c d n e. (omega (arith, n), e) }
@@ -162,14 +205,21 @@ mark-request : (now : ℕ) (c : ActiveCall) (b : Bool) → (cond b (record c { m
 mark-request now c true = refl
 mark-request now c false = refl
 
-mark-packets : (now : ℕ) (c : ActiveCall) (d : EntryValue) (b : Bool) → d.number < c.posted → d.place ≡ place_of c d.number → (d.number < (cond b (record c { mark = now }) c).posted) × (d.place ≡ place_of (cond b (record c { mark = now }) c) d.number)
+mark-packets : (now : ℕ) (c : ActiveCall) (d : EntryValue) (b : Bool) → d.number < c.posted
+    → d.place ≡ place_of c d.number → (d.number < (cond b (record c { mark = now }) c).posted)
+    × (d.place ≡ place_of (cond b (record c { mark = now }) c) d.number)
 mark-packets now c d true n e = (n, e)
 mark-packets now c d false n e = (n, e)
 
 pub marking-keeps : (number now : ℕ) → KeepsPackets (marked number now)
-marking-keeps number now = record { request = λ c. mark-request now (one_left c) _; packets = λ c d n e. mark-packets now (one_left c) d _ n e }
+marking-keeps number now =
+    record {
+      request = λ c. mark-request now (one_left c) _;
+      packets = λ c d n e. mark-packets now (one_left c) d _ n e;
+    }
 
-mark-names : (p now : ℕ) (c : ActiveCall) (b : Bool) → own_names p (cond b (record c { mark = now }) c) ≡ own_names p c
+mark-names : (p now : ℕ) (c : ActiveCall) (b : Bool)
+    → own_names p (cond b (record c { mark = now }) c) ≡ own_names p c
 mark-names p now c true = refl
 mark-names p now c false = refl
 
@@ -177,11 +227,12 @@ pub marked-own : (p number now : ℕ) (c : ActiveCall) → own_names p (marked n
 marked-own p number now c = mark-names p now (one_left c) _
 
 -- and is sent, or taken out unsent
-released-use : (pool : Pool) (p : ℕ) (o : Option ℕ) → ((q : ℕ) → o ≡ Some q → p ≢ q) → use_at (released_at o pool) p ≡ use_at pool p
+released-use : (pool : Pool) (p : ℕ) (o : Option ℕ) → ((q : ℕ) → o ≡ Some q → p ≢ q)
+    → use_at (released_at o pool) p ≡ use_at pool p
 released-use pool p None other = refl
 released-use pool p (Some q) other = changed_other pool.uses q p (Full (refs_of pool q - 1)) Empty (other q refl)
 
-released-buf : (pool : Pool) (p : ℕ) (o : Option ℕ) → buf_at (released_at o pool) p ≡ buf_at pool p
+pub released-buf : (pool : Pool) (p : ℕ) (o : Option ℕ) → buf_at (released_at o pool) p ≡ buf_at pool p
 released-buf pool p None = refl
 released-buf pool p (Some q) = refl
 
@@ -189,8 +240,11 @@ placed-away : (p q a : ℕ) (b : Bool) → Some q ≡ cond b (Some a) None → p
 placed-away p q a true e other = let same : q ≡ a = cc in λ t. other (t ∙ same)
 placed-away p q a false e other = cc
 
-module _ (pool : Pool) (s : Session) (e : EntryValue) (test : ActiveCall → Bool) (f : ActiveCall → ActiveCall) (same : (p : ℕ) → (c : ActiveCall) → own_names p (f c) ≡ own_names p c) where
-  gone-cases : (o : Option ActiveCall) → call_of s e ≡ o → IsPacketOf o e → LeavesOthers s.active (at_first test f s.active) pool (released_at e.place pool)
+module _ (pool : Pool) (s : Session) (e : EntryValue) (test : ActiveCall → Bool)
+    (f : ActiveCall → ActiveCall) (same : (p : ℕ) → (c : ActiveCall)
+    → own_names p (f c) ≡ own_names p c) where
+  gone-cases : (o : Option ActiveCall) → call_of s e ≡ o → IsPacketOf o e
+      → LeavesOthers s.active (at_first test f s.active) pool (released_at e.place pool)
   gone-cases None found posted = absurd posted
   gone-cases (Some c) found posted = λ p none used.
       let away = (found-both (is_owner s.number e.owner) c p s.active found none).0 in (
@@ -199,49 +253,69 @@ module _ (pool : Pool) (s : Session) (e : EntryValue) (test : ActiveCall → Boo
         released-buf pool p e.place,
       )
 
-  pub gone-leaves : IsPacketOf (call_of s e) e → LeavesOthers s.active (at_first test f s.active) pool (released_at e.place pool)
+  pub gone-leaves : IsPacketOf (call_of s e) e
+      → LeavesOthers s.active (at_first test f s.active) pool (released_at e.place pool)
   gone-leaves posted = gone-cases (call_of s e) refl posted
 
 -- a call is rolled back
-pub roll-leaves : (pool : Pool) (test : ActiveCall → Bool) (calls : List ActiveCall) → LeavesOthers calls (at_first test rolled_call calls) pool pool
-roll-leaves pool test calls = λ p none used. (sum-at_first test rolled_call (own_names p) calls (λ x. refl) ∙ none, refl, refl)
+pub roll-leaves : (pool : Pool) (test : ActiveCall → Bool) (calls : List ActiveCall)
+    → LeavesOthers calls (at_first test rolled_call calls) pool pool
+roll-leaves pool test calls =
+    λ p none used. (
+      sum-at_first test rolled_call (own_names p) calls (λ x. refl) ∙ none,
+      refl,
+      refl,
+    )
 
-pub roll-others : (r : ℕ) (s : Session) → KeepsOthers r s (record s { active = at_first (is_request r) rolled_call s.active })
-roll-others r s = λ e other was. beside (is_request r) (is_owner s.number e.owner) rolled_call (λ x. refl) (apart-owner s.number r e other) e s.active was
+pub roll-others : (r : ℕ) (s : Session)
+    → KeepsOthers r s (record s { active = at_first (is_request r) rolled_call s.active })
+roll-others r s = λ e other was. beside (is_request r)
+    (is_owner s.number e.owner) rolled_call (λ x. refl)
+    (apart-owner s.number r e other) e s.active was
 
 -- a call is over
 names-less : (test : ActiveCall → Bool) (p : ℕ) (cs : List ActiveCall) → names p (without_first test cs) ≤ names p cs
 names-less test p [] = omega arith
 names-less test p (d ∷ cs) = cases (test d) (names-less test p cs)
   where
-    cases : (b : Bool) → names p (without_first test cs) ≤ names p cs → names p (cond b cs (d ∷ without_first test cs)) ≤ names p (d ∷ cs)
+    cases : (b : Bool) → names p (without_first test cs) ≤ names p cs
+        → names p (cond b cs (d ∷ without_first test cs)) ≤ names p (d ∷ cs)
     cases true ih = omega (arith, names-cons p d cs)
     cases false ih = omega (arith, names-cons p d cs, names-cons p d (without_first test cs), ih)
 
-pub end-leaves : (pool : Pool) (test by : ActiveCall → Bool) (c : ActiveCall) (calls : List ActiveCall) → find by calls ≡ Some c → LeavesOthers calls (without_first test calls) pool (without_buffers c pool)
+pub end-leaves : (pool : Pool) (test by : ActiveCall → Bool) (c : ActiveCall)
+    (calls : List ActiveCall) → find by calls ≡ Some c
+    → LeavesOthers calls (without_first test calls) pool (without_buffers c pool)
 end-leaves pool test by c calls found = λ p none used.
     let away = found-both by c p calls found none in (
       omega (arith, names-less test p calls, none),
-      changed_other (emptied c.ask pool).uses c.answer p Empty Empty away.1 ∙ changed_other pool.uses c.ask p Empty Empty away.0,
-      changed_other (emptied c.ask pool).bufs c.answer p None None away.1 ∙ changed_other pool.bufs c.ask p None None away.0,
+      changed_other (emptied c.ask pool).uses c.answer p Empty Empty away.1
+          ∙ changed_other pool.uses c.ask p Empty Empty away.0,
+      changed_other (emptied c.ask pool).bufs c.answer p None None away.1
+          ∙ changed_other pool.bufs c.ask p None None away.0,
     )
 
 pub end-others : (c : ActiveCall) (s : Session) → KeepsOthers c.request s (without_call c s)
-end-others c s = λ e other was. found-left (is_request c.request) (is_owner s.number e.owner) (apart-owner s.number c.request e other) e s.active was
+end-others c s = λ e other was. found-left (is_request c.request) (is_owner s.number e.owner)
+    (apart-owner s.number c.request e other) e s.active was
 
 -- a part of an answer changes its own buffer alone
 module _ (c : ActiveCall) (h : MessageHeader) (body : List ℕ) (pool : Pool) where
-  written-cases : (p : ℕ) (k : Bool) (o : Option Buffer) → p ≢ c.answer → buf_at (cond k (rewritten_at c.answer (with_part c h body) o pool) pool) p ≡ buf_at pool p
+  written-cases : (p : ℕ) (k : Bool) (o : Option Buffer) → p ≢ c.answer
+      → buf_at (cond k (rewritten_at c.answer (with_part c h body) o pool) pool) p ≡ buf_at pool p
   written-cases p true None other = refl
   written-cases p true (Some b) other = changed_other pool.bufs c.answer p (Some (with_part c h body b)) None other
   written-cases p false o other = refl
 
-  uses-cases : (k : Bool) (o : Option Buffer) → (cond k (rewritten_at c.answer (with_part c h body) o pool) pool).uses ≡ pool.uses
+  uses-cases : (k : Bool) (o : Option Buffer)
+      → (cond k (rewritten_at c.answer (with_part c h body) o pool) pool).uses ≡ pool.uses
   uses-cases true None = refl
   uses-cases true (Some b) = refl
   uses-cases false o = refl
 
-  pub answer-leaves : (now : ℕ) (by test : ActiveCall → Bool) (calls : List ActiveCall) → find by calls ≡ Some c → LeavesOthers calls (at_first test (replied now h) calls) pool (answered c h body pool)
+  pub answer-leaves : (now : ℕ) (by test : ActiveCall → Bool) (calls : List ActiveCall)
+      → find by calls ≡ Some c
+      → LeavesOthers calls (at_first test (replied now h) calls) pool (answered c h body pool)
   answer-leaves now by test calls found = λ p none used.
       let away = found-both by c p calls found none in (
         sum-at_first test (replied now h) (own_names p) calls (λ x. refl) ∙ none,
@@ -258,12 +332,18 @@ module _ (now : ℕ) (h : MessageHeader) (body : List ℕ) (s new : Session) (po
   reply-leaves Took replies =
       let c = replies.0 in
       let g = replies.1 in
-      rw (g.session, g.pool) (answer-leaves c h body pool now (is_request h.request) (is_request c.request) s.active g.found)
+      rw (g.session, g.pool) (answer-leaves c h body pool now (is_request h.request)
+      (is_request c.request) s.active g.found)
   reply-leaves (Ended d) replies =
       let c = replies.0 in
       let g = replies.1 in
       rw (g.session, g.pool) (end-leaves pool (is_request c.request) (is_request h.request) c s.active g.found)
-  reply-leaves (Dropped why) replies = λ p none used. (rw replies.0 none, ap (λ (x : Pool). use_at x p) replies.1, ap (λ (x : Pool). buf_at x p) replies.1)
+  reply-leaves (Dropped why) replies =
+      λ p none used. (
+        rw replies.0 none,
+        ap (λ (x : Pool). use_at x p) replies.1,
+        ap (λ (x : Pool). buf_at x p) replies.1,
+      )
 
   pub reply-entries : (r : Reply) → Replies r now h body s new pool after → RepliesKeep r h.request s new
   reply-entries Took replies =
@@ -273,6 +353,8 @@ module _ (now : ℕ) (h : MessageHeader) (body : List ℕ) (s new : Session) (po
   reply-entries (Ended d) replies =
       let c = replies.0 in
       let g = replies.1 in
-      let same : c.request ≡ h.request = eqb-true c.request h.request (find-passes (is_request h.request) s.active c g.found) in
+      let same : c.request ≡ h.request =
+      eqb-true c.request h.request (find-passes (is_request h.request) s.active c
+      g.found) in
       λ e other was. rw g.session (end-others c s e (ap (λ r. is_of (Ask s.number r) e) same ∙ other) was)
   reply-entries (Dropped why) replies = λ e was. rw replies.0 was

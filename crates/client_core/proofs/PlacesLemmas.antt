@@ -1,5 +1,6 @@
 -- The places of a call, which no other call names.
-use Rattle.std.proofs.Common.{◌≡◌, ◌≢◌, ℕ, ◌+◌, ◌≤◌, Bool, true, false, cond, Some, List, [], ◌∷◌, refl, sym, ap, arith, eqb}
+use Rattle.std.proofs.Common.{◌≡◌, ◌≢◌, ℕ, ◌+◌, ◌≤◌, Bool, true, false, cond, Some, List, [], ◌∷◌}
+use Rattle.std.proofs.Common.{refl, sym, ap, arith, eqb}
 use Rattle.std.specs.Prelude.{map}
 use Rattle.std.specs.List.{AllByRecursion, find}
 use Rattle.std.proofs.lemmas.Bool.{eq-eqb}
@@ -33,12 +34,27 @@ module _ (p : ℕ) where
   unnamed-one x e =
       (unnamed-cases x.ask p _ refl (omega (arith, e)), unnamed-cases x.answer p _ refl (omega (arith, e)))
 
-  names-found : (test : ActiveCall → Bool) (c : ActiveCall) (cs : List ActiveCall) → find test cs ≡ Some c → own_names p c ≤ names p cs
-  names-found test c cs e = omega (arith, sum-without test c (λ x. cond (eqb x.ask p) 1 0 + cond (eqb x.answer p) 1 0) cs e)
+  names-found : (test : ActiveCall → Bool) (c : ActiveCall) (cs : List ActiveCall)
+      → find test cs ≡ Some c → own_names p c ≤ names p cs
+  names-found test c cs e =
+      omega (
+        arith,
+        sum-without test c (λ x. cond (eqb x.ask p) 1 0 + cond (eqb x.answer p) 1 0) cs
+            e,
+      )
 
   -- none of the others names it, where the call is taken out
-  pub names-without : (test : ActiveCall → Bool) (c : ActiveCall) (cs : List ActiveCall) → find test cs ≡ Some c → 1 ≤ own_names p c → names p cs ≤ 1 → names p (without_first test cs) ≡ 0
-  names-without test c cs e own few = omega (arith, sum-without test c (λ x. cond (eqb x.ask p) 1 0 + cond (eqb x.answer p) 1 0) cs e, own, few)
+  pub names-without : (test : ActiveCall → Bool) (c : ActiveCall) (cs : List ActiveCall)
+      → find test cs ≡ Some c → 1 ≤ own_names p c → names p cs ≤ 1
+      → names p (without_first test cs) ≡ 0
+  names-without test c cs e own few =
+      omega (
+        arith,
+        sum-without test c (λ x. cond (eqb x.ask p) 1 0 + cond (eqb x.answer p) 1 0) cs
+            e,
+        own,
+        few,
+      )
 
   module _ (P Q : ActiveCall → Type 0) (step : (x : ActiveCall) → x.ask ≢ p → x.answer ≢ p → P x → Q x) where
     pub unnamed-all : (cs : List ActiveCall) → names p cs ≡ 0 → AllByRecursion P cs → AllByRecursion Q cs
@@ -49,8 +65,13 @@ module _ (p : ℕ) where
         (step c apart.0 apart.1 all.0, unnamed-all cs (omega (arith, sum, e)) all.1)
 
     -- the call that is found is changed, and none of the others names the place
-    module _ (test : ActiveCall → Bool) (f : ActiveCall → ActiveCall) (c : ActiveCall) (own : 1 ≤ own_names p c) (new : Q (f c)) where
-      others-cons : (y : ActiveCall) (ys : List ActiveCall) (b : Bool) → names p (y ∷ ys) ≤ 1 → P y → AllByRecursion P ys → (names p ys ≤ 1 → find test ys ≡ Some c → AllByRecursion Q (at_first test f ys)) → cond b (Some y) (find test ys) ≡ Some c → AllByRecursion Q (cond b (f y ∷ ys) (y ∷ at_first test f ys))
+    module _ (test : ActiveCall → Bool) (f : ActiveCall → ActiveCall) (c : ActiveCall)
+        (own : 1 ≤ own_names p c) (new : Q (f c)) where
+      others-cons : (y : ActiveCall) (ys : List ActiveCall) (b : Bool) → names p (y ∷ ys) ≤ 1 → P y
+          → AllByRecursion P ys
+          → (names p ys ≤ 1 → find test ys ≡ Some c → AllByRecursion Q (at_first test f ys))
+          → cond b (Some y) (find test ys) ≡ Some c
+          → AllByRecursion Q (cond b (f y ∷ ys) (y ∷ at_first test f ys))
       others-cons y ys true few here rest ih e =
           let same : y ≡ c = cc in
           let mine : own_names p y ≡ own_names p c = ap (λ x. own_names p x) same in
@@ -61,7 +82,8 @@ module _ (p : ℕ) where
           let apart = unnamed-one y (omega (arith, sum, some, own, few)) in
           (step y apart.0 apart.1 here, ih (omega (arith, sum, few)) e)
 
-      pub others-all : (cs : List ActiveCall) → names p cs ≤ 1 → AllByRecursion P cs → find test cs ≡ Some c → AllByRecursion Q (at_first test f cs)
+      pub others-all : (cs : List ActiveCall) → names p cs ≤ 1 → AllByRecursion P cs
+          → find test cs ≡ Some c → AllByRecursion Q (at_first test f cs)
       others-all [] few all e = cc
       others-all (y ∷ ys) few all e =
           others-cons y ys (test y) few all.0 all.1 (λ less g. others-all ys less all.1 g) e
@@ -75,8 +97,15 @@ module _ (p : ℕ) where
         let apart = unnamed-one c (omega (arith, sum, e)) in
         rw (same c apart.0 apart.1, unnamed-map cs (omega (arith, sum, e))) refl
 
-    module _ (test : ActiveCall → Bool) (t : B → Bool) (f : ActiveCall → ActiveCall) (change : B → B) (c : ActiveCall) (tests : (x : ActiveCall) → t (g x) ≡ test x) (own : 1 ≤ own_names p c) (new : h (f c) ≡ change (g c)) where
-      shown-cons : (y : ActiveCall) (ys : List ActiveCall) (b : Bool) → names p (y ∷ ys) ≤ 1 → (names p ys ≤ 1 → find test ys ≡ Some c → map h (at_first test f ys) ≡ at_first t change (map g ys)) → cond b (Some y) (find test ys) ≡ Some c → map h (cond b (f y ∷ ys) (y ∷ at_first test f ys)) ≡ cond b (change (g y) ∷ map g ys) (g y ∷ at_first t change (map g ys))
+    module _ (test : ActiveCall → Bool) (t : B → Bool) (f : ActiveCall → ActiveCall)
+        (change : B → B) (c : ActiveCall) (tests : (x : ActiveCall) → t (g x) ≡ test x)
+        (own : 1 ≤ own_names p c) (new : h (f c) ≡ change (g c)) where
+      shown-cons : (y : ActiveCall) (ys : List ActiveCall) (b : Bool) → names p (y ∷ ys) ≤ 1
+          → (names p ys ≤ 1 → find test ys ≡ Some c
+          → map h (at_first test f ys) ≡ at_first t change (map g ys))
+          → cond b (Some y) (find test ys) ≡ Some c
+          → map h (cond b (f y ∷ ys) (y ∷ at_first test f ys))
+          ≡ cond b (change (g y) ∷ map g ys) (g y ∷ at_first t change (map g ys))
       shown-cons y ys true few ih e =
           let is : y ≡ c = cc in
           let mine : own_names p y ≡ own_names p c = ap (λ x. own_names p x) is in
@@ -88,18 +117,24 @@ module _ (p : ℕ) where
           let apart = unnamed-one y (omega (arith, sum, some, own, few)) in
           rw (same y apart.0 apart.1, ih (omega (arith, sum, few)) e) refl
 
-      pub shown-changed : (cs : List ActiveCall) → names p cs ≤ 1 → find test cs ≡ Some c → map h (at_first test f cs) ≡ at_first t change (map g cs)
+      pub shown-changed : (cs : List ActiveCall) → names p cs ≤ 1 → find test cs ≡ Some c
+          → map h (at_first test f cs) ≡ at_first t change (map g cs)
       shown-changed [] few e = cc
       shown-changed (y ∷ ys) few e =
           rw (tests y) (shown-cons y ys (test y) few (λ less d. shown-changed ys less d) e)
 
 -- a call that is found has two places
-pub two-places : (test : ActiveCall → Bool) (c : ActiveCall) (cs : List ActiveCall) → find test cs ≡ Some c → names c.ask cs ≤ 1 → c.ask ≢ c.answer
+pub two-places : (test : ActiveCall → Bool) (c : ActiveCall) (cs : List ActiveCall)
+    → find test cs ≡ Some c → names c.ask cs ≤ 1 → c.ask ≢ c.answer
 two-places test c cs e few = ask-answer c (names c.ask cs) (names-found c.ask test c cs e) few
 
 -- a call is taken out of what is shown as it is taken out
-module _ {B : Type 0} (g : ActiveCall → B) (test : ActiveCall → Bool) (t : B → Bool) (tests : (x : ActiveCall) → t (g x) ≡ test x) where
-  gone-cons : (y : ActiveCall) (ys : List ActiveCall) (b : Bool) → map g (without_first test ys) ≡ without_first t (map g ys) → map g (cond b ys (y ∷ without_first test ys)) ≡ cond b (map g ys) (g y ∷ without_first t (map g ys))
+module _ {B : Type 0} (g : ActiveCall → B) (test : ActiveCall → Bool) (t : B → Bool)
+    (tests : (x : ActiveCall) → t (g x) ≡ test x) where
+  gone-cons : (y : ActiveCall) (ys : List ActiveCall) (b : Bool)
+      → map g (without_first test ys) ≡ without_first t (map g ys)
+      → map g (cond b ys (y ∷ without_first test ys))
+      ≡ cond b (map g ys) (g y ∷ without_first t (map g ys))
   gone-cons y ys true ih = refl
   gone-cons y ys false ih = ap (λ zs. g y ∷ zs) ih
 

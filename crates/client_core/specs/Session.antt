@@ -1,5 +1,7 @@
 -- The calls of one client session as its callers see them, and what always holds of them.
-use Rattle.std.specs.Prelude.{◌≡◌, ℕ, ◌-◌, ◌%◌, ◌<◌, ◌≤◌, ◌==◌, nat_lt, Bool, List, [], length, count_by, is_some, slice_index, slice_index_or, Option, Some, None, option_map, IfSome}
+use Rattle.std.specs.Prelude.{◌≡◌, ℕ, ◌-◌, ◌%◌, ◌<◌, ◌≤◌, ◌==◌, nat_lt, Bool, List, [], length}
+use Rattle.std.specs.Prelude.{count_by, is_some, slice_index, slice_index_or, Option, Some, None}
+use Rattle.std.specs.Prelude.{option_map, IfSome}
 use Rattle.std.specs.List.{AllByRecursion, find}
 use Rattle.rpc_base.specs.declared.limits.TheConstants.{SESSION_NUMBERS}
 use Rattle.packet_header.specs.Parts.{packet_count, IsMessage}

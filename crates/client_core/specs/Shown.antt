@@ -1,7 +1,10 @@
 -- A session as the definitions over histories have it: with the bytes that its places hold.
-use Rattle.std.specs.Prelude.{◌≡◌, ℕ, ◌+◌, ◌-◌, ◌*◌, ◌≤◌, List, [], ◌∷◌, ◌++◌, count_by, map, take, Option, Some, None, option_map}
+use Rattle.std.specs.Prelude.{◌≡◌, ℕ, ◌+◌, ◌-◌, ◌*◌, ◌≤◌, List, [], ◌∷◌, ◌++◌, count_by, map, take}
+use Rattle.std.specs.Prelude.{Option, Some, None, option_map}
 use Rattle.rpc_base.specs.declared.event.Event.{Event}
-use Rattle.rpc_base.specs.declared.event.Event.TheVariants.{Asked, Begun, DoneOk, DonePeerLost, DoneTooSmall, PairedClient, Posted, Rolled, Sent, Took}
+use Rattle.rpc_base.specs.declared.event.Event.TheVariants.{Asked, Begun, DoneOk, DonePeerLost}
+use Rattle.rpc_base.specs.declared.event.Event.TheVariants.{DoneTooSmall, PairedClient, Posted}
+use Rattle.rpc_base.specs.declared.event.Event.TheVariants.{Rolled, Sent, Took}
 use Rattle.rpc_base.specs.declared.fact.Fact.{Fact}
 use Rattle.rpc_base.specs.declared.owner.Owner.TheVariants.{Ask}
 use Rattle.rpc_base.specs.declared.state.SessionState.TheVariants.{Connected}

@@ -1,5 +1,7 @@
 //! The list of a session's active calls.
-ghost use Rattle.std.specs.Prelude.{◌≡◌, ◌<◌, ◌≤◌, [], ◌∷◌, ◌++◌, ◌&&◌, ◌==◌, ◌↔◌, IsTrue, None, Some, length, option_copied, position, slice_get, slice_set, IfNone};
+ghost use Rattle.std.specs.Prelude.{◌≡◌, ◌<◌, ◌≤◌, [], ◌∷◌, ◌++◌, ◌&&◌, ◌==◌, ◌↔◌, IsTrue, None};
+ghost use Rattle.std.specs.Prelude.{Some, length, option_copied, position, slice_get, slice_set};
+ghost use Rattle.std.specs.Prelude.{IfNone};
 ghost use Rattle.std.specs.List.{AllByRecursion, find, remove};
 ghost use Rattle.rpc_base.specs.Tables.{at_first, without_first};
 ghost use Rattle.rpc_base.specs.Least.{least, least_number, smaller};

@@ -1,6 +1,8 @@
 //! A client session: its calls begin and post here. What replies and timeouts do to them stands in
 //! the modules below.
-ghost use Rattle.std.specs.Prelude.{◌≡◌, ◌<◌, ◌≤◌, ◌+◌, ◌^◌, ◌↔◌, ◌⊎◌, ℕ, Bool, List, [], ◌∷◌, ◌++◌, false, count_by, length, option_map, IfErr, IfNone, IfSome, IsNone, IsTrue, OnErr, OnOk};
+ghost use Rattle.std.specs.Prelude.{◌≡◌, ◌<◌, ◌≤◌, ◌+◌, ◌^◌, ◌↔◌, ◌⊎◌, ℕ, Bool, List, [], ◌∷◌};
+ghost use Rattle.std.specs.Prelude.{◌++◌, false, count_by, length, option_map, IfErr, IfNone};
+ghost use Rattle.std.specs.Prelude.{IfSome, IsNone, IsTrue, OnErr, OnOk};
 ghost use Rattle.std.specs.List.{list_any};
 ghost use Rattle.packet_header.specs.Header.{AreBytes};
 ghost use Rattle.buffer_pool.specs.Pool.{Pool, spare_of};
@@ -17,7 +19,8 @@ ghost use Rattle.client_core.specs.KeepsPool.{CanHold, IsHeld, KeepsPool, Leaves
 ghost use Rattle.client_core.specs.Posting.{IsPacketOf, Starts, call_of, flushed_at, next_entry, posted, sent_at};
 ghost use Rattle.client_core.specs.Replies.{call_as};
 ghost use Rattle.client_core.specs.Session.{IsSession, can_post, enqueued, new_session, queued_in};
-ghost use Rattle.client_core.specs.Shown.{asked, begun_event, packet_of, paired, posted_event, sent_event, shown, stepped};
+ghost use Rattle.client_core.specs.Shown.{asked, begun_event, packet_of, paired, posted_event};
+ghost use Rattle.client_core.specs.Shown.{sent_event, shown, stepped};
 ghost use Rattle.client_core.specs.Timeouts.{is_numbered};
 ghost use Rattle.client_core.specs.Watching.{is_after, next_told};
 ghost use Rattle.rpc_laws.specs.Packets.{IsSpelled};

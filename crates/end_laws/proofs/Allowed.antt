@@ -1,5 +1,6 @@
 -- What the rules alone say of a fact of a node, by the node's lists before it.
-use Rattle.std.proofs.Common.{◌≡◌, ◌<◌, ◌≤◌, ◌⊎◌, inl, inr, ◌==◌, ◌&&◌, ◌-◌, ℕ, Bool, true, false, List, [], ◌∷◌, length, Option, Some, None, slice_get}
+use Rattle.std.proofs.Common.{◌≡◌, ◌<◌, ◌≤◌, ◌⊎◌, inl, inr, ◌==◌, ◌&&◌, ◌-◌, ℕ, Bool, true, false}
+use Rattle.std.proofs.Common.{List, [], ◌∷◌, length, Option, Some, None, slice_get}
 use Rattle.std.specs.Prelude.{option_map}
 use Rattle.std.specs.List.{find, list_any}
 use Rattle.packet_header.specs.Header.{AreBytes, HasHead, InRange}
@@ -8,7 +9,14 @@ use Rattle.packet_header.specs.declared.packet.Kind.{Kind}
 use Rattle.packet_header.specs.declared.packet.Kind.TheVariants.{Request, Rfr, Cr, Response}
 use Rattle.packet_header.specs.declared.packet.MessageHeader.{MessageHeader}
 use Rattle.rpc_base.specs.declared.event.Event.{Event}
-use Rattle.rpc_base.specs.declared.event.Event.TheVariants.{Made, Opened, PairedClient, PairedServer, Accepted, Declined, Starved, Connected, FailedNoRoom, FailedNoAnswer, Closing, ClosedHeard, ClosedUnheard, Ended, Heard, Unsent, Asked, Begun, Posted, Sent, Arrived, Overflowed, Took, Again, Given, Ran, Broken, DoneOk, DoneTooSmall, Carried}
+use Rattle.rpc_base.specs.declared.event.Event.TheVariants.{Made, Opened, PairedClient}
+use Rattle.rpc_base.specs.declared.event.Event.TheVariants.{PairedServer, Accepted, Declined}
+use Rattle.rpc_base.specs.declared.event.Event.TheVariants.{Starved, Connected, FailedNoRoom}
+use Rattle.rpc_base.specs.declared.event.Event.TheVariants.{FailedNoAnswer, Closing, ClosedHeard}
+use Rattle.rpc_base.specs.declared.event.Event.TheVariants.{ClosedUnheard, Ended, Heard, Unsent}
+use Rattle.rpc_base.specs.declared.event.Event.TheVariants.{Asked, Begun, Posted, Sent, Arrived}
+use Rattle.rpc_base.specs.declared.event.Event.TheVariants.{Overflowed, Took, Again, Given, Ran}
+use Rattle.rpc_base.specs.declared.event.Event.TheVariants.{Broken, DoneOk, DoneTooSmall, Carried}
 use Rattle.rpc_base.specs.declared.fact.Fact.{Fact}
 use Rattle.rpc_base.specs.declared.fact.Who.{Who}
 use Rattle.rpc_base.specs.declared.fact.Who.TheVariants.{Node, Net}
@@ -84,7 +92,8 @@ pub record MayTakeReply (l : Lists) (session r : ℕ) : Type 0 where
   pub progress : Progress
   pub is_progress : call.progress ≡ Some progress
   pub in_turn : header.number ≡ progress.got
-  pub of_turn : is_of_turn (asked_packets call.what) call.what.req_type progress.answer header (length (front_body l.ring)) ≡ true
+  pub of_turn : is_of_turn (asked_packets call.what) call.what.req_type progress.answer header
+      (length (front_body l.ring)) ≡ true
 
 -- a packet that goes on with a request
 abbrev pub GoesOn : Kind → Served → MessageHeader → Type 0
@@ -95,7 +104,10 @@ GoesOn Response q h = ⊥
 
 -- a packet that is taken: the first of a request, or the next one of the newest
 abbrev pub TakesOf : Option Served → List Served → MessageHeader → Type 0
-TakesOf None slots h = (h.kind ≡ Request) × (h.number ≡ 0) × (list_any (is_request h.request) slots ≡ false) × ((q : Served) → find (in_slot_of h.request) slots ≡ Some q → (q.number < h.request) × (q.working ≡ false))
+TakesOf None slots h = (h.kind ≡ Request) × (h.number ≡ 0)
+    × (list_any (is_request h.request) slots ≡ false)
+    × ((q : Served) → find (in_slot_of h.request) slots ≡ Some q → (q.number < h.request)
+    × (q.working ≡ false))
 TakesOf (Some q) slots h = (find (is_request h.request) slots ≡ Some q) × (h.number ≡ q.taken) × GoesOn h.kind q h
 
 -- the front of the ring is the packet that a server session wants next
@@ -323,13 +335,15 @@ Linked latest l _ first = Unit {0}
 -- each of a node's facts is allowed, and linked to the one before it
 abbrev pub WalksFrom : Option InFlight → Option Fact → ℕ → Lists → List Fact → Type 0
 WalksFrom hand latest clock l [] = Unit {0}
-WalksFrom hand latest clock l (f ∷ x) = IsAllowed hand l f × Linked latest l f.event f.first × WalksFrom hand (Some f) clock (after clock l f) x
+WalksFrom hand latest clock l (f ∷ x) = IsAllowed hand l f × Linked latest l f.event f.first
+    × WalksFrom hand (Some f) clock (after clock l f) x
 
 -- so it is, whatever was before
 abbrev pub Walks : Option InFlight → ℕ → Lists → List Fact → Type 0
 Walks hand clock l x = WalksFrom hand None clock l x
 
-linked-weaker : (latest : Option Fact) (l : Lists) (e : Event) (first : List ℕ) → Linked None l e first → Linked latest l e first
+linked-weaker : (latest : Option Fact) (l : Lists) (e : Event) (first : List ℕ)
+    → Linked None l e first → Linked latest l e first
 linked-weaker latest l (Posted (Reply t r) k) first h = false-true h
 linked-weaker latest l (Posted (Ask s r) k) first h = tt
 linked-weaker latest l (Posted Control k) first h = tt
@@ -343,6 +357,7 @@ linked-weaker latest l (Arrived peer) first h = false-true h
 linked-weaker latest l (Overflowed peer) first h = false-true h
 linked-weaker latest l _ first h = tt
 
-pub walks-from : (hand : Option InFlight) (latest : Option Fact) (clock : ℕ) (l : Lists) (x : List Fact) → Walks hand clock l x → WalksFrom hand latest clock l x
+pub walks-from : (hand : Option InFlight) (latest : Option Fact) (clock : ℕ) (l : Lists)
+    (x : List Fact) → Walks hand clock l x → WalksFrom hand latest clock l x
 walks-from hand latest clock l [] h = tt
 walks-from hand latest clock l (f ∷ x) h = (h.0, linked-weaker latest l f.event f.first h.1, h.2)

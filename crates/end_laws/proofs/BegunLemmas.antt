@@ -1,5 +1,7 @@
 -- A call that is asked, and one that begins.
-use Rattle.std.proofs.Common.{◌≡◌, ◌<◌, ◌≤◌, ◌+◌, ◌*◌, ◌==◌, ◌||◌, ℕ, Bool, true, false, cond, List, [], ◌∷◌, length, Some, None, slice_get, refl, sym, ap, ◌∙◌, subst, arith, eq-eqb, Contains}
+use Rattle.std.proofs.Common.{◌≡◌, ◌<◌, ◌≤◌, ◌+◌, ◌*◌, ◌==◌, ◌||◌, ℕ, Bool, true, false, cond, List}
+use Rattle.std.proofs.Common.{[], ◌∷◌, length, Some, None, slice_get, refl, sym, ap, ◌∙◌, subst}
+use Rattle.std.proofs.Common.{arith, eq-eqb, Contains}
 use Rattle.std.specs.Prelude.{◌%◌, slice_index}
 use Rattle.std.specs.List.{find, list_any, slice_set}
 use Rattle.std.proofs.lemmas.Bool.{eqb-true, eqb-false}
@@ -22,9 +24,12 @@ use Rattle.rpc_laws.specs.Posting.{next_turn}
 use Rattle.rpc_laws.specs.Sessions.{is_client, has_call, turned, begins, asks}
 use Rattle.end_laws.proofs.Allowed.{MayBegin}
 use Rattle.end_laws.proofs.GoodLemmas.{SameAt, client-more}
-use Rattle.end_laws.proofs.Known.{Known, Later, Asker, Begin, GoodCall, GoodClient, GoodNode, TrueStart, TrueAsk, IsTrue, added, added-here, added-keeps, added-none, added-case, contains-here, contains-more}
+use Rattle.end_laws.proofs.Known.{Known, Later, Asker, Begin, GoodCall, GoodClient, GoodNode}
+use Rattle.end_laws.proofs.Known.{TrueStart, TrueAsk, IsTrue, added, added-here, added-keeps}
+use Rattle.end_laws.proofs.Known.{added-none, added-case, contains-here, contains-more}
 use Rattle.end_laws.proofs.KnownLemmas.{call-later, server-later, jobs-later, ends-more, start-more, ask-more}
-use Rattle.end_laws.proofs.ListLemmas.{length-first, Placed, first-each, set-first, set-placed, length-slice_set, all-first, all-add, all-found}
+use Rattle.end_laws.proofs.ListLemmas.{length-first, Placed, first-each, set-first, set-placed}
+use Rattle.end_laws.proofs.ListLemmas.{length-slice_set, all-first, all-add, all-found}
 use Rattle.end_laws.proofs.SlotLemmas.{find-any}
 
 -- a call as it is asked
@@ -64,31 +69,51 @@ module _ (k : Known) (n c s y room : ℕ) (ask : List ℕ) where
   }
 
   pub ask-same : (j : ℕ) → (j ≡ n → ⊥) → SameAt k knows j
-  ask-same j ne = record { asks = λ d h. added-none k.asks n c 0 entry j d 0 (λ e x z. ne e) h; ends = λ t h. h; starts = λ t r h. h; runs = λ t r h. h }
+  ask-same j ne = record {
+    asks = λ d h. added-none k.asks n c 0 entry j d 0 (λ e x z. ne e) h;
+    ends = λ t h. h;
+    starts = λ t r h. h;
+    runs = λ t r h. h;
+  }
 
   pub true-ask : IsTrue k → IsTrue knows
   true-ask t = record {
     ends = λ i j m x h. ends-more asked_fact k.past x.home x.client i j (t.ends i j m x h);
-    asks = added-case k.asks n c 0 entry (TrueAsk (asked_fact ∷ k.past)) (record { number = refl; asked = contains-here asked_fact k.past }) (λ i j m x h. ask-more asked_fact k.past i j m x (t.asks i j m x h));
+    asks = added-case k.asks n c 0 entry (TrueAsk (asked_fact ∷ k.past))
+        (record { number = refl; asked = contains-here asked_fact k.past })
+        (λ i j m x h. ask-more asked_fact k.past i j m x (t.asks i j m x h));
     starts = λ i j m x h. start-more asked_fact k.past i j m x (t.starts i j m x h);
     runs = λ i j m x h. contains-more asked_fact _ k.past (t.runs i j m x h);
   }
 
-  ask-client : Later k knows → (i : ℕ) (x : Client) → is_client s x ≡ true → GoodClient k n i x → GoodClient knows n i (asks asked_call x)
+  ask-client : Later k knows → (i : ℕ) (x : Client) → is_client s x ≡ true → GoodClient k n i x
+      → GoodClient knows n i (asks asked_call x)
   ask-client later i x t g =
       let more = client-more k knows later n i x (λ r h. h) g in
       let session : x.way.number ≡ s = eqb-true x.way.number s t in
-      let logged : knows.asks n c 0 ≡ Some (record { session = x.way.number; what = asked_call }) = subst (λ (z : ℕ). knows.asks n c 0 ≡ Some (record { session = z; what = asked_call })) (sym session) (added-here k.asks n c 0 entry) in
-      record { number = more.number; end = more.end; eight = more.eight; fresh = more.fresh; calls = all-add (GoodCall knows n x.way) x.calls _ more.calls (record { logged = logged; progress = tt }) }
+      let logged : knows.asks n c 0 ≡ Some (record { session = x.way.number; what = asked_call }) =
+      subst (λ (z : ℕ). knows.asks n c 0 ≡ Some (record { session = z; what = asked_call }))
+      (sym session) (added-here k.asks n c 0 entry) in
+      record {
+        number = more.number;
+        end = more.end;
+        eight = more.eight;
+        fresh = more.fresh;
+        calls = all-add (GoodCall knows n x.way) x.calls _ more.calls
+            (record { logged = logged; progress = tt });
+      }
 
   pub ask-node : (clock : ℕ) (l : Lists) → c ≡ l.asked → GoodNode k n l → GoodNode knows n (after clock l asked_fact)
   ask-node clock l new g =
       let later = later-ask (g.no_asks c (omega arith)) in
       let count = length-first (is_client s) (asks asked_call) l.clients in
       record {
-        clients = first-each (is_client s) (asks asked_call) (GoodClient k n) (GoodClient knows n) l.clients (λ i x h t. ask-client later i x t h) (λ i x h. client-more k knows later n i x (λ r h. h) h) g.clients;
+        clients = first-each (is_client s) (asks asked_call) (GoodClient k n)
+            (GoodClient knows n) l.clients (λ i x h t. ask-client later i x t h)
+            (λ i x h. client-more k knows later n i x (λ r h. h) h) g.clients;
         servers = λ t v is. server-later k knows later n t v (g.servers t v is);
-        no_asks = λ d le. added-none k.asks n c 0 entry n d 0 (λ x e z. absurd (omega arith)) (g.no_asks d (omega arith));
+        no_asks = λ d le. added-none k.asks n c 0 entry n d 0 (λ x e z. absurd (omega arith))
+            (g.no_asks d (omega arith));
         no_ends = λ t le. g.no_ends t le;
         no_starts = λ t r le. g.no_starts t r (omega arith);
         no_runs = λ t r u. g.no_runs t r u;
@@ -96,10 +121,14 @@ module _ (k : Known) (n c s y room : ℕ) (ask : List ℕ) where
       }
 
 -- one slot has had one more turn
-turned-here : (turns : List ℕ) (slot : ℕ) → slot < length turns → slice_index (slice_set turns slot (slice_index turns slot + 1)) slot ≡ slice_index turns slot + 1
+turned-here : (turns : List ℕ) (slot : ℕ) → slot < length turns
+    → slice_index (slice_set turns slot (slice_index turns slot + 1)) slot
+    ≡ slice_index turns slot + 1
 turned-here turns slot lt = get_or-set_same turns slot (slice_index turns slot + 1) 0 lt
 
-turned-by : (turns : List ℕ) (slot other : ℕ) (b : Bool) → (other == slot) ≡ b → slot < length turns → slice_index turns other ≤ slice_index (slice_set turns slot (slice_index turns slot + 1)) other
+turned-by : (turns : List ℕ) (slot other : ℕ) (b : Bool) → (other == slot) ≡ b → slot < length turns
+    → slice_index turns other ≤ slice_index (slice_set turns slot (slice_index turns slot + 1))
+    other
 turned-by turns slot other true t lt =
     let e = eqb-true other slot t in
     let here = turned-here turns slot lt in
@@ -110,7 +139,14 @@ turned-by turns slot other false t lt =
 
 -- a call begins
 abbrev pub with_begin : Known → (n i c r : ℕ) → Begin → Known
-with_begin k n i c r b = record { past = plain n (Begun c r) ∷ k.past; ends = k.ends; asks = k.asks; starts = added k.starts n i r b; runs = k.runs }
+with_begin k n i c r b =
+    record {
+      past = plain n (Begun c r) ∷ k.past;
+      ends = k.ends;
+      asks = k.asks;
+      starts = added k.starts n i r b;
+      runs = k.runs;
+    }
 
 module _ (k : Known) (n c r : ℕ) (l : Lists) (m : MayBegin l c r) (g : GoodNode k n l) where
   abbrev begun_fact : Fact
@@ -138,7 +174,8 @@ module _ (k : Known) (n c r : ℕ) (l : Lists) (m : MayBegin l c r) (g : GoodNod
   is-new : k.starts n m.session r ≡ None
   is-new =
       let next : r ≡ next_turn m.client.turns m.slot = m.next in
-      let same : next_turn m.client.turns (r % 8) ≡ next_turn m.client.turns m.slot = ap (next_turn m.client.turns) slot-is in
+      let same : next_turn m.client.turns (r % 8) ≡ next_turn m.client.turns m.slot =
+      ap (next_turn m.client.turns) slot-is in
       let self : r ≤ r = omega arith in
       let le : next_turn m.client.turns (r % 8) ≤ r = subst (λ (x : ℕ). x ≤ r) (sym (same ∙ sym next)) self in
       good-client.fresh r le
@@ -153,14 +190,24 @@ module _ (k : Known) (n c r : ℕ) (l : Lists) (m : MayBegin l c r) (g : GoodNod
   }
 
   pub begin-same : (j : ℕ) → (j ≡ n → ⊥) → SameAt k begins_known j
-  begin-same j ne = record { asks = λ d h. h; ends = λ t h. h; starts = λ s q h. added-none k.starts n m.session r begin j s q (λ e x z. ne e) h; runs = λ t q h. h }
+  begin-same j ne = record {
+    asks = λ d h. h;
+    ends = λ t h. h;
+    starts = λ s q h. added-none k.starts n m.session r begin j s q (λ e x z. ne e) h;
+    runs =
+        λ t q h. h;
+  }
 
   pub true-begin : IsTrue k → IsTrue begins_known
   true-begin t =
       let number : m.client.way.number ≡ m.session = good-client.number in
       let ends = t.ends m.client.way.peer m.client.way.other 0 _ good-client.end in
       let asked = t.asks n m.call.what.number 0 _ good-call.logged in
-      let there : Contains k.past (with_bytes n (Asked m.call.what.number m.session m.call.what.req_type m.call.what.room) m.call.what.ask) = subst (λ (s : ℕ). Contains k.past (with_bytes n (Asked m.call.what.number s m.call.what.req_type m.call.what.room) m.call.what.ask)) number asked.asked in
+      let there : Contains k.past (with_bytes n
+      (Asked m.call.what.number m.session m.call.what.req_type m.call.what.room)
+      m.call.what.ask) = subst (λ (s : ℕ). Contains k.past
+      (with_bytes n (Asked m.call.what.number s m.call.what.req_type m.call.what.room)
+      m.call.what.ask)) number asked.asked in
       let own : begun_fact ≡ plain n (Begun m.call.what.number r) = ap (λ (d : ℕ). plain n (Begun d r)) m.number in
       let new : TrueStart (begun_fact ∷ k.past) n m.session r begin = record {
         number = number;
@@ -171,16 +218,21 @@ module _ (k : Known) (n c r : ℕ) (l : Lists) (m : MayBegin l c r) (g : GoodNod
       record {
         ends = λ i j d x h. ends-more begun_fact k.past x.home x.client i j (t.ends i j d x h);
         asks = λ i j d x h. ask-more begun_fact k.past i j d x (t.asks i j d x h);
-        starts = added-case k.starts n m.session r begin (TrueStart (begun_fact ∷ k.past)) new (λ i j d x h. start-more begun_fact k.past i j d x (t.starts i j d x h));
+        starts = added-case k.starts n m.session r begin (TrueStart (begun_fact ∷ k.past)) new
+            (λ i j d x h. start-more begun_fact k.past i j d x (t.starts i j d x h));
         runs = λ i j d x h. contains-more begun_fact _ k.past (t.runs i j d x h);
       }
 
   -- no other session has the call
-  has-by : (calls : List Call) (y : Call) → find is_waiting calls ≡ Some y → (is_call c y) ≡ true → list_any (is_call c) calls ≡ true
+  has-by : (calls : List Call) (y : Call) → find is_waiting calls ≡ Some y → (is_call c y) ≡ true
+      → list_any (is_call c) calls ≡ true
   has-by [] y h t = cc
   has-by (z ∷ zs) y h t = has-cons z zs y (is_waiting z) h t (has-by zs y)
     where
-      has-cons : (z : Call) (zs : List Call) (y : Call) (b : Bool) → cond b (Some z) (find is_waiting zs) ≡ Some y → is_call c y ≡ true → (find is_waiting zs ≡ Some y → is_call c y ≡ true → list_any (is_call c) zs ≡ true) → (is_call c z || list_any (is_call c) zs) ≡ true
+      has-cons : (z : Call) (zs : List Call) (y : Call) (b : Bool)
+          → cond b (Some z) (find is_waiting zs) ≡ Some y → is_call c y ≡ true
+          → (find is_waiting zs ≡ Some y → is_call c y ≡ true → list_any (is_call c) zs ≡ true)
+          → (is_call c z || list_any (is_call c) zs) ≡ true
       has-cons z zs y true h t ih = let same : y ≡ z = cc in let passes : is_call c z ≡ true = ap (is_call c) (sym same) ∙ t in rw passes refl
       has-cons z zs y false h t ih = or-true (is_call c z) (ih h t)
         where
@@ -192,11 +244,17 @@ module _ (k : Known) (n c r : ℕ) (l : Lists) (m : MayBegin l c r) (g : GoodNod
   is-begun = eq-eqb m.call.what.number c (sym m.number)
 
   -- a call of this number is the one that begins
-  call-same : (way : Way) (y : Call) → GoodCall k n way y → is_call c y ≡ true → (way.number ≡ m.client.way.number) × (y.what ≡ m.call.what)
+  call-same : (way : Way) (y : Call) → GoodCall k n way y → is_call c y ≡ true
+      → (way.number ≡ m.client.way.number) × (y.what ≡ m.call.what)
   call-same way y h t =
       let number : y.what.number ≡ m.call.what.number = eqb-true y.what.number c t ∙ m.number in
-      let one : k.asks n m.call.what.number 0 ≡ Some (record { session = way.number; what = y.what }) = subst (λ (d : ℕ). k.asks n d 0 ≡ Some (record { session = way.number; what = y.what })) number h.logged in
-      asker-same (record { session = way.number; what = y.what }) (record { session = m.client.way.number; what = m.call.what }) (sym one ∙ good-call.logged)
+      let one : k.asks n m.call.what.number 0
+      ≡ Some (record { session = way.number; what = y.what }) =
+      subst (λ (d : ℕ). k.asks n d 0 ≡ Some
+      (record { session = way.number; what = y.what })) number h.logged in
+      asker-same (record { session = way.number; what = y.what })
+      (record { session = m.client.way.number; what = m.call.what })
+      (sym one ∙ good-call.logged)
     where
       asker-same : (a b : Asker) → Some a ≡ Some b → (a.session ≡ b.session) × (a.what ≡ b.what)
       asker-same a b e = let same : a ≡ b = cc in (ap (λ (x : Asker). x.session) same, ap (λ (x : Asker). x.what) same)
@@ -209,7 +267,9 @@ module _ (k : Known) (n c r : ℕ) (l : Lists) (m : MayBegin l c r) (g : GoodNod
       let same = call-same z.way y.0 call (find-passes (is_call c) z.calls y.0 y.1) in
       sym other.number ∙ (same.0 ∙ good-client.number)
 
-  fresh-by : (q : ℕ) (b : Bool) → (q == r) ≡ b → next_turn (turned (r % 8) m.client.turns) (q % 8) ≤ q → begins_known.starts n m.session q ≡ None
+  fresh-by : (q : ℕ) (b : Bool) → (q == r) ≡ b
+      → next_turn (turned (r % 8) m.client.turns) (q % 8) ≤ q
+      → begins_known.starts n m.session q ≡ None
   fresh-by q true t le =
       let e = eqb-true q r t in
       let slot = slot-is in
@@ -217,8 +277,11 @@ module _ (k : Known) (n c r : ℕ) (l : Lists) (m : MayBegin l c r) (g : GoodNod
       let eight = good-client.eight in
       let within : r % 8 < length m.client.turns = omega arith in
       let here = turned-here m.client.turns (r % 8) within in
-      let at : slice_index (turned (r % 8) m.client.turns) (q % 8) ≡ slice_index m.client.turns (r % 8) + 1 = ap (λ (x : ℕ). slice_index (turned (r % 8) m.client.turns) (x % 8)) e ∙ here in
-      let was : slice_index m.client.turns (r % 8) ≡ slice_index m.client.turns m.slot = ap (slice_index m.client.turns) slot in
+      let at : slice_index (turned (r % 8) m.client.turns) (q % 8)
+      ≡ slice_index m.client.turns (r % 8) + 1 =
+      ap (λ (x : ℕ). slice_index (turned (r % 8) m.client.turns) (x % 8)) e ∙ here in
+      let was : slice_index m.client.turns (r % 8) ≡ slice_index m.client.turns m.slot =
+      ap (slice_index m.client.turns) slot in
       let next : r ≡ m.slot + 8 * slice_index m.client.turns m.slot = m.next in
       let rest : q % 8 ≡ m.slot = ap (λ (x : ℕ). x % 8) e ∙ slot in
       let high : q % 8 + 8 * slice_index (turned (r % 8) m.client.turns) (q % 8) ≤ q = le in
@@ -233,12 +296,18 @@ module _ (k : Known) (n c r : ℕ) (l : Lists) (m : MayBegin l c r) (g : GoodNod
       let old : next_turn m.client.turns (q % 8) ≤ q = omega arith in
       added-none k.starts n m.session r begin n m.session q (λ x y e. eqb-false q r t e) (good-client.fresh q old)
 
-  begun-call : (y : Call) → is_call c y ≡ true → GoodCall k n m.client.way y → GoodCall begins_known n m.client.way (begun r y)
+  begun-call : (y : Call) → is_call c y ≡ true → GoodCall k n m.client.way y
+      → GoodCall begins_known n m.client.way (begun r y)
   begun-call y t h =
       let same = call-same m.client.way y h t in
       let above = packet_count_above (length y.what.ask) in
       let here = added-here k.starts n m.session r begin in
-      let mine : begins_known.starts n m.client.way.number r ≡ Some (record { way = m.client.way; what = y.what }) = subst (λ (s : ℕ). begins_known.starts n s r ≡ Some (record { way = m.client.way; what = y.what })) (sym good-client.number) (here ∙ ap (λ (a : Asking). Some (record { way = m.client.way; what = a })) (sym same.1)) in
+      let mine : begins_known.starts n m.client.way.number r
+      ≡ Some (record { way = m.client.way; what = y.what }) =
+      subst (λ (s : ℕ). begins_known.starts n s r
+      ≡ Some (record { way = m.client.way; what = y.what })) (sym good-client.number)
+      (here ∙ ap (λ (a : Asking). Some (record { way = m.client.way; what = a }))
+      (sym same.1)) in
       record { logged = h.logged; progress = record { begun = mine; answer = (refl, above) } }
 
   begun-client : GoodClient begins_known n m.session (begins c r m.client)
@@ -247,17 +316,28 @@ module _ (k : Known) (n c r : ℕ) (l : Lists) (m : MayBegin l c r) (g : GoodNod
     end = good-client.end;
     eight = length-slice_set m.client.turns (r % 8) _ ∙ good-client.eight;
     fresh = λ q le. fresh-by q _ refl le;
-    calls = all-first (GoodCall k n m.client.way) (GoodCall begins_known n m.client.way) (is_call c) (begun r) m.client.calls (call-later k begins_known later-begin n m.client.way) (λ y is h. begun-call y (find-passes (is_call c) m.client.calls y is) h) good-client.calls;
+    calls = all-first (GoodCall k n m.client.way) (GoodCall begins_known n m.client.way) (is_call c)
+        (begun r) m.client.calls (call-later k begins_known later-begin n m.client.way)
+        (λ y is h. begun-call y (find-passes (is_call c) m.client.calls y is) h) good-client.calls;
   }
 
   other-client : (j : ℕ) (z : Client) → (j ≡ m.session → ⊥) → GoodClient k n j z → GoodClient begins_known n j z
-  other-client j z ne h = client-more k begins_known later-begin n j z (λ q none. added-none k.starts n m.session r begin n j q (λ x e y. ne e) none) h
+  other-client j z ne h =
+      client-more k begins_known later-begin n j z
+      (λ q none. added-none k.starts n m.session r begin n j q (λ x e y. ne e) none) h
 
   pub begin-node : (clock : ℕ) → GoodNode begins_known n (after clock l begun_fact)
   begin-node clock =
       let has : has_call c m.client ≡ true = has-by m.client.calls m.call m.waits is-begun in
-      let one : at_first (has_call c) (begins c r) l.clients ≡ slice_set l.clients m.session (begins c r m.client) = set-first (has_call c) (begins c r) l.clients m.session m.client m.is_there has one-session in
-      let placed : Placed (GoodClient begins_known n) (slice_set l.clients m.session (begins c r m.client)) = set-placed (GoodClient begins_known n) l.clients m.session m.client (begins c r m.client) m.is_there begun-client (λ j z ne is. other-client j z ne (g.clients j z is)) in
+      let one : at_first (has_call c) (begins c r) l.clients
+      ≡ slice_set l.clients m.session (begins c r m.client) =
+      set-first (has_call c) (begins c r) l.clients m.session m.client m.is_there has
+      one-session in
+      let placed : Placed (GoodClient begins_known n)
+      (slice_set l.clients m.session (begins c r m.client)) =
+      set-placed (GoodClient begins_known n) l.clients m.session m.client
+      (begins c r m.client) m.is_there begun-client
+      (λ j z ne is. other-client j z ne (g.clients j z is)) in
       let count = length-first (has_call c) (begins c r) l.clients in
       let within = slice_get_within l.clients m.session m.client m.is_there in
       record {
@@ -265,7 +345,8 @@ module _ (k : Known) (n c r : ℕ) (l : Lists) (m : MayBegin l c r) (g : GoodNod
         servers = λ t v is. server-later k begins_known later-begin n t v (g.servers t v is);
         no_asks = λ d le. g.no_asks d le;
         no_ends = λ t le. g.no_ends t le;
-        no_starts = λ s q le. added-none k.starts n m.session r begin n s q (λ x e y. absurd (omega arith)) (g.no_starts s q (omega arith));
+        no_starts = λ s q le. added-none k.starts n m.session r begin n s q
+            (λ x e y. absurd (omega arith)) (g.no_starts s q (omega arith));
         no_runs = λ t q u. g.no_runs t q u;
         jobs = jobs-later k begins_known later-begin n l.jobs.out g.jobs;
       }

@@ -1,5 +1,6 @@
 -- How many elements of a list pass a test.
-use Rattle.std.proofs.Common.{◌≡◌, ◌+◌, ℕ, Bool, true, false, cond, List, [], ◌∷◌, ◌++◌, Some, refl, sym, ap, ◌∙◌, arith}
+use Rattle.std.proofs.Common.{◌≡◌, ◌+◌, ℕ, Bool, true, false, cond, List, [], ◌∷◌, ◌++◌, Some, refl}
+use Rattle.std.proofs.Common.{sym, ap, ◌∙◌, arith}
 use Rattle.std.specs.Prelude.{count_by, option_to_list}
 use Rattle.std.specs.List.{find, AllByRecursion}
 use Rattle.std.proofs.lemmas.List.Sums.{sum_by-cons, sum_by-append}
@@ -15,7 +16,10 @@ module _ {A : Type 0} (p : A → Bool) where
   pub count-one : (x : A) (b : Bool) → p x ≡ b → count_by p (x ∷ []) ≡ cond b 1 0
   count-one x b t = rw t (omega arith)
 
-  out-cons : (q : A → Bool) (x : A) (xs : List A) (b : Bool) → count_by p (without_first q xs) + count_by p (option_to_list (find q xs)) ≡ count_by p xs → count_by p (cond b xs (x ∷ without_first q xs)) + count_by p (option_to_list (cond b (Some x) (find q xs))) ≡ count_by p (x ∷ xs)
+  out-cons : (q : A → Bool) (x : A) (xs : List A) (b : Bool)
+      → count_by p (without_first q xs) + count_by p (option_to_list (find q xs)) ≡ count_by p xs
+      → count_by p (cond b xs (x ∷ without_first q xs))
+      + count_by p (option_to_list (cond b (Some x) (find q xs))) ≡ count_by p (x ∷ xs)
   out-cons q x xs true ih =
       let whole = count-cons x xs in
       let one = count-cons x [] in
@@ -26,11 +30,13 @@ module _ {A : Type 0} (p : A → Bool) where
       omega arith
 
   -- what is taken out, and the rest
-  pub count-out : (q : A → Bool) (xs : List A) → count_by p (without_first q xs) + count_by p (option_to_list (find q xs)) ≡ count_by p xs
+  pub count-out : (q : A → Bool) (xs : List A)
+      → count_by p (without_first q xs) + count_by p (option_to_list (find q xs)) ≡ count_by p xs
   count-out q [] = refl
   count-out q (x ∷ xs) = out-cons q x xs (q x) (count-out q xs)
 
-  none-cons : (x : A) (xs : List A) (b : Bool) → p x ≡ b → cond b 1 0 + count_by p xs ≡ 0 → (p x ≡ false) × (count_by p xs ≡ 0)
+  none-cons : (x : A) (xs : List A) (b : Bool) → p x ≡ b → cond b 1 0 + count_by p xs ≡ 0
+      → (p x ≡ false) × (count_by p xs ≡ 0)
   none-cons x xs true t h = absurd (omega arith)
   none-cons x xs false t h = (t, omega arith)
 

@@ -1,5 +1,6 @@
 -- Histories as the rules make them, from moment to moment.
-use Rattle.std.proofs.Common.{◌≡◌, ℕ, Bool, true, false, List, [], ◌∷◌, ◌++◌, length, Option, Some, None, slice_get, refl, ap, ◌∙◌, ◌≤◌, ◌+◌}
+use Rattle.std.proofs.Common.{◌≡◌, ℕ, Bool, true, false, List, [], ◌∷◌, ◌++◌, length, Option, Some}
+use Rattle.std.proofs.Common.{None, slice_get, refl, ap, ◌∙◌, ◌≤◌, ◌+◌}
 use Rattle.std.specs.List.{slice_set}
 use Rattle.rpc_base.specs.declared.event.Event.{Event}
 use Rattle.rpc_base.specs.declared.event.Event.TheVariants.{Made, PairedClient, PairedServer}
@@ -39,39 +40,54 @@ pub record Ends (w : Moment) (n m credits : ℕ) (client server : Lists) : Type 
   pub fits_server : shares server + credits ≤ server.room
 
 abbrev pub client_fact : ℕ → ℕ → ℕ → Lists → Lists → Fact
-client_fact n m credits client server = plain n (PairedClient (length client.clients) m (length server.servers) credits)
+client_fact n m credits client server =
+    plain n (PairedClient (length client.clients) m (length server.servers) credits)
 
 abbrev pub server_fact : ℕ → ℕ → ℕ → Lists → Lists → Fact
-server_fact n m credits client server = plain m (PairedServer (length server.servers) n (length client.clients) credits)
+server_fact n m credits client server =
+    plain m (PairedServer (length server.servers) n (length client.clients) credits)
 
 abbrev pub paired : Moment → ℕ → ℕ → ℕ → Lists → Lists → Moment
-paired w n m credits client server = moved (moved w (client_fact n m credits client server)) (server_fact n m credits client server)
+paired w n m credits client server =
+    moved (moved w (client_fact n m credits client server)) (server_fact n m credits client server)
 
 -- from a moment by these facts to a moment
 pub data Course : Moment → List Fact → Moment → Type 0 where
   over : (w : Moment) → Course w [] w
-  in_net : (w : Moment) (f : Fact) (h : List Fact) (u : Moment) → f.who ≡ Net → Course (moved w f) h u → Course w (f ∷ h) u
-  made : (w : Moment) (ring : ℕ) (h : List Fact) (u : Moment) → Course (moved w (plain (length w.nodes) (Made ring))) h u → Course w (plain (length w.nodes) (Made ring) ∷ h) u
-  at_node : (w : Moment) (n : ℕ) (l : Lists) (f : Fact) (h : List Fact) (u : Moment) → AtNode w n l f → Course (moved w f) h u → Course w (f ∷ h) u
-  pairs : (w : Moment) (n m credits : ℕ) (client server : Lists) (h : List Fact) (u : Moment) → Ends w n m credits client server → Course (paired w n m credits client server) h u → Course w (client_fact n m credits client server ∷ server_fact n m credits client server ∷ h) u
+  in_net : (w : Moment) (f : Fact) (h : List Fact) (u : Moment) → f.who ≡ Net
+      → Course (moved w f) h u → Course w (f ∷ h) u
+  made : (w : Moment) (ring : ℕ) (h : List Fact) (u : Moment)
+      → Course (moved w (plain (length w.nodes) (Made ring))) h u
+      → Course w (plain (length w.nodes) (Made ring) ∷ h) u
+  at_node : (w : Moment) (n : ℕ) (l : Lists) (f : Fact) (h : List Fact) (u : Moment)
+      → AtNode w n l f → Course (moved w f) h u → Course w (f ∷ h) u
+  pairs : (w : Moment) (n m credits : ℕ) (client server : Lists) (h : List Fact) (u : Moment)
+      → Ends w n m credits client server → Course (paired w n m credits client server) h u
+      → Course w (client_fact n m credits client server ∷ server_fact n m credits client server ∷ h)
+      u
 
-pub course-append : (w : Moment) (x : List Fact) (u : Moment) (y : List Fact) (v : Moment) → Course w x u → Course u y v → Course w (x ++ y) v
+pub course-append : (w : Moment) (x : List Fact) (u : Moment) (y : List Fact) (v : Moment)
+    → Course w x u → Course u y v → Course w (x ++ y) v
 course-append _ _ _ y v (over w) k = k
 course-append _ _ _ y v (in_net w f h u who c) k = in_net w f (h ++ y) v who (course-append (moved w f) h u y v c k)
 course-append _ _ _ y v (made w ring h u c) k = made w ring (h ++ y) v (course-append _ h u y v c k)
-course-append _ _ _ y v (at_node w n l f h u a c) k = at_node w n l f (h ++ y) v a (course-append (moved w f) h u y v c k)
-course-append _ _ _ y v (pairs w n m credits client server h u a c) k = pairs w n m credits client server (h ++ y) v a (course-append _ h u y v c k)
+course-append _ _ _ y v (at_node w n l f h u a c) k =
+    at_node w n l f (h ++ y) v a (course-append (moved w f) h u y v c k)
+course-append _ _ _ y v (pairs w n m credits client server h u a c) k =
+    pairs w n m credits client server (h ++ y) v a (course-append _ h u y v c k)
 
 -- no node notes that it was made
 abbrev pub is_made : Event → Bool
 is_made (Made ring) = true
 is_made _ = false
 
-pub may-unmade : (hand : Option InFlight) (l : Lists) (e : Event) (first second : List ℕ) → May hand l e first second → is_made e ≡ false
+pub may-unmade : (hand : Option InFlight) (l : Lists) (e : Event) (first second : List ℕ)
+    → May hand l e first second → is_made e ≡ false
 may-unmade hand l (Made ring) first second m = absurd m
 may-unmade hand l _ first second m = refl
 
-node-unmade : (clock n : ℕ) (e : Event) (nodes : List Lists) (f : Fact) → is_made e ≡ false → node_after clock n e nodes f ≡ changed clock (slice_get nodes n) n nodes f
+node-unmade : (clock n : ℕ) (e : Event) (nodes : List Lists) (f : Fact) → is_made e ≡ false
+    → node_after clock n e nodes f ≡ changed clock (slice_get nodes n) n nodes f
 node-unmade clock n (Made ring) nodes f h = absurd (cc)
 node-unmade clock n _ nodes f h = refl
 
@@ -85,13 +101,43 @@ noted_at w n l f = record {
   past = f ∷ w.past;
 }
 
-moved-by : (w : Moment) (f : Fact) (n : ℕ) (l : Lists) (nodes : List Lists) → f.who ≡ Node n → nodes_at w.clock (Node n) w.nodes f ≡ nodes → moved w f ≡ record { clock = w.clock; nodes = nodes; flight = flight_after w.flight f; hand = w.hand; past = f ∷ w.past }
+moved-by : (w : Moment) (f : Fact) (n : ℕ) (l : Lists) (nodes : List Lists) → f.who ≡ Node n
+    → nodes_at w.clock (Node n) w.nodes f ≡ nodes
+    → moved w f ≡ record {
+      clock = w.clock;
+      nodes = nodes;
+      flight = flight_after w.flight f;
+      hand = w.hand;
+      past = f ∷ w.past;
+    }
 moved-by w f n l nodes who e =
-    let at : moved w f ≡ record { clock = clock_after (Node n) f.event w.clock; nodes = nodes_at w.clock (Node n) w.nodes f; flight = flight_after w.flight f; hand = hand_after (Node n) f.event w.flight w.hand; past = f ∷ w.past } = ap (λ (who : Who). record { clock = clock_after who f.event w.clock; nodes = nodes_at w.clock who w.nodes f; flight = flight_after w.flight f; hand = hand_after who f.event w.flight w.hand; past = f ∷ w.past }) who in
-    at ∙ ap (λ (ns : List Lists). record { clock = w.clock; nodes = ns; flight = flight_after w.flight f; hand = w.hand; past = f ∷ w.past }) e
+    let at : moved w f ≡ record {
+      clock = clock_after (Node n) f.event w.clock;
+      nodes = nodes_at w.clock (Node n) w.nodes f;
+      flight = flight_after w.flight f;
+      hand =
+          hand_after (Node n) f.event w.flight w.hand;
+      past = f ∷ w.past;
+    } = ap
+    (λ (who : Who). record {
+      clock = clock_after who f.event w.clock;
+      nodes = nodes_at w.clock who w.nodes f;
+      flight = flight_after w.flight f;
+      hand =
+          hand_after who f.event w.flight w.hand;
+      past = f ∷ w.past;
+    }) who in
+    at ∙ ap (λ (ns : List Lists). record {
+      clock = w.clock;
+      nodes = ns;
+      flight = flight_after w.flight f;
+      hand = w.hand;
+      past = f ∷ w.past;
+    }) e
 
 pub moved-node : (w : Moment) (n : ℕ) (l : Lists) (f : Fact) → AtNode w n l f → moved w f ≡ noted_at w n l f
 moved-node w n l f a =
     let unmade = may-unmade w.hand l f.event f.first f.second a.allowed.may in
     let who : f.who ≡ Node n = a.allowed.who ∙ ap Node a.me in
-    moved-by w f n l _ who (node-unmade w.clock n f.event w.nodes f unmade ∙ ap (λ (s : Option Lists). changed w.clock s n w.nodes f) a.is_node)
+    moved-by w f n l _ who (node-unmade w.clock n f.event w.nodes f unmade
+    ∙ ap (λ (s : Option Lists). changed w.clock s n w.nodes f) a.is_node)

@@ -12,7 +12,8 @@ use Rattle.end_laws.specs.Genuine.{WasSent, Travels}
 use Rattle.end_laws.specs.Moments.{Moment, moved, Always, clock_left, nodes_left}
 use Rattle.end_laws.proofs.Courses.{AtNode, Course, over, in_net, made, at_node, pairs, client_fact, paired}
 use Rattle.end_laws.proofs.SendsLaw.{AllRight, sent-right, right-noted, right-net, right-made, right-paired}
-use Rattle.end_laws.proofs.TravelLemmas.{SentGives, travels-map, travels-net, travels-node, rings-made, inboxes-made, travels-client, travels-paired}
+use Rattle.end_laws.proofs.TravelLemmas.{SentGives, travels-map, travels-net, travels-node}
+use Rattle.end_laws.proofs.TravelLemmas.{rings-made, inboxes-made, travels-client, travels-paired}
 
 -- the clock and the lists are those that the facts so far leave
 pub record Matches (w : Moment) : Type 0 where
@@ -22,13 +23,15 @@ pub record Matches (w : Moment) : Type 0 where
 pub matches-moved : (w : Moment) (f : Fact) → Matches w → Matches (moved w f)
 matches-moved w f m = record {
   clock = ap (clock_after f.who f.event) m.clock;
-  nodes = ap (λ (c : ℕ). nodes_after c w.nodes f) m.clock ∙ ap (λ (ns : List Lists). nodes_after (clock_left w.past) ns f) m.nodes;
+  nodes = ap (λ (c : ℕ). nodes_after c w.nodes f) m.clock
+      ∙ ap (λ (ns : List Lists). nodes_after (clock_left w.past) ns f) m.nodes;
 }
 
 abbrev Sends : Moment → ℕ → ℕ → List ℕ → Type 0
 Sends w = WasSent w.past
 
-sent-more : (past : List Fact) (f : Fact) (from to : ℕ) (bytes : List ℕ) → WasSent past from to bytes → WasSent (f ∷ past) from to bytes
+sent-more : (past : List Fact) (f : Fact) (from to : ℕ) (bytes : List ℕ)
+    → WasSent past from to bytes → WasSent (f ∷ past) from to bytes
 sent-more past f from to bytes s = record {
   later = f ∷ s.later;
   earlier = s.earlier;
@@ -44,7 +47,10 @@ sent-more past f from to bytes s = record {
 more : (w : Moment) (f : Fact) → Travels (WasSent w.past) w → Travels (WasSent (f ∷ w.past)) w
 more w f t = travels-map (WasSent w.past) (WasSent (f ∷ w.past)) w (sent-more w.past f) t
 
-sent-gives : (w : Moment) (n : ℕ) (who : Who) (e : Event) (first second : List ℕ) → who ≡ Node n → Matches w → SentRight w.nodes n e first second → SentGives (WasSent (record { who = who; event = e; first = first; second = second } ∷ w.past)) n e first second
+sent-gives : (w : Moment) (n : ℕ) (who : Who) (e : Event) (first second : List ℕ) → who ≡ Node n
+    → Matches w → SentRight w.nodes n e first second
+    → SentGives (WasSent (record { who = who; event = e; first = first; second = second } ∷ w.past))
+    n e first second
 sent-gives w n who (Sent peer o k) first second is m s = record {
   later = [];
   earlier = w.past;
@@ -58,27 +64,51 @@ sent-gives w n who (Sent peer o k) first second is m s = record {
 }
 sent-gives w n who _ first second is m s = tt
 
-at-node : (w : Moment) (n : ℕ) (l : Lists) (f : Fact) → AtNode w n l f → AllRight w → Matches w → Travels (WasSent w.past) w → Travels (WasSent (f ∷ w.past)) (moved w f)
+at-node : (w : Moment) (n : ℕ) (l : Lists) (f : Fact) → AtNode w n l f → AllRight w → Matches w
+    → Travels (WasSent w.past) w → Travels (WasSent (f ∷ w.past)) (moved w f)
 at-node w n l f a i m t =
     travels-node (WasSent (f ∷ w.past)) w n l f a
-    (sent-gives w n f.who f.event f.first f.second (a.allowed.who ∙ ap Node a.me) m (sent-right w.nodes n w.hand l f.event f.first f.second a.is_node (i n l a.is_node) a.allowed.may)) (more w f t)
+    (sent-gives w n f.who f.event f.first f.second (a.allowed.who ∙ ap Node a.me) m
+    (sent-right w.nodes n w.hand l f.event f.first f.second a.is_node (i n l a.is_node)
+    a.allowed.may)) (more w f t)
 
-at-made : (w : Moment) (ring : ℕ) → Travels (WasSent w.past) w → Travels (WasSent (plain (length w.nodes) (Made ring) ∷ w.past)) (moved w (plain (length w.nodes) (Made ring)))
+at-made : (w : Moment) (ring : ℕ) → Travels (WasSent w.past) w
+    → Travels (WasSent (plain (length w.nodes) (Made ring) ∷ w.past))
+    (moved w (plain (length w.nodes) (Made ring)))
 at-made w ring t =
     let k = more w (plain (length w.nodes) (Made ring)) t in
-    record { flight = k.flight; hand = k.hand; rings = rings-made (WasSent (plain (length w.nodes) (Made ring) ∷ w.past)) w ring k; inboxes = inboxes-made (WasSent (plain (length w.nodes) (Made ring) ∷ w.past)) w ring k }
+    record {
+      flight = k.flight;
+      hand = k.hand;
+      rings = rings-made (WasSent (plain (length w.nodes) (Made ring) ∷ w.past)) w ring k;
+      inboxes = inboxes-made (WasSent (plain (length w.nodes) (Made ring) ∷ w.past)) w ring k;
+    }
 
-pub course-genuine : (w : Moment) (h : List Fact) (u : Moment) → Course w h u → AllRight w → Matches w → Travels (WasSent w.past) w → Always (λ w. Travels (WasSent w.past) w) w h
+pub course-genuine : (w : Moment) (h : List Fact) (u : Moment) → Course w h u → AllRight w
+    → Matches w → Travels (WasSent w.past) w → Always (λ w. Travels (WasSent w.past) w) w h
 course-genuine _ _ _ (over w) i m t = t
-course-genuine _ _ _ (in_net w f h u who c) i m t =
-    (t, course-genuine (moved w f) h u c (right-net w f who i) (matches-moved w f m) (travels-net (WasSent (f ∷ w.past)) w f who (more w f t)))
+course-genuine _ _ _ (in_net w f h u who c) i m t = (
+  t,
+  course-genuine (moved w f) h u c (right-net w f who i) (matches-moved w f m)
+      (travels-net (WasSent (f ∷ w.past)) w f who (more w f t)),
+)
 course-genuine _ _ _ (made w ring h u c) i m t =
     (t, course-genuine _ h u c (right-made w ring i) (matches-moved w _ m) (at-made w ring t))
 course-genuine _ _ _ (at_node w n l f h u a c) i m t =
     (t, course-genuine (moved w f) h u c (right-noted w n l f a i) (matches-moved w f m) (at-node w n l f a i m t))
 course-genuine _ _ _ (pairs w n m credits client server h u e c) i k t =
     let one : Fact = client_fact n m credits client server in
-    let first : Travels (WasSent (one ∷ w.past)) (moved w one) = travels-client (WasSent (one ∷ w.past)) w n m credits client server e (more w one t) in
+    let first : Travels (WasSent (one ∷ w.past)) (moved w one) =
+    travels-client (WasSent (one ∷ w.past)) w n m credits client server e (more w one t) in
     let v : Moment = paired w n m credits client server in
-    let both : Travels (WasSent v.past) w = travels-map (WasSent (one ∷ w.past)) (WasSent v.past) w (sent-more (one ∷ w.past) _) (more w one t) in
-    (t, (first, course-genuine v h u c (right-paired w n m credits client server e i) (matches-moved (moved w one) _ (matches-moved w one k)) (travels-paired (WasSent v.past) w n m credits client server e both)))
+    let both : Travels (WasSent v.past) w =
+    travels-map (WasSent (one ∷ w.past)) (WasSent v.past) w (sent-more (one ∷ w.past) _)
+    (more w one t) in (
+      t,
+      (
+        first,
+        course-genuine v h u c (right-paired w n m credits client server e i)
+            (matches-moved (moved w one) _ (matches-moved w one k))
+            (travels-paired (WasSent v.past) w n m credits client server e both),
+      ),
+    )

@@ -2,7 +2,12 @@
 use Rattle.std.proofs.Common.{◌≡◌, ℕ, true, List, length, Option, Some, None, refl, ap, arith}
 use Rattle.std.specs.List.{AllByRecursion}
 use Rattle.rpc_base.specs.declared.event.Event.{Event}
-use Rattle.rpc_base.specs.declared.event.Event.TheVariants.{Opened, Connected, FailedNoRoom, FailedNoAnswer, Closing, ClosedHeard, ClosedUnheard, PairedClient, Asked, Begun, Posted, Sent, Took, Rolled, Broken, DoneOk, DoneTooSmall, DonePeerLost}
+use Rattle.rpc_base.specs.declared.event.Event.TheVariants.{Opened, Connected, FailedNoRoom}
+use Rattle.rpc_base.specs.declared.event.Event.TheVariants.{FailedNoAnswer, Closing, ClosedHeard}
+use Rattle.rpc_base.specs.declared.event.Event.TheVariants.{ClosedUnheard, PairedClient, Asked}
+use Rattle.rpc_base.specs.declared.event.Event.TheVariants.{Begun, Posted, Sent, Took, Rolled}
+use Rattle.rpc_base.specs.declared.event.Event.TheVariants.{Broken, DoneOk, DoneTooSmall}
+use Rattle.rpc_base.specs.declared.event.Event.TheVariants.{DonePeerLost}
 use Rattle.packet_header.specs.declared.packet.ControlHeader.{ControlHeader}
 use Rattle.rpc_base.specs.declared.fact.Fact.{Fact}
 use Rattle.rpc_base.specs.declared.fact.Who.{Who}
@@ -32,7 +37,9 @@ pub record SameAt (j k : Known) (n : ℕ) : Type 0 where
   pub starts : (s r : ℕ) → j.starts n s r ≡ None → k.starts n s r ≡ None
   pub runs : (t r : ℕ) → j.runs n t r ≡ None → k.runs n t r ≡ None
 
-pub client-more : (j k : Known) → Later j k → (n i : ℕ) (x : Client) → ((r : ℕ) → j.starts n i r ≡ None → k.starts n i r ≡ None) → GoodClient j n i x → GoodClient k n i x
+pub client-more : (j k : Known) → Later j k → (n i : ℕ) (x : Client)
+    → ((r : ℕ) → j.starts n i r ≡ None → k.starts n i r ≡ None) → GoodClient j n i x
+    → GoodClient k n i x
 client-more j k later n i x same g = record {
   number = g.number;
   end = later.ends x.way.peer x.way.other 0 _ g.end;
@@ -66,7 +73,9 @@ told-length : (clock : ℕ) (h : Option ControlHeader) (xs : List Client) → le
 told-length clock None xs = refl
 told-length clock (Some h) xs = length-first _ _ xs
 
-clients-length : (clock : ℕ) (e : Event) (bytes : List ℕ) (head : Option MessageHeader) (body : List ℕ) (xs : List Client) → is_quiet e ≡ true → length (clients_after clock e bytes head body xs) ≡ length xs
+clients-length : (clock : ℕ) (e : Event) (bytes : List ℕ) (head : Option MessageHeader)
+    (body : List ℕ) (xs : List Client) → is_quiet e ≡ true
+    → length (clients_after clock e bytes head body xs) ≡ length xs
 clients-length clock (PairedClient s peer t credits) bytes head body xs q = absurd (cc)
 clients-length clock (Opened s peer credits) bytes head body xs q = absurd (cc)
 clients-length clock (Connected s t) bytes head body xs q = length-first _ _ xs
@@ -93,11 +102,15 @@ clients-length clock (DoneTooSmall c size) bytes head body xs q = length-first _
 clients-length clock (DonePeerLost c) bytes head body xs q = length-first _ _ xs
 clients-length clock _ bytes head body xs q = refl
 
-pub own-fact : (f : Fact) (n : ℕ) → f.who ≡ Node n → f ≡ record { who = Node n; event = f.event; first = f.first; second = f.second }
+pub own-fact : (f : Fact) (n : ℕ) → f.who ≡ Node n
+    → f ≡ record { who = Node n; event = f.event; first = f.first; second = f.second }
 own-fact f n who = ap (λ (p : Who). record { who = p; event = f.event; first = f.first; second = f.second }) who
 
 -- a node stays good by a fact that adds nothing to the logs
-pub node-quiet : (k : Known) (hand : Option InFlight) (clock n : ℕ) (l : Lists) (f : Fact) → f.who ≡ Node n → is_quiet f.event ≡ true → May hand l f.event f.first f.second → RightNode l → AllByRecursion (λ a. Speaks k a.peer n a.bytes) l.ring → GoodNode k n l → GoodNode (noting k f) n (after clock l f)
+pub node-quiet : (k : Known) (hand : Option InFlight) (clock n : ℕ) (l : Lists) (f : Fact)
+    → f.who ≡ Node n → is_quiet f.event ≡ true → May hand l f.event f.first f.second → RightNode l
+    → AllByRecursion (λ a. Speaks k a.peer n a.bytes) l.ring → GoodNode k n l
+    → GoodNode (noting k f) n (after clock l f)
 node-quiet k hand clock n l f who quiet m right ring g =
     let k2 = noting k f in
     let later = later-noting k f in

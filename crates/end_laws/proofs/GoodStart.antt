@@ -5,7 +5,13 @@ use Rattle.end_laws.proofs.Known.{Known, Good}
 use Rattle.end_laws.proofs.SendsLaw.{AllRight}
 
 abbrev nothing : Known
-nothing = record { past = []; ends = λ a b c. None; asks = λ a b c. None; starts = λ a b c. None; runs = λ a b c. None }
+nothing = record {
+  past = [];
+  ends = λ a b c. None;
+  asks = λ a b c. None;
+  starts = λ a b c. None;
+  runs = λ a b c. None;
+}
 
 pub first-right : AllRight first_moment
 first-right = λ j z is. absurd (cc)
@@ -16,6 +22,16 @@ first-good = record {
   past = refl;
   nodes = λ n l is. absurd (cc);
   travels = record { flight = tt; hand = tt; rings = λ n l is. absurd (cc); inboxes = λ n l is. absurd (cc) };
-  is_true = record { ends = λ a b c x is. absurd (cc); asks = λ a b c x is. absurd (cc); starts = λ a b c x is. absurd (cc); runs = λ a b c x is. absurd (cc) };
-  unmade = record { asks = λ n c le. refl; ends = λ n t le. refl; starts = λ n s r le. refl; runs = λ n t r le. refl };
+  is_true = record {
+    ends = λ a b c x is. absurd (cc);
+    asks = λ a b c x is. absurd (cc);
+    starts = λ a b c x is. absurd (cc);
+    runs = λ a b c x is. absurd (cc);
+  };
+  unmade = record {
+    asks = λ n c le. refl;
+    ends = λ n t le. refl;
+    starts = λ n s r le. refl;
+    runs = λ n t r le. refl;
+  };
 }

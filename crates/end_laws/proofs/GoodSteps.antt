@@ -1,5 +1,6 @@
 -- What is known of both ends stays so by each fact.
-use Rattle.std.proofs.Common.{◌≡◌, ◌≤◌, ◌+◌, ℕ, true, List, [], ◌∷◌, ◌++◌, length, Option, None, refl, sym, ap, ◌∙◌, subst, arith}
+use Rattle.std.proofs.Common.{◌≡◌, ◌≤◌, ◌+◌, ℕ, true, List, [], ◌∷◌, ◌++◌, length, Option, None}
+use Rattle.std.proofs.Common.{refl, sym, ap, ◌∙◌, subst, arith}
 use Rattle.std.specs.List.{slice_set}
 use Rattle.std.proofs.lemmas.List.{length-append}
 use Rattle.std.proofs.lemmas.Option.{slice_get_within}
@@ -16,7 +17,9 @@ use Rattle.rpc_laws.specs.NodeLists.{after, new_lists}
 use Rattle.rpc_laws.specs.UsualLimits.{with_ring}
 use Rattle.end_laws.specs.Moments.{Moment, moved}
 use Rattle.end_laws.proofs.Allowed.{May}
-use Rattle.end_laws.proofs.BegunLemmas.{with_ask, later-ask, ask-same, true-ask, ask-node, begins_known, later-begin, begin-same, true-begin, begin-node}
+use Rattle.end_laws.proofs.BegunLemmas.{with_ask, later-ask, ask-same, true-ask, ask-node}
+use Rattle.end_laws.proofs.BegunLemmas.{begins_known, later-begin, begin-same, true-begin}
+use Rattle.end_laws.proofs.BegunLemmas.{begin-node}
 use Rattle.end_laws.proofs.ClientLemmas.{is_quiet}
 use Rattle.end_laws.proofs.Courses.{AtNode, moved-node}
 use Rattle.end_laws.proofs.GoodLemmas.{SameAt, node-more, noting-same, unmade-noting, own-fact, node-quiet}
@@ -35,14 +38,17 @@ good-net w f who g =
     let k = g.known in
     let k2 = noting k f in
     let same : nodes_at w.clock f.who w.nodes f ≡ w.nodes = ap (λ (p : Who). nodes_at w.clock p w.nodes f) who in
-    let nodes : Placed (GoodNode k2) w.nodes = λ n l is. node-more k k2 (later-noting k f) n l (noting-same k f n) (g.nodes n l is) in
+    let nodes : Placed (GoodNode k2) w.nodes =
+    λ n l is. node-more k k2 (later-noting k f) n l (noting-same k f n) (g.nodes n l is) in
     record {
       known = k2;
       past = ap (λ (p : List Fact). f ∷ p) g.past;
       nodes = subst (λ (ns : List Lists). Placed (GoodNode k2) ns) (sym same) nodes;
-      travels = travels-map (Speaks k) (Speaks k2) (moved w f) (speaks-later k k2 (later-noting k f)) (travels-net (Speaks k) w f who g.travels);
+      travels = travels-map (Speaks k) (Speaks k2) (moved w f)
+          (speaks-later k k2 (later-noting k f)) (travels-net (Speaks k) w f who g.travels);
       is_true = true-noting k f g.is_true;
-      unmade = subst (λ (ns : List Lists). Unmade k2 (length ns)) (sym same) (unmade-noting k f (length w.nodes) g.unmade);
+      unmade = subst (λ (ns : List Lists). Unmade k2 (length ns)) (sym same)
+          (unmade-noting k f (length w.nodes) g.unmade);
     }
 
 -- a node is made
@@ -64,12 +70,19 @@ good-made w ring g =
       jobs = tt;
     } in
     let t = travels-map (Speaks k) (Speaks k2) w (speaks-later k k2 (later-noting k f)) g.travels in
-    let more : length (w.nodes ++ new_lists count (with_ring ring) ∷ []) ≡ count + 1 = length-append w.nodes (new_lists count (with_ring ring) ∷ []) in
+    let more : length (w.nodes ++ new_lists count (with_ring ring) ∷ []) ≡ count + 1 =
+    length-append w.nodes (new_lists count (with_ring ring) ∷ []) in
     record {
       known = k2;
       past = ap (λ (p : List Fact). f ∷ p) g.past;
-      nodes = add-placed (GoodNode k2) w.nodes (new_lists count (with_ring ring)) new (λ n l is. node-more k k2 (later-noting k f) n l (noting-same k f n) (g.nodes n l is));
-      travels = record { flight = t.flight; hand = t.hand; rings = rings-made (Speaks k2) w ring t; inboxes = inboxes-made (Speaks k2) w ring t };
+      nodes = add-placed (GoodNode k2) w.nodes (new_lists count (with_ring ring)) new
+          (λ n l is. node-more k k2 (later-noting k f) n l (noting-same k f n) (g.nodes n l is));
+      travels = record {
+        flight = t.flight;
+        hand = t.hand;
+        rings = rings-made (Speaks k2) w ring t;
+        inboxes = inboxes-made (Speaks k2) w ring t;
+      };
       is_true = true-noting k f g.is_true;
       unmade = record {
         asks = λ n c le. u.asks n c (omega arith);
@@ -80,7 +93,9 @@ good-made w ring g =
     }
 
 -- what is sent says what is so
-sent-gives : (k : Known) (n : ℕ) (hand : Option InFlight) (l : Lists) (e : Event) (first second : List ℕ) → GoodNode k n l → RightNode l → May hand l e first second → SentGives (Speaks k) n e first second
+sent-gives : (k : Known) (n : ℕ) (hand : Option InFlight) (l : Lists) (e : Event)
+    (first second : List ℕ) → GoodNode k n l → RightNode l → May hand l e first second
+    → SentGives (Speaks k) n e first second
 sent-gives k n hand l (Sent peer o j) first second g i m =
     let right = all-at (λ q. QueueRight l.servers q.owner q.number) l.queued 0 _ i.queue m.is_front in
     sent-speaks k n l peer o j first second g m (owner-length l o j m.out i right m.own)
@@ -95,18 +110,24 @@ pub record NodeKnows (w : Moment) (n : ℕ) (l : Lists) (f : Fact) (j : Known) :
   pub is_true : IsTrue known
   pub here : GoodNode known n (after w.clock l f)
 
-pub good-known : (w : Moment) (n : ℕ) (l : Lists) (f : Fact) → AtNode w n l f → AllRight w → (g : Good w) → NodeKnows w n l f g.known → Good (moved w f)
+pub good-known : (w : Moment) (n : ℕ) (l : Lists) (f : Fact) → AtNode w n l f → AllRight w
+    → (g : Good w) → NodeKnows w n l f g.known → Good (moved w f)
 good-known w n l f a i g h =
     let j = g.known in
     let k = h.known in
     let e = moved-node w n l f a in
     let within = slice_get_within w.nodes n l a.is_node in
-    let sent = sent-gives j n w.hand l f.event f.first f.second (g.nodes n l a.is_node) (i n l a.is_node) a.allowed.may in
-    let travels = travels-map (Speaks j) (Speaks k) (moved w f) (speaks-later j k h.later) (travels-node (Speaks j) w n l f a sent g.travels) in
-    let placed : Placed (GoodNode k) (slice_set w.nodes n (after w.clock l f)) = set-placed (GoodNode k) w.nodes n l (after w.clock l f) a.is_node h.here (λ m z ne is. node-more j k h.later m z (h.others m ne) (g.nodes m z is)) in
+    let sent = sent-gives j n w.hand l f.event f.first f.second (g.nodes n l a.is_node)
+    (i n l a.is_node) a.allowed.may in
+    let travels = travels-map (Speaks j) (Speaks k) (moved w f) (speaks-later j k h.later)
+    (travels-node (Speaks j) w n l f a sent g.travels) in
+    let placed : Placed (GoodNode k) (slice_set w.nodes n (after w.clock l f)) =
+    set-placed (GoodNode k) w.nodes n l (after w.clock l f) a.is_node h.here
+    (λ m z ne is. node-more j k h.later m z (h.others m ne) (g.nodes m z is)) in
     let size = length-slice_set w.nodes n (after w.clock l f) in
     let u = g.unmade in
-    let differs : (m : ℕ) → length (slice_set w.nodes n (after w.clock l f)) ≤ m → (m ≡ n → ⊥) = λ m le same. absurd (omega arith) in
+    let differs : (m : ℕ) → length (slice_set w.nodes n (after w.clock l f)) ≤ m → (m ≡ n → ⊥) =
+    λ m le same. absurd (omega arith) in
     let unmade : Unmade k (length (slice_set w.nodes n (after w.clock l f))) = record {
       asks = λ m c le. (h.others m (differs m le)).asks c (u.asks m c (omega arith));
       ends = λ m t le. (h.others m (differs m le)).ends t (u.ends m t (omega arith));
@@ -124,7 +145,8 @@ good-known w n l f a i g h =
     }
 
 -- a fact that adds nothing to the logs
-knows-quiet : (w : Moment) (n : ℕ) (l : Lists) (f : Fact) → AtNode w n l f → RightNode l → (g : Good w) → is_quiet f.event ≡ true → NodeKnows w n l f g.known
+knows-quiet : (w : Moment) (n : ℕ) (l : Lists) (f : Fact) → AtNode w n l f → RightNode l
+    → (g : Good w) → is_quiet f.event ≡ true → NodeKnows w n l f g.known
 knows-quiet w n l f a i g quiet =
     let k = g.known in
     let who : f.who ≡ Node n = a.allowed.who ∙ ap Node a.me in
@@ -134,17 +156,28 @@ knows-quiet w n l f a i g quiet =
       later = later-noting k f;
       others = λ i ne. noting-same k f i;
       is_true = true-noting k f g.is_true;
-      here = node-quiet k w.hand w.clock n l f who quiet a.allowed.may i (g.travels.rings n l a.is_node) (g.nodes n l a.is_node);
+      here = node-quiet k w.hand w.clock n l f who quiet a.allowed.may i
+          (g.travels.rings n l a.is_node) (g.nodes n l a.is_node);
     }
 
-knows-event : (w : Moment) (n : ℕ) (l : Lists) (e : Event) (first second : List ℕ) → AtNode w n l (record { who = Node n; event = e; first = first; second = second }) → RightNode l → (g : Good w) → NodeKnows w n l (record { who = Node n; event = e; first = first; second = second }) g.known
+knows-event : (w : Moment) (n : ℕ) (l : Lists) (e : Event) (first second : List ℕ)
+    → AtNode w n l (record { who = Node n; event = e; first = first; second = second })
+    → RightNode l → (g : Good w)
+    → NodeKnows w n l (record { who = Node n; event = e; first = first; second = second }) g.known
 knows-event w n l (Asked c s y room) first second a i g =
     let k = g.known in
     let m = a.allowed.may in
     let good = g.nodes n l a.is_node in
     let new = m.0 in
     let none : k.asks n c 0 ≡ None = good.no_asks c (omega arith) in
-    let plain_fact : with_bytes n (Asked c s y room) first ≡ record { who = Node n; event = Asked c s y room; first = first; second = second } = ap (λ (x : List ℕ). record { who = Node n; event = Asked c s y room; first = first; second = x }) (sym m.1) in
+    let plain_fact : with_bytes n (Asked c s y room) first
+    ≡ record { who = Node n; event = Asked c s y room; first = first; second = second } =
+    ap (λ (x : List ℕ). record {
+      who = Node n;
+      event = Asked c s y room;
+      first = first;
+      second = x;
+    }) (sym m.1) in
     let knows : NodeKnows w n l (with_bytes n (Asked c s y room) first) k = record {
       known = with_ask k n c s y room first;
       past = refl;
@@ -158,7 +191,19 @@ knows-event w n l (Begun c r) first second a i g =
     let k = g.known in
     let m = a.allowed.may in
     let good = g.nodes n l a.is_node in
-    let plain_fact : plain n (Begun c r) ≡ record { who = Node n; event = Begun c r; first = first; second = second } = ap (λ (x : List ℕ). record { who = Node n; event = Begun c r; first = x; second = [] }) (sym m.1) ∙ ap (λ (x : List ℕ). record { who = Node n; event = Begun c r; first = first; second = x }) (sym m.2) in
+    let plain_fact : plain n (Begun c r) ≡ record {
+      who = Node n;
+      event = Begun c r;
+      first = first;
+      second = second;
+    } = ap (λ (x : List ℕ).
+    record { who = Node n; event = Begun c r; first = x; second = [] }) (sym m.1)
+    ∙ ap (λ (x : List ℕ). record {
+      who = Node n;
+      event = Begun c r;
+      first = first;
+      second = x;
+    }) (sym m.2) in
     let knows : NodeKnows w n l (plain n (Begun c r)) k = record {
       known = begins_known k n c r l m.0 good;
       past = refl;
@@ -184,11 +229,19 @@ knows-event w n l (Ran t r y) first second a i g =
     }
 knows-event w n l (Opened s peer credits) first second a i g = absurd a.allowed.may
 knows-event w n l (PairedClient s peer t credits) first second a i g = absurd a.allowed.may
-knows-event w n l e first second a i g = knows-quiet w n l (record { who = Node n; event = e; first = first; second = second }) a i g refl
+knows-event w n l e first second a i g =
+    knows-quiet w n l (record { who = Node n; event = e; first = first; second = second }) a i g
+    refl
 
 pub good-node : (w : Moment) (n : ℕ) (l : Lists) (f : Fact) → AtNode w n l f → AllRight w → Good w → Good (moved w f)
 good-node w n l f a i g =
     let who : f.who ≡ Node n = a.allowed.who ∙ ap Node a.me in
     let e = own-fact f n who in
-    let at : AtNode w n l (record { who = Node n; event = f.event; first = f.first; second = f.second }) = subst (AtNode w n l) e a in
-    good-known w n l f a i g (subst (λ (x : Fact). NodeKnows w n l x g.known) (sym e) (knows-event w n l f.event f.first f.second at (i n l a.is_node) g))
+    let at : AtNode w n l (record {
+      who = Node n;
+      event = f.event;
+      first = f.first;
+      second = f.second;
+    }) = subst (AtNode w n l) e a in
+    good-known w n l f a i g (subst (λ (x : Fact). NodeKnows w n l x g.known) (sym e)
+    (knows-event w n l f.event f.first f.second at (i n l a.is_node) g))

@@ -1,5 +1,7 @@
 -- What is known of both ends of each session: who is at the ends, which calls were asked, and which began.
-use Rattle.std.proofs.Common.{◌≡◌, ◌<◌, ◌≤◌, ◌+◌, ◌-◌, ◌*◌, ◌==◌, ◌&&◌, ◌⊎◌, ℕ, Bool, true, false, cond, List, [], ◌∷◌, length, take, Option, Some, None, refl, arith, eq-eqb, Contains}
+use Rattle.std.proofs.Common.{◌≡◌, ◌<◌, ◌≤◌, ◌+◌, ◌-◌, ◌*◌, ◌==◌, ◌&&◌, ◌⊎◌, ℕ, Bool, true, false}
+use Rattle.std.proofs.Common.{cond, List, [], ◌∷◌, length, take, Option, Some, None, refl, arith}
+use Rattle.std.proofs.Common.{eq-eqb, Contains}
 use Rattle.std.specs.Prelude.{◌%◌, IfSome}
 use Rattle.std.specs.List.{find, AllByRecursion}
 use Rattle.std.proofs.lemmas.Bool.{eqb-true, and_parts}
@@ -78,7 +80,8 @@ module _ {A : Type 0} (g : Log A) (a b c : ℕ) (x : A) where
       let two = and_parts (j == b) (k == c) one.1 in
       (eqb-true i a one.0, eqb-true j b two.0, eqb-true k c two.1)
 
-  keeps-by : (i j k : ℕ) (y : A) (t : Bool) → (i == a && (j == b && k == c)) ≡ t → g a b c ≡ None → g i j k ≡ Some y → cond t (Some x) (g i j k) ≡ Some y
+  keeps-by : (i j k : ℕ) (y : A) (t : Bool) → (i == a && (j == b && k == c)) ≡ t → g a b c ≡ None
+      → g i j k ≡ Some y → cond t (Some x) (g i j k) ≡ Some y
   keeps-by i j k y true e none h =
       let s = keys-same i j k e in
       let i_is : i ≡ a = s.0 in
@@ -91,14 +94,17 @@ module _ {A : Type 0} (g : Log A) (a b c : ℕ) (x : A) where
   pub added-keeps : (i j k : ℕ) (y : A) → g a b c ≡ None → g i j k ≡ Some y → added g a b c x i j k ≡ Some y
   added-keeps i j k y none h = keeps-by i j k y _ refl none h
 
-  none-by : (i j k : ℕ) (t : Bool) → (i == a && (j == b && k == c)) ≡ t → ((i ≡ a) → (j ≡ b) → (k ≡ c) → ⊥) → g i j k ≡ None → cond t (Some x) (g i j k) ≡ None
+  none-by : (i j k : ℕ) (t : Bool) → (i == a && (j == b && k == c)) ≡ t
+      → ((i ≡ a) → (j ≡ b) → (k ≡ c) → ⊥) → g i j k ≡ None → cond t (Some x) (g i j k) ≡ None
   none-by i j k true e other h = let s = keys-same i j k e in absurd (other s.0 s.1 s.2)
   none-by i j k false e other h = h
 
   pub added-none : (i j k : ℕ) → ((i ≡ a) → (j ≡ b) → (k ≡ c) → ⊥) → g i j k ≡ None → added g a b c x i j k ≡ None
   added-none i j k other h = none-by i j k _ refl other h
 
-  case-by : (Q : ℕ → ℕ → ℕ → A → Type 0) (i j k : ℕ) (y : A) (t : Bool) → (i == a && (j == b && k == c)) ≡ t → Q a b c x → (g i j k ≡ Some y → Q i j k y) → cond t (Some x) (g i j k) ≡ Some y → Q i j k y
+  case-by : (Q : ℕ → ℕ → ℕ → A → Type 0) (i j k : ℕ) (y : A) (t : Bool)
+      → (i == a && (j == b && k == c)) ≡ t → Q a b c x → (g i j k ≡ Some y → Q i j k y)
+      → cond t (Some x) (g i j k) ≡ Some y → Q i j k y
   case-by Q i j k y true e here others h =
       let s = keys-same i j k e in
       let same : x ≡ y = cc in
@@ -106,7 +112,9 @@ module _ {A : Type 0} (g : Log A) (a b c : ℕ) (x : A) where
   case-by Q i j k y false e here others h = others h
 
   -- a claim of each entry
-  pub added-case : (Q : ℕ → ℕ → ℕ → A → Type 0) → Q a b c x → ((i j k : ℕ) (y : A) → g i j k ≡ Some y → Q i j k y) → (i j k : ℕ) (y : A) → added g a b c x i j k ≡ Some y → Q i j k y
+  pub added-case : (Q : ℕ → ℕ → ℕ → A → Type 0) → Q a b c x
+      → ((i j k : ℕ) (y : A) → g i j k ≡ Some y → Q i j k y) → (i j k : ℕ) (y : A)
+      → added g a b c x i j k ≡ Some y → Q i j k y
   added-case Q here others i j k y h = case-by Q i j k y _ refl here (others i j k y) h
 
 -- what is known stays known
@@ -128,7 +136,13 @@ abbrev pub noting : Known → Fact → Known
 noting k f = record { past = f ∷ k.past; ends = k.ends; asks = k.asks; starts = k.starts; runs = k.runs }
 
 pub later-noting : (k : Known) (f : Fact) → Later k (noting k f)
-later-noting k f = record { past = λ g h. contains-more f g k.past h; ends = λ a b c x h. h; asks = λ a b c x h. h; starts = λ a b c x h. h; runs = λ a b c x h. h }
+later-noting k f = record {
+  past = λ g h. contains-more f g k.past h;
+  ends = λ a b c x h. h;
+  asks = λ a b c x h. h;
+  starts = λ a b c x h. h;
+  runs = λ a b c x h. h;
+}
 
 -- the handler ran for a request, and gave this answer
 abbrev pub HasRun : Known → (node session request : ℕ) → Asking → List ℕ → Type 0
@@ -225,7 +239,9 @@ pub record GoodJob (k : Known) (m : ℕ) (job : Job) : Type 0 where
 -- no request with such a number, or a later one of its slot, has run
 abbrev pub IsUnrun : List Server → ℕ → ℕ → Type 0
 IsUnrun xs t r =
-    (v : Server) (q : Served) → find (is_server t) xs ≡ Some v → find (in_slot_of r) v.slots ≡ Some q → (q.number < r) ⊎ ((q.number ≡ r) × (q.answer ≡ None))
+    (v : Server) (q : Served) → find (is_server t) xs ≡ Some v
+    → find (in_slot_of r) v.slots ≡ Some q → (q.number < r)
+    ⊎ ((q.number ≡ r) × (q.answer ≡ None))
 
 -- of what a node has not made nothing is known
 pub record GoodNode (k : Known) (n : ℕ) (l : Lists) : Type 0 where

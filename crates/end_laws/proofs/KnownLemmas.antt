@@ -15,12 +15,15 @@ use Rattle.rpc_laws.specs.declared.tables.Served.{Served}
 use Rattle.rpc_laws.specs.declared.tables.Server.{Server}
 use Rattle.rpc_laws.specs.declared.tables.Way.{Way}
 use Rattle.rpc_laws.specs.OwnAnswer.{AreEnds, IsClientEnd, IsServerEnd}
-use Rattle.end_laws.proofs.Known.{Known, Later, SaysRequest, SaysResponse, Says, Speaks, GoodAnswer, GoodProgress, GoodCall, HasRun, GoodServed, GoodJob, GoodServer, Begin, Asker, TrueStart, TrueAsk, IsTrue, noting, contains-more}
+use Rattle.end_laws.proofs.Known.{Known, Later, SaysRequest, SaysResponse, Says, Speaks, GoodAnswer}
+use Rattle.end_laws.proofs.Known.{GoodProgress, GoodCall, HasRun, GoodServed, GoodJob, GoodServer}
+use Rattle.end_laws.proofs.Known.{Begin, Asker, TrueStart, TrueAsk, IsTrue, noting, contains-more}
 use Rattle.end_laws.proofs.ListLemmas.{all-map}
 use Rattle.rpc_base.proofs.BasicLemmas.{if-map}
 
 module _ (j k : Known) (later : Later j k) where
-  says-request : (from to : ℕ) (h : MessageHeader) (body : List ℕ) → SaysRequest j from to h body → SaysRequest k from to h body
+  says-request : (from to : ℕ) (h : MessageHeader) (body : List ℕ) → SaysRequest j from to h body
+      → SaysRequest k from to h body
   says-request from to h body s = record {
     session = s.session;
     start = s.start;
@@ -32,7 +35,8 @@ module _ (j k : Known) (later : Later j k) where
     piece = s.piece;
   }
 
-  says-response : (from to : ℕ) (h : MessageHeader) (body : List ℕ) → SaysResponse j from to h body → SaysResponse k from to h body
+  says-response : (from to : ℕ) (h : MessageHeader) (body : List ℕ) → SaysResponse j from to h body
+      → SaysResponse k from to h body
   says-response from to h body s = record {
     start = s.start;
     begun = later.starts to h.session h.request s.start s.begun;
@@ -43,7 +47,8 @@ module _ (j k : Known) (later : Later j k) where
     piece = s.piece;
   }
 
-  says-later : (kind : Kind) (from to : ℕ) (h : MessageHeader) (body : List ℕ) → Says kind j from to h body → Says kind k from to h body
+  says-later : (kind : Kind) (from to : ℕ) (h : MessageHeader) (body : List ℕ)
+      → Says kind j from to h body → Says kind k from to h body
   says-later Request from to h body s = says-request from to h body s
   says-later Rfr from to h body s = tt
   says-later Cr from to h body s = tt
@@ -52,18 +57,31 @@ module _ (j k : Known) (later : Later j k) where
   pub speaks-later : (from to : ℕ) (bytes : List ℕ) → Speaks j from to bytes → Speaks k from to bytes
   speaks-later from to bytes s = if-map _ _ (message_of bytes) (λ h. says-later h.kind from to h (body_of bytes)) s
 
-  parts-later : (way : Way) (a : Asking) (request got : ℕ) (parts : List ℕ) (answer : Option ℕ) → GoodAnswer j way a request got parts answer → GoodAnswer k way a request got parts answer
+  parts-later : (way : Way) (a : Asking) (request got : ℕ) (parts : List ℕ) (answer : Option ℕ)
+      → GoodAnswer j way a request got parts answer → GoodAnswer k way a request got parts answer
   parts-later way a request got parts None h = h
-  parts-later way a request got parts (Some size) h = record { answer = h.answer; ran = later.runs _ _ _ _ h.ran; sized = h.sized; reached = h.reached; taken = h.taken }
+  parts-later way a request got parts (Some size) h =
+      record {
+        answer = h.answer;
+        ran = later.runs _ _ _ _ h.ran;
+        sized = h.sized;
+        reached = h.reached;
+        taken = h.taken;
+      }
 
-  pub progress-later : (n : ℕ) (way : Way) (a : Asking) (p : Progress) → GoodProgress j n way a p → GoodProgress k n way a p
+  pub progress-later : (n : ℕ) (way : Way) (a : Asking) (p : Progress) → GoodProgress j n way a p
+      → GoodProgress k n way a p
   progress-later n way a p h = record {
     begun = later.starts n way.number p.request _ h.begun;
     answer = parts-later way a p.request p.got p.parts p.answer h.answer;
   }
 
   pub call-later : (n : ℕ) (way : Way) (c : Call) → GoodCall j n way c → GoodCall k n way c
-  call-later n way c h = record { logged = later.asks n c.what.number 0 _ h.logged; progress = if-map _ _ c.progress (progress-later n way c.what) h.progress }
+  call-later n way c h =
+      record {
+        logged = later.asks n c.what.number 0 _ h.logged;
+        progress = if-map _ _ c.progress (progress-later n way c.what) h.progress;
+      }
 
   pub served-later : (m : ℕ) (way : Way) (q : Served) → GoodServed j m way q → GoodServed k m way q
   served-later m way q h = record {
@@ -73,7 +91,9 @@ module _ (j k : Known) (later : Later j k) where
     req_type = h.req_type;
     size = h.size;
     ask = h.ask;
-    answer = if-map (HasRun j m way.number q.number h.start.what) (HasRun k m way.number q.number h.start.what) q.answer (λ a g. later.runs _ _ _ _ g) h.answer;
+    answer = if-map (HasRun j m way.number q.number h.start.what)
+        (HasRun k m way.number q.number h.start.what) q.answer (λ a g. later.runs _ _ _ _ g)
+        h.answer;
   }
 
   pub job-later : (m : ℕ) (job : Job) → GoodJob j m job → GoodJob k m job
@@ -91,23 +111,39 @@ module _ (j k : Known) (later : Later j k) where
   jobs-later m jobs h = all-map (GoodJob j m) (GoodJob k m) jobs (job-later m) h
 
   pub server-later : (m t : ℕ) (v : Server) → GoodServer j m t v → GoodServer k m t v
-  server-later m t v h = record { number = h.number; end = later.ends m t 0 _ h.end; slots = all-map _ _ v.slots (served-later m v.way) h.slots }
+  server-later m t v h =
+      record {
+        number = h.number;
+        end = later.ends m t 0 _ h.end;
+        slots = all-map _ _ v.slots (served-later m v.way) h.slots;
+      }
 
 -- what was noted stays noted
 module _ (f : Fact) (past : List Fact) where
   client-more-end : (n s m t : ℕ) → IsClientEnd past n s m t → IsClientEnd (f ∷ past) n s m t
   client-more-end n s m t (IsClientEnd.paired limit c) = IsClientEnd.paired limit (contains-more f _ past c)
-  client-more-end n s m t (IsClientEnd.connected limit o c) = IsClientEnd.connected limit (contains-more f _ past o) (contains-more f _ past c)
+  client-more-end n s m t (IsClientEnd.connected limit o c) =
+      IsClientEnd.connected limit (contains-more f _ past o) (contains-more f _ past c)
 
   server-more-end : (n s m t : ℕ) → IsServerEnd past n s m t → IsServerEnd (f ∷ past) n s m t
   server-more-end n s m t (IsServerEnd.paired credits c) = IsServerEnd.paired credits (contains-more f _ past c)
   server-more-end n s m t (IsServerEnd.accepted credits c) = IsServerEnd.accepted credits (contains-more f _ past c)
 
   pub ends-more : (n s m t : ℕ) → AreEnds past n s m t → AreEnds (f ∷ past) n s m t
-  ends-more n s m t e = record { client = client-more-end n s m t e.client; server = server-more-end n s m t e.server }
+  ends-more n s m t e =
+      record {
+        client = client-more-end n s m t e.client;
+        server = server-more-end n s m t e.server;
+      }
 
   pub start-more : (n s r : ℕ) (b : Begin) → TrueStart past n s r b → TrueStart (f ∷ past) n s r b
-  start-more n s r b t = record { number = t.number; ends = ends-more n s b.way.peer b.way.other t.ends; asked = contains-more f _ past t.asked; begun = contains-more f _ past t.begun }
+  start-more n s r b t =
+      record {
+        number = t.number;
+        ends = ends-more n s b.way.peer b.way.other t.ends;
+        asked = contains-more f _ past t.asked;
+        begun = contains-more f _ past t.begun;
+      }
 
   pub ask-more : (n c i : ℕ) (a : Asker) → TrueAsk past n c i a → TrueAsk (f ∷ past) n c i a
   ask-more n c i a t = record { number = t.number; asked = contains-more f _ past t.asked }

@@ -1,5 +1,6 @@
 -- A stage whose nodes, flight and clock are those of a moment, and the steps of one node there.
-use Rattle.std.proofs.Common.{◌≡◌, ◌≤◌, ℕ, zero, suc, List, [], ◌∷◌, ◌++◌, length, Some, slice_get, refl, sym, ap, ◌∙◌, subst}
+use Rattle.std.proofs.Common.{◌≡◌, ◌≤◌, ℕ, zero, suc, List, [], ◌∷◌, ◌++◌, length, Some, slice_get}
+use Rattle.std.proofs.Common.{refl, sym, ap, ◌∙◌, subst}
 use Rattle.std.specs.List.{slice_set}
 use Rattle.rpc_base.specs.declared.fact.Fact.{Fact}
 use Rattle.network_model.specs.declared.stage.Stage.{Stage}
@@ -45,8 +46,14 @@ Leading P = (s : Stage) (w : Moment) (x : List Fact) (t : Stage) → Fits s w �
 pub leads-none : (s t : Stage) (w : Moment) (x : List Fact) → Fits s w → x ≡ [] → t ≡ s → Leads w x t
 leads-none s t w x f e g = rw (e, g) (record { end = w; course = over w; fits = f })
 
-pub leads-append : (s : Stage) (w : Moment) (x y : List Fact) (t : Stage) → (l : Leads w x s) → Leads l.end y t → Leads w (x ++ y) t
-leads-append s w x y t l k = record { end = k.end; course = course-append w x l.end y k.end l.course k.course; fits = k.fits }
+pub leads-append : (s : Stage) (w : Moment) (x y : List Fact) (t : Stage) → (l : Leads w x s)
+    → Leads l.end y t → Leads w (x ++ y) t
+leads-append s w x y t l k =
+    record {
+      end = k.end;
+      course = course-append w x l.end y k.end l.course k.course;
+      fits = k.fits;
+    }
 
 -- the facts of a node from its lists on
 pub record NodeCourse (w : Moment) (n : ℕ) (l : Lists) (x : List Fact) : Type 0 where
@@ -66,12 +73,29 @@ set-twice [] i x y = refl
 set-twice (z ∷ zs) zero x y = refl
 set-twice (z ∷ zs) (suc i) x y = ap (λ ys. z ∷ ys) (set-twice zs i x y)
 
-pub node-course : (w : Moment) (n : ℕ) (l : Lists) (x : List Fact) → slice_get w.nodes n ≡ Some l → l.me ≡ n → WalksFrom w.hand (latest w.past) w.clock l x → AllLawful w.clock l x → NodeCourse w n l x
-node-course w n l [] is me h v = record { end = w; course = over w; nodes = set-same w.nodes n l is; flight = refl; clock = refl }
+pub node-course : (w : Moment) (n : ℕ) (l : Lists) (x : List Fact) → slice_get w.nodes n ≡ Some l
+    → l.me ≡ n → WalksFrom w.hand (latest w.past) w.clock l x → AllLawful w.clock l x
+    → NodeCourse w n l x
+node-course w n l [] is me h v =
+    record {
+      end = w;
+      course = over w;
+      nodes = set-same w.nodes n l is;
+      flight = refl;
+      clock = refl;
+    }
 node-course w n l (f ∷ x) is me h v =
-    let a : AtNode w n l f = record { is_node = is; me = me; allowed = h.0; lawful = allowed-of l f.event f.first v.0; linked = h.1 } in
+    let a : AtNode w n l f =
+    record {
+      is_node = is;
+      me = me;
+      allowed = h.0;
+      lawful = allowed-of l f.event f.first v.0;
+      linked = h.1;
+    } in
     let e = moved-node w n l f a in
-    let rest = node-course (noted_at w n l f) n (after w.clock l f) x (set-here w.nodes n l (after w.clock l f) is) me h.2 v.1 in
+    let rest = node-course (noted_at w n l f) n (after w.clock l f) x
+    (set-here w.nodes n l (after w.clock l f) is) me h.2 v.1 in
     record {
       end = rest.end;
       course = at_node w n l f x rest.end a (subst (λ (v : Moment). Course v x rest.end) (sym e) rest.course);
@@ -93,14 +117,23 @@ me-after : (clock : ℕ) (l : Lists) (x : List Fact) → (after_all clock l x).m
 me-after clock l [] = refl
 me-after clock l (f ∷ x) = me-after clock (after clock l f) x
 
-pub step-leads : (s : Stage) (w : Moment) (n : ℕ) (before now : Timed) (x : List Fact) (t : Stage) → Fits s w → NodeStep s w n before now x → t ≡ record { nodes = slice_set s.nodes n now; flight = flight_after_all s.flight x; worked = worked_after_all s.worked x; clock = s.clock } → Leads w x t
+pub step-leads : (s : Stage) (w : Moment) (n : ℕ) (before now : Timed) (x : List Fact) (t : Stage)
+    → Fits s w → NodeStep s w n before now x
+    → t ≡ record {
+      nodes = slice_set s.nodes n now;
+      flight = flight_after_all s.flight x;
+      worked = worked_after_all s.worked x;
+      clock = s.clock;
+    } → Leads w x t
 step-leads s w n before now x t f h left =
     let fit = f.nodes n before h.is_node in
     let walks : WalksFrom w.hand (latest w.past) w.clock before.lists x = rw (f.clock) h.walks in
     let lawful : AllLawful w.clock before.lists x = rw (f.clock) h.lawful in
     let c = node-course w n before.lists x fit.is_node fit.me walks lawful in
-    let lists : after_all w.clock before.lists x ≡ now.lists = ap (λ (k : ℕ). after_all k before.lists x) f.clock ∙ sym h.lists in
-    let ends : c.end.nodes ≡ slice_set w.nodes n now.lists = c.nodes ∙ ap (λ (l : Lists). slice_set w.nodes n l) lists in
+    let lists : after_all w.clock before.lists x ≡ now.lists =
+    ap (λ (k : ℕ). after_all k before.lists x) f.clock ∙ sym h.lists in
+    let ends : c.end.nodes ≡ slice_set w.nodes n now.lists =
+    c.nodes ∙ ap (λ (l : Lists). slice_set w.nodes n l) lists in
     let here : NodeFits s.clock (slice_set w.nodes n now.lists) n now = record {
       is_node = set-here w.nodes n before.lists now.lists fit.is_node;
       me = ap (λ (l : Lists). l.me) h.lists ∙ (me-after s.clock before.lists x ∙ fit.me);
@@ -109,20 +142,38 @@ step-leads s w n before now x t f h left =
       valid = rw (h.lists) (valid_after_all s.clock before.lists x fit.valid h.lawful);
     } in
     let others : (j : ℕ) (z : Timed) → (j ≡ n → ⊥) → slice_get s.nodes j ≡ Some z → NodeFits s.clock (slice_set w.nodes n now.lists) j z = λ j z ne is. let k = f.nodes j z is in record { is_node = set-other w.nodes n j now.lists ne ∙ k.is_node; me = k.me; late = k.late; right = k.right; valid = k.valid } in
-    let placed : Placed (NodeFits s.clock (slice_set w.nodes n now.lists)) (slice_set s.nodes n now) = set-placed (NodeFits s.clock (slice_set w.nodes n now.lists)) s.nodes n before now h.is_node here others in
+    let placed : Placed (NodeFits s.clock (slice_set w.nodes n now.lists))
+    (slice_set s.nodes n now) =
+    set-placed (NodeFits s.clock (slice_set w.nodes n now.lists)) s.nodes n before now
+    h.is_node here others in
     rw left (record {
       end = c.end;
       course = c.course;
       fits = record {
         clock = c.clock ∙ f.clock;
         flight = c.flight ∙ ap (λ k. flight_after_all k x) f.flight;
-        size = ap length ends ∙ (length-slice_set w.nodes n now.lists ∙ (f.size ∙ sym (length-slice_set s.nodes n now)));
+        size = ap length ends ∙ (length-slice_set w.nodes n now.lists
+            ∙ (f.size ∙ sym (length-slice_set s.nodes n now)));
         nodes = subst (λ (ns : List Lists). Placed (NodeFits s.clock ns) (slice_set s.nodes n now)) (sym ends) placed;
       };
     })
 
 -- a step that leaves the node
-pub step-stays : (s : Stage) (w : Moment) (n : ℕ) (before : Timed) (x : List Fact) (t : Stage) → Fits s w → NodeStep s w n before before x → flight_after_all s.flight x ≡ s.flight → worked_after_all s.worked x ≡ s.worked → t ≡ s → Leads w x t
+pub step-stays : (s : Stage) (w : Moment) (n : ℕ) (before : Timed) (x : List Fact) (t : Stage)
+    → Fits s w → NodeStep s w n before before x → flight_after_all s.flight x ≡ s.flight
+    → worked_after_all s.worked x ≡ s.worked → t ≡ s → Leads w x t
 step-stays s w n before x t f h flight worked e =
-    let whole : s ≡ record { nodes = slice_set s.nodes n before; flight = flight_after_all s.flight x; worked = worked_after_all s.worked x; clock = s.clock } = rw (flight, worked) (ap (λ (ns : List Timed). record { nodes = ns; flight = s.flight; worked = s.worked; clock = s.clock }) (set-same s.nodes n before h.is_node)) in
+    let whole : s ≡ record {
+      nodes = slice_set s.nodes n before;
+      flight = flight_after_all s.flight x;
+      worked = worked_after_all s.worked x;
+      clock =
+          s.clock;
+    } = rw (flight, worked) (ap
+    (λ (ns : List Timed). record {
+      nodes = ns;
+      flight = s.flight;
+      worked = s.worked;
+      clock = s.clock;
+    }) (set-same s.nodes n before h.is_node)) in
     step-leads s w n before before x t f h (e ∙ whole)

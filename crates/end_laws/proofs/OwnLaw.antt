@@ -1,5 +1,6 @@
 -- A pairing, and the law of own answers over a whole history.
-use Rattle.std.proofs.Common.{◌≡◌, ◌+◌, ℕ, List, [], ◌∷◌, ◌++◌, length, Option, Some, None, slice_get, refl, sym, ap, ◌∙◌, subst, arith}
+use Rattle.std.proofs.Common.{◌≡◌, ◌+◌, ℕ, List, [], ◌∷◌, ◌++◌, length, Option, Some, None}
+use Rattle.std.proofs.Common.{slice_get, refl, sym, ap, ◌∙◌, subst, arith}
 use Rattle.std.specs.List.{slice_set}
 use Rattle.std.proofs.lemmas.List.{length-append}
 use Rattle.std.proofs.lemmas.Option.{slice_get_within}
@@ -13,10 +14,13 @@ use Rattle.rpc_laws.specs.OwnAnswer.{AreEnds, IsClientEnd, IsServerEnd, served_b
 use Rattle.rpc_laws.specs.Requests.{server_end}
 use Rattle.rpc_laws.specs.Sessions.{client_end}
 use Rattle.end_laws.specs.Moments.{Moment, moved}
-use Rattle.end_laws.proofs.Courses.{AtNode, Ends, Course, over, in_net, made, at_node, pairs, client_fact, server_fact, paired}
+use Rattle.end_laws.proofs.Courses.{AtNode, Ends, Course, over, in_net, made, at_node, pairs}
+use Rattle.end_laws.proofs.Courses.{client_fact, server_fact, paired}
 use Rattle.end_laws.proofs.GoodLemmas.{SameAt, client-more, node-more}
 use Rattle.end_laws.proofs.GoodSteps.{good-net, good-made, good-node}
-use Rattle.end_laws.proofs.Known.{Known, Later, End, Speaks, GoodClient, GoodServer, GoodNode, Good, TrueEnd, IsTrue, Unmade, added, added-here, added-keeps, added-none, added-case, contains-here, contains-more}
+use Rattle.end_laws.proofs.Known.{Known, Later, End, Speaks, GoodClient, GoodServer, GoodNode, Good}
+use Rattle.end_laws.proofs.Known.{TrueEnd, IsTrue, Unmade, added, added-here, added-keeps}
+use Rattle.end_laws.proofs.Known.{added-none, added-case, contains-here, contains-more}
 use Rattle.end_laws.proofs.KnownLemmas.{server-later, jobs-later, speaks-later, ends-more, start-more, ask-more}
 use Rattle.end_laws.proofs.ListLemmas.{Placed, set-other, set-placed, add-placed, length-slice_set}
 use Rattle.end_laws.proofs.OwnLemmas.{own-event}
@@ -26,7 +30,8 @@ use Rattle.end_laws.proofs.AnswerLemmas.{AnswersFor}
 use Rattle.end_laws.proofs.TravelLemmas.{travels-map, travels-paired}
 use Rattle.end_laws.proofs.UnrunLemmas.{unrun-added}
 
-module _ (w : Moment) (n m credits : ℕ) (client server : Lists) (e : Ends w n m credits client server) (g : Good w) where
+module _ (w : Moment) (n m credits : ℕ) (client server : Lists)
+    (e : Ends w n m credits client server) (g : Good w) where
   abbrev s : ℕ
   s = length client.clients
 
@@ -47,7 +52,13 @@ module _ (w : Moment) (n m credits : ℕ) (client server : Lists) (e : Ends w n 
 
   -- the session is known
   abbrev k : Known
-  k = record { past = other ∷ one ∷ g.known.past; ends = added g.known.ends m t 0 entry; asks = g.known.asks; starts = g.known.starts; runs = g.known.runs }
+  k = record {
+    past = other ∷ one ∷ g.known.past;
+    ends = added g.known.ends m t 0 entry;
+    asks = g.known.asks;
+    starts = g.known.starts;
+    runs = g.known.runs;
+  }
 
   client-good : GoodNode j n client
   client-good = g.nodes n client e.is_client
@@ -68,16 +79,31 @@ module _ (w : Moment) (n m credits : ℕ) (client server : Lists) (e : Ends w n 
   }
 
   others-same : (i : ℕ) → (i ≡ m → ⊥) → SameAt j k i
-  others-same i ne = record { asks = λ c h. h; ends = λ d h. added-none j.ends m t 0 entry i d 0 (λ x y z. ne x) h; starts = λ a r h. h; runs = λ d r h. h }
+  others-same i ne = record {
+    asks = λ c h. h;
+    ends = λ d h. added-none j.ends m t 0 entry i d 0 (λ x y z. ne x) h;
+    starts =
+        λ a r h. h;
+    runs = λ d r h. h;
+  }
 
   true-paired : IsTrue k
   true-paired =
-      let new : AreEnds k.past n s m t = record { client = IsClientEnd.paired credits (contains-more other one (one ∷ j.past) (contains-here one j.past)); server = IsServerEnd.paired credits (contains-here other (one ∷ j.past)) } in
+      let new : AreEnds k.past n s m t =
+      record {
+        client = IsClientEnd.paired credits
+            (contains-more other one (one ∷ j.past) (contains-here one j.past));
+        server =
+            IsServerEnd.paired credits (contains-here other (one ∷ j.past));
+      } in
       let is = g.is_true in
       record {
-        ends = added-case j.ends m t 0 entry (TrueEnd k.past) new (λ a b c x h. ends-more other (one ∷ j.past) x.home x.client a b (ends-more one j.past x.home x.client a b (is.ends a b c x h)));
+        ends = added-case j.ends m t 0 entry (TrueEnd k.past) new
+            (λ a b c x h. ends-more other (one ∷ j.past) x.home x.client a b
+            (ends-more one j.past x.home x.client a b (is.ends a b c x h)));
         asks = λ a b c x h. ask-more other (one ∷ j.past) a b c x (ask-more one j.past a b c x (is.asks a b c x h));
-        starts = λ a b c x h. start-more other (one ∷ j.past) a b c x (start-more one j.past a b c x (is.starts a b c x h));
+        starts = λ a b c x h. start-more other (one ∷ j.past) a b c x
+            (start-more one j.past a b c x (is.starts a b c x h));
         runs = λ a b c x h. contains-more other _ (one ∷ j.past) (contains-more one _ j.past (is.runs a b c x h));
       }
 
@@ -90,9 +116,11 @@ module _ (w : Moment) (n m credits : ℕ) (client server : Lists) (e : Ends w n 
         fresh = λ r le. client-good.no_starts s r (omega arith);
         calls = tt;
       } in
-      let more : length (client.clients ++ client_end s m t credits ∷ []) ≡ s + 1 = length-append client.clients (client_end s m t credits ∷ []) in
+      let more : length (client.clients ++ client_end s m t credits ∷ []) ≡ s + 1 =
+      length-append client.clients (client_end s m t credits ∷ []) in
       record {
-        clients = add-placed (GoodClient k n) client.clients (client_end s m t credits) new (λ i x is. client-more j k later n i x (λ r h. h) (client-good.clients i x is));
+        clients = add-placed (GoodClient k n) client.clients (client_end s m t credits) new
+            (λ i x is. client-more j k later n i x (λ r h. h) (client-good.clients i x is));
         servers = λ i v is. server-later j k later n i v (client-good.servers i v is);
         no_asks = client-good.no_asks;
         no_ends = λ d le. (others-same n e.two).ends d (client-good.no_ends d le);
@@ -103,13 +131,17 @@ module _ (w : Moment) (n m credits : ℕ) (client server : Lists) (e : Ends w n 
 
   at-server : GoodNode k m (after w.clock server other)
   at-server =
-      let new : GoodServer k m t (server_end t n s credits) = record { number = refl; end = added-here j.ends m t 0 entry; slots = tt } in
-      let more : length (server.servers ++ server_end t n s credits ∷ []) ≡ t + 1 = length-append server.servers (server_end t n s credits ∷ []) in
+      let new : GoodServer k m t (server_end t n s credits) =
+      record { number = refl; end = added-here j.ends m t 0 entry; slots = tt } in
+      let more : length (server.servers ++ server_end t n s credits ∷ []) ≡ t + 1 =
+      length-append server.servers (server_end t n s credits ∷ []) in
       record {
         clients = λ i x is. client-more j k later m i x (λ r h. h) (server-good.clients i x is);
-        servers = add-placed (GoodServer k m) server.servers (server_end t n s credits) new (λ i v is. server-later j k later m i v (server-good.servers i v is));
+        servers = add-placed (GoodServer k m) server.servers (server_end t n s credits) new
+            (λ i v is. server-later j k later m i v (server-good.servers i v is));
         no_asks = server-good.no_asks;
-        no_ends = λ d le. added-none j.ends m t 0 entry m d 0 (λ x y z. absurd (omega arith)) (server-good.no_ends d (omega arith));
+        no_ends = λ d le. added-none j.ends m t 0 entry m d 0 (λ x y z. absurd (omega arith))
+            (server-good.no_ends d (omega arith));
         no_starts = server-good.no_starts;
         no_runs = λ d r u. server-good.no_runs d r (unrun-added server.servers (server_end t n s credits) d r u);
         jobs = jobs-later j k later m server.jobs.out server-good.jobs;
@@ -119,12 +151,24 @@ module _ (w : Moment) (n m credits : ℕ) (client server : Lists) (e : Ends w n 
   good-paired =
       let nodes1 : List Lists = slice_set w.nodes n (after w.clock client one) in
       let nodes2 : List Lists = slice_set nodes1 m (after w.clock server other) in
-      let at : slice_get nodes1 m ≡ Some server = set-other w.nodes n m (after w.clock client one) (λ x. e.two (sym x)) ∙ e.is_server in
-      let first : changed w.clock (slice_get w.nodes n) n w.nodes one ≡ nodes1 = ap (λ (o : Option Lists). changed w.clock o n w.nodes one) e.is_client in
-      let all : (paired w n m credits client server).nodes ≡ nodes2 = ap (λ (ns : List Lists). changed w.clock (slice_get ns m) m ns other) first ∙ ap (λ (o : Option Lists). changed w.clock o m nodes1 other) at in
-      let placed1 : Placed (λ i l. (i ≡ m → ⊥) → GoodNode k i l) nodes1 = set-placed (λ i l. (i ≡ m → ⊥) → GoodNode k i l) w.nodes n client (after w.clock client one) e.is_client (λ ne. at-client) (λ i z ne is other_node. node-more j k later i z (others-same i other_node) (g.nodes i z is)) in
-      let placed2 : Placed (GoodNode k) nodes2 = set-placed (GoodNode k) nodes1 m server (after w.clock server other) at at-server (λ i z ne is. placed1 i z is ne) in
-      let size : length nodes2 ≡ length w.nodes = length-slice_set nodes1 m (after w.clock server other) ∙ length-slice_set w.nodes n (after w.clock client one) in
+      let at : slice_get nodes1 m ≡ Some server =
+      set-other w.nodes n m (after w.clock client one) (λ x. e.two (sym x)) ∙ e.is_server in
+      let first : changed w.clock (slice_get w.nodes n) n w.nodes one ≡ nodes1 =
+      ap (λ (o : Option Lists). changed w.clock o n w.nodes one) e.is_client in
+      let all : (paired w n m credits client server).nodes ≡ nodes2 =
+      ap (λ (ns : List Lists). changed w.clock (slice_get ns m) m ns other) first
+      ∙ ap (λ (o : Option Lists). changed w.clock o m nodes1 other) at in
+      let placed1 : Placed (λ i l. (i ≡ m → ⊥) → GoodNode k i l) nodes1 =
+      set-placed (λ i l. (i ≡ m → ⊥) → GoodNode k i l) w.nodes n client
+      (after w.clock client one) e.is_client (λ ne. at-client)
+      (λ i z ne is other_node. node-more j k later i z (others-same i other_node)
+      (g.nodes i z is)) in
+      let placed2 : Placed (GoodNode k) nodes2 =
+      set-placed (GoodNode k) nodes1 m server (after w.clock server other) at at-server
+      (λ i z ne is. placed1 i z is ne) in
+      let size : length nodes2 ≡ length w.nodes =
+      length-slice_set nodes1 m (after w.clock server other)
+      ∙ length-slice_set w.nodes n (after w.clock client one) in
       let within = slice_get_within w.nodes m server e.is_server in
       let u = g.unmade in
       let unmade : Unmade k (length nodes2) = record {
@@ -137,26 +181,47 @@ module _ (w : Moment) (n m credits : ℕ) (client server : Lists) (e : Ends w n 
         known = k;
         past = ap (λ (p : List Fact). other ∷ one ∷ p) g.past;
         nodes = subst (λ (ns : List Lists). Placed (GoodNode k) ns) (sym all) placed2;
-        travels = travels-map (Speaks j) (Speaks k) (paired w n m credits client server) (speaks-later j k later) (travels-paired (Speaks j) w n m credits client server e g.travels);
+        travels = travels-map (Speaks j) (Speaks k) (paired w n m credits client server)
+            (speaks-later j k later) (travels-paired (Speaks j) w n m credits client server e
+            g.travels);
         is_true = true-paired;
         unmade = subst (λ (ns : List Lists). Unmade k (length ns)) (sym all) unmade;
       }
 
-own-at : (w : Moment) (n : ℕ) (l : Lists) (f : Fact) → AtNode w n l f → AllRight w → AnswersFor w.past f.who f.event f.first f.second → Good w → OwnAt w.past f.who f.event f.first f.second
+own-at : (w : Moment) (n : ℕ) (l : Lists) (f : Fact) → AtNode w n l f → AllRight w
+    → AnswersFor w.past f.who f.event f.first f.second → Good w
+    → OwnAt w.past f.who f.event f.first f.second
 own-at w n l f a i t g =
     let k = g.known in
     let who : f.who ≡ Node n = a.allowed.who ∙ ap Node a.me in
-    let answer : AnswersAt plain_serving (served_by n k.past) f.event f.first f.second = subst (λ (p : List Fact). AnswersAt plain_serving (served_by n p) f.event f.first f.second) (sym g.past) (subst (λ (p : Who). AnswersFor w.past p f.event f.first f.second) who t) in
-    let own : OwnEvent k.past n f.event f.first f.second = own-event k n l (g.nodes n l a.is_node) g.is_true (i n l a.is_node) w.hand f.event f.first f.second answer a.allowed.may in
-    let now : OwnEvent w.past n f.event f.first f.second = subst (λ (p : List Fact). OwnEvent p n f.event f.first f.second) g.past own in
+    let answer : AnswersAt plain_serving (served_by n k.past) f.event f.first f.second =
+    subst (λ (p : List Fact). AnswersAt plain_serving (served_by n p) f.event f.first
+    f.second) (sym g.past) (subst (λ (p : Who). AnswersFor w.past p f.event f.first
+    f.second) who t) in
+    let own : OwnEvent k.past n f.event f.first f.second =
+    own-event k n l (g.nodes n l a.is_node) g.is_true (i n l a.is_node) w.hand f.event
+    f.first f.second answer a.allowed.may in
+    let now : OwnEvent w.past n f.event f.first f.second =
+    subst (λ (p : List Fact). OwnEvent p n f.event f.first f.second) g.past own in
     subst (λ (p : Who). OwnAt w.past p f.event f.first f.second) (sym (a.allowed.who ∙ ap Node a.me)) now
 
-pub course-own : (w : Moment) (h : List Fact) (u : Moment) → Course w h u → AllRight w → AtEach (λ past f. AnswersFor past f.who f.event f.first f.second) w.past h → Good w → AtEach (λ past f. OwnAt past f.who f.event f.first f.second) w.past h
+pub course-own : (w : Moment) (h : List Fact) (u : Moment) → Course w h u → AllRight w
+    → AtEach (λ past f. AnswersFor past f.who f.event f.first f.second) w.past h → Good w
+    → AtEach (λ past f. OwnAt past f.who f.event f.first f.second) w.past h
 course-own _ _ _ (over w) i t g = tt
-course-own _ _ _ (in_net w f h u who c) i t g =
-    (subst (λ (p : Who). OwnAt w.past p f.event f.first f.second) (sym who) tt, course-own (moved w f) h u c (right-net w f who i) t.1 (good-net w f who g))
+course-own _ _ _ (in_net w f h u who c) i t g = (
+  subst (λ (p : Who). OwnAt w.past p f.event f.first f.second) (sym who) tt,
+  course-own (moved w f) h u c (right-net w f who i) t.1 (good-net w f who g),
+)
 course-own _ _ _ (made w ring h u c) i t g = (tt, course-own _ h u c (right-made w ring i) t.1 (good-made w ring g))
 course-own _ _ _ (at_node w n l f h u a c) i t g =
     (own-at w n l f a i t.0 g, course-own (moved w f) h u c (right-noted w n l f a i) t.1 (good-node w n l f a i g))
-course-own _ _ _ (pairs w n m credits client server h u e c) i t g =
-    (tt, (tt, course-own (paired w n m credits client server) h u c (right-paired w n m credits client server e i) t.1.1 (good-paired w n m credits client server e g)))
+course-own _ _ _ (pairs w n m credits client server h u e c) i t g = (
+  tt,
+  (
+    tt,
+    course-own (paired w n m credits client server) h u c
+        (right-paired w n m credits client server e i) t.1.1
+        (good-paired w n m credits client server e g),
+  ),
+)

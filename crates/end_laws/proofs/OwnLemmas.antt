@@ -1,5 +1,6 @@
 -- A run is of a call's own bytes, and a call ends with the answer of its own run.
-use Rattle.std.proofs.Common.{◌≡◌, ◌≤◌, ◌+◌, ◌-◌, ℕ, List, length, Option, Some, None, refl, sym, ap, ◌∙◌, subst, arith, Contains}
+use Rattle.std.proofs.Common.{◌≡◌, ◌≤◌, ◌+◌, ◌-◌, ℕ, List, length, Option, Some, None, refl, sym}
+use Rattle.std.proofs.Common.{ap, ◌∙◌, subst, arith, Contains}
 use Rattle.std.proofs.lemmas.Bool.{eqb-true}
 use Rattle.packet_header.specs.Parts.{packet_count}
 use Rattle.packet_header.proofs.PartsLemmas.{front-whole, packet_count_above}
@@ -28,11 +29,21 @@ use Rattle.end_laws.proofs.RanLemmas.{run-of}
 
 module _ (past : List Fact) where
   -- a call that began is one, by any names of its parts
-  pub call-of : (n s r : ℕ) (b : Begin) (c m t q y : ℕ) (ask : List ℕ) → TrueStart past n s r b → b.what.number ≡ c → b.way.peer ≡ m → b.way.other ≡ t → r ≡ q → b.what.req_type ≡ y → b.what.ask ≡ ask → IsCallOf past n c m t q y b.what.room ask
+  pub call-of : (n s r : ℕ) (b : Begin) (c m t q y : ℕ) (ask : List ℕ) → TrueStart past n s r b
+      → b.what.number ≡ c → b.way.peer ≡ m → b.way.other ≡ t → r ≡ q → b.what.req_type ≡ y
+      → b.what.ask ≡ ask → IsCallOf past n c m t q y b.what.room ask
   call-of n s r b c m t q y ask true_start number peer other request req_type bytes =
-      let ends : AreEnds past n s m t = subst (λ (x : ℕ). AreEnds past n s x t) peer (subst (λ (x : ℕ). AreEnds past n s b.way.peer x) other true_start.ends) in
-      let one : with_bytes n (Asked b.what.number s b.what.req_type b.what.room) b.what.ask ≡ with_bytes n (Asked c s y b.what.room) ask = ap (λ (x : ℕ). with_bytes n (Asked x s b.what.req_type b.what.room) b.what.ask) number ∙ (ap (λ (x : ℕ). with_bytes n (Asked c s x b.what.room) b.what.ask) req_type ∙ ap (λ (x : List ℕ). with_bytes n (Asked c s y b.what.room) x) bytes) in
-      let other_fact : plain n (Begun b.what.number r) ≡ plain n (Begun c q) = ap (λ (x : ℕ). plain n (Begun x r)) number ∙ ap (λ (x : ℕ). plain n (Begun c x)) request in
+      let ends : AreEnds past n s m t =
+      subst (λ (x : ℕ). AreEnds past n s x t) peer
+      (subst (λ (x : ℕ). AreEnds past n s b.way.peer x) other true_start.ends) in
+      let one : with_bytes n (Asked b.what.number s b.what.req_type b.what.room) b.what.ask
+      ≡ with_bytes n (Asked c s y b.what.room) ask =
+      ap (λ (x : ℕ). with_bytes n (Asked x s b.what.req_type b.what.room) b.what.ask) number
+      ∙ (ap (λ (x : ℕ). with_bytes n (Asked c s x b.what.room) b.what.ask) req_type
+      ∙ ap (λ (x : List ℕ). with_bytes n (Asked c s y b.what.room) x) bytes) in
+      let other_fact : plain n (Begun b.what.number r) ≡ plain n (Begun c q) =
+      ap (λ (x : ℕ). plain n (Begun x r)) number
+      ∙ ap (λ (x : ℕ). plain n (Begun c x)) request in
       record {
         session = s;
         ends = ends;
@@ -41,7 +52,9 @@ module _ (past : List Fact) where
       }
 
 module _ (k : Known) (n : ℕ) (l : Lists) (good : GoodNode k n l) (is_true : IsTrue k) where
-  own-run : RightNode l → (t r y : ℕ) (first second : List ℕ) → second ≡ plain_answer (served_by n k.past) y first → MayRun l t r y first → OwnRun k.past n t r y first second
+  own-run : RightNode l → (t r y : ℕ) (first second : List ℕ)
+      → second ≡ plain_answer (served_by n k.past) y first → MayRun l t r y first
+      → OwnRun k.past n t r y first second
   own-run right t r y first second answer m =
       let o = run-of k n l t r y first good right m in
       let g = o.good in
@@ -53,11 +66,16 @@ module _ (k : Known) (n : ℕ) (l : Lists) (good : GoodNode k n l) (is_true : Is
         node = v.way.peer;
         call = a.number;
         room = a.room;
-        own = call-of k.past v.way.peer v.way.other q.number g.start a.number n t r y first (is_true.starts v.way.peer v.way.other q.number g.start g.begun) refl (ap (λ (w : Way). w.peer) g.way_is) (ap (λ (w : Way). w.other) g.way_is ∙ o.number) number (sym o.of_type) (sym o.own);
+        own = call-of k.past v.way.peer v.way.other q.number g.start a.number n t r y first
+            (is_true.starts v.way.peer v.way.other q.number g.start g.begun) refl
+            (ap (λ (w : Way). w.peer) g.way_is)
+            (ap (λ (w : Way). w.other) g.way_is ∙ o.number) number (sym o.of_type) (sym o.own);
         right = answer;
       }
 
-  parts-of : (way : Way) (a : Asking) (request got size : ℕ) (parts : List ℕ) (answer : Option ℕ) → answer ≡ Some size → GoodAnswer k way a request got parts answer → HasParts k way a request got parts size
+  parts-of : (way : Way) (a : Asking) (request got size : ℕ) (parts : List ℕ) (answer : Option ℕ)
+      → answer ≡ Some size → GoodAnswer k way a request got parts answer
+      → HasParts k way a request got parts size
   parts-of way a request got size parts None e h = cc
   parts-of way a request got size parts (Some told) e h = let same : told ≡ size = cc in subst (HasParts k way a request got parts) same h
 
@@ -74,9 +92,17 @@ module _ (k : Known) (n : ℕ) (l : Lists) (good : GoodNode k n l) (is_true : Is
       let client = good.clients h.session h.client at.0 in
       let g = all-found (GoodCall k n h.client.way) (is_active h.request) h.client.calls call client.calls h.active in
       let progress = if-progress k n h.client.way call.what call.progress p h.is_progress g.progress in
-      record { way = h.client.way; begun = progress.begun; parts = parts-of h.client.way call.what p.request p.got size p.parts p.answer h.answer progress.answer; number = h.number }
+      record {
+        way = h.client.way;
+        begun = progress.begun;
+        parts = parts-of h.client.way call.what p.request p.got size p.parts p.answer h.answer
+            progress.answer;
+        number = h.number;
+      }
 
-  answer-to : (c size : ℕ) (call : Call) (p : Progress) (answer : List ℕ) → (s : Sized c size call p) → answer ≡ s.parts.answer → IsAnswerTo k.past n c call.what.room answer
+  answer-to : (c size : ℕ) (call : Call) (p : Progress) (answer : List ℕ)
+      → (s : Sized c size call p) → answer ≡ s.parts.answer
+      → IsAnswerTo k.past n c call.what.room answer
   answer-to c size call p answer s whole =
       let way = s.way in
       let a = call.what in
@@ -88,8 +114,11 @@ module _ (k : Known) (n : ℕ) (l : Lists) (good : GoodNode k n l) (is_true : Is
         request = p.request;
         req_type = a.req_type;
         ask = a.ask;
-        call = call-of k.past n way.number p.request b c way.peer way.other p.request a.req_type a.ask (is_true.starts n way.number p.request b s.begun) (sym s.number) refl refl refl refl refl;
-        ran = subst (λ (x : List ℕ). Contains k.past (with_two way.peer (Ran way.other p.request a.req_type) a.ask x)) (sym whole) run;
+        call = call-of k.past n way.number p.request b c way.peer way.other p.request a.req_type
+            a.ask (is_true.starts n way.number p.request b s.begun)
+            (sym s.number) refl refl refl refl refl;
+        ran = subst (λ (x : List ℕ). Contains k.past
+            (with_two way.peer (Ran way.other p.request a.req_type) a.ask x)) (sym whole) run;
       }
 
   own-end : (c : ℕ) (bytes : List ℕ) → MayEnd l c bytes → OwnEnd k.past n c bytes
@@ -101,15 +130,26 @@ module _ (k : Known) (n : ℕ) (l : Lists) (good : GoodNode k n l) (is_true : Is
       let count : packet_count m.size ≡ packet_count (length answer) = ap packet_count s.parts.sized in
       let above = packet_count_above m.size in
       let enough : packet_count (length answer) ≤ m.progress.got + 1 - asked_packets a = omega arith in
-      let whole : bytes ≡ answer = m.whole ∙ (s.parts.taken ∙ front-whole answer (m.progress.got + 1 - asked_packets a) enough) in
+      let whole : bytes ≡ answer =
+      m.whole ∙ (s.parts.taken ∙ front-whole answer (m.progress.got + 1 - asked_packets a)
+      enough) in
       record { room = a.room; own = answer-to c m.size m.call m.progress bytes s whole }
 
   own-size : (c size : ℕ) → MayFail l c size → OwnSize k.past n c size
   own-size c size m =
       let s = sized c size m.call m.progress m.has in
-      record { room = m.call.what.room; answer = s.parts.answer; own = answer-to c size m.call m.progress s.parts.answer s refl; sized = sym s.parts.sized; above = m.above }
+      record {
+        room = m.call.what.room;
+        answer = s.parts.answer;
+        own = answer-to c size m.call m.progress s.parts.answer s refl;
+        sized =
+            sym s.parts.sized;
+        above = m.above;
+      }
 
-  pub own-event : RightNode l → (hand : Option InFlight) (e : Event) (first second : List ℕ) → AnswersAt plain_serving (served_by n k.past) e first second → May hand l e first second → OwnEvent k.past n e first second
+  pub own-event : RightNode l → (hand : Option InFlight) (e : Event) (first second : List ℕ)
+      → AnswersAt plain_serving (served_by n k.past) e first second → May hand l e first second
+      → OwnEvent k.past n e first second
   own-event right hand (Ran t r y) first second answer m = own-run right t r y first second answer m
   own-event right hand (DoneOk c) first second answer m = own-end c first m
   own-event right hand (DoneTooSmall c size) first second answer m = own-size c size m

@@ -1,5 +1,6 @@
 -- Posting and sending note only what is allowed.
-use Rattle.std.proofs.Common.{◌≡◌, ◌<◌, ℕ, Bool, true, false, cond, List, [], length, Option, Some, None, slice_get, refl, eqb, ltb, ltb-true}
+use Rattle.std.proofs.Common.{◌≡◌, ◌<◌, ℕ, Bool, true, false, cond, List, [], length, Option, Some}
+use Rattle.std.proofs.Common.{None, slice_get, refl, eqb, ltb, ltb-true}
 use Rattle.std.specs.Prelude.{option_and_then, option_map}
 use Rattle.std.specs.List.{find}
 use Rattle.rpc_base.specs.declared.event.Event.{Event}
@@ -12,7 +13,8 @@ use Rattle.rpc_laws.specs.declared.tables.Lists.{Lists}
 use Rattle.rpc_laws.specs.declared.tables.Progress.{Progress}
 use Rattle.rpc_laws.specs.Calls.{is_waiting}
 use Rattle.rpc_laws.specs.PollOrder.{Serves, PostsAll, Sends, SendsAll, Closes}
-use Rattle.rpc_laws.specs.Posting.{lowest_free, next_turn, if_connected, beginning, can_post, next_packet, posting, next_begun, next_posted}
+use Rattle.rpc_laws.specs.Posting.{lowest_free, next_turn, if_connected, beginning, can_post}
+use Rattle.rpc_laws.specs.Posting.{next_packet, posting, next_begun, next_posted}
 use Rattle.rpc_laws.specs.Sessions.{is_connected}
 use Rattle.rpc_laws.specs.Steps.{NotesNext, NotesAll}
 use Rattle.end_laws.proofs.Allowed.{May, Linked}
@@ -30,63 +32,139 @@ free-slot calls slot h = position-low _ 8 slot _ refl h
 abbrev MayAlone : Option InFlight → Lists → Event → Type 0
 MayAlone hand l e = May hand l e [] [] × Linked None l e []
 
-begins-slot : (hand : Option InFlight) (l : Lists) (i : ℕ) (x : Client) (c : Call) (slot : Option ℕ) (e : Event) → slice_get l.clients i ≡ Some x → find is_waiting x.calls ≡ Some c → lowest_free x.calls ≡ slot → option_map (λ slot. Begun c.what.number (next_turn x.turns slot)) slot ≡ Some e → MayAlone hand l e
+begins-slot : (hand : Option InFlight) (l : Lists) (i : ℕ) (x : Client) (c : Call) (slot : Option ℕ)
+    (e : Event) → slice_get l.clients i ≡ Some x → find is_waiting x.calls ≡ Some c
+    → lowest_free x.calls ≡ slot
+    → option_map (λ slot. Begun c.what.number (next_turn x.turns slot)) slot ≡ Some e
+    → MayAlone hand l e
 begins-slot hand l i x c None e is w f h = cc
 begins-slot hand l i x c (Some slot) e is w f h =
     let same : e ≡ Begun c.what.number (next_turn x.turns slot) = cc in
-    rw same ((record { session = i; client = x; is_there = is; call = c; waits = w; number = refl; slot = slot; low = free-slot x.calls slot f; next = refl }, refl, refl), tt)
+    rw same (
+      (
+        record {
+          session = i;
+          client = x;
+          is_there = is;
+          call = c;
+          waits = w;
+          number = refl;
+          slot = slot;
+          low = free-slot x.calls slot f;
+          next = refl;
+        },
+        refl,
+        refl,
+      ),
+      tt,
+    )
 
-begins-call : (hand : Option InFlight) (l : Lists) (i : ℕ) (x : Client) (c : Option Call) (e : Event) → slice_get l.clients i ≡ Some x → find is_waiting x.calls ≡ c → option_and_then (λ c. option_map (λ slot. Begun c.what.number (next_turn x.turns slot)) (lowest_free x.calls)) c ≡ Some e → MayAlone hand l e
+begins-call : (hand : Option InFlight) (l : Lists) (i : ℕ) (x : Client) (c : Option Call)
+    (e : Event) → slice_get l.clients i ≡ Some x → find is_waiting x.calls ≡ c
+    → option_and_then (λ c. option_map (λ slot. Begun c.what.number (next_turn x.turns slot))
+    (lowest_free x.calls)) c ≡ Some e → MayAlone hand l e
 begins-call hand l i x None e is w h = cc
 begins-call hand l i x (Some c) e is w h = begins-slot hand l i x c (lowest_free x.calls) e is w refl h
 
 -- what is next of a session that is connected
-connected-next : (next : Client → Option Event) (x : Client) (b : Bool) (e : Event) → is_connected x.state ≡ b → cond b (next x) None ≡ Some e → next x ≡ Some e
+connected-next : (next : Client → Option Event) (x : Client) (b : Bool) (e : Event)
+    → is_connected x.state ≡ b → cond b (next x) None ≡ Some e → next x ≡ Some e
 connected-next next x true e t h = h
 connected-next next x false e t h = cc
 
-begins-client : (hand : Option InFlight) (l : Lists) (i : ℕ) (x : Option Client) (e : Event) → slice_get l.clients i ≡ x → option_and_then (if_connected beginning) x ≡ Some e → MayAlone hand l e
+begins-client : (hand : Option InFlight) (l : Lists) (i : ℕ) (x : Option Client) (e : Event)
+    → slice_get l.clients i ≡ x → option_and_then (if_connected beginning) x ≡ Some e
+    → MayAlone hand l e
 begins-client hand l i None e is h = cc
-begins-client hand l i (Some x) e is h = begins-call hand l i x (find is_waiting x.calls) e is refl (connected-next beginning x (is_connected x.state) e refl h)
+begins-client hand l i (Some x) e is h =
+    begins-call hand l i x (find is_waiting x.calls) e is refl
+    (connected-next beginning x (is_connected x.state) e refl h)
 
-posts-progress : (hand : Option InFlight) (l : Lists) (session : ℕ) (p : Option Progress) (e : Event) → next_packet session p ≡ Some e → MayAlone hand l e
+posts-progress : (hand : Option InFlight) (l : Lists) (session : ℕ) (p : Option Progress)
+    (e : Event) → next_packet session p ≡ Some e → MayAlone hand l e
 posts-progress hand l session None e h = cc
 posts-progress hand l session (Some p) e h =
     let same : e ≡ Posted (Ask session p.request) p.posted = cc in rw same (tt, tt)
 
-posts-call : (hand : Option InFlight) (l : Lists) (x : Client) (c : Option Call) (e : Event) → option_and_then (λ c. next_packet x.way.number c.progress) c ≡ Some e → MayAlone hand l e
+posts-call : (hand : Option InFlight) (l : Lists) (x : Client) (c : Option Call) (e : Event)
+    → option_and_then (λ c. next_packet x.way.number c.progress) c ≡ Some e → MayAlone hand l e
 posts-call hand l x None e h = cc
 posts-call hand l x (Some c) e h = posts-progress hand l x.way.number c.progress e h
 
-posts-free : (hand : Option InFlight) (l : Lists) (x : Client) (b : Bool) (e : Event) → cond b None (option_and_then (λ c. next_packet x.way.number c.progress) (find can_post x.calls)) ≡ Some e → MayAlone hand l e
+posts-free : (hand : Option InFlight) (l : Lists) (x : Client) (b : Bool) (e : Event)
+    → cond b None (option_and_then (λ c. next_packet x.way.number c.progress)
+    (find can_post x.calls)) ≡ Some e → MayAlone hand l e
 posts-free hand l x true e h = cc
 posts-free hand l x false e h = posts-call hand l x (find can_post x.calls) e h
 
-posts-client : (hand : Option InFlight) (l : Lists) (x : Option Client) (e : Event) → option_and_then (if_connected posting) x ≡ Some e → MayAlone hand l e
+posts-client : (hand : Option InFlight) (l : Lists) (x : Option Client) (e : Event)
+    → option_and_then (if_connected posting) x ≡ Some e → MayAlone hand l e
 posts-client hand l None e h = cc
-posts-client hand l (Some x) e h = posts-free hand l x (eqb x.free 0) e (connected-next posting x (is_connected x.state) e refl h)
+posts-client hand l (Some x) e h =
+    posts-free hand l x (eqb x.free 0) e (connected-next posting x (is_connected x.state) e refl h)
 
 module _ (Inv : Lists → Type 0) (stays : Stays Inv) (hand : Option InFlight) where
   begun-fine : (i : ℕ) → Fine Inv hand (NotesNext (next_begun i))
   begun-fine i s x t o inv h =
-      walked-goes Inv stays hand s x t inv (rw h.facts (record { who = refl; may = (begins-client hand s.lists i (slice_get s.lists.clients i) h.event refl h.is_next).0 }, (begins-client hand s.lists i (slice_get s.lists.clients i) h.event refl h.is_next).1, tt)) h.goes
+      walked-goes Inv stays hand s x t inv (rw h.facts (
+        record {
+          who = refl;
+          may = (begins-client hand s.lists i (slice_get s.lists.clients i)
+              h.event refl h.is_next).0;
+        },
+        (begins-client hand s.lists i (slice_get s.lists.clients i)
+            h.event refl h.is_next).1,
+        tt,
+      )) h.goes
 
   posted-fine : (i : ℕ) → Fine Inv hand (NotesNext (next_posted i))
   posted-fine i s x t o inv h =
-      walked-goes Inv stays hand s x t inv (rw h.facts (record { who = refl; may = (posts-client hand s.lists (slice_get s.lists.clients i) h.event h.is_next).0 }, (posts-client hand s.lists (slice_get s.lists.clients i) h.event h.is_next).1, tt)) h.goes
+      walked-goes Inv stays hand s x t inv (rw h.facts (
+        record {
+          who = refl;
+          may = (posts-client hand s.lists (slice_get s.lists.clients i)
+              h.event h.is_next).0;
+        },
+        (posts-client hand s.lists (slice_get s.lists.clients i) h.event
+            h.is_next).1,
+        tt,
+      )) h.goes
 
   serves-fine : (i : ℕ) → Fine Inv hand (Serves i)
-  serves-fine i = fine-then Inv hand (NotesAll (next_begun i)) (NotesAll (next_posted i)) (fine-until Inv hand (NotesNext (next_begun i)) _ (begun-fine i)) (fine-until Inv hand (NotesNext (next_posted i)) _ (posted-fine i))
+  serves-fine i = fine-then Inv hand (NotesAll (next_begun i)) (NotesAll (next_posted i))
+      (fine-until Inv hand (NotesNext (next_begun i)) _ (begun-fine i))
+      (fine-until Inv hand (NotesNext (next_posted i)) _ (posted-fine i))
 
   pub posts-all : Fine Inv hand PostsAll
   posts-all s x t o i h = fine-visits Inv hand Serves serves-fine (length s.lists.clients) s x t o i h
 
   sends-fine : Fine Inv hand Sends
   sends-fine s x t o i h =
-      walked-goes Inv stays hand s x t i (rw h.facts (record { who = refl; may = record { due = h.entry.due; is_front = h.is_front; out = h.out; own = h.packet; to_peer = refl; in_range = h.in_range; has_head = h.has_head; long = h.long; bytes = h.bytes; whole = refl } }, tt, tt)) h.goes
+      walked-goes Inv stays hand s x t i (rw h.facts (
+        record {
+          who = refl;
+          may = record {
+            due = h.entry.due;
+            is_front = h.is_front;
+            out = h.out;
+            own = h.packet;
+            to_peer = refl;
+            in_range = h.in_range;
+            has_head =
+                h.has_head;
+            long = h.long;
+            bytes = h.bytes;
+            whole = refl;
+          };
+        },
+        tt,
+        tt,
+      )) h.goes
 
   pub sends-all : Fine Inv hand SendsAll
   sends-all = fine-until Inv hand Sends _ sends-fine
 
   pub closes-fine : Fine Inv hand Closes
-  closes-fine s x t o i h = walked-goes Inv stays hand s x t i (rw h.facts (record { who = refl; may = tt }, tt, tt)) h.goes
+  closes-fine s x t o i h =
+      walked-goes Inv stays hand s x t i (rw h.facts (record { who = refl; may = tt }, tt, tt))
+      h.goes

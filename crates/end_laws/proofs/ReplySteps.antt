@@ -1,5 +1,7 @@
 -- Handling a CR or a Response notes only what is allowed, and so does a whole poll.
-use Rattle.std.proofs.Common.{◌≡◌, ◌+◌, ◌==◌, ◌&&◌, ◌||◌, ℕ, nat_lt, nat_le, Bool, true, false, not, cond, List, [], ◌∷◌, ◌++◌, length, Option, Some, None, slice_get, refl, sym, ap, ◌∙◌, subst, arith, ltb-true, ltb-false}
+use Rattle.std.proofs.Common.{◌≡◌, ◌+◌, ◌==◌, ◌&&◌, ◌||◌, ℕ, nat_lt, nat_le, Bool, true, false, not}
+use Rattle.std.proofs.Common.{cond, List, [], ◌∷◌, ◌++◌, length, Option, Some, None, slice_get}
+use Rattle.std.proofs.Common.{refl, sym, ap, ◌∙◌, subst, arith, ltb-true, ltb-false}
 use Rattle.std.specs.Prelude.{is_none}
 use Rattle.std.specs.List.{find, list_any}
 use Rattle.std.proofs.lemmas.Bool.{eqb-true}
@@ -10,7 +12,8 @@ use Rattle.packet_header.specs.declared.packet.MessageHeader.{MessageHeader}
 use Rattle.rpc_base.specs.declared.event.Event.TheVariants.{Took}
 use Rattle.rpc_base.specs.declared.fact.Fact.{Fact}
 use Rattle.rpc_base.specs.declared.owner.Owner.TheVariants.{Ask}
-use Rattle.rpc_base.specs.declared.state.DropReason.TheVariants.{NoSession, WrongPeer, Past, Ahead, Mismatch, Queued as StillQueued}
+use Rattle.rpc_base.specs.declared.state.DropReason.TheVariants.{NoSession, WrongPeer, Past, Ahead}
+use Rattle.rpc_base.specs.declared.state.DropReason.TheVariants.{Mismatch, Queued as StillQueued}
 use Rattle.rpc_base.proofs.TakingLemmas.{find-passes}
 use Rattle.rpc_laws.specs.declared.rows.ClientRow.{ClientRow}
 use Rattle.rpc_laws.specs.declared.rows.ClientRow.TheVariants.{Drops, Takes}
@@ -24,7 +27,8 @@ use Rattle.rpc_laws.specs.declared.tables.Lists.{Lists}
 use Rattle.rpc_laws.specs.declared.tables.Progress.{Progress}
 use Rattle.rpc_laws.specs.declared.tables.Queued.{Queued}
 use Rattle.rpc_laws.specs.Calls.{is_active, has_request, is_response, asked_packets, known_packets, moved, took_reply}
-use Rattle.rpc_laws.specs.ClientTable.{is_of_turn, progress_row, active_row, call_row, client_row, end_row, end_facts, reply_facts}
+use Rattle.rpc_laws.specs.ClientTable.{is_of_turn, progress_row, active_row, call_row, client_row}
+use Rattle.rpc_laws.specs.ClientTable.{end_row, end_facts, reply_facts}
 use Rattle.rpc_laws.specs.Facts.{plain}
 use Rattle.rpc_laws.specs.Front.{front_bytes, front_header, front_body}
 use Rattle.rpc_laws.specs.NodeLists.{after}
@@ -47,7 +51,8 @@ use Rattle.end_laws.proofs.Walks.{Fine, walked-goes, fine-then, fine-until}
 use Rattle.end_laws.proofs.WorkSteps.{finishes-worked}
 
 -- what is known where a reply is taken
-pub record Replying (l : Lists) (front : Arrival) (h : MessageHeader) (x : Client) (c : Call) (p : Progress) : Type 0 where
+pub record Replying (l : Lists) (front : Arrival) (h : MessageHeader) (x : Client) (c : Call)
+    (p : Progress) : Type 0 where
   pub is_front : Fronts l front h
   pub found : find (is_client h.session) l.clients ≡ Some x
   pub of_peer : front.peer ≡ x.way.peer
@@ -57,23 +62,78 @@ pub record Replying (l : Lists) (front : Arrival) (h : MessageHeader) (x : Clien
   pub of_turn : is_of_turn (asked_packets c.what) c.what.req_type p.answer h (length (front_body l.ring)) ≡ true
 
 -- a call's end
-ends-by : (hand : Option InFlight) (latest : Option Fact) (clock : ℕ) (l : Lists) (c : Call) (p : Progress) (size : ℕ) (a b : Bool) → HasSize l c.what.number size c p → nat_lt c.what.room size ≡ a → (p.got == known_packets (asked_packets c.what) (Some size)) ≡ b → (first : Bool) → WalksFrom hand latest clock l (end_facts l.me c.what.number p.parts (cond (first && a) (EndsTooSmall size) (cond b EndsOk GoesOn)))
-ends-by hand latest clock l c p size true b h s t true = (record { who = refl; may = record { call = c; progress = p; has = h; above = ltb-true c.what.room size s } }, tt, tt)
-ends-by hand latest clock l c p size false true h s t true = (record { who = refl; may = record { size = size; call = c; progress = p; has = h; all = eqb-true p.got _ t; whole = refl } }, tt, tt)
+ends-by : (hand : Option InFlight) (latest : Option Fact) (clock : ℕ) (l : Lists) (c : Call)
+    (p : Progress) (size : ℕ) (a b : Bool) → HasSize l c.what.number size c p
+    → nat_lt c.what.room size ≡ a → (p.got == known_packets (asked_packets c.what) (Some size)) ≡ b
+    → (first : Bool) → WalksFrom hand latest clock l
+    (end_facts l.me c.what.number p.parts (cond (first && a) (EndsTooSmall size)
+    (cond b EndsOk GoesOn)))
+ends-by hand latest clock l c p size true b h s t true = (
+  record {
+    who = refl;
+    may = record {
+      call = c;
+      progress = p;
+      has = h;
+      above = ltb-true c.what.room size s;
+    };
+  },
+  tt,
+  tt,
+)
+ends-by hand latest clock l c p size false true h s t true = (
+  record {
+    who = refl;
+    may = record {
+      size = size;
+      call = c;
+      progress = p;
+      has = h;
+      all = eqb-true p.got _ t;
+      whole = refl;
+    };
+  },
+  tt,
+  tt,
+)
 ends-by hand latest clock l c p size false false h s t true = tt
-ends-by hand latest clock l c p size a true h s t false = (record { who = refl; may = record { size = size; call = c; progress = p; has = h; all = eqb-true p.got _ t; whole = refl } }, tt, tt)
+ends-by hand latest clock l c p size a true h s t false = (
+  record {
+    who = refl;
+    may = record {
+      size = size;
+      call = c;
+      progress = p;
+      has = h;
+      all = eqb-true p.got _ t;
+      whole = refl;
+    };
+  },
+  tt,
+  tt,
+)
 ends-by hand latest clock l c p size a false h s t false = tt
 
-ending-walk : (hand : Option InFlight) (latest : Option Fact) (clock : ℕ) (l : Lists) (c : Call) (p : Progress) (first : Bool) (answer : Option ℕ) → p.answer ≡ answer → ((size : ℕ) → p.answer ≡ Some size → HasSize l c.what.number size c p) → WalksFrom hand latest clock l (end_facts l.me c.what.number p.parts (end_row first (asked_packets c.what) c.what.room p.got answer))
+ending-walk : (hand : Option InFlight) (latest : Option Fact) (clock : ℕ) (l : Lists) (c : Call)
+    (p : Progress) (first : Bool) (answer : Option ℕ) → p.answer ≡ answer
+    → ((size : ℕ) → p.answer ≡ Some size → HasSize l c.what.number size c p)
+    → WalksFrom hand latest clock l (end_facts l.me c.what.number p.parts
+    (end_row first (asked_packets c.what) c.what.room p.got answer))
 ending-walk hand latest clock l c p first None e h = tt
-ending-walk hand latest clock l c p first (Some size) e h = ends-by hand latest clock l c p size (nat_lt c.what.room size) (p.got == known_packets (asked_packets c.what) (Some size)) (h size e) refl refl first
+ending-walk hand latest clock l c p first (Some size) e h =
+    ends-by hand latest clock l c p size (nat_lt c.what.room size)
+    (p.got == known_packets (asked_packets c.what) (Some size)) (h size e) refl refl first
 
-reply-request : (b : Bool) (h : MessageHeader) (body : List ℕ) (p : Progress) → (cond b (record p { got = p.got + 1; answer = Some h.size; parts = p.parts ++ body }) (record p { got = p.got + 1 })).request ≡ p.request
+reply-request : (b : Bool) (h : MessageHeader) (body : List ℕ) (p : Progress)
+    → (cond b (record p { got = p.got + 1; answer = Some h.size; parts = p.parts ++ body })
+    (record p { got = p.got + 1 })).request ≡ p.request
 reply-request true h body p = refl
 reply-request false h body p = refl
 
 -- the reply is taken
-takes-walk : (hand : Option InFlight) (clock : ℕ) (l : Lists) (front : Arrival) (h : MessageHeader) (x : Client) (c : Call) (p : Progress) → Replying l front h x c p → Walks hand clock l (reply_facts l.me (Some x) h (front_body l.ring) Takes)
+takes-walk : (hand : Option InFlight) (clock : ℕ) (l : Lists) (front : Arrival) (h : MessageHeader)
+    (x : Client) (c : Call) (p : Progress) → Replying l front h x c p
+    → Walks hand clock l (reply_facts l.me (Some x) h (front_body l.ring) Takes)
 takes-walk hand clock l front h x c p t =
     let s = h.session in
     let r = h.request in
@@ -83,14 +143,34 @@ takes-walk hand clock l front h x c p t =
     let p1 : Progress = took_reply clock (Some h) body p in
     let c1 : Call = record { what = c.what; progress = Some p1 } in
     let move = moved (took_reply clock (front_header l.ring) body) in
-    let found : find (is_client s) (after clock l f).clients ≡ Some (change x) = find-first (is_client s) change l.clients x t.found (find-passes (is_client s) l.clients x t.found) in
+    let found : find (is_client s) (after clock l f).clients ≡ Some (change x) =
+    find-first (is_client s) change l.clients x t.found
+    (find-passes (is_client s) l.clients x t.found) in
     let is : move c ≡ c1 = rw (t.is_front.reads, t.is_progress) refl in
     let was : is_active r c ≡ true = find-passes (is_active r) x.calls c t.active in
     let number : (p.request == r) ≡ true = sym (ap (has_request r) t.is_progress) ∙ was in
-    let still : is_active r (move c) ≡ true = ap (is_active r) is ∙ (ap (λ (n : ℕ). n == r) (reply-request (is_response h.kind) h body p) ∙ number) in
-    let active : find (is_active r) (change x).calls ≡ Some c1 = find-first (is_active r) move x.calls c t.active still ∙ ap Some is in
-    let has : (size : ℕ) → p1.answer ≡ Some size → HasSize (after clock l f) c.what.number size c1 p1 = λ size e. record { session = s; request = r; client = change x; found = found; active = active; is_progress = refl; number = refl; answer = e } in
-    let walk : WalksFrom hand (Some f) clock (after clock l f) (end_facts l.me c.what.number p1.parts (end_row (is_none p.answer) (asked_packets c.what) c.what.room p1.got p1.answer)) = ending-walk hand (Some f) clock (after clock l f) c1 p1 (is_none p.answer) p1.answer refl has in (
+    let still : is_active r (move c) ≡ true =
+    ap (is_active r) is ∙ (ap (λ (n : ℕ). n == r)
+    (reply-request (is_response h.kind) h body p) ∙ number) in
+    let active : find (is_active r) (change x).calls ≡ Some c1 =
+    find-first (is_active r) move x.calls c t.active still ∙ ap Some is in
+    let has : (size : ℕ) → p1.answer ≡ Some size
+    → HasSize (after clock l f) c.what.number size c1 p1 =
+    λ size e. record {
+      session = s;
+      request = r;
+      client = change x;
+      found = found;
+      active = active;
+      is_progress = refl;
+      number = refl;
+      answer = e;
+    } in
+    let walk : WalksFrom hand (Some f) clock (after clock l f)
+    (end_facts l.me c.what.number p1.parts
+    (end_row (is_none p.answer) (asked_packets c.what) c.what.room p1.got p1.answer)) =
+    ending-walk hand (Some f) clock (after clock l f) c1 p1 (is_none p.answer) p1.answer
+    refl has in (
       record {
         who = refl;
         may = record {
@@ -115,7 +195,10 @@ takes-walk hand clock l front h x c p t =
     )
 
 -- the client rule, read backwards
-row-by : (a b c d : Bool) → cond a (Drops Past) (cond b (Drops Ahead) (cond (not c) (Drops Mismatch) (cond d (Drops StillQueued) Takes))) ≡ Takes → (a ≡ false) × (b ≡ false) × (c ≡ true)
+row-by : (a b c d : Bool)
+    → cond a (Drops Past) (cond b (Drops Ahead)
+    (cond (not c) (Drops Mismatch) (cond d (Drops StillQueued) Takes))) ≡ Takes → (a ≡ false)
+    × (b ≡ false) × (c ≡ true)
 row-by true b c d h = cc
 row-by false true c d h = cc
 row-by false false false d h = cc
@@ -126,9 +209,13 @@ or-left : (a b : Bool) → (a || b) ≡ false → a ≡ false
 or-left true b h = cc
 or-left false b h = refl
 
-progress-takes : (queued : List Queued) (a : Asking) (p : Progress) (h : MessageHeader) (n : ℕ) → progress_row queued a p h n ≡ Takes → (h.number ≡ p.got) × (is_of_turn (asked_packets a) a.req_type p.answer h n ≡ true)
+progress-takes : (queued : List Queued) (a : Asking) (p : Progress) (h : MessageHeader) (n : ℕ)
+    → progress_row queued a p h n ≡ Takes → (h.number ≡ p.got)
+    × (is_of_turn (asked_packets a) a.req_type p.answer h n ≡ true)
 progress-takes queued a p h n e =
-    let t = row-by (nat_lt h.number p.got) (nat_lt p.got h.number || nat_le p.posted h.number) (is_of_turn (asked_packets a) a.req_type p.answer h n) (list_any (is_queued (Ask h.session h.request) h.number) queued) e in
+    let t = row-by (nat_lt h.number p.got) (nat_lt p.got h.number || nat_le p.posted h.number)
+    (is_of_turn (asked_packets a) a.req_type p.answer h n)
+    (list_any (is_queued (Ask h.session h.request) h.number) queued) e in
     let low = ltb-false h.number p.got t.0 in
     let high = ltb-false p.got h.number (or-left _ _ t.1) in
     (omega arith, t.2)
@@ -139,34 +226,66 @@ pub record Finds (l : Lists) (front : Arrival) (h : MessageHeader) (x : Client) 
   pub found : find (is_client h.session) l.clients ≡ Some x
   pub of_peer : front.peer ≡ x.way.peer
 
-row-walk : (hand : Option InFlight) (clock : ℕ) (l : Lists) (front : Arrival) (h : MessageHeader) (x : Client) (c : Call) (p : Progress) (row : ClientRow) → Finds l front h x → find (is_active h.request) x.calls ≡ Some c → c.progress ≡ Some p → progress_row l.queued c.what p h (length (front_body l.ring)) ≡ row → Walks hand clock l (reply_facts l.me (Some x) h (front_body l.ring) row)
+row-walk : (hand : Option InFlight) (clock : ℕ) (l : Lists) (front : Arrival) (h : MessageHeader)
+    (x : Client) (c : Call) (p : Progress) (row : ClientRow) → Finds l front h x
+    → find (is_active h.request) x.calls ≡ Some c → c.progress ≡ Some p
+    → progress_row l.queued c.what p h (length (front_body l.ring)) ≡ row
+    → Walks hand clock l (reply_facts l.me (Some x) h (front_body l.ring) row)
 row-walk hand clock l front h x c p (Drops why) f is at e = (record { who = refl; may = tt }, tt, tt)
 row-walk hand clock l front h x c p Takes f is at e =
     let t = progress-takes l.queued c.what p h (length (front_body l.ring)) e in
-    takes-walk hand clock l front h x c p (record { is_front = f.is_front; found = f.found; of_peer = f.of_peer; active = is; is_progress = at; in_turn = t.0; of_turn = t.1 })
+    takes-walk hand clock l front h x c p (record {
+      is_front = f.is_front;
+      found = f.found;
+      of_peer = f.of_peer;
+      active = is;
+      is_progress = at;
+      in_turn = t.0;
+      of_turn = t.1;
+    })
 
-progress-walk : (hand : Option InFlight) (clock : ℕ) (l : Lists) (front : Arrival) (h : MessageHeader) (x : Client) (c : Call) (p : Option Progress) → Finds l front h x → find (is_active h.request) x.calls ≡ Some c → c.progress ≡ p → Walks hand clock l (reply_facts l.me (Some x) h (front_body l.ring) (active_row l.queued c.what p h (length (front_body l.ring))))
+progress-walk : (hand : Option InFlight) (clock : ℕ) (l : Lists) (front : Arrival)
+    (h : MessageHeader) (x : Client) (c : Call) (p : Option Progress) → Finds l front h x
+    → find (is_active h.request) x.calls ≡ Some c → c.progress ≡ p
+    → Walks hand clock l (reply_facts l.me (Some x) h (front_body l.ring)
+    (active_row l.queued c.what p h (length (front_body l.ring))))
 progress-walk hand clock l front h x c None f is at = (record { who = refl; may = tt }, tt, tt)
 progress-walk hand clock l front h x c (Some p) f is at = row-walk hand clock l front h x c p _ f is at refl
 
-call-walk : (hand : Option InFlight) (clock : ℕ) (l : Lists) (front : Arrival) (h : MessageHeader) (x : Client) (c : Option Call) → Finds l front h x → find (is_active h.request) x.calls ≡ c → Walks hand clock l (reply_facts l.me (Some x) h (front_body l.ring) (call_row l.queued c h (length (front_body l.ring))))
+call-walk : (hand : Option InFlight) (clock : ℕ) (l : Lists) (front : Arrival) (h : MessageHeader)
+    (x : Client) (c : Option Call) → Finds l front h x → find (is_active h.request) x.calls ≡ c
+    → Walks hand clock l (reply_facts l.me (Some x) h (front_body l.ring)
+    (call_row l.queued c h (length (front_body l.ring))))
 call-walk hand clock l front h x None f is = (record { who = refl; may = tt }, tt, tt)
 call-walk hand clock l front h x (Some c) f is = progress-walk hand clock l front h x c c.progress f is refl
 
-peer-walk : (hand : Option InFlight) (clock : ℕ) (l : Lists) (front : Arrival) (h : MessageHeader) (x : Client) (a b : Bool) → (x.way.peer == front.peer) ≡ b → Fronts l front h → find (is_client h.session) l.clients ≡ Some x → Walks hand clock l (reply_facts l.me (Some x) h (front_body l.ring) (cond (not a) (Drops NoSession) (cond (not b) (Drops WrongPeer) (call_row l.queued (find (is_active h.request) x.calls) h (length (front_body l.ring))))))
+peer-walk : (hand : Option InFlight) (clock : ℕ) (l : Lists) (front : Arrival) (h : MessageHeader)
+    (x : Client) (a b : Bool) → (x.way.peer == front.peer) ≡ b → Fronts l front h
+    → find (is_client h.session) l.clients ≡ Some x
+    → Walks hand clock l (reply_facts l.me (Some x) h (front_body l.ring)
+    (cond (not a) (Drops NoSession) (cond (not b) (Drops WrongPeer)
+    (call_row l.queued (find (is_active h.request) x.calls) h (length (front_body l.ring))))))
 peer-walk hand clock l front h x false b t f is = (record { who = refl; may = tt }, tt, tt)
 peer-walk hand clock l front h x true false t f is = (record { who = refl; may = tt }, tt, tt)
 peer-walk hand clock l front h x true true t f is =
-    call-walk hand clock l front h x _ (record { is_front = f; found = is; of_peer = sym (eqb-true x.way.peer front.peer t) }) refl
+    call-walk hand clock l front h x _ (record
+    { is_front = f; found = is; of_peer = sym (eqb-true x.way.peer front.peer t) }) refl
 
-client-walk : (hand : Option InFlight) (clock : ℕ) (l : Lists) (front : Arrival) (h : MessageHeader) (x : Option Client) → find (is_client h.session) l.clients ≡ x → Fronts l front h → Walks hand clock l (reply_facts l.me x h (front_body l.ring) (client_row l.queued x front.peer h (length (front_body l.ring))))
+client-walk : (hand : Option InFlight) (clock : ℕ) (l : Lists) (front : Arrival) (h : MessageHeader)
+    (x : Option Client) → find (is_client h.session) l.clients ≡ x → Fronts l front h
+    → Walks hand clock l (reply_facts l.me x h (front_body l.ring)
+    (client_row l.queued x front.peer h (length (front_body l.ring))))
 client-walk hand clock l front h None is f = (record { who = refl; may = tt }, tt, tt)
 client-walk hand clock l front h (Some x) is f = peer-walk hand clock l front h x (is_connected x.state) _ refl f is
 
 -- the front of the ring is handled by its kind
-kind-walk : (hand : Option InFlight) (clock : ℕ) (l : Lists) (front : Arrival) (h : MessageHeader) (lacks : Bool) (answer : List ℕ) (k : Kind) → h.kind ≡ k → Fronts l front h → RightNode l → Walks hand clock l (handling_by plain_mode lacks answer k l front.peer h (front_body l.ring))
-kind-walk hand clock l front h lacks answer Request e f s = asks-walk hand clock l front h lacks answer f (rw e tt) s.sound s.slots
-kind-walk hand clock l front h lacks answer Rfr e f s = asks-walk hand clock l front h lacks answer f (rw e tt) s.sound s.slots
+kind-walk : (hand : Option InFlight) (clock : ℕ) (l : Lists) (front : Arrival) (h : MessageHeader)
+    (lacks : Bool) (answer : List ℕ) (k : Kind) → h.kind ≡ k → Fronts l front h → RightNode l
+    → Walks hand clock l (handling_by plain_mode lacks answer k l front.peer h (front_body l.ring))
+kind-walk hand clock l front h lacks answer Request e f s =
+    asks-walk hand clock l front h lacks answer f (rw e tt) s.sound s.slots
+kind-walk hand clock l front h lacks answer Rfr e f s =
+    asks-walk hand clock l front h lacks answer f (rw e tt) s.sound s.slots
 kind-walk hand clock l front h lacks answer Cr e f s = client-walk hand clock l front h _ refl f
 kind-walk hand clock l front h lacks answer Response e f s = client-walk hand clock l front h _ refl f
 
@@ -179,16 +298,26 @@ module _ (hand : Option InFlight) where
   handles-fine s x t o i h =
       let bytes = front-is s.lists.ring h.front h.is_front in
       let reads : front_header s.lists.ring ≡ Some h.header = ap message_of bytes ∙ h.reads in
-      let walk = kind-walk hand s.clock s.lists h.front h.header h.lacks h.answer h.header.kind refl (record { is_front = h.is_front; reads = reads }) i in
-      let same : handling_by plain_mode h.lacks h.answer h.header.kind s.lists h.front.peer h.header (front_body s.lists.ring) ≡ x = ap (λ (b : List ℕ). handling_by plain_mode h.lacks h.answer h.header.kind s.lists h.front.peer h.header (body_of b)) bytes ∙ sym h.facts in
-      walked-goes RightNode right-stays hand s x t i (subst (λ (y : List Fact). Walks hand s.clock s.lists y) same walk) h.goes
+      let walk = kind-walk hand s.clock s.lists h.front h.header h.lacks h.answer h.header.kind refl
+      (record { is_front = h.is_front; reads = reads }) i in
+      let same : handling_by plain_mode h.lacks h.answer h.header.kind s.lists h.front.peer h.header
+      (front_body s.lists.ring) ≡ x =
+      ap (λ (b : List ℕ). handling_by plain_mode h.lacks h.answer h.header.kind s.lists
+      h.front.peer h.header (body_of b)) bytes ∙ sym h.facts in
+      walked-goes RightNode right-stays hand s x t i
+      (subst (λ (y : List Fact). Walks hand s.clock s.lists y) same walk) h.goes
 
   -- a poll at the node's clock
-  pub poll-fine : (worked : List WorkedJob) → Fine RightNode hand (Then (FinishesWorked worked) (Then HearsAll (Then (HandlesAll plain_mode) (Then TimesAll (Then PostsAll (Then SendsAll Closes))))))
+  pub poll-fine : (worked : List WorkedJob)
+      → Fine RightNode hand (Then (FinishesWorked worked)
+      (Then HearsAll (Then (HandlesAll plain_mode)
+      (Then TimesAll (Then PostsAll (Then SendsAll Closes))))))
   poll-fine worked =
       fine-then RightNode hand (FinishesWorked worked) _ (finishes-worked hand worked)
       (fine-then RightNode hand HearsAll _ (hears-all RightNode right-stays hand)
-      (fine-then RightNode hand (HandlesAll plain_mode) _ (fine-until RightNode hand (Handles plain_mode) _ handles-fine)
+      (fine-then RightNode hand (HandlesAll plain_mode) _
+      (fine-until RightNode hand (Handles plain_mode) _ handles-fine)
       (fine-then RightNode hand TimesAll _ (times-all RightNode right-stays hand)
       (fine-then RightNode hand PostsAll _ (posts-all RightNode right-stays hand)
-      (fine-then RightNode hand SendsAll Closes (sends-all RightNode right-stays hand) (closes-fine RightNode right-stays hand))))))
+      (fine-then RightNode hand SendsAll Closes (sends-all RightNode right-stays hand)
+      (closes-fine RightNode right-stays hand))))))

@@ -1,5 +1,7 @@
 -- What is always so of the requests in the slots of a node, and of its jobs, by the rules alone.
-use Rattle.std.proofs.Common.{◌≡◌, ◌==◌, ◌<◌, ◌≤◌, ◌+◌, ◌-◌, ◌*◌, min, ◌⊎◌, inl, inr, ℕ, Bool, true, false, List, [], ◌++◌, length, Option, Some, None, refl, ap, ◌∙◌, subst, arith, leb-false}
+use Rattle.std.proofs.Common.{◌≡◌, ◌==◌, ◌<◌, ◌≤◌, ◌+◌, ◌-◌, ◌*◌, min, ◌⊎◌, inl, inr, ℕ, Bool, true}
+use Rattle.std.proofs.Common.{false, List, [], ◌++◌, length, Option, Some, None, refl, ap, ◌∙◌}
+use Rattle.std.proofs.Common.{subst, arith, leb-false}
 use Rattle.std.specs.Prelude.{count_by, option_map}
 use Rattle.std.specs.List.{find, list_any, AllByRecursion}
 use Rattle.std.proofs.lemmas.Bool.{eqb-true, and_parts}
@@ -21,7 +23,8 @@ use Rattle.rpc_laws.specs.declared.tables.Served.{Served}
 use Rattle.rpc_laws.specs.declared.tables.Server.{Server}
 use Rattle.rpc_laws.specs.Front.{front_header, front_body}
 use Rattle.rpc_laws.specs.Jobs.{is_job}
-use Rattle.rpc_laws.specs.Requests.{is_server, is_request, in_slot_of, first_packet, next_packet, took_packet, given, answered}
+use Rattle.rpc_laws.specs.Requests.{is_server, is_request, in_slot_of, first_packet, next_packet}
+use Rattle.rpc_laws.specs.Requests.{took_packet, given, answered}
 use Rattle.rpc_laws.specs.ServerTable.{is_past_end}
 use Rattle.end_laws.proofs.Allowed.{GoesOn, TakesOf, IsWhole, MayServe, MayFinish}
 use Rattle.end_laws.proofs.ListLemmas.{all-first, all-add, all-without, all-found}
@@ -30,7 +33,8 @@ use Rattle.end_laws.proofs.SlotLemmas.{any-find}
 -- how many packets were taken: none above those of the request, and of the answer once it is known
 abbrev pub TakenRight : (taken size : ℕ) → Option (List ℕ) → Type 0
 TakenRight taken size None = taken ≤ packet_count size
-TakenRight taken size (Some a) = (packet_count size ≤ taken) × (taken + 1 ≤ packet_count size + packet_count (length a))
+TakenRight taken size (Some a) = (packet_count size ≤ taken)
+    × (taken + 1 ≤ packet_count size + packet_count (length a))
 
 -- a request holds no more bytes than its packets have, and a worker has it only when it is whole, until it is
 -- answered. Before that it holds as many bytes as its packets have
@@ -78,7 +82,9 @@ front-right l h e = record {
 }
 
 -- one packet more
-next-taken : (answer : Option (List ℕ)) (k : Kind) (q : Served) (h : MessageHeader) → q.answer ≡ answer → h.number ≡ q.taken → (k ≡ Request → h.number < packet_count h.size) → GoesOn k q h → TakenRight q.taken q.size answer → TakenRight (q.taken + 1) q.size answer
+next-taken : (answer : Option (List ℕ)) (k : Kind) (q : Served) (h : MessageHeader)
+    → q.answer ≡ answer → h.number ≡ q.taken → (k ≡ Request → h.number < packet_count h.size)
+    → GoesOn k q h → TakenRight q.taken q.size answer → TakenRight (q.taken + 1) q.size answer
 next-taken None Request q h e n low g t =
     let lt = low refl in
     let size : packet_count h.size ≡ packet_count q.size = ap packet_count g.1 in
@@ -92,21 +98,27 @@ next-taken (Some a) Request q h e n low g t =
     let size : packet_count h.size ≡ packet_count q.size = ap packet_count g.1 in
     absurd (omega arith)
 next-taken (Some a) Rfr q h e n low g t =
-    let past : is_past_end q.size (Some (length a)) h.number ≡ false = subst (λ (o : Option (List ℕ)). is_past_end q.size (option_map length o) h.number ≡ false) e g.1 in
+    let past : is_past_end q.size (Some (length a)) h.number ≡ false =
+    subst (λ (o : Option (List ℕ)). is_past_end q.size (option_map length o) h.number
+    ≡ false) e g.1 in
     let lt : h.number + 1 < packet_count q.size + packet_count (length a) = leb-false _ _ past in
     let le = t.0 in
     (omega arith, omega arith)
 next-taken (Some a) Cr q h e n low g t = absurd g
 next-taken (Some a) Response q h e n low g t = absurd g
 
-next-short : (k : Kind) (q : Served) (h : MessageHeader) (body : List ℕ) → GoesOn k q h → (k ≡ Request → length body ≤ 1024) → (k ≡ Rfr → body ≡ []) → length body ≤ 1024
+next-short : (k : Kind) (q : Served) (h : MessageHeader) (body : List ℕ) → GoesOn k q h
+    → (k ≡ Request → length body ≤ 1024) → (k ≡ Rfr → body ≡ []) → length body ≤ 1024
 next-short Request q h body g short none = short refl
 next-short Rfr q h body g short none = rw (none refl) (omega arith)
 next-short Cr q h body g short none = absurd g
 next-short Response q h body g short none = absurd g
 
 -- one packet more has its part of the bytes
-next-whole : (k : Kind) (q : Served) (h : MessageHeader) (body : List ℕ) → GoesOn k q h → h.number ≡ q.taken → (k ≡ Request → length body ≡ part_size h.size h.number) → SlotRight q → q.answer ≡ None → q.working ≡ false → length (q.ask ++ body) ≡ min q.size (1024 * (q.taken + 1))
+next-whole : (k : Kind) (q : Served) (h : MessageHeader) (body : List ℕ) → GoesOn k q h
+    → h.number ≡ q.taken → (k ≡ Request → length body ≡ part_size h.size h.number) → SlotRight q
+    → q.answer ≡ None → q.working ≡ false
+    → length (q.ask ++ body) ≡ min q.size (1024 * (q.taken + 1))
 next-whole Request q h body g n sized s none idle =
     let size = g.1 in
     let piece : length body ≡ min 1024 (h.size - 1024 * h.number) = sized refl in
@@ -117,7 +129,8 @@ next-whole Rfr q h body g n sized s none idle = let past : is_past_end q.size No
 next-whole Cr q h body g n sized s none idle = absurd g
 next-whole Response q h body g n sized s none idle = absurd g
 
-next-right : (q : Served) (h : MessageHeader) (body : List ℕ) → Readable h body → h.number ≡ q.taken → GoesOn h.kind q h → SlotRight q → SlotRight (next_packet body q)
+next-right : (q : Served) (h : MessageHeader) (body : List ℕ) → Readable h body → h.number ≡ q.taken
+    → GoesOn h.kind q h → SlotRight q → SlotRight (next_packet body q)
 next-right q h body f n g s =
     let short = next-short h.kind q h body g f.short f.none in
     let long = s.long in
@@ -130,26 +143,41 @@ next-right q h body f n g s =
       whole = next-whole h.kind q h body g n f.sized s;
     }
 
-first-right : (h : MessageHeader) (body : List ℕ) → h.kind ≡ Request → h.number ≡ 0 → Readable h body → SlotRight (first_packet h.request h body)
+first-right : (h : MessageHeader) (body : List ℕ) → h.kind ≡ Request → h.number ≡ 0
+    → Readable h body → SlotRight (first_packet h.request h body)
 first-right h body k zero f =
     let above = packet_count_above h.size in
     let short = f.short k in
     let piece : length body ≡ min 1024 (h.size - 1024 * h.number) = f.sized k in
-    record { taken = omega arith; some = omega arith; long = omega arith; working = λ w. absurd (cc); whole = λ none idle. omega arith }
+    record {
+      taken = omega arith;
+      some = omega arith;
+      long = omega arith;
+      working = λ w. absurd (cc);
+      whole = λ none idle. omega arith;
+    }
 
-pub took-right : (going : Option Served) (slots : List Served) (h : MessageHeader) (body : List ℕ) → Readable h body → TakesOf going slots h → AllByRecursion SlotRight slots → AllByRecursion SlotRight (took_packet h.request (Some h) body slots)
+pub took-right : (going : Option Served) (slots : List Served) (h : MessageHeader) (body : List ℕ)
+    → Readable h body → TakesOf going slots h → AllByRecursion SlotRight slots
+    → AllByRecursion SlotRight (took_packet h.request (Some h) body slots)
 took-right None slots h body f t a =
     let none : list_any (is_request h.request) slots ≡ false = t.2 in
-    rw none (all-add SlotRight (without_first (in_slot_of h.request) slots) (first_packet h.request h body) (all-without SlotRight (in_slot_of h.request) slots a) (first-right h body t.0 t.1 f))
+    rw none (all-add SlotRight (without_first (in_slot_of h.request) slots)
+    (first_packet h.request h body) (all-without SlotRight (in_slot_of h.request) slots a)
+    (first-right h body t.0 t.1 f))
 took-right (Some q) slots h body f t a =
     let any : list_any (is_request h.request) slots ≡ true = any-find (is_request h.request) slots q t.0 in
     rw any (all-first SlotRight SlotRight (is_request h.request) (next_packet body) slots (λ x k. k)
     (λ x is k. let found = t.0 in
-    let same : q ≡ x = cc in next-right x h body f (t.1 ∙ ap (λ (z : Served). z.taken) same) (subst (λ (z : Served). GoesOn h.kind z h) same t.2) k) a)
+    let same : q ≡ x = cc in next-right x h body f (t.1 ∙ ap (λ (z : Served). z.taken) same)
+    (subst (λ (z : Served). GoesOn h.kind z h) same t.2) k) a)
 
-open-by : (answer : Option (List ℕ)) (working : Bool) (q : Served) → q.answer ≡ answer → q.working ≡ working → q.taken < packet_count q.size → SlotRight q → (answer ≡ None) × (working ≡ false)
+open-by : (answer : Option (List ℕ)) (working : Bool) (q : Served) → q.answer ≡ answer
+    → q.working ≡ working → q.taken < packet_count q.size → SlotRight q → (answer ≡ None)
+    × (working ≡ false)
 open-by (Some a) working q e f lt s =
-    let t : TakenRight q.taken q.size (Some a) = subst (λ (o : Option (List ℕ)). TakenRight q.taken q.size o) e s.taken in
+    let t : TakenRight q.taken q.size (Some a) =
+    subst (λ (o : Option (List ℕ)). TakenRight q.taken q.size o) e s.taken in
     let le = t.0 in
     absurd (omega arith)
 open-by None true q e f lt s = let le = (s.working f).0 in absurd (omega arith)
@@ -160,12 +188,26 @@ pub asked-open : (q : Served) → q.taken < packet_count q.size → SlotRight q 
 asked-open q lt s = open-by q.answer q.working q refl refl lt s
 
 pub given-right : (q : Served) → q.taken ≡ packet_count q.size → q.answer ≡ None → SlotRight q → SlotRight (given q)
-given-right q whole none s = record { taken = s.taken; some = s.some; long = omega arith; working = λ w. (omega arith, none); whole = λ a idle. absurd (cc) }
+given-right q whole none s =
+    record {
+      taken = s.taken;
+      some = s.some;
+      long = omega arith;
+      working = λ w. (omega arith, none);
+      whole = λ a idle. absurd (cc);
+    }
 
-pub answered-right : (answer : List ℕ) (q : Served) → q.taken ≡ packet_count q.size → SlotRight q → SlotRight (answered answer q)
+pub answered-right : (answer : List ℕ) (q : Served) → q.taken ≡ packet_count q.size → SlotRight q
+    → SlotRight (answered answer q)
 answered-right answer q whole s =
     let above = packet_count_above (length answer) in
-    record { taken = (omega arith, omega arith); some = s.some; long = omega arith; working = λ w. absurd (cc); whole = λ a idle. absurd (cc) }
+    record {
+      taken = (omega arith, omega arith);
+      some = s.some;
+      long = omega arith;
+      working = λ w. absurd (cc);
+      whole = λ a idle. absurd (cc);
+    }
 
 -- a request that runs stands whole in its slot, with no answer
 pub record Ready (xs : List Server) (t r : ℕ) : Type 0 where
@@ -177,34 +219,56 @@ pub record Ready (xs : List Server) (t r : ℕ) : Type 0 where
 -- what is right of a request that is found
 pub stands-right : (xs : List Server) (t r : ℕ) (q : Served) → SlotsRight xs → Stands xs t r q → SlotRight q
 stands-right xs t r q s h =
-    all-found SlotRight (is_request r) h.server.slots q (all-found (λ v. AllByRecursion SlotRight v.slots) (is_server t) xs h.server s h.found) h.is_there
+    all-found SlotRight (is_request r) h.server.slots q
+    (all-found (λ v. AllByRecursion SlotRight v.slots) (is_server t) xs h.server s h.found)
+    h.is_there
 
 pub whole-ready : (l : Lists) (t r : ℕ) → IsWhole l t r → Ready l.servers t r
-whole-ready l t r h = record { request = h.request; stands = record { server = h.server; found = h.found; is_there = h.is_there }; whole = h.whole; unanswered = h.unanswered }
+whole-ready l t r h =
+    record {
+      request = h.request;
+      stands = record {
+        server = h.server;
+        found = h.found;
+        is_there = h.is_there;
+      };
+      whole = h.whole;
+      unanswered = h.unanswered;
+    }
 
 fits-whole : (q : Served) → SlotRight q → q.working ≡ true → q.taken ≡ packet_count q.size
 fits-whole q s w =
     let k = s.working w in
     let high = k.0 in
-    let low : q.taken ≤ packet_count q.size = subst (λ (o : Option (List ℕ)). TakenRight q.taken q.size o) k.1 s.taken in
+    let low : q.taken ≤ packet_count q.size =
+    subst (λ (o : Option (List ℕ)). TakenRight q.taken q.size o) k.1 s.taken in
     omega arith
 
 pub job-ready : (xs : List Server) (job : Job) → SlotsRight xs → JobFits xs job → Ready xs job.session job.request
 job-ready xs job s h =
     let right = stands-right xs job.session job.request h.request s h.stands in
-    record { request = h.request; stands = h.stands; whole = fits-whole h.request right h.working; unanswered = (right.working h.working).1 }
+    record {
+      request = h.request;
+      stands = h.stands;
+      whole = fits-whole h.request right h.working;
+      unanswered = (right.working h.working).1;
+    }
 
 -- the job that finishes
-pub out-job : (l : Lists) (t r : ℕ) (job : Job) → JobsRight l.servers l.jobs → find (is_job t r) l.jobs.out ≡ Some job → JobFits l.servers job
+pub out-job : (l : Lists) (t r : ℕ) (job : Job) → JobsRight l.servers l.jobs
+    → find (is_job t r) l.jobs.out ≡ Some job → JobFits l.servers job
 out-job l t r job j is = all-found (JobFits l.servers) (is_job t r) l.jobs.out job j.out is
 
 -- a job that is found is of that request
-pub job-number : (t r : ℕ) (jobs : List Job) (job : Job) → find (is_job t r) jobs ≡ Some job → (job.session ≡ t) × (job.request ≡ r)
+pub job-number : (t r : ℕ) (jobs : List Job) (job : Job) → find (is_job t r) jobs ≡ Some job
+    → (job.session ≡ t) × (job.request ≡ r)
 job-number t r jobs job is =
     let parts = and_parts (job.session == t) (job.request == r) (find-passes (is_job t r) jobs job is) in
     (eqb-true job.session t parts.0, eqb-true job.request r parts.1)
 
-pub run-ready : (l : Lists) (t r y : ℕ) (ask : List ℕ) → SlotsRight l.servers → JobsRight l.servers l.jobs → MayServe l t r y ask ⊎ MayFinish l t r y ask → Ready l.servers t r
+pub run-ready : (l : Lists) (t r y : ℕ) (ask : List ℕ) → SlotsRight l.servers
+    → JobsRight l.servers l.jobs → MayServe l t r y ask ⊎ MayFinish l t r y ask
+    → Ready l.servers t r
 run-ready l t r y ask s j (inl m) = whole-ready l t r m.has
 run-ready l t r y ask s j (inr m) =
     let of = job-number t r l.jobs.out m.job m.is_out in

@@ -1,5 +1,7 @@
 -- The server rule, read backwards: what its rows say of the packet at the front of the ring.
-use Rattle.std.proofs.Common.{◌≡◌, ◌<◌, ◌==◌, ◌&&◌, ◌||◌, ℕ, nat_lt, Bool, true, false, not, cond, List, [], ◌∷◌, ◌++◌, map, Option, Some, None, refl, sym, ap, ◌∙◌, subst, arith, ltb-true, ltb-false}
+use Rattle.std.proofs.Common.{◌≡◌, ◌<◌, ◌==◌, ◌&&◌, ◌||◌, ℕ, nat_lt, Bool, true, false, not, cond}
+use Rattle.std.proofs.Common.{List, [], ◌∷◌, ◌++◌, map, Option, Some, None, refl, sym, ap, ◌∙◌}
+use Rattle.std.proofs.Common.{subst, arith, ltb-true, ltb-false}
 use Rattle.std.specs.Prelude.{length, option_map}
 use Rattle.std.specs.List.{find, list_any, AllByRecursion}
 use Rattle.std.proofs.lemmas.Bool.{eqb-true, and_parts}
@@ -10,7 +12,9 @@ use Rattle.packet_header.specs.declared.packet.MessageHeader.{MessageHeader}
 use Rattle.rpc_base.specs.declared.event.Event.TheVariants.{Flushed}
 use Rattle.rpc_base.specs.declared.owner.Owner.{Owner}
 use Rattle.rpc_base.specs.declared.owner.Owner.TheVariants.{Reply}
-use Rattle.rpc_base.specs.declared.state.DropReason.TheVariants.{WrongPeer, Old, NotFirst, Unserved, Mismatch, Ahead, Beyond, Working, JobsFull, NoMemory}
+use Rattle.rpc_base.specs.declared.state.DropReason.TheVariants.{WrongPeer, Old, NotFirst, Unserved}
+use Rattle.rpc_base.specs.declared.state.DropReason.TheVariants.{Mismatch, Ahead, Beyond, Working}
+use Rattle.rpc_base.specs.declared.state.DropReason.TheVariants.{JobsFull, NoMemory}
 use Rattle.rpc_base.proofs.TakingLemmas.{find-passes}
 use Rattle.rpc_laws.specs.declared.rows.ServerRow.{ServerRow}
 use Rattle.rpc_laws.specs.declared.rows.ServerRow.TheVariants.{Drops, Begins, Takes, Repeats}
@@ -27,7 +31,9 @@ use Rattle.rpc_laws.specs.Jobs.{are_full}
 use Rattle.rpc_laws.specs.NodeLists.{after}
 use Rattle.rpc_laws.specs.Queues.{numbers_of}
 use Rattle.rpc_laws.specs.Requests.{is_server, is_request, in_slot_of}
-use Rattle.rpc_laws.specs.ServerTable.{is_rfr, is_last, makes_job, is_worked_on, newest_of, new_row, own_row, slot_row, server_row, joined, is_past_end, took_facts, flushes, served_facts}
+use Rattle.rpc_laws.specs.ServerTable.{is_rfr, is_last, makes_job, is_worked_on, newest_of, new_row}
+use Rattle.rpc_laws.specs.ServerTable.{own_row, slot_row, server_row, joined, is_past_end}
+use Rattle.rpc_laws.specs.ServerTable.{took_facts, flushes, served_facts}
 use Rattle.rpc_laws.specs.Service.{is_handled}
 use Rattle.end_laws.proofs.Allowed.{Fronts, GoesOn, TakesOf, WalksFrom, Walks}
 use Rattle.end_laws.specs.Kinds.{is_ask}
@@ -46,7 +52,11 @@ IsAsk Cr = ⊥
 IsAsk Response = ⊥
 
 -- a new request begins
-new-by : (k : Kind) (a w b f g : Bool) → IsAsk k → cond (is_rfr k || not a) (Drops NotFirst) (cond w (Drops Working) (cond (not b) (Drops Unserved) (cond f (Drops JobsFull) (cond g (Drops NoMemory) Begins)))) ≡ Begins → (k ≡ Request) × (a ≡ true) × (w ≡ false)
+new-by : (k : Kind) (a w b f g : Bool) → IsAsk k
+    → cond (is_rfr k || not a) (Drops NotFirst)
+    (cond w (Drops Working) (cond (not b) (Drops Unserved)
+    (cond f (Drops JobsFull) (cond g (Drops NoMemory) Begins)))) ≡ Begins → (k ≡ Request)
+    × (a ≡ true) × (w ≡ false)
 new-by Request true true b f g i h = cc
 new-by Request true false true true g i h = cc
 new-by Request true false true false true i h = cc
@@ -57,7 +67,10 @@ new-by Rfr a w b f g i h = cc
 new-by Cr a w b f g i h = absurd i
 new-by Response a w b f g i h = absurd i
 
-new-not : (a w b f g : Bool) (row : ServerRow) → cond a (Drops NotFirst) (cond w (Drops Working) (cond b (Drops Unserved) (cond f (Drops JobsFull) (cond g (Drops NoMemory) Begins)))) ≡ row → (row ≡ Takes → ⊥) × (row ≡ Repeats → ⊥)
+new-not : (a w b f g : Bool) (row : ServerRow)
+    → cond a (Drops NotFirst) (cond w (Drops Working)
+    (cond b (Drops Unserved) (cond f (Drops JobsFull) (cond g (Drops NoMemory) Begins)))) ≡ row
+    → (row ≡ Takes → ⊥) × (row ≡ Repeats → ⊥)
 new-not true w b f g row h = (λ e. cc, λ e. cc)
 new-not false true b f g row h = (λ e. cc, λ e. cc)
 new-not false false true f g row h = (λ e. cc, λ e. cc)
@@ -67,9 +80,13 @@ new-not false false false false false row h = (λ e. cc, λ e. cc)
 
 -- the rows of the number that stands in its slot
 abbrev own-cond : (a b c w d f g : Bool) → ServerRow
-own-cond a b c w d f g = cond a (Drops Mismatch) (cond b (Drops Ahead) (cond c (cond w (Drops Working) Repeats) (cond d (Drops Beyond) (cond f (Drops JobsFull) (cond g (Drops NoMemory) Takes)))))
+own-cond a b c w d f g =
+    cond a (Drops Mismatch) (cond b (Drops Ahead)
+    (cond c (cond w (Drops Working) Repeats) (cond d (Drops Beyond)
+    (cond f (Drops JobsFull) (cond g (Drops NoMemory) Takes)))))
 
-own-takes : (a b c w d f g : Bool) → own-cond a b c w d f g ≡ Takes → (a ≡ false) × (b ≡ false) × (c ≡ false) × (d ≡ false)
+own-takes : (a b c w d f g : Bool) → own-cond a b c w d f g ≡ Takes → (a ≡ false) × (b ≡ false)
+    × (c ≡ false) × (d ≡ false)
 own-takes true b c w d f g h = cc
 own-takes false true c w d f g h = cc
 own-takes false false true true d f g h = cc
@@ -99,7 +116,10 @@ own-begins false false false w false false true h = cc
 own-begins false false false w false false false h = cc
 
 -- which packets go on
-goes-on : (k : Kind) (q : Served) (h : MessageHeader) → IsAsk k → cond (is_rfr k) (nat_lt h.number (packet_count q.size)) (not (h.req_type == q.req_type && h.size == q.size)) ≡ false → (is_rfr k && is_past_end q.size (option_map length q.answer) h.number) ≡ false → GoesOn k q h
+goes-on : (k : Kind) (q : Served) (h : MessageHeader) → IsAsk k
+    → cond (is_rfr k) (nat_lt h.number (packet_count q.size))
+    (not (h.req_type == q.req_type && h.size == q.size)) ≡ false
+    → (is_rfr k && is_past_end q.size (option_map length q.answer) h.number) ≡ false → GoesOn k q h
 goes-on Request q h i a d =
     let parts = and_parts (h.req_type == q.req_type) (h.size == q.size) (not-false _ a) in
     (eqb-true h.req_type q.req_type parts.0, eqb-true h.size q.size parts.1)
@@ -109,19 +129,32 @@ goes-on Response q h i a d = absurd i
 
 -- the cases of a slot
 abbrev slot-cond : Mode → (full lacks a b : Bool) → Served → MessageHeader → ServerRow
-slot-cond mode full lacks a b q h = cond a (Drops Old) (cond b (new_row mode q.working full lacks h) (own_row mode full lacks (newest_of q) h))
+slot-cond mode full lacks a b q h =
+    cond a (Drops Old) (cond b (new_row mode q.working full lacks h)
+    (own_row mode full lacks (newest_of q) h))
 
-not-new : (mode : Mode) (working full lacks : Bool) (h : MessageHeader) (row : ServerRow) → new_row mode working full lacks h ≡ row → (row ≡ Takes → ⊥) × (row ≡ Repeats → ⊥)
-not-new mode working full lacks h row e = new-not (is_rfr h.kind || not (h.number == 0)) working (not (is_handled mode)) (makes_job mode h && full) lacks row e
+not-new : (mode : Mode) (working full lacks : Bool) (h : MessageHeader) (row : ServerRow)
+    → new_row mode working full lacks h ≡ row → (row ≡ Takes → ⊥) × (row ≡ Repeats → ⊥)
+not-new mode working full lacks h row e =
+    new-not (is_rfr h.kind || not (h.number == 0)) working (not (is_handled mode))
+    (makes_job mode h && full) lacks row e
 
-own-taken : (mode : Mode) (full lacks : Bool) (q : Served) (h : MessageHeader) → IsAsk h.kind → own_row mode full lacks (newest_of q) h ≡ Takes → (h.number ≡ q.taken) × GoesOn h.kind q h
+own-taken : (mode : Mode) (full lacks : Bool) (q : Served) (h : MessageHeader) → IsAsk h.kind
+    → own_row mode full lacks (newest_of q) h ≡ Takes → (h.number ≡ q.taken) × GoesOn h.kind q h
 own-taken mode full lacks q h i e =
-    let t = own-takes (cond (is_rfr h.kind) (nat_lt h.number (packet_count q.size)) (not (h.req_type == q.req_type && h.size == q.size))) (nat_lt q.taken h.number) (nat_lt h.number q.taken) (is_worked_on (newest_of q) h.number) (is_rfr h.kind && is_past_end q.size (option_map length q.answer) h.number) (makes_job mode h && full) (lacks && is_last h) e in
+    let t = own-takes (cond (is_rfr h.kind) (nat_lt h.number (packet_count q.size))
+    (not (h.req_type == q.req_type && h.size == q.size))) (nat_lt q.taken h.number)
+    (nat_lt h.number q.taken) (is_worked_on (newest_of q) h.number)
+    (is_rfr h.kind && is_past_end q.size (option_map length q.answer) h.number)
+    (makes_job mode h && full) (lacks && is_last h) e in
     let low = ltb-false q.taken h.number t.1 in
     let high = ltb-false h.number q.taken t.2 in
     (omega arith, goes-on h.kind q h i t.0 t.3)
 
-slot-takes : (mode : Mode) (full lacks : Bool) (q : Served) (h : MessageHeader) (a b : Bool) → nat_lt h.request q.number ≡ a → nat_lt q.number h.request ≡ b → IsAsk h.kind → slot-cond mode full lacks a b q h ≡ Takes → (q.number ≡ h.request) × (h.number ≡ q.taken) × GoesOn h.kind q h
+slot-takes : (mode : Mode) (full lacks : Bool) (q : Served) (h : MessageHeader) (a b : Bool)
+    → nat_lt h.request q.number ≡ a → nat_lt q.number h.request ≡ b → IsAsk h.kind
+    → slot-cond mode full lacks a b q h ≡ Takes → (q.number ≡ h.request) × (h.number ≡ q.taken)
+    × GoesOn h.kind q h
 slot-takes mode full lacks q h true b s t i e = cc
 slot-takes mode full lacks q h false true s t i e = absurd ((not-new mode q.working full lacks h _ refl).0 e)
 slot-takes mode full lacks q h false false s t i e =
@@ -130,7 +163,9 @@ slot-takes mode full lacks q h false false s t i e =
     let own = own-taken mode full lacks q h i e in
     (omega arith, own.0, own.1)
 
-slot-repeats : (mode : Mode) (full lacks : Bool) (q : Served) (h : MessageHeader) (a b : Bool) → nat_lt h.request q.number ≡ a → nat_lt q.number h.request ≡ b → slot-cond mode full lacks a b q h ≡ Repeats → (q.number ≡ h.request) × (h.number < q.taken)
+slot-repeats : (mode : Mode) (full lacks : Bool) (q : Served) (h : MessageHeader) (a b : Bool)
+    → nat_lt h.request q.number ≡ a → nat_lt q.number h.request ≡ b
+    → slot-cond mode full lacks a b q h ≡ Repeats → (q.number ≡ h.request) × (h.number < q.taken)
 slot-repeats mode full lacks q h true b s t e = cc
 slot-repeats mode full lacks q h false true s t e = absurd ((not-new mode q.working full lacks h _ refl).1 e)
 slot-repeats mode full lacks q h false false s t e =
@@ -139,13 +174,22 @@ slot-repeats mode full lacks q h false false s t e =
     let taken = own-repeats _ _ (nat_lt h.number q.taken) _ _ _ _ e in
     (omega arith, ltb-true h.number q.taken taken)
 
-slot-begins : (mode : Mode) (full lacks : Bool) (q : Served) (h : MessageHeader) (a b : Bool) → nat_lt h.request q.number ≡ a → nat_lt q.number h.request ≡ b → slot-cond mode full lacks a b q h ≡ Begins → (q.number < h.request) × (new_row mode q.working full lacks h ≡ Begins)
+slot-begins : (mode : Mode) (full lacks : Bool) (q : Served) (h : MessageHeader) (a b : Bool)
+    → nat_lt h.request q.number ≡ a → nat_lt q.number h.request ≡ b
+    → slot-cond mode full lacks a b q h ≡ Begins → (q.number < h.request)
+    × (new_row mode q.working full lacks h ≡ Begins)
 slot-begins mode full lacks q h true b s t e = cc
 slot-begins mode full lacks q h false true s t e = (ltb-true q.number h.request t, e)
-slot-begins mode full lacks q h false false s t e = absurd (own-begins (cond (is_rfr h.kind) (nat_lt h.number (packet_count q.size)) (not (h.req_type == q.req_type && h.size == q.size))) (nat_lt q.taken h.number) (nat_lt h.number q.taken) (is_worked_on (newest_of q) h.number) (is_rfr h.kind && is_past_end q.size (option_map length q.answer) h.number) (makes_job mode h && full) (lacks && is_last h) e)
+slot-begins mode full lacks q h false false s t e =
+    absurd (own-begins (cond (is_rfr h.kind) (nat_lt h.number (packet_count q.size))
+    (not (h.req_type == q.req_type && h.size == q.size))) (nat_lt q.taken h.number)
+    (nat_lt h.number q.taken) (is_worked_on (newest_of q) h.number)
+    (is_rfr h.kind && is_past_end q.size (option_map length q.answer) h.number)
+    (makes_job mode h && full) (lacks && is_last h) e)
 
 -- the number that begins doesn't stand yet
-not-there : (r : ℕ) (slots : List Served) (b : Bool) → list_any (is_request r) slots ≡ b → Apart slots → ((q : Served) → find (in_slot_of r) slots ≡ Some q → q.number < r) → b ≡ false
+not-there : (r : ℕ) (slots : List Served) (b : Bool) → list_any (is_request r) slots ≡ b
+    → Apart slots → ((q : Served) → find (in_slot_of r) slots ≡ Some q → q.number < r) → b ≡ false
 not-there r slots true t a low =
     let f = find-any (is_request r) slots t in
     let lt = low f.0 (slot-of-request r slots f.0 a f.1) in
@@ -153,12 +197,21 @@ not-there r slots true t a low =
     absurd (omega arith)
 not-there r slots false t a low = refl
 
-begins-of : (mode : Mode) (working full lacks : Bool) (h : MessageHeader) (slots : List Served) → IsAsk h.kind → Apart slots → new_row mode working full lacks h ≡ Begins → ((q : Served) → find (in_slot_of h.request) slots ≡ Some q → (q.number < h.request) × (q.working ≡ working)) → TakesOf None slots h
+begins-of : (mode : Mode) (working full lacks : Bool) (h : MessageHeader) (slots : List Served)
+    → IsAsk h.kind → Apart slots → new_row mode working full lacks h ≡ Begins
+    → ((q : Served) → find (in_slot_of h.request) slots ≡ Some q → (q.number < h.request)
+    × (q.working ≡ working)) → TakesOf None slots h
 begins-of mode working full lacks h slots i a e low =
-    let n = new-by h.kind (h.number == 0) working (is_handled mode) (makes_job mode h && full) lacks i e in
-    (n.0, eqb-true h.number 0 n.1, not-there h.request slots _ refl a (λ q f. (low q f).0), λ q f. ((low q f).0, (low q f).1 ∙ n.2))
+    let n = new-by h.kind (h.number == 0) working (is_handled mode) (makes_job mode h && full) lacks i e in (
+      n.0,
+      eqb-true h.number 0 n.1,
+      not-there h.request slots _ refl a (λ q f. (low q f).0),
+      λ q f. ((low q f).0, (low q f).1 ∙ n.2),
+    )
 
-pub row-begins : (mode : Mode) (full lacks : Bool) (h : MessageHeader) (slots : List Served) (q : Option Served) → find (in_slot_of h.request) slots ≡ q → IsAsk h.kind → Apart slots → slot_row mode full lacks q h ≡ Begins → TakesOf None slots h
+pub row-begins : (mode : Mode) (full lacks : Bool) (h : MessageHeader) (slots : List Served)
+    (q : Option Served) → find (in_slot_of h.request) slots ≡ q → IsAsk h.kind → Apart slots
+    → slot_row mode full lacks q h ≡ Begins → TakesOf None slots h
 row-begins mode full lacks h slots None is i a e = begins-of mode false full lacks h slots i a e (λ q f. cc)
 row-begins mode full lacks h slots (Some l) is i a e =
     let s = slot-begins mode full lacks l h _ _ refl refl e in
@@ -170,32 +223,56 @@ pub record Standing (slots : List Served) (h : MessageHeader) (q : Served) : Typ
   pub in_slot : find (in_slot_of h.request) slots ≡ Some q
   pub number : q.number ≡ h.request
 
-pub row-takes : (mode : Mode) (full lacks : Bool) (h : MessageHeader) (slots : List Served) (q : Option Served) → find (in_slot_of h.request) slots ≡ q → IsAsk h.kind → slot_row mode full lacks q h ≡ Takes → (l : Served) × TakesOf (Some l) slots h
+pub row-takes : (mode : Mode) (full lacks : Bool) (h : MessageHeader) (slots : List Served)
+    (q : Option Served) → find (in_slot_of h.request) slots ≡ q → IsAsk h.kind
+    → slot_row mode full lacks q h ≡ Takes → (l : Served) × TakesOf (Some l) slots h
 row-takes mode full lacks h slots None is i e = absurd ((not-new mode false full lacks h _ refl).0 e)
 row-takes mode full lacks h slots (Some l) is i e =
     let s = slot-takes mode full lacks l h _ _ refl refl i e in
     (l, (request-of-slot h.request slots l is s.0, s.1, s.2))
 
-pub row-repeats : (mode : Mode) (full lacks : Bool) (h : MessageHeader) (slots : List Served) (q : Option Served) → find (in_slot_of h.request) slots ≡ q → slot_row mode full lacks q h ≡ Repeats → (l : Served) × Standing slots h l × (h.number < l.taken)
+pub row-repeats : (mode : Mode) (full lacks : Bool) (h : MessageHeader) (slots : List Served)
+    (q : Option Served) → find (in_slot_of h.request) slots ≡ q
+    → slot_row mode full lacks q h ≡ Repeats → (l : Served) × Standing slots h l
+    × (h.number < l.taken)
 row-repeats mode full lacks h slots None is e = absurd ((not-new mode false full lacks h _ refl).1 e)
 row-repeats mode full lacks h slots (Some l) is e =
     let s = slot-repeats mode full lacks l h _ _ refl refl e in
     (l, record { in_slot = is; number = s.0 }, s.1)
 
 -- the older replies are flushed first
-flushed-then : (hand : Option InFlight) (latest : Option Fact) (clock : ℕ) (l : Lists) (front : Arrival) (h : MessageHeader) (v : Server) (going : Option Served) (answer : List ℕ) (owner : Owner) (ks : List ℕ) → Taking l front h v going → WalksFrom hand latest clock l (map (λ k. plain l.me (Flushed owner k)) ks ++ took_facts (plain_mode h.req_type) l.me answer h (joined going (front_body l.ring)))
-flushed-then hand latest clock l front h v going answer owner [] t = took-walk hand latest clock l front h v going answer t
+flushed-then : (hand : Option InFlight) (latest : Option Fact) (clock : ℕ) (l : Lists)
+    (front : Arrival) (h : MessageHeader) (v : Server) (going : Option Served) (answer : List ℕ)
+    (owner : Owner) (ks : List ℕ) → Taking l front h v going
+    → WalksFrom hand latest clock l (map (λ k. plain l.me (Flushed owner k)) ks
+    ++ took_facts (plain_mode h.req_type) l.me answer h (joined going (front_body l.ring)))
+flushed-then hand latest clock l front h v going answer owner [] t =
+    took-walk hand latest clock l front h v going answer t
 flushed-then hand latest clock l front h v going answer owner (k ∷ ks) t = (
   record { who = refl; may = tt },
   tt,
-  flushed-then hand (Some (plain l.me (Flushed owner k))) clock (after clock l (plain l.me (Flushed owner k))) front h v going answer owner ks
-      (record { is_front = record { is_front = t.is_front.is_front; reads = t.is_front.reads }; found = t.found; of_peer = t.of_peer; takes = t.takes; apart = t.apart; right = t.right }),
+  flushed-then hand (Some (plain l.me (Flushed owner k))) clock
+      (after clock l (plain l.me (Flushed owner k))) front h v going answer owner ks
+      (record {
+        is_front = record { is_front = t.is_front.is_front; reads = t.is_front.reads };
+        found = t.found;
+        of_peer = t.of_peer;
+        takes = t.takes;
+        apart = t.apart;
+        right =
+            t.right;
+      }),
 )
 
-flushes-then : (hand : Option InFlight) (clock : ℕ) (l : Lists) (front : Arrival) (h : MessageHeader) (v : Server) (going : Option Served) (answer : List ℕ) (session : ℕ) (old : Option Served) → Taking l front h v going → Walks hand clock l (flushes l.me l.queued session old ++ took_facts (plain_mode h.req_type) l.me answer h (joined going (front_body l.ring)))
+flushes-then : (hand : Option InFlight) (clock : ℕ) (l : Lists) (front : Arrival)
+    (h : MessageHeader) (v : Server) (going : Option Served) (answer : List ℕ) (session : ℕ)
+    (old : Option Served) → Taking l front h v going
+    → Walks hand clock l (flushes l.me l.queued session old
+    ++ took_facts (plain_mode h.req_type) l.me answer h (joined going (front_body l.ring)))
 flushes-then hand clock l front h v going answer session None t = took-walk hand None clock l front h v going answer t
 flushes-then hand clock l front h v going answer session (Some q) t =
-    flushed-then hand None clock l front h v going answer (Reply session q.number) (numbers_of (Reply session q.number) l.queued) t
+    flushed-then hand None clock l front h v going answer (Reply session q.number)
+    (numbers_of (Reply session q.number) l.queued) t
 
 asks-kind : (k : Kind) → IsAsk k → is_ask k ≡ true
 asks-kind Request i = refl
@@ -204,30 +281,105 @@ asks-kind Cr i = absurd i
 asks-kind Response i = absurd i
 
 -- the facts of a row
-row-walk : (hand : Option InFlight) (clock : ℕ) (l : Lists) (front : Arrival) (h : MessageHeader) (v : Server) (full lacks : Bool) (answer : List ℕ) (row : ServerRow) → Fronts l front h → IsAsk h.kind → find (is_server h.session) l.servers ≡ Some v → front.peer ≡ v.way.peer → Apart v.slots → AllByRecursion SlotRight v.slots → slot_row (plain_mode h.req_type) full lacks (find (in_slot_of h.request) v.slots) h ≡ row → Walks hand clock l (served_facts (plain_mode h.req_type) l.me answer l.queued (Some v) h (front_body l.ring) row)
-row-walk hand clock l front h v full lacks answer (Drops why) f i found peer a right e = (record { who = refl; may = tt }, tt, tt)
+row-walk : (hand : Option InFlight) (clock : ℕ) (l : Lists) (front : Arrival) (h : MessageHeader)
+    (v : Server) (full lacks : Bool) (answer : List ℕ) (row : ServerRow) → Fronts l front h
+    → IsAsk h.kind → find (is_server h.session) l.servers ≡ Some v → front.peer ≡ v.way.peer
+    → Apart v.slots → AllByRecursion SlotRight v.slots
+    → slot_row (plain_mode h.req_type) full lacks (find (in_slot_of h.request) v.slots) h ≡ row
+    → Walks hand clock l (served_facts (plain_mode h.req_type) l.me answer l.queued (Some v) h
+    (front_body l.ring) row)
+row-walk hand clock l front h v full lacks answer (Drops why) f i found peer a right e =
+    (record { who = refl; may = tt }, tt, tt)
 row-walk hand clock l front h v full lacks answer Begins f i found peer a right e =
     let t = row-begins (plain_mode h.req_type) full lacks h v.slots _ refl i a e in
-    flushes-then hand clock l front h v None answer v.way.number (find (in_slot_of h.request) v.slots) (record { is_front = f; found = found; of_peer = peer; takes = t; apart = a; right = right })
+    flushes-then hand clock l front h v None answer v.way.number
+    (find (in_slot_of h.request) v.slots)
+    (record {
+      is_front = f;
+      found = found;
+      of_peer = peer;
+      takes = t;
+      apart = a;
+      right = right;
+    })
 row-walk hand clock l front h v full lacks answer Takes f i found peer a right e =
     let t = row-takes (plain_mode h.req_type) full lacks h v.slots _ refl i e in
     let there : find (is_request h.request) v.slots ≡ Some t.0 = t.1.0 in
-    rw there (took-walk hand None clock l front h v (Some t.0) answer (record { is_front = f; found = found; of_peer = peer; takes = t.1; apart = a; right = right }))
+    rw there (took-walk hand None clock l front h v (Some t.0) answer
+    (record {
+      is_front = f;
+      found = found;
+      of_peer = peer;
+      takes = t.1;
+      apart = a;
+      right = right;
+    }))
 row-walk hand clock l front h v full lacks answer Repeats f i found peer a right e =
-    let t = row-repeats (plain_mode h.req_type) full lacks h v.slots _ refl e in
-    (record { who = refl; may = record { front = front; header = h; is_front = f; of_session = refl; of_request = refl; of_number = refl; asks = asks-kind h.kind i } }, tt, (record { who = refl; may = record { server = v; found = found; request = t.0; in_slot = t.1.in_slot; number = t.1.number; was_taken = t.2 } }, owed-self l.me h.session h.request h.number, tt))
+    let t = row-repeats (plain_mode h.req_type) full lacks h v.slots _ refl e in (
+      record {
+        who = refl;
+        may = record {
+          front = front;
+          header = h;
+          is_front = f;
+          of_session = refl;
+          of_request = refl;
+          of_number = refl;
+          asks = asks-kind h.kind i;
+        };
+      },
+      tt,
+      (
+        record {
+          who = refl;
+          may = record {
+            server = v;
+            found = found;
+            request = t.0;
+            in_slot = t.1.in_slot;
+            number = t.1.number;
+            was_taken = t.2;
+          };
+        },
+        owed-self l.me h.session
+            h.request h.number,
+        tt,
+      ),
+    )
 
-peer-walk : (hand : Option InFlight) (clock : ℕ) (l : Lists) (front : Arrival) (h : MessageHeader) (v : Server) (full lacks b : Bool) (answer : List ℕ) → (v.way.peer == front.peer) ≡ b → Fronts l front h → IsAsk h.kind → find (is_server h.session) l.servers ≡ Some v → Apart v.slots → AllByRecursion SlotRight v.slots → Walks hand clock l (served_facts (plain_mode h.req_type) l.me answer l.queued (Some v) h (front_body l.ring) (cond (not b) (Drops WrongPeer) (slot_row (plain_mode h.req_type) full lacks (find (in_slot_of h.request) v.slots) h)))
+peer-walk : (hand : Option InFlight) (clock : ℕ) (l : Lists) (front : Arrival) (h : MessageHeader)
+    (v : Server) (full lacks b : Bool) (answer : List ℕ) → (v.way.peer == front.peer) ≡ b
+    → Fronts l front h → IsAsk h.kind → find (is_server h.session) l.servers ≡ Some v
+    → Apart v.slots → AllByRecursion SlotRight v.slots
+    → Walks hand clock l (served_facts (plain_mode h.req_type) l.me answer l.queued (Some v) h
+    (front_body l.ring) (cond (not b) (Drops WrongPeer)
+    (slot_row (plain_mode h.req_type) full lacks (find (in_slot_of h.request) v.slots) h)))
 peer-walk hand clock l front h v full lacks true answer t f i found a right =
-    row-walk hand clock l front h v full lacks answer (slot_row (plain_mode h.req_type) full lacks (find (in_slot_of h.request) v.slots) h) f i found (sym (eqb-true v.way.peer front.peer t)) a right refl
-peer-walk hand clock l front h v full lacks false answer t f i found a right = (record { who = refl; may = tt }, tt, tt)
+    row-walk hand clock l front h v full lacks answer
+    (slot_row (plain_mode h.req_type) full lacks (find (in_slot_of h.request) v.slots) h) f i
+    found (sym (eqb-true v.way.peer front.peer t)) a right refl
+peer-walk hand clock l front h v full lacks false answer t f i found a right =
+    (record { who = refl; may = tt }, tt, tt)
 
-session-walk : (hand : Option InFlight) (clock : ℕ) (l : Lists) (front : Arrival) (h : MessageHeader) (full lacks : Bool) (answer : List ℕ) (v : Option Server) → find (is_server h.session) l.servers ≡ v → Fronts l front h → IsAsk h.kind → Sound l → SlotsRight l.servers → Walks hand clock l (served_facts (plain_mode h.req_type) l.me answer l.queued v h (front_body l.ring) (server_row (plain_mode h.req_type) full lacks v front.peer h))
+session-walk : (hand : Option InFlight) (clock : ℕ) (l : Lists) (front : Arrival)
+    (h : MessageHeader) (full lacks : Bool) (answer : List ℕ) (v : Option Server)
+    → find (is_server h.session) l.servers ≡ v → Fronts l front h → IsAsk h.kind → Sound l
+    → SlotsRight l.servers
+    → Walks hand clock l (served_facts (plain_mode h.req_type) l.me answer l.queued v h
+    (front_body l.ring) (server_row (plain_mode h.req_type) full lacks v front.peer h))
 session-walk hand clock l front h full lacks answer None is f i s right = (record { who = refl; may = tt }, tt, tt)
 session-walk hand clock l front h full lacks answer (Some v) is f i s right =
-    peer-walk hand clock l front h v full lacks _ answer refl f i is (all-found (λ v. Apart v.slots) (is_server h.session) l.servers v s is)
+    peer-walk hand clock l front h v full lacks _ answer refl f i is
+    (all-found (λ v. Apart v.slots) (is_server h.session) l.servers v s is)
     (all-found (λ v. AllByRecursion SlotRight v.slots) (is_server h.session) l.servers v right is)
 
 -- a Request or an RFR is handled
-pub asks-walk : (hand : Option InFlight) (clock : ℕ) (l : Lists) (front : Arrival) (h : MessageHeader) (lacks : Bool) (answer : List ℕ) → Fronts l front h → IsAsk h.kind → Sound l → SlotsRight l.servers → Walks hand clock l (served_facts (plain_mode h.req_type) l.me answer l.queued (find (is_server h.session) l.servers) h (front_body l.ring) (server_row (plain_mode h.req_type) (are_full l.jobs) lacks (find (is_server h.session) l.servers) front.peer h))
-asks-walk hand clock l front h lacks answer f i s right = session-walk hand clock l front h (are_full l.jobs) lacks answer _ refl f i s right
+pub asks-walk : (hand : Option InFlight) (clock : ℕ) (l : Lists) (front : Arrival)
+    (h : MessageHeader) (lacks : Bool) (answer : List ℕ) → Fronts l front h → IsAsk h.kind → Sound l
+    → SlotsRight l.servers
+    → Walks hand clock l (served_facts (plain_mode h.req_type) l.me answer l.queued
+    (find (is_server h.session) l.servers) h (front_body l.ring)
+    (server_row (plain_mode h.req_type) (are_full l.jobs) lacks
+    (find (is_server h.session) l.servers) front.peer h))
+asks-walk hand clock l front h lacks answer f i s right =
+    session-walk hand clock l front h (are_full l.jobs) lacks answer _ refl f i s right

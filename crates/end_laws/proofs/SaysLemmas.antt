@@ -1,5 +1,6 @@
 -- What is sent says what is so.
-use Rattle.std.proofs.Common.{◌≡◌, ◌+◌, ◌-◌, ℕ, nat_lt, Bool, true, false, cond, List, [], ◌++◌, length, Option, Some, None, refl, sym, ap, ◌∙◌, subst}
+use Rattle.std.proofs.Common.{◌≡◌, ◌+◌, ◌-◌, ℕ, nat_lt, Bool, true, false, cond, List, [], ◌++◌}
+use Rattle.std.proofs.Common.{length, Option, Some, None, refl, sym, ap, ◌∙◌, subst}
 use Rattle.std.specs.Prelude.{IfSome, option_map}
 use Rattle.std.specs.List.{find, AllByRecursion}
 use Rattle.std.proofs.lemmas.Bool.{eqb-true}
@@ -29,7 +30,8 @@ use Rattle.rpc_laws.specs.Requests.{is_server, is_request}
 use Rattle.rpc_laws.specs.Sessions.{is_client}
 use Rattle.end_laws.proofs.Allowed.{MaySend}
 use Rattle.end_laws.proofs.ClientLemmas.{client-at}
-use Rattle.end_laws.proofs.Known.{Known, HasRun, SaysResponse, Says, Speaks, GoodProgress, GoodCall, GoodClient, GoodServed, GoodNode}
+use Rattle.end_laws.proofs.Known.{Known, HasRun, SaysResponse, Says, Speaks, GoodProgress, GoodCall}
+use Rattle.end_laws.proofs.Known.{GoodClient, GoodServed, GoodNode}
 use Rattle.end_laws.proofs.ListLemmas.{all-found}
 use Rattle.end_laws.proofs.ServerLemmas.{server-at}
 
@@ -45,7 +47,33 @@ module _ (k : Known) (n : ℕ) where
   some-says : (a b : Outgoing) → Some a ≡ Some b → OutSays a → OutSays b
   some-says a b e h = let same : a ≡ b = cc in subst OutSays same h
 
-  client-says : (b : Bool) (i : ℕ) (x : Client) (c : Call) (r j : ℕ) → GoodClient k n i x → k.starts n x.way.number r ≡ Some (record { way = x.way; what = c.what }) → OutSays (cond b (record { peer = x.way.peer; packet = Message (record { kind = Request; req_type = c.what.req_type; size = length c.what.ask; session = x.way.other; number = j; request = r }); body = part c.what.ask j }) (record { peer = x.way.peer; packet = Message (record { kind = Rfr; req_type = 0; size = 0; session = x.way.other; number = j; request = r }); body = [] }))
+  client-says : (b : Bool) (i : ℕ) (x : Client) (c : Call) (r j : ℕ) → GoodClient k n i x
+      → k.starts n x.way.number r ≡ Some (record { way = x.way; what = c.what })
+      → OutSays (cond b (record {
+        peer = x.way.peer;
+        packet = Message (record {
+          kind = Request;
+          req_type = c.what.req_type;
+          size = length c.what.ask;
+          session = x.way.other;
+          number = j;
+          request = r;
+        });
+        body = part
+            c.what.ask j;
+      }) (record {
+        peer = x.way.peer;
+        packet =
+            Message (record {
+              kind = Rfr;
+              req_type = 0;
+              size = 0;
+              session = x.way.other;
+              number = j;
+              request = r;
+            });
+        body = [];
+      }))
   client-says true i x c r j g begun = record {
     session = x.way.number;
     start = record { way = x.way; what = c.what };
@@ -58,22 +86,42 @@ module _ (k : Known) (n : ℕ) where
   }
   client-says false i x c r j g begun = tt
 
-  call-begun : (way : Way) (a : Asking) (p : Option Progress) (r : ℕ) → has_request r p ≡ true → IfSome p (GoodProgress k n way a) → k.starts n way.number r ≡ Some (record { way = way; what = a })
+  call-begun : (way : Way) (a : Asking) (p : Option Progress) (r : ℕ) → has_request r p ≡ true
+      → IfSome p (GoodProgress k n way a)
+      → k.starts n way.number r ≡ Some (record { way = way; what = a })
   call-begun way a None r t h = cc
-  call-begun way a (Some p) r t h = subst (λ (q : ℕ). k.starts n way.number q ≡ Some (record { way = way; what = a })) (eqb-true p.request r t) h.begun
+  call-begun way a (Some p) r t h =
+      subst (λ (q : ℕ). k.starts n way.number q ≡ Some (record { way = way; what = a }))
+      (eqb-true p.request r t) h.begun
 
-  call-says : (i : ℕ) (x : Client) (r j : ℕ) (c : Option Call) (out : Outgoing) → GoodClient k n i x → find (is_active r) x.calls ≡ c → call_packet x.way r j c ≡ Some out → OutSays out
+  call-says : (i : ℕ) (x : Client) (r j : ℕ) (c : Option Call) (out : Outgoing) → GoodClient k n i x
+      → find (is_active r) x.calls ≡ c → call_packet x.way r j c ≡ Some out → OutSays out
   call-says i x r j None out g is h = cc
   call-says i x r j (Some c) out g is h =
       let call = all-found (GoodCall k n x.way) (is_active r) x.calls c g.calls is in
-      some-says (client_packet x.way c.what r j) out h (client-says (nat_lt j (asked_packets c.what)) i x c r j g (call-begun x.way c.what c.progress r (find-passes (is_active r) x.calls c is) call.progress))
+      some-says (client_packet x.way c.what r j) out h
+      (client-says (nat_lt j (asked_packets c.what)) i x c r j g
+      (call-begun x.way c.what c.progress r (find-passes (is_active r) x.calls c is)
+      call.progress))
 
-  ask-says : (l : Lists) (s r j : ℕ) (x : Option Client) (out : Outgoing) → GoodNode k n l → find (is_client s) l.clients ≡ x → ask_packet r j x ≡ Some out → OutSays out
+  ask-says : (l : Lists) (s r j : ℕ) (x : Option Client) (out : Outgoing) → GoodNode k n l
+      → find (is_client s) l.clients ≡ x → ask_packet r j x ≡ Some out → OutSays out
   ask-says l s r j None out g is h = cc
-  ask-says l s r j (Some x) out g is h = call-says s x r j _ out (g.clients s x ((client-at k n l.clients s x g.clients is).0)) refl h
+  ask-says l s r j (Some x) out g is h =
+      call-says s x r j _ out (g.clients s x ((client-at k n l.clients s x g.clients is).0)) refl h
 
   -- a Response is of the answer of its run
-  answer-says : (way : Way) (q : Served) (j : ℕ) (answer : List ℕ) → (g : GoodServed k n way q) → HasRun k n way.number q.number g.start.what answer → SaysResponse k n way.peer (record { kind = Response; req_type = q.req_type; size = length answer; session = way.other; number = j; request = q.number }) (part answer (j + 1 - packet_count q.size))
+  answer-says : (way : Way) (q : Served) (j : ℕ) (answer : List ℕ) → (g : GoodServed k n way q)
+      → HasRun k n way.number q.number g.start.what answer
+      → SaysResponse k n way.peer (record {
+        kind = Response;
+        req_type = q.req_type;
+        size = length answer;
+        session = way.other;
+        number = j;
+        request = q.number;
+      })
+      (part answer (j + 1 - packet_count q.size))
   answer-says way q j answer g run =
       let a = g.start.what in
       record {
@@ -86,44 +134,89 @@ module _ (k : Known) (n : ℕ) where
         piece = ap (λ (s : ℕ). part answer (j + 1 - packet_count s)) g.size;
       }
 
-  some-run : (way : Way) (q : Served) (answer : Option (List ℕ)) (a : List ℕ) (what : Asking) → q.answer ≡ answer → answer ≡ Some a → IfSome q.answer (HasRun k n way.number q.number what) → HasRun k n way.number q.number what a
+  some-run : (way : Way) (q : Served) (answer : Option (List ℕ)) (a : List ℕ) (what : Asking)
+      → q.answer ≡ answer → answer ≡ Some a → IfSome q.answer (HasRun k n way.number q.number what)
+      → HasRun k n way.number q.number what a
   some-run way q answer a what e f h =
       subst (λ (o : Option (List ℕ)). IfSome o (HasRun k n way.number q.number what)) (e ∙ f) h
 
-  server-says : (b : Bool) (way : Way) (q : Served) (j : ℕ) (answer : Option (List ℕ)) (out : Outgoing) → q.answer ≡ answer → GoodServed k n way q → cond b (Some (record { peer = way.peer; packet = Message (record { kind = Cr; req_type = 0; size = 0; session = way.other; number = j; request = q.number }); body = [] })) (option_map (λ answer. record { peer = way.peer; packet = Message (record { kind = Response; req_type = q.req_type; size = length answer; session = way.other; number = j; request = q.number }); body = part answer (j + 1 - packet_count q.size) }) answer) ≡ Some out → OutSays out
+  server-says : (b : Bool) (way : Way) (q : Served) (j : ℕ) (answer : Option (List ℕ))
+      (out : Outgoing) → q.answer ≡ answer → GoodServed k n way q
+      → cond b (Some (record {
+        peer = way.peer;
+        packet = Message (record {
+          kind = Cr;
+          req_type = 0;
+          size = 0;
+          session = way.other;
+          number = j;
+          request = q.number;
+        });
+        body = [];
+      })) (option_map
+      (λ answer. record {
+        peer = way.peer;
+        packet = Message
+            (record {
+              kind = Response;
+              req_type = q.req_type;
+              size = length answer;
+              session = way.other;
+              number = j;
+              request = q.number;
+            });
+        body = part answer (j + 1 - packet_count q.size);
+      }) answer)
+      ≡ Some out → OutSays out
   server-says true way q j answer out e g h = some-says _ out h tt
   server-says false way q j None out e g h = cc
   server-says false way q j (Some a) out e g h =
       some-says _ out h (answer-says way q j a g (some-run way q (Some a) a g.start.what e refl g.answer))
 
-  request-says : (way : Way) (slots : List Served) (r j : ℕ) (q : Option Served) (out : Outgoing) → AllByRecursion (GoodServed k n way) slots → find (is_request r) slots ≡ q → request_packet way j q ≡ Some out → OutSays out
+  request-says : (way : Way) (slots : List Served) (r j : ℕ) (q : Option Served) (out : Outgoing)
+      → AllByRecursion (GoodServed k n way) slots → find (is_request r) slots ≡ q
+      → request_packet way j q ≡ Some out → OutSays out
   request-says way slots r j None out g is h = cc
   request-says way slots r j (Some q) out g is h =
-      server-says (nat_lt (j + 1) (packet_count q.size)) way q j q.answer out refl (all-found (GoodServed k n way) (is_request r) slots q g is) h
+      server-says (nat_lt (j + 1) (packet_count q.size)) way q j q.answer out refl
+      (all-found (GoodServed k n way) (is_request r) slots q g is) h
 
-  reply-says : (l : Lists) (t r j : ℕ) (v : Option Server) (out : Outgoing) → GoodNode k n l → find (is_server t) l.servers ≡ v → reply_packet r j v ≡ Some out → OutSays out
+  reply-says : (l : Lists) (t r j : ℕ) (v : Option Server) (out : Outgoing) → GoodNode k n l
+      → find (is_server t) l.servers ≡ v → reply_packet r j v ≡ Some out → OutSays out
   reply-says l t r j None out g is h = cc
   reply-says l t r j (Some v) out g is h =
       let server = g.servers t v ((server-at k n l.servers t v g.servers is).0) in
       request-says v.way v.slots r j _ out server.slots refl h
 
-  owner-says : (l : Lists) (o : Owner) (j : ℕ) (out : Outgoing) → GoodNode k n l → owner_packet l o j ≡ Some out → OutSays out
+  owner-says : (l : Lists) (o : Owner) (j : ℕ) (out : Outgoing) → GoodNode k n l
+      → owner_packet l o j ≡ Some out → OutSays out
   owner-says l (Ask s r) j out g h = ask-says l s r j _ out g refl h
   owner-says l (Reply t r) j out g h = reply-says l t r j _ out g refl h
   owner-says l OfControl j out g h = cc
 
   -- read back
-  packet-speaks : (p : Packet) (to : ℕ) (head body : List ℕ) → InRange p → HasHead p head → length head ≡ 16 → HasLength p (16 + length body) → PacketSays k n to p body → Speaks k n to (head ++ body)
+  packet-speaks : (p : Packet) (to : ℕ) (head body : List ℕ) → InRange p → HasHead p head
+      → length head ≡ 16 → HasLength p (16 + length body) → PacketSays k n to p body
+      → Speaks k n to (head ++ body)
   packet-speaks (Message m) to head body range has long len s =
-      let reads : message_of (head ++ body) ≡ Some m = ap message_in (decoded-append (Message m) head body range has long len) in
-      let now : Says m.kind k n to m (body_of (head ++ body)) = subst (λ (b : List ℕ). Says m.kind k n to m b) (sym (body_of-append head body long)) s in
-      subst (λ (o : Option MessageHeader). IfSome o (λ h. Says h.kind k n to h (body_of (head ++ body)))) (sym reads) now
+      let reads : message_of (head ++ body) ≡ Some m =
+      ap message_in (decoded-append (Message m) head body range has long len) in
+      let now : Says m.kind k n to m (body_of (head ++ body)) =
+      subst (λ (b : List ℕ). Says m.kind k n to m b)
+      (sym (body_of-append head body long)) s in
+      subst (λ (o : Option MessageHeader). IfSome o
+      (λ h. Says h.kind k n to h (body_of (head ++ body)))) (sym reads) now
   packet-speaks (Control c) to head body range has long len s =
-      let reads : message_of (head ++ body) ≡ None = ap message_in (decoded-append (Control c) head body range has long len) in
-      subst (λ (o : Option MessageHeader). IfSome o (λ h. Says h.kind k n to h (body_of (head ++ body)))) (sym reads) tt
+      let reads : message_of (head ++ body) ≡ None =
+      ap message_in (decoded-append (Control c) head body range has long len) in
+      subst (λ (o : Option MessageHeader). IfSome o
+      (λ h. Says h.kind k n to h (body_of (head ++ body)))) (sym reads) tt
 
-  pub sent-speaks : (l : Lists) (peer : ℕ) (o : Owner) (j : ℕ) (head body : List ℕ) → GoodNode k n l → (m : MaySend l peer o j head body) → HasLength m.out.packet (16 + length m.out.body) → Speaks k n peer (head ++ body)
+  pub sent-speaks : (l : Lists) (peer : ℕ) (o : Owner) (j : ℕ) (head body : List ℕ) → GoodNode k n l
+      → (m : MaySend l peer o j head body) → HasLength m.out.packet (16 + length m.out.body)
+      → Speaks k n peer (head ++ body)
   sent-speaks l peer o j head body g m len =
       let says = owner-says l o j m.out g m.own in
       let now = packet-speaks m.out.packet m.out.peer head m.out.body m.in_range m.has_head m.long len says in
-      subst (λ (p : ℕ). Speaks k n p (head ++ body)) (sym m.to_peer) (subst (λ (b : List ℕ). Speaks k n m.out.peer (head ++ b)) (sym m.whole) now)
+      subst (λ (p : ℕ). Speaks k n p (head ++ body)) (sym m.to_peer)
+      (subst (λ (b : List ℕ). Speaks k n m.out.peer (head ++ b)) (sym m.whole) now)

@@ -1,5 +1,7 @@
 -- What is sent spells the packet of its owner.
-use Rattle.std.proofs.Common.{◌≡◌, ◌<◌, ◌+◌, ◌-◌, ℕ, nat_lt, Bool, true, false, cond, List, [], ◌∷◌, ◌++◌, length, Option, Some, None, slice_get, refl, sym, ap, ◌∙◌, subst, arith}
+use Rattle.std.proofs.Common.{◌≡◌, ◌<◌, ◌+◌, ◌-◌, ℕ, nat_lt, Bool, true, false, cond, List, [], ◌∷◌}
+use Rattle.std.proofs.Common.{◌++◌, length, Option, Some, None, slice_get, refl, sym, ap, ◌∙◌}
+use Rattle.std.proofs.Common.{subst, arith}
 use Rattle.std.specs.Prelude.{option_map}
 use Rattle.std.specs.List.{find, slice_set, AllByRecursion}
 use Rattle.std.proofs.lemmas.Bool.{eqb-true}
@@ -37,10 +39,13 @@ use Rattle.rpc_laws.specs.Requests.{is_server, is_request, in_slot_of}
 use Rattle.rpc_laws.specs.Sessions.{is_client}
 use Rattle.end_laws.specs.Moments.{Moment, moved}
 use Rattle.end_laws.proofs.Allowed.{May, MaySend}
-use Rattle.end_laws.proofs.Courses.{AtNode, Ends, Course, over, in_net, made, at_node, pairs, client_fact, server_fact, paired, noted_at, moved-node}
+use Rattle.end_laws.proofs.Courses.{AtNode, Ends, Course, over, in_net, made, at_node, pairs}
+use Rattle.end_laws.proofs.Courses.{client_fact, server_fact, paired, noted_at, moved-node}
 use Rattle.end_laws.proofs.JobLemmas.{jobs-right, jobs-added}
-use Rattle.end_laws.proofs.ListLemmas.{Placed, all-found, all-map, all-at, all-add, set-other, set-placed, add-placed, find-add}
-use Rattle.end_laws.proofs.QueueLemmas.{Stood, QueueRight, RightNode, slots-right, queue-after, queued-right, numbers-right}
+use Rattle.end_laws.proofs.ListLemmas.{Placed, all-found, all-map, all-at, all-add, set-other}
+use Rattle.end_laws.proofs.ListLemmas.{set-placed, add-placed, find-add}
+use Rattle.end_laws.proofs.QueueLemmas.{Stood, QueueRight, RightNode, slots-right, queue-after}
+use Rattle.end_laws.proofs.QueueLemmas.{queued-right, numbers-right}
 use Rattle.end_laws.proofs.Rights.{TakenRight, SlotRight}
 use Rattle.end_laws.proofs.SlotLemmas.{Apart, sound-stays, slot-of-request}
 use Rattle.end_laws.proofs.Walks.{Stays}
@@ -49,11 +54,30 @@ abbrev pub HasBody : Outgoing → Type 0
 HasBody out = HasLength out.packet (16 + length out.body)
 
 -- a client packet
-client-length : (b : Bool) (way : Way) (a : Asking) (r k : ℕ) → HasBody (cond b (record { peer = way.peer; packet = Message (record { kind = Request; req_type = a.req_type; size = length a.ask; session = way.other; number = k; request = r }); body = part a.ask k }) (record { peer = way.peer; packet = Message (record { kind = Rfr; req_type = 0; size = 0; session = way.other; number = k; request = r }); body = [] }))
+client-length : (b : Bool) (way : Way) (a : Asking) (r k : ℕ)
+    → HasBody (cond b (record {
+      peer = way.peer;
+      packet = Message (record {
+        kind = Request;
+        req_type = a.req_type;
+        size = length a.ask;
+        session = way.other;
+        number = k;
+        request = r;
+      });
+      body = part a.ask k;
+    })
+    (record {
+      peer = way.peer;
+      packet = Message
+          (record { kind = Rfr; req_type = 0; size = 0; session = way.other; number = k; request = r });
+      body = [];
+    }))
 client-length true way a r k = ap (λ n. 16 + n) (length-part a.ask k)
 client-length false way a r k = refl
 
-call-length : (way : Way) (r k : ℕ) (c : Option Call) (out : Outgoing) → call_packet way r k c ≡ Some out → HasBody out
+call-length : (way : Way) (r k : ℕ) (c : Option Call) (out : Outgoing)
+    → call_packet way r k c ≡ Some out → HasBody out
 call-length way r k None out h = cc
 call-length way r k (Some c) out h =
     let same : client_packet way c.what r k ≡ out = cc in
@@ -67,41 +91,83 @@ ask-length r k (Some x) out h = call-length x.way r k (find (is_active r) x.call
 some-is : (a b : Outgoing) → Some a ≡ Some b → a ≡ b
 some-is a b e = cc
 
-reply-length : (way : Way) (q : Served) (k : ℕ) (b : Bool) (answer : Option (List ℕ)) (out : Outgoing) → nat_lt (k + 1) (packet_count q.size) ≡ b → q.answer ≡ answer → k < q.taken → SlotRight q → cond b (Some (record { peer = way.peer; packet = Message (record { kind = Cr; req_type = 0; size = 0; session = way.other; number = k; request = q.number }); body = [] })) (option_map (λ answer. record { peer = way.peer; packet = Message (record { kind = Response; req_type = q.req_type; size = length answer; session = way.other; number = k; request = q.number }); body = part answer (k + 1 - packet_count q.size) }) answer) ≡ Some out → HasBody out
+reply-length : (way : Way) (q : Served) (k : ℕ) (b : Bool) (answer : Option (List ℕ))
+    (out : Outgoing) → nat_lt (k + 1) (packet_count q.size) ≡ b → q.answer ≡ answer → k < q.taken
+    → SlotRight q → cond b (Some (record {
+      peer = way.peer;
+      packet = Message (record {
+        kind = Cr;
+        req_type = 0;
+        size = 0;
+        session = way.other;
+        number = k;
+        request = q.number;
+      });
+      body = [];
+    })) (option_map
+    (λ answer. record {
+      peer = way.peer;
+      packet = Message
+          (record {
+            kind = Response;
+            req_type = q.req_type;
+            size = length answer;
+            session = way.other;
+            number = k;
+            request = q.number;
+          });
+      body = part answer (k + 1 - packet_count q.size);
+    }) answer)
+    ≡ Some out → HasBody out
 reply-length way q k true answer out t e lt right h =
     subst HasBody (some-is _ out h) refl
 reply-length way q k false None out t e lt right h = cc
 reply-length way q k false (Some a) out t e lt right h =
-    let taken : TakenRight q.taken q.size (Some a) = subst (λ (o : Option (List ℕ)). TakenRight q.taken q.size o) e right.taken in
+    let taken : TakenRight q.taken q.size (Some a) =
+    subst (λ (o : Option (List ℕ)). TakenRight q.taken q.size o) e right.taken in
     let high = taken.1 in
     let above = packet_count_above (length a) in
     let low : k + 1 - packet_count q.size < packet_count (length a) = omega arith in
-    subst HasBody (some-is _ out h) (subst (λ (n : ℕ). MessageLength Response (length a) k (16 + n)) (sym (length-part a (k + 1 - packet_count q.size))) (response_length (length a) (k + 1 - packet_count q.size) k low))
+    subst HasBody (some-is _ out h) (subst (λ (n : ℕ). MessageLength Response (length a) k (16 + n))
+    (sym (length-part a (k + 1 - packet_count q.size)))
+    (response_length (length a) (k + 1 - packet_count q.size) k low))
 
-request-length : (l : Lists) (t r k : ℕ) (v : Server) (q : Option Served) (out : Outgoing) → RightNode l → Stood l.servers t r k → find (is_server t) l.servers ≡ Some v → find (is_request r) v.slots ≡ q → request_packet v.way k q ≡ Some out → HasBody out
+request-length : (l : Lists) (t r k : ℕ) (v : Server) (q : Option Served) (out : Outgoing)
+    → RightNode l → Stood l.servers t r k → find (is_server t) l.servers ≡ Some v
+    → find (is_request r) v.slots ≡ q → request_packet v.way k q ≡ Some out → HasBody out
 request-length l t r k v None out i s is at h = cc
 request-length l t r k v (Some q) out i s is at h =
     let apart : Apart v.slots = all-found (λ v. Apart v.slots) (is_server t) l.servers v i.sound is in
-    let slots : AllByRecursion SlotRight v.slots = all-found (λ v. AllByRecursion SlotRight v.slots) (is_server t) l.servers v i.slots is in
+    let slots : AllByRecursion SlotRight v.slots =
+    all-found (λ v. AllByRecursion SlotRight v.slots)
+    (is_server t) l.servers v i.slots is in
     let found = s.found in
     let same : s.server ≡ v = cc in
-    let in_slot : find (in_slot_of r) v.slots ≡ Some s.request = subst (λ (z : Server). find (in_slot_of r) z.slots ≡ Some s.request) same s.in_slot in
+    let in_slot : find (in_slot_of r) v.slots ≡ Some s.request =
+    subst (λ (z : Server). find (in_slot_of r) z.slots ≡ Some s.request) same s.in_slot in
     let also = slot-of-request r v.slots q apart at in
     let same_request : s.request ≡ q = cc in
-    let number : r ≡ s.request.number = sym (eqb-true q.number r (find-passes (is_request r) v.slots q at)) ∙ ap (λ (z : Served). z.number) (sym same_request) in
+    let number : r ≡ s.request.number =
+    sym (eqb-true q.number r (find-passes (is_request r) v.slots q at))
+    ∙ ap (λ (z : Served). z.number) (sym same_request) in
     let lt : k < q.taken = subst (λ (z : Served). k < z.taken) same_request (s.was_taken number) in
     reply-length v.way q k _ q.answer out refl refl lt (all-found SlotRight (is_request r) v.slots q slots at) h
 
-server-length : (l : Lists) (t r k : ℕ) (v : Option Server) (out : Outgoing) → RightNode l → Stood l.servers t r k → find (is_server t) l.servers ≡ v → reply_packet r k v ≡ Some out → HasBody out
+server-length : (l : Lists) (t r k : ℕ) (v : Option Server) (out : Outgoing) → RightNode l
+    → Stood l.servers t r k → find (is_server t) l.servers ≡ v → reply_packet r k v ≡ Some out
+    → HasBody out
 server-length l t r k None out i s is h = cc
 server-length l t r k (Some v) out i s is h = request-length l t r k v _ out i s is refl h
 
-pub owner-length : (l : Lists) (o : Owner) (k : ℕ) (out : Outgoing) → RightNode l → QueueRight l.servers o k → owner_packet l o k ≡ Some out → HasBody out
+pub owner-length : (l : Lists) (o : Owner) (k : ℕ) (out : Outgoing) → RightNode l
+    → QueueRight l.servers o k → owner_packet l o k ≡ Some out → HasBody out
 owner-length l (Ask s r) k out i q h = ask-length r k (find (is_client s) l.clients) out h
 owner-length l (Reply t r) k out i q h = server-length l t r k _ out i q refl h
 owner-length l Control k out i q h = cc
 
-spells-own : (nodes : List Lists) (n : ℕ) (l : Lists) (peer : ℕ) (o : Owner) (k : ℕ) (head body : List ℕ) → slice_get nodes n ≡ Some l → RightNode l → MaySend l peer o k head body → SpellsOwn nodes n peer o k head body
+spells-own : (nodes : List Lists) (n : ℕ) (l : Lists) (peer : ℕ) (o : Owner) (k : ℕ)
+    (head body : List ℕ) → slice_get nodes n ≡ Some l → RightNode l → MaySend l peer o k head body
+    → SpellsOwn nodes n peer o k head body
 spells-own nodes n l peer o k head body is i m =
     let right = all-at (λ q. QueueRight l.servers q.owner q.number) l.queued 0 _ i.queue m.is_front in
     let long = owner-length l o k m.out i right m.own in
@@ -120,9 +186,13 @@ spells-own nodes n l peer o k head body is i m =
 none-owns : {A : Type 0} (l : Lists) (k : ℕ) (out : Outgoing) → owner_packet l Control k ≡ Some out → A
 none-owns l k out e = cc
 
-pub sent-right : (nodes : List Lists) (n : ℕ) (hand : Option InFlight) (l : Lists) (e : Event) (first second : List ℕ) → slice_get nodes n ≡ Some l → RightNode l → May hand l e first second → SentRight nodes n e first second
-sent-right nodes n hand l (Sent peer (Ask s r) k) first second is i m = spells-own nodes n l peer (Ask s r) k first second is i m
-sent-right nodes n hand l (Sent peer (Reply t r) k) first second is i m = spells-own nodes n l peer (Reply t r) k first second is i m
+pub sent-right : (nodes : List Lists) (n : ℕ) (hand : Option InFlight) (l : Lists) (e : Event)
+    (first second : List ℕ) → slice_get nodes n ≡ Some l → RightNode l → May hand l e first second
+    → SentRight nodes n e first second
+sent-right nodes n hand l (Sent peer (Ask s r) k) first second is i m =
+    spells-own nodes n l peer (Ask s r) k first second is i m
+sent-right nodes n hand l (Sent peer (Reply t r) k) first second is i m =
+    spells-own nodes n l peer (Reply t r) k first second is i m
 sent-right nodes n hand l (Sent peer Control k) first second is i m = none-owns l k m.out m.own
 sent-right nodes n hand l _ first second is i m = tt
 
@@ -131,7 +201,9 @@ pub right-stays : Stays RightNode
 right-stays hand clock l f a i = record {
   sound = sound-stays clock l f i.sound;
   slots = slots-right hand l f.event f.first f.second i.jobs a.may i.slots;
-  queue = all-map _ _ _ (λ q. queue-after hand l f.event f.first f.second q.owner q.number i.sound a.may) (queued-right hand l f.event f.first f.second (due_of clock f.event l.paces) a.may i.queue);
+  queue = all-map _ _ _ (λ q. queue-after hand l f.event f.first f.second q.owner q.number i.sound
+      a.may) (queued-right hand l f.event f.first f.second (due_of clock f.event l.paces) a.may
+      i.queue);
   jobs = jobs-right hand l f.event f.first f.second i a.may;
   numbers = numbers-right hand l f.event f.first f.second a.may i.numbers;
 }
@@ -139,13 +211,24 @@ right-stays hand clock l f a i = record {
 server-added : (xs : List Server) (y : Server) (o : Owner) (k : ℕ) → QueueRight xs o k → QueueRight (xs ++ y ∷ []) o k
 server-added xs y (Ask s r) k h = tt
 server-added xs y Control k h = tt
-server-added xs y (Reply t r) k h = record { server = h.server; found = find-add (is_server t) xs y h.server h.found; request = h.request; in_slot = h.in_slot; reached = h.reached; was_taken = h.was_taken }
+server-added xs y (Reply t r) k h =
+    record {
+      server = h.server;
+      found = find-add (is_server t) xs y h.server h.found;
+      request = h.request;
+      in_slot = h.in_slot;
+      reached = h.reached;
+      was_taken = h.was_taken;
+    }
 
 -- so it does by a pairing
-pub right-client : (clock n m credits : ℕ) (client server : Lists) → RightNode client → RightNode (after clock client (client_fact n m credits client server))
-right-client clock n m credits client server i = record { sound = i.sound; slots = i.slots; queue = i.queue; jobs = i.jobs; numbers = i.numbers }
+pub right-client : (clock n m credits : ℕ) (client server : Lists) → RightNode client
+    → RightNode (after clock client (client_fact n m credits client server))
+right-client clock n m credits client server i =
+    record { sound = i.sound; slots = i.slots; queue = i.queue; jobs = i.jobs; numbers = i.numbers }
 
-pub right-served : (clock m n credits : ℕ) (client server : Lists) → RightNode server → RightNode (after clock server (server_fact n m credits client server))
+pub right-served : (clock m n credits : ℕ) (client server : Lists) → RightNode server
+    → RightNode (after clock server (server_fact n m credits client server))
 right-served clock m n credits client server i = record {
   sound = sound-stays clock server (server_fact n m credits client server) i.sound;
   slots = all-add (λ v. AllByRecursion SlotRight v.slots) server.servers _ i.slots tt;
@@ -159,40 +242,68 @@ AllRight w = Placed (λ n l. RightNode l) w.nodes
 
 pub right-noted : (w : Moment) (n : ℕ) (l : Lists) (f : Fact) → AtNode w n l f → AllRight w → AllRight (moved w f)
 right-noted w n l f a i =
-    let k : AllRight (noted_at w n l f) = set-placed (λ n l. RightNode l) w.nodes n l (after w.clock l f) a.is_node (right-stays w.hand w.clock l f a.allowed (i n l a.is_node)) (λ j z ne is. i j z is) in
+    let k : AllRight (noted_at w n l f) =
+    set-placed (λ n l. RightNode l) w.nodes n l (after w.clock l f) a.is_node
+    (right-stays w.hand w.clock l f a.allowed (i n l a.is_node)) (λ j z ne is. i j z is) in
     subst AllRight (sym (moved-node w n l f a)) k
 
 pub right-net : (w : Moment) (f : Fact) → f.who ≡ Net → AllRight w → AllRight (moved w f)
 right-net w f who i = subst (λ (p : Who). Placed (λ n l. RightNode l) (nodes_at w.clock p w.nodes f)) (sym who) i
 
 pub right-new : (me ring : ℕ) → RightNode (new_lists me (with_ring ring))
-right-new me ring = record { sound = tt; slots = tt; queue = tt; jobs = record { out = tt; once = λ t r. omega arith }; numbers = refl }
+right-new me ring = record {
+  sound = tt;
+  slots = tt;
+  queue = tt;
+  jobs = record { out = tt; once = λ t r. omega arith };
+  numbers = refl;
+}
 
-pub right-made : (w : Moment) (ring : ℕ) → AllRight w → Placed (λ n l. RightNode l) (w.nodes ++ new_lists (length w.nodes) (with_ring ring) ∷ [])
-right-made w ring i = add-placed (λ n l. RightNode l) w.nodes (new_lists (length w.nodes) (with_ring ring)) (right-new (length w.nodes) ring) i
+pub right-made : (w : Moment) (ring : ℕ) → AllRight w
+    → Placed (λ n l. RightNode l) (w.nodes ++ new_lists (length w.nodes) (with_ring ring) ∷ [])
+right-made w ring i =
+    add-placed (λ n l. RightNode l) w.nodes (new_lists (length w.nodes) (with_ring ring))
+    (right-new (length w.nodes) ring) i
 
-pub right-paired : (w : Moment) (n m credits : ℕ) (client server : Lists) → Ends w n m credits client server → AllRight w → AllRight (paired w n m credits client server)
+pub right-paired : (w : Moment) (n m credits : ℕ) (client server : Lists)
+    → Ends w n m credits client server → AllRight w → AllRight (paired w n m credits client server)
 right-paired w n m credits client server e i =
     let one : Fact = client_fact n m credits client server in
     let other : Fact = server_fact n m credits client server in
     let nodes1 : List Lists = slice_set w.nodes n (after w.clock client one) in
     let was = i n client e.is_client in
-    let placed1 : Placed (λ n l. RightNode l) nodes1 = set-placed (λ n l. RightNode l) w.nodes n client (after w.clock client one) e.is_client (right-client w.clock n m credits client server was) (λ j z ne is. i j z is) in
-    let at : slice_get nodes1 m ≡ Some server = set-other w.nodes n m (after w.clock client one) (λ k. e.two (sym k)) ∙ e.is_server in
-    let placed2 = set-placed (λ n l. RightNode l) nodes1 m server (after w.clock server other) at (right-served w.clock m n credits client server (placed1 m server at)) (λ j z ne is. placed1 j z is) in
-    let first : changed w.clock (slice_get w.nodes n) n w.nodes one ≡ nodes1 = ap (λ (o : Option Lists). changed w.clock o n w.nodes one) e.is_client in
-    let all : (paired w n m credits client server).nodes ≡ slice_set nodes1 m (after w.clock server other) = ap (λ (ns : List Lists). changed w.clock (slice_get ns m) m ns other) first ∙ ap (λ (o : Option Lists). changed w.clock o m nodes1 other) at in
+    let placed1 : Placed (λ n l. RightNode l) nodes1 =
+    set-placed (λ n l. RightNode l) w.nodes n client (after w.clock client one) e.is_client
+    (right-client w.clock n m credits client server was) (λ j z ne is. i j z is) in
+    let at : slice_get nodes1 m ≡ Some server =
+    set-other w.nodes n m (after w.clock client one) (λ k. e.two (sym k)) ∙ e.is_server in
+    let placed2 = set-placed (λ n l. RightNode l) nodes1 m server (after w.clock server other)
+    at (right-served w.clock m n credits client server (placed1 m server at))
+    (λ j z ne is. placed1 j z is) in
+    let first : changed w.clock (slice_get w.nodes n) n w.nodes one ≡ nodes1 =
+    ap (λ (o : Option Lists). changed w.clock o n w.nodes one) e.is_client in
+    let all : (paired w n m credits client server).nodes
+    ≡ slice_set nodes1 m (after w.clock server other) =
+    ap (λ (ns : List Lists). changed w.clock (slice_get ns m) m ns other) first
+    ∙ ap (λ (o : Option Lists). changed w.clock o m nodes1 other) at in
     subst (λ (ns : List Lists). Placed (λ n l. RightNode l) ns) (sym all) placed2
 
-right-at : (w : Moment) (n : ℕ) (l : Lists) (f : Fact) → AtNode w n l f → AllRight w → RightAt w.nodes f.who f.event f.first f.second
+right-at : (w : Moment) (n : ℕ) (l : Lists) (f : Fact) → AtNode w n l f → AllRight w
+    → RightAt w.nodes f.who f.event f.first f.second
 right-at w n l f a i =
-    subst (λ (p : Who). RightAt w.nodes p f.event f.first f.second) (sym (a.allowed.who ∙ ap Node a.me)) (sent-right w.nodes n w.hand l f.event f.first f.second a.is_node (i n l a.is_node) a.allowed.may)
+    subst (λ (p : Who). RightAt w.nodes p f.event f.first f.second)
+    (sym (a.allowed.who ∙ ap Node a.me)) (sent-right w.nodes n w.hand l f.event f.first f.second
+    a.is_node (i n l a.is_node) a.allowed.may)
 
-pub course-sends : (w : Moment) (h : List Fact) (u : Moment) → Course w h u → AllRight w → EachFact (λ nodes f. RightAt nodes f.who f.event f.first f.second) w.clock w.nodes h
+pub course-sends : (w : Moment) (h : List Fact) (u : Moment) → Course w h u → AllRight w
+    → EachFact (λ nodes f. RightAt nodes f.who f.event f.first f.second) w.clock w.nodes h
 course-sends _ _ _ (over w) i = tt
-course-sends _ _ _ (in_net w f h u who c) i =
-    (subst (λ (p : Who). RightAt w.nodes p f.event f.first f.second) (sym who) tt, course-sends (moved w f) h u c (right-net w f who i))
+course-sends _ _ _ (in_net w f h u who c) i = (
+  subst (λ (p : Who). RightAt w.nodes p f.event f.first f.second) (sym who) tt,
+  course-sends (moved w f) h u c (right-net w f who i),
+)
 course-sends _ _ _ (made w ring h u c) i = (tt, course-sends _ h u c (right-made w ring i))
-course-sends _ _ _ (at_node w n l f h u a c) i = (right-at w n l f a i, course-sends (moved w f) h u c (right-noted w n l f a i))
+course-sends _ _ _ (at_node w n l f h u a c) i =
+    (right-at w n l f a i, course-sends (moved w f) h u c (right-noted w n l f a i))
 course-sends _ _ _ (pairs w n m credits client server h u e c) i =
     (tt, (tt, course-sends (paired w n m credits client server) h u c (right-paired w n m credits client server e i)))

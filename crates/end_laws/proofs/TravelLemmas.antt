@@ -1,9 +1,12 @@
 -- A claim of what is sent goes with the datagram wherever it is.
-use Rattle.std.proofs.Common.{◌≡◌, Bool, true, false, cond, ℕ, zero, suc, List, [], ◌∷◌, ◌++◌, length, take, drop, Option, Some, None, slice_get, refl, sym, ap, ◌∙◌, subst}
+use Rattle.std.proofs.Common.{◌≡◌, Bool, true, false, cond, ℕ, zero, suc, List, [], ◌∷◌, ◌++◌}
+use Rattle.std.proofs.Common.{length, take, drop, Option, Some, None, slice_get, refl, sym, ap, ◌∙◌}
+use Rattle.std.proofs.Common.{subst}
 use Rattle.std.specs.Prelude.{IfSome, option_to_list}
 use Rattle.std.specs.List.{AllByRecursion}
 use Rattle.rpc_base.specs.declared.event.Event.{Event}
-use Rattle.rpc_base.specs.declared.event.Event.TheVariants.{Heard, Sent, Arrived, Took, Again, Dropped, Repeated, Carried, Lost}
+use Rattle.rpc_base.specs.declared.event.Event.TheVariants.{Heard, Sent, Arrived, Took, Again}
+use Rattle.rpc_base.specs.declared.event.Event.TheVariants.{Dropped, Repeated, Carried, Lost}
 use Rattle.rpc_base.specs.declared.fact.Fact.{Fact}
 use Rattle.rpc_base.specs.declared.fact.Who.{Who}
 use Rattle.rpc_base.specs.declared.fact.Who.TheVariants.{Node, Net}
@@ -20,7 +23,8 @@ use Rattle.end_laws.specs.Genuine.{Travels}
 use Rattle.end_laws.specs.Moments.{Moment, moved, hand_of, hand_after}
 use Rattle.end_laws.proofs.Allowed.{May}
 use Rattle.end_laws.proofs.Courses.{AtNode, Ends, client_fact, server_fact, paired, noted_at, moved-node}
-use Rattle.end_laws.proofs.ListLemmas.{Placed, all-append, all-map, all-at, all-add, set-other, set-placed, add-placed}
+use Rattle.end_laws.proofs.ListLemmas.{Placed, all-append, all-map, all-at, all-add, set-other}
+use Rattle.end_laws.proofs.ListLemmas.{set-placed, add-placed}
 use Rattle.rpc_base.proofs.BasicLemmas.{if-map}
 
 module _ {A : Type 0} (P : A → Type 0) where
@@ -50,7 +54,9 @@ abbrev pub SentGives : Claim → ℕ → Event → List ℕ → List ℕ → Typ
 SentGives P n (Sent peer o k) head body = P n peer (head ++ body)
 SentGives P n _ head body = Unit {0}
 
-pub travels-map : (P Q : ℕ → ℕ → List ℕ → Type 0) (w : Moment) → ((from to : ℕ) (bytes : List ℕ) → P from to bytes → Q from to bytes) → Travels P w → Travels Q w
+pub travels-map : (P Q : ℕ → ℕ → List ℕ → Type 0) (w : Moment)
+    → ((from to : ℕ) (bytes : List ℕ) → P from to bytes → Q from to bytes) → Travels P w
+    → Travels Q w
 travels-map P Q w f t = record {
   flight = all-map _ _ w.flight (λ c. f c.from c.to c.bytes) t.flight;
   hand = if-map _ _ w.hand (λ c. f c.from c.to c.bytes) t.hand;
@@ -62,25 +68,40 @@ module _ (P : ℕ → ℕ → List ℕ → Type 0) where
   abbrev pub OfCopy : InFlight → Type 0
   OfCopy c = P c.from c.to c.bytes
 
-  flight-net : (e : Event) (copies : List InFlight) → AllByRecursion OfCopy copies → AllByRecursion OfCopy (flight_after_net e copies)
-  flight-net (Repeated i) copies h = all-append OfCopy copies _ h (all-option OfCopy (slice_get copies i) (if-at OfCopy copies i _ refl h))
-  flight-net (Carried i) copies h = all-append OfCopy (take i copies) _ (all-take OfCopy i copies h) (all-drop OfCopy (suc i) copies h)
-  flight-net (Lost i) copies h = all-append OfCopy (take i copies) _ (all-take OfCopy i copies h) (all-drop OfCopy (suc i) copies h)
+  flight-net : (e : Event) (copies : List InFlight) → AllByRecursion OfCopy copies
+      → AllByRecursion OfCopy (flight_after_net e copies)
+  flight-net (Repeated i) copies h =
+      all-append OfCopy copies _ h (all-option OfCopy (slice_get copies i)
+      (if-at OfCopy copies i _ refl h))
+  flight-net (Carried i) copies h =
+      all-append OfCopy (take i copies) _ (all-take OfCopy i copies h)
+      (all-drop OfCopy (suc i) copies h)
+  flight-net (Lost i) copies h =
+      all-append OfCopy (take i copies) _ (all-take OfCopy i copies h)
+      (all-drop OfCopy (suc i) copies h)
   flight-net _ copies h = h
 
-  hand-net : (e : Event) (copies : List InFlight) (hand : Option InFlight) → AllByRecursion OfCopy copies → IfSome hand OfCopy → IfSome (hand_of e copies hand) OfCopy
+  hand-net : (e : Event) (copies : List InFlight) (hand : Option InFlight)
+      → AllByRecursion OfCopy copies → IfSome hand OfCopy → IfSome (hand_of e copies hand) OfCopy
   hand-net (Carried i) copies hand h k = if-at OfCopy copies i _ refl h
   hand-net _ copies hand h k = k
 
   pub travels-net : (w : Moment) (f : Fact) → f.who ≡ Net → Travels P w → Travels P (moved w f)
   travels-net w f who t = record {
-    flight = subst (λ (p : Who). AllByRecursion OfCopy (flight_at p f.event f.first f.second w.flight)) (sym who) (flight-net f.event w.flight t.flight);
-    hand = subst (λ (p : Who). IfSome (hand_after p f.event w.flight w.hand) OfCopy) (sym who) (hand-net f.event w.flight w.hand t.flight t.hand);
-    rings = subst (λ (p : Who). Placed (λ n l. AllByRecursion (λ a. P a.peer n a.bytes) l.ring) (nodes_at w.clock p w.nodes f)) (sym who) t.rings;
-    inboxes = subst (λ (p : Who). Placed (λ n l. AllByRecursion (λ a. P a.peer n a.bytes) l.inbox) (nodes_at w.clock p w.nodes f)) (sym who) t.inboxes;
+    flight = subst (λ (p : Who). AllByRecursion OfCopy
+        (flight_at p f.event f.first f.second w.flight)) (sym who)
+        (flight-net f.event w.flight t.flight);
+    hand = subst (λ (p : Who). IfSome (hand_after p f.event w.flight w.hand) OfCopy) (sym who)
+        (hand-net f.event w.flight w.hand t.flight t.hand);
+    rings = subst (λ (p : Who). Placed (λ n l. AllByRecursion (λ a. P a.peer n a.bytes) l.ring)
+        (nodes_at w.clock p w.nodes f)) (sym who) t.rings;
+    inboxes = subst (λ (p : Who). Placed (λ n l. AllByRecursion (λ a. P a.peer n a.bytes) l.inbox)
+        (nodes_at w.clock p w.nodes f)) (sym who) t.inboxes;
   }
 
-  flight-node : (n : ℕ) (e : Event) (head body : List ℕ) (copies : List InFlight) → SentGives P n e head body → AllByRecursion OfCopy copies → AllByRecursion OfCopy (flight_after_node n e head body copies)
+  flight-node : (n : ℕ) (e : Event) (head body : List ℕ) (copies : List InFlight)
+      → SentGives P n e head body → AllByRecursion OfCopy copies
+      → AllByRecursion OfCopy (flight_after_node n e head body copies)
   flight-node n (Sent peer o k) head body copies g h = all-add OfCopy copies _ h g
   flight-node n _ head body copies g h = h
 
@@ -88,19 +109,31 @@ module _ (P : ℕ → ℕ → List ℕ → Type 0) where
   hand-some None c e h = cc
   hand-some (Some d) c e h = let same : d ≡ c = cc in rw (← same) h
 
-  added-all : (n : ℕ) (b : Bool) (a : Arrival) (xs : List Arrival) → P a.peer n a.bytes → AllByRecursion (λ a. P a.peer n a.bytes) xs → AllByRecursion (λ a. P a.peer n a.bytes) (cond b (xs ++ a ∷ []) xs)
+  added-all : (n : ℕ) (b : Bool) (a : Arrival) (xs : List Arrival) → P a.peer n a.bytes
+      → AllByRecursion (λ a. P a.peer n a.bytes) xs
+      → AllByRecursion (λ a. P a.peer n a.bytes) (cond b (xs ++ a ∷ []) xs)
   added-all n true a xs here h = all-add (λ a. P a.peer n a.bytes) xs a h here
   added-all n false a xs here h = h
 
-  ring-node : (hand : Option InFlight) (l : Lists) (e : Event) (first second : List ℕ) → IfSome hand OfCopy → May hand l e first second → AllByRecursion (λ a. P a.peer l.me a.bytes) l.ring → AllByRecursion (λ a. P a.peer l.me a.bytes) (ring_after e first l.ring)
-  ring-node hand l (Arrived peer) first second k m h = added-all l.me (is_message first) (record { peer = peer; bytes = first }) l.ring (hand-some hand _ m.in_hand k) h
+  ring-node : (hand : Option InFlight) (l : Lists) (e : Event) (first second : List ℕ)
+      → IfSome hand OfCopy → May hand l e first second
+      → AllByRecursion (λ a. P a.peer l.me a.bytes) l.ring
+      → AllByRecursion (λ a. P a.peer l.me a.bytes) (ring_after e first l.ring)
+  ring-node hand l (Arrived peer) first second k m h =
+      added-all l.me (is_message first) (record { peer = peer; bytes = first }) l.ring
+      (hand-some hand _ m.in_hand k) h
   ring-node hand l (Took o j) first second k m h = all-drop (λ a. P a.peer l.me a.bytes) 1 l.ring h
   ring-node hand l (Again o j) first second k m h = all-drop (λ a. P a.peer l.me a.bytes) 1 l.ring h
   ring-node hand l (Dropped why) first second k m h = all-drop (λ a. P a.peer l.me a.bytes) 1 l.ring h
   ring-node hand l _ first second k m h = h
 
-  inbox-node : (hand : Option InFlight) (l : Lists) (e : Event) (first second : List ℕ) → IfSome hand OfCopy → May hand l e first second → AllByRecursion (λ a. P a.peer l.me a.bytes) l.inbox → AllByRecursion (λ a. P a.peer l.me a.bytes) (inbox_after e first l.inbox)
-  inbox-node hand l (Arrived peer) first second k m h = added-all l.me (is_control first) (record { peer = peer; bytes = first }) l.inbox (hand-some hand _ m.in_hand k) h
+  inbox-node : (hand : Option InFlight) (l : Lists) (e : Event) (first second : List ℕ)
+      → IfSome hand OfCopy → May hand l e first second
+      → AllByRecursion (λ a. P a.peer l.me a.bytes) l.inbox
+      → AllByRecursion (λ a. P a.peer l.me a.bytes) (inbox_after e first l.inbox)
+  inbox-node hand l (Arrived peer) first second k m h =
+      added-all l.me (is_control first) (record { peer = peer; bytes = first }) l.inbox
+      (hand-some hand _ m.in_hand k) h
   inbox-node hand l Heard first second k m h = all-drop (λ a. P a.peer l.me a.bytes) 1 l.inbox h
   inbox-node hand l _ first second k m h = h
 
@@ -110,48 +143,74 @@ module _ (P : ℕ → ℕ → List ℕ → Type 0) where
   abbrev RingIs : ℕ → Lists → Type 0
   RingIs n l = AllByRecursion (λ a. P a.peer n a.bytes) l.ring
 
-  pub travels-node : (w : Moment) (n : ℕ) (l : Lists) (f : Fact) → AtNode w n l f → SentGives P n f.event f.first f.second → Travels P w → Travels P (moved w f)
+  pub travels-node : (w : Moment) (n : ℕ) (l : Lists) (f : Fact) → AtNode w n l f
+      → SentGives P n f.event f.first f.second → Travels P w → Travels P (moved w f)
   travels-node w n l f a g t =
       let who : f.who ≡ Node n = a.allowed.who ∙ ap Node a.me in
       let was : RingIs l.me l = subst (λ (m : ℕ). RingIs m l) (sym a.me) (t.rings n l a.is_node) in
-      let now : RingIs n (after w.clock l f) = subst (λ (m : ℕ). RingIs m (after w.clock l f)) a.me (ring-node w.hand l f.event f.first f.second t.hand a.allowed.may was) in
+      let now : RingIs n (after w.clock l f) =
+      subst (λ (m : ℕ). RingIs m (after w.clock l f)) a.me
+      (ring-node w.hand l f.event f.first f.second t.hand a.allowed.may was) in
       let was_in : InboxIs l.me l = subst (λ (m : ℕ). InboxIs m l) (sym a.me) (t.inboxes n l a.is_node) in
-      let now_in : InboxIs n (after w.clock l f) = subst (λ (m : ℕ). InboxIs m (after w.clock l f)) a.me (inbox-node w.hand l f.event f.first f.second t.hand a.allowed.may was_in) in
+      let now_in : InboxIs n (after w.clock l f) =
+      subst (λ (m : ℕ). InboxIs m (after w.clock l f)) a.me
+      (inbox-node w.hand l f.event f.first f.second t.hand a.allowed.may was_in) in
       let k : Travels P (noted_at w n l f) = record {
-        flight = subst (λ (p : Who). AllByRecursion OfCopy (flight_at p f.event f.first f.second w.flight)) (sym who) (flight-node n f.event f.first f.second w.flight g t.flight);
+        flight = subst (λ (p : Who). AllByRecursion OfCopy
+            (flight_at p f.event f.first f.second w.flight)) (sym who)
+            (flight-node n f.event f.first f.second w.flight g t.flight);
         hand = t.hand;
         rings = set-placed RingIs w.nodes n l (after w.clock l f) a.is_node now (λ j z ne is. t.rings j z is);
         inboxes = set-placed InboxIs w.nodes n l (after w.clock l f) a.is_node now_in (λ j z ne is. t.inboxes j z is);
       } in
       subst (Travels P) (sym (moved-node w n l f a)) k
 
-  pub rings-made : (w : Moment) (ring : ℕ) → Travels P w → Placed RingIs (w.nodes ++ new_lists (length w.nodes) (with_ring ring) ∷ [])
+  pub rings-made : (w : Moment) (ring : ℕ) → Travels P w
+      → Placed RingIs (w.nodes ++ new_lists (length w.nodes) (with_ring ring) ∷ [])
   rings-made w ring t = add-placed RingIs w.nodes (new_lists (length w.nodes) (with_ring ring)) tt t.rings
 
-  pub inboxes-made : (w : Moment) (ring : ℕ) → Travels P w → Placed InboxIs (w.nodes ++ new_lists (length w.nodes) (with_ring ring) ∷ [])
+  pub inboxes-made : (w : Moment) (ring : ℕ) → Travels P w
+      → Placed InboxIs (w.nodes ++ new_lists (length w.nodes) (with_ring ring) ∷ [])
   inboxes-made w ring t = add-placed InboxIs w.nodes (new_lists (length w.nodes) (with_ring ring)) tt t.inboxes
 
   -- a node's fact that leaves its ring, or its inbox
-  kept : (list : Lists → List Arrival) (nodes : List Lists) (n clock : ℕ) (l : Lists) (f : Fact) → slice_get nodes n ≡ Some l → list (after clock l f) ≡ list l → Placed (λ n l. AllByRecursion (λ a. P a.peer n a.bytes) (list l)) nodes → Placed (λ n l. AllByRecursion (λ a. P a.peer n a.bytes) (list l)) (changed clock (slice_get nodes n) n nodes f)
+  kept : (list : Lists → List Arrival) (nodes : List Lists) (n clock : ℕ) (l : Lists) (f : Fact)
+      → slice_get nodes n ≡ Some l → list (after clock l f) ≡ list l
+      → Placed (λ n l. AllByRecursion (λ a. P a.peer n a.bytes) (list l)) nodes
+      → Placed (λ n l. AllByRecursion (λ a. P a.peer n a.bytes) (list l))
+      (changed clock (slice_get nodes n) n nodes f)
   kept list nodes n clock l f is same t =
-      let here : AllByRecursion (λ a. P a.peer n a.bytes) (list (after clock l f)) = subst (λ (r : List Arrival). AllByRecursion (λ a. P a.peer n a.bytes) r) (sym same) (t n l is) in
-      let placed = set-placed (λ n l. AllByRecursion (λ a. P a.peer n a.bytes) (list l)) nodes n l (after clock l f) is here (λ j z ne is. t j z is) in
-      subst (λ (o : Option Lists). Placed (λ n l. AllByRecursion (λ a. P a.peer n a.bytes) (list l)) (changed clock o n nodes f)) (sym is) placed
+      let here : AllByRecursion (λ a. P a.peer n a.bytes) (list (after clock l f)) =
+      subst (λ (r : List Arrival). AllByRecursion (λ a. P a.peer n a.bytes) r) (sym same)
+      (t n l is) in
+      let placed = set-placed (λ n l. AllByRecursion (λ a. P a.peer n a.bytes) (list l)) nodes n l
+      (after clock l f) is here (λ j z ne is. t j z is) in
+      subst (λ (o : Option Lists). Placed (λ n l. AllByRecursion (λ a. P a.peer n a.bytes) (list l))
+      (changed clock o n nodes f)) (sym is) placed
 
-  pub travels-client : (w : Moment) (n m credits : ℕ) (client server : Lists) → Ends w n m credits client server → Travels P w → Travels P (moved w (client_fact n m credits client server))
+  pub travels-client : (w : Moment) (n m credits : ℕ) (client server : Lists)
+      → Ends w n m credits client server → Travels P w
+      → Travels P (moved w (client_fact n m credits client server))
   travels-client w n m credits client server e t = record {
     flight = t.flight;
     hand = t.hand;
-    rings = kept (λ l. l.ring) w.nodes n w.clock client (client_fact n m credits client server) e.is_client refl t.rings;
-    inboxes = kept (λ l. l.inbox) w.nodes n w.clock client (client_fact n m credits client server) e.is_client refl t.inboxes;
+    rings = kept (λ l. l.ring) w.nodes n w.clock client (client_fact n m credits client server)
+        e.is_client refl t.rings;
+    inboxes = kept (λ l. l.inbox) w.nodes n w.clock client (client_fact n m credits client server)
+        e.is_client refl t.inboxes;
   }
 
-  pub travels-paired : (w : Moment) (n m credits : ℕ) (client server : Lists) → Ends w n m credits client server → Travels P w → Travels P (paired w n m credits client server)
+  pub travels-paired : (w : Moment) (n m credits : ℕ) (client server : Lists)
+      → Ends w n m credits client server → Travels P w
+      → Travels P (paired w n m credits client server)
   travels-paired w n m credits client server e t =
       let one : Fact = client_fact n m credits client server in
       let other : Fact = server_fact n m credits client server in
       let u = travels-client w n m credits client server e t in
-      let at : slice_get (moved w one).nodes m ≡ Some server = ap (λ (o : Option Lists). slice_get (changed w.clock o n w.nodes one) m) e.is_client ∙ (set-other w.nodes n m (after w.clock client one) (λ k. e.two (sym k)) ∙ e.is_server) in
+      let at : slice_get (moved w one).nodes m ≡ Some server =
+      ap (λ (o : Option Lists). slice_get (changed w.clock o n w.nodes one) m) e.is_client
+      ∙ (set-other w.nodes n m (after w.clock client one) (λ k. e.two (sym k))
+      ∙ e.is_server) in
       record {
         flight = t.flight;
         hand = t.hand;

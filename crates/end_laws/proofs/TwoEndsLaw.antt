@@ -19,7 +19,9 @@ use Rattle.end_laws.specs.Moments.{Moment, moved, Always}
 use Rattle.end_laws.specs.TwoEnds.{HoldsCall, IsOfCall, IsOfJob, IsOfRun, IsOfSession, TwoEnds}
 use Rattle.end_laws.proofs.Courses.{Ends, Course, over, in_net, made, at_node, pairs, client_fact, paired}
 use Rattle.end_laws.proofs.GoodSteps.{good-net, good-made, good-node}
-use Rattle.end_laws.proofs.Known.{Known, Begin, GoodAnswer, GoodProgress, GoodCall, GoodClient, HasRun, GoodServed, GoodServer, GoodJob, Good, IsTrue, contains-more}
+use Rattle.end_laws.proofs.Known.{Known, Begin, GoodAnswer, GoodProgress, GoodCall, GoodClient}
+use Rattle.end_laws.proofs.Known.{HasRun, GoodServed, GoodServer, GoodJob, Good, IsTrue}
+use Rattle.end_laws.proofs.Known.{contains-more}
 use Rattle.end_laws.proofs.KnownLemmas.{ends-more}
 use Rattle.end_laws.proofs.ListLemmas.{Placed, all-map, all-add, set-placed}
 use Rattle.end_laws.proofs.OwnLaw.{good-paired}
@@ -28,23 +30,38 @@ use Rattle.end_laws.proofs.SendsLaw.{AllRight, right-noted, right-net, right-mad
 use Rattle.rpc_base.proofs.BasicLemmas.{if-map}
 
 -- claims of each place are claims of all elements
-pub placed-all : {A : Type 0} (P : ℕ → A → Type 0) (Q : A → Type 0) (xs : List A) → ((i : ℕ) (x : A) → P i x → Q x) → Placed P xs → AllByRecursion Q xs
+pub placed-all : {A : Type 0} (P : ℕ → A → Type 0) (Q : A → Type 0) (xs : List A)
+    → ((i : ℕ) (x : A) → P i x → Q x) → Placed P xs → AllByRecursion Q xs
 placed-all P Q [] f h = tt
 placed-all P Q (x ∷ xs) f h = (f 0 x (h 0 x refl), placed-all (λ i. P (suc i)) Q xs (λ i. f (suc i)) (λ i. h (suc i)))
 
 module _ (k : Known) (is_true : IsTrue k) where
-  holds-of : (m : ℕ) (way : Way) (q : Served) → (g : GoodServed k m way q) → HoldsCall k.past m way q g.start.what.number g.start.what.room g.start.what.ask
+  holds-of : (m : ℕ) (way : Way) (q : Served) → (g : GoodServed k m way q)
+      → HoldsCall k.past m way q g.start.what.number g.start.what.room g.start.what.ask
   holds-of m way q g =
       let a = g.start.what in
       record {
-        own = call-of k.past way.peer way.other q.number g.start a.number m way.number q.number q.req_type a.ask (is_true.starts way.peer way.other q.number g.start g.begun) refl (ap (λ (w : Way). w.peer) g.way_is) (ap (λ (w : Way). w.other) g.way_is) refl (sym g.req_type) refl;
+        own = call-of k.past way.peer way.other q.number g.start a.number m way.number q.number
+            q.req_type a.ask (is_true.starts way.peer way.other q.number g.start g.begun) refl
+            (ap (λ (w : Way). w.peer) g.way_is)
+            (ap (λ (w : Way). w.other) g.way_is) refl (sym g.req_type) refl;
         size = g.size;
         parts = g.ask;
-        answer = if-map (HasRun k m way.number q.number a) (λ answer. Contains k.past (with_two m (Ran way.number q.number q.req_type) a.ask answer)) q.answer (λ answer r. subst (λ (y : ℕ). Contains k.past (with_two m (Ran way.number q.number y) a.ask answer)) (sym g.req_type) (is_true.runs m way.number q.number _ r)) g.answer;
+        answer = if-map (HasRun k m way.number q.number a)
+            (λ answer. Contains k.past (with_two m (Ran way.number q.number q.req_type) a.ask
+            answer)) q.answer (λ answer r. subst (λ (y : ℕ). Contains k.past
+            (with_two m (Ran way.number q.number y) a.ask answer)) (sym g.req_type)
+            (is_true.runs m way.number q.number _ r)) g.answer;
       }
 
   served-of : (m : ℕ) (way : Way) (q : Served) → GoodServed k m way q → IsOfCall k.past m way q
-  served-of m way q g = record { call = g.start.what.number; room = g.start.what.room; ask = g.start.what.ask; holds = holds-of m way q g }
+  served-of m way q g =
+      record {
+        call = g.start.what.number;
+        room = g.start.what.room;
+        ask = g.start.what.ask;
+        holds = holds-of m way q g;
+      }
 
   job-of-call : (m : ℕ) (job : Job) → GoodJob k m job → IsOfJob k.past m job
   job-of-call m job g =
@@ -53,61 +70,115 @@ module _ (k : Known) (is_true : IsTrue k) where
         node = g.end.home;
         call = a.number;
         room = a.room;
-        own = call-of k.past g.end.home g.end.client job.request g.start a.number m job.session job.request job.req_type job.ask (is_true.starts g.end.home g.end.client job.request g.start g.begun) refl (ap (λ (w : Way). w.peer) g.way_is) (ap (λ (w : Way). w.other) g.way_is) refl (sym g.req_type) (sym g.own);
+        own = call-of k.past g.end.home g.end.client job.request g.start a.number m job.session
+            job.request job.req_type job.ask (is_true.starts g.end.home g.end.client job.request
+            g.start g.begun) refl (ap (λ (w : Way). w.peer) g.way_is)
+            (ap (λ (w : Way). w.other) g.way_is) refl (sym g.req_type) (sym g.own);
       }
 
-  run-of : (way : Way) (a : Asking) (p : Progress) (answer : Option ℕ) → GoodAnswer k way a p.request p.got p.parts answer → IfSome answer (IsOfRun k.past way a p)
+  run-of : (way : Way) (a : Asking) (p : Progress) (answer : Option ℕ)
+      → GoodAnswer k way a p.request p.got p.parts answer → IfSome answer (IsOfRun k.past way a p)
   run-of way a p None h = tt
-  run-of way a p (Some size) h = record { answer = h.answer; ran = is_true.runs way.peer way.other p.request _ h.ran; sized = h.sized; parts = h.taken }
+  run-of way a p (Some size) h =
+      record {
+        answer = h.answer;
+        ran = is_true.runs way.peer way.other p.request _ h.ran;
+        sized = h.sized;
+        parts = h.taken;
+      }
 
-  session-of : (n : ℕ) (way : Way) (a : Asking) (p : Progress) → GoodProgress k n way a p → IsOfSession k.past n way a p
+  session-of : (n : ℕ) (way : Way) (a : Asking) (p : Progress) → GoodProgress k n way a p
+      → IsOfSession k.past n way a p
   session-of n way a p g =
       let b : Begin = record { way = way; what = a } in
       record {
-        own = call-of k.past n way.number p.request b a.number way.peer way.other p.request a.req_type a.ask (is_true.starts n way.number p.request b g.begun) refl refl refl refl refl refl;
+        own = call-of k.past n way.number p.request b a.number way.peer way.other p.request
+            a.req_type a.ask (is_true.starts n way.number p.request b g.begun) refl refl refl refl
+            refl refl;
         answer = run-of way a p p.answer g.answer;
       }
 
   call-is : (n : ℕ) (way : Way) (c : Call) → GoodCall k n way c → IfSome c.progress (IsOfSession k.past n way c.what)
-  call-is n way c g = if-map (GoodProgress k n way c.what) (IsOfSession k.past n way c.what) c.progress (session-of n way c.what) g.progress
+  call-is n way c g = if-map (GoodProgress k n way c.what)
+      (IsOfSession k.past n way c.what) c.progress (session-of n way c.what) g.progress
 
 pub good-ends : (w : Moment) → AllRight w → Good w → TwoEnds w
 good-ends w i g =
     let k = g.known in
     record {
-      servers = λ m l is. subst (λ (past : List Fact). AllByRecursion (λ v. AllByRecursion (IsOfCall past m v.way) v.slots) l.servers) g.past
-          (placed-all (GoodServer k m) (λ v. AllByRecursion (IsOfCall k.past m v.way) v.slots) l.servers (λ t v s. all-map (GoodServed k m v.way) (IsOfCall k.past m v.way) v.slots (served-of k g.is_true m v.way) s.slots) ((g.nodes m l is).servers));
+      servers = λ m l is. subst (λ (past : List Fact). AllByRecursion
+          (λ v. AllByRecursion (IsOfCall past m v.way) v.slots) l.servers) g.past
+          (placed-all (GoodServer k m) (λ v. AllByRecursion (IsOfCall k.past m v.way) v.slots)
+          l.servers (λ t v s. all-map (GoodServed k m v.way)
+          (IsOfCall k.past m v.way) v.slots (served-of k g.is_true m v.way) s.slots)
+          ((g.nodes m l is).servers));
       jobs = λ m l is. subst (λ (past : List Fact). AllByRecursion (IsOfJob past m) l.jobs.out) g.past
           (all-map (GoodJob k m) (IsOfJob k.past m) l.jobs.out (job-of-call k g.is_true m) ((g.nodes m l is).jobs));
-      clients = λ n l is. subst (λ (past : List Fact). AllByRecursion (λ x. AllByRecursion (λ c. IfSome c.progress (IsOfSession past n x.way c.what)) x.calls) l.clients) g.past
-          (placed-all (GoodClient k n) (λ x. AllByRecursion (λ c. IfSome c.progress (IsOfSession k.past n x.way c.what)) x.calls) l.clients (λ i x s. all-map (GoodCall k n x.way) (λ c. IfSome c.progress (IsOfSession k.past n x.way c.what)) x.calls (call-is k g.is_true n x.way) s.calls) ((g.nodes n l is).clients));
+      clients = λ n l is. subst (λ (past : List Fact). AllByRecursion
+          (λ x. AllByRecursion (λ c. IfSome c.progress (IsOfSession past n x.way c.what)) x.calls)
+          l.clients) g.past
+          (placed-all (GoodClient k n) (λ x. AllByRecursion
+          (λ c. IfSome c.progress (IsOfSession k.past n x.way c.what)) x.calls) l.clients
+          (λ i x s. all-map (GoodCall k n x.way)
+          (λ c. IfSome c.progress (IsOfSession k.past n x.way c.what)) x.calls
+          (call-is k g.is_true n x.way) s.calls) ((g.nodes n l is).clients));
     }
 
 -- between the two facts of a pairing
 module _ (f : Fact) (past : List Fact) where
-  more-call : (n c m t r y room : ℕ) (ask : List ℕ) → IsCallOf past n c m t r y room ask → IsCallOf (f ∷ past) n c m t r y room ask
-  more-call n c m t r y room ask h = record { session = h.session; ends = ends-more f past n h.session m t h.ends; asked = contains-more f _ past h.asked; begun = contains-more f _ past h.begun }
+  more-call : (n c m t r y room : ℕ) (ask : List ℕ) → IsCallOf past n c m t r y room ask
+      → IsCallOf (f ∷ past) n c m t r y room ask
+  more-call n c m t r y room ask h =
+      record {
+        session = h.session;
+        ends = ends-more f past n h.session m t h.ends;
+        asked = contains-more f _ past h.asked;
+        begun = contains-more f _ past h.begun;
+      }
 
-  more-holds : (m : ℕ) (way : Way) (q : Served) (call room : ℕ) (ask : List ℕ) → HoldsCall past m way q call room ask → HoldsCall (f ∷ past) m way q call room ask
+  more-holds : (m : ℕ) (way : Way) (q : Served) (call room : ℕ) (ask : List ℕ)
+      → HoldsCall past m way q call room ask → HoldsCall (f ∷ past) m way q call room ask
   more-holds m way q call room ask h = record {
     own = more-call way.peer call m way.number q.number q.req_type room ask h.own;
     size = h.size;
     parts = h.parts;
-    answer = if-map (λ a. Contains past (with_two m (Ran way.number q.number q.req_type) ask a)) (λ a. Contains (f ∷ past) (with_two m (Ran way.number q.number q.req_type) ask a)) q.answer (λ a c. contains-more f _ past c) h.answer;
+    answer = if-map (λ a. Contains past (with_two m (Ran way.number q.number q.req_type) ask a))
+        (λ a. Contains (f ∷ past) (with_two m (Ran way.number q.number q.req_type) ask a)) q.answer
+        (λ a c. contains-more f _ past c) h.answer;
   }
 
   more-served : (m : ℕ) (way : Way) (q : Served) → IsOfCall past m way q → IsOfCall (f ∷ past) m way q
-  more-served m way q h = record { call = h.call; room = h.room; ask = h.ask; holds = more-holds m way q h.call h.room h.ask h.holds }
+  more-served m way q h =
+      record {
+        call = h.call;
+        room = h.room;
+        ask = h.ask;
+        holds = more-holds m way q h.call h.room h.ask h.holds;
+      }
 
-  more-session : (n : ℕ) (way : Way) (a : Asking) (p : Progress) → IsOfSession past n way a p → IsOfSession (f ∷ past) n way a p
+  more-session : (n : ℕ) (way : Way) (a : Asking) (p : Progress) → IsOfSession past n way a p
+      → IsOfSession (f ∷ past) n way a p
   more-session n way a p h = record {
     own = more-call n a.number way.peer way.other p.request a.req_type a.room a.ask h.own;
-    answer = if-map (IsOfRun past way a p) (IsOfRun (f ∷ past) way a p) p.answer (λ size r. record { answer = r.answer; ran = contains-more f _ past r.ran; sized = r.sized; parts = r.parts }) h.answer;
+    answer = if-map (IsOfRun past way a p) (IsOfRun (f ∷ past) way a p) p.answer
+        (λ size r. record {
+          answer = r.answer;
+          ran = contains-more f _ past r.ran;
+          sized = r.sized;
+          parts = r.parts;
+        }) h.answer;
   }
 
-  more-jobs : (m : ℕ) (jobs : List Job) → AllByRecursion (IsOfJob past m) jobs → AllByRecursion (IsOfJob (f ∷ past) m) jobs
+  more-jobs : (m : ℕ) (jobs : List Job) → AllByRecursion (IsOfJob past m) jobs
+      → AllByRecursion (IsOfJob (f ∷ past) m) jobs
   more-jobs m jobs h =
-      all-map (IsOfJob past m) (IsOfJob (f ∷ past) m) jobs (λ j k. record { node = k.node; call = k.call; room = k.room; own = more-call k.node k.call m j.session j.request j.req_type k.room j.ask k.own }) h
+      all-map (IsOfJob past m) (IsOfJob (f ∷ past) m) jobs
+      (λ j k. record {
+        node = k.node;
+        call = k.call;
+        room = k.room;
+        own = more-call k.node k.call m j.session j.request j.req_type k.room j.ask k.own;
+      }) h
 
   abbrev JobsOf : List Fact → ℕ → Lists → Type 0
   JobsOf p m l = AllByRecursion (IsOfJob p m) l.jobs.out
@@ -116,32 +187,68 @@ module _ (f : Fact) (past : List Fact) where
   ServersOf p m l = AllByRecursion (λ v. AllByRecursion (IsOfCall p m v.way) v.slots) l.servers
 
   abbrev ClientsOf : List Fact → ℕ → Lists → Type 0
-  ClientsOf p n l = AllByRecursion (λ x. AllByRecursion (λ c. IfSome c.progress (IsOfSession p n x.way c.what)) x.calls) l.clients
+  ClientsOf p n l = AllByRecursion (λ x. AllByRecursion
+      (λ c. IfSome c.progress (IsOfSession p n x.way c.what)) x.calls) l.clients
 
   more-servers : (m : ℕ) (l : Lists) → ServersOf past m l → ServersOf (f ∷ past) m l
-  more-servers m l h = all-map (λ v. AllByRecursion (IsOfCall past m v.way) v.slots) (λ v. AllByRecursion (IsOfCall (f ∷ past) m v.way) v.slots) l.servers (λ v s. all-map (IsOfCall past m v.way) (IsOfCall (f ∷ past) m v.way) v.slots (more-served m v.way) s) h
+  more-servers m l h =
+      all-map (λ v. AllByRecursion (IsOfCall past m v.way) v.slots)
+      (λ v. AllByRecursion (IsOfCall (f ∷ past) m v.way) v.slots) l.servers
+      (λ v s. all-map (IsOfCall past m v.way)
+      (IsOfCall (f ∷ past) m v.way) v.slots (more-served m v.way) s) h
 
   more-clients : (n : ℕ) (l : Lists) → ClientsOf past n l → ClientsOf (f ∷ past) n l
-  more-clients n l h = all-map (λ x. AllByRecursion (λ c. IfSome c.progress (IsOfSession past n x.way c.what)) x.calls) (λ x. AllByRecursion (λ c. IfSome c.progress (IsOfSession (f ∷ past) n x.way c.what)) x.calls) l.clients (λ x s. all-map (λ c. IfSome c.progress (IsOfSession past n x.way c.what)) (λ c. IfSome c.progress (IsOfSession (f ∷ past) n x.way c.what)) x.calls (λ c t. if-map (IsOfSession past n x.way c.what) (IsOfSession (f ∷ past) n x.way c.what) c.progress (more-session n x.way c.what) t) s) h
+  more-clients n l h =
+      all-map (λ x. AllByRecursion (λ c. IfSome c.progress (IsOfSession past n x.way c.what))
+      x.calls) (λ x. AllByRecursion (λ c. IfSome c.progress (IsOfSession (f ∷ past) n x.way c.what))
+      x.calls) l.clients (λ x s. all-map (λ c. IfSome c.progress (IsOfSession past n x.way c.what))
+      (λ c. IfSome c.progress (IsOfSession (f ∷ past) n x.way c.what)) x.calls
+      (λ c t. if-map (IsOfSession past n x.way c.what)
+      (IsOfSession (f ∷ past) n x.way c.what) c.progress (more-session n x.way c.what) t) s) h
 
-between-ends : (w : Moment) (n m credits : ℕ) (client server : Lists) → Ends w n m credits client server → TwoEnds w → TwoEnds (moved w (client_fact n m credits client server))
+between-ends : (w : Moment) (n m credits : ℕ) (client server : Lists)
+    → Ends w n m credits client server → TwoEnds w
+    → TwoEnds (moved w (client_fact n m credits client server))
 between-ends w n m credits client server e h =
     let one : Fact = client_fact n m credits client server in
-    let nodes_are : changed w.clock (Some client) n w.nodes one ≡ (moved w one).nodes = ap (λ (o : Option Lists). changed w.clock o n w.nodes one) (sym e.is_client) in
-    let new = all-add (λ x. AllByRecursion (λ c. IfSome c.progress (IsOfSession (one ∷ w.past) n x.way c.what)) x.calls) client.clients _ (more-clients one w.past n client (h.clients n client e.is_client)) tt in
+    let nodes_are : changed w.clock (Some client) n w.nodes one ≡ (moved w one).nodes =
+    ap (λ (o : Option Lists). changed w.clock o n w.nodes one) (sym e.is_client) in
+    let new = all-add (λ x. AllByRecursion (λ c. IfSome c.progress
+    (IsOfSession (one ∷ w.past) n x.way c.what)) x.calls) client.clients _
+    (more-clients one w.past n client (h.clients n client e.is_client)) tt in
     record {
       servers = subst (λ (ns : List Lists). Placed (ServersOf one w.past (one ∷ w.past)) ns) nodes_are
-          (set-placed (ServersOf one w.past (one ∷ w.past)) w.nodes n client (after w.clock client one) e.is_client (more-servers one w.past n client (h.servers n client e.is_client)) (λ i l ne is. more-servers one w.past i l (h.servers i l is)));
+          (set-placed (ServersOf one w.past (one ∷ w.past)) w.nodes n client
+          (after w.clock client one) e.is_client
+          (more-servers one w.past n client (h.servers n client e.is_client))
+          (λ i l ne is. more-servers one w.past i l (h.servers i l is)));
       jobs = subst (λ (ns : List Lists). Placed (JobsOf one w.past (one ∷ w.past)) ns) nodes_are
-          (set-placed (JobsOf one w.past (one ∷ w.past)) w.nodes n client (after w.clock client one) e.is_client (more-jobs one w.past n client.jobs.out (h.jobs n client e.is_client)) (λ i l ne is. more-jobs one w.past i l.jobs.out (h.jobs i l is)));
+          (set-placed (JobsOf one w.past (one ∷ w.past)) w.nodes n client (after w.clock client one)
+          e.is_client (more-jobs one w.past n client.jobs.out (h.jobs n client e.is_client))
+          (λ i l ne is. more-jobs one w.past i l.jobs.out (h.jobs i l is)));
       clients = subst (λ (ns : List Lists). Placed (ClientsOf one w.past (one ∷ w.past)) ns) nodes_are
-          (set-placed (ClientsOf one w.past (one ∷ w.past)) w.nodes n client (after w.clock client one) e.is_client new (λ i l ne is. more-clients one w.past i l (h.clients i l is)));
+          (set-placed (ClientsOf one w.past (one ∷ w.past)) w.nodes n client
+          (after w.clock client one) e.is_client new
+          (λ i l ne is. more-clients one w.past i l (h.clients i l is)));
     }
 
 pub course-ends : (w : Moment) (h : List Fact) (u : Moment) → Course w h u → AllRight w → Good w → Always TwoEnds w h
 course-ends _ _ _ (over w) i g = good-ends w i g
-course-ends _ _ _ (in_net w f h u who c) i g = (good-ends w i g, course-ends (moved w f) h u c (right-net w f who i) (good-net w f who g))
-course-ends _ _ _ (made w ring h u c) i g = (good-ends w i g, course-ends _ h u c (right-made w ring i) (good-made w ring g))
-course-ends _ _ _ (at_node w n l f h u a c) i g = (good-ends w i g, course-ends (moved w f) h u c (right-noted w n l f a i) (good-node w n l f a i g))
-course-ends _ _ _ (pairs w n m credits client server h u e c) i g =
-    (good-ends w i g, (between-ends w n m credits client server e (good-ends w i g), course-ends (paired w n m credits client server) h u c (right-paired w n m credits client server e i) (good-paired w n m credits client server e g)))
+course-ends _ _ _ (in_net w f h u who c) i g =
+    (good-ends w i g, course-ends (moved w f) h u c (right-net w f who i) (good-net w f who g))
+course-ends _ _ _ (made w ring h u c) i g =
+    (good-ends w i g, course-ends _ h u c (right-made w ring i) (good-made w ring g))
+course-ends _ _ _ (at_node w n l f h u a c) i g = (
+  good-ends w i g,
+  course-ends (moved w f) h u c (right-noted w n l f a i)
+      (good-node w n l f a i g),
+)
+course-ends _ _ _ (pairs w n m credits client server h u e c) i g = (
+  good-ends w i g,
+  (
+    between-ends w n m credits client server e (good-ends w i g),
+    course-ends (paired w n m credits client server) h u c
+        (right-paired w n m credits client server e i)
+        (good-paired w n m credits client server e g),
+  ),
+)

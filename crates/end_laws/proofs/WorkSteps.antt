@@ -1,5 +1,7 @@
 -- Working jobs and finishing them notes only what is allowed.
-use Rattle.std.proofs.Common.{◌≡◌, ◌==◌, not, sym, ◌<◌, ◌≤◌, ◌-◌, ◌*◌, inr, ℕ, zero, suc, Bool, true, false, cond, List, [], ◌∷◌, length, Option, Some, None, slice_get, refl, ap, ◌∙◌, subst, arith}
+use Rattle.std.proofs.Common.{◌≡◌, ◌==◌, not, sym, ◌<◌, ◌≤◌, ◌-◌, ◌*◌, inr, ℕ, zero, suc, Bool}
+use Rattle.std.proofs.Common.{true, false, cond, List, [], ◌∷◌, length, Option, Some, None}
+use Rattle.std.proofs.Common.{slice_get, refl, ap, ◌∙◌, subst, arith}
 use Rattle.std.specs.Prelude.{map}
 use Rattle.std.specs.List.{find, AllByRecursion}
 use Rattle.std.proofs.lemmas.Bool.{eqb-true}
@@ -7,9 +9,12 @@ use Rattle.packet_header.specs.Parts.{packet_count}
 use Rattle.packet_header.proofs.PartsLemmas.{packet_count-one, packet_count_needed}
 use Rattle.rpc_base.specs.Tables.{at_first}
 use Rattle.rpc_base.proofs.TakingLemmas.{find-passes}
-use Rattle.rpc_base.specs.declared.event.Event.TheVariants.{Closing, NcloseState, NcloseBusy, Rated, Nrate, NconnectRing, NconnectNumbers, Posted, Worked, Ran}
+use Rattle.rpc_base.specs.declared.event.Event.TheVariants.{Closing, NcloseState, NcloseBusy, Rated}
+use Rattle.rpc_base.specs.declared.event.Event.TheVariants.{Nrate, NconnectRing, NconnectNumbers}
+use Rattle.rpc_base.specs.declared.event.Event.TheVariants.{Posted, Worked, Ran}
 use Rattle.rpc_base.specs.declared.state.SessionState.{SessionState}
-use Rattle.rpc_laws.specs.Groups.{Connects, Disconnects, SetsRate, state_of, pending, shares, clients_spent, has_no_room, client_refusal, connect_by}
+use Rattle.rpc_laws.specs.Groups.{Connects, Disconnects, SetsRate, state_of, pending, shares}
+use Rattle.rpc_laws.specs.Groups.{clients_spent, has_no_room, client_refusal, connect_by}
 use Rattle.rpc_laws.specs.Sessions.{is_client, is_connected, is_live}
 use Rattle.rpc_base.specs.declared.event.Event.{Event}
 use Rattle.end_laws.specs.OnlyPairs.{is_of_control, OnlyPairs}
@@ -54,7 +59,9 @@ posts-walk true hand clock l job answer i h =
     let right = stands-right l.servers t r q i.slots h.stands in
     let number : q.number ≡ r = eqb-true q.number r (find-passes (is_request r) v.slots q h.stands.is_there) in
     let change = at_first (is_request r) (answered answer) in
-    let there : find (is_request r) (change v.slots) ≡ Some (answered answer q) = find-first (is_request r) (answered answer) v.slots q h.stands.is_there (find-passes (is_request r) v.slots q h.stands.is_there) in
+    let there : find (is_request r) (change v.slots) ≡ Some (answered answer q) =
+    find-first (is_request r) (answered answer) v.slots q h.stands.is_there
+    (find-passes (is_request r) v.slots q h.stands.is_there) in
     let apart : Apart v.slots = all-found (λ v. Apart v.slots) (is_server t) l.servers v i.sound h.stands.found in (
       record {
         who = refl;
@@ -62,7 +69,8 @@ posts-walk true hand clock l job answer i h =
           server = with_slots change v;
           found = slots-found change t l.servers v h.stands.found;
           request = answered answer q;
-          in_slot = slot-of-request r (change v.slots) (answered answer q) (apart-answered r answer v.slots apart) there;
+          in_slot = slot-of-request r (change v.slots) (answered answer q)
+              (apart-answered r answer v.slots apart) there;
           number = number;
           was_taken = low-packet (length job.ask) q.taken h.long right.some;
         };
@@ -78,17 +86,29 @@ module _ (hand : Option InFlight) where
       let job = h.job in
       let fits = out-job l session request job i.jobs h.is_out in
       let of = job-number session request l.jobs.out job h.is_out in
-      let here : find (is_job job.session request) l.jobs.out ≡ Some job = subst (λ (a : ℕ). find (is_job a request) l.jobs.out ≡ Some job) (sym of.0) h.is_out in
-      let is_out : find (is_job job.session job.request) l.jobs.out ≡ Some job = subst (λ (b : ℕ). find (is_job job.session b) l.jobs.out ≡ Some job) (sym of.1) here in
-      let run : IsAllowed hand l (with_two l.me (Ran job.session job.request job.req_type) job.ask h.answer) = record {
+      let here : find (is_job job.session request) l.jobs.out ≡ Some job =
+      subst (λ (a : ℕ). find (is_job a request) l.jobs.out ≡ Some job)
+      (sym of.0) h.is_out in
+      let is_out : find (is_job job.session job.request) l.jobs.out ≡ Some job =
+      subst (λ (b : ℕ). find (is_job job.session b) l.jobs.out ≡ Some job)
+      (sym of.1) here in
+      let run : IsAllowed hand l (with_two l.me (Ran job.session job.request job.req_type) job.ask
+      h.answer) = record {
         who = refl;
         may = inr (record { job = job; is_out = is_out; of_type = refl; own = refl });
       } in
-      walked-goes RightNode right-stays hand s x t i (rw h.facts (run, inr (record { job = job; is_out = is_out; own = refl }), posts-walk (is_awaited job l.servers) hand s.clock l job h.answer i fits)) h.goes
+      walked-goes RightNode right-stays hand s x t i
+      (rw h.facts (
+        run,
+        inr (record { job = job; is_out = is_out; own = refl }),
+        posts-walk (is_awaited job l.servers) hand s.clock l job h.answer i fits,
+      )) h.goes
 
   finishes-each : (worked : List WorkedJob) → Fine RightNode hand (FinishesEach worked)
   finishes-each [] s x t o i h = walked-none RightNode hand s x t i h.0 h.1
-  finishes-each (w ∷ ws) s x t o i h = fine-then RightNode hand (Finishes w.session w.request) (FinishesEach ws) (finishes-fine w.session w.request) (finishes-each ws) s x t o i h
+  finishes-each (w ∷ ws) s x t o i h =
+      fine-then RightNode hand (Finishes w.session w.request) (FinishesEach ws)
+      (finishes-fine w.session w.request) (finishes-each ws) s x t o i h
 
   pub finishes-worked : (worked : List WorkedJob) → Fine RightNode hand (FinishesWorked worked)
   finishes-worked worked s x t o i h = finishes-each h.done s x t o i h.finishes
@@ -102,10 +122,18 @@ abbrev pub AllWork : ℕ → List Fact → Type 0
 AllWork me x = AllByRecursion (IsWork me) x
 
 worked-work : (me t r : ℕ) → IsWork me (plain me (Worked t r))
-worked-work me t r = record { free = record { who = refl; may = λ hand l. tt; linked = λ latest l. tt }; still = λ c d l. refl }
+worked-work me t r =
+    record {
+      free = record { who = refl; may = λ hand l. tt; linked = λ latest l. tt };
+      still = λ c d l. refl;
+    }
 
 pub work-one : (me i : ℕ) (job : Option Job) → IsWork me (plain me (work_of i job))
-work-one me i None = record { free = record { who = refl; may = λ hand l. tt; linked = λ latest l. tt }; still = λ c d l. refl }
+work-one me i None =
+    record {
+      free = record { who = refl; may = λ hand l. tt; linked = λ latest l. tt };
+      still = λ c d l. refl;
+    }
 work-one me i (Some job) = worked-work me job.session job.request
 
 pub all-free : (me : ℕ) (x : List Fact) → AllWork me x → AllFree me x
@@ -121,51 +149,117 @@ pub record WorksSo (hand : Option InFlight) (s : Timed) (x : List Fact) (t : Tim
   pub all : AllWork s.lists.me x
   pub walked : Walked RightNode hand s x t
 
-work-goes : (hand : Option InFlight) (s : Timed) (x : List Fact) (t : Timed) → RightNode s.lists → AllWork s.lists.me x → Goes s x t → WorksSo hand s x t
-work-goes hand s x t i h g = record { all = h; walked = walked-goes RightNode right-stays hand s x t i (free-walks hand None s.clock s.lists x (all-free s.lists.me x h)) g }
+work-goes : (hand : Option InFlight) (s : Timed) (x : List Fact) (t : Timed) → RightNode s.lists
+    → AllWork s.lists.me x → Goes s x t → WorksSo hand s x t
+work-goes hand s x t i h g =
+    record {
+      all = h;
+      walked = walked-goes RightNode right-stays hand s x t i
+          (free-walks hand None s.clock s.lists x (all-free s.lists.me x h)) g;
+    }
 
-pub work-any : (hand : Option InFlight) (worked : List WorkedJob) (i : ℕ) (s : Timed) (x : List Fact) (t : Timed) → RightNode s.lists → Works worked i s x t → WorksSo hand s x t
-work-any hand worked i s x t inv h = work-goes hand s x t inv (rw h.facts (work-one s.lists.me i (slice_get (waiting_of worked s.lists) i), tt)) h.goes
+pub work-any : (hand : Option InFlight) (worked : List WorkedJob) (i : ℕ) (s : Timed)
+    (x : List Fact) (t : Timed) → RightNode s.lists → Works worked i s x t → WorksSo hand s x t
+work-any hand worked i s x t inv h =
+    work-goes hand s x t inv (rw h.facts (
+      work-one s.lists.me i
+          (slice_get (waiting_of worked s.lists) i),
+      tt,
+    )) h.goes
 
 all-worked : (me : ℕ) (jobs : List Job) → AllWork me (map (λ job. plain me (Worked job.session job.request)) jobs)
 all-worked me [] = tt
 all-worked me (job ∷ jobs) = (worked-work me job.session job.request, all-worked me jobs)
 
-pub work-all : (hand : Option InFlight) (worked : List WorkedJob) (s : Timed) (x : List Fact) (t : Timed) → RightNode s.lists → WorksAll worked s x t → WorksSo hand s x t
-work-all hand worked s x t i h = work-goes hand s x t i (rw h.facts (all-worked s.lists.me (waiting_of worked s.lists))) h.goes
+pub work-all : (hand : Option InFlight) (worked : List WorkedJob) (s : Timed) (x : List Fact)
+    (t : Timed) → RightNode s.lists → WorksAll worked s x t → WorksSo hand s x t
+work-all hand worked s x t i h =
+    work-goes hand s x t i (rw h.facts (all-worked s.lists.me (waiting_of worked s.lists))) h.goes
 
 -- a refused connect, a refused disconnect and a rate are such facts too
-refused-work : (a b : Bool) (me credits shares room : ℕ) (e : Event) → cond a (Some NconnectNumbers) (cond b (Some (NconnectRing shares credits room)) None) ≡ Some e → IsWork me (plain me e)
+refused-work : (a b : Bool) (me credits shares room : ℕ) (e : Event)
+    → cond a (Some NconnectNumbers) (cond b (Some (NconnectRing shares credits room)) None) ≡ Some e
+    → IsWork me (plain me e)
 refused-work true b me credits shares room e h =
-    let same : e ≡ NconnectNumbers = cc in rw same (record { free = record { who = refl; may = λ hand l. tt; linked = λ latest l. tt }; still = λ c d l. refl })
+    let same : e ≡ NconnectNumbers =
+    cc in rw same (record {
+      free = record {
+        who = refl;
+        may = λ hand l. tt;
+        linked = λ latest l. tt;
+      };
+      still = λ c d l. refl;
+    })
 refused-work false true me credits shares room e h =
-    let same : e ≡ NconnectRing shares credits room = cc in rw same (record { free = record { who = refl; may = λ hand l. tt; linked = λ latest l. tt }; still = λ c d l. refl })
+    let same : e ≡ NconnectRing shares credits room =
+    cc in rw same (record {
+      free = record {
+        who = refl;
+        may = λ hand l. tt;
+        linked = λ latest l. tt;
+      };
+      still = λ c d l. refl;
+    })
 refused-work false false me credits shares room e h = cc
 
-connect-work : (refusal : Option Event) (peer credits : ℕ) (l : Lists) → client_refusal credits l ≡ refusal → OnlyPairs (connect_by refusal peer credits 0 l) → AllWork l.me (connect_by refusal peer credits 0 l)
+connect-work : (refusal : Option Event) (peer credits : ℕ) (l : Lists)
+    → client_refusal credits l ≡ refusal → OnlyPairs (connect_by refusal peer credits 0 l)
+    → AllWork l.me (connect_by refusal peer credits 0 l)
 connect-work None peer credits l is o = false-true (sym o.0)
-connect-work (Some e) peer credits l is o = (refused-work (clients_spent l) (has_no_room credits l) l.me credits (shares l) l.room e is, tt)
+connect-work (Some e) peer credits l is o =
+    (refused-work (clients_spent l) (has_no_room credits l) l.me credits (shares l) l.room e is, tt)
 
-pub connects-so : (hand : Option InFlight) (peer credits : ℕ) (s : Timed) (x : List Fact) (t : Timed) → RightNode s.lists → OnlyPairs x → Connects peer credits 0 s x t → WorksSo hand s x t
+pub connects-so : (hand : Option InFlight) (peer credits : ℕ) (s : Timed) (x : List Fact)
+    (t : Timed) → RightNode s.lists → OnlyPairs x → Connects peer credits 0 s x t
+    → WorksSo hand s x t
 connects-so hand peer credits s x t i o h =
-    work-goes hand s x t i (rw h.facts (connect-work (client_refusal credits s.lists) peer credits s.lists refl (subst OnlyPairs h.facts o))) h.goes
+    work-goes hand s x t i (rw h.facts (connect-work (client_refusal credits s.lists) peer credits
+    s.lists refl (subst OnlyPairs h.facts o))) h.goes
 
-disconnect-work : (a b : Bool) (me session calls : ℕ) (state : SessionState) → is_of_control (cond (not a) (NcloseState session state) (cond (not b) (NcloseBusy session calls) (Closing session))) ≡ false → IsWork me (plain me (cond (not a) (NcloseState session state) (cond (not b) (NcloseBusy session calls) (Closing session))))
-disconnect-work false b me session calls state o = record { free = record { who = refl; may = λ hand l. tt; linked = λ latest l. tt }; still = λ c d l. refl }
-disconnect-work true false me session calls state o = record { free = record { who = refl; may = λ hand l. tt; linked = λ latest l. tt }; still = λ c d l. refl }
+disconnect-work : (a b : Bool) (me session calls : ℕ) (state : SessionState)
+    → is_of_control (cond (not a) (NcloseState session state)
+    (cond (not b) (NcloseBusy session calls) (Closing session))) ≡ false
+    → IsWork me (plain me (cond (not a) (NcloseState session state)
+    (cond (not b) (NcloseBusy session calls) (Closing session))))
+disconnect-work false b me session calls state o =
+    record {
+      free = record { who = refl; may = λ hand l. tt; linked = λ latest l. tt };
+      still = λ c d l. refl;
+    }
+disconnect-work true false me session calls state o =
+    record {
+      free = record { who = refl; may = λ hand l. tt; linked = λ latest l. tt };
+      still = λ c d l. refl;
+    }
 disconnect-work true true me session calls state o = false-true (sym o)
 
-pub disconnects-so : (hand : Option InFlight) (session : ℕ) (s : Timed) (x : List Fact) (t : Timed) → RightNode s.lists → OnlyPairs x → Disconnects session s x t → WorksSo hand s x t
+pub disconnects-so : (hand : Option InFlight) (session : ℕ) (s : Timed) (x : List Fact) (t : Timed)
+    → RightNode s.lists → OnlyPairs x → Disconnects session s x t → WorksSo hand s x t
 disconnects-so hand session s x t i o h =
     let only = subst OnlyPairs h.facts o in
     let client = find (is_client session) s.lists.clients in
-    work-goes hand s x t i (rw h.facts (disconnect-work (is_connected (state_of client)) (pending client == 0) s.lists.me session (pending client) (state_of client) only.0, tt)) h.goes
+    work-goes hand s x t i (rw h.facts (
+      disconnect-work (is_connected (state_of client))
+          (pending client == 0) s.lists.me session (pending client) (state_of client) only.0,
+      tt,
+    ))
+    h.goes
 
-rate-work : (b : Bool) (me session rate : ℕ) (state : SessionState) → IsWork me (plain me (cond b (Rated session rate) (Nrate session state)))
-rate-work true me session rate state = record { free = record { who = refl; may = λ hand l. tt; linked = λ latest l. tt }; still = λ c d l. refl }
-rate-work false me session rate state = record { free = record { who = refl; may = λ hand l. tt; linked = λ latest l. tt }; still = λ c d l. refl }
+rate-work : (b : Bool) (me session rate : ℕ) (state : SessionState)
+    → IsWork me (plain me (cond b (Rated session rate) (Nrate session state)))
+rate-work true me session rate state =
+    record {
+      free = record { who = refl; may = λ hand l. tt; linked = λ latest l. tt };
+      still = λ c d l. refl;
+    }
+rate-work false me session rate state =
+    record {
+      free = record { who = refl; may = λ hand l. tt; linked = λ latest l. tt };
+      still = λ c d l. refl;
+    }
 
-pub rates-so : (hand : Option InFlight) (session rate : ℕ) (s : Timed) (x : List Fact) (t : Timed) → RightNode s.lists → SetsRate session rate s x t → WorksSo hand s x t
+pub rates-so : (hand : Option InFlight) (session rate : ℕ) (s : Timed) (x : List Fact) (t : Timed)
+    → RightNode s.lists → SetsRate session rate s x t → WorksSo hand s x t
 rates-so hand session rate s x t i h =
     let state = state_of (find (is_client session) s.lists.clients) in
     work-goes hand s x t i (rw h.facts (rate-work (is_live state) s.lists.me session rate state, tt)) h.goes

@@ -3,7 +3,10 @@
 use Rattle.std.specs.Prelude.{◌≡◌, Bool, true, false, List}
 use Rattle.std.specs.List.{AllByRecursion}
 use Rattle.rpc_base.specs.declared.event.Event.{Event}
-use Rattle.rpc_base.specs.declared.event.Event.TheVariants.{Opened, Accepted, Declined, Starved, Connected, FailedNoRoom, FailedNoAnswer, Closing, ClosedHeard, ClosedUnheard, Ended, Heard, Sent, Unsent}
+use Rattle.rpc_base.specs.declared.event.Event.TheVariants.{Opened, Accepted, Declined, Starved}
+use Rattle.rpc_base.specs.declared.event.Event.TheVariants.{Connected, FailedNoRoom, FailedNoAnswer}
+use Rattle.rpc_base.specs.declared.event.Event.TheVariants.{Closing, ClosedHeard, ClosedUnheard}
+use Rattle.rpc_base.specs.declared.event.Event.TheVariants.{Ended, Heard, Sent, Unsent}
 use Rattle.rpc_base.specs.declared.fact.Fact.{Fact}
 use Rattle.rpc_base.specs.declared.owner.Owner.TheVariants.{Control}
 use Rattle.script_grammar.specs.declared.line.Command.{Command}

@@ -1,6 +1,7 @@
 -- What the two ends of a session hold is of one call: the server's requests and jobs, and the
 -- answers that calls take.
-use Rattle.std.specs.Prelude.{ℕ, ◌≡◌, ◌+◌, ◌-◌, ◌*◌, ◌||◌, Bool, not, Some, is_none, List, [], length, take, slice_get, if◌then◌else◌, IfSome, Contains}
+use Rattle.std.specs.Prelude.{ℕ, ◌≡◌, ◌+◌, ◌-◌, ◌*◌, ◌||◌, Bool, not, Some, is_none, List, []}
+use Rattle.std.specs.Prelude.{length, take, slice_get, if◌then◌else◌, IfSome, Contains}
 use Rattle.std.specs.List.{AllByRecursion}
 use Rattle.rpc_base.specs.declared.event.Event.TheVariants.{Ran}
 use Rattle.rpc_base.specs.declared.fact.Fact.{Fact}

@@ -1,23 +1,30 @@
 -- What always holds of a node, after a session began or posted.
 use Rattle.std.proofs.Common.{◌≡◌, ℕ, ◌+◌, ◌*◌, ◌≤◌, Bool, true, false, cond, Option, Some, None}
-use Rattle.std.proofs.Common.{List, [], ◌∷◌, ◌++◌, length, refl, ap, arith}
-use Rattle.std.specs.Prelude.{slice_get, IfSome}
+use Rattle.std.proofs.Common.{List, [], ◌∷◌, ◌++◌, length, refl, sym, ap, ◌∙◌, arith}
+use Rattle.std.specs.Prelude.{slice_get, IfSome, count_by, sum_by}
 use Rattle.std.specs.List.{AllByRecursion}
-use Rattle.std.proofs.lemmas.List.Sums.{sum_by-append}
+use Rattle.std.proofs.lemmas.List.Sums.{sum_by-append, sum_by-cons}
 use Rattle.rpc_base.specs.declared.owner.Owner.{Owner}
 use Rattle.rpc_base.specs.declared.owner.Owner.TheVariants.{Ask, Reply, Control}
 use Rattle.rpc_base.proofs.FirstLemmas.{counted-cons}
 use Rattle.rpc_laws.specs.declared.tables.Client.{Client}
 use Rattle.rpc_laws.specs.declared.tables.Lists.{Lists}
+use Rattle.rpc_laws.specs.declared.tables.Server.{Server}
+use Rattle.rpc_laws.specs.Groups.{live_credits}
+use Rattle.session_store.specs.Sides.{are_calls, has_calls}
 use Rattle.rpc_laws.specs.declared.tables.Queued.{Queued}
 use Rattle.rpc_laws.specs.Queues.{is_reply, put_queued, replies, stands_before}
-use Rattle.rpc_laws.specs.Sessions.{is_live}
+use Rattle.rpc_laws.specs.Posting.{if_connected}
+use Rattle.rpc_laws.specs.Sessions.{is_connected, is_live}
+use Rattle.rpc_base.specs.declared.event.Event.{Event}
+use Rattle.rpc_base.specs.declared.state.SessionState.{SessionState}
+use Rattle.node_laws.proofs.StateLemmas.{connected-live}
 use Rattle.node_laws.specs.Kept.{Kept}
 use Rattle.node_laws.specs.QueuedPackets.{asks_in, is_ask}
 use Rattle.node_laws.proofs.KeptLemmas.{kept-total}
 use Rattle.node_laws.proofs.TotalLemmas.{table_free}
 use Rattle.session_store.proofs.ListLemmas.{all-at, sum-one}
-use Rattle.endpoint_loop.specs.Fits.{FreesNone, IsReady, is_of_call}
+use Rattle.endpoint_loop.specs.Fits.{Fits, HasCredit, IsReady, IsSettled, is_of_call}
 
 -- what is queued are packets of calls and replies
 one-part : (o : Owner) → is_of_call o ≡ true → cond {A = ℕ} (is_ask o) 1 0 + cond (is_reply o) 1 0 ≡ 1
@@ -34,11 +41,11 @@ two-parts (q ∷ qs) all =
     omega (arith, one, asks, answers, two-parts qs all.1)
 
 -- there is room for the packets of a session's free credits
-free-of : (x : Client) (b : Bool) → is_live x.state ≡ b → FreesNone x → x.free ≤ cond b x.free 0
-free-of x true t none = omega arith
-free-of x false t none = omega (arith, none t)
+free-of : (x : Client) (b : Bool) → is_live x.state ≡ b → IsSettled x → x.free ≤ cond b x.free 0
+free-of x true t settled = omega arith
+free-of x false t settled = omega (arith, settled.none_free t)
 
-pub has-room : (s : Lists) (size i : ℕ) → Kept s → AllByRecursion FreesNone s.clients
+pub has-room : (s : Lists) (size i : ℕ) → Kept s → AllByRecursion IsSettled s.clients
     → AllByRecursion IsReady s.queued → replies s.queued ≤ s.room → size ≡ 2 * s.room
     → IfSome (slice_get s.clients i) (λ x. length s.queued + x.free ≤ size)
 has-room s size i kept over ready few long = cases (slice_get s.clients i) refl
@@ -49,7 +56,7 @@ has-room s size i kept over ready few long = cases (slice_get s.clients i) refl
     cases (Some x) e =
         let total = kept-total s kept in
         let one = sum-one table_free s.clients i x e in
-        let free = free-of x (is_live x.state) refl (all-at FreesNone s.clients i x over e) in
+        let free = free-of x (is_live x.state) refl (all-at IsSettled s.clients i x over e) in
         omega (arith, two-parts s.queued ready, total, one, free, few, long)
 
 -- a packet that isn't paced goes behind those that aren't
@@ -67,3 +74,69 @@ pub replies-ask : (qs : List Queued) (q : Queued) → is_reply q.owner ≡ false
 replies-ask qs q none =
     let one = counted-cons (λ (p : Queued). is_reply p.owner) q [] false none in
     omega (arith, sum_by-append (λ (p : Queued). cond (is_reply p.owner) 1 0) qs (q ∷ []), one)
+
+-- a session with calls is live, and has a credit
+busy-one : (x : Client) (b c : Bool) → IsSettled x → are_calls x.calls ≡ c → is_live x.state ≡ b
+    → cond {A = ℕ} c 1 0 ≤ cond b x.limit 0
+busy-one x true true settled busy live = settled.some
+busy-one x true false settled busy live = omega arith
+busy-one x false false settled busy live = omega arith
+busy-one x false true settled busy live = let none = settled.none_left live in absurd-calls none busy
+  where
+    absurd-calls : x.calls ≡ [] → are_calls x.calls ≡ true → 1 ≤ 0
+    absurd-calls none some = let clash : false ≡ true = ap are_calls (sym none) ∙ some in cc
+
+busy-clients : (xs : List Client) → AllByRecursion IsSettled xs
+    → count_by has_calls xs ≤ sum_by live_credits xs
+busy-clients [] all = omega arith
+busy-clients (x ∷ xs) all =
+    let one = busy-one x (is_live x.state) (has_calls x) all.0 refl refl in
+    omega (
+      arith,
+      one,
+      counted-cons has_calls x xs (has_calls x) refl,
+      sum_by-cons live_credits x xs,
+      busy-clients xs all.1,
+    )
+
+all-servers : (vs : List Server) → AllByRecursion HasCredit vs
+    → length vs ≤ sum_by (λ v. v.credits) vs
+all-servers [] all = omega arith
+all-servers (v ∷ vs) all =
+    omega (arith, all.0, sum_by-cons (λ (w : Server). w.credits) v vs, all-servers vs all.1)
+
+-- the pool has a place for each buffer that the sessions may have
+pub has-places : (s : Lists) (places : ℕ) → Kept s → AllByRecursion IsSettled s.clients
+    → AllByRecursion HasCredit s.servers → 1 ≤ s.jobs.limit
+    → places ≡ 16 * s.room + 2 * s.jobs.limit
+    → 16 * (count_by has_calls s.clients + length s.servers) + 2 ≤ places
+has-places s places kept settled credits jobs long =
+    omega (
+      arith,
+      busy-clients s.clients settled,
+      all-servers s.servers credits,
+      kept.valid.shared,
+      jobs,
+      long,
+    )
+
+-- a live session that keeps its state and its limit stays so
+pub settled-live : (x y : Client) → IsSettled x → is_live x.state ≡ true → y.state ≡ x.state
+    → y.limit ≡ x.limit → IsSettled y
+settled-live x y settled live state limit =
+    let up : is_live y.state ≡ true = ap is_live state ∙ live in
+    record {
+      some = omega (arith, limit, settled.some);
+      none_free = λ closed. let clash : true ≡ false = sym up ∙ closed in cc;
+      none_left = λ closed. let clash : true ≡ false = sym up ∙ closed in cc;
+    }
+
+-- a session that has a next event is live
+next-of : (b : Bool) (state : SessionState) (o : Option Event) (e : Event)
+    → is_connected state ≡ b → cond b o None ≡ Some e → is_live state ≡ true
+next-of true state o e connected next = connected-live state connected
+next-of false state o e connected next = cc
+
+pub next-live : (next : Client → Option Event) (x : Client) (e : Event)
+    → if_connected next x ≡ Some e → is_live x.state ≡ true
+next-live next x e is = next-of (is_connected x.state) x.state (next x) e refl is

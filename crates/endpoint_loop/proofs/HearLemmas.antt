@@ -64,12 +64,14 @@ use Rattle.session_store.specs.Hearing.{RepliesAt}
 use Rattle.session_store.specs.Sides.{Shown}
 use Rattle.session_store.proofs.AscendsLemmas.{ascends-changed, ascends-without}
 use Rattle.session_store.proofs.ListLemmas.{all-at, all-set, get-own, set-own}
-use Rattle.endpoint_loop.specs.Fits.{CallsAscend, Fits, FreesNone}
+use Rattle.endpoint_loop.specs.Fits.{CallsAscend, Fits, IsSettled}
 use Rattle.endpoint_loop.specs.Hearing.{Drops, HearsReply}
 use Rattle.endpoint_loop.specs.Noting.{Makes}
-use Rattle.endpoint_loop.specs.Seen.{Tallies, arrival_of, seen_node}
+use Rattle.endpoint_loop.specs.Seen.{Tallies, arrival_of, asking_jobs, seen_node}
 use Rattle.server_core.proofs.FlushLemmas.{grew-then}
+use Rattle.endpoint_loop.proofs.FitsLemmas.{settled-live}
 use Rattle.endpoint_loop.proofs.PostLemmas.{first-at, only-at}
+use Rattle.rpc_base.proofs.BasicLemmas.{or-true}
 
 -- a call whose number stays
 module _ (p : Call → Bool) (g : Call → Call) (same : (c : Call) → (g c).what ≡ c.what) (n : ℕ) where
@@ -82,10 +84,6 @@ module _ (p : Call → Bool) (g : Call → Call) (same : (c : Call) → (g c).wh
   any-same : (cs : List Call) → list_any (is_call n) (at_first p g cs) ≡ list_any (is_call n) cs
   any-same [] = refl
   any-same (c ∷ cs) = any-cons c cs (p c) (any-same cs)
-
-or-true : (b : Bool) → (b || true) ≡ true
-or-true true = refl
-or-true false = refl
 
 module _ (p q : Call → Bool) (c : Call) where
   found-cons : (y : Call) (ys : List Call) (b : Bool) → cond b (Some y) (find p ys) ≡ Some c
@@ -125,14 +123,16 @@ progress-number : (me : ℕ) (h : MessageHeader) (body : List ℕ) (c : Call) (d
 progress-number me h body c d None e = cc
 progress-number me h body c d (Some p) e =
     let q = with_reply h body p in
-    row-number me c.what.number q.parts (end_row _ (asked_packets c.what) c.what.room q.got q.answer) d.call d.outcome _ e
+    row-number me c.what.number q.parts (end_row _ (asked_packets c.what) c.what.room q.got
+    q.answer) d.call d.outcome _ e
 
 ended-here : (me : ℕ) (h : MessageHeader) (body : List ℕ) (x : Client) (d : Done) (o : Option Call)
     → find (is_active h.request) x.calls ≡ o → call_ending me h body o ≡ done_fact me d ∷ []
     → has_call d.call x ≡ true
 ended-here me h body x d None f e = cc
 ended-here me h body x d (Some c) f e =
-    found-any (is_active h.request) (is_call d.call) c x.calls f (eq-eqb c.what.number d.call (progress-number me h body c d c.progress e))
+    found-any (is_active h.request) (is_call d.call) c x.calls f
+    (eq-eqb c.what.number d.call (progress-number me h body c d c.progress e))
 
 -- a session that takes a reply is live
 row-connected : (b : Bool) (why : DropReason) (r : ClientRow) → cond (not b)
@@ -143,10 +143,6 @@ row-connected false why r e = cc
 took-live : (queue : List Queued) (x : Client) (peer : ℕ) (h : MessageHeader) (len : ℕ)
     → client_row queue (Some x) peer h len ≡ Takes → is_live x.state ≡ true
 took-live queue x peer h len e = connected-live x.state (row-connected (is_connected x.state) NoSession _ e)
-
-live-frees : (b : Bool) (n : ℕ) → b ≡ true → b ≡ false → n ≡ 0
-live-frees true n e f = cc
-live-frees false n e f = cc
 
 -- lists of one session
 one-same : (x y : Client) → x ∷ [] ≡ y ∷ [] → x ≡ y
@@ -193,6 +189,10 @@ module _ (me : ℕ) (limits : Limits) (tallies : Tallies) (paces : List Pace) (j
   abbrev seen : Ring DatagramValue → Shown → Timed
   seen q u = seen_node me limits tallies paces jobs clock q u
 
+  -- with other jobs
+  abbrev seen_with : Jobs → Ring DatagramValue → Shown → Timed
+  seen_with js q u = seen_node me limits tallies paces js clock q u
+
   abbrev old : Lists
   old = (seen rx s).lists
 
@@ -217,12 +217,12 @@ module _ (me : ℕ) (limits : Limits) (tallies : Tallies) (paces : List Pace) (j
       dropped why u is makes = record {
         noted = makes.noted;
         grew = makes.grew;
-        step = record {
+        step = λ asks. record {
           front = arrival_of d;
           is_front = is-front;
-          facts = makes.step.facts ∙ sym is;
-          goes = makes.step.goes;
-          over = ap (λ (x : List Fact). drop 1 x) makes.step.facts;
+          facts = (makes.step asks).facts ∙ sym is;
+          goes = (makes.step asks).goes;
+          over = ap (λ (x : List Fact). drop 1 x) (makes.step asks).facts;
         };
       }
 
@@ -231,7 +231,10 @@ module _ (me : ℕ) (limits : Limits) (tallies : Tallies) (paces : List Pace) (j
           → Makes facts whole (Drops NoSession) (seen rx s) u before now
           → Makes facts whole (HearsReply h None) (seen rx s) u before now
       node-unheard u past makes =
-          let none : find (is_client h.session) s.clients ≡ None = sym (numbered-get client_no 0 h.session h.session s.clients fits.kept.valid.numbered (omega arith)) ∙ slice_get_past s.clients h.session past in
+          let none : find (is_client h.session) s.clients ≡ None =
+          sym (numbered-get client_no 0 h.session h.session s.clients
+          fits.kept.valid.numbered (omega arith))
+          ∙ slice_get_past s.clients h.session past in
           dropped NoSession u (rw none refl) makes
 
     module _ (i : ℕ) (number : h.session ≡ i) (t : Shown) (servers : t.servers ≡ s.servers)
@@ -244,26 +247,36 @@ module _ (me : ℕ) (limits : Limits) (tallies : Tallies) (paces : List Pace) (j
 
       module _ (r : Reply) (p : Told r) where
         found : find (is_client h.session) s.clients ≡ Some p.client
-        found = sym (numbered-get client_no 0 i h.session s.clients fits.kept.valid.numbered (omega (arith, number))) ∙ p.at
+        found = sym (numbered-get client_no 0 i h.session s.clients fits.kept.valid.numbered
+            (omega (arith, number))) ∙ p.at
 
-        by-row : replies_facts old d.peer h (body_of d.bytes) ≡ reply_facts me (Some p.client) h (body_of d.bytes) (row_told r)
+        by-row : replies_facts old d.peer h (body_of d.bytes)
+            ≡ reply_facts me (Some p.client) h (body_of d.bytes) (row_told r)
         by-row = rw (found, p.row s.queued refl) refl
 
         abbrev T : Client
         T = takes clock h.request (Some h) (body_of d.bytes) p.client
 
-        taken : at_first (is_client h.session) (takes clock h.request (Some h) (body_of d.bytes)) s.clients ≡ slice_set s.clients i T
+        taken : at_first (is_client h.session)
+            (takes clock h.request (Some h) (body_of d.bytes)) s.clients ≡ slice_set s.clients i T
         taken =
             let same : 0 + i ≡ h.session = omega (arith, number) in
-            subst (λ k. at_first (is_client k) (takes clock h.request (Some h) (body_of d.bytes)) s.clients ≡ slice_set s.clients i T) same (first-at (takes clock h.request (Some h) (body_of d.bytes)) 0 i s.clients p.client fits.kept.valid.numbered p.at)
+            subst (λ k. at_first (is_client k)
+            (takes clock h.request (Some h) (body_of d.bytes)) s.clients
+            ≡ slice_set s.clients i T) same
+            (first-at (takes clock h.request (Some h) (body_of d.bytes)) 0 i s.clients p.client
+            fits.kept.valid.numbered p.at)
 
         ascends-T : CallsAscend T
-        ascends-T = ascends-changed (is_active h.request) (moved (took_reply clock (Some h) (body_of d.bytes))) (λ c. refl) p.client.calls (all-at CallsAscend s.clients i p.client fits.ascends p.at)
+        ascends-T = ascends-changed (is_active h.request)
+            (moved (took_reply clock (Some h) (body_of d.bytes)))
+            (λ c. refl) p.client.calls (all-at CallsAscend s.clients i p.client fits.ascends p.at)
 
       -- a reply that is dropped changes no session
       module _ (why : DropReason) (p : Told (DroppedReply why)) where
         unchanged : t.clients ≡ s.clients
-        unchanged = p.changed ∙ ap (λ (z : Client). slice_set s.clients i z) (sym (one-same p.client p.later p.step)) ∙ set-own s.clients i p.client p.at
+        unchanged = p.changed ∙ ap (λ (z : Client). slice_set s.clients i z)
+            (sym (one-same p.client p.later p.step)) ∙ set-own s.clients i p.client p.at
 
         same-node : seen rx t ≡ seen rx s
         same-node = rw (unchanged, servers, queued) refl
@@ -275,7 +288,9 @@ module _ (me : ℕ) (limits : Limits) (tallies : Tallies) (paces : List Pace) (j
             (before now : R) (u : Timed) → Makes facts whole (Drops why) (seen rx t) u before now
             → Makes facts whole (HearsReply h None) (seen rx s) u before now
         node-dropped facts whole before now u makes =
-            dropped facts whole before now why u (by-row (DroppedReply why) p) (subst (λ (z : Timed). Makes facts whole (Drops why) z u before now) same-node makes)
+            dropped facts whole before now why u (by-row (DroppedReply why) p)
+            (subst (λ (z : Timed). Makes facts whole (Drops why) z u before now) same-node
+            makes)
 
       -- a reply that is taken
       module _ (q : Ring DatagramValue) (rest : q ≡ ring (drop 1 rx.items) rx.size) where
@@ -294,18 +309,29 @@ module _ (me : ℕ) (limits : Limits) (tallies : Tallies) (paces : List Pace) (j
         mid-clients : (r : Reply) (p : Told r) → mid.clients ≡ slice_set s.clients i (T r p)
         mid-clients r p = rw (header, body-here) (taken r p)
 
-        fits-taken : (x : List Fact) (r : Reply) (p : Told r) → row_told r ≡ Takes → x ≡ replies_facts old d.peer h (body_of d.bytes) → seen q t ≡ record { lists = after_all clock old x; clock = clock } → CallsAscend p.later → p.later.state ≡ p.client.state → Fits (seen q t) t.size t.places
-        fits-taken x r p takes-row is goes up state =
-            let live = took-live s.queued p.client d.peer h (length (body_of d.bytes)) (p.row s.queued refl ∙ takes-row) in
+        fits-taken : (x : List Fact) (r : Reply) (p : Told r) → row_told r ≡ Takes
+            → x ≡ replies_facts old d.peer h (body_of d.bytes)
+            → seen q t ≡ record { lists = after_all clock old x; clock = clock }
+            → CallsAscend p.later → p.later.state ≡ p.client.state
+            → p.later.limit ≡ p.client.limit → Fits (seen q t) t.size t.places
+        fits-taken x r p takes-row is goes up state limit =
+            let live = took-live s.queued p.client d.peer h (length (body_of d.bytes))
+            (p.row s.queued refl ∙ takes-row) in
             record {
               kept = rw (ap (λ (u : Timed). u.lists) goes) (kept-all clock old x fits.kept (all-allowed x is));
-              ascends = rw p.changed (all-set CallsAscend s.clients i p.later up (λ j y e other. all-at CallsAscend s.clients j y fits.ascends e));
+              ascends = rw p.changed (all-set CallsAscend s.clients i p.later up
+                  (λ j y e other. all-at CallsAscend s.clients j y fits.ascends e));
               unpaced = fits.unpaced;
-              over = rw p.changed (all-set FreesNone s.clients i p.later (λ closed. live-frees (is_live p.later.state) p.later.free (ap is_live state ∙ live) closed) (λ j y e other. all-at FreesNone s.clients j y fits.over e));
+              settled = rw p.changed (all-set IsSettled s.clients i p.later
+                  (settled-live p.client p.later
+                  (all-at IsSettled s.clients i p.client fits.settled p.at) live state limit)
+                  (λ j y e other. all-at IsSettled s.clients j y fits.settled e));
+              credits = rw servers fits.credits;
               ready = rw queued fits.ready;
               replies = rw (queued, same-size) fits.replies;
               packets = rw same-size (size ∙ fits.packets);
-              buffers = omega (arith, ap (λ (zs : List Client). length zs) p.changed, length-set s.clients i p.later, ap (λ (vs : List Server). length vs) servers, places, fits.buffers);
+              jobs = fits.jobs;
+              buffers = rw same-size (places ∙ fits.buffers);
             }
 
         took-as : {R : Type 0} (facts : R → Option (List Fact)) (whole : R → Bool) (before now : R)
@@ -314,22 +340,29 @@ module _ (me : ℕ) (limits : Limits) (tallies : Tallies) (paces : List Pace) (j
             → Grew facts whole before now (took ∷ [])
         took-as facts whole before now a b k session request packet grew = rw (← session, ← request, ← packet) grew
 
-        goes-took : t.clients ≡ mid.clients → seen q t ≡ record { lists = mid; clock = clock }
-        goes-took e = rw (e, left, servers, queued, same-size) refl
+        goes-took : (js : Jobs) → t.clients ≡ mid.clients → seen_with js q t
+            ≡ record { lists = after clock (seen_with js rx s).lists took; clock = clock }
+        goes-took js e = rw (e, left, servers, queued, same-size) refl
 
         -- and its call goes on
         module _ (p : Told TookReply) where
           later-took : T TookReply p ≡ p.later
-          later-took = cond-one (is_client p.client.way.number p.client) (T TookReply p) p.client p.later (eq-eqb p.client.way.number p.client.way.number refl) p.step
+          later-took = cond-one (is_client p.client.way.number p.client)
+              (T TookReply p) p.client p.later (eq-eqb p.client.way.number p.client.way.number refl)
+              p.step
 
           clients-took : t.clients ≡ mid.clients
-          clients-took = p.changed ∙ ap (λ (z : Client). slice_set s.clients i z) (sym later-took) ∙ sym (mid-clients TookReply p)
+          clients-took = p.changed ∙ ap (λ (z : Client). slice_set s.clients i z) (sym later-took)
+              ∙ sym (mid-clients TookReply p)
 
           facts-took : took ∷ [] ≡ replies_facts old d.peer h (body_of d.bytes)
           facts-took = sym (by-row TookReply p ∙ ap (λ (x : List Fact). took ∷ x) (p.facts refl me))
 
           pub fits-took : Fits (seen q t) t.size t.places
-          fits-took = fits-taken (took ∷ []) TookReply p refl facts-took (goes-took clients-took) (subst CallsAscend later-took (ascends-T TookReply p)) (ap (λ (z : Client). z.state) (sym later-took))
+          fits-took = fits-taken (took ∷ []) TookReply p refl facts-took (goes-took jobs clients-took)
+              (subst CallsAscend later-took (ascends-T TookReply p))
+              (ap (λ (z : Client). z.state) (sym later-took))
+              (ap (λ (z : Client). z.limit) (sym later-took))
 
           pub node-took : {R : Type 0} (facts : R → Option (List Fact)) (whole : R → Bool)
               (before now : R) (a b k : ℕ) → a ≡ h.session → b ≡ h.request → k ≡ h.number
@@ -338,11 +371,11 @@ module _ (me : ℕ) (limits : Limits) (tallies : Tallies) (paces : List Pace) (j
           node-took facts whole before now a b k session request packet grew = record {
             noted = took ∷ [];
             grew = took-as facts whole before now a b k session request packet grew;
-            step = record {
+            step = λ asks. record {
               front = arrival_of d;
               is_front = is-front;
               facts = facts-took;
-              goes = goes-took clients-took;
+              goes = goes-took (asking_jobs asks jobs) clients-took;
               over = refl;
             };
           }
@@ -355,10 +388,16 @@ module _ (me : ℕ) (limits : Limits) (tallies : Tallies) (paces : List Pace) (j
         told-done call (TooSmall n) bytes head b xs = refl
         told-done call PeerLost bytes head b xs = refl
 
-        goes-done : (call : ℕ) (o : Outcome) (bytes : List ℕ) → t.clients ≡ at_first (has_call call) (ends call) mid.clients → seen q t ≡ record { lists = after clock mid (with_bytes me (end_event call o) bytes); clock = clock }
-        goes-done call EndedOk bytes e = rw (e, left, servers, queued, same-size) refl
-        goes-done call (TooSmall n) bytes e = rw (e, left, servers, queued, same-size) refl
-        goes-done call PeerLost bytes e = rw (e, left, servers, queued, same-size) refl
+        goes-done : (js : Jobs) (call : ℕ) (o : Outcome) (bytes : List ℕ)
+            → t.clients ≡ at_first (has_call call) (ends call) mid.clients
+            → seen_with js q t ≡ record {
+              lists = after clock (after clock (seen_with js rx s).lists took)
+                  (with_bytes me (end_event call o) bytes);
+              clock = clock;
+            }
+        goes-done js call EndedOk bytes e = rw (e, left, servers, queued, same-size) refl
+        goes-done js call (TooSmall n) bytes e = rw (e, left, servers, queued, same-size) refl
+        goes-done js call PeerLost bytes e = rw (e, left, servers, queued, same-size) refl
 
         -- and its call is over
         module _ (o : Done) (p : Told (Ended o)) where
@@ -369,12 +408,18 @@ module _ (me : ℕ) (limits : Limits) (tallies : Tallies) (paces : List Pace) (j
           alone = rw (eq-eqb p.client.way.number p.client.way.number refl) refl
 
           has : has_call o.call (T (Ended o) p) ≡ true
-          has = any-same (is_active h.request) (moved (took_reply clock (Some h) (body_of d.bytes))) (λ e. refl) o.call p.client.calls ∙ ended-here me h (body_of d.bytes) p.client o (find (is_active h.request) p.client.calls) refl (p.facts refl me)
+          has = any-same (is_active h.request) (moved (took_reply clock (Some h) (body_of d.bytes)))
+              (λ e. refl) o.call p.client.calls
+              ∙ ended-here me h (body_of d.bytes) p.client o
+              (find (is_active h.request) p.client.calls) refl (p.facts refl me)
 
           later-ended : ends o.call (T (Ended o) p) ≡ p.later
           later-ended =
-              let step = ap (λ (zs : List Client). clients_after clock (done_event o) [] None [] zs) (sym alone) ∙ p.step in
-              cond-one (has_call o.call (T (Ended o) p)) (ends o.call (T (Ended o) p)) (T (Ended o) p) p.later has (sym (told-done o.call o.outcome [] None [] (T (Ended o) p ∷ [])) ∙ step)
+              let step = ap (λ (zs : List Client). clients_after clock (done_event o) [] None [] zs)
+              (sym alone) ∙ p.step in
+              cond-one (has_call o.call (T (Ended o) p)) (ends o.call (T (Ended o) p))
+              (T (Ended o) p) p.later has
+              (sym (told-done o.call o.outcome [] None [] (T (Ended o) p ∷ [])) ∙ step)
 
           mid-kept : Kept mid
           mid-kept =
@@ -388,13 +433,22 @@ module _ (me : ℕ) (limits : Limits) (tallies : Tallies) (paces : List Pace) (j
 
           clients-ended : t.clients ≡ at_first (has_call o.call) (ends o.call) mid.clients
           clients-ended =
-              let there = only-at (ends o.call) o.call (slice_set s.clients i (T (Ended o) p)) i (T (Ended o) p) few (get-own s.clients i p.client (T (Ended o) p) p.at) has in
+              let there = only-at (ends o.call) o.call (slice_set s.clients i (T (Ended o) p)) i
+              (T (Ended o) p) few (get-own s.clients i p.client (T (Ended o) p) p.at) has in
               let twice = set-twice s.clients i (T (Ended o) p) (ends o.call (T (Ended o) p)) in
-              let all : at_first (has_call o.call) (ends o.call) mid.clients ≡ slice_set s.clients i (ends o.call (T (Ended o) p)) = ap (λ (zs : List Client). at_first (has_call o.call) (ends o.call) zs) (mid-clients (Ended o) p) ∙ there ∙ twice in
+              let all : at_first (has_call o.call) (ends o.call) mid.clients
+              ≡ slice_set s.clients i (ends o.call (T (Ended o) p)) =
+              ap (λ (zs : List Client). at_first (has_call o.call) (ends o.call) zs)
+              (mid-clients (Ended o) p) ∙ there ∙ twice in
               p.changed ∙ ap (λ (z : Client). slice_set s.clients i z) (sym later-ended) ∙ sym all
 
           pub fits-ended : Fits (seen q t) t.size t.places
-          fits-ended = fits-taken (took ∷ done_fact me o ∷ []) (Ended o) p refl facts-ended (goes-done o.call o.outcome (end_bytes o.outcome o.resp) clients-ended) (subst CallsAscend later-ended (ascends-without (is_call o.call) (T (Ended o) p).calls (ascends-T (Ended o) p))) (ap (λ (z : Client). z.state) (sym later-ended))
+          fits-ended = fits-taken (took ∷ done_fact me o ∷ [])
+              (Ended o) p refl facts-ended (goes-done jobs o.call o.outcome (end_bytes o.outcome o.resp)
+              clients-ended) (subst CallsAscend later-ended
+              (ascends-without (is_call o.call) (T (Ended o) p).calls (ascends-T (Ended o) p)))
+              (ap (λ (z : Client). z.state) (sym later-ended))
+              (ap (λ (z : Client). z.limit) (sym later-ended))
 
           pub node-ended : {R : Type 0} (facts : R → Option (List Fact)) (whole : R → Bool)
               (before between now : R) (a b k : ℕ) (event : Event) (bytes : List ℕ) → a ≡ h.session
@@ -403,17 +457,20 @@ module _ (me : ℕ) (limits : Limits) (tallies : Tallies) (paces : List Pace) (j
               → Grew facts whole before between (plain me (Took (Ask a b) k) ∷ [])
               → Grew facts whole between now (with_bytes me event bytes ∷ [])
               → Makes facts whole (HearsReply h (Some o)) (seen rx s) (seen q t) before now
-          node-ended facts whole before between now a b k event bytes session request packet is_event is_bytes one two = record {
-            noted = took ∷ done_fact me o ∷ [];
-            grew = grew-then facts whole before between now (took ∷ []) (done_fact me o ∷ []) (took-as facts whole before between a b k session request packet one) (rw (← is_event, ← is_bytes) two);
-            step = record {
-              front = arrival_of d;
-              is_front = is-front;
-              facts = facts-ended;
-              goes = goes-done o.call o.outcome (end_bytes o.outcome o.resp) clients-ended;
-              over = refl;
-            };
-          }
+          node-ended facts whole before between now a b k event bytes session request packet
+              is_event is_bytes one two = record {
+                noted = took ∷ done_fact me o ∷ [];
+                grew = grew-then facts whole before between now (took ∷ []) (done_fact me o ∷ [])
+                    (took-as facts whole before between a b k session request packet one)
+                    (rw (← is_event, ← is_bytes) two);
+                step = λ asks. record {
+                  front = arrival_of d;
+                  is_front = is-front;
+                  facts = facts-ended;
+                  goes = goes-done (asking_jobs asks jobs) o.call o.outcome (end_bytes o.outcome o.resp) clients-ended;
+                  over = refl;
+                };
+              }
 
 -- the header of the front of the ring
 pub none-front : (ds : List DatagramValue) → slice_get ds 0 ≡ None

@@ -4,3 +4,4 @@ pub mod NodeLemmas
 pub mod NotingLemmas
 pub mod PostLemmas
 pub mod SentLemmas
+mod HandleLemmas

@@ -1,6 +1,6 @@
 -- What a step of the store is for the node, once its fact is noted.
 use Rattle.std.proofs.Common.{◌≡◌, ℕ, ◌≤◌, Bool, Option, Some, None, List, [], ◌∷◌, ◌++◌, length}
-use Rattle.std.proofs.Common.{refl, ap, ◌∙◌, arith}
+use Rattle.std.proofs.Common.{refl, sym, ap, ◌∙◌, arith}
 use Rattle.std.specs.Prelude.{option_and_then, slice_set}
 use Rattle.std.proofs.lemmas.List.{length-set}
 use Rattle.rpc_base.specs.Tables.{at_first}
@@ -22,7 +22,7 @@ use Rattle.rpc_laws.specs.declared.tables.Server.{Server}
 use Rattle.rpc_laws.specs.declared.tables.Timed.{Timed}
 use Rattle.rpc_laws.specs.Facts.{plain}
 use Rattle.rpc_laws.specs.NodeLists.{after}
-use Rattle.rpc_laws.specs.Posting.{if_connected, next_begun, next_posted, posting}
+use Rattle.rpc_laws.specs.Posting.{beginning, if_connected, next_begun, next_posted, posting}
 use Rattle.rpc_laws.specs.Sessions.{begins, is_client, posts}
 use Rattle.rpc_laws.specs.Steps.{NotesNext}
 use Rattle.node_laws.specs.Valid.{holders}
@@ -32,10 +32,11 @@ use Rattle.session_store.specs.Changes.{BeginsAt, PostsAt}
 use Rattle.session_store.specs.Effects.{packet_of_entry, request_in}
 use Rattle.session_store.specs.Sides.{Shown, queued_of}
 use Rattle.session_store.proofs.ListLemmas.{all-at, all-set}
-use Rattle.endpoint_loop.specs.Fits.{Fits, FreesNone, IsReady}
+use Rattle.endpoint_loop.specs.Fits.{Fits, IsReady, IsSettled}
 use Rattle.endpoint_loop.specs.Noting.{Makes}
-use Rattle.endpoint_loop.specs.Seen.{Tallies, seen_node}
-use Rattle.endpoint_loop.proofs.FitsLemmas.{put-behind, replies-ask}
+use Rattle.endpoint_loop.specs.Seen.{Tallies, asking_jobs, seen_node}
+use Rattle.endpoint_loop.proofs.FitsLemmas.{next-live, put-behind, replies-ask, settled-live}
+use Rattle.session_store.specs.Ends.{begun_event, posted_event}
 use Rattle.endpoint_loop.proofs.PostLemmas.{ascends-begun, ascends-posted, begins-told, none-paced}
 use Rattle.endpoint_loop.proofs.PostLemmas.{paces-stay, posts-told}
 
@@ -44,6 +45,10 @@ module _ {R : Type 0} (facts : R → Option (List Fact)) (whole : R → Bool) (i
     (rx : Ring DatagramValue) (s t : Shown) (before now : R) where
   abbrev seen : Shown → Timed
   seen u = seen_node me limits tallies paces jobs clock rx u
+
+  -- with other jobs
+  abbrev seen_with : Jobs → Shown → Timed
+  seen_with js u = seen_node me limits tallies paces js clock rx u
 
   module _ (fits : Fits (seen s) s.size s.places) (servers : t.servers ≡ s.servers)
       (size : t.size ≡ s.size) (places : t.places ≡ s.places) where
@@ -67,7 +72,8 @@ module _ {R : Type 0} (facts : R → Option (List Fact)) (whole : R → Bool) (i
 
       is-next : next_posted i (seen s).lists ≡ Some event
       is-next =
-          ap (λ (o : Option Client). option_and_then (if_connected posting) o) at.place ∙ at.next ∙ ap (λ m. Some (Posted (Ask m r) e.number)) told.1
+          ap (λ (o : Option Client). option_and_then (if_connected posting) o) at.place ∙ at.next
+          ∙ ap (λ m. Some (Posted (Ask m r) e.number)) told.1
 
       same-entry : queued_of e ≡ entry
       same-entry = ap (λ (o : Owner). record { owner = o; number = e.number; due = None }) owner
@@ -75,9 +81,17 @@ module _ {R : Type 0} (facts : R → Option (List Fact)) (whole : R → Bool) (i
       queue : t.queued ≡ s.queued ++ entry ∷ []
       queue = queued ∙ ap (λ (q : Queued). s.queued ++ q ∷ []) same-entry
 
-      goes : seen t ≡ record { lists = after clock (seen s).lists (plain me event); clock = clock }
-      goes =
-          rw (told.0, queue, servers, none-paced i paces fits.unpaced, paces-stay i _ paces fits.unpaced, put-behind entry s.queued refl fits.ready) refl
+      goes : (js : Jobs) → seen_with js t
+          ≡ record { lists = after clock (seen_with js s).lists (plain me event); clock = clock }
+      goes js =
+          rw (
+            told.0,
+            queue,
+            servers,
+            none-paced i paces fits.unpaced,
+            paces-stay i _ paces fits.unpaced,
+            put-behind entry s.queued refl fits.ready,
+          ) refl
 
       pub node-posted : (o : Owner) (k : ℕ) → o ≡ e.owner → k ≡ e.number
           → Grew facts whole before now (plain me (Posted o k) ∷ [])
@@ -85,19 +99,28 @@ module _ {R : Type 0} (facts : R → Option (List Fact)) (whole : R → Bool) (i
       node-posted o k is number grew = record {
         noted = plain me event ∷ [];
         grew = rw (← owner, ← is, ← number) grew;
-        step = record { event = event; is_next = is-next; facts = refl; goes = goes };
+        step = λ asks. record { event = event; is_next = is-next; facts = refl; goes = goes (asking_jobs asks jobs) };
       }
 
       pub fits-posted : Fits (seen t) t.size t.places
       fits-posted = record {
-        kept = rw (ap (λ (u : Timed). u.lists) goes) (kept-after clock (seen s).lists (plain me event) fits.kept (posted-allowed i (seen s).lists event fits.kept.valid is-next));
+        kept = rw (ap (λ (u : Timed). u.lists) (goes jobs))
+            (kept-after clock (seen s).lists (plain me event) fits.kept
+            (posted-allowed i (seen s).lists event fits.kept.valid is-next));
         ascends = ascends-posted i (packet_of_entry e) s.clients t.clients at fits.ascends;
         unpaced = fits.unpaced;
-        over = rw at.changed (all-set FreesNone s.clients i (posts r e.number at.client) (λ closed. omega (arith, all-at FreesNone s.clients i at.client fits.over at.place closed)) (λ j x e other. all-at FreesNone s.clients j x fits.over e));
+        settled = rw at.changed (all-set IsSettled s.clients i (posts r e.number at.client)
+            (settled-live at.client (posts r e.number at.client)
+            (all-at IsSettled s.clients i at.client fits.settled at.place)
+            (next-live posting at.client
+            (posted_event at.client.way.number (packet_of_entry e)) at.next)
+            refl refl) (λ j x e other. all-at IsSettled s.clients j x fits.settled e));
+        credits = rw servers fits.credits;
         ready = rw queue (all-push IsReady s.queued entry fits.ready (refl, refl));
         replies = rw queue (omega (arith, replies-ask s.queued entry refl, fits.replies));
         packets = size ∙ fits.packets;
-        buffers = omega (arith, same-length s.clients t.clients (posts r e.number at.client) at.changed, ap (λ (vs : List Server). length vs) servers, places, fits.buffers);
+        jobs = fits.jobs;
+        buffers = places ∙ fits.buffers;
       }
 
     module _ (p : ℕ × ℕ) (at : BeginsAt i (Some p) s.clients t.clients)
@@ -105,8 +128,9 @@ module _ {R : Type 0} (facts : R → Option (List Fact)) (whole : R → Bool) (i
       abbrev began : Event
       began = Begun p.0 p.1
 
-      goes-begun : seen t ≡ record { lists = after clock (seen s).lists (plain me began); clock = clock }
-      goes-begun =
+      goes-begun : (js : Jobs) → seen_with js t
+          ≡ record { lists = after clock (seen_with js s).lists (plain me began); clock = clock }
+      goes-begun js =
           rw (begins-told i p s.clients t.clients (few p.0) at, queued, servers) refl
         where
           few : (c : ℕ) → holders c s.clients ≤ 1
@@ -117,19 +141,34 @@ module _ {R : Type 0} (facts : R → Option (List Fact)) (whole : R → Bool) (i
       node-begun grew = record {
         noted = plain me began ∷ [];
         grew = grew;
-        step = record { event = began; is_next = at.0; facts = refl; goes = goes-begun };
+        step = λ asks. record {
+          event = began;
+          is_next = at.0;
+          facts = refl;
+          goes = goes-begun (asking_jobs asks jobs);
+        };
       }
 
       pub fits-begun : Fits (seen t) t.size t.places
       fits-begun =
           let change = at.1 in
           record {
-            kept = rw (ap (λ (u : Timed). u.lists) goes-begun) (kept-after clock (seen s).lists (plain me began) fits.kept (begun-allowed i (seen s).lists began fits.kept.valid at.0));
+            kept = rw (ap (λ (u : Timed). u.lists) (goes-begun jobs))
+                (kept-after clock (seen s).lists (plain me began) fits.kept
+                (begun-allowed i (seen s).lists began fits.kept.valid at.0));
             ascends = ascends-begun i p s.clients t.clients at fits.ascends;
             unpaced = fits.unpaced;
-            over = rw change.changed (all-set FreesNone s.clients i (begins p.0 p.1 change.client) (all-at FreesNone s.clients i change.client fits.over change.place) (λ j x e other. all-at FreesNone s.clients j x fits.over e));
+            settled = rw change.changed (all-set IsSettled s.clients i (begins p.0 p.1 change.client)
+                (settled-live change.client (begins p.0 p.1 change.client)
+                (all-at IsSettled s.clients i change.client fits.settled change.place)
+                (next-live beginning change.client (begun_event p)
+                (ap (λ (o : Option Client). option_and_then (if_connected beginning) o)
+                (sym change.place) ∙ at.0)) refl refl)
+                (λ j x e other. all-at IsSettled s.clients j x fits.settled e));
+            credits = rw servers fits.credits;
             ready = rw queued fits.ready;
             replies = rw queued fits.replies;
             packets = size ∙ fits.packets;
-            buffers = omega (arith, same-length s.clients t.clients (begins p.0 p.1 change.client) change.changed, ap (λ (vs : List Server). length vs) servers, places, fits.buffers);
+            jobs = fits.jobs;
+            buffers = places ∙ fits.buffers;
           }

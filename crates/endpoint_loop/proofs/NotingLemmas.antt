@@ -10,30 +10,43 @@ use Rattle.rpc_laws.specs.Steps.{Rel, NotesNext, Then, Chain, Until, Visits, non
 use Rattle.rpc_outside.specs.Recording.{Grew}
 use Rattle.rpc_outside.specs.Linking.{Carried, NoneComes}
 use Rattle.server_core.proofs.FlushLemmas.{grew-none, grew-then}
+use Rattle.endpoint_loop.specs.Seen.{Asks, asking}
 use Rattle.endpoint_loop.specs.Noting.{Makes, MakesSent, NotesOne, SendsNone, sent_by, sent_of}
 
 module _ {R : Type 0} (facts : R → Option (List Fact)) (whole : R → Bool) where
   pub makes-none : (P : Rel) (a : Timed) (r : R) → Makes facts whole (Chain P) a a r r
-  makes-none P a r = record { noted = []; grew = grew-none facts whole r; step = none }
+  makes-none P a r = record { noted = []; grew = grew-none facts whole r; step = λ asks. none }
 
   pub makes-more : (P : Rel) (a b c : Timed) (f g h : R) → Makes facts whole (Chain P) a b f g
       → Makes facts whole P b c g h → Makes facts whole (Chain P) a c f h
   makes-more P a b c f g h p q = record {
     noted = p.noted ++ q.noted;
     grew = grew-then facts whole f g h p.noted q.noted p.grew q.grew;
-    step = more p.step q.noted c q.step;
+    step = λ asks. more (p.step asks) q.noted (asking asks c) (q.step asks);
   }
 
   pub makes-until : (P : Rel) (Over : Timed → Type 0) (a b : Timed) (f g : R)
-      → Makes facts whole (Chain P) a b f g → Over b → Makes facts whole (Until P Over) a b f g
-  makes-until P Over a b f g p over = record { noted = p.noted; grew = p.grew; step = record { steps = p.step; over = over } }
+      → Makes facts whole (Chain P) a b f g → ((asks : Asks) → Over (asking asks b))
+      → Makes facts whole (Until P Over) a b f g
+  makes-until P Over a b f g p over = record {
+    noted = p.noted;
+    grew = p.grew;
+    step = λ asks. record { steps = p.step asks; over = over asks };
+  }
 
   pub makes-then : (P Q : Rel) (a b c : Timed) (f g h : R) → Makes facts whole P a b f g
       → Makes facts whole Q b c g h → Makes facts whole (Then P Q) a c f h
   makes-then P Q a b c f g h p q = record {
     noted = p.noted ++ q.noted;
     grew = grew-then facts whole f g h p.noted q.noted p.grew q.grew;
-    step = record { between = b; front = p.noted; back = q.noted; joined = refl; first = p.step; second = q.step };
+    step = λ asks. record {
+      between = asking asks b;
+      front = p.noted;
+      back = q.noted;
+      joined = refl;
+      first = p.step asks;
+      second = q.step asks;
+    };
   }
 
   pub makes-visit : (P : ℕ → Rel) (n : ℕ) (a b c : Timed) (f g h : R)
@@ -51,7 +64,9 @@ module _ {R : Type 0} (facts : R → Option (List Fact)) (whole : R → Bool) wh
 -- sending, one packet after another
 sent-append : (x y : List Fact) → sent_of (x ++ y) ≡ sent_of x ++ sent_of y
 sent-append [] y = refl
-sent-append (f ∷ fs) y = ap (λ ds. sent_by f.event f.first f.second ++ ds) (sent-append fs y) ∙ sym (append_assoc (sent_by f.event f.first f.second) (sent_of fs) (sent_of y))
+sent-append (f ∷ fs) y =
+    ap (λ ds. sent_by f.event f.first f.second ++ ds) (sent-append fs y)
+    ∙ sym (append_assoc (sent_by f.event f.first f.second) (sent_of fs) (sent_of y))
 
 took-none : (o : Option (List Carried)) → o ≡ option_map (λ ds. ds ++ []) o
 took-none None = refl
@@ -67,7 +82,7 @@ module _ {R L : Type 0} (facts : R → Option (List Fact)) (whole : R → Bool)
   pub sent-none : (P : Rel) (a : Timed) (r : R) (l : L)
       → MakesSent facts whole sent (Chain P) a a r r l l
   sent-none P a r l = record {
-    makes = record { noted = []; grew = grew-none facts whole r; step = none };
+    makes = record { noted = []; grew = grew-none facts whole r; step = λ asks. none };
     took = took-none (sent l);
   }
 
@@ -78,9 +93,12 @@ module _ {R L : Type 0} (facts : R → Option (List Fact)) (whole : R → Bool)
     makes = record {
       noted = p.makes.noted ++ q.makes.noted;
       grew = grew-then facts whole f g h p.makes.noted q.makes.noted p.makes.grew q.makes.grew;
-      step = more p.makes.step q.makes.noted c q.makes.step;
+      step = λ asks. more (p.makes.step asks) q.makes.noted (asking asks c) (q.makes.step asks);
     };
-    took = q.took ∙ ap (option_map (λ ds. ds ++ sent_of q.makes.noted)) p.took ∙ took-then (sent k) (sent_of p.makes.noted) (sent_of q.makes.noted) ∙ ap (λ xs. option_map (λ ds. ds ++ xs) (sent k)) (sym (sent-append p.makes.noted q.makes.noted));
+    took = q.took ∙ ap (option_map (λ ds. ds ++ sent_of q.makes.noted)) p.took
+        ∙ took-then (sent k) (sent_of p.makes.noted) (sent_of q.makes.noted)
+        ∙ ap (λ xs. option_map (λ ds. ds ++ xs) (sent k))
+        (sym (sent-append p.makes.noted q.makes.noted));
   }
 
   pub sent-still : (P : Rel) (a b c : Timed) (f g h : R) (k l m : L)
@@ -90,7 +108,8 @@ module _ {R L : Type 0} (facts : R → Option (List Fact)) (whole : R → Bool)
     makes = record {
       noted = p.makes.noted;
       grew = subst (λ (z : R). Grew facts whole f z p.makes.noted) (sym q.recorder) p.makes.grew;
-      step = subst (λ (z : Timed). P a p.makes.noted z) (sym q.node) p.makes.step;
+      step = λ asks. subst (λ (z : Timed). P (asking asks a) p.makes.noted (asking asks z))
+          (sym q.node) (p.makes.step asks);
     };
     took = q.link ∙ p.took;
   }

@@ -26,6 +26,7 @@ use Rattle.session_store.proofs.AscendsLemmas.{ascends-changed}
 use Rattle.session_store.proofs.ListLemmas.{all-at, all-set, get-own, sum-one}
 use Rattle.endpoint_loop.specs.Fits.{CallsAscend, IsUnpaced}
 use Rattle.endpoint_loop.specs.Measures.{free_at, waiting_at, waiting_in}
+use Rattle.rpc_base.proofs.BasicLemmas.{some-of}
 
 -- no packet is paced where no session has a rate
 unpaced-one : (s : ℕ) (p : Pace) → p.rate ≡ 0 → is_paced s p ≡ false
@@ -65,7 +66,9 @@ first-at f n (suc i) (y ∷ ys) x h e =
     let later : at_first (is_client (suc n + i)) f ys ≡ slice_set ys i (f x) = first-at f (suc n) i ys x h.1 e in
     let number : suc n + i ≡ n + suc i = omega arith in
     let off : (y.way.number == (n + suc i)) ≡ false = ne_eqb y.way.number (n + suc i) (λ t. omega (arith, h.0, t)) in
-    numbered-cons f (n + suc i) y ys (slice_set ys i (f x)) (y.way.number == (n + suc i)) refl off (sym (subst (λ k. at_first (is_client k) f ys ≡ slice_set ys i (f x)) number later))
+    numbered-cons f (n + suc i) y ys (slice_set ys i (f x))
+    (y.way.number == (n + suc i)) refl off
+    (sym (subst (λ k. at_first (is_client k) f ys ≡ slice_set ys i (f x)) number later))
 
 -- a call stands in one session
 has-counted : (c : ℕ) (x : Client) → has_call c x ≡ true → 1 ≤ count_by (is_call c) x.calls
@@ -92,12 +95,8 @@ only-at f c (y ∷ ys) zero x few e has = let same : y ≡ x = cc in let own : h
 only-at f c (y ∷ ys) (suc i) x few e has =
     let alone = lonely c y x ys i (has_call c y) refl few e has in
     let sum = sum_by-cons (λ (z : Client). count_by (is_call c) z.calls) y ys in
-    only-cons f c y ys (slice_set ys i (f x)) (has_call c y) alone (only-at f c ys i x (omega (arith, sum, few)) e has)
-
--- only a connected session has a next event
-next-of : (b : Bool) (o : Option Event) (e : Event) → cond b o None ≡ Some e → o ≡ Some e
-next-of true o e h = h
-next-of false o e h = cc
+    only-cons f c y ys (slice_set ys i (f x))
+    (has_call c y) alone (only-at f c ys i x (omega (arith, sum, few)) e has)
 
 slot-begins : (x : Client) (k : Call) (c r : ℕ) (l : Option ℕ) → find is_waiting x.calls ≡ Some k
     → option_map (λ slot. Begun k.what.number (next_turn x.turns slot)) l ≡ Some (Begun c r)
@@ -122,7 +121,8 @@ slot-begins x k c r (Some slot) f e = let same : k.what.number ≡ c = cc in fou
     found-call c k (y ∷ ys) f t = any-cons c k y ys (is_waiting y) f t (λ g. found-call c k ys g t)
 
 has-begins : (x : Client) (c r : ℕ) (o : Option Call) → find is_waiting x.calls ≡ o
-    → option_and_then (λ k. option_map (λ slot. Begun k.what.number (next_turn x.turns slot)) (lowest_free x.calls)) o ≡ Some (Begun c r)
+    → option_and_then (λ k. option_map (λ slot. Begun k.what.number (next_turn x.turns slot))
+    (lowest_free x.calls)) o ≡ Some (Begun c r)
     → has_call c x ≡ true
 has-begins x c r None f e = cc
 has-begins x c r (Some k) f e = slot-begins x k c r (lowest_free x.calls) f e
@@ -131,14 +131,17 @@ pub next-beginning : (i : ℕ) (b : ℕ × ℕ) (xs ys : List Client) → (p : B
     → beginning p.1.client ≡ Some (Begun b.0 b.1)
 next-beginning i b xs ys p =
     let change = p.1 in
-    let told : if_connected beginning change.client ≡ Some (Begun b.0 b.1) = ap (λ (o : Option Client). option_and_then (if_connected beginning) o) (sym change.place) ∙ p.0 in
-    next-of (is_connected change.client.state) (beginning change.client) (Begun b.0 b.1) told
+    let told : if_connected beginning change.client ≡ Some (Begun b.0 b.1) =
+    ap (λ (o : Option Client). option_and_then (if_connected beginning) o)
+    (sym change.place) ∙ p.0 in
+    some-of (is_connected change.client.state) (beginning change.client) (Begun b.0 b.1) told
 
 pub begins-told : (i : ℕ) (b : ℕ × ℕ) (xs ys : List Client) → holders b.0 xs ≤ 1
     → BeginsAt i (Some b) xs ys → ys ≡ at_first (has_call b.0) (begins b.0 b.1) xs
 begins-told i b xs ys few p =
     let change = p.1 in
-    let has = has-begins change.client b.0 b.1 (find is_waiting change.client.calls) refl (next-beginning i b xs ys p) in
+    let has = has-begins change.client b.0 b.1 (find is_waiting change.client.calls) refl
+    (next-beginning i b xs ys p) in
     change.changed ∙ sym (only-at (begins b.0 b.1) b.0 xs i change.client few change.place has)
 
 pub posts-told : (i : ℕ) (p : ℕ × ℕ) (xs ys : List Client) → NumberedFrom client_no 0 xs
@@ -146,13 +149,18 @@ pub posts-told : (i : ℕ) (p : ℕ × ℕ) (xs ys : List Client) → NumberedFr
     → (ys ≡ at_first (is_client i) (posts p.0 p.1) xs) × (q.client.way.number ≡ i)
 posts-told i p xs ys numbered q =
     let same : 0 + i ≡ i = omega arith in
-    let first : at_first (is_client i) (posts p.0 p.1) xs ≡ slice_set xs i (posts p.0 p.1 q.client) = subst (λ k. at_first (is_client k) (posts p.0 p.1) xs ≡ slice_set xs i (posts p.0 p.1 q.client)) same (first-at (posts p.0 p.1) 0 i xs q.client numbered q.place) in
+    let first : at_first (is_client i) (posts p.0 p.1) xs
+    ≡ slice_set xs i (posts p.0 p.1 q.client) =
+    subst (λ k. at_first (is_client k) (posts p.0 p.1) xs
+    ≡ slice_set xs i (posts p.0 p.1 q.client)) same
+    (first-at (posts p.0 p.1) 0 i xs q.client numbered q.place) in
     let number : q.client.way.number ≡ 0 + i = numbered-at client_no 0 i xs q.client numbered q.place in
     (q.changed ∙ sym first, number ∙ same)
 
 -- who posts has a free credit, and one less then
 posts-free : (x : Client) (e : Event) (b : Bool) → (x.free == 0) ≡ b
-    → cond b None (option_and_then (λ (c : Call). next_packet x.way.number c.progress) (find can_post x.calls)) ≡ Some e
+    → cond b None (option_and_then (λ (c : Call). next_packet x.way.number c.progress)
+    (find can_post x.calls)) ≡ Some e
     → 0 < x.free
 posts-free x e true t h = cc
 posts-free x e false t h = let some : x.free ≢ 0 = eqb-false x.free 0 t in omega (arith, some)
@@ -160,7 +168,7 @@ posts-free x e false t h = let some : x.free ≢ 0 = eqb-false x.free 0 t in ome
 pub posted-fewer : (i : ℕ) (p : ℕ × ℕ) (xs ys : List Client) → PostsAt i (Some p) xs ys
     → free_at i ys < free_at i xs
 posted-fewer i p xs ys at =
-    let next = next-of (is_connected at.client.state) (posting at.client) _ at.next in
+    let next = some-of (is_connected at.client.state) (posting at.client) _ at.next in
     let free = posts-free at.client _ (at.client.free == 0) refl next in
     rw (at.changed, at.place, get-own xs i at.client (posts p.0 p.1 at.client) at.place) (omega (arith, free))
 
@@ -171,7 +179,8 @@ later-number n k cs all f = found-holds is_waiting (λ (d : Call). n < d.what.nu
 
 waits-cons : (c r : ℕ) (k x : Call) (xs : List Call) (b : Bool) → is_waiting x ≡ b
     → k.what.number ≡ c → AllByRecursion (λ d. x.what.number < d.what.number) xs
-    → (find is_waiting xs ≡ Some k → count_by is_waiting (at_first (is_call c) (begun r) xs) + 1 ≡ count_by is_waiting xs)
+    → (find is_waiting xs ≡ Some k
+    → count_by is_waiting (at_first (is_call c) (begun r) xs) + 1 ≡ count_by is_waiting xs)
     → cond b (Some x) (find is_waiting xs) ≡ Some k
     → count_by is_waiting (at_first (is_call c) (begun r) (x ∷ xs)) + 1 ≡ count_by is_waiting (x ∷ xs)
 waits-cons c r k x xs true t e above ih f =
@@ -181,13 +190,19 @@ waits-cons c r k x xs true t e above ih f =
 waits-cons c r k x xs false t e above ih f =
     let below = later-number x.what.number k xs above f in
     let other : is_call c x ≡ false = ne_eqb x.what.number c (λ same. omega (arith, below, e, same)) in
-    rw other (omega (arith, counted-cons is_waiting x (at_first (is_call c) (begun r) xs) false t, counted-cons is_waiting x xs false t, ih f))
+    rw other (omega (
+      arith,
+      counted-cons is_waiting x (at_first (is_call c) (begun r) xs) false t,
+      counted-cons is_waiting x xs false t,
+      ih f,
+    ))
 
 call-waits : (c r : ℕ) (k : Call) (cs : List Call) → find is_waiting cs ≡ Some k → k.what.number ≡ c
     → Ascends cs
     → count_by is_waiting (at_first (is_call c) (begun r) cs) + 1 ≡ count_by is_waiting cs
 call-waits c r k [] f e up = cc
-call-waits c r k (x ∷ xs) f e up = waits-cons c r k x xs (is_waiting x) refl e up.0 (λ g. call-waits c r k xs g e up.1) f
+call-waits c r k (x ∷ xs) f e up =
+    waits-cons c r k x xs (is_waiting x) refl e up.0 (λ g. call-waits c r k xs g e up.1) f
 
 slot-waits : (x : Client) (k : Call) (c r : ℕ) (l : Option ℕ) → find is_waiting x.calls ≡ Some k
     → Ascends x.calls
@@ -197,7 +212,8 @@ slot-waits x k c r None f up e = cc
 slot-waits x k c r (Some slot) f up e = let same : k.what.number ≡ c = cc in omega (arith, call-waits c r k x.calls f same up)
 
 has-waits : (x : Client) (c r : ℕ) (o : Option Call) → find is_waiting x.calls ≡ o → Ascends x.calls
-    → option_and_then (λ k. option_map (λ slot. Begun k.what.number (next_turn x.turns slot)) (lowest_free x.calls)) o ≡ Some (Begun c r)
+    → option_and_then (λ k. option_map (λ slot. Begun k.what.number (next_turn x.turns slot))
+    (lowest_free x.calls)) o ≡ Some (Begun c r)
     → waiting_in (Some (begins c r x)) < waiting_in (Some x)
 has-waits x c r None f up e = cc
 has-waits x c r (Some k) f up e = slot-waits x k c r (lowest_free x.calls) f up e
@@ -207,16 +223,28 @@ pub begun-fewer : (i : ℕ) (p : ℕ × ℕ) (xs ys : List Client) → BeginsAt 
 begun-fewer i p xs ys at up =
     let change = at.1 in
     let next = next-beginning i p xs ys at in
-    rw (change.changed, change.place, get-own xs i change.client (begins p.0 p.1 change.client) change.place) (has-waits change.client p.0 p.1 (find is_waiting change.client.calls) refl (all-at CallsAscend xs i change.client up change.place) next)
+    rw (
+      change.changed,
+      change.place,
+      get-own xs i change.client (begins p.0 p.1 change.client)
+          change.place,
+    ) (has-waits change.client p.0 p.1 (find is_waiting change.client.calls) refl
+    (all-at CallsAscend xs i change.client up change.place) next)
 
 -- the calls of the others stay, and stay in their order
 pub ascends-posted : (i : ℕ) (p : ℕ × ℕ) (xs ys : List Client) → PostsAt i (Some p) xs ys
     → AllByRecursion CallsAscend xs → AllByRecursion CallsAscend ys
 ascends-posted i p xs ys at up =
-    rw at.changed (all-set CallsAscend xs i (posts p.0 p.1 at.client) (ascends-changed (is_active p.0) (moved (posted_up_to p.1)) (λ d. refl) at.client.calls (all-at CallsAscend xs i at.client up at.place)) (λ j x e other. all-at CallsAscend xs j x up e))
+    rw at.changed (all-set CallsAscend xs i (posts p.0 p.1 at.client)
+    (ascends-changed (is_active p.0) (moved (posted_up_to p.1))
+    (λ d. refl) at.client.calls (all-at CallsAscend xs i at.client up at.place))
+    (λ j x e other. all-at CallsAscend xs j x up e))
 
 pub ascends-begun : (i : ℕ) (p : ℕ × ℕ) (xs ys : List Client) → BeginsAt i (Some p) xs ys
     → AllByRecursion CallsAscend xs → AllByRecursion CallsAscend ys
 ascends-begun i p xs ys at up =
     let change = at.1 in
-    rw change.changed (all-set CallsAscend xs i (begins p.0 p.1 change.client) (ascends-changed (is_call p.0) (begun p.1) (λ d. refl) change.client.calls (all-at CallsAscend xs i change.client up change.place)) (λ j x e other. all-at CallsAscend xs j x up e))
+    rw change.changed (all-set CallsAscend xs i (begins p.0 p.1 change.client)
+    (ascends-changed (is_call p.0) (begun p.1)
+    (λ d. refl) change.client.calls (all-at CallsAscend xs i change.client up change.place))
+    (λ j x e other. all-at CallsAscend xs j x up e))

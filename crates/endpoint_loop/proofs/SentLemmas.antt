@@ -6,7 +6,7 @@ use Rattle.std.specs.Prelude.{◌↔◌, is_some, map, not, option_map, slice_ge
 use Rattle.std.specs.List.{AllByRecursion, find}
 use Rattle.std.proofs.lemmas.Bool.{eq-eqb}
 use Rattle.rpc_base.specs.Owners.{same_owner}
-use Rattle.rpc_base.specs.Tables.{without_first}
+use Rattle.rpc_base.specs.Tables.{at_first, without_first}
 use Rattle.rpc_base.specs.declared.event.Event.TheVariants.{Polled, Sent}
 use Rattle.rpc_base.specs.declared.fact.Fact.{Fact}
 use Rattle.rpc_base.specs.declared.limits.Limits.{Limits}
@@ -44,9 +44,10 @@ use Rattle.session_store.specs.Queue.{IsFront, SendsFront, SpellsFront, clients_
 use Rattle.session_store.specs.Queue.{peer_in}
 use Rattle.session_store.specs.Sides.{Shown, queued_of}
 use Rattle.session_store.proofs.AscendsLemmas.{ascends-changed}
-use Rattle.endpoint_loop.specs.Fits.{CallsAscend, Fits, FreesNone, IsReady, is_of_call}
+use Rattle.endpoint_loop.specs.Fits.{CallsAscend, Fits, IsReady, IsSettled, is_of_call}
 use Rattle.endpoint_loop.specs.Noting.{Makes, MakesSent}
-use Rattle.endpoint_loop.specs.Seen.{Tallies, seen_node}
+use Rattle.endpoint_loop.specs.Seen.{Tallies, asking_jobs, seen_node}
+use Rattle.rpc_laws.proofs.QueuesLemmas.{same-owner}
 
 -- a packet goes to the peer of its session
 peer-by : (way : Way) (o p : Outgoing) (b : Bool) → o.peer ≡ way.peer → p.peer ≡ way.peer
@@ -97,7 +98,8 @@ peer-of-reply : (r k : ℕ) (o : Option Server) (p : ℕ) (out : Outgoing)
     → reply_packet r k o ≡ Some out → option_map (λ (v : Server). v.way.peer) o ≡ Some p
     → out.peer ≡ p
 peer-of-reply r k None p out e h = cc
-peer-of-reply r k (Some v) p out e h = peer-reply v.way k (find (is_request r) v.slots) out e ∙ some-peer v.way.peer p h
+peer-of-reply r k (Some v) p out e h =
+    peer-reply v.way k (find (is_request r) v.slots) out e ∙ some-peer v.way.peer p h
 
 peer-of : (s : Shown) (o : Owner) (k p : ℕ) (out : Outgoing) → packet_in s o k ≡ Some out
     → peer_in s o ≡ Some p → out.peer ≡ p
@@ -119,13 +121,8 @@ spelled-out None head body h = absurd h
 spelled-out (Some out) head body h = record { out = out; is = refl; has_head = h.0; same = h.1; in_range = h.2 }
 
 -- the front is the first of its owner and number
-same-own : (o : Owner) → same_owner o o ≡ true
-same-own (Ask s r) = rw (eq-eqb s s refl, eq-eqb r r refl) refl
-same-own (Reply t r) = rw (eq-eqb t t refl, eq-eqb r r refl) refl
-same-own Control = refl
-
 own-queued : (q : Queued) → is_queued q.owner q.number q ≡ true
-own-queued q = rw (same-own q.owner, eq-eqb q.number q.number refl) refl
+own-queued q = rw (same-owner q.owner, eq-eqb q.number q.number refl) refl
 
 front-out : (q : Queued) (qs : List Queued) → slice_get qs 0 ≡ Some q
     → without_first (is_queued q.owner q.number) qs ≡ drop 1 qs
@@ -169,10 +166,20 @@ module _ (me : ℕ) (limits : Limits) (tallies : Tallies) (paces : List Pace) (j
   abbrev seen : Shown → Timed
   seen u = seen_node me limits tallies paces jobs clock rx u
 
-  goes-by : (o : Owner) (k p : ℕ) (head body : List ℕ) → is_of_call o ≡ true → t.clients ≡ clients_sent clock o k s.clients → t.servers ≡ s.servers → without_first (is_queued o k) s.queued ≡ t.queued → seen t ≡ record { lists = after clock (seen s).lists (with_two me (Sent p o k) head body); clock = clock }
-  goes-by (Ask i r) k p head body call clients servers queued = rw (clients, servers, queued) refl
-  goes-by (Reply i r) k p head body call clients servers queued = rw (clients, servers, queued) refl
-  goes-by Control k p head body call clients servers queued = cc
+  -- with other jobs
+  abbrev seen_with : Jobs → Shown → Timed
+  seen_with js u = seen_node me limits tallies paces js clock rx u
+
+  goes-by : (js : Jobs) (o : Owner) (k p : ℕ) (head body : List ℕ) → is_of_call o ≡ true
+      → t.clients ≡ clients_sent clock o k s.clients → t.servers ≡ s.servers
+      → without_first (is_queued o k) s.queued ≡ t.queued
+      → seen_with js t ≡ record {
+        lists = after clock (seen_with js s).lists (with_two me (Sent p o k) head body);
+        clock = clock;
+      }
+  goes-by js (Ask i r) k p head body call clients servers queued = rw (clients, servers, queued) refl
+  goes-by js (Reply i r) k p head body call clients servers queued = rw (clients, servers, queued) refl
+  goes-by js Control k p head body call clients servers queued = cc
 
   sent-kept : (P : Client → Type 0) → ((r k : ℕ) (x : Client) → P x → P (sends clock r k x))
       → (o : Owner) (k : ℕ) (xs : List Client) → AllByRecursion P xs
@@ -199,19 +206,26 @@ module _ (me : ℕ) (limits : Limits) (tallies : Tallies) (paces : List Pace) (j
     changed : t.clients ≡ clients_sent clock e.owner e.number s.clients
     changed = front-clients clock q s.queued s.clients t.clients front.front went
 
-    goes : (p : ℕ) (head body : List ℕ) → seen t ≡ record { lists = after clock (seen s).lists (with_two me (Sent p e.owner e.number) head body); clock = clock }
-    goes p head body =
-        goes-by e.owner e.number p head body ready.0 changed servers (front-out q s.queued front.front ∙ sym queued)
+    goes : (js : Jobs) (p : ℕ) (head body : List ℕ)
+        → seen_with js t ≡ record {
+          lists = after clock (seen_with js s).lists
+              (with_two me (Sent p e.owner e.number) head body);
+          clock = clock;
+        }
+    goes js p head body =
+        goes-by js e.owner e.number p head body ready.0 changed servers (front-out q s.queued front.front ∙ sym queued)
 
     module _ (head body : List ℕ) (long : length head ≡ 16) (bytes : AreBytes head)
         (spells : SpellsFront s head body) where
       spelled : Spelled (packet_in s e.owner e.number) head body
-      spelled = spelled-out (packet_in s e.owner e.number) head body (front-spells s q s.queued head body front.front spells)
+      spelled = spelled-out (packet_in s e.owner e.number) head body
+          (front-spells s q s.queued head body front.front spells)
 
-      packet-is : (o : Owner) (k : ℕ) → packet_in s o k ≡ outgoing (seen s).lists (record { owner = o; number = k; due = None })
-      packet-is (Ask i r) k = refl
-      packet-is (Reply i r) k = refl
-      packet-is Control k = refl
+      packet-is : (js : Jobs) (o : Owner) (k : ℕ) → packet_in s o k
+          ≡ outgoing (seen_with js s).lists (record { owner = o; number = k; due = None })
+      packet-is js (Ask i r) k = refl
+      packet-is js (Reply i r) k = refl
+      packet-is js Control k = refl
 
       pub node-sent : {R L : Type 0} (facts : R → Option (List Fact)) (whole : R → Bool)
           (sent : L → Option (List Carried)) (before now : R) (from to : L) (p : ℕ) (o : Owner)
@@ -220,39 +234,74 @@ module _ (me : ℕ) (limits : Limits) (tallies : Tallies) (paces : List Pace) (j
           → sent to ≡ option_map (λ ds. ds ++ (p, head ++ body) ∷ []) (sent from)
           → MakesSent facts whole sent Sends (seen s) (seen t) before now from to
       node-sent facts whole sent before now from to p o k peer-is owner-is number-is grew took =
-          let peer : spelled.out.peer ≡ p = peer-of s e.owner e.number e.peer spelled.out spelled.is front.peer ∙ sym peer-is in
+          let peer : spelled.out.peer ≡ p =
+          peer-of s e.owner e.number e.peer spelled.out spelled.is front.peer
+          ∙ sym peer-is in
           record {
             makes = record {
               noted = with_two me (Sent p o k) head body ∷ [];
               grew = grew;
-              step = record {
+              step = λ asks. record {
                 entry = q;
                 is_front = front.front;
                 ready = refl;
                 out = spelled.out;
-                packet = sym (packet-is e.owner e.number) ∙ spelled.is;
+                packet = sym (packet-is (asking_jobs asks jobs) e.owner e.number) ∙ spelled.is;
                 head = head;
                 in_range = spelled.in_range;
                 has_head = spelled.has_head;
                 long = long;
                 bytes = bytes;
-                facts = ap (λ (b : List ℕ). with_two me (Sent p o k) head b ∷ []) spelled.same ∙ ap (λ (z : ℕ). with_two me (Sent z o k) head spelled.out.body ∷ []) (sym peer) ∙ ap (λ (z : Owner). with_two me (Sent spelled.out.peer z k) head spelled.out.body ∷ []) owner-is ∙ ap (λ (z : ℕ). with_two me (Sent spelled.out.peer e.owner z) head spelled.out.body ∷ []) number-is;
-                goes = subst (λ (z : Owner). seen t ≡ record { lists = after clock (seen s).lists (with_two me (Sent p z k) head body); clock = clock }) (sym owner-is) (subst (λ (z : ℕ). seen t ≡ record { lists = after clock (seen s).lists (with_two me (Sent p e.owner z) head body); clock = clock }) (sym number-is) (goes p head body));
+                facts = ap (λ (b : List ℕ). with_two me (Sent p o k) head b ∷ []) spelled.same
+                    ∙ ap (λ (z : ℕ). with_two me (Sent z o k) head spelled.out.body ∷ []) (sym peer)
+                    ∙ ap (λ (z : Owner). with_two me (Sent spelled.out.peer z k) head
+                    spelled.out.body ∷ []) owner-is
+                    ∙ ap (λ (z : ℕ). with_two me (Sent spelled.out.peer e.owner z) head
+                    spelled.out.body ∷ []) number-is;
+                goes =
+                    let js = asking_jobs asks jobs in
+                    subst (λ (z : Owner). seen_with js t
+                    ≡ record {
+                      lists = after clock (seen_with js s).lists
+                          (with_two me (Sent p z k) head body);
+                      clock = clock;
+                    }) (sym owner-is)
+                    (subst (λ (z : ℕ). seen_with js t
+                    ≡ record {
+                      lists = after clock (seen_with js s).lists
+                          (with_two me (Sent p e.owner z) head body);
+                      clock = clock;
+                    }) (sym number-is)
+                    (goes js p head body));
               };
             };
             took = took;
           }
 
+    settled-sent : (r k : ℕ) (x : Client) → IsSettled x → IsSettled (sends clock r k x)
+    settled-sent r k x settled = record {
+      some = settled.some;
+      none_free = settled.none_free;
+      none_left = λ closed. ap (at_first (is_active r) (moved (sent_packet clock k)))
+          (settled.none_left closed);
+    }
+
     pub fits-sent : t.size ≡ s.size → t.places ≡ s.places → Fits (seen t) t.size t.places
     fits-sent size places = record {
-      kept = rw (ap (λ (u : Timed). u.lists) (goes 0 [] [])) (kept-after clock (seen s).lists (with_two me (Sent 0 e.owner e.number) [] []) fits.kept tt);
-      ascends = rw changed (sent-kept CallsAscend (λ r k x up. ascends-changed (is_active r) (moved (sent_packet clock k)) (λ d. refl) x.calls up) e.owner e.number s.clients fits.ascends);
+      kept = rw (ap (λ (u : Timed). u.lists) (goes jobs 0 [] []))
+          (kept-after clock (seen s).lists (with_two me (Sent 0 e.owner e.number) [] []) fits.kept
+          tt);
+      ascends = rw changed (sent-kept CallsAscend
+          (λ r k x up. ascends-changed (is_active r) (moved (sent_packet clock k))
+          (λ d. refl) x.calls up) e.owner e.number s.clients fits.ascends);
       unpaced = fits.unpaced;
-      over = rw changed (sent-kept FreesNone (λ r k x none. none) e.owner e.number s.clients fits.over);
+      settled = rw changed (sent-kept IsSettled settled-sent e.owner e.number s.clients fits.settled);
+      credits = rw servers fits.credits;
       ready = rw queued (rest-ready s.queued fits.ready);
       replies = rw queued (omega (arith, fewer-replies s.queued, fits.replies));
       packets = size ∙ fits.packets;
-      buffers = omega (arith, ap (λ (xs : List Client). length xs) changed, sent-long e.owner e.number s.clients, ap (λ (vs : List Server). length vs) servers, places, fits.buffers);
+      jobs = fits.jobs;
+      buffers = places ∙ fits.buffers;
     }
 
 -- one packet less is queued
@@ -293,5 +342,5 @@ module _ {R : Type 0} (facts : R → Option (List Fact)) (whole : R → Bool) (m
   node-closed grew = record {
     noted = plain me (Polled clock) ∷ [];
     grew = grew;
-    step = record { facts = refl; goes = rw (still-ready clock s.queued fits.ready) refl };
+    step = λ asks. record { facts = refl; goes = rw (still-ready clock s.queued fits.ready) refl };
   }

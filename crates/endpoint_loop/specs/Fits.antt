@@ -1,11 +1,12 @@
 -- What always holds of a node and of what its store has room for.
-use Rattle.std.specs.Prelude.{◌≡◌, ℕ, ◌+◌, ◌*◌, ◌≤◌, Bool, true, false, None, length}
+use Rattle.std.specs.Prelude.{◌≡◌, ℕ, ◌+◌, ◌*◌, ◌≤◌, Bool, true, false, None, []}
 use Rattle.std.specs.List.{AllByRecursion}
 use Rattle.rpc_base.specs.declared.owner.Owner.{Owner}
 use Rattle.rpc_base.specs.declared.owner.Owner.TheVariants.{Ask, Reply, Control}
 use Rattle.rpc_laws.specs.declared.tables.Client.{Client}
 use Rattle.rpc_laws.specs.declared.tables.Pace.{Pace}
 use Rattle.rpc_laws.specs.declared.tables.Queued.{Queued}
+use Rattle.rpc_laws.specs.declared.tables.Server.{Server}
 use Rattle.rpc_laws.specs.declared.tables.Timed.{Timed}
 use Rattle.rpc_laws.specs.Queues.{replies}
 use Rattle.rpc_laws.specs.Sessions.{is_live}
@@ -28,19 +29,27 @@ IsUnpaced p = p.rate ≡ 0
 abbrev pub CallsAscend : Client → Type 0
 CallsAscend x = Ascends x.calls
 
--- a session that isn't live has no free credit
-abbrev pub FreesNone : Client → Type 0
-FreesNone x = is_live x.state ≡ false → x.free ≡ 0
+-- a client session has a credit. One that isn't live has none free, and no call
+pub record IsSettled (x : Client) : Type 0 where
+  pub some : 1 ≤ x.limit
+  pub none_free : is_live x.state ≡ false → x.free ≡ 0
+  pub none_left : is_live x.state ≡ false → x.calls ≡ []
+
+abbrev pub HasCredit : Server → Type 0
+HasCredit v = 1 ≤ v.credits
 
 -- the lists are kept, the calls of each session stand in the order of their numbers, and no session
 -- has a rate. The transmit ring has room for as many packets of calls as the receive ring is long,
--- and for as many replies; and the pool has a place for each buffer
+-- and for as many replies. The pool has sixteen places for each credit that the sessions may have,
+-- and two for each job
 pub record Fits (s : Timed) (size places : ℕ) : Type 0 where
   pub kept : Kept s.lists
   pub ascends : AllByRecursion CallsAscend s.lists.clients
   pub unpaced : AllByRecursion IsUnpaced s.lists.paces
-  pub over : AllByRecursion FreesNone s.lists.clients
+  pub settled : AllByRecursion IsSettled s.lists.clients
+  pub credits : AllByRecursion HasCredit s.lists.servers
   pub ready : AllByRecursion IsReady s.lists.queued
   pub replies : replies s.lists.queued ≤ s.lists.room
   pub packets : size ≡ 2 * s.lists.room
-  pub buffers : 16 * (length s.lists.clients + length s.lists.servers) + 2 ≤ places
+  pub jobs : 1 ≤ s.lists.jobs.limit
+  pub buffers : places ≡ 16 * s.lists.room + 2 * s.lists.jobs.limit

@@ -8,14 +8,16 @@ use Rattle.rpc_laws.specs.declared.tables.Lists.{Lists}
 use Rattle.rpc_laws.specs.declared.tables.Timed.{Timed}
 use Rattle.rpc_laws.specs.Steps.{Rel, NotesNext}
 use Rattle.rpc_outside.specs.Linking.{Carried}
+use Rattle.endpoint_loop.specs.Seen.{Asks, asking}
 use Rattle.rpc_outside.specs.Recording.{Grew}
 
--- there are facts by which the recorder grew, and by which P leads from the old node to the new one
+-- there are facts by which the recorder grew, and by which P leads from the old node to the new
+-- one, whatever the jobs that are out ask
 pub record Makes {R : Type 0} (facts : R → Option (List Fact)) (whole : R → Bool) (P : Rel)
     (old new : Timed) (before now : R) : Type 0 where
   pub noted : List Fact
   pub grew : Grew facts whole before now noted
-  pub step : P old noted new
+  pub step : (asks : Asks) → P (asking asks old) noted (asking asks new)
 
 -- whether there was a next event: then it was noted, and otherwise nothing changed
 abbrev pub NotesOne : {R : Type 0} → (R → Option (List Fact)) → (R → Bool)

@@ -5,6 +5,7 @@ use Rattle.packet_rings.specs.Values.{DatagramValue}
 use Rattle.rpc_base.specs.declared.limits.Limits.{Limits}
 use Rattle.rpc_laws.specs.declared.tables.Arrival.{Arrival}
 use Rattle.rpc_laws.specs.declared.tables.Counted.{Counted}
+use Rattle.rpc_laws.specs.declared.tables.Job.{Job}
 use Rattle.rpc_laws.specs.declared.tables.Jobs.{Jobs}
 use Rattle.rpc_laws.specs.declared.tables.Pace.{Pace}
 use Rattle.rpc_laws.specs.declared.tables.Timed.{Timed}
@@ -12,6 +13,21 @@ use Rattle.session_store.specs.Sides.{Shown}
 
 abbrev pub arrival_of : DatagramValue → Arrival
 arrival_of d = record { peer = d.peer; bytes = d.bytes }
+
+-- what each job that is out asks, by its session and request: the workers have the bytes
+abbrev pub Asks : Type 0
+Asks = ℕ → ℕ → List ℕ
+
+abbrev pub with_ask : Asks → Job → Job
+with_ask asks job = record job { ask = asks job.session job.request }
+
+abbrev pub asking_jobs : Asks → Jobs → Jobs
+asking_jobs asks jobs = record jobs { out = map (with_ask asks) jobs.out }
+
+-- a node whose jobs ask so
+abbrev pub asking : Asks → Timed → Timed
+asking asks s =
+    record s { lists = record s.lists { jobs = asking_jobs asks s.lists.jobs } }
 
 -- what a node counts beside its sessions and rings
 pub record Tallies : Type 0 where

@@ -1,5 +1,6 @@
 -- The next part of a message that is written to its buffer, and how long a message is.
-use Rattle.std.proofs.Common.{◌≡◌, ℕ, ◌+◌, ◌-◌, ◌*◌, ◌≤◌, Option, Some, None, List, ◌++◌, length, take, drop, ap, sym, ◌∙◌, inl, inr, arith, append_assoc}
+use Rattle.std.proofs.Common.{◌≡◌, ℕ, ◌+◌, ◌-◌, ◌*◌, ◌≤◌, Option, Some, None, List, ◌++◌, length}
+use Rattle.std.proofs.Common.{take, drop, ap, sym, ◌∙◌, inl, inr, arith, append_assoc}
 use Rattle.std.specs.Prelude.{◌⊎◌}
 use Rattle.std.proofs.lemmas.Bool.{cases_lt}
 use Rattle.std.proofs.lemmas.List.{length-take, length-take-le, take-take, take_all, take_at, length-append}
@@ -8,9 +9,11 @@ use Rattle.message_buffer.specs.Buffer.{Buffer, overwritten}
 use Rattle.message_buffer.specs.Messages.{HasSize, message_in}
 
 -- bytes that are written at a place stand there
-pub front-written : (at : ℕ) (body store : List ℕ) → at ≤ length store → take (at + length body) (overwritten at body store) ≡ take at store ++ body
+pub front-written : (at : ℕ) (body store : List ℕ) → at ≤ length store
+    → take (at + length body) (overwritten at body store) ≡ take at store ++ body
 front-written at body store within =
-    let long : length (take at store ++ body) ≡ at + length body = omega (arith, length-append (take at store) body, length-take-le at store within) in
+    let long : length (take at store ++ body) ≡ at + length body =
+    omega (arith, length-append (take at store) body, length-take-le at store within) in
     rw (← append_assoc) (take_at (take at store ++ body) (drop (at + length body) store) (at + length body) long)
 
 -- a part is full, or it is the last
@@ -20,17 +23,28 @@ pub record IsNext (at size n : ℕ) : Type 0 where
   pub short : n ≤ 1024
 
 -- the message up to the next part
-pub next-part : (at size : ℕ) (body store : List ℕ) → IsNext at size (length body) → size ≤ length store → take (at + 1024) (take size (overwritten at body store)) ≡ take at store ++ body
+pub next-part : (at size : ℕ) (body store : List ℕ) → IsNext at size (length body)
+    → size ≤ length store
+    → take (at + 1024) (take size (overwritten at body store)) ≡ take at store ++ body
 next-part at size body store next room =
     let front = front-written at body store (omega (arith, next.within, room)) in
     elim next.full [
       | inl full ↦ (
           let less : at + 1024 ≤ size = omega (arith, next.within, full) in
           let same : at + 1024 ≡ at + length body = omega (arith, full) in
-          take-take (at + 1024) size (overwritten at body store) less ∙ ap (λ n. take n (overwritten at body store)) same ∙ front)
+          take-take (at + 1024) size (overwritten at body store) less
+          ∙ ap (λ n. take n (overwritten at body store)) same ∙ front)
       | inr last ↦ (
-          let short : length (take size (overwritten at body store)) ≤ at + 1024 = omega (arith, next.within, last, next.short, length-taken size (overwritten at body store)) in
-          take_all (at + 1024) (take size (overwritten at body store)) short ∙ ap (λ n. take n (overwritten at body store)) (sym last) ∙ front)
+          let short : length (take size (overwritten at body store)) ≤ at + 1024 =
+          omega (
+            arith,
+            next.within,
+            last,
+            next.short,
+            length-taken size (overwritten at body store),
+          ) in
+          take_all (at + 1024) (take size (overwritten at body store)) short
+          ∙ ap (λ n. take n (overwritten at body store)) (sym last) ∙ front)
     ]
   where
     length-taken : (n : ℕ) (xs : List ℕ) → length (take n xs) ≤ n

@@ -1,5 +1,6 @@
 -- How a block of bytes is a buffer: the header of packet 0, then the data, then the other headers.
-use Rattle.std.specs.Prelude.{◌≡◌, ◌≤◌, ℕ, zero, suc, ◌+◌, ◌-◌, ◌*◌, ◌==◌, if◌then◌else◌, List, [], ◌∷◌, length, take, drop}
+use Rattle.std.specs.Prelude.{◌≡◌, ◌≤◌, ℕ, zero, suc, ◌+◌, ◌-◌, ◌*◌, ◌==◌, if◌then◌else◌, List, []}
+use Rattle.std.specs.Prelude.{◌∷◌, length, take, drop}
 use Rattle.packet_header.specs.Parts.{packet_count}
 use Rattle.message_buffer.specs.Buffer.{Buffer}
 

@@ -1,5 +1,6 @@
 //! The copies in flight, numbered from 0 on by their order.
-ghost use Rattle.std.specs.Prelude.{◌≡◌, ◌++◌, ◌∷◌, ◌≤◌, ◌↔◌, [], List, Some, None, length, nat_lt, slice_get, IfOk, OnOk, OnErr, IfSome, IfNone};
+ghost use Rattle.std.specs.Prelude.{◌≡◌, ◌++◌, ◌∷◌, ◌≤◌, ◌↔◌, [], List, Some, None, length, nat_lt};
+ghost use Rattle.std.specs.Prelude.{slice_get, IfOk, OnOk, OnErr, IfSome, IfNone};
 ghost use Rattle.std.specs.List.{remove};
 ghost use Rattle.rpc_laws.specs.declared.tables.InFlight.{InFlight};
 ghost use Rattle.rpc_base.specs.declared.event.Event.{Event};

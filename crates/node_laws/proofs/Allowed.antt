@@ -6,7 +6,15 @@ use Rattle.packet_header.specs.Reading.{decoded}
 use Rattle.packet_header.specs.declared.packet.MessageHeader.{MessageHeader}
 use Rattle.rpc_base.specs.Owners.{same_owner}
 use Rattle.rpc_base.specs.declared.event.Event.{Event}
-use Rattle.rpc_base.specs.declared.event.Event.TheVariants.{PairedClient, PairedServer, Opened, Accepted, Ended, Connected as IsConnected, FailedNoRoom, FailedNoAnswer, Closing as BeginsClosing, ClosedHeard, ClosedUnheard, Asked, Begun, Arrived, Posted, Took, Given, Ran, Rolled, Broken, DoneOk, DoneTooSmall, DonePeerLost}
+use Rattle.rpc_base.specs.declared.event.Event.TheVariants.{PairedClient, PairedServer, Opened}
+use Rattle.rpc_base.specs.declared.event.Event.TheVariants.{Accepted, Ended}
+use Rattle.rpc_base.specs.declared.event.Event.TheVariants.{Connected as IsConnected, FailedNoRoom}
+use Rattle.rpc_base.specs.declared.event.Event.TheVariants.{FailedNoAnswer}
+use Rattle.rpc_base.specs.declared.event.Event.TheVariants.{Closing as BeginsClosing, ClosedHeard}
+use Rattle.rpc_base.specs.declared.event.Event.TheVariants.{ClosedUnheard, Asked, Begun, Arrived}
+use Rattle.rpc_base.specs.declared.event.Event.TheVariants.{Posted, Took, Given, Ran, Rolled}
+use Rattle.rpc_base.specs.declared.event.Event.TheVariants.{Broken, DoneOk, DoneTooSmall}
+use Rattle.rpc_base.specs.declared.event.Event.TheVariants.{DonePeerLost}
 use Rattle.rpc_base.specs.declared.fact.Fact.{Fact}
 use Rattle.rpc_base.specs.declared.state.SessionState.{SessionState}
 use Rattle.rpc_base.specs.declared.state.SessionState.TheVariants.{Connecting, Closing}
@@ -88,7 +96,8 @@ pub record MayTake (s : Lists) (session request number : ℕ) : Type 0 where
   pub numbered : header.number ≡ number
   pub turn : number ≡ progress.got
   pub posted : progress.got < progress.posted
-  pub fits : is_of_turn (asked_packets call.what) call.what.req_type progress.answer header (length (front_body s.ring)) ≡ true
+  pub fits : is_of_turn (asked_packets call.what) call.what.req_type progress.answer header
+      (length (front_body s.ring)) ≡ true
   pub unqueued : list_any (is_queued (Ask session request) number) s.queued ≡ false
 
 -- an active call with no queued packet is rolled back as far as it is posted
@@ -139,8 +148,10 @@ pub record MayServe (s : Lists) (session request : ℕ) : Type 0 where
   pub found : find (is_server session) s.servers ≡ Some server
   pub header : MessageHeader
   pub front : front_header s.ring ≡ Some header
-  pub newer : list_any (is_request request) server.slots ≡ false → Newer request (find (in_slot_of request) server.slots)
-  pub clean : list_any (is_request request) server.slots ≡ false → NoneOlder session (find (in_slot_of request) server.slots) s.queued
+  pub newer : list_any (is_request request) server.slots ≡ false
+      → Newer request (find (in_slot_of request) server.slots)
+  pub clean : list_any (is_request request) server.slots ≡ false
+      → NoneOlder session (find (in_slot_of request) server.slots) s.queued
 
 -- a server session that is there ends where no reply to a request of its slots is queued
 pub record MayLeave (s : Lists) (session : ℕ) : Type 0 where

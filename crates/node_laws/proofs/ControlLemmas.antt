@@ -1,23 +1,34 @@
 -- The control rule notes only what is allowed.
-use Rattle.std.proofs.Common.{◌≡◌, ℕ, zero, suc, ◌+◌, ◌%◌, ◌≤◌, ◌<◌, Bool, true, false, not, ◌||◌, ◌&&◌, cond, Option, Some, None, List, [], ◌∷◌, refl, arith}
+use Rattle.std.proofs.Common.{◌≡◌, ℕ, zero, suc, ◌+◌, ◌%◌, ◌≤◌, ◌<◌, Bool, true, false, not, ◌||◌}
+use Rattle.std.proofs.Common.{◌&&◌, cond, Option, Some, None, List, [], ◌∷◌, refl, arith}
 use Rattle.std.specs.Prelude.{◌==◌, count_by}
 use Rattle.std.specs.List.{AllByRecursion, find}
 use Rattle.std.proofs.lemmas.Bool.{eq-eqb, ltb-false}
 use Rattle.packet_header.specs.declared.packet.ControlHeader.{ControlHeader}
 use Rattle.packet_header.specs.declared.packet.ControlKind.{ControlKind}
-use Rattle.packet_header.specs.declared.packet.ControlKind.TheVariants.{ConnectRequest, ConnectReply, DisconnectRequest, DisconnectReply}
+use Rattle.packet_header.specs.declared.packet.ControlKind.TheVariants.{ConnectRequest}
+use Rattle.packet_header.specs.declared.packet.ControlKind.TheVariants.{ConnectReply}
+use Rattle.packet_header.specs.declared.packet.ControlKind.TheVariants.{DisconnectRequest}
+use Rattle.packet_header.specs.declared.packet.ControlKind.TheVariants.{DisconnectReply}
 use Rattle.rpc_base.specs.declared.event.Event.TheVariants.{Ended, Heard}
 use Rattle.rpc_base.specs.declared.fact.Fact.{Fact}
 use Rattle.rpc_base.specs.declared.state.SessionState.{SessionState}
-use Rattle.rpc_base.specs.declared.state.SessionState.TheVariants.{Unknown, Connecting, Connected, Closing, Closed, Failed, Broken, Spent}
+use Rattle.rpc_base.specs.declared.state.SessionState.TheVariants.{Unknown, Connecting, Connected}
+use Rattle.rpc_base.specs.declared.state.SessionState.TheVariants.{Closing, Closed, Failed, Broken}
+use Rattle.rpc_base.specs.declared.state.SessionState.TheVariants.{Spent}
 use Rattle.rpc_laws.specs.declared.rows.ControlRow.{ControlRow}
-use Rattle.rpc_laws.specs.declared.rows.ControlRow.TheVariants.{Ignores, Confirms, Declines, Starves, Accepts, Ends, Misses, Connects, Disowns, Fails, Closes}
+use Rattle.rpc_laws.specs.declared.rows.ControlRow.TheVariants.{Ignores, Confirms, Declines}
+use Rattle.rpc_laws.specs.declared.rows.ControlRow.TheVariants.{Starves, Accepts, Ends, Misses}
+use Rattle.rpc_laws.specs.declared.rows.ControlRow.TheVariants.{Connects, Disowns, Fails, Closes}
 use Rattle.rpc_laws.specs.declared.tables.Client.{Client}
 use Rattle.rpc_laws.specs.declared.tables.Lists.{Lists}
 use Rattle.rpc_laws.specs.declared.tables.Queued.{Queued}
 use Rattle.rpc_laws.specs.declared.tables.Server.{Server}
 use Rattle.rpc_laws.specs.ControlSteps.{SpeaksIf, Hears, HearsAll}
-use Rattle.rpc_laws.specs.ControlTable.{confirm_row, end_row, named_end, joined_row, refused_row, reply_row, over_row, closed_row, opened_row, is_end_of, control_row_of, control_row, session_flushes, session_end, control_facts, control_reply}
+use Rattle.rpc_laws.specs.ControlTable.{confirm_row, end_row, named_end, joined_row, refused_row}
+use Rattle.rpc_laws.specs.ControlTable.{reply_row, over_row, closed_row, opened_row, is_end_of}
+use Rattle.rpc_laws.specs.ControlTable.{control_row_of, control_row, session_flushes, session_end}
+use Rattle.rpc_laws.specs.ControlTable.{control_facts, control_reply}
 use Rattle.rpc_laws.specs.Facts.{plain}
 use Rattle.rpc_laws.specs.Groups.{shares, has_no_room, servers_spent}
 use Rattle.rpc_laws.specs.NodeLists.{after, after_all}
@@ -32,16 +43,19 @@ use Rattle.node_laws.proofs.TimerLemmas.{speaks-allowed}
 use Rattle.node_laws.specs.Valid.{Valid}
 
 -- which session a connect request gets
-new-accepts : (b c : Bool) (n t : ℕ) → cond b Declines (cond c Starves (Accepts n)) ≡ Accepts t → (t ≡ n) × (b ≡ false)
+new-accepts : (b c : Bool) (n t : ℕ) → cond b Declines (cond c Starves (Accepts n)) ≡ Accepts t
+    → (t ≡ n) × (b ≡ false)
 new-accepts true c n t e = cc
 new-accepts false true n t e = cc
 new-accepts false false n t e = (cc, refl)
 
-has-room : (credits : ℕ) (s : Lists) (b c : Bool) → has_no_room credits s ≡ b → (b || c) ≡ false → shares s + credits ≤ s.room
+has-room : (credits : ℕ) (s : Lists) (b c : Bool) → has_no_room credits s ≡ b → (b || c) ≡ false
+    → shares s + credits ≤ s.room
 has-room credits s true c e h = cc
 has-room credits s false c e h = ltb-false s.room (shares s + credits) e
 
-confirm-accepts : (lacks : Bool) (h : ControlHeader) (s : Lists) (t : ℕ) (o : Option Server) → confirm_row lacks h s o ≡ Accepts t → MayMake s t s.server_numbers h.credits
+confirm-accepts : (lacks : Bool) (h : ControlHeader) (s : Lists) (t : ℕ) (o : Option Server)
+    → confirm_row lacks h s o ≡ Accepts t → MayMake s t s.server_numbers h.credits
 confirm-accepts lacks h s t None e =
     let new = new-accepts (has_no_room h.credits s || servers_spent s) lacks s.server_numbers t e in
     record { numbered = new.0; room = has-room h.credits s (has_no_room h.credits s) (servers_spent s) refl new.1 }
@@ -128,11 +142,15 @@ connecting-joins : (b : Bool) (u : ℕ) → Joins Connecting (cond b (Connects u
 connecting-joins true u = record { accepts = λ t e. cc; connects = λ t e. refl; fails = λ e. refl; closes = λ e. cc }
 connecting-joins false u = record { accepts = λ t e. cc; connects = λ t e. refl; fails = λ e. refl; closes = λ e. cc }
 
-joined-joins : (state : SessionState) (limit other u credits : ℕ) → Joins state (joined_row state limit other u credits)
+joined-joins : (state : SessionState) (limit other u credits : ℕ)
+    → Joins state (joined_row state limit other u credits)
 joined-joins Connecting limit other u credits = connecting-joins (credits == limit) u
-joined-joins Connected limit other u credits = plain-joins Connected (cond (other == u) Ignores Disowns) (kept-plain (other == u))
-joined-joins Spent limit other u credits = plain-joins Spent (cond (other == u) Ignores Disowns) (kept-plain (other == u))
-joined-joins Closing limit other u credits = plain-joins Closing (cond (other == u) Ignores Disowns) (kept-plain (other == u))
+joined-joins Connected limit other u credits =
+    plain-joins Connected (cond (other == u) Ignores Disowns) (kept-plain (other == u))
+joined-joins Spent limit other u credits =
+    plain-joins Spent (cond (other == u) Ignores Disowns) (kept-plain (other == u))
+joined-joins Closing limit other u credits =
+    plain-joins Closing (cond (other == u) Ignores Disowns) (kept-plain (other == u))
 joined-joins Unknown limit other u credits = plain-joins Unknown Disowns disowns-plain
 joined-joins Closed limit other u credits = plain-joins Closed Disowns disowns-plain
 joined-joins Failed limit other u credits = plain-joins Failed Disowns disowns-plain
@@ -157,7 +175,8 @@ plain-tells s client credits row k = record {
   closes = λ e. absurd (k.closes e);
 }
 
-joins-tells : (s : Lists) (client credits : ℕ) (x : Client) (row : ControlRow) → find (is_client client) s.clients ≡ Some x → Joins x.state row → Tells s client credits row
+joins-tells : (s : Lists) (client credits : ℕ) (x : Client) (row : ControlRow)
+    → find (is_client client) s.clients ≡ Some x → Joins x.state row → Tells s client credits row
 joins-tells s client credits x row found k = record {
   accepts = λ t e. absurd (k.accepts t e);
   connects = λ t e. record { client = x; found = found; stands = k.connects t e };
@@ -165,7 +184,9 @@ joins-tells s client credits x row found k = record {
   closes = λ e. record { client = x; found = found; stands = k.closes e };
 }
 
-opened-tells : (s : Lists) (client credits peer : ℕ) (row : Client → ControlRow) → ((x : Client) → Joins x.state (row x)) → (o : Option Client) → find (is_client client) s.clients ≡ o → Tells s client credits (opened_row row peer o)
+opened-tells : (s : Lists) (client credits peer : ℕ) (row : Client → ControlRow)
+    → ((x : Client) → Joins x.state (row x)) → (o : Option Client)
+    → find (is_client client) s.clients ≡ o → Tells s client credits (opened_row row peer o)
 opened-tells s client credits peer row joins None found = plain-tells s client credits Ignores ignores-plain
 opened-tells s client credits peer row joins (Some x) found = by (not (x.way.peer == peer))
   where
@@ -173,7 +194,8 @@ opened-tells s client credits peer row joins (Some x) found = by (not (x.way.pee
     by true = plain-tells s client credits Ignores ignores-plain
     by false = joins-tells s client credits x (row x) found (joins x)
 
-row-tells : (kind : ControlKind) (lacks : Bool) (peer : ℕ) (h : ControlHeader) (s : Lists) → Tells s h.client h.credits (control_row_of kind lacks peer h s)
+row-tells : (kind : ControlKind) (lacks : Bool) (peer : ℕ) (h : ControlHeader) (s : Lists)
+    → Tells s h.client h.credits (control_row_of kind lacks peer h s)
 row-tells ConnectRequest lacks peer h s =
     let o = find (is_end_of peer h.client) s.servers in
     let keeps = confirm-keeps lacks h s o in
@@ -186,12 +208,15 @@ row-tells ConnectRequest lacks peer h s =
 row-tells DisconnectRequest lacks peer h s =
     let o = named_end peer h.client h.server s.servers in plain-tells s h.client h.credits (end_row o) (end-plain o)
 row-tells ConnectReply lacks peer h s =
-    opened-tells s h.client h.credits peer (reply_row h.server h.credits) (reply-joins h.server h.credits) (find (is_client h.client) s.clients) refl
+    opened-tells s h.client h.credits peer (reply_row h.server h.credits)
+    (reply-joins h.server h.credits) (find (is_client h.client) s.clients) refl
 row-tells DisconnectReply lacks peer h s =
-    opened-tells s h.client h.credits peer (closed_row h.server) (λ x. over-joins x.state x.way.other h.server) (find (is_client h.client) s.clients) refl
+    opened-tells s h.client h.credits peer (closed_row h.server)
+    (λ x. over-joins x.state x.way.other h.server) (find (is_client h.client) s.clients) refl
 
 -- each slot
-slot-within : (P : ℕ → Type 0) → AllByRecursion P (0 ∷ 1 ∷ 2 ∷ 3 ∷ 4 ∷ 5 ∷ 6 ∷ 7 ∷ []) → (slot : ℕ) → slot < 8 → P slot
+slot-within : (P : ℕ → Type 0) → AllByRecursion P (0 ∷ 1 ∷ 2 ∷ 3 ∷ 4 ∷ 5 ∷ 6 ∷ 7 ∷ []) → (slot : ℕ)
+    → slot < 8 → P slot
 slot-within P all zero h = all.0
 slot-within P all (suc zero) h = all.1.0
 slot-within P all (suc (suc zero)) h = all.1.1.0
@@ -203,30 +228,48 @@ slot-within P all (suc (suc (suc (suc (suc (suc (suc zero))))))) h = all.1.1.1.1
 slot-within P all (suc (suc (suc (suc (suc (suc (suc (suc slot)))))))) h = absurd (omega arith)
 
 -- the session that is named is found by its number
-named-is : (peer client : ℕ) (o : Option ℕ) (servers : List Server) (v : Server) → ((t : ℕ) → count_by (is_server t) servers ≤ 1) → named_end peer client o servers ≡ Some v → find (is_server v.way.number) servers ≡ Some v
+named-is : (peer client : ℕ) (o : Option ℕ) (servers : List Server) (v : Server)
+    → ((t : ℕ) → count_by (is_server t) servers ≤ 1) → named_end peer client o servers ≡ Some v
+    → find (is_server v.way.number) servers ≡ Some v
 named-is peer client None servers v alone e = cc
 named-is peer client (Some t) servers v alone e =
-    found-own (λ w. is_server t w && is_end_of peer client w) (is_server v.way.number) servers v (alone v.way.number) e (eq-eqb v.way.number v.way.number refl)
+    found-own (λ w. is_server t w && is_end_of peer client w)
+    (is_server v.way.number) servers v (alone v.way.number) e
+    (eq-eqb v.way.number v.way.number refl)
 
 -- a server session ends, with no reply to a request of its slots queued
-end-allowed : (clock : ℕ) (s : Lists) (me : ℕ) (o : Option Server) → ((v : Server) → o ≡ Some v → find (is_server v.way.number) s.servers ≡ Some v) → AllAllowed clock s (session_end me s.queued o)
+end-allowed : (clock : ℕ) (s : Lists) (me : ℕ) (o : Option Server)
+    → ((v : Server) → o ≡ Some v → find (is_server v.way.number) s.servers ≡ Some v)
+    → AllAllowed clock s (session_end me s.queued o)
 end-allowed clock s me None found = tt
 end-allowed clock s me (Some v) found =
     let all = slots-flushed clock s me s.queued v (0 ∷ 1 ∷ 2 ∷ 3 ∷ 4 ∷ 5 ∷ 6 ∷ 7 ∷ []) (no-more-same s.queued) in
     let queue = all.flushes.queue in
-    let may : MayLeave (record s { queued = queue }) v.way.number = record { server = v; found = found v refl; clean = λ request. clean-at queue all.clean request } in
+    let may : MayLeave (record s { queued = queue }) v.way.number =
+    record {
+      server = v;
+      found = found v refl;
+      clean = λ request. clean-at queue all.clean request;
+    } in
     let own : MayLeave (after_all clock s (session_flushes me s.queued v)) v.way.number = rw all.flushes.same may in
-    allowed-join clock s (session_flushes me s.queued v) (plain me (Ended v.way.number) ∷ []) all.flushes.allowed (own, tt)
+    allowed-join clock s (session_flushes me s.queued v)
+    (plain me (Ended v.way.number) ∷ []) all.flushes.allowed (own, tt)
   where
-    clean-at : (queue : List Queued) → AllByRecursion (λ slot. NoneOlder v.way.number (find (in_slot_of slot) v.slots) queue) (0 ∷ 1 ∷ 2 ∷ 3 ∷ 4 ∷ 5 ∷ 6 ∷ 7 ∷ []) → (request : ℕ) → NoneOlder v.way.number (find (in_slot_of request) v.slots) queue
+    clean-at : (queue : List Queued)
+        → AllByRecursion (λ slot. NoneOlder v.way.number (find (in_slot_of slot) v.slots) queue)
+        (0 ∷ 1 ∷ 2 ∷ 3 ∷ 4 ∷ 5 ∷ 6 ∷ 7 ∷ []) → (request : ℕ)
+        → NoneOlder v.way.number (find (in_slot_of request) v.slots) queue
     clean-at queue clean request =
         let below : request % 8 < 8 = omega arith in
         let slot : request % 8 ≡ (request % 8) % 8 = omega arith in
-        let one = slot-within (λ i. NoneOlder v.way.number (find (in_slot_of i) v.slots) queue) clean (request % 8) below in
+        let one = slot-within (λ i. NoneOlder v.way.number (find (in_slot_of i) v.slots) queue)
+        clean (request % 8) below in
         rw (same-slot request (request % 8) slot v.slots) one
 
 -- the facts of a row, after Heard
-row-allowed : (clock : ℕ) (s : Lists) → Valid s → (peer : ℕ) (h : ControlHeader) (row : ControlRow) → Tells s h.client h.credits row → AllAllowed clock (after clock s (plain s.me Heard)) (control_facts s peer h row)
+row-allowed : (clock : ℕ) (s : Lists) → Valid s → (peer : ℕ) (h : ControlHeader) (row : ControlRow)
+    → Tells s h.client h.credits row
+    → AllAllowed clock (after clock s (plain s.me Heard)) (control_facts s peer h row)
 row-allowed clock s v peer h Ignores k = tt
 row-allowed clock s v peer h (Confirms t credits) k = tt
 row-allowed clock s v peer h Declines k = (tt, tt)
@@ -244,7 +287,8 @@ row-allowed clock s v peer h Fails k =
 row-allowed clock s v peer h Closes k =
     let on = k.closes refl in (record { client = on.client; found = on.found; stands = on.stands }, tt)
 
-said-allowed : (clock : ℕ) (s : Lists) (me peer : ℕ) (o : Option ControlHeader) (x : List Fact) → SpeaksIf me peer o x → AllAllowed clock s x
+said-allowed : (clock : ℕ) (s : Lists) (me peer : ℕ) (o : Option ControlHeader) (x : List Fact)
+    → SpeaksIf me peer o x → AllAllowed clock s x
 said-allowed clock s me peer None x h = rw h tt
 said-allowed clock s me peer (Some c) x h = speaks-allowed clock s me peer c x h
 
@@ -253,8 +297,10 @@ hears-lawful s x t v h =
     let row = control_row h.lacks h.front.peer h.header s.lists in
     let heard = after s.clock s.lists (plain s.lists.me Heard) in
     let facts = control_facts s.lists h.front.peer h.header row in
-    let first = row-allowed s.clock s.lists v h.front.peer h.header row (row-tells h.header.kind h.lacks h.front.peer h.header s.lists) in
-    let said = said-allowed s.clock (after_all s.clock heard facts) s.lists.me h.front.peer (control_reply h.header row) h.said h.speaks in
+    let first = row-allowed s.clock s.lists v h.front.peer h.header row
+    (row-tells h.header.kind h.lacks h.front.peer h.header s.lists) in
+    let said = said-allowed s.clock (after_all s.clock heard facts) s.lists.me h.front.peer
+    (control_reply h.header row) h.said h.speaks in
     lawful-goes s x t h.goes (rw h.facts (tt, allowed-join s.clock heard facts h.said first said))
 
 pub hears-all-lawful : Lawful HearsAll

@@ -1,5 +1,6 @@
 -- Credit holds at every moment of a run, and no packet is posted without one.
-use Rattle.std.proofs.Common.{◌≡◌, ℕ, suc, ◌+◌, ◌≤◌, ◌<◌, Bool, true, false, cond, eqb, leb, Some, List, [], ◌∷◌, length, refl, ap, ◌∙◌, arith}
+use Rattle.std.proofs.Common.{◌≡◌, ℕ, suc, ◌+◌, ◌≤◌, ◌<◌, Bool, true, false, cond, eqb, leb, Some}
+use Rattle.std.proofs.Common.{List, [], ◌∷◌, length, refl, ap, ◌∙◌, arith}
 use Rattle.std.specs.Prelude.{sum_by, map}
 use Rattle.std.specs.List.{AllByRecursion, find}
 use Rattle.std.proofs.lemmas.Bool.{eq-eqb, ne_eqb}
@@ -10,13 +11,17 @@ use Rattle.rpc_base.specs.declared.fact.Fact.{Fact}
 use Rattle.rpc_base.specs.declared.limits.Limits.{Limits}
 use Rattle.rpc_base.specs.declared.owner.Owner.TheVariants.{Ask, Reply, Control}
 use Rattle.rpc_base.specs.declared.state.SessionState.{SessionState}
-use Rattle.rpc_base.specs.declared.state.SessionState.TheVariants.{Unknown, Connecting, Connected, Closing, Closed, Failed, Broken, Spent}
+use Rattle.rpc_base.specs.declared.state.SessionState.TheVariants.{Unknown, Connecting, Connected}
+use Rattle.rpc_base.specs.declared.state.SessionState.TheVariants.{Closing, Closed, Failed, Broken}
+use Rattle.rpc_base.specs.declared.state.SessionState.TheVariants.{Spent}
 use Rattle.rpc_laws.specs.declared.tables.Call.{Call}
 use Rattle.rpc_laws.specs.declared.tables.Client.{Client}
 use Rattle.rpc_laws.specs.declared.tables.Lists.{Lists}
 use Rattle.rpc_laws.specs.NodeLists.{after, new_lists}
 use Rattle.rpc_laws.specs.Sessions.{is_client, is_connected, is_live}
-use Rattle.node_laws.specs.CreditBalance.{CallAccount, Accounts, accounts_after, sessions_after, no_accounts, is_session, unanswered, IsBalanced, Balanced, CanSpend, MaySpend, CreditFrom}
+use Rattle.node_laws.specs.CreditBalance.{CallAccount, Accounts, accounts_after, sessions_after}
+use Rattle.node_laws.specs.CreditBalance.{no_accounts, is_session, unanswered, IsBalanced, Balanced}
+use Rattle.node_laws.specs.CreditBalance.{CanSpend, MaySpend, CreditFrom}
 use Rattle.node_laws.specs.Laws.{CreditBalances}
 use Rattle.node_laws.proofs.AccountLemmas.{account_of, has_credits, session_account, of_session, Agrees, list-is}
 use Rattle.node_laws.proofs.AgreeLemmas.{calls-agree, sessions-agree, once-agrees}
@@ -27,9 +32,11 @@ use Rattle.node_laws.proofs.SpanLemmas.{packets-length}
 use Rattle.node_laws.specs.Valid.{NumberedFrom, client_no, unanswered_of, unanswered_on, Sound, Valid}
 use Rattle.node_laws.proofs.ValidLemmas.{valid_after, valid_new}
 
-pub agrees-after : (clock : ℕ) (f : Fact) (a : Accounts) (s : Lists) → Valid s → Agrees a s → Allowed s f.event → Agrees (accounts_after f.event a) (after clock s f)
+pub agrees-after : (clock : ℕ) (f : Fact) (a : Accounts) (s : Lists) → Valid s → Agrees a s
+    → Allowed s f.event → Agrees (accounts_after f.event a) (after clock s f)
 agrees-after clock f a s v k may = record {
-  sessions = ap (λ xs. sessions_after f.event a.calls xs) k.sessions ∙ sessions-agree clock f.event f.first a s v k may;
+  sessions = ap (λ xs. sessions_after f.event a.calls xs) k.sessions
+      ∙ sessions-agree clock f.event f.first a s v k may;
   calls = calls-agree clock f.event f.first a s v k may;
   once = λ number. once-agrees number f.event a.calls s (k.once number) may;
 }
@@ -45,7 +52,9 @@ agrees-new me limits = record { sessions = refl; calls = λ n. refl; once = λ n
 abbrev pub Found : List Client → Client → Type 0
 Found xs y = find (is_client y.way.number) xs ≡ Some y
 
-later-found : (n m : ℕ) (x : Client) (ys zs : List Client) → x.way.number ≡ n → n < m → NumberedFrom client_no m ys → AllByRecursion (Found zs) ys → AllByRecursion (Found (x ∷ zs)) ys
+later-found : (n m : ℕ) (x : Client) (ys zs : List Client) → x.way.number ≡ n → n < m
+    → NumberedFrom client_no m ys → AllByRecursion (Found zs) ys
+    → AllByRecursion (Found (x ∷ zs)) ys
 later-found n m x [] zs e h numbered all = tt
 later-found n m x (y ∷ ys) zs e h numbered all =
     let own = numbered.0 in
@@ -59,15 +68,27 @@ all-found n (x ∷ xs) h =
     (rw own refl, later-found n (suc n) x xs xs h.0 (omega arith) h.1 (all-found (suc n) xs h.1))
 
 -- what is unanswered by the facts is what is by the table
-same-unanswered : (n : ℕ) (cs : List Call) → sum_by (λ a. length a.packets) (map (account_of n) cs) ≡ sum_by (λ c. unanswered_of c.progress) cs
+same-unanswered : (n : ℕ) (cs : List Call)
+    → sum_by (λ a. length a.packets) (map (account_of n) cs)
+    ≡ sum_by (λ c. unanswered_of c.progress) cs
 same-unanswered n [] = refl
 same-unanswered n (c ∷ cs) =
-    omega (arith, same-unanswered n cs, packets-length c.progress, sum_by-cons (λ (a : CallAccount). length a.packets) (account_of n c) (map (account_of n) cs), sum_by-cons (λ (d : Call). unanswered_of d.progress) c cs)
+    omega (
+      arith,
+      same-unanswered n cs,
+      packets-length c.progress,
+      sum_by-cons (λ (a : CallAccount). length a.packets) (account_of n c)
+          (map (account_of n) cs),
+      sum_by-cons (λ (d : Call). unanswered_of d.progress) c cs,
+    )
 
-unanswered-is : (a : Accounts) (s : Lists) → Agrees a s → (y : Client) → Found s.clients y → unanswered y.way.number a.calls ≡ unanswered_on y
+unanswered-is : (a : Accounts) (s : Lists) → Agrees a s → (y : Client) → Found s.clients y
+    → unanswered y.way.number a.calls ≡ unanswered_on y
 unanswered-is a s k y e =
     let n = y.way.number in
-    sum-filter (of_session n) (λ b. length b.packets) a.calls ∙ (ap (λ bs. sum_by (λ (b : CallAccount). length b.packets) bs) (list-is a s k n y e) ∙ same-unanswered n y.calls)
+    sum-filter (of_session n) (λ b. length b.packets) a.calls
+    ∙ (ap (λ bs. sum_by (λ (b : CallAccount). length b.packets) bs) (list-is a s k n y e)
+    ∙ same-unanswered n y.calls)
 
 pub credits-live : (state : SessionState) → has_credits state ≡ true → is_live state ≡ true
 credits-live Connected e = refl
@@ -79,7 +100,9 @@ credits-live Closed e = cc
 credits-live Failed e = cc
 credits-live Broken e = cc
 
-balanced-by : (a : Accounts) (s : Lists) → Agrees a s → (ys : List Client) → AllByRecursion (Found s.clients) ys → AllByRecursion Sound ys → AllByRecursion (IsBalanced a.calls) (map session_account ys)
+balanced-by : (a : Accounts) (s : Lists) → Agrees a s → (ys : List Client)
+    → AllByRecursion (Found s.clients) ys → AllByRecursion Sound ys
+    → AllByRecursion (IsBalanced a.calls) (map session_account ys)
 balanced-by a s k [] found sound = tt
 balanced-by a s k (y ∷ ys) found sound =
     (balances (sound.0), balanced-by a s k ys found.1 sound.1)
@@ -101,11 +124,16 @@ connected-credits Failed e = cc
 connected-credits Broken e = cc
 
 -- a packet is posted of a session that has a credit
-posted-spend : (n r k : ℕ) (a : Accounts) (s : Lists) → Agrees a s → MayPost s n r k → CanSpend (find (is_session n) a.sessions)
+posted-spend : (n r k : ℕ) (a : Accounts) (s : Lists) → Agrees a s → MayPost s n r k
+    → CanSpend (find (is_session n) a.sessions)
 posted-spend n r k a s agrees may =
-    let found = image-found session_account (is_client n) (is_session n) (λ x. refl) s.clients may.client may.active.place.client in
+    let found = image-found session_account (is_client n) (is_session n)
+    (λ x. refl) s.clients may.client may.active.place.client in
     let credit = may.credit in
-    rw (agrees.sessions, found) (record { live = connected-credits may.client.state may.connected; free = omega arith })
+    rw (agrees.sessions, found) (record {
+      live = connected-credits may.client.state may.connected;
+      free = omega arith;
+    })
 
 may-spend : (e : Event) (a : Accounts) (s : Lists) → Agrees a s → Allowed s e → MaySpend e a.sessions
 may-spend (Posted (Ask n r) k) a s agrees may = posted-spend n r k a s agrees may
@@ -113,10 +141,15 @@ may-spend (Posted (Reply n r) k) a s agrees may = tt
 may-spend (Posted Control k) a s agrees may = tt
 may-spend _ a s agrees may = tt
 
-credit-from : (a : Accounts) (s : Lists) (g : List Fact) (t : Lists) → Agrees a s → Valid s → Leads s g t → CreditFrom a g
+credit-from : (a : Accounts) (s : Lists) (g : List Fact) (t : Lists) → Agrees a s → Valid s
+    → Leads s g t → CreditFrom a g
 credit-from a s [] t k v l = balanced a s k v
-credit-from a s (f ∷ g) t k v l =
-    (balanced a s k v, may-spend f.event a s k l.1, credit-from (accounts_after f.event a) (after l.0 s f) g t (agrees-after l.0 f a s v k l.1) (valid_after l.0 s f v l.1) l.2)
+credit-from a s (f ∷ g) t k v l = (
+  balanced a s k v,
+  may-spend f.event a s k l.1,
+  credit-from (accounts_after f.event a) (after l.0 s f) g t (agrees-after l.0 f a s v k l.1)
+      (valid_after l.0 s f v l.1) l.2,
+)
 
 pub credit : CreditBalances
 credit p me limits g t r =

@@ -23,12 +23,15 @@ use Rattle.node_laws.proofs.Allowed.{NoneOf, NoneOlder, AllAllowed}
 use Rattle.node_laws.proofs.LeadsLemmas.{allowed-join}
 use Rattle.node_laws.proofs.QueueLemmas.{taken_out, NoMore, no-more-taken, flushed-none, none-stays}
 
-pub flush-allowed : (clock : ℕ) (s : Lists) (me : ℕ) (owner : Owner) (ks : List ℕ) → AllAllowed clock s (map (λ k. plain me (Flushed owner k)) ks)
+pub flush-allowed : (clock : ℕ) (s : Lists) (me : ℕ) (owner : Owner) (ks : List ℕ)
+    → AllAllowed clock s (map (λ k. plain me (Flushed owner k)) ks)
 flush-allowed clock s me owner [] = tt
 flush-allowed clock s me owner (k ∷ ks) =
     (tt, flush-allowed clock (after clock s (plain me (Flushed owner k))) me owner ks)
 
-pub flush-after : (clock : ℕ) (s : Lists) (me : ℕ) (owner : Owner) (ks : List ℕ) → after_all clock s (map (λ k. plain me (Flushed owner k)) ks) ≡ record s { queued = taken_out owner ks s.queued }
+pub flush-after : (clock : ℕ) (s : Lists) (me : ℕ) (owner : Owner) (ks : List ℕ)
+    → after_all clock s (map (λ k. plain me (Flushed owner k)) ks)
+    ≡ record s { queued = taken_out owner ks s.queued }
 flush-after clock s me owner [] = refl
 flush-after clock s me owner (k ∷ ks) = flush-after clock (after clock s (plain me (Flushed owner k))) me owner ks
 
@@ -52,7 +55,8 @@ no-more-join qs rs ts h g owner k = let first = h owner k in let second = g owne
 unfoldable pub flushes-none : (clock : ℕ) (s : Lists) → Flushes clock s []
 flushes-none clock s = record { queue = s.queued; same = refl; fewer = no-more-same s.queued; allowed = tt }
 
-flushes-join : (clock : ℕ) (s : Lists) (x y : List Fact) (a : Flushes clock s x) → Flushes clock (record s { queued = a.queue }) y → Flushes clock s (x ++ y)
+flushes-join : (clock : ℕ) (s : Lists) (x y : List Fact) (a : Flushes clock s x)
+    → Flushes clock (record s { queued = a.queue }) y → Flushes clock s (x ++ y)
 flushes-join clock s x y a b =
     let rest : AllAllowed clock (after_all clock s x) y = rw a.same b.allowed in
     record {
@@ -63,7 +67,8 @@ flushes-join clock s x y a b =
     }
 
 -- the packets of an owner
-unfoldable pub flushes-owner : (clock : ℕ) (s : Lists) (me : ℕ) (queued : List Queued) (owner : Owner) → Flushes clock s (flush_facts me queued owner)
+unfoldable pub flushes-owner : (clock : ℕ) (s : Lists) (me : ℕ) (queued : List Queued)
+    (owner : Owner) → Flushes clock s (flush_facts me queued owner)
 flushes-owner clock s me queued owner = record {
   queue = taken_out owner (numbers_of owner queued) s.queued;
   same = flush-after clock s me owner (numbers_of owner queued);
@@ -76,20 +81,25 @@ pub record AllFlushed (clock : ℕ) (s : Lists) (n : ℕ) (cs : List Call) (x : 
   pub flushes : Flushes clock s x
   pub clean : AllByRecursion (λ c. NoneOf n c.progress flushes.queue) cs
 
-one-flushed : (clock : ℕ) (s : Lists) (me n : ℕ) (queued : List Queued) (o : Option Progress) → NoMore s.queued queued → (a : Flushes clock s (flushes_of me n queued o)) × NoneOf n o a.queue
+one-flushed : (clock : ℕ) (s : Lists) (me n : ℕ) (queued : List Queued) (o : Option Progress)
+    → NoMore s.queued queued → (a : Flushes clock s (flushes_of me n queued o)) × NoneOf n o a.queue
 unfolding flushes-owner flushes-none
 one-flushed clock s me n queued None h = (flushes-none clock s, tt)
 one-flushed clock s me n queued (Some p) h =
     (flushes-owner clock s me queued (Ask n p.request), flushed-none (Ask n p.request) s.queued queued h)
 
-pub calls-flushed : (clock : ℕ) (s : Lists) (me n : ℕ) (queued : List Queued) (cs : List Call) → NoMore s.queued queued → AllFlushed clock s n cs (flat_map (λ c. flushes_of me n queued c.progress) cs)
+pub calls-flushed : (clock : ℕ) (s : Lists) (me n : ℕ) (queued : List Queued) (cs : List Call)
+    → NoMore s.queued queued
+    → AllFlushed clock s n cs (flat_map (λ c. flushes_of me n queued c.progress) cs)
 unfolding flushes-join
 calls-flushed clock s me n queued [] h = record { flushes = flushes-none clock s; clean = tt }
 calls-flushed clock s me n queued (c ∷ cs) h =
     let first = one-flushed clock s me n queued c.progress h in
-    let rest = calls-flushed clock (record s { queued = first.0.queue }) me n queued cs (no-more-join first.0.queue s.queued queued first.0.fewer h) in
+    let rest = calls-flushed clock (record s { queued = first.0.queue }) me n queued cs
+    (no-more-join first.0.queue s.queued queued first.0.fewer h) in
     record {
-      flushes = flushes-join clock s (flushes_of me n queued c.progress) (flat_map (λ c. flushes_of me n queued c.progress) cs) first.0 rest.flushes;
+      flushes = flushes-join clock s (flushes_of me n queued c.progress)
+          (flat_map (λ c. flushes_of me n queued c.progress) cs) first.0 rest.flushes;
       clean = (none-of-stays n c.progress rest.flushes.queue first.0.queue rest.flushes.fewer first.1, rest.clean);
     }
 
@@ -102,20 +112,27 @@ pub record SlotsFlushed (clock : ℕ) (s : Lists) (v : Server) (slots : List ℕ
   pub flushes : Flushes clock s x
   pub clean : AllByRecursion (λ slot. NoneOlder v.way.number (find (in_slot_of slot) v.slots) flushes.queue) slots
 
-slot-flushed : (clock : ℕ) (s : Lists) (me t : ℕ) (queued : List Queued) (o : Option Served) → NoMore s.queued queued → (a : Flushes clock s (flushes me queued t o)) × NoneOlder t o a.queue
+slot-flushed : (clock : ℕ) (s : Lists) (me t : ℕ) (queued : List Queued) (o : Option Served)
+    → NoMore s.queued queued → (a : Flushes clock s (flushes me queued t o)) × NoneOlder t o a.queue
 unfolding flushes-owner flushes-none
 slot-flushed clock s me t queued None h = (flushes-none clock s, tt)
 slot-flushed clock s me t queued (Some l) h =
     (flushes-owner clock s me queued (Reply t l.number), flushed-none (Reply t l.number) s.queued queued h)
 
-pub slots-flushed : (clock : ℕ) (s : Lists) (me : ℕ) (queued : List Queued) (v : Server) (slots : List ℕ) → NoMore s.queued queued → SlotsFlushed clock s v slots (flat_map (λ slot. flushes me queued v.way.number (find (in_slot_of slot) v.slots)) slots)
+pub slots-flushed : (clock : ℕ) (s : Lists) (me : ℕ) (queued : List Queued) (v : Server)
+    (slots : List ℕ) → NoMore s.queued queued
+    → SlotsFlushed clock s v slots (flat_map (λ slot. flushes me queued v.way.number
+    (find (in_slot_of slot) v.slots)) slots)
 unfolding flushes-join
 slots-flushed clock s me queued v [] h = record { flushes = flushes-none clock s; clean = tt }
 slots-flushed clock s me queued v (slot ∷ slots) h =
     let o = find (in_slot_of slot) v.slots in
     let first = slot-flushed clock s me v.way.number queued o h in
-    let rest = slots-flushed clock (record s { queued = first.0.queue }) me queued v slots (no-more-join first.0.queue s.queued queued first.0.fewer h) in
+    let rest = slots-flushed clock (record s { queued = first.0.queue }) me queued v slots
+    (no-more-join first.0.queue s.queued queued first.0.fewer h) in
     record {
-      flushes = flushes-join clock s (flushes me queued v.way.number o) (flat_map (λ slot. flushes me queued v.way.number (find (in_slot_of slot) v.slots)) slots) first.0 rest.flushes;
+      flushes = flushes-join clock s (flushes me queued v.way.number o)
+          (flat_map (λ slot. flushes me queued v.way.number (find (in_slot_of slot) v.slots)) slots)
+          first.0 rest.flushes;
       clean = (older-stays v.way.number o rest.flushes.queue first.0.queue rest.flushes.fewer first.1, rest.clean);
     }

@@ -3,7 +3,9 @@
 use Rattle.std.proofs.Common.{◌≡◌, ◌≤◌, true, false, None, List, [], ◌∷◌, refl, arith}
 use Rattle.std.specs.Prelude.{count_by}
 use Rattle.std.specs.List.{list_any}
-use Rattle.rpc_base.specs.declared.event.Event.TheVariants.{PairedClient, Asked, Begun, Posted, Sent, Flushed, Took, Rolled, DoneOk, Ended}
+use Rattle.rpc_base.specs.declared.event.Event.TheVariants.{PairedClient, Asked, Begun, Posted}
+use Rattle.rpc_base.specs.declared.event.Event.TheVariants.{Sent, Flushed, Took, Rolled, DoneOk}
+use Rattle.rpc_base.specs.declared.event.Event.TheVariants.{Ended}
 use Rattle.rpc_base.specs.declared.fact.Fact.{Fact}
 use Rattle.rpc_base.specs.declared.owner.Owner.TheVariants.{Ask, Reply}
 use Rattle.rpc_laws.specs.AtMostOnce.{times, begins_call, ends_call}
@@ -18,14 +20,16 @@ abbrev begun : List Fact
 begun = latest_first [] (plain 4 (PairedClient 0 7 3 2) ∷ plain 4 (Asked 0 0 1 9) ∷ plain 4 (Begun 0 0) ∷ [])
 
 abbrev posted : List Fact
-posted = latest_first begun (plain 4 (Posted (Ask 0 0) 0) ∷ plain 4 (Posted (Ask 0 0) 1) ∷ plain 4 (Sent 7 (Ask 0 0) 0) ∷ [])
+posted = latest_first begun (plain 4 (Posted (Ask 0 0) 0) ∷ plain 4 (Posted (Ask 0 0) 1)
+    ∷ plain 4 (Sent 7 (Ask 0 0) 0) ∷ [])
 
 abbrev rolled : List Fact
 rolled = latest_first posted (plain 4 (Flushed (Ask 0 0) 1) ∷ plain 4 (Rolled 0 2 0) ∷ [])
 
 -- it posts and sends the first once more, and takes the answer to it
 abbrev taken : List Fact
-taken = latest_first rolled (plain 4 (Posted (Ask 0 0) 0) ∷ plain 4 (Sent 7 (Ask 0 0) 0) ∷ plain 4 (Took (Ask 0 0) 0) ∷ [])
+taken = latest_first rolled (plain 4 (Posted (Ask 0 0) 0) ∷ plain 4 (Sent 7 (Ask 0 0) 0)
+    ∷ plain 4 (Took (Ask 0 0) 0) ∷ [])
 
 row-begun : list_any (λ f. asks_on 0 0 f.event) begun ≡ true
 row-begun = refl

@@ -66,7 +66,8 @@ pub lists-kept : ListsAreKept
 lists-kept p me limits g t r = kept-leads (new_lists me limits) g t.lists (kept-new me limits) (run_leads r)
 
 -- the queued packets of a live session and its free credits are no more than its limit
-pub kept-session : (s : Lists) (n : ℕ) (x : Client) → Kept s → find (is_client n) s.clients ≡ Some x → is_live x.state ≡ true → queued_of n s.queued + x.free ≤ x.limit
+pub kept-session : (s : Lists) (n : ℕ) (x : Client) → Kept s → find (is_client n) s.clients ≡ Some x
+    → is_live x.state ≡ true → queued_of n s.queued + x.free ≤ x.limit
 kept-session s n x k found live = session-fits s n x k.valid k.windows k.once found live
 
 -- and those of all live sessions no more than the ring is long

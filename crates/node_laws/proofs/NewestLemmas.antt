@@ -1,5 +1,6 @@
 -- What stands in a slot is its newest request.
-use Rattle.std.proofs.Common.{◌≡◌, ℕ, ◌%◌, ◌≤◌, ◌<◌, Bool, true, false, cond, ltb, Option, Some, None, List, [], refl, sym, ap, ◌∙◌, ◌⊎◌, inl, inr, arith}
+use Rattle.std.proofs.Common.{◌≡◌, ℕ, ◌%◌, ◌≤◌, ◌<◌, Bool, true, false, cond, ltb, Option, Some}
+use Rattle.std.proofs.Common.{None, List, [], refl, sym, ap, ◌∙◌, ◌⊎◌, inl, inr, arith}
 use Rattle.std.specs.Prelude.{option_map}
 use Rattle.std.specs.List.{AllByRecursion, find, list_any}
 use Rattle.std.proofs.lemmas.Bool.{eqb-true, eq-eqb}
@@ -22,14 +23,20 @@ use Rattle.node_laws.specs.Valid.{SoundServer, left_of, left_on, left, to_come, 
 use Rattle.rpc_base.proofs.TakingLemmas.{find-passes}
 
 -- where request r stands, what is left of a request of its slot goes by r
-module _ (test : Served → Bool) (t r old : ℕ) (slot : old % 8 ≡ r % 8) (used : ℕ) (servers : List Server) (sound : AllByRecursion SoundServer servers) where
-  slot-by : (o : Option Server) → find (is_server t) servers ≡ o → (q : Served) → request_on r o ≡ Some q → (left test t old used servers ≡ left_of test old (Some q)) × (q.number ≡ r)
+module _ (test : Served → Bool) (t r old : ℕ) (slot : old % 8 ≡ r % 8) (used : ℕ)
+    (servers : List Server) (sound : AllByRecursion SoundServer servers) where
+  slot-by : (o : Option Server) → find (is_server t) servers ≡ o → (q : Served)
+      → request_on r o ≡ Some q → (left test t old used servers ≡ left_of test old (Some q))
+      × (q.number ≡ r)
   slot-by None e q found = cc
   slot-by (Some v) e q found =
-      let own = own-slot r v q (found-holds (is_server t) SoundServer servers v sound e) found in
-      (rw e (ap (λ o. left_of test old o) (same-slot old r slot v.slots ∙ own)), eqb-true q.number r (find-passes (is_request r) v.slots q found))
+      let own = own-slot r v q (found-holds (is_server t) SoundServer servers v sound e) found in (
+        rw e (ap (λ o. left_of test old o) (same-slot old r slot v.slots ∙ own)),
+        eqb-true q.number r (find-passes (is_request r) v.slots q found),
+      )
 
-  pub stands-slot : (q : Served) → request_of t r servers ≡ Some q → (left test t old used servers ≡ left_of test old (Some q)) × (q.number ≡ r)
+  pub stands-slot : (q : Served) → request_of t r servers ≡ Some q
+      → (left test t old used servers ≡ left_of test old (Some q)) × (q.number ≡ r)
   stands-slot q found = slot-by (find (is_server t) servers) refl q found
 
 -- something of a request that stands may still come, and nothing of an older one
@@ -43,14 +50,18 @@ older-left old r n e h = grind (arith, nat_tests)
 began-over : (r n : ℕ) → n ≡ r → cond (ltb r n) 0 (cond (ltb n r) 1 0) ≤ 0
 began-over r n e = grind (arith, nat_tests)
 
-pub stands-started : (t r used : ℕ) (servers : List Server) → AllByRecursion SoundServer servers → (q : Served) → request_of t r servers ≡ Some q → left (λ q. false) t r used servers ≤ 0
+pub stands-started : (t r used : ℕ) (servers : List Server) → AllByRecursion SoundServer servers
+    → (q : Served) → request_of t r servers ≡ Some q → left (λ q. false) t r used servers ≤ 0
 stands-started t r used servers sound q found =
     let own = stands-slot (λ p. false) t r r refl used servers sound q found in
     rw own.0 (began-over r q.number own.1)
 
 -- the packet of a request that is taken: the request stands then
 module _ (s : Lists) (valid : Valid s) (t r : ℕ) (a : MayServe s t r) (body : List ℕ) where
-  next-stands : (o : Option Served) → request_of t r (taken s valid t r a body) ≡ option_map (next_packet body) o → list_any (is_request r) a.server.slots ≡ true → o ≡ find (is_request r) a.server.slots → Stands (taken s valid t r a body) t r
+  next-stands : (o : Option Served)
+      → request_of t r (taken s valid t r a body) ≡ option_map (next_packet body) o
+      → list_any (is_request r) a.server.slots ≡ true → o ≡ find (is_request r) a.server.slots
+      → Stands (taken s valid t r a body) t r
   next-stands None found e same =
       let none = missing-none (is_request r) a.server.slots (sym same) in cc
   next-stands (Some q) found e same = record { served = next_packet body q; found = found }
@@ -67,10 +78,12 @@ module _ (s : Lists) (valid : Valid s) (t r : ℕ) (a : MayServe s t r) (body : 
   taken-sound = served-after (Took (Reply t r) 0) [] (Some a.header) body s valid a
 
   -- and nothing of an older one of its slot may come, nor may it begin itself
-  pub older-over : (old : ℕ) → old % 8 ≡ r % 8 → old < r → left (λ q. true) t old s.server_numbers (taken s valid t r a body) ≤ 0
+  pub older-over : (old : ℕ) → old % 8 ≡ r % 8 → old < r
+      → left (λ q. true) t old s.server_numbers (taken s valid t r a body) ≤ 0
   older-over old slot below =
       let stands = taken-by (list_any (is_request r) a.server.slots) refl in
-      let own = stands-slot (λ q. true) t r old slot s.server_numbers (taken s valid t r a body) taken-sound stands.served stands.found in
+      let own = stands-slot (λ q. true) t r old slot s.server_numbers (taken s valid t r a body)
+      taken-sound stands.served stands.found in
       rw own.0 (older-left old r stands.served.number own.1 below)
 
   pub taken-started : left (λ q. false) t r s.server_numbers (taken s valid t r a body) ≤ 0
@@ -83,7 +96,9 @@ fresh-by : (r : ℕ) (o : Option Served) → Newer r o → 1 ≤ left_of (λ q. 
 fresh-by r None newer = omega arith
 fresh-by r (Some l) newer = grind (arith, nat_tests)
 
-pub fresh-left : (s : Lists) (t r : ℕ) (a : MayServe s t r) → list_any (is_request r) a.server.slots ≡ false → 1 ≤ left (λ q. false) t r s.server_numbers s.servers
+pub fresh-left : (s : Lists) (t r : ℕ) (a : MayServe s t r)
+    → list_any (is_request r) a.server.slots ≡ false
+    → 1 ≤ left (λ q. false) t r s.server_numbers s.servers
 fresh-left s t r a none = rw a.found (fresh-by r (find (in_slot_of r) a.server.slots) (a.newer none))
 
 -- the newest request of the slot of one that began
@@ -102,12 +117,15 @@ pub record IsOver (t used : ℕ) (servers : List Server) : Type 0 where
   pub past : to_come used t ≤ 0
 
 module _ (t r used : ℕ) (servers : List Server) (sound : AllByRecursion SoundServer servers) where
-  slot-newest : (v : Server) → find (is_server t) servers ≡ Some v → (o : Option Served) → find (in_slot_of r) v.slots ≡ o → left_of (λ q. false) r o ≤ 0 → Newest t r servers
+  slot-newest : (v : Server) → find (is_server t) servers ≡ Some v → (o : Option Served)
+      → find (in_slot_of r) v.slots ≡ o → left_of (λ q. false) r o ≤ 0 → Newest t r servers
   slot-newest v e None found h = absurd (omega arith)
   slot-newest v e (Some l) found h =
       let n = l.number in
       let apart = (found-holds (is_server t) SoundServer servers v sound e).apart in
-      let own : find (is_request n) v.slots ≡ Some l = found-own (in_slot_of r) (is_request n) v.slots l (few-requests n v.slots (apart (n % 8))) found (eq-eqb n n refl) in
+      let own : find (is_request n) v.slots ≡ Some l =
+      found-own (in_slot_of r) (is_request n) v.slots l
+      (few-requests n v.slots (apart (n % 8))) found (eq-eqb n n refl) in
       record {
         newest = l;
         found = rw e own;
@@ -115,7 +133,8 @@ module _ (t r used : ℕ) (servers : List Server) (sound : AllByRecursion SoundS
         least = began-least r n h;
       }
 
-  newest-by : (o : Option Server) → find (is_server t) servers ≡ o → left_on (λ q. false) r (to_come used t) o ≤ 0 → Newest t r servers ⊎ IsOver t used servers
+  newest-by : (o : Option Server) → find (is_server t) servers ≡ o
+      → left_on (λ q. false) r (to_come used t) o ≤ 0 → Newest t r servers ⊎ IsOver t used servers
   newest-by None e h = inr (record { none = e; past = h })
   newest-by (Some v) e h = inl (slot-newest v e (find (in_slot_of r) v.slots) refl h)
 
@@ -132,9 +151,11 @@ less-of test r (Some l) = less (ltb r l.number) (ltb l.number r) (test l)
     less false true c = omega arith
     less false false c = omega arith
 
-less-on : (test : Served → Bool) (r other : ℕ) (o : Option Server) → left_on (λ q. false) r other o ≤ left_on test r other o
+less-on : (test : Served → Bool) (r other : ℕ) (o : Option Server)
+    → left_on (λ q. false) r other o ≤ left_on test r other o
 less-on test r other None = omega arith
 less-on test r other (Some v) = less-of test r (find (in_slot_of r) v.slots)
 
-pub left-less : (test : Served → Bool) (t r used : ℕ) (servers : List Server) → left (λ q. false) t r used servers ≤ left test t r used servers
+pub left-less : (test : Served → Bool) (t r used : ℕ) (servers : List Server)
+    → left (λ q. false) t r used servers ≤ left test t r used servers
 left-less test t r used servers = less-on test r (to_come used t) (find (is_server t) servers)

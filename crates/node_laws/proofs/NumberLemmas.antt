@@ -1,5 +1,6 @@
 -- Numbers of sessions and of calls: the session of a number, and the call of a number, stand alone.
-use Rattle.std.proofs.Common.{◌≡◌, ℕ, zero, suc, ◌+◌, ◌≤◌, ◌<◌, Bool, true, false, cond, eqb, leb, Some, List, [], ◌∷◌, ◌++◌, length, refl, ap, ◌∙◌, arith}
+use Rattle.std.proofs.Common.{◌≡◌, ℕ, zero, suc, ◌+◌, ◌≤◌, ◌<◌, Bool, true, false, cond, eqb, leb}
+use Rattle.std.proofs.Common.{Some, List, [], ◌∷◌, ◌++◌, length, refl, ap, ◌∙◌, arith}
 use Rattle.std.specs.Prelude.{◌==◌, count_by, slice_get}
 use Rattle.std.specs.List.{find}
 use Rattle.std.proofs.lemmas.Bool.{eq-eqb, ne_eqb}
@@ -17,12 +18,15 @@ use Rattle.node_laws.specs.Valid.{NumberedFrom, holders, Valid}
 
 -- sessions
 module _ {A : Type 0} (number : A → ℕ) where
-  pub numbered-push : (n : ℕ) (xs : List A) (y : A) → NumberedFrom number n xs → number y ≡ n + length xs → NumberedFrom number n (xs ++ y ∷ [])
+  pub numbered-push : (n : ℕ) (xs : List A) (y : A) → NumberedFrom number n xs
+      → number y ≡ n + length xs → NumberedFrom number n (xs ++ y ∷ [])
   numbered-push n [] y h e = (omega arith, tt)
   numbered-push n (x ∷ xs) y h e = (h.0, numbered-push (suc n) xs y h.1 (omega arith))
 
   module _ (p : A → Bool) (f : A → A) (same : (x : A) → number (f x) ≡ number x) where
-    kept-cons : (n : ℕ) (y : A) (ys : List A) (b : Bool) → number y ≡ n → NumberedFrom number (suc n) ys → NumberedFrom number (suc n) (at_first p f ys) → NumberedFrom number n (cond b (f y ∷ ys) (y ∷ at_first p f ys))
+    kept-cons : (n : ℕ) (y : A) (ys : List A) (b : Bool) → number y ≡ n
+        → NumberedFrom number (suc n) ys → NumberedFrom number (suc n) (at_first p f ys)
+        → NumberedFrom number n (cond b (f y ∷ ys) (y ∷ at_first p f ys))
     kept-cons n y ys true here rest after = (same y ∙ here, rest)
     kept-cons n y ys false here rest after = (here, after)
 
@@ -30,13 +34,15 @@ module _ {A : Type 0} (number : A → ℕ) where
     numbered-kept n [] h = tt
     numbered-kept n (y ∷ ys) h = kept-cons n y ys (p y) h.0 h.1 (numbered-kept (suc n) ys h.1)
 
-  pub numbered-at : (n k : ℕ) (xs : List A) (x : A) → NumberedFrom number n xs → slice_get xs k ≡ Some x → number x ≡ n + k
+  pub numbered-at : (n k : ℕ) (xs : List A) (x : A) → NumberedFrom number n xs
+      → slice_get xs k ≡ Some x → number x ≡ n + k
   numbered-at n k [] x h e = cc
   numbered-at n zero (y ∷ ys) x h e =
       let same : y ≡ x = cc in let own : number y ≡ number x = ap number same in let here = h.0 in omega arith
   numbered-at n (suc k) (y ∷ ys) x h e = let rest = numbered-at (suc n) k ys x h.1 e in omega arith
 
-  pub numbered-found : (n k : ℕ) (xs : List A) (x : A) → NumberedFrom number n xs → slice_get xs k ≡ Some x → find (λ y. number y == number x) xs ≡ Some x
+  pub numbered-found : (n k : ℕ) (xs : List A) (x : A) → NumberedFrom number n xs
+      → slice_get xs k ≡ Some x → find (λ y. number y == number x) xs ≡ Some x
   numbered-found n k [] x h e = cc
   numbered-found n zero (y ∷ ys) x h e =
       let same : y ≡ x = cc in
@@ -49,7 +55,8 @@ module _ {A : Type 0} (number : A → ℕ) where
       rw other (numbered-found (suc n) k ys x h.1 e)
 
   -- the session of a number stands at it
-  pub numbered-get : (n k m : ℕ) (xs : List A) → NumberedFrom number n xs → m ≡ n + k → slice_get xs k ≡ find (λ y. number y == m) xs
+  pub numbered-get : (n k m : ℕ) (xs : List A) → NumberedFrom number n xs → m ≡ n + k
+      → slice_get xs k ≡ find (λ y. number y == m) xs
   numbered-get n k m [] h e = refl
   numbered-get n zero m (y ∷ ys) h e =
       let here = h.0 in
@@ -65,14 +72,17 @@ has-le : (number : ℕ) (x : Client) → cond (has_call number x) 1 0 ≤ count_
 has-le number x = any-counted (is_call number) x.calls
 
 pub one-holder : (number : ℕ) (xs : List Client) → count_by (has_call number) xs ≤ holders number xs
-one-holder number xs = sum_by-le-sum_by (λ x. cond (has_call number x) 1 0) (λ x. count_by (is_call number) x.calls) xs (has-le number)
+one-holder number xs =
+    sum_by-le-sum_by (λ x. cond (has_call number x) 1 0)
+    (λ x. count_by (is_call number) x.calls) xs (has-le number)
 
 -- a call of a session is found by its number
 pub record Numbered (clients : List Client) (x : Client) (c : Call) : Type 0 where
   pub client : find (has_call c.what.number) clients ≡ Some x
   pub call : find (is_call c.what.number) x.calls ≡ Some c
 
-pub by_number : (s : Lists) (session : ℕ) (x : Client) (c : Call) → Valid s → Place s.clients session x c → Numbered s.clients x c
+pub by_number : (s : Lists) (session : ℕ) (x : Client) (c : Call) → Valid s
+    → Place s.clients session x c → Numbered s.clients x c
 by_number s session x c h p =
     let n = c.what.number in
     let once = h.once n in
@@ -81,12 +91,14 @@ by_number s session x c h p =
     let own = eq-eqb n n refl in
     let call : find (is_call n) x.calls ≡ Some c = found-own p.test (is_call n) x.calls c (omega arith) p.call own in
     record {
-      client = found-own (is_client session) (has_call n) s.clients x (omega arith) p.client (found-any (is_call n) x.calls c call);
+      client = found-own (is_client session) (has_call n) s.clients x (omega arith) p.client
+          (found-any (is_call n) x.calls c call);
       call = call;
     }
 
 -- and its number was given out
-pub given-out : (s : Lists) (session : ℕ) (x : Client) (c : Call) → Valid s → Place s.clients session x c → c.what.number < s.asked
+pub given-out : (s : Lists) (session : ℕ) (x : Client) (c : Call) → Valid s
+    → Place s.clients session x c → c.what.number < s.asked
 given-out s session x c h p =
     let n = c.what.number in
     let once = h.once n in

@@ -21,14 +21,17 @@ use Rattle.node_laws.proofs.ValidLemmas.{valid_after, valid_new}
 
 -- an event that passes the test takes one
 pub record Spends (test : Event → Bool) (left : Lists → ℕ) : Type 0 where
-  pub each : (clock : ℕ) (s : Lists) (f : Fact) → Valid s → left s ≤ 1 → Allowed s f.event → cond (test f.event) 1 0 + left (after clock s f) ≤ left s
+  pub each : (clock : ℕ) (s : Lists) (f : Fact) → Valid s → left s ≤ 1 → Allowed s f.event
+      → cond (test f.event) 1 0 + left (after clock s f) ≤ left s
 
 both-less : (a b : Bool) → cond (a && b) 1 0 ≤ cond b 1 0
 both-less true b = omega arith
 both-less false true = omega arith
 both-less false false = omega arith
 
-times-le : (test : Event → Bool) (left : Lists → ℕ) → Spends test left → (n : ℕ) (s : Lists) (g : List Fact) (t : Lists) → Valid s → left s ≤ 1 → Leads s g t → times n test g ≤ left s
+times-le : (test : Event → Bool) (left : Lists → ℕ) → Spends test left
+    → (n : ℕ) (s : Lists) (g : List Fact) (t : Lists) → Valid s → left s ≤ 1 → Leads s g t
+    → times n test g ≤ left s
 times-le test left each n s [] t v h l = omega arith
 times-le test left each n s (f ∷ g) t v h l =
     let next = after l.0 s f in
@@ -36,14 +39,21 @@ times-le test left each n s (f ∷ g) t v h l =
     let few : left next ≤ 1 = omega arith in
     let rest = times-le test left each n next g t (valid_after l.0 s f v l.1) few l.2 in
     let own = both-less (is_at n f.who) (test f.event) in
-    let cons : times n test (f ∷ g) ≡ cond (is_at n f.who && test f.event) 1 0 + times n test g = sum_by-cons (λ e. cond (is_at n e.who && test e.event) 1 0) f g in
+    let cons : times n test (f ∷ g) ≡ cond (is_at n f.who && test f.event) 1 0 + times n test g =
+    sum_by-cons (λ e. cond (is_at n e.who && test e.event) 1 0) f g in
     omega arith
 
 begun-spends : (c : ℕ) → Spends (begins_call c) (to_begin c)
-begun-spends c = record { each = λ clock s f v h a. begin-spends c clock f.event f.first (front_header s.ring) (front_body s.ring) s v h a }
+begun-spends c = record {
+  each = λ clock s f v h a. begin-spends c clock f.event f.first
+      (front_header s.ring) (front_body s.ring) s v h a;
+}
 
 done-spends : (c : ℕ) → Spends (ends_call c) (to_end c)
-done-spends c = record { each = λ clock s f v h a. end-spends c clock f.event f.first (front_header s.ring) (front_body s.ring) s v h a }
+done-spends c = record {
+  each = λ clock s f v h a. end-spends c clock f.event f.first
+      (front_header s.ring) (front_body s.ring) s v h a;
+}
 
 ran-spends : (t r : ℕ) → Spends (runs_request t r) (to_run t r)
 ran-spends t r = record { each = λ clock s f v h a. run-spends t r s v clock f a }
@@ -66,14 +76,18 @@ times-few n test (f ∷ g) =
     omega arith
 
 module _ (me : ℕ) (limits : Limits) (g : List Fact) (t : Lists) (l : Leads (new_lists me limits) g t) where
-  once-of : (test : Event → Bool) (left : Lists → ℕ) → Spends test left → left (new_lists me limits) ≤ 1 → (n : ℕ) → times n test g ≤ 1
+  once-of : (test : Event → Bool) (left : Lists → ℕ) → Spends test left
+      → left (new_lists me limits) ≤ 1 → (n : ℕ) → times n test g ≤ 1
   once-of test left each h n =
-      at-most (times n test g) (left (new_lists me limits)) (times-le test left each n (new_lists me limits) g t (valid_new me limits) h l) h
+      at-most (times n test g) (left (new_lists me limits))
+      (times-le test left each n (new_lists me limits) g t (valid_new me limits) h l) h
 
   run-once : ((n r : ℕ) → count_by (λ f. works_request n r f.event) g ≤ 1) → Once g
   run-once worked = record {
     ran = λ m n r. once-of (runs_request n r) (to_run n r) (ran-spends n r) (let one = one-come (leb 0 n) in omega arith) m;
-    worked = λ m n r. at-most (times m (works_request n r) g) (count_by (λ f. works_request n r f.event) g) (times-few m (works_request n r) g) (worked n r);
+    worked = λ m n r. at-most (times m (works_request n r) g)
+        (count_by (λ f. works_request n r f.event) g) (times-few m (works_request n r) g)
+        (worked n r);
     begun = λ n c. once-of (begins_call c) (to_begin c) (begun-spends c) (one-come (leb 0 c)) n;
     done = λ n c. once-of (ends_call c) (to_end c) (done-spends c) (one-come (leb 0 c)) n;
   }

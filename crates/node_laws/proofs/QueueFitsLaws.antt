@@ -14,7 +14,8 @@ use Rattle.rpc_laws.specs.Sessions.{is_live}
 use Rattle.node_laws.specs.CreditBalance.{Accounts, accounts_after, no_accounts}
 use Rattle.node_laws.specs.EndedCalls.{queued_by}
 use Rattle.node_laws.specs.Laws.{QueuedPacketsFit}
-use Rattle.node_laws.specs.QueuedPackets.{QueuedOnce, is_ask_of, is_ask, asks_in, free_credits, IsWithin, QueueFits, QueueFitsFrom}
+use Rattle.node_laws.specs.QueuedPackets.{QueuedOnce, is_ask_of, is_ask, asks_in, free_credits}
+use Rattle.node_laws.specs.QueuedPackets.{IsWithin, QueueFits, QueueFitsFrom}
 use Rattle.node_laws.specs.Windows.{LiveQueued}
 use Rattle.node_laws.proofs.AccountLemmas.{has_credits, session_account, Agrees}
 use Rattle.node_laws.proofs.Allowed.{Allowed, Leads}
@@ -33,7 +34,9 @@ record KnowsQueue (past : List Fact) (a : Accounts) (s : Lists) : Type 0 where
   once : QueuedOnce s.queued
   live : LiveQueued s.clients s.queued
 
-queue-after : (clock : ℕ) (past : List Fact) (a : Accounts) (s : Lists) (f : Fact) → KnowsQueue past a s → Allowed s f.event → KnowsQueue (f ∷ past) (accounts_after f.event a) (after clock s f)
+queue-after : (clock : ℕ) (past : List Fact) (a : Accounts) (s : Lists) (f : Fact)
+    → KnowsQueue past a s → Allowed s f.event
+    → KnowsQueue (f ∷ past) (accounts_after f.event a) (after clock s f)
 queue-after clock past a s f k may = record {
   knows = knows-after clock past s f k.knows may;
   agrees = agrees-after clock f a s k.knows.valid k.agrees may;
@@ -48,14 +51,16 @@ module _ (past : List Fact) (a : Accounts) (s : Lists) (k : KnowsQueue past a s)
       let once = k.once n r i in
       omega arith
 
-  within-by : (ys : List Client) → AllByRecursion (Found s.clients) ys → AllByRecursion (IsWithin (queued_by past)) (map session_account ys)
+  within-by : (ys : List Client) → AllByRecursion (Found s.clients) ys
+      → AllByRecursion (IsWithin (queued_by past)) (map session_account ys)
   within-by [] found = tt
   within-by (y ∷ ys) found = (fits, within-by ys found.1)
     where
       fits : IsWithin (queued_by past) (session_account y)
       fits live =
           let same = k.knows.queue (λ o j. is_ask_of y.way.number o) in
-          let few = session-fits s y.way.number y k.knows.valid k.knows.windows k.once found.0 (credits-live y.state live) in
+          let few = session-fits s y.way.number y k.knows.valid k.knows.windows k.once found.0
+          (credits-live y.state live) in
           omega arith
 
   free-by : (ys : List Client) → free_credits (map session_account ys) ≤ sum_by table_free ys
@@ -63,7 +68,12 @@ module _ (past : List Fact) (a : Accounts) (s : Lists) (k : KnowsQueue past a s)
   free-by (y ∷ ys) =
       let here = one (has_credits y.state) (is_live y.state) (credits-live y.state) in
       let rest = free-by ys in
-      omega (arith, sum_by-cons (λ x. cond {A = ℕ} x.live x.free 0) (session_account y) (map session_account ys), sum_by-cons table_free y ys)
+      omega (
+        arith,
+        sum_by-cons (λ x. cond {A = ℕ} x.live x.free 0) (session_account y)
+            (map session_account ys),
+        sum_by-cons table_free y ys,
+      )
     where
       one : (b c : Bool) → (b ≡ true → c ≡ true) → cond b y.free 0 ≤ cond c y.free 0
       one true c h = rw (h refl) (omega arith)
@@ -83,11 +93,21 @@ module _ (past : List Fact) (a : Accounts) (s : Lists) (k : KnowsQueue past a s)
     total = in-total;
   }
 
-fits-from : (past : List Fact) (a : Accounts) (s : Lists) (g : List Fact) (t : Lists) → KnowsQueue past a s → Leads s g t → QueueFitsFrom s.room past a g
+fits-from : (past : List Fact) (a : Accounts) (s : Lists) (g : List Fact) (t : Lists)
+    → KnowsQueue past a s → Leads s g t → QueueFitsFrom s.room past a g
 fits-from past a s [] t k l = fits-now past a s k
-fits-from past a s (f ∷ g) t k l =
-    (fits-now past a s k, fits-from (f ∷ past) (accounts_after f.event a) (after l.0 s f) g t (queue-after l.0 past a s f k l.1) l.2)
+fits-from past a s (f ∷ g) t k l = (
+  fits-now past a s k,
+  fits-from (f ∷ past) (accounts_after f.event a) (after l.0 s f) g t
+      (queue-after l.0 past a s f k l.1) l.2,
+)
 
 pub queue-fits : QueuedPacketsFit
 queue-fits p me limits g t r =
-    fits-from [] no_accounts (new_lists me limits) g t.lists (record { knows = knows-new me limits; agrees = agrees-new me limits; once = λ n j i. omega arith; live = tt }) (run_leads r)
+    fits-from [] no_accounts (new_lists me limits) g t.lists
+    (record {
+      knows = knows-new me limits;
+      agrees = agrees-new me limits;
+      once = λ n j i. omega arith;
+      live = tt;
+    }) (run_leads r)

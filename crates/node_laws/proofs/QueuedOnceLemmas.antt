@@ -1,5 +1,6 @@
 -- A packet of a call is queued at most once: what is posted has the number after those that are queued.
-use Rattle.std.proofs.Common.{◌≡◌, ℕ, ◌+◌, ◌≤◌, Bool, true, false, ◌&&◌, cond, Option, Some, List, [], ◌∷◌, refl, subst, arith}
+use Rattle.std.proofs.Common.{◌≡◌, ℕ, ◌+◌, ◌≤◌, Bool, true, false, ◌&&◌, cond, Option, Some, List}
+use Rattle.std.proofs.Common.{[], ◌∷◌, refl, subst, arith}
 use Rattle.std.specs.Prelude.{◌==◌}
 use Rattle.std.specs.List.{find}
 use Rattle.std.proofs.lemmas.Bool.{and_parts, eqb-true}
@@ -37,11 +38,14 @@ module _ (s : Lists) (v : Valid s) (n r k : ℕ) (a : MayPost s n r k) where
       let turn = a.turn in
       absurd (omega (arith, bounds.1))
 
-  new-by : (q : Queued) (qs : List Queued) (b : Bool) → is_queued (Ask n r) k q ≡ b → InWindow s.clients q.owner q.number → queued_times (Ask n r) k qs ≤ 0 → queued_times (Ask n r) k (q ∷ qs) ≤ 0
+  new-by : (q : Queued) (qs : List Queued) (b : Bool) → is_queued (Ask n r) k q ≡ b
+      → InWindow s.clients q.owner q.number → queued_times (Ask n r) k qs ≤ 0
+      → queued_times (Ask n r) k (q ∷ qs) ≤ 0
   new-by q qs true e within none =
       let parts = and_parts (same_owner q.owner (Ask n r)) (q.number == k) e in
       let owner = owner-is q.owner (Ask n r) parts.0 in
-      absurd (not-within q.number (eqb-true q.number k parts.1) (subst (λ o. InWindow s.clients o q.number) owner within))
+      absurd (not-within q.number (eqb-true q.number k parts.1)
+      (subst (λ o. InWindow s.clients o q.number) owner within))
   new-by q qs false e within none = let cons = counted-cons (is_queued (Ask n r) k) q qs false e in omega arith
 
   pub new-unqueued : (qs : List Queued) → Windows s.clients qs → queued_times (Ask n r) k qs ≤ 0
@@ -49,27 +53,34 @@ module _ (s : Lists) (v : Valid s) (n r k : ℕ) (a : MayPost s n r k) where
   new-unqueued (q ∷ qs) w = new-by q qs (is_queued (Ask n r) k q) refl w.0 (new-unqueued qs w.1)
 
 -- one more of it
-one-more : (m r k : ℕ) (s : Lists) (v : Valid s) (w : Windows s.clients s.queued) (a : MayPost s m r k) (n j i : ℕ) (b : Bool) → ((m == n && r == j) && k == i) ≡ b → queued_times (Ask n j) i s.queued ≤ 1 → cond b 1 0 + queued_times (Ask n j) i s.queued ≤ 1
+one-more : (m r k : ℕ) (s : Lists) (v : Valid s) (w : Windows s.clients s.queued)
+    (a : MayPost s m r k) (n j i : ℕ) (b : Bool) → ((m == n && r == j) && k == i) ≡ b
+    → queued_times (Ask n j) i s.queued ≤ 1 → cond b 1 0 + queued_times (Ask n j) i s.queued ≤ 1
 one-more m r k s v w a n j i true e few =
     let parts = and_parts (m == n && r == j) (k == i) e in
     let both = and_parts (m == n) (r == j) parts.0 in
     let session : m ≡ n = eqb-true m n both.0 in
     let request : r ≡ j = eqb-true r j both.1 in
     let number : k ≡ i = eqb-true k i parts.1 in
-    let none : queued_times (Ask n j) i s.queued ≤ 0 = rw (session, request, number) at (new-unqueued s v m r k a s.queued w) in
+    let none : queued_times (Ask n j) i s.queued ≤ 0 =
+    rw (session, request, number) at (new-unqueued s v m r k a s.queued w) in
     omega arith
 one-more m r k s v w a n j i false e few = omega arith
 
-pub once-after : (e : Event) (due : Option ℕ) (s : Lists) → Valid s → Windows s.clients s.queued → QueuedOnce s.queued → Allowed s e → QueuedOnce (queued_after e due s.queued)
+pub once-after : (e : Event) (due : Option ℕ) (s : Lists) → Valid s → Windows s.clients s.queued
+    → QueuedOnce s.queued → Allowed s e → QueuedOnce (queued_after e due s.queued)
 once-after (Posted (Ask m r) k) due s v w once a n j i =
-    let sum = put-sum (λ q. cond (is_queued (Ask n j) i q) 1 0) (record { owner = Ask m r; number = k; due = due }) s.queued in
+    let sum = put-sum (λ q. cond (is_queued (Ask n j) i q) 1 0)
+    (record { owner = Ask m r; number = k; due = due }) s.queued in
     let more = one-more m r k s v w a n j i ((m == n && r == j) && k == i) refl (once n j i) in
     omega arith
 once-after (Posted (Reply t r) k) due s v w once a n j i =
-    let sum = put-sum (λ q. cond (is_queued (Ask n j) i q) 1 0) (record { owner = Reply t r; number = k; due = due }) s.queued in
+    let sum = put-sum (λ q. cond (is_queued (Ask n j) i q) 1 0)
+    (record { owner = Reply t r; number = k; due = due }) s.queued in
     omega (arith, once n j i)
 once-after (Posted Control k) due s v w once a n j i =
-    let sum = put-sum (λ q. cond (is_queued (Ask n j) i q) 1 0) (record { owner = Control; number = k; due = due }) s.queued in
+    let sum = put-sum (λ q. cond (is_queued (Ask n j) i q) 1 0)
+    (record { owner = Control; number = k; due = due }) s.queued in
     omega (arith, once n j i)
 once-after (Sent peer owner k) due s v w once a n j i =
     omega (arith, once n j i, sum-fewer (is_queued owner k) (λ q. cond (is_queued (Ask n j) i q) 1 0) s.queued)

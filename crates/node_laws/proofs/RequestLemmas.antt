@@ -1,5 +1,6 @@
 -- What the facts tell of a request, and that it stays told.
-use Rattle.std.proofs.Common.{◌≡◌, ℕ, Bool, true, false, not, ◌&&◌, ◌||◌, cond, Option, Some, None, List, [], ◌∷◌, refl, sym, ◌∙◌, arith}
+use Rattle.std.proofs.Common.{◌≡◌, ℕ, Bool, true, false, not, ◌&&◌, ◌||◌, cond, Option, Some, None}
+use Rattle.std.proofs.Common.{List, [], ◌∷◌, refl, sym, ◌∙◌, arith}
 use Rattle.std.specs.Prelude.{◌==◌, count_by, is_none}
 use Rattle.std.specs.List.{list_any}
 use Rattle.std.proofs.lemmas.Bool.{and_parts, or_parts, or_right}
@@ -26,7 +27,8 @@ concerns t r (Ran session request y) = session == t && request == r
 concerns t r _ = false
 
 -- one of facts of which no one passes a test
-none-of : (p q : Event → Bool) → ((e : Event) → p e ≡ false → q e ≡ false) → (past : List Fact) → list_any (λ f. p f.event) past ≡ false → list_any (λ f. q f.event) past ≡ false
+none-of : (p q : Event → Bool) → ((e : Event) → p e ≡ false → q e ≡ false) → (past : List Fact)
+    → list_any (λ f. p f.event) past ≡ false → list_any (λ f. q f.event) past ≡ false
 none-of p q off [] e = refl
 none-of p q off (f ∷ past) e =
     let parts = or_parts (p f.event) (list_any (λ g. p g.event) past) e in
@@ -56,14 +58,16 @@ module _ (t r : ℕ) where
       let parts = or_parts (runs_request t r f.event) (list_any (λ g. runs_request t r g.event) past) e in
       rw parts.0 (unanswered past parts.1)
 
-  not-run-by : (b c : Bool) (bytes : List ℕ) (o : Option (List ℕ)) → (o ≡ None → c ≡ false) → cond b (Some bytes) o ≡ None → (b || c) ≡ false
+  not-run-by : (b c : Bool) (bytes : List ℕ) (o : Option (List ℕ)) → (o ≡ None → c ≡ false)
+      → cond b (Some bytes) o ≡ None → (b || c) ≡ false
   not-run-by true c bytes o ih e = cc
   not-run-by false c bytes o ih e = ih e
 
   not-run : (past : List Fact) → answer_by t r past ≡ None → list_any (λ f. runs_request t r f.event) past ≡ false
   not-run [] e = refl
   not-run (f ∷ past) e =
-      not-run-by (runs_request t r f.event) (list_any (λ g. runs_request t r g.event) past) f.second (answer_by t r past) (not-run past) e
+      not-run-by (runs_request t r f.event) (list_any (λ g. runs_request t r g.event) past) f.second
+      (answer_by t r past) (not-run past) e
 
   -- no bytes where no packet was taken
   no-bytes : (past : List Fact) → list_any (λ f. takes_request t r f.event) past ≡ false → ask_by t r past ≡ []
@@ -80,11 +84,13 @@ module _ (t r : ℕ) where
       rw parts.0 (no-first past parts.1)
 
   -- the first one is the first one still
-  first-by : (b : Bool) (o p : Option MessageHeader) (h : MessageHeader) → o ≡ Some h → cond (b && is_none o) p o ≡ Some h
+  first-by : (b : Bool) (o p : Option MessageHeader) (h : MessageHeader) → o ≡ Some h
+      → cond (b && is_none o) p o ≡ Some h
   first-by true o p h e = rw e refl
   first-by false o p h e = e
 
-  first-stays : (past : List Fact) (f : Fact) (h : MessageHeader) → first_by t r past ≡ Some h → first_by t r (f ∷ past) ≡ Some h
+  first-stays : (past : List Fact) (f : Fact) (h : MessageHeader) → first_by t r past ≡ Some h
+      → first_by t r (f ∷ past) ≡ Some h
   first-stays past f h e = first-by (takes_request t r f.event) (first_by t r past) (front_header (ring_by past)) h e
 
   -- what is told of a request that stands
@@ -95,9 +101,11 @@ module _ (t r : ℕ) where
     pub req_type : q.req_type ≡ first.req_type
     pub size : q.size ≡ first.size
     pub taken : q.taken ≡ count_by (λ f. takes_request t r f.event) past
-    pub working : q.working ≡ (list_any (λ f. gives_request t r f.event) past && not (list_any (λ f. runs_request t r f.event) past))
+    pub working : q.working ≡ (list_any (λ f. gives_request t r f.event) past
+        && not (list_any (λ f. runs_request t r f.event) past))
     pub answer : q.answer ≡ answer_by t r past
-    pub ask : list_any (λ f. gives_request t r f.event) past ≡ false → list_any (λ f. runs_request t r f.event) past ≡ false → q.ask ≡ ask_by t r past
+    pub ask : list_any (λ f. gives_request t r f.event) past ≡ false
+        → list_any (λ f. runs_request t r f.event) past ≡ false → q.ask ≡ ask_by t r past
 
   -- of one that may stand
   abbrev pub Told : List Fact → Option Served → Type 0
@@ -105,7 +113,8 @@ module _ (t r : ℕ) where
   Told past (Some q) = ToldRequest past q
 
   -- a fact that doesn't concern it
-  request-stays : (past : List Fact) (f : Fact) (q : Served) → concerns t r f.event ≡ false → ToldRequest past q → ToldRequest (f ∷ past) q
+  request-stays : (past : List Fact) (f : Fact) (q : Served) → concerns t r f.event ≡ false
+      → ToldRequest past q → ToldRequest (f ∷ past) q
   request-stays past f q h told =
       let takes = takes-off f.event h in
       let gives = gives-off f.event h in
@@ -126,12 +135,15 @@ module _ (t r : ℕ) where
             rw takes (told.ask given_before ran_before);
       }
 
-  pub told-stays : (past : List Fact) (f : Fact) (o : Option Served) → concerns t r f.event ≡ false → Told past o → Told (f ∷ past) o
+  pub told-stays : (past : List Fact) (f : Fact) (o : Option Served) → concerns t r f.event ≡ false
+      → Told past o → Told (f ∷ past) o
   told-stays past f None h told = tt
   told-stays past f (Some q) h told = request-stays past f q h told
 
   -- one more packet is taken
-  module _ (past : List Fact) (f : Fact) (takes : takes_request t r f.event ≡ true) (gives : gives_request t r f.event ≡ false) (runs : runs_request t r f.event ≡ false) (body : List ℕ) (front : front_body (ring_by past) ≡ body) where
+  module _ (past : List Fact) (f : Fact) (takes : takes_request t r f.event ≡ true)
+      (gives : gives_request t r f.event ≡ false) (runs : runs_request t r f.event ≡ false)
+      (body : List ℕ) (front : front_body (ring_by past) ≡ body) where
     pub next-told : (q : Served) → ToldRequest past q → ToldRequest (f ∷ past) (next_packet body q)
     next-told q told = record {
       took = rw takes refl;
@@ -150,7 +162,9 @@ module _ (t r : ℕ) where
     }
 
     -- it is the first one
-    pub first-told : (n : ℕ) (h : MessageHeader) → front_header (ring_by past) ≡ Some h → list_any (λ e. concerns t r e.event) past ≡ false → ToldRequest (f ∷ past) (first_packet n h body)
+    pub first-told : (n : ℕ) (h : MessageHeader) → front_header (ring_by past) ≡ Some h
+        → list_any (λ e. concerns t r e.event) past ≡ false
+        → ToldRequest (f ∷ past) (first_packet n h body)
     first-told n h header none =
         let takes_none = none-of (concerns t r) (takes_request t r) takes-off past none in
         let gives_none = none-of (concerns t r) (gives_request t r) gives-off past none in
@@ -175,7 +189,9 @@ module _ (t r : ℕ) where
   none-answer None e = refl
   none-answer (Some bytes) e = cc
 
-  pub given-told : (past : List Fact) (f : Fact) → takes_request t r f.event ≡ false → gives_request t r f.event ≡ true → runs_request t r f.event ≡ false → (q : Served) → is_due q ≡ true → ToldRequest past q → ToldRequest (f ∷ past) (given q)
+  pub given-told : (past : List Fact) (f : Fact) → takes_request t r f.event ≡ false
+      → gives_request t r f.event ≡ true → runs_request t r f.event ≡ false → (q : Served)
+      → is_due q ≡ true → ToldRequest past q → ToldRequest (f ∷ past) (given q)
   given-told past f takes gives runs q due told =
       let parts = and_parts (is_none q.answer) (not q.working) due in
       let none = not-run past (sym told.answer ∙ none-answer q.answer parts.0) in
@@ -197,7 +213,9 @@ module _ (t r : ℕ) where
   no-work true = refl
   no-work false = refl
 
-  pub ran-told : (past : List Fact) (f : Fact) → takes_request t r f.event ≡ false → gives_request t r f.event ≡ false → runs_request t r f.event ≡ true → (q : Served) → ToldRequest past q → ToldRequest (f ∷ past) (answered f.second q)
+  pub ran-told : (past : List Fact) (f : Fact) → takes_request t r f.event ≡ false
+      → gives_request t r f.event ≡ false → runs_request t r f.event ≡ true → (q : Served)
+      → ToldRequest past q → ToldRequest (f ∷ past) (answered f.second q)
   ran-told past f takes gives runs q told = record {
     took = or_right (takes_request t r f.event) (list_any (λ g. takes_request t r g.event) past) told.took;
     first = told.first;

@@ -5,7 +5,9 @@ use Rattle.std.specs.List.{list_any}
 use Rattle.packet_header.specs.Reading.{decoded, kind_of, message_read, message_fault, message_at}
 use Rattle.packet_header.specs.declared.packet.Kind.TheVariants.{Request}
 use Rattle.packet_header.specs.declared.packet.MessageHeader.{MessageHeader}
-use Rattle.rpc_base.specs.declared.event.Event.TheVariants.{PairedServer, Posted, Flushed, Arrived, Took, Again, Dropped, Given, Worked, Ran}
+use Rattle.rpc_base.specs.declared.event.Event.TheVariants.{PairedServer, Posted, Flushed, Arrived}
+use Rattle.rpc_base.specs.declared.event.Event.TheVariants.{Took, Again, Dropped, Given, Worked}
+use Rattle.rpc_base.specs.declared.event.Event.TheVariants.{Ran}
 use Rattle.rpc_base.specs.declared.fact.Fact.{Fact}
 use Rattle.rpc_base.specs.declared.owner.Owner.TheVariants.{Reply}
 use Rattle.rpc_base.specs.declared.state.DropReason.TheVariants.{Working, JobsFull}
@@ -48,7 +50,8 @@ row-begins = refl
 row-jobs-full : server_row Background true false (slice_get paired 0) 7 (asking 0) ≡ Drops JobsFull
 row-jobs-full = refl
 
-row-gives : asks_facts plain_mode false [] (node paired (no_jobs 64) []) 7 (asking 0) (97 ∷ 98 ∷ []) ≡ plain 4 (Took (Reply 0 0) 0) ∷ plain 4 (Given 0 0) ∷ []
+row-gives : asks_facts plain_mode false [] (node paired (no_jobs 64) []) 7 (asking 0) (97 ∷ 98 ∷ [])
+    ≡ plain 4 (Took (Reply 0 0) 0) ∷ plain 4 (Given 0 0) ∷ []
 row-gives = refl
 
 abbrev took : List Server
@@ -67,14 +70,26 @@ out = record { limit = 64; given = 1; out = job ∷ [] }
 row-given : jobs_after (Given 0 0) took (no_jobs 64) ≡ out
 row-given = refl
 
-row-slot : given ≡ record (server_end 0 7 3 2) { slots = record { number = 0; req_type = 130; size = 2; taken = 1; ask = []; working = true; answer = None } ∷ [] } ∷ []
+row-slot : given ≡ record (server_end 0 7 3 2) {
+  slots = record {
+    number = 0;
+    req_type = 130;
+    size = 2;
+    taken = 1;
+    ask = [];
+    working = true;
+    answer = None;
+  } ∷ [];
+} ∷ []
 row-slot = refl
 
 -- meanwhile a repeat of its last packet is dropped, and so is a newer request of its slot
-row-repeat-working : asks_facts plain_mode false [] (node given out []) 7 (asking 0) (97 ∷ 98 ∷ []) ≡ plain 4 (Dropped Working) ∷ []
+row-repeat-working : asks_facts plain_mode false [] (node given out []) 7 (asking 0) (97 ∷ 98 ∷ [])
+    ≡ plain 4 (Dropped Working) ∷ []
 row-repeat-working = refl
 
-row-newer-working : asks_facts plain_mode false [] (node given out []) 7 (asking 8) (97 ∷ 98 ∷ []) ≡ plain 4 (Dropped Working) ∷ []
+row-newer-working : asks_facts plain_mode false [] (node given out []) 7 (asking 8) (97 ∷ 98 ∷ [])
+    ≡ plain 4 (Dropped Working) ∷ []
 row-newer-working = refl
 
 -- that the job is worked changes nothing at its node
@@ -82,7 +97,8 @@ row-worked : jobs_after (Worked 0 0) given out ≡ out
 row-worked = refl
 
 -- it is finished: the answer is there, and its first part is posted
-row-finishes : finished_facts (98 ∷ 97 ∷ []) (node given out []) job ≡ with_two 4 (Ran 0 0 130) (97 ∷ 98 ∷ []) (98 ∷ 97 ∷ []) ∷ plain 4 (Posted (Reply 0 0) 0) ∷ []
+row-finishes : finished_facts (98 ∷ 97 ∷ []) (node given out []) job
+    ≡ with_two 4 (Ran 0 0 130) (97 ∷ 98 ∷ []) (98 ∷ 97 ∷ []) ∷ plain 4 (Posted (Reply 0 0) 0) ∷ []
 row-finishes = refl
 
 abbrev ran : List Server
@@ -91,11 +107,14 @@ ran = servers_after (Ran 0 0 130) (98 ∷ 97 ∷ []) None [] given
 row-ran : jobs_after (Ran 0 0 130) given out ≡ record { limit = 64; given = 1; out = [] }
 row-ran = refl
 
-row-repeats : asks_facts plain_mode false [] (node ran (no_jobs 64) []) 7 (asking 0) (97 ∷ 98 ∷ []) ≡ plain 4 (Again (Reply 0 0) 0) ∷ plain 4 (Posted (Reply 0 0) 0) ∷ []
+row-repeats : asks_facts plain_mode false [] (node ran (no_jobs 64) []) 7 (asking 0) (97 ∷ 98 ∷ [])
+    ≡ plain 4 (Again (Reply 0 0) 0) ∷ plain 4 (Posted (Reply 0 0) 0) ∷ []
 row-repeats = refl
 
 -- a newer request of its slot first flushes the reply that is queued, and takes its place
-row-newer : asks_facts plain_mode false [] (node ran (no_jobs 64) (record { owner = Reply 0 0; number = 0; due = None } ∷ [])) 7 (asking 8) (97 ∷ 98 ∷ []) ≡ plain 4 (Flushed (Reply 0 0) 0) ∷ plain 4 (Took (Reply 0 8) 0) ∷ plain 4 (Given 0 8) ∷ []
+row-newer : asks_facts plain_mode false [] (node ran (no_jobs 64)
+    (record { owner = Reply 0 0; number = 0; due = None } ∷ [])) 7 (asking 8) (97 ∷ 98 ∷ [])
+    ≡ plain 4 (Flushed (Reply 0 0) 0) ∷ plain 4 (Took (Reply 0 8) 0) ∷ plain 4 (Given 0 8) ∷ []
 row-newer = refl
 
 abbrev newer : List Server
@@ -113,11 +132,15 @@ row-newer-listed = refl
 -- the facts: the datagram, its header of 16 bytes and its body, arrives, and is taken
 abbrev taken_facts : List Fact
 taken_facts =
-    plain 4 (PairedServer 0 7 3 2) ∷ with_bytes 4 (Arrived 7) (225 ∷ 0 ∷ 130 ∷ 0 ∷ 0 ∷ 2 ∷ 0 ∷ 0 ∷ 0 ∷ 0 ∷ 0 ∷ 0 ∷ 0 ∷ 0 ∷ 0 ∷ 0 ∷ 97 ∷ 98 ∷ []) ∷ plain 4 (Took (Reply 0 0) 0) ∷ []
+    plain 4 (PairedServer 0 7 3 2) ∷ with_bytes 4 (Arrived 7)
+    (225 ∷ 0 ∷ 130 ∷ 0 ∷ 0 ∷ 2 ∷ 0 ∷ 0 ∷ 0 ∷ 0 ∷ 0 ∷ 0 ∷ 0 ∷ 0 ∷ 0 ∷ 0 ∷ 97 ∷ 98 ∷ [])
+    ∷ plain 4 (Took (Reply 0 0) 0) ∷ []
 
 abbrev ran_facts : List Fact
 ran_facts =
-    taken_facts ++ plain 4 (Given 0 0) ∷ plain 4 (Worked 0 0) ∷ with_two 4 (Ran 0 0 130) (97 ∷ 98 ∷ []) (98 ∷ 97 ∷ []) ∷ plain 4 (Posted (Reply 0 0) 0) ∷ []
+    taken_facts ++ plain 4 (Given 0 0) ∷ plain 4 (Worked 0 0)
+    ∷ with_two 4 (Ran 0 0 130) (97 ∷ 98 ∷ []) (98 ∷ 97 ∷ []) ∷ plain 4 (Posted (Reply 0 0) 0)
+    ∷ []
 
 abbrev newer_facts : List Fact
 newer_facts = ran_facts ++ plain 4 (Flushed (Reply 0 0) 0) ∷ plain 4 (Took (Reply 0 8) 0) ∷ []

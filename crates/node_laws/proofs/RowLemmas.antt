@@ -1,15 +1,19 @@
 -- What the rows of the server rule tell: which packet begins a request, and which goes on with it.
-use Rattle.std.proofs.Common.{◌≡◌, ◌+◌, ◌≤◌, Bool, true, false, not, ◌&&◌, ◌||◌, cond, ltb, length, Option, Some, None, refl, arith}
+use Rattle.std.proofs.Common.{◌≡◌, ◌+◌, ◌≤◌, Bool, true, false, not, ◌&&◌, ◌||◌, cond, ltb, length}
+use Rattle.std.proofs.Common.{Option, Some, None, refl, arith}
 use Rattle.std.specs.Prelude.{◌==◌, option_map}
 use Rattle.std.proofs.lemmas.Bool.{eqb-true, ltb-true, ltb-false, and_parts, or_parts, not-false, not-true}
 use Rattle.packet_header.specs.Parts.{packet_count}
 use Rattle.packet_header.specs.declared.packet.MessageHeader.{MessageHeader}
 use Rattle.rpc_base.specs.declared.state.DropReason.{DropReason}
-use Rattle.rpc_base.specs.declared.state.DropReason.TheVariants.{Old, NotFirst, Working, Unserved, JobsFull, NoMemory, Mismatch, Ahead, Beyond}
+use Rattle.rpc_base.specs.declared.state.DropReason.TheVariants.{Old, NotFirst, Working, Unserved}
+use Rattle.rpc_base.specs.declared.state.DropReason.TheVariants.{JobsFull, NoMemory, Mismatch}
+use Rattle.rpc_base.specs.declared.state.DropReason.TheVariants.{Ahead, Beyond}
 use Rattle.rpc_laws.specs.declared.rows.ServerRow.{ServerRow}
 use Rattle.rpc_laws.specs.declared.rows.ServerRow.TheVariants.{Drops, Begins, Takes, Repeats}
 use Rattle.rpc_laws.specs.declared.tables.Served.{Served}
-use Rattle.rpc_laws.specs.ServerTable.{is_rfr, is_last, makes_job, new_row, is_past_end, is_worked_on, newest_of, own_row, slot_row}
+use Rattle.rpc_laws.specs.ServerTable.{is_rfr, is_last, makes_job, new_row, is_past_end}
+use Rattle.rpc_laws.specs.ServerTable.{is_worked_on, newest_of, own_row, slot_row}
 use Rattle.rpc_outside.specs.declared.service.Mode.{Mode}
 use Rattle.rpc_laws.specs.Service.{is_handled}
 use Rattle.node_laws.proofs.Allowed.{Newer}
@@ -45,13 +49,15 @@ before-takes true e = cc
 before-takes false e = cc
 
 -- a new number begins with its first packet
-new-first : (mode : Mode) (working full lacks : Bool) (h : MessageHeader) → new_row mode working full lacks h ≡ Begins → h.number ≡ 0
+new-first : (mode : Mode) (working full lacks : Bool) (h : MessageHeader)
+    → new_row mode working full lacks h ≡ Begins → h.number ≡ 0
 new-first mode working full lacks h e =
     let one = not-begins (is_rfr h.kind || not (h.number == 0)) (Drops NotFirst) _ (drops-begins NotFirst) e in
     let other = (or_parts (is_rfr h.kind) (not (h.number == 0)) one.0).1 in
     eqb-true h.number 0 (not-false (h.number == 0) other)
 
-new-takes : (mode : Mode) (working full lacks : Bool) (h : MessageHeader) → new_row mode working full lacks h ≡ Takes → ⊥
+new-takes : (mode : Mode) (working full lacks : Bool) (h : MessageHeader)
+    → new_row mode working full lacks h ≡ Takes → ⊥
 new-takes mode working full lacks h e =
     let one = not-takes (is_rfr h.kind || not (h.number == 0)) (Drops NotFirst) _ (drops-takes NotFirst) e in
     let two = not-takes working (Drops Working) _ (drops-takes Working) one.1 in
@@ -60,12 +66,14 @@ new-takes mode working full lacks h e =
     let five = not-takes lacks (Drops NoMemory) Begins (drops-takes NoMemory) four.1 in
     begins-takes five.1
 
-own-begins : (mode : Mode) (full lacks : Bool) (l : Served) (h : MessageHeader) → own_row mode full lacks (newest_of l) h ≡ Begins → ⊥
+own-begins : (mode : Mode) (full lacks : Bool) (l : Served) (h : MessageHeader)
+    → own_row mode full lacks (newest_of l) h ≡ Begins → ⊥
 own-begins mode full lacks l h e =
     let one = not-begins _ (Drops Mismatch) _ (drops-begins Mismatch) e in
     let two = not-begins (ltb l.taken h.number) (Drops Ahead) _ (drops-begins Ahead) one.1 in
     let three = not-begins (ltb h.number l.taken) _ _ (before-begins (is_worked_on (newest_of l) h.number)) two.1 in
-    let four = not-begins (is_rfr h.kind && is_past_end l.size (option_map length l.answer) h.number) (Drops Beyond) _ (drops-begins Beyond) three.1 in
+    let four = not-begins (is_rfr h.kind && is_past_end l.size (option_map length l.answer)
+    h.number) (Drops Beyond) _ (drops-begins Beyond) three.1 in
     let five = not-begins (makes_job mode h && full) (Drops JobsFull) _ (drops-begins JobsFull) four.1 in
     let six = not-begins (lacks && is_last h) (Drops NoMemory) Takes (drops-begins NoMemory) five.1 in
     takes-begins six.1
@@ -79,7 +87,8 @@ sized-by : (rfr low typed same : Bool) → cond rfr low (not (typed && same)) �
 sized-by true low typed same e f = cc
 sized-by false low typed same e f = (and_parts typed same (not-false (typed && same) e)).1
 
-own-next : (mode : Mode) (full lacks : Bool) (l : Served) (h : MessageHeader) → own_row mode full lacks (newest_of l) h ≡ Takes → Next l h
+own-next : (mode : Mode) (full lacks : Bool) (l : Served) (h : MessageHeader)
+    → own_row mode full lacks (newest_of l) h ≡ Takes → Next l h
 own-next mode full lacks l h e =
     let one = not-takes _ (Drops Mismatch) _ (drops-takes Mismatch) e in
     let two = not-takes (ltb l.taken h.number) (Drops Ahead) _ (drops-takes Ahead) one.1 in
@@ -88,7 +97,9 @@ own-next mode full lacks l h e =
     let high = ltb-false h.number l.taken three.0 in
     record {
       turn = omega arith;
-      sized = λ f. eqb-true h.size l.size (sized-by (is_rfr h.kind) (ltb h.number (packet_count l.size)) (h.req_type == l.req_type) (h.size == l.size) one.0 f);
+      sized = λ f. eqb-true h.size l.size (sized-by (is_rfr h.kind)
+          (ltb h.number (packet_count l.size)) (h.req_type == l.req_type)
+          (h.size == l.size) one.0 f);
     }
 
 -- a row that begins or takes, by the newest request of the slot
@@ -96,13 +107,16 @@ pub record Starts (o : Option Served) (h : MessageHeader) : Type 0 where
   pub first : h.number ≡ 0
   pub newer : Newer h.request o
 
-pub starts-slot : (mode : Mode) (full lacks : Bool) (o : Option Served) (h : MessageHeader) → slot_row mode full lacks o h ≡ Begins → Starts o h
+pub starts-slot : (mode : Mode) (full lacks : Bool) (o : Option Served) (h : MessageHeader)
+    → slot_row mode full lacks o h ≡ Begins → Starts o h
 starts-slot mode full lacks None h e = record { first = new-first mode false full lacks h e; newer = tt }
 starts-slot mode full lacks (Some l) h e =
     let one = not-begins (ltb h.request l.number) (Drops Old) _ (drops-begins Old) e in
     by (ltb l.number h.request) refl one.1
   where
-    by : (b : Bool) → ltb l.number h.request ≡ b → cond b (new_row mode l.working full lacks h) (own_row mode full lacks (newest_of l) h) ≡ Begins → Starts (Some l) h
+    by : (b : Bool) → ltb l.number h.request ≡ b
+        → cond b (new_row mode l.working full lacks h) (own_row mode full lacks (newest_of l) h)
+        ≡ Begins → Starts (Some l) h
     by true t k = record { first = new-first mode l.working full lacks h k; newer = ltb-true l.number h.request t }
     by false t k = absurd (own-begins mode full lacks l h k)
 
@@ -113,21 +127,25 @@ pub record Continues (o : Option Served) (h : MessageHeader) : Type 0 where
   pub own : served.number ≡ h.request
   pub next : Next served h
 
-pub continues-slot : (mode : Mode) (full lacks : Bool) (o : Option Served) (h : MessageHeader) → slot_row mode full lacks o h ≡ Takes → Continues o h
+pub continues-slot : (mode : Mode) (full lacks : Bool) (o : Option Served) (h : MessageHeader)
+    → slot_row mode full lacks o h ≡ Takes → Continues o h
 continues-slot mode full lacks None h e = absurd (new-takes mode false full lacks h e)
 continues-slot mode full lacks (Some l) h e =
     let one = not-takes (ltb h.request l.number) (Drops Old) _ (drops-takes Old) e in
     let low = ltb-false h.request l.number one.0 in
     by (ltb l.number h.request) refl low one.1
   where
-    by : (b : Bool) → ltb l.number h.request ≡ b → l.number ≤ h.request → cond b (new_row mode l.working full lacks h) (own_row mode full lacks (newest_of l) h) ≡ Takes → Continues (Some l) h
+    by : (b : Bool) → ltb l.number h.request ≡ b → l.number ≤ h.request
+        → cond b (new_row mode l.working full lacks h) (own_row mode full lacks (newest_of l) h)
+        ≡ Takes → Continues (Some l) h
     by true t low k = absurd (new-takes mode l.working full lacks h k)
     by false t low k =
         let high = ltb-false l.number h.request t in
         record { served = l; is_served = refl; own = omega arith; next = own-next mode full lacks l h k }
 
 -- a packet that was taken before is of the request that stands in its slot
-pub not-repeats : (b : Bool) (x r : ServerRow) → (x ≡ Repeats → ⊥) → cond b x r ≡ Repeats → (b ≡ false) × (r ≡ Repeats)
+pub not-repeats : (b : Bool) (x r : ServerRow) → (x ≡ Repeats → ⊥) → cond b x r ≡ Repeats
+    → (b ≡ false) × (r ≡ Repeats)
 not-repeats true x r h e = absurd (h e)
 not-repeats false x r h e = (refl, e)
 
@@ -137,7 +155,8 @@ drops-repeats why e = cc
 begins-repeats : Begins ≡ Repeats → ⊥
 begins-repeats e = cc
 
-new-repeats : (mode : Mode) (working full lacks : Bool) (h : MessageHeader) → new_row mode working full lacks h ≡ Repeats → ⊥
+new-repeats : (mode : Mode) (working full lacks : Bool) (h : MessageHeader)
+    → new_row mode working full lacks h ≡ Repeats → ⊥
 new-repeats mode working full lacks h e =
     let one = not-repeats (is_rfr h.kind || not (h.number == 0)) (Drops NotFirst) _ (drops-repeats NotFirst) e in
     let two = not-repeats working (Drops Working) _ (drops-repeats Working) one.1 in
@@ -151,20 +170,24 @@ pub record Repeated (o : Option Served) (h : MessageHeader) : Type 0 where
   pub is_served : o ≡ Some served
   pub own : served.number ≡ h.request
 
-pub repeats-slot : (mode : Mode) (full lacks : Bool) (o : Option Served) (h : MessageHeader) → slot_row mode full lacks o h ≡ Repeats → Repeated o h
+pub repeats-slot : (mode : Mode) (full lacks : Bool) (o : Option Served) (h : MessageHeader)
+    → slot_row mode full lacks o h ≡ Repeats → Repeated o h
 repeats-slot mode full lacks None h e = absurd (new-repeats mode false full lacks h e)
 repeats-slot mode full lacks (Some l) h e =
     let one = not-repeats (ltb h.request l.number) (Drops Old) _ (drops-repeats Old) e in
     let low = ltb-false h.request l.number one.0 in
     by (ltb l.number h.request) refl low one.1
   where
-    by : (b : Bool) → ltb l.number h.request ≡ b → l.number ≤ h.request → cond b (new_row mode l.working full lacks h) (own_row mode full lacks (newest_of l) h) ≡ Repeats → Repeated (Some l) h
+    by : (b : Bool) → ltb l.number h.request ≡ b → l.number ≤ h.request
+        → cond b (new_row mode l.working full lacks h) (own_row mode full lacks (newest_of l) h)
+        ≡ Repeats → Repeated (Some l) h
     by true t low k = absurd (new-repeats mode l.working full lacks h k)
     by false t low k =
         let high = ltb-false l.number h.request t in
         record { served = l; is_served = refl; own = omega arith }
 
-pub last-parts : (h : MessageHeader) → is_last h ≡ true → (is_rfr h.kind ≡ false) × (h.number + 1 ≡ packet_count h.size)
+pub last-parts : (h : MessageHeader) → is_last h ≡ true → (is_rfr h.kind ≡ false)
+    × (h.number + 1 ≡ packet_count h.size)
 last-parts h e =
     let parts = and_parts (not (is_rfr h.kind)) (h.number + 1 == packet_count h.size) e in
     (not-true (is_rfr h.kind) parts.0, eqb-true (h.number + 1) (packet_count h.size) parts.1)

@@ -1,5 +1,7 @@
 -- A run of a node notes only what is allowed, and what always holds does.
-use Rattle.std.proofs.Common.{◌≡◌, ℕ, suc, ◌+◌, ◌-◌, ◌≤◌, Bool, true, false, not, cond, ltb, Option, Some, None, List, [], ◌∷◌, length, refl, ap, ap₂, subst, ◌∙◌, inl, inr, arith}
+use Rattle.std.proofs.Common.{◌≡◌, ℕ, suc, ◌+◌, ◌-◌, ◌≤◌, Bool, true, false, not, cond, ltb, Option}
+use Rattle.std.proofs.Common.{Some, None, List, [], ◌∷◌, length, refl, ap, ap₂, subst, ◌∙◌, inl}
+use Rattle.std.proofs.Common.{inr, arith}
 use Rattle.std.specs.Prelude.{◌==◌, slice_get}
 use Rattle.std.specs.List.{find}
 use Rattle.std.proofs.lemmas.Bool.{and_parts, eqb-true, ltb-true, ltb-false, not-false}
@@ -9,11 +11,18 @@ use Rattle.packet_header.specs.declared.packet.Kind.{Kind}
 use Rattle.packet_header.specs.declared.packet.Kind.TheVariants.{Request, Rfr, Cr, Response}
 use Rattle.packet_header.specs.declared.packet.MessageHeader.{MessageHeader}
 use Rattle.rpc_base.specs.declared.event.Event.{Event}
-use Rattle.rpc_base.specs.declared.event.Event.TheVariants.{PairedClient, PairedServer, Opened, Closing as BeginsClosing, NconnectNumbers, NconnectRing, NcloseState, NcloseBusy, Rated, Nrate, NcallTooLarge, Posted, Arrived, Overflowed, Bad, Ran, Worked, Missed}
+use Rattle.rpc_base.specs.declared.event.Event.TheVariants.{PairedClient, PairedServer, Opened}
+use Rattle.rpc_base.specs.declared.event.Event.TheVariants.{Closing as BeginsClosing}
+use Rattle.rpc_base.specs.declared.event.Event.TheVariants.{NconnectNumbers, NconnectRing}
+use Rattle.rpc_base.specs.declared.event.Event.TheVariants.{NcloseState, NcloseBusy, Rated, Nrate}
+use Rattle.rpc_base.specs.declared.event.Event.TheVariants.{NcallTooLarge, Posted, Arrived}
+use Rattle.rpc_base.specs.declared.event.Event.TheVariants.{Overflowed, Bad, Ran, Worked, Missed}
 use Rattle.rpc_base.specs.declared.owner.Owner.TheVariants.{Reply}
 use Rattle.rpc_base.specs.declared.fact.Fact.{Fact}
 use Rattle.rpc_base.specs.declared.state.SessionState.{SessionState}
-use Rattle.rpc_base.specs.declared.state.SessionState.TheVariants.{Unknown, Connecting, Connected, Closing, Closed, Failed, Broken, Spent}
+use Rattle.rpc_base.specs.declared.state.SessionState.TheVariants.{Unknown, Connecting, Connected}
+use Rattle.rpc_base.specs.declared.state.SessionState.TheVariants.{Closing, Closed, Failed, Broken}
+use Rattle.rpc_base.specs.declared.state.SessionState.TheVariants.{Spent}
 use Rattle.rpc_laws.specs.declared.tables.Arrival.{Arrival}
 use Rattle.rpc_laws.specs.declared.tables.Call.{Call}
 use Rattle.rpc_laws.specs.declared.tables.Client.{Client}
@@ -26,19 +35,27 @@ use Rattle.rpc_laws.specs.Facts.{plain, with_two}
 use Rattle.rpc_laws.specs.Front.{front_header, front_body, is_control, is_message}
 use Rattle.rpc_laws.specs.ControlSteps.{HearsAll, TimesAll}
 use Rattle.rpc_laws.specs.Deliveries.{arrival, inbox_room, Delivers}
-use Rattle.rpc_laws.specs.Groups.{Asks, Connects, Disconnects, SetsRate, told_state, state_of, ask_by_state, shares, clients_spent, servers_spent, has_no_room, refusal_by, connect_by, disconnect_by, pending}
+use Rattle.rpc_laws.specs.Groups.{Asks, Connects, Disconnects, SetsRate, told_state, state_of}
+use Rattle.rpc_laws.specs.Groups.{ask_by_state, shares, clients_spent, servers_spent, has_no_room}
+use Rattle.rpc_laws.specs.Groups.{refusal_by, connect_by, disconnect_by, pending}
 use Rattle.rpc_laws.specs.Jobs.{is_job}
 use Rattle.rpc_laws.specs.NodeLists.{after, new_lists, new_node}
-use Rattle.rpc_laws.specs.PollOrder.{is_working, is_awaited, Finishes, FinishesOne, FinishesSome, handling_by, Handles, NoMoreToHandle, HandlesAll, PostsAll, Sends, SendsSome, Closes, raised, Poll}
+use Rattle.rpc_laws.specs.PollOrder.{is_working, is_awaited, Finishes, FinishesOne, FinishesSome}
+use Rattle.rpc_laws.specs.PollOrder.{handling_by, Handles, NoMoreToHandle, HandlesAll, PostsAll}
+use Rattle.rpc_laws.specs.PollOrder.{Sends, SendsSome, Closes, raised, Poll}
 use Rattle.rpc_outside.specs.declared.service.Mode.{Mode}
 use Rattle.rpc_base.specs.declared.limits.Limits.{Limits}
 use Rattle.rpc_laws.specs.Service.{Serving}
 use Rattle.rpc_laws.specs.Sessions.{is_client, is_connected, is_live}
 use Rattle.rpc_laws.specs.Steps.{Then}
-use Rattle.node_laws.specs.NodeRun.{Notes, Group, pairs_client, pairs_server, refuses, connects, disconnects, sets_rate, asks, delivers, polls, works, misses, NodeRun}
-use Rattle.node_laws.proofs.Allowed.{Allowed, Stands, MayFinish, MayClose, AllowedBy, allowed-plain, AllAllowed, Leads, LeadsBy, leads-of}
+use Rattle.node_laws.specs.NodeRun.{Notes, Group, pairs_client, pairs_server, refuses, connects}
+use Rattle.node_laws.specs.NodeRun.{disconnects, sets_rate, asks, delivers, polls, works, misses}
+use Rattle.node_laws.specs.NodeRun.{NodeRun}
+use Rattle.node_laws.proofs.Allowed.{Allowed, Stands, MayFinish, MayClose, AllowedBy, allowed-plain}
+use Rattle.node_laws.proofs.Allowed.{AllAllowed, Leads, LeadsBy, leads-of}
 use Rattle.node_laws.proofs.ControlLemmas.{hears-all-lawful}
-use Rattle.node_laws.proofs.LeadsLemmas.{valid_leads, LeadsAt, leads-at, Lawful, lawful-goes, lawful-then, lawful-until, lawful-chain, groups-chain}
+use Rattle.node_laws.proofs.LeadsLemmas.{valid_leads, LeadsAt, leads-at, Lawful, lawful-goes}
+use Rattle.node_laws.proofs.LeadsLemmas.{lawful-then, lawful-until, lawful-chain, groups-chain}
 use Rattle.node_laws.proofs.PostLemmas.{posts-lawful}
 use Rattle.node_laws.proofs.ReplyLemmas.{replies-allowed}
 use Rattle.node_laws.proofs.ServeLemmas.{stands-ran, asks-allowed}
@@ -50,13 +67,19 @@ use Rattle.node_laws.proofs.ValidLemmas.{valid_new}
 use Rattle.rpc_base.proofs.TakingLemmas.{find-passes}
 
 -- a packet is handled
-front-is : (ring : List Arrival) (d : Arrival) → slice_get ring 0 ≡ Some d → (front_header ring ≡ message_of d.bytes) × (front_body ring ≡ body_of d.bytes)
+front-is : (ring : List Arrival) (d : Arrival) → slice_get ring 0 ≡ Some d
+    → (front_header ring ≡ message_of d.bytes) × (front_body ring ≡ body_of d.bytes)
 front-is [] d e = cc
 front-is (a ∷ ring) d e =
-    let same : a ≡ d = cc in (ap (λ (x : Arrival). message_of x.bytes) same, ap (λ (x : Arrival). body_of x.bytes) same)
+    let same : a ≡ d = cc in (
+      ap (λ (x : Arrival). message_of x.bytes) same,
+      ap (λ (x : Arrival). body_of x.bytes) same,
+    )
 
 module _ (mode : ℕ → Mode) (lacks : Bool) (answer : List ℕ) where
-  handling-allowed : (clock : ℕ) (s : Lists) (peer : ℕ) (h : MessageHeader) (k : Kind) → Valid s → front_header s.ring ≡ Some h → AllAllowed clock s (handling_by mode lacks answer k s peer h (front_body s.ring))
+  handling-allowed : (clock : ℕ) (s : Lists) (peer : ℕ) (h : MessageHeader) (k : Kind) → Valid s
+      → front_header s.ring ≡ Some h
+      → AllAllowed clock s (handling_by mode lacks answer k s peer h (front_body s.ring))
   handling-allowed clock s peer h Request v front = asks-allowed clock s v h front peer mode lacks answer
   handling-allowed clock s peer h Rfr v front = asks-allowed clock s v h front peer mode lacks answer
   handling-allowed clock s peer h Cr v front = replies-allowed clock s v h front peer
@@ -71,19 +94,26 @@ handles-lawful mode s x t v h =
 
 -- a job is finished
 
-awaited-stands : (t r : ℕ) (servers : List Server) (o : Option Served) → request_of t r servers ≡ o → is_working o ≡ true → Stands servers t r
+awaited-stands : (t r : ℕ) (servers : List Server) (o : Option Served) → request_of t r servers ≡ o
+    → is_working o ≡ true → Stands servers t r
 awaited-stands t r servers None e h = cc
 awaited-stands t r servers (Some q) e h = record { served = q; found = e }
 
-finish-allowed : (clock : ℕ) (s : Lists) (job : Job) (answer : List ℕ) (k : ℕ) (b : Bool) → is_awaited job s.servers ≡ b → MayFinish s job.session job.request → AllAllowed clock s (with_two s.me (Ran job.session job.request job.req_type) job.ask answer ∷ cond b (plain s.me (Posted (Reply job.session job.request) k) ∷ []) [])
+finish-allowed : (clock : ℕ) (s : Lists) (job : Job) (answer : List ℕ) (k : ℕ) (b : Bool)
+    → is_awaited job s.servers ≡ b → MayFinish s job.session job.request
+    → AllAllowed clock s (with_two s.me (Ran job.session job.request job.req_type) job.ask answer
+    ∷ cond b (plain s.me (Posted (Reply job.session job.request) k) ∷ []) [])
 finish-allowed clock s job answer k true e may =
-    let stands = awaited-stands job.session job.request s.servers (request_of job.session job.request s.servers) refl e in
+    let stands = awaited-stands job.session job.request s.servers
+    (request_of job.session job.request s.servers) refl e in
     (inr may, (stands-ran job.session job.request answer s.servers stands, tt))
 finish-allowed clock s job answer k false e may = (inr may, tt)
 
-own-finish : (s : Lists) (session request : ℕ) (job : Job) → find (is_job session request) s.jobs.out ≡ Some job → MayFinish s job.session job.request
+own-finish : (s : Lists) (session request : ℕ) (job : Job)
+    → find (is_job session request) s.jobs.out ≡ Some job → MayFinish s job.session job.request
 own-finish s session request job e =
-    let parts = and_parts (job.session == session) (job.request == request) (find-passes (is_job session request) s.jobs.out job e) in
+    let parts = and_parts (job.session == session) (job.request == request)
+    (find-passes (is_job session request) s.jobs.out job e) in
     let one : job.session ≡ session = eqb-true job.session session parts.0 in
     let other : job.request ≡ request = eqb-true job.request request parts.1 in
     record { job = job; found = ap₂ (λ (a b : ℕ). find (is_job a b) s.jobs.out) one other ∙ e }
@@ -91,10 +121,14 @@ own-finish s session request job e =
 finishes-lawful : (session request : ℕ) → Lawful (Finishes session request)
 finishes-lawful session request s x t v h =
     let job = h.job in
-    lawful-goes s x t h.goes (rw h.facts (finish-allowed s.clock s.lists job h.answer (packet_count (length job.ask) - 1) (is_awaited job s.lists.servers) refl (own-finish s.lists session request job h.is_out)))
+    lawful-goes s x t h.goes (rw h.facts (finish-allowed s.clock s.lists job h.answer
+    (packet_count (length job.ask) - 1) (is_awaited job s.lists.servers) refl
+    (own-finish s.lists session request job h.is_out)))
 
 pub finishes-some : Lawful FinishesSome
-finishes-some s x t v h = lawful-chain FinishesOne (λ s x t v h. finishes-lawful h.session h.request s x t v h.finishes) s v h
+finishes-some s x t v h =
+    lawful-chain FinishesOne (λ s x t v h. finishes-lawful h.session h.request s x t v h.finishes) s
+    v h
 
 -- a packet is sent, and a poll ends
 pub sends-lawful : Lawful Sends
@@ -104,17 +138,25 @@ pub closes-lawful : Lawful Closes
 closes-lawful s x t v h = lawful-goes s x t h.goes (rw h.facts (tt, tt))
 
 -- a poll, at the clock to which it raises the node's
-pub poll-lawful : (mode : ℕ → Mode) (now : ℕ) (s : Timed) (x : List Fact) (t : Timed) → Valid s.lists → Poll mode now s x t → LeadsAt (raised now s) x t
+pub poll-lawful : (mode : ℕ → Mode) (now : ℕ) (s : Timed) (x : List Fact) (t : Timed)
+    → Valid s.lists → Poll mode now s x t → LeadsAt (raised now s) x t
 poll-lawful mode now s x t v h =
     let closing = lawful-then SendsSome Closes (λ s x t v h. lawful-chain Sends sends-lawful s v h) closes-lawful in
     let posting = lawful-then PostsAll (Then SendsSome Closes) posts-lawful closing in
     let timing = lawful-then TimesAll (Then PostsAll (Then SendsSome Closes)) timers-lawful posting in
-    let handling = lawful-then (HandlesAll mode) (Then TimesAll (Then PostsAll (Then SendsSome Closes))) (lawful-until (Handles mode) NoMoreToHandle (handles-lawful mode)) timing in
-    let hearing = lawful-then HearsAll (Then (HandlesAll mode) (Then TimesAll (Then PostsAll (Then SendsSome Closes)))) hears-all-lawful handling in
-    lawful-then FinishesSome (Then HearsAll (Then (HandlesAll mode) (Then TimesAll (Then PostsAll (Then SendsSome Closes))))) finishes-some hearing (raised now s) x t v h
+    let handling = lawful-then (HandlesAll mode)
+    (Then TimesAll (Then PostsAll (Then SendsSome Closes)))
+    (lawful-until (Handles mode) NoMoreToHandle (handles-lawful mode)) timing in
+    let hearing = lawful-then HearsAll (Then (HandlesAll mode)
+    (Then TimesAll (Then PostsAll (Then SendsSome Closes)))) hears-all-lawful handling in
+    lawful-then FinishesSome (Then HearsAll (Then (HandlesAll mode)
+    (Then TimesAll (Then PostsAll (Then SendsSome Closes))))) finishes-some hearing
+    (raised now s) x t v h
 
 -- an end of a pair is refused
-pub refused-by : (s : Lists) (e : Event) (n credits room : ℕ) (b c : Bool) → cond b (Some NconnectNumbers) (cond c (Some (NconnectRing n credits room)) None) ≡ Some e → Allowed s e
+pub refused-by : (s : Lists) (e : Event) (n credits room : ℕ) (b c : Bool)
+    → cond b (Some NconnectNumbers) (cond c (Some (NconnectRing n credits room)) None) ≡ Some e
+    → Allowed s e
 refused-by s e n credits room true c h =
     let same : NconnectNumbers ≡ e = cc in subst (λ (d : Event). Allowed s d) same tt
 refused-by s e n credits room false true h =
@@ -122,7 +164,10 @@ refused-by s e n credits room false true h =
 refused-by s e n credits room false false h = cc
 
 -- a call is asked
-asked-by : (s : Lists) (session req_type room : ℕ) (ask : List ℕ) (o : Option Client) → find (is_client session) s.clients ≡ o → (state : SessionState) → state_of o ≡ state → AllowedBy s (ask_by_state state session req_type room ask s).event (ask_by_state state session req_type room ask s).first
+asked-by : (s : Lists) (session req_type room : ℕ) (ask : List ℕ) (o : Option Client)
+    → find (is_client session) s.clients ≡ o → (state : SessionState) → state_of o ≡ state
+    → AllowedBy s (ask_by_state state session req_type room ask s).event
+    (ask_by_state state session req_type room ask s).first
 asked-by s session req_type room ask None found Connected e = cc
 asked-by s session req_type room ask (Some x) found Connected e = record {
   next = refl;
@@ -138,7 +183,9 @@ asked-by s session req_type room ask o found Failed e = tt
 asked-by s session req_type room ask o found Broken e = tt
 asked-by s session req_type room ask o found Spent e = tt
 
-asked-allowed : (s : Lists) (session n : ℕ) (f : Fact) (b : Bool) → AllowedBy s f.event f.first → AllowedBy s (cond b (plain s.me (NcallTooLarge session n)) f).event (cond b (plain s.me (NcallTooLarge session n)) f).first
+asked-allowed : (s : Lists) (session n : ℕ) (f : Fact) (b : Bool) → AllowedBy s f.event f.first
+    → AllowedBy s (cond b (plain s.me (NcallTooLarge session n)) f).event
+    (cond b (plain s.me (NcallTooLarge session n)) f).first
 asked-allowed s session n f true a = tt
 asked-allowed s session n f false a = a
 
@@ -146,71 +193,108 @@ asked-allowed s session n f false a = a
 no-control : (bytes : List ℕ) → is_message bytes ≡ true → is_control bytes ≡ true → ⊥
 no-control bytes e h = cc
 
-message-by : (s : Lists) (peer : ℕ) (bytes : List ℕ) (b : Bool) → ltb (length s.ring) s.room ≡ b → is_message bytes ≡ true → AllowedBy s (cond b (Arrived peer) (Overflowed peer)) bytes
+message-by : (s : Lists) (peer : ℕ) (bytes : List ℕ) (b : Bool) → ltb (length s.ring) s.room ≡ b
+    → is_message bytes ≡ true → AllowedBy s (cond b (Arrived peer) (Overflowed peer)) bytes
 message-by s peer bytes true e h = record {
   message = λ i. ltb-true (length s.ring) s.room e;
   control = λ i. absurd (no-control bytes h i);
 }
 message-by s peer bytes false e h = tt
 
-control-by : (s : Lists) (peer : ℕ) (bytes : List ℕ) (b : Bool) → ltb (length s.inbox) inbox_room ≡ b → is_control bytes ≡ true → AllowedBy s (cond b (Arrived peer) (Overflowed peer)) bytes
+control-by : (s : Lists) (peer : ℕ) (bytes : List ℕ) (b : Bool)
+    → ltb (length s.inbox) inbox_room ≡ b → is_control bytes ≡ true
+    → AllowedBy s (cond b (Arrived peer) (Overflowed peer)) bytes
 control-by s peer bytes true e h = record {
   message = λ i. absurd (no-control bytes i h);
   control = λ i. ltb-true (length s.inbox) inbox_room e;
 }
 control-by s peer bytes false e h = tt
 
-delivered-by : (s : Lists) (peer : ℕ) (bytes : List ℕ) (b c : Bool) → is_message bytes ≡ b → is_control bytes ≡ c → AllowedBy s (cond b (arrival (length s.ring) s.room peer) (cond c (arrival (length s.inbox) inbox_room peer) (Bad peer))) bytes
+delivered-by : (s : Lists) (peer : ℕ) (bytes : List ℕ) (b c : Bool) → is_message bytes ≡ b
+    → is_control bytes ≡ c
+    → AllowedBy s (cond b (arrival (length s.ring) s.room peer)
+    (cond c (arrival (length s.inbox) inbox_room peer) (Bad peer))) bytes
 delivered-by s peer bytes true c e h = message-by s peer bytes (ltb (length s.ring) s.room) refl e
 delivered-by s peer bytes false true e h = control-by s peer bytes (ltb (length s.inbox) inbox_room) refl h
 delivered-by s peer bytes false false e h = tt
 
 -- what isn't refused has room
-fits-by : (s : Lists) (n credits room : ℕ) (b c : Bool) → cond b (Some NconnectNumbers) (cond c (Some (NconnectRing n credits room)) None) ≡ None → c ≡ false
+fits-by : (s : Lists) (n credits room : ℕ) (b c : Bool)
+    → cond b (Some NconnectNumbers) (cond c (Some (NconnectRing n credits room)) None) ≡ None
+    → c ≡ false
 fits-by s n credits room true c h = cc
 fits-by s n credits room false true h = cc
 fits-by s n credits room false false h = refl
 
-pub pair-fits : (spent : Bool) (credits : ℕ) (s : Lists) → refusal_by spent credits s ≡ None → shares s + credits ≤ s.room
+pub pair-fits : (spent : Bool) (credits : ℕ) (s : Lists) → refusal_by spent credits s ≡ None
+    → shares s + credits ≤ s.room
 pair-fits spent credits s h =
     ltb-false s.room (shares s + credits) (fits-by s (shares s) credits s.room spent (has_no_room credits s) h)
 
 -- a session is opened, a disconnect and a rate are asked
-rated-by : (clock : ℕ) (s : Lists) (me session rate : ℕ) (b : Bool) → AllAllowed clock s (cond b [] (plain me (Rated session rate) ∷ []))
+rated-by : (clock : ℕ) (s : Lists) (me session rate : ℕ) (b : Bool)
+    → AllAllowed clock s (cond b [] (plain me (Rated session rate) ∷ []))
 rated-by clock s me session rate true = tt
 rated-by clock s me session rate false = (tt, tt)
 
-opened-by : (clock : ℕ) (s : Lists) (credits peer rate n room : ℕ) (b c : Bool) → (c ≡ false → shares s + credits ≤ s.room) → AllAllowed clock s (connect_by (cond b (Some NconnectNumbers) (cond c (Some (NconnectRing n credits room)) None)) peer credits rate s)
+opened-by : (clock : ℕ) (s : Lists) (credits peer rate n room : ℕ) (b c : Bool)
+    → (c ≡ false → shares s + credits ≤ s.room)
+    → AllAllowed clock s (connect_by (cond b (Some NconnectNumbers)
+    (cond c (Some (NconnectRing n credits room)) None)) peer credits rate s)
 opened-by clock s credits peer rate n room true c has = (tt, tt)
 opened-by clock s credits peer rate n room false true has = (tt, tt)
-opened-by clock s credits peer rate n room false false has =
-    (record { numbered = refl; room = has refl }, rated-by clock (after clock s (plain s.me (Opened (length s.clients) peer credits))) s.me (length s.clients) rate (rate == 0))
+opened-by clock s credits peer rate n room false false has = (
+  record { numbered = refl; room = has refl },
+  rated-by clock (after clock s (plain s.me (Opened (length s.clients) peer credits))) s.me
+      (length s.clients) rate (rate == 0),
+)
 
 none-pending : (calls : List Call) → (length calls == 0) ≡ true → calls ≡ []
 none-pending [] e = refl
 none-pending (c ∷ cs) e = let none = eqb-true (suc (length cs)) 0 e in absurd (omega arith)
 
-closed-by : (s : Lists) (session calls : ℕ) (state : SessionState) (b c : Bool) → (b ≡ false → c ≡ false → MayClose s session) → AllowedBy s (cond b (NcloseState session state) (cond c (NcloseBusy session calls) (BeginsClosing session))) []
+closed-by : (s : Lists) (session calls : ℕ) (state : SessionState) (b c : Bool)
+    → (b ≡ false → c ≡ false → MayClose s session)
+    → AllowedBy s (cond b (NcloseState session state)
+    (cond c (NcloseBusy session calls) (BeginsClosing session))) []
 closed-by s session calls state true c h = tt
 closed-by s session calls state false true h = tt
 closed-by s session calls state false false h = h refl refl
 
-disconnect-by : (s : Lists) (session : ℕ) (o : Option Client) → find (is_client session) s.clients ≡ o → AllowedBy s (disconnect_by (state_of o) session (pending o)) []
+disconnect-by : (s : Lists) (session : ℕ) (o : Option Client)
+    → find (is_client session) s.clients ≡ o
+    → AllowedBy s (disconnect_by (state_of o) session (pending o)) []
 disconnect-by s session None found = tt
 disconnect-by s session (Some x) found =
-    closed-by s session (length x.calls) (told_state x.state x.asked) (not (is_connected (told_state x.state x.asked))) (not (length x.calls == 0)) (λ e h. record { client = x; found = found; connected = told-connected x.state x.asked (not-false (is_connected (told_state x.state x.asked)) e); idle = none-pending x.calls (not-false (length x.calls == 0) h) })
+    closed-by s session (length x.calls) (told_state x.state x.asked)
+    (not (is_connected (told_state x.state x.asked))) (not (length x.calls == 0))
+    (λ e h. record {
+      client = x;
+      found = found;
+      connected = told-connected x.state x.asked
+          (not-false (is_connected (told_state x.state x.asked)) e);
+      idle =
+          none-pending x.calls (not-false (length x.calls == 0) h);
+    })
 
-rate-by : (s : Lists) (session rate : ℕ) (state : SessionState) (b : Bool) → AllowedBy s (cond b (Rated session rate) (Nrate session state)) []
+rate-by : (s : Lists) (session rate : ℕ) (state : SessionState) (b : Bool)
+    → AllowedBy s (cond b (Rated session rate) (Nrate session state)) []
 rate-by s session rate state true = tt
 rate-by s session rate state false = tt
 
 pub connects-lawful : (peer credits rate : ℕ) → Lawful (Connects peer credits rate)
 connects-lawful peer credits rate s x t v h =
-    lawful-goes s x t h.goes (rw h.facts (opened-by s.clock s.lists credits peer rate (shares s.lists) s.lists.room (clients_spent s.lists) (has_no_room credits s.lists) (λ e. ltb-false s.lists.room (shares s.lists + credits) e)))
+    lawful-goes s x t h.goes (rw h.facts (opened-by s.clock s.lists credits peer rate
+    (shares s.lists) s.lists.room (clients_spent s.lists) (has_no_room credits s.lists)
+    (λ e. ltb-false s.lists.room (shares s.lists + credits) e)))
 
 pub disconnects-lawful : (session : ℕ) → Lawful (Disconnects session)
 disconnects-lawful session s x t v h =
-    lawful-goes s x t h.goes (rw h.facts (disconnect-by s.lists session (find (is_client session) s.lists.clients) refl, tt))
+    lawful-goes s x t h.goes (rw h.facts (
+      disconnect-by s.lists session
+          (find (is_client session) s.lists.clients) refl,
+      tt,
+    ))
 
 pub sets-rate-lawful : (session rate : ℕ) → Lawful (SetsRate session rate)
 sets-rate-lawful session rate s x t v h =
@@ -219,15 +303,24 @@ sets-rate-lawful session rate s x t v h =
 
 pub asks-lawful : (session req_type : ℕ) (ask : List ℕ) (room : ℕ) → Lawful (Asks session req_type ask room)
 asks-lawful session req_type ask room s x t v h =
-    let asked = asked-by s.lists session req_type room ask (find (is_client session) s.lists.clients) refl (state_of (find (is_client session) s.lists.clients)) refl in
-    let all = asked-allowed s.lists session (length ask) (ask_by_state (state_of (find (is_client session) s.lists.clients)) session req_type room ask s.lists) (ltb 1048576 (length ask)) asked in
+    let asked = asked-by s.lists session req_type room ask
+    (find (is_client session) s.lists.clients) refl
+    (state_of (find (is_client session) s.lists.clients)) refl in
+    let all = asked-allowed s.lists session (length ask)
+    (ask_by_state (state_of (find (is_client session) s.lists.clients)) session req_type
+    room ask s.lists) (ltb 1048576 (length ask)) asked in
     lawful-goes s x t h.goes (rw h.facts (all, tt))
 
 pub delivers-lawful : (peer : ℕ) (bytes : List ℕ) → Lawful (Delivers peer bytes)
 delivers-lawful peer bytes s x t v h =
-    lawful-goes s x t h.goes (rw h.facts (delivered-by s.lists peer bytes (is_message bytes) (is_control bytes) refl refl, tt))
+    lawful-goes s x t h.goes (rw h.facts (
+      delivered-by s.lists peer bytes (is_message bytes)
+          (is_control bytes) refl refl,
+      tt,
+    ))
 
-pub notes-lawful : (e : Event) (s : Timed) (x : List Fact) (t : Timed) → Allowed s.lists e → Notes e s x t → LeadsAt s x t
+pub notes-lawful : (e : Event) (s : Timed) (x : List Fact) (t : Timed) → Allowed s.lists e
+    → Notes e s x t → LeadsAt s x t
 notes-lawful e s x t a h = lawful-goes s x t h.goes (rw h.facts (allowed-plain s.lists e a, tt))
 
 -- a group notes what is allowed, at a clock of its own
@@ -238,16 +331,28 @@ pub record LeadsFrom (s : Timed) (x : List Fact) (t : Timed) : Type 0 where
 own-clock : (s : Timed) (x : List Fact) (t : Timed) → LeadsAt s x t → LeadsFrom s x t
 own-clock s x t l = record { clock = s.clock; leads = record { all = l.all; lists = l.lists; clock = l.clock } }
 
-pub group-lawful : (mode : ℕ → Mode) (s : Timed) (x : List Fact) (t : Timed) → Valid s.lists → Group mode s x t → LeadsFrom s x t
+pub group-lawful : (mode : ℕ → Mode) (s : Timed) (x : List Fact) (t : Timed) → Valid s.lists
+    → Group mode s x t → LeadsFrom s x t
 group-lawful mode s x t v (pairs_client peer server credits may h) =
-    own-clock s x t (notes-lawful (PairedClient (length s.lists.clients) peer server credits) s x t (record { numbered = refl; room = pair-fits (clients_spent s.lists) credits s.lists may.fits }) h)
+    own-clock s x t (notes-lawful (PairedClient (length s.lists.clients) peer server credits) s x t
+    (record {
+      numbered = refl;
+      room = pair-fits (clients_spent s.lists) credits s.lists may.fits;
+    }) h)
 group-lawful mode s x t v (pairs_server peer client credits may h) =
-    own-clock s x t (notes-lawful (PairedServer s.lists.server_numbers peer client credits) s x t (record { numbered = refl; room = pair-fits (servers_spent s.lists) credits s.lists may.fits }) h)
+    own-clock s x t (notes-lawful (PairedServer s.lists.server_numbers peer client credits) s x t
+    (record {
+      numbered = refl;
+      room = pair-fits (servers_spent s.lists) credits s.lists may.fits;
+    }) h)
 group-lawful mode s x t v (refuses credits e (inl refusal) h) =
-    own-clock s x t (notes-lawful e s x t (refused-by s.lists e (shares s.lists) credits s.lists.room (clients_spent s.lists) (has_no_room credits s.lists) refusal) h)
+    own-clock s x t (notes-lawful e s x t (refused-by s.lists e (shares s.lists) credits
+    s.lists.room (clients_spent s.lists) (has_no_room credits s.lists) refusal) h)
 group-lawful mode s x t v (refuses credits e (inr refusal) h) =
-    own-clock s x t (notes-lawful e s x t (refused-by s.lists e (shares s.lists) credits s.lists.room (servers_spent s.lists) (has_no_room credits s.lists) refusal) h)
-group-lawful mode s x t v (connects peer credits rate few h) = own-clock s x t (connects-lawful peer credits rate s x t v h)
+    own-clock s x t (notes-lawful e s x t (refused-by s.lists e (shares s.lists) credits
+    s.lists.room (servers_spent s.lists) (has_no_room credits s.lists) refusal) h)
+group-lawful mode s x t v (connects peer credits rate few h) =
+    own-clock s x t (connects-lawful peer credits rate s x t v h)
 group-lawful mode s x t v (disconnects session h) = own-clock s x t (disconnects-lawful session s x t v h)
 group-lawful mode s x t v (sets_rate session rate h) = own-clock s x t (sets-rate-lawful session rate s x t v h)
 group-lawful mode s x t v (asks session req_type ask room h) =
@@ -259,16 +364,23 @@ group-lawful mode s x t v (works session request out h) =
     own-clock s x t (notes-lawful (Worked session request) s x t tt h)
 group-lawful mode s x t v (misses i h) = own-clock s x t (notes-lawful (Missed i) s x t tt h)
 
-group-leads : (mode : ℕ → Mode) (s : Timed) (x : List Fact) (t : Timed) → Valid s.lists → Group mode s x t → LeadsBy s.lists x t.lists
+group-leads : (mode : ℕ → Mode) (s : Timed) (x : List Fact) (t : Timed) → Valid s.lists
+    → Group mode s x t → LeadsBy s.lists x t.lists
 group-leads mode s x t v h =
     let l = group-lawful mode s x t v h in leads-at (record s { clock = l.clock }) x t l.leads
 
 -- what a run says of its facts
-pub run_leads_by : {p : Serving} {me : ℕ} {limits : Limits} {g : List Fact} {t : Timed} → NodeRun p me limits g t → LeadsBy (new_lists me limits) g t.lists
-run_leads_by {p} {me} {limits} r = groups-chain (Group p.mode) (group-leads p.mode) (new_node me limits) (valid_new me limits) r.steps
+pub run_leads_by : {p : Serving} {me : ℕ} {limits : Limits} {g : List Fact} {t : Timed}
+    → NodeRun p me limits g t → LeadsBy (new_lists me limits) g t.lists
+run_leads_by {p} {me} {limits} r =
+    groups-chain (Group p.mode) (group-leads p.mode) (new_node me limits)
+    (valid_new me limits) r.steps
 
-pub run_leads : {p : Serving} {me : ℕ} {limits : Limits} {g : List Fact} {t : Timed} → NodeRun p me limits g t → Leads (new_lists me limits) g t.lists
+pub run_leads : {p : Serving} {me : ℕ} {limits : Limits} {g : List Fact} {t : Timed}
+    → NodeRun p me limits g t → Leads (new_lists me limits) g t.lists
 run_leads {p} {me} {limits} {g} {t} r = leads-of (new_lists me limits) g t.lists (run_leads_by r)
 
-pub run_valid : {p : Serving} {me : ℕ} {limits : Limits} {g : List Fact} {t : Timed} → NodeRun p me limits g t → Valid t.lists
-run_valid {p} {me} {limits} {g} {t} r = valid_leads (new_lists me limits) g t.lists (valid_new me limits) (run_leads r)
+pub run_valid : {p : Serving} {me : ℕ} {limits : Limits} {g : List Fact} {t : Timed}
+    → NodeRun p me limits g t → Valid t.lists
+run_valid {p} {me} {limits} {g} {t} r =
+    valid_leads (new_lists me limits) g t.lists (valid_new me limits) (run_leads r)

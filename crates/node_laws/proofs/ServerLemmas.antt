@@ -1,5 +1,6 @@
 -- Server sessions: what keeps them sound.
-use Rattle.std.proofs.Common.{◌≡◌, ℕ, ◌+◌, ◌%◌, ◌≤◌, Bool, true, false, cond, Option, Some, None, List, [], ◌∷◌, ◌++◌, refl, ap, ◌∙◌, arith}
+use Rattle.std.proofs.Common.{◌≡◌, ℕ, ◌+◌, ◌%◌, ◌≤◌, Bool, true, false, cond, Option, Some, None}
+use Rattle.std.proofs.Common.{List, [], ◌∷◌, ◌++◌, refl, ap, ◌∙◌, arith}
 use Rattle.std.specs.Prelude.{◌==◌, count_by}
 use Rattle.std.specs.List.{find, list_any}
 use Rattle.std.proofs.lemmas.Bool.{eqb-true, eq-eqb}
@@ -26,11 +27,19 @@ pub few-requests : (r : ℕ) (qs : List Served) → in_place (r % 8) qs ≤ 1 �
 few-requests r qs few = omega (arith, few, count-fewer (is_request r) (in_slot_of r) (request-slot r) qs)
 
 -- what is taken
-next-apart : (body : List ℕ) (r slot : ℕ) (qs : List Served) → in_place slot qs ≤ 1 → in_place slot (at_first (is_request r) (next_packet body) qs) ≤ 1
+next-apart : (body : List ℕ) (r slot : ℕ) (qs : List Served) → in_place slot qs ≤ 1
+    → in_place slot (at_first (is_request r) (next_packet body) qs) ≤ 1
 next-apart body r slot qs few =
-    omega (arith, few, sum-grown (is_request r) (next_packet body) (λ q. cond (q.number % 8 == slot) 1 0) 0 qs (λ q. omega arith))
+    omega (
+      arith,
+      few,
+      sum-grown (is_request r) (next_packet body)
+          (λ q. cond (q.number % 8 == slot) 1 0) 0 qs (λ q. omega arith),
+    )
 
-first-by : (r slot : ℕ) (h : MessageHeader) (body : List ℕ) (qs : List Served) (n : ℕ) (b : Bool) → (r % 8 == slot) ≡ b → in_place slot qs ≤ 1 → in_place (r % 8) qs ≤ 1 → n ≡ in_place slot (without_first (in_slot_of r) qs) + cond b 1 0 → n ≤ 1
+first-by : (r slot : ℕ) (h : MessageHeader) (body : List ℕ) (qs : List Served) (n : ℕ) (b : Bool)
+    → (r % 8 == slot) ≡ b → in_place slot qs ≤ 1 → in_place (r % 8) qs ≤ 1
+    → n ≡ in_place slot (without_first (in_slot_of r) qs) + cond b 1 0 → n ≤ 1
 first-by r slot h body qs n true t few own e =
     let same : r % 8 ≡ slot = eqb-true (r % 8) slot t in
     let none : in_place (r % 8) (without_first (in_slot_of r) qs) ≤ 0 = count-out (in_slot_of r) qs own in
@@ -39,37 +48,53 @@ first-by r slot h body qs n true t few own e =
 first-by r slot h body qs n false t few own e =
     let fewer = sum-fewer (in_slot_of r) (λ (q : Served). cond (q.number % 8 == slot) 1 0) qs in omega arith
 
-first-apart : (r slot : ℕ) (h : MessageHeader) (body : List ℕ) (qs : List Served) → ((place : ℕ) → in_place place qs ≤ 1) → in_place slot (without_first (in_slot_of r) qs ++ first_packet r h body ∷ []) ≤ 1
+first-apart : (r slot : ℕ) (h : MessageHeader) (body : List ℕ) (qs : List Served)
+    → ((place : ℕ) → in_place place qs ≤ 1)
+    → in_place slot (without_first (in_slot_of r) qs ++ first_packet r h body ∷ []) ≤ 1
 first-apart r slot h body qs few =
-    first-by r slot h body qs _ (r % 8 == slot) refl (few slot) (few (r % 8)) (sum_by_push (λ q. cond (q.number % 8 == slot) 1 0) (without_first (in_slot_of r) qs) (first_packet r h body))
+    first-by r slot h body qs _ (r % 8 == slot) refl (few slot) (few (r % 8))
+    (sum_by_push (λ q. cond (q.number % 8 == slot) 1 0) (without_first (in_slot_of r) qs)
+    (first_packet r h body))
 
 more-whole : (n m : ℕ) → n ≤ m → n ≤ m + 1
 more-whole n m h = omega arith
 
-took-sound-by : (r : ℕ) (h : MessageHeader) (body : List ℕ) (v : Server) (b : Bool) → SoundServer v → SoundServer (record v { slots = cond b (at_first (is_request r) (next_packet body) v.slots) (without_first (in_slot_of r) v.slots ++ first_packet r h body ∷ []) })
+took-sound-by : (r : ℕ) (h : MessageHeader) (body : List ℕ) (v : Server) (b : Bool) → SoundServer v
+    → SoundServer (record v {
+      slots = cond b (at_first (is_request r) (next_packet body) v.slots)
+          (without_first (in_slot_of r) v.slots ++ first_packet r h body ∷ []);
+    })
 took-sound-by r h body v true s = record {
   apart = λ slot. next-apart body r slot v.slots (s.apart slot);
-  whole = all-kept (is_request r) (next_packet body) RunWhole v.slots (λ q k _ a. more-whole (packet_count q.size) q.taken (k a)) s.whole;
+  whole = all-kept (is_request r) (next_packet body) RunWhole v.slots
+      (λ q k _ a. more-whole (packet_count q.size) q.taken (k a)) s.whole;
 }
 took-sound-by r h body v false s = record {
   apart = λ slot. first-apart r slot h body v.slots s.apart;
-  whole = all-push RunWhole (without_first (in_slot_of r) v.slots) (first_packet r h body) (all-left (in_slot_of r) RunWhole v.slots s.whole) (λ a. cc);
+  whole = all-push RunWhole (without_first (in_slot_of r) v.slots) (first_packet r h body)
+      (all-left (in_slot_of r) RunWhole v.slots s.whole) (λ a. cc);
 }
 
-pub sound-took : (r : ℕ) (head : Option MessageHeader) (body : List ℕ) (v : Server) → SoundServer v → SoundServer (record v { slots = took_packet r head body v.slots })
+pub sound-took : (r : ℕ) (head : Option MessageHeader) (body : List ℕ) (v : Server) → SoundServer v
+    → SoundServer (record v { slots = took_packet r head body v.slots })
 sound-took r None body v s = s
 sound-took r (Some h) body v s = took-sound-by r h body v (list_any (is_request r) v.slots) s
 
 -- a change that keeps numbers
 module _ (f : Served → Served) (numbers : (q : Served) → (f q).number ≡ q.number) where
-  numbered-same : (slot d : ℕ) (q : Served) → d ≡ (f q).number → ◌≤◌ (cond (d % 8 == slot) 1 0) (cond (q.number % 8 == slot) 1 0 + 0)
+  numbered-same : (slot d : ℕ) (q : Served) → d ≡ (f q).number
+      → ◌≤◌ (cond (d % 8 == slot) 1 0) (cond (q.number % 8 == slot) 1 0 + 0)
   numbered-same slot d q e = let same : d ≡ q.number = e ∙ numbers q in rw same (omega arith)
 
-  pub sound-changed : (r : ℕ) (v : Server) → SoundServer v → ((q : Served) → find (is_request r) v.slots ≡ Some q → packet_count (f q).size ≤ (f q).taken) → SoundServer (record v { slots = at_first (is_request r) f v.slots })
+  pub sound-changed : (r : ℕ) (v : Server) → SoundServer v
+      → ((q : Served) → find (is_request r) v.slots ≡ Some q
+      → packet_count (f q).size ≤ (f q).taken)
+      → SoundServer (record v { slots = at_first (is_request r) f v.slots })
   sound-changed r v s whole = record {
     apart = λ slot.
         let few = s.apart slot in
-        let grown = sum-grown (is_request r) f (λ p. cond (p.number % 8 == slot) 1 0) 0 v.slots (λ p. numbered-same slot (f p).number p refl) in
+        let grown = sum-grown (is_request r) f (λ p. cond (p.number % 8 == slot) 1 0) 0 v.slots
+        (λ p. numbered-same slot (f p).number p refl) in
         omega arith;
     whole = all-first (is_request r) f RunWhole v.slots (λ q e _ _. whole q e) s.whole;
   }

@@ -1,5 +1,6 @@
 -- The numbers of the unanswered packets of a call, one after another.
-use Rattle.std.proofs.Common.{◌≡◌, ℕ, zero, suc, ◌+◌, ◌-◌, ◌≤◌, ◌<◌, false, eqb, Option, Some, None, List, [], ◌∷◌, ◌++◌, length, refl, sym, ap, ◌∙◌, arith}
+use Rattle.std.proofs.Common.{◌≡◌, ℕ, zero, suc, ◌+◌, ◌-◌, ◌≤◌, ◌<◌, false, eqb, Option, Some, None}
+use Rattle.std.proofs.Common.{List, [], ◌∷◌, ◌++◌, length, refl, sym, ap, ◌∙◌, arith}
 use Rattle.std.specs.Prelude.{◌==◌}
 use Rattle.std.specs.List.{list_any}
 use Rattle.std.proofs.Math.Numerals.{add-one}
@@ -42,15 +43,20 @@ packets-length (Some p) = span-length p.got (p.posted - p.got)
 put-last : (k : ℕ) (ks : List ℕ) → list_any (λ i. i == k) ks ≡ false → with_number k ks ≡ ks ++ k ∷ []
 put-last k ks h = rw h refl
 
-pub packets-posted : (k : ℕ) (p : Progress) → k ≡ p.posted → p.got ≤ p.posted → packets_of (Some (posted_up_to k p)) ≡ with_number k (packets_of (Some p))
+pub packets-posted : (k : ℕ) (p : Progress) → k ≡ p.posted → p.got ≤ p.posted
+    → packets_of (Some (posted_up_to k p)) ≡ with_number k (packets_of (Some p))
 packets-posted k p e h =
     let one : k + 1 - p.got ≡ suc (p.posted - p.got) = omega arith in
-    rw one (sym (put-last k (span p.got (p.posted - p.got)) (span-new p.got (p.posted - p.got) k (omega arith)) ∙ span-more p.got (p.posted - p.got) k (omega arith)))
+    rw one (sym (put-last k (span p.got (p.posted - p.got))
+    (span-new p.got (p.posted - p.got) k (omega arith))
+    ∙ span-more p.got (p.posted - p.got) k (omega arith)))
 
 first-out : (n m k : ℕ) → k ≡ n → without_number k (span n (suc m)) ≡ span (suc n) m
 first-out n m k e = rw (eq-eqb n k (sym e)) refl
 
-pub packets-took : (clock k : ℕ) (h : MessageHeader) (body : List ℕ) (p : Progress) → k ≡ p.got → p.got < p.posted → packets_of (Some (took_reply clock (Some h) body p)) ≡ without_number k (packets_of (Some p))
+pub packets-took : (clock k : ℕ) (h : MessageHeader) (body : List ℕ) (p : Progress) → k ≡ p.got
+    → p.got < p.posted → packets_of (Some (took_reply clock (Some h) body p))
+    ≡ without_number k (packets_of (Some p))
 packets-took clock k h body p e more =
     let one : p.posted - p.got ≡ suc (p.posted - (p.got + 1)) = omega arith in
     rw (reply-got h body p, reply-posted h body p, one, first-out p.got (p.posted - (p.got + 1)) k e, add-one) refl

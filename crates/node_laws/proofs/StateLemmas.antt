@@ -1,7 +1,9 @@
 -- States of client sessions.
 use Rattle.std.proofs.Common.{◌≡◌, ℕ, true, refl}
 use Rattle.rpc_base.specs.declared.state.SessionState.{SessionState}
-use Rattle.rpc_base.specs.declared.state.SessionState.TheVariants.{Unknown, Connecting, Connected, Closing, Closed, Failed, Broken, Spent}
+use Rattle.rpc_base.specs.declared.state.SessionState.TheVariants.{Unknown, Connecting, Connected}
+use Rattle.rpc_base.specs.declared.state.SessionState.TheVariants.{Closing, Closed, Failed, Broken}
+use Rattle.rpc_base.specs.declared.state.SessionState.TheVariants.{Spent}
 use Rattle.rpc_laws.specs.Groups.{told_state}
 use Rattle.rpc_laws.specs.Sessions.{is_connected, is_live}
 
@@ -17,7 +19,8 @@ connected-live Failed e = cc
 connected-live Broken e = cc
 
 -- and so is one that is told to be
-pub told-connected : (state : SessionState) (asked : ℕ) → is_connected (told_state state asked) ≡ true → is_connected state ≡ true
+pub told-connected : (state : SessionState) (asked : ℕ)
+    → is_connected (told_state state asked) ≡ true → is_connected state ≡ true
 told-connected Connected asked e = refl
 told-connected Spent asked e = refl
 told-connected Unknown asked e = cc

@@ -1,5 +1,6 @@
 -- The table of calls says what the facts tell.
-use Rattle.std.proofs.Common.{◌≡◌, ℕ, ◌+◌, ◌≤◌, Bool, true, false, not, ◌&&◌, cond, leb, Option, Some, None, List, [], ◌∷◌, refl, subst, ◌∙◌, inl, arith}
+use Rattle.std.proofs.Common.{◌≡◌, ℕ, ◌+◌, ◌≤◌, Bool, true, false, not, ◌&&◌, cond, leb, Option}
+use Rattle.std.proofs.Common.{Some, None, List, [], ◌∷◌, refl, subst, ◌∙◌, inl, arith}
 use Rattle.std.specs.Prelude.{count_by, slice_get, sum_by, is_none}
 use Rattle.std.specs.List.{find, list_any}
 use Rattle.std.proofs.lemmas.Bool.{eq-eqb}
@@ -35,11 +36,13 @@ record Tells (past : List Fact) (s : Lists) : Type 0 where
   knows : Knows past s
   fresh : NoneTaken past s
   told : (c n : ℕ) → Told past c n (find (is_client n) s.clients)
-  listed : (c : ℕ) → holders c s.clients + count_by (λ f. ends_call c f.event) past ≡ count_by (λ f. asks_call c f.event) past
+  listed : (c : ℕ) → holders c s.clients + count_by (λ f. ends_call c f.event) past
+      ≡ count_by (λ f. asks_call c f.event) past
   asked : (c : ℕ) → count_by (λ f. asks_call c f.event) past + to_come s.asked c ≤ 1
   begun : (c : ℕ) → count_by (λ f. begins_call c f.event) past + to_begin c s ≤ 1
 
-tells-after : (clock : ℕ) (past : List Fact) (s : Lists) (f : Fact) → Tells past s → Allowed s f.event → Tells (f ∷ past) (after clock s f)
+tells-after : (clock : ℕ) (past : List Fact) (s : Lists) (f : Fact) → Tells past s
+    → Allowed s f.event → Tells (f ∷ past) (after clock s f)
 tells-after clock past s f k a = record {
   knows = knows-after clock past s f k.knows a;
   fresh = none-taken-after clock past f s k.fresh k.knows.eight k.knows.few a;
@@ -58,7 +61,8 @@ tells-after clock past s f k a = record {
   begun = λ c.
       let was = k.begun c in
       let few : to_begin c s ≤ 1 = omega arith in
-      let now = begin-spends c clock f.event f.first (front_header s.ring) (front_body s.ring) s k.knows.valid few a in
+      let now = begin-spends c clock f.event f.first (front_header s.ring)
+      (front_body s.ring) s k.knows.valid few a in
       let begins = count-new (begins_call c) f past (begins_call c f.event) refl in
       omega arith;
 }
@@ -78,7 +82,9 @@ tells-new me limits = record {
 }
 
 -- a call is in the table exactly where it was asked and isn't over
-listed-by : (has asks ends : Bool) (l a e : ℕ) → cond has 1 0 ≤ l → (has ≡ false → l ≡ 0) → cond asks 1 0 ≤ a → (asks ≡ false → a ≡ 0) → cond ends 1 0 ≤ e → (ends ≡ false → e ≡ 0) → l + e ≡ a → a ≤ 1 → has ≡ (asks && not ends)
+listed-by : (has asks ends : Bool) (l a e : ℕ) → cond has 1 0 ≤ l → (has ≡ false → l ≡ 0)
+    → cond asks 1 0 ≤ a → (asks ≡ false → a ≡ 0) → cond ends 1 0 ≤ e → (ends ≡ false → e ≡ 0)
+    → l + e ≡ a → a ≤ 1 → has ≡ (asks && not ends)
 listed-by true true true l a e x y z w i j sum few = absurd (omega arith)
 listed-by true true false l a e x y z w i j sum few = refl
 listed-by true false ends l a e x y z w i j sum few = let none = w refl in absurd (omega arith)
@@ -94,28 +100,43 @@ waiting-one : (b : Bool) (o : Option Progress) → b ≡ true → o ≡ None →
 waiting-one b o e h = rw (e, h) refl
 
 module _ (past : List Fact) (s : Lists) (k : Tells past s) where
-  is-listed : (c : ℕ) → list_any (has_call c) s.clients ≡ (list_any (λ f. asks_call c f.event) past && not (list_any (λ f. ends_call c f.event) past))
+  is-listed : (c : ℕ) → list_any (has_call c) s.clients
+      ≡ (list_any (λ f. asks_call c f.event) past && not (list_any (λ f. ends_call c f.event) past))
   is-listed c =
       let any = any-counted (has_call c) s.clients in
       let one = one-holder c s.clients in
       let few = k.asked c in
-      listed-by (list_any (has_call c) s.clients) (list_any (λ f. asks_call c f.event) past) (list_any (λ f. ends_call c f.event) past) (holders c s.clients) (count_by (λ f. asks_call c f.event) past) (count_by (λ f. ends_call c f.event) past) (omega arith) (none-held c s.clients) (any-counted (λ f. asks_call c f.event) past) (none-counted (λ f. asks_call c f.event) past) (any-counted (λ f. ends_call c f.event) past) (none-counted (λ f. ends_call c f.event) past) (k.listed c) (omega arith)
+      listed-by (list_any (has_call c) s.clients) (list_any (λ f. asks_call c f.event) past)
+      (list_any (λ f. ends_call c f.event) past) (holders c s.clients)
+      (count_by (λ f. asks_call c f.event) past) (count_by (λ f. ends_call c f.event) past)
+      (omega arith) (none-held c s.clients) (any-counted (λ f. asks_call c f.event) past)
+      (none-counted (λ f. asks_call c f.event) past)
+      (any-counted (λ f. ends_call c f.event) past)
+      (none-counted (λ f. ends_call c f.event) past) (k.listed c) (omega arith)
 
   -- a call that waits didn't begin
-  not-begun : (n : ℕ) (x : Client) (c : Call) → find (is_client n) s.clients ≡ Some x → find (is_call c.what.number) x.calls ≡ Some c → c.progress ≡ None → list_any (λ f. begins_call c.what.number f.event) past ≡ false
+  not-begun : (n : ℕ) (x : Client) (c : Call) → find (is_client n) s.clients ≡ Some x
+      → find (is_call c.what.number) x.calls ≡ Some c → c.progress ≡ None
+      → list_any (λ f. begins_call c.what.number f.event) past ≡ false
   not-begun n x c client call waits =
       let i = c.what.number in
-      let part = found-le (is_client n) (λ y. sum_by (λ d. cond (is_call i d && is_none d.progress) 1 0) y.calls) s.clients x client in
+      let part = found-le (is_client n) (λ y. sum_by
+      (λ d. cond (is_call i d && is_none d.progress) 1 0) y.calls) s.clients x client in
       let own = found-le (is_call i) (λ d. cond (is_call i d && is_none d.progress) 1 0) x.calls c call in
       let one = waiting-one (is_call i c) c.progress (eq-eqb i i refl) waits in
       let few = k.begun i in
-      no-more (list_any (λ f. begins_call i f.event) past) (count_by (λ f. begins_call i f.event) past) (any-counted (λ f. begins_call i f.event) past) (omega arith)
+      no-more (list_any (λ f. begins_call i f.event) past)
+      (count_by (λ f. begins_call i f.event) past)
+      (any-counted (λ f. begins_call i f.event) past) (omega arith)
 
-  progress-by : (n : ℕ) (c : Call) (o : Option Progress) → (o ≡ None → list_any (λ f. begins_call c.what.number f.event) past ≡ false) → ToldProgress past c.what.number n o → TellsProgress past c.what.number n o
+  progress-by : (n : ℕ) (c : Call) (o : Option Progress)
+      → (o ≡ None → list_any (λ f. begins_call c.what.number f.event) past ≡ false)
+      → ToldProgress past c.what.number n o → TellsProgress past c.what.number n o
   progress-by n c None none t = none refl
   progress-by n c (Some p) none t = t
 
-  tells-call : (n : ℕ) (x : Client) (c : Call) → find (is_client n) s.clients ≡ Some x → find (is_call c.what.number) x.calls ≡ Some c → TellsCall past n c
+  tells-call : (n : ℕ) (x : Client) (c : Call) → find (is_client n) s.clients ≡ Some x
+      → find (is_call c.what.number) x.calls ≡ Some c → TellsCall past n c
   tells-call n x c client call =
       let at : Told past c.what.number n (Some x) = rw client at (k.told c.what.number n) in
       let own : ToldCall past c.what.number n (Some c) = rw call at at in
@@ -124,14 +145,18 @@ module _ (past : List Fact) (s : Lists) (k : Tells past s) where
         progress = progress-by n c c.progress (not-begun n x c client call) own.1;
       }
 
-  tells-at : (n i : ℕ) (x : Client) (c : Call) → slice_get s.clients n ≡ Some x → slice_get x.calls i ≡ Some c → TellsCall past n c
+  tells-at : (n i : ℕ) (x : Client) (c : Call) → slice_get s.clients n ≡ Some x
+      → slice_get x.calls i ≡ Some c → TellsCall past n c
   tells-at n i x c client call =
       let valid = k.knows.valid in
       let once = valid.once c.what.number in
       let number : x.way.number ≡ n = numbered-at client_no 0 n s.clients x valid.numbered client ∙ zero-more n in
-      let found : find (is_client n) s.clients ≡ Some x = subst (λ (m : ℕ). find (is_client m) s.clients ≡ Some x) number (numbered-found client_no 0 n s.clients x valid.numbered client) in
+      let found : find (is_client n) s.clients ≡ Some x =
+      subst (λ (m : ℕ). find (is_client m) s.clients ≡ Some x) number
+      (numbered-found client_no 0 n s.clients x valid.numbered client) in
       let part = found-le (is_client n) (λ y. count_by (is_call c.what.number) y.calls) s.clients x found in
-      tells-call n x c found (at-found (is_call c.what.number) x.calls i c (omega arith) call (eq-eqb c.what.number c.what.number refl))
+      tells-call n x c found (at-found (is_call c.what.number) x.calls i c (omega arith) call
+      (eq-eqb c.what.number c.what.number refl))
     where
       zero-more : (m : ℕ) → 0 + m ≡ m
       zero-more m = omega arith
@@ -139,7 +164,8 @@ module _ (past : List Fact) (s : Lists) (k : Tells past s) where
   tells-table : TellsTable past s
   tells-table = record { listed = is-listed; calls = tells-at }
 
-at-end : (past : List Fact) (s : Lists) (g : List Fact) (t : Lists) → Tells past s → Leads s g t → TellsTable (latest_first past g) t
+at-end : (past : List Fact) (s : Lists) (g : List Fact) (t : Lists) → Tells past s → Leads s g t
+    → TellsTable (latest_first past g) t
 at-end past s [] t k l = rw l (tells-table past s k)
 at-end past s (f ∷ g) t k l = at-end (f ∷ past) (after l.0 s f) g t (tells-after l.0 past s f k l.1) l.2
 

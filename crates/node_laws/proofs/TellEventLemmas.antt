@@ -1,5 +1,6 @@
 -- Each fact changes what is told of a call as it changes the table.
-use Rattle.std.proofs.Common.{◌≡◌, ℕ, ◌+◌, ◌≤◌, Bool, true, false, ◌&&◌, cond, Option, Some, None, List, [], ◌∷◌, ◌++◌, refl, sym, ap, subst, ◌∙◌, inl, inr, arith}
+use Rattle.std.proofs.Common.{◌≡◌, ℕ, ◌+◌, ◌≤◌, Bool, true, false, ◌&&◌, cond, Option, Some, None}
+use Rattle.std.proofs.Common.{List, [], ◌∷◌, ◌++◌, refl, sym, ap, subst, ◌∙◌, inl, inr, arith}
 use Rattle.std.specs.Prelude.{◌==◌, ◌⊎◌, count_by, option_map}
 use Rattle.std.specs.List.{find, list_any}
 use Rattle.std.proofs.lemmas.Bool.{eqb-true, eq-eqb, and_from, or_left}
@@ -17,7 +18,8 @@ use Rattle.rpc_laws.specs.Calls.{is_call, is_active, moved, sent_packet}
 use Rattle.rpc_laws.specs.Sessions.{is_client, has_call, client_end, opened_end, requests, clients_told, sends, ends}
 use Rattle.node_laws.specs.CallHistory.{takes_of, posted_by, rolls_by, TellsActive}
 use Rattle.node_laws.specs.EndedCalls.{asks_on, begins_as}
-use Rattle.rpc_base.proofs.FindLemmas.{changed-holds, push-kept, push-found, push-other, skip-found, count-out, none-found}
+use Rattle.rpc_base.proofs.FindLemmas.{changed-holds, push-kept, push-found, push-other, skip-found}
+use Rattle.rpc_base.proofs.FindLemmas.{count-out, none-found}
 use Rattle.node_laws.proofs.SoundLemmas.{both-at, sent-request, sent-got, sent-posted}
 use Rattle.rpc_base.proofs.FirstLemmas.{found-le}
 use Rattle.node_laws.proofs.TellLemmas.{count-new, ToldProgress, ToldCall, Told}
@@ -39,18 +41,23 @@ record TellsAt (past : List Fact) (c n r got posted rolls : ℕ) : Type 0 where
   posts : posted ≡ posted_by c n r past
   rolls_back : rolls ≡ rolls_by c n r past
 
-tells-at : (past : List Fact) (c n r : ℕ) (p : Progress) → p.request ≡ r → TellsActive past c n p → TellsAt past c n r p.got p.posted p.rolls
+tells-at : (past : List Fact) (c n r : ℕ) (p : Progress) → p.request ≡ r → TellsActive past c n p
+    → TellsAt past c n r p.got p.posted p.rolls
 tells-at past c n r p e t =
-    let here : TellsAt past c n p.request p.got p.posted p.rolls = record { begins = t.begun; gets = t.got; posts = t.posted; rolls_back = t.rolls } in
+    let here : TellsAt past c n p.request p.got p.posted p.rolls =
+    record { begins = t.begun; gets = t.got; posts = t.posted; rolls_back = t.rolls } in
     subst (λ (i : ℕ). TellsAt past c n i p.got p.posted p.rolls) e here
 
-same-active : (past : List Fact) (c n : ℕ) (p q : Progress) → q.request ≡ p.request → q.got ≡ p.got → q.posted ≡ p.posted → q.rolls ≡ p.rolls → TellsActive past c n p → TellsActive past c n q
+same-active : (past : List Fact) (c n : ℕ) (p q : Progress) → q.request ≡ p.request → q.got ≡ p.got
+    → q.posted ≡ p.posted → q.rolls ≡ p.rolls → TellsActive past c n p → TellsActive past c n q
 same-active past c n p q request got posted same t =
     let at = tells-at past c n q.request p (sym request) t in
     record { begun = at.begins; got = got ∙ at.gets; posted = posted ∙ at.posts; rolls = same ∙ at.rolls_back }
 
 module _ (who : Who) (bytes second : List ℕ) (past : List Fact) (c n : ℕ) where
-  pub took-active : (r k : ℕ) (p q : Progress) → r ≡ p.request → q.request ≡ p.request → q.got ≡ p.got + 1 → q.posted ≡ p.posted → q.rolls ≡ 0 → TellsActive past c n p → TellsActive (noted who (Took (Ask n r) k) bytes second ∷ past) c n q
+  pub took-active : (r k : ℕ) (p q : Progress) → r ≡ p.request → q.request ≡ p.request
+      → q.got ≡ p.got + 1 → q.posted ≡ p.posted → q.rolls ≡ 0 → TellsActive past c n p
+      → TellsActive (noted who (Took (Ask n r) k) bytes second ∷ past) c n q
   took-active r k p q own request got posted none t =
       let test : (n == n && r == q.request) ≡ true = own-test n r q.request (own ∙ sym request) in
       let at = tells-at past c n q.request p (sym request) t in
@@ -64,35 +71,45 @@ module _ (who : Who) (bytes second : List ℕ) (past : List Fact) (c n : ℕ) wh
         rolls = none ∙ sym (ap (λ b. cond b 0 (rolls_by c n q.request past)) test);
       }
 
-  pub posted-active : (r k : ℕ) (p q : Progress) → r ≡ p.request → q.request ≡ p.request → q.got ≡ p.got → q.posted ≡ k + 1 → q.rolls ≡ p.rolls → TellsActive past c n p → TellsActive (noted who (Posted (Ask n r) k) bytes second ∷ past) c n q
+  pub posted-active : (r k : ℕ) (p q : Progress) → r ≡ p.request → q.request ≡ p.request
+      → q.got ≡ p.got → q.posted ≡ k + 1 → q.rolls ≡ p.rolls → TellsActive past c n p
+      → TellsActive (noted who (Posted (Ask n r) k) bytes second ∷ past) c n q
   posted-active r k p q own request got posted same t =
       let test : (n == n && r == q.request) ≡ true = own-test n r q.request (own ∙ sym request) in
       let at = tells-at past c n q.request p (sym request) t in
       record {
         begun = at.begins;
         got =
-            let count = count-new (takes_of n q.request) (noted who (Posted (Ask n r) k) bytes second) past false refl in
+            let count = count-new (takes_of n q.request)
+            (noted who (Posted (Ask n r) k) bytes second) past false refl in
             let was = at.gets in
             omega arith;
         posted = posted ∙ sym (ap (λ b. cond b (k + 1) (posted_by c n q.request past)) test);
         rolls = same ∙ at.rolls_back;
       }
 
-  pub rolled-active : (posted got : ℕ) (p q : Progress) → q.request ≡ p.request → q.got ≡ p.got → q.posted ≡ got → q.rolls ≡ p.rolls + 1 → TellsActive past c n p → TellsActive (noted who (Rolled c posted got) bytes second ∷ past) c n q
+  pub rolled-active : (posted got : ℕ) (p q : Progress) → q.request ≡ p.request → q.got ≡ p.got
+      → q.posted ≡ got → q.rolls ≡ p.rolls + 1 → TellsActive past c n p
+      → TellsActive (noted who (Rolled c posted got) bytes second ∷ past) c n q
   rolled-active posted got p q request same back more t =
       let test : (c == c) ≡ true = eq-eqb c c refl in
       let at = tells-at past c n q.request p (sym request) t in
       record {
         begun = at.begins;
         got =
-            let count = count-new (takes_of n q.request) (noted who (Rolled c posted got) bytes second) past false refl in
+            let count = count-new (takes_of n q.request)
+            (noted who (Rolled c posted got) bytes second) past false refl in
             let was = at.gets in
             omega arith;
         posted = back ∙ sym (ap (λ b. cond b got (posted_by c n q.request past)) test);
-        rolls = more ∙ (ap (λ i. i + 1) at.rolls_back ∙ sym (ap (λ b. cond b (rolls_by c n q.request past + 1) (rolls_by c n q.request past)) test));
+        rolls = more ∙ (ap (λ i. i + 1) at.rolls_back
+            ∙ sym (ap (λ b. cond b (rolls_by c n q.request past + 1) (rolls_by c n q.request past))
+            test));
       }
 
-  pub begun-active : (r : ℕ) (p : Progress) → p.request ≡ r → p.got ≡ 0 → p.posted ≡ 0 → p.rolls ≡ 0 → count_by (λ f. takes_of n r f.event) past ≡ 0 → TellsActive (noted who (Begun c r) bytes second ∷ past) c n p
+  pub begun-active : (r : ℕ) (p : Progress) → p.request ≡ r → p.got ≡ 0 → p.posted ≡ 0 → p.rolls ≡ 0
+      → count_by (λ f. takes_of n r f.event) past ≡ 0
+      → TellsActive (noted who (Begun c r) bytes second ∷ past) c n p
   begun-active r p request got posted none zero =
       let test : (c == c) ≡ true = eq-eqb c c refl in
       let own : (c == c && r == p.request) ≡ true = own-test c r p.request (sym request) in
@@ -106,7 +123,9 @@ module _ (who : Who) (bytes second : List ℕ) (past : List Fact) (c n : ℕ) wh
         rolls = none ∙ sym (ap (λ b. cond b 0 (rolls_by c n p.request past)) test);
       }
 
-pub own-moved : (past now : List Fact) (c n : ℕ) (g : Progress → Progress) (o : Option Progress) (p : Progress) → o ≡ Some p → (TellsActive past c n p → TellsActive now c n (g p)) → ToldProgress past c n o → ToldProgress now c n (option_map g o)
+pub own-moved : (past now : List Fact) (c n : ℕ) (g : Progress → Progress) (o : Option Progress)
+    (p : Progress) → o ≡ Some p → (TellsActive past c n p → TellsActive now c n (g p))
+    → ToldProgress past c n o → ToldProgress now c n (option_map g o)
 own-moved past now c n g o p e h t =
     let was : TellsActive past c n p = rw e at t in
     rw e (h was)
@@ -114,28 +133,43 @@ own-moved past now c n g o p e h t =
 sent-rolls : (clock k : ℕ) (p : Progress) → (sent_packet clock k p).rolls ≡ p.rolls
 sent-rolls clock k p = both-at (λ (q : Progress). q.rolls) (p.got == k) _ _ _ refl refl
 
-sent-told : (past : List Fact) (c n clock k : ℕ) (o : Option Progress) → ToldProgress past c n o → ToldProgress past c n (option_map (sent_packet clock k) o)
+sent-told : (past : List Fact) (c n clock k : ℕ) (o : Option Progress) → ToldProgress past c n o
+    → ToldProgress past c n (option_map (sent_packet clock k) o)
 sent-told past c n clock k None t = tt
 sent-told past c n clock k (Some p) t =
-    same-active past c n p (sent_packet clock k p) (sent-request clock k p) (sent-got clock k p) (sent-posted clock k p) (sent-rolls clock k p) t
+    same-active past c n p (sent_packet clock k p) (sent-request clock k p) (sent-got clock k p)
+    (sent-posted clock k p) (sent-rolls clock k p) t
 
 -- events that concern no call
 module _ (now : List Fact) (c n : ℕ) (xs : List Client) where
-  pub told-sent : (clock session r k : ℕ) → Told now c n (find (is_client n) xs) → Told now c n (find (is_client n) (at_first (is_client session) (sends clock r k) xs))
+  pub told-sent : (clock session r k : ℕ) → Told now c n (find (is_client n) xs)
+      → Told now c n (find (is_client n) (at_first (is_client session) (sends clock r k) xs))
   told-sent clock session r k t =
-      changed-holds (Told now c n) (is_client session) (sends clock r k) (is_client n) (λ x. refl) xs (λ x e own told. changed-holds (ToldCall now c n) (is_active r) (moved (sent_packet clock k)) (is_call c) (λ d. refl) x.calls (λ d g mine call. (call.0, sent-told now c n clock k d.progress call.1)) told) t
+      changed-holds (Told now c n) (is_client session) (sends clock r k) (is_client n)
+      (λ x. refl) xs (λ x e own told. changed-holds (ToldCall now c n) (is_active r)
+      (moved (sent_packet clock k)) (is_call c)
+      (λ d. refl) x.calls (λ d g mine call.
+      (call.0, sent-told now c n clock k d.progress call.1)) told) t
 
   -- a session whose calls stay
-  pub told-kept : (p : Client → Bool) (f : Client → Client) → ((x : Client) → (f x).way.number ≡ x.way.number) → ((x : Client) → (f x).calls ≡ x.calls) → Told now c n (find (is_client n) xs) → Told now c n (find (is_client n) (at_first p f xs))
+  pub told-kept : (p : Client → Bool) (f : Client → Client)
+      → ((x : Client) → (f x).way.number ≡ x.way.number) → ((x : Client) → (f x).calls ≡ x.calls)
+      → Told now c n (find (is_client n) xs) → Told now c n (find (is_client n) (at_first p f xs))
   told-kept p f number calls t =
-      changed-holds (Told now c n) p f (is_client n) (λ x. rw (number x) refl) xs (λ x e own told. rw (calls x) told) t
+      changed-holds (Told now c n) p f (is_client n)
+      (λ x. rw (number x) refl) xs (λ x e own told. rw (calls x) told) t
 
-  pub told-requests : (clock : ℕ) (o : Option ControlHeader) → Told now c n (find (is_client n) xs) → Told now c n (find (is_client n) (clients_told clock o xs))
+  pub told-requests : (clock : ℕ) (o : Option ControlHeader) → Told now c n (find (is_client n) xs)
+      → Told now c n (find (is_client n) (clients_told clock o xs))
   told-requests clock None t = t
   told-requests clock (Some h) t =
-      told-kept (is_client h.client) (requests clock h) (λ x. told-same (λ y. y.way.number) clock h x refl) (λ x. told-same (λ y. y.calls) clock h x refl) t
+      told-kept (is_client h.client) (requests clock h)
+      (λ x. told-same (λ y. y.way.number) clock h x refl)
+      (λ x. told-same (λ y. y.calls) clock h x refl) t
 
-  made-by : (o p : Option Client) (y : Client) → y.calls ≡ [] → ((x : Client) → o ≡ Some x → p ≡ Some x) → (o ≡ None → (p ≡ Some y) ⊎ (p ≡ None)) → Told now c n o → Told now c n p
+  made-by : (o p : Option Client) (y : Client) → y.calls ≡ []
+      → ((x : Client) → o ≡ Some x → p ≡ Some x) → (o ≡ None → (p ≡ Some y) ⊎ (p ≡ None))
+      → Told now c n o → Told now c n p
   made-by None p y e h g t = by (g refl)
     where
       by : (p ≡ Some y) ⊎ (p ≡ None) → Told now c n p
@@ -143,23 +177,36 @@ module _ (now : List Fact) (c n : ℕ) (xs : List Client) where
       by (inr none) = rw none tt
   made-by (Some x) p y e h g t = rw (h x refl) t
 
-  made-none : (y : Client) (b : Bool) → is_client n y ≡ b → find (is_client n) xs ≡ None → (find (is_client n) (xs ++ y ∷ []) ≡ Some y) ⊎ (find (is_client n) (xs ++ y ∷ []) ≡ None)
+  made-none : (y : Client) (b : Bool) → is_client n y ≡ b → find (is_client n) xs ≡ None
+      → (find (is_client n) (xs ++ y ∷ []) ≡ Some y) ⊎ (find (is_client n) (xs ++ y ∷ []) ≡ None)
   made-none y true t e = inl (push-found (is_client n) xs y e t)
   made-none y false t e = inr (push-other (is_client n) xs y t ∙ e)
 
-  pub told-made : (s peer i credits : ℕ) → Told now c n (find (is_client n) xs) → Told now c n (find (is_client n) (xs ++ client_end s peer i credits ∷ []))
+  pub told-made : (s peer i credits : ℕ) → Told now c n (find (is_client n) xs)
+      → Told now c n (find (is_client n) (xs ++ client_end s peer i credits ∷ []))
   told-made s peer i credits t =
-      made-by (find (is_client n) xs) (find (is_client n) (xs ++ client_end s peer i credits ∷ [])) (client_end s peer i credits) refl (λ x e. push-kept (is_client n) xs x (client_end s peer i credits) e) (made-none (client_end s peer i credits) (is_client n (client_end s peer i credits)) refl) t
+      made-by (find (is_client n) xs) (find (is_client n) (xs ++ client_end s peer i credits ∷ []))
+      (client_end s peer i credits) refl (λ x e. push-kept (is_client n) xs x
+      (client_end s peer i credits) e) (made-none (client_end s peer i credits)
+      (is_client n (client_end s peer i credits)) refl) t
 
-  pub told-opened : (s peer credits : ℕ) → Told now c n (find (is_client n) xs) → Told now c n (find (is_client n) (xs ++ opened_end s peer credits ∷ []))
+  pub told-opened : (s peer credits : ℕ) → Told now c n (find (is_client n) xs)
+      → Told now c n (find (is_client n) (xs ++ opened_end s peer credits ∷ []))
   told-opened s peer credits t =
-      made-by (find (is_client n) xs) (find (is_client n) (xs ++ opened_end s peer credits ∷ [])) (opened_end s peer credits) refl (λ x e. push-kept (is_client n) xs x (opened_end s peer credits) e) (made-none (opened_end s peer credits) (is_client n (opened_end s peer credits)) refl) t
+      made-by (find (is_client n) xs) (find (is_client n) (xs ++ opened_end s peer credits ∷ []))
+      (opened_end s peer credits) refl (λ x e. push-kept (is_client n) xs x
+      (opened_end s peer credits) e) (made-none (opened_end s peer credits)
+      (is_client n (opened_end s peer credits)) refl) t
 
   -- a call that ends is in the table no more
-  left-by : (i : ℕ) (calls : List Call) (b : Bool) → (i == c) ≡ b → count_by (is_call c) calls ≤ 1 → ToldCall now c n (find (is_call c) calls) → ToldCall now c n (find (is_call c) (without_first (is_call i) calls))
+  left-by : (i : ℕ) (calls : List Call) (b : Bool) → (i == c) ≡ b → count_by (is_call c) calls ≤ 1
+      → ToldCall now c n (find (is_call c) calls)
+      → ToldCall now c n (find (is_call c) (without_first (is_call i) calls))
   left-by i calls true e few t =
       let same : i ≡ c = eqb-true i c e in
-      let none : find (is_call c) (without_first (is_call c) calls) ≡ None = none-found (is_call c) (without_first (is_call c) calls) (count-out (is_call c) calls few) in
+      let none : find (is_call c) (without_first (is_call c) calls) ≡ None =
+      none-found (is_call c) (without_first (is_call c) calls)
+      (count-out (is_call c) calls few) in
       rw (same, none) tt
   left-by i calls false e few t =
       rw (skip-found (is_call i) (is_call c) calls (λ d k. other d.what.number k)) t
@@ -167,15 +214,27 @@ module _ (now : List Fact) (c n : ℕ) (xs : List Client) where
       other : (j : ℕ) → (j == i) ≡ true → (j == c) ≡ false
       other j k = let same : j ≡ i = eqb-true j i k in rw same e
 
-  pub told-ended : (i : ℕ) → holders c xs ≤ 1 → Told now c n (find (is_client n) xs) → Told now c n (find (is_client n) (at_first (has_call i) (ends i) xs))
+  pub told-ended : (i : ℕ) → holders c xs ≤ 1 → Told now c n (find (is_client n) xs)
+      → Told now c n (find (is_client n) (at_first (has_call i) (ends i) xs))
   told-ended i few t =
       changed-holds (Told now c n) (has_call i) (ends i) (is_client n) (λ x. refl) xs (λ x e own told.
       let part = found-le (has_call i) (λ y. count_by (is_call c) y.calls) xs x e in
       left-by i x.calls (i == c) refl (omega arith) told) t
 
   -- a call that is asked
-  pub asked-by : (i y room : ℕ) (bytes : List ℕ) (calls : List Call) (b : Bool) → (i == c) ≡ b → (b ≡ true → list_any (λ f. asks_on c n f.event) now ≡ true) → (b ≡ true → find (is_call c) calls ≡ None) → ToldCall now c n (find (is_call c) calls) → ToldCall now c n (find (is_call c) (calls ++ record { what = record { number = i; req_type = y; room = room; ask = bytes }; progress = None } ∷ []))
+  pub asked-by : (i y room : ℕ) (bytes : List ℕ) (calls : List Call) (b : Bool) → (i == c) ≡ b
+      → (b ≡ true → list_any (λ f. asks_on c n f.event) now ≡ true)
+      → (b ≡ true → find (is_call c) calls ≡ None) → ToldCall now c n (find (is_call c) calls)
+      → ToldCall now c n (find (is_call c) (calls
+      ++ record {
+        what = record { number = i; req_type = y; room = room; ask = bytes };
+        progress = None;
+      } ∷ []))
   asked-by i y room bytes calls true e asked none t =
-      rw (push-found (is_call c) calls (record { what = record { number = i; req_type = y; room = room; ask = bytes }; progress = None }) (none refl) e) (asked refl, tt)
+      rw (push-found (is_call c) calls (record
+      { what = record { number = i; req_type = y; room = room; ask = bytes }; progress = None })
+      (none refl) e) (asked refl, tt)
   asked-by i y room bytes calls false e asked none t =
-      rw (push-other (is_call c) calls (record { what = record { number = i; req_type = y; room = room; ask = bytes }; progress = None }) e) t
+      rw (push-other (is_call c) calls (record
+      { what = record { number = i; req_type = y; room = room; ask = bytes }; progress = None })
+      e) t

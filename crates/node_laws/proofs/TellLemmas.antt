@@ -1,5 +1,6 @@
 -- What the facts tell of a call stays told, where a fact doesn't concern it.
-use Rattle.std.proofs.Common.{◌≡◌, ℕ, ◌+◌, Bool, true, false, ◌&&◌, cond, Option, Some, None, List, ◌∷◌, refl, sym, ap, subst, ◌∙◌, inl, inr, arith}
+use Rattle.std.proofs.Common.{◌≡◌, ℕ, ◌+◌, Bool, true, false, ◌&&◌, cond, Option, Some, None, List}
+use Rattle.std.proofs.Common.{◌∷◌, refl, sym, ap, subst, ◌∙◌, inl, inr, arith}
 use Rattle.std.specs.Prelude.{◌==◌, ◌⊎◌, count_by}
 use Rattle.std.specs.List.{find, list_any}
 use Rattle.std.proofs.lemmas.Bool.{eqb-true, eq-eqb, ne_eqb, and_parts, or_right, cases_eq}
@@ -51,10 +52,14 @@ rolls-off c n r (Rolled call posted got) m h = rw h refl
 rolls-off c n r _ m h = refl
 
 -- one more fact in a count
-pub count-new : (test : Event → Bool) (f : Fact) (past : List Fact) (b : Bool) → test f.event ≡ b → count_by (λ e. test e.event) (f ∷ past) ≡ cond b 1 0 + count_by (λ e. test e.event) past
-count-new test f past b e = sum_by-cons (λ g. cond (test g.event) 1 0) f past ∙ ap (λ c. cond c 1 0 + count_by (λ g. test g.event) past) e
+pub count-new : (test : Event → Bool) (f : Fact) (past : List Fact) (b : Bool) → test f.event ≡ b
+    → count_by (λ e. test e.event) (f ∷ past) ≡ cond b 1 0 + count_by (λ e. test e.event) past
+count-new test f past b e =
+    sum_by-cons (λ g. cond (test g.event) 1 0) f past
+    ∙ ap (λ c. cond c 1 0 + count_by (λ g. test g.event) past) e
 
-active-stays : (past : List Fact) (f : Fact) (c n : ℕ) (p : Progress) → concerns c n p.request f.event ≡ false → TellsActive past c n p → TellsActive (f ∷ past) c n p
+active-stays : (past : List Fact) (f : Fact) (c n : ℕ) (p : Progress)
+    → concerns c n p.request f.event ≡ false → TellsActive past c n p → TellsActive (f ∷ past) c n p
 active-stays past f c n p h t = record {
   begun = or_right (begins_as c p.request f.event) (list_any (λ g. begins_as c p.request g.event) past) t.begun;
   got =
@@ -80,16 +85,25 @@ abbrev pub Told : List Fact → ℕ → ℕ → Option Client → Type 0
 Told past c n None = Unit {0}
 Told past c n (Some x) = ToldCall past c n (find (is_call c) x.calls)
 
-progress-stays : (past : List Fact) (f : Fact) (c n : ℕ) (o : Option Progress) → ((p : Progress) → o ≡ Some p → concerns c n p.request f.event ≡ false) → ToldProgress past c n o → ToldProgress (f ∷ past) c n o
+progress-stays : (past : List Fact) (f : Fact) (c n : ℕ) (o : Option Progress)
+    → ((p : Progress) → o ≡ Some p → concerns c n p.request f.event ≡ false)
+    → ToldProgress past c n o → ToldProgress (f ∷ past) c n o
 progress-stays past f c n None h t = tt
 progress-stays past f c n (Some p) h t = active-stays past f c n p (h p refl) t
 
-pub call-stays : (past : List Fact) (f : Fact) (c n : ℕ) (o : Option Call) → ((d : Call) (p : Progress) → o ≡ Some d → d.progress ≡ Some p → concerns c n p.request f.event ≡ false) → ToldCall past c n o → ToldCall (f ∷ past) c n o
+pub call-stays : (past : List Fact) (f : Fact) (c n : ℕ) (o : Option Call)
+    → ((d : Call) (p : Progress) → o ≡ Some d → d.progress ≡ Some p
+    → concerns c n p.request f.event ≡ false) → ToldCall past c n o → ToldCall (f ∷ past) c n o
 call-stays past f c n None h t = tt
-call-stays past f c n (Some d) h t =
-    (or_right (asks_on c n f.event) (list_any (λ g. asks_on c n g.event) past) t.0, progress-stays past f c n d.progress (λ p e. h d p refl e) t.1)
+call-stays past f c n (Some d) h t = (
+  or_right (asks_on c n f.event) (list_any (λ g. asks_on c n g.event) past) t.0,
+  progress-stays past f c n d.progress (λ p e. h d p refl e) t.1,
+)
 
-pub told-stays : (past : List Fact) (f : Fact) (c n : ℕ) (o : Option Client) → ((x : Client) (d : Call) (p : Progress) → o ≡ Some x → find (is_call c) x.calls ≡ Some d → d.progress ≡ Some p → concerns c n p.request f.event ≡ false) → Told past c n o → Told (f ∷ past) c n o
+pub told-stays : (past : List Fact) (f : Fact) (c n : ℕ) (o : Option Client)
+    → ((x : Client) (d : Call) (p : Progress) → o ≡ Some x → find (is_call c) x.calls ≡ Some d
+    → d.progress ≡ Some p → concerns c n p.request f.event ≡ false) → Told past c n o
+    → Told (f ∷ past) c n o
 told-stays past f c n None h t = tt
 told-stays past f c n (Some x) h t = call-stays past f c n (find (is_call c) x.calls) (λ d p e g. h x d p refl e g) t
 
@@ -102,7 +116,12 @@ pub record Focus (xs ys : List Client) (m : ℕ) (y z : Client) (c : ℕ) (d e :
   pub own_new : find (is_call c) z.calls ≡ Some e
   pub others : (k : ℕ) → (k ≡ c → ⊥) → find (is_call k) z.calls ≡ find (is_call k) y.calls
 
-pub focus-of : (xs : List Client) (p : Client → Bool) (f : Client → Client) (m : ℕ) (y : Client) (test : Call → Bool) (g : Call → Call) (c : ℕ) (d : Call) → find p xs ≡ Some y → find (is_client m) xs ≡ Some y → (f y).way.number ≡ y.way.number → (f y).calls ≡ at_first test g y.calls → find test y.calls ≡ Some d → find (is_call c) y.calls ≡ Some d → (g d).what.number ≡ d.what.number → Focus xs (at_first p f xs) m y (f y) c d (g d)
+pub focus-of : (xs : List Client) (p : Client → Bool) (f : Client → Client) (m : ℕ) (y : Client)
+    (test : Call → Bool) (g : Call → Call) (c : ℕ) (d : Call) → find p xs ≡ Some y
+    → find (is_client m) xs ≡ Some y → (f y).way.number ≡ y.way.number
+    → (f y).calls ≡ at_first test g y.calls → find test y.calls ≡ Some d
+    → find (is_call c) y.calls ≡ Some d → (g d).what.number ≡ d.what.number
+    → Focus xs (at_first p f xs) m y (f y) c d (g d)
 focus-of xs p f m y test g c d found old way calls tested own same =
     let number : y.way.number ≡ m = eqb-true y.way.number m (find-passes (is_client m) xs y old) in
     let call : d.what.number ≡ c = eqb-true d.what.number c (find-passes (is_call c) y.calls d own) in
@@ -113,50 +132,67 @@ focus-of xs p f m y test g c d found old way calls tested own same =
       new = found-changed p f (is_client m) y xs passes found old;
       far = λ n other.
           let no_old : is_client n y ≡ false = ne_eqb y.way.number n (λ e. other (sym (sym number ∙ e))) in
-          let no_new : is_client n (f y) ≡ false = ne_eqb (f y).way.number n (λ e. other (sym (sym number ∙ (sym way ∙ e)))) in
+          let no_new : is_client n (f y) ≡ false =
+          ne_eqb (f y).way.number n (λ e. other (sym (sym number ∙ (sym way ∙ e)))) in
           this-changed p (is_client n) y f xs no_old no_new found;
       own_old = own;
       own_new = rw calls (found-changed test g (is_call c) d y.calls called tested own);
       others = λ k other.
           let no_old : is_call k d ≡ false = ne_eqb d.what.number k (λ e. other (sym (sym call ∙ e))) in
-          let no_new : is_call k (g d) ≡ false = ne_eqb (g d).what.number k (λ e. other (sym (sym call ∙ (sym same ∙ e)))) in
+          let no_new : is_call k (g d) ≡ false =
+          ne_eqb (g d).what.number k (λ e. other (sym (sym call ∙ (sym same ∙ e)))) in
           rw calls (this-changed test (is_call k) d g y.calls no_old no_new tested);
     }
 
-module _ (past : List Fact) (f : Fact) (xs ys : List Client) (m : ℕ) (y z : Client) (c : ℕ) (d e : Call) (focus : Focus xs ys m y z c d e) (own : ToldCall past c m (Some d) → ToldCall (f ∷ past) c m (Some e)) where
+module _ (past : List Fact) (f : Fact) (xs ys : List Client) (m : ℕ) (y z : Client) (c : ℕ)
+    (d e : Call) (focus : Focus xs ys m y z c d e)
+    (own : ToldCall past c m (Some d) → ToldCall (f ∷ past) c m (Some e)) where
   -- that the fact concerns no other call
   abbrev pub Away : ℕ → ℕ → Type 0
-  Away k n = (x : Client) (b : Call) (p : Progress) → find (is_client n) xs ≡ Some x → find (is_call k) x.calls ≡ Some b → b.progress ≡ Some p → (n ≡ m → k ≡ c → ⊥) → concerns k n p.request f.event ≡ false
+  Away k n = (x : Client) (b : Call) (p : Progress) → find (is_client n) xs ≡ Some x
+      → find (is_call k) x.calls ≡ Some b → b.progress ≡ Some p → (n ≡ m → k ≡ c → ⊥)
+      → concerns k n p.request f.event ≡ false
 
-  here-told : (k n : ℕ) → n ≡ m → k ≡ c → Told past k n (find (is_client n) xs) → Told (f ∷ past) k n (find (is_client n) ys)
+  here-told : (k n : ℕ) → n ≡ m → k ≡ c → Told past k n (find (is_client n) xs)
+      → Told (f ∷ past) k n (find (is_client n) ys)
   here-told k n session call t =
       let at : Told past c m (find (is_client m) xs) = rw (← session, ← call) t in
       let was : ToldCall past c m (find (is_call c) y.calls) = rw focus.old at at in
       let told : ToldCall past c m (Some d) = rw focus.own_old at was in
       rw (session, call, focus.new, focus.own_new) (own told)
 
-  beside-told : (k n : ℕ) → Away k n → n ≡ m → (k ≡ c → ⊥) → Told past k n (find (is_client n) xs) → Told (f ∷ past) k n (find (is_client n) ys)
+  beside-told : (k n : ℕ) → Away k n → n ≡ m → (k ≡ c → ⊥) → Told past k n (find (is_client n) xs)
+      → Told (f ∷ past) k n (find (is_client n) ys)
   beside-told k n away session other t =
       let old : find (is_client n) xs ≡ Some y = rw session focus.old in
       let new : find (is_client n) ys ≡ Some z = rw session focus.new in
       let was : ToldCall past k n (find (is_call k) y.calls) = rw old at t in
-      rw (new, focus.others k other) (call-stays past f k n (find (is_call k) y.calls) (λ b p h g. away y b p old h g (λ _ same. other same)) was)
+      rw (new, focus.others k other) (call-stays past f k n (find (is_call k) y.calls)
+      (λ b p h g. away y b p old h g (λ _ same. other same)) was)
 
-  by-call : (k n : ℕ) → Away k n → n ≡ m → (k ≡ c) ⊎ (k ≡ c → ⊥) → Told past k n (find (is_client n) xs) → Told (f ∷ past) k n (find (is_client n) ys)
+  by-call : (k n : ℕ) → Away k n → n ≡ m → (k ≡ c) ⊎ (k ≡ c → ⊥)
+      → Told past k n (find (is_client n) xs) → Told (f ∷ past) k n (find (is_client n) ys)
   by-call k n away session (inl call) t = here-told k n session call t
   by-call k n away session (inr other) t = beside-told k n away session other t
 
-  by-session : (k n : ℕ) → Away k n → (n ≡ m) ⊎ (n ≡ m → ⊥) → Told past k n (find (is_client n) xs) → Told (f ∷ past) k n (find (is_client n) ys)
+  by-session : (k n : ℕ) → Away k n → (n ≡ m) ⊎ (n ≡ m → ⊥) → Told past k n (find (is_client n) xs)
+      → Told (f ∷ past) k n (find (is_client n) ys)
   by-session k n away (inl session) t = by-call k n away session (cases_eq k c) t
   by-session k n away (inr other) t =
-      rw (focus.far n other) (told-stays past f k n (find (is_client n) xs) (λ x b p h g i. away x b p h g i (λ same _. other same)) t)
+      rw (focus.far n other) (told-stays past f k n (find (is_client n) xs)
+      (λ x b p h g i. away x b p h g i (λ same _. other same)) t)
 
-  pub focus-told : (k n : ℕ) → Away k n → Told past k n (find (is_client n) xs) → Told (f ∷ past) k n (find (is_client n) ys)
+  pub focus-told : (k n : ℕ) → Away k n → Told past k n (find (is_client n) xs)
+      → Told (f ∷ past) k n (find (is_client n) ys)
   focus-told k n away t = by-session k n away (cases_eq n m) t
 
 -- no other call has its request, or its number
-module _ (s : Lists) (v : Valid s) (m : ℕ) (y : Client) (d : Call) (place : Place s.clients m y d) (k n : ℕ) (x : Client) (b : Call) (p : Progress) (client : find (is_client n) s.clients ≡ Some x) (call : find (is_call k) x.calls ≡ Some b) (active : b.progress ≡ Some p) (apart : n ≡ m → k ≡ d.what.number → ⊥) where
-  pub other-request : (r : ℕ) → find (is_active r) y.calls ≡ Some d → (c : Bool) → (m == n && r == p.request) ≡ c → c ≡ false
+module _ (s : Lists) (v : Valid s) (m : ℕ) (y : Client) (d : Call) (place : Place s.clients m y d)
+    (k n : ℕ) (x : Client) (b : Call) (p : Progress)
+    (client : find (is_client n) s.clients ≡ Some x) (call : find (is_call k) x.calls ≡ Some b)
+    (active : b.progress ≡ Some p) (apart : n ≡ m → k ≡ d.what.number → ⊥) where
+  pub other-request : (r : ℕ) → find (is_active r) y.calls ≡ Some d → (c : Bool)
+      → (m == n && r == p.request) ≡ c → c ≡ false
   other-request r own false e = refl
   other-request r own true e =
       let parts = and_parts (m == n) (r == p.request) e in
@@ -180,8 +216,10 @@ module _ (s : Lists) (v : Valid s) (m : ℕ) (y : Client) (d : Call) (place : Pl
       let number : b.what.number ≡ k = eqb-true b.what.number k (find-passes (is_call k) x.calls b call) in
       let there : Place s.clients n x b = record { test = is_call k; client = client; call = call } in
       let theirs = by_number s n x b v there in
-      let first : find (has_call k) s.clients ≡ Some x = subst (λ (i : ℕ). find (has_call i) s.clients ≡ Some x) number theirs.client in
-      let second : find (has_call k) s.clients ≡ Some y = subst (λ (i : ℕ). find (has_call i) s.clients ≡ Some y) same own.client in
+      let first : find (has_call k) s.clients ≡ Some x =
+      subst (λ (i : ℕ). find (has_call i) s.clients ≡ Some x) number theirs.client in
+      let second : find (has_call k) s.clients ≡ Some y =
+      subst (λ (i : ℕ). find (has_call i) s.clients ≡ Some y) same own.client in
       let equal : x ≡ y = same-found (find (has_call k) s.clients) x y first second in
       let mine : y.way.number ≡ m = eqb-true y.way.number m (find-passes (is_client m) s.clients y place.client) in
       let yours : x.way.number ≡ n = eqb-true x.way.number n (find-passes (is_client n) s.clients x client) in

@@ -1,5 +1,6 @@
 -- The queued packets of all calls and the free credits of all live sessions fit the ring.
-use Rattle.std.proofs.Common.{◌≡◌, ℕ, ◌+◌, ◌≤◌, Bool, true, false, cond, Option, Some, None, List, [], ◌∷◌, refl, sym, arith}
+use Rattle.std.proofs.Common.{◌≡◌, ℕ, ◌+◌, ◌≤◌, Bool, true, false, cond, Option, Some, None, List}
+use Rattle.std.proofs.Common.{[], ◌∷◌, refl, sym, arith}
 use Rattle.std.specs.Prelude.{◌==◌, sum_by}
 use Rattle.std.specs.List.{AllByRecursion, find}
 use Rattle.std.proofs.lemmas.Bool.{eqb-true, eq-eqb}
@@ -28,7 +29,9 @@ table_free x = cond (is_live x.state) x.free 0
 
 -- no sum is less, and it is more by one where the one that is found has one more
 module _ (p : Client → Bool) (f g : Client → ℕ) (less : (x : Client) → f x ≤ g x) where
-  more-by : (y x : Client) (ys : List Client) (b : Bool) → f x + 1 ≤ g x → (find p ys ≡ Some x → sum_by f ys + 1 ≤ sum_by g ys) → cond b (Some y) (find p ys) ≡ Some x → sum_by f (y ∷ ys) + 1 ≤ sum_by g (y ∷ ys)
+  more-by : (y x : Client) (ys : List Client) (b : Bool) → f x + 1 ≤ g x
+      → (find p ys ≡ Some x → sum_by f ys + 1 ≤ sum_by g ys) → cond b (Some y) (find p ys) ≡ Some x
+      → sum_by f (y ∷ ys) + 1 ≤ sum_by g (y ∷ ys)
   more-by y x ys true more ih e =
       let same : y ≡ x = cc in
       let here : f y + 1 ≤ g y = rw same more in
@@ -48,10 +51,15 @@ share-less : (q : Queued) (qs : List Queued) (x : Client) → share qs x ≤ sha
 share-less q qs x = by (is_live x.state)
   where
     by : (b : Bool) → cond b (queued_of x.way.number qs) 0 ≤ cond b (queued_of x.way.number (q ∷ qs)) 0
-    by true = omega (arith, counted-cons (λ p. is_ask_of x.way.number p.owner) q qs (is_ask_of x.way.number q.owner) refl)
+    by true = omega (
+      arith,
+      counted-cons (λ p. is_ask_of x.way.number p.owner) q qs
+          (is_ask_of x.way.number q.owner) refl,
+    )
     by false = omega arith
 
-share-more : (q : Queued) (qs : List Queued) (x : Client) → is_live x.state ≡ true → is_ask_of x.way.number q.owner ≡ true → share qs x + 1 ≤ share (q ∷ qs) x
+share-more : (q : Queued) (qs : List Queued) (x : Client) → is_live x.state ≡ true
+    → is_ask_of x.way.number q.owner ≡ true → share qs x + 1 ≤ share (q ∷ qs) x
 share-more q qs x live own =
     let before : share qs x ≡ queued_of x.way.number qs = rw live refl in
     let after : share (q ∷ qs) x ≡ queued_of x.way.number (q ∷ qs) = rw live refl in
@@ -62,14 +70,16 @@ flip n m e = let same : m ≡ n = eqb-true m n e in eq-eqb n m (sym same)
 
 -- each queued packet of a call is of a live session
 module _ (xs : List Client) where
-  covered-at : (q : Queued) (qs : List Queued) (n r : ℕ) → q.owner ≡ Ask n r → (o : Option Client) → find (is_client n) xs ≡ o → LiveAt o → sum_by (share qs) xs + 1 ≤ sum_by (share (q ∷ qs)) xs
+  covered-at : (q : Queued) (qs : List Queued) (n r : ℕ) → q.owner ≡ Ask n r → (o : Option Client)
+      → find (is_client n) xs ≡ o → LiveAt o → sum_by (share qs) xs + 1 ≤ sum_by (share (q ∷ qs)) xs
   covered-at q qs n r is None e live = absurd live
   covered-at q qs n r is (Some x) e live =
       let own : is_ask_of x.way.number (Ask n r) ≡ true = flip n x.way.number (find-passes (is_client n) xs x e) in
       let mine : is_ask_of x.way.number q.owner ≡ true = rw is own in
       sum-more (is_client n) (share qs) (share (q ∷ qs)) (share-less q qs) xs x e (share-more q qs x live mine)
 
-  covered-by : (q : Queued) (qs : List Queued) (o : Owner) → q.owner ≡ o → OfLive xs o → cond (is_ask o) 1 0 + sum_by (share qs) xs ≤ sum_by (share (q ∷ qs)) xs
+  covered-by : (q : Queued) (qs : List Queued) (o : Owner) → q.owner ≡ o → OfLive xs o
+      → cond (is_ask o) 1 0 + sum_by (share qs) xs ≤ sum_by (share (q ∷ qs)) xs
   covered-by q qs (Ask n r) is live =
       let more = covered-at q qs n r is (find (is_client n) xs) refl live in omega arith
   covered-by q qs (Reply t r) is live =
@@ -86,11 +96,13 @@ module _ (xs : List Client) where
 
 -- what a session has queued and free is within its limit
 module _ (s : Lists) (v : Valid s) (w : Windows s.clients s.queued) (once : QueuedOnce s.queued) where
-  one-within : (x : Client) → Found s.clients x → (b : Bool) → is_live x.state ≡ b → cond b (queued_of x.way.number s.queued) 0 + cond b x.free 0 ≤ cond b x.limit 0
+  one-within : (x : Client) → Found s.clients x → (b : Bool) → is_live x.state ≡ b
+      → cond b (queued_of x.way.number s.queued) 0 + cond b x.free 0 ≤ cond b x.limit 0
   one-within x found true live = session-fits s x.way.number x v w once found live
   one-within x found false live = omega arith
 
-  all-within : (ys : List Client) → AllByRecursion (Found s.clients) ys → sum_by (share s.queued) ys + sum_by table_free ys ≤ sum_by live_credits ys
+  all-within : (ys : List Client) → AllByRecursion (Found s.clients) ys
+      → sum_by (share s.queued) ys + sum_by table_free ys ≤ sum_by live_credits ys
   all-within [] found = omega arith
   all-within (y ∷ ys) found =
       let here = one-within y found.0 (is_live y.state) refl in

@@ -2,7 +2,9 @@
 use Rattle.std.proofs.Common.{◌≡◌, ◌+◌, ℕ, true, false, Some, None, List, [], ◌∷◌, replicate, refl, arith}
 use Rattle.packet_header.specs.declared.packet.Kind.TheVariants.{Cr, Response}
 use Rattle.packet_header.specs.declared.packet.MessageHeader.{MessageHeader}
-use Rattle.rpc_base.specs.declared.event.Event.TheVariants.{PairedClient, Asked, Begun, Posted, Flushed, Took, Rolled, Broken, DoneOk, DoneTooSmall, DonePeerLost}
+use Rattle.rpc_base.specs.declared.event.Event.TheVariants.{PairedClient, Asked, Begun, Posted}
+use Rattle.rpc_base.specs.declared.event.Event.TheVariants.{Flushed, Took, Rolled, Broken, DoneOk}
+use Rattle.rpc_base.specs.declared.event.Event.TheVariants.{DoneTooSmall, DonePeerLost}
 use Rattle.rpc_base.specs.declared.owner.Owner.TheVariants.{Ask}
 use Rattle.rpc_base.specs.declared.state.DropReason.TheVariants.{NoCall, Past, Ahead, Mismatch, Queued as StillQueued}
 use Rattle.rpc_base.specs.declared.state.SessionState.TheVariants.{Connected}
@@ -32,7 +34,15 @@ at room free got posted rolls mark = record {
   turns = 1 ∷ 0 ∷ 0 ∷ 0 ∷ 0 ∷ 0 ∷ 0 ∷ 0 ∷ [];
   calls = record {
     what = record { number = 0; req_type = 1; room = room; ask = 5 ∷ 6 ∷ [] };
-    progress = Some (record { request = 0; got = got; posted = posted; rolls = rolls; mark = mark; answer = None; parts = [] });
+    progress = Some (record {
+      request = 0;
+      got = got;
+      posted = posted;
+      rolls = rolls;
+      mark = mark;
+      answer = None;
+      parts = [];
+    });
   } ∷ [];
 }
 
@@ -71,10 +81,13 @@ row-posts-no-more = refl
 row-takes : client_row [] (Some (at 9 1 0 1 0 0)) 7 response 2 ≡ Takes
 row-takes = refl
 
-row-ends : reply_facts 4 (Some (at 9 1 0 1 0 0)) response (5 ∷ 6 ∷ []) Takes ≡ plain 4 (Took (Ask 0 0) 0) ∷ with_bytes 4 (DoneOk 0) (5 ∷ 6 ∷ []) ∷ []
+row-ends : reply_facts 4 (Some (at 9 1 0 1 0 0)) response (5 ∷ 6 ∷ []) Takes
+    ≡ plain 4 (Took (Ask 0 0) 0) ∷ with_bytes 4 (DoneOk 0) (5 ∷ 6 ∷ []) ∷ []
 row-ends = refl
 
-row-over : clients_after 0 (DoneOk 0) [] None [] (clients_after 3 (Took (Ask 0 0) 0) [] (Some response) (5 ∷ 6 ∷ []) (at 9 1 0 1 0 0 ∷ [])) ≡ over ∷ []
+row-over : clients_after 0 (DoneOk 0) [] None []
+    (clients_after 3 (Took (Ask 0 0) 0) [] (Some response) (5 ∷ 6 ∷ []) (at 9 1 0 1 0 0 ∷ []))
+    ≡ over ∷ []
 row-over = refl
 
 -- a late copy of it finds no call
@@ -86,11 +99,13 @@ row-late-copy = refl
 row-not-posted : client_row [] (Some (at 9 2 0 0 1 0)) 7 response 2 ≡ Drops Ahead
 row-not-posted = refl
 
-row-queued-again : client_row (record { owner = Ask 0 0; number = 0; due = None } ∷ []) (Some (at 9 1 0 1 1 0)) 7 response 2 ≡ Drops StillQueued
+row-queued-again : client_row (record { owner = Ask 0 0; number = 0; due = None } ∷ [])
+    (Some (at 9 1 0 1 1 0)) 7 response 2 ≡ Drops StillQueued
 row-queued-again = refl
 
 -- the last packet of a request isn't answered by a credit return
-row-no-credit-return : client_row [] (Some (at 9 1 0 1 0 0)) 7 (record response { kind = Cr; req_type = 0; size = 0 }) 0 ≡ Drops Mismatch
+row-no-credit-return : client_row [] (Some (at 9 1 0 1 0 0)) 7
+    (record response { kind = Cr; req_type = 0; size = 0 }) 0 ≡ Drops Mismatch
 row-no-credit-return = refl
 
 -- a timeout after the mark the call is rolled back, and no moment earlier
@@ -111,10 +126,12 @@ row-ninth : client_facts 5003 5000 4 [] 0 (Some (at 9 1 0 1 8 3)) ≡ plain 4 (B
 row-ninth = refl
 
 -- a room of one byte is too small, and a room of two is not
-row-too-small : reply_facts 4 (Some (at 1 1 0 1 0 0)) response (5 ∷ 6 ∷ []) Takes ≡ plain 4 (Took (Ask 0 0) 0) ∷ plain 4 (DoneTooSmall 0 2) ∷ []
+row-too-small : reply_facts 4 (Some (at 1 1 0 1 0 0)) response (5 ∷ 6 ∷ []) Takes
+    ≡ plain 4 (Took (Ask 0 0) 0) ∷ plain 4 (DoneTooSmall 0 2) ∷ []
 row-too-small = refl
 
-row-fits : reply_facts 4 (Some (at 2 1 0 1 0 0)) response (5 ∷ 6 ∷ []) Takes ≡ plain 4 (Took (Ask 0 0) 0) ∷ with_bytes 4 (DoneOk 0) (5 ∷ 6 ∷ []) ∷ []
+row-fits : reply_facts 4 (Some (at 2 1 0 1 0 0)) response (5 ∷ 6 ∷ []) Takes
+    ≡ plain 4 (Took (Ask 0 0) 0) ∷ with_bytes 4 (DoneOk 0) (5 ∷ 6 ∷ []) ∷ []
 row-fits = refl
 
 -- the accounts: the free credits of the session, and the unanswered packets of its call
@@ -124,7 +141,9 @@ accounts free packets = record {
   sessions = record { number = 0; limit = 2; free = free; live = true } ∷ [];
 }
 
-row-account-begins : accounts_after (Begun 0 0) (accounts_after (Asked 0 0 1 9) (accounts_after (PairedClient 0 7 3 2) no_accounts)) ≡ accounts 2 []
+row-account-begins : accounts_after (Begun 0 0)
+    (accounts_after (Asked 0 0 1 9) (accounts_after (PairedClient 0 7 3 2) no_accounts))
+    ≡ accounts 2 []
 row-account-begins = refl
 
 row-account-posts : accounts_after (Posted (Ask 0 0) 0) (accounts 2 []) ≡ accounts 1 (0 ∷ [])
@@ -157,10 +176,12 @@ row-account-takes = refl
 row-account-sum : unanswered 0 (accounts 1 (1 ∷ [])).calls + 1 ≡ 2
 row-account-sum = refl
 
-row-account-ends : accounts_after (DoneOk 0) (accounts 2 []) ≡ record { calls = []; sessions = record { number = 0; limit = 2; free = 2; live = true } ∷ [] }
+row-account-ends : accounts_after (DoneOk 0) (accounts 2 [])
+    ≡ record { calls = []; sessions = record { number = 0; limit = 2; free = 2; live = true } ∷ [] }
 row-account-ends = refl
 
-row-account-breaks : (accounts_after (Broken 0) (accounts 1 (0 ∷ []))).sessions ≡ record { number = 0; limit = 2; free = 0; live = false } ∷ []
+row-account-breaks : (accounts_after (Broken 0) (accounts 1 (0 ∷ []))).sessions
+    ≡ record { number = 0; limit = 2; free = 0; live = false } ∷ []
 row-account-breaks = refl
 
 -- a call of two packets: the first is answered by a credit return, and the call goes on
@@ -186,5 +207,8 @@ row-past : client_row [] (Some (of_two 1 1)) 7 credit_return 0 ≡ Drops Past
 row-past = refl
 
 -- a rollback flushes what is queued, in ascending number
-row-flushes : client_facts 5000 5000 4 (record { owner = Ask 0 0; number = 2; due = None } ∷ record { owner = Ask 0 1; number = 0; due = None } ∷ record { owner = Ask 0 0; number = 1; due = None } ∷ []) 0 (Some (of_two 0 0)) ≡ plain 4 (Flushed (Ask 0 0) 1) ∷ plain 4 (Flushed (Ask 0 0) 2) ∷ plain 4 (Rolled 0 2 0) ∷ []
+row-flushes : client_facts 5000 5000 4 (record { owner = Ask 0 0; number = 2; due = None }
+    ∷ record { owner = Ask 0 1; number = 0; due = None }
+    ∷ record { owner = Ask 0 0; number = 1; due = None } ∷ []) 0 (Some (of_two 0 0))
+    ≡ plain 4 (Flushed (Ask 0 0) 1) ∷ plain 4 (Flushed (Ask 0 0) 2) ∷ plain 4 (Rolled 0 2 0) ∷ []
 row-flushes = refl

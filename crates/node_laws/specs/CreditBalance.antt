@@ -2,11 +2,16 @@
 -- and its free credits make its limit, and a packet is posted only where a credit is free. Both are
 -- read from the facts alone, and in two ways. The unanswered packets are numbers that stand in a
 -- list of their own, and free credits are a count that the facts change.
-use Rattle.std.specs.Prelude.{ℕ, ◌≡◌, ◌≤◌, ◌+◌, ◌-◌, ◌==◌, ◌&&◌, Bool, true, false, Option, Some, None, List, [], ◌∷◌, ◌++◌, length, sum_by, if◌then◌else◌}
+use Rattle.std.specs.Prelude.{ℕ, ◌≡◌, ◌≤◌, ◌+◌, ◌-◌, ◌==◌, ◌&&◌, Bool, true, false, Option, Some}
+use Rattle.std.specs.Prelude.{None, List, [], ◌∷◌, ◌++◌, length, sum_by, if◌then◌else◌}
 use Rattle.std.specs.List.{find, list_any, AllByRecursion}
 use Rattle.rpc_base.specs.Tables.{at_first, without_first}
 use Rattle.rpc_base.specs.declared.event.Event.{Event}
-use Rattle.rpc_base.specs.declared.event.Event.TheVariants.{Opened, PairedClient, Connected, FailedNoRoom, FailedNoAnswer, Closing, ClosedHeard, ClosedUnheard, Asked, Begun, Posted, Took, Rolled, Broken, DoneOk, DoneTooSmall, DonePeerLost}
+use Rattle.rpc_base.specs.declared.event.Event.TheVariants.{Opened, PairedClient, Connected}
+use Rattle.rpc_base.specs.declared.event.Event.TheVariants.{FailedNoRoom, FailedNoAnswer, Closing}
+use Rattle.rpc_base.specs.declared.event.Event.TheVariants.{ClosedHeard, ClosedUnheard, Asked}
+use Rattle.rpc_base.specs.declared.event.Event.TheVariants.{Begun, Posted, Took, Rolled, Broken}
+use Rattle.rpc_base.specs.declared.event.Event.TheVariants.{DoneOk, DoneTooSmall, DonePeerLost}
 use Rattle.rpc_base.specs.declared.fact.Fact.{Fact}
 use Rattle.rpc_base.specs.declared.owner.Owner.TheVariants.{Ask}
 

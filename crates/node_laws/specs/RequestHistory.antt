@@ -1,6 +1,7 @@
 -- What the facts tell of a request, against what the table of requests says of it. The facts so far
 -- stand with the newest first.
-use Rattle.std.specs.Prelude.{ℕ, ◌≡◌, ◌%◌, ◌==◌, ◌&&◌, not, nat_lt, Bool, false, Option, Some, None, is_none, List, [], ◌∷◌, ◌++◌, count_by, slice_get, if◌then◌else◌}
+use Rattle.std.specs.Prelude.{ℕ, ◌≡◌, ◌%◌, ◌==◌, ◌&&◌, not, nat_lt, Bool, false, Option, Some, None}
+use Rattle.std.specs.Prelude.{is_none, List, [], ◌∷◌, ◌++◌, count_by, slice_get, if◌then◌else◌}
 use Rattle.std.specs.List.{find, list_any}
 use Rattle.packet_header.specs.declared.packet.MessageHeader.{MessageHeader}
 use Rattle.rpc_base.specs.declared.event.Event.{Event}

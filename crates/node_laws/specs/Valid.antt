@@ -1,5 +1,7 @@
 -- What holds of a node's lists at every moment of a run.
-use Rattle.std.specs.Prelude.{◌%◌, ◌==◌, ℕ, suc, ◌≡◌, ◌+◌, ◌-◌, ◌≤◌, ◌<◌, nat_le, nat_lt, Bool, true, false, not, ◌&&◌, Option, Some, None, is_none, List, [], ◌∷◌, sum_by, count_by, length, if◌then◌else◌}
+use Rattle.std.specs.Prelude.{◌%◌, ◌==◌, ℕ, suc, ◌≡◌, ◌+◌, ◌-◌, ◌≤◌, ◌<◌, nat_le, nat_lt, Bool}
+use Rattle.std.specs.Prelude.{true, false, not, ◌&&◌, Option, Some, None, is_none, List, [], ◌∷◌}
+use Rattle.std.specs.Prelude.{sum_by, count_by, length, if◌then◌else◌}
 use Rattle.std.specs.List.{AllByRecursion, find}
 use Rattle.packet_header.specs.Parts.{packet_count}
 use Rattle.rpc_laws.specs.declared.tables.Call.{Call}

@@ -1,5 +1,9 @@
 //! Laws of the runs of one node, each proved of the definitions in `specs/`.
-ghost use Rattle.node_laws.specs.Laws.{CreditBalances, EndedCallsAreNotQueued, EndedSessionsAreNotQueued, HappensAtMostOnce, InboxFits, ListsAreKept, OlderRequestsAreNotQueued, QueuedPacketsFit, RequestsTellTheHistory, RingFits, SharesFit, TablesTellTheHistory};
+ghost use Rattle.node_laws.specs.Laws.{CreditBalances, EndedCallsAreNotQueued};
+ghost use Rattle.node_laws.specs.Laws.{EndedSessionsAreNotQueued, HappensAtMostOnce, InboxFits};
+ghost use Rattle.node_laws.specs.Laws.{ListsAreKept, OlderRequestsAreNotQueued, QueuedPacketsFit};
+ghost use Rattle.node_laws.specs.Laws.{RequestsTellTheHistory, RingFits, SharesFit};
+ghost use Rattle.node_laws.specs.Laws.{TablesTellTheHistory};
 
 /// At the end of a run a node's tables are in order: sessions and calls have numbers of their own,
 /// each count of a call is in its bounds, only connected sessions have calls, no request may run

@@ -1,5 +1,6 @@
 -- The packets of the inbox and the timers of a poll: from each state there is one way in which they go.
-use Rattle.std.proofs.Common.{◌≡◌, ℕ, Bool, true, false, List, [], ◌∷◌, ◌++◌, length, Option, Some, None, slice_get, sym, ap, ◌∙◌, subst}
+use Rattle.std.proofs.Common.{◌≡◌, ℕ, Bool, true, false, List, [], ◌∷◌, ◌++◌, length, Option, Some}
+use Rattle.std.proofs.Common.{None, slice_get, sym, ap, ◌∙◌, subst}
 use Rattle.packet_header.proofs.Heads.{one_head}
 use Rattle.packet_header.specs.declared.packet.ControlHeader.{ControlHeader}
 use Rattle.packet_header.specs.declared.packet.Packet.TheVariants.{Control as ControlPacket}
@@ -12,7 +13,9 @@ use Rattle.rpc_laws.specs.declared.tables.Arrival.{Arrival}
 use Rattle.rpc_laws.specs.declared.tables.Client.{Client}
 use Rattle.rpc_laws.specs.declared.tables.Lists.{Lists}
 use Rattle.rpc_laws.specs.declared.tables.Timed.{Timed}
-use Rattle.rpc_laws.specs.ControlSteps.{control_fact, Hears, HearsAll, own_request, Retries, RetriesAs, RetriesBy, RetriesOf, retry_row, Speaks, SpeaksIf, TimesAll, TimesSession}
+use Rattle.rpc_laws.specs.ControlSteps.{control_fact, Hears, HearsAll, own_request, Retries}
+use Rattle.rpc_laws.specs.ControlSteps.{RetriesAs, RetriesBy, RetriesOf, retry_row, Speaks}
+use Rattle.rpc_laws.specs.ControlSteps.{SpeaksIf, TimesAll, TimesSession}
 use Rattle.rpc_laws.specs.ControlTable.{control_facts, control_reply, control_row}
 use Rattle.rpc_laws.specs.Facts.{plain}
 use Rattle.rpc_laws.specs.Front.{control_of}
@@ -25,19 +28,25 @@ pub some-same : {A : Type 0} (o : Option A) (a b : A) → o ≡ Some a → o ≡
 some-same o a b h k = cc
 
 -- the link took the packet
-taken-by : (taken : Bool) (me peer : ℕ) (head : List ℕ) (x : List Fact) → x ≡ control_fact taken me peer head ∷ [] → wants x ≡ false → x ≡ control_fact true me peer head ∷ []
+taken-by : (taken : Bool) (me peer : ℕ) (head : List ℕ) (x : List Fact)
+    → x ≡ control_fact taken me peer head ∷ [] → wants x ≡ false
+    → x ≡ control_fact true me peer head ∷ []
 taken-by true me peer head x e w = e
 taken-by false me peer head x e w =
     let no : true ≡ false = subst (λ (z : List Fact). wants z ≡ false) e w in cc
 
-speaks-same : (me peer : ℕ) (h : ControlHeader) (x y : List Fact) → Speaks me peer h x → Speaks me peer h y → wants x ≡ false → wants y ≡ false → x ≡ y
+speaks-same : (me peer : ℕ) (h : ControlHeader) (x y : List Fact) → Speaks me peer h x
+    → Speaks me peer h y → wants x ≡ false → wants y ≡ false → x ≡ y
 speaks-same me peer h x y a b v w =
     let one = taken-by a.taken me peer a.head x a.facts v in
     let two = taken-by b.taken me peer b.head y b.facts w in
-    let head : a.head ≡ b.head = one_head (ControlPacket h) a.head b.head a.bytes b.bytes a.spells.long b.spells.long a.spells.head b.spells.head in
+    let head : a.head ≡ b.head =
+    one_head (ControlPacket h) a.head b.head a.bytes b.bytes a.spells.long b.spells.long
+    a.spells.head b.spells.head in
     one ∙ (ap (λ (z : List ℕ). control_fact true me peer z ∷ []) head ∙ sym two)
 
-speaks-if-same : (me peer : ℕ) (o : Option ControlHeader) (x y : List Fact) → SpeaksIf me peer o x → SpeaksIf me peer o y → wants x ≡ false → wants y ≡ false → x ≡ y
+speaks-if-same : (me peer : ℕ) (o : Option ControlHeader) (x y : List Fact) → SpeaksIf me peer o x
+    → SpeaksIf me peer o y → wants x ≡ false → wants y ≡ false → x ≡ y
 speaks-if-same me peer None x y a b v w = a ∙ sym b
 speaks-if-same me peer (Some h) x y a b v w = speaks-same me peer h x y a b v w
 
@@ -47,50 +56,69 @@ record HeardAs (s : Lists) (peer : ℕ) (h : ControlHeader) (r : ControlRow) (x 
   speaks : SpeaksIf s.me peer (control_reply h r) said
   facts : x ≡ plain s.me Heard ∷ control_facts s peer h r ++ said
 
-row-heard-same : (s : Lists) (peer : ℕ) (h : ControlHeader) (r : ControlRow) (x y : List Fact) → HeardAs s peer h r x → HeardAs s peer h r y → wants x ≡ false → wants y ≡ false → x ≡ y
+row-heard-same : (s : Lists) (peer : ℕ) (h : ControlHeader) (r : ControlRow) (x y : List Fact)
+    → HeardAs s peer h r x → HeardAs s peer h r y → wants x ≡ false → wants y ≡ false → x ≡ y
 row-heard-same s peer h r x y a b v w =
     let front : List Fact = plain s.me Heard ∷ control_facts s peer h r in
     let one : wants a.said ≡ false = wants-back front a.said (subst (λ (z : List Fact). wants z ≡ false) a.facts v) in
     let two : wants b.said ≡ false = wants-back front b.said (subst (λ (z : List Fact). wants z ≡ false) b.facts w) in
-    a.facts ∙ (ap (λ (z : List Fact). front ++ z) (speaks-if-same s.me peer (control_reply h r) a.said b.said a.speaks b.speaks one two) ∙ sym b.facts)
+    a.facts ∙ (ap (λ (z : List Fact). front ++ z)
+    (speaks-if-same s.me peer (control_reply h r) a.said b.said a.speaks b.speaks one two)
+    ∙ sym b.facts)
 
 -- with and without memory
 record HeardBy (s : Lists) (peer : ℕ) (h : ControlHeader) (x : List Fact) : Type 0 where
   lacks : Bool
   heard : HeardAs s peer h (control_row lacks peer h s) x
 
-heard-whole : (s : Lists) (peer : ℕ) (h : ControlHeader) (x : List Fact) → HeardBy s peer h x → wants x ≡ false → HeardAs s peer h (control_row false peer h s) x
+heard-whole : (s : Lists) (peer : ℕ) (h : ControlHeader) (x : List Fact) → HeardBy s peer h x
+    → wants x ≡ false → HeardAs s peer h (control_row false peer h s) x
 heard-whole s peer h x a v =
     let r : ControlRow = control_row a.lacks peer h s in
-    let all : wants (plain s.me Heard ∷ control_facts s peer h r) ≡ false = wants-front (plain s.me Heard ∷ control_facts s peer h r) a.heard.said (subst (λ (z : List Fact). wants z ≡ false) a.heard.facts v) in
-    let same : r ≡ control_row false peer h s = control-whole s peer h a.lacks (wants-back (plain s.me Heard ∷ []) (control_facts s peer h r) all) in
+    let all : wants (plain s.me Heard ∷ control_facts s peer h r) ≡ false =
+    wants-front (plain s.me Heard ∷ control_facts s peer h r) a.heard.said
+    (subst (λ (z : List Fact). wants z ≡ false) a.heard.facts v) in
+    let same : r ≡ control_row false peer h s =
+    control-whole s peer h a.lacks (wants-back (plain s.me Heard ∷ [])
+    (control_facts s peer h r) all) in
     subst (λ (z : ControlRow). HeardAs s peer h z x) same a.heard
 
 heard-of : (s : Timed) (x : List Fact) (t : Timed) → (h : Hears s x t) → HeardBy s.lists h.front.peer h.header x
 heard-of s x t h =
     record { lacks = h.lacks; heard = record { said = h.said; speaks = h.speaks; facts = h.facts } }
 
-hears-same : (s : Timed) (x y : List Fact) (t u : Timed) → Hears s x t → Hears s y u → wants x ≡ false → wants y ≡ false → x ≡ y
+hears-same : (s : Timed) (x y : List Fact) (t u : Timed) → Hears s x t → Hears s y u
+    → wants x ≡ false → wants y ≡ false → x ≡ y
 hears-same s x y t u h k v w =
     let front : k.front ≡ h.front = some-same (slice_get s.lists.inbox 0) k.front h.front k.is_front h.is_front in
-    let reads : control_of h.front.bytes ≡ Some k.header = subst (λ (a : Arrival). control_of a.bytes ≡ Some k.header) front k.reads in
+    let reads : control_of h.front.bytes ≡ Some k.header =
+    subst (λ (a : Arrival). control_of a.bytes ≡ Some k.header) front k.reads in
     let header : k.header ≡ h.header = some-same (control_of h.front.bytes) k.header h.header reads h.reads in
-    let moved : HeardBy s.lists h.front.peer k.header y = subst (λ (a : Arrival). HeardBy s.lists a.peer k.header y) front (heard-of s y u k) in
-    let other : HeardBy s.lists h.front.peer h.header y = subst (λ (c : ControlHeader). HeardBy s.lists h.front.peer c y) header moved in
-    row-heard-same s.lists h.front.peer h.header (control_row false h.front.peer h.header s.lists) x y (heard-whole s.lists h.front.peer h.header x (heard-of s x t h) v) (heard-whole s.lists h.front.peer h.header y other w) v w
+    let moved : HeardBy s.lists h.front.peer k.header y =
+    subst (λ (a : Arrival). HeardBy s.lists a.peer k.header y) front (heard-of s y u k) in
+    let other : HeardBy s.lists h.front.peer h.header y =
+    subst (λ (c : ControlHeader). HeardBy s.lists h.front.peer c y) header moved in
+    row-heard-same s.lists h.front.peer h.header (control_row false h.front.peer h.header s.lists) x
+    y (heard-whole s.lists h.front.peer h.header x (heard-of s x t h) v)
+    (heard-whole s.lists h.front.peer h.header y other w) v w
 
 -- a session's own request
-retries-by : (r : RetryRow) (me : ℕ) (c : Client) (h : ControlHeader) (x y : List Fact) → RetriesBy r me c h x → RetriesBy r me c h y → wants x ≡ false → wants y ≡ false → x ≡ y
+retries-by : (r : RetryRow) (me : ℕ) (c : Client) (h : ControlHeader) (x y : List Fact)
+    → RetriesBy r me c h x → RetriesBy r me c h y → wants x ≡ false → wants y ≡ false → x ≡ y
 retries-by Rests me c h x y a b v w = a ∙ sym b
 retries-by Asks me c h x y a b v w = speaks-same me c.way.peer h x y a b v w
 retries-by GivesUp me c h x y a b v w = a ∙ sym b
 
-retries-as : (o : Option ControlHeader) (clock timeout me : ℕ) (c : Client) (x y : List Fact) → RetriesAs o clock timeout me c x → RetriesAs o clock timeout me c y → wants x ≡ false → wants y ≡ false → x ≡ y
+retries-as : (o : Option ControlHeader) (clock timeout me : ℕ) (c : Client) (x y : List Fact)
+    → RetriesAs o clock timeout me c x → RetriesAs o clock timeout me c y → wants x ≡ false
+    → wants y ≡ false → x ≡ y
 retries-as None clock timeout me c x y a b v w = a ∙ sym b
 retries-as (Some h) clock timeout me c x y a b v w =
     retries-by (retry_row clock timeout c.sends c.sent_at) me c h x y a b v w
 
-retries-of : (clock timeout me : ℕ) (o : Option Client) (x y : List Fact) → RetriesOf clock timeout me o x → RetriesOf clock timeout me o y → wants x ≡ false → wants y ≡ false → x ≡ y
+retries-of : (clock timeout me : ℕ) (o : Option Client) (x y : List Fact)
+    → RetriesOf clock timeout me o x → RetriesOf clock timeout me o y → wants x ≡ false
+    → wants y ≡ false → x ≡ y
 retries-of clock timeout me None x y a b v w = a ∙ sym b
 retries-of clock timeout me (Some c) x y a b v w = retries-as (own_request c) clock timeout me c x y a b v w
 
@@ -107,7 +135,8 @@ module _ (n : ℕ) where
 
   retries-once : (timeout i : ℕ) → Once n (Retries timeout i)
   retries-once timeout i served s x y t u m h k f g =
-      goes-once n s x y t u m h.goes k.goes (retries-of s.clock timeout s.lists.me (slice_get s.lists.clients i) x y h.facts k.facts f.whole g.whole)
+      goes-once n s x y t u m h.goes k.goes (retries-of s.clock timeout s.lists.me
+      (slice_get s.lists.clients i) x y h.facts k.facts f.whole g.whole)
 
   watches-once : (timeout i number : ℕ) → Once n (Watches timeout i number)
   watches-once timeout i number served s x y t u m h k f g =
@@ -115,8 +144,12 @@ module _ (n : ℕ) where
 
   session-once : (timeout i : ℕ) → Once n (WatchesSession timeout i)
   session-once timeout i served s x y t u m h k f g =
-      each-once n (Watches timeout i) (watches-once timeout i) (numbers_in (slice_get s.lists.clients i)) served s x y t u m h k f g
+      each-once n (Watches timeout i) (watches-once timeout i)
+      (numbers_in (slice_get s.lists.clients i)) served s x y t u m h k f g
 
   pub times-once : Once n TimesAll
   times-once served s x y t u m h k f g =
-      visits-once n (TimesSession s.lists.timeout) (λ i. then-once n (Retries s.lists.timeout i) (WatchesSession s.lists.timeout i) (retries-once s.lists.timeout i) (session-once s.lists.timeout i)) (length s.lists.clients) served s x y t u m h k f g
+      visits-once n (TimesSession s.lists.timeout)
+      (λ i. then-once n (Retries s.lists.timeout i) (WatchesSession s.lists.timeout i)
+      (retries-once s.lists.timeout i) (session-once s.lists.timeout i))
+      (length s.lists.clients) served s x y t u m h k f g

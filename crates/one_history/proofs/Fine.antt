@@ -31,7 +31,8 @@ answers-front : (v : Serving) (served : Served) (x y : List Fact) → Answers v 
 answers-front v served [] y a = tt
 answers-front v served (f ∷ x) y a = (a.0, answers-front v (served_after v.mode f.event f.first served) x y a.1)
 
-answers-back : (v : Serving) (served : Served) (x y : List Fact) → Answers v served (x ++ y) → Answers v (served_after_all v.mode served x) y
+answers-back : (v : Serving) (served : Served) (x y : List Fact) → Answers v served (x ++ y)
+    → Answers v (served_after_all v.mode served x) y
 answers-back v served [] y a = a
 answers-back v served (f ∷ x) y a = answers-back v (served_after v.mode f.event f.first served) x y a.1
 
@@ -43,14 +44,19 @@ pub wants-back : (x y : List Fact) → wants (x ++ y) ≡ false → wants y ≡ 
 wants-back x y e =
     (or-false (wants x) (wants y) (sym (list_any-append (λ (f : Fact). is_wanting f.event) x y) ∙ e)).1
 
-parted : (n : ℕ) (served : Served) (x y : List Fact) → Answers plain_serving served (at_node n (x ++ y)) → Answers plain_serving served (at_node n x ++ at_node n y)
+parted : (n : ℕ) (served : Served) (x y : List Fact)
+    → Answers plain_serving served (at_node n (x ++ y))
+    → Answers plain_serving served (at_node n x ++ at_node n y)
 parted n served x y a =
     subst (λ (z : List Fact). Answers plain_serving served z) (filter-append (λ (f : Fact). is_at n f.who) x y) a
 
-pub node-front : (n : ℕ) (served : Served) (x y : List Fact) → Answers plain_serving served (at_node n (x ++ y)) → Answers plain_serving served (at_node n x)
+pub node-front : (n : ℕ) (served : Served) (x y : List Fact)
+    → Answers plain_serving served (at_node n (x ++ y)) → Answers plain_serving served (at_node n x)
 node-front n served x y a = answers-front plain_serving served (at_node n x) (at_node n y) (parted n served x y a)
 
-pub node-back : (n : ℕ) (served : Served) (x y : List Fact) → Answers plain_serving served (at_node n (x ++ y)) → Answers plain_serving (served_by n served x) (at_node n y)
+pub node-back : (n : ℕ) (served : Served) (x y : List Fact)
+    → Answers plain_serving served (at_node n (x ++ y))
+    → Answers plain_serving (served_by n served x) (at_node n y)
 node-back n served x y a = answers-back plain_serving served (at_node n x) (at_node n y) (parted n served x y a)
 
 pub fine-front : (n : ℕ) (served : Served) (x y : List Fact) → Fine n served (x ++ y) → Fine n served x

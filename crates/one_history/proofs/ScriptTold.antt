@@ -1,5 +1,6 @@
 -- Each step of a node, and each command of a script, adds facts with no other bytes than their lines show.
-use Rattle.std.proofs.Common.{◌≡◌, ℕ, zero, suc, nat_lt, Bool, true, false, List, [], ◌∷◌, ◌++◌, length, map, Option, Some, None, slice_get, refl, sym, subst}
+use Rattle.std.proofs.Common.{◌≡◌, ℕ, zero, suc, nat_lt, Bool, true, false, List, [], ◌∷◌, ◌++◌}
+use Rattle.std.proofs.Common.{length, map, Option, Some, None, slice_get, refl, sym, subst}
 use Rattle.std.specs.Bool.{MatchBool}
 use Rattle.std.specs.List.{find, list_all}
 use Rattle.network_model.specs.declared.stage.Stage.{Stage}
@@ -15,13 +16,18 @@ use Rattle.rpc_laws.specs.declared.tables.Client.{Client}
 use Rattle.rpc_laws.specs.declared.tables.Lists.{Lists}
 use Rattle.rpc_laws.specs.declared.tables.Timed.{Timed}
 use Rattle.rpc_laws.specs.declared.tables.WorkedJob.{WorkedJob}
-use Rattle.rpc_laws.specs.ControlSteps.{control_fact, given_up, Hears, HearsAll, own_request, Retries, RetriesAs, RetriesBy, RetriesOf, retry_row, Speaks, SpeaksIf, TimesAll, TimesSession}
+use Rattle.rpc_laws.specs.ControlSteps.{control_fact, given_up, Hears, HearsAll, own_request}
+use Rattle.rpc_laws.specs.ControlSteps.{Retries, RetriesAs, RetriesBy, RetriesOf, retry_row, Speaks}
+use Rattle.rpc_laws.specs.ControlSteps.{SpeaksIf, TimesAll, TimesSession}
 use Rattle.rpc_laws.specs.ControlTable.{control_facts, control_reply, control_row}
 use Rattle.rpc_laws.specs.Facts.{of_net, plain}
 use Rattle.rpc_laws.specs.GoBackN.{Each, numbers_in, Watches, WatchesSession}
-use Rattle.rpc_laws.specs.Groups.{Asks, client_refusal, Connects, disconnect_by, disconnect_fact, Disconnects, pair_refusal, pending, rate_by, rate_fact, SetsRate, state_of}
+use Rattle.rpc_laws.specs.Groups.{Asks, client_refusal, Connects, disconnect_by, disconnect_fact}
+use Rattle.rpc_laws.specs.Groups.{Disconnects, pair_refusal, pending, rate_by, rate_fact, SetsRate}
+use Rattle.rpc_laws.specs.Groups.{state_of}
 use Rattle.rpc_laws.specs.Pacing.{line}
-use Rattle.rpc_laws.specs.PollOrder.{Closes, Finishes, Handles, HandlesAll, PollBy, PostsAll, raised, Sends, SendsAll, Serves}
+use Rattle.rpc_laws.specs.PollOrder.{Closes, Finishes, Handles, HandlesAll, PollBy, PostsAll}
+use Rattle.rpc_laws.specs.PollOrder.{raised, Sends, SendsAll, Serves}
 use Rattle.rpc_laws.specs.Posting.{next_begun, next_posted}
 use Rattle.rpc_laws.specs.Sessions.{is_client}
 use Rattle.rpc_laws.specs.Steps.{Chain, more, none, NotesAll, NotesNext, Rel, Then, Until, Visits}
@@ -29,10 +35,18 @@ use Rattle.rpc_laws.specs.Working.{FinishesEach, FinishesWorked, waiting_of, wor
 use Rattle.rpc_outside.specs.PlainAnswer.{plain_mode}
 use Rattle.rpc_outside.specs.declared.service.Mode.{Mode}
 use Rattle.script_grammar.specs.declared.line.Command.{Command}
-use Rattle.script_grammar.specs.declared.line.Command.TheVariants.{Node, Pair, Connect, Disconnect, Rate, Call, Poll as PollNode, Arrive, Lose, Repeat, Tick, Work, Settle}
+use Rattle.script_grammar.specs.declared.line.Command.TheVariants.{Node, Pair, Connect, Disconnect}
+use Rattle.script_grammar.specs.declared.line.Command.TheVariants.{Rate, Call, Poll as PollNode}
+use Rattle.script_grammar.specs.declared.line.Command.TheVariants.{Arrive, Lose, Repeat, Tick, Work}
+use Rattle.script_grammar.specs.declared.line.Command.TheVariants.{Settle}
 use Rattle.script_grammar.specs.declared.line.Line.{Line}
-use Rattle.sim_script.specs.FollowsScript.{ask_bytes, AtNode, Carries, Does, empty_stage, Follows, FollowsFrom, is_polled, Joins, OfNet, or_missed, PairsBy, PollsFirst, PollsNode, Round, Settles, Times, Unless, WorksAndPolls, WorksFirst, WorksNode}
-use Rattle.one_history.proofs.FactsTold.{one-plain, told-append, told-ask, told-client, told-connect, told-control, told-delivery, told-finished, told-handling, told-map, told-net, told-plain, told-works}
+use Rattle.sim_script.specs.FollowsScript.{ask_bytes, AtNode, Carries, Does, empty_stage, Follows}
+use Rattle.sim_script.specs.FollowsScript.{FollowsFrom, is_polled, Joins, OfNet, or_missed, PairsBy}
+use Rattle.sim_script.specs.FollowsScript.{PollsFirst, PollsNode, Round, Settles, Times, Unless}
+use Rattle.sim_script.specs.FollowsScript.{WorksAndPolls, WorksFirst, WorksNode}
+use Rattle.one_history.proofs.FactsTold.{one-plain, told-append, told-ask, told-client}
+use Rattle.one_history.proofs.FactsTold.{told-connect, told-control, told-delivery, told-finished}
+use Rattle.one_history.proofs.FactsTold.{told-handling, told-map, told-net, told-plain, told-works}
 
 -- each step of P adds such facts
 abbrev Tells : Rel → Type 0
@@ -43,7 +57,8 @@ told-by x y e a = subst AllTold (sym e) a
 
 tells-then : (P Q : Rel) → Tells P → Tells Q → Tells (Then P Q)
 tells-then P Q p q s x t h =
-    told-by x (h.front ++ h.back) h.joined (told-append h.front h.back (p s h.front h.between h.first) (q h.between h.back t h.second))
+    told-by x (h.front ++ h.back) h.joined (told-append h.front h.back
+    (p s h.front h.between h.first) (q h.between h.back t h.second))
 
 tells-chain : (P : Rel) → Tells P → (s : Timed) {x : List Fact} {t : Timed} → Chain P s x t → AllTold x
 tells-chain P p s none = tt
@@ -84,15 +99,23 @@ tells-hears =
     tells-until Hears (λ t. t.lists.inbox ≡ []) (λ s x t h.
     let row = control_row h.lacks h.front.peer h.header s.lists in
     let facts = control_facts s.lists h.front.peer h.header row in
-    told-by x (plain s.lists.me Heard ∷ facts ++ h.said) h.facts (told-plain s.lists.me Heard, told-append facts h.said (told-control s.lists h.front.peer h.header row) (told-speaks-if s.lists.me h.front.peer (control_reply h.header row) h.said h.speaks)))
+    told-by x (plain s.lists.me Heard ∷ facts ++ h.said) h.facts (
+      told-plain s.lists.me Heard,
+      told-append facts h.said
+          (told-control s.lists h.front.peer h.header row)
+          (told-speaks-if s.lists.me h.front.peer (control_reply h.header row) h.said h.speaks),
+    ))
 
-told-retries-by : (r : RetryRow) (me : ℕ) (c : Client) (h : ControlHeader) (x : List Fact) → RetriesBy r me c h x → AllTold x
+told-retries-by : (r : RetryRow) (me : ℕ) (c : Client) (h : ControlHeader) (x : List Fact)
+    → RetriesBy r me c h x → AllTold x
 told-retries-by Rests me c h x e = told-by x [] e tt
 told-retries-by AsksAgain me c h x a = told-speaks me c.way.peer h x a
 told-retries-by GivesUp me c h x e =
-    told-by x (map (plain me) (given_up c.state c.way.number)) e (told-map (plain me) (told-plain me) (given_up c.state c.way.number))
+    told-by x (map (plain me) (given_up c.state c.way.number)) e
+    (told-map (plain me) (told-plain me) (given_up c.state c.way.number))
 
-told-retries-as : (o : Option ControlHeader) (clock timeout me : ℕ) (c : Client) (x : List Fact) → RetriesAs o clock timeout me c x → AllTold x
+told-retries-as : (o : Option ControlHeader) (clock timeout me : ℕ) (c : Client) (x : List Fact)
+    → RetriesAs o clock timeout me c x → AllTold x
 told-retries-as None clock timeout me c x e = told-by x [] e tt
 told-retries-as (Some h) clock timeout me c x a =
     told-retries-by (retry_row clock timeout c.sends c.sent_at) me c h x a
@@ -105,7 +128,10 @@ tells-session : (timeout i : ℕ) → Tells (TimesSession timeout i)
 tells-session timeout i =
     tells-then (Retries timeout i) (WatchesSession timeout i)
     (λ s x t h. told-retries s.clock timeout s.lists.me (slice_get s.lists.clients i) x h.facts)
-    (λ s x t h. tells-each (Watches timeout i) (λ number v y u k. told-by y _ k.facts (told-client v.clock timeout v.lists.me v.lists.queued number (slice_get v.lists.clients i))) (numbers_in (slice_get s.lists.clients i)) s x t h)
+    (λ s x t h. tells-each (Watches timeout i)
+    (λ number v y u k. told-by y _ k.facts
+    (told-client v.clock timeout v.lists.me v.lists.queued number
+    (slice_get v.lists.clients i))) (numbers_in (slice_get s.lists.clients i)) s x t h)
 
 tells-times : Tells TimesAll
 tells-times s x t h =
@@ -114,7 +140,8 @@ tells-times s x t h =
 -- the other steps of a poll
 tells-handles : (mode : ℕ → Mode) → Tells (Handles mode)
 tells-handles mode s x t h =
-    told-by x _ h.facts (told-handling h.header.kind mode h.lacks h.answer s.lists h.front.peer h.header (body_of h.front.bytes))
+    told-by x _ h.facts (told-handling h.header.kind mode h.lacks h.answer s.lists h.front.peer
+    h.header (body_of h.front.bytes))
 
 tells-finishes : (session request : ℕ) → Tells (Finishes session request)
 tells-finishes session request s x t h = told-by x _ h.facts (told-finished h.answer s.lists h.job)
@@ -122,11 +149,13 @@ tells-finishes session request s x t h = told-by x _ h.facts (told-finished h.an
 tells-finishes-each : (ws : List WorkedJob) → Tells (FinishesEach ws)
 tells-finishes-each [] s x t h = told-by x [] h.0 tt
 tells-finishes-each (w ∷ ws) s x t h =
-    tells-then (Finishes w.session w.request) (FinishesEach ws) (tells-finishes w.session w.request) (tells-finishes-each ws) s x t h
+    tells-then (Finishes w.session w.request) (FinishesEach ws) (tells-finishes w.session w.request)
+    (tells-finishes-each ws) s x t h
 
 tells-posts : Tells PostsAll
 tells-posts s x t h =
-    tells-visits Serves (λ i. tells-then (NotesAll (next_begun i)) (NotesAll (next_posted i)) (tells-notes (next_begun i)) (tells-notes (next_posted i))) (length s.lists.clients) s x t h
+    tells-visits Serves (λ i. tells-then (NotesAll (next_begun i)) (NotesAll (next_posted i))
+    (tells-notes (next_begun i)) (tells-notes (next_posted i))) (length s.lists.clients) s x t h
 
 tells-sends : Tells SendsAll
 tells-sends =
@@ -135,14 +164,20 @@ tells-sends =
 tells-closes : Tells Closes
 tells-closes s x t h = told-by x _ h.facts ((refl, refl), tt)
 
-tells-poll : (worked : List WorkedJob) (mode : ℕ → Mode) (now : ℕ) → Tells (PollBy (FinishesWorked worked) SendsAll mode now)
+tells-poll : (worked : List WorkedJob) (mode : ℕ → Mode) (now : ℕ)
+    → Tells (PollBy (FinishesWorked worked) SendsAll mode now)
 tells-poll worked mode now s x t h =
     let sending = tells-then SendsAll Closes tells-sends tells-closes in
     let posting = tells-then PostsAll (Then SendsAll Closes) tells-posts sending in
     let timing = tells-then TimesAll (Then PostsAll (Then SendsAll Closes)) tells-times posting in
-    let handling = tells-then (HandlesAll mode) (Then TimesAll (Then PostsAll (Then SendsAll Closes))) (λ v y u k. tells-chain (Handles mode) (tells-handles mode) v k.steps) timing in
-    let hearing = tells-then HearsAll (Then (HandlesAll mode) (Then TimesAll (Then PostsAll (Then SendsAll Closes)))) tells-hears handling in
-    tells-then (FinishesWorked worked) (Then HearsAll (Then (HandlesAll mode) (Then TimesAll (Then PostsAll (Then SendsAll Closes))))) (λ v y u k. tells-finishes-each k.done v y u k.finishes) hearing (raised now s) x t h
+    let handling = tells-then (HandlesAll mode)
+    (Then TimesAll (Then PostsAll (Then SendsAll Closes)))
+    (λ v y u k. tells-chain (Handles mode) (tells-handles mode) v k.steps) timing in
+    let hearing = tells-then HearsAll (Then (HandlesAll mode)
+    (Then TimesAll (Then PostsAll (Then SendsAll Closes)))) tells-hears handling in
+    tells-then (FinishesWorked worked) (Then HearsAll
+    (Then (HandlesAll mode) (Then TimesAll (Then PostsAll (Then SendsAll Closes)))))
+    (λ v y u k. tells-finishes-each k.done v y u k.finishes) hearing (raised now s) x t h
 
 -- so does each group of a stage
 abbrev Groups : Type 1
@@ -159,7 +194,8 @@ tell-net e s x t h = told-by x (of_net e ∷ []) h.facts (told-net e, tt)
 
 tell-joins : (P Q : Groups) → AllTell P → AllTell Q → AllTell (Joins P Q)
 tell-joins P Q p q s x t h =
-    told-by x (h.group ++ h.rest) h.joined (told-append h.group h.rest (p s h.group h.between h.does) (q h.between h.rest t h.follows))
+    told-by x (h.group ++ h.rest) h.joined (told-append h.group h.rest
+    (p s h.group h.between h.does) (q h.between h.rest t h.follows))
 
 tell-times : (P : Groups) → AllTell P → (n : ℕ) → AllTell (Times P n)
 tell-times P p zero s x t h = told-by x [] h.0 tt
@@ -184,15 +220,23 @@ tell-works (suc n) s x t h =
 tell-carries : (i : ℕ) → AllTell (Carries i)
 tell-carries i s x t h =
     let a = h.arrives in
-    told-by x (of_net (Carried i) ∷ h.delivered) h.facts (told-net (Carried i), told-by h.delivered _ a.step.facts (told-delivery a.before.lists h.copy.from h.copy.bytes, tt))
+    told-by x (of_net (Carried i) ∷ h.delivered) h.facts (
+      told-net (Carried i),
+      told-by h.delivered _ a.step.facts
+          (told-delivery a.before.lists h.copy.from h.copy.bytes, tt),
+    )
 
-tell-arrives : (i : ℕ) (b : Bool) (s : Stage) (x : List Fact) (t : Stage) → MatchBool b (Carries i s x t) (OfNet (Missed i) s x t) → AllTold x
+tell-arrives : (i : ℕ) (b : Bool) (s : Stage) (x : List Fact) (t : Stage)
+    → MatchBool b (Carries i s x t) (OfNet (Missed i) s x t) → AllTold x
 tell-arrives i true s x t h = tell-carries i s x t h
 tell-arrives i false s x t h = tell-net (Missed i) s x t h
 
 tell-round : AllTell Round
 tell-round s x t h =
-    tell-joins (Times (Carries 0) (length s.flight)) (λ u. WorksAndPolls (length u.nodes) u) (tell-times (Carries 0) (tell-carries 0) (length s.flight)) (λ u. tell-joins (WorksFirst (length u.nodes)) (PollsFirst (length u.nodes)) (tell-works (length u.nodes)) (tell-polls (length u.nodes)) u) s x t h
+    tell-joins (Times (Carries 0) (length s.flight)) (λ u. WorksAndPolls (length u.nodes) u)
+    (tell-times (Carries 0) (tell-carries 0) (length s.flight))
+    (λ u. tell-joins (WorksFirst (length u.nodes)) (PollsFirst (length u.nodes))
+    (tell-works (length u.nodes)) (tell-polls (length u.nodes)) u) s x t h
 
 tell-unless : (b : Bool) (P : Groups) → AllTell P → AllTell (Unless b P)
 tell-unless true P p s x t h = told-by x [] h.0 tt
@@ -201,9 +245,13 @@ tell-unless false P p s x t h = p s x t h
 tell-settles : (k : ℕ) → AllTell (Settles k)
 tell-settles zero s x t h = told-by x [] h.0 tt
 tell-settles (suc k) s x t h =
-    told-by x (h.round ++ h.rest) h.joined (told-append h.round h.rest (tell-round s h.round h.between h.makes) (tell-unless (list_all (λ f. is_polled f.event) h.round) (Settles k) (tell-settles k) h.between h.rest t h.goes_on))
+    told-by x (h.round ++ h.rest) h.joined (told-append h.round h.rest
+    (tell-round s h.round h.between h.makes)
+    (tell-unless (list_all (λ f. is_polled f.event) h.round) (Settles k)
+    (tell-settles k) h.between h.rest t h.goes_on))
 
-tell-pairs-by : (o r : Option Event) (a b credits : ℕ) (client server : Timed) → AllTell (PairsBy o r a b credits client server)
+tell-pairs-by : (o r : Option Event) (a b credits : ℕ) (client server : Timed)
+    → AllTell (PairsBy o r a b credits client server)
 tell-pairs-by (Some e) r a b credits client server s x t h = told-by x _ h.0 (one-plain client.lists.me e)
 tell-pairs-by None (Some e) a b credits client server s x t h =
     told-by x _ h.0 (one-plain server.lists.me e)
@@ -215,22 +263,37 @@ tell-pairs-by None None a b credits client server s x t h =
 tell-does : (c : Command) → AllTell (Does c)
 tell-does (Node ring) = λ s x t h. told-by x _ h.facts (one-plain (length s.nodes) (Made ring))
 tell-does (Pair a b credits) =
-    λ s x t h. tell-pairs-by (pair_refusal credits h.client.lists) (pair_refusal credits h.server.lists) a b credits h.client h.server s x t h.pairs
+    λ s x t h. tell-pairs-by (pair_refusal credits h.client.lists)
+    (pair_refusal credits h.server.lists) a b credits h.client h.server s x t h.pairs
 tell-does (Connect a b credits) =
-    tell-at (Connects b credits 0) a (λ s x t h. told-by x _ h.facts (told-connect (client_refusal credits s.lists) b credits 0 s.lists))
+    tell-at (Connects b credits 0) a (λ s x t h. told-by x _ h.facts
+    (told-connect (client_refusal credits s.lists) b credits 0 s.lists))
 tell-does (Disconnect n session) =
-    tell-at (Disconnects session) n (λ s x t h. told-by x (disconnect_fact session s.lists ∷ []) h.facts (told-plain s.lists.me (disconnect_by (state_of (find (is_client session) s.lists.clients)) session (pending (find (is_client session) s.lists.clients))), tt))
+    tell-at (Disconnects session) n (λ s x t h. told-by x (disconnect_fact session s.lists ∷ [])
+    h.facts (
+      told-plain s.lists.me (disconnect_by
+          (state_of (find (is_client session) s.lists.clients)) session
+          (pending (find (is_client session) s.lists.clients))),
+      tt,
+    ))
 tell-does (Rate n session rate) =
-    tell-at (SetsRate session rate) n (λ s x t h. told-by x (rate_fact session rate s.lists ∷ []) h.facts (told-plain s.lists.me (rate_by (state_of (find (is_client session) s.lists.clients)) session rate), tt))
+    tell-at (SetsRate session rate) n (λ s x t h. told-by x (rate_fact session rate s.lists ∷ [])
+    h.facts (
+      told-plain s.lists.me (rate_by
+          (state_of (find (is_client session) s.lists.clients)) session rate),
+      tt,
+    ))
 tell-does (Call n session y ask room) =
-    tell-at (Asks session y (ask_bytes ask) room) n (λ s x t h. told-by x _ h.facts (told-ask session y room (ask_bytes ask) s.lists, tt))
+    tell-at (Asks session y (ask_bytes ask) room) n
+    (λ s x t h. told-by x _ h.facts (told-ask session y room (ask_bytes ask) s.lists, tt))
 tell-does (PollNode n) = tell-poll n
 tell-does (Arrive i) = λ s. tell-arrives i (nat_lt i (length s.flight)) s
 tell-does (Lose i) = λ s. tell-net (or_missed s.flight i (Lost i)) s
 tell-does (Repeat i) = λ s. tell-net (or_missed s.flight i (Repeated i)) s
 tell-does (Tick by) = λ s x t h. told-by x (of_net (Ticked by) ∷ []) h.facts (told-net (Ticked by), tt)
 tell-does (Work n i) =
-    λ s x t h. told-by x _ h.step.facts (one-plain h.before.lists.me (work_of i (slice_get (waiting_of s.worked h.before.lists) i)))
+    λ s x t h. told-by x _ h.step.facts (one-plain h.before.lists.me
+    (work_of i (slice_get (waiting_of s.worked h.before.lists) i)))
 tell-does (Settle rounds) = tell-settles rounds
 
 tell-follows : (lines : List Line) → AllTell (FollowsFrom lines)

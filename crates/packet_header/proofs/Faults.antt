@@ -8,7 +8,9 @@ use Rattle.packet_header.specs.Parts.{packet_count}
 use Rattle.packet_header.specs.Ranges.{Within, within, sessions, message_row, control_row}
 use Rattle.packet_header.specs.Header.{MessageInRange, ControlInRange}
 use Rattle.packet_header.specs.Reading.{message_fault, control_fault, is_server}
-use Rattle.packet_header.proofs.RangeTests.{within-holds, holds-within, server-holds, holds-server, either-holds, holds-either, passed_four, passed_five, eqb_zero}
+use Rattle.packet_header.proofs.RangeTests.{within-holds, holds-within, server-holds, holds-server}
+use Rattle.packet_header.proofs.RangeTests.{either-holds, holds-either, passed_four, passed_five}
+use Rattle.packet_header.proofs.RangeTests.{eqb_zero}
 
 pub no_fault-message : (m : MessageHeader) → message_fault m ≡ None → MessageInRange m
 unfolding message_fault
@@ -30,9 +32,15 @@ no_fault-message m h =
 pub message-no_fault : (m : MessageHeader) → MessageInRange m → message_fault m ≡ None
 unfolding message_fault
 message-no_fault m r =
-    rw (holds-within _ _ r.req_type, holds-within _ _ r.size, holds-within _ _ r.session, holds-within _ _ r.number) refl
+    rw (
+      holds-within _ _ r.req_type,
+      holds-within _ _ r.size,
+      holds-within _ _ r.session,
+      holds-within _ _ r.number,
+    ) refl
 
-pub no_fault-control : (c : ControlHeader) (padding : ℕ) → control_fault c padding ≡ None → ControlInRange c × (padding ≡ 0)
+pub no_fault-control : (c : ControlHeader) (padding : ℕ) → control_fault c padding ≡ None
+    → ControlInRange c × (padding ≡ 0)
 unfolding control_fault
 no_fault-control c padding h =
     let (client, server, credits, status, rest) =
@@ -55,9 +63,15 @@ no_fault-control c padding h =
 pub control-no_fault : (c : ControlHeader) → ControlInRange c → control_fault c 0 ≡ None
 unfolding control_fault
 control-no_fault c r =
-    rw (holds-within _ _ r.client, holds-server _ _ r.server, holds-within _ _ r.credits, holds-either _ _ r.status) refl
+    rw (
+      holds-within _ _ r.client,
+      holds-server _ _ r.server,
+      holds-within _ _ r.credits,
+      holds-either _ _ r.status,
+    ) refl
 
-below_count : (kind : Kind) (size number : ℕ) → Within (message_row kind size).numbers number → kind ≡ Request → number < packet_count size
+below_count : (kind : Kind) (size number : ℕ) → Within (message_row kind size).numbers number
+    → kind ≡ Request → number < packet_count size
 below_count Request size number h e = omega arith
 below_count Rfr size number h e = absurd (cc)
 below_count Cr size number h e = absurd (cc)

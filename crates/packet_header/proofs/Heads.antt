@@ -1,5 +1,6 @@
 -- Heads: two of one packet are equal, and what follows a head changes nothing of it.
-use Rattle.std.proofs.Common.{◌≡◌, ◌≤◌, ◌<◌, ◌+◌, ◌*◌, ◌^◌, ◌∙◌, ℕ, zero, suc, List, [], ◌∷◌, ◌++◌, length, drop, slice_index, sym, ap, arith, Ok, length-append}
+use Rattle.std.proofs.Common.{◌≡◌, ◌≤◌, ◌<◌, ◌+◌, ◌*◌, ◌^◌, ◌∙◌, ℕ, zero, suc, List, [], ◌∷◌, ◌++◌}
+use Rattle.std.proofs.Common.{length, drop, slice_index, sym, ap, arith, Ok, length-append}
 use Rattle.std.proofs.Math.ListN.{get_or-append, drop_of_length-le}
 use Rattle.std.proofs.Math.Nat.{add-mul, mul-le-mul_right}
 use Rattle.std.proofs.lemmas.List.{drop-append-le, drop-drop, drop_more, length-drop}
@@ -9,17 +10,20 @@ use Rattle.packet_header.specs.declared.packet.MessageHeader.{MessageHeader}
 use Rattle.packet_header.specs.declared.packet.ControlHeader.{ControlHeader}
 use Rattle.packet_header.specs.declared.packet.Packet.{Packet}
 use Rattle.packet_header.specs.declared.packet.Packet.TheVariants.{Message, Control}
-use Rattle.packet_header.specs.Header.{AreBytes, HasControlHead, HasHead, HasLength, HasMessageHead, InRange, Spells, number_at}
+use Rattle.packet_header.specs.Header.{AreBytes, HasControlHead, HasHead, HasLength, HasMessageHead}
+use Rattle.packet_header.specs.Header.{InRange, Spells, number_at}
 use Rattle.packet_header.specs.Reading.{body_of, decoded}
 use Rattle.packet_header.proofs.Bytes.{bytes-drop}
 use Rattle.packet_header.proofs.Readings.{spells-decoded}
 
-number-append : (i n : ℕ) (head body : List ℕ) → i + n ≤ length head → number_at i n (head ++ body) ≡ number_at i n head
+number-append : (i n : ℕ) (head body : List ℕ) → i + n ≤ length head
+    → number_at i n (head ++ body) ≡ number_at i n head
 number-append i n head body h =
     ap (big_number n) (drop-append-le i head body (omega arith))
     ∙ big_from-append n (drop i head) body (omega (arith, length-drop i head))
 
-message_head-append : (m : MessageHeader) (head body : List ℕ) → HasMessageHead m head → HasMessageHead m (head ++ body)
+message_head-append : (m : MessageHeader) (head body : List ℕ) → HasMessageHead m head
+    → HasMessageHead m (head ++ body)
 message_head-append m head body h =
     let whole = h.whole in
     record {
@@ -33,7 +37,8 @@ message_head-append m head body h =
       request = number-append 10 6 head body (omega arith) ∙ h.request;
     }
 
-control_head-append : (c : ControlHeader) (head body : List ℕ) → HasControlHead c head → HasControlHead c (head ++ body)
+control_head-append : (c : ControlHeader) (head body : List ℕ) → HasControlHead c head
+    → HasControlHead c (head ++ body)
 control_head-append c head body h =
     let whole = h.whole in
     record {
@@ -51,24 +56,28 @@ head-append : (p : Packet) (head body : List ℕ) → HasHead p head → HasHead
 head-append (Message m) head body h = message_head-append m head body h
 head-append (Control c) head body h = control_head-append c head body h
 
-long-append : (p : Packet) (head body : List ℕ) → length head ≡ 16 → HasLength p (16 + length body) → HasLength p (length (head ++ body))
+long-append : (p : Packet) (head body : List ℕ) → length head ≡ 16 → HasLength p (16 + length body)
+    → HasLength p (length (head ++ body))
 long-append p head body h long =
     let e : length (head ++ body) ≡ 16 + length body = omega (arith, length-append head body) in
     rw e long
 
 -- a head of a packet in range and a body of a length for it are a datagram of this packet
-pub spells-append : (p : Packet) (head body : List ℕ) → InRange p → HasHead p head → length head ≡ 16 → HasLength p (16 + length body) → Spells p (head ++ body)
+pub spells-append : (p : Packet) (head body : List ℕ) → InRange p → HasHead p head
+    → length head ≡ 16 → HasLength p (16 + length body) → Spells p (head ++ body)
 spells-append p head body range h sixteen long =
     record { head = head-append p head body h; in_range = range; long = long-append p head body sixteen long }
 
 -- such a datagram is read as this packet
-pub decoded-append : (p : Packet) (head body : List ℕ) → InRange p → HasHead p head → length head ≡ 16 → HasLength p (16 + length body) → decoded (head ++ body) ≡ Ok p
+pub decoded-append : (p : Packet) (head body : List ℕ) → InRange p → HasHead p head
+    → length head ≡ 16 → HasLength p (16 + length body) → decoded (head ++ body) ≡ Ok p
 decoded-append p head body range h sixteen long =
     spells-decoded p (head ++ body) (spells-append p head body range h sixteen long)
 
 pub body_of-append : (head body : List ℕ) → length head ≡ 16 → body_of (head ++ body) ≡ body
 body_of-append head body h =
-    drop-append-le 16 head body (omega arith) ∙ ap (λ front. front ++ body) (drop_of_length-le head {i = 16} (omega arith))
+    drop-append-le 16 head body (omega arith)
+    ∙ ap (λ front. front ++ body) (drop_of_length-le head {i = 16} (omega arith))
 
 -- the first digits of equal numbers are equal
 less : (x y p r s : ℕ) → x * p + r ≡ y * p + s → r < p → s < p → x < y → ⊥
@@ -87,7 +96,8 @@ second_same : (x y p r s : ℕ) → x * p + r ≡ y * p + s → x ≡ y → r �
 second_same x y p r s e same = let f = rw same at e in omega arith
 
 -- two lists that go on alike and begin with the same number are equal
-same_front : (n : ℕ) (xs ys : List ℕ) → AreBytes xs → AreBytes ys → n ≤ length xs → n ≤ length ys → big_number n xs ≡ big_number n ys → drop n xs ≡ drop n ys → xs ≡ ys
+same_front : (n : ℕ) (xs ys : List ℕ) → AreBytes xs → AreBytes ys → n ≤ length xs → n ≤ length ys
+    → big_number n xs ≡ big_number n ys → drop n xs ≡ drop n ys → xs ≡ ys
 same_front zero xs ys f g h k e d = d
 same_front (suc n) [] ys f g h k e d = absurd (omega arith)
 same_front (suc n) (x ∷ xs) [] f g h k e d = absurd (omega arith)
@@ -98,23 +108,29 @@ same_front (suc n) (x ∷ xs) (y ∷ ys) f g h k e d =
     let below_y = big_from-lt 1 n (y ∷ ys) g in
     let first = first_same x y (256 ^ n) (big_from 1 n (x ∷ xs)) (big_from 1 n (y ∷ ys)) e below_x below_y in
     let same : big_from 1 n (x ∷ xs) ≡ big_from 1 n (y ∷ ys) = second_same x y (256 ^ n) _ _ e first in
-    let after = same_front n xs ys (λ k. f (suc k)) (λ k. g (suc k)) (omega arith) (omega arith) (sym after_x ∙ same ∙ after_y) d in
+    let after = same_front n xs ys (λ k. f (suc k)) (λ k. g (suc k)) (omega arith) (omega arith)
+    (sym after_x ∙ same ∙ after_y) d in
     cc
 
 -- the same of what stands at an offset
-same_at : (i n : ℕ) (a b : List ℕ) → AreBytes a → AreBytes b → i + n ≤ length a → i + n ≤ length b → number_at i n a ≡ number_at i n b → drop (i + n) a ≡ drop (i + n) b → drop i a ≡ drop i b
+same_at : (i n : ℕ) (a b : List ℕ) → AreBytes a → AreBytes b → i + n ≤ length a → i + n ≤ length b
+    → number_at i n a ≡ number_at i n b → drop (i + n) a ≡ drop (i + n) b → drop i a ≡ drop i b
 same_at i n a b f g h k e d =
     same_front n (drop i a) (drop i b) (bytes-drop i a f) (bytes-drop i b g)
     (omega (arith, length-drop i a)) (omega (arith, length-drop i b)) e
     (drop-drop n i a ∙ d ∙ sym (drop-drop n i b))
 
-byte_at : (i : ℕ) (a b : List ℕ) → i < length a → i < length b → slice_index a i ≡ slice_index b i → drop (i + 1) a ≡ drop (i + 1) b → drop i a ≡ drop i b
+byte_at : (i : ℕ) (a b : List ℕ) → i < length a → i < length b → slice_index a i ≡ slice_index b i
+    → drop (i + 1) a ≡ drop (i + 1) b → drop i a ≡ drop i b
 byte_at i a b h k e d =
     drop_more a i 0 h ∙ (rw (e, d) (sym (drop_more b i 0 k)))
 
-message-one_head : (m : MessageHeader) (a b : List ℕ) → AreBytes a → AreBytes b → length a ≡ 16 → length b ≡ 16 → HasMessageHead m a → HasMessageHead m b → a ≡ b
+message-one_head : (m : MessageHeader) (a b : List ℕ) → AreBytes a → AreBytes b → length a ≡ 16
+    → length b ≡ 16 → HasMessageHead m a → HasMessageHead m b → a ≡ b
 message-one_head m a b f g la lb h k =
-    let end : drop 16 a ≡ drop 16 b = drop_of_length-le a {i = 16} (omega arith) ∙ sym (drop_of_length-le b {i = 16} (omega arith)) in
+    let end : drop 16 a ≡ drop 16 b =
+    drop_of_length-le a {i = 16} (omega arith)
+    ∙ sym (drop_of_length-le b {i = 16} (omega arith)) in
     let request = same_at 10 6 a b f g (omega arith) (omega arith) (h.request ∙ sym k.request) end in
     let number = same_at 8 2 a b f g (omega arith) (omega arith) (h.number ∙ sym k.number) request in
     let session = same_at 6 2 a b f g (omega arith) (omega arith) (h.session ∙ sym k.session) number in
@@ -123,9 +139,12 @@ message-one_head m a b f g la lb h k =
     let kind = byte_at 1 a b (omega arith) (omega arith) (h.kind ∙ sym k.kind) req_type in
     byte_at 0 a b (omega arith) (omega arith) (h.magic ∙ sym k.magic) kind
 
-control-one_head : (c : ControlHeader) (a b : List ℕ) → AreBytes a → AreBytes b → length a ≡ 16 → length b ≡ 16 → HasControlHead c a → HasControlHead c b → a ≡ b
+control-one_head : (c : ControlHeader) (a b : List ℕ) → AreBytes a → AreBytes b → length a ≡ 16
+    → length b ≡ 16 → HasControlHead c a → HasControlHead c b → a ≡ b
 control-one_head c a b f g la lb h k =
-    let end : drop 16 a ≡ drop 16 b = drop_of_length-le a {i = 16} (omega arith) ∙ sym (drop_of_length-le b {i = 16} (omega arith)) in
+    let end : drop 16 a ≡ drop 16 b =
+    drop_of_length-le a {i = 16} (omega arith)
+    ∙ sym (drop_of_length-le b {i = 16} (omega arith)) in
     let padding = same_at 9 7 a b f g (omega arith) (omega arith) (h.padding ∙ sym k.padding) end in
     let status = byte_at 8 a b (omega arith) (omega arith) (h.status ∙ sym k.status) padding in
     let credits = same_at 6 2 a b f g (omega arith) (omega arith) (h.credits ∙ sym k.credits) status in
@@ -135,6 +154,7 @@ control-one_head c a b f g la lb h k =
     byte_at 0 a b (omega arith) (omega arith) (h.magic ∙ sym k.magic) kind
 
 -- a packet has one head
-pub one_head : (p : Packet) (a b : List ℕ) → AreBytes a → AreBytes b → length a ≡ 16 → length b ≡ 16 → HasHead p a → HasHead p b → a ≡ b
+pub one_head : (p : Packet) (a b : List ℕ) → AreBytes a → AreBytes b → length a ≡ 16 → length b ≡ 16
+    → HasHead p a → HasHead p b → a ≡ b
 one_head (Message m) a b f g la lb h k = message-one_head m a b f g la lb h k
 one_head (Control c) a b f g la lb h k = control-one_head c a b f g la lb h k

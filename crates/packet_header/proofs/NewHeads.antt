@@ -1,5 +1,6 @@
 -- Each packet in range has a head.
-use Rattle.std.proofs.Common.{◌≡◌, ◌<◌, ◌/◌, ◌^◌, ℕ, zero, suc, List, [], ◌∷◌, ◌++◌, unwrap_or, Bool, true, false, Option, Some, None, ◌⊎◌, refl, arith}
+use Rattle.std.proofs.Common.{◌≡◌, ◌<◌, ◌/◌, ◌^◌, ℕ, zero, suc, List, [], ◌∷◌, ◌++◌, unwrap_or}
+use Rattle.std.proofs.Common.{Bool, true, false, Option, Some, None, ◌⊎◌, refl, arith}
 use Rattle.std.proofs.Math.Nat.{mod-lt}
 use Rattle.std.specs.Int.{byte_at, bytes_high_first}
 use Rattle.byteorder.specs.Numbers.{big_number-reads_back}
@@ -7,13 +8,17 @@ use Rattle.byteorder.specs.Endian.{big_bytes}
 use Rattle.packet_header.specs.declared.packet.Kind.{Kind}
 use Rattle.packet_header.specs.declared.packet.Kind.TheVariants.{Request, Rfr, Cr, Response}
 use Rattle.packet_header.specs.declared.packet.ControlKind.{ControlKind}
-use Rattle.packet_header.specs.declared.packet.ControlKind.TheVariants.{ConnectRequest, ConnectReply, DisconnectRequest, DisconnectReply}
+use Rattle.packet_header.specs.declared.packet.ControlKind.TheVariants.{ConnectRequest}
+use Rattle.packet_header.specs.declared.packet.ControlKind.TheVariants.{ConnectReply}
+use Rattle.packet_header.specs.declared.packet.ControlKind.TheVariants.{DisconnectRequest}
+use Rattle.packet_header.specs.declared.packet.ControlKind.TheVariants.{DisconnectReply}
 use Rattle.packet_header.specs.declared.packet.MessageHeader.{MessageHeader}
 use Rattle.packet_header.specs.declared.packet.ControlHeader.{ControlHeader}
 use Rattle.packet_header.specs.declared.packet.Packet.{Packet}
 use Rattle.packet_header.specs.declared.packet.Packet.TheVariants.{Message, Control}
 use Rattle.packet_header.specs.Ranges.{Within, message_row, control_row}
-use Rattle.packet_header.specs.Header.{AreBytes, ControlInRange, InRange, IsServer, MessageInRange, control_code, kind_code}
+use Rattle.packet_header.specs.Header.{AreBytes, ControlInRange, InRange, IsServer, MessageInRange}
+use Rattle.packet_header.specs.Header.{control_code, kind_code}
 use Rattle.packet_header.specs.Laws.{HasOneHead, IsHeadOf, RequestFits}
 use Rattle.packet_header.proofs.Heads.{one_head}
 
@@ -36,7 +41,10 @@ bytes_high : (n x : ℕ) → AreBytes (big_bytes n x)
 bytes_high zero x = bytes_none
 bytes_high (suc n) x = bytes-cons (byte_at n x) (bytes_high_first n x) (byte_below n x) (bytes_high n x)
 
-message_fits : (kind : Kind) (req_type size number : ℕ) → Within (message_row kind size).types req_type → Within (message_row kind size).sizes size → Within (message_row kind size).numbers number → (req_type < 256) × (size < 256 ^ 3) × (number < 256 ^ 2)
+message_fits : (kind : Kind) (req_type size number : ℕ)
+    → Within (message_row kind size).types req_type → Within (message_row kind size).sizes size
+    → Within (message_row kind size).numbers number → (req_type < 256) × (size < 256 ^ 3)
+    × (number < 256 ^ 2)
 message_fits Request req_type size number (f, f2) (g, g2) (h, h2) = (omega arith, omega arith, omega arith)
 message_fits Rfr req_type size number (f, f2) (g, g2) (h, h2) = (omega arith, omega arith, omega arith)
 message_fits Cr req_type size number (f, f2) (g, g2) (h, h2) = (omega arith, omega arith, omega arith)
@@ -51,7 +59,8 @@ code_below Response = omega arith
 -- the fields in turn
 abbrev message_head : MessageHeader → List ℕ
 message_head m =
-    225 ∷ kind_code m.kind ∷ m.req_type ∷ (big_bytes 3 m.size ++ (big_bytes 2 m.session ++ (big_bytes 2 m.number ++ big_bytes 6 m.request)))
+    225 ∷ kind_code m.kind ∷ m.req_type ∷ (big_bytes 3 m.size
+    ++ (big_bytes 2 m.session ++ (big_bytes 2 m.number ++ big_bytes 6 m.request)))
 
 message-bytes : (m : MessageHeader) → m.req_type < 256 → AreBytes (message_head m)
 message-bytes m h =
@@ -68,7 +77,8 @@ message-bytes m h =
 
 message-made : (m : MessageHeader) → MessageInRange m → m.request < 2 ^ 48 → IsHeadOf (Message m) (message_head m)
 message-made m range below =
-    let (types, sizes, numbers) = message_fits m.kind m.req_type m.size m.number range.req_type range.size range.number in
+    let (types, sizes, numbers) =
+    message_fits m.kind m.req_type m.size m.number range.req_type range.size range.number in
     let (low, session) = range.session in (
       message-bytes m types,
       refl,
@@ -84,7 +94,9 @@ message-made m range below =
       },
     )
 
-control_fits : (kind : ControlKind) (credits status : ℕ) → Within (control_row kind status).credits credits → (status ≡ 0) ⊎ (status ≡ (control_row kind status).refusal) → (credits < 256 ^ 2) × (status < 256)
+control_fits : (kind : ControlKind) (credits status : ℕ)
+    → Within (control_row kind status).credits credits → (status ≡ 0)
+    ⊎ (status ≡ (control_row kind status).refusal) → (credits < 256 ^ 2) × (status < 256)
 control_fits ConnectRequest credits status (f, g) h = (omega arith, omega arith)
 control_fits ConnectReply credits status (f, g) h = (omega arith, omega arith)
 control_fits DisconnectRequest credits status (f, g) h = (omega arith, omega arith)
@@ -105,7 +117,9 @@ server_fits false (Some server) h = absurd h
 -- the fields in turn
 abbrev control_head : ControlHeader → List ℕ
 control_head c =
-    225 ∷ control_code c.kind ∷ (big_bytes 2 c.client ++ (big_bytes 2 (unwrap_or c.server 65535) ++ (big_bytes 2 c.credits ++ (c.status ∷ big_bytes 7 0))))
+    225 ∷ control_code c.kind ∷ (big_bytes 2 c.client
+    ++ (big_bytes 2 (unwrap_or c.server 65535)
+    ++ (big_bytes 2 c.credits ++ (c.status ∷ big_bytes 7 0))))
 
 control-bytes : (c : ControlHeader) → c.status < 256 → AreBytes (control_head c)
 control-bytes c h =
@@ -115,7 +129,8 @@ control-bytes c h =
     let client : List ℕ = big_bytes 2 c.client ++ server in
     let p = bytes-cons c.status (big_bytes 7 0) h (bytes_high 7 0) in
     let q = bytes-append (big_bytes 2 c.credits) status (bytes_high 2 c.credits) p in
-    let r = bytes-append (big_bytes 2 (unwrap_or c.server 65535)) credits (bytes_high 2 (unwrap_or c.server 65535)) q in
+    let r = bytes-append (big_bytes 2 (unwrap_or c.server 65535)) credits
+    (bytes_high 2 (unwrap_or c.server 65535)) q in
     let s = bytes-append (big_bytes 2 c.client) server (bytes_high 2 c.client) r in
     let t = bytes-cons (control_code c.kind) client (control_below c.kind) s in
     bytes-cons 225 (control_code c.kind ∷ client) (omega arith) t
@@ -139,7 +154,8 @@ control-made c range =
     )
 
 one_of : (p : Packet) (head other : List ℕ) → IsHeadOf p head → IsHeadOf p other → other ≡ head
-one_of p head other (all, long, h) (others, other_long, other_head) = one_head p other head others all other_long long other_head h
+one_of p head other (all, long, h) (others, other_long, other_head) =
+    one_head p other head others all other_long long other_head h
 
 pub has_one_head : (p : Packet) → InRange p → RequestFits p → HasOneHead p
 has_one_head (Message m) range fits =

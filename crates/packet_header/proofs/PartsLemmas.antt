@@ -1,5 +1,6 @@
 -- The parts of a message: how long each is, and that together they are the message.
-use Rattle.std.proofs.Common.{◌≡◌, ◌≤◌, ◌<◌, ◌+◌, ◌-◌, ◌*◌, ◌∙◌, inl, inr, ℕ, min, nat_lt, Bool, true, false, List, ◌++◌, length, take, drop, refl, sym, ap, arith}
+use Rattle.std.proofs.Common.{◌≡◌, ◌≤◌, ◌<◌, ◌+◌, ◌-◌, ◌*◌, ◌∙◌, inl, inr, ℕ, min, nat_lt, Bool}
+use Rattle.std.proofs.Common.{true, false, List, ◌++◌, length, take, drop, refl, sym, ap, arith}
 use Rattle.std.proofs.lemmas.List.{length-drop, length-take, take_all}
 use Rattle.std.proofs.Math.Seq.{take-add}
 use Rattle.std.proofs.lemmas.Bool.{ltb-false, ltb-true}
@@ -46,7 +47,8 @@ part-front q k = let e : 1024 * (k + 1) ≡ 1024 * k + 1024 = omega arith in rw 
 pub front-whole : {T : Type 0} → (q : List T) (k : ℕ) → packet_count (length q) ≤ k → take (1024 * k) q ≡ q
 front-whole q k h = take_all (1024 * k) q (omega arith)
 
-response_part : (n k number : ℕ) (more : Bool) → nat_lt (k + 1) (packet_count n) ≡ more → k < packet_count n → MessageLength Response n number (16 + part_size n k)
+response_part : (n k number : ℕ) (more : Bool) → nat_lt (k + 1) (packet_count n) ≡ more
+    → k < packet_count n → MessageLength Response n number (16 + part_size n k)
 response_part n k number true h g =
     let below = ltb-true (k + 1) (packet_count n) h in
     inr (omega arith, ap (λ size. 16 + size) (part_size-full n k below))

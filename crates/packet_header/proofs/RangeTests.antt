@@ -1,5 +1,6 @@
 -- Tests on numbers, and the facts that they stand for.
-use Rattle.std.proofs.Common.{◌≡◌, ◌≤◌, ℕ, nat_le, ◌==◌, ◌&&◌, ◌||◌, not, Bool, true, false, if◌then◌else◌, Option, Some, None, ◌⊎◌, refl, arith}
+use Rattle.std.proofs.Common.{◌≡◌, ◌≤◌, ℕ, nat_le, ◌==◌, ◌&&◌, ◌||◌, not, Bool, true, false}
+use Rattle.std.proofs.Common.{if◌then◌else◌, Option, Some, None, ◌⊎◌, refl, arith}
 use Rattle.std.proofs.lemmas.Bool.Decides.{nat_tests}
 use Rattle.packet_header.specs.declared.ranges.Span.{Span}
 use Rattle.packet_header.specs.Ranges.{Within, within, sessions}
@@ -37,14 +38,21 @@ pub holds-either : (n a : ℕ) → (n ≡ 0) ⊎ (n ≡ a) → (n == 0 || n == a
 holds-either n a h = grind (arith, nat_tests)
 
 -- a chain of tests that finds no fault has passed each
-pub passed_four : (k0 k1 k2 k3 : ℕ) (a b c d : Bool) → (if not a then Some k0 else (if not b then Some k1 else (if not c then Some k2 else (if not d then Some k3 else (None))))) ≡ None → (a ≡ true) × (b ≡ true) × (c ≡ true) × (d ≡ true)
+pub passed_four : (k0 k1 k2 k3 : ℕ) (a b c d : Bool)
+    → (if not a then Some k0 else (if not b then Some k1
+    else (if not c then Some k2 else (if not d then Some k3 else (None))))) ≡ None → (a ≡ true)
+    × (b ≡ true) × (c ≡ true) × (d ≡ true)
 passed_four k0 k1 k2 k3 false b c d h = absurd (cc)
 passed_four k0 k1 k2 k3 true false c d h = absurd (cc)
 passed_four k0 k1 k2 k3 true true false d h = absurd (cc)
 passed_four k0 k1 k2 k3 true true true false h = absurd (cc)
 passed_four k0 k1 k2 k3 true true true true h = (refl, refl, refl, refl)
 
-pub passed_five : (k0 k1 k2 k3 k4 : ℕ) (a b c d e : Bool) → (if not a then Some k0 else (if not b then Some k1 else (if not c then Some k2 else (if not d then Some k3 else (if not e then Some k4 else (None)))))) ≡ None → (a ≡ true) × (b ≡ true) × (c ≡ true) × (d ≡ true) × (e ≡ true)
+pub passed_five : (k0 k1 k2 k3 k4 : ℕ) (a b c d e : Bool)
+    → (if not a then Some k0 else (if not b then Some k1
+    else (if not c then Some k2 else (if not d then Some k3
+    else (if not e then Some k4 else (None)))))) ≡ None → (a ≡ true) × (b ≡ true) × (c ≡ true)
+    × (d ≡ true) × (e ≡ true)
 passed_five k0 k1 k2 k3 k4 false b c d e h = absurd (cc)
 passed_five k0 k1 k2 k3 k4 true false c d e h = absurd (cc)
 passed_five k0 k1 k2 k3 k4 true true false d e h = absurd (cc)

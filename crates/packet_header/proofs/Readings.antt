@@ -1,5 +1,7 @@
 -- What is read is what is spelled, and each refusal has its reason.
-use Rattle.std.proofs.Common.{◌≡◌, ◌↔◌, ◌≤◌, ◌∙◌, ℕ, ◌==◌, nat_lt, ◌||◌, not, Bool, true, false, if◌then◌else◌, List, length, slice_index, Option, Some, None, Result, Ok, Err, IfOk, unwrap_or, inl, inr, refl, sym, ap, arith}
+use Rattle.std.proofs.Common.{◌≡◌, ◌↔◌, ◌≤◌, ◌∙◌, ℕ, ◌==◌, nat_lt, ◌||◌, not, Bool, true, false}
+use Rattle.std.proofs.Common.{if◌then◌else◌, List, length, slice_index, Option, Some, None, Result}
+use Rattle.std.proofs.Common.{Ok, Err, IfOk, unwrap_or, inl, inr, refl, sym, ap, arith}
 use Rattle.std.proofs.lemmas.Bool.{eqb-false, eqb-true, lt-ltb, ltb-false, ltb-true, not-false, not-true}
 use Rattle.std.proofs.lemmas.Bool.Decides.{nat_tests}
 use Rattle.packet_header.specs.declared.packet.Kind.{Kind}
@@ -12,8 +14,14 @@ use Rattle.packet_header.specs.declared.packet.BadPacket.{BadPacket}
 use Rattle.packet_header.specs.declared.packet.BadPacket.TheVariants.{Short, Magic, Field, Length, Kind as NoKind}
 use Rattle.packet_header.specs.declared.decoding.AnyKind.{AnyKind}
 use Rattle.packet_header.specs.declared.decoding.AnyKind.TheVariants.{OfMessage, OfControl}
-use Rattle.packet_header.specs.Header.{HasControlHead, HasHead, HasLength, HasMessageHead, InRange, MessageLength, ControlInRange, MessageInRange, IsServer, Spells, control_code, kind_code, number_at}
-use Rattle.packet_header.specs.Reading.{checked, control_at, control_fault, control_fields, first_outside, message_fields, control_read, decoded, is_full_part, kind_of, message_at, message_fault, message_in, message_of, message_read, read_as, server_of, wanted}
+use Rattle.packet_header.specs.Header.{HasControlHead, HasHead, HasLength, HasMessageHead, InRange}
+use Rattle.packet_header.specs.Header.{MessageLength, ControlInRange, MessageInRange, IsServer}
+use Rattle.packet_header.specs.Header.{Spells, control_code, kind_code, number_at}
+use Rattle.packet_header.specs.Reading.{checked, control_at, control_fault, control_fields}
+use Rattle.packet_header.specs.Reading.{first_outside, message_fields, control_read, decoded}
+use Rattle.packet_header.specs.Reading.{is_full_part, kind_of, message_at, message_fault}
+use Rattle.packet_header.specs.Reading.{message_in, message_of, message_read, read_as, server_of}
+use Rattle.packet_header.specs.Reading.{wanted}
 use Rattle.packet_header.specs.Refusals.{FirstOutside, IsOfKind, Refuses, length_of}
 use Rattle.packet_header.proofs.Faults.{control-no_fault, message-no_fault, no_fault-control, no_fault-message}
 use Rattle.packet_header.proofs.KindBytes.{IsKindOf, kind_of-byte, kind_of-none, kind_of-control, kind_of-message}
@@ -36,19 +44,24 @@ unfolding decoded
 decoded-of_kind bytes code h = rw (short_no _ h.whole, magic_no _ h.magic, h.kind) refl
 
 -- a packet that passes both tests is read
-passes : (fault : Option ℕ) (fits : Bool) (p : Packet) (want got : ℕ) → fault ≡ None → fits ≡ true → checked fault fits p want got ≡ Ok p
+passes : (fault : Option ℕ) (fits : Bool) (p : Packet) (want got : ℕ) → fault ≡ None → fits ≡ true
+    → checked fault fits p want got ≡ Ok p
 passes fault fits p want got f g = rw (f, g) refl
 
-message_read-ok : (m : MessageHeader) (n : ℕ) → MessageInRange m → MessageLength m.kind m.size m.number n → message_read m n ≡ Ok (Message m)
+message_read-ok : (m : MessageHeader) (n : ℕ) → MessageInRange m
+    → MessageLength m.kind m.size m.number n → message_read m n ≡ Ok (Message m)
 unfolding message_read
-message_read-ok m n range long = passes _ _ (Message m) _ n (message-no_fault m range) (length-tested m.kind m.size m.number n long)
+message_read-ok m n range long =
+    passes _ _ (Message m) _ n (message-no_fault m range)
+    (length-tested m.kind m.size m.number n long)
 
 message_at-same : (m : MessageHeader) (bytes : List ℕ) → HasMessageHead m bytes → message_at m.kind bytes ≡ m
 unfolding message_at
 message_at-same m bytes h = rw (h.req_type, h.size, h.session, h.number, h.request) refl
 
 -- a message header is read as it stands
-message-decoded : (m : MessageHeader) (bytes : List ℕ) → HasMessageHead m bytes → decoded bytes ≡ message_read m (length bytes)
+message-decoded : (m : MessageHeader) (bytes : List ℕ) → HasMessageHead m bytes
+    → decoded bytes ≡ message_read m (length bytes)
 message-decoded m bytes h =
     decoded-of_kind bytes (kind_code m.kind) (record { whole = h.whole; magic = h.magic; kind = h.kind })
     ∙ ap (λ kind. read_as kind bytes) (kind_of-message m.kind)
@@ -70,14 +83,16 @@ server_of-same false None h = refl
 server_of-same true None h = absurd h
 server_of-same false (Some server) h = absurd h
 
-control_at-same : (c : ControlHeader) (bytes : List ℕ) → HasControlHead c bytes → ControlInRange c → control_at c.kind bytes ≡ c
+control_at-same : (c : ControlHeader) (bytes : List ℕ) → HasControlHead c bytes → ControlInRange c
+    → control_at c.kind bytes ≡ c
 unfolding control_at
 control_at-same c bytes h range =
     let server = ap server_of h.server ∙ server_of-same _ c.server range.server in
     rw (h.client, server, h.credits, h.status) refl
 
 -- a control header is read as it stands
-control-decoded : (c : ControlHeader) (bytes : List ℕ) → HasControlHead c bytes → ControlInRange c → decoded bytes ≡ control_read c 0 (length bytes)
+control-decoded : (c : ControlHeader) (bytes : List ℕ) → HasControlHead c bytes → ControlInRange c
+    → decoded bytes ≡ control_read c 0 (length bytes)
 control-decoded c bytes h range =
     decoded-of_kind bytes (control_code c.kind) (record { whole = h.whole; magic = h.magic; kind = h.kind })
     ∙ ap (λ kind. read_as kind bytes) (kind_of-control c.kind)
@@ -96,10 +111,20 @@ abbrev Tells : Result Packet BadPacket → List ℕ → Type 0
 Tells (Ok p) bytes = Spells p bytes
 Tells (Err bad) bytes = Refuses bad bytes
 
-message_at-head : (kind : Kind) (bytes : List ℕ) → IsOfKind (kind_code kind) bytes → HasMessageHead (message_at kind bytes) bytes
+message_at-head : (kind : Kind) (bytes : List ℕ) → IsOfKind (kind_code kind) bytes
+    → HasMessageHead (message_at kind bytes) bytes
 unfolding message_at
 message_at-head kind bytes h =
-    record { whole = h.whole; magic = h.magic; kind = h.kind; req_type = refl; size = refl; session = refl; number = refl; request = refl }
+    record {
+      whole = h.whole;
+      magic = h.magic;
+      kind = h.kind;
+      req_type = refl;
+      size = refl;
+      session = refl;
+      number = refl;
+      request = refl;
+    }
 
 not_both : (b : Bool) → b ≡ true → b ≡ false → ⊥
 not_both b h g = cc
@@ -107,8 +132,12 @@ not_both b h g = cc
 message-tells : (kind : Kind) (bytes : List ℕ) → IsOfKind (kind_code kind) bytes →
     (fault : Option ℕ) (fits : Bool) →
     message_fault (message_at kind bytes) ≡ fault →
-    (length bytes == wanted (message_at kind bytes).kind (message_at kind bytes).size (message_at kind bytes).number || is_full_part (message_at kind bytes).kind (message_at kind bytes).size (length bytes)) ≡ fits →
-    Tells (checked fault fits (Message (message_at kind bytes)) (wanted (message_at kind bytes).kind (message_at kind bytes).size (message_at kind bytes).number) (length bytes)) bytes
+    (length bytes == wanted (message_at kind bytes).kind (message_at kind bytes).size
+    (message_at kind bytes).number || is_full_part (message_at kind bytes).kind
+    (message_at kind bytes).size (length bytes)) ≡ fits →
+    Tells (checked fault fits (Message (message_at kind bytes))
+    (wanted (message_at kind bytes).kind (message_at kind bytes).size
+    (message_at kind bytes).number) (length bytes)) bytes
 unfolding message_fault
 message-tells kind bytes of_kind (Some offset) fits f g = inl (kind, of_kind, f)
 message-tells kind bytes of_kind None true f g =
@@ -127,7 +156,8 @@ message-tells kind bytes of_kind None false f g =
       other = λ long. not_both _ (length-tested _ _ _ _ long) g;
     }
 
-message_read-tells : (kind : Kind) (bytes : List ℕ) → IsOfKind (kind_code kind) bytes → Tells (message_read (message_at kind bytes) (length bytes)) bytes
+message_read-tells : (kind : Kind) (bytes : List ℕ) → IsOfKind (kind_code kind) bytes
+    → Tells (message_read (message_at kind bytes) (length bytes)) bytes
 unfolding message_read
 message_read-tells kind bytes of_kind = message-tells kind bytes of_kind _ _ refl refl
 
@@ -135,10 +165,21 @@ server_number : (b : Bool) (n : ℕ) → (n == 65535) ≡ b → n ≡ unwrap_or 
 server_number true n h = eqb-true n 65535 h
 server_number false n h = refl
 
-control_at-head : (kind : ControlKind) (bytes : List ℕ) → IsOfKind (control_code kind) bytes → number_at 9 7 bytes ≡ 0 → HasControlHead (control_at kind bytes) bytes
+control_at-head : (kind : ControlKind) (bytes : List ℕ) → IsOfKind (control_code kind) bytes
+    → number_at 9 7 bytes ≡ 0 → HasControlHead (control_at kind bytes) bytes
 unfolding control_at
 control_at-head kind bytes h padding =
-    record { whole = h.whole; magic = h.magic; kind = h.kind; client = refl; server = server_number _ (number_at 4 2 bytes) refl; credits = refl; status = refl; padding = padding }
+    record {
+      whole = h.whole;
+      magic = h.magic;
+      kind = h.kind;
+      client = refl;
+      server = server_number _ (number_at 4 2 bytes) refl;
+      credits = refl;
+      status =
+          refl;
+      padding = padding;
+    }
 
 control-tells : (kind : ControlKind) (bytes : List ℕ) → IsOfKind (control_code kind) bytes →
     (fault : Option ℕ) (fits : Bool) →
@@ -161,23 +202,30 @@ control-tells kind bytes of_kind None false f g =
       other = λ long. eqb-false _ 16 g long;
     }
 
-control_read-tells : (kind : ControlKind) (bytes : List ℕ) → IsOfKind (control_code kind) bytes → Tells (control_read (control_at kind bytes) (number_at 9 7 bytes) (length bytes)) bytes
+control_read-tells : (kind : ControlKind) (bytes : List ℕ) → IsOfKind (control_code kind) bytes
+    → Tells (control_read (control_at kind bytes) (number_at 9 7 bytes) (length bytes)) bytes
 unfolding control_read
 control_read-tells kind bytes of_kind = control-tells kind bytes of_kind _ _ refl refl
 
-read_as-tells : (bytes : List ℕ) → 16 ≤ length bytes → slice_index bytes 0 ≡ 225 → (kind : Option AnyKind) → IsKindOf (slice_index bytes 1) kind → Tells (read_as kind bytes) bytes
+read_as-tells : (bytes : List ℕ) → 16 ≤ length bytes → slice_index bytes 0 ≡ 225
+    → (kind : Option AnyKind) → IsKindOf (slice_index bytes 1) kind
+    → Tells (read_as kind bytes) bytes
 read_as-tells bytes whole magic None h = (record { whole = whole; magic = magic; kind = refl }, h)
 read_as-tells bytes whole magic (Some (OfMessage kind)) h =
     message_read-tells kind bytes (record { whole = whole; magic = magic; kind = h })
 read_as-tells bytes whole magic (Some (OfControl kind)) h =
     control_read-tells kind bytes (record { whole = whole; magic = magic; kind = h })
 
-tests-tell : (bytes : List ℕ) → (short other : Bool) → nat_lt (length bytes) 16 ≡ short → not (slice_index bytes 0 == 225) ≡ other →
-    Tells (if short then Err (Short (length bytes)) else (if other then Err (Magic (slice_index bytes 0)) else read_as (kind_of (slice_index bytes 1)) bytes)) bytes
+tests-tell : (bytes : List ℕ) → (short other : Bool) → nat_lt (length bytes) 16 ≡ short
+    → not (slice_index bytes 0 == 225) ≡ other →
+    Tells (if short then Err (Short (length bytes))
+    else (if other then Err (Magic (slice_index bytes 0)) else read_as
+    (kind_of (slice_index bytes 1)) bytes)) bytes
 tests-tell bytes true other h g = (refl, ltb-true (length bytes) 16 h)
 tests-tell bytes false true h g = (ltb-false (length bytes) 16 h, refl, eqb-false _ 225 (not-true _ g))
 tests-tell bytes false false h g =
-    read_as-tells bytes (ltb-false (length bytes) 16 h) (eqb-true _ 225 (not-false _ g)) _ (kind_of-byte (slice_index bytes 1))
+    read_as-tells bytes (ltb-false (length bytes) 16 h)
+    (eqb-true _ 225 (not-false _ g)) _ (kind_of-byte (slice_index bytes 1))
 
 decoded-tells : (bytes : List ℕ) → Tells (decoded bytes) bytes
 unfolding decoded
@@ -191,14 +239,18 @@ decoded-spells p bytes h = let t = rw h at (decoded-tells bytes) in t
 pub decoded-refuses : (bad : BadPacket) (bytes : List ℕ) → decoded bytes ≡ Err bad → Refuses bad bytes
 decoded-refuses bad bytes h = let t = rw h at (decoded-tells bytes) in t
 
-faulty : (fault : Option ℕ) (fits : Bool) (p : Packet) (want got offset : ℕ) → fault ≡ Some offset → checked fault fits p want got ≡ Err (Field offset)
+faulty : (fault : Option ℕ) (fits : Bool) (p : Packet) (want got offset : ℕ) → fault ≡ Some offset
+    → checked fault fits p want got ≡ Err (Field offset)
 faulty fault fits p want got offset h = rw h refl
 
-message_read-faulty : (m : MessageHeader) (n offset : ℕ) → first_outside (message_fields m) ≡ Some offset → message_read m n ≡ Err (Field offset)
+message_read-faulty : (m : MessageHeader) (n offset : ℕ)
+    → first_outside (message_fields m) ≡ Some offset → message_read m n ≡ Err (Field offset)
 unfolding message_read message_fault
 message_read-faulty m n offset h = faulty _ _ (Message m) _ n offset h
 
-control_read-faulty : (c : ControlHeader) (padding n offset : ℕ) → first_outside (control_fields c padding) ≡ Some offset → control_read c padding n ≡ Err (Field offset)
+control_read-faulty : (c : ControlHeader) (padding n offset : ℕ)
+    → first_outside (control_fields c padding) ≡ Some offset
+    → control_read c padding n ≡ Err (Field offset)
 unfolding control_read control_fault
 control_read-faulty c padding n offset h = faulty _ _ (Control c) 16 n offset h
 
@@ -212,20 +264,26 @@ first_outside-decoded offset bytes (inr (kind, of_kind, fault)) =
     ∙ ap (λ k. read_as k bytes) (kind_of-control kind)
     ∙ control_read-faulty (control_at kind bytes) (number_at 9 7 bytes) (length bytes) offset fault
 
-misfits : (fault : Option ℕ) (fits : Bool) (p : Packet) (want got : ℕ) → fault ≡ None → fits ≡ false → checked fault fits p want got ≡ Err (Length want got)
+misfits : (fault : Option ℕ) (fits : Bool) (p : Packet) (want got : ℕ) → fault ≡ None → fits ≡ false
+    → checked fault fits p want got ≡ Err (Length want got)
 misfits fault fits p want got f g = rw (f, g) refl
 
-message_read-misfits : (m : MessageHeader) (n : ℕ) → MessageInRange m → (MessageLength m.kind m.size m.number n → ⊥) → message_read m n ≡ Err (Length (wanted m.kind m.size m.number) n)
+message_read-misfits : (m : MessageHeader) (n : ℕ) → MessageInRange m
+    → (MessageLength m.kind m.size m.number n → ⊥)
+    → message_read m n ≡ Err (Length (wanted m.kind m.size m.number) n)
 unfolding message_read
 message_read-misfits m n range other =
-    misfits _ _ (Message m) _ n (message-no_fault m range) (unless-true _ (λ t. other (tested-length m.kind m.size m.number n t)))
+    misfits _ _ (Message m) _ n (message-no_fault m range)
+    (unless-true _ (λ t. other (tested-length m.kind m.size m.number n t)))
 
-control_read-misfits : (c : ControlHeader) (n : ℕ) → ControlInRange c → (n ≡ 16 → ⊥) → control_read c 0 n ≡ Err (Length 16 n)
+control_read-misfits : (c : ControlHeader) (n : ℕ) → ControlInRange c → (n ≡ 16 → ⊥)
+    → control_read c 0 n ≡ Err (Length 16 n)
 unfolding control_read
 control_read-misfits c n range other =
     misfits _ _ (Control c) 16 n (control-no_fault c range) (unless-true _ (λ t. other (eqb-true n 16 t)))
 
-misfit-decoded : (p : Packet) (bytes : List ℕ) → HasHead p bytes → InRange p → ¬ HasLength p (length bytes) → decoded bytes ≡ Err (Length (length_of p) (length bytes))
+misfit-decoded : (p : Packet) (bytes : List ℕ) → HasHead p bytes → InRange p
+    → ¬ HasLength p (length bytes) → decoded bytes ≡ Err (Length (length_of p) (length bytes))
 misfit-decoded (Message m) bytes h range other =
     message-decoded m bytes h ∙ message_read-misfits m (length bytes) range other
 misfit-decoded (Control c) bytes h range other =
@@ -235,22 +293,28 @@ misfit-decoded (Control c) bytes h range other =
 pub refuses-decoded : (bad : BadPacket) (bytes : List ℕ) → Refuses bad bytes → decoded bytes ≡ Err bad
 unfolding decoded
 refuses-decoded (Short len) bytes (e, h) = rw (lt-ltb (length bytes) 16 h, e) refl
-refuses-decoded (Magic byte) bytes (whole, e, other) = rw (short_no _ whole, other_magic _ (λ same. other (e ∙ same)), e) refl
+refuses-decoded (Magic byte) bytes (whole, e, other) =
+    rw (short_no _ whole, other_magic _ (λ same. other (e ∙ same)), e) refl
 refuses-decoded (NoKind byte) bytes (of_kind, h) =
-    decoded-of_kind bytes byte of_kind ∙ ap (λ k. read_as k bytes) (kind_of-none byte h) ∙ ap (λ b. Err (NoKind b)) of_kind.kind
+    decoded-of_kind bytes byte of_kind ∙ ap (λ k. read_as k bytes) (kind_of-none byte h)
+    ∙ ap (λ b. Err (NoKind b)) of_kind.kind
 refuses-decoded (Field offset) bytes h = first_outside-decoded offset bytes h
 refuses-decoded (Length want got) bytes h =
-    misfit-decoded h.packet bytes h.head h.in_range (λ long. h.other (rw h.own_length long)) ∙ (rw (h.wanted_length, h.own_length) refl)
+    misfit-decoded h.packet bytes h.head h.in_range (λ long. h.other (rw h.own_length long))
+    ∙ (rw (h.wanted_length, h.own_length) refl)
 
 -- the clauses of a call that answers so
-pub reading-spelled : (result : Result Packet BadPacket) (bytes : List ℕ) → result ≡ decoded bytes → IfOk result (λ p. Spells p bytes)
+pub reading-spelled : (result : Result Packet BadPacket) (bytes : List ℕ) → result ≡ decoded bytes
+    → IfOk result (λ p. Spells p bytes)
 reading-spelled (Ok p) bytes h = decoded-spells p bytes (sym h)
 reading-spelled (Err bad) bytes h = tt
 
-pub reading-found : (result : Result Packet BadPacket) (bytes : List ℕ) → result ≡ decoded bytes → (p : Packet) → Spells p bytes → result ≡ Ok p
+pub reading-found : (result : Result Packet BadPacket) (bytes : List ℕ) → result ≡ decoded bytes
+    → (p : Packet) → Spells p bytes → result ≡ Ok p
 reading-found result bytes h p s = h ∙ spells-decoded p bytes s
 
-pub reading-refused : (result : Result Packet BadPacket) (bytes : List ℕ) → result ≡ decoded bytes → (bad : BadPacket) → (result ≡ Err bad) ↔ Refuses bad bytes
+pub reading-refused : (result : Result Packet BadPacket) (bytes : List ℕ) → result ≡ decoded bytes
+    → (bad : BadPacket) → (result ≡ Err bad) ↔ Refuses bad bytes
 reading-refused result bytes h bad =
     (λ e. decoded-refuses bad bytes (sym h ∙ e), λ r. h ∙ refuses-decoded bad bytes r)
 
@@ -260,7 +324,8 @@ one_packet p q bytes s t =
     let e : Ok p ≡ Ok q = sym (spells-decoded p bytes s) ∙ spells-decoded q bytes t in
     cc
 
-message_in-some : (result : Result Packet BadPacket) (m : MessageHeader) → message_in result ≡ Some m → result ≡ Ok (Message m)
+message_in-some : (result : Result Packet BadPacket) (m : MessageHeader)
+    → message_in result ≡ Some m → result ≡ Ok (Message m)
 message_in-some (Ok (Message x)) m h = let e : x ≡ m = cc in ap (λ y. Ok (Message y)) e
 message_in-some (Ok (Control c)) m h = absurd (cc)
 message_in-some (Err bad) m h = absurd (cc)

@@ -5,7 +5,8 @@ use Rattle.packet_header.specs.declared.packet.MessageHeader.{MessageHeader}
 use Rattle.packet_header.specs.Parts.{packet_count}
 use Rattle.packet_header.specs.Header.{MessageInRange}
 
-pub request-in_range : (m : MessageHeader) → m.kind ≡ Request → m.req_type < 256 → m.size ≤ 1048576 → m.session < 65535 → m.number < packet_count m.size → MessageInRange m
+pub request-in_range : (m : MessageHeader) → m.kind ≡ Request → m.req_type < 256 → m.size ≤ 1048576
+    → m.session < 65535 → m.number < packet_count m.size → MessageInRange m
 request-in_range m kind types sizes session numbers =
     record {
       req_type = rw kind (omega arith, omega arith);
@@ -14,7 +15,8 @@ request-in_range m kind types sizes session numbers =
       number = rw kind (omega arith, omega arith);
     }
 
-pub rfr-in_range : (m : MessageHeader) → m.kind ≡ Rfr → m.req_type ≡ 0 → m.size ≡ 0 → m.session < 65535 → 0 < m.number → m.number ≤ 2046 → MessageInRange m
+pub rfr-in_range : (m : MessageHeader) → m.kind ≡ Rfr → m.req_type ≡ 0 → m.size ≡ 0
+    → m.session < 65535 → 0 < m.number → m.number ≤ 2046 → MessageInRange m
 rfr-in_range m kind types sizes session low high =
     record {
       req_type = rw kind (omega arith, omega arith);
@@ -23,7 +25,8 @@ rfr-in_range m kind types sizes session low high =
       number = rw kind (omega arith, omega arith);
     }
 
-pub cr-in_range : (m : MessageHeader) → m.kind ≡ Cr → m.req_type ≡ 0 → m.size ≡ 0 → m.session < 65535 → m.number ≤ 1022 → MessageInRange m
+pub cr-in_range : (m : MessageHeader) → m.kind ≡ Cr → m.req_type ≡ 0 → m.size ≡ 0
+    → m.session < 65535 → m.number ≤ 1022 → MessageInRange m
 cr-in_range m kind types sizes session high =
     record {
       req_type = rw kind (omega arith, omega arith);
@@ -32,7 +35,8 @@ cr-in_range m kind types sizes session high =
       number = rw kind (omega arith, omega arith);
     }
 
-pub response-in_range : (m : MessageHeader) → m.kind ≡ Response → m.req_type < 256 → m.size ≤ 1048576 → m.session < 65535 → m.number ≤ 2046 → MessageInRange m
+pub response-in_range : (m : MessageHeader) → m.kind ≡ Response → m.req_type < 256
+    → m.size ≤ 1048576 → m.session < 65535 → m.number ≤ 2046 → MessageInRange m
 response-in_range m kind types sizes session high =
     record {
       req_type = rw kind (omega arith, omega arith);

@@ -3,7 +3,10 @@ use Rattle.std.specs.Prelude.{ℕ, ◌-◌, ◌≤◌, nat_le, ◌&&◌, not, �
 use Rattle.packet_header.specs.declared.packet.Kind.{Kind}
 use Rattle.packet_header.specs.declared.packet.Kind.TheVariants.{Request, Rfr, Cr, Response}
 use Rattle.packet_header.specs.declared.packet.ControlKind.{ControlKind}
-use Rattle.packet_header.specs.declared.packet.ControlKind.TheVariants.{ConnectRequest, ConnectReply, DisconnectRequest, DisconnectReply}
+use Rattle.packet_header.specs.declared.packet.ControlKind.TheVariants.{ConnectRequest}
+use Rattle.packet_header.specs.declared.packet.ControlKind.TheVariants.{ConnectReply}
+use Rattle.packet_header.specs.declared.packet.ControlKind.TheVariants.{DisconnectRequest}
+use Rattle.packet_header.specs.declared.packet.ControlKind.TheVariants.{DisconnectReply}
 use Rattle.packet_header.specs.declared.ranges.Span.{Span}
 use Rattle.packet_header.specs.declared.ranges.MessageRow.{MessageRow}
 use Rattle.packet_header.specs.declared.ranges.ControlRow.{ControlRow}

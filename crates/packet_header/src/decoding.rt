@@ -5,7 +5,9 @@ ghost use Rattle.packet_header.specs.Header.{Spells, number_at};
 ghost use Rattle.packet_header.specs.Refusals.{Refuses};
 ghost use Rattle.packet_header.specs.declared.packet.BadPacket.{BadPacket};
 ghost use Rattle.packet_header.specs.declared.packet.Packet.{Packet};
-ghost use Rattle.packet_header.specs.Reading.{control_at, control_fault, control_read, decoded, kind_of, message_at, message_fault, is_full_part, is_server, message_read, server_of, wanted};
+ghost use Rattle.packet_header.specs.Reading.{control_at, control_fault, control_read, decoded};
+ghost use Rattle.packet_header.specs.Reading.{kind_of, message_at, message_fault, is_full_part};
+ghost use Rattle.packet_header.specs.Reading.{is_server, message_read, server_of, wanted};
 ghost use Rattle.packet_header.specs.Parts.{packet_count};
 
 use crate::layout::{

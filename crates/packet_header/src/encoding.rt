@@ -1,7 +1,8 @@
 //! Writing a header.
 ghost use Rattle.std.specs.Prelude.{◌≡◌, ◌<◌, ◌^◌, unwrap_or};
 ghost use Rattle.byteorder.specs.Endian.{big_number};
-ghost use Rattle.packet_header.specs.Header.{AreBytes, HasControlHead, HasHead, HasMessageHead, InRange, control_code, kind_code};
+ghost use Rattle.packet_header.specs.Header.{AreBytes, HasControlHead, HasHead, HasMessageHead};
+ghost use Rattle.packet_header.specs.Header.{InRange, control_code, kind_code};
 
 use crate::layout::{HEAD_BYTES, MAGIC, NO_SESSION};
 use crate::packet::{ControlHeader, ControlKind, Kind, MessageHeader, Packet};

@@ -1,5 +1,6 @@
 //! The transmit ring.
-ghost use Rattle.std.specs.Prelude.{◌≡◌, ◌<◌, ◌≤◌, ◌↔◌, [], ◌∷◌, ◌++◌, ◌+◌, ℕ, false, length, drop, slice_get, option_copied, IfOk, IfSome, IfNone, IsNone, IsTrue};
+ghost use Rattle.std.specs.Prelude.{◌≡◌, ◌<◌, ◌≤◌, ◌↔◌, [], ◌∷◌, ◌++◌, ◌+◌, ℕ, false, length, drop};
+ghost use Rattle.std.specs.Prelude.{slice_get, option_copied, IfOk, IfSome, IfNone, IsNone, IsTrue};
 ghost use Rattle.std.specs.List.{list_any, filter, Contains};
 ghost use Rattle.rpc_base.specs.Least.{least_number, least, without_least};
 ghost use Rattle.packet_rings.specs.Entries.{is_of, is_not_of, is_entry, number_of, NoneLower};

@@ -1,5 +1,6 @@
 -- Putting the text of one item after another on a page.
-use Rattle.std.proofs.Common.{◌≡◌, ℕ, ◌+◌, ◌<◌, List, [], ◌∷◌, ◌++◌, Option, length, get_or, take, drop, sym, ap, subst, ◌∙◌, append-nil, take-append-drop}
+use Rattle.std.proofs.Common.{◌≡◌, ℕ, ◌+◌, ◌<◌, List, [], ◌∷◌, ◌++◌, Option, length, get_or, take}
+use Rattle.std.proofs.Common.{drop, sym, ap, subst, ◌∙◌, append-nil, take-append-drop}
 use Rattle.std.proofs.lemmas.List.{take_more}
 use Rattle.std.proofs.lemmas.Grind.{flat_map-append}
 use Rattle.std.specs.Prelude.{flat_map}
@@ -14,7 +15,8 @@ flat_map-more f xs i d x below is =
     ∙ ap (λ y. flat_map f (take i xs) ++ (f y ++ [])) is ∙ ap (λ l. flat_map f (take i xs) ++ l) (append-nil (f x))
 
 -- all items: those up to x, and the rest
-pub flat_map-around : {X : Type 0} (f : X → List ℕ) (xs : List X) (i : ℕ) (d x : X) → i < length xs → get_or xs i d ≡ x
+pub flat_map-around : {X : Type 0} (f : X → List ℕ) (xs : List X) (i : ℕ) (d x : X) → i < length xs
+    → get_or xs i d ≡ x
     → (flat_map f (take i xs) ++ f x) ++ flat_map f (drop (i + 1) xs) ≡ flat_map f xs
 flat_map-around f xs i d x below is =
     ap (λ l. l ++ flat_map f (drop (i + 1) xs)) (sym (flat_map-more f xs i d x below is))
@@ -35,7 +37,8 @@ pub breaks-item : {X : Type 0} (f : X → List ℕ) (xs : List X) (i : ℕ) (d x
     → Breaks a old new before after (flat_map f xs)
 breaks-item f xs i d x below is a b old mid new before between after first second =
     subst (Breaks a old new before after) (flat_map-around f xs i d x below is)
-    (breaks-further a old new before after _ (flat_map f (drop (i + 1) xs)) (puts-breaks a b old mid new before between after _ _ first second))
+    (breaks-further a old new before after _ (flat_map f (drop (i + 1) xs))
+    (puts-breaks a b old mid new before between after _ _ first second))
 
 -- a part of the items was put after those before it
 pub puts-part : {X : Type 0} (f : X → List ℕ) (done part : List X)

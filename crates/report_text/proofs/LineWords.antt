@@ -1,5 +1,6 @@
 -- Words with a space between, and lines that are ended by line feeds, are read off their text.
-use Rattle.std.proofs.Common.{◌≡◌, ℕ, zero, suc, Bool, true, false, not, ◌&&◌, ◌==◌, List, [], ◌∷◌, ◌++◌, refl, sym, ap, ap₂, ◌∙◌, append_assoc, true≢false}
+use Rattle.std.proofs.Common.{◌≡◌, ℕ, zero, suc, Bool, true, false, not, ◌&&◌, ◌==◌, List, [], ◌∷◌}
+use Rattle.std.proofs.Common.{◌++◌, refl, sym, ap, ap₂, ◌∙◌, append_assoc, true≢false}
 use Rattle.std.proofs.lemmas.Bool.{and_parts}
 use Rattle.std.proofs.Common.{eq-eqb}
 use Rattle.rpc_base.proofs.BasicLemmas.{not-true}
@@ -51,7 +52,8 @@ clash : (c y : ℕ) (b : Bool) → y ≡ c → not (y == c) && b ≡ true → �
 clash c y b e f = true≢false (sym (eq-eqb y c e) ∙ not-true (y == c) (and_parts _ _ f).0)
 
 -- what stands before the first c, and what after it
-pub split : (c : ℕ) (xs ys us vs : List ℕ) → free c xs ≡ true → free c ys ≡ true → xs ++ c ∷ us ≡ ys ++ c ∷ vs → (xs ≡ ys) × (us ≡ vs)
+pub split : (c : ℕ) (xs ys us vs : List ℕ) → free c xs ≡ true → free c ys ≡ true
+    → xs ++ c ∷ us ≡ ys ++ c ∷ vs → (xs ≡ ys) × (us ≡ vs)
 split c [] [] us vs f g e = (refl, ap tail e)
 split c [] (y ∷ ys) us vs f g e = absurd (clash c y (free c ys) (sym (ap head e)) g)
 split c (x ∷ xs) [] us vs f g e = absurd (clash c x (free c xs) (ap head e) f)
@@ -83,7 +85,8 @@ ended-same (w ∷ ws) (v ∷ vs) f g e =
     ap₂ (λ z zs. z ∷ zs) t.0 (ended-same ws vs f.1 g.1 t.1)
 
 -- lines with the same words are the same
-pub joined-same : (w v : List ℕ) (ws vs : List (List ℕ)) → AllWords (w ∷ ws) → AllWords (v ∷ vs) → joined (w ∷ ws) ≡ joined (v ∷ vs) → w ∷ ws ≡ v ∷ vs
+pub joined-same : (w v : List ℕ) (ws vs : List (List ℕ)) → AllWords (w ∷ ws) → AllWords (v ∷ vs)
+    → joined (w ∷ ws) ≡ joined (v ∷ vs) → w ∷ ws ≡ v ∷ vs
 joined-same w v ws vs f g e =
     ended-same (w ∷ ws) (v ∷ vs) f g (sym (ended-from w ws) ∙ ap (λ t. t ++ 32 ∷ []) e ∙ ended-from v vs)
 
@@ -105,7 +108,8 @@ pub free-joined : (ws : List (List ℕ)) → AllWords ws → free 10 (joined ws)
 free-joined [] f = refl
 free-joined (w ∷ ws) f = free-from w ws f
 
-pub joined-other : (ws vs : List (List ℕ)) → (ws ≡ [] → ⊥) → (vs ≡ [] → ⊥) → AllWords ws → AllWords vs → joined ws ≡ joined vs → ws ≡ vs
+pub joined-other : (ws vs : List (List ℕ)) → (ws ≡ [] → ⊥) → (vs ≡ [] → ⊥) → AllWords ws
+    → AllWords vs → joined ws ≡ joined vs → ws ≡ vs
 joined-other [] vs a b f g e = absurd (a refl)
 joined-other (w ∷ ws) [] a b f g e = absurd (b refl)
 joined-other (w ∷ ws) (v ∷ vs) a b f g e = joined-same w v ws vs f g e

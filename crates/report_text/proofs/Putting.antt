@@ -1,11 +1,13 @@
 -- Putting one text after another on a page.
-use Rattle.std.proofs.Common.{◌≡◌, ℕ, List, [], ◌++◌, Option, Result, Ok, Err, refl, sym, ap, subst, ◌∙◌, append_assoc, append-nil}
+use Rattle.std.proofs.Common.{◌≡◌, ℕ, List, [], ◌++◌, Option, Result, Ok, Err, refl, sym, ap, subst}
+use Rattle.std.proofs.Common.{◌∙◌, append_assoc, append-nil}
 use Rattle.rpc_outside.proofs.Printing.{wrote-nothing, wrote-then, wrote-broke, broke-longer, prints-then}
 use Rattle.rpc_outside.specs.Writing.{Wrote, Broke, Prints}
 use Rattle.report_text.specs.Page.{Puts, Breaks, Filled}
 
 -- a text that fits stays on the page
-pub puts-held : (held : List ℕ) (known : Option (List ℕ)) (count : ℕ) (text : List ℕ) → Puts held (held ++ text) known known count count text
+pub puts-held : (held : List ℕ) (known : Option (List ℕ)) (count : ℕ) (text : List ℕ)
+    → Puts held (held ++ text) known known count count text
 puts-held held known count text = record { moved = []; whole = refl; wrote = wrote-nothing known count }
 
 -- nothing was put
@@ -13,8 +15,10 @@ pub puts-nothing : (held : List ℕ) (known : Option (List ℕ)) (count : ℕ) �
 puts-nothing held known count = record { moved = []; whole = append-nil held; wrote = wrote-nothing known count }
 
 -- what the page held was written, and then the text
-pub fills-past : {T E : Type 0} (held : List ℕ) (old mid new : Option (List ℕ)) (before between after : ℕ) (result : Result T E) (text : List ℕ)
-    → Wrote old mid before between held → Prints mid new between after result text → Filled held [] old new before after result text
+pub fills-past : {T E : Type 0} (held : List ℕ) (old mid new : Option (List ℕ))
+    (before between after : ℕ) (result : Result T E) (text : List ℕ)
+    → Wrote old mid before between held → Prints mid new between after result text
+    → Filled held [] old new before after result text
 fills-past held old mid new before between after (Ok _) text first second = record {
   moved = held ++ text;
   whole = sym (append-nil (held ++ text));
@@ -26,7 +30,8 @@ fills-past held old mid new before between after (Err _) text first second = rec
 
 -- one text was put, and then another
 pub puts-then : (a b c : List ℕ) (old mid new : Option (List ℕ)) (before between after : ℕ) (text more : List ℕ)
-    → Puts a b old mid before between text → Puts b c mid new between after more → Puts a c old new before after (text ++ more)
+    → Puts a b old mid before between text → Puts b c mid new between after more
+    → Puts a c old new before after (text ++ more)
 puts-then a b c old mid new before between after text more first second = record {
   moved = first.moved ++ second.moved;
   whole = sym (append_assoc a text more) ∙ ap (λ l. l ++ more) first.whole ∙ append_assoc first.moved b more
@@ -36,15 +41,22 @@ puts-then a b c old mid new before between after text more first second = record
 
 -- one text was put, and then a fault came in another
 pub puts-breaks : (a b : List ℕ) (old mid new : Option (List ℕ)) (before between after : ℕ) (text more : List ℕ)
-    → Puts a b old mid before between text → Breaks b mid new between after more → Breaks a old new before after (text ++ more)
+    → Puts a b old mid before between text → Breaks b mid new between after more
+    → Breaks a old new before after (text ++ more)
 puts-breaks a b old mid new before between after text more first second =
     let same : first.moved ++ (b ++ more) ≡ a ++ (text ++ more) =
     sym (append_assoc first.moved b more) ∙ ap (λ l. l ++ more) (sym first.whole) ∙ append_assoc a text more in
-    record { broke = subst (Broke old new before after) same (wrote-broke old mid new before between after first.moved (b ++ more) first.wrote second.broke) }
+    record {
+      broke = subst (Broke old new before after) same
+          (wrote-broke old mid new before between after first.moved (b ++ more) first.wrote
+          second.broke);
+    }
 
 -- one text was put, and then another one or a front of it
-pub fills-then : {T E : Type 0} (a b c : List ℕ) (old mid new : Option (List ℕ)) (before between after : ℕ) (result : Result T E) (text more : List ℕ)
-    → Puts a b old mid before between text → Filled b c mid new between after result more → Filled a c old new before after result (text ++ more)
+pub fills-then : {T E : Type 0} (a b c : List ℕ) (old mid new : Option (List ℕ))
+    (before between after : ℕ) (result : Result T E) (text more : List ℕ)
+    → Puts a b old mid before between text → Filled b c mid new between after result more
+    → Filled a c old new before after result (text ++ more)
 fills-then a b c old mid new before between after (Ok _) text more first second =
     puts-then a b c old mid new before between after text more first second
 fills-then a b c old mid new before between after (Err _) text more first second =
@@ -54,14 +66,19 @@ fills-then a b c old mid new before between after (Err _) text more first second
 pub breaks-further : (held : List ℕ) (old new : Option (List ℕ)) (before after : ℕ) (text more : List ℕ)
     → Breaks held old new before after text → Breaks held old new before after (text ++ more)
 breaks-further held old new before after text more broke =
-    record { broke = subst (Broke old new before after) (append_assoc held text more) (broke-longer old new before after (held ++ text) more broke.broke) }
+    record {
+      broke = subst (Broke old new before after) (append_assoc held text more)
+          (broke-longer old new before after (held ++ text) more broke.broke);
+    }
 
 -- the same of two texts, put as one
-pub fills-two : {T E : Type 0} (a b c : List ℕ) (old mid new : Option (List ℕ)) (before between after : ℕ) (result : Result T E) (text more last : List ℕ)
+pub fills-two : {T E : Type 0} (a b c : List ℕ) (old mid new : Option (List ℕ))
+    (before between after : ℕ) (result : Result T E) (text more last : List ℕ)
     → Puts a b old mid before between text → Filled b c mid new between after result (more ++ last)
     → Filled a c old new before after result (text ++ more ++ last)
 fills-two a b c old mid new before between after result text more last first second =
-    rw (append_assoc text more last) (fills-then a b c old mid new before between after result text (more ++ last) first second)
+    rw (append_assoc text more last) (fills-then a b c old mid new before between after result text
+    (more ++ last) first second)
 
 pub breaks-further-two : (held : List ℕ) (old new : Option (List ℕ)) (before after : ℕ) (text more last : List ℕ)
     → Breaks held old new before after text → Breaks held old new before after (text ++ more ++ last)
@@ -69,8 +86,10 @@ breaks-further-two held old new before after text more last broke =
     rw (append_assoc text more last) (breaks-further held old new before after text (more ++ last) broke)
 
 -- a text was put on an empty page, and then the page was written
-pub prints-page : {T E : Type 0} (empty held : List ℕ) (old mid new : Option (List ℕ)) (before between after : ℕ) (result : Result T E) (text : List ℕ)
-    → empty ≡ [] → Puts empty held old mid before between text → Prints mid new between after result held → Prints old new before after result text
+pub prints-page : {T E : Type 0} (empty held : List ℕ) (old mid new : Option (List ℕ))
+    (before between after : ℕ) (result : Result T E) (text : List ℕ)
+    → empty ≡ [] → Puts empty held old mid before between text
+    → Prints mid new between after result held → Prints old new before after result text
 prints-page empty held old mid new before between after result text none first second =
     let same : text ≡ first.moved ++ held = ap (λ l. l ++ text) (sym none) ∙ first.whole in
     rw same (prints-then old mid new before between after result first.moved held first.wrote second)

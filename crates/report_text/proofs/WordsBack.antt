@@ -1,12 +1,20 @@
 -- What a word tells: a number, bytes, a state or a reason.
-use Rattle.std.proofs.Common.{◌≡◌, if◌then◌else◌, tests, ne_eqb, ℕ, ◌+◌, ◌*◌, ◌-◌, ◌/◌, ◌%◌, ◌<◌, ◌≤◌, ◌^◌, true, false, ◌==◌, cond, nat_lt, List, [], ◌∷◌, refl, ap₂, arith, codes, decimal, flat_map}
+use Rattle.std.proofs.Common.{◌≡◌, if◌then◌else◌, tests, ne_eqb, ℕ, ◌+◌, ◌*◌, ◌-◌, ◌/◌, ◌%◌, ◌<◌}
+use Rattle.std.proofs.Common.{◌≤◌, ◌^◌, true, false, ◌==◌, cond, nat_lt, List, [], ◌∷◌, refl, ap₂}
+use Rattle.std.proofs.Common.{arith, codes, decimal, flat_map}
 use Rattle.std.proofs.lemmas.Fmt.{digits_decimal, digits_value-decimal}
 use Rattle.std.proofs.lemmas.Str.Parse.{IsNumeralModel, numerals_by_value, tells_digits, digit_from_value}
 use Rattle.std.specs.Str.Parse.{digits_value, AllDigits}
 use Rattle.rpc_base.specs.declared.state.SessionState.{SessionState}
-use Rattle.rpc_base.specs.declared.state.SessionState.TheVariants.{Unknown, Connecting, Connected, Closing, Closed, Failed, Broken, Spent}
+use Rattle.rpc_base.specs.declared.state.SessionState.TheVariants.{Unknown, Connecting, Connected}
+use Rattle.rpc_base.specs.declared.state.SessionState.TheVariants.{Closing, Closed, Failed, Broken}
+use Rattle.rpc_base.specs.declared.state.SessionState.TheVariants.{Spent}
 use Rattle.rpc_base.specs.declared.state.DropReason.{DropReason}
-use Rattle.rpc_base.specs.declared.state.DropReason.TheVariants.{NoSession, WrongPeer, Old, NotFirst, Working, Unserved, JobsFull, NoMemory, Mismatch, Ahead, Beyond, NoCall, Past, Queued}
+use Rattle.rpc_base.specs.declared.state.DropReason.TheVariants.{NoSession, WrongPeer, Old}
+use Rattle.rpc_base.specs.declared.state.DropReason.TheVariants.{NotFirst, Working, Unserved}
+use Rattle.rpc_base.specs.declared.state.DropReason.TheVariants.{JobsFull, NoMemory, Mismatch}
+use Rattle.rpc_base.specs.declared.state.DropReason.TheVariants.{Ahead, Beyond, NoCall, Past}
+use Rattle.rpc_base.specs.declared.state.DropReason.TheVariants.{Queued}
 use Rattle.report_text.specs.Names.{state_text, reason_text, hex_digit, byte_text, bytes_text}
 use Rattle.report_text.proofs.LineWords.{free, IsWord, same}
 
@@ -26,7 +34,10 @@ digits-free c h (d ∷ ds) a = rw (ne_eqb d c (λ e. omega (arith, digit_from_va
 
 -- it is a word
 pub number-word : (n : ℕ) → n < 2 ^ 64 → IsWord (decimal n)
-number-word n h = (digits-free 32 (omega arith) (decimal n) (digits_decimal own n h), digits-free 10 (omega arith) (decimal n) (digits_decimal own n h))
+number-word n h = (
+  digits-free 32 (omega arith) (decimal n) (digits_decimal own n h),
+  digits-free 10 (omega arith) (decimal n) (digits_decimal own n h),
+)
 
 -- and no other word that begins with a letter
 pub number-other : (n c : ℕ) (cs : List ℕ) → 58 ≤ c → n < 2 ^ 64 → same (decimal n) (c ∷ cs) ≡ false
@@ -65,7 +76,9 @@ bytes-free c h [] = rw (ne_eqb 45 c (omega arith)) refl
 bytes-free c h (b ∷ bs) = pairs-free (b ∷ bs) where
   pairs-free : (bs : List ℕ) → free c (flat_map byte_text bs) ≡ true
   pairs-free [] = refl
-  pairs-free (b ∷ bs) = rw (digit-other (b / 16) c (omega arith), digit-other (b % 16) c (omega arith), pairs-free bs) refl
+  pairs-free (b ∷ bs) =
+      rw (digit-other (b / 16) c (omega arith), digit-other (b % 16) c (omega arith), pairs-free bs)
+      refl
 
 pub bytes-word : (bs : List ℕ) → IsWord (bytes_text bs)
 bytes-word bs = (bytes-free 32 (omega arith) bs, bytes-free 10 (omega arith) bs)
@@ -73,7 +86,8 @@ bytes-word bs = (bytes-free 32 (omega arith) bs, bytes-free 10 (omega arith) bs)
 -- the state that a word names
 abbrev pub state_of : List ℕ → SessionState
 state_of w = cond (same w (codes "unknown")) Unknown (cond (same w (codes "connecting")) Connecting
-    (cond (same w (codes "connected")) Connected (cond (same w (codes "closing")) Closing (cond (same w (codes "closed")) Closed
+    (cond (same w (codes "connected")) Connected
+    (cond (same w (codes "closing")) Closing (cond (same w (codes "closed")) Closed
     (cond (same w (codes "failed")) Failed (cond (same w (codes "broken")) Broken Spent))))))
 
 pub state-word : (state : SessionState) → IsWord (state_text state)

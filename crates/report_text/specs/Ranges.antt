@@ -1,7 +1,20 @@
 -- What the types of the numbers of a fact say: each is below 2 ^ 64.
 use Rattle.std.specs.Prelude.{◌<◌, ◌^◌}
 use Rattle.rpc_base.specs.declared.event.Event.{Event}
-use Rattle.rpc_base.specs.declared.event.Event.TheVariants.{Made, Opened, PairedClient, PairedServer, NconnectRing, NconnectNumbers, Accepted, Declined, Starved, Connected, FailedNoRoom, FailedNoAnswer, Closing, NcloseState, NcloseBusy, ClosedHeard, ClosedUnheard, Ended, Broken, Rated, Nrate, Asked, NcallTooLarge, NcallState, Begun, Posted, Flushed, Sent, Unsent, Arrived, Overflowed, Bad, Heard, Took, Again, Dropped, Given, Worked, Ran, Rolled, DoneOk, DoneTooSmall, DonePeerLost, Polled, Missed, Carried, Lost, Repeated, Ticked}
+use Rattle.rpc_base.specs.declared.event.Event.TheVariants.{Made, Opened, PairedClient}
+use Rattle.rpc_base.specs.declared.event.Event.TheVariants.{PairedServer, NconnectRing}
+use Rattle.rpc_base.specs.declared.event.Event.TheVariants.{NconnectNumbers, Accepted, Declined}
+use Rattle.rpc_base.specs.declared.event.Event.TheVariants.{Starved, Connected, FailedNoRoom}
+use Rattle.rpc_base.specs.declared.event.Event.TheVariants.{FailedNoAnswer, Closing, NcloseState}
+use Rattle.rpc_base.specs.declared.event.Event.TheVariants.{NcloseBusy, ClosedHeard, ClosedUnheard}
+use Rattle.rpc_base.specs.declared.event.Event.TheVariants.{Ended, Broken, Rated, Nrate, Asked}
+use Rattle.rpc_base.specs.declared.event.Event.TheVariants.{NcallTooLarge, NcallState, Begun}
+use Rattle.rpc_base.specs.declared.event.Event.TheVariants.{Posted, Flushed, Sent, Unsent, Arrived}
+use Rattle.rpc_base.specs.declared.event.Event.TheVariants.{Overflowed, Bad, Heard, Took, Again}
+use Rattle.rpc_base.specs.declared.event.Event.TheVariants.{Dropped, Given, Worked, Ran, Rolled}
+use Rattle.rpc_base.specs.declared.event.Event.TheVariants.{DoneOk, DoneTooSmall, DonePeerLost}
+use Rattle.rpc_base.specs.declared.event.Event.TheVariants.{Polled, Missed, Carried, Lost, Repeated}
+use Rattle.rpc_base.specs.declared.event.Event.TheVariants.{Ticked}
 use Rattle.rpc_base.specs.declared.fact.Fact.{Fact}
 use Rattle.rpc_base.specs.declared.fact.Who.{Who}
 use Rattle.rpc_base.specs.declared.fact.Who.TheVariants.{Node, Net}

@@ -1,9 +1,11 @@
 -- The few shapes that the lines of a report have.
 use Rattle.std.specs.Prelude.{ℕ, List, ◌++◌, codes, decimal}
 use Rattle.rpc_base.specs.declared.event.Event.{Event}
-use Rattle.rpc_base.specs.declared.event.Event.TheVariants.{Asked, Sent, Unsent, Arrived, Overflowed, Bad, Ran, DoneOk}
+use Rattle.rpc_base.specs.declared.event.Event.TheVariants.{Asked, Sent, Unsent, Arrived}
+use Rattle.rpc_base.specs.declared.event.Event.TheVariants.{Overflowed, Bad, Ran, DoneOk}
 use Rattle.report_text.specs.declared.shape.Shape.{Shape}
-use Rattle.report_text.specs.declared.shape.Shape.TheVariants.{Word, One, Two, Three, Four, Ending, State, Reason, Entry, Datagram}
+use Rattle.report_text.specs.declared.shape.Shape.TheVariants.{Word, One, Two, Three, Four, Ending}
+use Rattle.report_text.specs.declared.shape.Shape.TheVariants.{State, Reason, Entry, Datagram}
 use Rattle.report_text.specs.declared.shape.Tail.{Tail}
 use Rattle.report_text.specs.declared.shape.Tail.TheVariants.{Nothing, First, Both}
 use Rattle.report_text.specs.Names.{owner_text, state_text, reason_text, bytes_text}

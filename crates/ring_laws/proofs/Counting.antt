@@ -1,5 +1,7 @@
 -- How many elements of a list pass a test, and what the elements add up to.
-use Rattle.std.proofs.Common.{◌≡◌, ◌+◌, ◌≤◌, ℕ, zero, suc, Bool, true, false, cond, List, [], ◌∷◌, ◌++◌, length, take, drop, Option, Some, None, slice_get, refl, sym, ap, ◌∙◌, subst, arith}
+use Rattle.std.proofs.Common.{◌≡◌, ◌+◌, ◌≤◌, ℕ, zero, suc, Bool, true, false, cond, List, [], ◌∷◌}
+use Rattle.std.proofs.Common.{◌++◌, length, take, drop, Option, Some, None, slice_get, refl, sym}
+use Rattle.std.proofs.Common.{ap, ◌∙◌, subst, arith}
 use Rattle.std.specs.Prelude.{◌||◌, option_to_list, sum_by}
 use Rattle.std.specs.List.{find, remove, AllByRecursion}
 use Rattle.std.proofs.lemmas.List.Sums.{sum_by-cons}
@@ -34,7 +36,9 @@ module _ {A : Type 0} (p : A → Bool) where
   count-drop [] = omega arith
   count-drop (x ∷ xs) = omega arith
 
-  less-by : (q : A → Bool) (x : A) (xs : List A) (b : Bool) → count p (without_first q xs) ≤ count p xs → count p (cond b xs (x ∷ without_first q xs)) ≤ cond (p x) 1 0 + count p xs
+  less-by : (q : A → Bool) (x : A) (xs : List A) (b : Bool)
+      → count p (without_first q xs) ≤ count p xs
+      → count p (cond b xs (x ∷ without_first q xs)) ≤ cond (p x) 1 0 + count p xs
   less-by q x xs true ih = omega arith
   less-by q x xs false ih = omega arith
 
@@ -42,18 +46,25 @@ module _ {A : Type 0} (p : A → Bool) where
   count-less q [] = omega arith
   count-less q (x ∷ xs) = less-by q x xs (q x) (count-less q xs)
 
-  out-by : (q : A → Bool) (x : A) (xs : List A) (b : Bool) → count p (without_first q xs) + count p (option_to_list (find q xs)) ≡ count p xs → count p (cond b xs (x ∷ without_first q xs)) + count p (option_to_list (cond b (Some x) (find q xs))) ≡ cond (p x) 1 0 + count p xs
+  out-by : (q : A → Bool) (x : A) (xs : List A) (b : Bool)
+      → count p (without_first q xs) + count p (option_to_list (find q xs)) ≡ count p xs
+      → count p (cond b xs (x ∷ without_first q xs))
+      + count p (option_to_list (cond b (Some x) (find q xs))) ≡ cond (p x) 1 0 + count p xs
   out-by q x xs true ih = omega arith
   out-by q x xs false ih = omega arith
 
   -- what is taken out, and the rest
-  pub count-out : (q : A → Bool) (xs : List A) → count p (without_first q xs) + count p (option_to_list (find q xs)) ≡ count p xs
+  pub count-out : (q : A → Bool) (xs : List A)
+      → count p (without_first q xs) + count p (option_to_list (find q xs)) ≡ count p xs
   count-out q [] = omega arith
   count-out q (x ∷ xs) = out-by q x xs (q x) (count-out q xs)
 
-  pub count-found : (q : A → Bool) (xs : List A) (x : A) → find q xs ≡ Some x → count p (without_first q xs) + cond (p x) 1 0 ≡ count p xs
+  pub count-found : (q : A → Bool) (xs : List A) (x : A) → find q xs ≡ Some x
+      → count p (without_first q xs) + cond (p x) 1 0 ≡ count p xs
   count-found q xs x e =
-      let out : count p (without_first q xs) + count p (option_to_list (Some x)) ≡ count p xs = subst (λ (o : Option A). count p (without_first q xs) + count p (option_to_list o) ≡ count p xs) e (count-out q xs) in
+      let out : count p (without_first q xs) + count p (option_to_list (Some x)) ≡ count p xs =
+      subst (λ (o : Option A). count p (without_first q xs) + count p (option_to_list o)
+      ≡ count p xs) e (count-out q xs) in
       omega arith
 
   pub count-take : (i : ℕ) (xs : List A) → count p (take i xs) + count p (drop i xs) ≡ count p xs
@@ -62,7 +73,8 @@ module _ {A : Type 0} (p : A → Bool) where
   count-take (suc i) (x ∷ xs) = omega (arith, count-take i xs)
 
   -- an element is taken out by its place
-  pub count-remove : (xs : List A) (i : ℕ) → count p (remove xs i) + count p (option_to_list (slice_get xs i)) ≡ count p xs
+  pub count-remove : (xs : List A) (i : ℕ)
+      → count p (remove xs i) + count p (option_to_list (slice_get xs i)) ≡ count p xs
   count-remove [] zero = omega arith
   count-remove [] (suc i) = omega arith
   count-remove (x ∷ xs) zero = omega arith
@@ -73,19 +85,22 @@ module _ {A : Type 0} (p : A → Bool) where
   count-none (x ∷ xs) none = let one : cond {A = ℕ} (p x) 1 0 ≡ 0 = ap {B = ℕ} (λ (b : Bool). cond b 1 0) (none x) in omega (arith, count-none xs none)
 
 -- the front is found where it passes
-pub find-front : {A : Type 0} (q : A → Bool) (xs : List A) (x : A) → slice_get xs 0 ≡ Some x → q x ≡ true → find q xs ≡ Some x
+pub find-front : {A : Type 0} (q : A → Bool) (xs : List A) (x : A) → slice_get xs 0 ≡ Some x
+    → q x ≡ true → find q xs ≡ Some x
 find-front q [] x is t = cc
 find-front q (y ∷ ys) x is t =
     let same : x ≡ y = cc in
     let passes : q y ≡ true = ap q (sym same) ∙ t in
     rw passes is
 
-some-by : {A : Type 0} (q : A → Bool) (y : A) (ys : List A) (b : Bool) → ((z : A) × (find q ys ≡ Some z)) → (z : A) × (cond b (Some y) (find q ys) ≡ Some z)
+some-by : {A : Type 0} (q : A → Bool) (y : A) (ys : List A) (b : Bool)
+    → ((z : A) × (find q ys ≡ Some z)) → (z : A) × (cond b (Some y) (find q ys) ≡ Some z)
 some-by q y ys true ih = (y, refl)
 some-by q y ys false ih = ih
 
 -- one that passes is found, or another before it
-pub find-some : {A : Type 0} (q : A → Bool) (xs : List A) (i : ℕ) (x : A) → slice_get xs i ≡ Some x → q x ≡ true → (z : A) × (find q xs ≡ Some z)
+pub find-some : {A : Type 0} (q : A → Bool) (xs : List A) (i : ℕ) (x : A) → slice_get xs i ≡ Some x
+    → q x ≡ true → (z : A) × (find q xs ≡ Some z)
 find-some q [] i x is t = cc
 find-some q (y ∷ ys) zero x is t = (x, find-front q (y ∷ ys) x is t)
 find-some q (y ∷ ys) (suc i) x is t = some-by q y ys (q y) (find-some q ys i x is t)
@@ -95,34 +110,49 @@ abbrev pub value : {A : Type 0} → (A → ℕ) → Option A → ℕ
 value f None = 0
 value f (Some x) = f x
 
-value-cond : {A : Type 0} (f : A → ℕ) (x y : A) (o : Option A) (b : Bool) → f x ≡ f y → value f (cond b (Some x) o) ≡ value f (cond b (Some y) o)
+value-cond : {A : Type 0} (f : A → ℕ) (x y : A) (o : Option A) (b : Bool) → f x ≡ f y
+    → value f (cond b (Some x) o) ≡ value f (cond b (Some y) o)
 value-cond f x y o true e = e
 value-cond f x y o false e = refl
 
-value-rest : {A : Type 0} (f : A → ℕ) (x : A) (o u : Option A) (b : Bool) → value f o ≡ value f u → value f (cond b (Some x) o) ≡ value f (cond b (Some x) u)
+value-rest : {A : Type 0} (f : A → ℕ) (x : A) (o u : Option A) (b : Bool) → value f o ≡ value f u
+    → value f (cond b (Some x) o) ≡ value f (cond b (Some x) u)
 value-rest f x o u true e = refl
 value-rest f x o u false e = e
 
-value-step : {A : Type 0} (f : A → ℕ) (p q : A → Bool) (change : A → A) (x : A) (xs : List A) (a : Bool) → q (change x) ≡ q x → f (change x) ≡ f x → value f (find q (at_first p change xs)) ≡ value f (find q xs) → value f (find q (cond a (change x ∷ xs) (x ∷ at_first p change xs))) ≡ value f (cond (q x) (Some x) (find q xs))
+value-step : {A : Type 0} (f : A → ℕ) (p q : A → Bool) (change : A → A) (x : A) (xs : List A)
+    (a : Bool) → q (change x) ≡ q x → f (change x) ≡ f x
+    → value f (find q (at_first p change xs)) ≡ value f (find q xs)
+    → value f (find q (cond a (change x ∷ xs) (x ∷ at_first p change xs)))
+    ≡ value f (cond (q x) (Some x) (find q xs))
 value-step f p q change x xs true e g ih =
     ap (λ b. value f (cond b (Some (change x)) (find q xs))) e ∙ value-cond f (change x) x (find q xs) (q x) g
 value-step f p q change x xs false e g ih = value-rest f x _ _ (q x) ih
 
 -- a value that a change of one element keeps
-pub value-kept : {A : Type 0} (f : A → ℕ) (p q : A → Bool) (change : A → A) (xs : List A) → ((x : A) → q (change x) ≡ q x) → ((x : A) → f (change x) ≡ f x) → value f (find q (at_first p change xs)) ≡ value f (find q xs)
+pub value-kept : {A : Type 0} (f : A → ℕ) (p q : A → Bool) (change : A → A) (xs : List A)
+    → ((x : A) → q (change x) ≡ q x) → ((x : A) → f (change x) ≡ f x)
+    → value f (find q (at_first p change xs)) ≡ value f (find q xs)
 value-kept f p q change [] k h = refl
 value-kept f p q change (x ∷ xs) k h = value-step f p q change x xs (p x) (k x) (h x) (value-kept f p q change xs k h)
 
-apart-by : {A : Type 0} (p q : A → Bool) (change : A → A) (x : A) (xs : List A) (a b : Bool) → p x ≡ a → q x ≡ b → (p x ≡ true → q x ≡ false) → q (change x) ≡ q x → find q (at_first p change xs) ≡ find q xs → find q (cond a (change x ∷ xs) (x ∷ at_first p change xs)) ≡ cond b (Some x) (find q xs)
+apart-by : {A : Type 0} (p q : A → Bool) (change : A → A) (x : A) (xs : List A) (a b : Bool)
+    → p x ≡ a → q x ≡ b → (p x ≡ true → q x ≡ false) → q (change x) ≡ q x
+    → find q (at_first p change xs) ≡ find q xs
+    → find q (cond a (change x ∷ xs) (x ∷ at_first p change xs)) ≡ cond b (Some x) (find q xs)
 apart-by p q change x xs true true e g apart k ih = let f = apart e in cc
 apart-by p q change x xs true false e g apart k ih = let f : q (change x) ≡ false = k ∙ g in rw f refl
 apart-by p q change x xs false true e g apart k ih = rw g refl
 apart-by p q change x xs false false e g apart k ih = rw g ih
 
 -- what another test finds
-pub find-apart : {A : Type 0} (p q : A → Bool) (change : A → A) (xs : List A) → ((x : A) → p x ≡ true → q x ≡ false) → ((x : A) → q (change x) ≡ q x) → find q (at_first p change xs) ≡ find q xs
+pub find-apart : {A : Type 0} (p q : A → Bool) (change : A → A) (xs : List A)
+    → ((x : A) → p x ≡ true → q x ≡ false) → ((x : A) → q (change x) ≡ q x)
+    → find q (at_first p change xs) ≡ find q xs
 find-apart p q change [] apart k = refl
-find-apart p q change (x ∷ xs) apart k = apart-by p q change x xs (p x) (q x) refl refl (apart x) (k x) (find-apart p q change xs apart k)
+find-apart p q change (x ∷ xs) apart k =
+    apart-by p q change x xs (p x) (q x) refl refl (apart x) (k x)
+    (find-apart p q change xs apart k)
 
 -- whether one of them passes
 abbrev pub some_of : {A : Type 0} → (A → Bool) → List A → Bool
@@ -146,13 +176,22 @@ total-le f g [] h = omega arith
 total-le f g (x ∷ xs) h = let one = h.0 in omega (arith, total-le f g xs h.1)
 
 -- a list each of whose elements is counted by one of some tests or of others is no longer than the counts
-pub covered : {A B D : Type 0} (p : A → D → Bool) (q : B → D → Bool) (xs : List A) (ys : List B) (ds : List D) → AllByRecursion (λ d. (some_of (λ x. p x d) xs || some_of (λ y. q y d) ys) ≡ true) ds → length ds ≤ total (λ x. count (p x) ds) xs + total (λ y. count (q y) ds) ys
+pub covered : {A B D : Type 0} (p : A → D → Bool) (q : B → D → Bool) (xs : List A) (ys : List B)
+    (ds : List D) → AllByRecursion (λ d. (some_of (λ x. p x d) xs || some_of (λ y. q y d) ys)
+    ≡ true) ds → length ds ≤ total (λ x. count (p x) ds) xs + total (λ y. count (q y) ds) ys
 covered p q xs ys [] h = omega arith
 covered p q xs ys (d ∷ ds) h =
     let rest = covered p q xs ys ds h.1 in
-    let first : total (λ x. cond (p x d) 1 0 + count (p x) ds) xs ≡ total (λ x. cond (p x d) 1 0) xs + total (λ x. count (p x) ds) xs = total-plus (λ x. cond (p x d) 1 0) (λ x. count (p x) ds) xs in
-    let second : total (λ y. cond (q y d) 1 0 + count (q y) ds) ys ≡ total (λ y. cond (q y d) 1 0) ys + total (λ y. count (q y) ds) ys = total-plus (λ y. cond (q y d) 1 0) (λ y. count (q y) ds) ys in
-    let one = one-of (some_of (λ x. p x d) xs) (some_of (λ y. q y d) ys) (total (λ x. cond (p x d) 1 0) xs) (total (λ y. cond (q y d) 1 0) ys) h.0 (some-counts (λ x. p x d) xs) (some-counts (λ y. q y d) ys) in
+    let first : total (λ x. cond (p x d) 1 0 + count (p x) ds) xs
+    ≡ total (λ x. cond (p x d) 1 0) xs + total (λ x. count (p x) ds) xs =
+    total-plus (λ x. cond (p x d) 1 0) (λ x. count (p x) ds) xs in
+    let second : total (λ y. cond (q y d) 1 0 + count (q y) ds) ys
+    ≡ total (λ y. cond (q y d) 1 0) ys + total (λ y. count (q y) ds) ys =
+    total-plus (λ y. cond (q y d) 1 0) (λ y. count (q y) ds) ys in
+    let one = one-of (some_of (λ x. p x d) xs) (some_of (λ y. q y d) ys)
+    (total (λ x. cond (p x d) 1 0) xs)
+    (total (λ y. cond (q y d) 1 0) ys) h.0 (some-counts (λ x. p x d) xs)
+    (some-counts (λ y. q y d) ys) in
     omega arith
   where
     one-of : (a b : Bool) (n m : ℕ) → (a || b) ≡ true → (a ≡ true → 1 ≤ n) → (b ≡ true → 1 ≤ m) → 1 ≤ n + m

@@ -1,6 +1,8 @@
 -- What is on its way for one session: the packets of its two ends, in their nodes and in flight. A filter says
 -- which packets count, by their request and their number.
-use Rattle.std.proofs.Common.{◌≡◌, refl, ap, arith, ◌∷◌, ◌++◌, map, ◌+◌, ◌-◌, ◌≤◌, ◌==◌, ◌&&◌, ℕ, Bool, true, false, not, cond, List, [], length, Option, Some, None, slice_get}
+use Rattle.std.proofs.Common.{◌≡◌, refl, ap, arith, ◌∷◌, ◌++◌, map, ◌+◌, ◌-◌, ◌≤◌, ◌==◌, ◌&&◌, ℕ}
+use Rattle.std.proofs.Common.{Bool, true, false, not, cond, List, [], length, Option, Some, None}
+use Rattle.std.proofs.Common.{slice_get}
 use Rattle.std.specs.Prelude.{option_to_list, is_some}
 use Rattle.rpc_laws.specs.Front.{is_message}
 use Rattle.std.specs.List.{find}
@@ -64,12 +66,15 @@ own_job p t j = j.session == t && p j.request (packet_count (length j.ask) - 1)
 
 -- packets of client session s in a node: those that it queued, and replies in its ring
 abbrev pub client_packets : Filter → ℕ → Lists → ℕ
-client_packets p s l = count (λ q. own_ask p s q.owner q.number) l.queued + count (λ a. replies p s (message_of a.bytes)) l.ring
+client_packets p s l =
+    count (λ q. own_ask p s q.owner q.number) l.queued
+    + count (λ a. replies p s (message_of a.bytes)) l.ring
 
 -- packets of server session t in a node: replies that it queued, requests that are jobs, and packets in its ring
 abbrev pub server_packets : Filter → ℕ → Lists → ℕ
 server_packets p t l =
-    count (λ q. own_reply p t q.owner q.number) l.queued + count (own_job p t) l.jobs.out + count (λ a. asks p t (message_of a.bytes)) l.ring
+    count (λ q. own_reply p t q.owner q.number) l.queued + count (own_job p t) l.jobs.out
+    + count (λ a. asks p t (message_of a.bytes)) l.ring
 
 -- the free credits of client session s, and its limit
 abbrev pub free_of : ℕ → List Client → ℕ
@@ -131,7 +136,8 @@ owed p x w = cond (is_owed p x.node x.session (latest w.past)) 1 0
 
 -- the packets of a session that are on their way
 abbrev pub load : Filter → Pairing → Moment → ℕ
-load p x w = client_part p x w.nodes + server_part p x w.nodes + owed p x w + on_way p x w.flight + on_way p x (carried w)
+load p x w = client_part p x w.nodes + server_part p x w.nodes + owed p x w + on_way p x w.flight
+    + on_way p x (carried w)
 
 abbrev pub free : Pairing → List Lists → ℕ
 free x nodes = value (λ l. free_of x.client l.clients) (slice_get nodes x.home)
@@ -144,11 +150,15 @@ abbrev pub Within : Moment → Pairing → Type 0
 Within w x = load all x w + free x w.nodes ≤ limit x w.nodes
 
 -- a packet that is put among others
-put-by : (p : Queued → Bool) (q x : Queued) (xs : List Queued) (b : Bool) → count p (put_queued q xs) ≡ count p xs + cond (p q) 1 0 → count p (cond b (x ∷ put_queued q xs) (q ∷ x ∷ xs)) ≡ cond (p x) 1 0 + count p xs + cond (p q) 1 0
+put-by : (p : Queued → Bool) (q x : Queued) (xs : List Queued) (b : Bool)
+    → count p (put_queued q xs) ≡ count p xs + cond (p q) 1 0
+    → count p (cond b (x ∷ put_queued q xs) (q ∷ x ∷ xs))
+    ≡ cond (p x) 1 0 + count p xs + cond (p q) 1 0
 put-by p q x xs true ih = omega arith
 put-by p q x xs false ih = omega arith
 
-pub count-put : (p : Queued → Bool) (q : Queued) (xs : List Queued) → count p (put_queued q xs) ≡ count p xs + cond (p q) 1 0
+pub count-put : (p : Queued → Bool) (q : Queued) (xs : List Queued)
+    → count p (put_queued q xs) ≡ count p xs + cond (p q) 1 0
 count-put p q [] = omega arith
 count-put p q (x ∷ xs) = put-by p q x xs (stands_before x.due q.due) (count-put p q xs)
 
@@ -157,27 +167,49 @@ ready-by : (p : Owner → ℕ → Bool) (q : Queued) (b : Bool) → let r : Queu
 ready-by p q true = refl
 ready-by p q false = refl
 
-pub count-ready : (p : Owner → ℕ → Bool) (now : ℕ) (xs : List Queued) → count (λ (q : Queued). p q.owner q.number) (map (made_ready now) xs) ≡ count (λ (q : Queued). p q.owner q.number) xs
+pub count-ready : (p : Owner → ℕ → Bool) (now : ℕ) (xs : List Queued)
+    → count (λ (q : Queued). p q.owner q.number) (map (made_ready now) xs)
+    ≡ count (λ (q : Queued). p q.owner q.number) xs
 count-ready p now [] = refl
 count-ready p now (q ∷ xs) =
-    let one : cond {A = ℕ} (p (made_ready now q).owner (made_ready now q).number) 1 0 ≡ cond (p q.owner q.number) 1 0 = ap {B = ℕ} (λ (b : Bool). cond b 1 0) (ready-by p q (is_due now q.due)) in
+    let one : cond {A = ℕ} (p (made_ready now q).owner (made_ready now q).number) 1 0
+    ≡ cond (p q.owner q.number) 1 0 =
+    ap {B = ℕ} (λ (b : Bool). cond b 1 0) (ready-by p q (is_due now q.due)) in
     omega (arith, count-ready p now xs)
 
 -- a datagram that arrives stands in the ring where it is a message
-pub count-arrived : (p : Option MessageHeader → Bool) (b : Bool) (a : Arrival) (ring : List Arrival) → count (λ (x : Arrival). p (message_of x.bytes)) (cond b (ring ++ a ∷ []) ring) ≤ count (λ (x : Arrival). p (message_of x.bytes)) ring + cond (p (message_of a.bytes)) 1 0
+pub count-arrived : (p : Option MessageHeader → Bool) (b : Bool) (a : Arrival) (ring : List Arrival)
+    → count (λ (x : Arrival). p (message_of x.bytes))
+    (cond b (ring ++ a ∷ []) ring) ≤ count (λ (x : Arrival). p (message_of x.bytes)) ring
+    + cond (p (message_of a.bytes)) 1 0
 count-arrived p true a ring = let c = count-add (λ (x : Arrival). p (message_of x.bytes)) ring a in omega arith
 count-arrived p false a ring = omega arith
 
 -- and no less, where only messages pass
-pub count-arrives : (p : Option MessageHeader → Bool) → p None ≡ false → (a : Arrival) (ring : List Arrival) → count (λ (x : Arrival). p (message_of x.bytes)) ring + cond (p (message_of a.bytes)) 1 0 ≤ count (λ (x : Arrival). p (message_of x.bytes)) (cond (is_message a.bytes) (ring ++ a ∷ []) ring)
+pub count-arrives : (p : Option MessageHeader → Bool) → p None ≡ false
+    → (a : Arrival) (ring : List Arrival)
+    → count (λ (x : Arrival). p (message_of x.bytes)) ring
+    + cond (p (message_of a.bytes)) 1 0 ≤ count (λ (x : Arrival). p (message_of x.bytes))
+    (cond (is_message a.bytes) (ring ++ a ∷ []) ring)
 count-arrives p no_message a ring = by (message_of a.bytes) refl
   where
-    by : (o : Option MessageHeader) → message_of a.bytes ≡ o → count (λ (x : Arrival). p (message_of x.bytes)) ring + cond (p (message_of a.bytes)) 1 0 ≤ count (λ (x : Arrival). p (message_of x.bytes)) (cond (is_some (message_of a.bytes)) (ring ++ a ∷ []) ring)
+    by : (o : Option MessageHeader) → message_of a.bytes ≡ o
+        → count (λ (x : Arrival). p (message_of x.bytes)) ring
+        + cond (p (message_of a.bytes)) 1 0 ≤ count (λ (x : Arrival). p (message_of x.bytes))
+        (cond (is_some (message_of a.bytes)) (ring ++ a ∷ []) ring)
     by None e =
         let nothing : cond {A = ℕ} (p (message_of a.bytes)) 1 0 ≡ 0 = rw (e, no_message) refl in
-        let same : count (λ (x : Arrival). p (message_of x.bytes)) (cond (is_some (message_of a.bytes)) (ring ++ a ∷ []) ring) ≡ count (λ (x : Arrival). p (message_of x.bytes)) ring = ap (λ (o : Option MessageHeader). count (λ (x : Arrival). p (message_of x.bytes)) (cond (is_some o) (ring ++ a ∷ []) ring)) e in
+        let same : count (λ (x : Arrival). p (message_of x.bytes))
+        (cond (is_some (message_of a.bytes)) (ring ++ a ∷ []) ring)
+        ≡ count (λ (x : Arrival). p (message_of x.bytes)) ring =
+        ap (λ (o : Option MessageHeader). count (λ (x : Arrival). p (message_of x.bytes))
+        (cond (is_some o) (ring ++ a ∷ []) ring)) e in
         omega arith
     by (Some h) e =
-        let same : count (λ (x : Arrival). p (message_of x.bytes)) (cond (is_some (message_of a.bytes)) (ring ++ a ∷ []) ring) ≡ count (λ (x : Arrival). p (message_of x.bytes)) (ring ++ a ∷ []) = ap (λ (o : Option MessageHeader). count (λ (x : Arrival). p (message_of x.bytes)) (cond (is_some o) (ring ++ a ∷ []) ring)) e in
+        let same : count (λ (x : Arrival). p (message_of x.bytes))
+        (cond (is_some (message_of a.bytes)) (ring ++ a ∷ []) ring)
+        ≡ count (λ (x : Arrival). p (message_of x.bytes)) (ring ++ a ∷ []) =
+        ap (λ (o : Option MessageHeader). count (λ (x : Arrival). p (message_of x.bytes))
+        (cond (is_some o) (ring ++ a ∷ []) ring)) e in
         let more = count-add (λ (x : Arrival). p (message_of x.bytes)) ring a in
         omega arith

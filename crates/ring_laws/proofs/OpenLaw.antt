@@ -1,5 +1,7 @@
 -- Each datagram that is in flight or in a ring is of an unanswered packet.
-use Rattle.std.proofs.Common.{◌≡◌, ◌+◌, ◌≤◌, ◌==◌, ◌&&◌, ℕ, zero, suc, Bool, true, false, not, cond, List, [], ◌∷◌, Option, Some, slice_get, refl, ap, ◌∙◌, subst, arith, eq-eqb, length, ◌-◌}
+use Rattle.std.proofs.Common.{◌≡◌, ◌+◌, ◌≤◌, ◌==◌, ◌&&◌, ℕ, zero, suc, Bool, true, false, not, cond}
+use Rattle.std.proofs.Common.{List, [], ◌∷◌, Option, Some, slice_get, refl, ap, ◌∙◌, subst, arith}
+use Rattle.std.proofs.Common.{eq-eqb, length, ◌-◌}
 use Rattle.std.specs.Prelude.{count_by}
 use Rattle.std.specs.Bool.{MatchBool}
 use Rattle.std.proofs.lemmas.Bool.{and_from}
@@ -21,7 +23,8 @@ use Rattle.end_laws.specs.Kinds.{is_ask}
 use Rattle.end_laws.specs.Moments.{Moment}
 use Rattle.end_laws.proofs.TwoEndsLaw.{placed-all}
 use Rattle.end_laws.proofs.ListLemmas.{all-at}
-use Rattle.ring_laws.specs.PairsOnce.{is_asking, is_replying, is_job_of, AreEndsOf, IsOpen, IsOpenAt, IsOpenOwner, IsOpenJob, IsTidy}
+use Rattle.ring_laws.specs.PairsOnce.{is_asking, is_replying, is_job_of, AreEndsOf, IsOpen}
+use Rattle.ring_laws.specs.PairsOnce.{IsOpenAt, IsOpenOwner, IsOpenJob, IsTidy}
 use Rattle.ring_laws.proofs.EndLookups.{server-by, client-by}
 use Rattle.ring_laws.proofs.OwnersLaw.{OwnerIn, OwnersIn}
 use Rattle.ring_laws.proofs.Coverage.{EndOf, Comes}
@@ -32,7 +35,8 @@ count-cons : {A : Type 0} (p : A → Bool) (x : A) (xs : List A) → count_by p 
 count-cons p x xs = sum_by-cons (λ x. cond (p x) 1 0) x xs
 
 -- one that passes is counted
-counted : {A : Type 0} (p : A → Bool) (xs : List A) (i : ℕ) (x : A) → slice_get xs i ≡ Some x → p x ≡ true → 1 ≤ count_by p xs
+counted : {A : Type 0} (p : A → Bool) (xs : List A) (i : ℕ) (x : A) → slice_get xs i ≡ Some x
+    → p x ≡ true → 1 ≤ count_by p xs
 counted p [] i x is t = cc
 counted p (y ∷ ys) zero x is t =
     let same : y ≡ x = cc in
@@ -59,7 +63,8 @@ module _ (u : Moment) (fs : List Bones) (mirrors : Mirrors fs) (grows : Grows fs
       let tag = end.0 in
       let mirror = mirrors.servers to session tag end.1 in
       let v = server-by u.nodes to session tag _ refl (grows.servers to session tag end.1) in
-      let c = client-by u.nodes tag.way.peer tag.way.other mirror.client _ refl (grows.clients tag.way.peer tag.way.other mirror.client mirror.found) in
+      let c = client-by u.nodes tag.way.peer tag.way.other mirror.client _ refl
+      (grows.clients tag.way.peer tag.way.other mirror.client mirror.found) in
       record {
         home = tag.way.peer;
         number = tag.way.other;
@@ -85,7 +90,8 @@ module _ (u : Moment) (fs : List Bones) (mirrors : Mirrors fs) (grows : Grows fs
       let tag = end.0 in
       let mirror = mirrors.clients to session tag end.1 in
       let c = client-by u.nodes to session tag _ refl (grows.clients to session tag end.1) in
-      let v = server-by u.nodes tag.way.peer tag.way.other mirror.server _ refl (grows.servers tag.way.peer tag.way.other mirror.server mirror.found) in
+      let v = server-by u.nodes tag.way.peer tag.way.other mirror.server _ refl
+      (grows.servers tag.way.peer tag.way.other mirror.server mirror.found) in
       record {
         home = to;
         number = session;
@@ -112,107 +118,273 @@ module _ (u : Moment) (fs : List Bones) (mirrors : Mirrors fs) (grows : Grows fs
     self : (n : ℕ) → (n == n) ≡ true
     self n = eq-eqb n n refl
 
-    asking : (h : MessageHeader) (t : ℕ) → is_ask h.kind ≡ true → h.session ≡ t → is_asking t h.request h.number (Some h) ≡ true
-    asking h t kind same = and_from (is_ask h.kind) _ kind (and_from (h.session == t) _ (eq-eqb h.session t same) (and_from (h.request == h.request) (h.number == h.number) (self h.request) (self h.number)))
+    asking : (h : MessageHeader) (t : ℕ) → is_ask h.kind ≡ true → h.session ≡ t
+        → is_asking t h.request h.number (Some h) ≡ true
+    asking h t kind same =
+        and_from (is_ask h.kind) _ kind (and_from (h.session == t) _ (eq-eqb h.session t same)
+        (and_from (h.request == h.request) (h.number == h.number) (self h.request) (self h.number)))
 
-    replying : (h : MessageHeader) (s : ℕ) → is_ask h.kind ≡ false → h.session ≡ s → is_replying s h.request h.number (Some h) ≡ true
-    replying h s kind same = and_from (not (is_ask h.kind)) _ (ap not kind) (and_from (h.session == s) _ (eq-eqb h.session s same) (and_from (h.request == h.request) (h.number == h.number) (self h.request) (self h.number)))
+    replying : (h : MessageHeader) (s : ℕ) → is_ask h.kind ≡ false → h.session ≡ s
+        → is_replying s h.request h.number (Some h) ≡ true
+    replying h s kind same =
+        and_from (not (is_ask h.kind)) _ (ap not kind)
+        (and_from (h.session == s) _ (eq-eqb h.session s same)
+        (and_from (h.request == h.request) (h.number == h.number) (self h.request) (self h.number)))
 
     -- a copy in flight
-    open-flight : (i : ℕ) (c : InFlight) (h : MessageHeader) (b : Bool) → slice_get u.flight i ≡ Some c → message_of c.bytes ≡ Some h → is_ask h.kind ≡ b → OfSession u c.to b h.session → IsOpen u c.to c.bytes
+    open-flight : (i : ℕ) (c : InFlight) (h : MessageHeader) (b : Bool)
+        → slice_get u.flight i ≡ Some c → message_of c.bytes ≡ Some h → is_ask h.kind ≡ b
+        → OfSession u c.to b h.session → IsOpen u c.to c.bytes
     open-flight i c h true is reads kind o =
         let to = o.comes.0 in
         let session = o.comes.1 in
-        let once = stands-once u valid pairs o.home o.number o.client o.item o.node o.other o.server o.end o.ends h.request h.number in
-        let passes : (c.to == o.node && is_asking o.other h.request h.number (message_of c.bytes)) ≡ true = and_from (c.to == o.node) _ (eq-eqb c.to o.node to) (ap (is_asking o.other h.request h.number) reads ∙ asking h o.other kind session) in
-        let here = counted (λ (c : InFlight). c.to == o.node && is_asking o.other h.request h.number (message_of c.bytes)) u.flight i c is passes in
-        record { header = h; reads = reads; home = o.home; number = o.number; client = o.client; session = o.item; node = o.node; other = o.other; server = o.server; end = o.end; ends = o.ends; comes = rw kind (to, session); unanswered = once.unanswered (omega arith) }
+        let once = stands-once u valid pairs o.home o.number o.client o.item o.node o.other o.server
+        o.end o.ends h.request h.number in
+        let passes : (c.to == o.node && is_asking o.other h.request h.number (message_of c.bytes))
+        ≡ true = and_from (c.to == o.node) _ (eq-eqb c.to o.node to)
+        (ap (is_asking o.other h.request h.number) reads ∙ asking h o.other kind session) in
+        let here = counted (λ (c : InFlight). c.to == o.node
+        && is_asking o.other h.request h.number (message_of c.bytes)) u.flight i c is
+        passes in
+        record {
+          header = h;
+          reads = reads;
+          home = o.home;
+          number = o.number;
+          client = o.client;
+          session = o.item;
+          node = o.node;
+          other = o.other;
+          server = o.server;
+          end = o.end;
+          ends =
+              o.ends;
+          comes = rw kind (to, session);
+          unanswered = once.unanswered (omega arith);
+        }
     open-flight i c h false is reads kind o =
         let to = o.comes.0 in
         let session = o.comes.1 in
-        let once = stands-once u valid pairs o.home o.number o.client o.item o.node o.other o.server o.end o.ends h.request h.number in
-        let passes : (c.to == o.home && is_replying o.number h.request h.number (message_of c.bytes)) ≡ true = and_from (c.to == o.home) _ (eq-eqb c.to o.home to) (ap (is_replying o.number h.request h.number) reads ∙ replying h o.number kind session) in
-        let here = counted (λ (c : InFlight). c.to == o.home && is_replying o.number h.request h.number (message_of c.bytes)) u.flight i c is passes in
-        record { header = h; reads = reads; home = o.home; number = o.number; client = o.client; session = o.item; node = o.node; other = o.other; server = o.server; end = o.end; ends = o.ends; comes = rw kind (to, session); unanswered = once.unanswered (omega arith) }
+        let once = stands-once u valid pairs o.home o.number o.client o.item o.node o.other o.server
+        o.end o.ends h.request h.number in
+        let passes : (c.to == o.home && is_replying o.number h.request h.number
+        (message_of c.bytes)) ≡ true = and_from (c.to == o.home) _ (eq-eqb c.to o.home to)
+        (ap (is_replying o.number h.request h.number) reads
+        ∙ replying h o.number kind session) in
+        let here = counted (λ (c : InFlight). c.to == o.home
+        && is_replying o.number h.request h.number (message_of c.bytes)) u.flight i c is
+        passes in
+        record {
+          header = h;
+          reads = reads;
+          home = o.home;
+          number = o.number;
+          client = o.client;
+          session = o.item;
+          node = o.node;
+          other = o.other;
+          server = o.server;
+          end = o.end;
+          ends =
+              o.ends;
+          comes = rw kind (to, session);
+          unanswered = once.unanswered (omega arith);
+        }
 
     -- an arrival in a ring
-    open-ring : (n : ℕ) (l : Lists) (i : ℕ) (a : Arrival) (h : MessageHeader) (b : Bool) → slice_get u.nodes n ≡ Some l → slice_get l.ring i ≡ Some a → message_of a.bytes ≡ Some h → is_ask h.kind ≡ b → OfSession u n b h.session → IsOpen u n a.bytes
+    open-ring : (n : ℕ) (l : Lists) (i : ℕ) (a : Arrival) (h : MessageHeader) (b : Bool)
+        → slice_get u.nodes n ≡ Some l → slice_get l.ring i ≡ Some a → message_of a.bytes ≡ Some h
+        → is_ask h.kind ≡ b → OfSession u n b h.session → IsOpen u n a.bytes
     open-ring n l i a h true node is reads kind o =
         let to = o.comes.0 in
         let session = o.comes.1 in
-        let once = stands-once u valid pairs o.home o.number o.client o.item o.node o.other o.server o.end o.ends h.request h.number in
+        let once = stands-once u valid pairs o.home o.number o.client o.item o.node o.other o.server
+        o.end o.ends h.request h.number in
         let again : slice_get u.nodes n ≡ Some o.server = ap (slice_get u.nodes) to ∙ o.ends.is_server in
         let same : l ≡ o.server = cc in
         let at : slice_get o.server.ring i ≡ Some a = subst (λ (z : Lists). slice_get z.ring i ≡ Some a) same is in
-        let here = counted (λ (a : Arrival). is_asking o.other h.request h.number (message_of a.bytes)) o.server.ring i a at (ap (is_asking o.other h.request h.number) reads ∙ asking h o.other kind session) in
-        record { header = h; reads = reads; home = o.home; number = o.number; client = o.client; session = o.item; node = o.node; other = o.other; server = o.server; end = o.end; ends = o.ends; comes = rw kind (to, session); unanswered = once.unanswered (omega arith) }
+        let here = counted (λ (a : Arrival). is_asking o.other h.request h.number
+        (message_of a.bytes)) o.server.ring i a
+        at (ap (is_asking o.other h.request h.number) reads
+        ∙ asking h o.other kind session) in
+        record {
+          header = h;
+          reads = reads;
+          home = o.home;
+          number = o.number;
+          client = o.client;
+          session = o.item;
+          node = o.node;
+          other = o.other;
+          server = o.server;
+          end = o.end;
+          ends =
+              o.ends;
+          comes = rw kind (to, session);
+          unanswered = once.unanswered (omega arith);
+        }
     open-ring n l i a h false node is reads kind o =
         let to = o.comes.0 in
         let session = o.comes.1 in
-        let once = stands-once u valid pairs o.home o.number o.client o.item o.node o.other o.server o.end o.ends h.request h.number in
+        let once = stands-once u valid pairs o.home o.number o.client o.item o.node o.other o.server
+        o.end o.ends h.request h.number in
         let again : slice_get u.nodes n ≡ Some o.client = ap (slice_get u.nodes) to ∙ o.ends.is_client in
         let same : l ≡ o.client = cc in
         let at : slice_get o.client.ring i ≡ Some a = subst (λ (z : Lists). slice_get z.ring i ≡ Some a) same is in
-        let here = counted (λ (a : Arrival). is_replying o.number h.request h.number (message_of a.bytes)) o.client.ring i a at (ap (is_replying o.number h.request h.number) reads ∙ replying h o.number kind session) in
-        record { header = h; reads = reads; home = o.home; number = o.number; client = o.client; session = o.item; node = o.node; other = o.other; server = o.server; end = o.end; ends = o.ends; comes = rw kind (to, session); unanswered = once.unanswered (omega arith) }
+        let here = counted (λ (a : Arrival). is_replying o.number h.request h.number
+        (message_of a.bytes)) o.client.ring i a
+        at (ap (is_replying o.number h.request h.number) reads
+        ∙ replying h o.number kind session) in
+        record {
+          header = h;
+          reads = reads;
+          home = o.home;
+          number = o.number;
+          client = o.client;
+          session = o.item;
+          node = o.node;
+          other = o.other;
+          server = o.server;
+          end = o.end;
+          ends =
+              o.ends;
+          comes = rw kind (to, session);
+          unanswered = once.unanswered (omega arith);
+        }
 
     -- an entry of a queue
-    open-ask : (n : ℕ) (l : Lists) (i s r k : ℕ) (due : Option ℕ) → slice_get u.nodes n ≡ Some l → slice_get l.queued i ≡ Some (record { owner = Ask s r; number = k; due = due }) → OfSession u n false s → IsOpenAt u true n s r k
+    open-ask : (n : ℕ) (l : Lists) (i s r k : ℕ) (due : Option ℕ) → slice_get u.nodes n ≡ Some l
+        → slice_get l.queued i ≡ Some (record { owner = Ask s r; number = k; due = due })
+        → OfSession u n false s → IsOpenAt u true n s r k
     open-ask n l i s r k due node is o =
         let to = o.comes.0 in
         let session = o.comes.1 in
-        let once = stands-once u valid pairs o.home o.number o.client o.item o.node o.other o.server o.end o.ends r k in
+        let once = stands-once u valid pairs o.home o.number o.client o.item o.node o.other o.server
+        o.end o.ends r k in
         let again : slice_get u.nodes n ≡ Some o.client = ap (slice_get u.nodes) to ∙ o.ends.is_client in
         let same : l ≡ o.client = cc in
-        let at : slice_get o.client.queued i ≡ Some (record { owner = Ask s r; number = k; due = due }) = subst (λ (z : Lists). slice_get z.queued i ≡ Some (record { owner = Ask s r; number = k; due = due })) same is in
-        let passes : is_queued (Ask o.number r) k (record { owner = Ask s r; number = k; due = due }) ≡ true = and_from (s == o.number && r == r) (k == k) (and_from (s == o.number) (r == r) (eq-eqb s o.number session) (self r)) (self k) in
+        let at : slice_get o.client.queued i ≡ Some
+        (record { owner = Ask s r; number = k; due = due }) =
+        subst (λ (z : Lists). slice_get z.queued i
+        ≡ Some (record { owner = Ask s r; number = k; due = due })) same is in
+        let passes : is_queued (Ask o.number r) k
+        (record { owner = Ask s r; number = k; due = due }) ≡ true =
+        and_from (s == o.number && r == r) (k == k)
+        (and_from (s == o.number) (r == r) (eq-eqb s o.number session) (self r)) (self k) in
         let here = counted (is_queued (Ask o.number r) k) o.client.queued i _ at passes in
-        record { home = o.home; session = o.number; client = o.client; item = o.item; node = o.node; other = o.other; server = o.server; end = o.end; ends = o.ends; here = (to, session); unanswered = once.unanswered (omega arith) }
+        record {
+          home = o.home;
+          session = o.number;
+          client = o.client;
+          item = o.item;
+          node = o.node;
+          other = o.other;
+          server = o.server;
+          end = o.end;
+          ends = o.ends;
+          here =
+              (to, session);
+          unanswered = once.unanswered (omega arith);
+        }
 
-    open-reply : (n : ℕ) (l : Lists) (i t r k : ℕ) (due : Option ℕ) → slice_get u.nodes n ≡ Some l → slice_get l.queued i ≡ Some (record { owner = Reply t r; number = k; due = due }) → OfSession u n true t → IsOpenAt u false n t r k
+    open-reply : (n : ℕ) (l : Lists) (i t r k : ℕ) (due : Option ℕ) → slice_get u.nodes n ≡ Some l
+        → slice_get l.queued i ≡ Some (record { owner = Reply t r; number = k; due = due })
+        → OfSession u n true t → IsOpenAt u false n t r k
     open-reply n l i t r k due node is o =
         let to = o.comes.0 in
         let session = o.comes.1 in
-        let once = stands-once u valid pairs o.home o.number o.client o.item o.node o.other o.server o.end o.ends r k in
+        let once = stands-once u valid pairs o.home o.number o.client o.item o.node o.other o.server
+        o.end o.ends r k in
         let again : slice_get u.nodes n ≡ Some o.server = ap (slice_get u.nodes) to ∙ o.ends.is_server in
         let same : l ≡ o.server = cc in
-        let at : slice_get o.server.queued i ≡ Some (record { owner = Reply t r; number = k; due = due }) = subst (λ (z : Lists). slice_get z.queued i ≡ Some (record { owner = Reply t r; number = k; due = due })) same is in
-        let passes : is_queued (Reply o.other r) k (record { owner = Reply t r; number = k; due = due }) ≡ true = and_from (t == o.other && r == r) (k == k) (and_from (t == o.other) (r == r) (eq-eqb t o.other session) (self r)) (self k) in
+        let at : slice_get o.server.queued i ≡ Some
+        (record { owner = Reply t r; number = k; due = due }) =
+        subst (λ (z : Lists). slice_get z.queued i
+        ≡ Some (record { owner = Reply t r; number = k; due = due })) same is in
+        let passes : is_queued (Reply o.other r) k
+        (record { owner = Reply t r; number = k; due = due }) ≡ true =
+        and_from (t == o.other && r == r) (k == k)
+        (and_from (t == o.other) (r == r) (eq-eqb t o.other session) (self r)) (self k) in
         let here = counted (is_queued (Reply o.other r) k) o.server.queued i _ at passes in
-        record { home = o.home; session = o.number; client = o.client; item = o.item; node = o.node; other = o.other; server = o.server; end = o.end; ends = o.ends; here = (to, session); unanswered = once.unanswered (omega arith) }
+        record {
+          home = o.home;
+          session = o.number;
+          client = o.client;
+          item = o.item;
+          node = o.node;
+          other = o.other;
+          server = o.server;
+          end = o.end;
+          ends = o.ends;
+          here =
+              (to, session);
+          unanswered = once.unanswered (omega arith);
+        }
 
-    open-owner : (n : ℕ) (l : Lists) (i : ℕ) (o : Owner) (k : ℕ) (due : Option ℕ) → slice_get u.nodes n ≡ Some l → slice_get l.queued i ≡ Some (record { owner = o; number = k; due = due }) → OwnerIn fs n o → IsOpenOwner u n o k
+    open-owner : (n : ℕ) (l : Lists) (i : ℕ) (o : Owner) (k : ℕ) (due : Option ℕ)
+        → slice_get u.nodes n ≡ Some l
+        → slice_get l.queued i ≡ Some (record { owner = o; number = k; due = due }) → OwnerIn fs n o
+        → IsOpenOwner u n o k
     open-owner n l i (Ask s r) k due node is o = open-ask n l i s r k due node is (of-session n false s o)
     open-owner n l i (Reply t r) k due node is o = open-reply n l i t r k due node is (of-session n true t o)
     open-owner n l i Control k due node is o = tt
 
     -- a job
-    open-job : (n : ℕ) (l : Lists) (i : ℕ) (j : Job) → slice_get u.nodes n ≡ Some l → slice_get l.jobs.out i ≡ Some j → OwnerIn fs n (Reply j.session j.request) → IsOpenJob u n j
+    open-job : (n : ℕ) (l : Lists) (i : ℕ) (j : Job) → slice_get u.nodes n ≡ Some l
+        → slice_get l.jobs.out i ≡ Some j → OwnerIn fs n (Reply j.session j.request)
+        → IsOpenJob u n j
     open-job n l i j node is own =
         let o = of-session n true j.session own in
         let to = o.comes.0 in
         let session = o.comes.1 in
         let r = j.request in
         let k = packet_count (length j.ask) - 1 in
-        let once = stands-once u valid pairs o.home o.number o.client o.item o.node o.other o.server o.end o.ends r k in
+        let once = stands-once u valid pairs o.home o.number o.client o.item o.node o.other o.server
+        o.end o.ends r k in
         let again : slice_get u.nodes n ≡ Some o.server = ap (slice_get u.nodes) to ∙ o.ends.is_server in
         let same : l ≡ o.server = cc in
-        let at : slice_get o.server.jobs.out i ≡ Some j = subst (λ (z : Lists). slice_get z.jobs.out i ≡ Some j) same is in
-        let passes : is_job_of o.other r k j ≡ true = and_from (j.session == o.other) _ (eq-eqb j.session o.other session) (and_from (j.request == r) (packet_count (length j.ask) - 1 == k) (self r) (self k)) in
+        let at : slice_get o.server.jobs.out i ≡ Some j =
+        subst (λ (z : Lists). slice_get z.jobs.out i ≡ Some j) same is in
+        let passes : is_job_of o.other r k j ≡ true =
+        and_from (j.session == o.other) _ (eq-eqb j.session o.other session)
+        (and_from (j.request == r) (packet_count (length j.ask) - 1 == k) (self r)
+        (self k)) in
         let here = counted (is_job_of o.other r k) o.server.jobs.out i j at passes in
-        record { home = o.home; session = o.number; client = o.client; item = o.item; node = o.node; other = o.other; server = o.server; end = o.end; ends = o.ends; here = (to, session); unanswered = once.unanswered (omega arith) }
+        record {
+          home = o.home;
+          session = o.number;
+          client = o.client;
+          item = o.item;
+          node = o.node;
+          other = o.other;
+          server = o.server;
+          end = o.end;
+          ends = o.ends;
+          here =
+              (to, session);
+          unanswered = once.unanswered (omega arith);
+        }
 
-    pub is-tidy : Travels (Comes fs) u → ((n : ℕ) (l : Lists) → slice_get u.nodes n ≡ Some l → OwnersIn fs n l) → IsTidy u
+    pub is-tidy : Travels (Comes fs) u
+        → ((n : ℕ) (l : Lists) → slice_get u.nodes n ≡ Some l → OwnersIn fs n l) → IsTidy u
     is-tidy t owners = record {
       once = λ n s client x m i server v e r k. stands-once u valid pairs n s client x m i server v e r k;
       flight = placed-all (λ i c. slice_get u.flight i ≡ Some c) (λ c. IsOpen u c.to c.bytes) u.flight (λ i c is.
           let comes = all-at (λ (c : InFlight). Comes fs c.from c.to c.bytes) u.flight i c t.flight is in
-          open-flight i c comes.header _ is comes.reads refl (of-session c.to (is_ask comes.header.kind) comes.header.session comes.end)) (λ i c is. is);
+          open-flight i c comes.header _ is comes.reads refl
+          (of-session c.to (is_ask comes.header.kind) comes.header.session comes.end))
+          (λ i c is. is);
       rings = λ n l node. placed-all (λ i a. slice_get l.ring i ≡ Some a) (λ a. IsOpen u n a.bytes) l.ring (λ i a is.
           let comes = all-at (λ (a : Arrival). Comes fs a.peer n a.bytes) l.ring i a (t.rings n l node) is in
-          open-ring n l i a comes.header _ node is comes.reads refl (of-session n (is_ask comes.header.kind) comes.header.session comes.end)) (λ i a is. is);
-      queued = λ n l node. placed-all (λ i q. slice_get l.queued i ≡ Some q) (λ q. IsOpenOwner u n q.owner q.number) l.queued (λ i q is.
-          open-owner n l i q.owner q.number q.due node is (all-at (λ q. OwnerIn fs n q.owner) l.queued i q (owners n l node).queued is)) (λ i q is. is);
+          open-ring n l i a comes.header _ node is comes.reads refl
+          (of-session n (is_ask comes.header.kind) comes.header.session comes.end))
+          (λ i a is. is);
+      queued = λ n l node. placed-all (λ i q. slice_get l.queued i ≡ Some q)
+          (λ q. IsOpenOwner u n q.owner q.number) l.queued (λ i q is.
+          open-owner n l i q.owner q.number q.due node is
+          (all-at (λ q. OwnerIn fs n q.owner) l.queued i q (owners n l node).queued is))
+          (λ i q is. is);
       jobs = λ n l node. placed-all (λ i j. slice_get l.jobs.out i ≡ Some j) (IsOpenJob u n) l.jobs.out (λ i j is.
-          open-job n l i j node is (all-at (λ (j : Job). OwnerIn fs n (Reply j.session j.request)) l.jobs.out i j (owners n l node).jobs is)) (λ i j is. is);
+          open-job n l i j node is (all-at (λ (j : Job). OwnerIn fs n (Reply j.session j.request))
+          l.jobs.out i j (owners n l node).jobs is)) (λ i j is. is);
     }

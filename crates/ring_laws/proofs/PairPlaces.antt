@@ -1,5 +1,6 @@
 -- The places of a packet are counted among what is on its way for its session.
-use Rattle.std.proofs.Common.{◌≡◌, ◌+◌, ◌≤◌, ◌==◌, ◌&&◌, ℕ, Bool, true, false, cond, List, [], ◌∷◌, Option, Some, None, slice_get, refl, sym, ap, ◌∙◌, subst, arith}
+use Rattle.std.proofs.Common.{◌≡◌, ◌+◌, ◌≤◌, ◌==◌, ◌&&◌, ℕ, Bool, true, false, cond, List, [], ◌∷◌}
+use Rattle.std.proofs.Common.{Option, Some, None, slice_get, refl, sym, ap, ◌∙◌, subst, arith}
 use Rattle.std.specs.Prelude.{count_by}
 use Rattle.std.specs.List.{find}
 use Rattle.std.proofs.lemmas.List.Sums.{sum_by-cons}
@@ -27,7 +28,8 @@ use Rattle.end_laws.proofs.ListLemmas.{Placed}
 use Rattle.ring_laws.specs.PairsOnce.{IsUnanswered, is_asking, is_replying, is_job_of, places, AreEndsOf, StandsOnce}
 use Rattle.ring_laws.proofs.Counting.{count, value}
 use Rattle.ring_laws.proofs.Frames.{ClientTag, ServerTag, client_tag, server_tag, frame, FitsIn}
-use Rattle.ring_laws.proofs.Loads.{Pairing, asks, replies, own_ask, own_reply, own_job, client_packets, server_packets, ask_to, reply_to, load}
+use Rattle.ring_laws.proofs.Loads.{Pairing, asks, replies, own_ask, own_reply, own_job}
+use Rattle.ring_laws.proofs.Loads.{client_packets, server_packets, ask_to, reply_to, load}
 use Rattle.ring_laws.proofs.WorldSteps.{client-tagged, server-tagged}
 
 -- std's count
@@ -45,12 +47,16 @@ and-moves : (a b c : Bool) → ((a && b) && c) ≡ (a && (b && c))
 and-moves true b c = refl
 and-moves false b c = refl
 
-ask-same : (s r k : ℕ) (o : Owner) (n : ℕ) (due : Option ℕ) → is_queued (Ask s r) k (record { owner = o; number = n; due = due }) ≡ own_ask (is_packet r k) s o n
+ask-same : (s r k : ℕ) (o : Owner) (n : ℕ) (due : Option ℕ)
+    → is_queued (Ask s r) k (record { owner = o; number = n; due = due })
+    ≡ own_ask (is_packet r k) s o n
 ask-same s r k (Ask a b) n due = and-moves (a == s) (b == r) (n == k)
 ask-same s r k (Reply a b) n due = refl
 ask-same s r k Control n due = refl
 
-reply-same : (t r k : ℕ) (o : Owner) (n : ℕ) (due : Option ℕ) → is_queued (Reply t r) k (record { owner = o; number = n; due = due }) ≡ own_reply (is_packet r k) t o n
+reply-same : (t r k : ℕ) (o : Owner) (n : ℕ) (due : Option ℕ)
+    → is_queued (Reply t r) k (record { owner = o; number = n; due = due })
+    ≡ own_reply (is_packet r k) t o n
 reply-same t r k (Ask a b) n due = refl
 reply-same t r k (Reply a b) n due = and-moves (a == t) (b == r) (n == k)
 reply-same t r k Control n due = refl
@@ -70,7 +76,8 @@ StandsIn (Some l) s r k = InWindow l.clients (Ask s r) k
 
 -- what is so of each packet of a session
 abbrev pub PairAt : Moment → Pairing → (r k : ℕ) → Type 0
-PairAt w x r k = (load (is_packet r k) x w ≤ 1) × (1 ≤ load (is_packet r k) x w → StandsIn (slice_get w.nodes x.home) x.client r k)
+PairAt w x r k = (load (is_packet r k) x w ≤ 1)
+    × (1 ≤ load (is_packet r k) x w → StandsIn (slice_get w.nodes x.home) x.client r k)
 
 abbrev pub Pairs : Moment → Type 0
 Pairs w = (x : Pairing) → FitsIn (frame w) x → (r k : ℕ) → PairAt w x r k
@@ -78,38 +85,87 @@ Pairs w = (x : Pairing) → FitsIn (frame w) x → (r k : ℕ) → PairAt w x r 
 abbrev pub AllValid : Moment → Type 0
 AllValid w = Placed (λ n l. Valid l) w.nodes
 
-open-progress : (x : Client) (r k : ℕ) (c : Call) (p : Option Progress) → find (is_active r) x.calls ≡ Some c → c.progress ≡ p → InsideOf k p → IsUnanswered x r k
+open-progress : (x : Client) (r k : ℕ) (c : Call) (p : Option Progress)
+    → find (is_active r) x.calls ≡ Some c → c.progress ≡ p → InsideOf k p → IsUnanswered x r k
 open-progress x r k c None found is inside = absurd inside
-open-progress x r k c (Some p) found is inside = record { call = c; active = found; progress = p; is_progress = is; taken = inside.0; posted = inside.1 }
+open-progress x r k c (Some p) found is inside =
+    record {
+      call = c;
+      active = found;
+      progress = p;
+      is_progress = is;
+      taken = inside.0;
+      posted = inside.1;
+    }
 
-open-call : (x : Client) (r k : ℕ) (c : Option Call) → find (is_active r) x.calls ≡ c → Inside k c → IsUnanswered x r k
+open-call : (x : Client) (r k : ℕ) (c : Option Call) → find (is_active r) x.calls ≡ c → Inside k c
+    → IsUnanswered x r k
 open-call x r k None found inside = absurd inside
 open-call x r k (Some c) found inside = open-progress x r k c c.progress found refl inside
 
-module _ (w : Moment) (valid : AllValid w) (pairs : Pairs w) (n s : ℕ) (client : Lists) (x : Client) (m t : ℕ) (server : Lists) (v : Server) (e : AreEndsOf w n s client x m t server v) (r k : ℕ) where
+module _ (w : Moment) (valid : AllValid w) (pairs : Pairs w) (n s : ℕ) (client : Lists) (x : Client)
+    (m t : ℕ) (server : Lists) (v : Server) (e : AreEndsOf w n s client x m t server v)
+    (r k : ℕ) where
   abbrev session : Pairing
   session = record { home = n; client = s; node = m; session = t }
 
   session-fits : FitsIn (frame w) session
   session-fits = record {
     server = λ u is. let there = server-tagged w.nodes m t server v e.is_server e.server_there in
-        let same : server_tag v ≡ u = cc in (ap (λ (z : ServerTag). z.way.peer) (sym same) ∙ e.home, ap (λ (z : ServerTag). z.way.other) (sym same) ∙ e.number);
+        let same : server_tag v ≡ u =
+        cc in (
+          ap (λ (z : ServerTag). z.way.peer) (sym same) ∙ e.home,
+          ap (λ (z : ServerTag). z.way.other) (sym same) ∙ e.number,
+        );
     client = λ c is. let there = client-tagged w.nodes n s client x e.is_client e.client_there in
-        let same : client_tag x ≡ c = cc in (ap (λ (z : ClientTag). z.way.peer) (sym same) ∙ e.peer, ap (λ (z : ClientTag). z.way.other) (sym same) ∙ e.other);
+        let same : client_tag x ≡ c =
+        cc in (
+          ap (λ (z : ClientTag). z.way.peer) (sym same) ∙ e.peer,
+          ap (λ (z : ClientTag). z.way.other) (sym same) ∙ e.other,
+        );
   }
 
   places-counted : places w.flight n s client m t server r k ≤ load (is_packet r k) session w
   places-counted =
       let p = is_packet r k in
-      let one : value (client_packets p s) (slice_get w.nodes n) ≡ client_packets p s client = ap (value (client_packets p s)) e.is_client in
-      let two : value (server_packets p t) (slice_get w.nodes m) ≡ server_packets p t server = ap (value (server_packets p t)) e.is_server in
-      let a : count_by (is_queued (Ask s r) k) client.queued ≡ count (λ (q : Queued). own_ask p s q.owner q.number) client.queued = count-is (is_queued (Ask s r) k) client.queued ∙ count-same (is_queued (Ask s r) k) _ client.queued (λ q. ask-same s r k q.owner q.number q.due) in
-      let b : count_by (λ c. c.to == m && is_asking t r k (message_of c.bytes)) w.flight ≡ count (ask_to p m t) w.flight = count-is (λ (c : InFlight). c.to == m && is_asking t r k (message_of c.bytes)) w.flight ∙ count-same (λ (c : InFlight). c.to == m && is_asking t r k (message_of c.bytes)) _ w.flight (λ c. ap (λ z. c.to == m && z) (asking-same t r k (message_of c.bytes))) in
-      let c : count_by (λ a. is_asking t r k (message_of a.bytes)) server.ring ≡ count (λ (a : Arrival). asks p t (message_of a.bytes)) server.ring = count-is (λ (a : Arrival). is_asking t r k (message_of a.bytes)) server.ring ∙ count-same (λ (a : Arrival). is_asking t r k (message_of a.bytes)) _ server.ring (λ a. asking-same t r k (message_of a.bytes)) in
-      let d : count_by (is_job_of t r k) server.jobs.out ≡ count (own_job p t) server.jobs.out = count-is (is_job_of t r k) server.jobs.out in
-      let g : count_by (is_queued (Reply t r) k) server.queued ≡ count (λ (q : Queued). own_reply p t q.owner q.number) server.queued = count-is (is_queued (Reply t r) k) server.queued ∙ count-same (is_queued (Reply t r) k) _ server.queued (λ q. reply-same t r k q.owner q.number q.due) in
-      let h : count_by (λ c. c.to == n && is_replying s r k (message_of c.bytes)) w.flight ≡ count (reply_to p n s) w.flight = count-is (λ (c : InFlight). c.to == n && is_replying s r k (message_of c.bytes)) w.flight ∙ count-same (λ (c : InFlight). c.to == n && is_replying s r k (message_of c.bytes)) _ w.flight (λ c. ap (λ z. c.to == n && z) (replying-same s r k (message_of c.bytes))) in
-      let i : count_by (λ a. is_replying s r k (message_of a.bytes)) client.ring ≡ count (λ (a : Arrival). replies p s (message_of a.bytes)) client.ring = count-is (λ (a : Arrival). is_replying s r k (message_of a.bytes)) client.ring ∙ count-same (λ (a : Arrival). is_replying s r k (message_of a.bytes)) _ client.ring (λ a. replying-same s r k (message_of a.bytes)) in
+      let one : value (client_packets p s) (slice_get w.nodes n) ≡ client_packets p s client =
+      ap (value (client_packets p s)) e.is_client in
+      let two : value (server_packets p t) (slice_get w.nodes m) ≡ server_packets p t server =
+      ap (value (server_packets p t)) e.is_server in
+      let a : count_by (is_queued (Ask s r) k) client.queued
+      ≡ count (λ (q : Queued). own_ask p s q.owner q.number) client.queued =
+      count-is (is_queued (Ask s r) k) client.queued
+      ∙ count-same (is_queued (Ask s r) k) _ client.queued
+      (λ q. ask-same s r k q.owner q.number q.due) in
+      let b : count_by (λ c. c.to == m && is_asking t r k (message_of c.bytes)) w.flight
+      ≡ count (ask_to p m t) w.flight =
+      count-is (λ (c : InFlight). c.to == m && is_asking t r k (message_of c.bytes))
+      w.flight ∙ count-same (λ (c : InFlight). c.to == m
+      && is_asking t r k (message_of c.bytes)) _ w.flight
+      (λ c. ap (λ z. c.to == m && z) (asking-same t r k (message_of c.bytes))) in
+      let c : count_by (λ a. is_asking t r k (message_of a.bytes)) server.ring
+      ≡ count (λ (a : Arrival). asks p t (message_of a.bytes)) server.ring =
+      count-is (λ (a : Arrival). is_asking t r k (message_of a.bytes)) server.ring
+      ∙ count-same (λ (a : Arrival). is_asking t r k (message_of a.bytes)) _ server.ring
+      (λ a. asking-same t r k (message_of a.bytes)) in
+      let d : count_by (is_job_of t r k) server.jobs.out ≡ count (own_job p t) server.jobs.out =
+      count-is (is_job_of t r k) server.jobs.out in
+      let g : count_by (is_queued (Reply t r) k) server.queued
+      ≡ count (λ (q : Queued). own_reply p t q.owner q.number) server.queued =
+      count-is (is_queued (Reply t r) k) server.queued
+      ∙ count-same (is_queued (Reply t r) k) _ server.queued
+      (λ q. reply-same t r k q.owner q.number q.due) in
+      let h : count_by (λ c. c.to == n && is_replying s r k (message_of c.bytes)) w.flight
+      ≡ count (reply_to p n s) w.flight =
+      count-is (λ (c : InFlight). c.to == n && is_replying s r k (message_of c.bytes))
+      w.flight ∙ count-same (λ (c : InFlight). c.to == n
+      && is_replying s r k (message_of c.bytes)) _ w.flight
+      (λ c. ap (λ z. c.to == n && z) (replying-same s r k (message_of c.bytes))) in
+      let i : count_by (λ a. is_replying s r k (message_of a.bytes)) client.ring
+      ≡ count (λ (a : Arrival). replies p s (message_of a.bytes)) client.ring =
+      count-is (λ (a : Arrival). is_replying s r k (message_of a.bytes)) client.ring
+      ∙ count-same (λ (a : Arrival). is_replying s r k (message_of a.bytes)) _ client.ring
+      (λ a. replying-same s r k (message_of a.bytes)) in
       omega arith
 
   client-is : find (is_client s) client.clients ≡ Some x
@@ -117,7 +173,8 @@ module _ (w : Moment) (valid : AllValid w) (pairs : Pairs w) (n s : ℕ) (client
       let v0 = valid n client e.is_client in
       let number : client_no x ≡ 0 + s = numbered-at client_no 0 s client.clients x v0.numbered e.client_there in
       let number_is : x.way.number ≡ s = omega arith in
-      subst (λ (i : ℕ). find (is_client i) client.clients ≡ Some x) number_is (numbered-found client_no 0 s client.clients x v0.numbered e.client_there)
+      subst (λ (i : ℕ). find (is_client i) client.clients ≡ Some x) number_is
+      (numbered-found client_no 0 s client.clients x v0.numbered e.client_there)
 
   pub stands-once : StandsOnce w n s client x m t server r k
   stands-once =
@@ -127,7 +184,10 @@ module _ (w : Moment) (valid : AllValid w) (pairs : Pairs w) (n s : ℕ) (client
       record {
         once = omega arith;
         unanswered = λ some.
-            let stands : StandsIn (Some client) s r k = subst (λ (o : Option Lists). StandsIn o s r k) e.is_client (pair.1 (omega arith)) in
-            let inside : Inside k (find (is_active r) x.calls) = subst (λ (o : Option Client). Stands k r o) client-is stands in
+            let stands : StandsIn (Some client) s r k =
+            subst (λ (o : Option Lists). StandsIn o s r k) e.is_client
+            (pair.1 (omega arith)) in
+            let inside : Inside k (find (is_active r) x.calls) =
+            subst (λ (o : Option Client). Stands k r o) client-is stands in
             open-call x r k (find (is_active r) x.calls) refl inside;
       }

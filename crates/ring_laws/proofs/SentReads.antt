@@ -1,5 +1,6 @@
 -- What a node sends is read as a packet for the other end of a session.
-use Rattle.std.proofs.Common.{◌≡◌, ◌+◌, ◌-◌, ℕ, nat_lt, Bool, true, false, cond, List, [], ◌++◌, length, Option, Some, None, refl, sym, ap, ◌∙◌, subst}
+use Rattle.std.proofs.Common.{◌≡◌, ◌+◌, ◌-◌, ℕ, nat_lt, Bool, true, false, cond, List, [], ◌++◌}
+use Rattle.std.proofs.Common.{length, Option, Some, None, refl, sym, ap, ◌∙◌, subst}
 use Rattle.std.specs.Prelude.{option_map}
 use Rattle.std.specs.List.{find}
 use Rattle.std.proofs.lemmas.Bool.{eqb-true}
@@ -42,16 +43,56 @@ pub record OutTo (way : Way) (kind : Bool) (r k : ℕ) (out : Outgoing) : Type 0
   pub number : header.number ≡ k
   pub peer : out.peer ≡ way.peer
 
-some-out : (way : Way) (kind : Bool) (r k : ℕ) (a b : Outgoing) → Some a ≡ Some b → OutTo way kind r k a → OutTo way kind r k b
+some-out : (way : Way) (kind : Bool) (r k : ℕ) (a b : Outgoing) → Some a ≡ Some b
+    → OutTo way kind r k a → OutTo way kind r k b
 some-out way kind r k a b e h = let same : a ≡ b = cc in subst (OutTo way kind r k) same h
 
-client-out : (b : Bool) (way : Way) (a : Asking) (r k : ℕ) → OutTo way true r k (cond b (record { peer = way.peer; packet = Message (record { kind = Request; req_type = a.req_type; size = length a.ask; session = way.other; number = k; request = r }); body = part a.ask k }) (record { peer = way.peer; packet = Message (record { kind = Rfr; req_type = 0; size = 0; session = way.other; number = k; request = r }); body = [] }))
-client-out true way a r k = record { header = _; is_message = refl; asks = refl; to = refl; request = refl; number = refl; peer = refl }
-client-out false way a r k = record { header = _; is_message = refl; asks = refl; to = refl; request = refl; number = refl; peer = refl }
+client-out : (b : Bool) (way : Way) (a : Asking) (r k : ℕ)
+    → OutTo way true r k (cond b (record {
+      peer = way.peer;
+      packet = Message (record {
+        kind = Request;
+        req_type = a.req_type;
+        size = length a.ask;
+        session = way.other;
+        number = k;
+        request = r;
+      });
+      body = part a.ask k;
+    })
+    (record {
+      peer = way.peer;
+      packet = Message
+          (record { kind = Rfr; req_type = 0; size = 0; session = way.other; number = k; request = r });
+      body = [];
+    }))
+client-out true way a r k =
+    record {
+      header = _;
+      is_message = refl;
+      asks = refl;
+      to = refl;
+      request = refl;
+      number = refl;
+      peer = refl;
+    }
+client-out false way a r k =
+    record {
+      header = _;
+      is_message = refl;
+      asks = refl;
+      to = refl;
+      request = refl;
+      number = refl;
+      peer = refl;
+    }
 
-call-out : (way : Way) (r k : ℕ) (c : Option Call) (out : Outgoing) → call_packet way r k c ≡ Some out → OutTo way true r k out
+call-out : (way : Way) (r k : ℕ) (c : Option Call) (out : Outgoing)
+    → call_packet way r k c ≡ Some out → OutTo way true r k out
 call-out way r k None out h = cc
-call-out way r k (Some c) out h = some-out way true r k (client_packet way c.what r k) out h (client-out (nat_lt k (asked_packets c.what)) way c.what r k)
+call-out way r k (Some c) out h =
+    some-out way true r k (client_packet way c.what r k) out h
+    (client-out (nat_lt k (asked_packets c.what)) way c.what r k)
 
 -- it goes from this client session
 pub record FromClient (l : Lists) (s r k : ℕ) (out : Outgoing) : Type 0 where
@@ -59,29 +100,79 @@ pub record FromClient (l : Lists) (s r k : ℕ) (out : Outgoing) : Type 0 where
   pub found : find (is_client s) l.clients ≡ Some client
   pub goes : OutTo client.way true r k out
 
-ask-out : (l : Lists) (s r k : ℕ) (x : Option Client) (out : Outgoing) → find (is_client s) l.clients ≡ x → ask_packet r k x ≡ Some out → FromClient l s r k out
+ask-out : (l : Lists) (s r k : ℕ) (x : Option Client) (out : Outgoing)
+    → find (is_client s) l.clients ≡ x → ask_packet r k x ≡ Some out → FromClient l s r k out
 ask-out l s r k None out is h = cc
-ask-out l s r k (Some x) out is h = record { client = x; found = is; goes = call-out x.way r k (find (is_active r) x.calls) out h }
+ask-out l s r k (Some x) out is h =
+    record { client = x; found = is; goes = call-out x.way r k (find (is_active r) x.calls) out h }
 
-server-out : (b : Bool) (way : Way) (q : Served) (k : ℕ) (answer : Option (List ℕ)) (out : Outgoing) → cond b (Some (record { peer = way.peer; packet = Message (record { kind = Cr; req_type = 0; size = 0; session = way.other; number = k; request = q.number }); body = [] })) (option_map (λ answer. record { peer = way.peer; packet = Message (record { kind = Response; req_type = q.req_type; size = length answer; session = way.other; number = k; request = q.number }); body = part answer (k + 1 - packet_count q.size) }) answer) ≡ Some out → OutTo way false q.number k out
-server-out true way q k answer out h = some-out way false q.number k _ out h (record { header = _; is_message = refl; asks = refl; to = refl; request = refl; number = refl; peer = refl })
+server-out : (b : Bool) (way : Way) (q : Served) (k : ℕ) (answer : Option (List ℕ)) (out : Outgoing)
+    → cond b (Some (record {
+      peer = way.peer;
+      packet = Message (record {
+        kind = Cr;
+        req_type = 0;
+        size = 0;
+        session = way.other;
+        number = k;
+        request = q.number;
+      });
+      body = [];
+    })) (option_map
+    (λ answer. record {
+      peer = way.peer;
+      packet = Message
+          (record {
+            kind = Response;
+            req_type = q.req_type;
+            size = length answer;
+            session = way.other;
+            number = k;
+            request = q.number;
+          });
+      body = part answer (k + 1 - packet_count q.size);
+    }) answer)
+    ≡ Some out → OutTo way false q.number k out
+server-out true way q k answer out h =
+    some-out way false q.number k _ out h (record {
+      header = _;
+      is_message = refl;
+      asks = refl;
+      to = refl;
+      request = refl;
+      number = refl;
+      peer = refl;
+    })
 server-out false way q k None out h = cc
-server-out false way q k (Some a) out h = some-out way false q.number k _ out h (record { header = _; is_message = refl; asks = refl; to = refl; request = refl; number = refl; peer = refl })
+server-out false way q k (Some a) out h =
+    some-out way false q.number k _ out h (record {
+      header = _;
+      is_message = refl;
+      asks = refl;
+      to = refl;
+      request = refl;
+      number = refl;
+      peer = refl;
+    })
 
-request-out : (way : Way) (slots : List Served) (r k : ℕ) (q : Option Served) (out : Outgoing) → find (is_request r) slots ≡ q → request_packet way k q ≡ Some out → OutTo way false r k out
+request-out : (way : Way) (slots : List Served) (r k : ℕ) (q : Option Served) (out : Outgoing)
+    → find (is_request r) slots ≡ q → request_packet way k q ≡ Some out → OutTo way false r k out
 request-out way slots r k None out is h = cc
 request-out way slots r k (Some q) out is h =
     let number : q.number ≡ r = eqb-true q.number r (find-passes (is_request r) slots q is) in
-    subst (λ (i : ℕ). OutTo way false i k out) number (server-out (nat_lt (k + 1) (packet_count q.size)) way q k q.answer out h)
+    subst (λ (i : ℕ). OutTo way false i k out) number
+    (server-out (nat_lt (k + 1) (packet_count q.size)) way q k q.answer out h)
 
 pub record FromServer (l : Lists) (t r k : ℕ) (out : Outgoing) : Type 0 where
   pub server : Server
   pub found : find (is_server t) l.servers ≡ Some server
   pub goes : OutTo server.way false r k out
 
-reply-out : (l : Lists) (t r k : ℕ) (v : Option Server) (out : Outgoing) → find (is_server t) l.servers ≡ v → reply_packet r k v ≡ Some out → FromServer l t r k out
+reply-out : (l : Lists) (t r k : ℕ) (v : Option Server) (out : Outgoing)
+    → find (is_server t) l.servers ≡ v → reply_packet r k v ≡ Some out → FromServer l t r k out
 reply-out l t r k None out is h = cc
-reply-out l t r k (Some v) out is h = record { server = v; found = is; goes = request-out v.way v.slots r k _ out refl h }
+reply-out l t r k (Some v) out is h =
+    record { server = v; found = is; goes = request-out v.way v.slots r k _ out refl h }
 
 abbrev pub FromOwner : Lists → Owner → ℕ → Outgoing → Type 0
 FromOwner l (Ask s r) k out = FromClient l s r k out
@@ -100,10 +191,14 @@ pub record Reads (l : Lists) (peer : ℕ) (o : Owner) (k : ℕ) (bytes : List �
   pub to_peer : peer ≡ out.peer
   pub read : (h : MessageHeader) → out.packet ≡ Message h → message_of bytes ≡ Some h
 
-packet-read : (p : Packet) (head body : List ℕ) (h : MessageHeader) → InRange p → HasHead p head → length head ≡ 16 → HasLength p (16 + length body) → p ≡ Message h → message_of (head ++ body) ≡ Some h
-packet-read p head body h range has long len e = ap message_in (decoded-append p head body range has long len) ∙ rw e refl
+packet-read : (p : Packet) (head body : List ℕ) (h : MessageHeader) → InRange p → HasHead p head
+    → length head ≡ 16 → HasLength p (16 + length body) → p ≡ Message h
+    → message_of (head ++ body) ≡ Some h
+packet-read p head body h range has long len e =
+    ap message_in (decoded-append p head body range has long len) ∙ rw e refl
 
-pub sent-reads : (l : Lists) (peer : ℕ) (o : Owner) (k : ℕ) (head body : List ℕ) → RightNode l → MaySend l peer o k head body → Reads l peer o k (head ++ body)
+pub sent-reads : (l : Lists) (peer : ℕ) (o : Owner) (k : ℕ) (head body : List ℕ) → RightNode l
+    → MaySend l peer o k head body → Reads l peer o k (head ++ body)
 sent-reads l peer o k head body i m =
     let right = all-at (λ q. QueueRight l.servers q.owner q.number) l.queued 0 _ i.queue m.is_front in
     let long = owner-length l o k m.out i right m.own in
@@ -111,5 +206,6 @@ sent-reads l peer o k head body i m =
       out = m.out;
       from = owner-out l o k m.out m.own;
       to_peer = m.to_peer;
-      read = λ h e. subst (λ (b : List ℕ). message_of (head ++ b) ≡ Some h) (sym m.whole) (packet-read m.out.packet head m.out.body h m.in_range m.has_head m.long long e);
+      read = λ h e. subst (λ (b : List ℕ). message_of (head ++ b) ≡ Some h) (sym m.whole)
+          (packet-read m.out.packet head m.out.body h m.in_range m.has_head m.long long e);
     }

@@ -1,5 +1,7 @@
 -- Each calm fact keeps what is on its way for a session within its limit.
-use Rattle.std.proofs.Common.{◌≡◌, ◌+◌, ◌≤◌, ◌==◌, ◌&&◌, ℕ, zero, suc, Bool, true, false, cond, List, [], ◌∷◌, ◌++◌, length, Option, Some, None, slice_get, refl, sym, ap, ◌∙◌, subst, arith}
+use Rattle.std.proofs.Common.{◌≡◌, ◌+◌, ◌≤◌, ◌==◌, ◌&&◌, ℕ, zero, suc, Bool, true, false, cond}
+use Rattle.std.proofs.Common.{List, [], ◌∷◌, ◌++◌, length, Option, Some, None, slice_get, refl, sym}
+use Rattle.std.proofs.Common.{ap, ◌∙◌, subst, arith}
 use Rattle.std.specs.Prelude.{option_to_list}
 use Rattle.std.specs.List.{find, slice_set}
 use Rattle.std.proofs.lemmas.Bool.{eqb-true, eqb-false}
@@ -26,24 +28,33 @@ use Rattle.end_laws.proofs.QueueLemmas.{RightNode}
 use Rattle.ring_laws.proofs.ClientSteps.{no_roll, client-step, credit-step, limit-step}
 use Rattle.ring_laws.proofs.Counting.{value, count-remove}
 use Rattle.ring_laws.proofs.Frames.{frame, Mirrors, FitsIn}
-use Rattle.ring_laws.proofs.Loads.{Filter, all, Pairing, client_packets, server_packets, free_of, limit_of, posted_ask, took_reply, sent_ask, sent_reply, given_ask, given_reply, ask_to, reply_to, on_way, client_part, server_part, owed, free, limit, load, Within}
+use Rattle.ring_laws.proofs.Loads.{Filter, all, Pairing, client_packets, server_packets, free_of}
+use Rattle.ring_laws.proofs.Loads.{limit_of, posted_ask, took_reply, sent_ask, sent_reply}
+use Rattle.ring_laws.proofs.Loads.{given_ask, given_reply, ask_to, reply_to, on_way, client_part}
+use Rattle.ring_laws.proofs.Loads.{server_part, owed, free, limit, load, Within}
 use Rattle.ring_laws.proofs.ServerSteps.{server-step}
 use Rattle.ring_laws.proofs.WorldSteps.{if_at, flight-node, hand-gives}
 use Rattle.rpc_base.proofs.BasicLemmas.{and-false}
 
 -- a number of one node, where it changes
-here-now : (f : Lists → ℕ) (nodes : List Lists) (n k : ℕ) (l m : Lists) → slice_get nodes n ≡ Some l → (n == k) ≡ true → value f (slice_get (slice_set nodes n m) k) ≡ f m
+here-now : (f : Lists → ℕ) (nodes : List Lists) (n k : ℕ) (l m : Lists) → slice_get nodes n ≡ Some l
+    → (n == k) ≡ true → value f (slice_get (slice_set nodes n m) k) ≡ f m
 here-now f nodes n k l m is e =
-    ap (λ (i : ℕ). value f (slice_get (slice_set nodes n m) i)) (sym (eqb-true n k e)) ∙ ap (value f) (set-here nodes n l m is)
+    ap (λ (i : ℕ). value f (slice_get (slice_set nodes n m) i)) (sym (eqb-true n k e))
+    ∙ ap (value f) (set-here nodes n l m is)
 
-here-was : (f : Lists → ℕ) (nodes : List Lists) (n k : ℕ) (l : Lists) → slice_get nodes n ≡ Some l → (n == k) ≡ true → value f (slice_get nodes k) ≡ f l
+here-was : (f : Lists → ℕ) (nodes : List Lists) (n k : ℕ) (l : Lists) → slice_get nodes n ≡ Some l
+    → (n == k) ≡ true → value f (slice_get nodes k) ≡ f l
 here-was f nodes n k l is e = ap (λ (i : ℕ). value f (slice_get nodes i)) (sym (eqb-true n k e)) ∙ ap (value f) is
 
-there-same : (f : Lists → ℕ) (nodes : List Lists) (n k : ℕ) (m : Lists) → (n == k) ≡ false → value f (slice_get (slice_set nodes n m) k) ≡ value f (slice_get nodes k)
+there-same : (f : Lists → ℕ) (nodes : List Lists) (n k : ℕ) (m : Lists) → (n == k) ≡ false
+    → value f (slice_get (slice_set nodes n m) k) ≡ value f (slice_get nodes k)
 there-same f nodes n k m e = ap (value f) (set-other nodes n k m (λ same. eqb-false n k e (sym same)))
 
 -- a node that changes keeps a number, or lessens it
-pub part-same : (f : Lists → ℕ) (nodes : List Lists) (n k : ℕ) (l m : Lists) → slice_get nodes n ≡ Some l → f m ≡ f l → value f (slice_get (slice_set nodes n m) k) ≡ value f (slice_get nodes k)
+pub part-same : (f : Lists → ℕ) (nodes : List Lists) (n k : ℕ) (l m : Lists)
+    → slice_get nodes n ≡ Some l → f m ≡ f l
+    → value f (slice_get (slice_set nodes n m) k) ≡ value f (slice_get nodes k)
 part-same f nodes n k l m is same = by (n == k) refl
   where
     by : (b : Bool) → (n == k) ≡ b → value f (slice_get (slice_set nodes n m) k) ≡ value f (slice_get nodes k)
@@ -59,31 +70,45 @@ of-free x l = free_of x.client l.clients
 abbrev of-limit : Pairing → Lists → ℕ
 of-limit x l = limit_of x.client l.clients
 
-module _ (w : Moment) (n : ℕ) (l : Lists) (e : Event) (first second : List ℕ) (x : Pairing) (a : AtNode w n l (fact n e first second)) (m : Mirrors (frame w)) (i : RightNode l) where
+module _ (w : Moment) (n : ℕ) (l : Lists) (e : Event) (first second : List ℕ) (x : Pairing)
+    (a : AtNode w n l (fact n e first second)) (m : Mirrors (frame w)) (i : RightNode l) where
   abbrev now : Lists
   now = after w.clock l (fact n e first second)
 
   module _ (p : Filter) where
-    node-client : (b : Bool) → (n == x.home) ≡ b → client_part p x (slice_set w.nodes n now) + if_at b (sent_ask p x.client e) + if_at b (took_reply p x.client e) ≤ client_part p x w.nodes + if_at b (posted_ask p x.client e) + if_at b (given_reply p x.client e first)
+    node-client : (b : Bool) → (n == x.home) ≡ b
+        → client_part p x (slice_set w.nodes n now) + if_at b (sent_ask p x.client e)
+        + if_at b (took_reply p x.client e) ≤ client_part p x w.nodes
+        + if_at b (posted_ask p x.client e) + if_at b (given_reply p x.client e first)
     node-client true t =
-        let step = client-step p x.client (due_of w.clock e l.paces) (latest w.past) w.hand l e first second a.allowed.may a.linked in
+        let step = client-step p x.client (due_of w.clock e l.paces)
+        (latest w.past) w.hand l e first second a.allowed.may a.linked in
         let new = here-now (client_packets p x.client) w.nodes n x.home l now a.is_node t in
         let old = here-was (client_packets p x.client) w.nodes n x.home l a.is_node t in
         rw (new, old) step
     node-client false t = let same = there-same (client_packets p x.client) w.nodes n x.home now t in omega arith
 
-    node-server : (b : Bool) → (n == x.node) ≡ b → server_part p x (slice_set w.nodes n now) + cond (b && owes p x.session e first) 1 0 + if_at b (sent_reply p x.session e) ≤ server_part p x w.nodes + owed p x w + if_at b (given_ask p x.session e first)
+    node-server : (b : Bool) → (n == x.node) ≡ b
+        → server_part p x (slice_set w.nodes n now) + cond (b && owes p x.session e first) 1 0
+        + if_at b (sent_reply p x.session e) ≤ server_part p x w.nodes + owed p x w
+        + if_at b (given_ask p x.session e first)
     node-server true t =
-        let step = server-step p x.session (due_of w.clock e l.paces) (latest w.past) w.hand l e first second a.allowed.may a.linked in
+        let step = server-step p x.session (due_of w.clock e l.paces)
+        (latest w.past) w.hand l e first second a.allowed.may a.linked in
         let new = here-now (server_packets p x.session) w.nodes n x.node l now a.is_node t in
         let old = here-was (server_packets p x.session) w.nodes n x.node l a.is_node t in
         let me : l.me ≡ x.node = a.me ∙ eqb-true n x.node t in
-        let owes_it : cond {A = ℕ} (is_owed p l.me x.session (latest w.past)) 1 0 ≡ cond (is_owed p x.node x.session (latest w.past)) 1 0 = ap (λ (k : ℕ). cond {A = ℕ} (is_owed p k x.session (latest w.past)) 1 0) me in
+        let owes_it : cond {A = ℕ} (is_owed p l.me x.session (latest w.past)) 1 0
+        ≡ cond (is_owed p x.node x.session (latest w.past)) 1 0 =
+        ap (λ (k : ℕ). cond {A = ℕ} (is_owed p k x.session (latest w.past)) 1 0) me in
         rw (new, old, ← owes_it) step
     node-server false t = let same = there-same (server_packets p x.session) w.nodes n x.node now t in omega arith
 
     -- what is on its way for a session, less a reply that is taken, is no more than before, but for what is posted
-    pub load-noted : FitsIn (frame w) x → load p x (noted_at w n l (fact n e first second)) + if_at (n == x.home) (took_reply p x.client e) ≤ load p x w + if_at (n == x.home) (posted_ask p x.client e)
+    pub load-noted : FitsIn (frame w) x
+        → load p x (noted_at w n l (fact n e first second))
+        + if_at (n == x.home) (took_reply p x.client e) ≤ load p x w
+        + if_at (n == x.home) (posted_ask p x.client e)
     load-noted fits =
         let c = node-client (n == x.home) refl in
         let s = node-server (n == x.node) refl in
@@ -91,7 +116,9 @@ module _ (w : Moment) (n : ℕ) (l : Lists) (e : Event) (first second : List ℕ
         let g = hand-gives p x w n l e first second a.me a.allowed.may a.linked in
         omega arith
 
-  node-free : no_roll e ≡ true → (b : Bool) → (n == x.home) ≡ b → free x (slice_set w.nodes n now) + if_at b (posted_ask all x.client e) ≤ free x w.nodes + if_at b (took_reply all x.client e)
+  node-free : no_roll e ≡ true → (b : Bool) → (n == x.home) ≡ b
+      → free x (slice_set w.nodes n now) + if_at b (posted_ask all x.client e) ≤ free x w.nodes
+      + if_at b (took_reply all x.client e)
   node-free calm true t =
       let step = credit-step w.clock x.client w.hand l e first second a.lawful calm a.allowed.may in
       let new = here-now (of-free x) w.nodes n x.home l now a.is_node t in
@@ -100,9 +127,11 @@ module _ (w : Moment) (n : ℕ) (l : Lists) (e : Event) (first second : List ℕ
   node-free calm false t = let same = there-same (of-free x) w.nodes n x.home now t in omega arith
 
   node-limit : limit x (slice_set w.nodes n now) ≡ limit x w.nodes
-  node-limit = part-same (of-limit x) w.nodes n x.home l now a.is_node (limit-step w.clock x.client w.hand l e first second a.allowed.may)
+  node-limit = part-same (of-limit x) w.nodes n x.home l now a.is_node
+      (limit-step w.clock x.client w.hand l e first second a.allowed.may)
 
-  pub within-noted : no_roll e ≡ true → FitsIn (frame w) x → Within w x → Within (noted_at w n l (fact n e first second)) x
+  pub within-noted : no_roll e ≡ true → FitsIn (frame w) x → Within w x
+      → Within (noted_at w n l (fact n e first second)) x
   within-noted calm fits h =
       let c = load-noted all fits in
       let f = node-free calm (n == x.home) refl in
@@ -110,22 +139,29 @@ module _ (w : Moment) (n : ℕ) (l : Lists) (e : Event) (first second : List ℕ
       omega arith
 
 -- a fact, spelled out
-pub own-fact : (f : Fact) (who : Who) → f.who ≡ who → f ≡ record { who = who; event = f.event; first = f.first; second = f.second }
+pub own-fact : (f : Fact) (who : Who) → f.who ≡ who
+    → f ≡ record { who = who; event = f.event; first = f.first; second = f.second }
 own-fact f who e = ap (λ (p : Who). record { who = p; event = f.event; first = f.first; second = f.second }) e
 
-pub within-node : (w : Moment) (n : ℕ) (l : Lists) (f : Fact) (x : Pairing) → AtNode w n l f → Mirrors (frame w) → RightNode l → no_roll f.event ≡ true → FitsIn (frame w) x → Within w x → Within (moved w f) x
+pub within-node : (w : Moment) (n : ℕ) (l : Lists) (f : Fact) (x : Pairing) → AtNode w n l f
+    → Mirrors (frame w) → RightNode l → no_roll f.event ≡ true → FitsIn (frame w) x → Within w x
+    → Within (moved w f) x
 within-node w n l f x a m i calm fits h =
     let e = own-fact f (Node n) (a.allowed.who ∙ ap Node a.me) in
     let at : AtNode w n l (fact n f.event f.first f.second) = subst (AtNode w n l) e a in
     let k = within-noted w n l f.event f.first f.second x at m i calm fits h in
-    subst (λ (v : Moment). Within v x) (sym (moved-node w n l f a)) (subst (λ (g : Fact). Within (noted_at w n l g) x) (sym e) k)
+    subst (λ (v : Moment). Within v x) (sym (moved-node w n l f a))
+    (subst (λ (g : Fact). Within (noted_at w n l g) x) (sym e) k)
 
 -- what the network repeats
 abbrev pub no_repeat : Event → Bool
 no_repeat (Repeated i) = false
 no_repeat _ = true
 
-net-keeps : (p : Filter) (x : Pairing) (e : Event) (copies : List InFlight) (hand : Option InFlight) → no_repeat e ≡ true → on_way p x (flight_after_net e copies) + on_way p x (cond (carries Net e) (option_to_list (hand_of e copies hand)) []) ≤ on_way p x copies
+net-keeps : (p : Filter) (x : Pairing) (e : Event) (copies : List InFlight) (hand : Option InFlight)
+    → no_repeat e ≡ true
+    → on_way p x (flight_after_net e copies) + on_way p x
+    (cond (carries Net e) (option_to_list (hand_of e copies hand)) []) ≤ on_way p x copies
 net-keeps p x (Carried i) copies hand calm =
     let a = count-remove (ask_to p x.node x.session) copies i in
     let b = count-remove (reply_to p x.home x.client) copies i in
@@ -137,17 +173,23 @@ net-keeps p x (Lost i) copies hand calm =
 net-keeps p x (Repeated i) copies hand calm = cc
 net-keeps p x _ copies hand calm = omega arith
 
-load-net-by : (p : Filter) (w : Moment) (e : Event) (first second : List ℕ) (x : Pairing) → no_repeat e ≡ true → load p x (moved w (record { who = Net; event = e; first = first; second = second })) ≤ load p x w
+load-net-by : (p : Filter) (w : Moment) (e : Event) (first second : List ℕ) (x : Pairing)
+    → no_repeat e ≡ true
+    → load p x (moved w (record { who = Net; event = e; first = first; second = second })) ≤ load p
+    x w
 load-net-by p w e first second x calm = let k = net-keeps p x e w.flight w.hand calm in omega arith
 
-pub load-net : (p : Filter) (w : Moment) (f : Fact) (x : Pairing) → f.who ≡ Net → no_repeat f.event ≡ true → load p x (moved w f) ≤ load p x w
+pub load-net : (p : Filter) (w : Moment) (f : Fact) (x : Pairing) → f.who ≡ Net
+    → no_repeat f.event ≡ true → load p x (moved w f) ≤ load p x w
 load-net p w f x who calm =
-    subst (λ (g : Fact). load p x (moved w g) ≤ load p x w) (sym (own-fact f Net who)) (load-net-by p w f.event f.first f.second x calm)
+    subst (λ (g : Fact). load p x (moved w g) ≤ load p x w) (sym (own-fact f Net who))
+    (load-net-by p w f.event f.first f.second x calm)
 
 pub nodes-net : (w : Moment) (f : Fact) → f.who ≡ Net → (moved w f).nodes ≡ w.nodes
 nodes-net w f who = ap (λ (p : Who). nodes_at w.clock p w.nodes f) who
 
-pub within-net : (w : Moment) (f : Fact) (x : Pairing) → f.who ≡ Net → no_repeat f.event ≡ true → Within w x → Within (moved w f) x
+pub within-net : (w : Moment) (f : Fact) (x : Pairing) → f.who ≡ Net → no_repeat f.event ≡ true
+    → Within w x → Within (moved w f) x
 within-net w f x who calm h =
     let k = load-net all w f x who calm in
     let a = ap (free x) (nodes-net w f who) in
@@ -155,21 +197,25 @@ within-net w f x who calm h =
     omega arith
 
 -- a node is made
-added-by : (f : Lists → ℕ) (nodes : List Lists) (l : Lists) (k : ℕ) → f l ≡ 0 → value f (slice_get (nodes ++ l ∷ []) k) ≡ value f (slice_get nodes k)
+added-by : (f : Lists → ℕ) (nodes : List Lists) (l : Lists) (k : ℕ) → f l ≡ 0
+    → value f (slice_get (nodes ++ l ∷ []) k) ≡ value f (slice_get nodes k)
 added-by f [] l zero none = none
 added-by f [] l (suc k) none = refl
 added-by f (z ∷ zs) l zero none = refl
 added-by f (z ∷ zs) l (suc k) none = added-by f zs l k none
 
-pub load-made : (p : Filter) (w : Moment) (ring : ℕ) (x : Pairing) → load p x (moved w (plain (length w.nodes) (Made ring))) ≤ load p x w
+pub load-made : (p : Filter) (w : Moment) (ring : ℕ) (x : Pairing)
+    → load p x (moved w (plain (length w.nodes) (Made ring))) ≤ load p x w
 load-made p w ring x =
     let new = new_lists (length w.nodes) (with_ring ring) in
     let c = added-by (client_packets p x.client) w.nodes new x.home (omega arith) in
     let s = added-by (server_packets p x.session) w.nodes new x.node (omega arith) in
-    let none : cond {A = ℕ} ((length w.nodes == x.node) && false) 1 0 ≡ 0 = rw (and-false (length w.nodes == x.node)) refl in
+    let none : cond {A = ℕ} ((length w.nodes == x.node) && false) 1 0 ≡ 0 =
+    rw (and-false (length w.nodes == x.node)) refl in
     omega arith
 
-pub within-made : (w : Moment) (ring : ℕ) (x : Pairing) → Within w x → Within (moved w (plain (length w.nodes) (Made ring))) x
+pub within-made : (w : Moment) (ring : ℕ) (x : Pairing) → Within w x
+    → Within (moved w (plain (length w.nodes) (Made ring))) x
 within-made w ring x h =
     let new = new_lists (length w.nodes) (with_ring ring) in
     let c = load-made all w ring x in
@@ -178,15 +224,22 @@ within-made w ring x h =
     omega arith
 
 -- a pairing: a new session has all its credits free
-new-value : (s : ℕ) (xs : List Client) (c : Client) → c.free ≡ c.limit → free_of s (xs ++ c ∷ []) + limit_of s xs ≡ free_of s xs + limit_of s (xs ++ c ∷ [])
+new-value : (s : ℕ) (xs : List Client) (c : Client) → c.free ≡ c.limit
+    → free_of s (xs ++ c ∷ []) + limit_of s xs ≡ free_of s xs + limit_of s (xs ++ c ∷ [])
 new-value s [] c e = by (c.way.number == s)
   where
-    by : (b : Bool) → value {A = Client} (λ c. c.free) (cond b (Some c) None) + 0 ≡ 0 + value {A = Client} (λ c. c.limit) (cond b (Some c) None)
+    by : (b : Bool) → value {A = Client} (λ c. c.free) (cond b (Some c) None) + 0
+        ≡ 0 + value {A = Client} (λ c. c.limit) (cond b (Some c) None)
     by true = omega arith
     by false = omega arith
 new-value s (y ∷ xs) c e = by (y.way.number == s) (new-value s xs c e)
   where
-    by : (b : Bool) → free_of s (xs ++ c ∷ []) + limit_of s xs ≡ free_of s xs + limit_of s (xs ++ c ∷ []) → value {A = Client} (λ c. c.free) (cond b (Some y) (find (is_client s) (xs ++ c ∷ []))) + value {A = Client} (λ c. c.limit) (cond b (Some y) (find (is_client s) xs)) ≡ value {A = Client} (λ c. c.free) (cond b (Some y) (find (is_client s) xs)) + value {A = Client} (λ c. c.limit) (cond b (Some y) (find (is_client s) (xs ++ c ∷ [])))
+    by : (b : Bool) → free_of s (xs ++ c ∷ []) + limit_of s xs
+        ≡ free_of s xs + limit_of s (xs ++ c ∷ [])
+        → value {A = Client} (λ c. c.free) (cond b (Some y) (find (is_client s) (xs ++ c ∷ [])))
+        + value {A = Client} (λ c. c.limit) (cond b (Some y) (find (is_client s) xs))
+        ≡ value {A = Client} (λ c. c.free) (cond b (Some y) (find (is_client s) xs))
+        + value {A = Client} (λ c. c.limit) (cond b (Some y) (find (is_client s) (xs ++ c ∷ [])))
     by true ih = omega arith
     by false ih = ih
 
@@ -214,15 +267,19 @@ module _ (w : Moment) (n m credits : ℕ) (client server : Lists) (ends : Ends w
 
   pub paired-nodes : (paired w n m credits client server).nodes ≡ nodes2
   paired-nodes =
-      ap (λ (ns : List Lists). changed w.clock (slice_get ns m) m ns other) (ap (λ (o : Option Lists). changed w.clock o n w.nodes one) ends.is_client) ∙ ap (λ (o : Option Lists). changed w.clock o m nodes1 other) is_server1
+      ap (λ (ns : List Lists). changed w.clock (slice_get ns m) m ns other)
+      (ap (λ (o : Option Lists). changed w.clock o n w.nodes one) ends.is_client)
+      ∙ ap (λ (o : Option Lists). changed w.clock o m nodes1 other) is_server1
 
-  pair-free : (x : Pairing) (b : Bool) → (n == x.home) ≡ b → free x nodes1 + limit x w.nodes ≡ free x w.nodes + limit x nodes1
+  pair-free : (x : Pairing) (b : Bool) → (n == x.home) ≡ b
+      → free x nodes1 + limit x w.nodes ≡ free x w.nodes + limit x nodes1
   pair-free x true t =
       let new = here-now (of-free x) w.nodes n x.home client lists1 ends.is_client t in
       let old = here-was (of-free x) w.nodes n x.home client ends.is_client t in
       let new_limit = here-now (of-limit x) w.nodes n x.home client lists1 ends.is_client t in
       let old_limit = here-was (of-limit x) w.nodes n x.home client ends.is_client t in
-      let k = new-value x.client client.clients (client_end (length client.clients) m (length server.servers) credits) refl in
+      let k = new-value x.client client.clients
+      (client_end (length client.clients) m (length server.servers) credits) refl in
       omega arith
   pair-free x false t =
       let a = there-same (of-free x) w.nodes n x.home lists1 t in

@@ -1,6 +1,7 @@
 -- While no datagram was repeated and no call rolled back, a packet that is on its way is
 -- unanswered, and stands in one place only.
-use Rattle.std.specs.Prelude.{ℕ, ◌≡◌, ◌≤◌, ◌<◌, ◌+◌, ◌-◌, ◌==◌, ◌&&◌, not, Bool, false, Option, Some, None, List, length, count_by, slice_get, true}
+use Rattle.std.specs.Prelude.{ℕ, ◌≡◌, ◌≤◌, ◌<◌, ◌+◌, ◌-◌, ◌==◌, ◌&&◌, not, Bool, false, Option}
+use Rattle.std.specs.Prelude.{Some, None, List, length, count_by, slice_get, true}
 use Rattle.std.specs.Bool.{MatchBool}
 use Rattle.std.specs.List.{find, AllByRecursion}
 use Rattle.packet_header.specs.Parts.{packet_count}

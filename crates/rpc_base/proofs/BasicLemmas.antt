@@ -1,5 +1,6 @@
 -- Truth values and options: what a test that came out so says of its parts.
-use Rattle.std.proofs.Common.{◌≡◌, ◌<◌, ◌≤◌, ℕ, Bool, true, false, not, ◌&&◌, ◌||◌, cond, ltb, ltb-true, Option, Some, None, refl, arith, rules, tests}
+use Rattle.std.proofs.Common.{◌≡◌, ◌<◌, ◌≤◌, ℕ, Bool, true, false, not, ◌&&◌, ◌||◌, cond, ltb}
+use Rattle.std.proofs.Common.{ltb-true, Option, Some, None, refl, arith, rules, tests}
 use Rattle.std.specs.Prelude.{IfSome, is_none}
 use Rattle.std.specs.Option.{option_or}
 
@@ -25,6 +26,18 @@ and-false false = refl
 pub or-false : (a b : Bool) → (a || b) ≡ false → (a ≡ false) × (b ≡ false)
 or-false true b e = cc
 or-false false b e = (refl, e)
+
+pub or-true : (b : Bool) → (b || true) ≡ true
+or-true true = refl
+or-true false = refl
+
+pub or-right : (a b : Bool) → b ≡ true → (a || b) ≡ true
+or-right true b t = refl
+or-right false b t = t
+
+pub some-of : {A : Type 0} (b : Bool) (o : Option A) (x : A) → cond b o None ≡ Some x → o ≡ Some x
+some-of true o x h = h
+some-of false o x h = cc
 
 pub or-none : {A : Type 0} (o : Option A) → option_or o None ≡ o
 or-none None = refl

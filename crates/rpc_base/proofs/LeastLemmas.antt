@@ -1,5 +1,7 @@
 -- Laws of "the element of least number among those that pass, nearest to the front".
-use Rattle.std.proofs.Common.{◌≡◌, ℕ, ◌+◌, ◌≤◌, Bool, true, false, not, ◌&&◌, ◌||◌, cond, Option, Some, None, List, [], ◌∷◌, length, refl, sym, ◌∙◌, ap, arith, eqb, leb}
+use Rattle.std.proofs.Common.{◌≡◌, ℕ, ◌+◌, ◌≤◌, Bool, true, false, not, ◌&&◌, ◌||◌, cond, Option}
+use Rattle.std.proofs.Common.{Some, None, List, [], ◌∷◌, length, refl, sym, ◌∙◌, ap, arith, eqb}
+use Rattle.std.proofs.Common.{leb}
 use Rattle.std.specs.Prelude.{◌==◌, ◌↔◌, ⊤, is_some, IfSome, IfNone, IsNone}
 use Rattle.std.specs.List.{find, list_any, filter, Contains, AllByRecursion}
 use Rattle.std.proofs.lemmas.Bool.{and_parts, eqb-true, eqb-false, leb-true, leb-false}
@@ -14,21 +16,31 @@ lesser (Some n) m = Some (smaller n m)
 
 module _ {A : Type 0} (passes : A → Bool) (number : A → ℕ) where
   -- a least number is there exactly where an element passes
-  none-cons : (b : Bool) (m : ℕ) (ys : List A) → cond b (Some m) (least_number passes number ys) ≡ None → (least_number passes number ys ≡ None → list_any passes ys ≡ false) → (b || list_any passes ys) ≡ false
+  none-cons : (b : Bool) (m : ℕ) (ys : List A)
+      → cond b (Some m) (least_number passes number ys) ≡ None
+      → (least_number passes number ys ≡ None → list_any passes ys ≡ false)
+      → (b || list_any passes ys) ≡ false
   none-cons true m ys h ih = cc
   none-cons false m ys h ih = ih h
 
   pub none-passes : (xs : List A) → least_number passes number xs ≡ None → list_any passes xs ≡ false
   none-passes [] h = refl
-  none-passes (y ∷ ys) h = none-cons (passes y) (smaller (number y) (least_number passes number ys)) ys h (none-passes ys)
+  none-passes (y ∷ ys) h =
+      none-cons (passes y) (smaller (number y) (least_number passes number ys)) ys h
+      (none-passes ys)
 
-  one-cons : (n : ℕ) (b : Bool) (m : ℕ) (ys : List A) → cond b (Some m) (least_number passes number ys) ≡ Some n → (least_number passes number ys ≡ Some n → list_any passes ys ≡ true) → (b || list_any passes ys) ≡ true
+  one-cons : (n : ℕ) (b : Bool) (m : ℕ) (ys : List A)
+      → cond b (Some m) (least_number passes number ys) ≡ Some n
+      → (least_number passes number ys ≡ Some n → list_any passes ys ≡ true)
+      → (b || list_any passes ys) ≡ true
   one-cons n true m ys h ih = refl
   one-cons n false m ys h ih = ih h
 
   pub one-passes : (n : ℕ) (xs : List A) → least_number passes number xs ≡ Some n → list_any passes xs ≡ true
   one-passes n [] h = cc
-  one-passes n (y ∷ ys) h = one-cons n (passes y) (smaller (number y) (least_number passes number ys)) ys h (one-passes n ys)
+  one-passes n (y ∷ ys) h =
+      one-cons n (passes y) (smaller (number y) (least_number passes number ys)) ys h
+      (one-passes n ys)
 
   -- an element has it
   abbrev bears : ℕ → A → Bool
@@ -46,17 +58,24 @@ module _ {A : Type 0} (passes : A → Bool) (number : A → ℕ) where
   found-here true y r later = refl
   found-here false y r later = later refl
 
-  found-cons : (n : ℕ) (b : Bool) (y : A) (ys : List A) → cond b (Some (smaller (number y) (least_number passes number ys))) (least_number passes number ys) ≡ Some n → (least_number passes number ys ≡ Some n → is_some (find (bears n) ys) ≡ true) → is_some (cond (b && number y == n) (Some y) (find (bears n) ys)) ≡ true
+  found-cons : (n : ℕ) (b : Bool) (y : A) (ys : List A)
+      → cond b (Some (smaller (number y) (least_number passes number ys)))
+      (least_number passes number ys) ≡ Some n
+      → (least_number passes number ys ≡ Some n → is_some (find (bears n) ys) ≡ true)
+      → is_some (cond (b && number y == n) (Some y) (find (bears n) ys)) ≡ true
   found-cons n true y ys h ih =
       let same : smaller (number y) (least_number passes number ys) ≡ n = cc in
-      found-here (number y == n) y (find (bears n) ys) (λ f. ih (smaller-other (number y) (least_number passes number ys) n same f))
+      found-here (number y == n) y (find (bears n) ys)
+      (λ f. ih (smaller-other (number y) (least_number passes number ys) n same f))
   found-cons n false y ys h ih = ih h
 
-  pub least-found : (n : ℕ) (xs : List A) → least_number passes number xs ≡ Some n → is_some (find (bears n) xs) ≡ true
+  pub least-found : (n : ℕ) (xs : List A) → least_number passes number xs ≡ Some n
+      → is_some (find (bears n) xs) ≡ true
   least-found n [] h = cc
   least-found n (y ∷ ys) h = found-cons n (passes y) y ys h (least-found n ys)
 
-  held-here : (b : Bool) (y : A) (r : Option A) (c : Bool) → (is_some r ≡ true → c ≡ true) → is_some (cond b (Some y) r) ≡ true → (b || c) ≡ true
+  held-here : (b : Bool) (y : A) (r : Option A) (c : Bool) → (is_some r ≡ true → c ≡ true)
+      → is_some (cond b (Some y) r) ≡ true → (b || c) ≡ true
   held-here true y r c ih h = refl
   held-here false y r c ih h = ih h
 
@@ -80,7 +99,10 @@ module _ {A : Type 0} (passes : A → Bool) (number : A → ℕ) where
       by true t l = let le = leb-true m k t in (l, omega arith)
       by false t l = let lt = leb-false m k t in (omega arith, l)
 
-  lower-cons : (n : ℕ) (y : A) (ys : List A) (b : Bool) → passes y ≡ b → Above n (cond b (Some (smaller (number y) (least_number passes number ys))) (least_number passes number ys)) → (Above n (least_number passes number ys) → NoneLower n ys) → NoneLower n (y ∷ ys)
+  lower-cons : (n : ℕ) (y : A) (ys : List A) (b : Bool) → passes y ≡ b
+      → Above n (cond b (Some (smaller (number y) (least_number passes number ys)))
+      (least_number passes number ys)) → (Above n (least_number passes number ys) → NoneLower n ys)
+      → NoneLower n (y ∷ ys)
   lower-cons n y ys true t h ih = let parts = above-parts n (number y) (least_number passes number ys) h in (λ _. parts.0, ih parts.1)
   lower-cons n y ys false t h ih = (λ p. absurd (false-true (sym t ∙ p)), ih h)
     where
@@ -92,15 +114,18 @@ module _ {A : Type 0} (passes : A → Bool) (number : A → ℕ) where
   none-lower n (y ∷ ys) h = lower-cons n y ys (passes y) refl h (none-lower n ys)
 
   -- all that is known of the number
-  pub number-none : (xs : List A) (r : Option ℕ) → r ≡ least_number passes number xs → IsNone r ↔ (list_any passes xs ≡ false)
+  pub number-none : (xs : List A) (r : Option ℕ) → r ≡ least_number passes number xs
+      → IsNone r ↔ (list_any passes xs ≡ false)
   number-none xs None h = (λ _. none-passes xs (sym h), λ _. refl)
   number-none xs (Some n) h = let any = one-passes n xs (sym h) in (λ f. cc, λ f. cc)
 
-  pub number-held : (xs : List A) (r : Option ℕ) → r ≡ least_number passes number xs → IfSome r (λ n. list_any (λ x. passes x && number x == n) xs ≡ true)
+  pub number-held : (xs : List A) (r : Option ℕ) → r ≡ least_number passes number xs
+      → IfSome r (λ n. list_any (λ x. passes x && number x == n) xs ≡ true)
   number-held xs None h = tt
   number-held xs (Some n) h = found-held n xs (least-found n xs (sym h))
 
-  pub number-lowest : (xs : List A) (r : Option ℕ) → r ≡ least_number passes number xs → IfSome r (λ n. AllByRecursion (λ x. passes x ≡ true → n ≤ number x) xs)
+  pub number-lowest : (xs : List A) (r : Option ℕ) → r ≡ least_number passes number xs
+      → IfSome r (λ n. AllByRecursion (λ x. passes x ≡ true → n ≤ number x) xs)
   number-lowest xs None h = tt
   number-lowest xs (Some n) h =
       let reached : n ≤ n = omega arith in
@@ -114,7 +139,8 @@ module _ {A : Type 0} (passes : A → Bool) (number : A → ℕ) where
     pub lowest : AllByRecursion (λ x. passes x ≡ true → number e ≤ number x) old
     pub taken : TakenOut (bears (number e)) e old new
 
-  least-out-by : (xs : List A) (e : A) (r : Option ℕ) → least_number passes number xs ≡ r → bearer passes number xs r ≡ Some e → LeastOut e xs (without_bearer passes number xs r)
+  least-out-by : (xs : List A) (e : A) (r : Option ℕ) → least_number passes number xs ≡ r
+      → bearer passes number xs r ≡ Some e → LeastOut e xs (without_bearer passes number xs r)
   least-out-by xs e None t h = cc
   least-out-by xs e (Some n) t h =
       let parts = and_parts (passes e) (number e == n) (find-passes (bears n) xs e h) in
@@ -128,12 +154,14 @@ module _ {A : Type 0} (passes : A → Bool) (number : A → ℕ) where
         taken = rw same (first-taken (bears n) xs e h);
       }
 
-  pub least-out : (xs : List A) (r : Option A) → r ≡ least passes number xs → IfSome r (λ e. LeastOut e xs (without_least passes number xs))
+  pub least-out : (xs : List A) (r : Option A) → r ≡ least passes number xs
+      → IfSome r (λ e. LeastOut e xs (without_least passes number xs))
   least-out xs None h = tt
   least-out xs (Some e) h = least-out-by xs e (least_number passes number xs) refl (sym h)
 
   -- none exactly where none passes, and then the list stays
-  none-by : (xs : List A) (r : Option ℕ) → least_number passes number xs ≡ r → IsNone (bearer passes number xs r) ↔ (list_any passes xs ≡ false)
+  none-by : (xs : List A) (r : Option ℕ) → least_number passes number xs ≡ r
+      → IsNone (bearer passes number xs r) ↔ (list_any passes xs ≡ false)
   none-by xs None t = (λ _. none-passes xs t, λ _. refl)
   none-by xs (Some n) t =
       let found = least-found n xs t in
@@ -143,36 +171,48 @@ module _ {A : Type 0} (passes : A → Bool) (number : A → ℕ) where
   pub least-none : (xs : List A) → IsNone (least passes number xs) ↔ (list_any passes xs ≡ false)
   least-none xs = none-by xs (least_number passes number xs) refl
 
-  same-by : (xs : List A) (r : Option ℕ) → least_number passes number xs ≡ r → bearer passes number xs r ≡ None → without_bearer passes number xs r ≡ xs
+  same-by : (xs : List A) (r : Option ℕ) → least_number passes number xs ≡ r
+      → bearer passes number xs r ≡ None → without_bearer passes number xs r ≡ xs
   same-by xs None t h = refl
   same-by xs (Some n) t h = let found = least-found n xs t in cc
 
-  pub least-same : (xs : List A) (r : Option A) → r ≡ least passes number xs → IfNone r (without_least passes number xs ≡ xs)
+  pub least-same : (xs : List A) (r : Option A) → r ≡ least passes number xs
+      → IfNone r (without_least passes number xs ≡ xs)
   least-same xs None h = same-by xs (least_number passes number xs) refl (sym h)
   least-same xs (Some e) h = tt
 
   -- those that don't pass stay as they stood
-  others-by : (xs : List A) (r : Option ℕ) → filter (λ x. not (passes x)) (without_bearer passes number xs r) ≡ filter (λ x. not (passes x)) xs
+  others-by : (xs : List A) (r : Option ℕ)
+      → filter (λ x. not (passes x)) (without_bearer passes number xs r)
+      ≡ filter (λ x. not (passes x)) xs
   others-by xs None = refl
-  others-by xs (Some n) = filter-without_first (bears n) (λ x. not (passes x)) xs (λ x t. rw ((and_parts (passes x) (number x == n) t).0) refl)
+  others-by xs (Some n) =
+      filter-without_first (bears n) (λ x. not (passes x)) xs
+      (λ x t. rw ((and_parts (passes x) (number x == n) t).0) refl)
 
-  pub least-others : (xs : List A) → filter (λ x. not (passes x)) (without_least passes number xs) ≡ filter (λ x. not (passes x)) xs
+  pub least-others : (xs : List A)
+      → filter (λ x. not (passes x)) (without_least passes number xs)
+      ≡ filter (λ x. not (passes x)) xs
   least-others xs = others-by xs (least_number passes number xs)
 
 -- a fact of the element, if there is one, for each clause
 module _ {A : Type 0} (passes : A → Bool) (number : A → ℕ) (old new : List A) where
-  pub out-listed : (r : Option A) → IfSome r (λ e. LeastOut passes number e old new) → IfSome r (λ e. Contains old e × (passes e ≡ true))
+  pub out-listed : (r : Option A) → IfSome r (λ e. LeastOut passes number e old new)
+      → IfSome r (λ e. Contains old e × (passes e ≡ true))
   out-listed None h = tt
   out-listed (Some e) h = (h.listed, h.own)
 
-  pub out-lowest : (r : Option A) → IfSome r (λ e. LeastOut passes number e old new) → IfSome r (λ e. AllByRecursion (λ x. passes x ≡ true → number e ≤ number x) old)
+  pub out-lowest : (r : Option A) → IfSome r (λ e. LeastOut passes number e old new)
+      → IfSome r (λ e. AllByRecursion (λ x. passes x ≡ true → number e ≤ number x) old)
   out-lowest None h = tt
   out-lowest (Some e) h = h.lowest
 
-  pub out-taken : (r : Option A) → IfSome r (λ e. LeastOut passes number e old new) → IfSome r (λ e. TakenOut (λ x. passes x && number x == number e) e old new)
+  pub out-taken : (r : Option A) → IfSome r (λ e. LeastOut passes number e old new)
+      → IfSome r (λ e. TakenOut (λ x. passes x && number x == number e) e old new)
   out-taken None h = tt
   out-taken (Some e) h = h.taken
 
-  pub out-fewer : (r : Option A) → IfSome r (λ e. LeastOut passes number e old new) → IfSome r (λ e. length new + 1 ≡ length old)
+  pub out-fewer : (r : Option A) → IfSome r (λ e. LeastOut passes number e old new)
+      → IfSome r (λ e. length new + 1 ≡ length old)
   out-fewer None h = tt
   out-fewer (Some e) h = taken-fewer (λ x. passes x && number x == number e) e old new h.taken

@@ -1,5 +1,6 @@
 //! A list that contracts see as the list, for plain data that definitions speak of.
-ghost use Rattle.std.specs.Prelude.{◌≡◌, ◌==◌, ℕ, ◌<◌, List, [], ◌∷◌, ◌++◌, length, drop, Some, IfOk, OnOk, OnErr, slice_get, slice_set};
+ghost use Rattle.std.specs.Prelude.{◌≡◌, ◌==◌, ℕ, ◌<◌, List, [], ◌∷◌, ◌++◌, length, drop, Some};
+ghost use Rattle.std.specs.Prelude.{IfOk, OnOk, OnErr, slice_get, slice_set};
 ghost use Rattle.std.specs.List.{remove};
 ghost use Rattle.std.specs.Borrow.{sem};
 

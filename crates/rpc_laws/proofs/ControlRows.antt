@@ -2,11 +2,20 @@
 -- declined or starved, it is closed, and a late copy of its request makes a session that nobody uses.
 use Rattle.std.proofs.Common.{◌≡◌, ℕ, true, false, Some, None, [], ◌∷◌, refl}
 use Rattle.packet_header.specs.declared.packet.ControlHeader.{ControlHeader}
-use Rattle.packet_header.specs.declared.packet.ControlKind.TheVariants.{ConnectRequest, ConnectReply, DisconnectRequest, DisconnectReply}
-use Rattle.rpc_base.specs.declared.event.Event.TheVariants.{Opened, Accepted, Declined, Starved, Connected as IsConnected, Closing as BeginsClosing, ClosedHeard, Ended, Flushed, NconnectRing, NcloseState, Rated, Nrate}
+use Rattle.packet_header.specs.declared.packet.ControlKind.TheVariants.{ConnectRequest}
+use Rattle.packet_header.specs.declared.packet.ControlKind.TheVariants.{ConnectReply}
+use Rattle.packet_header.specs.declared.packet.ControlKind.TheVariants.{DisconnectRequest}
+use Rattle.packet_header.specs.declared.packet.ControlKind.TheVariants.{DisconnectReply}
+use Rattle.rpc_base.specs.declared.event.Event.TheVariants.{Opened, Accepted, Declined, Starved}
+use Rattle.rpc_base.specs.declared.event.Event.TheVariants.{Connected as IsConnected}
+use Rattle.rpc_base.specs.declared.event.Event.TheVariants.{Closing as BeginsClosing, ClosedHeard}
+use Rattle.rpc_base.specs.declared.event.Event.TheVariants.{Ended, Flushed, NconnectRing}
+use Rattle.rpc_base.specs.declared.event.Event.TheVariants.{NcloseState, Rated, Nrate}
 use Rattle.rpc_base.specs.declared.owner.Owner.TheVariants.{Reply}
 use Rattle.rpc_base.specs.declared.state.SessionState.TheVariants.{Closing, Closed, Unknown}
-use Rattle.rpc_laws.specs.declared.rows.ControlRow.TheVariants.{Ignores, Confirms, Declines, Starves, Accepts, Ends, Misses, Connects, Disowns, Fails, Closes}
+use Rattle.rpc_laws.specs.declared.rows.ControlRow.TheVariants.{Ignores, Confirms, Declines}
+use Rattle.rpc_laws.specs.declared.rows.ControlRow.TheVariants.{Starves, Accepts, Ends, Misses}
+use Rattle.rpc_laws.specs.declared.rows.ControlRow.TheVariants.{Connects, Disowns, Fails, Closes}
 use Rattle.rpc_laws.specs.declared.rows.RetryRow.TheVariants.{Rests, Asks, GivesUp}
 use Rattle.rpc_laws.specs.declared.tables.Lists.{Lists}
 use Rattle.rpc_laws.specs.declared.tables.Queued.{Queued}
@@ -24,7 +33,8 @@ abbrev connect : ControlHeader
 connect = record { kind = ConnectRequest; client = 0; server = None; credits = 4; status = 0 }
 
 abbrev connected : (server credits : ℕ) → ControlHeader
-connected server credits = record { kind = ConnectReply; client = 0; server = Some server; credits = credits; status = 0 }
+connected server credits =
+    record { kind = ConnectReply; client = 0; server = Some server; credits = credits; status = 0 }
 
 abbrev declined : ℕ → ControlHeader
 declined credits = record { kind = ConnectReply; client = 0; server = None; credits = credits; status = 1 }
@@ -33,7 +43,14 @@ abbrev disconnect : ℕ → ControlHeader
 disconnect server = record { kind = DisconnectRequest; client = 0; server = Some server; credits = 0; status = 0 }
 
 abbrev disconnected : (server status : ℕ) → ControlHeader
-disconnected server status = record { kind = DisconnectReply; client = 0; server = Some server; credits = 0; status = status }
+disconnected server status =
+    record {
+      kind = DisconnectReply;
+      client = 0;
+      server = Some server;
+      credits = 0;
+      status = status;
+    }
 
 -- node 1 with a ring of 32, new, and once it accepted that session of peer 0
 abbrev fresh : Lists
@@ -91,12 +108,21 @@ abbrev reply_of : ℕ → Queued
 reply_of r = record { owner = Reply 0 r; number = 0; due = None }
 
 abbrev busy : Lists
-busy = record serving { queued = reply_of 9 ∷ reply_of 0 ∷ reply_of 9 ∷ []; servers = record { way = record { number = 0; peer = 0; other = 0 }; credits = 4; slots = in_slot 9 ∷ in_slot 0 ∷ [] } ∷ [] }
+busy = record serving {
+  queued = reply_of 9 ∷ reply_of 0 ∷ reply_of 9 ∷ [];
+  servers = record {
+    way = record { number = 0; peer = 0; other = 0 };
+    credits = 4;
+    slots = in_slot 9 ∷ in_slot 0 ∷ [];
+  } ∷ [];
+}
 
 row-ends : control_row false 0 (disconnect 0) busy ≡ Ends
 row-ends = refl
 
-row-flushes : control_facts busy 0 (disconnect 0) Ends ≡ plain 1 (Flushed (Reply 0 0) 0) ∷ plain 1 (Flushed (Reply 0 9) 0) ∷ plain 1 (Flushed (Reply 0 9) 0) ∷ plain 1 (Ended 0) ∷ []
+row-flushes : control_facts busy 0 (disconnect 0) Ends
+    ≡ plain 1 (Flushed (Reply 0 0) 0) ∷ plain 1 (Flushed (Reply 0 9) 0)
+    ∷ plain 1 (Flushed (Reply 0 9) 0) ∷ plain 1 (Ended 0) ∷ []
 row-flushes = refl
 
 row-ended : control_reply (disconnect 0) Ends ≡ Some (disconnected 0 0)
@@ -125,7 +151,8 @@ row-late = refl
 abbrev opened : Lists
 opened = after 0 (new_lists 0 (with_ring 32)) (plain 0 (Opened 0 1 4))
 
-row-opens : connect_by (client_refusal 4 (new_lists 0 (with_ring 32))) 1 4 7 (new_lists 0 (with_ring 32)) ≡ plain 0 (Opened 0 1 4) ∷ plain 0 (Rated 0 7) ∷ []
+row-opens : connect_by (client_refusal 4 (new_lists 0 (with_ring 32))) 1 4 7
+    (new_lists 0 (with_ring 32)) ≡ plain 0 (Opened 0 1 4) ∷ plain 0 (Rated 0 7) ∷ []
 row-opens = refl
 
 row-refuses : connect_by (client_refusal 29 opened) 1 29 0 opened ≡ plain 0 (NconnectRing 4 29 32) ∷ []

@@ -1,7 +1,8 @@
 -- Worked rows of pacing, computed by the definitions alone.
 use Rattle.std.proofs.Common.{◌≡◌, ℕ, Some, None, List, [], ◌∷◌, replicate, refl}
 use Rattle.std.specs.Prelude.{Option, map}
-use Rattle.rpc_base.specs.declared.event.Event.TheVariants.{Asked, Begun, Flushed, PairedClient, Polled, Posted, Rated, Rolled, Sent}
+use Rattle.rpc_base.specs.declared.event.Event.TheVariants.{Asked, Begun, Flushed, PairedClient}
+use Rattle.rpc_base.specs.declared.event.Event.TheVariants.{Polled, Posted, Rated, Rolled, Sent}
 use Rattle.rpc_base.specs.declared.owner.Owner.TheVariants.{Ask, Reply}
 use Rattle.rpc_laws.specs.declared.tables.Lists.{Lists}
 use Rattle.rpc_laws.specs.declared.tables.Progress.{Progress}
@@ -18,7 +19,8 @@ abbrev entry : ℕ → Option ℕ → Queued
 entry request due = record { owner = Ask 0 request; number = 0; due = due }
 
 abbrev three : List Queued
-three = queued_after (Posted (Ask 0 2) 0) (Some 10) (queued_after (Posted (Ask 0 1) 0) (Some 5) (queued_after (Posted (Ask 0 0) 0) (Some 10) []))
+three = queued_after (Posted (Ask 0 2) 0) (Some 10)
+    (queued_after (Posted (Ask 0 1) 0) (Some 5) (queued_after (Posted (Ask 0 0) 0) (Some 10) []))
 
 row-order : three ≡ entry 1 (Some 5) ∷ entry 0 (Some 10) ∷ entry 2 (Some 10) ∷ []
 row-order = refl
@@ -33,12 +35,16 @@ row-all-due : line 10 three ≡ three
 row-all-due = refl
 
 -- a reply that is posted stands before them, and behind what a poll made ready
-row-reply : queued_after (Posted (Reply 0 0) 0) None (queued_after (Polled 7) None three) ≡ entry 1 None ∷ record { owner = Reply 0 0; number = 0; due = None } ∷ entry 0 (Some 10) ∷ entry 2 (Some 10) ∷ []
+row-reply : queued_after (Posted (Reply 0 0) 0) None (queued_after (Polled 7) None three)
+    ≡ entry 1 None ∷ record { owner = Reply 0 0; number = 0; due = None } ∷ entry 0 (Some 10)
+    ∷ entry 2 (Some 10) ∷ []
 row-reply = refl
 
 -- at a rate of 1 a call of 5 bytes is posted at 0: it is due at once, and the next packet at 21,000
 abbrev slow : Lists
-slow = after_all 0 (new_lists 0 (with_ring 32)) (plain 0 (PairedClient 0 1 0 1) ∷ plain 0 (Rated 0 1) ∷ with_bytes 0 (Asked 0 0 1 5) (104 ∷ 101 ∷ 108 ∷ 108 ∷ 111 ∷ []) ∷ plain 0 (Begun 0 0) ∷ [])
+slow = after_all 0 (new_lists 0 (with_ring 32))
+    (plain 0 (PairedClient 0 1 0 1) ∷ plain 0 (Rated 0 1)
+    ∷ with_bytes 0 (Asked 0 0 1 5) (104 ∷ 101 ∷ 108 ∷ 108 ∷ 111 ∷ []) ∷ plain 0 (Begun 0 0) ∷ [])
 
 abbrev posted : Lists
 posted = after 0 slow (plain 0 (Posted (Ask 0 0) 0))
@@ -51,7 +57,8 @@ row-next = refl
 
 -- it is sent, and rolled back at 5,000: its packet is due at 21,000 then
 abbrev again : Lists
-again = after_all 5000 posted (plain 0 (Sent 1 (Ask 0 0) 0) ∷ plain 0 (Rolled 0 1 0) ∷ plain 0 (Posted (Ask 0 0) 0) ∷ [])
+again = after_all 5000 posted (plain 0 (Sent 1 (Ask 0 0) 0) ∷ plain 0 (Rolled 0 1 0)
+    ∷ plain 0 (Posted (Ask 0 0) 0) ∷ [])
 
 row-due-later : again.queued ≡ entry 0 (Some 21000) ∷ []
 row-due-later = refl
@@ -72,12 +79,17 @@ row-rolls = refl
 row-flushed : (after_all 10000 again (roll_facts 0 0 again.queued 0 progress)).queued ≡ []
 row-flushed = refl
 
-row-kept : (after_all 10000 again (roll_facts 0 0 again.queued 0 progress)).paces ≡ record { session = 0; rate = 1; next = 42000 } ∷ []
+row-kept : (after_all 10000 again (roll_facts 0 0 again.queued 0 progress)).paces
+    ≡ record { session = 0; rate = 1; next = 42000 } ∷ []
 row-kept = refl
 
 -- at a rate of 1,000 three datagrams of 1,040 bytes that are posted at 0 are due at 0, 1,040 and 2,080
 abbrev long : Lists
-long = after_all 0 (new_lists 0 (with_ring 32)) (plain 0 (PairedClient 0 1 0 3) ∷ plain 0 (Rated 0 1000) ∷ with_bytes 0 (Asked 0 0 1 3072) (replicate 3072 7) ∷ plain 0 (Begun 0 0) ∷ plain 0 (Posted (Ask 0 0) 0) ∷ plain 0 (Posted (Ask 0 0) 1) ∷ plain 0 (Posted (Ask 0 0) 2) ∷ [])
+long = after_all 0 (new_lists 0 (with_ring 32))
+    (plain 0 (PairedClient 0 1 0 3) ∷ plain 0 (Rated 0 1000)
+    ∷ with_bytes 0 (Asked 0 0 1 3072) (replicate 3072 7) ∷ plain 0 (Begun 0 0)
+    ∷ plain 0 (Posted (Ask 0 0) 0) ∷ plain 0 (Posted (Ask 0 0) 1) ∷ plain 0 (Posted (Ask 0 0) 2)
+    ∷ [])
 
 row-dues : map (λ q. q.due) long.queued ≡ Some 0 ∷ Some 1040 ∷ Some 2080 ∷ []
 row-dues = refl

@@ -6,7 +6,8 @@ use Rattle.packet_header.specs.declared.packet.Kind.TheVariants.{Request, Rfr}
 use Rattle.packet_header.specs.declared.packet.MessageHeader.{MessageHeader}
 use Rattle.rpc_base.specs.declared.event.Event.TheVariants.{Posted, Again, Flushed, Given, Worked, Ran, Took}
 use Rattle.rpc_base.specs.declared.owner.Owner.TheVariants.{Reply}
-use Rattle.rpc_base.specs.declared.state.DropReason.TheVariants.{Old, NotFirst, Working, Unserved, JobsFull, NoMemory, Beyond}
+use Rattle.rpc_base.specs.declared.state.DropReason.TheVariants.{Old, NotFirst, Working, Unserved}
+use Rattle.rpc_base.specs.declared.state.DropReason.TheVariants.{JobsFull, NoMemory, Beyond}
 use Rattle.rpc_laws.specs.declared.rows.ServerRow.{ServerRow}
 use Rattle.rpc_laws.specs.declared.rows.ServerRow.TheVariants.{Drops, Begins, Takes, Repeats}
 use Rattle.rpc_laws.specs.declared.tables.Jobs.{Jobs}
@@ -25,7 +26,15 @@ at slots = record { way = record { number = 0; peer = 7; other = 3 }; credits = 
 
 -- a request of one packet, of this type, size and number
 abbrev first : (req_type size request : ℕ) → MessageHeader
-first req_type size request = record { kind = Request; req_type = req_type; size = size; session = 0; number = 0; request = request }
+first req_type size request =
+    record {
+      kind = Request;
+      req_type = req_type;
+      size = size;
+      session = 0;
+      number = 0;
+      request = request;
+    }
 
 -- a request for part k of the answer to request 0
 abbrev more : ℕ → MessageHeader
@@ -50,27 +59,46 @@ tallied = record { number = 0; req_type = 3; size = 8; taken = 1; ask = []; work
 row-begins : by_plain false false (Some (at [])) (first 3 8 0) ≡ Begins
 row-begins = refl
 
-row-runs : served_facts (plain_mode 3) 1 seven [] (Some (at [])) (first 3 8 0) seven Begins ≡ plain 1 (Took (Reply 0 0) 0) ∷ with_two 1 (Ran 0 0 3) seven seven ∷ plain 1 (Posted (Reply 0 0) 0) ∷ []
+row-runs : served_facts (plain_mode 3) 1 seven [] (Some (at [])) (first 3 8 0) seven Begins
+    ≡ plain 1 (Took (Reply 0 0) 0) ∷ with_two 1 (Ran 0 0 3) seven seven
+    ∷ plain 1 (Posted (Reply 0 0) 0) ∷ []
 row-runs = refl
 
-row-stands : servers_after (Ran 0 0 3) seven None [] (servers_after (Took (Reply 0 0) 0) [] (Some (first 3 8 0)) seven (at [] ∷ [])) ≡ at (tallied ∷ []) ∷ []
+row-stands : servers_after (Ran 0 0 3) seven None []
+    (servers_after (Took (Reply 0 0) 0) [] (Some (first 3 8 0)) seven (at [] ∷ []))
+    ≡ at (tallied ∷ []) ∷ []
 row-stands = refl
 
 row-repeats : by_plain false false (Some (at (tallied ∷ []))) (first 3 8 0) ≡ Repeats
 row-repeats = refl
 
-row-again : served_facts (plain_mode 3) 1 [] [] (Some (at (tallied ∷ []))) (first 3 8 0) seven Repeats ≡ plain 1 (Again (Reply 0 0) 0) ∷ plain 1 (Posted (Reply 0 0) 0) ∷ []
+row-again : served_facts (plain_mode 3) 1 [] [] (Some (at (tallied ∷ [])))
+    (first 3 8 0) seven Repeats ≡ plain 1 (Again (Reply 0 0) 0) ∷ plain 1 (Posted (Reply 0 0) 0)
+    ∷ []
 row-again = refl
 
 -- the next tally of the node is answered with the sum
-row-sum : Answers plain_serving [] (with_two 1 (Ran 0 0 3) seven seven ∷ with_two 1 (Ran 0 8 3) seven fourteen ∷ []) ≡ ((seven ≡ seven) × ((fourteen ≡ fourteen) × Unit {0}))
+row-sum : Answers plain_serving [] (with_two 1 (Ran 0 0 3) seven seven
+    ∷ with_two 1 (Ran 0 8 3) seven fourteen ∷ [])
+    ≡ ((seven ≡ seven) × ((fourteen ≡ fourteen) × Unit {0}))
 row-sum = refl
 
 -- a greater number of the slot begins over it, and flushes its reply; then a copy of the older one is late
-row-over : served_facts (plain_mode 1) 1 (9 ∷ []) (record { owner = Reply 0 0; number = 0; due = None } ∷ []) (Some (at (tallied ∷ []))) (first 1 1 8) (9 ∷ []) Begins ≡ plain 1 (Flushed (Reply 0 0) 0) ∷ plain 1 (Took (Reply 0 8) 0) ∷ with_two 1 (Ran 0 8 1) (9 ∷ []) (9 ∷ []) ∷ plain 1 (Posted (Reply 0 8) 0) ∷ []
+row-over : served_facts (plain_mode 1) 1 (9 ∷ [])
+    (record { owner = Reply 0 0; number = 0; due = None } ∷ []) (Some (at (tallied ∷ [])))
+    (first 1 1 8) (9 ∷ []) Begins ≡ plain 1 (Flushed (Reply 0 0) 0) ∷ plain 1 (Took (Reply 0 8) 0)
+    ∷ with_two 1 (Ran 0 8 1) (9 ∷ []) (9 ∷ []) ∷ plain 1 (Posted (Reply 0 8) 0) ∷ []
 row-over = refl
 
-row-late : by_plain false false (Some (at (record { number = 8; req_type = 1; size = 1; taken = 1; ask = 9 ∷ []; working = false; answer = Some (9 ∷ []) } ∷ []))) (first 3 8 0) ≡ Drops Old
+row-late : by_plain false false (Some (at (record {
+  number = 8;
+  req_type = 1;
+  size = 1;
+  taken = 1;
+  ask = 9 ∷ [];
+  working = false;
+  answer = Some (9 ∷ []);
+} ∷ []))) (first 3 8 0) ≡ Drops Old
 row-late = refl
 
 -- a type that isn't served, and a request that begins with a request for a response
@@ -81,7 +109,8 @@ row-not-first : by_plain false false (Some (at [])) (more 1) ≡ Drops NotFirst
 row-not-first = refl
 
 -- a background reverse of two bytes is given
-row-given : served_facts (plain_mode 130) 1 [] [] (Some (at [])) (first 130 2 0) (97 ∷ 98 ∷ []) Begins ≡ plain 1 (Took (Reply 0 0) 0) ∷ plain 1 (Given 0 0) ∷ []
+row-given : served_facts (plain_mode 130) 1 [] [] (Some (at [])) (first 130 2 0)
+    (97 ∷ 98 ∷ []) Begins ≡ plain 1 (Took (Reply 0 0) 0) ∷ plain 1 (Given 0 0) ∷ []
 row-given = refl
 
 -- before that, and after it: its bytes went with the job
@@ -92,7 +121,11 @@ abbrev worked_on : Served
 worked_on = record { number = 0; req_type = 130; size = 2; taken = 1; ask = []; working = true; answer = None }
 
 abbrev one_job : Jobs
-one_job = record { limit = 64; given = 1; out = record { session = 0; request = 0; req_type = 130; ask = 97 ∷ 98 ∷ [] } ∷ [] }
+one_job = record {
+  limit = 64;
+  given = 1;
+  out = record { session = 0; request = 0; req_type = 130; ask = 97 ∷ 98 ∷ [] } ∷ [];
+}
 
 row-waits : jobs_after (Given 0 0) (at (asked ∷ []) ∷ []) (no_jobs 64) ≡ one_job
 row-waits = refl
@@ -118,10 +151,18 @@ row-reversed : answer_with 0 130 (97 ∷ 98 ∷ []) ≡ 98 ∷ 97 ∷ []
 row-reversed = refl
 
 -- jobs are full from the limit on: then a request that would make one doesn't begin, but one of more packets does
-row-few : are_full (record { limit = 64; given = 64; out = replicate 63 (record { session = 0; request = 0; req_type = 129; ask = [] }) }) ≡ false
+row-few : are_full (record {
+  limit = 64;
+  given = 64;
+  out = replicate 63 (record { session = 0; request = 0; req_type = 129; ask = [] });
+}) ≡ false
 row-few = refl
 
-row-many : are_full (record { limit = 64; given = 64; out = replicate 64 (record { session = 0; request = 0; req_type = 129; ask = [] }) }) ≡ true
+row-many : are_full (record {
+  limit = 64;
+  given = 64;
+  out = replicate 64 (record { session = 0; request = 0; req_type = 129; ask = [] });
+}) ≡ true
 row-many = refl
 
 row-full : by_plain true false (Some (at [])) (first 130 2 0) ≡ Drops JobsFull
@@ -142,7 +183,16 @@ row-length : length (answer_with 0 4 (0 ∷ 0 ∷ 11 ∷ 184 ∷ [])) ≡ 3000
 row-length = refl
 
 abbrev filled : ℕ → Served
-filled taken = record { number = 0; req_type = 4; size = 4; taken = taken; ask = 0 ∷ 0 ∷ 11 ∷ 184 ∷ []; working = false; answer = Some (answer_with 0 4 (0 ∷ 0 ∷ 11 ∷ 184 ∷ [])) }
+filled taken = record {
+  number = 0;
+  req_type = 4;
+  size = 4;
+  taken = taken;
+  ask = 0 ∷ 0 ∷ 11 ∷ 184 ∷ [];
+  working = false;
+  answer =
+      Some (answer_with 0 4 (0 ∷ 0 ∷ 11 ∷ 184 ∷ []));
+}
 
 row-second : by_plain false false (Some (at (filled 1 ∷ []))) (more 1) ≡ Takes
 row-second = refl

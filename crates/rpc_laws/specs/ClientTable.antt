@@ -1,5 +1,6 @@
 -- The client rule: what a CR or Response does at a node. The first row that holds decides.
-use Rattle.std.specs.Prelude.{ℕ, ◌+◌, ◌-◌, ◌==◌, nat_lt, nat_le, Bool, true, false, not, ◌&&◌, ◌||◌, Option, Some, None, is_none, List, [], ◌∷◌, if◌then◌else◌}
+use Rattle.std.specs.Prelude.{ℕ, ◌+◌, ◌-◌, ◌==◌, nat_lt, nat_le, Bool, true, false, not, ◌&&◌, ◌||◌}
+use Rattle.std.specs.Prelude.{Option, Some, None, is_none, List, [], ◌∷◌, if◌then◌else◌}
 use Rattle.std.specs.List.{find, list_any}
 pub use Rattle.packet_header.specs.Kinds.{is_cr}
 use Rattle.packet_header.specs.Parts.{part_size}
@@ -7,7 +8,9 @@ use Rattle.packet_header.specs.declared.packet.MessageHeader.{MessageHeader}
 use Rattle.rpc_base.specs.declared.event.Event.TheVariants.{Took, Dropped, DoneOk, DoneTooSmall}
 use Rattle.rpc_base.specs.declared.fact.Fact.{Fact}
 use Rattle.rpc_base.specs.declared.owner.Owner.TheVariants.{Ask}
-use Rattle.rpc_base.specs.declared.state.DropReason.TheVariants.{NoSession, WrongPeer, NoCall, Past, Ahead, Mismatch, Queued as StillQueued}
+use Rattle.rpc_base.specs.declared.state.DropReason.TheVariants.{NoSession, WrongPeer, NoCall, Past}
+use Rattle.rpc_base.specs.declared.state.DropReason.TheVariants.{Ahead, Mismatch}
+use Rattle.rpc_base.specs.declared.state.DropReason.TheVariants.{Queued as StillQueued}
 use Rattle.rpc_laws.specs.declared.rows.ClientRow.{ClientRow}
 use Rattle.rpc_laws.specs.declared.rows.ClientRow.TheVariants.{Drops, Takes}
 use Rattle.rpc_laws.specs.declared.rows.EndRow.{EndRow}

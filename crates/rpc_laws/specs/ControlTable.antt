@@ -1,15 +1,23 @@
 -- The control rule: what a control packet does at a node. The first row that holds decides.
-use Rattle.std.specs.Prelude.{ℕ, ◌==◌, ◌&&◌, ◌||◌, not, Bool, Option, Some, None, List, [], ◌∷◌, ◌++◌, flat_map, if◌then◌else◌}
+use Rattle.std.specs.Prelude.{ℕ, ◌==◌, ◌&&◌, ◌||◌, not, Bool, Option, Some, None, List, [], ◌∷◌}
+use Rattle.std.specs.Prelude.{◌++◌, flat_map, if◌then◌else◌}
 use Rattle.std.specs.List.{find}
 use Rattle.packet_header.specs.declared.packet.ControlHeader.{ControlHeader}
 use Rattle.packet_header.specs.declared.packet.ControlKind.{ControlKind}
-use Rattle.packet_header.specs.declared.packet.ControlKind.TheVariants.{ConnectRequest, ConnectReply, DisconnectRequest, DisconnectReply}
-use Rattle.rpc_base.specs.declared.event.Event.TheVariants.{Accepted, Declined, Starved, Connected as IsConnected, FailedNoRoom, ClosedHeard, Ended}
+use Rattle.packet_header.specs.declared.packet.ControlKind.TheVariants.{ConnectRequest}
+use Rattle.packet_header.specs.declared.packet.ControlKind.TheVariants.{ConnectReply}
+use Rattle.packet_header.specs.declared.packet.ControlKind.TheVariants.{DisconnectRequest}
+use Rattle.packet_header.specs.declared.packet.ControlKind.TheVariants.{DisconnectReply}
+use Rattle.rpc_base.specs.declared.event.Event.TheVariants.{Accepted, Declined, Starved}
+use Rattle.rpc_base.specs.declared.event.Event.TheVariants.{Connected as IsConnected, FailedNoRoom}
+use Rattle.rpc_base.specs.declared.event.Event.TheVariants.{ClosedHeard, Ended}
 use Rattle.rpc_base.specs.declared.fact.Fact.{Fact}
 use Rattle.rpc_base.specs.declared.state.SessionState.{SessionState}
 use Rattle.rpc_base.specs.declared.state.SessionState.TheVariants.{Connecting, Connected, Spent, Closing}
 use Rattle.rpc_laws.specs.declared.rows.ControlRow.{ControlRow}
-use Rattle.rpc_laws.specs.declared.rows.ControlRow.TheVariants.{Ignores, Confirms, Declines, Starves, Accepts, Ends, Misses, Connects, Disowns, Fails, Closes}
+use Rattle.rpc_laws.specs.declared.rows.ControlRow.TheVariants.{Ignores, Confirms, Declines}
+use Rattle.rpc_laws.specs.declared.rows.ControlRow.TheVariants.{Starves, Accepts, Ends, Misses}
+use Rattle.rpc_laws.specs.declared.rows.ControlRow.TheVariants.{Connects, Disowns, Fails, Closes}
 use Rattle.rpc_laws.specs.declared.tables.Client.{Client}
 use Rattle.rpc_laws.specs.declared.tables.Lists.{Lists}
 use Rattle.rpc_laws.specs.declared.tables.Queued.{Queued}

@@ -1,5 +1,6 @@
 -- The timer rule: which calls time out at a moment, and what becomes of them.
-use Rattle.std.specs.Prelude.{ℕ, ◌≡◌, ◌-◌, nat_lt, nat_le, Bool, not, ◌&&◌, Option, Some, None, List, [], ◌∷◌, ◌++◌, flat_map, map, slice_get, if◌then◌else◌}
+use Rattle.std.specs.Prelude.{ℕ, ◌≡◌, ◌-◌, nat_lt, nat_le, Bool, not, ◌&&◌, Option, Some, None}
+use Rattle.std.specs.Prelude.{List, [], ◌∷◌, ◌++◌, flat_map, map, slice_get, if◌then◌else◌}
 use Rattle.std.specs.List.{find, list_any}
 use Rattle.rpc_base.specs.declared.event.Event.TheVariants.{Rolled, Broken, DonePeerLost}
 use Rattle.rpc_base.specs.declared.fact.Fact.{Fact}

@@ -1,8 +1,12 @@
 -- What an application call notes at a node, and what room its sessions leave.
-use Rattle.std.specs.Prelude.{ℕ, ◌≡◌, ◌+◌, ◌^◌, ◌==◌, ◌||◌, nat_lt, nat_le, Bool, not, Option, Some, None, List, [], ◌∷◌, length, sum_by, if◌then◌else◌}
+use Rattle.std.specs.Prelude.{ℕ, ◌≡◌, ◌+◌, ◌^◌, ◌==◌, ◌||◌, nat_lt, nat_le, Bool, not, Option, Some}
+use Rattle.std.specs.Prelude.{None, List, [], ◌∷◌, length, sum_by, if◌then◌else◌}
 use Rattle.std.specs.List.{find}
 use Rattle.rpc_base.specs.declared.event.Event.{Event}
-use Rattle.rpc_base.specs.declared.event.Event.TheVariants.{Opened, Closing, NcloseState, NcloseBusy, Rated, Nrate, Asked, NcallTooLarge, NcallState, NconnectRing, NconnectNumbers}
+use Rattle.rpc_base.specs.declared.event.Event.TheVariants.{Opened, Closing, NcloseState}
+use Rattle.rpc_base.specs.declared.event.Event.TheVariants.{NcloseBusy, Rated, Nrate, Asked}
+use Rattle.rpc_base.specs.declared.event.Event.TheVariants.{NcallTooLarge, NcallState, NconnectRing}
+use Rattle.rpc_base.specs.declared.event.Event.TheVariants.{NconnectNumbers}
 use Rattle.rpc_base.specs.declared.fact.Fact.{Fact}
 use Rattle.rpc_base.specs.declared.state.SessionState.{SessionState}
 use Rattle.rpc_base.specs.declared.state.SessionState.TheVariants.{Unknown, Connected, Spent}

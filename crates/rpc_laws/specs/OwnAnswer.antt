@@ -1,7 +1,9 @@
 -- A handler runs on the bytes of a call, and a call ends with its own handler's answer.
 use Rattle.std.specs.Prelude.{ℕ, ◌≡◌, ◌<◌, List, [], ◌∷◌, ◌++◌, length, if◌then◌else◌, Contains}
 use Rattle.rpc_base.specs.declared.event.Event.{Event}
-use Rattle.rpc_base.specs.declared.event.Event.TheVariants.{PairedClient, PairedServer, Opened, Accepted, Connected, Asked, Begun, Ran, DoneOk, DoneTooSmall}
+use Rattle.rpc_base.specs.declared.event.Event.TheVariants.{PairedClient, PairedServer, Opened}
+use Rattle.rpc_base.specs.declared.event.Event.TheVariants.{Accepted, Connected, Asked, Begun, Ran}
+use Rattle.rpc_base.specs.declared.event.Event.TheVariants.{DoneOk, DoneTooSmall}
 use Rattle.rpc_base.specs.declared.fact.Fact.{Fact}
 use Rattle.rpc_base.specs.declared.fact.Who.{Who}
 use Rattle.rpc_base.specs.declared.fact.Who.TheVariants.{Node, Net}

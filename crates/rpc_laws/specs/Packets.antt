@@ -1,5 +1,6 @@
 -- Call packets: the packet that a queued entry stands for, with its body and its receiver.
-use Rattle.std.specs.Prelude.{◌≡◌, ℕ, ◌+◌, ◌-◌, nat_lt, Option, Some, None, option_map, List, [], length, if◌then◌else◌}
+use Rattle.std.specs.Prelude.{◌≡◌, ℕ, ◌+◌, ◌-◌, nat_lt, Option, Some, None, option_map, List, []}
+use Rattle.std.specs.Prelude.{length, if◌then◌else◌}
 use Rattle.std.specs.List.{find}
 use Rattle.packet_header.specs.Header.{HasHead, InRange}
 use Rattle.packet_header.specs.Parts.{packet_count, part}

@@ -1,6 +1,8 @@
 -- A poll: finished jobs, the inbox, the packets of the ring in order of arrival, the timers,
 -- posting, sending, and the Polled that ends it.
-use Rattle.std.specs.Prelude.{ℕ, ◌≡◌, ◌⊎◌, ◌-◌, ◌<◌, ◌≤◌, max, Bool, true, false, Option, Some, None, option_and_then, List, [], ◌∷◌, length, slice_get, if◌then◌else◌}
+use Rattle.std.specs.Prelude.{ℕ, ◌≡◌, ◌⊎◌, ◌-◌, ◌<◌, ◌≤◌, max, Bool, true, false, Option, Some}
+use Rattle.std.specs.Prelude.{None, option_and_then, List, [], ◌∷◌, length, slice_get}
+use Rattle.std.specs.Prelude.{if◌then◌else◌}
 use Rattle.std.specs.List.{find}
 use Rattle.packet_header.specs.Parts.{packet_count}
 use Rattle.packet_header.specs.Header.{AreBytes, HasHead, InRange}

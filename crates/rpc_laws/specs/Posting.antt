@@ -1,5 +1,7 @@
 -- What a client session begins and posts next.
-use Rattle.std.specs.Prelude.{ℕ, ◌+◌, ◌*◌, ◌%◌, ◌==◌, nat_lt, Bool, false, not, Option, Some, None, option_and_then, option_map, List, [], ◌∷◌, slice_get, slice_index, if◌then◌else◌}
+use Rattle.std.specs.Prelude.{ℕ, ◌+◌, ◌*◌, ◌%◌, ◌==◌, nat_lt, Bool, false, not, Option, Some, None}
+use Rattle.std.specs.Prelude.{option_and_then, option_map, List, [], ◌∷◌, slice_get, slice_index}
+use Rattle.std.specs.Prelude.{if◌then◌else◌}
 use Rattle.std.specs.List.{find, list_any, position}
 use Rattle.rpc_base.specs.declared.event.Event.{Event}
 use Rattle.rpc_base.specs.declared.event.Event.TheVariants.{Begun, Posted}

@@ -1,8 +1,10 @@
 -- The receive ring and the inbox of a node, and the packets that it posted and that are neither
 -- sent nor flushed.
-use Rattle.std.specs.Prelude.{ℕ, Bool, true, false, ◌&&◌, ◌==◌, Option, Some, None, List, [], ◌∷◌, ◌++◌, drop, map, count_by, nat_le, if◌then◌else◌}
+use Rattle.std.specs.Prelude.{ℕ, Bool, true, false, ◌&&◌, ◌==◌, Option, Some, None, List, [], ◌∷◌}
+use Rattle.std.specs.Prelude.{◌++◌, drop, map, count_by, nat_le, if◌then◌else◌}
 use Rattle.rpc_base.specs.declared.event.Event.{Event}
-use Rattle.rpc_base.specs.declared.event.Event.TheVariants.{Arrived, Heard, Took, Again, Dropped, Posted, Sent, Flushed, Polled}
+use Rattle.rpc_base.specs.declared.event.Event.TheVariants.{Arrived, Heard, Took, Again, Dropped}
+use Rattle.rpc_base.specs.declared.event.Event.TheVariants.{Posted, Sent, Flushed, Polled}
 use Rattle.rpc_base.specs.declared.fact.Fact.{Fact}
 use Rattle.rpc_base.specs.declared.owner.Owner.{Owner}
 use Rattle.rpc_base.specs.declared.owner.Owner.TheVariants.{Reply}

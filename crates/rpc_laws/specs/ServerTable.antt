@@ -1,7 +1,9 @@
 -- The server rule: what a Request or RFR does at a node. The first row that holds decides. Of the
 -- node's service it looks at the mode of the packet's type alone; what a handler answers is handed
 -- in.
-use Rattle.std.specs.Prelude.{ℕ, ◌+◌, ◌==◌, nat_lt, nat_le, Bool, true, false, not, ◌&&◌, ◌||◌, Option, Some, None, option_map, List, [], ◌∷◌, ◌++◌, length, if◌then◌else◌}
+use Rattle.std.specs.Prelude.{ℕ, ◌+◌, ◌==◌, nat_lt, nat_le, Bool, true, false, not, ◌&&◌, ◌||◌}
+use Rattle.std.specs.Prelude.{Option, Some, None, option_map, List, [], ◌∷◌, ◌++◌, length}
+use Rattle.std.specs.Prelude.{if◌then◌else◌}
 use Rattle.std.specs.List.{find}
 pub use Rattle.packet_header.specs.Kinds.{is_last, is_rfr}
 use Rattle.packet_header.specs.Parts.{packet_count}
@@ -9,7 +11,10 @@ use Rattle.packet_header.specs.declared.packet.MessageHeader.{MessageHeader}
 use Rattle.rpc_base.specs.declared.event.Event.TheVariants.{Posted, Took, Again, Dropped, Given, Ran}
 use Rattle.rpc_base.specs.declared.fact.Fact.{Fact}
 use Rattle.rpc_base.specs.declared.owner.Owner.TheVariants.{Reply}
-use Rattle.rpc_base.specs.declared.state.DropReason.TheVariants.{NoSession, WrongPeer, Old, NotFirst, Working, Unserved, JobsFull, NoMemory, Mismatch, Ahead, Beyond}
+use Rattle.rpc_base.specs.declared.state.DropReason.TheVariants.{NoSession, WrongPeer, Old}
+use Rattle.rpc_base.specs.declared.state.DropReason.TheVariants.{NotFirst, Working, Unserved}
+use Rattle.rpc_base.specs.declared.state.DropReason.TheVariants.{JobsFull, NoMemory, Mismatch}
+use Rattle.rpc_base.specs.declared.state.DropReason.TheVariants.{Ahead, Beyond}
 use Rattle.rpc_laws.specs.declared.rows.ServerRow.{ServerRow}
 use Rattle.rpc_laws.specs.declared.rows.ServerRow.TheVariants.{Drops, Begins, Takes, Repeats}
 use Rattle.rpc_laws.specs.declared.tables.Served.{Served}

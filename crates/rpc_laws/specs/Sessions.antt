@@ -1,12 +1,21 @@
 -- Client sessions with their calls, as the facts of a node leave them. The calls of a session stand
 -- in the order of their numbers: those that are active, and then those that wait.
-use Rattle.std.specs.Prelude.{ℕ, ◌+◌, ◌-◌, ◌%◌, ◌==◌, Bool, true, false, Option, Some, None, List, [], ◌∷◌, ◌++◌, slice_index, slice_set, if◌then◌else◌}
+use Rattle.std.specs.Prelude.{ℕ, ◌+◌, ◌-◌, ◌%◌, ◌==◌, Bool, true, false, Option, Some, None, List}
+use Rattle.std.specs.Prelude.{[], ◌∷◌, ◌++◌, slice_index, slice_set, if◌then◌else◌}
 use Rattle.std.specs.List.{list_any}
 use Rattle.rpc_base.specs.declared.event.Event.{Event}
-use Rattle.rpc_base.specs.declared.event.Event.TheVariants.{Opened, PairedClient, Connected as IsConnected, FailedNoRoom, FailedNoAnswer, Closing as BeginsClosing, ClosedHeard, ClosedUnheard, Asked, Begun, Posted, Sent, Took, Rolled, Broken, DoneOk, DoneTooSmall, DonePeerLost}
+use Rattle.rpc_base.specs.declared.event.Event.TheVariants.{Opened, PairedClient}
+use Rattle.rpc_base.specs.declared.event.Event.TheVariants.{Connected as IsConnected, FailedNoRoom}
+use Rattle.rpc_base.specs.declared.event.Event.TheVariants.{FailedNoAnswer}
+use Rattle.rpc_base.specs.declared.event.Event.TheVariants.{Closing as BeginsClosing, ClosedHeard}
+use Rattle.rpc_base.specs.declared.event.Event.TheVariants.{ClosedUnheard, Asked, Begun, Posted}
+use Rattle.rpc_base.specs.declared.event.Event.TheVariants.{Sent, Took, Rolled, Broken, DoneOk}
+use Rattle.rpc_base.specs.declared.event.Event.TheVariants.{DoneTooSmall, DonePeerLost}
 use Rattle.rpc_base.specs.declared.owner.Owner.TheVariants.{Ask, Control}
 use Rattle.rpc_base.specs.declared.state.SessionState.{SessionState}
-use Rattle.rpc_base.specs.declared.state.SessionState.TheVariants.{Connecting, Connected, Closing, Closed, Failed, Spent, Broken as IsBroken}
+use Rattle.rpc_base.specs.declared.state.SessionState.TheVariants.{Connecting, Connected, Closing}
+use Rattle.rpc_base.specs.declared.state.SessionState.TheVariants.{Closed, Failed, Spent}
+use Rattle.rpc_base.specs.declared.state.SessionState.TheVariants.{Broken as IsBroken}
 use Rattle.packet_header.specs.declared.packet.ControlHeader.{ControlHeader}
 use Rattle.packet_header.specs.declared.packet.ControlKind.{ControlKind}
 use Rattle.packet_header.specs.declared.packet.ControlKind.TheVariants.{ConnectRequest, DisconnectRequest}
@@ -16,7 +25,8 @@ use Rattle.rpc_laws.specs.declared.tables.Client.{Client}
 use Rattle.rpc_base.specs.Tables.{at_first, without_first}
 use Rattle.rpc_base.specs.declared.limits.TheConstants.{SESSION_NUMBERS}
 use Rattle.rpc_laws.specs.Front.{control_of}
-use Rattle.rpc_laws.specs.Calls.{is_call, is_active, asking, begun, moved, posted_up_to, rolled_back, sent_packet, took_reply}
+use Rattle.rpc_laws.specs.Calls.{is_call, is_active, asking, begun, moved, posted_up_to}
+use Rattle.rpc_laws.specs.Calls.{rolled_back, sent_packet, took_reply}
 
 abbrev pub is_client : ℕ → Client → Bool
 is_client number x = x.way.number == number

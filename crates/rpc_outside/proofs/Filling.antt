@@ -1,5 +1,7 @@
 -- How long a fill is.
-use Rattle.std.proofs.Common.{◌≡◌, ◌≤◌, ◌<◌, ◌+◌, ◌%◌, ◌^◌, ℕ, Bool, true, false, cond, List, [], ◌∷◌, length, refl, sym, ap, ◌∙◌, arith, eq-eqb, le-leb, nat_le, append-nil, zero-add, mod-eq_of_lt, ◌≢◌, ne_eqb, ◌==◌, ◌&&◌}
+use Rattle.std.proofs.Common.{◌≡◌, ◌≤◌, ◌<◌, ◌+◌, ◌%◌, ◌^◌, ℕ, Bool, true, false, cond, List, []}
+use Rattle.std.proofs.Common.{◌∷◌, length, refl, sym, ap, ◌∙◌, arith, eq-eqb, le-leb, nat_le}
+use Rattle.std.proofs.Common.{append-nil, zero-add, mod-eq_of_lt, ◌≢◌, ne_eqb, ◌==◌, ◌&&◌}
 use Rattle.std.proofs.lemmas.List.FromFn.{length-map-range_with_len}
 use Rattle.std.specs.Prelude.{slice_index}
 use Rattle.byteorder.specs.Numbers.{big_number-reads_back}
@@ -7,17 +9,21 @@ use Rattle.std.proofs.lemmas.Grind.{same_number_lists}
 use Rattle.std.proofs.lemmas.List.FromFn.{get_or-map-range_with_len}
 use Rattle.byteorder.specs.Endian.{big_number, big_bytes}
 use Rattle.rpc_outside.specs.declared.service.Mode.TheVariants.{Inline, Background, Unserved}
-use Rattle.rpc_outside.specs.PlainAnswer.{plain_mode, plain_answer, fill, counted, total_of, steady_answer, is_in_background}
+use Rattle.rpc_outside.specs.PlainAnswer.{plain_mode, plain_answer, fill, counted, total_of}
+use Rattle.rpc_outside.specs.PlainAnswer.{steady_answer, is_in_background}
 use Rattle.rpc_outside.specs.Served.{Served}
 
 pub fill-length : (ask : List ℕ) → length ask ≡ 4 → big_number 4 ask ≤ 1048576 → length (fill ask) ≡ big_number 4 ask
-fill-length ask e h = rw (eq-eqb (length ask) 4 e, le-leb (big_number 4 ask) 1048576 h) (length-map-range_with_len (λ j. j % 256) 0 (big_number 4 ask))
+fill-length ask e h =
+    rw (eq-eqb (length ask) 4 e, le-leb (big_number 4 ask) 1048576 h)
+    (length-map-range_with_len (λ j. j % 256) 0 (big_number 4 ask))
 
 count-length : (n : ℕ) → length (counted n) ≡ n
 count-length n = length-map-range_with_len (λ j. j % 256) 0 n
 
 -- bytes that count up are those
-pub counts-up : (out : List ℕ) (n : ℕ) → length out ≡ n → ((k : ℕ) → k < n → slice_index out k ≡ k % 256) → out ≡ counted n
+pub counts-up : (out : List ℕ) (n : ℕ) → length out ≡ n
+    → ((k : ℕ) → k < n → slice_index out k ≡ k % 256) → out ≡ counted n
 counts-up out n e h =
     same_number_lists out (counted n) (e ∙ sym (count-length n))
     (λ k l. let below : k < n = omega (arith, e) in h k below ∙ sym (get_or-map-range_with_len (λ j. j % 256) 0 n k k 0 below (omega arith)))
@@ -41,7 +47,8 @@ pub stands-for : (total : ℕ) → total < 2 ^ 64 → total ≡ total_of (one_ta
 stands-for total h =
     sym (ap (λ n. (0 + n) % 2 ^ 64) (reads total h) ∙ ap (λ n. n % 2 ^ 64) (zero-add total) ∙ mod-eq_of_lt h)
 
-inline-low : (t : ℕ) (b c : Bool) → cond (b && c) Inline (cond (is_in_background t) Background Unserved) ≡ Inline → c ≡ true
+inline-low : (t : ℕ) (b c : Bool)
+    → cond (b && c) Inline (cond (is_in_background t) Background Unserved) ≡ Inline → c ≡ true
 inline-low t true true h = refl
 inline-low t true false h = absurd (outside (is_in_background t) h) where
   outside : (d : Bool) → cond d Background Unserved ≡ Inline → ⊥
@@ -53,5 +60,6 @@ inline-low t false c h = absurd (outside (is_in_background t) h) where
   outside false e = cc
 
 -- an inline type other than the tally is answered without the list
-pub steady-inline : (served : Served) (t : ℕ) (ask : List ℕ) → t ≢ 3 → plain_mode t ≡ Inline → plain_answer served t ask ≡ steady_answer t ask
+pub steady-inline : (served : Served) (t : ℕ) (ask : List ℕ) → t ≢ 3 → plain_mode t ≡ Inline
+    → plain_answer served t ask ≡ steady_answer t ask
 steady-inline served t ask other h = rw (ne_eqb t 3 other, inline-low t (nat_le 1 t) (nat_le t 4) h) refl

@@ -32,12 +32,18 @@ pub wrote-broke : (old mid new : Option (List ℕ)) (before between after : ℕ)
 wrote-broke old mid new before between after text more first second =
     let (front, rest, whole, bytes) = second.bytes in
     record {
-      bytes = (text ++ front, rest, ap (λ l. text ++ l) whole ∙ sym (append_assoc text front rest), Appends-trans old mid new text front first.bytes bytes);
+      bytes = (
+        text ++ front,
+        rest,
+        ap (λ l. text ++ l) whole ∙ sym (append_assoc text front rest),
+        Appends-trans old mid new text front first.bytes bytes,
+      );
       fault = subst (λ n. HasRisen n after) first.quiet second.fault;
     }
 
 -- one text was written, and then another one was printed
-pub prints-then : {T E : Type 0} (old mid new : Option (List ℕ)) (before between after : ℕ) (result : Result T E) (text more : List ℕ)
+pub prints-then : {T E : Type 0} (old mid new : Option (List ℕ)) (before between after : ℕ)
+    (result : Result T E) (text more : List ℕ)
     → Wrote old mid before between text → Prints mid new between after result more
     → Prints old new before after result (text ++ more)
 prints-then old mid new before between after (Ok _) text more first second =

@@ -1,5 +1,6 @@
 -- The plain service: what it serves, and what it answers. Numbers are big-endian.
-use Rattle.std.specs.Prelude.{ℕ, ◌+◌, ◌-◌, ◌%◌, ◌^◌, Bool, ◌&&◌, ◌||◌, ◌==◌, nat_le, if◌then◌else◌, List, [], length, map, reverse, sum_by}
+use Rattle.std.specs.Prelude.{ℕ, ◌+◌, ◌-◌, ◌%◌, ◌^◌, Bool, ◌&&◌, ◌||◌, ◌==◌, nat_le, if◌then◌else◌}
+use Rattle.std.specs.Prelude.{List, [], length, map, reverse, sum_by}
 use Rattle.std.specs.List.{range_with_len}
 use Rattle.rpc_base.specs.declared.limits.TheConstants.{MOST_MESSAGE_BYTES}
 use Rattle.byteorder.specs.Endian.{big_number, big_bytes}

@@ -1,5 +1,7 @@
 //! A link in memory, which fails and is busy exactly where it is told to.
-ghost use Rattle.std.specs.Prelude.{◌≡◌, ◌≢◌, ◌+◌, ◌≤◌, ◌↔◌, [], ◌∷◌, ◌++◌, length, take, slice_get, option_map, vec_len, vec_capacity, Some, Ok, IsErr, IsOk, IsNone, IfOk, IfSome, OnOk, OnErr};
+ghost use Rattle.std.specs.Prelude.{◌≡◌, ◌≢◌, ◌+◌, ◌≤◌, ◌↔◌, [], ◌∷◌, ◌++◌, length, take};
+ghost use Rattle.std.specs.Prelude.{slice_get, option_map, vec_len, vec_capacity, Some, Ok, IsErr};
+ghost use Rattle.std.specs.Prelude.{IsOk, IsNone, IfOk, IfSome, OnOk, OnErr};
 ghost use Rattle.rpc_outside.specs.CallLog.{IsNamed, IsLogged, fresh, passed, failed};
 ghost use Rattle.rpc_outside.specs.Faults.{HasCause, HasRisen};
 ghost use Rattle.rpc_outside.specs.Linking.{AreCarried, Comes, IfPacket};

@@ -1,5 +1,6 @@
 //! A source and a sink in memory, which fail exactly where they are told to.
-ghost use Rattle.std.specs.Prelude.{◌≡◌, ◌+◌, ◌<◌, ◌≤◌, ◌↔◌, ◌⊎◌, [], length, take, drop, min, Some, IsErr, IsOk, IfOk, OnErr};
+ghost use Rattle.std.specs.Prelude.{◌≡◌, ◌+◌, ◌<◌, ◌≤◌, ◌↔◌, ◌⊎◌, [], length, take, drop, min};
+ghost use Rattle.std.specs.Prelude.{Some, IsErr, IsOk, IfOk, OnErr};
 ghost use Rattle.std.specs.Io.KnownBytes.{Keeps, Appends, Consumes, IsAtEnd};
 ghost use Rattle.rpc_outside.specs.Faults.{HasCause};
 ghost use Rattle.rpc_outside.specs.CallLog.{IsNamed, IsLogged, fresh};

@@ -3,7 +3,9 @@ ghost use Rattle.std.specs.Prelude.{◌≡◌, ◌≤◌, ◌<◌, ◌^◌, ◌=
 ghost use Rattle.byteorder.specs.Endian.{big_number};
 ghost use Rattle.rpc_outside.specs.PlainStands.{PlainStands};
 ghost use Rattle.rpc_outside.specs.PlainLaws.{steady-plain};
-ghost use Rattle.rpc_outside.specs.PlainAnswer.{fill, tally, total_with, plain_mode, plain_answer, background_answer, steady_answer, counted, total_of};
+ghost use Rattle.rpc_outside.specs.PlainAnswer.{fill, tally, total_with, plain_mode, plain_answer};
+ghost use Rattle.rpc_outside.specs.PlainAnswer.{background_answer, steady_answer, counted};
+ghost use Rattle.rpc_outside.specs.PlainAnswer.{total_of};
 
 use crate::service::{Duty, Mode, Service};
 use byteorder::{BigEndian, ByteOrder};

@@ -1,7 +1,8 @@
 -- The exit codes of the statuses, in their order.
 use Rattle.std.specs.Prelude.{ℕ}
 use Rattle.rpc_tools.specs.declared.status.Status.{Status}
-use Rattle.rpc_tools.specs.declared.status.Status.TheVariants.{Done, Usage, BadScript, ReadFault, WriteFault, NoMemory}
+use Rattle.rpc_tools.specs.declared.status.Status.TheVariants.{Done, Usage, BadScript, ReadFault}
+use Rattle.rpc_tools.specs.declared.status.Status.TheVariants.{WriteFault, NoMemory}
 
 abbrev pub code_of : Status → ℕ
 code_of Done = 0

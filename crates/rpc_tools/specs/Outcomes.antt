@@ -17,7 +17,8 @@ use Rattle.rpc_outside.specs.Writing.{Wrote, Broke}
 use Rattle.rpc_tools.specs.declared.reading.Input.{Input}
 use Rattle.rpc_tools.specs.declared.reading.Input.TheVariants.{Whole, TooLong, Fault, Memory}
 use Rattle.rpc_tools.specs.declared.status.Status.{Status}
-use Rattle.rpc_tools.specs.declared.status.Status.TheVariants.{Done, Usage, BadScript, ReadFault, WriteFault, NoMemory}
+use Rattle.rpc_tools.specs.declared.status.Status.TheVariants.{Done, Usage, BadScript, ReadFault}
+use Rattle.rpc_tools.specs.declared.status.Status.TheVariants.{WriteFault, NoMemory}
 use Rattle.rpc_world.specs.Served.{later_of}
 use Rattle.script_grammar.specs.declared.bad.BadScript.{BadScript as Bad}
 use Rattle.script_grammar.specs.declared.bad.BadWhy.TheVariants.{Later}

@@ -1,5 +1,7 @@
 -- The lines of a script one by one: each is served and names nodes that are there, and the clock stays small.
-use Rattle.std.proofs.Common.{◌≡◌, ◌<◌, ◌≤◌, ◌+◌, ◌-◌, ◌*◌, ◌^◌, ◌⊎◌, inl, inr, ℕ, zero, suc, not, Bool, true, false, cond, Some, None, List, [], ◌∷◌, get_or, length, refl, sym, ap, subst, ◌∙◌, arith, length-append}
+use Rattle.std.proofs.Common.{◌≡◌, ◌<◌, ◌≤◌, ◌+◌, ◌-◌, ◌*◌, ◌^◌, ◌⊎◌, inl, inr, ℕ, zero, suc, not}
+use Rattle.std.proofs.Common.{Bool, true, false, cond, Some, None, List, [], ◌∷◌, get_or, length}
+use Rattle.std.proofs.Common.{refl, sym, ap, subst, ◌∙◌, arith, length-append}
 use Rattle.std.proofs.lemmas.List.{get_or_append_left, get_or-append_right}
 use Rattle.std.specs.Prelude.{find}
 use Rattle.rpc_base.specs.declared.fact.Fact.{Fact}
@@ -16,17 +18,27 @@ use Rattle.script_grammar.specs.declared.command.TheConstants.{MOST_TICK}
 use Rattle.script_grammar.specs.Conditions.{IsAmong, IsInRange, IsNode, IsRising, IsScript}
 use Rattle.sim_script.specs.FollowsScript.{Does}
 
-served-line : (line : Line) (lines : List Line) (i : ℕ) (d : Line) (b : Bool) → is_served line.command ≡ b → cond (not b) (Some line) (find (λ line. not (is_served line.command)) lines) ≡ None → i < suc (length lines) → ((j : ℕ) → find (λ line. not (is_served line.command)) lines ≡ None → j < length lines → is_served (get_or lines j d).command ≡ true) → is_served (get_or (line ∷ lines) i d).command ≡ true
+served-line : (line : Line) (lines : List Line) (i : ℕ) (d : Line) (b : Bool)
+    → is_served line.command ≡ b
+    → cond (not b) (Some line) (find (λ line. not (is_served line.command)) lines) ≡ None
+    → i < suc (length lines)
+    → ((j : ℕ) → find (λ line. not (is_served line.command)) lines ≡ None → j < length lines
+    → is_served (get_or lines j d).command ≡ true)
+    → is_served (get_or (line ∷ lines) i d).command ≡ true
 served-line line lines zero d true t none within more = t
 served-line line lines (suc i) d true t none within more = more i none (omega (arith, within))
 served-line line lines i d false t none within more = cc
 
-line-served : (lines : List Line) (i : ℕ) (d : Line) → find (λ line. not (is_served line.command)) lines ≡ None → i < length lines → is_served (get_or lines i d).command ≡ true
+line-served : (lines : List Line) (i : ℕ) (d : Line)
+    → find (λ line. not (is_served line.command)) lines ≡ None → i < length lines
+    → is_served (get_or lines i d).command ≡ true
 line-served [] i d none within = absurd (omega (arith, within))
 line-served (line ∷ lines) i d none within =
-    served-line line lines i d (is_served line.command) refl none within (λ j rest less. line-served lines j d rest less)
+    served-line line lines i d (is_served line.command) refl none within
+    (λ j rest less. line-served lines j d rest less)
 
-pub script-served : (lines : List Line) → later_of lines ≡ None → (i : ℕ) (d : Line) → i < length lines → is_served (get_or lines i d).command ≡ true
+pub script-served : (lines : List Line) → later_of lines ≡ None → (i : ℕ) (d : Line)
+    → i < length lines → is_served (get_or lines i d).command ≡ true
 script-served lines none i d within =
     line-served lines i d (none-later (find (λ line. not (is_served line.command)) lines) none) within
 
@@ -66,17 +78,23 @@ record LineIs (k i : ℕ) (c : Command) : Type 0 where
   node : i < k → IsNode c
   other : k ≤ i → IsAmong k c
 
-line-is : (lines : List Line) (is : IsScript lines) (i : ℕ) (d : Line) → i < length lines → LineIs (length is.nodes) i (get_or lines i d).command
+line-is : (lines : List Line) (is : IsScript lines) (i : ℕ) (d : Line) → i < length lines
+    → LineIs (length is.nodes) i (get_or lines i d).command
 line-is lines is i d within =
     let k = length is.nodes in
     let long : length lines ≡ k + length is.others = ap length is.parts ∙ length-append is.nodes is.others in
     record {
       node = λ less.
-          let same : get_or lines i d ≡ get_or is.nodes i d = ap (λ (ls : List Line). get_or ls i d) is.parts ∙ get_or_append_left is.nodes is.others d i less in
+          let same : get_or lines i d ≡ get_or is.nodes i d =
+          ap (λ (ls : List Line). get_or ls i d) is.parts
+          ∙ get_or_append_left is.nodes is.others d i less in
           subst (λ (line : Line). IsNode line.command) (sym same) (is.all_nodes i d less);
       other = λ more.
-          let same : get_or lines i d ≡ get_or is.others (i - k) d = ap (λ (ls : List Line). get_or ls i d) is.parts ∙ get_or-append_right is.nodes is.others k i d refl more in
-          subst (λ (line : Line). IsAmong k line.command) (sym same) (is.all_others (i - k) d (omega (arith, long, within, more)));
+          let same : get_or lines i d ≡ get_or is.others (i - k) d =
+          ap (λ (ls : List Line). get_or ls i d) is.parts
+          ∙ get_or-append_right is.nodes is.others k i d refl more in
+          subst (λ (line : Line). IsAmong k line.command) (sym same)
+          (is.all_others (i - k) d (omega (arith, long, within, more)));
     }
 
 names-by : (k i n : ℕ) (c : Command) → k ≤ 8 → LineIs k i c → MadeBy k i n → (i < k) ⊎ (k ≤ i) → Names n c
@@ -87,7 +105,8 @@ names-by k i n c few l m (inr more) =
     let same : n ≡ k = m.1 more in
     names-among n c (subst (λ (j : ℕ). IsAmong j c) (sym same) (l.other more))
 
-made-by : (k i n m : ℕ) (c : Command) → LineIs k i c → MadeBy k i n → m ≡ n + made c → (i < k) ⊎ (k ≤ i) → MadeBy k (i + 1) m
+made-by : (k i n m : ℕ) (c : Command) → LineIs k i c → MadeBy k i n → m ≡ n + made c → (i < k)
+    ⊎ (k ≤ i) → MadeBy k (i + 1) m
 made-by k i n m c l h is (inl less) =
     let same = h.0 (omega (arith, less)) in
     let one = made-node c (l.node less) in
@@ -100,7 +119,9 @@ made-by k i n m c l h is (inr more) =
 order : (i k : ℕ) → (i < k) ⊎ (k ≤ i)
 order i zero = inr (omega arith)
 order zero (suc k) = inl (omega arith)
-order (suc i) (suc k) = elim (order i k) as (λ o. (suc i < suc k) ⊎ (suc k ≤ suc i)) [ inl h ↦ inl (omega (arith, h)) | inr h ↦ inr (omega (arith, h)) ]
+order (suc i) (suc k) =
+    elim (order i k) as (λ o. (suc i < suc k) ⊎ (suc k ≤ suc i))
+    [ inl h ↦ inl (omega (arith, h)) | inr h ↦ inr (omega (arith, h)) ]
 
 -- how the world stands once i of the lines ran
 pub record Stands (lines : List Line) (i : ℕ) (s : Play) : Type 0 where
@@ -108,30 +129,42 @@ pub record Stands (lines : List Line) (i : ℕ) (s : Play) : Type 0 where
   pub there : (is : IsScript lines) → MadeBy (length is.nodes) i (length s.stage.nodes)
   pub clock : s.stage.clock ≤ i * MOST_TICK
 
-pub stands-first : (lines : List Line) → Stands lines 0 (record { stage = record { nodes = []; flight = []; worked = []; clock = 0 }; totals = [] })
+pub stands-first : (lines : List Line)
+    → Stands lines 0 (record {
+      stage = record { nodes = []; flight = []; worked = []; clock = 0 };
+      totals = [];
+    })
 stands-first lines = record {
   numbered = record { nodes = λ n x h. cc; services = refl; few = omega arith };
   there = λ is. (λ low. refl, λ high. omega (arith, high));
   clock = omega arith;
 }
 
-pub stands-names : (lines : List Line) (is : IsScript lines) (i : ℕ) (d : Line) (s : Play) → i < length lines → Stands lines i s → Names (length s.stage.nodes) (get_or lines i d).command
+pub stands-names : (lines : List Line) (is : IsScript lines) (i : ℕ) (d : Line) (s : Play)
+    → i < length lines → Stands lines i s → Names (length s.stage.nodes) (get_or lines i d).command
 stands-names lines is i d s within h =
-    names-by (length is.nodes) i (length s.stage.nodes) (get_or lines i d).command is.at_most_eight (line-is lines is i d within) (h.there is) (order i (length is.nodes))
+    names-by (length is.nodes) i (length s.stage.nodes)
+    (get_or lines i d).command is.at_most_eight (line-is lines is i d within) (h.there is)
+    (order i (length is.nodes))
 
-pub stands-next : (lines : List Line) (is : IsScript lines) (i : ℕ) (d : Line) (s t : Play) (f g : List Fact) → i < length lines → Stands lines i s → Performed (Does (get_or lines i d).command) s t f g → Stands lines (i + 1) t
+pub stands-next : (lines : List Line) (is : IsScript lines) (i : ℕ) (d : Line) (s t : Play)
+    (f g : List Fact) → i < length lines → Stands lines i s
+    → Performed (Does (get_or lines i d).command) s t f g → Stands lines (i + 1) t
 stands-next lines is i d s t f g within h p =
     let c = (get_or lines i d).command in
     let left = does-leaves c s.stage p.group t.stage p.does in
     let most = passed-most c (is.ranges i d within) in
     record {
       numbered = does-numbered c s t f g (stands-names lines is i d s within h) p h.numbered;
-      there = λ other. made-by (length other.nodes) i (length s.stage.nodes) (length t.stage.nodes) c (line-is lines other i d within) (h.there other) left.long (order i (length other.nodes));
+      there = λ other. made-by (length other.nodes) i (length s.stage.nodes)
+          (length t.stage.nodes) c (line-is lines other i d within)
+          (h.there other) left.long (order i (length other.nodes));
       clock = omega (arith, left.clock, most, h.clock);
     }
 
 -- the clock has room for one more tick
-pub stands-clock : (lines : List Line) (is : IsScript lines) (i : ℕ) (s : Play) → i < length lines → Stands lines i s → s.stage.clock + MOST_TICK < 2 ^ 64
+pub stands-clock : (lines : List Line) (is : IsScript lines) (i : ℕ) (s : Play) → i < length lines
+    → Stands lines i s → s.stage.clock + MOST_TICK < 2 ^ 64
 stands-clock lines is i s within h =
     let few = rising-few 2 lines is.rising (omega arith) in
     omega (arith, h.clock, few, within)
@@ -143,7 +176,9 @@ pub record Ready (s : Play) (c : Command) : Type 0 where
   pub names : Names (length s.stage.nodes) c
   pub clock : s.stage.clock + MOST_TICK < 2 ^ 64
 
-ready-at : (lines : List Line) (is : IsScript lines) (i : ℕ) (d : Line) (s : Play) → later_of lines ≡ None → i < length lines → Stands lines i s → Ready s (get_or lines i d).command
+ready-at : (lines : List Line) (is : IsScript lines) (i : ℕ) (d : Line) (s : Play)
+    → later_of lines ≡ None → i < length lines → Stands lines i s
+    → Ready s (get_or lines i d).command
 ready-at lines is i d s none within h = record {
   served = script-served lines none i d within;
   ranges = is.ranges i d within;
@@ -151,13 +186,18 @@ ready-at lines is i d s none within h = record {
   clock = stands-clock lines is i s within h;
 }
 
-pub ready : (script lines : List Line) (i : ℕ) (line : Line) (s : Play) → lines ≡ script → IsScript script → later_of script ≡ None → i < length lines → line ≡ get_or lines i line → Stands lines i s → Ready s line.command
+pub ready : (script lines : List Line) (i : ℕ) (line : Line) (s : Play) → lines ≡ script
+    → IsScript script → later_of script ≡ None → i < length lines → line ≡ get_or lines i line
+    → Stands lines i s → Ready s line.command
 ready script lines i line s same is none within here h =
     let script_is : IsScript lines = subst (λ (ls : List Line). IsScript ls) (sym same) is in
     let all_served : later_of lines ≡ None = ap (λ (ls : List Line). later_of ls) same ∙ none in
     subst (λ (x : Line). Ready s x.command) (sym here) (ready-at lines script_is i line s all_served within h)
 
-pub stands-after : (script lines : List Line) (i : ℕ) (line : Line) (s t : Play) (f g : List Fact) → lines ≡ script → IsScript script → i < length lines → line ≡ get_or lines i line → Stands lines i s → Performed (Does line.command) s t f g → Stands lines (i + 1) t
+pub stands-after : (script lines : List Line) (i : ℕ) (line : Line) (s t : Play) (f g : List Fact)
+    → lines ≡ script → IsScript script → i < length lines → line ≡ get_or lines i line
+    → Stands lines i s → Performed (Does line.command) s t f g → Stands lines (i + 1) t
 stands-after script lines i line s t f g same is within here h p =
     let script_is : IsScript lines = subst (λ (ls : List Line). IsScript ls) (sym same) is in
-    stands-next lines script_is i line s t f g within h (subst (λ (x : Line). Performed (Does x.command) s t f g) here p)
+    stands-next lines script_is i line s t f g within h
+    (subst (λ (x : Line). Performed (Does x.command) s t f g) here p)

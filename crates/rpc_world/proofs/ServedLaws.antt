@@ -41,7 +41,10 @@ leaves (Connect a b credits) e = cc
 leaves (Disconnect n session) e = cc
 leaves _ e = tt
 
-served-by : (line : Line) (lines : List Line) (b : Bool) → is_served line.command ≡ b → cond (not b) (Some line) (find (λ line. not (is_served line.command)) lines) ≡ None → (find (λ line. not (is_served line.command)) lines ≡ None → PairsOnly lines) → PairsOnly (line ∷ lines)
+served-by : (line : Line) (lines : List Line) (b : Bool) → is_served line.command ≡ b
+    → cond (not b) (Some line) (find (λ line. not (is_served line.command)) lines) ≡ None
+    → (find (λ line. not (is_served line.command)) lines ≡ None → PairsOnly lines)
+    → PairsOnly (line ∷ lines)
 served-by line lines true t rest more = (leaves line.command t, more rest)
 served-by line lines false t rest more = cc
 
@@ -53,12 +56,16 @@ pub none-later : (o : Option Line) → option_map (λ line. line.number) o ≡ N
 none-later None e = refl
 none-later (Some line) e = cc
 
-pub follows-only : (script : List Line) (h : List Fact) → IsScript script → later_of script ≡ None → Follows script h → OnlyPairs h
+pub follows-only : (script : List Line) (h : List Fact) → IsScript script → later_of script ≡ None
+    → Follows script h → OnlyPairs h
 follows-only script h is none follows =
-    pairs-only script h (script-two script is) (served-only script (none-later (find (λ line. not (is_served line.command)) script) none)) follows
+    pairs-only script h (script-two script is)
+    (served-only script (none-later (find (λ line. not (is_served line.command)) script) none))
+    follows
 
 -- what is sent is its owner's packet
-pub follows-sends-own : (script : List Line) (h : List Fact) → IsScript script → OnlyPairs h → Follows script h → SendsItsOwn h
+pub follows-sends-own : (script : List Line) (h : List Fact) → IsScript script → OnlyPairs h
+    → Follows script h → SendsItsOwn h
 follows-sends-own script h is only follows =
     let made = follows-course script h (script-two script is) only follows in
     course-sends first_moment h made.end made.course first-right
@@ -70,13 +77,15 @@ follows-own script h is only follows =
     course-own first_moment h made.end made.course first-right (answers-each h follows.1.answers) first-good
 
 -- before a datagram was repeated or a call rolled back no message finds a full ring
-pub follows-fits : (script : List Line) (h : List Fact) → IsScript script → OnlyPairs h → Follows script h → MessagesFit h
+pub follows-fits : (script : List Line) (h : List Fact) → IsScript script → OnlyPairs h
+    → Follows script h → MessagesFit h
 follows-fits script h is only follows =
     let made = follows-course script h (script-two script is) only follows in
     course-fits first_moment h made.end made.course first-right (λ calm. first-met)
 
 -- so long each packet stands in one place at most, and only while it is unanswered
-pub follows-stands-once : (script : List Line) (h : List Fact) → IsScript script → OnlyPairs h → Follows script h → PairsOnce h
+pub follows-stands-once : (script : List Line) (h : List Fact) → IsScript script → OnlyPairs h
+    → Follows script h → PairsOnce h
 follows-stands-once script h is only follows =
     let made = follows-course script h (script-two script is) only follows in
     course-pairs first_moment h made.end made.course first-right first-valid (λ calm. first-tidy first-met)
@@ -94,11 +103,13 @@ pub follows-credit : (script : List Line) (h : List Fact) → IsScript script �
 follows-credit script h is follows = credit-balances script h (script-two script is) (script-few script is) follows
 
 -- no packet of a call that is over is queued
-pub follows-ends-clean : (script : List Line) (h : List Fact) → IsScript script → Follows script h → EachNode (EndsClean []) h
+pub follows-ends-clean : (script : List Line) (h : List Fact) → IsScript script → Follows script h
+    → EachNode (EndsClean []) h
 follows-ends-clean script h is follows = ended-clean script h (script-two script is) (script-few script is) follows
 
 -- no reply to an older request of a slot is queued where a newer one is taken
-pub follows-begins-clean : (script : List Line) (h : List Fact) → IsScript script → Follows script h → EachNode (BeginsClean []) h
+pub follows-begins-clean : (script : List Line) (h : List Fact) → IsScript script → Follows script h
+    → EachNode (BeginsClean []) h
 follows-begins-clean script h is follows = older-clean script h (script-two script is) (script-few script is) follows
 
 -- at the end the tables of requests say what the facts tell

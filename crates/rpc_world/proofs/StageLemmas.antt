@@ -1,5 +1,7 @@
 -- What was performed, one thing after another, and rounds.
-use Rattle.std.proofs.Common.{◌≡◌, ℕ, suc, ◌+◌, ◌-◌, ◌<◌, ◌≤◌, Bool, true, false, List, [], ◌++◌, length, refl, sym, ap, ◌∙◌, append_assoc, append-nil, length-append, take, drop, arith}
+use Rattle.std.proofs.Common.{◌≡◌, ℕ, suc, ◌+◌, ◌-◌, ◌<◌, ◌≤◌, Bool, true, false, List, [], ◌++◌}
+use Rattle.std.proofs.Common.{length, refl, sym, ap, ◌∙◌, append_assoc, append-nil, length-append}
+use Rattle.std.proofs.Common.{take, drop, arith}
 use Rattle.std.proofs.lemmas.List.{take_all}
 use Rattle.std.proofs.Math.Seq.{drop-append_seam}
 use Rattle.std.specs.List.{list_all}
@@ -13,25 +15,50 @@ use Rattle.rpc_world.proofs.PlainLemmas.{plainly-append, plainly-none}
 use Rattle.rpc_world.proofs.StaysLemmas.{performed-numbered, stays-round}
 
 -- nothing yet
-pub performed-none : (P : Stage → List Fact → Stage → Type 0) (s : Play) (f : List Fact) → P s.stage [] s.stage → Performed P s s f f
-performed-none P s f p = record { group = []; grew = sym (append-nil f); does = p; plain = plainly-none s.totals; services = omega arith }
+pub performed-none : (P : Stage → List Fact → Stage → Type 0) (s : Play) (f : List Fact)
+    → P s.stage [] s.stage → Performed P s s f f
+performed-none P s f p =
+    record {
+      group = [];
+      grew = sym (append-nil f);
+      does = p;
+      plain = plainly-none s.totals;
+      services = omega arith;
+    }
 
 -- P, and then Q
-pub performed-joins : (P Q : Stage → List Fact → Stage → Type 0) (s t u : Play) (f g h : List Fact) → Performed P s t f g → Performed Q t u g h → Performed (Joins P Q) s u f h
+pub performed-joins : (P Q : Stage → List Fact → Stage → Type 0) (s t u : Play) (f g h : List Fact)
+    → Performed P s t f g → Performed Q t u g h → Performed (Joins P Q) s u f h
 performed-joins P Q s t u f g h p q = record {
   group = p.group ++ q.group;
   grew = q.grew ∙ rw p.grew (append_assoc f p.group q.group);
-  does = record { between = t.stage; group = p.group; rest = q.group; joined = refl; does = p.does; follows = q.does };
+  does = record {
+    between = t.stage;
+    group = p.group;
+    rest = q.group;
+    joined = refl;
+    does = p.does;
+    follows = q.does;
+  };
   plain = plainly-append p.group q.group s.totals t.totals u.totals p.plain q.plain;
   services = omega (arith, p.services, q.services);
 }
 
 -- the copies in flight are carried, and then the nodes worked and polled
-pub round-by : (s t u : Play) (f g h : List Fact) → Performed (Times (Carries 0) (length s.stage.flight)) s t f g → Performed (WorksAndPolls (length t.stage.nodes)) t u g h → Performed Round s u f h
+pub round-by : (s t u : Play) (f g h : List Fact)
+    → Performed (Times (Carries 0) (length s.stage.flight)) s t f g
+    → Performed (WorksAndPolls (length t.stage.nodes)) t u g h → Performed Round s u f h
 round-by s t u f g h p q = record {
   group = p.group ++ q.group;
   grew = q.grew ∙ rw p.grew (append_assoc f p.group q.group);
-  does = record { between = t.stage; group = p.group; rest = q.group; joined = refl; does = p.does; follows = q.does };
+  does = record {
+    between = t.stage;
+    group = p.group;
+    rest = q.group;
+    joined = refl;
+    does = p.does;
+    follows = q.does;
+  };
   plain = plainly-append p.group q.group s.totals t.totals u.totals p.plain q.plain;
   services = omega (arith, p.services, q.services);
 }
@@ -40,7 +67,8 @@ round-by s t u f g h p q = record {
 pub record Goes (n i : ℕ) (s t : Play) (f g : List Fact) : Type 0 where
   pub group : List Fact
   pub grew : g ≡ f ++ group
-  pub rest : (k : ℕ) (x : List Fact) (u : Stage) → i + k ≡ n → Settles k t.stage x u → Settles n s.stage (group ++ x) u
+  pub rest : (k : ℕ) (x : List Fact) (u : Stage) → i + k ≡ n → Settles k t.stage x u
+      → Settles n s.stage (group ++ x) u
   pub plain : Plainly group s.totals t.totals
   pub services : length t.totals + length s.stage.nodes ≡ length s.totals + length t.stage.nodes
   pub numbered : IsNumbered s → IsNumbered t
@@ -55,7 +83,9 @@ goes-none n s f = record {
   numbered = λ m. m;
 }
 
-more-round : (k : ℕ) (quiet : Bool) (t u v : Stage) (x y : List Fact) → Round t x u → quiet ≡ list_all (λ f. is_polled f.event) x → Unless quiet (Settles k) u y v → Settles (suc k) t (x ++ y) v
+more-round : (k : ℕ) (quiet : Bool) (t u v : Stage) (x y : List Fact) → Round t x u
+    → quiet ≡ list_all (λ f. is_polled f.event) x → Unless quiet (Settles k) u y v
+    → Settles (suc k) t (x ++ y) v
 more-round k quiet t u v x y r e d = record {
   between = u;
   round = x;
@@ -66,28 +96,35 @@ more-round k quiet t u v x y r e d = record {
 }
 
 -- one round more, after which there may be others
-pub goes-more : (n i : ℕ) (quiet : Bool) (s t u : Play) (f g h : List Fact) → Goes n i s t f g → quiet ≡ false → MakesRound quiet t u g h → Goes n (i + 1) s u f h
+pub goes-more : (n i : ℕ) (quiet : Bool) (s t u : Play) (f g h : List Fact) → Goes n i s t f g
+    → quiet ≡ false → MakesRound quiet t u g h → Goes n (i + 1) s u f h
 goes-more n i quiet s t u f g h p loud m = record {
   group = p.group ++ m.made.group;
   grew = m.made.grew ∙ rw p.grew (append_assoc f p.group m.made.group);
   rest = λ k x v e d.
       let more : i + suc k ≡ n = omega (arith, e) in
-      rw (append_assoc p.group m.made.group x) (p.rest (suc k) (m.made.group ++ x) v more (more-round k false t.stage u.stage v m.made.group x m.made.does (sym loud ∙ m.quiet) d));
+      rw (append_assoc p.group m.made.group x)
+      (p.rest (suc k) (m.made.group ++ x) v more
+      (more-round k false t.stage u.stage v m.made.group x m.made.does (sym loud ∙ m.quiet) d));
   plain = plainly-append p.group m.made.group s.totals t.totals u.totals p.plain m.made.plain;
   services = omega (arith, p.services, m.made.services);
   numbered = λ first. performed-numbered Round stays-round t u g h m.made (p.numbered first);
 }
 
 -- a round in which there was nothing but polls is the last
-pub settles-quiet : (n i : ℕ) (quiet : Bool) (s t u : Play) (f g h : List Fact) → i < n → Goes n i s t f g → quiet ≡ true → MakesRound quiet t u g h → Performed (Settles n) s u f h
+pub settles-quiet : (n i : ℕ) (quiet : Bool) (s t u : Play) (f g h : List Fact) → i < n
+    → Goes n i s t f g → quiet ≡ true → MakesRound quiet t u g h → Performed (Settles n) s u f h
 settles-quiet n i quiet s t u f g h within p still m =
     let k = n - (i + 1) in
     let more : i + suc k ≡ n = omega (arith, within) in
     record {
       group = p.group ++ (m.made.group ++ []);
       grew = m.made.grew ∙ rw (p.grew, append-nil m.made.group) (append_assoc f p.group m.made.group);
-      does = p.rest (suc k) (m.made.group ++ []) u.stage more (more-round k true t.stage u.stage u.stage m.made.group [] m.made.does (sym still ∙ m.quiet) (refl, refl));
-      plain = plainly-append p.group (m.made.group ++ []) s.totals t.totals u.totals p.plain (rw (append-nil m.made.group) m.made.plain);
+      does = p.rest (suc k) (m.made.group ++ []) u.stage more
+          (more-round k true t.stage u.stage u.stage m.made.group [] m.made.does
+          (sym still ∙ m.quiet) (refl, refl));
+      plain = plainly-append p.group (m.made.group ++ []) s.totals t.totals u.totals p.plain
+          (rw (append-nil m.made.group) m.made.plain);
       services = omega (arith, p.services, m.made.services);
     }
 
@@ -107,11 +144,17 @@ pub back-part : (f x h : List Fact) → h ≡ f ++ x → take (length h - length
 back-part f x h e =
     let more : length h ≡ length f + length x = ap length e ∙ length-append f x in
     let long : length x ≤ length h - length f = omega (arith, more) in
-    ap (λ (y : List Fact). take (length h - length f) y) (ap (drop (length f)) e ∙ drop-append_seam f x) ∙ take_all _ _ long
+    ap (λ (y : List Fact). take (length h - length f) y)
+    (ap (drop (length f)) e ∙ drop-append_seam f x) ∙ take_all _ _ long
 
 -- a round, and whether it was quiet, from the facts since it began
-pub makes-round : (quiet : Bool) (s t u : Play) (f g h all : List Fact) (n : ℕ) → Performed (Times (Carries 0) (length s.stage.flight)) s t f g → Performed (WorksAndPolls (length t.stage.nodes)) t u g h → n ≡ length f → all ≡ h → quiet ≡ list_all (λ f. is_polled f.event) (take (length all - n) (drop n all)) → MakesRound quiet s u f h
+pub makes-round : (quiet : Bool) (s t u : Play) (f g h all : List Fact) (n : ℕ)
+    → Performed (Times (Carries 0) (length s.stage.flight)) s t f g
+    → Performed (WorksAndPolls (length t.stage.nodes)) t u g h → n ≡ length f → all ≡ h
+    → quiet ≡ list_all (λ f. is_polled f.event) (take (length all - n) (drop n all))
+    → MakesRound quiet s u f h
 makes-round quiet s t u f g h all n p q is_n is_all is =
     let made = round-by s t u f g h p q in
-    let back : take (length all - n) (drop n all) ≡ made.group = rw (is_n, is_all) (back-part f made.group h made.grew) in
+    let back : take (length all - n) (drop n all) ≡ made.group =
+    rw (is_n, is_all) (back-part f made.group h made.grew) in
     record { made = made; quiet = is ∙ ap (list_all (λ (f : Fact). is_polled f.event)) back }

@@ -1,5 +1,7 @@
 -- What the commands of a script leave as it was: the place of each node, how many there are, and the clock.
-use Rattle.std.proofs.Common.{◌≡◌, ◌<◌, ◌≤◌, ◌+◌, ℕ, zero, suc, nat_lt, Bool, true, false, cond, Option, Some, None, List, [], ◌∷◌, length, refl, sym, ap, subst, ◌∙◌, arith, length-append}
+use Rattle.std.proofs.Common.{◌≡◌, ◌<◌, ◌≤◌, ◌+◌, ℕ, zero, suc, nat_lt, Bool, true, false, cond}
+use Rattle.std.proofs.Common.{Option, Some, None, List, [], ◌∷◌, length, refl, sym, ap, subst, ◌∙◌}
+use Rattle.std.proofs.Common.{arith, length-append}
 use Rattle.std.proofs.lemmas.List.Edits.{length-remove}
 use Rattle.std.specs.Bool.{MatchBool}
 use Rattle.std.specs.List.{list_all, remove, slice_get, slice_set}
@@ -29,8 +31,13 @@ use Rattle.rpc_world.specs.Answered.{Play}
 use Rattle.rpc_world.specs.Performed.{Performed}
 use Rattle.rpc_world.specs.Before.{InPlace, IsNumbered, Names}
 use Rattle.script_grammar.specs.declared.line.Command.{Command}
-use Rattle.script_grammar.specs.declared.line.Command.TheVariants.{Node, Pair, Connect, Disconnect, Rate, Call, Poll, Arrive, Lose, Repeat, Tick, Work, Settle}
-use Rattle.sim_script.specs.FollowsScript.{AtNode, Carries, Does, Joins, Makes, OfNet, Pairs, PairsBy, PairsEnds, PollsFirst, PollsNode, Round, Settles, Ticks, Times, Unless, WorksFirst, WorksNode, ask_bytes, is_polled, noted, or_missed}
+use Rattle.script_grammar.specs.declared.line.Command.TheVariants.{Node, Pair, Connect, Disconnect}
+use Rattle.script_grammar.specs.declared.line.Command.TheVariants.{Rate, Call, Poll, Arrive, Lose}
+use Rattle.script_grammar.specs.declared.line.Command.TheVariants.{Repeat, Tick, Work, Settle}
+use Rattle.sim_script.specs.FollowsScript.{AtNode, Carries, Does, Joins, Makes, OfNet, Pairs}
+use Rattle.sim_script.specs.FollowsScript.{PairsBy, PairsEnds, PollsFirst, PollsNode, Round}
+use Rattle.sim_script.specs.FollowsScript.{Settles, Ticks, Times, Unless, WorksFirst, WorksNode}
+use Rattle.sim_script.specs.FollowsScript.{ask_bytes, is_polled, noted, or_missed}
 
 pub record Stays (s t : Stage) : Type 0 where
   pub nodes : InPlace s.nodes → InPlace t.nodes
@@ -55,7 +62,8 @@ stays-then s t u p q =
     record { nodes = λ h. q.nodes (p.nodes h); long = q.long ∙ p.long; clock = q.clock ∙ p.clock }
 
 -- a stage with these nodes and the same clock
-stays-by : (s t v : Stage) → t ≡ v → (InPlace s.nodes → InPlace v.nodes) → length v.nodes ≡ length s.nodes → v.clock ≡ s.clock → Stays s t
+stays-by : (s t v : Stage) → t ≡ v → (InPlace s.nodes → InPlace v.nodes)
+    → length v.nodes ≡ length s.nodes → v.clock ≡ s.clock → Stays s t
 stays-by s t v e nodes long clock = record {
   nodes = λ h. subst (λ (w : Stage). InPlace w.nodes) (sym e) (nodes h);
   long = ap (λ (w : Stage). length w.nodes) e ∙ long;
@@ -71,11 +79,15 @@ goes-number s x t h = ap (λ (v : Timed). v.lists.me) h ∙ me-after_all s.clock
 
 stays-at : (P : Rel) (n : ℕ) → KeepsNumber P → StaysBy (AtNode P n)
 stays-at P n keeps s x t h =
-    stays-by s t _ h.left (λ m. set-all (λ j z. z.lists.me ≡ j) s.nodes n h.now (keeps h.before x h.now h.step ∙ m n h.before h.is_node) m) (length-slice_set s.nodes n h.now) refl
+    stays-by s t _ h.left (λ m. set-all (λ j z. z.lists.me ≡ j) s.nodes n h.now
+    (keeps h.before x h.now h.step ∙ m n h.before h.is_node) m)
+    (length-slice_set s.nodes n h.now) refl
 
 pub stays-polled : (n : ℕ) → StaysBy (PollsNode n)
 stays-polled n s x t h =
-    stays-at (PollBy (FinishesWorked s.worked) SendsAll plain_mode s.clock) n (λ v y w p. (poll-own false plain_mode s.clock v y w (λ e. cc) (poll-within s.worked plain_mode s.clock v y w p)).me) s x t h
+    stays-at (PollBy (FinishesWorked s.worked) SendsAll plain_mode s.clock) n
+    (λ v y w p. (poll-own false plain_mode s.clock v y w (λ e. cc)
+    (poll-within s.worked plain_mode s.clock v y w p)).me) s x t h
 
 pub stays-worked : (n : ℕ) → StaysBy (WorksNode n)
 stays-worked n s x t h =
@@ -85,14 +97,19 @@ stays-net : (e : Event) → StaysBy (OfNet e)
 stays-net e s x t h = stays-by s t _ h.left (λ m. m) refl refl
 
 -- a pairing
-stays-ends : (a b credits : ℕ) (client server : Timed) (s : Stage) (x : List Fact) (t : Stage) → slice_get s.nodes a ≡ Some client → slice_get s.nodes b ≡ Some server → PairsEnds a b credits client server s x t → Stays s t
+stays-ends : (a b credits : ℕ) (client server : Timed) (s : Stage) (x : List Fact) (t : Stage)
+    → slice_get s.nodes a ≡ Some client → slice_get s.nodes b ≡ Some server
+    → PairsEnds a b credits client server s x t → Stays s t
 stays-ends a b credits client server s x t is_a is_b h =
     let one : List Timed = slice_set s.nodes a (noted client h.at_client) in
     stays-by s t _ h.left
-    (λ m. set-all (λ j z. z.lists.me ≡ j) one b (noted server h.at_server) (m b server is_b) (set-all (λ j z. z.lists.me ≡ j) s.nodes a (noted client h.at_client) (m a client is_a) m))
+    (λ m. set-all (λ j z. z.lists.me ≡ j) one b (noted server h.at_server) (m b server is_b)
+    (set-all (λ j z. z.lists.me ≡ j) s.nodes a (noted client h.at_client) (m a client is_a) m))
     (length-slice_set one b (noted server h.at_server) ∙ length-slice_set s.nodes a (noted client h.at_client)) refl
 
-stays-pairs-by : (o r : Option Event) (a b credits : ℕ) (client server : Timed) (s : Stage) (x : List Fact) (t : Stage) → slice_get s.nodes a ≡ Some client → slice_get s.nodes b ≡ Some server → PairsBy o r a b credits client server s x t → Stays s t
+stays-pairs-by : (o r : Option Event) (a b credits : ℕ) (client server : Timed) (s : Stage)
+    (x : List Fact) (t : Stage) → slice_get s.nodes a ≡ Some client
+    → slice_get s.nodes b ≡ Some server → PairsBy o r a b credits client server s x t → Stays s t
 stays-pairs-by (Some e) r a b credits client server s x t is_a is_b h = stays-self s t h.1
 stays-pairs-by None (Some e) a b credits client server s x t is_a is_b h = stays-self s t h.1
 stays-pairs-by None None a b credits client server s x t is_a is_b h =
@@ -100,15 +117,20 @@ stays-pairs-by None None a b credits client server s x t is_a is_b h =
 
 stays-pairs : (a b credits : ℕ) → StaysBy (Pairs a b credits)
 stays-pairs a b credits s x t h =
-    stays-pairs-by (pair_refusal credits h.client.lists) (pair_refusal credits h.server.lists) a b credits h.client h.server s x t h.is_client h.is_server h.pairs
+    stays-pairs-by (pair_refusal credits h.client.lists)
+    (pair_refusal credits h.server.lists) a b credits h.client h.server s x t h.is_client
+    h.is_server h.pairs
 
 -- a copy is carried
 stays-carried : (i : ℕ) → StaysBy (Carries i)
 stays-carried i s x t h =
-    let a = stays-at (Delivers h.copy.from h.copy.bytes) h.copy.to (λ v y w p. goes-number v y w p.goes) (record s { flight = remove s.flight i }) h.delivered t h.arrives in
+    let a = stays-at (Delivers h.copy.from h.copy.bytes) h.copy.to
+    (λ v y w p. goes-number v y w p.goes)
+    (record s { flight = remove s.flight i }) h.delivered t h.arrives in
     record { nodes = a.nodes; long = a.long; clock = a.clock }
 
-stays-arrives : (i : ℕ) (b : Bool) (s : Stage) (x : List Fact) (t : Stage) → MatchBool b (Carries i s x t) (OfNet (Missed i) s x t) → Stays s t
+stays-arrives : (i : ℕ) (b : Bool) (s : Stage) (x : List Fact) (t : Stage)
+    → MatchBool b (Carries i s x t) (OfNet (Missed i) s x t) → Stays s t
 stays-arrives i true s x t h = stays-carried i s x t h
 stays-arrives i false s x t h = stays-net (Missed i) s x t h
 
@@ -136,7 +158,9 @@ stays-works (suc n) s x t h =
 pub stays-round : StaysBy Round
 stays-round s x t h =
     stays-then s h.between t (stays-carries (length s.flight) s h.group h.between h.does)
-    (stays-joins (WorksFirst (length h.between.nodes)) (PollsFirst (length h.between.nodes)) (stays-works (length h.between.nodes)) (stays-polls (length h.between.nodes)) h.between h.rest t h.follows)
+    (stays-joins (WorksFirst (length h.between.nodes)) (PollsFirst (length h.between.nodes))
+    (stays-works (length h.between.nodes))
+    (stays-polls (length h.between.nodes)) h.between h.rest t h.follows)
 
 stays-unless : (b : Bool) (P : Group) → StaysBy P → StaysBy (Unless b P)
 stays-unless true P p s x t h = stays-self s t h.1
@@ -146,7 +170,8 @@ stays-settles : (n : ℕ) → StaysBy (Settles n)
 stays-settles zero s x t h = stays-self s t h.1
 stays-settles (suc n) s x t h =
     stays-then s h.between t (stays-round s h.round h.between h.makes)
-    (stays-unless (list_all (λ f. is_polled f.event) h.round) (Settles n) (stays-settles n) h.between h.rest t h.goes_on)
+    (stays-unless (list_all (λ f. is_polled f.event) h.round) (Settles n)
+    (stays-settles n) h.between h.rest t h.goes_on)
 
 -- the nodes that a command makes, and the time that passes
 abbrev pub made : Command → ℕ
@@ -168,8 +193,11 @@ leaves-of c s t none still p =
 
 leaves-made : (ring : ℕ) (s : Stage) (x : List Fact) (t : Stage) → Makes ring s x t → Leaves (Node ring) s t
 leaves-made ring s x t h = record {
-  nodes = λ m. subst (λ (v : Stage). InPlace v.nodes) (sym h.left) (add-placed (λ j (z : Timed). z.lists.me ≡ j) s.nodes (new_node (length s.nodes) (with_ring ring)) refl m);
-  long = ap (λ (v : Stage). length v.nodes) h.left ∙ length-append s.nodes (new_node (length s.nodes) (with_ring ring) ∷ []);
+  nodes = λ m. subst (λ (v : Stage). InPlace v.nodes) (sym h.left)
+      (add-placed (λ j (z : Timed). z.lists.me ≡ j) s.nodes
+      (new_node (length s.nodes) (with_ring ring)) refl m);
+  long = ap (λ (v : Stage). length v.nodes) h.left
+      ∙ length-append s.nodes (new_node (length s.nodes) (with_ring ring) ∷ []);
   clock = omega (arith, ap (λ (v : Stage). v.clock) h.left);
 }
 
@@ -185,13 +213,18 @@ does-leaves (Node ring) s x t h = leaves-made ring s x t h
 does-leaves (Pair a b credits) s x t h =
     leaves-of (Pair a b credits) s t refl refl (stays-pairs a b credits s x t h)
 does-leaves (Connect a b credits) s x t h =
-    leaves-of (Connect a b credits) s t refl refl (stays-at (Connects b credits 0) a (λ v y w p. goes-number v y w p.goes) s x t h)
+    leaves-of (Connect a b credits) s t refl refl
+    (stays-at (Connects b credits 0) a (λ v y w p. goes-number v y w p.goes) s x t h)
 does-leaves (Disconnect n session) s x t h =
-    leaves-of (Disconnect n session) s t refl refl (stays-at (Disconnects session) n (λ v y w p. goes-number v y w p.goes) s x t h)
+    leaves-of (Disconnect n session) s t refl refl
+    (stays-at (Disconnects session) n (λ v y w p. goes-number v y w p.goes) s x t h)
 does-leaves (Rate n session rate) s x t h =
-    leaves-of (Rate n session rate) s t refl refl (stays-at (SetsRate session rate) n (λ v y w p. goes-number v y w p.goes) s x t h)
+    leaves-of (Rate n session rate) s t refl refl
+    (stays-at (SetsRate session rate) n (λ v y w p. goes-number v y w p.goes) s x t h)
 does-leaves (Call n session y ask room) s x t h =
-    leaves-of (Call n session y ask room) s t refl refl (stays-at (Asks session y (ask_bytes ask) room) n (λ v z w p. goes-number v z w p.goes) s x t h)
+    leaves-of (Call n session y ask room) s t refl refl
+    (stays-at (Asks session y (ask_bytes ask) room) n (λ v z w p. goes-number v z w p.goes) s x
+    t h)
 does-leaves (Poll n) s x t h = leaves-of (Poll n) s t refl refl (stays-polled n s x t h)
 does-leaves (Arrive i) s x t h =
     leaves-of (Arrive i) s t refl refl (stays-arrives i (nat_lt i (length s.flight)) s x t h)
@@ -206,7 +239,9 @@ does-leaves (Settle rounds) s x t h =
     leaves-of (Settle rounds) s t refl refl (stays-settles rounds s x t h)
 
 -- a delivery sends nothing
-delivery-flight : (me peer : ℕ) (bytes : List ℕ) (copies : List InFlight) (a b c d : Bool) → flight_after_all copies (with_bytes me (cond a (cond b (Arrived peer) (Overflowed peer)) (cond c (cond d (Arrived peer) (Overflowed peer)) (Bad peer))) bytes ∷ []) ≡ copies
+delivery-flight : (me peer : ℕ) (bytes : List ℕ) (copies : List InFlight) (a b c d : Bool)
+    → flight_after_all copies (with_bytes me (cond a (cond b (Arrived peer) (Overflowed peer))
+    (cond c (cond d (Arrived peer) (Overflowed peer)) (Bad peer))) bytes ∷ []) ≡ copies
 delivery-flight me peer bytes copies true true c d = refl
 delivery-flight me peer bytes copies true false c d = refl
 delivery-flight me peer bytes copies false b true true = refl
@@ -219,16 +254,22 @@ place-within (y ∷ ys) zero x h = omega arith
 place-within (y ∷ ys) (suc i) x h = let less = place-within ys i x h in omega (arith, less)
 
 -- a copy that is carried is in flight no more
-carried-flight : (i : ℕ) (s : Stage) (x : List Fact) (t : Stage) → Carries i s x t → length t.flight + 1 ≡ length s.flight
+carried-flight : (i : ℕ) (s : Stage) (x : List Fact) (t : Stage) → Carries i s x t
+    → length t.flight + 1 ≡ length s.flight
 carried-flight i s x t h =
     let l = h.arrives.before.lists in
     let same : flight_after_all (remove s.flight i) h.delivered ≡ remove s.flight i =
-    ap (λ (y : List Fact). flight_after_all (remove s.flight i) y) h.arrives.step.facts ∙ delivery-flight l.me h.copy.from h.copy.bytes (remove s.flight i) (is_message h.copy.bytes) (nat_lt (length l.ring) l.room) (is_control h.copy.bytes) (nat_lt (length l.inbox) inbox_room) in
+    ap (λ (y : List Fact). flight_after_all (remove s.flight i) y) h.arrives.step.facts
+    ∙ delivery-flight l.me h.copy.from h.copy.bytes (remove s.flight i)
+    (is_message h.copy.bytes) (nat_lt (length l.ring) l.room) (is_control h.copy.bytes)
+    (nat_lt (length l.inbox) inbox_room) in
     let left : t.flight ≡ remove s.flight i = ap (λ (v : Stage). v.flight) h.arrives.left ∙ same in
-    let fewer : length (remove s.flight i) + 1 ≡ length s.flight = length-remove s.flight i (place-within s.flight i h.copy h.is_copy) in
+    let fewer : length (remove s.flight i) + 1 ≡ length s.flight =
+    length-remove s.flight i (place-within s.flight i h.copy h.is_copy) in
     rw left fewer
 
-pub times-flight : (n : ℕ) (s : Stage) (x : List Fact) (t : Stage) → Times (Carries 0) n s x t → length t.flight + n ≡ length s.flight
+pub times-flight : (n : ℕ) (s : Stage) (x : List Fact) (t : Stage) → Times (Carries 0) n s x t
+    → length t.flight + n ≡ length s.flight
 times-flight zero s x t h = omega (arith, ap (λ (v : Stage). length v.flight) h.1)
 times-flight (suc n) s x t h =
     let before = times-flight n s h.group h.between h.does in
@@ -236,24 +277,29 @@ times-flight (suc n) s x t h =
     omega (arith, before, here)
 
 -- what the world has before each command it has after it
-pub stays-numbered : (s t : Play) → Stays s.stage t.stage → length t.totals + length s.stage.nodes ≡ length s.totals + length t.stage.nodes → IsNumbered s → IsNumbered t
+pub stays-numbered : (s t : Play) → Stays s.stage t.stage
+    → length t.totals + length s.stage.nodes ≡ length s.totals + length t.stage.nodes → IsNumbered s
+    → IsNumbered t
 stays-numbered s t p services m = record {
   nodes = p.nodes m.nodes;
   services = omega (arith, services, p.long, m.services);
   few = omega (arith, p.long, m.few);
 }
 
-pub performed-numbered : (P : Group) → StaysBy P → (s t : Play) (f g : List Fact) → Performed P s t f g → IsNumbered s → IsNumbered t
+pub performed-numbered : (P : Group) → StaysBy P → (s t : Play) (f g : List Fact)
+    → Performed P s t f g → IsNumbered s → IsNumbered t
 performed-numbered P p s t f g h m = stays-numbered s t (p s.stage h.group t.stage h.does) h.services m
 
-pub performed-long : (P : Group) → StaysBy P → (s t : Play) (f g : List Fact) → Performed P s t f g → length t.stage.nodes ≡ length s.stage.nodes
+pub performed-long : (P : Group) → StaysBy P → (s t : Play) (f g : List Fact) → Performed P s t f g
+    → length t.stage.nodes ≡ length s.stage.nodes
 performed-long P p s t f g h = (p s.stage h.group t.stage h.does).long
 
 made-few : (n : ℕ) (c : Command) → Names n c → n ≤ 8 → n + made c ≤ 8
 made-few n (Node ring) h few = omega (arith, h)
 made-few n _ h few = omega (arith, few)
 
-pub does-numbered : (c : Command) (s t : Play) (f g : List Fact) → Names (length s.stage.nodes) c → Performed (Does c) s t f g → IsNumbered s → IsNumbered t
+pub does-numbered : (c : Command) (s t : Play) (f g : List Fact) → Names (length s.stage.nodes) c
+    → Performed (Does c) s t f g → IsNumbered s → IsNumbered t
 does-numbered c s t f g names h m =
     let p = does-leaves c s.stage h.group t.stage h.does in
     record {

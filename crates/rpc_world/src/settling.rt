@@ -1,7 +1,8 @@
 //! `settle K`: rounds, until nothing happens any more.
 ghost use Rattle.std.specs.Prelude.{◌≡◌, ◌≤◌, length, IfOk, OnOk};
 ghost use Rattle.std.specs.List.{list_all};
-ghost use Rattle.sim_script.specs.FollowsScript.{Carries, PollsFirst, Settles, Times, WorksAndPolls, WorksFirst, is_polled};
+ghost use Rattle.sim_script.specs.FollowsScript.{Carries, PollsFirst, Settles, Times};
+ghost use Rattle.sim_script.specs.FollowsScript.{WorksAndPolls, WorksFirst, is_polled};
 ghost use Rattle.rpc_world.specs.Performed.{Performed, MakesRound};
 ghost use Rattle.rpc_world.specs.Before.{IsNumbered};
 

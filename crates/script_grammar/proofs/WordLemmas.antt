@@ -1,5 +1,7 @@
 -- The words of a line, one after another, by where its first blank stands.
-use Rattle.std.proofs.Common.{◌≡◌, ◌==◌, ℕ, ◌+◌, ◌-◌, ◌<◌, Bool, true, false, cond, List, [], ◌∷◌, length, take, drop, take_all, length-drop, nat_eq, Some, None, Ok, Err, refl, sym, ap, ◌∙◌, arith}
+use Rattle.std.proofs.Common.{◌≡◌, ◌==◌, ℕ, ◌+◌, ◌-◌, ◌<◌, Bool, true, false, cond, List, [], ◌∷◌}
+use Rattle.std.proofs.Common.{length, take, drop, take_all, length-drop, nat_eq, Some, None, Ok}
+use Rattle.std.proofs.Common.{Err, refl, sym, ap, ◌∙◌, arith}
 use Rattle.std.specs.List.{position, starts_with}
 use Rattle.std.proofs.lemmas.List.Splits.{length-slice_split}
 use Rattle.script_grammar.specs.declared.bad.BadWhy.TheVariants.{Shape}
@@ -34,11 +36,13 @@ unfolding next_word
 next_of_none = refl
 
 -- with no blank, the line is its last word
-pub next_whole : (line : List ℕ) → position (λ b. b == 32) line ≡ None → 0 < length line → next_word (words_of line) ≡ Ok (line, [])
+pub next_whole : (line : List ℕ) → position (λ b. b == 32) line ≡ None → 0 < length line
+    → next_word (words_of line) ≡ Ok (line, [])
 unfolding words_of
 next_whole line at h = ap next_word (split_nowhere blank line at) ∙ taken line [] h
 
-pub next_nothing : (line : List ℕ) → position (λ b. b == 32) line ≡ None → length line ≡ 0 → next_word (words_of line) ≡ Err Shape
+pub next_nothing : (line : List ℕ) → position (λ b. b == 32) line ≡ None → length line ≡ 0
+    → next_word (words_of line) ≡ Err Shape
 unfolding words_of
 next_nothing line at h = ap next_word (split_nowhere blank line at) ∙ empty line [] h
 
@@ -62,28 +66,41 @@ unfolding last_word
 last_of_none key = refl
 
 -- a blank in it: it was not the last word
-pub last_cut : (key line : List ℕ) (end : ℕ) → position (λ b. b == 32) line ≡ Some end → last_word key (words_of line) ≡ Err Shape
+pub last_cut : (key line : List ℕ) (end : ℕ) → position (λ b. b == 32) line ≡ Some end
+    → last_word key (words_of line) ≡ Err Shape
 unfolding words_of
-last_cut key line end at = ap (last_word key) (split_at_position blank line end at) ∙ not_last key _ _ (omega (arith, length-slice_split blank (take (length line - (end + 1)) (drop (end + 1) line))))
+last_cut key line end at =
+    ap (last_word key) (split_at_position blank line end at)
+    ∙ not_last key _ _ (omega (
+      arith,
+      length-slice_split blank
+          (take (length line - (end + 1)) (drop (end + 1) line)),
+    ))
 
-last_whole : (key word : List ℕ) → 0 < length word → last_word key (word ∷ []) ≡ cond (starts_with nat_eq word key) (Ok (drop (length key) word)) (Err Shape)
+last_whole : (key word : List ℕ) → 0 < length word
+    → last_word key (word ∷ []) ≡ cond (starts_with nat_eq word key) (Ok (drop (length key) word))
+    (Err Shape)
 unfolding last_word
 last_whole key [] h = absurd (omega arith)
 last_whole key (b ∷ bs) h = refl
 
-pub last_fits : (key word : List ℕ) → position (λ b. b == 32) word ≡ None → 0 < length word → starts_with nat_eq word key ≡ true
+pub last_fits : (key word : List ℕ) → position (λ b. b == 32) word ≡ None → 0 < length word
+    → starts_with nat_eq word key ≡ true
     → last_word key (words_of word) ≡ Ok (take (length word - length key) (drop (length key) word))
 unfolding words_of
 last_fits key word at h fits =
-    let whole : take (length word - length key) (drop (length key) word) ≡ drop (length key) word = take_all _ _ (omega (arith, length-drop {A = ℕ})) in
+    let whole : take (length word - length key) (drop (length key) word) ≡ drop (length key) word =
+    take_all _ _ (omega (arith, length-drop {A = ℕ})) in
     ap (last_word key) (split_nowhere blank word at) ∙ last_whole key word h
     ∙ ap (λ b. cond b (Ok (drop (length key) word)) (Err Shape)) fits ∙ ap (λ w. Ok w) (sym whole)
 
-pub last_misfits : (key word : List ℕ) → position (λ b. b == 32) word ≡ None → starts_with nat_eq word key ≡ false → last_word key (words_of word) ≡ Err Shape
+pub last_misfits : (key word : List ℕ) → position (λ b. b == 32) word ≡ None
+    → starts_with nat_eq word key ≡ false → last_word key (words_of word) ≡ Err Shape
 unfolding words_of last_word
 last_misfits key [] at misfits = refl
 last_misfits key (b ∷ bs) at misfits =
-    ap (last_word key) (split_nowhere blank (b ∷ bs) at) ∙ ap (λ t. cond t (Ok (drop (length key) (b ∷ bs))) (Err Shape)) misfits
+    ap (last_word key) (split_nowhere blank (b ∷ bs) at)
+    ∙ ap (λ t. cond t (Ok (drop (length key) (b ∷ bs))) (Err Shape)) misfits
 
 pub last_empty : (key word : List ℕ) → length word ≡ 0 → last_word key (words_of word) ≡ Err Shape
 unfolding words_of last_word

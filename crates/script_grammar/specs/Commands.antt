@@ -4,7 +4,11 @@
 use Rattle.std.specs.Prelude.{ℕ, List, [], ◌∷◌, codes, Option, Some, None, Result, Ok, Err, ok_or, if◌then◌else◌}
 use Rattle.script_grammar.specs.declared.bad.BadWhy.{BadWhy}
 use Rattle.script_grammar.specs.declared.bad.BadWhy.TheVariants.{Word}
-use Rattle.script_grammar.specs.declared.command.TheConstants.{LAST_SESSION, LAST_TYPE, LEAST_CREDITS, LEAST_RING, LEAST_ROUNDS, MOST_CREDITS, MOST_RING, MOST_ROOM, MOST_ROUNDS, MOST_TICK}
+use Rattle.script_grammar.specs.declared.command.TheConstants.{LAST_SESSION, LAST_TYPE}
+use Rattle.script_grammar.specs.declared.command.TheConstants.{LEAST_CREDITS, LEAST_RING}
+use Rattle.script_grammar.specs.declared.command.TheConstants.{LEAST_ROUNDS, MOST_CREDITS}
+use Rattle.script_grammar.specs.declared.command.TheConstants.{MOST_RING, MOST_ROOM, MOST_ROUNDS}
+use Rattle.script_grammar.specs.declared.command.TheConstants.{MOST_TICK}
 use Rattle.script_grammar.specs.declared.line.Command.{Command}
 use Rattle.script_grammar.specs.declared.line.Command.TheVariants as command
 use Rattle.script_grammar.specs.declared.verb.Verb.{Verb}

@@ -1,12 +1,17 @@
 -- What the lines of a script are, apart from their text.
 use Rattle.std.specs.Prelude.{◌≡◌, ◌≢◌, ℕ, ◌+◌, ◌<◌, ◌≤◌, List, [], ◌∷◌, ◌++◌, length, All}
 use Rattle.script_grammar.specs.declared.ask.TheConstants.{MOST_BYTES}
-use Rattle.script_grammar.specs.declared.command.TheConstants.{LAST_SESSION, LEAST_CREDITS, LEAST_RING, LEAST_ROUNDS, MOST_CREDITS, MOST_RING, MOST_ROOM, MOST_ROUNDS, MOST_TICK}
+use Rattle.script_grammar.specs.declared.command.TheConstants.{LAST_SESSION, LEAST_CREDITS}
+use Rattle.script_grammar.specs.declared.command.TheConstants.{LEAST_RING, LEAST_ROUNDS}
+use Rattle.script_grammar.specs.declared.command.TheConstants.{MOST_CREDITS, MOST_RING, MOST_ROOM}
+use Rattle.script_grammar.specs.declared.command.TheConstants.{MOST_ROUNDS, MOST_TICK}
 use Rattle.script_grammar.specs.declared.reading.TheConstants.{MOST_LINES}
 use Rattle.script_grammar.specs.declared.line.AskBytes.{AskBytes}
 use Rattle.script_grammar.specs.declared.line.AskBytes.TheVariants.{Given, Count}
 use Rattle.script_grammar.specs.declared.line.Command.{Command}
-use Rattle.script_grammar.specs.declared.line.Command.TheVariants.{Node, Pair, Connect, Disconnect, Rate, Call, Poll, Arrive, Lose, Repeat, Tick, Work, Settle}
+use Rattle.script_grammar.specs.declared.line.Command.TheVariants.{Node, Pair, Connect, Disconnect}
+use Rattle.script_grammar.specs.declared.line.Command.TheVariants.{Rate, Call, Poll, Arrive, Lose}
+use Rattle.script_grammar.specs.declared.line.Command.TheVariants.{Repeat, Tick, Work, Settle}
 use Rattle.script_grammar.specs.declared.line.Line.{Line}
 
 -- a call sends at most 2,097,152 bytes

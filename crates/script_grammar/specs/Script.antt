@@ -1,5 +1,6 @@
 -- A script: its head, its commands in order, and the first bad line.
-use Rattle.std.specs.Prelude.{◌==◌, ℕ, ◌+◌, Bool, ◌||◌, nat_lt, List, [], ◌∷◌, ◌++◌, length, codes, nat_eq, false, Result, Ok, Err, if◌then◌else◌}
+use Rattle.std.specs.Prelude.{◌==◌, ℕ, ◌+◌, Bool, ◌||◌, nat_lt, List, [], ◌∷◌, ◌++◌, length, codes}
+use Rattle.std.specs.Prelude.{nat_eq, false, Result, Ok, Err, if◌then◌else◌}
 use Rattle.std.specs.List.{starts_with}
 use Rattle.script_grammar.specs.declared.reading.TheConstants.{MOST_BYTES, MOST_LINES}
 use Rattle.script_grammar.specs.declared.bad.BadScript.{BadScript}

@@ -3,7 +3,9 @@ use Rattle.std.specs.Prelude.{ℕ, List, ◌++◌, codes}
 use Rattle.std.specs.Fmt.{decimal}
 use Rattle.script_grammar.specs.declared.bad.BadScript.{BadScript}
 use Rattle.script_grammar.specs.declared.bad.BadWhy.{BadWhy}
-use Rattle.script_grammar.specs.declared.bad.BadWhy.TheVariants.{TooLong, Lines, First, Word, Shape, Number, Hex, Nodes, Node, Same, Later}
+use Rattle.script_grammar.specs.declared.bad.BadWhy.TheVariants.{TooLong, Lines, First, Word, Shape}
+use Rattle.script_grammar.specs.declared.bad.BadWhy.TheVariants.{Number, Hex, Nodes, Node, Same}
+use Rattle.script_grammar.specs.declared.bad.BadWhy.TheVariants.{Later}
 use Rattle.script_grammar.specs.declared.bad.ReadError.{ReadError}
 use Rattle.script_grammar.specs.declared.bad.ReadError.TheVariants.{Bad, NoMemory}
 

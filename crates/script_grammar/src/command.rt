@@ -1,6 +1,8 @@
 //! Commands, from the words of their lines.
 ghost use Rattle.std.specs.Prelude.{◌≡◌, ◌≤◌, Ok, Err, IfOk, IfErr};
-ghost use Rattle.script_grammar.specs.Commands.{ring_in, ends_in, session_in, rate_in, call_parts_in, only_node_in, only_number_in, job_in, plain_in, call_in, command_in};
+ghost use Rattle.script_grammar.specs.Commands.{ring_in, ends_in, session_in, rate_in};
+ghost use Rattle.script_grammar.specs.Commands.{call_parts_in, only_node_in, only_number_in};
+ghost use Rattle.script_grammar.specs.Commands.{job_in, plain_in, call_in, command_in};
 ghost use Rattle.script_grammar.specs.Conditions.{IsInRange};
 ghost use Rattle.script_grammar.specs.Told.{IsTold};
 ghost use Rattle.script_grammar.specs.Words.{words_of};

@@ -1,6 +1,8 @@
 -- A request begins: what is kept and shown of its session, and the reply to its first packet.
 use Rattle.rpc_base.proofs.FirstLemmas.{all-left, all-push, count-fewer, found-own}
-use Rattle.std.proofs.Common.{◌≡◌, ◌≢◌, ℕ, ◌&&◌, ◌+◌, ◌%◌, ◌<◌, ◌≤◌, Bool, true, false, not, cond, ltb, ltb-true, Option, Some, None, List, [], ◌∷◌, ◌++◌, refl, sym, ap, ◌∙◌, arith}
+use Rattle.std.proofs.Common.{◌≡◌, ◌≢◌, ℕ, ◌&&◌, ◌+◌, ◌%◌, ◌<◌, ◌≤◌, Bool, true, false, not, cond}
+use Rattle.std.proofs.Common.{ltb, ltb-true, Option, Some, None, List, [], ◌∷◌, ◌++◌, refl, sym, ap}
+use Rattle.std.proofs.Common.{◌∙◌, arith}
 use Rattle.std.specs.Prelude.{IfSome, map, option_map}
 use Rattle.std.specs.List.{find}
 use Rattle.std.specs.Option.{option_or}
@@ -40,20 +42,28 @@ owner-slot : (n r : ℕ) (x : SlotRequest) → is_owner n (Reply n r) x ≡ true
 owner-slot n r x passes =
     eq-eqb (x.number % 8) (r % 8) (ap (λ k. k % 8) (eqb-true x.number r (and_parts _ _ passes).1))
 
-by-owner : (s : Session) (d : SlotRequest) → IsSession s → newest d.number s ≡ Some d → find (is_owner s.number (Reply s.number d.number)) s.slots ≡ Some d
+by-owner : (s : Session) (d : SlotRequest) → IsSession s → newest d.number s ≡ Some d
+    → find (is_owner s.number (Reply s.number d.number)) s.slots ≡ Some d
 by-owner s d h found =
-    let fewer = count-fewer (is_owner s.number (Reply s.number d.number)) (is_in_slot (d.number % 8)) (owner-slot s.number d.number) s.slots in
-    let own : is_owner s.number (Reply s.number d.number) d ≡ true = rw (eq-eqb s.number s.number refl, eq-eqb d.number d.number refl) refl in
-    found-own (is_in_slot (d.number % 8)) (is_owner s.number (Reply s.number d.number)) s.slots d (omega (arith, fewer, h.apart (d.number % 8))) found own
+    let fewer = count-fewer (is_owner s.number (Reply s.number d.number))
+    (is_in_slot (d.number % 8)) (owner-slot s.number d.number) s.slots in
+    let own : is_owner s.number (Reply s.number d.number) d ≡ true =
+    rw (eq-eqb s.number s.number refl, eq-eqb d.number d.number refl) refl in
+    found-own (is_in_slot (d.number % 8)) (is_owner s.number (Reply s.number d.number)) s.slots d
+    (omega (arith, fewer, h.apart (d.number % 8))) found own
 
-held-cases : (pool : Pool) (o : Option Stored) (b : Bool) → IfSome o (λ a. 0 < refs_of pool a.place) → IsHeld pool (cond b None (option_map (λ a. a.place) o))
+held-cases : (pool : Pool) (o : Option Stored) (b : Bool) → IfSome o (λ a. 0 < refs_of pool a.place)
+    → IsHeld pool (cond b None (option_map (λ a. a.place) o))
 held-cases pool o true some = tt
 held-cases pool None false some = tt
 held-cases pool (Some a) false some = some
 
 -- the entry of the reply to a packet that was taken stands for it
-pub reply-stands : (s : Session) (d : SlotRequest) (k : ℕ) → IsSession s → newest d.number s ≡ Some d → k < d.taken → is_worked_on (as_newest d) k ≡ false → IsReplyTo (request_of s (entry_at s.number s.peer k d)) (entry_at s.number s.peer k d)
-reply-stands s d k h found below idle = rw (by-owner s d h found) (record { taken = below; there = idle; place_is = refl })
+pub reply-stands : (s : Session) (d : SlotRequest) (k : ℕ) → IsSession s
+    → newest d.number s ≡ Some d → k < d.taken → is_worked_on (as_newest d) k ≡ false
+    → IsReplyTo (request_of s (entry_at s.number s.peer k d)) (entry_at s.number s.peer k d)
+reply-stands s d k h found below idle =
+    rw (by-owner s d h found) (record { taken = below; there = idle; place_is = refl })
 
 -- no worker has it
 and-false : (a b : Bool) → b ≡ false → (a && b) ≡ false
@@ -64,7 +74,9 @@ pub idle-reply : (d : SlotRequest) (k : ℕ) → is_at_work d.state ≡ false �
 idle-reply d k idle = and-false _ (is_at_work d.state) idle
 
 -- the reply to a packet that was taken
-pub is-reply : (pool : Pool) (s : Session) (d : SlotRequest) (k : ℕ) → IsSession s → newest d.number s ≡ Some d → k < d.taken → is_worked_on (as_newest d) k ≡ false → IsHeld pool (place_of d k) → IsReply d.number k s pool (entry_at s.number s.peer k d)
+pub is-reply : (pool : Pool) (s : Session) (d : SlotRequest) (k : ℕ) → IsSession s
+    → newest d.number s ≡ Some d → k < d.taken → is_worked_on (as_newest d) k ≡ false
+    → IsHeld pool (place_of d k) → IsReply d.number k s pool (entry_at s.number s.peer k d)
 is-reply pool s d k h found below idle some = record {
   owner = refl;
   number = refl;
@@ -78,16 +90,19 @@ reply-parts true true e = cc
 reply-parts true false e = (refl, refl)
 reply-parts false b e = cc
 
-pub with-reply : (q : SlotRequest) (k : ℕ) → has_reply q k ≡ true → (k < q.taken) × (is_worked_on (as_newest q) k ≡ false)
+pub with-reply : (q : SlotRequest) (k : ℕ) → has_reply q k ≡ true → (k < q.taken)
+    × (is_worked_on (as_newest q) k ≡ false)
 with-reply q k e =
     let parts = reply-parts (ltb k q.taken) (is_worked_on (as_newest q) k) e in
     (ltb-true k q.taken parts.0, parts.1)
 
 -- a credit return needs no reference
-pub return-held : (pool : Pool) (d : SlotRequest) (k : ℕ) → ltb (k + 1) (packet_count d.size) ≡ true → IsHeld pool (place_of d k)
+pub return-held : (pool : Pool) (d : SlotRequest) (k : ℕ) → ltb (k + 1) (packet_count d.size) ≡ true
+    → IsHeld pool (place_of d k)
 return-held pool d k early = rw early tt
 
-pub answer-held : (pool : Pool) (d : SlotRequest) (a : Stored) (k : ℕ) → answer_of d.state ≡ Some a → 0 < refs_of pool a.place → IsHeld pool (place_of d k)
+pub answer-held : (pool : Pool) (d : SlotRequest) (a : Stored) (k : ℕ) → answer_of d.state ≡ Some a
+    → 0 < refs_of pool a.place → IsHeld pool (place_of d k)
 answer-held pool d a k is some = held-cases pool (answer_of d.state) _ (rw is some)
 
 -- the newest request of a slot, once one begins there
@@ -95,11 +110,16 @@ or-none : {A : Type 0} (o : Option A) (y : A) → o ≡ None → option_or o (So
 or-none None y e = refl
 or-none (Some x) y e = cc
 
-pub begun-newest : (s : Session) (d : SlotRequest) → IsSession s → newest d.number (with_slots (begun d s.slots) s) ≡ Some d
+pub begun-newest : (s : Session) (d : SlotRequest) → IsSession s
+    → newest d.number (with_slots (begun d s.slots) s) ≡ Some d
 begun-newest s d h =
-    let none = none-counted (is_in_slot (d.number % 8)) (without_first (is_in_slot (d.number % 8)) s.slots) (none-left s h (d.number % 8)) in
-    let last : find (is_in_slot (d.number % 8)) (d ∷ []) ≡ Some d = rw (eq-eqb (d.number % 8) (d.number % 8) refl) refl in
-    find-append (is_in_slot (d.number % 8)) (without_first (is_in_slot (d.number % 8)) s.slots) (d ∷ []) ∙ ap (λ o. option_or (find (is_in_slot (d.number % 8)) (without_first (is_in_slot (d.number % 8)) s.slots)) o) last ∙ or-none _ d none
+    let none = none-counted (is_in_slot (d.number % 8))
+    (without_first (is_in_slot (d.number % 8)) s.slots) (none-left s h (d.number % 8)) in
+    let last : find (is_in_slot (d.number % 8)) (d ∷ []) ≡ Some d =
+    rw (eq-eqb (d.number % 8) (d.number % 8) refl) refl in
+    find-append (is_in_slot (d.number % 8)) (without_first (is_in_slot (d.number % 8)) s.slots)
+    (d ∷ []) ∙ ap (λ o. option_or (find (is_in_slot (d.number % 8))
+    (without_first (is_in_slot (d.number % 8)) s.slots)) o) last ∙ or-none _ d none
 
 -- it is in turn
 pub first-turn : (h : MessageHeader) (p : ℕ) → IsMessage h.size → 1 < packet_count h.size → IsInTurn (first_taken h p)
@@ -119,15 +139,24 @@ module _ (pool : Pool) (s : Session) (head : MessageHeader) (keeps : KeepsPool p
   given-kept : KeepsPool given rest
   given-kept = given-keeps (is_in_slot (head.request % 8)) pool s.slots keeps
 
-  shown-behind : (after : Pool) (d : SlotRequest) (x : Served) → d.number ≡ head.request → map (shown_request after) rest ≡ map (shown_request pool) rest → shown_request after d ≡ x → shown after (with_slots (begun d s.slots) s) ≡ begun_with x (shown pool s)
+  shown-behind : (after : Pool) (d : SlotRequest) (x : Served) → d.number ≡ head.request
+      → map (shown_request after) rest ≡ map (shown_request pool) rest → shown_request after d ≡ x
+      → shown after (with_slots (begun d s.slots) s) ≡ begun_with x (shown pool s)
   shown-behind after d x number same is =
-      let gone = map-without (shown_request pool) (is_in_slot (head.request % 8)) (in_slot_of head.request) (λ y. refl) s.slots in
+      let gone = map-without (shown_request pool) (is_in_slot (head.request % 8))
+      (in_slot_of head.request) (λ y. refl) s.slots in
       let all = map-append (shown_request after) (without_first (is_in_slot (head.request % 8)) s.slots) (d ∷ []) in
       let own : x.number ≡ head.request = ap (λ y. y.number) (sym is) ∙ number in
-      let at : without_first (is_in_slot (d.number % 8)) s.slots ≡ rest = ap (λ n. without_first (is_in_slot (n % 8)) s.slots) number in
-      let there_too : without_first (in_slot_of head.request) (shown pool s).slots ≡ without_first (in_slot_of x.number) (shown pool s).slots = ap (λ n. without_first (in_slot_of n) (shown pool s).slots) (sym own) in
-      let slots : map (shown_request after) (begun d s.slots) ≡ without_first (in_slot_of x.number) (shown pool s).slots ++ x ∷ [] =
-      ap (λ ys. map (shown_request after) (ys ++ d ∷ [])) at ∙ all ∙ ap (λ ys. ys ++ shown_request after d ∷ []) (same ∙ gone ∙ there_too) ∙ ap (λ y. without_first (in_slot_of x.number) (shown pool s).slots ++ y ∷ []) is in
+      let at : without_first (is_in_slot (d.number % 8)) s.slots ≡ rest =
+      ap (λ n. without_first (is_in_slot (n % 8)) s.slots) number in
+      let there_too : without_first (in_slot_of head.request) (shown pool s).slots
+      ≡ without_first (in_slot_of x.number) (shown pool s).slots =
+      ap (λ n. without_first (in_slot_of n) (shown pool s).slots) (sym own) in
+      let slots : map (shown_request after) (begun d s.slots)
+      ≡ without_first (in_slot_of x.number) (shown pool s).slots ++ x ∷ [] =
+      ap (λ ys. map (shown_request after) (ys ++ d ∷ [])) at ∙ all
+      ∙ ap (λ ys. ys ++ shown_request after d ∷ []) (same ∙ gone ∙ there_too)
+      ∙ ap (λ y. without_first (in_slot_of x.number) (shown pool s).slots ++ y ∷ []) is in
       let whole : List Served → Server = λ ys. record { way = way_of s; credits = s.credits; slots = ys } in
       ap whole slots
 
@@ -139,30 +168,45 @@ module _ (pool : Pool) (s : Session) (head : MessageHeader) (keeps : KeepsPool p
     apart = λ r. omega (arith, given-kept.apart r);
   })
 
-  pub given-shows : shown given (with_slots (begun (first_given head) s.slots) s) ≡ begun_with (given_served (first_shown head [] None)) (shown pool s)
-  given-shows = shown-behind given (first_given head) (given_served (first_shown head [] None)) refl (given-same (is_in_slot (head.request % 8)) pool s.slots keeps) refl
+  pub given-shows : shown given (with_slots (begun (first_given head) s.slots) s)
+      ≡ begun_with (given_served (first_shown head [] None)) (shown pool s)
+  given-shows = shown-behind given (first_given head)
+      (given_served (first_shown head [] None)) refl
+      (given-same (is_in_slot (head.request % 8)) pool s.slots keeps) refl
 
   -- its bytes go to the lowest empty place
-  module _ (p : ℕ) (b : Buffer) (lowest : lowest_empty given ≡ Some p) (there : buf_at (filled p b given) p ≡ Some b) (len : b.len ≡ head.size) (room : b.len ≤ capacity_of b) where
+  module _ (p : ℕ) (b : Buffer) (lowest : lowest_empty given ≡ Some p)
+      (there : buf_at (filled p b given) p ≡ Some b) (len : b.len ≡ head.size)
+      (room : b.len ≤ capacity_of b) where
     asked-beside : IsBeside (filled p b given) (first_taken head p) rest
-    asked-beside = beside-asked given p b (first_taken head p) rest given-kept lowest there refl refl (len, omega (arith, room, len))
+    asked-beside = beside-asked given p b (first_taken head p) rest given-kept lowest there refl
+        refl (len, omega (arith, room, len))
 
     asked-same : map (shown_request (filled p b given)) rest ≡ map (shown_request pool) rest
-    asked-same = map-off p given (filled p b given) (one-filled p b given) rest (names-empty given p rest (lowest-empty given p lowest) given-kept.kept) ∙ given-same (is_in_slot (head.request % 8)) pool s.slots keeps
+    asked-same = map-off p given (filled p b given)
+        (one-filled p b given) rest (names-empty given p rest (lowest-empty given p lowest)
+        given-kept.kept) ∙ given-same (is_in_slot (head.request % 8)) pool s.slots keeps
 
     pub first-keeps : KeepsPool (filled p b given) (begun (first_taken head p) s.slots)
     first-keeps = put-behind (filled p b given) (first_taken head p) rest asked-beside
 
-    pub first-shows : shown (filled p b given) (with_slots (begun (first_taken head p) s.slots) s) ≡ begun_with (first_shown head (bytes_of b) None) (shown pool s)
-    first-shows = shown-behind (filled p b given) (first_taken head p) (first_shown head (bytes_of b) None) refl asked-same (rw there refl)
+    pub first-shows : shown (filled p b given) (with_slots (begun (first_taken head p) s.slots) s)
+        ≡ begun_with (first_shown head (bytes_of b) None) (shown pool s)
+    first-shows = shown-behind (filled p b given) (first_taken head p)
+        (first_shown head (bytes_of b) None) refl asked-same (rw there refl)
 
 -- all requests are of types that are served
-pub begun-served : (mode_of : ℕ → Mode) (slots : List SlotRequest) (d : SlotRequest) → mode_of d.req_type ≢ Unserved → AreServed mode_of slots → AreServed mode_of (begun d slots)
+pub begun-served : (mode_of : ℕ → Mode) (slots : List SlotRequest) (d : SlotRequest)
+    → mode_of d.req_type ≢ Unserved → AreServed mode_of slots → AreServed mode_of (begun d slots)
 begun-served mode_of slots d new all =
-    all-push (λ x. mode_of x.req_type ≢ Unserved) (without_first (is_in_slot (d.number % 8)) slots) d (all-left (is_in_slot (d.number % 8)) (λ x. mode_of x.req_type ≢ Unserved) slots all) new
+    all-push (λ x. mode_of x.req_type ≢ Unserved)
+    (without_first (is_in_slot (d.number % 8)) slots) d
+    (all-left (is_in_slot (d.number % 8)) (λ x. mode_of x.req_type ≢ Unserved) slots all) new
 
 -- the reply to a packet that was taken before
-pub is-reply-of : (pool : Pool) (s : Session) (q : SlotRequest) (r k : ℕ) → IsSession s → newest r s ≡ Some q → q.number ≡ r → k < q.taken → is_worked_on (as_newest q) k ≡ false → IsHeld pool (place_of q k) → IsReply r k s pool (entry_at s.number s.peer k q)
+pub is-reply-of : (pool : Pool) (s : Session) (q : SlotRequest) (r k : ℕ) → IsSession s
+    → newest r s ≡ Some q → q.number ≡ r → k < q.taken → is_worked_on (as_newest q) k ≡ false
+    → IsHeld pool (place_of q k) → IsReply r k s pool (entry_at s.number s.peer k q)
 is-reply-of pool s q r k h found same below idle some =
     let own = is-reply pool s q k h (ap (λ n. newest n s) same ∙ found) below idle some in
     record {

@@ -2,7 +2,6 @@ mod BeginLemmas
 mod ChangedLemmas
 mod GivenLemmas
 mod HoldBeginLemmas
-mod HoldLemmas
 mod HoldStepLemmas
 mod LackLemmas
 mod ListLemmas
@@ -19,6 +18,7 @@ pub mod AskedLemmas
 pub mod CountLemmas
 pub mod FlushLemmas
 pub mod FoundLemmas
+pub mod HoldLemmas
 pub mod IdleLemmas
 pub mod NoteLemmas
 pub mod QueuedLemmas

@@ -4,7 +4,8 @@ use Rattle.std.specs.Prelude.{map, option_map}
 use Rattle.std.specs.List.{find}
 
 module _ {A B : Type 0} (g : A → B) (p : B → Bool) (q : A → Bool) (same : (x : A) → p (g x) ≡ q x) where
-  found-cons : (x : A) (xs : List A) (b : Bool) → find p (map g xs) ≡ option_map g (find q xs) → cond b (Some (g x)) (find p (map g xs)) ≡ option_map g (cond b (Some x) (find q xs))
+  found-cons : (x : A) (xs : List A) (b : Bool) → find p (map g xs) ≡ option_map g (find q xs)
+      → cond b (Some (g x)) (find p (map g xs)) ≡ option_map g (cond b (Some x) (find q xs))
   found-cons x xs true ih = refl
   found-cons x xs false ih = ih
 

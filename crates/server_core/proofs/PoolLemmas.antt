@@ -1,6 +1,8 @@
 -- What a session's places are in the pool, before and after a call of the session.
 use Rattle.server_core.specs.Session.{ask_of, answer_of}
-use Rattle.std.proofs.Common.{◌≡◌, ◌≢◌, ℕ, ◌+◌, ◌-◌, ◌<◌, Bool, true, false, cond, eqb, Option, Some, None, List, [], ◌∷◌, length, get_or, set, refl, ap, ◌∙◌, inl, inr, arith}
+use Rattle.std.proofs.Common.{◌≡◌, ◌≢◌, ℕ, ◌+◌, ◌-◌, ◌<◌, Bool, true, false, cond, eqb, Option}
+use Rattle.std.proofs.Common.{Some, None, List, [], ◌∷◌, length, get_or, set, refl, ap, ◌∙◌, inl}
+use Rattle.std.proofs.Common.{inr, arith}
 use Rattle.std.specs.Prelude.{IfSome, map, option_map}
 use Rattle.std.specs.List.{AllByRecursion}
 use Rattle.std.proofs.lemmas.Bool.{cases_eq, eq-eqb, eqb-false, ne_eqb}
@@ -13,7 +15,8 @@ use Rattle.buffer_pool.specs.Pool.{Pool, IsFull, buf_at, changed, emptied, fille
 use Rattle.buffer_pool.proofs.PoolLemmas.{changed_other}
 use Rattle.server_core.specs.declared.slot.Stored.{Stored}
 use Rattle.server_core.specs.declared.slot.SlotRequest.{SlotRequest}
-use Rattle.server_core.specs.KeepsPool.{IsAsked, IsKept, IsStored, KeepsPool, answer_names, ask_names, names, own_names}
+use Rattle.server_core.specs.KeepsPool.{IsAsked, IsKept, IsStored, KeepsPool, answer_names}
+use Rattle.server_core.specs.KeepsPool.{ask_names, names, own_names}
 use Rattle.server_core.specs.Replies.{IsHeld, released_at}
 use Rattle.server_core.specs.Shown.{answer_in, ask_in, shown_request}
 use Rattle.buffer_pool.proofs.PlacesLemmas.{full-empty, full-cases, unnamed-cases, unnamed-one}
@@ -27,10 +30,18 @@ pub one-held : (p : ℕ) (pool : Pool) → ChangesOne p pool (held p pool)
 one-held p pool = record { other_uses = λ q n. changed_other pool.uses p q _ Empty n; other_bufs = λ q n. refl }
 
 pub one-filled : (p : ℕ) (b : Buffer) (pool : Pool) → ChangesOne p pool (filled p b pool)
-one-filled p b pool = record { other_uses = λ q n. changed_other pool.uses p q _ Empty n; other_bufs = λ q n. changed_other pool.bufs p q _ None n }
+one-filled p b pool =
+    record {
+      other_uses = λ q n. changed_other pool.uses p q _ Empty n;
+      other_bufs = λ q n. changed_other pool.bufs p q _ None n;
+    }
 
 pub one-emptied : (p : ℕ) (pool : Pool) → ChangesOne p pool (emptied p pool)
-one-emptied p pool = record { other_uses = λ q n. changed_other pool.uses p q _ Empty n; other_bufs = λ q n. changed_other pool.bufs p q _ None n }
+one-emptied p pool =
+    record {
+      other_uses = λ q n. changed_other pool.uses p q _ Empty n;
+      other_bufs = λ q n. changed_other pool.bufs p q _ None n;
+    }
 
 pub one-changed : (p : ℕ) (b : Buffer) (pool : Pool) → ChangesOne p pool (changed p b pool)
 one-changed p b pool = record { other_uses = λ q n. refl; other_bufs = λ q n. changed_other pool.bufs p q _ None n }
@@ -48,9 +59,13 @@ module _ (p : ℕ) (pool new : Pool) (one : ChangesOne p pool new) where
   answer-off None e kept = tt
   answer-off (Some a) e kept =
       let other = unnamed-cases a.place p _ refl e in
-      record { full = ap is_full (one.other_uses a.place other) ∙ kept.full; size = rw (one.other_bufs a.place other) kept.size }
+      record {
+        full = ap is_full (one.other_uses a.place other) ∙ kept.full;
+        size = rw (one.other_bufs a.place other) kept.size;
+      }
 
-  pub ask-off : (size : ℕ) (o : Option ℕ) → ask_names p o ≡ 0 → IfSome o (IsAsked pool size) → IfSome o (IsAsked new size)
+  pub ask-off : (size : ℕ) (o : Option ℕ) → ask_names p o ≡ 0 → IfSome o (IsAsked pool size)
+      → IfSome o (IsAsked new size)
   ask-off size None e kept = tt
   ask-off size (Some a) e kept =
       let other = ask-away a p e in
@@ -61,9 +76,13 @@ module _ (p : ℕ) (pool new : Pool) (one : ChangesOne p pool new) where
       }
 
   pub kept-off : (q : SlotRequest) → own_names p q ≡ 0 → IsKept pool q → IsKept new q
-  kept-off q e kept = record { ask = ask-off q.size (ask_of q.state) (omega (arith, e)) kept.ask; answer = answer-off (answer_of q.state) (omega (arith, e)) kept.answer }
+  kept-off q e kept = record {
+    ask = ask-off q.size (ask_of q.state) (omega (arith, e)) kept.ask;
+    answer = answer-off (answer_of q.state) (omega (arith, e)) kept.answer;
+  }
 
-  shown-answer : (o : Option Stored) → answer_names p o ≡ 0 → option_map (answer_in new) o ≡ option_map (answer_in pool) o
+  shown-answer : (o : Option Stored) → answer_names p o ≡ 0
+      → option_map (answer_in new) o ≡ option_map (answer_in pool) o
   shown-answer None e = refl
   shown-answer (Some a) e = rw (one.other_bufs a.place (unnamed-cases a.place p _ refl e)) refl
 
@@ -73,9 +92,13 @@ module _ (p : ℕ) (pool new : Pool) (one : ChangesOne p pool new) where
 
   pub shown-off : (q : SlotRequest) → own_names p q ≡ 0 → shown_request new q ≡ shown_request pool q
   shown-off q e =
-      rw (shown-ask q.taken (ask_of q.state) (omega (arith, e)), shown-answer (answer_of q.state) (omega (arith, e))) refl
+      rw (
+        shown-ask q.taken (ask_of q.state) (omega (arith, e)),
+        shown-answer (answer_of q.state) (omega (arith, e)),
+      ) refl
 
-  all-off : (qs : List SlotRequest) → names p qs ≡ 0 → AllByRecursion (IsKept pool) qs → AllByRecursion (IsKept new) qs
+  all-off : (qs : List SlotRequest) → names p qs ≡ 0 → AllByRecursion (IsKept pool) qs
+      → AllByRecursion (IsKept new) qs
   all-off [] e all = tt
   all-off (q ∷ qs) e all =
       let sum = names-cons p q qs in
@@ -94,29 +117,41 @@ pub empty-other : (pool : Pool) (p q : ℕ) → IsFull pool q → is_empty (use_
 empty-other pool p q full empty = λ same. full-empty (use_at pool p) (rw same at full) empty
 
 -- no request names an empty place
-answer-empty : (pool : Pool) (p : ℕ) (o : Option Stored) → is_empty (use_at pool p) ≡ true → IfSome o (IsStored pool) → answer_names p o ≡ 0
+answer-empty : (pool : Pool) (p : ℕ) (o : Option Stored) → is_empty (use_at pool p) ≡ true
+    → IfSome o (IsStored pool) → answer_names p o ≡ 0
 answer-empty pool p None empty kept = refl
 answer-empty pool p (Some a) empty kept = unnamed-one a.place p (empty-other pool p a.place kept.full empty)
 
-pub ask-empty : (pool : Pool) (p size : ℕ) (o : Option ℕ) → is_empty (use_at pool p) ≡ true → IfSome o (IsAsked pool size) → ask_names p o ≡ 0
+pub ask-empty : (pool : Pool) (p size : ℕ) (o : Option ℕ) → is_empty (use_at pool p) ≡ true
+    → IfSome o (IsAsked pool size) → ask_names p o ≡ 0
 ask-empty pool p size None empty kept = refl
 ask-empty pool p size (Some a) empty kept = unnamed-one a p (empty-other pool p a kept.full empty)
 
-pub own-empty : (pool : Pool) (p : ℕ) (q : SlotRequest) → is_empty (use_at pool p) ≡ true → IsKept pool q → own_names p q ≡ 0
+pub own-empty : (pool : Pool) (p : ℕ) (q : SlotRequest) → is_empty (use_at pool p) ≡ true
+    → IsKept pool q → own_names p q ≡ 0
 own-empty pool p q empty kept =
-    omega (arith, ask-empty pool p q.size (ask_of q.state) empty kept.ask, answer-empty pool p (answer_of q.state) empty kept.answer)
+    omega (
+      arith,
+      ask-empty pool p q.size (ask_of q.state) empty kept.ask,
+      answer-empty pool p (answer_of q.state) empty kept.answer,
+    )
 
-pub names-empty : (pool : Pool) (p : ℕ) (qs : List SlotRequest) → is_empty (use_at pool p) ≡ true → AllByRecursion (IsKept pool) qs → names p qs ≡ 0
+pub names-empty : (pool : Pool) (p : ℕ) (qs : List SlotRequest) → is_empty (use_at pool p) ≡ true
+    → AllByRecursion (IsKept pool) qs → names p qs ≡ 0
 names-empty pool p [] empty kept = refl
 names-empty pool p (q ∷ qs) empty kept =
     omega (arith, names-cons p q qs, names-empty pool p qs empty kept.1, own-empty pool p q empty kept.0)
 
-answer-used : (pool : Pool) (p : ℕ) (u : Use) (o : Option Stored) → is_full u ≡ true → IfSome o (IsStored pool) → IfSome o (IsStored (record { uses = set pool.uses p u; bufs = pool.bufs }))
+answer-used : (pool : Pool) (p : ℕ) (u : Use) (o : Option Stored) → is_full u ≡ true
+    → IfSome o (IsStored pool)
+    → IfSome o (IsStored (record { uses = set pool.uses p u; bufs = pool.bufs }))
 answer-used pool p u None full kept = tt
 answer-used pool p u (Some a) full kept =
     record { full = full-cases pool.uses p a.place u full kept.full; size = kept.size }
 
-ask-used : (pool : Pool) (p size : ℕ) (u : Use) (o : Option ℕ) → is_full u ≡ true → 0 < refs_of pool p → IfSome o (IsAsked pool size) → IfSome o (IsAsked (record { uses = set pool.uses p u; bufs = pool.bufs }) size)
+ask-used : (pool : Pool) (p size : ℕ) (u : Use) (o : Option ℕ) → is_full u ≡ true
+    → 0 < refs_of pool p → IfSome o (IsAsked pool size)
+    → IfSome o (IsAsked (record { uses = set pool.uses p u; bufs = pool.bufs }) size)
 ask-used pool p size u None full some kept = tt
 ask-used pool p size u (Some a) full some kept =
     let other : a ≢ p = λ same. let there : refs_of pool p ≡ 0 = rw (← same) kept.unnamed in absurd (omega (arith, there, some)) in
@@ -126,15 +161,24 @@ ask-used pool p size u (Some a) full some kept =
       unnamed = ap refs_in (changed_other pool.uses p a u Empty other) ∙ kept.unnamed;
     }
 
-kept-used : (pool : Pool) (p : ℕ) (u : Use) (q : SlotRequest) → is_full u ≡ true → 0 < refs_of pool p → IsKept pool q → IsKept (record { uses = set pool.uses p u; bufs = pool.bufs }) q
-kept-used pool p u q full some kept = record { ask = ask-used pool p q.size u (ask_of q.state) full some kept.ask; answer = answer-used pool p u (answer_of q.state) full kept.answer }
+kept-used : (pool : Pool) (p : ℕ) (u : Use) (q : SlotRequest) → is_full u ≡ true
+    → 0 < refs_of pool p → IsKept pool q
+    → IsKept (record { uses = set pool.uses p u; bufs = pool.bufs }) q
+kept-used pool p u q full some kept =
+    record {
+      ask = ask-used pool p q.size u (ask_of q.state) full some kept.ask;
+      answer = answer-used pool p u (answer_of q.state) full kept.answer;
+    }
 
-all-released : (pool : Pool) (p : ℕ) (qs : List SlotRequest) → 0 < refs_of pool p → AllByRecursion (IsKept pool) qs → AllByRecursion (IsKept (released p pool)) qs
+all-released : (pool : Pool) (p : ℕ) (qs : List SlotRequest) → 0 < refs_of pool p
+    → AllByRecursion (IsKept pool) qs → AllByRecursion (IsKept (released p pool)) qs
 all-released pool p [] some all = tt
 all-released pool p (q ∷ qs) some all =
     (kept-used pool p (Full (refs_of pool p - 1)) q refl some all.0, all-released pool p qs some all.1)
 
 -- releasing keeps the pool, and changes no bytes
-pub keeps-released : (pool : Pool) (place : Option ℕ) (qs : List SlotRequest) → IsHeld pool place → KeepsPool pool qs → KeepsPool (released_at place pool) qs
+pub keeps-released : (pool : Pool) (place : Option ℕ) (qs : List SlotRequest) → IsHeld pool place
+    → KeepsPool pool qs → KeepsPool (released_at place pool) qs
 keeps-released pool None qs some keeps = keeps
-keeps-released pool (Some p) qs some keeps = record { kept = all-released pool p qs some keeps.kept; apart = keeps.apart }
+keeps-released pool (Some p) qs some keeps =
+    record { kept = all-released pool p qs some keeps.kept; apart = keeps.apart }

@@ -42,17 +42,23 @@ module _ (n : ℕ) (x : ClientEnd) (s : Lists)
       record { live = rw (number, found, live) refl; credits = rw (number, found, credits) refl }
 
   -- it is replaced by what a change makes of it
-  pub becomes : (f : Client → Client) (y : Client) → f (client_of x) ≡ y → y.way.number ≡ x.number → with_changed y s ≡ record s { clients = at_first (is_client n) f s.clients }
+  pub becomes : (f : Client → Client) (y : Client) → f (client_of x) ≡ y → y.way.number ≡ x.number
+      → with_changed y s ≡ record s { clients = at_first (is_client n) f s.clients }
   becomes f y changes same =
       let number : y.way.number ≡ n = same ∙ own in
       ap (λ m. record s { clients = at_first (is_client m) (λ (z : Client). y) s.clients }) number
       ∙ ap (λ w. record s { clients = at_first (is_client n) (λ (z : Client). w) s.clients }) (sym changes)
       ∙ ap (λ cs. record s { clients = cs }) (same-change (is_client n) (client_of x) f s.clients found)
 
-pub comes-end : (state : ClientState) (x y : ClientEnd) → free_credits x.state x.credits ≡ free_credits state x.credits → y ≡ record x { state = state; sends = 0; sent_at = 0 } → comes_to (told state) (client_of x) ≡ client_of y
+pub comes-end : (state : ClientState) (x y : ClientEnd)
+    → free_credits x.state x.credits ≡ free_credits state x.credits
+    → y ≡ record x { state = state; sends = 0; sent_at = 0 }
+    → comes_to (told state) (client_of x) ≡ client_of y
 comes-end state x y free is = rw (is, free) refl
 
-pub connects-end : (t : ℕ) (x y : ClientEnd) → x.state ≡ Connecting → y ≡ record x { state = Connected; sends = 0; sent_at = 0 } → connects t (client_of x) ≡ client_of (record y { server = t })
+pub connects-end : (t : ℕ) (x y : ClientEnd) → x.state ≡ Connecting
+    → y ≡ record x { state = Connected; sends = 0; sent_at = 0 }
+    → connects t (client_of x) ≡ client_of (record y { server = t })
 connects-end t x y state is = rw (is, state) refl
 
 -- the state that is told, where no call was asked
@@ -90,24 +96,50 @@ module _ (n clock : ℕ) (x : ClientEnd) (s : Lists)
   counted : one_more x.sends ≡ x.sends + 1
   counted = omega (arith, few)
 
-  same-requests : (h : ControlHeader) → h.client ≡ x.number → requests clock h (client_of x) ≡ sent_again clock (client_of x) → record s { clients = at_first (is_client n) (sent_again clock) s.clients } ≡ record s { clients = clients_told clock (Some h) s.clients }
+  same-requests : (h : ControlHeader) → h.client ≡ x.number
+      → requests clock h (client_of x) ≡ sent_again clock (client_of x)
+      → record s { clients = at_first (is_client n) (sent_again clock) s.clients }
+      ≡ record s { clients = clients_told clock (Some h) s.clients }
   same-requests h client same =
       let number : h.client ≡ n = client ∙ own n x s found in
-      ap (λ cs. record s { clients = cs }) (sym (same-change (is_client n) (client_of x) (sent_again clock) s.clients found)
+      ap (λ cs. record s { clients = cs }) (sym
+      (same-change (is_client n) (client_of x) (sent_again clock) s.clients found)
       ∙ ap (λ y. at_first (is_client n) (λ (z : Client). y) s.clients) (sym same)
       ∙ same-change (is_client n) (client_of x) (requests clock h) s.clients found
       ∙ ap (λ m. at_first (is_client m) (requests clock h) s.clients) (sym number))
 
-  tells-by : (state : ClientState) → x.state ≡ state → is_asking (told state) ≡ true → record s { clients = at_first (is_client n) (sent_again clock) s.clients } ≡ record s { clients = clients_told clock (own_request (client_of x)) s.clients }
-  tells-by Connecting e h = rw e (same-requests (record { kind = ConnectRequest; client = x.number; server = None; credits = x.credits; status = 0 }) refl (rw (e, counted) refl))
-  tells-by Closing e h = rw e (same-requests (record { kind = DisconnectRequest; client = x.number; server = Some x.server; credits = 0; status = 0 }) refl (rw (e, counted, equal x.server x.server refl) refl))
+  tells-by : (state : ClientState) → x.state ≡ state → is_asking (told state) ≡ true
+      → record s { clients = at_first (is_client n) (sent_again clock) s.clients }
+      ≡ record s { clients = clients_told clock (own_request (client_of x)) s.clients }
+  tells-by Connecting e h =
+      rw e (same-requests (record {
+        kind = ConnectRequest;
+        client = x.number;
+        server = None;
+        credits = x.credits;
+        status = 0;
+      }) refl (rw (e, counted) refl))
+  tells-by Closing e h =
+      rw e (same-requests (record {
+        kind = DisconnectRequest;
+        client = x.number;
+        server = Some x.server;
+        credits = 0;
+        status = 0;
+      }) refl
+      (rw (e, counted, equal x.server x.server refl) refl))
   tells-by Connected e h = cc
   tells-by Closed e h = cc
   tells-by Failed e h = cc
   tells-by Broken e h = cc
 
-  pub tells : is_asking (state_of (find (is_client n) s.clients)) ≡ true → record s { clients = at_first (is_client n) (sent_again clock) s.clients } ≡ record s { clients = clients_told clock (own_request (client_of x)) s.clients }
+  pub tells : is_asking (state_of (find (is_client n) s.clients)) ≡ true
+      → record s { clients = at_first (is_client n) (sent_again clock) s.clients }
+      ≡ record s { clients = clients_told clock (own_request (client_of x)) s.clients }
   tells h = tells-by x.state refl (ap is_asking (sym (state-found n x s.clients found)) ∙ h)
 
-pub tells-found : (n clock : ℕ) (x : ClientEnd) (s new : Lists) → find (is_client n) s.clients ≡ Some (client_of x) → new ≡ record s { clients = at_first (is_client n) (sent_again clock) s.clients } → is_asking (state_of (find (is_client n) s.clients)) ≡ true → Tells n clock s new
+pub tells-found : (n clock : ℕ) (x : ClientEnd) (s new : Lists)
+    → find (is_client n) s.clients ≡ Some (client_of x)
+    → new ≡ record s { clients = at_first (is_client n) (sent_again clock) s.clients }
+    → is_asking (state_of (find (is_client n) s.clients)) ≡ true → Tells n clock s new
 tells-found n clock x s new found step h = rw found (λ few. step ∙ tells n clock x s found few h)

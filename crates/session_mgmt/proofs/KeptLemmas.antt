@@ -49,7 +49,8 @@ both-parts Greater p = refl
 pub same-place : (v : ServerEnd) (t : ℕ) (q : Place)
     → is_at (by_parts (v.peer, v.client, t)) q ≡ stands_at q (t, v)
 same-place v t q =
-    both-parts _ (nat_cmp t q.2) ∙ ap (λ b. b && is_eq (nat_cmp t q.2)) (both-parts (nat_cmp v.peer q.0) (nat_cmp v.client q.1))
+    both-parts _ (nat_cmp t q.2) ∙ ap (λ b. b && is_eq (nat_cmp t q.2))
+    (both-parts (nat_cmp v.peer q.0) (nat_cmp v.client q.1))
     ∙ rw (same-number v.peer q.0, same-number v.client q.1, same-number t q.2) refl
 
 stands-not-by : (a c : Bool) → c ≡ false → (a && c) ≡ false
@@ -111,7 +112,8 @@ pub added-last : (low high : ℕ) (es : List Kept) (v : ServerEnd) → Ascend lo
     → insert_entry nat_cmp es high v ≡ es ++ (high, v) ∷ []
 added-last low high [] v a = refl
 added-last low high (e ∷ es) v a =
-    rw (greater high e.0 (omega (arith, ascend-le (e.0 + 1) high es a.2))) (ap (λ rest. e ∷ rest) (added-last (e.0 + 1) high es v a.2))
+    rw (greater high e.0 (omega (arith, ascend-le (e.0 + 1) high es a.2)))
+    (ap (λ rest. e ∷ rest) (added-last (e.0 + 1) high es v a.2))
 
 pub ascend-more : (low high : ℕ) (es : List Kept) (v : ServerEnd) → Ascend low high es
     → high ≡ v.number → Ascend low (high + 1) (es ++ (high, v) ∷ [])
@@ -161,18 +163,23 @@ module _ (q : Place) (t : ℕ) where
   place-left-by : (e : Kept) (es : List Kept) (v : ServerEnd) (low high : ℕ) (b : Bool)
       → is_eq (nat_cmp t e.0) ≡ b → Ascend low high (e ∷ es) → cond b (Some e.1)
       (lookup (is_at (nat_cmp t)) es) ≡ Some v
-      → (lookup (is_at (nat_cmp t)) es ≡ Some v → list_any (stands_at q) (remove_entry (is_at (nat_cmp t)) es) ≡ cond (stands_at q (t, v)) false (list_any (stands_at q) es))
+      → (lookup (is_at (nat_cmp t)) es ≡ Some v
+      → list_any (stands_at q) (remove_entry (is_at (nat_cmp t)) es)
+      ≡ cond (stands_at q (t, v)) false (list_any (stands_at q) es))
       → list_any (stands_at q)
-      (cond b es (e ∷ remove_entry (is_at (nat_cmp t)) es)) ≡ cond (stands_at q (t, v)) false (list_any (stands_at q) (e ∷ es))
+      (cond b es (e ∷ remove_entry (is_at (nat_cmp t)) es))
+      ≡ cond (stands_at q (t, v)) false (list_any (stands_at q) (e ∷ es))
   place-left-by e es v low high true s a f ih =
       let number : t ≡ e.0 = eqb-true t e.0 (sym (same-number t e.0) ∙ s) in
       let this : e.1 ≡ v = cc in
       let same : stands_at q (t, v) ≡ stands_at q e = rw (number, ← this) refl in
-      rw same (place-left-here (stands_at q e) (list_any (stands_at q) es) (λ h. none-below q (e.0 + 1) high es a.2 (omega (arith, stands-number q e h))))
+      rw same (place-left-here (stands_at q e) (list_any (stands_at q) es)
+      (λ h. none-below q (e.0 + 1) high es a.2 (omega (arith, stands-number q e h))))
   place-left-by e es v low high false s a f ih =
       let other : (t == e.0) ≡ false = sym (same-number t e.0) ∙ s in
       let apart : (e.0 ≡ t → ⊥) = λ same. eqb-false t e.0 other (sym same) in
-      place-left-later (stands_at q e) (stands_at q (t, v)) _ _ (λ h. stands-not q e (λ same. apart (same ∙ sym (stands-number q (t, v) h)))) (ih f)
+      place-left-later (stands_at q e) (stands_at q (t, v)) _ _
+      (λ h. stands-not q e (λ same. apart (same ∙ sym (stands-number q (t, v) h)))) (ih f)
 
   pub place-left : (low high : ℕ) (es : List Kept) (v : ServerEnd) → Ascend low high es
       → lookup (is_at (nat_cmp t)) es ≡ Some v → list_any (stands_at q)
@@ -222,28 +229,42 @@ module _ (peer client : ℕ) where
   none-lowest low high (e ∷ es) a h =
       let below : e.0 < high = omega (arith, ascend-le (e.0 + 1) high es a.2) in
       let here : stands_at (peer, client, e.0) e ≡ false = (or-false _ _ (h e.0 below)).0 in
-      let not-ours : (e.1.peer == peer && e.1.client == client) ≡ false = ours (e.1.peer == peer && e.1.client == client) (e.0 == e.0) here (equal-self e.0) in
+      let not-ours : (e.1.peer == peer && e.1.client == client) ≡ false =
+      ours (e.1.peer == peer && e.1.client == client) (e.0 == e.0) here (equal-self e.0) in
       rw not-ours (none-lowest (e.0 + 1) high es a.2 (λ u within. or-second _ _ (h u within)))
 
   lowest-by : (t low high : ℕ) (e : Kept) (es : List Kept) → Order e.0 t → Ascend low high (e ∷ es)
       → list_any (stands_at (peer, client, t)) (e ∷ es) ≡ true
       → ((u : ℕ) → u < t → list_any (stands_at (peer, client, u)) (e ∷ es) ≡ false)
-      → (list_any (stands_at (peer, client, t)) es ≡ true → ((u : ℕ) → u < t → list_any (stands_at (peer, client, u)) es ≡ false) → option_map server_of (lookup (is_at (nat_cmp t)) es) ≡ find (is_end_of peer client) (servers_of es))
+      → (list_any (stands_at (peer, client, t)) es ≡ true
+      → ((u : ℕ) → u < t → list_any (stands_at (peer, client, u)) es ≡ false)
+      → option_map server_of (lookup (is_at (nat_cmp t)) es)
+      ≡ find (is_end_of peer client) (servers_of es))
       → option_map server_of (lookup (is_at (nat_cmp t)) (e ∷ es)) ≡ find (is_end_of peer client)
       (servers_of (e ∷ es))
   lowest-by t low high e es (below h) a some least ih =
       let here : stands_at (peer, client, e.0) e ≡ false = (or-false _ _ (least e.0 h)).0 in
-      let not-ours : (e.1.peer == peer && e.1.client == client) ≡ false = ours (e.1.peer == peer && e.1.client == client) (e.0 == e.0) here (equal-self e.0) in
-      let apart : is_eq (nat_cmp t e.0) ≡ false = same-number t e.0 ∙ not-equal t e.0 (λ same. absurd (omega (arith, same, h))) in
-      let later : list_any (stands_at (peer, client, t)) es ≡ true = or-right (stands_at (peer, client, t) e) (list_any (stands_at (peer, client, t)) es) some (stands-not (peer, client, t) e (λ same. absurd (omega (arith, same, h)))) in
+      let not-ours : (e.1.peer == peer && e.1.client == client) ≡ false =
+      ours (e.1.peer == peer && e.1.client == client) (e.0 == e.0) here (equal-self e.0) in
+      let apart : is_eq (nat_cmp t e.0) ≡ false =
+      same-number t e.0 ∙ not-equal t e.0 (λ same. absurd (omega (arith, same, h))) in
+      let later : list_any (stands_at (peer, client, t)) es ≡ true =
+      or-right (stands_at (peer, client, t) e)
+      (list_any (stands_at (peer, client, t)) es) some
+      (stands-not (peer, client, t) e (λ same. absurd (omega (arith, same, h)))) in
       rw (apart, not-ours) (ih later (λ u within. or-second _ _ (least u within)))
   lowest-by t low high e es (equal h) a some least ih =
-      let none : list_any (stands_at (peer, client, t)) es ≡ false = none-below (peer, client, t) (e.0 + 1) high es a.2 (omega (arith, h)) in
-      let is-ours : (e.1.peer == peer && e.1.client == client) ≡ true = first (e.1.peer == peer && e.1.client == client) (e.0 == t) (or-left (stands_at (peer, client, t) e) (list_any (stands_at (peer, client, t)) es) some none) in
+      let none : list_any (stands_at (peer, client, t)) es ≡ false =
+      none-below (peer, client, t) (e.0 + 1) high es a.2 (omega (arith, h)) in
+      let is-ours : (e.1.peer == peer && e.1.client == client) ≡ true =
+      first (e.1.peer == peer && e.1.client == client) (e.0 == t)
+      (or-left (stands_at (peer, client, t) e)
+      (list_any (stands_at (peer, client, t)) es) some none) in
       let same : is_eq (nat_cmp t e.0) ≡ true = same-number t e.0 ∙ ap (λ n. t == n) h ∙ equal-self t in
       rw (same, is-ours) refl
   lowest-by t low high e es (above h) a some least ih =
-      let none : list_any (stands_at (peer, client, t)) (e ∷ es) ≡ false = none-below (peer, client, t) e.0 high (e ∷ es) (a.0, omega arith, a.2) h in
+      let none : list_any (stands_at (peer, client, t)) (e ∷ es) ≡ false =
+      none-below (peer, client, t) e.0 high (e ∷ es) (a.0, omega arith, a.2) h in
       absurd (no (sym none ∙ some))
     where
       no : false ≡ true → ⊥
@@ -291,7 +312,8 @@ module _ (es new : List Kept) (places : List Place) (used p k t : ℕ) (v : Serv
   -- one more
   pub kept-more : (more : List Place) → used < SESSION_NUMBERS → t ≡ used → used ≡ v.number
       → new ≡ insert_entry nat_cmp es used v
-      → ((q : Place) → list_any (is_at (by_parts q)) more ≡ cond (is_at (by_parts (p, k, t)) q) true (list_any (is_at (by_parts q)) places))
+      → ((q : Place) → list_any (is_at (by_parts q)) more
+      ≡ cond (is_at (by_parts (p, k, t)) q) true (list_any (is_at (by_parts q)) places))
       → AreKept new more (used + 1)
   kept-more more room same number entries changed =
       let grown : new ≡ es ++ (used, v) ∷ [] = entries ∙ added-last 0 used es v kept.ascend in
@@ -299,41 +321,54 @@ module _ (es new : List Kept) (places : List Place) (used p k t : ℕ) (v : Serv
         ascend = rw grown (ascend-more 0 used es v kept.ascend number);
         most = omega (arith, room);
         placed = λ q.
-            changed q ∙ rw (own-place v p k t q peer client, kept.placed q, same, grown, list_any-append (stands_at q) es ((used, v) ∷ []))
+            changed q ∙ rw (
+              own-place v p k t q peer client,
+              kept.placed q,
+              same,
+              grown,
+              list_any-append (stands_at q) es ((used, v) ∷ []),
+            )
             (put-by (stands_at q (used, v)) (list_any (stands_at q) es));
       }
 
   same-by : (q : Place) (b now between : Bool) → stands_at q (t, v) ≡ b → t ≡ used
       → now ≡ cond b false between → between ≡ cond b true (list_any (is_at (by_parts q)) places)
       → now ≡ list_any (stands_at q) es
-  same-by q true now between h same n m = n ∙ sym (none-above q 0 used es kept.ascend (omega (arith, stands-number q (t, v) h, same)))
+  same-by q true now between h same n m =
+      n ∙ sym (none-above q 0 used es kept.ascend (omega (arith, stands-number q (t, v) h, same)))
   same-by q false now between h same n m = n ∙ m ∙ kept.placed q
 
   -- the place of one that didn't come is put in and taken out again
   pub kept-same : (more fewer : List Place) → t ≡ used → new ≡ es
-      → ((q : Place) → list_any (is_at (by_parts q)) more ≡ cond (is_at (by_parts (p, k, t)) q) true (list_any (is_at (by_parts q)) places))
-      → ((q : Place) → list_any (is_at (by_parts q)) fewer ≡ cond (is_at (by_parts (p, k, t)) q) false (list_any (is_at (by_parts q)) more))
+      → ((q : Place) → list_any (is_at (by_parts q)) more
+      ≡ cond (is_at (by_parts (p, k, t)) q) true (list_any (is_at (by_parts q)) places))
+      → ((q : Place) → list_any (is_at (by_parts q)) fewer
+      ≡ cond (is_at (by_parts (p, k, t)) q) false (list_any (is_at (by_parts q)) more))
       → AreKept new fewer used
   kept-same more fewer same entries put out =
       rw entries (record {
         ascend = kept.ascend;
         most = kept.most;
         placed = λ q.
-            same-by q _ _ _ refl same (out q ∙ ap (λ b. cond b false (list_any (is_at (by_parts q)) more)) (own-place v p k t q peer client))
+            same-by q _ _ _ refl same (out q ∙ ap
+            (λ b. cond b false (list_any (is_at (by_parts q)) more))
+            (own-place v p k t q peer client))
             (put q ∙ ap (λ b. cond b true (list_any (is_at (by_parts q)) places)) (own-place v p k t q peer client));
       })
 
   -- one less
   pub kept-left : (fewer : List Place) → Some v ≡ lookup (is_at (nat_cmp t)) es
       → new ≡ remove_entry (is_at (nat_cmp t)) es
-      → ((q : Place) → list_any (is_at (by_parts q)) fewer ≡ cond (is_at (by_parts (p, k, t)) q) false (list_any (is_at (by_parts q)) places))
+      → ((q : Place) → list_any (is_at (by_parts q)) fewer
+      ≡ cond (is_at (by_parts (p, k, t)) q) false (list_any (is_at (by_parts q)) places))
       → AreKept new fewer used
   kept-left fewer found entries out =
       rw entries (record {
         ascend = ascend-left t 0 used es kept.ascend;
         most = kept.most;
         placed = λ q.
-            out q ∙ rw (own-place v p k t q peer client, kept.placed q) (sym (place-left q t 0 used es v kept.ascend (sym found)));
+            out q ∙ rw (own-place v p k t q peer client, kept.placed q)
+            (sym (place-left q t 0 used es v kept.ascend (sym found)));
       })
 
 -- what is found, in other words for the same numbers and sessions
@@ -377,7 +412,9 @@ both : (t p k low high : ℕ) (es : List Kept) → Ascend low high es
     (servers_of es) ≡ only p k (find (is_server t) (servers_of es))
 both t p k low high [] a = refl
 both t p k low high (e ∷ es) a =
-    both-by t p k (server_of e.1) _ _ (e.1.number == t) (λ h. both-none t p k (e.0 + 1) high es a.2 (omega (arith, a.0, eqb-true e.1.number t h))) (both t p k (e.0 + 1) high es a.2)
+    both-by t p k (server_of e.1) _ _ (e.1.number == t)
+    (λ h. both-none t p k (e.0 + 1) high es a.2 (omega (arith, a.0, eqb-true e.1.number t h)))
+    (both t p k (e.0 + 1) high es a.2)
 
 module _ (n number p k used : ℕ) (es : List Kept) (s now : ServerEnds) (o : Option ServerEnd)
     (a : Ascend 0 used es) (same : n ≡ number) (view : s ≡ now) (live : s.live ≡ servers_of es)

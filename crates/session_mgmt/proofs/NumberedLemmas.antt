@@ -43,7 +43,8 @@ pub got : (o : Option (Bor ClientEnd)) (ys xs : List ClientEnd) (n : ℕ) → ys
     → is_some o ≡ ltb n (length ys) → IfSome o (λ x. x.now ≡ get_or ys n x.now)
     → option_copied o ≡ slice_get xs n
 got None ys xs n same e h = rw (← same) (sym (past ys n (ltb-false n (length ys) (sym e))))
-got (Some x) ys xs n same e h = rw (← same) (ap Some h ∙ sym (slice_get-get_or ys n x.now (ltb-true n (length ys) (sym e))))
+got (Some x) ys xs n same e h =
+    rw (← same) (ap Some h ∙ sym (slice_get-get_or ys n x.now (ltb-true n (length ys) (sym e))))
 
 -- found by its number
 pub at-number : (low n t : ℕ) (xs : List ClientEnd) → Count low xs → t ≡ low + n
@@ -80,7 +81,9 @@ lives-set n q v x [] g = cc
 lives-set zero zero v x (y ∷ ys) g = refl
 lives-set zero (suc q) v x (y ∷ ys) g = rw (not-equal 0 (suc q) (λ same. absurd (omega (arith, same)))) refl
 lives-set (suc n) zero v x (y ∷ ys) g = rw (not-equal (suc n) 0 (λ same. absurd (omega (arith, same)))) refl
-lives-set (suc n) (suc q) v x (y ∷ ys) g = lives-set n q v x ys g ∙ ap (λ b. cond b (is_live (told v.state)) (lives (slice_get ys q))) (next n q)
+lives-set (suc n) (suc q) v x (y ∷ ys) g =
+    lives-set n q v x ys g ∙ ap (λ b. cond b (is_live (told v.state)) (lives (slice_get ys q)))
+    (next n q)
   where
     next : (a b : ℕ) → (a == b) ≡ (suc a == suc b)
     next a b = grind (arith, nat_tests)
@@ -102,7 +105,9 @@ lives-more : (q : ℕ) (v : ClientEnd) (xs : List ClientEnd)
 lives-more zero v [] = refl
 lives-more (suc q) v [] = rw (not-equal 0 (suc q) (λ same. absurd (omega (arith, same)))) refl
 lives-more zero v (y ∷ ys) = rw (not-equal (length (y ∷ ys)) 0 (λ same. absurd (omega (arith, same)))) refl
-lives-more (suc q) v (y ∷ ys) = lives-more q v ys ∙ ap (λ b. cond b (is_live (told v.state)) (lives (slice_get ys q))) (next (length ys) q (length (y ∷ ys)) (omega arith))
+lives-more (suc q) v (y ∷ ys) =
+    lives-more q v ys ∙ ap (λ b. cond b (is_live (told v.state)) (lives (slice_get ys q)))
+    (next (length ys) q (length (y ∷ ys)) (omega arith))
   where
     next : (a b c : ℕ) → c ≡ a + 1 → (a == b) ≡ (c == suc b)
     next a b c e = grind (arith, nat_tests)
@@ -117,7 +122,8 @@ module _ (xs : List ClientEnd) (live : List ℕ) (kept : AreNumbered xs live) wh
   pub numbered-more : (v : ClientEnd) (ys : List ClientEnd) (more : List ℕ) (n : ℕ)
       → ys ≡ xs ++ v ∷ [] → n ≡ v.number → length xs < SESSION_NUMBERS → v.number ≡ length xs
       → is_live (told v.state) ≡ true
-      → ((q : ℕ) → list_any (is_at (nat_cmp q)) more ≡ cond (is_at (nat_cmp n) q) true (list_any (is_at (nat_cmp q)) live))
+      → ((q : ℕ) → list_any (is_at (nat_cmp q)) more
+      ≡ cond (is_at (nat_cmp n) q) true (list_any (is_at (nat_cmp q)) live))
       → AreNumbered ys more
   numbered-more v ys more n e same room number t put = rw e (record {
     count = count-more 0 v xs kept.count (omega (arith, number));
@@ -136,13 +142,17 @@ module _ (xs : List ClientEnd) (live : List ℕ) (kept : AreNumbered xs live) wh
   same-by q n false now between h e out put = out ∙ put ∙ kept.known q
 
   pub numbered-same : (ys : List ClientEnd) (more fewer : List ℕ) (n : ℕ) → ys ≡ xs → n ≡ length xs
-      → ((q : ℕ) → list_any (is_at (nat_cmp q)) more ≡ cond (is_at (nat_cmp n) q) true (list_any (is_at (nat_cmp q)) live))
-      → ((q : ℕ) → list_any (is_at (nat_cmp q)) fewer ≡ cond (is_at (nat_cmp n) q) false (list_any (is_at (nat_cmp q)) more))
+      → ((q : ℕ) → list_any (is_at (nat_cmp q)) more
+      ≡ cond (is_at (nat_cmp n) q) true (list_any (is_at (nat_cmp q)) live))
+      → ((q : ℕ) → list_any (is_at (nat_cmp q)) fewer
+      ≡ cond (is_at (nat_cmp n) q) false (list_any (is_at (nat_cmp q)) more))
       → AreNumbered ys fewer
   numbered-same ys more fewer n e same put out = rw e (record {
     count = kept.count;
     most = kept.most;
-    known = λ q. same-by q n (n == q) _ _ refl same (out q ∙ ap (λ b. cond b false (list_any (is_at (nat_cmp q)) more)) (same-number n q)) (put q ∙ ap (λ b. cond b true (list_any (is_at (nat_cmp q)) live)) (same-number n q));
+    known = λ q. same-by q n (n == q) _ _ refl same
+        (out q ∙ ap (λ b. cond b false (list_any (is_at (nat_cmp q)) more)) (same-number n q))
+        (put q ∙ ap (λ b. cond b true (list_any (is_at (nat_cmp q)) live)) (same-number n q));
   })
 
   -- a session changes and is live still
@@ -163,7 +173,8 @@ module _ (xs : List ClientEnd) (live : List ℕ) (kept : AreNumbered xs live) wh
   -- or no more
   pub numbered-closed : (fewer : List ℕ) (n : ℕ) (v x : ClientEnd) → n ≡ v.number
       → slice_get xs n ≡ Some x → is_live (told v.state) ≡ false
-      → ((q : ℕ) → list_any (is_at (nat_cmp q)) fewer ≡ cond (is_at (nat_cmp v.number) q) false (list_any (is_at (nat_cmp q)) live))
+      → ((q : ℕ) → list_any (is_at (nat_cmp q)) fewer
+      ≡ cond (is_at (nat_cmp v.number) q) false (list_any (is_at (nat_cmp q)) live))
       → AreNumbered (slice_set xs n v) fewer
   numbered-closed fewer n v x same g t out = record {
     count = count-set 0 n n v x xs kept.count (omega arith) (sym same) g;
@@ -188,15 +199,18 @@ module _ (after : Option ℕ) where
       let own : is_live (told x.state) ≡ true = l in
       rw (own, number, next) refl
   first-live low (suc n) t (x ∷ xs) c e l next least =
-      let over : (is_live (told x.state) && is_next after x.number) ≡ false = not-both _ _ (λ h. least x.number 0 (omega (arith, c.0)) (omega arith) h) in
-      rw over (first-live (low + 1) n t xs c.1 (omega (arith, e)) l next (λ w u at lower h. least w (suc u) (omega (arith, at)) (omega (arith, lower)) h))
+      let over : (is_live (told x.state) && is_next after x.number) ≡ false =
+      not-both _ _ (λ h. least x.number 0 (omega (arith, c.0)) (omega arith) h) in
+      rw over (first-live (low + 1) n t xs c.1 (omega (arith, e)) l next
+      (λ w u at lower h. least w (suc u) (omega (arith, at)) (omega (arith, lower)) h))
 
   pub none-live : (low : ℕ) (xs : List ClientEnd) → Count low xs
       → ((w u : ℕ) → w ≡ low + u → is_next after w ≡ true → lives (slice_get xs u) ≡ false)
       → option_map number_of (find (is_next_live after) (clients_of xs)) ≡ None
   none-live low [] c none = refl
   none-live low (x ∷ xs) c none =
-      let over : (is_live (told x.state) && is_next after x.number) ≡ false = not-both _ _ (λ h. none x.number 0 (omega (arith, c.0)) h) in
+      let over : (is_live (told x.state) && is_next after x.number) ≡ false =
+      not-both _ _ (λ h. none x.number 0 (omega (arith, c.0)) h) in
       rw over (none-live (low + 1) xs c.1 (λ w u at h. none w (suc u) (omega (arith, at)) h))
 
 -- a session that is live stands at its number
@@ -215,7 +229,8 @@ pub stands : (xs : List ClientEnd) (n t : ℕ) (now : List Client) → Count 0 x
     → Stands xs n
 stands xs n t now c same seen h =
     let found = at-number 0 n t xs c (omega (arith, same)) in
-    stands-by xs n _ refl (ap (option_map (λ (x : Client). is_live x.state)) (found ∙ ap (find (is_client t)) seen) ∙ h)
+    stands-by xs n _ refl (ap (option_map (λ (x : Client). is_live x.state))
+    (found ∙ ap (find (is_client t)) seen) ∙ h)
 
 pub below : (xs : List ClientEnd) (n : ℕ) (x : ClientEnd) → slice_get xs n ≡ Some x → n < length xs
 below [] n x g = cc
@@ -226,7 +241,8 @@ below (y ∷ ys) (suc n) x g = omega (arith, below ys n x g)
 pub set-seen : (xs : List ClientEnd) (n t : ℕ) (v e : ClientEnd) (now : List Client) → Count 0 xs
     → n ≡ t → v ≡ e → clients_of xs ≡ now → Stands xs n
     → clients_of (slice_set xs n v) ≡ at_first (is_client t) (λ y. client_of e) now
-set-seen xs n t v e now c same is seen h = rw (← seen, ← is) (set-number 0 n t v h.end xs c (omega (arith, same)) h.at)
+set-seen xs n t v e now c same is seen h =
+    rw (← seen, ← is) (set-number 0 n t v h.end xs c (omega (arith, same)) h.at)
 
 pub more-seen : (xs ys : List ClientEnd) (v e : ClientEnd) (now : List Client) → ys ≡ xs ++ v ∷ []
     → v ≡ e → clients_of xs ≡ now → clients_of ys ≡ now ++ client_of e ∷ []

@@ -55,14 +55,22 @@ module _ (x : ClientEnd) (ring n : ℕ) (clients new : List Client) (servers : S
   sums : sum_by live_credits new + x.credits ≡ sum_by live_credits clients + live_credits (client_of x)
   sums =
       let h = found x ring clients servers s same was in
-      rw changed (ap (λ m. sum_by live_credits (at_first (is_client x.number) (λ y. client_of x) clients) + m) (sym h.credits) ∙ sum-changed (is_client x.number) (λ y. client_of x) live_credits clients h.old h.at)
+      rw changed (ap (λ m. sum_by live_credits
+      (at_first (is_client x.number) (λ y. client_of x) clients) + m) (sym h.credits)
+      ∙ sum-changed (is_client x.number) (λ y. client_of x) live_credits clients h.old h.at)
 
   -- it is live still
   pub counted-changed : is_live (told x.state) ≡ true → IsCounted n (table ring new servers)
   counted-changed live =
-      let own : live_credits (client_of x) ≡ x.credits = credits-by (is_live (told x.state)) x.credits x.credits live refl in
+      let own : live_credits (client_of x) ≡ x.credits =
+      credits-by (is_live (told x.state)) x.credits x.credits live refl in
       let same-sum : sum_by live_credits new ≡ sum_by live_credits clients = omega (arith, sums, own) in
-      record { counted = counted.counted ∙ ap (λ m. m + sum_by (λ (v : Server). v.credits) servers.live) (sym same-sum); within = counted.within }
+      record {
+        counted = counted.counted ∙ ap
+            (λ m. m + sum_by (λ (v : Server). v.credits) servers.live) (sym same-sum);
+        within =
+            counted.within;
+      }
 
   over-by : (b : Bool) (m : ℕ) → b ≡ false → (if b then m else 0) ≡ 0
   over-by true m t = cc
@@ -83,10 +91,15 @@ module _ (x : ClientEnd) (ring n : ℕ) (clients new : List Client) (servers : S
   counted-closed over =
       record { counted = omega (arith, less over, counted.counted); within = omega (arith, counted.within) }
 
-module _ (v : ServerEnd) (ring n : ℕ) (clients : List Client) (servers new : ServerEnds) (s : Lists) (same : table ring clients servers ≡ s) (was : find (is_server v.number) s.servers ≡ Some (server_of v)) (changed : new ≡ record servers { live = without_first (is_server v.number) servers.live }) (counted : IsCounted n (table ring clients servers)) where
+module _ (v : ServerEnd) (ring n : ℕ) (clients : List Client) (servers new : ServerEnds) (s : Lists)
+    (same : table ring clients servers ≡ s) (was : find (is_server v.number) s.servers
+    ≡ Some (server_of v)) (changed : new ≡ record servers
+    { live = without_first (is_server v.number) servers.live })
+    (counted : IsCounted n (table ring clients servers)) where
   left : sum_by (λ (w : Server). w.credits) new.live + v.credits ≡ sum_by (λ (w : Server). w.credits) servers.live
   left =
-      let here : find (is_server v.number) servers.live ≡ Some (server_of v) = ap (λ (t : Lists). find (is_server v.number) t.servers) same ∙ was in
+      let here : find (is_server v.number) servers.live ≡ Some (server_of v) =
+      ap (λ (t : Lists). find (is_server v.number) t.servers) same ∙ was in
       rw changed (sum-left (is_server v.number) (λ (w : Server). w.credits) servers.live (server_of v) here)
 
   pub shares-above-end : v.credits ≤ n

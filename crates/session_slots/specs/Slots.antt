@@ -1,5 +1,8 @@
 -- The slots of a client session, and what each call makes of them.
-use Rattle.std.specs.Prelude.{◌≡◌, ◌≢◌, ◌⊎◌, ◌↔◌, ℕ, ◌+◌, ◌*◌, ◌/◌, ◌%◌, ◌<◌, ◌≤◌, ◌^◌, ◌==◌, if◌then◌else◌, Option, Some, None, IsSome, is_none, option_and_then, List, [], ◌∷◌, ◌++◌, length, drop, replicate, sum, position, slice_get, slice_index, slice_index_or, slice_set}
+use Rattle.std.specs.Prelude.{◌≡◌, ◌≢◌, ◌⊎◌, ◌↔◌, ℕ, ◌+◌, ◌*◌, ◌/◌, ◌%◌, ◌<◌, ◌≤◌, ◌^◌, ◌==◌}
+use Rattle.std.specs.Prelude.{if◌then◌else◌, Option, Some, None, IsSome, is_none, option_and_then}
+use Rattle.std.specs.Prelude.{List, [], ◌∷◌, ◌++◌, length, drop, replicate, sum, position}
+use Rattle.std.specs.Prelude.{slice_get, slice_index, slice_index_or, slice_set}
 use Rattle.rpc_base.specs.declared.limits.TheConstants.{MOST_CALLS}
 use Rattle.session_slots.specs.declared.active.Active.{Active}
 use Rattle.session_slots.specs.declared.waiting.Waiting.{Waiting}

@@ -1,6 +1,9 @@
 //! The table of a session's slots, with the calls that wait for one.
-ghost use Rattle.std.specs.Prelude.{◌≡◌, ◌<◌, ◌^◌, ◌↔◌, ◌⊎◌, [], IsNone, IfNone, IfSome, OnSome, IfErr, OnErr, OnOk, slice_get};
-ghost use Rattle.session_slots.specs.Slots.{Activates, Begins, Deactivates, IsActive, IsNewNumber, IsSound, WasGiven, active_call, all_free, drained, ended, lowest_free, waited};
+ghost use Rattle.std.specs.Prelude.{◌≡◌, ◌<◌, ◌^◌, ◌↔◌, ◌⊎◌, [], IsNone, IfNone, IfSome, OnSome};
+ghost use Rattle.std.specs.Prelude.{IfErr, OnErr, OnOk, slice_get};
+ghost use Rattle.session_slots.specs.Slots.{Activates, Begins, Deactivates, IsActive, IsNewNumber};
+ghost use Rattle.session_slots.specs.Slots.{IsSound, WasGiven, active_call, all_free, drained};
+ghost use Rattle.session_slots.specs.Slots.{ended, lowest_free, waited};
 
 use crate::active::Active;
 use crate::waiting::Waiting;

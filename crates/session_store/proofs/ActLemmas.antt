@@ -26,14 +26,16 @@ use Rattle.session_store.specs.Ends.{shown_end}
 use Rattle.session_store.specs.Sides.{ServerHolds, ServerKept, ServerQueued, SideKept, SideQueued}
 use Rattle.session_store.specs.Sides.{shown_side}
 use Rattle.session_store.proofs.BesideLemmas.{rest, rest-all, rest-count}
-use Rattle.session_store.proofs.PlaceLemmas.{IsSame, calls-kept, calls-shown, full-used, named-full}
+use Rattle.session_store.proofs.PlaceLemmas.{IsSame, calls-kept, calls-shown, named-full}
 use Rattle.session_store.proofs.PlaceLemmas.{names-own, names-rest, served-full, slots-kept}
 use Rattle.session_store.proofs.PlaceLemmas.{slots-shown}
 use Rattle.buffer_pool.proofs.PlacesLemmas.{named-one}
+use Rattle.server_core.proofs.HoldLemmas.{full-not-empty}
 
 -- a session that named places so often names them so often then: none that another names, and the entries
 -- beside its own are as they were
-pub record Acts (mine : EntryValue → Bool) (before now : ℕ → ℕ) (pool after : Pool) (old new : Ring EntryValue) : Type 0 where
+pub record Acts (mine : EntryValue → Bool) (before now : ℕ → ℕ) (pool after : Pool)
+    (old new : Ring EntryValue) : Type 0 where
   pub leaves : (p : ℕ) → before p ≡ 0 → is_empty (use_at pool p) ≡ false
       → (now p ≡ 0) × (use_at after p ≡ use_at pool p) × (buf_at after p ≡ buf_at pool p)
   pub few : (p : ℕ) → now p ≤ 1
@@ -62,7 +64,8 @@ module _ (mine : EntryValue → Bool) (pool after : Pool) (n : ℕ) (old new : L
   none-named r p e t false h = refl
 
   named-same : (r p : ℕ) → named_by (Reply n r) p new ≡ named_by (Reply n r) p old
-  named-same r p = rest-count mine (λ e. is_of (Reply n r) e && is_place p e.place) (λ e t. none-named r p e t (is_of (Reply n r) e) refl) old new same
+  named-same r p = rest-count mine (λ e. is_of (Reply n r) e && is_place p e.place)
+      (λ e t. none-named r p e t (is_of (Reply n r) e) refl) old new same
 
   answer-held : (r : ℕ) (a : Option Stored) → ((p : ℕ) → 1 ≤ answer_names p a → IsSame pool after p)
       → IfSome a (λ x. refs_of pool x.place ≡ named_by (Reply n r) x.place old)
@@ -77,7 +80,8 @@ module _ (mine : EntryValue → Bool) (pool after : Pool) (n : ℕ) (old new : L
       → HoldsReplies n after new q
   request-held q qs places held = record {
     each = rest-all mine _ (λ e t is. let no = off e q.number t in cc) old new same held.each;
-    all = answer-held q.number (answer_of q.state) (λ p some. places p (names-own p q qs (omega (arith, some)))) held.all;
+    all = answer-held q.number (answer_of q.state)
+        (λ p some. places p (names-own p q qs (omega (arith, some)))) held.all;
   }
 
   pub requests-held : (qs : List SlotRequest)
@@ -91,7 +95,7 @@ module _ (mine : EntryValue → Bool) (before now : ℕ → ℕ) (pool after : P
     (old new : Ring EntryValue) (h : Acts mine before now pool after old new) where
   same-place : (p : ℕ) → before p ≡ 0 → IsFull pool p → IsSame pool after p
   same-place p none full =
-      let left = h.leaves p none (full-used (use_at pool p) full) in
+      let left = h.leaves p none (full-not-empty (use_at pool p) full) in
       record { use_is = left.1; buf_is = left.2 }
 
   -- another client session
@@ -110,7 +114,9 @@ module _ (mine : EntryValue → Bool) (before now : ℕ → ℕ) (pool after : P
       → ((e : EntryValue) (r : ℕ) → mine e ≡ true → is_of (Ask s.session.number r) e ≡ false)
       → SideQueued old.items s → SideQueued new.items s
   side-queued s off all =
-      all-each _ _ s.session.active (λ c e. e ∙ sym (rest-count mine (is_of (Ask s.session.number c.request)) (λ x t. off x c.request t) old.items new.items h.beside)) all
+      all-each _ _ s.session.active (λ c e. e
+      ∙ sym (rest-count mine (is_of (Ask s.session.number c.request))
+      (λ x t. off x c.request t) old.items new.items h.beside)) all
 
   -- another server session
   module _ (v : Serving) (kept : ServerKept pool v)
@@ -136,7 +142,8 @@ module _ (mine : EntryValue → Bool) (before now : ℕ → ℕ) (pool after : P
       → ((e : EntryValue) (r : ℕ) → mine e ≡ true → is_of (Reply v.number r) e ≡ false)
       → ServerQueued old.items v → ServerQueued new.items v
   server-queued v off all =
-      all-each _ _ v.slots (λ q e. e ∙ sym (rest-count mine (is_of (Reply v.number q.number)) (λ x t. off x q.number t) old.items new.items h.beside)) all
+      all-each _ _ v.slots (λ q e. e ∙ sym (rest-count mine (is_of (Reply v.number q.number))
+      (λ x t. off x q.number t) old.items new.items h.beside)) all
 
   -- no two sessions name a place then
   module _ (total later : ℕ → ℕ) (most : (p : ℕ) → total p ≤ 1)
@@ -152,7 +159,12 @@ module _ (mine : EntryValue → Bool) (before now : ℕ → ℕ) (pool after : P
         elim (cases_lt 0 (now p)) [
           | inl some ↦ elim (cases_lt 0 (before p)) [
             | inl was ↦ omega (arith, sum p, most p, own p, h.few p, was)
-            | inr none ↦ omega (arith, sum p, h.few p, newly p (is_empty (use_at pool p)) refl (omega (arith, none)) (omega (arith, some)))
+            | inr none ↦ omega (
+              arith,
+              sum p,
+              h.few p,
+              newly p (is_empty (use_at pool p)) refl (omega (arith, none)) (omega (arith, some)),
+            )
           ]
           | inr none ↦ omega (arith, sum p, most p, none)
         ]

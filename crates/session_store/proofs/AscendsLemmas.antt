@@ -90,7 +90,12 @@ module _ (pool : Pool) where
       (map (shown_active pool) xs) → count_by (is_numbered n) xs ≡ 0
   none-above n [] above = refl
   none-above n (x ∷ xs) above =
-      omega (arith, counted-cons (is_numbered n) x xs false (other-number n x.call (eqb x.call n) refl above.0), none-above n xs above.1)
+      omega (
+        arith,
+        counted-cons (is_numbered n) x xs false
+            (other-number n x.call (eqb x.call n) refl above.0),
+        none-above n xs above.1,
+      )
 
   few-cons : (n : ℕ) (x : ActiveCall) (xs : List ActiveCall) (b : Bool) → is_numbered n x ≡ b
       → AllByRecursion (λ d. x.call < d.what.number) (map (shown_active pool) xs)
@@ -130,7 +135,9 @@ module _ (pool : Pool) where
     above-least : (n : ℕ) (xs : List ActiveCall) → AllByRecursion (λ d. n < d.what.number)
         (map (shown_active pool) xs) → IfSome (least_number passes call_number xs) (λ m. n < m)
     above-least n [] above = tt
-    above-least n (x ∷ xs) above = above-cons n x.call (least_number passes call_number xs) (passes x) above.0 (above-least n xs above.1)
+    above-least n (x ∷ xs) above =
+        above-cons n x.call (least_number passes call_number xs)
+        (passes x) above.0 (above-least n xs above.1)
 
     smaller-same : (n : ℕ) (o : Option ℕ) → IfSome o (λ m. n < m) → smaller n o ≡ n
     smaller-same n None above = refl
@@ -144,10 +151,15 @@ module _ (pool : Pool) where
     least-cons : (x : ActiveCall) (xs : List ActiveCall) (b : Bool) → passes x ≡ b
         → AllByRecursion (λ d. x.call < d.what.number) (map (shown_active pool) xs)
         → least passes call_number xs ≡ find passes xs → bearer passes call_number (x ∷ xs)
-        (cond b (Some (smaller x.call (least_number passes call_number xs))) (least_number passes call_number xs)) ≡ cond b (Some x)
+        (cond b (Some (smaller x.call (least_number passes call_number xs)))
+        (least_number passes call_number xs)) ≡ cond b (Some x)
         (find passes xs)
     least-cons x xs true t above ih =
-        rw (smaller-same x.call (least_number passes call_number xs) (above-least x.call xs above), t, eq-eqb x.call x.call refl) refl
+        rw (
+          smaller-same x.call (least_number passes call_number xs) (above-least x.call xs above),
+          t,
+          eq-eqb x.call x.call refl,
+        ) refl
     least-cons x xs false t above ih = skipped x xs (least_number passes call_number xs) t ∙ ih
 
     pub least-first : (xs : List ActiveCall) → Ascends (map (shown_active pool) xs)

@@ -55,7 +55,8 @@ module _ (pool : Pool) (sides : List Side) (servers : List Serving) (tx : Ring E
       → (s.is_broken ≡ false) × (s.session.slots.taken < 2 ^ 45)
   side-connected s e =
       let here : state_of (slice_get (map (shown_side pool) sides) i) ≡ Connected = rw (← view) at connected in
-      let own : state_of (Some (shown_side pool s)) ≡ Connected = rw (get-map (shown_side pool) sides i s e) at here in
+      let own : state_of (Some (shown_side pool s)) ≡ Connected =
+      rw (get-map (shown_side pool) sides i s e) at here in
       connected-turns pool s own
 
   pub has-turns : IfSome (slice_get sides i) (λ s. s.session.slots.taken < 2 ^ 45)
@@ -74,34 +75,50 @@ module _ (pool : Pool) (sides : List Side) (servers : List Serving) (tx : Ring E
 
     ask-above : AllByRecursion (λ c. c.what.number < w.call) (shown_side pool h.side).calls
     ask-above =
-        let here : IfSome (slice_get (map (shown_side pool) sides) i) (λ x. AllByRecursion (λ c. c.what.number < w.call) x.calls) = rw (← view) at above in
+        let here : IfSome (slice_get (map (shown_side pool) sides) i)
+        (λ x. AllByRecursion (λ c. c.what.number < w.call) x.calls) =
+        rw (← view) at above in
         rw (get-map (shown_side pool) sides i h.side h.at) at here
 
     asked-steps : Steps (asks (asking_in w)) h.side.is_broken pool pool h.side.peer h.side.session h.later
-    asked-steps = ask-steps h.side.is_broken pool h.side.peer w h.side.session h.later (side-connected h.side h.at).0 ask-above (all-at (SideAscends pool) sides i h.side kept.ascends h.at) h.step.step
+    asked-steps = ask-steps h.side.is_broken pool h.side.peer w h.side.session h.later
+        (side-connected h.side h.at).0 ask-above
+        (all-at (SideAscends pool) sides i h.side kept.ascends h.at) h.step.step
 
     ask-acts : ClientActs pool pool sides servers i h.side asked_side tx tx
     ask-acts =
         let own = all-at (SideKept pool) sides i h.side kept.keeps h.at in
         record {
-          acts = record { leaves = λ p none used. (rw h.step.waits none, refl, refl); few = rw h.step.waits own.apart; counts = kept.counted; beside = refl; within = kept.within; size = refl };
+          acts = record {
+            leaves = λ p none used. (rw h.step.waits none, refl, refl);
+            few = rw h.step.waits own.apart;
+            counts = kept.counted;
+            beside = refl;
+            within =
+                kept.within;
+            size = refl;
+          };
           keeps = rw h.step.waits own;
           number = ap (λ (x : Session). x.number) h.step.waits;
           ascends = asked-steps.calls;
-          stands = stands-all sides servers i h.side asked_side h.at refl refl (λ d was. rw h.step.waits was) tx.items kept.stands;
+          stands = stands-all sides servers i h.side asked_side h.at refl refl
+              (λ d was. rw h.step.waits was) tx.items kept.stands;
           queued = rw h.step.waits (all-at (SideQueued tx.items) sides i h.side kept.queued h.at);
           slots = rw h.step.waits (all-at HasSlots sides i h.side kept.slots h.at);
           spare = rw h.step.waits refl;
         }
 
     kept-asked : Kept pool now servers tx
-    kept-asked = subst (λ xs. Kept pool xs servers tx) (sym h.changed) (client-kept pool pool sides servers i h.side asked_side tx tx h.at kept ask-acts)
+    kept-asked = subst (λ xs. Kept pool xs servers tx) (sym h.changed)
+        (client-kept pool pool sides servers i h.side asked_side tx tx h.at kept ask-acts)
 
     asked-clients : ChangesAt i (asks (asking_in w)) seen.clients (map (shown_side pool) now)
     asked-clients = rw (← view) (record {
       client = shown_side pool h.side;
       place = get-map (shown_side pool) sides i h.side h.at;
-      changed = ap (map (shown_side pool)) h.changed ∙ clients-set pool pool sides servers i h.side asked_side tx tx h.at kept ask-acts ∙ ap (slice_set (map (shown_side pool) sides) i) asked-steps.view;
+      changed = ap (map (shown_side pool)) h.changed
+          ∙ clients-set pool pool sides servers i h.side asked_side tx tx h.at kept ask-acts
+          ∙ ap (slice_set (map (shown_side pool) sides) i) asked-steps.view;
     })
 
   pub kept-ask : {E : Type 0} (w : Waiting) (now : List Side) (r : Result (Unit {0}) E)
@@ -118,8 +135,20 @@ module _ (pool : Pool) (sides : List Side) (servers : List Serving) (tx : Ring E
   clients-ask w now (Ok u) kept above h = asked-clients w now kept above h
   clients-ask w now (Err e) kept above h = tt
 
-pub side-waits : {E : Type 0} (i : ℕ) (w : Waiting) (sides : List Side) (side : Side) (later : Session) → slice_get sides i ≡ Some side → (r : Result (Unit {0}) E) → OnOk r (later ≡ enqueued w side.session) → OnOk r ((pool : Pool) → (clock peer : ℕ) → asked clock w (shown pool peer side.session) ≡ shown pool peer later ∷ []) → OnOk r (SideWaits i w sides (slice_set sides i (record side { session = later })))
-side-waits i w sides side later at (Ok u) waits step = record { side = side; at = at; later = later; step = record { waits = waits; step = step }; changed = refl }
+pub side-waits : {E : Type 0} (i : ℕ) (w : Waiting) (sides : List Side) (side : Side)
+    (later : Session) → slice_get sides i ≡ Some side → (r : Result (Unit {0}) E)
+    → OnOk r (later ≡ enqueued w side.session)
+    → OnOk r ((pool : Pool) → (clock peer : ℕ)
+    → asked clock w (shown pool peer side.session) ≡ shown pool peer later ∷ [])
+    → OnOk r (SideWaits i w sides (slice_set sides i (record side { session = later })))
+side-waits i w sides side later at (Ok u) waits step =
+    record {
+      side = side;
+      at = at;
+      later = later;
+      step = record { waits = waits; step = step };
+      changed = refl;
+    }
 side-waits i w sides side later at (Err e) waits step = tt
 
 -- one session more
@@ -152,7 +181,12 @@ module _ (sides : List Side) (servers : List Serving) (s : Side) where
   numbered-front n [] own numbered zero t e = let same : s ≡ t = cc in omega (arith, own, ap (λ (x : Side). x.session.number) same)
   numbered-front n [] own numbered (suc j) t e = cc
   numbered-front n (u ∷ us) own numbered zero t e = numbered 0 t e
-  numbered-front n (u ∷ us) own numbered (suc j) t e = omega (arith, numbered-front (suc n) us (omega (arith, own)) (λ k x f. omega (arith, numbered (suc k) x f)) j t e)
+  numbered-front n (u ∷ us) own numbered (suc j) t e =
+      omega (
+        arith,
+        numbered-front (suc n) us (omega (arith, own))
+            (λ k x f. omega (arith, numbered (suc k) x f)) j t e,
+      )
 
 pub kept-paired : (pool : Pool) (sides : List Side) (servers : List Serving) (tx : Ring EntryValue)
     (s : Side) (server credits : ℕ) → Kept pool sides servers tx
@@ -162,11 +196,21 @@ kept-paired pool sides servers tx s server credits kept session connected =
     let number : s.session.number ≡ length sides = ap (λ (x : Session). x.number) session in
     let none : s.session.active ≡ [] = ap (λ (x : Session). x.active) session in
     record {
-      numbered = λ j t e. omega (arith, numbered-front sides servers s 0 sides (omega (arith, number)) (λ k x f. omega (arith, kept.numbered k x f)) j t e);
+      numbered = λ j t e. omega (
+        arith,
+        numbered-front sides servers s 0 sides
+            (omega (arith, number)) (λ k x f. omega (arith, kept.numbered k x f)) j t e,
+      );
       rises = kept.rises;
       keeps = all-push (SideKept pool) sides s kept.keeps (rw none (record { kept = tt; apart = λ p. omega arith }));
       serves = kept.serves;
-      apart = λ p. omega (arith, sum_by-append (λ x. names p x.session.active) sides (s ∷ []), sum_by-cons (λ x. names p x.session.active) s [], ap (names p) none, kept.apart p);
+      apart = λ p. omega (
+        arith,
+        sum_by-append (λ x. names p x.session.active) sides (s ∷ []),
+        sum_by-cons (λ x. names p x.session.active) s [],
+        ap (names p) none,
+        kept.apart p,
+      );
       counted = kept.counted;
       stands = all-front sides servers s tx.items kept.stands;
       holds = kept.holds;
@@ -181,13 +225,22 @@ kept-paired pool sides servers tx s server credits kept session connected =
 
 module _ (pool : Pool) (sides now : List Side) (servers : List Serving) (i : ℕ) (w : Waiting) where
   asked-places : SideWaits i w sides now
-      → spare_of pool + places_in now + served_places servers ≡ spare_of pool + places_in sides + served_places servers
+      → spare_of pool + places_in now + served_places servers
+      ≡ spare_of pool + places_in sides + served_places servers
   asked-places h =
-      let same : places_in now ≡ places_in sides = ap places_in h.changed ∙ omega (arith, sum-set (λ s. 2 * length s.session.active) sides i h.side (record h.side { session = h.later }) h.at, ap (λ (x : Session). length x.active) h.step.waits) in
+      let same : places_in now ≡ places_in sides =
+      ap places_in h.changed ∙ omega (
+        arith,
+        sum-set (λ s. 2 * length s.session.active) sides i h.side
+            (record h.side { session = h.later }) h.at,
+        ap (λ (x : Session). length x.active)
+            h.step.waits,
+      ) in
       omega (arith, same)
 
   pub places-ask : {E : Type 0} (r : Result (Unit {0}) E) → OnOk r (SideWaits i w sides now)
       → OnErr r (now ≡ sides)
-      → spare_of pool + places_in now + served_places servers ≡ spare_of pool + places_in sides + served_places servers
+      → spare_of pool + places_in now + served_places servers
+      ≡ spare_of pool + places_in sides + served_places servers
   places-ask (Ok u) h same = asked-places h
   places-ask (Err e) h same = rw same refl

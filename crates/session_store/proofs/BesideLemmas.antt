@@ -62,7 +62,8 @@ module _ {A : Type 0} (mine : A → Bool) where
         → count_by q xs ≡ count_by q (rest xs)
         → count_by q (x ∷ xs) ≡ count_by q (cond (not b) (x ∷ rest xs) (rest xs))
     count-cons x xs true t ih = omega (arith, counted-cons q x xs false (none x t), ih)
-    count-cons x xs false t ih = omega (arith, counted-cons q x xs (q x) refl, counted-cons q x (rest xs) (q x) refl, ih)
+    count-cons x xs false t ih =
+        omega (arith, counted-cons q x xs (q x) refl, counted-cons q x (rest xs) (q x) refl, ih)
 
     count-rest : (xs : List A) → count_by q xs ≡ count_by q (rest xs)
     count-rest [] = refl

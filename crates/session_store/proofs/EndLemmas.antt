@@ -46,6 +46,8 @@ use Rattle.session_store.proofs.AscendsLemmas.{ascends-front, ascends-without, f
 use Rattle.session_store.proofs.AscendsLemmas.{least-first, unlisted}
 use Rattle.rpc_base.proofs.TakingLemmas.{find-passes}
 use Rattle.rpc_base.proofs.FirstLemmas.{all-kept}
+use Rattle.rpc_base.proofs.BasicLemmas.{or-true}
+use Rattle.client_core.proofs.ShownLemmas.{front-shown}
 
 -- a lost peer changes no call
 pub calls-end : (b : Bool) (pool : Pool) (peer : ℕ) (s : Session)
@@ -57,7 +59,8 @@ calls-end false pool peer s = refl
 pub active-ascends : (b : Bool) (pool : Pool) (peer : ℕ) (s : Session)
     → Ascends (shown_end b pool peer s).calls → Ascends (map (shown_active pool) s.active)
 active-ascends b pool peer s up =
-    ascends-front (map (shown_active pool) s.active) (map shown_waiting s.slots.waiting) (rw (calls-end b pool peer s) at up)
+    ascends-front (map (shown_active pool) s.active) (map shown_waiting s.slots.waiting)
+    (rw (calls-end b pool peer s) at up)
 
 -- one client, which the event is of
 module _ (x y z : Client) where
@@ -73,29 +76,39 @@ pub record Steps (f : Client → Client) (b : Bool) (pool after : Pool) (peer : 
 steps-of : (f : Client → Client) (b : Bool) (pool after : Pool) (peer : ℕ) (s new : Session)
     → b ≡ false → shown after peer new ≡ f (shown pool peer s)
     → Ascends (f (shown pool peer s)).calls → Steps f b pool after peer s new
-steps-of f b pool after peer s new connected e up = rw connected (record { view = e; calls = subst (λ (x : Client). Ascends x.calls) (sym e) up })
+steps-of f b pool after peer s new connected e up =
+    rw connected (record { view = e; calls = subst (λ (x : Client). Ascends x.calls) (sym e) up })
 
 -- a call is asked
-pub ask-steps : (b : Bool) (pool : Pool) (peer : ℕ) (w : Waiting) (s new : Session) → b ≡ false → AllByRecursion (λ c. c.what.number < w.call) (shown_end b pool peer s).calls → Ascends (shown_end b pool peer s).calls → ((pool : Pool) → (clock peer : ℕ) → asked clock w (shown pool peer s) ≡ shown pool peer new ∷ []) → Steps (asks (record { number = w.call; req_type = w.req_type; room = capacity_of w.resp; ask = bytes_of w.req })) b pool pool peer s new
+pub ask-steps : (b : Bool) (pool : Pool) (peer : ℕ) (w : Waiting) (s new : Session) → b ≡ false
+    → AllByRecursion (λ c. c.what.number < w.call) (shown_end b pool peer s).calls
+    → Ascends (shown_end b pool peer s).calls
+    → ((pool : Pool) → (clock peer : ℕ)
+    → asked clock w (shown pool peer s) ≡ shown pool peer new ∷ [])
+    → Steps (asks (record {
+      number = w.call;
+      req_type = w.req_type;
+      room = capacity_of w.resp;
+      ask = bytes_of w.req;
+    })) b pool pool peer s new
 ask-steps b pool peer w s new connected above up step =
-    let a : Asking = record { number = w.call; req_type = w.req_type; room = capacity_of w.resp; ask = bytes_of w.req } in
-    let e = chosen (shown pool peer s) (shown pool peer new) (asks a (shown pool peer s)) (eqb s.number s.number) (eq-eqb s.number s.number refl) (step pool 0 peer) in
-    steps-of (asks a) b pool pool peer s new connected e (ascends-end (shown pool peer s).calls (record { what = a; progress = None }) (rw connected at up) (rw connected at above))
+    let a : Asking = record {
+      number = w.call;
+      req_type = w.req_type;
+      room = capacity_of w.resp;
+      ask = bytes_of w.req;
+    } in
+    let e = chosen (shown pool peer s) (shown pool peer new) (asks a (shown pool peer s))
+    (eqb s.number s.number) (eq-eqb s.number s.number refl) (step pool 0 peer) in
+    steps-of (asks a) b pool pool peer s new connected e
+    (ascends-end (shown pool peer s).calls (record { what = a; progress = None })
+    (rw connected at up) (rw connected at above))
 
 -- a call begins
 any-later : {A : Type 0} (p : A → Bool) (xs ys : List A) → list_any p ys ≡ true
     → list_any p (xs ++ ys) ≡ true
 any-later p [] ys t = t
 any-later p (x ∷ xs) ys t = rw (any-later p xs ys t) (or-true (p x))
-  where
-    or-true : (b : Bool) → (b || true) ≡ true
-    or-true true = refl
-    or-true false = refl
-
-front-waiting : (ws : List Waiting) (w : Waiting) → slice_get ws 0 ≡ Some w
-    → map shown_waiting ws ≡ shown_waiting w ∷ map shown_waiting (drop 1 ws)
-front-waiting [] w e = cc
-front-waiting (v ∷ vs) w e = let same : v ≡ w = cc in rw same refl
 
 module _ (b : Bool) (pool after : Pool) (peer : ℕ) (s new : Session) (connected : b ≡ false)
     (up : Ascends (shown_end b pool peer s).calls) where
@@ -103,36 +116,50 @@ module _ (b : Bool) (pool after : Pool) (peer : ℕ) (s new : Session) (connecte
   ascending = rw (calls-end b pool peer s) at up
 
   begins-one : (o : ℕ × ℕ) → Starts o.0 o.1 s new pool after
-      → (list_any (is_numbered o.0) s.active ≡ false → stepped 0 (event_begun o) (shown pool peer s) ≡ shown after peer new ∷ [])
+      → (list_any (is_numbered o.0) s.active ≡ false
+      → stepped 0 (event_begun o) (shown pool peer s) ≡ shown after peer new ∷ [])
       → Steps (begins o.0 o.1) b pool after peer s new
   begins-one o starts step =
-      let front = front-waiting s.slots.waiting starts.waiting starts.begins.oldest in
-      let lower = ascends-before (map (shown_active pool) s.active) (shown_waiting starts.waiting) (map shown_waiting (drop 1 s.slots.waiting)) (rw front at ascending) in
+      let front = front-shown s.slots.waiting starts.waiting starts.begins.oldest in
+      let lower = ascends-before (map (shown_active pool) s.active) (shown_waiting starts.waiting)
+      (map shown_waiting (drop 1 s.slots.waiting)) (rw front at ascending) in
       let fresh = unlisted pool o.0 s.active (rw starts.number lower) in
-      let here : list_any (is_call o.0) (map shown_waiting s.slots.waiting) ≡ true = rw (front, starts.number, eq-eqb starts.waiting.call starts.waiting.call refl) refl in
-      let there = any-later (is_call o.0) (map (shown_active pool) s.active) (map shown_waiting s.slots.waiting) here in
-      let e = chosen (shown pool peer s) (shown after peer new) (begins o.0 o.1 (shown pool peer s)) (has_call o.0 (shown pool peer s)) there (step fresh) in
-      steps-of (begins o.0 o.1) b pool after peer s new connected e (ascends-changed (is_call o.0) (begun o.1) (λ c. refl) (shown pool peer s).calls ascending)
+      let here : list_any (is_call o.0) (map shown_waiting s.slots.waiting) ≡ true =
+      rw (front, starts.number, eq-eqb starts.waiting.call starts.waiting.call refl) refl in
+      let there = any-later (is_call o.0) (map (shown_active pool) s.active)
+      (map shown_waiting s.slots.waiting) here in
+      let e = chosen (shown pool peer s) (shown after peer new) (begins o.0 o.1 (shown pool peer s))
+      (has_call o.0 (shown pool peer s)) there (step fresh) in
+      steps-of (begins o.0 o.1) b pool after peer s new connected e
+      (ascends-changed (is_call o.0) (begun o.1) (λ c. refl)
+      (shown pool peer s).calls ascending)
 
   -- a packet is posted
   posts-one : (e : EntryValue) (r : ℕ) → e.owner ≡ Ask s.number r → stepped 0 (event_posted e)
       (shown pool peer s) ≡ shown after peer new ∷ []
       → Steps (posts r e.number) b pool after peer s new
   posts-one e r own step =
-      let is = chosen (shown pool peer s) (shown after peer new) (posts r e.number (shown pool peer s)) (eqb s.number s.number) (eq-eqb s.number s.number refl) (rw own at step) in
-      steps-of (posts r e.number) b pool after peer s new connected is (ascends-changed (is_active r) (moved _) (λ c. refl) (shown pool peer s).calls ascending)
+      let is = chosen (shown pool peer s) (shown after peer new)
+      (posts r e.number (shown pool peer s)) (eqb s.number s.number)
+      (eq-eqb s.number s.number refl) (rw own at step) in
+      steps-of (posts r e.number) b pool after peer s new connected is
+      (ascends-changed (is_active r) (moved _) (λ c. refl) (shown pool peer s).calls ascending)
 
   -- and sent
   pub sends-one : (now : ℕ) (e : EntryValue) (r : ℕ) → e.owner ≡ Ask s.number r
       → stepped now (sent_event e) (shown pool peer s) ≡ shown after peer new ∷ []
       → Steps (sends now r e.number) b pool after peer s new
   sends-one now e r own step =
-      let is = chosen (shown pool peer s) (shown after peer new) (sends now r e.number (shown pool peer s)) (eqb s.number s.number) (eq-eqb s.number s.number refl) (rw own at step) in
-      steps-of (sends now r e.number) b pool after peer s new connected is (ascends-changed (is_active r) (moved _) (λ c. refl) (shown pool peer s).calls ascending)
+      let is = chosen (shown pool peer s) (shown after peer new)
+      (sends now r e.number (shown pool peer s)) (eqb s.number s.number)
+      (eq-eqb s.number s.number refl) (rw own at step) in
+      steps-of (sends now r e.number) b pool after peer s new connected is
+      (ascends-changed (is_active r) (moved _) (λ c. refl) (shown pool peer s).calls ascending)
 
 pub some-steps : (b : Bool) (pool after : Pool) (peer : ℕ) (s new : Session) → b ≡ false
     → Ascends (shown_end b pool peer s).calls → (o : Option (ℕ × ℕ))
-    → IfSome o (λ d. (clock peer : ℕ) → list_any (is_numbered d.0) s.active ≡ false → stepped clock (event_begun d) (shown pool peer s) ≡ shown after peer new ∷ [])
+    → IfSome o (λ d. (clock peer : ℕ) → list_any (is_numbered d.0) s.active ≡ false
+    → stepped clock (event_begun d) (shown pool peer s) ≡ shown after peer new ∷ [])
     → IfSome o (λ d. Starts d.0 d.1 s new pool after)
     → IfSome o (λ d. Steps (begins d.0 d.1) b pool after peer s new)
 some-steps b pool after peer s new connected up None step starts = tt
@@ -166,7 +193,8 @@ post-steps b pool after peer s new e t r connected up is own step =
 pub post-next : (b : Bool) (pool : Pool) (peer : ℕ) (s : Session) (e : EntryValue) (t r : ℕ)
     → b ≡ false → Some e ≡ next_entry peer s → e.owner ≡ Ask t r
     → posting (shown pool peer s) ≡ Some (event_posted e)
-    → Some (posted_event (shown_end b pool peer s).way.number (r, e.number)) ≡ if_connected posting (shown_end b pool peer s)
+    → Some (posted_event (shown_end b pool peer s).way.number (r, e.number))
+    ≡ if_connected posting (shown_end b pool peer s)
 post-next b pool peer s e t r connected is own turn =
     let mine = next-owner peer s e t r (next_call s) is own in
     rw (connected, turn, mine) refl
@@ -247,19 +275,28 @@ up_of x = Ascends x.calls
 
 ended-ascend : (clock call : ℕ) (o : Outcome) (xs : List Client) → AllByRecursion up_of xs
     → AllByRecursion up_of (clients_after clock (end_event call o) [] None [] xs)
-ended-ascend clock call Ok xs all = all-kept (has_call call) (ends call) up_of xs (λ x up here. ascends-without (is_call call) x.calls up) all
-ended-ascend clock call (TooSmall size) xs all = all-kept (has_call call) (ends call) up_of xs (λ x up here. ascends-without (is_call call) x.calls up) all
-ended-ascend clock call PeerLost xs all = all-kept (has_call call) (ends call) up_of xs (λ x up here. ascends-without (is_call call) x.calls up) all
+ended-ascend clock call Ok xs all =
+    all-kept (has_call call) (ends call) up_of xs
+    (λ x up here. ascends-without (is_call call) x.calls up) all
+ended-ascend clock call (TooSmall size) xs all =
+    all-kept (has_call call) (ends call) up_of xs
+    (λ x up here. ascends-without (is_call call) x.calls up) all
+ended-ascend clock call PeerLost xs all =
+    all-kept (has_call call) (ends call) up_of xs
+    (λ x up here. ascends-without (is_call call) x.calls up) all
 
 took-ascends : (clock : ℕ) (h : MessageHeader) (body : List ℕ) (x : Client) → up_of x
     → AllByRecursion up_of (took clock h body x)
 took-ascends clock h body x up =
-    all-kept (is_client x.way.number) (takes clock h.request (Some h) body) up_of (x ∷ []) (λ y old here. ascends-changed (is_active h.request) (moved (took_reply clock (Some h) body)) (λ c. refl) y.calls old) (up, tt)
+    all-kept (is_client x.way.number) (takes clock h.request (Some h) body) up_of (x ∷ [])
+    (λ y old here. ascends-changed (is_active h.request)
+    (moved (took_reply clock (Some h) body)) (λ c. refl) y.calls old) (up, tt)
 
 reply-all : (clock : ℕ) (r : Reply) (h : MessageHeader) (body : List ℕ) (x : Client) → up_of x
     → AllByRecursion up_of (after_outcome clock r h body x)
 reply-all clock Took h body x up = took-ascends clock h body x up
-reply-all clock (Ended d) h body x up = ended-ascend clock d.call d.outcome (took clock h body x) (took-ascends clock h body x up)
+reply-all clock (Ended d) h body x up =
+    ended-ascend clock d.call d.outcome (took clock h body x) (took-ascends clock h body x up)
 reply-all clock (Dropped why) h body x up = (up, tt)
 
 -- no other active call has the number of one that is over
@@ -270,7 +307,8 @@ alone-after pool (Ended d) s up = few-numbered pool s.active up d.call
 alone-after pool (Dropped why) s up = tt
 
 -- a reply was handled
-pub record Replied (clock : ℕ) (r : Reply) (h : MessageHeader) (body : List ℕ) (b : Bool) (pool after : Pool) (peer : ℕ) (s new : Session) : Type 0 where
+pub record Replied (clock : ℕ) (r : Reply) (h : MessageHeader) (body : List ℕ) (b : Bool)
+    (pool after : Pool) (peer : ℕ) (s new : Session) : Type 0 where
   pub step : after_outcome clock r h body (shown_end b pool peer s) ≡ shown_end b after peer new ∷ []
   pub calls : Ascends (shown_end b after peer new).calls
 
@@ -319,5 +357,15 @@ next-end b pool peer s after up =
     let passes = λ (c : Call). is_some c.progress && is_above after c in
     let active = found-shown (shown_active pool) passes (is_after after) s.active (above-same pool after s.active) in
     let waiting = none-shown shown_waiting passes s.slots.waiting (λ w. refl) in
-    let found : find passes (shown pool peer s).calls ≡ option_map (shown_active pool) (find (is_after after) s.active) = find-append passes (map (shown_active pool) s.active) (map shown_waiting s.slots.waiting) ∙ ap (λ o. option_or (find passes (map (shown_active pool) s.active)) o) waiting ∙ or-none _ ∙ active in
-    rw (calls-end b pool peer s, found, least-first pool (is_after after) s.active (active-ascends b pool peer s up)) (told-shown pool (find (is_after after) s.active))
+    let found : find passes (shown pool peer s).calls
+    ≡ option_map (shown_active pool) (find (is_after after) s.active) =
+    find-append passes (map (shown_active pool) s.active)
+    (map shown_waiting s.slots.waiting)
+    ∙ ap (λ o. option_or (find passes (map (shown_active pool) s.active)) o) waiting
+    ∙ or-none _ ∙ active in
+    rw (
+      calls-end b pool peer s,
+      found,
+      least-first pool (is_after after) s.active
+          (active-ascends b pool peer s up),
+    ) (told-shown pool (find (is_after after) s.active))

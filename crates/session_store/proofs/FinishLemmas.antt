@@ -35,17 +35,14 @@ use Rattle.session_store.proofs.KeptLemmas.{servers-set}
 use Rattle.session_store.proofs.ListLemmas.{all-at, get-map, set-own}
 use Rattle.session_store.proofs.ReplyGoneLemmas.{end-at}
 use Rattle.session_store.proofs.StandLemmas.{ends-all}
+use Rattle.rpc_base.proofs.BasicLemmas.{or-right}
 
 -- an element that passes is in the list
-or-true : (a b : Bool) → b ≡ true → (a || b) ≡ true
-or-true true b t = refl
-or-true false b t = t
-
 pub any-set : {A : Type 0} (p : A → Bool) (xs : List A) (i : ℕ) (x y : A) → slice_get xs i ≡ Some x
     → p y ≡ true → list_any p (slice_set xs i y) ≡ true
 any-set p [] i x y e t = cc
 any-set p (z ∷ zs) zero x y e t = rw t refl
-any-set p (z ∷ zs) (suc i) x y e t = or-true (p z) (list_any p (slice_set zs i y)) (any-set p zs i x y e t)
+any-set p (z ∷ zs) (suc i) x y e t = or-right (p z) (list_any p (slice_set zs i y)) (any-set p zs i x y e t)
 
 any-front : {A : Type 0} (p : A → Bool) (xs : List A) (y : A) → list_any p xs ≡ true
     → list_any p (xs ++ y ∷ []) ≡ true
@@ -63,7 +60,9 @@ pub new-stands : (sides : List Side) (servers : List Serving) (i r : ℕ) (v w :
     (e : EntryValue) → slice_get servers i ≡ Some v → e.owner ≡ Reply w.number r → e.peer ≡ w.peer
     → IsOf sides (slice_set servers i w) e
 new-stands sides servers i r v w e at own peer =
-    subst (IsOfOwner sides (slice_set servers i w) e) (sym own) (any-set (is_end w.number e.peer) servers i v w at (rw (eq-eqb w.number w.number refl, eq-eqb w.peer e.peer (sym peer)) refl))
+    subst (IsOfOwner sides (slice_set servers i w) e) (sym own)
+    (any-set (is_end w.number e.peer) servers i v w
+    at (rw (eq-eqb w.number w.number refl, eq-eqb w.peer e.peer (sym peer)) refl))
 
 pub own-reply : (n r : ℕ) (o : Owner) → o ≡ Reply n r → is_reply_of n o ≡ true
 own-reply n r o own = rw own (eq-eqb n n refl)
@@ -87,13 +86,17 @@ module _ (pool after : Pool) (sides : List Side) (servers now : List Serving) (t
           leaves = h.step.leaves;
           few = h.step.keeps.apart;
           counts = h.step.counts tx.items kept.counted;
-          beside = rest-push (λ d. is_reply_of h.server.number d.owner) tx.items e (own-reply h.server.number r e.owner (reply.owner ∙ ap (λ n. Reply n r) same-number));
+          beside = rest-push (λ d. is_reply_of h.server.number d.owner) tx.items e
+              (own-reply h.server.number r e.owner (reply.owner ∙ ap (λ n. Reply n r) same-number));
           within = omega (arith, has-room, length-append tx.items (e ∷ []));
           size = refl;
         };
         keeps = h.step.keeps;
         number = same-number;
-        stands = all-push (IsOf sides (slice_set servers i h.later)) tx.items e (ends-all sides servers i h.server h.later h.at same-number same-peer tx.items kept.stands) (new-stands sides servers i r h.server h.later e h.at reply.owner reply.peer);
+        stands = all-push (IsOf sides (slice_set servers i h.later)) tx.items e
+            (ends-all sides servers i h.server h.later h.at same-number same-peer tx.items
+            kept.stands) (new-stands sides servers i r h.server h.later e h.at reply.owner
+            reply.peer);
         holds = h.step.holds tx.items (all-at (ServerHolds pool tx.items) servers i h.server kept.holds h.at);
         queued = h.step.queued tx.items (all-at (ServerQueued tx.items) servers i h.server kept.replies h.at);
         served = places-most h.later h.step.sound;
@@ -101,13 +104,19 @@ module _ (pool after : Pool) (sides : List Side) (servers now : List Serving) (t
       }
 
   pub finish-kept : Kept after sides now (ring (tx.items ++ e ∷ []) tx.size)
-  finish-kept = subst (λ vs. Kept after sides vs (ring (tx.items ++ e ∷ []) tx.size)) (sym h.changed) (server-acted pool after sides servers i h.server h.later tx (ring (tx.items ++ e ∷ []) tx.size) h.at kept finish-acts)
+  finish-kept = subst (λ vs. Kept after sides vs (ring (tx.items ++ e ∷ []) tx.size))
+      (sym h.changed) (server-acted pool after sides servers i h.server h.later tx
+      (ring (tx.items ++ e ∷ []) tx.size) h.at kept finish-acts)
 
   pub finish-clients : map (shown_side after) sides ≡ map (shown_side pool) sides
-  finish-clients = clients-same pool after sides servers i h.server h.later tx (ring (tx.items ++ e ∷ []) tx.size) h.at kept finish-acts
+  finish-clients = clients-same pool after sides servers i h.server h.later tx
+      (ring (tx.items ++ e ∷ []) tx.size) h.at kept finish-acts
 
-  pub finish-places : spare_of after + places_in sides + served_places now ≡ spare_of pool + places_in sides + served_places servers
-  finish-places = ap (λ vs. spare_of after + places_in sides + served_places vs) h.changed ∙ server-places pool after sides servers i h.server h.later tx (ring (tx.items ++ e ∷ []) tx.size) h.at kept finish-acts
+  pub finish-places : spare_of after + places_in sides + served_places now
+      ≡ spare_of pool + places_in sides + served_places servers
+  finish-places = ap (λ vs. spare_of after + places_in sides + served_places vs) h.changed
+      ∙ server-places pool after sides servers i h.server h.later tx
+      (ring (tx.items ++ e ∷ []) tx.size) h.at kept finish-acts
 
 -- none came
 module _ (pool after : Pool) (sides : List Side) (servers now : List Serving) (tx : Ring EntryValue)
@@ -118,7 +127,8 @@ module _ (pool after : Pool) (sides : List Side) (servers now : List Serving) (t
   pub left-kept : Kept pool sides servers tx → Kept after sides now tx
   left-kept kept = rw (left-servers, h.step.left.pool) kept
 
-  pub left-places : spare_of after + places_in sides + served_places now ≡ spare_of pool + places_in sides + served_places servers
+  pub left-places : spare_of after + places_in sides + served_places now
+      ≡ spare_of pool + places_in sides + served_places servers
   left-places = rw (left-servers, h.step.left.pool) refl
 
   pub left-shown : map (shown_server after) now ≡ map (shown_server pool) servers
@@ -155,7 +165,10 @@ module _ (pool after : Pool) (sides : List Side) (servers now : List Serving) (t
         owner = f.reply.owner ∙ ap (λ n. Reply n r) number;
         peer = f.reply.peer ∙ peer;
         last = last-cases pool h.server r e.number sound (newest r h.server) refl f.waited f.last;
-        changed = ap (map (shown_server after)) h.changed ∙ servers-set pool after sides servers i h.server h.later tx (ring (tx.items ++ e ∷ []) tx.size) h.at kept acts ∙ ap (slice_set (map (shown_server pool) servers) i) f.shown_is;
+        changed = ap (map (shown_server after)) h.changed
+            ∙ servers-set pool after sides servers i h.server h.later tx
+            (ring (tx.items ++ e ∷ []) tx.size) h.at kept acts
+            ∙ ap (slice_set (map (shown_server pool) servers) i) f.shown_is;
       }
 
 -- a server session more
@@ -189,7 +202,10 @@ below-numbers pool (v ∷ vs) n all = (all.0, below-numbers pool vs n all.1)
 number-below : (pool : Pool) (servers : List Serving) (n i : ℕ) (v : Serving)
     → AllByRecursion (λ x. x.way.number < n) (map (shown_server pool) servers)
     → slice_get servers i ≡ Some v → v.number < n
-number-below pool servers n i v all at = all-at (λ (x : Server). x.way.number < n) (map (shown_server pool) servers) i (shown_server pool v) all (get-map (shown_server pool) servers i v at)
+number-below pool servers n i v all at =
+    all-at (λ (x : Server). x.way.number < n)
+    (map (shown_server pool) servers) i (shown_server pool v) all
+    (get-map (shown_server pool) servers i v at)
 
 -- no reply of it is queued yet
 unowned : (pool : Pool) (sides : List Side) (servers : List Serving) (n : ℕ)
@@ -220,13 +236,27 @@ kept-server pool sides servers tx v n client peer credits kept below new =
     let number : v.number ≡ n = ap (λ (x : Serving). x.number) new in
     record {
       numbered = kept.numbered;
-      rises = subst (λ ns. Rises ns) (sym (numbers-end servers v)) (rises-end (numbers_in servers) v.number kept.rises (subst (λ m. AllByRecursion (λ k. k < m) (numbers_in servers)) (sym number) (below-numbers pool servers n below)));
+      rises = subst (λ ns. Rises ns) (sym (numbers-end servers v))
+          (rises-end (numbers_in servers) v.number kept.rises
+          (subst (λ m. AllByRecursion (λ k. k < m) (numbers_in servers)) (sym number)
+          (below-numbers pool servers n below)));
       keeps = kept.keeps;
-      serves = all-push (ServerKept pool) servers v kept.serves (rw slots (record { kept = tt; apart = λ p. omega arith }));
-      apart = λ p. omega (arith, sum_by-append (λ x. slot_names p x.slots) servers (v ∷ []), sum_by-cons (λ x. slot_names p x.slots) v [], ap (slot_names p) slots, kept.apart p);
+      serves = all-push (ServerKept pool) servers v kept.serves
+          (rw slots (record { kept = tt; apart = λ p. omega arith }));
+      apart = λ p. omega (
+        arith,
+        sum_by-append (λ x. slot_names p x.slots) servers (v ∷ []),
+        sum_by-cons (λ x. slot_names p x.slots) v [],
+        ap (slot_names p) slots,
+        kept.apart p,
+      );
       counted = kept.counted;
       stands = all-more sides servers v tx.items kept.stands;
-      holds = all-push (ServerHolds pool tx.items) servers v kept.holds (record { own = rw number (new-own pool sides servers n _ below tx.items kept.stands); each = rw slots tt });
+      holds = all-push (ServerHolds pool tx.items) servers v kept.holds
+          (record {
+            own = rw number (new-own pool sides servers n _ below tx.items kept.stands);
+            each = rw slots tt;
+          });
       queued = kept.queued;
       replies = all-push (ServerQueued tx.items) servers v kept.replies (rw slots tt);
       ascends = kept.ascends;

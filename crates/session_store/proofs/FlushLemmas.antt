@@ -31,7 +31,9 @@ module _ (owner : Owner) where
       → find (λ q. is_owned owner q && queued_number q == n)
       (map queued_of ds) ≡ option_map queued_of (find (λ x. is_of owner x && number_of x == n) ds)
       → cond b (Some (queued_of d))
-      (find (λ q. is_owned owner q && queued_number q == n) (map queued_of ds)) ≡ option_map queued_of (cond b (Some d) (find (λ x. is_of owner x && number_of x == n) ds))
+      (find (λ q. is_owned owner q && queued_number q == n) (map queued_of ds))
+      ≡ option_map queued_of (cond b (Some d)
+      (find (λ x. is_of owner x && number_of x == n) ds))
   found-cons n d ds true ih = refl
   found-cons n d ds false ih = ih
 
@@ -44,7 +46,9 @@ module _ (owner : Owner) where
       → without_first (λ q. is_owned owner q && queued_number q == n)
       (map queued_of ds) ≡ map queued_of (without_first (λ x. is_of owner x && number_of x == n) ds)
       → cond b (map queued_of ds)
-      (queued_of d ∷ without_first (λ q. is_owned owner q && queued_number q == n) (map queued_of ds)) ≡ map queued_of (cond b ds (d ∷ without_first (λ x. is_of owner x && number_of x == n) ds))
+      (queued_of d ∷ without_first (λ q. is_owned owner q && queued_number q == n)
+      (map queued_of ds)) ≡ map queued_of
+      (cond b ds (d ∷ without_first (λ x. is_of owner x && number_of x == n) ds))
   left-cons n d ds true ih = refl
   left-cons n d ds false ih = ap (λ qs. queued_of d ∷ qs) ih
 
@@ -55,22 +59,28 @@ module _ (owner : Owner) where
   left-seen n (d ∷ ds) = left-cons n d ds (is_of owner d && number_of d == n) (left-seen n ds)
 
   least-by : (ds : List EntryValue) (o : Option ℕ)
-      → bearer (is_owned owner) queued_number (map queued_of ds) o ≡ option_map queued_of (bearer (is_of owner) number_of ds o)
+      → bearer (is_owned owner) queued_number (map queued_of ds) o
+      ≡ option_map queued_of (bearer (is_of owner) number_of ds o)
   least-by ds None = refl
   least-by ds (Some n) = found-seen n ds
 
   pub least-seen : (ds : List EntryValue)
-      → least (is_owned owner) queued_number (map queued_of ds) ≡ option_map queued_of (least (is_of owner) number_of ds)
-  least-seen ds = ap (bearer (is_owned owner) queued_number (map queued_of ds)) (number-seen ds) ∙ least-by ds (least_number (is_of owner) number_of ds)
+      → least (is_owned owner) queued_number (map queued_of ds)
+      ≡ option_map queued_of (least (is_of owner) number_of ds)
+  least-seen ds = ap (bearer (is_owned owner) queued_number (map queued_of ds)) (number-seen ds)
+      ∙ least-by ds (least_number (is_of owner) number_of ds)
 
   without-by : (ds : List EntryValue) (o : Option ℕ)
-      → without_bearer (is_owned owner) queued_number (map queued_of ds) o ≡ map queued_of (without_bearer (is_of owner) number_of ds o)
+      → without_bearer (is_owned owner) queued_number (map queued_of ds) o
+      ≡ map queued_of (without_bearer (is_of owner) number_of ds o)
   without-by ds None = refl
   without-by ds (Some n) = left-seen n ds
 
   pub without-seen : (ds : List EntryValue)
-      → without_least (is_owned owner) queued_number (map queued_of ds) ≡ map queued_of (without_least (is_of owner) number_of ds)
-  without-seen ds = ap (without_bearer (is_owned owner) queued_number (map queued_of ds)) (number-seen ds) ∙ without-by ds (least_number (is_of owner) number_of ds)
+      → without_least (is_owned owner) queued_number (map queued_of ds)
+      ≡ map queued_of (without_least (is_of owner) number_of ds)
+  without-seen ds = ap (without_bearer (is_owned owner) queued_number (map queued_of ds))
+      (number-seen ds) ∙ without-by ds (least_number (is_of owner) number_of ds)
 
 -- a session that is looked at has its place's number
 module _ (pool : Pool) (sides : List Side) (servers : List Serving) (tx : Ring EntryValue)

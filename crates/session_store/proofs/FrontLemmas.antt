@@ -23,12 +23,18 @@ module _ (pool : Pool) (sides : List Side) (servers : List Serving) (tx : Ring E
       → peer_in (shown_of pool sides servers tx) e.owner ≡ Some e.peer
   peer-cases e (Ask i r) own front = front-peer pool sides servers tx kept i r e front own
   peer-cases e (Reply t r) own front = end-peer pool sides servers tx kept t r e front own
-  peer-cases e Control own front = absurd (subst (IsOfOwner sides servers e) own (all-at (IsOf sides servers) tx.items 0 e kept.stands front))
+  peer-cases e Control own front =
+      absurd (subst (IsOfOwner sides servers e) own
+      (all-at (IsOf sides servers) tx.items 0 e kept.stands front))
 
   module _ (seen : Shown) (view : shown_of pool sides servers tx ≡ seen) where
     pub fronts : (o : Option EntryValue) → o ≡ slice_get tx.items 0 → IfSome o (IsFront seen)
     fronts None is = tt
-    fronts (Some e) is = rw (← view) (record { front = get-map queued_of tx.items 0 e (sym is); peer = peer-cases e e.owner refl (sym is) })
+    fronts (Some e) is =
+        rw (← view) (record {
+          front = get-map queued_of tx.items 0 e (sym is);
+          peer = peer-cases e e.owner refl (sym is);
+        })
 
     pub no-front : (o : Option EntryValue) → o ≡ slice_get tx.items 0 → IfNone o (seen.queued ≡ [])
     no-front None is = rw (← view) (ap (λ (xs : List EntryValue). map queued_of xs) (no-first tx.items (sym is)))
@@ -43,13 +49,16 @@ module _ (pool : Pool) (sides : List Side) (servers : List Serving) (tx : Ring E
     some-front some none = some (no-front None (sym none))
 
     pub no-control : (e : EntryValue) → slice_get tx.items 0 ≡ Some e → e.owner ≡ Control → ⊥
-    no-control e front own = subst (IsOfOwner sides servers e) own (all-at (IsOf sides servers) tx.items 0 e kept.stands front)
+    no-control e front own =
+        subst (IsOfOwner sides servers e) own
+        (all-at (IsOf sides servers) tx.items 0 e kept.stands front)
 
     pub spells-seen : (e : EntryValue) → slice_get tx.items 0 ≡ Some e → (head body : List ℕ)
         → IsSpelled (packet_in (shown_of pool sides servers tx) e.owner e.number) head body
         → SpellsFront seen head body
     spells-seen e front head body h =
-        let place : slice_get (map queued_of tx.items) 0 ≡ Some (queued_of e) = get-map queued_of tx.items 0 e front in
+        let place : slice_get (map queued_of tx.items) 0 ≡ Some (queued_of e) =
+        get-map queued_of tx.items 0 e front in
         rw (← view, place) h
 
     pub sends-seen : (e : EntryValue) (now : ℕ) (clients : List Client)
@@ -57,5 +66,6 @@ module _ (pool : Pool) (sides : List Side) (servers : List Serving) (tx : Ring E
         → clients ≡ clients_sent now e.owner e.number (map (shown_side pool) sides)
         → SendsFront now seen.queued seen.clients clients
     sends-seen e now clients front h =
-        let place : slice_get (map queued_of tx.items) 0 ≡ Some (queued_of e) = get-map queued_of tx.items 0 e front in
+        let place : slice_get (map queued_of tx.items) 0 ≡ Some (queued_of e) =
+        get-map queued_of tx.items 0 e front in
         rw (← view, place) h

@@ -42,11 +42,15 @@ use Rattle.session_store.proofs.StoreLemmas.{own-ask}
 
 pub sent-long : (e : EntryValue) (now : ℕ) (s new : Session) → new ≡ sent_at e now s
     → length new.active ≡ length s.active
-sent-long e now s new is = ap (λ (x : Session). length x.active) is ∙ length-at_first (is_owner s.number e.owner) (marked e.number now) s.active
+sent-long e now s new is =
+    ap (λ (x : Session). length x.active) is ∙ length-at_first (is_owner s.number e.owner)
+    (marked e.number now) s.active
 
 pub flushed-long : (e : EntryValue) (s new : Session) → new ≡ flushed_at e s
     → length new.active ≡ length s.active
-flushed-long e s new is = ap (λ (x : Session). length x.active) is ∙ length-at_first (is_owner s.number e.owner) one_left s.active
+flushed-long e s new is =
+    ap (λ (x : Session). length x.active) is ∙ length-at_first (is_owner s.number e.owner) one_left
+    s.active
 
 -- the first element that passes stands at this place
 module _ {A B : Type 0} (f : A → B) (p : B → Bool) where
@@ -66,7 +70,8 @@ module _ {A B : Type 0} (f : A → B) (p : B → Bool) where
   first-map g (y ∷ ys) zero x e t others = let same : y ≡ x = cc in let here : p (f y) ≡ true = ap (λ z. p (f z)) same ∙ t in rw here (ap (λ z. g (f z) ∷ map f ys) same)
   first-map g (y ∷ ys) (suc i) x e t others =
       let no = others 0 y refl (λ z. absurd (omega (arith, z))) in
-      rw no (ap (λ zs. f y ∷ zs) (first-map g ys i x e t (λ j z at other. others (suc j) z at (λ s. other (omega (arith, s))))))
+      rw no (ap (λ zs. f y ∷ zs) (first-map g ys i x e t
+      (λ j z at other. others (suc j) z at (λ s. other (omega (arith, s))))))
 
 -- a client session by its number
 pub side-way : (pool : Pool) (s : Side)
@@ -74,7 +79,8 @@ pub side-way : (pool : Pool) (s : Side)
 side-way pool s = cases s.is_broken
   where
     cases : (b : Bool)
-        → ((shown_end b pool s.peer s.session).way.peer ≡ s.peer) × ((shown_end b pool s.peer s.session).way.number ≡ s.session.number)
+        → ((shown_end b pool s.peer s.session).way.peer ≡ s.peer)
+        × ((shown_end b pool s.peer s.session).way.number ≡ s.session.number)
     cases true = (refl, refl)
     cases false = (refl, refl)
 
@@ -86,13 +92,16 @@ module _ (pool : Pool) (sides : List Side)
 
   not-its : (j : ℕ) (s : Side) → slice_get sides j ≡ Some s → j ≢ i
       → is_client i (shown_side pool s) ≡ false
-  not-its j s at other = ne_eqb (shown_side pool s).way.number i (λ t. other (sym ((side-way pool s).1 ∙ numbered j s at) ∙ t))
+  not-its j s at other =
+      ne_eqb (shown_side pool s).way.number i
+      (λ t. other (sym ((side-way pool s).1 ∙ numbered j s at) ∙ t))
 
   pub find-side : find (is_client i) (map (shown_side pool) sides) ≡ Some (shown_side pool side)
   find-side = find-map (shown_side pool) (is_client i) sides i side there its-own not-its
 
   pub first-side : (g : Client → Client)
-      → at_first (is_client i) g (map (shown_side pool) sides) ≡ slice_set (map (shown_side pool) sides) i (g (shown_side pool side))
+      → at_first (is_client i) g (map (shown_side pool) sides)
+      ≡ slice_set (map (shown_side pool) sides) i (g (shown_side pool side))
   first-side g = first-map (shown_side pool) (is_client i) g sides i side there its-own not-its
 
 -- an entry of session i leaves the ring
@@ -105,15 +114,23 @@ module _ (pool after : Pool) (sides : List Side) (servers : List Serving) (tx : 
     where
       cases : (o : Option ℕ) → e.place ≡ o → IsHeld pool o
       cases None is = tt
-      cases (Some p) is = omega (arith, kept.counted p, mentions-taken p passes e tx.items left out, mentions-own p e is)
+      cases (Some p) is = omega (
+        arith,
+        kept.counted p,
+        mentions-taken p passes e tx.items left out,
+        mentions-own p e is,
+      )
 
   gone-side : OfSide sides i e
-  gone-side = of-side sides servers i r e own (all-taken (IsOf sides servers) passes e tx.items left out kept.stands).0
+  gone-side = of-side sides servers i r e own
+      (all-taken (IsOf sides servers) passes e tx.items left out kept.stands).0
 
   pub gone-stands : IsOfSide e (slice_get sides i)
   gone-stands = subst (IsOfSide e) (sym gone-side.at) gone-side.is
 
-  module _ (side : Side) (at : slice_get sides i ≡ Some side) (later : Session) (g : Leaves e side.session later pool after) (up : SideAscends after (record side { session = later })) where
+  module _ (side : Side) (at : slice_get sides i ≡ Some side) (later : Session)
+      (g : Leaves e side.session later pool after)
+      (up : SideAscends after (record side { session = later })) where
     abbrev changed : Side
     changed = record side { session = later }
 
@@ -135,8 +152,10 @@ module _ (pool after : Pool) (sides : List Side) (servers : List Serving) (tx : 
           keeps = g.keeps;
           number = g.number;
           ascends = up;
-          stands = stands-all sides servers i side changed at refl refl g.entries left (all-taken (IsOf sides servers) passes e tx.items left out kept.stands).1;
-          queued = g.queued gone-of.2 passes tx.items left out (all-at (SideQueued tx.items) sides i side kept.queued at);
+          stands = stands-all sides servers i side changed at refl refl g.entries left
+              (all-taken (IsOf sides servers) passes e tx.items left out kept.stands).1;
+          queued = g.queued gone-of.2 passes tx.items left out
+              (all-at (SideQueued tx.items) sides i side kept.queued at);
           slots = omega (arith, g.long, all-at HasSlots sides i side kept.slots at);
           spare = omega (arith, g.long, ap (λ (x : Pool). spare_of x) g.pool, spare-released pool e.place gone-held);
         }
@@ -150,21 +169,32 @@ module _ (pool after : Pool) (sides now : List Side) (servers : List Serving) (t
   sent-of = subst (IsOfSide e) h.at (gone-stands pool after sides servers tx i r e passes left kept out own)
 
   sent-steps : Steps (sends clock r e.number) h.side.is_broken pool after h.side.peer h.side.session h.later
-  sent-steps = sends-one h.side.is_broken pool after h.side.peer h.side.session h.later sent-of.1 (all-at (SideAscends pool) sides i h.side kept.ascends h.at) clock e r (own ∙ ap (λ n. Ask n r) (sym (kept.numbered i h.side h.at))) (h.step.step h.side.peer)
+  sent-steps = sends-one h.side.is_broken pool after h.side.peer h.side.session h.later sent-of.1
+      (all-at (SideAscends pool) sides i h.side kept.ascends h.at) clock e r
+      (own ∙ ap (λ n. Ask n r) (sym (kept.numbered i h.side h.at))) (h.step.step h.side.peer)
 
-  sent-acts : ClientActs pool after sides servers i h.side (record h.side { session = h.later }) tx (ring left tx.size)
-  sent-acts = gone-acts pool after sides servers tx i r e passes left kept out own h.side h.at h.later h.step.gone sent-steps.calls
+  sent-acts : ClientActs pool after sides servers i h.side (record h.side { session = h.later }) tx
+      (ring left tx.size)
+  sent-acts = gone-acts pool after sides servers tx i r e passes left kept out own h.side h.at
+      h.later h.step.gone sent-steps.calls
 
   pub sent-kept : Kept after now servers (ring left tx.size)
-  sent-kept = subst (λ xs. Kept after xs servers (ring left tx.size)) (sym h.changed) (client-kept pool after sides servers i h.side (record h.side { session = h.later }) tx (ring left tx.size) h.at kept sent-acts)
+  sent-kept = subst (λ xs. Kept after xs servers (ring left tx.size)) (sym h.changed)
+      (client-kept pool after sides servers i h.side (record h.side { session = h.later }) tx
+      (ring left tx.size) h.at kept sent-acts)
 
   pub sent-clients : map (shown_side after) now ≡ clients_sent clock (Ask i r) e.number (map (shown_side pool) sides)
   sent-clients =
-      ap (map (shown_side after)) h.changed ∙ clients-set pool after sides servers i h.side (record h.side { session = h.later }) tx (ring left tx.size) h.at kept sent-acts
-      ∙ ap (slice_set (map (shown_side pool) sides) i) sent-steps.view ∙ sym (first-side pool sides kept.numbered i h.side h.at (sends clock r e.number))
+      ap (map (shown_side after)) h.changed ∙ clients-set pool after sides servers i h.side
+      (record h.side { session = h.later }) tx (ring left tx.size) h.at kept sent-acts
+      ∙ ap (slice_set (map (shown_side pool) sides) i) sent-steps.view
+      ∙ sym (first-side pool sides kept.numbered i h.side h.at (sends clock r e.number))
 
-  pub sent-places : spare_of after + places_in now + served_places servers ≡ spare_of pool + places_in sides + served_places servers
-  sent-places = ap (λ xs. spare_of after + places_in xs + served_places servers) h.changed ∙ client-places pool after sides servers i h.side (record h.side { session = h.later }) tx (ring left tx.size) h.at kept sent-acts
+  pub sent-places : spare_of after + places_in now + served_places servers
+      ≡ spare_of pool + places_in sides + served_places servers
+  sent-places = ap (λ xs. spare_of after + places_in xs + served_places servers) h.changed
+      ∙ client-places pool after sides servers i h.side (record h.side { session = h.later }) tx
+      (ring left tx.size) h.at kept sent-acts
 
 -- it was taken out unsent
 module _ (pool after : Pool) (sides now : List Side) (servers : List Serving) (tx : Ring EntryValue)
@@ -177,19 +207,30 @@ module _ (pool after : Pool) (sides now : List Side) (servers : List Serving) (t
   flushed-view : shown_side after (record h.side { session = h.later }) ≡ shown_side pool h.side
   flushed-view = rw flushed-of.1 (h.step.same h.side.peer)
 
-  flushed-acts : ClientActs pool after sides servers i h.side (record h.side { session = h.later }) tx (ring left tx.size)
-  flushed-acts = gone-acts pool after sides servers tx i r e passes left kept out own h.side h.at h.later h.step.gone (rw flushed-view (all-at (SideAscends pool) sides i h.side kept.ascends h.at))
+  flushed-acts : ClientActs pool after sides servers i h.side (record h.side { session = h.later })
+      tx (ring left tx.size)
+  flushed-acts = gone-acts pool after sides servers tx i r e passes left kept out own h.side h.at
+      h.later h.step.gone (rw flushed-view (all-at (SideAscends pool) sides i h.side kept.ascends
+      h.at))
 
   pub flushed-kept : Kept after now servers (ring left tx.size)
-  flushed-kept = subst (λ xs. Kept after xs servers (ring left tx.size)) (sym h.changed) (client-kept pool after sides servers i h.side (record h.side { session = h.later }) tx (ring left tx.size) h.at kept flushed-acts)
+  flushed-kept = subst (λ xs. Kept after xs servers (ring left tx.size)) (sym h.changed)
+      (client-kept pool after sides servers i h.side (record h.side { session = h.later }) tx
+      (ring left tx.size) h.at kept flushed-acts)
 
   pub flushed-clients : map (shown_side after) now ≡ map (shown_side pool) sides
   flushed-clients =
-      ap (map (shown_side after)) h.changed ∙ clients-set pool after sides servers i h.side (record h.side { session = h.later }) tx (ring left tx.size) h.at kept flushed-acts
-      ∙ ap (slice_set (map (shown_side pool) sides) i) flushed-view ∙ set-own (map (shown_side pool) sides) i (shown_side pool h.side) (get-map (shown_side pool) sides i h.side h.at)
+      ap (map (shown_side after)) h.changed ∙ clients-set pool after sides servers i h.side
+      (record h.side { session = h.later }) tx (ring left tx.size) h.at kept flushed-acts
+      ∙ ap (slice_set (map (shown_side pool) sides) i) flushed-view
+      ∙ set-own (map (shown_side pool) sides) i (shown_side pool h.side)
+      (get-map (shown_side pool) sides i h.side h.at)
 
-  pub flushed-places : spare_of after + places_in now + served_places servers ≡ spare_of pool + places_in sides + served_places servers
-  flushed-places = ap (λ xs. spare_of after + places_in xs + served_places servers) h.changed ∙ client-places pool after sides servers i h.side (record h.side { session = h.later }) tx (ring left tx.size) h.at kept flushed-acts
+  pub flushed-places : spare_of after + places_in now + served_places servers
+      ≡ spare_of pool + places_in sides + served_places servers
+  flushed-places = ap (λ xs. spare_of after + places_in xs + served_places servers) h.changed
+      ∙ client-places pool after sides servers i h.side (record h.side { session = h.later }) tx
+      (ring left tx.size) h.at kept flushed-acts
 
 -- its packet is that of what is shown
 packet-cases : (b : Bool) (pool : Pool) (peer r : ℕ) (s : Session) (e : EntryValue)
@@ -197,16 +238,29 @@ packet-cases : (b : Bool) (pool : Pool) (peer r : ℕ) (s : Session) (e : EntryV
     → IsPacketOf (call_of s e) e
     → packet_of pool s e ≡ ask_packet r e.number (Some (shown_end b pool peer s))
 packet-cases b pool peer r s e None own to found h =
-    let none : call_of s e ≡ None = ap (λ o. find (is_owner s.number o) s.active) own ∙ same-owners s.number r s.active ∙ found in
+    let none : call_of s e ≡ None =
+    ap (λ o. find (is_owner s.number o) s.active) own ∙ same-owners s.number r s.active
+    ∙ found in
     absurd (subst (λ o. IsPacketOf o e) none h)
 packet-cases b pool peer r s e (Some c) own to found h =
     let request = eqb-true c.request r (find-passes (is_request r) s.active c found) in
-    rw (ask-end b pool peer r e.number s, active-found pool r s, found, own, to, same-owners s.number r s.active, found, request) refl
+    rw (
+      ask-end b pool peer r e.number s,
+      active-found pool r s,
+      found,
+      own,
+      to,
+      same-owners s.number r s.active,
+      found,
+      request,
+    ) refl
 
 pub packet-shown : (pool : Pool) (side : Side) (r : ℕ) (e : EntryValue)
     → e.owner ≡ Ask side.session.number r → IsOfSide e (Some side)
     → packet_of pool side.session e ≡ ask_packet r e.number (Some (shown_side pool side))
-packet-shown pool side r e own is = packet-cases side.is_broken pool side.peer r side.session e (call_as r side.session) own is.0 refl is.2
+packet-shown pool side r e own is =
+    packet-cases side.is_broken pool side.peer r side.session e (call_as r side.session) own is.0
+    refl is.2
 
 -- the front of the ring
 module _ (pool : Pool) (sides : List Side) (servers : List Serving) (tx : Ring EntryValue)
@@ -227,7 +281,8 @@ module _ (pool : Pool) (sides : List Side) (servers : List Serving) (tx : Ring E
   pub front-spells : (head body : List ℕ) → SpellsIn pool e head body (slice_get sides i)
       → IsSpelled (packet_in (shown_of pool sides servers tx) e.owner e.number) head body
   front-spells head body h =
-      let here : IsSpelled (packet_of pool front-side.side.session e) head body = subst (SpellsIn pool e head body) front-side.at h in
+      let here : IsSpelled (packet_of pool front-side.side.session e) head body =
+      subst (SpellsIn pool e head body) front-side.at h in
       let number = kept.numbered i front-side.side front-side.at in
       let packet = packet-shown pool front-side.side r e (own ∙ ap (λ n. Ask n r) (sym number)) front-side.is in
       rw (own, front-found, ← packet) here

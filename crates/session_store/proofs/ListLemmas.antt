@@ -21,9 +21,12 @@ module _ {A : Type 0} where
       → ((j : ℕ) → (x : A) → slice_get xs j ≡ Some x → j ≢ i → P x)
       → AllByRecursion P (slice_set xs i y)
   all-set P [] i y own each = tt
-  all-set P (z ∷ zs) zero y own each = (own, all-from P zs (λ j x e. each (suc j) x e (λ t. absurd (omega (arith, t)))))
-  all-set P (z ∷ zs) (suc i) y own each =
-      (each 0 z refl (λ t. absurd (omega (arith, t))), all-set P zs i y own (λ j x e other. each (suc j) x e (λ t. other (omega (arith, t)))))
+  all-set P (z ∷ zs) zero y own each =
+      (own, all-from P zs (λ j x e. each (suc j) x e (λ t. absurd (omega (arith, t)))))
+  all-set P (z ∷ zs) (suc i) y own each = (
+    each 0 z refl (λ t. absurd (omega (arith, t))),
+    all-set P zs i y own (λ j x e other. each (suc j) x e (λ t. other (omega (arith, t)))),
+  )
 
   pub get-there : (xs : List A) (i : ℕ) (x : A) → i < length xs → x ≡ get_or xs i x
       → slice_get xs i ≡ Some x
@@ -70,13 +73,15 @@ module _ {A : Type 0} where
     sum-two (y ∷ ys) zero zero x z e d other = absurd (other refl)
     sum-two (y ∷ ys) zero (suc j) x z e d other = let same : y ≡ x = cc in omega (arith, sum_by-cons g y ys, sum-one ys j z d, ap g same)
     sum-two (y ∷ ys) (suc i) zero x z e d other = let same : y ≡ z = cc in omega (arith, sum_by-cons g y ys, sum-one ys i x e, ap g same)
-    sum-two (y ∷ ys) (suc i) (suc j) x z e d other = omega (arith, sum_by-cons g y ys, sum-two ys i j x z e d (λ t. other (ap suc t)))
+    sum-two (y ∷ ys) (suc i) (suc j) x z e d other =
+        omega (arith, sum_by-cons g y ys, sum-two ys i j x z e d (λ t. other (ap suc t)))
 
     pub sum-set : (xs : List A) (i : ℕ) (x y : A) → slice_get xs i ≡ Some x
         → sum_by g (slice_set xs i y) + g x ≡ sum_by g xs + g y
     sum-set [] i x y e = cc
     sum-set (z ∷ zs) zero x y e = let same : z ≡ x = cc in omega (arith, sum_by-cons g z zs, sum_by-cons g y zs, ap g same)
-    sum-set (z ∷ zs) (suc i) x y e = omega (arith, sum_by-cons g z zs, sum_by-cons g z (slice_set zs i y), sum-set zs i x y e)
+    sum-set (z ∷ zs) (suc i) x y e =
+        omega (arith, sum_by-cons g z zs, sum_by-cons g z (slice_set zs i y), sum-set zs i x y e)
 
 -- what is shown of it
 module _ {A B : Type 0} (f g : A → B) where
@@ -89,9 +94,12 @@ module _ {A B : Type 0} (f g : A → B) where
       → ((j : ℕ) → (x : A) → slice_get xs j ≡ Some x → j ≢ i → g x ≡ f x)
       → map g (slice_set xs i y) ≡ slice_set (map f xs) i (g y)
   map-set [] i y each = refl
-  map-set (z ∷ zs) zero y each = ap (λ ws. g y ∷ ws) (map-same zs (λ j x e. each (suc j) x e (λ t. absurd (omega (arith, t)))))
+  map-set (z ∷ zs) zero y each =
+      ap (λ ws. g y ∷ ws) (map-same zs (λ j x e. each (suc j) x e (λ t. absurd (omega (arith, t)))))
   map-set (z ∷ zs) (suc i) y each =
-      rw (each 0 z refl (λ t. absurd (omega (arith, t)))) (ap (λ ws. f z ∷ ws) (map-set zs i y (λ j x e other. each (suc j) x e (λ t. other (omega (arith, t))))))
+      rw (each 0 z refl (λ t. absurd (omega (arith, t))))
+      (ap (λ ws. f z ∷ ws) (map-set zs i y
+      (λ j x e other. each (suc j) x e (λ t. other (omega (arith, t))))))
 
 module _ {A B : Type 0} (f : A → B) where
   pub get-map : (xs : List A) (i : ℕ) (x : A) → slice_get xs i ≡ Some x

@@ -104,20 +104,41 @@ module _ (pool : Pool) (sides : List Side) (servers : List Serving) (tx : Ring E
           | inr away ↦ (
               let ask = named-by-call call.call _ (sym placed ∙ call.place) in
               let theirs = named-found _ call.call its-side.side.session.active call.found p (sym ask) in
-              omega (arith, mine, theirs, sum-two (λ s. names p s.session.active) sides i t side its-side.side at its-side.at away, kept.apart p))
+              omega (
+                arith,
+                mine,
+                theirs,
+                sum-two (λ s. names p s.session.active) sides i t side
+                    its-side.side at its-side.at away,
+                kept.apart p,
+              ))
         ]
 
     not-reply : (t q : ℕ) → d.owner ≡ Reply t q → d.place ≡ Some p → ⊥
     not-reply t q its placed =
-        let server = end-at servers t d.peer (subst (IsOfOwner sides servers d) its (all-at (IsOf sides servers) tx.items k d kept.stands there)) in
-        let reply = reply-stands pool tx.items server.server q d (its ∙ ap (λ n. Reply n q) (sym server.numbered)) (λ P all. all-at P tx.items k d all there) (all-at (ServerHolds pool tx.items) servers server.place server.server kept.holds server.at) in
+        let server = end-at servers t d.peer (subst (IsOfOwner sides servers d) its
+        (all-at (IsOf sides servers) tx.items k d kept.stands there)) in
+        let reply = reply-stands pool tx.items server.server q d
+        (its ∙ ap (λ n. Reply n q) (sym server.numbered))
+        (λ P all. all-at P tx.items k d all there)
+        (all-at (ServerHolds pool tx.items) servers server.place server.server kept.holds
+        server.at) in
         let theirs = named-cases server.server d p placed (request_of server.server d) refl reply in
-        omega (arith, mine, theirs, sum-one (λ s. names p s.session.active) sides i side at, sum-one (λ v. slot_names p v.slots) servers server.place server.server server.at, kept.apart p)
+        omega (
+          arith,
+          mine,
+          theirs,
+          sum-one (λ s. names p s.session.active) sides i side at,
+          sum-one (λ v. slot_names p v.slots) servers server.place server.server server.at,
+          kept.apart p,
+        )
 
     not-named : (o : Owner) → d.owner ≡ o → d.place ≡ Some p → ⊥
     not-named (Ask t q) its placed = not-ask t q its placed
     not-named (Reply t q) its placed = not-reply t q its placed
-    not-named Control its placed = absurd (subst (IsOfOwner sides servers d) its (all-at (IsOf sides servers) tx.items k d kept.stands there))
+    not-named Control its placed =
+        absurd (subst (IsOfOwner sides servers d) its
+        (all-at (IsOf sides servers) tx.items k d kept.stands there))
 
     unmentioned : (o : Option ℕ) → d.place ≡ o → mentions p (d ∷ []) ≡ 0
     unmentioned None e = mentions-none p d e
@@ -138,13 +159,16 @@ module _ (pool : Pool) (sides : List Side) (servers : List Serving) (tx : Ring E
     (view : shown_of pool sides servers tx ≡ seen-as) (i : ℕ) where
   idle-entries : IsIdle i seen-as.queued → list_any (λ e. is_ask_of i e.owner) tx.items ≡ false
   idle-entries idle =
-      let here : list_any (λ (q : Queued). is_ask_of i q.owner) (map queued_of tx.items) ≡ false = rw (← view) at idle in
+      let here : list_any (λ (q : Queued). is_ask_of i q.owner) (map queued_of tx.items) ≡ false =
+      rw (← view) at idle in
       sym (idle-seen i tx.items) ∙ here
 
   unheld-cases : IsIdle i seen-as.queued → (o : Option Side) → slice_get sides i ≡ o
       → IfSome o (λ s. AllByRecursion (IsUnheld pool) s.session.active)
   unheld-cases idle None e = tt
-  unheld-cases idle (Some s) e = all-unheld pool s.session.active s.session.active (λ p n. unheld-place pool sides servers tx kept i s e (idle-entries idle) p n)
+  unheld-cases idle (Some s) e =
+      all-unheld pool s.session.active s.session.active
+      (λ p n. unheld-place pool sides servers tx kept i s e (idle-entries idle) p n)
 
   pub unheld-at : IsIdle i seen-as.queued → IfSome (slice_get sides i)
       (λ s. AllByRecursion (IsUnheld pool) s.session.active)
@@ -159,10 +183,18 @@ module _ (pool : Pool) (sides : List Side) (servers : List Serving) (tx : Ring E
     breaks-acts =
         let own = all-at (SideKept pool) sides i side kept.keeps at in
         record {
-          acts = record { leaves = λ p none used. (none, refl, refl); few = own.apart; counts = kept.counted; beside = refl; within = kept.within; size = refl };
+          acts = record {
+            leaves = λ p none used. (none, refl, refl);
+            few = own.apart;
+            counts = kept.counted;
+            beside = refl;
+            within = kept.within;
+            size = refl;
+          };
           keeps = own;
           number = refl;
-          ascends = rw (calls-end side.is_broken pool side.peer side.session) at (all-at (SideAscends pool) sides i side kept.ascends at);
+          ascends = rw (calls-end side.is_broken pool side.peer side.session)
+              at (all-at (SideAscends pool) sides i side kept.ascends at);
           stands = stands-idle sides servers i broken tx.items (idle-entries idle) kept.stands;
           queued = all-at (SideQueued tx.items) sides i side kept.queued at;
           slots = all-at HasSlots sides i side kept.slots at;
@@ -176,7 +208,9 @@ module _ (pool : Pool) (sides : List Side) (servers : List Serving) (tx : Ring E
     breaks-clients = rw (← view) (record {
       client = shown_side pool side;
       place = get-map (shown_side pool) sides i side at;
-      changed = clients-set pool pool sides servers i side broken tx tx at kept breaks-acts ∙ ap (slice_set (map (shown_side pool) sides) i) (breaks-end side.is_broken pool side.peer side.session);
+      changed = clients-set pool pool sides servers i side broken tx tx at kept breaks-acts
+          ∙ ap (slice_set (map (shown_side pool) sides) i)
+          (breaks-end side.is_broken pool side.peer side.session);
     })
 
   -- its calls end
@@ -184,7 +218,8 @@ module _ (pool : Pool) (sides : List Side) (servers : List Serving) (tx : Ring E
       → slice_get sides i ≡ Some side → side.is_broken ≡ true
   lost-broken lost side at =
       let here : IsLost (slice_get (map (shown_side pool) sides) i) = rw (← view) at lost in
-      let own : is_connected (shown_side pool side).state ≡ false = rw (get-map (shown_side pool) sides i side at) at here in
+      let own : is_connected (shown_side pool side).state ≡ false =
+      rw (get-map (shown_side pool) sides i side at) at here in
       by side.is_broken own
     where
       by : (b : Bool) → is_connected (shown_end b pool side.peer side.session).state ≡ false
@@ -213,7 +248,8 @@ lost-spends pool after old new None keeps h = record {
   fewer = rw h.unchanged.0 (omega arith);
   spare = rw (h.unchanged.0, h.unchanged.1) refl;
 }
-lost-spends pool after old new (Some d) keeps h = lost-cases pool after old new d (next_lost old) h.sound keeps refl h.loses
+lost-spends pool after old new (Some d) keeps h =
+    lost-cases pool after old new d (next_lost old) h.sound keeps refl h.loses
 
 -- the first call of session i ended, if there was one
 module _ (pool after : Pool) (sides now : List Side) (servers : List Serving) (tx : Ring EntryValue)
@@ -227,33 +263,49 @@ module _ (pool after : Pool) (sides now : List Side) (servers : List Serving) (t
   up-cases : (d : Option Done) → LosesNext d h.side.session h.later pool after
       → SideAscends after less
   up-cases None g = rw (g.unchanged.0, g.unchanged.1) (all-at (SideAscends pool) sides i h.side kept.ascends h.at)
-  up-cases (Some d) g = (lose-end h.side.is_broken pool after h.side.peer d h.side.session h.later broken (all-at (SideAscends pool) sides i h.side kept.ascends h.at) g.loses g.step).calls
+  up-cases (Some d) g =
+      (lose-end h.side.is_broken pool after h.side.peer d h.side.session h.later broken
+      (all-at (SideAscends pool) sides i h.side kept.ascends h.at) g.loses g.step).calls
 
   lose-acts : ClientActs pool after sides servers i h.side less tx tx
   lose-acts =
-      let spends = lost-spends pool after h.side.session h.later o (all-at (SideKept pool) sides i h.side kept.keeps h.at) h.step in
+      let spends = lost-spends pool after h.side.session h.later o
+      (all-at (SideKept pool) sides i h.side kept.keeps h.at) h.step in
       record {
-        acts = record { leaves = h.step.leaves; few = h.step.keeps.apart; counts = h.step.counts tx.items kept.counted; beside = refl; within = kept.within; size = refl };
+        acts = record {
+          leaves = h.step.leaves;
+          few = h.step.keeps.apart;
+          counts = h.step.counts tx.items kept.counted;
+          beside = refl;
+          within =
+              kept.within;
+          size = refl;
+        };
         keeps = h.step.keeps;
         number = spends.number;
         ascends = up-cases o h.step;
-        stands = stands-idle sides servers i less tx.items (idle-entries pool sides servers tx kept seen-as view i idle) kept.stands;
+        stands = stands-idle sides servers i less tx.items
+            (idle-entries pool sides servers tx kept seen-as view i idle) kept.stands;
         queued = h.step.queued tx.items (all-at (SideQueued tx.items) sides i h.side kept.queued h.at);
         slots = omega (arith, spends.fewer, all-at HasSlots sides i h.side kept.slots h.at);
         spare = spends.spare;
       }
 
   pub lose-kept : Kept after now servers tx
-  lose-kept = subst (λ xs. Kept after xs servers tx) (sym h.changed) (client-kept pool after sides servers i h.side less tx tx h.at kept lose-acts)
+  lose-kept = subst (λ xs. Kept after xs servers tx) (sym h.changed)
+      (client-kept pool after sides servers i h.side less tx tx h.at kept lose-acts)
 
   pub lose-servers : map (shown_server after) servers ≡ map (shown_server pool) servers
   lose-servers = servers-same pool after sides servers i h.side less tx tx h.at kept lose-acts
 
-  pub lose-places : spare_of after + places_in now + served_places servers ≡ spare_of pool + places_in sides + served_places servers
-  lose-places = ap (λ xs. spare_of after + places_in xs + served_places servers) h.changed ∙ client-places pool after sides servers i h.side less tx tx h.at kept lose-acts
+  pub lose-places : spare_of after + places_in now + served_places servers
+      ≡ spare_of pool + places_in sides + served_places servers
+  lose-places = ap (λ xs. spare_of after + places_in xs + served_places servers) h.changed
+      ∙ client-places pool after sides servers i h.side less tx tx h.at kept lose-acts
 
   lose-set : map (shown_side after) now ≡ slice_set (map (shown_side pool) sides) i (shown_side after less)
-  lose-set = ap (map (shown_side after)) h.changed ∙ clients-set pool after sides servers i h.side less tx tx h.at kept lose-acts
+  lose-set = ap (map (shown_side after)) h.changed
+      ∙ clients-set pool after sides servers i h.side less tx tx h.at kept lose-acts
 
   place : slice_get (map (shown_side pool) sides) i ≡ Some (shown_side pool h.side)
   place = get-map (shown_side pool) sides i h.side h.at
@@ -263,12 +315,22 @@ module _ (pool after : Pool) (sides now : List Side) (servers : List Serving) (t
       (map (shown_side after) now)
   loses-cases None g =
       let none = sym (none-left h.side.is_broken pool h.side.peer h.side.session (g.none.0 refl)) in
-      let same : shown_side after less ≡ shown_side pool h.side = rw (g.unchanged.0, g.unchanged.1) refl in
-      (ap (λ x. first_number (calls_in x)) place ∙ none, lose-set ∙ ap (slice_set (map (shown_side pool) sides) i) same ∙ set-own (map (shown_side pool) sides) i (shown_side pool h.side) place)
+      let same : shown_side after less ≡ shown_side pool h.side = rw (g.unchanged.0, g.unchanged.1) refl in (
+        ap (λ x. first_number (calls_in x)) place ∙ none,
+        lose-set
+            ∙ ap (slice_set (map (shown_side pool) sides) i) same
+            ∙ set-own (map (shown_side pool) sides) i (shown_side pool h.side) place,
+      )
   loses-cases (Some d) g =
-      let ended = lose-end h.side.is_broken pool after h.side.peer d h.side.session h.later broken (all-at (SideAscends pool) sides i h.side kept.ascends h.at) g.loses g.step in (
+      let ended = lose-end h.side.is_broken pool after h.side.peer d h.side.session h.later broken
+      (all-at (SideAscends pool) sides i h.side kept.ascends h.at) g.loses g.step in (
         ap (λ x. first_number (calls_in x)) place ∙ sym ended.next,
-        record { client = shown_side pool h.side; place = place; changed = lose-set ∙ ap (slice_set (map (shown_side pool) sides) i) ended.view },
+        record {
+          client = shown_side pool h.side;
+          place = place;
+          changed = lose-set
+              ∙ ap (slice_set (map (shown_side pool) sides) i) ended.view;
+        },
       )
 
   pub lose-clients : LosesAt i (option_map (λ (x : Done). x.call) o) seen-as.clients (map (shown_side after) now)
@@ -280,7 +342,8 @@ module _ (pool : Pool) (sides : List Side) (servers : List Serving) (tx : Ring E
     (is : ActiveAt i a seen-as.clients) (side : Side) (at : slice_get sides i ≡ Some side) where
   its-client : is.client ≡ shown_side pool side
   its-client =
-      let there : slice_get (map (shown_side pool) sides) i ≡ Some is.client = ap (λ (v : Shown). slice_get v.clients i) view ∙ is.place in
+      let there : slice_get (map (shown_side pool) sides) i ≡ Some is.client =
+      ap (λ (v : Shown). slice_get v.clients i) view ∙ is.place in
       some-same is.client (shown_side pool side) (sym there ∙ get-map (shown_side pool) sides i side at)
     where
       some-same : (x y : Client) → Some x ≡ Some y → x ≡ y
@@ -297,7 +360,12 @@ module _ (pool : Pool) (sides : List Side) (servers : List Serving) (tx : Ring E
   pub watched : Watched
   watched =
       let s = seen side.is_broken pool side.peer a.call side.session is.progress told-call in
-      record { call = s.call; found = s.found; progress = sym told-call ∙ progress-found side.is_broken pool side.peer a.call side.session s.call s.found }
+      record {
+        call = s.call;
+        found = s.found;
+        progress = sym told-call
+            ∙ progress-found side.is_broken pool side.peer a.call side.session s.call s.found;
+      }
 
   pub watched-active : IsSome (call_numbered a.call side.session)
   watched-active = rw watched.found refl
@@ -306,10 +374,13 @@ module _ (pool : Pool) (sides : List Side) (servers : List Serving) (tx : Ring E
       → Some p ≡ (shown_active pool c).progress
       → call_timer now timeout (list_any (is_queued (Ask i c.request) c.got) seen-as.queued) c ≡ row
       → row_of now timeout i seen-as.queued p ≡ row
-  row-by now timeout c p row e h = subst (λ (o : Option Progress). IfSome o (λ x. row_of now timeout i seen-as.queued x ≡ row)) (sym e) h
+  row-by now timeout c p row e h =
+      subst (λ (o : Option Progress). IfSome o (λ x. row_of now timeout i seen-as.queued x ≡ row))
+      (sym e) h
 
   pub row-at : (now timeout : ℕ) (row : TimerRow)
-      → call_timer now timeout (list_any (is_queued (Ask i watched.call.request) watched.call.got) seen-as.queued) watched.call ≡ row
+      → call_timer now timeout (list_any (is_queued (Ask i watched.call.request) watched.call.got)
+      seen-as.queued) watched.call ≡ row
       → RowAt now timeout i a.call row seen-as
   row-at now timeout row h =
       let found : slice_get seen-as.clients i ≡ Some is.client = is.place in
@@ -317,8 +388,10 @@ module _ (pool : Pool) (sides : List Side) (servers : List Serving) (tx : Ring E
 
   told-same : (c : ActiveCall) (p : Progress) → Some p ≡ (shown_active pool c).progress
       → (p.request ≡ c.request) × (p.got ≡ c.got)
-  told-same c p e =
-      (subst (λ (o : Option Progress). IfSome o (λ x. x.request ≡ c.request)) (sym e) refl, subst (λ (o : Option Progress). IfSome o (λ x. x.got ≡ c.got)) (sym e) refl)
+  told-same c p e = (
+    subst (λ (o : Option Progress). IfSome o (λ x. x.request ≡ c.request)) (sym e) refl,
+    subst (λ (o : Option Progress). IfSome o (λ x. x.got ≡ c.got)) (sym e) refl,
+  )
 
   pub watched-request : a.request ≡ watched.call.request
   watched-request = ap (λ (x : Active). x.request) is.told ∙ (told-same watched.call is.progress watched.progress).0
@@ -332,7 +405,8 @@ module _ (pool : Pool) (sides : List Side) (servers : List Serving) (tx : Ring E
       → RowAt now timeout i a.call Waits seen-as
   quiet-row now timeout h =
       let waits : (b : Bool) → call_timer now timeout b watched.call ≡ Waits = rw watched.found at h in
-      row-at now timeout Waits (waits (list_any (is_queued (Ask i watched.call.request) watched.call.got) seen-as.queued))
+      row-at now timeout Waits (waits (list_any
+      (is_queued (Ask i watched.call.request) watched.call.got) seen-as.queued))
 
   pub late-row : (now timeout : ℕ) (is_waiting : Bool) (t : Timer) (row : TimerRow)
       → is_waiting ≡ list_any (is_queued (Ask i a.request) a.got) seen-as.queued
@@ -341,9 +415,14 @@ module _ (pool : Pool) (sides : List Side) (servers : List Serving) (tx : Ring E
       → ((c : ActiveCall) → (r : TimerRow) → t ≡ timer_told r c → r ≡ row)
       → RowAt now timeout i a.call row seen-as
   late-row now timeout is_waiting t row waits told back =
-      let here : t ≡ timer_told (call_timer now timeout is_waiting watched.call) watched.call = rw watched.found at told in
-      let same : is_waiting ≡ list_any (is_queued (Ask i watched.call.request) watched.call.got) seen-as.queued = waits ∙ ap (λ r. list_any (is_queued (Ask i r) a.got) seen-as.queued) watched-request ∙ ap (λ k. list_any (is_queued (Ask i watched.call.request) k) seen-as.queued) watched-got in
-      row-at now timeout row (ap (λ b. call_timer now timeout b watched.call) (sym same) ∙ back watched.call (call_timer now timeout is_waiting watched.call) here)
+      let here : t ≡ timer_told (call_timer now timeout is_waiting watched.call) watched.call =
+      rw watched.found at told in
+      let same : is_waiting ≡ list_any (is_queued (Ask i watched.call.request) watched.call.got)
+      seen-as.queued = waits ∙ ap (λ r. list_any (is_queued (Ask i r) a.got) seen-as.queued)
+      watched-request ∙ ap (λ k. list_any (is_queued (Ask i watched.call.request) k)
+      seen-as.queued) watched-got in
+      row-at now timeout row (ap (λ b. call_timer now timeout b watched.call) (sym same)
+      ∙ back watched.call (call_timer now timeout is_waiting watched.call) here)
 
 -- a call that is lost ends so
 lost-outcome : (old new : Session) (pool after : Pool) (d : Done) (o : Option ActiveCall)

@@ -21,11 +21,6 @@ use Rattle.server_core.specs.KeepsPool.{ask_names, names as slot_names, own_name
 use Rattle.server_core.specs.Session.{answer_of, ask_of}
 use Rattle.server_core.specs.Shown.{answer_in, ask_in, shown_request}
 
-pub full-used : (u : Use) → is_full u ≡ true → is_empty u ≡ false
-full-used Empty full = cc
-full-used (Full refs) full = refl
-full-used Lent full = refl
-
 own-place : (a p : ℕ) (b : Bool) → eqb a p ≡ b → 1 ≤ cond {A = ℕ} b 1 0 → a ≡ p
 own-place a p true t n = eqb-true a p t
 own-place a p false t n = absurd (omega (arith, n))
@@ -43,7 +38,9 @@ names-later p c cs n = omega (arith, names-cons p c cs, n)
 
 -- a place that is named is full
 module _ (pool : Pool) (p : ℕ) where
-  named-cases : (c : ActiveCall) (cs : List ActiveCall) (a b : Bool) → eqb c.ask p ≡ a → eqb c.answer p ≡ b → IsKept pool c → (1 ≤ names p cs → IsFull pool p) → 1 ≤ cond {A = ℕ} a 1 0 + cond {A = ℕ} b 1 0 + names p cs → IsFull pool p
+  named-cases : (c : ActiveCall) (cs : List ActiveCall) (a b : Bool) → eqb c.ask p ≡ a
+      → eqb c.answer p ≡ b → IsKept pool c → (1 ≤ names p cs → IsFull pool p)
+      → 1 ≤ cond {A = ℕ} a 1 0 + cond {A = ℕ} b 1 0 + names p cs → IsFull pool p
   named-cases c cs true b t s kept rest n = rw (own-place c.ask p true t (omega arith)) at kept.ask
   named-cases c cs false true t s kept rest n = rw (own-place c.answer p true s (omega arith)) at kept.answer
   named-cases c cs false false t s kept rest n = rest (omega (arith, n))
@@ -52,7 +49,8 @@ module _ (pool : Pool) (p : ℕ) where
       → IsFull pool p
   named-full [] kept n = absurd (omega (arith, n))
   named-full (c ∷ cs) kept n =
-      named-cases c cs (eqb c.ask p) (eqb c.answer p) refl refl kept.0 (named-full cs kept.1) (omega (arith, names-cons p c cs, n))
+      named-cases c cs (eqb c.ask p) (eqb c.answer p) refl refl kept.0 (named-full cs kept.1)
+      (omega (arith, names-cons p c cs, n))
 
   -- of a request
   answer-full : (a : Option Stored) → IfSome a (IsStored pool) → 1 ≤ answer_names p a
@@ -60,7 +58,8 @@ module _ (pool : Pool) (p : ℕ) where
   answer-full None kept n = absurd (omega (arith, n))
   answer-full (Some a) kept n = rw (own-place a.place p (eqb a.place p) refl n) at kept.full
 
-  ask-cases : (size : ℕ) (x : ℕ) (a : Option Stored) (b : Bool) → eqb x p ≡ b → IsAsked pool size x → IfSome a (IsStored pool) → 1 ≤ cond {A = ℕ} b 1 0 + answer_names p a → IsFull pool p
+  ask-cases : (size : ℕ) (x : ℕ) (a : Option Stored) (b : Bool) → eqb x p ≡ b → IsAsked pool size x
+      → IfSome a (IsStored pool) → 1 ≤ cond {A = ℕ} b 1 0 + answer_names p a → IsFull pool p
   ask-cases size x a true t kept stored n = rw (own-place x p true t (omega arith)) at kept.full
   ask-cases size x a false t kept stored n = answer-full a stored (omega (arith, n))
 
@@ -73,13 +72,15 @@ module _ (pool : Pool) (p : ℕ) where
       → (1 ≤ slot_names p qs → IsFull pool p) → (k : ℕ) → own_names p q ≡ k
       → 1 ≤ k + slot_names p qs → IsFull pool p
   slots-cons q qs kept rest zero t n = rest (omega (arith, n))
-  slots-cons q qs kept rest (suc k) t n = own-full q.size (ask_of q.state) (answer_of q.state) kept.ask kept.answer (omega (arith, t))
+  slots-cons q qs kept rest (suc k) t n =
+      own-full q.size (ask_of q.state) (answer_of q.state) kept.ask kept.answer (omega (arith, t))
 
   pub served-full : (qs : List SlotRequest) → AllByRecursion (IsServed pool) qs
       → 1 ≤ slot_names p qs → IsFull pool p
   served-full [] kept n = absurd (omega (arith, n))
   served-full (q ∷ qs) kept n =
-      slots-cons q qs kept.0 (served-full qs kept.1) (own_names p q) refl (omega (arith, sum_by-cons (own_names p) q qs, n))
+      slots-cons q qs kept.0 (served-full qs kept.1)
+      (own_names p q) refl (omega (arith, sum_by-cons (own_names p) q qs, n))
 
 -- a request's own places are named
 pub names-own : (p : ℕ) (q : SlotRequest) (qs : List SlotRequest) → 1 ≤ own_names p q
@@ -109,14 +110,20 @@ module _ (pool after : Pool) where
   pub calls-kept : (cs : List ActiveCall) → ((p : ℕ) → 1 ≤ names p cs → IsSame pool after p)
       → AllByRecursion (IsKept pool) cs → AllByRecursion (IsKept after) cs
   calls-kept [] same kept = tt
-  calls-kept (c ∷ cs) same kept =
-      (call-kept c (same c.ask (names-ask c cs)) (same c.answer (names-answer c cs)) kept.0, calls-kept cs (λ p n. same p (names-later p c cs n)) kept.1)
+  calls-kept (c ∷ cs) same kept = (
+    call-kept c (same c.ask (names-ask c cs)) (same c.answer (names-answer c cs)) kept.0,
+    calls-kept cs (λ p n. same p (names-later p c cs n)) kept.1,
+  )
 
   pub calls-shown : (cs : List ActiveCall) → ((p : ℕ) → 1 ≤ names p cs → IsSame pool after p)
       → map (shown_active after) cs ≡ map (shown_active pool) cs
   calls-shown [] same = refl
   calls-shown (c ∷ cs) same =
-      rw ((same c.ask (names-ask c cs)).buf_is, (same c.answer (names-answer c cs)).buf_is, calls-shown cs (λ p n. same p (names-later p c cs n))) refl
+      rw (
+        (same c.ask (names-ask c cs)).buf_is,
+        (same c.answer (names-answer c cs)).buf_is,
+        calls-shown cs (λ p n. same p (names-later p c cs n)),
+      ) refl
 
   -- a request
   ask-kept : (size : ℕ) (o : Option ℕ) → ((p : ℕ) → 1 ≤ ask_names p o → IsSame pool after p)
@@ -124,7 +131,11 @@ module _ (pool after : Pool) where
   ask-kept size None same kept = tt
   ask-kept size (Some p) same kept =
       let here = same p (omega (arith, named-one p p refl)) in
-      record { full = ap is_full here.use_is ∙ kept.full; size_is = rw here.buf_is kept.size_is; unnamed = ap refs_in here.use_is ∙ kept.unnamed }
+      record {
+        full = ap is_full here.use_is ∙ kept.full;
+        size_is = rw here.buf_is kept.size_is;
+        unnamed = ap refs_in here.use_is ∙ kept.unnamed;
+      }
 
   answer-kept : (a : Option Stored) → ((p : ℕ) → 1 ≤ answer_names p a → IsSame pool after p)
       → IfSome a (IsStored pool) → IfSome a (IsStored after)
@@ -153,16 +164,24 @@ module _ (pool after : Pool) where
   pub request-shown : (q : SlotRequest) → ((p : ℕ) → 1 ≤ own_names p q → IsSame pool after p)
       → shown_request after q ≡ shown_request pool q
   request-shown q same =
-      rw (ask-shown q.taken (ask_of q.state) (λ p n. same p (omega (arith, n))), answer-shown (answer_of q.state) (λ p n. same p (omega (arith, n)))) refl
+      rw (
+        ask-shown q.taken (ask_of q.state) (λ p n. same p (omega (arith, n))),
+        answer-shown (answer_of q.state) (λ p n. same p (omega (arith, n))),
+      ) refl
 
   pub slots-kept : (qs : List SlotRequest) → ((p : ℕ) → 1 ≤ slot_names p qs → IsSame pool after p)
       → AllByRecursion (IsServed pool) qs → AllByRecursion (IsServed after) qs
   slots-kept [] same kept = tt
-  slots-kept (q ∷ qs) same kept =
-      (request-kept q (λ p n. same p (names-own p q qs n)) kept.0, slots-kept qs (λ p n. same p (names-rest p q qs n)) kept.1)
+  slots-kept (q ∷ qs) same kept = (
+    request-kept q (λ p n. same p (names-own p q qs n)) kept.0,
+    slots-kept qs (λ p n. same p (names-rest p q qs n)) kept.1,
+  )
 
   pub slots-shown : (qs : List SlotRequest) → ((p : ℕ) → 1 ≤ slot_names p qs → IsSame pool after p)
       → map (shown_request after) qs ≡ map (shown_request pool) qs
   slots-shown [] same = refl
   slots-shown (q ∷ qs) same =
-      rw (request-shown q (λ p n. same p (names-own p q qs n)), slots-shown qs (λ p n. same p (names-rest p q qs n))) refl
+      rw (
+        request-shown q (λ p n. same p (names-own p q qs n)),
+        slots-shown qs (λ p n. same p (names-rest p q qs n)),
+      ) refl

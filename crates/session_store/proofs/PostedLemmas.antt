@@ -50,7 +50,13 @@ module _ (peer : ℕ) (s : Session) (e : EntryValue) where
   posts-free false None t f h = cc
   posts-free false (Some c) t f h =
       let some : s.credits.free ≢ 0 = eqb-false s.credits.free 0 t in
-      record { call = c; next = rw (t, f) refl; found = f; free = omega (arith, some); entry = some-same e (entry_of s.number peer c) h }
+      record {
+        call = c;
+        next = rw (t, f) refl;
+        found = f;
+        free = omega (arith, some);
+        entry = some-same e (entry_of s.number peer c) h;
+      }
     where
       some-same : (x y : EntryValue) → Some x ≡ Some y → x ≡ y
       some-same x y h = cc
@@ -65,7 +71,10 @@ module _ (pool after : Pool) (peer : ℕ) (s new : Session) (e : EntryValue)
   poster : PostsCall peer s e
   poster = posts-call peer s e is
 
-  after-post : new ≡ record s { credits = charged (poster.call.request % 8) s.credits; active = at_first can_post one_posted s.active }
+  after-post : new ≡ record s {
+    credits = charged (poster.call.request % 8) s.credits;
+    active = at_first can_post one_posted s.active;
+  }
   after-post = changed ∙ ap (λ o. after_posting o s) poster.next
 
   pub posted-free : new.credits.free + 1 ≡ s.credits.free
@@ -78,7 +87,8 @@ module _ (pool after : Pool) (peer : ℕ) (s new : Session) (e : EntryValue)
   posted-number = ap (λ (x : Session). x.number) after-post
 
   posted-full : IfSome e.place (IsFull pool)
-  posted-full = rw (ap (λ (x : EntryValue). x.place) poster.entry) (place-full (ltb poster.call.posted (packet_count poster.call.len)))
+  posted-full = rw (ap (λ (x : EntryValue). x.place) poster.entry)
+      (place-full (ltb poster.call.posted (packet_count poster.call.len)))
     where
       place-full : (b : Bool) → IfSome (cond b (Some poster.call.ask) None) (IsFull pool)
       place-full true = (found-holds can_post (IsKept pool) s.active poster.call keeps.kept poster.found).ask
@@ -98,7 +108,8 @@ module _ {A : Type 0} where
       → count_by is_some xs < length xs
   some-free [] h = absurd (omega (arith, h))
   some-free (None ∷ xs) h = omega (arith, counted-cons is_some None xs false refl, count-most xs)
-  some-free (Some x ∷ xs) h = omega (arith, counted-cons is_some (Some x) xs true refl, some-free xs (omega (arith, h)))
+  some-free (Some x ∷ xs) h =
+      omega (arith, counted-cons is_some (Some x) xs true refl, some-free xs (omega (arith, h)))
 
 pub free-slot : (s : Session) (i : ℕ) → IsSession s → lowest_free s.slots ≡ Some i
     → length s.active < 8
@@ -124,7 +135,14 @@ module _ (pool after : Pool) (s new : Session) (b : ℕ × ℕ)
   middle = filled h.ask h.waiting.req pool
 
   pub begun-spare : spare_of after + 2 ≡ spare_of pool
-  begun-spare = omega (arith, ap (λ (x : Pool). spare_of x) h.pool, spare_filled middle h.answer h.waiting.resp h.answer_place, spare_filled pool h.ask h.waiting.req h.ask_place)
+  begun-spare = omega (
+    arith,
+    ap (λ (x : Pool). spare_of x) h.pool,
+    spare_filled middle h.answer h.waiting.resp h.answer_place,
+    spare_filled pool h.ask
+        h.waiting.req h.ask_place,
+  )
 
   pub begun-length : length new.active ≡ length s.active + 1
-  begun-length = ap (λ (x : Session). length x.active) h.session ∙ length-append s.active (started h.waiting b.1 h.ask h.answer ∷ [])
+  begun-length = ap (λ (x : Session). length x.active) h.session
+      ∙ length-append s.active (started h.waiting b.1 h.ask h.answer ∷ [])

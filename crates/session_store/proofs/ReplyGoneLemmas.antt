@@ -52,6 +52,7 @@ use Rattle.session_store.proofs.KeptLemmas.{server-places, servers-set}
 use Rattle.session_store.proofs.ListLemmas.{all-at, find-there, get-map, get-there, set-own}
 use Rattle.session_store.proofs.PostedLemmas.{spare-released}
 use Rattle.session_store.proofs.StandLemmas.{all-taken, ends-all, front-taken}
+use Rattle.client_core.proofs.OthersLemmas.{released-buf}
 
 -- the session with a number and a peer
 pub record EndAt (servers : List Serving) (number peer : ℕ) : Type 0 where
@@ -66,10 +67,22 @@ end-cons : (v : Serving) (vs : List Serving) (number peer : ℕ) (b : Bool) → 
     → (b || list_any (is_end number peer) vs) ≡ true → EndAt (v ∷ vs) number peer
 end-cons v vs number peer true t ih some =
     let parts = and_parts (eqb v.number number) (eqb v.peer peer) t in
-    record { place = 0; server = v; at = refl; numbered = eqb-true v.number number parts.0; peered = eqb-true v.peer peer parts.1 }
+    record {
+      place = 0;
+      server = v;
+      at = refl;
+      numbered = eqb-true v.number number parts.0;
+      peered = eqb-true v.peer peer parts.1;
+    }
 end-cons v vs number peer false t ih some =
     let more = ih some in
-    record { place = suc more.place; server = more.server; at = more.at; numbered = more.numbered; peered = more.peered }
+    record {
+      place = suc more.place;
+      server = more.server;
+      at = more.at;
+      numbered = more.numbered;
+      peered = more.peered;
+    }
 
 pub end-at : (servers : List Serving) (number peer : ℕ)
     → list_any (is_end number peer) servers ≡ true → EndAt servers number peer
@@ -82,10 +95,14 @@ module _ (pool : Pool) (sides : List Side) (servers : List Serving) (tx : Ring E
     (at : slice_get servers i ≡ Some v) (own : v.number ≡ number) where
   others : (j : ℕ) (w : Serving) → slice_get servers j ≡ Some w → j ≢ i → w.number ≢ number
   others j w there other = λ t.
-      rises-apart (numbers_in servers) i j v.number w.number kept.rises (get-map (λ (y : Serving). y.number) servers i v at) (get-map (λ (y : Serving). y.number) servers j w there) other (t ∙ sym own)
+      rises-apart (numbers_in servers) i j v.number w.number kept.rises
+      (get-map (λ (y : Serving). y.number) servers i v at)
+      (get-map (λ (y : Serving). y.number) servers j w there) other (t ∙ sym own)
 
   pub find-server : find (is_server number) (map (shown_server pool) servers) ≡ Some (shown_server pool v)
-  find-server = find-map (shown_server pool) (is_server number) servers i v at (eq-eqb v.number number own) (λ j w there other. ne_eqb w.number number (others j w there other))
+  find-server = find-map (shown_server pool) (is_server number) servers i v
+      at (eq-eqb v.number number own) (λ j w there other. ne_eqb w.number number
+      (others j w there other))
 
   pub same-place : (j : ℕ) (w : Serving) → slice_get servers j ≡ Some w → w.number ≡ number → w ≡ v
   same-place j w there its = elim (cases_eq j i) [
@@ -113,12 +130,16 @@ own-request n r q o own t =
 
 reply-cases : (pool : Pool) (entries : List EntryValue) (v : Serving) (r : ℕ) (e : EntryValue)
     → e.owner ≡ Reply v.number r → AllByRecursion (HoldsReplies v.number pool entries) v.slots
-    → ((q : SlotRequest) → HoldsReplies v.number pool entries q → is_of (owner_of v.number q) e ≡ true → IsReplyIn q e)
+    → ((q : SlotRequest) → HoldsReplies v.number pool entries q
+    → is_of (owner_of v.number q) e ≡ true → IsReplyIn q e)
     → list_any (is_owner v.number e.owner) v.slots ≡ true → (o : Option SlotRequest)
     → request_of v e ≡ o → IsReplyTo o e
 reply-cases pool entries v r e own each is some None found = let no = missing-none (is_owner v.number e.owner) v.slots found in cc
 reply-cases pool entries v r e own each is some (Some q) found =
-    is q (found-holds (is_owner v.number e.owner) (HoldsReplies v.number pool entries) v.slots q each found) (own-request v.number r q e.owner own (find-passes (is_owner v.number e.owner) v.slots q found))
+    is q (found-holds (is_owner v.number e.owner)
+    (HoldsReplies v.number pool entries) v.slots q each found)
+    (own-request v.number r q e.owner own
+    (find-passes (is_owner v.number e.owner) v.slots q found))
 
 -- whatever picks it out of the ring
 module _ (pool : Pool) (entries : List EntryValue) (v : Serving) (r : ℕ) (e : EntryValue)
@@ -128,7 +149,11 @@ module _ (pool : Pool) (entries : List EntryValue) (v : Serving) (r : ℕ) (e : 
   pub reply-stands : IsReplyTo (request_of v e) e
   reply-stands =
       let mine : is_reply_of v.number e.owner ≡ true = rw own (eq-eqb v.number v.number refl) in
-      reply-cases pool entries v r e own held.each (λ q h t. pick (λ d. IsTrue (is_of (owner_of v.number q) d) → IsReplyIn q d) h.each t) (pick (λ d. IsTrue (is_reply_of v.number d.owner) → IsTrue (list_any (is_owner v.number d.owner) v.slots)) held.own mine) (request_of v e) refl
+      reply-cases pool entries v r e own held.each
+      (λ q h t. pick (λ d. IsTrue (is_of (owner_of v.number q) d) → IsReplyIn q d) h.each t)
+      (pick (λ d. IsTrue (is_reply_of v.number d.owner)
+      → IsTrue (list_any (is_owner v.number d.owner) v.slots)) held.own mine)
+      (request_of v e) refl
 
 -- the place of a reply is named by its session
 answer-named : (p : ℕ) (b : Bool) (o : Option Stored)
@@ -147,11 +172,8 @@ named-cases v e p is (Some q) found h =
 released-use : (pool : Pool) (p : ℕ) (o : Option ℕ) → o ≢ Some p
     → use_at (released_at o pool) p ≡ use_at pool p
 released-use pool p None other = refl
-released-use pool p (Some q) other = changed_other pool.uses q p (Full (refs_of pool q - 1)) Empty (λ t. other (ap Some (sym t)))
-
-released-buf : (pool : Pool) (p : ℕ) (o : Option ℕ) → buf_at (released_at o pool) p ≡ buf_at pool p
-released-buf pool p None = refl
-released-buf pool p (Some q) = refl
+released-use pool p (Some q) other =
+    changed_other pool.uses q p (Full (refs_of pool q - 1)) Empty (λ t. other (ap Some (sym t)))
 
 -- a reply of session number leaves the ring
 module _ (pool after : Pool) (sides : List Side) (servers now : List Serving) (tx : Ring EntryValue)
@@ -163,15 +185,23 @@ module _ (pool after : Pool) (sides : List Side) (servers now : List Serving) (t
     where
       cases : (o : Option ℕ) → e.place ≡ o → IsHeld pool o
       cases None is = tt
-      cases (Some p) is = omega (arith, kept.counted p, mentions-taken p passes e tx.items left out, mentions-own p e is)
+      cases (Some p) is = omega (
+        arith,
+        kept.counted p,
+        mentions-taken p passes e tx.items left out,
+        mentions-own p e is,
+      )
 
   reply-end : EndAt servers number e.peer
-  reply-end = end-at servers number e.peer (subst (IsOfOwner sides servers e) own (all-taken (IsOf sides servers) passes e tx.items left out kept.stands).0)
+  reply-end = end-at servers number e.peer (subst (IsOfOwner sides servers e) own
+      (all-taken (IsOf sides servers) passes e tx.items left out kept.stands).0)
 
   reply-of-end : (i : ℕ) (v : Serving) → slice_get servers i ≡ Some v → v.number ≡ number
       → IsReplyTo (request_of v e) e
   reply-of-end i v at its =
-      reply-stands pool tx.items v r e (own ∙ ap (λ n. Reply n r) (sym its)) (λ P all. (all-taken P passes e tx.items left out all).0) (all-at (ServerHolds pool tx.items) servers i v kept.holds at)
+      reply-stands pool tx.items v r e (own ∙ ap (λ n. Reply n r) (sym its))
+      (λ P all. (all-taken P passes e tx.items left out all).0)
+      (all-at (ServerHolds pool tx.items) servers i v kept.holds at)
 
   pub reply-there : HasReply number e servers
   reply-there = cases (position (has_number number) servers) refl
@@ -214,7 +244,8 @@ no-first number e servers h none = subst (IsOfServer e) (find-missing (has_numbe
 pub first-at : (number : ℕ) (servers : List Serving) (i : ℕ) (x : Serving)
     → position (has_number number) servers ≡ Some i → x ≡ get_or servers i x
     → slice_get servers i ≡ Some x
-first-at number servers i x first looked = get-there servers i x (position-at (has_number number) servers i x first).0 looked
+first-at number servers i x first looked =
+    get-there servers i x (position-at (has_number number) servers i x first).0 looked
 
 pub first-reply : (number : ℕ) (e : EntryValue) (servers : List Serving) (i : ℕ) (x : Serving)
     → position (has_number number) servers ≡ Some i → x ≡ get_or servers i x
@@ -227,7 +258,8 @@ pub first-spells : (number : ℕ) (pool : Pool) (e : EntryValue) (head body : Li
     → x ≡ get_or servers i x → IsSpelled (reply_of pool x e) head body
     → ServerSpells number pool e head body servers
 first-spells number pool e head body servers i x first looked h =
-    subst (SpellsReply pool e head body) (sym (first-found servers number i x first (first-at number servers i x first looked))) h
+    subst (SpellsReply pool e head body) (sym
+    (first-found servers number i x first (first-at number servers i x first looked))) h
 
 -- it left the ring
 module _ (pool after : Pool) (sides : List Side) (servers now : List Serving) (tx : Ring EntryValue)
@@ -241,22 +273,36 @@ module _ (pool after : Pool) (sides : List Side) (servers now : List Serving) (t
   its-owner = own ∙ ap (λ n. Reply n r) (sym its-number)
 
   its-reply : IsReplyTo (request_of h.server e) e
-  its-reply = reply-of-end pool after sides servers now tx number r e passes left kept out own h.place h.server h.at its-number
+  its-reply = reply-of-end pool after sides servers now tx number r e passes left kept out own
+      h.place h.server h.at its-number
 
   left-slots : h.later.slots ≡ at_first (is_owner h.server.number e.owner) one_left h.server.slots
   left-slots = ap (λ (x : Serving). x.slots) h.step.session
 
   left-names : (p : ℕ) → slot_names p h.later.slots ≡ slot_names p h.server.slots
-  left-names p = ap (slot_names p) left-slots ∙ sum-at_first (is_owner h.server.number e.owner) one_left (own_names p) h.server.slots (λ q. refl)
+  left-names p = ap (slot_names p) left-slots
+      ∙ sum-at_first (is_owner h.server.number e.owner) one_left (own_names p) h.server.slots
+      (λ q. refl)
 
   left-places : slot_places h.later.slots ≡ slot_places h.server.slots
-  left-places = ap slot_places left-slots ∙ sum-at_first (is_owner h.server.number e.owner) one_left own_places h.server.slots (λ q. refl)
+  left-places = ap slot_places left-slots ∙ sum-at_first (is_owner h.server.number e.owner) one_left
+      own_places h.server.slots (λ q. refl)
 
   reply-leaves : (p : ℕ) → slot_names p h.server.slots ≡ 0 → is_empty (use_at pool p) ≡ false
       → (slot_names p h.later.slots ≡ 0) × (use_at after p ≡ use_at pool p) × (buf_at after p ≡ buf_at pool p)
   reply-leaves p none used =
-      let other : e.place ≢ Some p = λ is. absurd (omega (arith, none, named-cases h.server e p is (request_of h.server e) refl its-reply)) in
-      (left-names p ∙ none, ap (λ (x : Pool). use_at x p) h.step.pool ∙ released-use pool p e.place other, ap (λ (x : Pool). buf_at x p) h.step.pool ∙ released-buf pool p e.place)
+      let other : e.place ≢ Some p =
+      λ is. absurd (omega (
+        arith,
+        none,
+        named-cases h.server e p is (request_of h.server e) refl its-reply,
+      )) in (
+        left-names p ∙ none,
+        ap (λ (x : Pool). use_at x p) h.step.pool
+            ∙ released-use pool p e.place other,
+        ap (λ (x : Pool). buf_at x p) h.step.pool
+            ∙ released-buf pool p e.place,
+      )
 
   reply-acts : ServerActs pool after sides servers h.place h.server h.later tx (ring left tx.size)
   reply-acts =
@@ -267,48 +313,72 @@ module _ (pool after : Pool) (sides : List Side) (servers now : List Serving) (t
           leaves = reply-leaves;
           few = h.step.keeps.apart;
           counts = h.step.counts passes tx.items left out kept.counted;
-          beside = rest-taken (λ d. is_reply_of h.server.number d.owner) passes e tx.items left out (rw its-owner (eq-eqb h.server.number h.server.number refl));
+          beside = rest-taken (λ d. is_reply_of h.server.number d.owner) passes e tx.items left out
+              (rw its-owner (eq-eqb h.server.number h.server.number refl));
           within = omega (arith, kept.within, fewer);
           size = refl;
         };
         keeps = h.step.keeps;
         number = ap (λ (x : Serving). x.number) h.step.session;
-        stands = ends-all sides servers h.place h.server h.later h.at (ap (λ (x : Serving). x.number) h.step.session) (ap (λ (x : Serving). x.peer) h.step.session) left (all-taken (IsOf sides servers) passes e tx.items left out kept.stands).1;
-        holds = h.step.holds its-reply passes tx.items left out (all-at (ServerHolds pool tx.items) servers h.place h.server kept.holds h.at);
-        queued = h.step.queued its-reply passes tx.items left out (all-at (ServerQueued tx.items) servers h.place h.server kept.replies h.at);
+        stands = ends-all sides servers h.place h.server h.later h.at
+            (ap (λ (x : Serving). x.number) h.step.session)
+            (ap (λ (x : Serving). x.peer) h.step.session) left
+            (all-taken (IsOf sides servers) passes e tx.items left out kept.stands).1;
+        holds = h.step.holds its-reply passes tx.items left out
+            (all-at (ServerHolds pool tx.items) servers h.place h.server kept.holds h.at);
+        queued = h.step.queued its-reply passes tx.items left out
+            (all-at (ServerQueued tx.items) servers h.place h.server kept.replies h.at);
         served = omega (arith, left-places, all-at HasPlaces servers h.place h.server kept.served h.at);
-        spare = omega (arith, left-places, ap (λ (x : Pool). spare_of x) h.step.pool, spare-released pool e.place some);
+        spare = omega (
+          arith,
+          left-places,
+          ap (λ (x : Pool). spare_of x) h.step.pool,
+          spare-released pool e.place some,
+        );
       }
 
   pub reply-kept : Kept after sides now (ring left tx.size)
-  reply-kept = subst (λ vs. Kept after sides vs (ring left tx.size)) (sym h.changed) (server-acted pool after sides servers h.place h.server h.later tx (ring left tx.size) h.at kept reply-acts)
+  reply-kept = subst (λ vs. Kept after sides vs (ring left tx.size)) (sym h.changed)
+      (server-acted pool after sides servers h.place h.server h.later tx (ring left tx.size) h.at
+      kept reply-acts)
 
   pub reply-clients : map (shown_side after) sides ≡ map (shown_side pool) sides
-  reply-clients = clients-same pool after sides servers h.place h.server h.later tx (ring left tx.size) h.at kept reply-acts
+  reply-clients = clients-same pool after sides servers h.place h.server h.later tx
+      (ring left tx.size) h.at kept reply-acts
 
   pub reply-servers : map (shown_server after) now ≡ map (shown_server pool) servers
   reply-servers =
-      ap (map (shown_server after)) h.changed ∙ servers-set pool after sides servers h.place h.server h.later tx (ring left tx.size) h.at kept reply-acts
-      ∙ ap (slice_set (map (shown_server pool) servers) h.place) h.step.same ∙ set-own (map (shown_server pool) servers) h.place (shown_server pool h.server) (get-map (shown_server pool) servers h.place h.server h.at)
+      ap (map (shown_server after)) h.changed
+      ∙ servers-set pool after sides servers h.place h.server h.later tx (ring left tx.size)
+      h.at kept reply-acts
+      ∙ ap (slice_set (map (shown_server pool) servers) h.place) h.step.same
+      ∙ set-own (map (shown_server pool) servers) h.place (shown_server pool h.server)
+      (get-map (shown_server pool) servers h.place h.server h.at)
 
-  pub reply-places : spare_of after + places_in sides + served_places now ≡ spare_of pool + places_in sides + served_places servers
-  reply-places = ap (λ vs. spare_of after + places_in sides + served_places vs) h.changed ∙ server-places pool after sides servers h.place h.server h.later tx (ring left tx.size) h.at kept reply-acts
+  pub reply-places : spare_of after + places_in sides + served_places now
+      ≡ spare_of pool + places_in sides + served_places servers
+  reply-places = ap (λ vs. spare_of after + places_in sides + served_places vs) h.changed
+      ∙ server-places pool after sides servers h.place h.server h.later tx (ring left tx.size) h.at
+      kept reply-acts
 
 -- the front of the ring is a reply
 module _ (pool : Pool) (sides : List Side) (servers : List Serving) (tx : Ring EntryValue)
     (kept : Kept pool sides servers tx) (number r : ℕ) (e : EntryValue)
     (front : slice_get tx.items 0 ≡ Some e) (own : e.owner ≡ Reply number r) where
   front-end : EndAt servers number e.peer
-  front-end = end-at servers number e.peer (subst (IsOfOwner sides servers e) own (all-at (IsOf sides servers) tx.items 0 e kept.stands front))
+  front-end = end-at servers number e.peer (subst (IsOfOwner sides servers e) own
+      (all-at (IsOf sides servers) tx.items 0 e kept.stands front))
 
   end-found : find (is_server number) (map (shown_server pool) servers) ≡ Some (shown_server pool front-end.server)
-  end-found = find-server pool sides servers tx kept number front-end.place front-end.server front-end.at front-end.numbered
+  end-found = find-server pool sides servers tx kept number front-end.place front-end.server
+      front-end.at front-end.numbered
 
   pub end-peer : peer_in (shown_of pool sides servers tx) e.owner ≡ Some e.peer
   end-peer = rw (own, end-found) (ap Some front-end.peered)
 
   pub end-reply : HasReply number e servers
-  end-reply = reply-there pool pool sides servers servers tx number r e (λ d. false) (drop 1 tx.items) kept (front-taken tx.items e front) own
+  end-reply = reply-there pool pool sides servers servers tx number r e (λ d. false)
+      (drop 1 tx.items) kept (front-taken tx.items e front) own
 
   spells-cases : (head body : List ℕ) (o : Option Serving) → find (has_number number) servers ≡ o
       → SpellsReply pool e head body o
@@ -317,8 +387,11 @@ module _ (pool : Pool) (sides : List Side) (servers : List Serving) (tx : Ring E
   spells-cases head body (Some v) found h =
       let its = eqb-true v.number number (find-passes (has_number number) servers v found) in
       let there = find-there (has_number number) servers v found in
-      let same : v ≡ front-end.server = same-place pool sides servers tx kept number front-end.place front-end.server front-end.at front-end.numbered there.0 v there.1 its in
-      let whole : reply_of pool v e ≡ reply_packet r e.number (Some (shown_server pool v)) = rw (own, eq-eqb v.number number its) refl in
+      let same : v ≡ front-end.server =
+      same-place pool sides servers tx kept number front-end.place front-end.server
+      front-end.at front-end.numbered there.0 v there.1 its in
+      let whole : reply_of pool v e ≡ reply_packet r e.number (Some (shown_server pool v)) =
+      rw (own, eq-eqb v.number number its) refl in
       rw (own, end-found, ← same, ← whole) h
 
   pub end-spells : (head body : List ℕ) → ServerSpells number pool e head body servers

@@ -79,13 +79,22 @@ pub ended-spends : (pool after : Pool) (old new : Session) (by : ActiveCall → 
 ended-spends pool after old new by c keeps found same session effect =
     let own = found-holds by (IsKept pool) old.active c keeps.kept found in
     let apart = two-places by c old.active found (keeps.apart c.ask) in
-    let full : IsFull (emptied c.ask pool) c.answer = ap is_full (changed_other pool.uses c.ask c.answer Empty Empty (λ t. apart (sym t))) ∙ own.answer in
+    let full : IsFull (emptied c.ask pool) c.answer =
+    ap is_full (changed_other pool.uses c.ask c.answer Empty Empty (λ t. apart (sym t)))
+    ∙ own.answer in
     let less = length-without (is_request c.request) c old.active same in
     let long = ap (λ (x : Session). length x.active) session in
     record {
       number = ap (λ (x : Session). x.number) session;
       fewer = omega (arith, long, less);
-      spare = omega (arith, long, less, ap (λ (x : Pool). spare_of x) effect, spare_emptied (emptied c.ask pool) c.answer full, spare_emptied pool c.ask own.ask);
+      spare = omega (
+        arith,
+        long,
+        less,
+        ap (λ (x : Pool). spare_of x) effect,
+        spare_emptied (emptied c.ask pool) c.answer full,
+        spare_emptied pool c.ask own.ask,
+      );
     }
 
 module _ (pool after : Pool) (old new : Session) (clock : ℕ) (h : MessageHeader) (body : List ℕ)
@@ -94,7 +103,8 @@ module _ (pool after : Pool) (old new : Session) (clock : ℕ) (h : MessageHeade
       → Spends pool after old new
   replies-spend Took g =
       let c = g.0 in
-      let long = ap (λ (x : Session). length x.active) g.1.session ∙ length-at_first (is_request c.request) (replied clock h) old.active in
+      let long = ap (λ (x : Session). length x.active) g.1.session
+      ∙ length-at_first (is_request c.request) (replied clock h) old.active in
       let uses = ap (λ (x : Pool). x.uses) g.1.pool ∙ answered-uses c h body pool in
       record {
         number = ap (λ (x : Session). x.number) g.1.session;
@@ -104,7 +114,8 @@ module _ (pool after : Pool) (old new : Session) (clock : ℕ) (h : MessageHeade
   replies-spend (Ended d) g =
       let c = g.0 in
       let request = eqb-true c.request h.request (find-passes (is_request h.request) old.active c g.1.found) in
-      ended-spends pool after old new (is_request h.request) c keeps g.1.found (ap (λ r. call_as r old) request ∙ g.1.found) g.1.session g.1.pool
+      ended-spends pool after old new (is_request h.request) c keeps g.1.found
+      (ap (λ r. call_as r old) request ∙ g.1.found) g.1.session g.1.pool
   replies-spend (Dropped why) g = record {
     number = ap (λ (x : Session). x.number) g.0;
     fewer = rw g.0 (omega arith);
@@ -137,27 +148,43 @@ module _ (pool after : Pool) (sides now : List Side) (servers : List Serving) (t
   heard = record g.side { session = g.later }
 
   steps : Replied clock r h body g.side.is_broken pool after g.side.peer g.side.session g.later
-  steps = reply-steps clock r h body g.side.is_broken pool after g.side.peer g.side.session g.later connected (all-at (SideAscends pool) sides i g.side kept.ascends g.at) g.step.step
+  steps = reply-steps clock r h body g.side.is_broken pool after g.side.peer g.side.session g.later
+      connected (all-at (SideAscends pool) sides i g.side kept.ascends g.at) g.step.step
 
   stands-cases : (q : Reply) → row_told q ≡ reply_row is_waiting h (length body)
       (call_as h.request g.side.session) → Replies q clock h body g.side.session g.later pool after
       → RepliesKeep q h.request g.side.session g.later
       → AllByRecursion (IsOf (slice_set sides i heard) servers) tx.items
-  stands-cases Took row replies entries = stands-all sides servers i g.side heard g.at refl refl entries tx.items kept.stands
-  stands-cases (Dropped why) row replies entries = stands-all sides servers i g.side heard g.at refl refl entries tx.items kept.stands
+  stands-cases Took row replies entries =
+      stands-all sides servers i g.side heard g.at refl refl entries tx.items kept.stands
+  stands-cases (Dropped why) row replies entries =
+      stands-all sides servers i g.side heard g.at refl refl entries tx.items kept.stands
   stands-cases (Ended d) row replies entries =
       let ends = replies.1 in
       let c = replies.0 in
-      let own = eqb-true c.request h.request (find-passes (is_request h.request) g.side.session.active c ends.found) in
+      let own = eqb-true c.request h.request (find-passes (is_request h.request)
+      g.side.session.active c ends.found) in
       let idle = row-idle is_waiting h (length body) (call_as h.request g.side.session) c ends.found row in
-      let none = none-queued pool sides servers tx kept i h.request g.side g.at c ends.found own tx.items h.number ends.next ends.last windows (sym waits ∙ idle) in
-      stands-but sides servers i g.side heard g.at refl refl (Ask i h.request) (λ e other was. entries e (ap (λ n. is_of (Ask n h.request) e) (kept.numbered i g.side g.at) ∙ other) was) tx.items kept.stands none
+      let none = none-queued pool sides servers tx kept i h.request g.side g.at c ends.found own
+      tx.items h.number ends.next ends.last windows (sym waits ∙ idle) in
+      stands-but sides servers i g.side heard g.at refl refl (Ask i h.request)
+      (λ e other was. entries e (ap (λ n. is_of (Ask n h.request) e)
+      (kept.numbered i g.side g.at) ∙ other) was) tx.items kept.stands none
 
   heard-acts : ClientActs pool after sides servers i g.side heard tx tx
   heard-acts =
-      let spends = replies-spend pool after g.side.session g.later clock h body (all-at (SideKept pool) sides i g.side kept.keeps g.at) r g.step.replies in
+      let spends = replies-spend pool after g.side.session g.later clock h body
+      (all-at (SideKept pool) sides i g.side kept.keeps g.at) r g.step.replies in
       record {
-        acts = record { leaves = g.step.leaves; few = g.step.keeps.apart; counts = g.step.counts tx.items kept.counted; beside = refl; within = kept.within; size = refl };
+        acts = record {
+          leaves = g.step.leaves;
+          few = g.step.keeps.apart;
+          counts = g.step.counts tx.items kept.counted;
+          beside = refl;
+          within =
+              kept.within;
+          size = refl;
+        };
         keeps = g.step.keeps;
         number = spends.number;
         ascends = steps.calls;
@@ -168,7 +195,8 @@ module _ (pool after : Pool) (sides now : List Side) (servers : List Serving) (t
       }
 
   pub heard-kept : Kept after now servers tx
-  heard-kept = subst (λ xs. Kept after xs servers tx) (sym g.changed) (client-kept pool after sides servers i g.side heard tx tx g.at kept heard-acts)
+  heard-kept = subst (λ xs. Kept after xs servers tx) (sym g.changed)
+      (client-kept pool after sides servers i g.side heard tx tx g.at kept heard-acts)
 
   pub heard-clients : (peer : ℕ) → peer ≡ g.side.peer
       → RepliesAt i clock peer h body is_waiting r (map (shown_side pool) sides)
@@ -177,17 +205,21 @@ module _ (pool after : Pool) (sides now : List Side) (servers : List Serving) (t
     client = shown_side pool g.side;
     at = get-map (shown_side pool) sides i g.side g.at;
     row = λ queue queued. rw (connected, same) (g.step.rule queue queued g.side.peer);
-    facts = λ takes me. facts-end h body r g.side.is_broken pool g.side.peer g.side.session connected (g.step.facts takes) me;
+    facts = λ takes me. facts-end h body r g.side.is_broken pool g.side.peer g.side.session
+        connected (g.step.facts takes) me;
     later = shown_side after heard;
     step = steps.step;
-    changed = ap (map (shown_side after)) g.changed ∙ clients-set pool after sides servers i g.side heard tx tx g.at kept heard-acts;
+    changed = ap (map (shown_side after)) g.changed
+        ∙ clients-set pool after sides servers i g.side heard tx tx g.at kept heard-acts;
   }
 
   pub heard-servers : map (shown_server after) servers ≡ map (shown_server pool) servers
   heard-servers = servers-same pool after sides servers i g.side heard tx tx g.at kept heard-acts
 
-  pub heard-places : spare_of after + places_in now + served_places servers ≡ spare_of pool + places_in sides + served_places servers
-  heard-places = ap (λ xs. spare_of after + places_in xs + served_places servers) g.changed ∙ client-places pool after sides servers i g.side heard tx tx g.at kept heard-acts
+  pub heard-places : spare_of after + places_in now + served_places servers
+      ≡ spare_of pool + places_in sides + served_places servers
+  heard-places = ap (λ xs. spare_of after + places_in xs + served_places servers) g.changed
+      ∙ client-places pool after sides servers i g.side heard tx tx g.at kept heard-acts
 
 -- a reply to a session that takes none
 module _ (pool : Pool) (sides : List Side) (i clock peer : ℕ) (h : MessageHeader) (body : List ℕ)
@@ -241,7 +273,8 @@ module _ (pool : Pool) (sides : List Side) (servers : List Serving) (tx : Ring E
       cases : (o : Option Side) → slice_get sides i ≡ o
           → IfSome o (λ s. NextIsUnheld pool is_waiting h.number (call_as h.request s.session))
       cases None e = tt
-      cases (Some s) e = next-unheld pool sides servers tx i h.request h.number s is_waiting kept e (seen-windows w) waits
+      cases (Some s) e = next-unheld pool sides servers tx i h.request h.number s is_waiting kept e
+          (seen-windows w) waits
 
 -- two peers, as they are compared
 pub peer-differs : (a b : ℕ) → true ≡ not (eqb a b) → a ≡ b → ⊥

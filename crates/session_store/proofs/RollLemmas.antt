@@ -47,55 +47,87 @@ use Rattle.session_store.proofs.TimerLemmas.{RollsEnd, numbered-same, progress-f
 -- what the session did
 rolls-by : (number : ℕ) (old new : Session) (o : Option ActiveCall) → call_numbered number old ≡ o
     → IsSome o → IfSome o (λ c. new ≡ after_roll c old)
-    → IfSome o (λ c. (pool : Pool) → (clock peer : ℕ) → stepped clock (rolled_event c) (shown pool peer old) ≡ shown pool peer new ∷ [])
+    → IfSome o (λ c. (pool : Pool) → (clock peer : ℕ)
+    → stepped clock (rolled_event c) (shown pool peer old) ≡ shown pool peer new ∷ [])
     → ((pool : Pool) → LeavesOthers old.active new.active pool pool)
     → IfSome o (λ c. KeepsOthers c.request old new)
     → ((es : List EntryValue) → CountsQueued old es → CountsQueued new es)
     → ((pool : Pool) → KeepsPool pool old.active → KeepsPool pool new.active)
     → RollsBack number old new
 rolls-by number old new None e some session step leaves entries queued keeps = cc
-rolls-by number old new (Some c) e some session step leaves entries queued keeps = record { call = c; found = e; session = session; step = step; leaves = leaves; entries = entries; queued = queued; keeps = keeps }
+rolls-by number old new (Some c) e some session step leaves entries queued keeps =
+    record {
+      call = c;
+      found = e;
+      session = session;
+      step = step;
+      leaves = leaves;
+      entries = entries;
+      queued = queued;
+      keeps = keeps;
+    }
 
 pub rolls-back : (number : ℕ) (old new : Session) → IsSome (call_numbered number old)
     → IfSome (call_numbered number old) (λ c. new ≡ after_roll c old)
     → IfSome (call_numbered number old)
-    (λ c. (pool : Pool) → (clock peer : ℕ) → stepped clock (rolled_event c) (shown pool peer old) ≡ shown pool peer new ∷ [])
+    (λ c. (pool : Pool) → (clock peer : ℕ)
+    → stepped clock (rolled_event c) (shown pool peer old) ≡ shown pool peer new ∷ [])
     → ((pool : Pool) → LeavesOthers old.active new.active pool pool)
     → IfSome (call_numbered number old) (λ c. KeepsOthers c.request old new)
     → ((es : List EntryValue) → CountsQueued old es → CountsQueued new es)
     → ((pool : Pool) → KeepsPool pool old.active → KeepsPool pool new.active)
     → RollsBack number old new
-rolls-back number old new some session step leaves entries queued keeps = rolls-by number old new (call_numbered number old) refl some session step leaves entries queued keeps
+rolls-back number old new some session step leaves entries queued keeps =
+    rolls-by number old new (call_numbered number old) refl some session step leaves entries queued
+    keeps
 
-module _ (pool : Pool) (sides now : List Side) (servers : List Serving) (tx : Ring EntryValue) (i number : ℕ) (kept : Kept pool sides servers tx) (h : SideRolls i number sides now) (up : SideAscends pool (record h.side { session = h.later })) (idle : list_any (is_of (Ask i h.step.call.request)) tx.items ≡ false) where
+module _ (pool : Pool) (sides now : List Side) (servers : List Serving) (tx : Ring EntryValue)
+    (i number : ℕ) (kept : Kept pool sides servers tx) (h : SideRolls i number sides now)
+    (up : SideAscends pool (record h.side { session = h.later }))
+    (idle : list_any (is_of (Ask i h.step.call.request)) tx.items ≡ false) where
   abbrev rolled_side : Side
   rolled_side = record h.side { session = h.later }
 
   roll-length : length h.later.active ≡ length h.side.session.active
-  roll-length = ap (λ (x : Session). length x.active) h.step.session ∙ length-at_first (is_request h.step.call.request) rolled_call h.side.session.active
+  roll-length = ap (λ (x : Session). length x.active) h.step.session
+      ∙ length-at_first (is_request h.step.call.request) rolled_call h.side.session.active
 
   roll-acts : ClientActs pool pool sides servers i h.side rolled_side tx tx
   roll-acts =
       let keeps = h.step.keeps pool (all-at (SideKept pool) sides i h.side kept.keeps h.at) in
       record {
-        acts = record { leaves = h.step.leaves pool; few = keeps.apart; counts = kept.counted; beside = refl; within = kept.within; size = refl };
+        acts = record {
+          leaves = h.step.leaves pool;
+          few = keeps.apart;
+          counts = kept.counted;
+          beside = refl;
+          within = kept.within;
+          size = refl;
+        };
         keeps = keeps;
         number = ap (λ (x : Session). x.number) h.step.session;
         ascends = up;
-        stands = stands-but sides servers i h.side rolled_side h.at refl refl (Ask i h.step.call.request) (λ e other was. h.step.entries e (ap (λ n. is_of (Ask n h.step.call.request) e) (kept.numbered i h.side h.at) ∙ other) was) tx.items kept.stands idle;
+        stands = stands-but sides servers i h.side rolled_side h.at refl refl
+            (Ask i h.step.call.request) (λ e other was. h.step.entries e
+            (ap (λ n. is_of (Ask n h.step.call.request) e) (kept.numbered i h.side h.at) ∙ other)
+            was) tx.items kept.stands idle;
         queued = h.step.queued tx.items (all-at (SideQueued tx.items) sides i h.side kept.queued h.at);
         slots = omega (arith, roll-length, all-at HasSlots sides i h.side kept.slots h.at);
         spare = omega (arith, roll-length);
       }
 
   pub kept-rolled : Kept pool now servers tx
-  kept-rolled = subst (λ xs. Kept pool xs servers tx) (sym h.changed) (client-kept pool pool sides servers i h.side rolled_side tx tx h.at kept roll-acts)
+  kept-rolled = subst (λ xs. Kept pool xs servers tx) (sym h.changed)
+      (client-kept pool pool sides servers i h.side rolled_side tx tx h.at kept roll-acts)
 
-  pub rolled-places : spare_of pool + places_in now + served_places servers ≡ spare_of pool + places_in sides + served_places servers
-  rolled-places = ap (λ xs. spare_of pool + places_in xs + served_places servers) h.changed ∙ client-places pool pool sides servers i h.side rolled_side tx tx h.at kept roll-acts
+  pub rolled-places : spare_of pool + places_in now + served_places servers
+      ≡ spare_of pool + places_in sides + served_places servers
+  rolled-places = ap (λ xs. spare_of pool + places_in xs + served_places servers) h.changed
+      ∙ client-places pool pool sides servers i h.side rolled_side tx tx h.at kept roll-acts
 
   pub rolled-set : map (shown_side pool) now ≡ slice_set (map (shown_side pool) sides) i (shown_side pool rolled_side)
-  rolled-set = ap (map (shown_side pool)) h.changed ∙ clients-set pool pool sides servers i h.side rolled_side tx tx h.at kept roll-acts
+  rolled-set = ap (map (shown_side pool)) h.changed
+      ∙ clients-set pool pool sides servers i h.side rolled_side tx tx h.at kept roll-acts
 
 -- an active call, as it is seen
 waits-cons : (n : ℕ) (w : Waiting) (ws : List Waiting) (b : Bool)
@@ -111,7 +143,16 @@ progress-waits n [] = refl
 progress-waits n (w ∷ ws) = waits-cons n w ws (is_call n (shown_waiting w)) (progress-waits n ws)
 
 abbrev progress_in : ActiveCall → Pool → Progress
-progress_in c pool = record { request = c.request; got = c.got; posted = c.posted; rolls = c.rolls; mark = c.mark; answer = c.size; parts = parts_of pool c }
+progress_in c pool =
+    record {
+      request = c.request;
+      got = c.got;
+      posted = c.posted;
+      rolls = c.rolls;
+      mark = c.mark;
+      answer = c.size;
+      parts = parts_of pool c;
+    }
 
 pub record Seen (pool : Pool) (n : ℕ) (s : Session) (p : Progress) : Type 0 where
   pub call : ActiveCall
@@ -123,16 +164,32 @@ some-seen : (pool : Pool) (n : ℕ) (s : Session) (p : Progress) (c : ActiveCall
     → call_numbered n s ≡ Some c → Some p ≡ (shown_active pool c).progress → Seen pool n s p
 some-seen pool n s p c e t =
     let one : p ≡ progress_in c pool = cc in
-    record { call = c; found = e; rolls_are = ap (λ (x : Progress). x.rolls) one; request_is = ap (λ (x : Progress). x.request) one }
+    record {
+      call = c;
+      found = e;
+      rolls_are = ap (λ (x : Progress). x.rolls) one;
+      request_is = ap (λ (x : Progress). x.request) one;
+    }
 
 seen-cases : (b : Bool) (pool : Pool) (peer n : ℕ) (s : Session) (p : Progress)
     (o : Option ActiveCall) → call_numbered n s ≡ o
     → progress_of n (shown_end b pool peer s) ≡ Some p → Seen pool n s p
 seen-cases b pool peer n s p (Some c) e h = some-seen pool n s p c e (sym h ∙ progress-found b pool peer n s c e)
 seen-cases b pool peer n s p None e h =
-    let active : find (is_call n) (map (shown_active pool) s.active) ≡ None = found-shown (shown_active pool) (is_call n) (is_numbered n) s.active (numbered-same pool n s.active) ∙ ap (option_map (shown_active pool)) e in
-    let all : find (is_call n) (shown pool peer s).calls ≡ find (is_call n) (map shown_waiting s.slots.waiting) = find-append (is_call n) (map (shown_active pool) s.active) (map shown_waiting s.slots.waiting) ∙ ap (λ o. option_or o (find (is_call n) (map shown_waiting s.slots.waiting))) active in
-    let gone : progress_of n (shown_end b pool peer s) ≡ None = ap (λ (cs : List Call). option_and_then (λ (c : Call). c.progress) (find (is_call n) cs)) (calls-end b pool peer s) ∙ ap (option_and_then (λ (c : Call). c.progress)) all ∙ progress-waits n s.slots.waiting in
+    let active : find (is_call n) (map (shown_active pool) s.active) ≡ None =
+    found-shown (shown_active pool) (is_call n)
+    (is_numbered n) s.active (numbered-same pool n s.active)
+    ∙ ap (option_map (shown_active pool)) e in
+    let all : find (is_call n) (shown pool peer s).calls
+    ≡ find (is_call n) (map shown_waiting s.slots.waiting) =
+    find-append (is_call n) (map (shown_active pool) s.active)
+    (map shown_waiting s.slots.waiting)
+    ∙ ap (λ o. option_or o (find (is_call n) (map shown_waiting s.slots.waiting))) active in
+    let gone : progress_of n (shown_end b pool peer s) ≡ None =
+    ap (λ (cs : List Call). option_and_then (λ (c : Call). c.progress)
+    (find (is_call n) cs)) (calls-end b pool peer s)
+    ∙ ap (option_and_then (λ (c : Call). c.progress)) all
+    ∙ progress-waits n s.slots.waiting in
     let differ : None ≡ Some p = sym gone ∙ h in cc
 
 pub seen : (b : Bool) (pool : Pool) (peer n : ℕ) (s : Session) (p : Progress)
@@ -157,14 +214,16 @@ module _ (pool : Pool) (sides : List Side) (servers : List Serving) (tx : Ring E
     (may : MayRoll i number view) where
   side-client : (s : Side) → slice_get sides i ≡ Some s → may.client ≡ shown_side pool s
   side-client s e =
-      let place : slice_get (map (shown_side pool) sides) i ≡ Some may.client = ap (λ (v : Shown). slice_get v.clients i) is ∙ may.place in
+      let place : slice_get (map (shown_side pool) sides) i ≡ Some may.client =
+      ap (λ (v : Shown). slice_get v.clients i) is ∙ may.place in
       some-same may.client (shown_side pool s) (sym place ∙ get-map (shown_side pool) sides i s e)
     where
       some-same : (x y : Client) → Some x ≡ Some y → x ≡ y
       some-same x y t = cc
 
   side-seen : (s : Side) → slice_get sides i ≡ Some s → Seen pool number s.session may.progress
-  side-seen s e = seen s.is_broken pool s.peer number s.session may.progress (ap (progress_of number) (sym (side-client s e)) ∙ may.active)
+  side-seen s e = seen s.is_broken pool s.peer number s.session may.progress
+      (ap (progress_of number) (sym (side-client s e)) ∙ may.active)
 
   active-cases : (o : Option Side) → slice_get sides i ≡ o
       → IfSome o (λ s. IsSome (call_numbered number s.session))
@@ -185,10 +244,14 @@ module _ (pool : Pool) (sides : List Side) (servers : List Serving) (tx : Ring E
   module _ (now : List Side) (kept : Kept pool sides servers tx)
       (h : SideRolls i number sides now) where
     connected : h.side.is_broken ≡ false
-    connected = not-broken pool h.side (ap (λ (x : Client). is_connected x.state) (sym (side-client h.side h.at)) ∙ may.connected)
+    connected = not-broken pool h.side (ap (λ (x : Client). is_connected x.state)
+        (sym (side-client h.side h.at)) ∙ may.connected)
 
     ends : RollsEnd number h.side.is_broken pool h.side.peer h.side.session h.later
-    ends = roll-end number h.side.is_broken pool h.side.peer h.side.session h.later connected (all-at (SideAscends pool) sides i h.side kept.ascends h.at) (all-at (SideKept pool) sides i h.side kept.keeps h.at) (rw h.step.found refl) (rw h.step.found h.step.session) (rw h.step.found h.step.step)
+    ends = roll-end number h.side.is_broken pool h.side.peer h.side.session h.later connected
+        (all-at (SideAscends pool) sides i h.side kept.ascends h.at)
+        (all-at (SideKept pool) sides i h.side kept.keeps h.at) (rw h.step.found refl)
+        (rw h.step.found h.step.session) (rw h.step.found h.step.step)
 
     same-call : (side-seen h.side h.at).call ≡ h.step.call
     same-call = some-same _ _ (sym (side-seen h.side h.at).found ∙ h.step.found)
@@ -198,40 +261,58 @@ module _ (pool : Pool) (sides : List Side) (servers : List Serving) (tx : Ring E
 
     idle : list_any (is_of (Ask i h.step.call.request)) tx.items ≡ false
     idle =
-        let request : may.progress.request ≡ h.step.call.request = (side-seen h.side h.at).request_is ∙ ap (λ (c : ActiveCall). c.request) same-call in
-        let free : list_any (is_owned (Ask i may.progress.request)) (map queued_of tx.items) ≡ false = ap (λ (v : Shown). list_any (is_owned (Ask i may.progress.request)) v.queued) is ∙ may.idle in
-        sym (entries-seen (Ask i h.step.call.request) tx.items) ∙ ap (λ r. list_any (is_owned (Ask i r)) (map queued_of tx.items)) (sym request) ∙ free
+        let request : may.progress.request ≡ h.step.call.request =
+        (side-seen h.side h.at).request_is ∙ ap (λ (c : ActiveCall). c.request) same-call in
+        let free : list_any (is_owned (Ask i may.progress.request)) (map queued_of tx.items)
+        ≡ false = ap (λ (v : Shown). list_any (is_owned (Ask i may.progress.request))
+        v.queued) is ∙ may.idle in
+        sym (entries-seen (Ask i h.step.call.request) tx.items)
+        ∙ ap (λ r. list_any (is_owned (Ask i r)) (map queued_of tx.items)) (sym request) ∙ free
 
     pub kept-roll : Kept pool now servers tx
     kept-roll = kept-rolled pool sides now servers tx i number kept h ends.calls idle
 
-    pub places-roll : spare_of pool + places_in now + served_places servers ≡ spare_of pool + places_in sides + served_places servers
+    pub places-roll : spare_of pool + places_in now + served_places servers
+        ≡ spare_of pool + places_in sides + served_places servers
     places-roll = rolled-places pool sides now servers tx i number kept h ends.calls idle
 
     pub rolled-clients : RollsAt i number view.clients (map (shown_side pool) now)
     rolled-clients =
-        let shown_is : shown_side pool (record h.side { session = h.later }) ≡ rolls number may.progress.posted may.progress.got (shown_side pool h.side) = rw (ap (progress_of number) (sym (side-client h.side h.at)) ∙ may.active) at ends.view in
+        let shown_is : shown_side pool (record h.side { session = h.later })
+        ≡ rolls number may.progress.posted may.progress.got (shown_side pool h.side) =
+        rw (ap (progress_of number) (sym (side-client h.side h.at)) ∙ may.active)
+        at ends.view in
         record {
           client = may.client;
           place = may.place;
           progress = may.progress;
           active = may.active;
-          changed = rolled-set pool sides now servers tx i number kept h ends.calls idle ∙ ap (slice_set (map (shown_side pool) sides) i) (shown_is ∙ ap (rolls number may.progress.posted may.progress.got) (sym (side-client h.side h.at))) ∙ ap (λ (v : Shown). slice_set v.clients i (rolls number may.progress.posted may.progress.got may.client)) is;
+          changed = rolled-set pool sides now servers tx i number kept h ends.calls idle
+              ∙ ap (slice_set (map (shown_side pool) sides) i)
+              (shown_is ∙ ap (rolls number may.progress.posted may.progress.got)
+              (sym (side-client h.side h.at)))
+              ∙ ap (λ (v : Shown). slice_set v.clients i
+              (rolls number may.progress.posted may.progress.got may.client)) is;
         }
 
   -- none of its packets is queued
   idle-by : (s : Side) (e : slice_get sides i ≡ Some s)
       → list_any (is_of (Ask i (side-seen s e).call.request)) tx.items ≡ false
   idle-by s e =
-      let free : list_any (is_owned (Ask i may.progress.request)) (map queued_of tx.items) ≡ false = ap (λ (v : Shown). list_any (is_owned (Ask i may.progress.request)) v.queued) is ∙ may.idle in
-      sym (entries-seen (Ask i (side-seen s e).call.request) tx.items) ∙ ap (λ r. list_any (is_owned (Ask i r)) (map queued_of tx.items)) (sym (side-seen s e).request_is) ∙ free
+      let free : list_any (is_owned (Ask i may.progress.request)) (map queued_of tx.items) ≡ false =
+      ap (λ (v : Shown). list_any (is_owned (Ask i may.progress.request)) v.queued) is
+      ∙ may.idle in
+      sym (entries-seen (Ask i (side-seen s e).call.request) tx.items)
+      ∙ ap (λ r. list_any (is_owned (Ask i r)) (map queued_of tx.items))
+      (sym (side-seen s e).request_is) ∙ free
 
   unqueued-cases : Kept pool sides servers tx → (o : Option Side) → slice_get sides i ≡ o
       → IfSome o (λ s. IfSome (call_numbered number s.session) (λ c. c.queued ≡ 0))
   unqueued-cases kept None e = tt
   unqueued-cases kept (Some s) e =
       let c = side-seen s e in
-      let counted = found-holds (is_numbered number) _ s.session.active c.call (all-at (SideQueued tx.items) sides i s kept.queued e) c.found in
+      let counted = found-holds (is_numbered number) _ s.session.active c.call
+      (all-at (SideQueued tx.items) sides i s kept.queued e) c.found in
       let none = none-counted (is_of (Ask i c.call.request)) tx.items (idle-by s e) in
       let own = ap (λ n. count_by (is_of (Ask n c.call.request)) tx.items) (kept.numbered i s e) in
       rw c.found (counted ∙ own ∙ none)

@@ -63,6 +63,7 @@ use Rattle.session_store.proofs.KeptLemmas.{ServerActs, clients-same, server-act
 use Rattle.session_store.proofs.KeptLemmas.{servers-set}
 use Rattle.session_store.proofs.ListLemmas.{all-at, all-from, get-map}
 use Rattle.session_store.proofs.StandLemmas.{ends-all}
+use Rattle.server_core.proofs.NoteLemmas.{way-of}
 
 -- one reply more can be counted
 can-slots : (pool : Pool) (entries : List EntryValue) (size n : ℕ) → Counts pool entries
@@ -70,8 +71,20 @@ can-slots : (pool : Pool) (entries : List EntryValue) (size n : ℕ) → Counts 
     → AllByRecursion (λ q. q.queued ≡ count_by (is_of (owner_of n q)) entries) qs
     → AllByRecursion (CanHold pool) qs
 can-slots pool entries size n counted room few [] all = tt
-can-slots pool entries size n counted room few (q ∷ qs) all =
-    ((refs (answer_of q.state), omega (arith, all.0, count_by-le-length (is_of (owner_of n q)) entries, room, few)), can-slots pool entries size n counted room few qs all.1)
+can-slots pool entries size n counted room few (q ∷ qs) all = (
+  (
+    refs (answer_of q.state),
+    omega (
+      arith,
+      all.0,
+      count_by-le-length (is_of (owner_of n q)) entries,
+      room,
+      few,
+    ),
+  ),
+  can-slots pool entries size
+      n counted room few qs all.1,
+)
   where
     refs : (o : Option Stored) → IfSome o (λ a. refs_of pool a.place < 4294967295)
     refs None = tt
@@ -80,7 +93,9 @@ can-slots pool entries size n counted room few (q ∷ qs) all =
 pub may-hold : (pool : Pool) (sides : List Side) (servers : List Serving) (tx : Ring EntryValue)
     → Kept pool sides servers tx → length tx.items < tx.size
     → AllByRecursion (ServerCanHold pool) servers
-may-hold pool sides servers tx kept room = all-from (ServerCanHold pool) servers (λ j v at. can-slots pool tx.items tx.size v.number kept.counted room kept.few v.slots (all-at (ServerQueued tx.items) servers j v kept.replies at))
+may-hold pool sides servers tx kept room =
+    all-from (ServerCanHold pool) servers (λ j v at. can-slots pool tx.items tx.size v.number
+    kept.counted room kept.few v.slots (all-at (ServerQueued tx.items) servers j v kept.replies at))
 
 newest-cases : (pool : Pool) (v : Serving) (r : ℕ) (o : Option SlotRequest) → newest r v ≡ o
     → ServerCanHold pool v → IfSome o (CanHold pool)
@@ -90,34 +105,6 @@ newest-cases pool v r (Some q) e all = found-holds (is_in_slot (r % 8)) (CanHold
 pub newest-can : (pool : Pool) (v : Serving) (r : ℕ) → ServerCanHold pool v → IfSome (newest r v)
     (CanHold pool)
 newest-can pool v r all = newest-cases pool v r (newest r v) refl all
-
--- a step keeps the session's peer
-module _ (h : MessageHeader) (body : List ℕ) (v : Server) where
-  abbrev takes : Server
-  takes = record v { slots = took_packet h.request (Some h) body v.slots }
-
-  abbrev changes : (ServedRequest → ServedRequest) → Server
-  changes f = record v { slots = at_first (is_request h.request) f takes.slots }
-
-  took-is : took h body v ≡ takes ∷ []
-  took-is = rw (eq-eqb v.way.number v.way.number refl) refl
-
-  ran-is : (a : List ℕ) → ran h body a v ≡ changes (answered a) ∷ []
-  ran-is a = rw (took-is, eq-eqb v.way.number v.way.number refl) refl
-
-  gave-is : gave h body v ≡ changes given ∷ []
-  gave-is = rw (took-is, eq-eqb v.way.number v.way.number refl) refl
-
-  one-way : (x w : Server) → x ∷ [] ≡ w ∷ [] → x.way ≡ v.way → w.way ≡ v.way
-  one-way x w e same = let is : x ≡ w = cc in ap (λ (y : Server). y.way) (sym is) ∙ same
-
-  pub way-of : (w : Server) (step : Step) (answer : List ℕ) → Steps step answer h body v w
-      → w.way ≡ v.way
-  way-of w (Took reply) answer steps = one-way takes w (sym took-is ∙ steps) refl
-  way-of w (Again reply) answer steps = ap (λ (x : Server). x.way) steps
-  way-of w (Ran reply) answer steps = one-way (changes (answered answer)) w (sym (ran-is answer) ∙ steps) refl
-  way-of w (Give parcel) answer steps = one-way (changes given) w (sym gave-is ∙ steps) refl
-  way-of w (Dropped why) answer steps = ap (λ (x : Server). x.way) steps
 
 -- a claim of the entries that a step puts behind the queue
 pub for-replies : (claim : EntryValue → Type 0) (Q : List EntryValue → Type 0) → Q []
@@ -153,7 +140,9 @@ module _ (n : ℕ) where
   rest-out : (r : ℕ) (es : List EntryValue)
       → rest own_entry (filter (is_not_of (Reply n r)) es) ≡ rest own_entry es
   rest-out r [] = refl
-  rest-out r (e ∷ es) = out-cons e (filter (is_not_of (Reply n r)) es) es (is_of (Reply n r) e) (of-owner-own n r e (is_of (Reply n r) e) refl) (rest-out r es)
+  rest-out r (e ∷ es) =
+      out-cons e (filter (is_not_of (Reply n r)) es) es (is_of (Reply n r) e)
+      (of-owner-own n r e (is_of (Reply n r) e) refl) (rest-out r es)
 
   pub rest-after : (o : Option SlotRequest) (es : List EntryValue) (b : Bool)
       → rest own_entry (cond b (without_replies n o es) es) ≡ rest own_entry es
@@ -187,10 +176,13 @@ seen-cons o e xs qs false ih = ih
 seen-out : (o : Owner) (es : List EntryValue)
     → map queued_of (filter (is_not_of o) es) ≡ filter (λ x. not (is_owned o x)) (map queued_of es)
 seen-out o [] = refl
-seen-out o (e ∷ es) = seen-cons o e (filter (is_not_of o) es) (filter (λ x. not (is_owned o x)) (map queued_of es)) (not (is_of o e)) (seen-out o es)
+seen-out o (e ∷ es) =
+    seen-cons o e (filter (is_not_of o) es) (filter (λ x. not (is_owned o x)) (map queued_of es))
+    (not (is_of o e)) (seen-out o es)
 
 seen-after : (pool : Pool) (n : ℕ) (o : Option SlotRequest) (es : List EntryValue) (b : Bool)
-    → map queued_of (cond b (without_replies n o es) es) ≡ cond b (without_owned n (option_map (shown_request pool) o) (map queued_of es))
+    → map queued_of (cond b (without_replies n o es) es)
+    ≡ cond b (without_owned n (option_map (shown_request pool) o) (map queued_of es))
     (map queued_of es)
 seen-after pool n None es true = refl
 seen-after pool n (Some q) es true = seen-out (Reply n q.number) es
@@ -203,7 +195,9 @@ slots-same pool r (q ∷ qs) = (refl, slots-same pool r qs)
 
 older-shown : (pool : Pool) (v : Serving) (r : ℕ) → find (in_slot_of r)
     (shown_server pool v).slots ≡ option_map (shown_request pool) (newest r v)
-older-shown pool v r = found-shown (shown_request pool) (in_slot_of r) (is_in_slot (r % 8)) v.slots (slots-same pool r v.slots)
+older-shown pool v r =
+    found-shown (shown_request pool) (in_slot_of r)
+    (is_in_slot (r % 8)) v.slots (slots-same pool r v.slots)
 
 -- the facts of the packet at a node
 begun-none : (row : ServerRow) (why : DropReason) → has_begun row (Dropped why) ≡ false
@@ -246,7 +240,8 @@ module _ {R : Type 0} (facts : R → Option (List Fact)) (whole : R → Bool) (m
     (noted_before noted_now : R) (step : Step) (old new : Ring EntryValue) (pool after : Pool)
     (sides : List Side) (servers now : List Serving) (kept : Kept pool sides servers old)
     (has-room : length old.items < old.size)
-    (g : ServerStep i (λ v w. Handles facts whole mode jobs_full (Node me) h body answer_of stands then_stands noted_before noted_now step old new v w pool after) servers now) where
+    (g : ServerStep i (λ v w. Handles facts whole mode jobs_full (Node me) h body answer_of stands
+    then_stands noted_before noted_now step old new v w pool after) servers now) where
   abbrev row : ServerRow
   row = row_of mode jobs_full h g.server
 
@@ -260,7 +255,8 @@ module _ {R : Type 0} (facts : R → Option (List Fact)) (whole : R → Bool) (m
   final = ring (new.items ++ replies_of step) new.size
 
   same-way : (shown_server after g.later).way ≡ (shown_server pool g.server).way
-  same-way = way-of h body (shown_server pool g.server) (shown_server after g.later) step g.step.handled.answer g.step.handled.steps
+  same-way = way-of h body (shown_server pool g.server)
+      (shown_server after g.later) step g.step.handled.answer g.step.handled.steps
 
   same-number : g.later.number ≡ g.server.number
   same-number = ap (λ w. w.number) same-way
@@ -278,23 +274,34 @@ module _ {R : Type 0} (facts : R → Option (List Fact)) (whole : R → Bool) (m
   new-room = ring-room row step g.server.number older old new g.step.ring_is has-room
 
   one-most : length (replies_of step) ≤ 1
-  one-most = for-replies (IsReply h.request h.number g.later after) (λ rs. length rs ≤ 1) (omega arith) (λ e is. omega arith) step g.step.reply
+  one-most = for-replies (IsReply h.request h.number g.later after) (λ rs. length rs ≤ 1)
+      (omega arith) (λ e is. omega arith) step g.step.reply
 
-  beside-then : rest (own_entry g.server.number) (new.items ++ replies_of step) ≡ rest (own_entry g.server.number) old.items
+  beside-then : rest (own_entry g.server.number) (new.items ++ replies_of step)
+      ≡ rest (own_entry g.server.number) old.items
   beside-then =
-      for-replies (IsReply h.request h.number g.later after) (λ rs. rest (own_entry g.server.number) (new.items ++ rs) ≡ rest (own_entry g.server.number) new.items)
+      for-replies (IsReply h.request h.number g.later after)
+      (λ rs. rest (own_entry g.server.number) (new.items ++ rs)
+      ≡ rest (own_entry g.server.number) new.items)
       (ap (λ xs. rest (own_entry g.server.number) xs) (append-nil new.items))
-      (λ e is. rest-push (own_entry g.server.number) new.items e (own-reply g.server.number h.request e.owner (is.owner ∙ ap (λ n. Reply n h.request) same-number)))
+      (λ e is. rest-push (own_entry g.server.number) new.items e
+      (own-reply g.server.number h.request e.owner
+      (is.owner ∙ ap (λ n. Reply n h.request) same-number)))
       step g.step.reply
       ∙ ap (λ xs. rest (own_entry g.server.number) xs) items-are ∙ rest-after g.server.number older old.items begins
 
   stands-then : AllByRecursion (IsOf sides (slice_set servers i g.later)) (new.items ++ replies_of step)
   stands-then =
       let was = ends-all sides servers i g.server g.later g.at same-number same-peer old.items kept.stands in
-      let left : AllByRecursion (IsOf sides (slice_set servers i g.later)) new.items = subst (λ xs. AllByRecursion (IsOf sides (slice_set servers i g.later)) xs) (sym items-are) (all-after (IsOf sides (slice_set servers i g.later)) g.server.number older old.items begins was) in
-      for-replies (IsReply h.request h.number g.later after) (λ rs. AllByRecursion (IsOf sides (slice_set servers i g.later)) (new.items ++ rs))
+      let left : AllByRecursion (IsOf sides (slice_set servers i g.later)) new.items =
+      subst (λ xs. AllByRecursion (IsOf sides (slice_set servers i g.later)) xs)
+      (sym items-are) (all-after (IsOf sides (slice_set servers i g.later)) g.server.number
+      older old.items begins was) in
+      for-replies (IsReply h.request h.number g.later after)
+      (λ rs. AllByRecursion (IsOf sides (slice_set servers i g.later)) (new.items ++ rs))
       (subst (λ xs. AllByRecursion (IsOf sides (slice_set servers i g.later)) xs) (sym (append-nil new.items)) left)
-      (λ e is. all-push (IsOf sides (slice_set servers i g.later)) new.items e left (new-stands sides servers i h.request g.server g.later e g.at is.owner is.peer))
+      (λ e is. all-push (IsOf sides (slice_set servers i g.later)) new.items e left
+      (new-stands sides servers i h.request g.server g.later e g.at is.owner is.peer))
       step g.step.reply
 
   serve-acts : ServerActs pool after sides servers i g.server g.later old final
@@ -319,13 +326,16 @@ module _ {R : Type 0} (facts : R → Option (List Fact)) (whole : R → Bool) (m
       }
 
   pub serve-kept : Kept after sides now final
-  serve-kept = subst (λ vs. Kept after sides vs final) (sym g.changed) (server-acted pool after sides servers i g.server g.later old final g.at kept serve-acts)
+  serve-kept = subst (λ vs. Kept after sides vs final) (sym g.changed)
+      (server-acted pool after sides servers i g.server g.later old final g.at kept serve-acts)
 
   pub serve-clients : map (shown_side after) sides ≡ map (shown_side pool) sides
   serve-clients = clients-same pool after sides servers i g.server g.later old final g.at kept serve-acts
 
-  pub serve-places : spare_of after + places_in sides + served_places now ≡ spare_of pool + places_in sides + served_places servers
-  serve-places = ap (λ vs. spare_of after + places_in sides + served_places vs) g.changed ∙ server-places pool after sides servers i g.server g.later old final g.at kept serve-acts
+  pub serve-places : spare_of after + places_in sides + served_places now
+      ≡ spare_of pool + places_in sides + served_places servers
+  serve-places = ap (λ vs. spare_of after + places_in sides + served_places vs) g.changed
+      ∙ server-places pool after sides servers i g.server g.later old final g.at kept serve-acts
 
   abbrev server_seen : Server
   server_seen = shown_server pool g.server
@@ -333,28 +343,44 @@ module _ {R : Type 0} (facts : R → Option (List Fact)) (whole : R → Bool) (m
   row-seen : row ≡ row_at mode jobs_full false h server_seen
   row-seen = sym g.step.rule
 
-  queue-seen : map queued_of (new.items ++ replies_of step) ≡ queue_handled (row_at mode jobs_full false h server_seen) step server_seen h (map queued_of old.items)
+  queue-seen : map queued_of (new.items ++ replies_of step)
+      ≡ queue_handled (row_at mode jobs_full false h server_seen) step server_seen h
+      (map queued_of old.items)
   queue-seen =
       map-append queued_of new.items (replies_of step)
-      ∙ ap (λ qs. qs ++ map queued_of (replies_of step)) (ap (map queued_of) items-are ∙ seen-after pool g.server.number older old.items begins ∙ ap (λ o. cond begins (without_owned g.server.number o (map queued_of old.items)) (map queued_of old.items)) (sym (older-shown pool g.server h.request)))
+      ∙ ap (λ qs. qs ++ map queued_of (replies_of step))
+      (ap (map queued_of) items-are ∙ seen-after pool g.server.number older old.items begins
+      ∙ ap (λ o. cond begins (without_owned g.server.number o (map queued_of old.items))
+      (map queued_of old.items)) (sym (older-shown pool g.server h.request)))
       ∙ ap (λ r. queue_handled r step server_seen h (map queued_of old.items)) row-seen
 
   pub serve-at : (session : h.session ≡ g.server.number) (before then : Shown)
       → shown_of pool sides servers old ≡ before → shown_of after sides now final ≡ then
-      → HandlesAt facts whole mode jobs_full me i h body answer_of stands then_stands noted_before noted_now step before then
+      → HandlesAt facts whole mode jobs_full me i h body answer_of stands then_stands noted_before
+      noted_now step before then
   serve-at session before then view later-view =
       let done = g.step.handled in
-      let ruled = facts-same me mode g.server old.items row h body (asked_with h body server_seen) done.answer server_seen step (g.step.by_rule session me done.answer) in
-      let noted = ruled ∙ ap (λ r. handled_facts me (served_facts mode me done.answer (map queued_of old.items) (Some server_seen) h body r) step) row-seen in
+      let ruled = facts-same me mode g.server old.items row h body (asked_with h body server_seen)
+      done.answer server_seen step (g.step.by_rule session me done.answer) in
+      let noted = ruled ∙ ap (λ r. handled_facts me
+      (served_facts mode me done.answer (map queued_of old.items)
+      (Some server_seen) h body r) step) row-seen in
       rw (← view, ← later-view) (record {
         server = server_seen;
         place = get-map (shown_server pool) servers i g.server g.at;
         row = subst (λ r. IsStepOf mode h r step) row-seen g.step.row;
         lacks = g.step.lacks;
         later = shown_server after g.later;
-        handled = record { answer = done.answer; steps = done.steps; by_service = done.by_service; grew = subst (λ fs. Grew facts whole noted_before noted_now fs) noted done.grew };
+        handled = record {
+          answer = done.answer;
+          steps = done.steps;
+          by_service = done.by_service;
+          grew = subst (λ fs. Grew facts whole noted_before noted_now fs) noted done.grew;
+        };
         give = g.step.give;
-        changed = ap (map (shown_server after)) g.changed ∙ servers-set pool after sides servers i g.server g.later old final g.at kept serve-acts;
+        changed = ap (map (shown_server after)) g.changed
+            ∙ servers-set pool after sides servers i g.server g.later old final g.at kept
+            serve-acts;
         queue = queue-seen;
       })
 
@@ -374,7 +400,9 @@ module _ (pool : Pool) (servers : List Serving) (i : ℕ) where
       cases : (o : Option Serving) → slice_get servers i ≡ o → IfSome o (ServerServed mode_of)
       cases None e = tt
       cases (Some v) e =
-          let here : AllByRecursion (λ q. mode_of q.req_type ≢ Unserved) (map (shown_request pool) v.slots) = rw (get-map (shown_server pool) servers i v e) at all in
+          let here : AllByRecursion (λ q. mode_of q.req_type ≢ Unserved)
+          (map (shown_request pool) v.slots) =
+          rw (get-map (shown_server pool) servers i v e) at all in
           served-seen pool mode_of v.slots here
 
   none-map : slice_get servers i ≡ None → slice_get (map (shown_server pool) servers) i ≡ None
@@ -402,5 +430,6 @@ pub seen-own : (pool : Pool) (sides : List Side) (servers : List Serving) (tx : 
     → IfSome (slice_get seen.servers i) (λ x. n ≡ x.way.number) → slice_get servers i ≡ Some v
     → n ≡ v.number
 seen-own pool sides servers tx seen i n v view session at =
-    let here : IfSome (slice_get (map (shown_server pool) servers) i) (λ x. n ≡ x.way.number) = rw (← view) at session in
+    let here : IfSome (slice_get (map (shown_server pool) servers) i) (λ x. n ≡ x.way.number) =
+    rw (← view) at session in
     rw (get-map (shown_server pool) servers i v at) at here

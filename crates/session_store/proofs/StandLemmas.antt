@@ -27,7 +27,8 @@ module _ (sides : List Side) (servers : List Serving) (i : ℕ) (side later : Si
     | inl here ↦ (
         let was : IsOfSide e (Some side) = rw (here, there) at h in
         let now : IsOfSide e (Some later) = (was.0 ∙ sym peer, state ∙ was.1, packet was.2) in
-        subst (IsOfSide e) (sym (ap (λ n. slice_get (slice_set sides i later) n) here ∙ get-own sides i side later there)) now)
+        subst (IsOfSide e) (sym (ap (λ n. slice_get (slice_set sides i later) n) here
+        ∙ get-own sides i side later there)) now)
     | inr other ↦ subst (IsOfSide e) (sym (get-other sides i s later other)) h
   ]
   of-one e (Reply t r) packet h = h
@@ -55,18 +56,21 @@ module _ (sides : List Side) (servers : List Serving) (i : ℕ) (side later : Si
   but-cons o e es false t packet was ih none = (stands-one e (packet t) was, ih none)
 
   pub stands-but : (o : Owner)
-      → ((e : EntryValue) → is_of o e ≡ false → IsPacketOf (call_of side.session e) e → IsPacketOf (call_of later.session e) e)
+      → ((e : EntryValue) → is_of o e ≡ false → IsPacketOf (call_of side.session e) e
+      → IsPacketOf (call_of later.session e) e)
       → (es : List EntryValue) → AllByRecursion (IsOf sides servers) es
       → list_any (is_of o) es ≡ false → AllByRecursion (IsOf (slice_set sides i later) servers) es
   stands-but o packet [] all none = tt
-  stands-but o packet (e ∷ es) all none = but-cons o e es (is_of o e) refl (packet e) all.0 (stands-but o packet es all.1) none
+  stands-but o packet (e ∷ es) all none =
+      but-cons o e es (is_of o e) refl (packet e) all.0 (stands-but o packet es all.1) none
 
 -- a packet of a client session stands
 pub stands-own : (sides : List Side) (servers : List Serving) (i r : ℕ) (side later : Side)
     (e : EntryValue) → slice_get sides i ≡ Some side → e.owner ≡ Ask i r → IsOfSide e (Some later)
     → IsOf (slice_set sides i later) servers e
 stands-own sides servers i r side later e there own is =
-    subst (IsOfOwner (slice_set sides i later) servers e) (sym own) (subst (IsOfSide e) (sym (get-own sides i side later there)) is)
+    subst (IsOfOwner (slice_set sides i later) servers e) (sym own)
+    (subst (IsOfSide e) (sym (get-own sides i side later there)) is)
 
 -- the owner of a call's packets
 pub owner-is : (o : Owner) (i r : ℕ) → same_owner o (Ask i r) ≡ true → o ≡ Ask i r
@@ -121,9 +125,11 @@ module _ {A : Type 0} (P : A → Type 0) where
       (one, subst (λ xs. AllByRecursion P xs) (sym out.left) more)
 
 -- that in front of all others
-front-cases : {A : Type 0} (xs : List A) (x : A) → slice_get xs 0 ≡ Some x → TakenOut {A = A} (λ y. false) x xs (drop 1 xs)
+front-cases : {A : Type 0} (xs : List A) (x : A) → slice_get xs 0 ≡ Some x
+    → TakenOut {A = A} (λ y. false) x xs (drop 1 xs)
 front-cases [] x e = cc
 front-cases (y ∷ ys) x e = let same : y ≡ x = cc in record { before = []; after = ys; was = ap (λ z. z ∷ ys) same; left = refl; first = refl }
 
-pub front-taken : {A : Type 0} (xs : List A) (x : A) → slice_get xs 0 ≡ Some x → TakenOut {A = A} (λ y. false) x xs (drop 1 xs)
+pub front-taken : {A : Type 0} (xs : List A) (x : A) → slice_get xs 0 ≡ Some x
+    → TakenOut {A = A} (λ y. false) x xs (drop 1 xs)
 front-taken xs x e = front-cases xs x e

@@ -62,12 +62,18 @@ entry-peer peer s e is = peer-cases peer s e (next_call s) is
 pub can-hold : (pool : Pool) (entries : List EntryValue) (size : ℕ) (calls : List ActiveCall)
     → Counts pool entries → length entries ≤ size → size < 4294967295 → CanHold pool calls
 can-hold pool entries size [] counted within few = tt
-can-hold pool entries size (c ∷ cs) counted within few =
-    (omega (arith, counted c.ask, mentions-le-length c.ask entries, within, few), can-hold pool entries size cs counted within few)
+can-hold pool entries size (c ∷ cs) counted within few = (
+  omega (arith, counted c.ask, mentions-le-length c.ask entries, within, few),
+  can-hold pool entries size cs counted within few,
+)
 
 pub may-post : (pool : Pool) (sides : List Side) (servers : List Serving) (tx : Ring EntryValue)
     → Kept pool sides servers tx → AllByRecursion (MayPost pool) sides
-may-post pool sides servers tx kept = all-from (MayPost pool) sides (λ j s e. (all-at (SideKept pool) sides j s kept.keeps e, can-hold pool tx.items tx.size s.session.active kept.counted kept.within kept.few))
+may-post pool sides servers tx kept =
+    all-from (MayPost pool) sides (λ j s e. (
+      all-at (SideKept pool) sides j s kept.keeps e,
+      can-hold pool tx.items tx.size s.session.active kept.counted kept.within kept.few,
+    ))
 
 pub own-ask : (i r : ℕ) (o : Owner) → o ≡ Ask i r → is_ask_of i o ≡ true
 own-ask i r o own = rw own (eq-eqb i i refl)
@@ -86,16 +92,21 @@ module _ (pool after : Pool) (sides now : List Side) (servers : List Serving) (t
   asks = ask-owner h.side.peer h.side.session e h.step.entry
 
   steps : Steps (posts asks.1 e.number) h.side.is_broken pool after h.side.peer h.side.session h.later
-  steps = post-steps h.side.is_broken pool after h.side.peer h.side.session h.later e asks.0 asks.1 connected (all-at (SideAscends pool) sides i h.side kept.ascends h.at) h.step.entry asks.2 h.step.step
+  steps = post-steps h.side.is_broken pool after h.side.peer h.side.session h.later e asks.0 asks.1
+      connected (all-at (SideAscends pool) sides i h.side kept.ascends h.at) h.step.entry asks.2
+      h.step.step
 
   mine : e.owner ≡ Ask i asks.1
-  mine = next-owner h.side.peer h.side.session e asks.0 asks.1 (next_call h.side.session) h.step.entry asks.2 ∙ ap (λ n. Ask n asks.1) (kept.numbered i h.side h.at)
+  mine = next-owner h.side.peer h.side.session e asks.0 asks.1 (next_call h.side.session)
+      h.step.entry asks.2 ∙ ap (λ n. Ask n asks.1) (kept.numbered i h.side h.at)
 
   post-acts : length tx.items < tx.size
       → ClientActs pool after sides servers i h.side later tx (ring (tx.items ++ e ∷ []) tx.size)
   post-acts has-room =
-      let same = posted-length pool after h.side.peer h.side.session h.later e own h.step.entry h.step.session h.step.pool in
-      let spare = posted-spare pool after h.side.peer h.side.session h.later e own h.step.entry h.step.session h.step.pool in
+      let same = posted-length pool after h.side.peer h.side.session h.later e own h.step.entry
+      h.step.session h.step.pool in
+      let spare = posted-spare pool after h.side.peer h.side.session h.later e own h.step.entry
+      h.step.session h.step.pool in
       record {
         acts = record {
           leaves = h.step.leaves;
@@ -106,30 +117,40 @@ module _ (pool after : Pool) (sides now : List Side) (servers : List Serving) (t
           size = refl;
         };
         keeps = h.step.keeps;
-        number = posted-number pool after h.side.peer h.side.session h.later e own h.step.entry h.step.session h.step.pool;
+        number = posted-number pool after h.side.peer h.side.session h.later e own h.step.entry
+            h.step.session h.step.pool;
         ascends = steps.calls;
-        stands = all-push (IsOf (slice_set sides i later) servers) tx.items e (stands-all sides servers i h.side later h.at refl refl h.step.entries tx.items kept.stands)
-            (stands-own sides servers i asks.1 h.side later e h.at mine (entry-peer h.side.peer h.side.session e h.step.entry, connected, h.step.stands));
+        stands = all-push (IsOf (slice_set sides i later) servers) tx.items e
+            (stands-all sides servers i h.side later h.at refl refl h.step.entries tx.items
+            kept.stands)
+            (stands-own sides servers i asks.1 h.side later e h.at mine
+            (entry-peer h.side.peer h.side.session e h.step.entry, connected, h.step.stands));
         queued = h.step.queued tx.items (all-at (SideQueued tx.items) sides i h.side kept.queued h.at);
         slots = omega (arith, same, all-at HasSlots sides i h.side kept.slots h.at);
         spare = omega (arith, same, spare);
       }
 
   side-free : (shown_side pool h.side).free ≡ h.later.credits.free + 1
-  side-free = rw connected (sym (posted-free pool after h.side.peer h.side.session h.later e own h.step.entry h.step.session h.step.pool))
+  side-free = rw connected (sym (posted-free pool after h.side.peer h.side.session h.later e own
+      h.step.entry h.step.session h.step.pool))
 
   -- there is room for it, as it is seen
   pub room-there : (seen : Shown) → shown_of pool sides servers tx ≡ seen
       → IfSome (slice_get seen.clients i) (λ x. length seen.queued + x.free ≤ seen.size)
       → length tx.items < tx.size
   room-there seen view room =
-      let here : IfSome (slice_get (map (shown_side pool) sides) i) (λ x. length (map queued_of tx.items) + x.free ≤ tx.size) = rw (← view) at room in
-      let own : length (map queued_of tx.items) + (shown_side pool h.side).free ≤ tx.size = rw (get-map (shown_side pool) sides i h.side h.at) at here in
+      let here : IfSome (slice_get (map (shown_side pool) sides) i)
+      (λ x. length (map queued_of tx.items) + x.free ≤ tx.size) = rw (← view) at room in
+      let own : length (map queued_of tx.items) + (shown_side pool h.side).free ≤ tx.size =
+      rw (get-map (shown_side pool) sides i h.side h.at) at here in
       omega (arith, own, side-free, length-map tx.items queued_of)
 
   pub kept-posted : length tx.items < tx.size
       → Kept after now servers (ring (tx.items ++ e ∷ []) tx.size)
-  kept-posted has-room = subst (λ xs. Kept after xs servers (ring (tx.items ++ e ∷ []) tx.size)) (sym h.changed) (client-kept pool after sides servers i h.side later tx (ring (tx.items ++ e ∷ []) tx.size) h.at kept (post-acts has-room))
+  kept-posted has-room =
+      subst (λ xs. Kept after xs servers (ring (tx.items ++ e ∷ []) tx.size)) (sym h.changed)
+      (client-kept pool after sides servers i h.side later tx (ring (tx.items ++ e ∷ []) tx.size)
+      h.at kept (post-acts has-room))
 
   -- what is shown
   posted-pair : packet_of_entry e ≡ (asks.1, e.number)
@@ -140,13 +161,20 @@ module _ (pool after : Pool) (sides now : List Side) (servers : List Serving) (t
   posted-clients has-room = rw posted-pair (record {
     client = shown_side pool h.side;
     place = get-map (shown_side pool) sides i h.side h.at;
-    next = sym (post-next h.side.is_broken pool h.side.peer h.side.session e asks.0 asks.1 connected h.step.entry asks.2 h.step.turn);
-    changed = ap (map (shown_side after)) h.changed ∙ clients-set pool after sides servers i h.side later tx (ring (tx.items ++ e ∷ []) tx.size) h.at kept (post-acts has-room) ∙ ap (slice_set (map (shown_side pool) sides) i) steps.view;
+    next = sym (post-next h.side.is_broken pool h.side.peer h.side.session e asks.0 asks.1 connected
+        h.step.entry asks.2 h.step.turn);
+    changed = ap (map (shown_side after)) h.changed
+        ∙ clients-set pool after sides servers i h.side later tx (ring (tx.items ++ e ∷ []) tx.size)
+        h.at kept (post-acts has-room) ∙ ap (slice_set (map (shown_side pool) sides) i) steps.view;
   })
 
   pub posted-sum : length tx.items < tx.size
-      → spare_of after + places_in now + served_places servers ≡ spare_of pool + places_in sides + served_places servers
-  posted-sum has-room = ap (λ xs. spare_of after + places_in xs + served_places servers) h.changed ∙ client-places pool after sides servers i h.side later tx (ring (tx.items ++ e ∷ []) tx.size) h.at kept (post-acts has-room)
+      → spare_of after + places_in now + served_places servers
+      ≡ spare_of pool + places_in sides + served_places servers
+  posted-sum has-room =
+      ap (λ xs. spare_of after + places_in xs + served_places servers) h.changed
+      ∙ client-places pool after sides servers i h.side later tx (ring (tx.items ++ e ∷ []) tx.size)
+      h.at kept (post-acts has-room)
 
 -- session i had nothing to post
 module _ (pool after : Pool) (sides now : List Side) (servers : List Serving) (tx : Ring EntryValue)
@@ -154,30 +182,39 @@ module _ (pool after : Pool) (sides now : List Side) (servers : List Serving) (t
   unposted-sides : now ≡ sides
   unposted-sides =
       let same : h.later ≡ h.side.session = h.step.session ∙ none-same h.side.peer h.side.session h.step.entry in
-      h.changed ∙ ap (λ (x : Session). slice_set sides i (record h.side { session = x })) same ∙ set-own sides i h.side h.at
+      h.changed ∙ ap (λ (x : Session). slice_set sides i (record h.side { session = x })) same
+      ∙ set-own sides i h.side h.at
 
   pub unposted-kept : Kept pool sides servers tx → Kept after now servers tx
   unposted-kept kept = rw (unposted-sides, h.step.pool) kept
 
-  pub unposted-sum : spare_of after + places_in now + served_places servers ≡ spare_of pool + places_in sides + served_places servers
+  pub unposted-sum : spare_of after + places_in now + served_places servers
+      ≡ spare_of pool + places_in sides + served_places servers
   unposted-sum = rw (unposted-sides, h.step.pool) refl
 
   pub unposted-clients : h.side.is_broken ≡ false → PostsAt i None (map (shown_side pool) sides)
       (map (shown_side after) now)
-  unposted-clients connected =
-      (ap (λ (o : Option Client). option_and_then (if_connected posting) o) (get-map (shown_side pool) sides i h.side h.at) ∙ sym (none-posted h.side.is_broken pool h.side.peer h.side.session connected h.step.turn), rw (unposted-sides, h.step.pool) refl)
+  unposted-clients connected = (
+    ap (λ (o : Option Client). option_and_then (if_connected posting) o)
+        (get-map (shown_side pool) sides i h.side h.at)
+        ∙ sym (none-posted h.side.is_broken pool h.side.peer h.side.session connected
+        h.step.turn),
+    rw (unposted-sides, h.step.pool) refl,
+  )
 
 -- a session that was looked at is the one there
 pub connected-at : (sides : List Side) (i : ℕ) (x side : Side) → x ≡ get_or sides i x
     → slice_get sides i ≡ Some side → x.is_broken ≡ false → side.is_broken ≡ false
-connected-at sides i x side looked there t = ap (λ (s : Side). s.is_broken) (sym (looked ∙ got-same sides i side x there)) ∙ t
+connected-at sides i x side looked there t =
+    ap (λ (s : Side). s.is_broken) (sym (looked ∙ got-same sides i side x there)) ∙ t
 
 -- no entry is of a request that is to begin
 module _ (s : Session) (i : ℕ) (empty : call_in i s.active ≡ None) where
   no-owner : (n r : ℕ) (d : Owner) → d ≡ Ask n r → r % 8 ≡ i → (cs : List ActiveCall)
       → find (is_in_slot i) cs ≡ None → find (is_owner n d) cs ≡ None
   no-owner n r d its slot [] none = refl
-  no-owner n r d its slot (c ∷ cs) none = cases (is_owner n d c) (is_in_slot i c) refl refl none (no-owner n r d its slot cs)
+  no-owner n r d its slot (c ∷ cs) none =
+      cases (is_owner n d c) (is_in_slot i c) refl refl none (no-owner n r d its slot cs)
     where
       slot-of : is_owner n d c ≡ true → is_in_slot i c ≡ true
       slot-of t =
@@ -203,8 +240,11 @@ module _ (sides : List Side) (servers : List Serving) (i r : ℕ) (side : Side)
       let its = of-side sides servers i r e own h in
       let is-one : Some its.side ≡ Some side = sym its.at ∙ there in
       let one : its.side ≡ side = cc in
-      let packet : IsPacketOf (call_of side.session e) e = subst (λ (s : Side). IsPacketOf (call_of s.session e) e) one its.is.2 in
-      let none : call_of side.session e ≡ None = no-owner side.session (r % 8) empty side.session.number r e.owner (own ∙ ap (λ n. Ask n r) (sym number)) refl side.session.active empty in
+      let packet : IsPacketOf (call_of side.session e) e =
+      subst (λ (s : Side). IsPacketOf (call_of s.session e) e) one its.is.2 in
+      let none : call_of side.session e ≡ None =
+      no-owner side.session (r % 8) empty side.session.number r e.owner
+      (own ∙ ap (λ n. Ask n r) (sym number)) refl side.session.active empty in
       subst (λ o. IsPacketOf o e) none packet
 
   unbegun-cons : (e : EntryValue) (es : List EntryValue) (b : Bool) → is_of (Ask i r) e ≡ b
@@ -226,7 +266,9 @@ module _ (pool after : Pool) (sides now : List Side) (servers : List Serving) (t
   started_side = record h.side { session = h.later }
 
   begin-steps : Steps (begins b.0 b.1) h.side.is_broken pool after h.side.peer h.side.session h.later
-  begin-steps = some-steps h.side.is_broken pool after h.side.peer h.side.session h.later connected (all-at (SideAscends pool) sides i h.side kept.ascends h.at) (Some b) h.step.step h.step.starts
+  begin-steps = some-steps h.side.is_broken pool after h.side.peer h.side.session h.later connected
+      (all-at (SideAscends pool) sides i h.side kept.ascends h.at)
+      (Some b) h.step.step h.step.starts
 
   begin-acts : ClientActs pool after sides servers i h.side started_side tx tx
   begin-acts =
@@ -237,47 +279,70 @@ module _ (pool after : Pool) (sides now : List Side) (servers : List Serving) (t
       let empty = slot-empty h.side.session (b.1 % 8) h.step.sound starts.begins.slot in
       let none = unbegun-all sides servers i b.1 h.side h.at number empty tx.items kept.stands in
       record {
-        acts = record { leaves = h.step.leaves; few = h.step.keeps.apart; counts = h.step.counts tx.items kept.counted; beside = refl; within = kept.within; size = refl };
+        acts = record {
+          leaves = h.step.leaves;
+          few = h.step.keeps.apart;
+          counts = h.step.counts tx.items kept.counted;
+          beside = refl;
+          within =
+              kept.within;
+          size = refl;
+        };
         keeps = h.step.keeps;
         number = ap (λ (x : Session). x.number) starts.session;
         ascends = begin-steps.calls;
         stands = stands-all sides servers i h.side started_side h.at refl refl h.step.entries tx.items kept.stands;
-        queued = h.step.queued tx.items (all-at (SideQueued tx.items) sides i h.side kept.queued h.at) (ap (λ n. count_by (is_of (Ask n b.1)) tx.items) number ∙ none);
+        queued = h.step.queued tx.items (all-at (SideQueued tx.items) sides i h.side kept.queued
+            h.at) (ap (λ n. count_by (is_of (Ask n b.1)) tx.items) number ∙ none);
         slots = omega (arith, same, free-slot h.side.session (b.1 % 8) h.step.sound starts.begins.slot);
         spare = omega (arith, same, spare);
       }
 
   kept-begun : Kept after now servers tx
-  kept-begun = subst (λ xs. Kept after xs servers tx) (sym h.changed) (client-kept pool after sides servers i h.side started_side tx tx h.at kept begin-acts)
+  kept-begun = subst (λ xs. Kept after xs servers tx) (sym h.changed)
+      (client-kept pool after sides servers i h.side started_side tx tx h.at kept begin-acts)
 
   begun-clients : BeginsAt i (Some b) (map (shown_side pool) sides) (map (shown_side after) now)
   begun-clients = (
-    ap (λ (o : Option Client). option_and_then (if_connected beginning) o) (get-map (shown_side pool) sides i h.side h.at) ∙ sym (begun-next h.side.is_broken pool h.side.peer h.side.session (Some b) connected (h.step.turn h.side.peer)),
+    ap (λ (o : Option Client). option_and_then (if_connected beginning) o)
+        (get-map (shown_side pool) sides i h.side h.at)
+        ∙ sym (begun-next h.side.is_broken pool h.side.peer h.side.session (Some b) connected
+        (h.step.turn h.side.peer)),
     record {
       client = shown_side pool h.side;
       place = get-map (shown_side pool) sides i h.side h.at;
-      changed = ap (map (shown_side after)) h.changed ∙ clients-set pool after sides servers i h.side started_side tx tx h.at kept begin-acts ∙ ap (slice_set (map (shown_side pool) sides) i) begin-steps.view;
+      changed = ap (map (shown_side after)) h.changed
+          ∙ clients-set pool after sides servers i h.side started_side tx tx h.at kept begin-acts
+          ∙ ap (slice_set (map (shown_side pool) sides) i) begin-steps.view;
     },
   )
 
   begun-servers : map (shown_server after) servers ≡ map (shown_server pool) servers
   begun-servers = servers-same pool after sides servers i h.side started_side tx tx h.at kept begin-acts
 
-  begun-size : spare_of after + places_in now + served_places servers ≡ spare_of pool + places_in sides + served_places servers
-  begun-size = ap (λ xs. spare_of after + places_in xs + served_places servers) h.changed ∙ client-places pool after sides servers i h.side started_side tx tx h.at kept begin-acts
+  begun-size : spare_of after + places_in now + served_places servers
+      ≡ spare_of pool + places_in sides + served_places servers
+  begun-size = ap (λ xs. spare_of after + places_in xs + served_places servers) h.changed
+      ∙ client-places pool after sides servers i h.side started_side tx tx h.at kept begin-acts
 
 module _ (pool after : Pool) (sides now : List Side) (servers : List Serving) (tx : Ring EntryValue)
     (i : ℕ) (h : SideBegins i None sides now pool after) where
   unbegun-sides : now ≡ sides
-  unbegun-sides = h.changed ∙ ap (λ (x : Session). slice_set sides i (record h.side { session = x })) h.step.unchanged.0 ∙ set-own sides i h.side h.at
+  unbegun-sides = h.changed ∙ ap (λ (x : Session). slice_set sides i
+      (record h.side { session = x })) h.step.unchanged.0 ∙ set-own sides i h.side h.at
 
   unbegun-kept : Kept pool sides servers tx → Kept after now servers tx
   unbegun-kept kept = rw (unbegun-sides, h.step.unchanged.1) kept
 
   unbegun-clients : h.side.is_broken ≡ false → BeginsAt i None (map (shown_side pool) sides)
       (map (shown_side after) now)
-  unbegun-clients connected =
-      (ap (λ (o : Option Client). option_and_then (if_connected beginning) o) (get-map (shown_side pool) sides i h.side h.at) ∙ sym (begun-next h.side.is_broken pool h.side.peer h.side.session None connected (h.step.turn h.side.peer)), rw (unbegun-sides, h.step.unchanged.1) refl)
+  unbegun-clients connected = (
+    ap (λ (o : Option Client). option_and_then (if_connected beginning) o)
+        (get-map (shown_side pool) sides i h.side h.at)
+        ∙ sym (begun-next h.side.is_broken pool h.side.peer h.side.session None connected
+        (h.step.turn h.side.peer)),
+    rw (unbegun-sides, h.step.unchanged.1) refl,
+  )
 
 -- session i began a call, if it could
 module _ (pool after : Pool) (sides now : List Side) (servers : List Serving) (tx : Ring EntryValue)
@@ -301,7 +366,8 @@ module _ (pool after : Pool) (sides now : List Side) (servers : List Serving) (t
 
   pub size-begin : (o : Option (ℕ × ℕ)) (h : SideBegins i o sides now pool after)
       → h.side.is_broken ≡ false
-      → spare_of after + places_in now + served_places servers ≡ spare_of pool + places_in sides + served_places servers
+      → spare_of after + places_in now + served_places servers
+      ≡ spare_of pool + places_in sides + served_places servers
   size-begin None h connected = rw (unbegun-sides pool after sides now servers tx i h, h.step.unchanged.1) refl
   size-begin (Some b) h connected = begun-size pool after sides now servers tx i b kept h connected
 
@@ -314,14 +380,22 @@ active-most pool (c ∷ cs) ws few = omega (arith, few)
 side-most : (pool : Pool) (s : Side) → HasSlots s
     → 2 * length s.session.active ≤ 16 * cond (has_calls (shown_side pool s)) 1 0
 side-most pool s few =
-    rw (calls-end s.is_broken pool s.peer s.session) (active-most pool s.session.active (map shown_waiting s.session.slots.waiting) few)
+    rw (calls-end s.is_broken pool s.peer s.session)
+    (active-most pool s.session.active (map shown_waiting s.session.slots.waiting) few)
 
 places-most : (pool : Pool) (sides : List Side) → AllByRecursion HasSlots sides
     → places_in sides ≤ 16 * count_by has_calls (map (shown_side pool) sides)
 places-most pool [] all = omega arith
 places-most pool (s ∷ ss) all =
-    let calls = counted-cons has_calls (shown_side pool s) (map (shown_side pool) ss) (has_calls (shown_side pool s)) refl in
-    omega (arith, sum_by-cons (λ x. 2 * length x.session.active) s ss, side-most pool s all.0, calls, places-most pool ss all.1)
+    let calls = counted-cons has_calls (shown_side pool s) (map (shown_side pool) ss)
+    (has_calls (shown_side pool s)) refl in
+    omega (
+      arith,
+      sum_by-cons (λ x. 2 * length x.session.active) s ss,
+      side-most pool s all.0,
+      calls,
+      places-most pool ss all.1,
+    )
 
 served-most : (servers : List Serving) → AllByRecursion HasPlaces servers
     → served_places servers ≤ 16 * length servers
@@ -332,8 +406,16 @@ pub two-spare : (pool : Pool) (sides : List Side) (servers : List Serving) (tx :
     (seen : Shown) → Kept pool sides servers tx → shown_of pool sides servers tx ≡ seen
     → HasRoom seen → 2 ≤ spare_of pool
 two-spare pool sides servers tx seen kept view room =
-    let enough : 16 * (count_by has_calls (map (shown_side pool) sides) + length (map (shown_server pool) servers)) + 2 ≤ spare_of pool + places_in sides + served_places servers = rw (← view) at room in
-    omega (arith, enough, length-map servers (shown_server pool), places-most pool sides kept.slots, served-most servers kept.served)
+    let enough : 16 * (count_by has_calls (map (shown_side pool) sides)
+    + length (map (shown_server pool) servers)) + 2 ≤ spare_of pool + places_in sides
+    + served_places servers = rw (← view) at room in
+    omega (
+      arith,
+      enough,
+      length-map servers (shown_server pool),
+      places-most pool sides kept.slots,
+      served-most servers kept.served,
+    )
 
 pub ring-room : (pool : Pool) (sides : List Side) (servers : List Serving) (tx : Ring EntryValue)
     (seen : Shown) → shown_of pool sides servers tx ≡ seen → length seen.queued < seen.size

@@ -59,8 +59,12 @@ numbered-shown : (pool : Pool) (peer n : ℕ) (s : Session) (c : ActiveCall)
     → call_numbered n s ≡ Some c → find (is_call n)
     (shown pool peer s).calls ≡ Some (shown_active pool c)
 numbered-shown pool peer n s c e =
-    let active : find (is_call n) (map (shown_active pool) s.active) ≡ Some (shown_active pool c) = found-shown (shown_active pool) (is_call n) (is_numbered n) s.active (numbered-same pool n s.active) ∙ ap (option_map (shown_active pool)) e in
-    find-append (is_call n) (map (shown_active pool) s.active) (map shown_waiting s.slots.waiting) ∙ ap (λ o. option_or o (find (is_call n) (map shown_waiting s.slots.waiting))) active
+    let active : find (is_call n) (map (shown_active pool) s.active) ≡ Some (shown_active pool c) =
+    found-shown (shown_active pool) (is_call n)
+    (is_numbered n) s.active (numbered-same pool n s.active)
+    ∙ ap (option_map (shown_active pool)) e in
+    find-append (is_call n) (map (shown_active pool) s.active) (map shown_waiting s.slots.waiting)
+    ∙ ap (λ o. option_or o (find (is_call n) (map shown_waiting s.slots.waiting))) active
 
 pub progress-found : (b : Bool) (pool : Pool) (peer n : ℕ) (s : Session) (c : ActiveCall)
     → call_numbered n s ≡ Some c
@@ -69,7 +73,8 @@ progress-found b pool peer n s c e = rw (calls-end b pool peer s, numbered-shown
 
 -- a rollback
 pub record RollsEnd (n : ℕ) (b : Bool) (pool : Pool) (peer : ℕ) (s new : Session) : Type 0 where
-  pub view : IfSome (progress_of n (shown_end b pool peer s)) (λ p. shown_end b pool peer new ≡ rolls n p.posted p.got (shown_end b pool peer s))
+  pub view : IfSome (progress_of n (shown_end b pool peer s))
+      (λ p. shown_end b pool peer new ≡ rolls n p.posted p.got (shown_end b pool peer s))
   pub calls : Ascends (shown_end b pool peer new).calls
   pub keeps : KeepsPool pool new.active
 
@@ -80,14 +85,22 @@ chosen x y z false t e = cc
 roll-cases : (n : ℕ) (b : Bool) (pool : Pool) (peer : ℕ) (s new : Session) → b ≡ false
     → Ascends (shown pool peer s).calls → KeepsPool pool s.active → (o : Option ActiveCall)
     → call_numbered n s ≡ o → IsSome o → IfSome o (λ c. new ≡ after_roll c s)
-    → IfSome o (λ c. (pool : Pool) → (clock peer : ℕ) → stepped clock (rolled_event c) (shown pool peer s) ≡ shown pool peer new ∷ [])
+    → IfSome o (λ c. (pool : Pool) → (clock peer : ℕ)
+    → stepped clock (rolled_event c) (shown pool peer s) ≡ shown pool peer new ∷ [])
     → RollsEnd n b pool peer s new
 roll-cases n b pool peer s new connected up keeps None e some session step = cc
 roll-cases n b pool peer s new connected up keeps (Some c) e some session step =
     let own : c.call ≡ n = eqb-true c.call n (find-passes (is_numbered n) s.active c e) in
-    let there : has_call n (shown pool peer s) ≡ true = any-found (is_call n) (shown_active pool c) (shown pool peer s).calls (numbered-shown pool peer n s c e) in
-    let is : shown pool peer new ≡ rolls n c.posted c.got (shown pool peer s) = chosen (shown pool peer s) (shown pool peer new) (rolls n c.posted c.got (shown pool peer s)) (has_call n (shown pool peer s)) there (rw own at (step pool 0 peer)) in
-    let calls : Ascends (rolls n c.posted c.got (shown pool peer s)).calls = ascends-changed (is_call n) (moved (rolled_back c.got)) (λ d. refl) (shown pool peer s).calls up in
+    let there : has_call n (shown pool peer s) ≡ true =
+    any-found (is_call n) (shown_active pool c)
+    (shown pool peer s).calls (numbered-shown pool peer n s c e) in
+    let is : shown pool peer new ≡ rolls n c.posted c.got (shown pool peer s) =
+    chosen (shown pool peer s) (shown pool peer new)
+    (rolls n c.posted c.got (shown pool peer s))
+    (has_call n (shown pool peer s)) there (rw own at (step pool 0 peer)) in
+    let calls : Ascends (rolls n c.posted c.got (shown pool peer s)).calls =
+    ascends-changed (is_call n) (moved (rolled_back c.got)) (λ d. refl)
+    (shown pool peer s).calls up in
     record {
       view = rw (progress-found b pool peer n s c e, connected) is;
       calls = rw connected (subst (λ (x : Client). Ascends x.calls) (sym is) calls);
@@ -97,10 +110,12 @@ roll-cases n b pool peer s new connected up keeps (Some c) e some session step =
 pub roll-end : (n : ℕ) (b : Bool) (pool : Pool) (peer : ℕ) (s new : Session) → b ≡ false
     → Ascends (shown_end b pool peer s).calls → KeepsPool pool s.active → IsSome (call_numbered n s)
     → IfSome (call_numbered n s) (λ c. new ≡ after_roll c s) → IfSome (call_numbered n s)
-    (λ c. (pool : Pool) → (clock peer : ℕ) → stepped clock (rolled_event c) (shown pool peer s) ≡ shown pool peer new ∷ [])
+    (λ c. (pool : Pool) → (clock peer : ℕ)
+    → stepped clock (rolled_event c) (shown pool peer s) ≡ shown pool peer new ∷ [])
     → RollsEnd n b pool peer s new
 roll-end n b pool peer s new connected up keeps some session step =
-    roll-cases n b pool peer s new connected (rw (calls-end b pool peer s) at up) keeps (call_numbered n s) refl some session step
+    roll-cases n b pool peer s new connected (rw (calls-end b pool peer s) at up) keeps
+    (call_numbered n s) refl some session step
 
 -- the peer is lost
 pub breaks-end : (b : Bool) (pool : Pool) (peer : ℕ) (s : Session)
@@ -128,11 +143,16 @@ lost-first : (pool after : Pool) (peer : ℕ) (d : Done) (s new : Session)
     → Loses o d s new pool after
     → (Some d.call ≡ first_number (shown pool peer s).calls) × (d.outcome ≡ PeerLost)
 lost-first pool after peer d s new up (Some c) e lost =
-    let found = sym (least-first pool (is_after None) s.active up) ∙ e in
-    (rw (first-active pool s.active (map shown_waiting s.slots.waiting) c found, lost.done.call) refl, lost.done.ended_as)
+    let found = sym (least-first pool (is_after None) s.active up) ∙ e in (
+      rw (first-active pool s.active (map shown_waiting s.slots.waiting) c found, lost.done.call)
+          refl,
+      lost.done.ended_as,
+    )
 lost-first pool after peer d s new up None e lost =
-    let none = least-none-of call_number s.active e in
-    (rw (none, first-waiting s.slots.waiting lost.0.waiting lost.0.oldest, lost.0.done.call) refl, lost.0.done.ended_as)
+    let none = least-none-of call_number s.active e in (
+      rw (none, first-waiting s.slots.waiting lost.0.waiting lost.0.oldest, lost.0.done.call) refl,
+      lost.0.done.ended_as,
+    )
 
 first-any : (n : ℕ) (cs : List Call) → Some n ≡ first_number cs → list_any (is_call n) cs ≡ true
 first-any n [] e = cc
@@ -147,14 +167,20 @@ pub record Ends (n : ℕ) (b : Bool) (pool after : Pool) (peer : ℕ) (s new : S
 
 pub lose-end : (b : Bool) (pool after : Pool) (peer : ℕ) (d : Done) (s new : Session) → b ≡ true
     → Ascends (shown_end b pool peer s).calls → Loses (next_lost s) d s new pool after
-    → (IsAlone d.call s → (clock peer : ℕ) → stepped clock (done_event d) (shown_broken pool peer s) ≡ shown_broken after peer new ∷ [])
+    → (IsAlone d.call s → (clock peer : ℕ)
+    → stepped clock (done_event d) (shown_broken pool peer s) ≡ shown_broken after peer new ∷ [])
     → Ends d.call b pool after peer s new
 lose-end b pool after peer d s new broken up lost step =
     let active = active-ascends b pool peer s up in
     let (next, outcome) = lost-first pool after peer d s new active (next_lost s) refl lost in
     let there = first-any d.call (shown pool peer s).calls next in
-    let is : shown_broken after peer new ≡ ends d.call (shown_broken pool peer s) = chosen (shown_broken pool peer s) (shown_broken after peer new) (ends d.call (shown_broken pool peer s)) (has_call d.call (shown_broken pool peer s)) there (rw outcome at (step (few-numbered pool s.active active d.call) 0 peer)) in
-    let calls : Ascends (ends d.call (shown_broken pool peer s)).calls = ascends-without (is_call d.call) (shown pool peer s).calls (rw broken at up) in
+    let is : shown_broken after peer new ≡ ends d.call (shown_broken pool peer s) =
+    chosen (shown_broken pool peer s) (shown_broken after peer new)
+    (ends d.call (shown_broken pool peer s))
+    (has_call d.call (shown_broken pool peer s)) there
+    (rw outcome at (step (few-numbered pool s.active active d.call) 0 peer)) in
+    let calls : Ascends (ends d.call (shown_broken pool peer s)).calls =
+    ascends-without (is_call d.call) (shown pool peer s).calls (rw broken at up) in
     rw broken (record { next = next; view = is; calls = subst (λ (x : Client). Ascends x.calls) (sym is) calls })
 
 -- none is left

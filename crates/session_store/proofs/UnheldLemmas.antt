@@ -44,6 +44,7 @@ use Rattle.session_store.proofs.GoneLemmas.{find-side}
 use Rattle.session_store.proofs.ListLemmas.{all-at, sum-one, sum-two}
 use Rattle.session_store.proofs.ReplyGoneLemmas.{end-at, named-cases, reply-stands}
 use Rattle.session_store.proofs.StandLemmas.{of-side, owner-is}
+use Rattle.client_core.proofs.QueuedLemmas.{owner-is as ask-owner}
 
 -- the call that an entry of a session is a packet of
 pub record OfCall (s : Session) (e : EntryValue) : Type 0 where
@@ -53,18 +54,18 @@ pub record OfCall (s : Session) (e : EntryValue) : Type 0 where
   pub place : e.place ≡ place_of call e.number
   pub owner : e.owner ≡ Ask s.number call.request
 
-owner-was : (n r : ℕ) (o : Owner) → same_owner (Ask n r) o ≡ true → o ≡ Ask n r
-owner-was n r (Ask s q) t =
-    let parts = and_parts (eqb n s) (eqb r q) t in
-    ap (λ m. Ask m q) (sym (eqb-true n s parts.0)) ∙ ap (Ask n) (sym (eqb-true r q parts.1))
-owner-was n r (Reply s q) t = cc
-owner-was n r Control t = cc
-
 of-cases : (s : Session) (e : EntryValue) (o : Option ActiveCall) → call_of s e ≡ o → IsPacketOf o e
     → OfCall s e
 of-cases s e None f h = absurd h
 of-cases s e (Some c) f h =
-    record { call = c; found = f; number = h.0; place = h.1; owner = owner-was s.number c.request e.owner (find-passes (is_owner s.number e.owner) s.active c f) }
+    record {
+      call = c;
+      found = f;
+      number = h.0;
+      place = h.1;
+      owner = ask-owner s.number c.request e.owner
+          (find-passes (is_owner s.number e.owner) s.active c f);
+    }
 
 pub of-call : (s : Session) (e : EntryValue) → IsPacketOf (call_of s e) e → OfCall s e
 of-call s e h = of-cases s e (call_of s e) refl h
@@ -74,7 +75,13 @@ pub none-named : (p : ℕ) (es : List EntryValue)
     → ((k : ℕ) (d : EntryValue) → slice_get es k ≡ Some d → mentions p (d ∷ []) ≡ 0)
     → mentions p es ≡ 0
 none-named p [] each = refl
-none-named p (e ∷ es) each = omega (arith, mentions-cons p e es, each 0 e refl, none-named p es (λ k d at. each (suc k) d at))
+none-named p (e ∷ es) each =
+    omega (
+      arith,
+      mentions-cons p e es,
+      each 0 e refl,
+      none-named p es (λ k d at. each (suc k) d at),
+    )
 
 pub none-at : (p : EntryValue → Bool) (es : List EntryValue) (k : ℕ) (d : EntryValue)
     → list_any p es ≡ false → slice_get es k ≡ Some d → p d ≡ false
@@ -105,10 +112,18 @@ module _ (pool : Pool) (sides : List Side) (servers : List Serving) (tx : Ring E
     same-session : (call : OfCall side.session d) → is_of (Ask i r) d ≡ false
         → call.call.ask ≡ c.ask → ⊥
     same-session call other same =
-        let apart : (x : ActiveCall) → is_request r x ≡ true → is_owner side.session.number d.owner x ≡ false = λ x t. by x (is_owner side.session.number d.owner x) refl t in
+        let apart : (x : ActiveCall) → is_request r x ≡ true
+        → is_owner side.session.number d.owner x ≡ false =
+        λ x t. by x (is_owner side.session.number d.owner x) refl t in
         let away = skip-found (is_request r) (is_owner side.session.number d.owner) side.session.active apart in
-        let rest = names-without c.ask (is_request r) c side.session.active found (omega (arith, named-one c.ask c.ask refl)) (own-most) in
-        absurd (omega (arith, rest, named-found (is_owner side.session.number d.owner) call.call (without_first (is_request r) side.session.active) (away ∙ call.found) c.ask same))
+        let rest = names-without c.ask (is_request r) c side.session.active found
+        (omega (arith, named-one c.ask c.ask refl)) (own-most) in
+        absurd (omega (
+          arith,
+          rest,
+          named-found (is_owner side.session.number d.owner) call.call
+              (without_first (is_request r) side.session.active) (away ∙ call.found) c.ask same,
+        ))
       where
         own-most : names c.ask side.session.active ≤ 1
         own-most = omega (arith, sum-one (λ s. names c.ask s.session.active) sides i side at, kept.apart c.ask)
@@ -117,9 +132,13 @@ module _ (pool : Pool) (sides : List Side) (servers : List Serving) (tx : Ring E
             → is_request r x ≡ true → b ≡ false
         by x false t u = refl
         by x true t u =
-            let owner = owner-was side.session.number x.request d.owner t in
-            let whole : d.owner ≡ Ask i r = owner ∙ ap (λ n. Ask n x.request) (kept.numbered i side at) ∙ ap (Ask i) (eqb-true x.request r u) in
-            let yes : is_of (Ask i r) d ≡ true = ap (λ o. same_owner o (Ask i r)) whole ∙ rw (eq-eqb i i refl, eq-eqb r r refl) refl in
+            let owner = ask-owner side.session.number x.request d.owner t in
+            let whole : d.owner ≡ Ask i r =
+            owner ∙ ap (λ n. Ask n x.request) (kept.numbered i side at)
+            ∙ ap (Ask i) (eqb-true x.request r u) in
+            let yes : is_of (Ask i r) d ≡ true =
+            ap (λ o. same_owner o (Ask i r)) whole
+            ∙ rw (eq-eqb i i refl, eq-eqb r r refl) refl in
             let no : true ≡ false = sym yes ∙ other in
             cc
 
@@ -136,8 +155,10 @@ module _ (pool : Pool) (sides : List Side) (servers : List Serving) (tx : Ring E
               same-session-as its-side.side one call other (sym ask ∙ same))
           | inr away ↦ (
               let mine = named-found (is_request r) c side.session.active found c.ask refl in
-              let other-names = named-found (is_owner its-side.side.session.number d.owner) call.call its-side.side.session.active call.found c.ask (sym ask ∙ same) in
-              let two = sum-two (λ s. names c.ask s.session.active) sides i t side its-side.side at its-side.at away in
+              let other-names = named-found (is_owner its-side.side.session.number d.owner)
+              call.call its-side.side.session.active call.found c.ask (sym ask ∙ same) in
+              let two = sum-two (λ s. names c.ask s.session.active) sides i t side its-side.side
+              at its-side.at away in
               omega (arith, mine, other-names, two, kept.apart c.ask))
         ]
       where
@@ -149,15 +170,34 @@ module _ (pool : Pool) (sides : List Side) (servers : List Serving) (tx : Ring E
         same-session-as : (s : Side) → s ≡ side → (call : OfCall s.session d)
             → is_of (Ask i r) d ≡ false → call.call.ask ≡ c.ask → ⊥
         same-session-as s one call other same =
-            same-session (record { call = call.call; found = subst (λ (x : Side). call_of x.session d ≡ Some call.call) one call.found; number = call.number; place = call.place; owner = call.owner ∙ ap (λ (x : Side). Ask x.session.number call.call.request) one }) other same
+            same-session (record {
+              call = call.call;
+              found = subst (λ (x : Side). call_of x.session d ≡ Some call.call) one call.found;
+              number = call.number;
+              place = call.place;
+              owner =
+                  call.owner ∙ ap (λ (x : Side). Ask x.session.number call.call.request) one;
+            }) other
+            same
 
     of-reply : (t q : ℕ) → d.owner ≡ Reply t q → (p : ℕ) → d.place ≡ Some p → p ≢ c.ask
     of-reply t q its p placed same =
         let server = end-at servers t d.peer (subst (IsOfOwner sides servers d) its stands) in
-        let reply = reply-stands pool tx.items server.server q d (its ∙ ap (λ n. Reply n q) (sym server.numbered)) (λ P all. all-at P tx.items k d all there) (all-at (ServerHolds pool tx.items) servers server.place server.server kept.holds server.at) in
+        let reply = reply-stands pool tx.items server.server q d
+        (its ∙ ap (λ n. Reply n q) (sym server.numbered))
+        (λ P all. all-at P tx.items k d all there)
+        (all-at (ServerHolds pool tx.items) servers server.place server.server kept.holds
+        server.at) in
         let theirs = named-cases server.server d p placed (request_of server.server d) refl reply in
         let mine = named-found (is_request r) c side.session.active found p (sym same) in
-        omega (arith, mine, theirs, sum-one (λ s. names p s.session.active) sides i side at, sum-one (λ v. slot_names p v.slots) servers server.place server.server server.at, kept.apart p)
+        omega (
+          arith,
+          mine,
+          theirs,
+          sum-one (λ s. names p s.session.active) sides i side at,
+          sum-one (λ v. slot_names p v.slots) servers server.place server.server server.at,
+          kept.apart p,
+        )
 
     of-owner : (o : Owner) → d.owner ≡ o → is_of (Ask i r) d ≡ false → (p : ℕ) → d.place ≡ Some p
         → p ≢ c.ask
@@ -171,20 +211,25 @@ module _ (pool : Pool) (sides : List Side) (servers : List Serving) (tx : Ring E
     placed-cases (Some p) e other = mentions-other c.ask p d e (of-owner d.owner refl other p e)
 
   pub unheld-call : list_any (is_of (Ask i r)) tx.items ≡ false → IsUnheld pool c
-  unheld-call none = kept.counted c.ask ∙ none-named c.ask tx.items (λ k d there. placed-cases k d there d.place refl (none-at (is_of (Ask i r)) tx.items k d none there))
+  unheld-call none = kept.counted c.ask ∙ none-named c.ask tx.items
+      (λ k d there. placed-cases k d there d.place refl
+      (none-at (is_of (Ask i r)) tx.items k d none there))
 
   -- what is queued of the call is within its window
   window-call : (k : ℕ) → Stands k r (Some (shown_side pool side)) → (c.got ≤ k) × (k < c.posted)
   window-call k h =
       let calls = calls-end side.is_broken pool side.peer side.session in
-      let there : find (is_active r) (shown_side pool side).calls ≡ Some (shown_active pool c) = ap (find (is_active r)) calls ∙ active-found pool r side.session ∙ ap (option_map (shown_active pool)) found in
+      let there : find (is_active r) (shown_side pool side).calls ≡ Some (shown_active pool c) =
+      ap (find (is_active r)) calls ∙ active-found pool r side.session
+      ∙ ap (option_map (shown_active pool)) found in
       subst (Inside k) there h
 
   window-one : (d : EntryValue) → InWindow (map (shown_side pool) sides) d.owner d.number
       → is_of (Ask i r) d ≡ true → (c.got ≤ d.number) × (d.number < c.posted)
   window-one d h t =
       let owner : d.owner ≡ Ask i r = owner-is d.owner i r t in
-      let w : Stands d.number r (find (is_client i) (map (shown_side pool) sides)) = subst (λ o. InWindow (map (shown_side pool) sides) o d.number) owner h in
+      let w : Stands d.number r (find (is_client i) (map (shown_side pool) sides)) =
+      subst (λ o. InWindow (map (shown_side pool) sides) o d.number) owner h in
       window-call d.number (subst (Stands d.number r) (find-side pool sides kept.numbered i side at) w)
 
   none-cons : (d : EntryValue) (ds : List EntryValue) (number : ℕ) (b : Bool)
@@ -195,7 +240,8 @@ module _ (pool : Pool) (sides : List Side) (servers : List Serving) (tx : Ring E
       → (b || list_any (is_of (Ask i r)) ds) ≡ false
   none-cons d ds number true t next last w ih none =
       let inside = window-one d w t in
-      let same : (d.number == number) ≡ true = eq-eqb d.number number (omega (arith, inside.0, inside.1, next, last)) in
+      let same : (d.number == number) ≡ true =
+      eq-eqb d.number number (omega (arith, inside.0, inside.1, next, last)) in
       let no : true ≡ false = sym (rw same refl) ∙ none in
       cc
   none-cons d ds number false t next last w ih none = ih none
@@ -205,7 +251,9 @@ module _ (pool : Pool) (sides : List Side) (servers : List Serving) (tx : Ring E
       → Windows (map (shown_side pool) sides) (map queued_of ds)
       → list_any (is_entry (Ask i r) number) ds ≡ false → list_any (is_of (Ask i r)) ds ≡ false
   none-queued [] number next last w none = refl
-  none-queued (d ∷ ds) number next last w none = none-cons d ds number (is_of (Ask i r) d) refl next last w.0 (none-queued ds number next last w.1) none
+  none-queued (d ∷ ds) number next last w none =
+      none-cons d ds number (is_of (Ask i r) d) refl next last w.0
+      (none-queued ds number next last w.1) none
 
 -- so the condition of a reply holds
 pub next-unheld : (pool : Pool) (sides : List Side) (servers : List Serving) (tx : Ring EntryValue)
@@ -213,14 +261,17 @@ pub next-unheld : (pool : Pool) (sides : List Side) (servers : List Serving) (tx
     → slice_get sides i ≡ Some side → Windows (map (shown_side pool) sides) (map queued_of tx.items)
     → is_waiting ≡ list_any (is_entry (Ask i r) number) tx.items
     → NextIsUnheld pool is_waiting number (call_as r side.session)
-next-unheld pool sides servers tx i r number side is_waiting kept at windows waits = cases (call_as r side.session) refl
+next-unheld pool sides servers tx i r number side is_waiting kept at windows waits =
+    cases (call_as r side.session) refl
   where
     cases : (o : Option ActiveCall) → call_as r side.session ≡ o
         → NextIsUnheld pool is_waiting number o
     cases None f = tt
     cases (Some c) f = λ idle next last.
         let own : c.request ≡ r = eqb-true c.request r (find-passes (is_request r) side.session.active c f) in
-        unheld-call pool sides servers tx kept i r side at c f own (none-queued pool sides servers tx kept i r side at c f own tx.items number next last windows (sym waits ∙ idle))
+        unheld-call pool sides servers tx kept i r side at c f own
+        (none-queued pool sides servers tx kept i r side at c f own tx.items number next last
+        windows (sym waits ∙ idle))
 
 -- a request of which its session has no packet queued
 module _ (pool : Pool) (sides : List Side) (servers : List Serving) (tx : Ring EntryValue)
@@ -233,9 +284,12 @@ module _ (pool : Pool) (sides : List Side) (servers : List Serving) (tx : Ring E
       let of = of-side sides servers i r d its h in
       let is-one : Some of.side ≡ Some side = sym of.at ∙ at in
       let one : of.side ≡ side = cc in
-      let packet : IsPacketOf (call_of side.session d) d = subst (λ (s : Side). IsPacketOf (call_of s.session d) d) one of.is.2 in
+      let packet : IsPacketOf (call_of side.session d) d =
+      subst (λ (s : Side). IsPacketOf (call_of s.session d) d) one of.is.2 in
       let owned : d.owner ≡ Ask side.session.number r = its ∙ ap (λ n. Ask n r) (sym (kept.numbered i side at)) in
-      let gone : call_of side.session d ≡ None = ap (λ o. find (is_owner side.session.number o) side.session.active) owned ∙ same-owners side.session.number r side.session.active ∙ none in
+      let gone : call_of side.session d ≡ None =
+      ap (λ o. find (is_owner side.session.number o) side.session.active) owned
+      ∙ same-owners side.session.number r side.session.active ∙ none in
       subst (λ o. IsPacketOf o d) gone packet
 
   uncalled-cons : (d : EntryValue) (b c : Bool) → is_of (Ask i r) d ≡ b
@@ -246,7 +300,9 @@ module _ (pool : Pool) (sides : List Side) (servers : List Serving) (tx : Ring E
   uncalled : call_as r side.session ≡ None → (ds : List EntryValue)
       → AllByRecursion (IsOf sides servers) ds → list_any (is_of (Ask i r)) ds ≡ false
   uncalled none [] all = refl
-  uncalled none (d ∷ ds) all = uncalled-cons d (is_of (Ask i r) d) (list_any (is_of (Ask i r)) ds) refl (uncalled-one none d all.0) (uncalled none ds all.1)
+  uncalled none (d ∷ ds) all =
+      uncalled-cons d (is_of (Ask i r) d) (list_any (is_of (Ask i r)) ds) refl
+      (uncalled-one none d all.0) (uncalled none ds all.1)
 
   idle-cases : (o : Option ActiveCall) → call_as r side.session ≡ o → queued_in o ≡ 0
       → list_any (is_of (Ask i r)) tx.items ≡ false
@@ -254,7 +310,10 @@ module _ (pool : Pool) (sides : List Side) (servers : List Serving) (tx : Ring E
   idle-cases (Some c) f none =
       let request : c.request ≡ r = eqb-true c.request r (find-passes (is_request r) side.session.active c f) in
       let number = kept.numbered i side at in
-      sym (ap (λ n. list_any (is_of (Ask n c.request)) tx.items) number ∙ ap (λ q. list_any (is_of (Ask i q)) tx.items) request) ∙ idle-call side.session.number (is_request r) c tx.items side.session.active f (all-at (SideQueued tx.items) sides i side kept.queued at) none
+      sym (ap (λ n. list_any (is_of (Ask n c.request)) tx.items) number
+      ∙ ap (λ q. list_any (is_of (Ask i q)) tx.items) request)
+      ∙ idle-call side.session.number (is_request r) c tx.items side.session.active f
+      (all-at (SideQueued tx.items) sides i side kept.queued at) none
 
   pub idle-request : queued_in (call_as r side.session) ≡ 0
       → list_any (is_of (Ask i r)) tx.items ≡ false

@@ -9,7 +9,9 @@ follows-one : (line : Line) (t u : Stage) (x : List Fact) → Does line.command 
 follows-one line t u x d =
     record { between = u; group = x; rest = []; joined = sym (append-nil x); does = d; follows = (refl, refl) }
 
-pub follows-more : (lines : List Line) (line : Line) (s t u : Stage) (h x : List Fact) → FollowsFrom lines s h t → Does line.command t x u → FollowsFrom (lines ++ line ∷ []) s (h ++ x) u
+pub follows-more : (lines : List Line) (line : Line) (s t u : Stage) (h x : List Fact)
+    → FollowsFrom lines s h t → Does line.command t x u
+    → FollowsFrom (lines ++ line ∷ []) s (h ++ x) u
 follows-more [] line s t u h x f d =
     let P : Stage → Type 0 = λ v. Does line.command v x u in
     let start : Does line.command s x u = subst P f.1 d in

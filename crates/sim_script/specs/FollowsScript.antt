@@ -1,9 +1,12 @@
 -- Which histories follow a script: the joining of one group of facts for each command.
-use Rattle.std.specs.Prelude.{ℕ, zero, suc, ◌≡◌, ◌+◌, ◌%◌, nat_lt, Bool, true, false, Option, Some, None, List, [], ◌∷◌, ◌++◌, length, map, slice_get, if◌then◌else◌}
+use Rattle.std.specs.Prelude.{ℕ, zero, suc, ◌≡◌, ◌+◌, ◌%◌, nat_lt, Bool, true, false, Option, Some}
+use Rattle.std.specs.Prelude.{None, List, [], ◌∷◌, ◌++◌, length, map, slice_get, if◌then◌else◌}
 use Rattle.std.specs.Bool.{MatchBool}
 use Rattle.std.specs.List.{filter, list_all, list_any, remove, range_with_len, slice_set}
 use Rattle.rpc_base.specs.declared.event.Event.{Event}
-use Rattle.rpc_base.specs.declared.event.Event.TheVariants.{Made, PairedClient, PairedServer, Dropped, Starved, Unsent, Missed, Carried, Lost, Polled, Repeated, Ticked}
+use Rattle.rpc_base.specs.declared.event.Event.TheVariants.{Made, PairedClient, PairedServer}
+use Rattle.rpc_base.specs.declared.event.Event.TheVariants.{Dropped, Starved, Unsent, Missed}
+use Rattle.rpc_base.specs.declared.event.Event.TheVariants.{Carried, Lost, Polled, Repeated, Ticked}
 use Rattle.rpc_base.specs.declared.fact.Fact.{Fact}
 use Rattle.rpc_base.specs.declared.state.DropReason.TheVariants.{NoMemory}
 use Rattle.rpc_laws.specs.declared.tables.InFlight.{InFlight}
@@ -24,7 +27,10 @@ use Rattle.rpc_laws.specs.Working.{FinishesWorked, Works, WorksAll, worked_after
 use Rattle.script_grammar.specs.declared.line.AskBytes.{AskBytes}
 use Rattle.script_grammar.specs.declared.line.AskBytes.TheVariants.{Given, Count}
 use Rattle.script_grammar.specs.declared.line.Command.{Command}
-use Rattle.script_grammar.specs.declared.line.Command.TheVariants.{Node, Pair, Connect, Disconnect, Rate, Call, Poll as PollNode, Arrive, Lose, Repeat, Tick, Work, Settle}
+use Rattle.script_grammar.specs.declared.line.Command.TheVariants.{Node, Pair, Connect, Disconnect}
+use Rattle.script_grammar.specs.declared.line.Command.TheVariants.{Rate, Call, Poll as PollNode}
+use Rattle.script_grammar.specs.declared.line.Command.TheVariants.{Arrive, Lose, Repeat, Tick, Work}
+use Rattle.script_grammar.specs.declared.line.Command.TheVariants.{Settle}
 use Rattle.script_grammar.specs.declared.line.Line.{Line}
 
 -- the bytes that a call sends: those given, or so many of which byte j is j mod 256

@@ -32,7 +32,23 @@ has_behind (y ∷ more) l k x e = let t = has_behind more l k x e in (suc t.0, t
 
 -- what was seen stays seen
 pub saw_then : (p : ℕ) (says : ℕ → Type 0) (a b c : List Note) → Saw p says a b → Grows b c → Saw p says a c
-saw_then p says a b c s h = (s.0, s.1, (h.0 ++ s.2.0, has_behind h.0 s.2.0 s.2.1.0 (note p s.0) s.2.1.1, both_added a b c s.2.0 h.0 s.2.2 h.1))
+saw_then p says a b c s h = (
+  s.0,
+  s.1,
+  (
+    h.0 ++ s.2.0,
+    has_behind h.0 s.2.0 s.2.1.0 (note p s.0) s.2.1.1,
+    both_added a b c s.2.0 h.0 s.2.2 h.1,
+  ),
+)
 
 pub then_saw : (p : ℕ) (says : ℕ → Type 0) (a b c : List Note) → Grows a b → Saw p says b c → Saw p says a c
-then_saw p says a b c g s = (s.0, s.1, (s.2.0 ++ g.0, (s.2.1.0, at_longer s.2.0 g.0 s.2.1.0 (note p s.0) s.2.1.1), both_added a b c g.0 s.2.0 g.1 s.2.2))
+then_saw p says a b c g s = (
+  s.0,
+  s.1,
+  (
+    s.2.0 ++ g.0,
+    (s.2.1.0, at_longer s.2.0 g.0 s.2.1.0 (note p s.0) s.2.1.1),
+    both_added a b c g.0 s.2.0 g.1 s.2.2,
+  ),
+)

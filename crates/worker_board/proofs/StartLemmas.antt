@@ -1,5 +1,6 @@
 -- A new board keeps the rule.
-use Rattle.std.proofs.Common.{◌≡◌, ℕ, zero, suc, ◌<◌, List, [], ◌∷◌, map, length, get_or, replicate, sym, refl, ap, ◌∙◌, subst, arith, suc-ne-zero}
+use Rattle.std.proofs.Common.{◌≡◌, ℕ, zero, suc, ◌<◌, List, [], ◌∷◌, map, length, get_or, replicate}
+use Rattle.std.proofs.Common.{sym, refl, ap, ◌∙◌, subst, arith, suc-ne-zero}
 use mathlib.Core.Option.{some, some-injective, some-ne-none}
 use lib.ListN.{get_elem?, length-map, length-replicate}
 use Rattle.std.proofs.lemmas.List.{get_or-replicate}
@@ -21,7 +22,8 @@ alone d v zero e = (refl, some-injective d v e)
 alone d v (suc j) e = absurd (some-ne-none v (sym e))
 
 module _ (answer : Answer) where
-  pub starts : (ws : List ℕ) (n : ℕ) → length ws ≡ n → ((i : ℕ) → i < n → get_or ws i 0 ≡ 0) → BoardLaw answer (opening ws (replicate n None) (first_view n))
+  pub starts : (ws : List ℕ) (n : ℕ) → length ws ≡ n → ((i : ℕ) → i < n → get_or ws i 0 ≡ 0)
+      → BoardLaw answer (opening ws (replicate n None) (first_view n))
   starts ws n wide zeros = let xs : List Slot = replicate n None in let long : length (map some xs) ≡ n = length-map xs some ∙ length-replicate n None in let d : View = first_view n in
       record {
         dispatcher = d;
@@ -33,7 +35,14 @@ module _ (answer : Answer) where
         places = λ p h. let near : p < n = omega arith in subst (λ (l : List Offer). PlaceLaw answer p (get_or ws p 0) (get_elem? (map some xs) p) (d ∷ []) l) (sym (get_or-replicate n p [] [] near)) record {
           phase = closed;
           word_is = zeros p near;
-          stands = (tt, ((λ _. blank n p near), (λ z. absurd (omega (arith, only-other (suc p) 0 (λ e. suc-ne-zero p (sym e))))), omega (arith, only-other (suc p) 0 (λ e. suc-ne-zero p (sym e)))));
+          stands = (
+            tt,
+            (
+              (λ _. blank n p near),
+              (λ z. absurd (omega (arith, only-other (suc p) 0 (λ e. suc-ne-zero p (sym e))))),
+              omega (arith, only-other (suc p) 0 (λ e. suc-ne-zero p (sym e))),
+            ),
+          );
           held = refl;
           run = λ g. refl;
           past = tt;

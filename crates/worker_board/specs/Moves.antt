@@ -17,7 +17,8 @@ use Rattle.worker_board.specs.declared.view.End.TheVariants.{Open, Collected, Ta
 use Rattle.worker_board.specs.declared.view.Role.{Role}
 use Rattle.worker_board.specs.declared.view.Role.TheVariants.{Dispatcher, Hand, Spent}
 use Rattle.worker_board.specs.Counts.{without, removed, ran}
-use Rattle.worker_board.specs.Word.{closed, word_of, IsUnfinished, word_at, job_of, IsOfferedJob, IsNewest, offer_of, ended, newest, offers_at}
+use Rattle.worker_board.specs.Word.{closed, word_of, IsUnfinished, word_at, job_of, IsOfferedJob}
+use Rattle.worker_board.specs.Word.{IsNewest, offer_of, ended, newest, offers_at}
 use Rattle.worker_board.specs.Rule.{Slot, Answer, HasRoom, IsAnswered, fresh}
 
 -- a seat: its view, and the slots that are out with it

@@ -1,6 +1,7 @@
 -- The board law: what holds of a board's words, its slots and what its seats know, between any two
 -- steps.
-use Rattle.std.specs.Prelude.{◌≡◌, ℕ, suc, ◌+◌, ◌*◌, ◌<◌, ◌≤◌, ◌⊎◌, List, [], length, Option, Some, None, slice_index, replicate}
+use Rattle.std.specs.Prelude.{◌≡◌, ℕ, suc, ◌+◌, ◌*◌, ◌<◌, ◌≤◌, ◌⊎◌, List, [], length, Option, Some}
+use Rattle.std.specs.Prelude.{None, slice_index, replicate}
 use mathlib.Core.Option.{none, some}
 use mathlib.Core.Option as maybe
 use lib.ListN.{get_elem?}
@@ -16,7 +17,9 @@ use Rattle.worker_board.specs.declared.view.View.{View}
 use Rattle.worker_board.specs.declared.view.Role.{Role}
 use Rattle.worker_board.specs.declared.view.Role.TheVariants.{Dispatcher, Hand, Spent}
 use Rattle.worker_board.specs.Counts.{total, has_turn, holds, ran, times, is_hand}
-use Rattle.worker_board.specs.Word.{Phase, closed, ready, claimed, done, word_at, IsOpen, IsClosed, job_of, IsOfferedJob, IsNewest, IsCurrent, runs_of, OlderEnded, offers_at}
+use Rattle.worker_board.specs.Word.{Phase, closed, ready, claimed, done, word_at, IsOpen, IsClosed}
+use Rattle.worker_board.specs.Word.{job_of, IsOfferedJob, IsNewest, IsCurrent, runs_of, OlderEnded}
+use Rattle.worker_board.specs.Word.{offers_at}
 
 -- a view with nothing in it but its role
 abbrev pub fresh : Role → View

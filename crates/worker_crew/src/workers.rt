@@ -1,5 +1,6 @@
 //! What an endpoint asks of its workers.
-ghost use Rattle.std.specs.Prelude.{◌≡◌, ◌≤◌, ◌+◌, ◌∷◌, ◌↔◌, ℕ, List, Option, length, true, IsTrue, IsErr, IfErr, IfSome, IfNone, OnOk, OnErr, IsPermutation};
+ghost use Rattle.std.specs.Prelude.{◌≡◌, ◌≤◌, ◌+◌, ◌∷◌, ◌↔◌, ℕ, List, Option, length, true, IsTrue};
+ghost use Rattle.std.specs.Prelude.{IsErr, IfErr, IfSome, IfNone, OnOk, OnErr, IsPermutation};
 ghost use Rattle.worker_board.specs.declared.Parcel.{Parcel};
 ghost use Rattle.worker_crew.specs.Jobs.{Job, job_of, HasRoom, IsAnswered, IsFull, TakesFirst, FoundUnfinished};
 

@@ -1,5 +1,6 @@
 -- The facts of one node: of a list of its own, of one that it has no part in, and of two lists joined.
-use Rattle.std.proofs.Common.{◌≡◌, ℕ, zero, suc, Bool, true, false, List, [], ◌∷◌, ◌++◌, Some, None, slice_get, refl, ap, ◌∙◌, eqb}
+use Rattle.std.proofs.Common.{◌≡◌, ℕ, zero, suc, Bool, true, false, List, [], ◌∷◌, ◌++◌, Some, None}
+use Rattle.std.proofs.Common.{slice_get, refl, ap, ◌∙◌, eqb}
 use Rattle.std.proofs.lemmas.Bool.{eqb-true, eqb-false}
 use Rattle.std.proofs.lemmas.List.{append-nil}
 use Rattle.std.proofs.lemmas.List.Elements.{filter-append}
@@ -33,12 +34,15 @@ facts-append n h x = filter-append (λ (f : Fact). is_at n f.who) h x
 pub facts-own : (n : ℕ) (x : List Fact) → AllAt n x → facts_of n x ≡ x
 facts-own n [] a = refl
 facts-own n (f ∷ x) a =
-    let own : is_at n f.who ≡ true = ap (is_at n) a.0 ∙ eqb-same n in rw own (ap (λ (y : List Fact). f ∷ y) (facts-own n x a.1))
+    let own : is_at n f.who ≡ true =
+    ap (is_at n) a.0 ∙ eqb-same n in rw own
+    (ap (λ (y : List Fact). f ∷ y) (facts-own n x a.1))
 
 pub facts-other : (n m : ℕ) (x : List Fact) → (n ≡ m → ⊥) → AllAt n x → facts_of m x ≡ []
 facts-other n m [] ne a = refl
 facts-other n m (f ∷ x) ne a =
-    let other : is_at m f.who ≡ false = ap (is_at m) a.0 ∙ eqb-other n m _ refl ne in rw other (facts-other n m x ne a.1)
+    let other : is_at m f.who ≡ false =
+    ap (is_at m) a.0 ∙ eqb-other n m _ refl ne in rw other (facts-other n m x ne a.1)
 
 -- what a node's own facts add
 pub facts-grow : (n : ℕ) (h x : List Fact) → AllAt n x → facts_of n (h ++ x) ≡ facts_of n h ++ x

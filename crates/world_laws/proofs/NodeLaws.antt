@@ -1,5 +1,6 @@
 -- What each run of a node keeps, each node of a history keeps: the Made before its run changes none of it.
-use Rattle.std.proofs.Common.{◌≡◌, ◌+◌, ◌&&◌, ◌||◌, ℕ, Bool, true, false, cond, List, [], ◌∷◌, Option, Some, None, slice_get, refl, sym, ap, ◌∙◌, arith, eqb}
+use Rattle.std.proofs.Common.{◌≡◌, ◌+◌, ◌&&◌, ◌||◌, ℕ, Bool, true, false, cond, List, [], ◌∷◌}
+use Rattle.std.proofs.Common.{Option, Some, None, slice_get, refl, sym, ap, ◌∙◌, arith, eqb}
 use Rattle.std.specs.List.{list_any}
 use Rattle.std.proofs.lemmas.List.Sums.{sum_by-cons}
 use Rattle.node_laws.proofs.CreditLaws.{credit}
@@ -23,7 +24,9 @@ use Rattle.rpc_laws.specs.Facts.{plain}
 use Rattle.rpc_laws.specs.Service.{plain_serving}
 use Rattle.rpc_laws.specs.UsualLimits.{with_ring}
 use Rattle.rpc_laws.specs.Queues.{queued_after}
-use Rattle.world_laws.specs.Laws.{CreditBalances, EndedCallsAreNotQueued, EndedSessionsAreNotQueued, FollowsRuns, HappensAtMostOnce, InboxFits, OlderRequestsAreNotQueued, RingFits}
+use Rattle.world_laws.specs.Laws.{CreditBalances, EndedCallsAreNotQueued, EndedSessionsAreNotQueued}
+use Rattle.world_laws.specs.Laws.{FollowsRuns, HappensAtMostOnce, InboxFits}
+use Rattle.world_laws.specs.Laws.{OlderRequestsAreNotQueued, RingFits}
 use Rattle.world_laws.specs.NodeFacts.{facts_of, IsRun, RunAt, RunsOf, ring_of}
 use Rattle.world_laws.proofs.ScriptLaws.{script-runs}
 
@@ -32,11 +35,15 @@ pub runs : FollowsRuns
 runs script h two few f = script-runs script h f.0 two few f.1
 
 -- a claim of the facts of every node: it is of no facts, and of each run with its Made
-of-run : (P : List Fact → Type 0) → P [] → ((n : ℕ) (facts : List Fact) (t : Timed) → IsRun n facts t → P facts) → (n : ℕ) (facts : List Fact) (o : Option Timed) → RunAt n facts o → P facts
+of-run : (P : List Fact → Type 0) → P []
+    → ((n : ℕ) (facts : List Fact) (t : Timed) → IsRun n facts t → P facts)
+    → (n : ℕ) (facts : List Fact) (o : Option Timed) → RunAt n facts o → P facts
 of-run P none each n facts (Some t) r = each n facts t r
 of-run P none each n facts None r = rw r none
 
-of-node : (P : List Fact → Type 0) → P [] → ((n : ℕ) (facts : List Fact) (t : Timed) → IsRun n facts t → P facts) → (h : List Fact) (end : Stage) → RunsOf h end → (n : ℕ) → P (facts_of n h)
+of-node : (P : List Fact → Type 0) → P []
+    → ((n : ℕ) (facts : List Fact) (t : Timed) → IsRun n facts t → P facts)
+    → (h : List Fact) (end : Stage) → RunsOf h end → (n : ℕ) → P (facts_of n h)
 of-node P none each h end r n = of-run P none each n (facts_of n h) (slice_get end.nodes n) (r n)
 
 -- credit
@@ -106,28 +113,43 @@ inbox-fits script h two few f =
     (λ n facts t r. let kept : InboxWithin [] r.later = inbox_within plain_serving n (with_ring r.ring) r.later t r.run in rw r.made (omega arith, kept)) h f.0 (runs script h two few f)
 
 -- at most once: what is counted of a node is counted over its facts
-count-here : (n : ℕ) (test : Event → Bool) (f : Fact) (h : List Fact) (b : Bool) → is_at n f.who ≡ b → times n test h ≡ times n test (facts_of n h) → cond (b && test f.event) 1 0 + times n test h ≡ times n test (cond b (f ∷ facts_of n h) (facts_of n h))
-count-here n test f h true at same = sym (sum_by-cons (λ e. cond (is_at n e.who && test e.event) 1 0) f (facts_of n h) ∙ (ap (λ (b : Bool). cond (b && test f.event) 1 0 + times n test (facts_of n h)) at ∙ ap (λ (k : ℕ). cond (test f.event) 1 0 + k) (sym same)))
+count-here : (n : ℕ) (test : Event → Bool) (f : Fact) (h : List Fact) (b : Bool) → is_at n f.who ≡ b
+    → times n test h ≡ times n test (facts_of n h)
+    → cond (b && test f.event) 1 0 + times n test h
+    ≡ times n test (cond b (f ∷ facts_of n h) (facts_of n h))
+count-here n test f h true at same =
+    sym (sum_by-cons (λ e. cond (is_at n e.who && test e.event) 1 0) f (facts_of n h)
+    ∙ (ap (λ (b : Bool). cond (b && test f.event) 1 0 + times n test (facts_of n h)) at ∙ ap
+    (λ (k : ℕ). cond (test f.event) 1 0 + k) (sym same)))
 count-here n test f h false at same = omega arith
 
 times-own : (n : ℕ) (test : Event → Bool) (h : List Fact) → times n test h ≡ times n test (facts_of n h)
 times-own n test [] = refl
 times-own n test (f ∷ h) =
-    sum_by-cons (λ e. cond (is_at n e.who && test e.event) 1 0) f h ∙ count-here n test f h (is_at n f.who) refl (times-own n test h)
+    sum_by-cons (λ e. cond (is_at n e.who && test e.event) 1 0) f h
+    ∙ count-here n test f h (is_at n f.who) refl (times-own n test h)
 
 -- a Made is none of what is counted
 both-false : (a b : Bool) → b ≡ false → ◌≡◌ {A = ℕ} (cond (a && b) 1 0) 0
 both-false true b e = rw e refl
 both-false false b e = refl
 
-made-none : (n m ring : ℕ) (test : Event → Bool) (g : List Fact) → test (Made ring) ≡ false → times m test (plain n (Made ring) ∷ g) ≡ times m test g
+made-none : (n m ring : ℕ) (test : Event → Bool) (g : List Fact) → test (Made ring) ≡ false
+    → times m test (plain n (Made ring) ∷ g) ≡ times m test g
 made-none n m ring test g e =
-    let cons : times m test (plain n (Made ring) ∷ g) ≡ cond (eqb n m && test (Made ring)) 1 0 + times m test g = sum_by-cons (λ f. cond (is_at m f.who && test f.event) 1 0) (plain n (Made ring)) g in
+    let cons : times m test (plain n (Made ring) ∷ g)
+    ≡ cond (eqb n m && test (Made ring)) 1 0 + times m test g =
+    sum_by-cons (λ f. cond (is_at m f.who && test f.event) 1 0) (plain n (Made ring)) g in
     let no = both-false (eqb n m) (test (Made ring)) e in
     omega arith
 
 once-nothing : Once []
-once-nothing = record { ran = λ m t r. omega arith; worked = λ m t r. omega arith; begun = λ n c. omega arith; done = λ n c. omega arith }
+once-nothing = record {
+  ran = λ m t r. omega arith;
+  worked = λ m t r. omega arith;
+  begun = λ n c. omega arith;
+  done = λ n c. omega arith;
+}
 
 made-once : (n ring : ℕ) (g : List Fact) → Once g → Once (plain n (Made ring) ∷ g)
 made-once n ring g o = record {

@@ -7,7 +7,8 @@ use Rattle.rpc_base.proofs.FirstLemmas.{counted-cons}
 use Rattle.node_laws.specs.CallHistory.{latest_first}
 use Rattle.node_laws.specs.EndedSessions.{ends_session}
 use Rattle.node_laws.specs.OlderRequests.{takes_request}
-use Rattle.node_laws.specs.RequestHistory.{takes_newer, gives_request, answer_by, ring_by, first_by, ask_by, TellsRequest, TellsRequests}
+use Rattle.node_laws.specs.RequestHistory.{takes_newer, gives_request, answer_by, ring_by, first_by}
+use Rattle.node_laws.specs.RequestHistory.{ask_by, TellsRequest, TellsRequests}
 use Rattle.rpc_base.specs.declared.event.Event.TheVariants.{Made}
 use Rattle.rpc_base.specs.declared.fact.Fact.{Fact}
 use Rattle.rpc_laws.specs.declared.tables.Arrival.{Arrival}
@@ -36,9 +37,12 @@ record SameTold (past other : List Fact) : Type 0 where
   answer : (t r : ℕ) → answer_by t r past ≡ answer_by t r other
   ask : (t r : ℕ) → ask_by t r past ≡ ask_by t r other
 
-count-next : (test : Fact → Bool) (f : Fact) (past other : List Fact) → count_by test past ≡ count_by test other → count_by test (f ∷ past) ≡ count_by test (f ∷ other)
+count-next : (test : Fact → Bool) (f : Fact) (past other : List Fact)
+    → count_by test past ≡ count_by test other
+    → count_by test (f ∷ past) ≡ count_by test (f ∷ other)
 count-next test f past other e =
-    counted-cons test f past (test f) refl ∙ (ap (λ (k : ℕ). cond (test f) 1 0 + k) e ∙ sym (counted-cons test f other (test f) refl))
+    counted-cons test f past (test f) refl ∙ (ap (λ (k : ℕ). cond (test f) 1 0 + k) e
+    ∙ sym (counted-cons test f other (test f) refl))
 
 told-next : (past other : List Fact) (f : Fact) → SameTold past other → SameTold (f ∷ past) (f ∷ other)
 told-next past other f s = record {
@@ -73,7 +77,8 @@ told-made n ring = record {
 }
 
 -- so the table says what either tells
-request-other : (past other : List Fact) (t : ℕ) (q : Served) → SameTold past other → TellsRequest past t q → TellsRequest other t q
+request-other : (past other : List Fact) (t : ℕ) (q : Served) → SameTold past other
+    → TellsRequest past t q → TellsRequest other t q
 request-other past other t q s h =
     let r = q.number in
     record {
@@ -87,7 +92,8 @@ request-other past other t q s h =
       ask = λ given ran. h.ask (s.given t r ∙ given) (s.ran t r ∙ ran) ∙ s.ask t r;
     }
 
-requests-other : (past other : List Fact) (l : Lists) → SameTold past other → TellsRequests past l → TellsRequests other l
+requests-other : (past other : List Fact) (l : Lists) → SameTold past other → TellsRequests past l
+    → TellsRequests other l
 requests-other past other l s h = record {
   listed = λ t r. rw (← s.took t r, ← s.newer t r, ← s.ended t) (h.listed t r);
   requests = λ t i v q server served. request-other past other t q s (h.requests t i v q server served);
@@ -95,8 +101,11 @@ requests-other past other l s h = record {
 
 run-tells : (n : ℕ) (facts : List Fact) (t : Timed) → IsRun n facts t → TellsRequests (latest_first [] facts) t.lists
 run-tells n facts t r =
-    let kept : TellsRequests (latest_first [] r.later) t.lists = requests_tell plain_serving n (with_ring r.ring) r.later t r.run in
-    let same : SameTold (latest_first [] r.later) (latest_first (plain n (Made r.ring) ∷ []) r.later) = told-all [] (plain n (Made r.ring) ∷ []) r.later (told-made n r.ring) in
+    let kept : TellsRequests (latest_first [] r.later) t.lists =
+    requests_tell plain_serving n (with_ring r.ring) r.later t r.run in
+    let same : SameTold (latest_first [] r.later)
+    (latest_first (plain n (Made r.ring) ∷ []) r.later) =
+    told-all [] (plain n (Made r.ring) ∷ []) r.later (told-made n r.ring) in
     rw r.made (requests-other _ _ t.lists same kept)
 
 pub requests-tell : RequestsTellTheHistory

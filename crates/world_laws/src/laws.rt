@@ -6,7 +6,10 @@ ghost use Rattle.rpc_base.specs.declared.fact.Fact.{Fact};
 ghost use Rattle.script_grammar.specs.Conditions.{IsScript};
 ghost use Rattle.script_grammar.specs.declared.line.Line.{Line};
 ghost use Rattle.world_laws.specs.FewCredits.{PairsFewCredits};
-ghost use Rattle.world_laws.specs.Laws.{CreditBalances, EndedCallsAreNotQueued, EndedSessionsAreNotQueued, FollowsRuns, HappensAtMostOnce, InboxFits, OlderRequestsAreNotQueued, RequestsTellTheHistory, RingFits};
+ghost use Rattle.world_laws.specs.Laws.{CreditBalances, EndedCallsAreNotQueued};
+ghost use Rattle.world_laws.specs.Laws.{EndedSessionsAreNotQueued, FollowsRuns, HappensAtMostOnce};
+ghost use Rattle.world_laws.specs.Laws.{InboxFits, OlderRequestsAreNotQueued};
+ghost use Rattle.world_laws.specs.Laws.{RequestsTellTheHistory, RingFits};
 
 /// The facts of each node are its `Made` and a run of that node, which leaves it as the history
 /// does.

@@ -17,7 +17,10 @@ ghost use Rattle.client_core.specs.Counting.{Counts, CountsQueued};
 ghost use Rattle.client_core.specs.KeepsEntries.{RepliesKeep};
 ghost use Rattle.client_core.specs.KeepsPool.{IsKept, KeepsPool, LeavesOthers};
 ghost use Rattle.client_core.specs.Session.{IsInTurn};
-ghost use Rattle.client_core.specs.Replies.{IsDone, IsPart, IsTaken, IsUnheld, NextIsUnheld, Replies, after_reply, answered, call_as, end_of, reply_row, returned, rewritten_at, row_told, sized, with_part, without_buffers, without_call};
+ghost use Rattle.client_core.specs.Replies.{IsDone, IsPart, IsTaken, IsUnheld, NextIsUnheld};
+ghost use Rattle.client_core.specs.Replies.{Replies, after_reply, answered, call_as, end_of};
+ghost use Rattle.client_core.specs.Replies.{reply_row, returned, rewritten_at, row_told, sized};
+ghost use Rattle.client_core.specs.Replies.{with_part, without_buffers, without_call};
 
 use super::ClientSession;
 use crate::call::ActiveCall;

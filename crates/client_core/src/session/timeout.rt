@@ -1,5 +1,6 @@
 //! Timeouts: a call is rolled back, and the calls of a session that lost its peer end.
-ghost use Rattle.std.specs.Prelude.{◌≡◌, ◌<◌, ◌↔◌, ℕ, Bool, false, List, [], ◌∷◌, IfNone, IfSome, IsNone, IsSome, Some};
+ghost use Rattle.std.specs.Prelude.{◌≡◌, ◌<◌, ◌↔◌, ℕ, Bool, false, List, [], ◌∷◌, IfNone, IfSome};
+ghost use Rattle.std.specs.Prelude.{IsNone, IsSome, Some};
 ghost use Rattle.std.specs.List.{AllByRecursion, list_any};
 ghost use Rattle.rpc_base.specs.declared.owner.Owner.TheVariants.{Ask};
 ghost use Rattle.buffer_pool.specs.Pool.{Pool};
@@ -14,7 +15,8 @@ ghost use Rattle.client_core.specs.KeepsPool.{KeepsPool, LeavesOthers};
 ghost use Rattle.rpc_laws.specs.declared.rows.TimerRow.TheVariants.{Waits};
 ghost use Rattle.client_core.specs.Losing.{GivesUp, Loses, next_lost};
 ghost use Rattle.client_core.specs.Replies.{IsUnheld};
-ghost use Rattle.client_core.specs.Shown.{IsAlone, done_event, rolled_event, shown, shown_active, shown_broken, stepped};
+ghost use Rattle.client_core.specs.Shown.{IsAlone, done_event, rolled_event, shown, shown_active};
+ghost use Rattle.client_core.specs.Shown.{shown_broken, stepped};
 ghost use Rattle.client_core.specs.Timeouts.{after_roll, call_numbered, call_timer, timer_told};
 
 use super::ClientSession;

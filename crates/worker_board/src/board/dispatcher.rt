@@ -4,7 +4,9 @@ ghost use Rattle.worker_board.specs.declared.view.End.TheVariants.{Collected, Ta
 ghost use Rattle.worker_board.specs.Tickets.{offer_no};
 ghost use Rattle.worker_board.specs.Rule.{HasRoom};
 ghost use Rattle.worker_board.specs.Moves.{offered, ended_as, missed, lost_at, IsAnswerTo, LostBefore};
-ghost use Rattle.worker_board.specs.Seats.{IsSeatOf, places_of, view_of, notes_of, LeftAt, FoundOther, FoundUnfinished, IsFree, IsOffered, generation, next_generation, IsOfferOf, AllRetired};
+ghost use Rattle.worker_board.specs.Seats.{IsSeatOf, places_of, view_of, notes_of, LeftAt};
+ghost use Rattle.worker_board.specs.Seats.{FoundOther, FoundUnfinished, IsFree, IsOffered};
+ghost use Rattle.worker_board.specs.Seats.{generation, next_generation, IsOfferOf, AllRetired};
 
 use super::{Board, DispatchSeat};
 use crate::moves::{Looks, Numbers, Opens, Readies, Releases, TakesBack};

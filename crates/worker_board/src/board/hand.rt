@@ -3,7 +3,8 @@ ghost use Rattle.std.specs.Prelude.{◌≡◌, ◌<◌, IfSome, IfNone};
 ghost use Rattle.worker_board.specs.Word.{job_of};
 ghost use Rattle.worker_board.specs.Rule.{HasRoom, IsAnswered};
 ghost use Rattle.worker_board.specs.Moves.{lost_at, won, worked};
-ghost use Rattle.worker_board.specs.Seats.{IsHandOf, places_of, hand_view, hand_notes, LeftAt, FoundOther, number_at, HoldsClaim};
+ghost use Rattle.worker_board.specs.Seats.{IsHandOf, places_of, hand_view, hand_notes, LeftAt};
+ghost use Rattle.worker_board.specs.Seats.{FoundOther, number_at, HoldsClaim};
 
 use super::{Board, HandSeat};
 use crate::moves::{Finishes, Releases, Reopens, Tries};

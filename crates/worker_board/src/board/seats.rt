@@ -3,7 +3,9 @@ ghost use Rattle.std.specs.Prelude.{◌≡◌, ◌<◌, ◌≤◌, ◌++◌, IfO
 ghost use Rattle.worker_board.specs.declared.view.Role.TheVariants.{Hand};
 ghost use Rattle.worker_board.specs.Rule.{first_view, fresh};
 ghost use Rattle.worker_board.specs.Moves.{taken_in, RanOnce};
-ghost use Rattle.worker_board.specs.Seats.{IsSeatOf, IsHandOf, places_of, view_of, hand_view, notes_of, hand_notes, Grows, number_at, IsUnused, HoldsNone, with_hand};
+ghost use Rattle.worker_board.specs.Seats.{IsSeatOf, IsHandOf, places_of, view_of, hand_view};
+ghost use Rattle.worker_board.specs.Seats.{notes_of, hand_notes, Grows, number_at, IsUnused};
+ghost use Rattle.worker_board.specs.Seats.{HoldsNone, with_hand};
 
 use super::{Board, DispatchSeat, HandSeat};
 use crate::moves::{Names, SendsOut, Sums, TakesIn};

@@ -7,4 +7,11 @@ use Rattle.std.proofs.Common.{refl}
 pub returns : goal.returns
 returns c = λ script h two only follows.
     let made = follows-course script h two only follows in
-    course-genuine first_moment h made.end made.course (λ j z is. absurd (cc)) (record { clock = refl; nodes = refl }) (record { flight = tt; hand = tt; rings = λ n l is. absurd (cc); inboxes = λ n l is. absurd (cc) })
+    course-genuine first_moment h made.end made.course (λ j z is. absurd (cc))
+    (record { clock = refl; nodes = refl })
+    (record {
+      flight = tt;
+      hand = tt;
+      rings = λ n l is. absurd (cc);
+      inboxes = λ n l is. absurd (cc);
+    })

@@ -8,4 +8,5 @@ use Rattle.pacing_wheel.proofs.pacer.least_of.Given as goal
 
 abbrev pub invariant-loop-paced : goal.invariant-loop-paced
 invariant-loop-paced l =
-    least_number (is_of l.owner) number_of l.waiting.items ≡ lesser l.least (least_number (is_of l.owner) number_of (deque_iter_rest l.paced-iterator))
+    least_number (is_of l.owner) number_of l.waiting.items
+    ≡ lesser l.least (least_number (is_of l.owner) number_of (deque_iter_rest l.paced-iterator))

@@ -6,4 +6,6 @@ use Rattle.pacing_wheel.proofs.pacer.place_of.Goals as goal
 
 pub returns : goal.returns
 returns c =
-    position_from_yields_List (is_entry_of c.args.owner.now c.args.number) _ _ c.position.result c.position.ensures.ran (YieldsList-from_deque _ c.iter.ensures.rest) (λ x b q k. search (rules, tests))
+    position_from_yields_List (is_entry_of c.args.owner.now c.args.number) _ _ c.position.result
+    c.position.ensures.ran (YieldsList-from_deque _ c.iter.ensures.rest)
+    (λ x b q k. search (rules, tests))

@@ -15,8 +15,18 @@ none-test (Some x) f b same e h = cc
 
 pub returns-in-Message : goal.returns-in-Message
 returns-in-Message c =
-    rw c.in-Message.is (λ h. no_fault-message _ (test-none _ _ _ c.message_fault.ensures c.is_none.ensures h), λ h. none-test _ _ _ c.message_fault.ensures c.is_none.ensures (message-no_fault _ h))
+    rw c.in-Message.is (
+      λ h. no_fault-message _
+          (test-none _ _ _ c.message_fault.ensures c.is_none.ensures h),
+      λ h. none-test _ _ _
+          c.message_fault.ensures c.is_none.ensures (message-no_fault _ h),
+    )
 
 pub returns-in-Control : goal.returns-in-Control
 returns-in-Control c =
-    rw c.in-Control.is (λ h. (no_fault-control _ 0 (test-none _ _ _ c.control_fault.ensures c.is_none-in-Control.ensures h)).0, λ h. none-test _ _ _ c.control_fault.ensures c.is_none-in-Control.ensures (control-no_fault _ h))
+    rw c.in-Control.is (
+      λ h. (no_fault-control _ 0
+          (test-none _ _ _ c.control_fault.ensures c.is_none-in-Control.ensures h)).0,
+      λ h. none-test
+          _ _ _ c.control_fault.ensures c.is_none-in-Control.ensures (control-no_fault _ h),
+    )

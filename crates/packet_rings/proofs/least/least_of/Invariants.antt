@@ -6,4 +6,6 @@ use Rattle.rpc_base.proofs.LeastLemmas.{lesser}
 use Rattle.packet_rings.proofs.least.least_of.Given as goal
 
 abbrev pub invariant-loop-entry : goal.invariant-loop-entry
-invariant-loop-entry l = least_number (is_of l.owner) number_of l.entries.items ≡ lesser l.least (least_number (is_of l.owner) number_of l.entry-iterator)
+invariant-loop-entry l =
+    least_number (is_of l.owner) number_of l.entries.items
+    ≡ lesser l.least (least_number (is_of l.owner) number_of l.entry-iterator)

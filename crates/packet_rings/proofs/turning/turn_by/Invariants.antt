@@ -4,4 +4,6 @@ use Rattle.circular_buffer.specs.Buffer.{buffer}
 use Rattle.packet_rings.proofs.turning.turn_by.Given as goal
 
 abbrev pub invariant-loop-i : goal.invariant-loop-i
-invariant-loop-i l = l.entries ≡ buffer (drop l._i l.initial.entries.items ++ take l._i l.initial.entries.items) l.initial.entries.capacity
+invariant-loop-i l =
+    l.entries ≡ buffer (drop l._i l.initial.entries.items ++ take l._i l.initial.entries.items)
+    l.initial.entries.capacity

@@ -7,6 +7,8 @@ use Rattle.packet_rings.proofs.turning.turn_to.Given as goal
 
 abbrev pub invariant-loop-i : goal.invariant-loop-i
 invariant-loop-i l = record {
-  turned : l.entries ≡ buffer (drop l.i l.initial.entries.items ++ take l.i l.initial.entries.items) l.initial.entries.capacity;
-  passed : position_or_len (is_entry l.owner l.number) l.initial.entries.items ≡ l.i + position_or_len (is_entry l.owner l.number) (drop l.i l.initial.entries.items);
+  turned : l.entries ≡ buffer (drop l.i l.initial.entries.items ++ take l.i l.initial.entries.items)
+      l.initial.entries.capacity;
+  passed : position_or_len (is_entry l.owner l.number) l.initial.entries.items
+      ≡ l.i + position_or_len (is_entry l.owner l.number) (drop l.i l.initial.entries.items);
 }

@@ -11,4 +11,5 @@ returns-in_err-put_shape g c =
     rw p.1 (breaks-further-two _ _ _ _ _ _ (codes " ") (bytes_text c.args.bytes.now) c.in_err-put_shape.ensures)
 
 pub returns : goal.returns
-returns g c = fills-two _ _ _ _ _ _ _ _ _ _ _ (codes " ") (bytes_text c.args.bytes.now) c.in_ok-put_shape.ensures c.put_more_bytes.ensures
+returns g c = fills-two _ _ _ _ _ _ _ _ _ _ _ (codes " ")
+    (bytes_text c.args.bytes.now) c.in_ok-put_shape.ensures c.put_more_bytes.ensures

@@ -10,4 +10,5 @@ returns-in_err-put_sent g c =
     rw p.1 (breaks-further-two _ _ _ _ _ _ (codes " ") (decimal c.args.number) c.in_err-put_sent.ensures)
 
 pub returns : goal.returns
-returns g c = fills-two _ _ _ _ _ _ _ _ _ _ _ (codes " ") (decimal c.args.number) c.in_ok-put_sent.ensures c.put_pair.ensures
+returns g c = fills-two _ _ _ _ _ _ _ _ _ _ _ (codes " ")
+    (decimal c.args.number) c.in_ok-put_sent.ensures c.put_pair.ensures

@@ -10,4 +10,5 @@ returns-in_err-put_three g c =
     rw p.1 (breaks-further-two _ _ _ _ _ _ c.args.d.now.0.now (decimal c.args.d.now.1) c.in_err-put_three.ensures)
 
 pub returns : goal.returns
-returns g c = fills-two _ _ _ _ _ _ _ _ _ _ _ c.args.d.now.0.now (decimal c.args.d.now.1) c.in_ok-put_three.ensures c.put_pair.ensures
+returns g c = fills-two _ _ _ _ _ _ _ _ _ _ _ c.args.d.now.0.now (decimal c.args.d.now.1)
+    c.in_ok-put_three.ensures c.put_pair.ensures

@@ -10,4 +10,5 @@ returns-in_err-flush g c =
 
 pub returns : goal.returns
 returns g c =
-    rw c.in_ok-flush.ensures.emptied (puts-flushed _ _ _ _ _ _ _ _ _ c.in_ok-put_word.ensures c.in_ok-flush.ensures.written)
+    rw c.in_ok-flush.ensures.emptied (puts-flushed _ _ _ _ _ _ _ _ _ c.in_ok-put_word.ensures
+    c.in_ok-flush.ensures.written)

@@ -9,4 +9,5 @@ returns-in_err-put_word g c =
     rw p.1 (breaks-further _ _ _ _ _ _ _ c.in_err-put_word.ensures)
 
 pub returns : goal.returns
-returns g c = fills-then _ _ _ _ _ _ _ _ _ _ _ _ c.in_ok-put_word.ensures (rw c.reason_word.ensures at c.put_word-2.ensures)
+returns g c = fills-then _ _ _ _ _ _ _ _ _ _ _ _ c.in_ok-put_word.ensures
+    (rw c.reason_word.ensures at c.put_word-2.ensures)

@@ -9,4 +9,5 @@ returns-in_err-put_ending g c =
     rw p.1 (breaks-further _ _ _ _ _ _ _ c.in_err-put_ending.ensures)
 
 pub returns : goal.returns
-returns g c = fills-then _ _ _ _ _ _ _ _ _ _ _ _ c.in_ok-put_ending.ensures (rw c.state_word.ensures at c.put_word.ensures)
+returns g c = fills-then _ _ _ _ _ _ _ _ _ _ _ _ c.in_ok-put_ending.ensures
+    (rw c.state_word.ensures at c.put_word.ensures)

@@ -10,4 +10,5 @@ returns-in_err-put_pair g c =
     rw p.1 (breaks-further-two _ _ _ _ _ _ c.args.b.now.0.now (decimal c.args.b.now.1) c.in_err-put_pair.ensures)
 
 pub returns : goal.returns
-returns g c = fills-two _ _ _ _ _ _ _ _ _ _ _ c.args.b.now.0.now (decimal c.args.b.now.1) c.in_ok-put_pair.ensures c.put_pair-2.ensures
+returns g c = fills-two _ _ _ _ _ _ _ _ _ _ _ c.args.b.now.0.now (decimal c.args.b.now.1)
+    c.in_ok-put_pair.ensures c.put_pair-2.ensures

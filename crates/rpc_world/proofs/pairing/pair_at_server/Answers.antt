@@ -5,9 +5,13 @@ use Rattle.rpc_world.proofs.pairing.pair_at_server.Goals as goal
 pub returns : goal.returns
 returns c =
     let is_b : c.from.result ≡ c.args.b = c.from.ensures ∙ c.b.view_is in
-    server-agrees c.args.a c.args.b c.args.credits _ _ _ _ _ _ _ (seen-at _ _ _ _ c.stage.view_is (rw is_b at c.at.ensures)) c.if-branch.false c.in_ok-refuse.ensures c.in_ok-make_ends.ensures
+    server-agrees c.args.a c.args.b c.args.credits _ _ _ _ _ _ _
+    (seen-at _ _ _ _ c.stage.view_is (rw is_b at c.at.ensures)) c.if-branch.false
+    c.in_ok-refuse.ensures c.in_ok-make_ends.ensures
 
 pub returns-then-branch : goal.returns-then-branch
 returns-then-branch c =
     let is_b : c.from.result ≡ c.args.b = c.from.ensures ∙ c.b.view_is in
-    server-refuses c.args.a c.args.b c.args.credits c.args.stage.now _ _ _ _ c.requires.client (seen-at _ _ _ _ c.stage.view_is (rw is_b at c.at.ensures)) c.if-branch.true c.in_ok-refuse.ensures
+    server-refuses c.args.a c.args.b c.args.credits c.args.stage.now _ _ _ _ c.requires.client
+    (seen-at _ _ _ _ c.stage.view_is (rw is_b at c.at.ensures)) c.if-branch.true
+    c.in_ok-refuse.ensures

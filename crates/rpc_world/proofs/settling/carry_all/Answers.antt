@@ -13,5 +13,6 @@ copies-preserved c = rw add-one (performed-joins _ _ _ _ _ _ _ _ c.copies.invari
 pub carry_first-requires : goal.carry_first-requires
 carry_first-requires c =
     let gone = times-flight c.copies.i _ _ _ c.copies.invariant.does in
-    let there : c.len-count.result ≡ length c.args.stage.now.stage.flight = c.len-count.ensures ∙ ap (λ (z : Play). length z.stage.flight) c.stage.view_is in
+    let there : c.len-count.result ≡ length c.args.stage.now.stage.flight =
+    c.len-count.ensures ∙ ap (λ (z : Play). length z.stage.flight) c.stage.view_is in
     omega (arith, gone, there, c.copies-test.true)

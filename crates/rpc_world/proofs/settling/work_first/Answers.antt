@@ -17,4 +17,5 @@ work_node-requires-clause-node c =
 
 pub work_node-requires-clause-numbered : goal.work_node-requires-clause-numbered
 work_node-requires-clause-numbered c =
-    performed-numbered (WorksFirst c.workers.i) (stays-works c.workers.i) _ _ _ _ c.workers.invariant c.requires.numbered
+    performed-numbered (WorksFirst c.workers.i)
+    (stays-works c.workers.i) _ _ _ _ c.workers.invariant c.requires.numbered

@@ -5,4 +5,8 @@ use Rattle.rpc_world.proofs.stepping.poll_node.Goals as goal
 pub returns : goal.returns
 returns c =
     let is_n : c.from-place.result ≡ c.args.node = c.from-place.ensures ∙ c.node.view_is in
-    rw is_n (polls-step _ _ c.args.node _ _ _ _ _ _ _ _ _ c.stage.view_is (c.requires.numbered.nodes c.args.node) (rw is_n at c.at_mut-polled.ensures.value) (rw is_n at c.at_mut-service.ensures.value) c.total-total.ensures.below c.in_ok-poll.ensures c.len-before.ensures (rw c.as_slice.ensures at c.in_ok-launch.ensures) (rw c.as_slice-2.ensures at c.in_ok-keep.ensures))
+    rw is_n (polls-step _ _ c.args.node _ _ _ _ _ _ _ _ _ c.stage.view_is
+    (c.requires.numbered.nodes c.args.node) (rw is_n at c.at_mut-polled.ensures.value)
+    (rw is_n at c.at_mut-service.ensures.value) c.total-total.ensures.below c.in_ok-poll.ensures
+    c.len-before.ensures (rw c.as_slice.ensures at c.in_ok-launch.ensures)
+    (rw c.as_slice-2.ensures at c.in_ok-keep.ensures))

@@ -9,7 +9,9 @@ unfolding value_of
 loop-digit-preserved c =
     let step = λ (v d : ℕ). 10 * v + (d - 48) in
     let more = fold_more step 0 c.args.digits.now c.loop-digit.digit-index 0 (omega arith) in
-    let capped = capped_step 4294967296 (fold step 0 (take c.loop-digit.digit-index c.args.digits.now)) (get_or c.args.digits.now c.loop-digit.digit-index 0 - 48) in
+    let capped = capped_step 4294967296 (fold step 0
+    (take c.loop-digit.digit-index c.args.digits.now))
+    (get_or c.args.digits.now c.loop-digit.digit-index 0 - 48) in
     omega arith
 
 pub loop-digit-init : goal.loop-digit-init

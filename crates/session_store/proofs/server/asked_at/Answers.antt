@@ -11,19 +11,25 @@ pub on_packet-step-requires-clause-queued : goal.on_packet-step-requires-clause-
 on_packet-step-requires-clause-queued g c = λ begins.
     let x = c.index_mut-server.result.now in
     let at = get-there c.args.servers.now.items c.args.i x c.requires.known c.index_mut-server.ensures.value in
-    newest-holds x c.args.pool.now c.args.tx.now.items c.args.head.now.request (all-at (ServerHolds c.args.pool.now c.args.tx.now.items) c.args.servers.now.items c.args.i x c.requires.holds at)
+    newest-holds x c.args.pool.now c.args.tx.now.items c.args.head.now.request
+    (all-at (ServerHolds c.args.pool.now c.args.tx.now.items) c.args.servers.now.items c.args.i
+    x c.requires.holds at)
 
 pub on_packet-step-requires-clause-counted : goal.on_packet-step-requires-clause-counted
 on_packet-step-requires-clause-counted g c = λ begins.
     let x = c.index_mut-server.result.now in
     let at = get-there c.args.servers.now.items c.args.i x c.requires.known c.index_mut-server.ensures.value in
-    newest-counted x c.args.tx.now.items c.args.head.now.request (all-at (ServerQueued c.args.tx.now.items) c.args.servers.now.items c.args.i x c.requires.queued at)
+    newest-counted x c.args.tx.now.items c.args.head.now.request
+    (all-at (ServerQueued c.args.tx.now.items) c.args.servers.now.items c.args.i x
+    c.requires.queued at)
 
 pub on_packet-step-requires-clause-can_hold : goal.on_packet-step-requires-clause-can_hold
 on_packet-step-requires-clause-can_hold g c =
     let x = c.index_mut-server.result.now in
     let at = get-there c.args.servers.now.items c.args.i x c.requires.known c.index_mut-server.ensures.value in
-    newest-can c.args.pool.now x c.args.head.now.request (all-at (ServerCanHold c.args.pool.now) c.args.servers.now.items c.args.i x c.requires.can_hold at)
+    newest-can c.args.pool.now x c.args.head.now.request
+    (all-at (ServerCanHold c.args.pool.now) c.args.servers.now.items c.args.i x
+    c.requires.can_hold at)
 
 pub on_packet-step-requires-clause-all_served : goal.on_packet-step-requires-clause-all_served
 on_packet-step-requires-clause-all_served g c =
@@ -45,6 +51,24 @@ returns-clause-handles g c =
       server = x;
       at = get-there c.args.servers.now.items c.args.i x c.requires.known c.index_mut-server.ensures.value;
       later = c.on_packet-step.new.self;
-      step = record { row = e.row; rule = e.rule; lacks = e.lacks; ring_is = e.ring; handled = e.handled; by_rule = e.facts; reply = e.reply; give = e.give; sound = c.sound.ensures; spare = e.spare; leaves = e.others; holds = e.holds; queued = e.queued; counts = e.counts; keeps = e.keeps_pool };
+      step = record {
+        row = e.row;
+        rule = e.rule;
+        lacks = e.lacks;
+        ring_is = e.ring;
+        handled = e.handled;
+        by_rule = e.facts;
+        reply = e.reply;
+        give = e.give;
+        sound =
+            c.sound.ensures;
+        spare = e.spare;
+        leaves = e.others;
+        holds = e.holds;
+        queued =
+            e.queued;
+        counts = e.counts;
+        keeps = e.keeps_pool;
+      };
       changed = refl;
     }

@@ -7,8 +7,23 @@ returns c =
     let e = c.on_finished-reply.ensures in
     record {
       server = c.index_mut-server.result.now;
-      at = get-there c.args.servers.now.items c.args.i c.index_mut-server.result.now c.requires.known c.index_mut-server.ensures.value;
+      at = get-there c.args.servers.now.items c.args.i c.index_mut-server.result.now
+          c.requires.known c.index_mut-server.ensures.value;
       later = c.on_finished-reply.new.self;
-      step = record { finished = e.finished; left = e.left; was_sound = e.sound; sound = c.sound.ensures; spare = e.spare; leaves = e.others; holds = e.holds; still_holds = e.still_holds; queued = e.queued; counts = e.counts; keeps = e.keeps_pool };
+      step = record {
+        finished = e.finished;
+        left = e.left;
+        was_sound = e.sound;
+        sound = c.sound.ensures;
+        spare = e.spare;
+        leaves = e.others;
+        holds =
+            e.holds;
+        still_holds = e.still_holds;
+        queued = e.queued;
+        counts = e.counts;
+        keeps =
+            e.keeps_pool;
+      };
       changed = refl;
     }

@@ -3,7 +3,9 @@ use Rattle.session_store.proofs.ReplyGoneLemmas.{first-at, no-first}
 use Rattle.session_store.proofs.server.reply_flushed_at.Goals as goal
 
 pub unreachable-requires : goal.unreachable-requires
-unreachable-requires c = no-first c.args.session c.args.entry.now c.args.servers.now.items c.requires.stands (sym c.place_of.ensures ∙ c.in_default.is)
+unreachable-requires c =
+    no-first c.args.session c.args.entry.now c.args.servers.now.items c.requires.stands
+    (sym c.place_of.ensures ∙ c.in_default.is)
 
 pub returns : goal.returns
 returns c =
@@ -13,8 +15,17 @@ returns c =
       place = c.in-Some.place;
       first = first;
       server = c.index_mut.result.now;
-      at = first-at c.args.session c.args.servers.now.items c.in-Some.place c.index_mut.result.now first c.index_mut.ensures.value;
+      at = first-at c.args.session c.args.servers.now.items c.in-Some.place c.index_mut.result.now
+          first c.index_mut.ensures.value;
       later = c.flushed.new.self;
-      step = record { session = e.session; same = e.shown; pool = e.pool; holds = e.holds; queued = e.queued; counts = e.counts; keeps = e.keeps_pool };
+      step = record {
+        session = e.session;
+        same = e.shown;
+        pool = e.pool;
+        holds = e.holds;
+        queued = e.queued;
+        counts = e.counts;
+        keeps = e.keeps_pool;
+      };
       changed = refl;
     }

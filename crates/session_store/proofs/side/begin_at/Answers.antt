@@ -7,8 +7,21 @@ returns c =
     let e = c.begin.ensures in
     record {
       side = c.index_mut-side.result.now;
-      at = get-there c.args.sides.now.items c.args.i c.index_mut-side.result.now c.requires.known c.index_mut-side.ensures.value;
+      at = get-there c.args.sides.now.items c.args.i c.index_mut-side.result.now c.requires.known
+          c.index_mut-side.ensures.value;
       later = c.begin.new.self;
-      step = record { sound = c.sound.ensures; unchanged = e.unchanged; turn = e.turn; step = e.step; starts = e.starts; leaves = e.others; entries = e.entries; counts = e.counts; queued = e.queued; keeps = e.keeps_pool };
+      step = record {
+        sound = c.sound.ensures;
+        unchanged = e.unchanged;
+        turn = e.turn;
+        step = e.step;
+        starts = e.starts;
+        leaves = e.others;
+        entries = e.entries;
+        counts =
+            e.counts;
+        queued = e.queued;
+        keeps = e.keeps_pool;
+      };
       changed = refl;
     }

@@ -13,7 +13,18 @@ returns c =
       at = get-there c.args.sides.now.items c.args.i side c.requires.known c.index_mut-side.ensures.value;
       later = c.flushed.new.self;
       step = record {
-        gone = record { number = ap (λ (x : Session). x.number) e.session; long = flushed-long c.args.entry.now side.session c.flushed.new.self e.session; pool = e.pool; leaves = e.others; entries = e.entries; counts = e.counts; queued = e.queued; keeps = e.keeps_pool };
+        gone = record {
+          number = ap (λ (x : Session). x.number) e.session;
+          long = flushed-long c.args.entry.now side.session c.flushed.new.self e.session;
+          pool =
+              e.pool;
+          leaves = e.others;
+          entries = e.entries;
+          counts = e.counts;
+          queued =
+              e.queued;
+          keeps = e.keeps_pool;
+        };
         same = e.shown;
       };
       changed = refl;

@@ -7,8 +7,21 @@ returns c =
     let e = c.on_reply.ensures in
     record {
       side = c.index_mut-side.result.now;
-      at = get-there c.args.sides.now.items c.args.i c.index_mut-side.result.now c.requires.known c.index_mut-side.ensures.value;
+      at = get-there c.args.sides.now.items c.args.i c.index_mut-side.result.now c.requires.known
+          c.index_mut-side.ensures.value;
       later = c.on_reply.new.self;
-      step = record { row = e.row; rule = e.rule; facts = e.facts; step = e.step; replies = e.replies; leaves = e.others; entries = e.entries; counts = e.counts; queued = e.queued; keeps = e.keeps_pool };
+      step = record {
+        row = e.row;
+        rule = e.rule;
+        facts = e.facts;
+        step = e.step;
+        replies = e.replies;
+        leaves = e.others;
+        entries = e.entries;
+        counts = e.counts;
+        queued =
+            e.queued;
+        keeps = e.keeps_pool;
+      };
       changed = refl;
     }

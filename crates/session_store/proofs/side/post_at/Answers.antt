@@ -7,8 +7,22 @@ returns c =
     let e = c.post.ensures in
     record {
       side = c.index_mut-side.result.now;
-      at = get-there c.args.sides.now.items c.args.i c.index_mut-side.result.now c.requires.known c.index_mut-side.ensures.value;
+      at = get-there c.args.sides.now.items c.args.i c.index_mut-side.result.now c.requires.known
+          c.index_mut-side.ensures.value;
       later = c.post.new.self;
-      step = record { entry = e.entry; session = e.session; turn = e.turn; step = e.step; pool = e.pool; stands = e.stands; leaves = e.others; entries = e.entries; counts = e.counts; queued = e.queued; keeps = e.keeps_pool };
+      step = record {
+        entry = e.entry;
+        session = e.session;
+        turn = e.turn;
+        step = e.step;
+        pool = e.pool;
+        stands = e.stands;
+        leaves = e.others;
+        entries = e.entries;
+        counts =
+            e.counts;
+        queued = e.queued;
+        keeps = e.keeps_pool;
+      };
       changed = refl;
     }

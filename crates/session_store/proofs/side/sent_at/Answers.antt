@@ -13,7 +13,17 @@ returns c =
       at = get-there c.args.sides.now.items c.args.i side c.requires.known c.index_mut-side.ensures.value;
       later = c.sent.new.self;
       step = record {
-        gone = record { number = ap (λ (x : Session). x.number) e.session; long = sent-long c.args.entry.now c.args.now side.session c.sent.new.self e.session; pool = e.pool; leaves = e.others; entries = e.entries; counts = e.counts; queued = e.queued; keeps = e.keeps_pool };
+        gone = record {
+          number = ap (λ (x : Session). x.number) e.session;
+          long = sent-long c.args.entry.now c.args.now side.session c.sent.new.self e.session;
+          pool = e.pool;
+          leaves = e.others;
+          entries = e.entries;
+          counts = e.counts;
+          queued =
+              e.queued;
+          keeps = e.keeps_pool;
+        };
         step = e.step;
       };
       changed = refl;

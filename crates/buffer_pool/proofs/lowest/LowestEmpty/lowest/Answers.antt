@@ -14,20 +14,24 @@ returns-then-not-index c =
     let fields = c.self.inside in
     let fits = c.self.invariant in
     let wide : 1 < length fields.tree.items = omega (arith, fits.size, fits.power, doubled-above fields.height 1) in
-    let read : c.index.result.now ≡ value_at fields.tree.items 1 = get_or_read fields.tree.items 1 c.index.result.now wide c.index.ensures false in
+    let read : c.index.result.now ≡ value_at fields.tree.items 1 =
+    get_or_read fields.tree.items 1 c.index.result.now wide c.index.ensures false in
     let root : value_at fields.tree.items 1 ≡ false = sym read ∙ c.if-not-index.true in
-    lowest-none fields.tree.items fields.leaves fields.height fields.places fits root ∙ ap (position (λ x. x)) c.self.view_is
+    lowest-none fields.tree.items fields.leaves fields.height fields.places fits root
+    ∙ ap (position (λ x. x)) c.self.view_is
 
 pub first_leaf-leaf-requires-clause-root : goal.first_leaf-leaf-requires-clause-root
 first_leaf-leaf-requires-clause-root c =
     let fields = c.self.inside in
     let fits = c.self.invariant in
     let wide : 1 < length fields.tree.items = omega (arith, fits.size, fits.power, doubled-above fields.height 1) in
-    let read : c.index.result.now ≡ value_at fields.tree.items 1 = get_or_read fields.tree.items 1 c.index.result.now wide c.index.ensures false in
+    let read : c.index.result.now ≡ value_at fields.tree.items 1 =
+    get_or_read fields.tree.items 1 c.index.result.now wide c.index.ensures false in
     rw c.deref.ensures.value (sym read ∙ c.if-not-index.false)
 
 pub returns : goal.returns
 returns c =
     let fields = c.self.inside in
     let leaf = rw c.deref.ensures.value at c.first_leaf-leaf.ensures in
-    lowest-some fields.tree.items fields.leaves fields.height fields.places c.first_leaf-leaf.result c.self.invariant leaf.leaf leaf.value leaf.first ∙ ap (position (λ x. x)) c.self.view_is
+    lowest-some fields.tree.items fields.leaves fields.height fields.places c.first_leaf-leaf.result
+    c.self.invariant leaf.leaf leaf.value leaf.first ∙ ap (position (λ x. x)) c.self.view_is

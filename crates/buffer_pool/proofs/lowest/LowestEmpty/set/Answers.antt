@@ -12,10 +12,14 @@ returns c =
     let leaf = fields.leaves + c.args.place in
     let before = fields.tree.items in
     let after = c.join_up.new.tree in
-    let places : length (leaves_in before fields.leaves fields.places) ≡ length c.args.self.now = ap length c.self.view_is in
+    let places : length (leaves_in before fields.leaves fields.places) ≡ length c.args.self.now =
+    ap length c.self.view_is in
     let near = length-leaves before fields.leaves fields.places fits.size fits.room in
-    let written : length c.as_mut_slice.result.now ≡ length before = ap length c.as_mut_slice.ensures.value ∙ length-set before leaf c.args.empty in
+    let written : length c.as_mut_slice.result.now ≡ length before =
+    ap length c.as_mut_slice.ensures.value ∙ length-set before leaf c.args.empty in
     let long : length after ≡ length before = c.join_up.auto.tree ∙ written in
     let kept = with_items_is (with_item fields.tree leaf c.args.empty) after (long ∙ sym fields.tree.ok.0) in
     let changed = rw c.as_mut_slice.ensures.value at c.join_up.ensures.leaves in
-    rw (kept, ← c.self.view_is) (leaves-set before after fields.leaves fields.places c.args.place c.args.empty fits.size long fits.room (omega arith) (λ p h. changed p (omega (arith, fits.size, length-set before leaf c.args.empty))))
+    rw (kept, ← c.self.view_is) (leaves-set before after fields.leaves fields.places c.args.place
+    c.args.empty fits.size long fits.room (omega arith)
+    (λ p h. changed p (omega (arith, fits.size, length-set before leaf c.args.empty))))

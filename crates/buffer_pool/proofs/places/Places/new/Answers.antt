@@ -5,5 +5,6 @@ use Rattle.buffer_pool.proofs.places.Places.new.Goals as goal
 
 pub invariant_of-result : goal.invariant_of-result
 invariant_of-result c =
-    let uses : c.in_ok-uses.uses.items ≡ replicate c.args.places Empty = c.in_ok-uses.ensures.items_if_clones_equal (λ y e. e) in
+    let uses : c.in_ok-uses.uses.items ≡ replicate c.args.places Empty =
+    c.in_ok-uses.ensures.items_if_clones_equal (λ y e. e) in
     rw (uses, c.in_ok-empties.ensures) (CountsEmpty-new c.args.places c.ranges.places.fits)

@@ -7,11 +7,14 @@ use Rattle.buffer_pool.proofs.pool.BufferPool.get_mut.Goals as goal
 pub unreachable-requires : goal.unreachable-requires
 unreachable-requires c =
     let fields = c.self.inside in
-    let full : is_full (get_or fields.places c.place.inside.0 Empty) ≡ true = ap is_full (same_use _ _ _ _ c.self.view_is c.place.view_is) ∙ c.requires.full in
-    buf_missing fields.places fields.bufs.items c.place.inside.0 c.index_mut.result.now c.self.invariant full c.index_mut.ensures.value c.in-None.is
+    let full : is_full (get_or fields.places c.place.inside.0 Empty) ≡ true =
+    ap is_full (same_use _ _ _ _ c.self.view_is c.place.view_is) ∙ c.requires.full in
+    buf_missing fields.places fields.bufs.items c.place.inside.0 c.index_mut.result.now
+    c.self.invariant full c.index_mut.ensures.value c.in-None.is
 
 pub invariant_of-self-lent : goal.invariant_of-self-lent
 invariant_of-self-lent c =
     let fields = c.self.inside in
-    let full : is_full (get_or fields.places c.place.inside.0 Empty) ≡ true = ap is_full (same_use _ _ _ _ c.self.view_is c.place.view_is) ∙ c.requires.full in
+    let full : is_full (get_or fields.places c.place.inside.0 Empty) ≡ true =
+    ap is_full (same_use _ _ _ _ c.self.view_is c.place.view_is) ∙ c.requires.full in
     λ w. rw c.in-Some.is (HoldsFull-buf fields.places fields.bufs.items c.place.inside.0 w c.self.invariant full)

@@ -7,5 +7,7 @@ use Rattle.buffer_pool.proofs.pool.BufferPool.hold.Goals as goal
 pub invariant_of-self : goal.invariant_of-self
 invariant_of-self c =
     let fields = c.self.inside in
-    let full : is_full (get_or fields.places c.place.inside.0 Empty) ≡ true = ap is_full (same_use _ _ _ _ c.self.view_is c.place.view_is) ∙ c.requires.full in
-    rw c.set.ensures (HoldsFull-use fields.places fields.bufs.items c.place.inside.0 (Full _) c.self.invariant (full_within fields.places c.place.inside.0 full) (sym full))
+    let full : is_full (get_or fields.places c.place.inside.0 Empty) ≡ true =
+    ap is_full (same_use _ _ _ _ c.self.view_is c.place.view_is) ∙ c.requires.full in
+    rw c.set.ensures (HoldsFull-use fields.places fields.bufs.items c.place.inside.0 (Full _)
+    c.self.invariant (full_within fields.places c.place.inside.0 full) (sym full))

@@ -7,4 +7,6 @@ use Rattle.client_core.proofs.calls.Calls.least_after.Given as goal
 
 abbrev pub invariant-loop-call : goal.invariant-loop-call
 invariant-loop-call l =
-    (least_number (is_after l.fn.after) call_number l.fn.self ≡ lesser l.least (least_number (is_after l.fn.after) call_number (drop l.call-index l.call-items))) × (l.call-items ≡ l.fn.self)
+    (least_number (is_after l.fn.after) call_number l.fn.self
+    ≡ lesser l.least (least_number (is_after l.fn.after) call_number
+    (drop l.call-index l.call-items))) × (l.call-items ≡ l.fn.self)

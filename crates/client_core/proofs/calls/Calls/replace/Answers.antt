@@ -6,7 +6,8 @@ use Rattle.client_core.proofs.calls.Calls.replace.Goals as goal
 
 pub returns-in-Some : goal.returns-in-Some
 returns-in-Some c =
-    rw c.set.ensures (sym (at_first-replaced (is_request c.args.request) c.args.call c.args.self.now _ (sym c.in-Some.ensures)))
+    rw c.set.ensures (sym (at_first-replaced (is_request c.args.request) c.args.call c.args.self.now
+    _ (sym c.in-Some.ensures)))
 
 pub returns-in_default : goal.returns-in_default
 returns-in_default c =

@@ -19,7 +19,8 @@ use Rattle.buffer_pool.proofs.CountingLemmas.{counts-filled}
 pub push-requires : goal.push-requires
 push-requires c =
     let is = c.start-call.ensures.call in
-    few-active _ _ _ c.start-call.result c.self.invariant.1 (ap (λ x. x.request) is) (ap (λ x. x.call) is) c.in-Some.ensures.begins.slot
+    few-active _ _ _ c.start-call.result c.self.invariant.1 (ap (λ x. x.request) is)
+    (ap (λ x. x.call) is) c.in-Some.ensures.begins.slot
 
 pub invariant_of-self-2 : goal.invariant_of-self-2
 invariant_of-self-2 c =
@@ -29,7 +30,8 @@ invariant_of-self-2 c =
     let sound = rw begins.table at c.begin.ensures.sound in
     rw (c.push.ensures, begins.table) (
       omega (arith, length-drop 1 c.self.inside.slots.waiting, c.self.invariant.0),
-      begun-session _ _ _ c.start-call.result c.self.invariant.1 (ap (λ x. x.request) is) (ap (λ x. x.call) is) begins.slot turn (ap (λ x. x.posted) is) sound,
+      begun-session _ _ _ c.start-call.result c.self.invariant.1 (ap (λ x. x.request) is)
+          (ap (λ x. x.call) is) begins.slot turn (ap (λ x. x.posted) is) sound,
     )
 
 pub returns-clause-keeps_pool : goal.returns-clause-keeps_pool
@@ -37,15 +39,18 @@ returns-clause-keeps_pool c =
     let keeps = rw (← c.self.view_is) at c.requires.keeps_pool in
     let own = rw c.start-call.ensures.pool at c.start-call.ensures.kept in
     rw (c.start-call.ensures.pool, c.push.ensures)
-    (keeps-begun c.args.pool.now _ _ _ _ c.start-call.ensures.ask c.start-call.ensures.answer c.start-call.result c.self.inside.calls refl refl own keeps)
+    (keeps-begun c.args.pool.now _ _ _ _ c.start-call.ensures.ask c.start-call.ensures.answer
+    c.start-call.result c.self.inside.calls refl refl own keeps)
 
 pub returns-in_default-clause-turn : goal.returns-in_default-clause-turn
 returns-in_default-clause-turn c = λ peer.
-    rw (← c.self.view_is) (nothing-begins c.args.pool.now peer _ c.self.invariant.1 (c.in_default.ensures.none.0 refl))
+    rw (← c.self.view_is) (nothing-begins c.args.pool.now peer _ c.self.invariant.1
+    (c.in_default.ensures.none.0 refl))
 
 pub returns-clause-turn : goal.returns-clause-turn
 returns-clause-turn c = λ peer.
-    rw (← c.self.view_is, ap (λ x. x.call) c.start-call.ensures.call) (call-begins c.args.pool.now peer _ _ _ _ c.self.invariant.1 c.in-Some.ensures.begins)
+    rw (← c.self.view_is, ap (λ x. x.call) c.start-call.ensures.call)
+    (call-begins c.args.pool.now peer _ _ _ _ c.self.invariant.1 c.in-Some.ensures.begins)
 
 pub returns-clause-step : goal.returns-clause-step
 returns-clause-step c = λ clock peer fresh.
@@ -56,12 +61,15 @@ returns-clause-step c = λ clock peer fresh.
     let size = rw (ap (λ x. x.len) is) at kept.size in
     let unlisted = rw (← c.self.view_is, ap (λ x. x.call) is) at fresh in
     rw (← c.self.view_is, c.push.ensures, c.start-call.ensures.pool, begins.table, is)
-    (beginning-step c.args.pool.now peer _ _ _ c.start-call.ensures.ask c.start-call.ensures.answer clock (the_view c.self.inside) _ _ keeps begins size unlisted)
+    (beginning-step c.args.pool.now peer _ _ _ c.start-call.ensures.ask c.start-call.ensures.answer
+    clock (the_view c.self.inside) _ _ keeps begins size unlisted)
 
 pub returns-clause-others : goal.returns-clause-others
 returns-clause-others c =
     rw (← c.self.view_is, c.push.ensures, c.start-call.ensures.pool)
-    (begun-leaves c.args.pool.now c.start-call.result.ask c.start-call.result.answer _ _ c.start-call.result c.self.inside.calls c.start-call.ensures.ask c.start-call.ensures.answer refl refl)
+    (begun-leaves c.args.pool.now c.start-call.result.ask c.start-call.result.answer _ _
+    c.start-call.result c.self.inside.calls c.start-call.ensures.ask c.start-call.ensures.answer
+    refl refl)
 
 pub returns-clause-entries : goal.returns-clause-entries
 returns-clause-entries c = rw (← c.self.view_is, c.push.ensures)
@@ -72,12 +80,18 @@ returns-clause-counts c = λ entries counts.
     let a = c.start-call.result in
     let w = c.in-Some.waiting in
     let first = counts-filled c.args.pool.now entries counts a.ask w.req c.start-call.ensures.ask in
-    rw c.start-call.ensures.pool (counts-filled (filled a.ask w.req c.args.pool.now) entries first a.answer w.resp c.start-call.ensures.answer)
+    rw c.start-call.ensures.pool (counts-filled (filled a.ask w.req c.args.pool.now) entries first
+    a.answer w.resp c.start-call.ensures.answer)
 
 pub returns-clause-queued : goal.returns-clause-queued
 returns-clause-queued c = λ entries all none.
     let is = c.start-call.ensures.call in
     let before = rw (← c.self.view_is) at all in
     let fresh = rw (← c.self.view_is) at none in
-    let own : c.start-call.result.queued ≡ count_by (is_of (Ask c.self.inside.number c.start-call.result.request)) entries = ap (λ x. x.queued) is ∙ sym fresh ∙ ap (λ x. count_by (is_of (Ask c.self.inside.number x.request)) entries) (sym is) in
-    rw c.push.ensures (all-push (λ x. x.queued ≡ count_by (is_of (Ask c.self.inside.number x.request)) entries) c.self.inside.calls c.start-call.result before own)
+    let own : c.start-call.result.queued ≡ count_by
+    (is_of (Ask c.self.inside.number c.start-call.result.request)) entries =
+    ap (λ x. x.queued) is ∙ sym fresh
+    ∙ ap (λ x. count_by (is_of (Ask c.self.inside.number x.request)) entries) (sym is) in
+    rw c.push.ensures (all-push (λ x. x.queued
+    ≡ count_by (is_of (Ask c.self.inside.number x.request)) entries) c.self.inside.calls
+    c.start-call.result before own)

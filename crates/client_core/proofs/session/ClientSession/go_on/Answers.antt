@@ -14,17 +14,28 @@ use Rattle.rpc_base.proofs.FirstLemmas.{found-holds}
 pub give_back-requires-clause-charged : goal.give_back-requires-clause-charged
 give_back-requires-clause-charged c =
     let found = rw (← c.self.view_is) at c.requires.active in
-    rw c.slot.ensures (omega (arith, own-unanswered _ (is_request c.args.call.request) c.args.call c.self.invariant.1 found, c.requires.taken.posted))
+    rw c.slot.ensures (omega (
+      arith,
+      own-unanswered _ (is_request c.args.call.request) c.args.call
+          c.self.invariant.1 found,
+      c.requires.taken.posted,
+    ))
 
 pub write_part-requires-clause-kept : goal.write_part-requires-clause-kept
 write_part-requires-clause-kept c =
-    found-holds (is_request c.args.call.request) (IsKept c.args.pool.now) c.args.self.now.active c.args.call c.requires.keeps_pool.kept c.requires.active
+    found-holds (is_request c.args.call.request)
+    (IsKept c.args.pool.now) c.args.self.now.active c.args.call c.requires.keeps_pool.kept
+    c.requires.active
 
 pub write_part-requires-clause-part : goal.write_part-requires-clause-part
 write_part-requires-clause-part c =
     let found = rw (← c.self.view_is) at c.requires.active in
-    let kept = found-holds (is_request c.args.call.request) (IsKept c.args.pool.now) c.args.self.now.active c.args.call c.requires.keeps_pool.kept c.requires.active in
-    part-of c.args.pool.now c.args.call c.args.head.now _ kept (own-turn _ (is_request c.args.call.request) c.args.call c.self.invariant.1 found) c.requires.taken (goes-not-small _ _ c.requires.goes_on)
+    let kept = found-holds (is_request c.args.call.request)
+    (IsKept c.args.pool.now) c.args.self.now.active c.args.call c.requires.keeps_pool.kept
+    c.requires.active in
+    part-of c.args.pool.now c.args.call c.args.head.now _ kept
+    (own-turn _ (is_request c.args.call.request) c.args.call c.self.invariant.1 found)
+    c.requires.taken (goes-not-small _ _ c.requires.goes_on)
 
 pub invariant_of-self : goal.invariant_of-self
 invariant_of-self c =
@@ -32,25 +43,45 @@ invariant_of-self c =
     let turn = own-turn _ (is_request c.args.call.request) c.args.call c.self.invariant.1 found in
     let count = own-unanswered _ (is_request c.args.call.request) c.args.call c.self.invariant.1 found in
     let credits = c.give_back.ensures.given_back ∙ ap (λ n. given_back n c.self.inside.credits) c.slot.ensures in
-    let own : slice_index c.self.inside.credits.unanswered (c.args.call.request % 8) - 1 ≡ c.args.call.posted - (c.args.call.got + 1) = omega (arith, count, c.requires.taken.posted) in
-    rw (c.replace.ensures, c.replied.ensures)
-    (c.self.invariant.0, changed-session _ (is_request c.args.call.request) c.args.call c.self.invariant.1 found (replied c.args.now c.args.head.now c.args.call) refl refl (replied-turn c.args.now c.args.call c.args.head.now _ turn c.requires.taken c.requires.small) c.give_back.new.self c.give_back.ensures.balanced _ (ap (λ b. b.unanswered) credits) own)
+    let own : slice_index c.self.inside.credits.unanswered (c.args.call.request % 8) - 1
+    ≡ c.args.call.posted - (c.args.call.got + 1) =
+    omega (arith, count, c.requires.taken.posted) in
+    rw (c.replace.ensures, c.replied.ensures) (
+      c.self.invariant.0,
+      changed-session _ (is_request c.args.call.request) c.args.call
+          c.self.invariant.1 found (replied c.args.now c.args.head.now c.args.call) refl refl
+          (replied-turn c.args.now c.args.call c.args.head.now _ turn c.requires.taken
+          c.requires.small) c.give_back.new.self c.give_back.ensures.balanced _
+          (ap (λ b. b.unanswered) credits) own,
+    )
 
 pub returns-clause-session : goal.returns-clause-session
 returns-clause-session c =
     let found = rw (← c.self.view_is) at c.requires.active in
     let credits = c.give_back.ensures.given_back ∙ ap (λ n. given_back n c.self.inside.credits) c.slot.ensures in
-    rw (← c.self.view_is, c.replace.ensures, c.replied.ensures, credits, same-change (is_request c.args.call.request) c.args.call (replied c.args.now c.args.head.now) c.self.inside.calls found) refl
+    rw (
+      ← c.self.view_is,
+      c.replace.ensures,
+      c.replied.ensures,
+      credits,
+      same-change (is_request c.args.call.request) c.args.call
+          (replied c.args.now c.args.head.now) c.self.inside.calls found,
+    ) refl
 
 pub returns-clause-keeps_pool : goal.returns-clause-keeps_pool
 returns-clause-keeps_pool c =
     let found = rw (← c.self.view_is) at c.requires.active in
     let keeps = rw (← c.self.view_is) at c.requires.keeps_pool in
-    let kept = found-holds (is_request c.args.call.request) (IsKept c.args.pool.now) c.self.inside.calls c.args.call keeps.kept found in
-    let part = part-of c.args.pool.now c.args.call c.args.head.now _ kept (own-turn _ (is_request c.args.call.request) c.args.call c.self.invariant.1 found) c.requires.taken (goes-not-small _ _ c.requires.goes_on) in
+    let kept = found-holds (is_request c.args.call.request)
+    (IsKept c.args.pool.now) c.self.inside.calls c.args.call keeps.kept found in
+    let part = part-of c.args.pool.now c.args.call c.args.head.now _ kept
+    (own-turn _ (is_request c.args.call.request) c.args.call c.self.invariant.1 found)
+    c.requires.taken (goes-not-small _ _ c.requires.goes_on) in
     rw (c.write_part.ensures, c.replace.ensures, c.replied.ensures)
-    (keeps-replied c.args.pool.now c.args.now c.args.call c.args.head.now c.args.body.now c.self.inside.calls found keeps part)
+    (keeps-replied c.args.pool.now c.args.now c.args.call c.args.head.now c.args.body.now
+    c.self.inside.calls found keeps part)
 
 pub returns-clause-counts : goal.returns-clause-counts
 returns-clause-counts c = λ entries counts.
-    rw c.write_part.ensures (counts-answered c.args.pool.now entries c.args.call c.args.head.now c.args.body.now counts)
+    rw c.write_part.ensures (counts-answered c.args.pool.now entries c.args.call c.args.head.now
+    c.args.body.now counts)

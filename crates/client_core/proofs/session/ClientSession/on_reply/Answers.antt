@@ -10,7 +10,8 @@ use Rattle.client_core.proofs.session.ClientSession.on_reply.Goals as goal
 
 pub take-requires-clause-active : goal.take-requires-clause-active
 take-requires-clause-active c =
-    rw (← c.self.view_is) (by-request _ (is_request c.args.head.now.request) c.in-Some.call c.self.invariant.1 (sym c.in-Some.ensures))
+    rw (← c.self.view_is) (by-request _ (is_request c.args.head.now.request) c.in-Some.call
+    c.self.invariant.1 (sym c.in-Some.ensures))
 
 pub take-requires-clause-of_call : goal.take-requires-clause-of_call
 take-requires-clause-of_call c =
@@ -22,22 +23,33 @@ take-requires-clause-turn c =
 
 pub returns-in_default-clause-rule : goal.returns-in_default-clause-rule
 returns-in_default-clause-rule c = λ queue queued peer.
-    row-shown c.args.pool.now queue c.args.queued c.args.head.now (length c.args.body.now) c.args.self.now c.requires.keeps_pool queued peer ∙ rw (← c.self.view_is, ← c.in_default.ensures) refl
+    row-shown c.args.pool.now queue c.args.queued c.args.head.now (length c.args.body.now)
+    c.args.self.now c.requires.keeps_pool queued peer
+    ∙ rw (← c.self.view_is, ← c.in_default.ensures) refl
 
 pub returns-in-Drops-clause-rule : goal.returns-in-Drops-clause-rule
 returns-in-Drops-clause-rule c = λ queue queued peer.
-    row-shown c.args.pool.now queue c.args.queued c.args.head.now (length c.args.body.now) c.args.self.now c.requires.keeps_pool queued peer ∙ rw (← c.self.view_is, ← c.in-Some.ensures) (sym c.in-Drops.ensures)
+    row-shown c.args.pool.now queue c.args.queued c.args.head.now (length c.args.body.now)
+    c.args.self.now c.requires.keeps_pool queued peer
+    ∙ rw (← c.self.view_is, ← c.in-Some.ensures) (sym c.in-Drops.ensures)
 
 pub returns-in-Takes-clause-rule : goal.returns-in-Takes-clause-rule
 returns-in-Takes-clause-rule c = λ queue queued peer.
-    row-shown c.args.pool.now queue c.args.queued c.args.head.now (length c.args.body.now) c.args.self.now c.requires.keeps_pool queued peer ∙ rw (← c.self.view_is, ← c.in-Some.ensures) (sym c.in-Takes.ensures ∙ sym c.take.ensures.took)
+    row-shown c.args.pool.now queue c.args.queued c.args.head.now (length c.args.body.now)
+    c.args.self.now c.requires.keeps_pool queued peer
+    ∙ rw (← c.self.view_is, ← c.in-Some.ensures)
+    (sym c.in-Takes.ensures ∙ sym c.take.ensures.took)
 
 pub returns-in-Takes-clause-facts : goal.returns-in-Takes-clause-facts
 returns-in-Takes-clause-facts c = λ takes me peer.
     let keeps = rw (← c.self.view_is) at c.requires.keeps_pool in
     let replies = rw (← c.self.view_is) at c.take.ensures.replies in
-    let row : row_told c.take.result ≡ reply_row c.args.queued c.args.head.now (length c.args.body.now) (call_as c.args.head.now.request (the_view c.self.inside)) = rw (← c.in-Some.ensures) (c.take.ensures.took ∙ c.in-Takes.ensures) in
-    rw (← c.self.view_is) (facts-shown c.args.queued c.args.now me peer c.args.pool.now c.take.new.pool c.args.head.now c.args.body.now (the_view c.self.inside) c.take.new.self c.self.invariant.1 keeps c.take.result row replies takes)
+    let row : row_told c.take.result ≡ reply_row c.args.queued c.args.head.now
+    (length c.args.body.now) (call_as c.args.head.now.request (the_view c.self.inside)) =
+    rw (← c.in-Some.ensures) (c.take.ensures.took ∙ c.in-Takes.ensures) in
+    rw (← c.self.view_is) (facts-shown c.args.queued c.args.now me peer c.args.pool.now
+    c.take.new.pool c.args.head.now c.args.body.now (the_view c.self.inside) c.take.new.self
+    c.self.invariant.1 keeps c.take.result row replies takes)
 
 pub returns-in-Takes-clause-step : goal.returns-in-Takes-clause-step
 returns-in-Takes-clause-step c = λ alone peer.
@@ -45,17 +57,24 @@ returns-in-Takes-clause-step c = λ alone peer.
     let replies = rw (← c.self.view_is) at c.take.ensures.replies in
     let session = rw (← c.self.view_is) at c.requires.session in
     let apart = rw (← c.self.view_is) at alone in
-    let row : row_told c.take.result ≡ reply_row c.args.queued c.args.head.now (length c.args.body.now) (call_as c.args.head.now.request (the_view c.self.inside)) = rw (← c.in-Some.ensures) (c.take.ensures.took ∙ c.in-Takes.ensures) in
-    rw (← c.self.view_is) (outcome-step c.args.queued c.args.now peer c.args.pool.now c.take.new.pool c.args.head.now c.args.body.now (the_view c.self.inside) c.take.new.self c.self.invariant.1 keeps session c.take.result row replies apart)
+    let row : row_told c.take.result ≡ reply_row c.args.queued c.args.head.now
+    (length c.args.body.now) (call_as c.args.head.now.request (the_view c.self.inside)) =
+    rw (← c.in-Some.ensures) (c.take.ensures.took ∙ c.in-Takes.ensures) in
+    rw (← c.self.view_is) (outcome-step c.args.queued c.args.now peer c.args.pool.now
+    c.take.new.pool c.args.head.now c.args.body.now (the_view c.self.inside) c.take.new.self
+    c.self.invariant.1 keeps session c.take.result row replies apart)
 
 pub returns-in-Takes-clause-others : goal.returns-in-Takes-clause-others
 returns-in-Takes-clause-others c =
-    reply-leaves c.args.now c.args.head.now c.args.body.now c.args.self.now c.take.new.self c.args.pool.now c.take.new.pool c.take.result c.take.ensures.replies
+    reply-leaves c.args.now c.args.head.now c.args.body.now c.args.self.now c.take.new.self
+    c.args.pool.now c.take.new.pool c.take.result c.take.ensures.replies
 
 pub returns-in-Takes-clause-entries : goal.returns-in-Takes-clause-entries
 returns-in-Takes-clause-entries c =
-    reply-entries c.args.now c.args.head.now c.args.body.now c.args.self.now c.take.new.self c.args.pool.now c.take.new.pool c.take.result c.take.ensures.replies
+    reply-entries c.args.now c.args.head.now c.args.body.now c.args.self.now c.take.new.self
+    c.args.pool.now c.take.new.pool c.take.result c.take.ensures.replies
 
 pub returns-in-Takes-clause-queued : goal.returns-in-Takes-clause-queued
 returns-in-Takes-clause-queued c = λ entries all.
-    reply-queued c.args.now c.args.head.now c.args.body.now c.args.self.now c.take.new.self c.args.pool.now c.take.new.pool entries c.take.result c.take.ensures.replies all
+    reply-queued c.args.now c.args.head.now c.args.body.now c.args.self.now c.take.new.self
+    c.args.pool.now c.take.new.pool entries c.take.result c.take.ensures.replies all

@@ -19,24 +19,33 @@ pub returns-clause-keeps_pool : goal.returns-clause-keeps_pool
 returns-clause-keeps_pool c =
     let keeps = rw (← c.self.view_is) at c.requires.keeps_pool in
     rw (c.release_at.ensures, ap (λ e. released_at e.place c.args.pool.now) c.entry.view_is, c.mark.ensures)
-    (keeps-marked _ (is_owner c.self.inside.number c.entry.inside.owner) c.entry.inside.number c.args.now c.self.inside.calls (keeps-released c.args.pool.now c.args.entry.now.place c.self.inside.calls c.requires.held keeps))
+    (keeps-marked _ (is_owner c.self.inside.number c.entry.inside.owner) c.entry.inside.number
+    c.args.now c.self.inside.calls (keeps-released c.args.pool.now c.args.entry.now.place
+    c.self.inside.calls c.requires.held keeps))
 
 pub returns-clause-step : goal.returns-clause-step
 returns-clause-step c = λ peer.
     rw (← c.self.view_is, ← c.entry.view_is, c.release_at.ensures, c.mark.ensures)
-    (sent-step c.args.pool.now peer c.args.now c.entry.inside.place (the_view c.self.inside) (entry_view c.entry.inside))
+    (sent-step c.args.pool.now peer c.args.now c.entry.inside.place (the_view c.self.inside)
+    (entry_view c.entry.inside))
 
 pub returns-clause-others : goal.returns-clause-others
 returns-clause-others c = rw (← c.self.view_is, ← c.entry.view_is, c.release_at.ensures, c.mark.ensures)
-    (gone-leaves c.args.pool.now (the_view c.self.inside) (entry_view c.entry.inside) (is_owner c.self.inside.number c.entry.inside.owner) (marked c.entry.inside.number c.args.now) (λ p x. marked-own p c.entry.inside.number c.args.now x))
+    (gone-leaves c.args.pool.now (the_view c.self.inside) (entry_view c.entry.inside)
+    (is_owner c.self.inside.number c.entry.inside.owner)
+    (marked c.entry.inside.number c.args.now)
+    (λ p x. marked-own p c.entry.inside.number c.args.now x))
 
 pub returns-clause-entries : goal.returns-clause-entries
 returns-clause-entries c = rw (← c.self.view_is, c.mark.ensures)
-    (λ e was. stays c.self.inside.number (is_owner c.self.inside.number c.entry.inside.owner) (marked c.entry.inside.number c.args.now) (marking-keeps c.entry.inside.number c.args.now) e c.self.inside.calls was)
+    (λ e was. stays c.self.inside.number (is_owner c.self.inside.number c.entry.inside.owner)
+    (marked c.entry.inside.number c.args.now)
+    (marking-keeps c.entry.inside.number c.args.now) e c.self.inside.calls was)
 
 pub returns-clause-counts : goal.returns-clause-counts
 returns-clause-counts c = λ passes old new out counts.
-    rw (c.release_at.ensures, ap (λ e. released_at e.place c.args.pool.now) c.entry.view_is) (counts-released c.args.pool.now old counts passes c.args.entry.now new out c.requires.held)
+    rw (c.release_at.ensures, ap (λ e. released_at e.place c.args.pool.now) c.entry.view_is)
+    (counts-released c.args.pool.now old counts passes c.args.entry.now new out c.requires.held)
 
 pub returns-clause-queued : goal.returns-clause-queued
 returns-clause-queued c = λ posted passes old new out all.
@@ -44,4 +53,6 @@ returns-clause-queued c = λ posted passes old new out all.
     let stands = rw (← c.self.view_is, ← c.entry.view_is) at posted in
     let taken = rw (← c.entry.view_is) at out in
     let number = c.entry.inside.number in
-    rw c.mark.ensures (left-queued (the_view c.self.inside) (entry_view c.entry.inside) (marked number c.args.now) passes old new c.self.invariant.1 taken (marked-request number c.args.now) (marked-less number c.args.now) stands before)
+    rw c.mark.ensures (left-queued (the_view c.self.inside) (entry_view c.entry.inside)
+    (marked number c.args.now) passes old new c.self.invariant.1 taken
+    (marked-request number c.args.now) (marked-less number c.args.now) stands before)

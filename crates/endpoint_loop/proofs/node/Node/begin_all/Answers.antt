@@ -5,4 +5,7 @@ pub calls-init : goal.calls-init
 calls-init g c = makes-none g.R.Recorder.facts g.R.Recorder.whole _ _ _
 
 pub calls-preserved : goal.calls-preserved
-calls-preserved g c = makes-more g.R.Recorder.facts g.R.Recorder.whole _ _ _ _ _ _ _ c.calls.invariant (notes-one g.R.Recorder.facts g.R.Recorder.whole _ _ _ _ _ _ c.calls-test.true c.begin_next.ensures.notes)
+calls-preserved g c =
+    makes-more g.R.Recorder.facts g.R.Recorder.whole _ _ _ _ _ _ _ c.calls.invariant
+    (notes-one g.R.Recorder.facts g.R.Recorder.whole _ _ _ _ _ _ c.calls-test.true
+    c.begin_next.ensures.notes)

@@ -3,4 +3,11 @@ use Rattle.endpoint_loop.proofs.node.Node.close.Goals as goal
 
 pub returns : goal.returns
 returns g c =
-    rw (← c.self.view_is) (node-closed g.R.Recorder.facts g.R.Recorder.whole c.self.inside.me c.self.inside.limits (record { asked = c.self.inside.asked; server_numbers = c.self.inside.server_numbers; counts = c.self.inside.counts }) c.self.inside.paces.items c.self.inside.jobs c.self.inside.clock c.self.inside.rx c.self.inside.store c.args.rec.now c.note.new.self c.self.invariant c.note.ensures)
+    rw (← c.self.view_is) (node-closed g.R.Recorder.facts g.R.Recorder.whole c.self.inside.me
+    c.self.inside.limits (record {
+      asked = c.self.inside.asked;
+      server_numbers = c.self.inside.server_numbers;
+      counts = c.self.inside.counts;
+    })
+    c.self.inside.paces.items c.self.inside.jobs c.self.inside.clock c.self.inside.rx
+    c.self.inside.store c.args.rec.now c.note.new.self c.self.invariant c.note.ensures)

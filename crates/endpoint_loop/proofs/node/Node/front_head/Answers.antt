@@ -8,15 +8,18 @@ use Rattle.endpoint_loop.proofs.node.Node.front_head.Goals as goal
 
 pub returns-in_default-clause-value : goal.returns-in_default-clause-value
 returns-in_default-clause-value c =
-    rw (← c.self.view_is) (sym (none-front c.self.inside.rx.items (sym c.front.ensures ∙ ap option_copied c.in_default.is)))
+    rw (← c.self.view_is) (sym (none-front c.self.inside.rx.items
+    (sym c.front.ensures ∙ ap option_copied c.in_default.is)))
 
 pub returns-clause-value : goal.returns-clause-value
 returns-clause-value c =
     let here = sym c.front.ensures ∙ ap option_copied c.in-Some.is in
-    rw (← c.self.view_is) (c.read.ensures.value ∙ ap message_of c.bytes.ensures.bytes ∙ sym (head-there c.self.inside.rx.items c.in-Some.front.now here))
+    rw (← c.self.view_is) (c.read.ensures.value ∙ ap message_of c.bytes.ensures.bytes
+    ∙ sym (head-there c.self.inside.rx.items c.in-Some.front.now here))
 
 pub returns-clause-long : goal.returns-clause-long
 returns-clause-long c =
     let here = sym c.front.ensures ∙ ap option_copied c.in-Some.is in
     let same = ap body_of c.bytes.ensures.bytes ∙ sym (body-there c.self.inside.rx.items c.in-Some.front.now here) in
-    rw (← c.self.view_is) (subst (λ (b : List ℕ). IfSome c.read.result (λ h. MessageLength h.kind h.size h.number (16 + length b))) same c.read.ensures.long)
+    rw (← c.self.view_is) (subst (λ (b : List ℕ). IfSome c.read.result
+    (λ h. MessageLength h.kind h.size h.number (16 + length b))) same c.read.ensures.long)

@@ -18,52 +18,133 @@ returns-then-i-clients g c =
     let here = sym c.front.ensures ∙ ap option_copied c.in-Some.is in
     let number = ap (λ (v : MessageHeader). v.session) (sym c.head.view_is) ∙ sym c.from-i.ensures in
     let made = rw (← c.self.view_is) at c.drop_front.ensures in
-    rw (← c.self.view_is) (node-unheard c.self.inside.me c.self.inside.limits (record { asked = c.self.inside.asked; server_numbers = c.self.inside.server_numbers; counts = c.self.inside.counts }) c.self.inside.paces.items c.self.inside.jobs c.self.inside.clock c.self.inside.rx c.self.inside.store c.self.invariant c.args.head.now c.in-Some.front.now front here g.R.Recorder.facts g.R.Recorder.whole c.args.rec.now c.drop_front.new.rec c.drop_front.new.self (omega (arith, c.if-i-clients.true, c.clients.ensures, number)) made)
+    rw (← c.self.view_is) (node-unheard c.self.inside.me c.self.inside.limits
+    (record {
+      asked = c.self.inside.asked;
+      server_numbers = c.self.inside.server_numbers;
+      counts = c.self.inside.counts;
+    }) c.self.inside.paces.items c.self.inside.jobs
+    c.self.inside.clock c.self.inside.rx c.self.inside.store c.self.invariant c.args.head.now
+    c.in-Some.front.now front here g.R.Recorder.facts g.R.Recorder.whole c.args.rec.now
+    c.drop_front.new.rec c.drop_front.new.self
+    (omega (arith, c.if-i-clients.true, c.clients.ensures, number)) made)
 
 pub invariant_of-self : goal.invariant_of-self
 invariant_of-self g c =
     let front = rw (← c.self.view_is) at c.requires.front in
     let here = sym c.front.ensures ∙ ap option_copied c.in-Some.is in
     let number = ap (λ (v : MessageHeader). v.session) (sym c.head.view_is) ∙ sym c.from-i.ensures in
-    let p = as-told _ _ _ _ _ _ _ _ _ _ _ c.peer.ensures (c.body.ensures ∙ ap body_of c.bytes.ensures.bytes) c.in-Dropped.ensures.clients in
-    fits-dropped c.self.inside.me c.self.inside.limits (record { asked = c.self.inside.asked; server_numbers = c.self.inside.server_numbers; counts = c.self.inside.counts }) c.self.inside.paces.items c.self.inside.jobs c.self.inside.clock c.self.inside.rx c.self.inside.store c.self.invariant c.args.head.now c.in-Some.front.now front here c.from-i.result number c.on_reply-reply.new.self c.on_reply-reply.ensures.servers c.on_reply-reply.ensures.queued c.on_reply-reply.ensures.size c.on_reply-reply.ensures.places c.in-Dropped.reason p
+    let p = as-told _ _ _ _ _ _ _ _ _ _ _ c.peer.ensures
+    (c.body.ensures ∙ ap body_of c.bytes.ensures.bytes) c.in-Dropped.ensures.clients in
+    fits-dropped c.self.inside.me c.self.inside.limits
+    (record {
+      asked = c.self.inside.asked;
+      server_numbers = c.self.inside.server_numbers;
+      counts = c.self.inside.counts;
+    }) c.self.inside.paces.items c.self.inside.jobs
+    c.self.inside.clock c.self.inside.rx c.self.inside.store c.self.invariant c.args.head.now
+    c.in-Some.front.now front here c.from-i.result number c.on_reply-reply.new.self
+    c.on_reply-reply.ensures.servers c.on_reply-reply.ensures.queued
+    c.on_reply-reply.ensures.size c.on_reply-reply.ensures.places c.in-Dropped.reason p
 
 pub returns-in-Dropped : goal.returns-in-Dropped
 returns-in-Dropped g c =
     let front = rw (← c.self.view_is) at c.requires.front in
     let here = sym c.front.ensures ∙ ap option_copied c.in-Some.is in
     let number = ap (λ (v : MessageHeader). v.session) (sym c.head.view_is) ∙ sym c.from-i.ensures in
-    let p = as-told _ _ _ _ _ _ _ _ _ _ _ c.peer.ensures (c.body.ensures ∙ ap body_of c.bytes.ensures.bytes) c.in-Dropped.ensures.clients in
-    rw (← c.self.view_is) (node-dropped c.self.inside.me c.self.inside.limits (record { asked = c.self.inside.asked; server_numbers = c.self.inside.server_numbers; counts = c.self.inside.counts }) c.self.inside.paces.items c.self.inside.jobs c.self.inside.clock c.self.inside.rx c.self.inside.store c.self.invariant c.args.head.now c.in-Some.front.now front here c.from-i.result number c.on_reply-reply.new.self c.on_reply-reply.ensures.servers c.on_reply-reply.ensures.queued c.on_reply-reply.ensures.size c.on_reply-reply.ensures.places c.in-Dropped.reason p g.R.Recorder.facts g.R.Recorder.whole c.args.rec.now c.drop_front-in-Dropped.new.rec c.drop_front-in-Dropped.new.self c.drop_front-in-Dropped.ensures)
+    let p = as-told _ _ _ _ _ _ _ _ _ _ _ c.peer.ensures
+    (c.body.ensures ∙ ap body_of c.bytes.ensures.bytes) c.in-Dropped.ensures.clients in
+    rw (← c.self.view_is) (node-dropped c.self.inside.me c.self.inside.limits
+    (record {
+      asked = c.self.inside.asked;
+      server_numbers = c.self.inside.server_numbers;
+      counts = c.self.inside.counts;
+    }) c.self.inside.paces.items c.self.inside.jobs
+    c.self.inside.clock c.self.inside.rx c.self.inside.store c.self.invariant c.args.head.now
+    c.in-Some.front.now front here c.from-i.result number c.on_reply-reply.new.self
+    c.on_reply-reply.ensures.servers c.on_reply-reply.ensures.queued
+    c.on_reply-reply.ensures.size c.on_reply-reply.ensures.places c.in-Dropped.reason p
+    g.R.Recorder.facts g.R.Recorder.whole c.args.rec.now c.drop_front-in-Dropped.new.rec
+    c.drop_front-in-Dropped.new.self c.drop_front-in-Dropped.ensures)
 
 pub invariant_of-self-in-Took : goal.invariant_of-self-in-Took
 invariant_of-self-in-Took g c =
     let front = rw (← c.self.view_is) at c.requires.front in
     let here = sym c.front.ensures ∙ ap option_copied c.in-Some.is in
     let number = ap (λ (v : MessageHeader). v.session) (sym c.head.view_is) ∙ sym c.from-i.ensures in
-    let p = as-told _ _ _ _ _ _ _ _ _ _ _ c.peer.ensures (c.body.ensures ∙ ap body_of c.bytes.ensures.bytes) c.in-Took.ensures.clients in
-    fits-took c.self.inside.me c.self.inside.limits (record { asked = c.self.inside.asked; server_numbers = c.self.inside.server_numbers; counts = c.self.inside.counts }) c.self.inside.paces.items c.self.inside.jobs c.self.inside.clock c.self.inside.rx c.self.inside.store c.self.invariant c.args.head.now c.in-Some.front.now front here c.from-i.result number c.on_reply-reply.new.self c.on_reply-reply.ensures.servers c.on_reply-reply.ensures.queued c.on_reply-reply.ensures.size c.on_reply-reply.ensures.places c.drop_front-in-Took.new.self c.drop_front-in-Took.ensures p
+    let p = as-told _ _ _ _ _ _ _ _ _ _ _ c.peer.ensures
+    (c.body.ensures ∙ ap body_of c.bytes.ensures.bytes) c.in-Took.ensures.clients in
+    fits-took c.self.inside.me c.self.inside.limits
+    (record {
+      asked = c.self.inside.asked;
+      server_numbers = c.self.inside.server_numbers;
+      counts = c.self.inside.counts;
+    }) c.self.inside.paces.items c.self.inside.jobs
+    c.self.inside.clock c.self.inside.rx c.self.inside.store c.self.invariant c.args.head.now
+    c.in-Some.front.now front here c.from-i.result number c.on_reply-reply.new.self
+    c.on_reply-reply.ensures.servers c.on_reply-reply.ensures.queued
+    c.on_reply-reply.ensures.size c.on_reply-reply.ensures.places c.drop_front-in-Took.new.self
+    c.drop_front-in-Took.ensures p
 
 pub returns-in-Took : goal.returns-in-Took
 returns-in-Took g c =
     let front = rw (← c.self.view_is) at c.requires.front in
     let here = sym c.front.ensures ∙ ap option_copied c.in-Some.is in
     let number = ap (λ (v : MessageHeader). v.session) (sym c.head.view_is) ∙ sym c.from-i.ensures in
-    let p = as-told _ _ _ _ _ _ _ _ _ _ _ c.peer.ensures (c.body.ensures ∙ ap body_of c.bytes.ensures.bytes) c.in-Took.ensures.clients in
-    rw (← c.self.view_is) (node-took c.self.inside.me c.self.inside.limits (record { asked = c.self.inside.asked; server_numbers = c.self.inside.server_numbers; counts = c.self.inside.counts }) c.self.inside.paces.items c.self.inside.jobs c.self.inside.clock c.self.inside.rx c.self.inside.store c.self.invariant c.args.head.now c.in-Some.front.now front here c.from-i.result number c.on_reply-reply.new.self c.on_reply-reply.ensures.servers c.on_reply-reply.ensures.queued c.on_reply-reply.ensures.size c.on_reply-reply.ensures.places c.drop_front-in-Took.new.self c.drop_front-in-Took.ensures p g.R.Recorder.facts g.R.Recorder.whole c.args.rec.now c.note.new.self _ _ _ refl (ap (λ (v : MessageHeader). v.request) c.head.view_is) (ap (λ (v : MessageHeader). v.number) c.head.view_is) c.note.ensures)
+    let p = as-told _ _ _ _ _ _ _ _ _ _ _ c.peer.ensures
+    (c.body.ensures ∙ ap body_of c.bytes.ensures.bytes) c.in-Took.ensures.clients in
+    rw (← c.self.view_is) (node-took c.self.inside.me c.self.inside.limits
+    (record {
+      asked = c.self.inside.asked;
+      server_numbers = c.self.inside.server_numbers;
+      counts = c.self.inside.counts;
+    }) c.self.inside.paces.items c.self.inside.jobs
+    c.self.inside.clock c.self.inside.rx c.self.inside.store c.self.invariant c.args.head.now
+    c.in-Some.front.now front here c.from-i.result number c.on_reply-reply.new.self
+    c.on_reply-reply.ensures.servers c.on_reply-reply.ensures.queued
+    c.on_reply-reply.ensures.size c.on_reply-reply.ensures.places c.drop_front-in-Took.new.self
+    c.drop_front-in-Took.ensures p g.R.Recorder.facts g.R.Recorder.whole c.args.rec.now
+    c.note.new.self _ _ _ refl (ap (λ (v : MessageHeader). v.request) c.head.view_is)
+    (ap (λ (v : MessageHeader). v.number) c.head.view_is) c.note.ensures)
 
 pub invariant_of-self-in-Ended : goal.invariant_of-self-in-Ended
 invariant_of-self-in-Ended g c =
     let front = rw (← c.self.view_is) at c.requires.front in
     let here = sym c.front.ensures ∙ ap option_copied c.in-Some.is in
     let number = ap (λ (v : MessageHeader). v.session) (sym c.head.view_is) ∙ sym c.from-i.ensures in
-    let p = as-told _ _ _ _ _ _ _ _ _ _ _ c.peer.ensures (c.body.ensures ∙ ap body_of c.bytes.ensures.bytes) c.in-Ended.ensures.clients in
-    fits-ended c.self.inside.me c.self.inside.limits (record { asked = c.self.inside.asked; server_numbers = c.self.inside.server_numbers; counts = c.self.inside.counts }) c.self.inside.paces.items c.self.inside.jobs c.self.inside.clock c.self.inside.rx c.self.inside.store c.self.invariant c.args.head.now c.in-Some.front.now front here c.from-i.result number c.on_reply-reply.new.self c.on_reply-reply.ensures.servers c.on_reply-reply.ensures.queued c.on_reply-reply.ensures.size c.on_reply-reply.ensures.places c.drop_front-in-Ended.new.self c.drop_front-in-Ended.ensures c.in-Ended.done p
+    let p = as-told _ _ _ _ _ _ _ _ _ _ _ c.peer.ensures
+    (c.body.ensures ∙ ap body_of c.bytes.ensures.bytes) c.in-Ended.ensures.clients in
+    fits-ended c.self.inside.me c.self.inside.limits
+    (record {
+      asked = c.self.inside.asked;
+      server_numbers = c.self.inside.server_numbers;
+      counts = c.self.inside.counts;
+    }) c.self.inside.paces.items c.self.inside.jobs
+    c.self.inside.clock c.self.inside.rx c.self.inside.store c.self.invariant c.args.head.now
+    c.in-Some.front.now front here c.from-i.result number c.on_reply-reply.new.self
+    c.on_reply-reply.ensures.servers c.on_reply-reply.ensures.queued
+    c.on_reply-reply.ensures.size c.on_reply-reply.ensures.places c.drop_front-in-Ended.new.self
+    c.drop_front-in-Ended.ensures c.in-Ended.done p
 
 pub returns-in-Ended : goal.returns-in-Ended
 returns-in-Ended g c =
     let front = rw (← c.self.view_is) at c.requires.front in
     let here = sym c.front.ensures ∙ ap option_copied c.in-Some.is in
     let number = ap (λ (v : MessageHeader). v.session) (sym c.head.view_is) ∙ sym c.from-i.ensures in
-    let p = as-told _ _ _ _ _ _ _ _ _ _ _ c.peer.ensures (c.body.ensures ∙ ap body_of c.bytes.ensures.bytes) c.in-Ended.ensures.clients in
-    rw (← c.self.view_is) (node-ended c.self.inside.me c.self.inside.limits (record { asked = c.self.inside.asked; server_numbers = c.self.inside.server_numbers; counts = c.self.inside.counts }) c.self.inside.paces.items c.self.inside.jobs c.self.inside.clock c.self.inside.rx c.self.inside.store c.self.invariant c.args.head.now c.in-Some.front.now front here c.from-i.result number c.on_reply-reply.new.self c.on_reply-reply.ensures.servers c.on_reply-reply.ensures.queued c.on_reply-reply.ensures.size c.on_reply-reply.ensures.places c.drop_front-in-Ended.new.self c.drop_front-in-Ended.ensures c.in-Ended.done p g.R.Recorder.facts g.R.Recorder.whole c.args.rec.now c.note-in-Ended.new.self c.note-in-Ended-2.new.self _ _ _ _ _ refl (ap (λ (v : MessageHeader). v.request) c.head.view_is) (ap (λ (v : MessageHeader). v.number) c.head.view_is) c.end_event.ensures c.answer_of.ensures c.note-in-Ended.ensures c.note-in-Ended-2.ensures)
+    let p = as-told _ _ _ _ _ _ _ _ _ _ _ c.peer.ensures
+    (c.body.ensures ∙ ap body_of c.bytes.ensures.bytes) c.in-Ended.ensures.clients in
+    rw (← c.self.view_is) (node-ended c.self.inside.me c.self.inside.limits
+    (record {
+      asked = c.self.inside.asked;
+      server_numbers = c.self.inside.server_numbers;
+      counts = c.self.inside.counts;
+    }) c.self.inside.paces.items c.self.inside.jobs
+    c.self.inside.clock c.self.inside.rx c.self.inside.store c.self.invariant c.args.head.now
+    c.in-Some.front.now front here c.from-i.result number c.on_reply-reply.new.self
+    c.on_reply-reply.ensures.servers c.on_reply-reply.ensures.queued
+    c.on_reply-reply.ensures.size c.on_reply-reply.ensures.places c.drop_front-in-Ended.new.self
+    c.drop_front-in-Ended.ensures c.in-Ended.done p g.R.Recorder.facts g.R.Recorder.whole
+    c.args.rec.now c.note-in-Ended.new.self c.note-in-Ended-2.new.self _ _ _ _ _ refl
+    (ap (λ (v : MessageHeader). v.request) c.head.view_is)
+    (ap (λ (v : MessageHeader). v.number) c.head.view_is) c.end_event.ensures
+    c.answer_of.ensures c.note-in-Ended.ensures c.note-in-Ended-2.ensures)

@@ -4,19 +4,31 @@ use Rattle.endpoint_loop.proofs.NotingLemmas.{none-comes, sent-more, sent-none, 
 use Rattle.endpoint_loop.proofs.node.Node.send_all.Goals as goal
 
 pub packets-init : goal.packets-init
-packets-init g c =
-    (sent-none g.R.Recorder.facts g.R.Recorder.whole g.L.Link.sent Sends _ _ _, refl, refl, record { waits = refl; stays = refl })
+packets-init g c = (
+  sent-none g.R.Recorder.facts g.R.Recorder.whole g.L.Link.sent Sends _ _ _,
+  refl,
+  refl,
+  record { waits = refl; stays = refl },
+)
 
 pub packets-preserved : goal.packets-preserved
 packets-preserved g c =
     let i = c.packets.invariant in
-    let went = c.in_ok-send_front.ensures.sent c.if-not-branch.false in
-    (sent-more g.R.Recorder.facts g.R.Recorder.whole g.L.Link.sent Sends _ _ _ _ _ _ _ _ _ i.0 went.0, went.1 ∙ i.1, c.in_ok-send_front.ensures.cause ∙ i.2, none-comes g.L.Link.waiting g.L.Link.received _ _ _ i.3 c.send_front.ensures.lists)
+    let went = c.in_ok-send_front.ensures.sent c.if-not-branch.false in (
+      sent-more g.R.Recorder.facts g.R.Recorder.whole g.L.Link.sent Sends _ _ _ _ _ _ _ _ _ i.0
+          went.0,
+      went.1 ∙ i.1,
+      c.in_ok-send_front.ensures.cause
+          ∙ i.2,
+      none-comes g.L.Link.waiting g.L.Link.received _ _ _ i.3 c.send_front.ensures.lists,
+    )
 
 pub returns-in_err-send_front-clause-sent : goal.returns-in_err-send_front-clause-sent
 returns-in_err-send_front-clause-sent g c =
-    sent-still g.R.Recorder.facts g.R.Recorder.whole g.L.Link.sent _ _ _ _ _ _ _ _ _ _ c.packets.invariant.0 c.in_err-send_front.ensures.fault
+    sent-still g.R.Recorder.facts g.R.Recorder.whole g.L.Link.sent _ _ _ _ _ _ _ _ _ _
+    c.packets.invariant.0 c.in_err-send_front.ensures.fault
 
 pub returns-then-not-branch-clause-sent : goal.returns-then-not-branch-clause-sent
 returns-then-not-branch-clause-sent g c =
-    sent-still g.R.Recorder.facts g.R.Recorder.whole g.L.Link.sent _ _ _ _ _ _ _ _ _ _ c.packets.invariant.0 (c.in_ok-send_front.ensures.busy c.if-not-branch.true).0
+    sent-still g.R.Recorder.facts g.R.Recorder.whole g.L.Link.sent _ _ _ _ _ _ _ _ _ _
+    c.packets.invariant.0 (c.in_ok-send_front.ensures.busy c.if-not-branch.true).0

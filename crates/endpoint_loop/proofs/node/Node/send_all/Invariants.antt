@@ -6,8 +6,10 @@ use Rattle.endpoint_loop.proofs.node.Node.send_all.Given as goal
 
 abbrev pub invariant-packets : goal.invariant-packets
 invariant-packets g l =
-    MakesSent g.R.Recorder.facts g.R.Recorder.whole g.L.Link.sent SendsSome l.initial.self l.self l.initial.rec l.rec l.initial.link l.link
-    × (g.L.Link.busies l.link ≡ g.L.Link.busies l.initial.link) × (g.L.Link.faults l.link ≡ g.L.Link.faults l.initial.link)
+    MakesSent g.R.Recorder.facts g.R.Recorder.whole g.L.Link.sent SendsSome l.initial.self l.self
+    l.initial.rec l.rec l.initial.link l.link
+    × (g.L.Link.busies l.link ≡ g.L.Link.busies l.initial.link)
+    × (g.L.Link.faults l.link ≡ g.L.Link.faults l.initial.link)
     × NoneComes g.L.Link.waiting g.L.Link.received l.initial.link l.link
 
 abbrev pub decreases-packets : goal.decreases-packets

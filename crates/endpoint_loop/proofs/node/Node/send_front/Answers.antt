@@ -5,15 +5,38 @@ use Rattle.endpoint_loop.proofs.node.Node.send_front.Goals as goal
 pub invariant_of-self : goal.invariant_of-self
 invariant_of-self g c =
     let front = rw c.in-Some.is at c.front.ensures.front in
-    fits-sent c.self.inside.me c.self.inside.limits (record { asked = c.self.inside.asked; server_numbers = c.self.inside.server_numbers; counts = c.self.inside.counts }) c.self.inside.paces.items c.self.inside.jobs c.self.inside.clock c.self.inside.rx c.self.inside.store c.sent.new.self c.self.invariant c.in-Some.entry front c.sent.ensures.clients c.sent.ensures.servers c.sent.ensures.queued c.sent.ensures.size c.sent.ensures.places
+    fits-sent c.self.inside.me c.self.inside.limits
+    (record {
+      asked = c.self.inside.asked;
+      server_numbers = c.self.inside.server_numbers;
+      counts = c.self.inside.counts;
+    }) c.self.inside.paces.items c.self.inside.jobs
+    c.self.inside.clock c.self.inside.rx c.self.inside.store c.sent.new.self c.self.invariant
+    c.in-Some.entry front c.sent.ensures.clients c.sent.ensures.servers c.sent.ensures.queued
+    c.sent.ensures.size c.sent.ensures.places
 
 pub returns-in-Whole-clause-sent : goal.returns-in-Whole-clause-sent
 returns-in-Whole-clause-sent g c = λ went.
     let front = rw c.in-Some.is at c.front.ensures.front in
-    let whole = c.in_ok-send.ensures.whole c.in-Whole.is in
-    (rw (← c.self.view_is) (node-sent c.self.inside.me c.self.inside.limits (record { asked = c.self.inside.asked; server_numbers = c.self.inside.server_numbers; counts = c.self.inside.counts }) c.self.inside.paces.items c.self.inside.jobs c.self.inside.clock c.self.inside.rx c.self.inside.store c.sent.new.self c.self.invariant c.in-Some.entry front c.sent.ensures.clients c.sent.ensures.servers c.sent.ensures.queued c.packet-body.new.head c.packet-body.result.now c.packet-body.array_long c.packet-body.ensures.bytes c.packet-body.ensures.spells g.R.Recorder.facts g.R.Recorder.whole g.L.Link.sent c.args.rec.now c.note.new.self c.args.link.now c.send.new.self _ _ _ (ap (λ e. e.peer) c.entry.view_is) (ap (λ e. e.owner) c.entry.view_is) (ap (λ e. e.number) c.entry.view_is) c.note.ensures whole.0), whole.1)
+    let whole = c.in_ok-send.ensures.whole c.in-Whole.is in (
+      rw (← c.self.view_is) (node-sent c.self.inside.me c.self.inside.limits
+          (record {
+            asked = c.self.inside.asked;
+            server_numbers = c.self.inside.server_numbers;
+            counts = c.self.inside.counts;
+          }) c.self.inside.paces.items c.self.inside.jobs
+          c.self.inside.clock c.self.inside.rx c.self.inside.store c.sent.new.self c.self.invariant
+          c.in-Some.entry front c.sent.ensures.clients c.sent.ensures.servers c.sent.ensures.queued
+          c.packet-body.new.head c.packet-body.result.now c.packet-body.array_long
+          c.packet-body.ensures.bytes c.packet-body.ensures.spells g.R.Recorder.facts
+          g.R.Recorder.whole g.L.Link.sent c.args.rec.now c.note.new.self c.args.link.now
+          c.send.new.self _ _ _ (ap (λ e. e.peer) c.entry.view_is) (ap (λ e. e.owner) c.entry.view_is)
+          (ap (λ e. e.number) c.entry.view_is) c.note.ensures whole.0),
+      whole.1,
+    )
 
 pub returns-in-Whole-clause-fewer : goal.returns-in-Whole-clause-fewer
 returns-in-Whole-clause-fewer g c = λ went.
     let front = rw c.in-Some.is at c.front.ensures.front in
-    rw (← c.self.view_is) (front-fewer _ c.self.inside.store.queued c.sent.new.self.queued front.front c.sent.ensures.queued)
+    rw (← c.self.view_is) (front-fewer _ c.self.inside.store.queued c.sent.new.self.queued
+    front.front c.sent.ensures.queued)

@@ -7,5 +7,7 @@ returns-clause-heads c = omega (arith, length-pieces)
 
 pub returns-clause-zero_heads : goal.returns-clause-zero_heads
 returns-clause-zero_heads c =
-    let block : c.in_ok-block.block.items ≡ replicate c.block_bytes.result 0 = c.in_ok-block.ensures.items_if_clones_equal (λ y e. e) in
-    λ k below. zero_heads-get c.in_ok-block.block.items c.block_bytes.result c.args.capacity k block below (omega arith)
+    let block : c.in_ok-block.block.items ≡ replicate c.block_bytes.result 0 =
+    c.in_ok-block.ensures.items_if_clones_equal (λ y e. e) in
+    λ k below. zero_heads-get c.in_ok-block.block.items c.block_bytes.result c.args.capacity k block
+    below (omega arith)

@@ -11,5 +11,8 @@ returns c =
     let len : fields.len ≡ c.args.self.now.len = ap (λ (b : Buffer). b.len) c.self.view_is in
     let width : start + 16 - start ≡ 16 = omega arith in
     let long : length c.args.head.now ≡ 16 = omega (arith, c.fits-head) in
-    let kept = items-put fields.block start 16 c.args.head.now long (omega (arith, head_start-end, c.head_at-start.ensures)) in
-    rw (c.deref_mut.ensures.value, c.copy_from_slice.ensures.after, width, kept, ← c.self.view_is) (buffer-stamped fields.block.items c.args.head.now fields.capacity fields.len start c.args.index c.head_at-start.ensures long (omega (arith, fits.within)) fits.size)
+    let kept = items-put fields.block start 16 c.args.head.now long
+    (omega (arith, head_start-end, c.head_at-start.ensures)) in
+    rw (c.deref_mut.ensures.value, c.copy_from_slice.ensures.after, width, kept, ← c.self.view_is)
+    (buffer-stamped fields.block.items c.args.head.now fields.capacity fields.len start
+    c.args.index c.head_at-start.ensures long (omega (arith, fits.within)) fits.size)

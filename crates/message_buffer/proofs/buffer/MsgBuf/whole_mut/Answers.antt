@@ -13,12 +13,23 @@ returns c =
     let size = ap capacity_of c.self.view_is in
     let bytes = ap bytes_of c.self.view_is in
     let width : (16 + fields.len) - 16 ≡ fields.len = omega arith in
-    let message : c.slice_mut.result.now ≡ take fields.len (drop 16 fields.block.items) = rw width at c.slice_mut.ensures.value in (
+    let message : c.slice_mut.result.now ≡ take fields.len (drop 16 fields.block.items) =
+    rw width at c.slice_mut.ensures.value in (
       (refl, λ w. buffer-rewritten fields.block fields.capacity fields.len w fits ∙ ap (rewritten w) c.self.view_is),
       record {
         writes_back = tt;
-        message = message ∙ sym (take-take fields.len fields.capacity (drop 16 fields.block.items) fits.within) ∙ bytes;
-        len = ap length message ∙ length-take fields.len (drop 16 fields.block.items) ∙ omega (arith, fits.size, fits.within, length-drop 16 fields.block.items);
-        within = omega (arith, fits.size, fits.within, size, length-take fields.capacity (drop 16 fields.block.items), length-drop 16 fields.block.items);
+        message = message ∙ sym (take-take fields.len fields.capacity (drop 16 fields.block.items)
+            fits.within) ∙ bytes;
+        len = ap length message ∙ length-take fields.len (drop 16 fields.block.items)
+            ∙ omega (arith, fits.size, fits.within, length-drop 16 fields.block.items);
+        within = omega (
+          arith,
+          fits.size,
+          fits.within,
+          size,
+          length-take fields.capacity (drop 16 fields.block.items),
+          length-drop 16
+              fields.block.items,
+        );
       },
     )

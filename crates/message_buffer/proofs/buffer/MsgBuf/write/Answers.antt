@@ -10,4 +10,6 @@ returns c =
     let len : fields.len ≡ c.args.self.now.len = ap (λ (b : Buffer). b.len) c.self.view_is in
     let span : length c.args.from.now ≡ (16 + c.args.at + length c.args.from.now) - (16 + c.args.at) = omega arith in
     let kept = items-put fields.block (16 + c.args.at) _ c.args.from.now span (omega (arith, fits.size)) in
-    rw (c.deref_mut.ensures.value, c.copy_from_slice.ensures.after, kept, ← c.self.view_is) (buffer-written fields.block.items c.args.from.now fields.capacity fields.len c.args.at _ span (omega arith) fits.size)
+    rw (c.deref_mut.ensures.value, c.copy_from_slice.ensures.after, kept, ← c.self.view_is)
+    (buffer-written fields.block.items c.args.from.now fields.capacity fields.len c.args.at _
+    span (omega arith) fits.size)

@@ -8,12 +8,18 @@ use Rattle.pacing_wheel.proofs.pacer.Pacer.flush.Goals as goal
 
 pub returns-in_default-clause-none : goal.returns-in_default-clause-none
 returns-in_default-clause-none c =
-    rw (← c.self.view_is) ((λ _. none-passes (is_of c.args.owner) number_of c.self.inside.waiting.items (sym c.least_of.ensures ∙ c.in_default.is)), (λ _. refl))
+    rw (← c.self.view_is) (
+      (λ _. none-passes (is_of c.args.owner) number_of
+          c.self.inside.waiting.items (sym c.least_of.ensures ∙ c.in_default.is)),
+      (λ _. refl),
+    )
 
 pub unreachable-requires : goal.unreachable-requires
 unreachable-requires c =
-    let found = least-found (is_of c.args.owner) number_of c.in-Some.number c.self.inside.waiting.items (sym c.least_of.ensures ∙ c.in-Some.is) in
-    let none : find (is_entry_of c.args.owner c.in-Some.number) c.self.inside.waiting.items ≡ None = sym c.take_out.ensures.taken ∙ c.in_default-take_out.is in
+    let found = least-found (is_of c.args.owner) number_of c.in-Some.number
+    c.self.inside.waiting.items (sym c.least_of.ensures ∙ c.in-Some.is) in
+    let none : find (is_entry_of c.args.owner c.in-Some.number) c.self.inside.waiting.items ≡ None =
+    sym c.take_out.ensures.taken ∙ c.in_default-take_out.is in
     not-found (is_entry_of c.args.owner c.in-Some.number) c.self.inside.waiting.items found none
 
 pub invariant_of-self : goal.invariant_of-self
@@ -28,5 +34,6 @@ invariant_of-self c =
 
 pub returns-clause-none : goal.returns-clause-none
 returns-clause-none c =
-    let some = one-passes (is_of c.args.owner) number_of c.in-Some.number c.self.inside.waiting.items (sym c.least_of.ensures ∙ c.in-Some.is) in
+    let some = one-passes (is_of c.args.owner) number_of c.in-Some.number
+    c.self.inside.waiting.items (sym c.least_of.ensures ∙ c.in-Some.is) in
     rw (← c.self.view_is) ((λ e. cc), (λ e. sym some ∙ e))

@@ -2,4 +2,5 @@ use Rattle.std.proofs.Common.{arith}
 use Rattle.pacing_wheel.proofs.pacer.Pacer.len.Goals as goal
 
 pub overflow_cast-result : goal.overflow_cast-result
-overflow_cast-result c = omega (arith, c.len.ensures, c.self.invariant.0, c.self.invariant.2, c.self.inside.waiting.ok.0)
+overflow_cast-result c =
+    omega (arith, c.len.ensures, c.self.invariant.0, c.self.invariant.2, c.self.inside.waiting.ok.0)

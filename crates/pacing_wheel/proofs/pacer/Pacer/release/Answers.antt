@@ -9,19 +9,22 @@ use Rattle.pacing_wheel.proofs.pacer.Pacer.release.Goals as goal
 pub returns-then-not-is_front_due-clause-released : goal.returns-then-not-is_front_due-clause-released
 returns-then-not-is_front_due-clause-released c =
     let xs = c.self.inside.waiting.items in
-    let late = front-late c.args.now xs c.self.invariant.3 (sym c.is_front_due.ensures ∙ c.if-not-is_front_due.true) in
+    let late = front-late c.args.now xs c.self.invariant.3
+    (sym c.is_front_due.ensures ∙ c.if-not-is_front_due.true) in
     rw (← c.self.view_is) (ap (λ o. option_map entry_of o) (sym (late-least c.args.now xs late).0))
 
 pub returns-then-not-is_front_due-clause-left : goal.returns-then-not-is_front_due-clause-left
 returns-then-not-is_front_due-clause-left c =
     let xs = c.self.inside.waiting.items in
-    let late = front-late c.args.now xs c.self.invariant.3 (sym c.is_front_due.ensures ∙ c.if-not-is_front_due.true) in
+    let late = front-late c.args.now xs c.self.invariant.3
+    (sym c.is_front_due.ensures ∙ c.if-not-is_front_due.true) in
     rw (← c.self.view_is, (late-least c.args.now xs late).1) refl
 
 pub returns-then-not-is_front_due-clause-none : goal.returns-then-not-is_front_due-clause-none
 returns-then-not-is_front_due-clause-none c =
     let xs = c.self.inside.waiting.items in
-    let late = front-late c.args.now xs c.self.invariant.3 (sym c.is_front_due.ensures ∙ c.if-not-is_front_due.true) in
+    let late = front-late c.args.now xs c.self.invariant.3
+    (sym c.is_front_due.ensures ∙ c.if-not-is_front_due.true) in
     rw (← c.self.view_is) ((λ _. none-passes (is_due c.args.now) due_of xs late), (λ _. refl))
 
 pub invariant_of-self : goal.invariant_of-self
@@ -37,7 +40,8 @@ pub returns-clause-released : goal.returns-clause-released
 returns-clause-released c =
     let is = c.in-Some.ensures.items in
     let ys = c.pop_front.new.self.items in
-    let due = front-due c.args.now c.in-Some.paced ys (rw is at (sym c.is_front_due.ensures ∙ c.if-not-is_front_due.false)) in
+    let due = front-due c.args.now c.in-Some.paced ys
+    (rw is at (sym c.is_front_due.ensures ∙ c.if-not-is_front_due.false)) in
     let least = due-least c.args.now c.in-Some.paced ys (rw is at c.self.invariant.3) due in
     rw (← c.self.view_is, is, least.0) (ap Some c.entry_in.ensures)
 
@@ -45,6 +49,7 @@ pub returns-clause-left : goal.returns-clause-left
 returns-clause-left c =
     let is = c.in-Some.ensures.items in
     let ys = c.pop_front.new.self.items in
-    let due = front-due c.args.now c.in-Some.paced ys (rw is at (sym c.is_front_due.ensures ∙ c.if-not-is_front_due.false)) in
+    let due = front-due c.args.now c.in-Some.paced ys
+    (rw is at (sym c.is_front_due.ensures ∙ c.if-not-is_front_due.false)) in
     let least = due-least c.args.now c.in-Some.paced ys (rw is at c.self.invariant.3) due in
     rw (← c.self.view_is, is, least.1) refl

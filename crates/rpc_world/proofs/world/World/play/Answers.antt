@@ -15,35 +15,52 @@ pub loop-line-preserved : goal.loop-line-preserved
 loop-line-preserved c =
     let within : c.loop-line.line-index < length c.lines-line-items.result.now = omega arith in
     let p = c.in_ok-execute.ensures in
-    rw (take_more c.lines-line-items.result.now c.loop-line.line-index c.line-item.result within, ← c.line-item.is, p.grew) (follows-more _ _ _ _ _ _ _ c.loop-line.invariant.0 p.does, plainly-append _ _ _ _ _ c.loop-line.invariant.1 p.plain, stands-after _ _ _ _ _ _ _ _ c.lines-line-items.ensures.lines c.lines-line-items.ensures.script within c.line-item.is c.loop-line.invariant.2 p)
+    rw (
+      take_more c.lines-line-items.result.now c.loop-line.line-index c.line-item.result within,
+      ← c.line-item.is,
+      p.grew,
+    ) (
+      follows-more _ _ _ _ _ _ _ c.loop-line.invariant.0 p.does,
+      plainly-append _ _ _ _ _ c.loop-line.invariant.1 p.plain,
+      stands-after _ _ _ _ _ _ _ _
+          c.lines-line-items.ensures.lines c.lines-line-items.ensures.script within c.line-item.is
+          c.loop-line.invariant.2 p,
+    )
 
 pub returns-clause-follows : goal.returns-clause-follows
 returns-clause-follows c =
     let same : c.of.result ≡ c.loop-line.facts = search rules in
     let long : length c.lines-line-items.result.now ≤ c.loop-line.line-index = omega arith in
     let whole = take_all c.loop-line.line-index c.lines-line-items.result.now long in
-    let all : FollowsFrom c.args.script.now empty_stage c.loop-line.facts c.loop-line.stage.stage = subst (λ (ls : List Line). FollowsFrom ls empty_stage c.loop-line.facts c.loop-line.stage.stage) (whole ∙ c.lines-line-items.ensures.lines) c.loop-line.invariant.0 in
+    let all : FollowsFrom c.args.script.now empty_stage c.loop-line.facts c.loop-line.stage.stage =
+    subst (λ (ls : List Line). FollowsFrom ls empty_stage c.loop-line.facts
+    c.loop-line.stage.stage) (whole ∙ c.lines-line-items.ensures.lines)
+    c.loop-line.invariant.0 in
     rw same (follows-by _ _ c.loop-line.stage all c.loop-line.invariant.1)
 
 pub execute-requires-clause-served : goal.execute-requires-clause-served
 execute-requires-clause-served c =
     let within : c.loop-line.line-index < length c.lines-line-items.result.now = omega arith in
-    (ready _ _ _ _ _ c.lines-line-items.ensures.lines c.lines-line-items.ensures.script c.requires within c.line-item.is c.loop-line.invariant.2).served
+    (ready _ _ _ _ _ c.lines-line-items.ensures.lines c.lines-line-items.ensures.script c.requires
+    within c.line-item.is c.loop-line.invariant.2).served
 
 pub execute-requires-clause-ranges : goal.execute-requires-clause-ranges
 execute-requires-clause-ranges c =
     let within : c.loop-line.line-index < length c.lines-line-items.result.now = omega arith in
-    (ready _ _ _ _ _ c.lines-line-items.ensures.lines c.lines-line-items.ensures.script c.requires within c.line-item.is c.loop-line.invariant.2).ranges
+    (ready _ _ _ _ _ c.lines-line-items.ensures.lines c.lines-line-items.ensures.script c.requires
+    within c.line-item.is c.loop-line.invariant.2).ranges
 
 pub execute-requires-clause-names : goal.execute-requires-clause-names
 execute-requires-clause-names c =
     let within : c.loop-line.line-index < length c.lines-line-items.result.now = omega arith in
-    (ready _ _ _ _ _ c.lines-line-items.ensures.lines c.lines-line-items.ensures.script c.requires within c.line-item.is c.loop-line.invariant.2).names
+    (ready _ _ _ _ _ c.lines-line-items.ensures.lines c.lines-line-items.ensures.script c.requires
+    within c.line-item.is c.loop-line.invariant.2).names
 
 pub execute-requires-clause-clock : goal.execute-requires-clause-clock
 execute-requires-clause-clock c =
     let within : c.loop-line.line-index < length c.lines-line-items.result.now = omega arith in
-    (ready _ _ _ _ _ c.lines-line-items.ensures.lines c.lines-line-items.ensures.script c.requires within c.line-item.is c.loop-line.invariant.2).clock
+    (ready _ _ _ _ _ c.lines-line-items.ensures.lines c.lines-line-items.ensures.script c.requires
+    within c.line-item.is c.loop-line.invariant.2).clock
 
 pub execute-requires-clause-numbered : goal.execute-requires-clause-numbered
 execute-requires-clause-numbered c = c.loop-line.invariant.2.numbered

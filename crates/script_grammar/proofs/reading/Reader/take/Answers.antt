@@ -18,4 +18,6 @@ returns-in_ok-push-in-Ok-clause-taken c =
 
 pub returns-in-Err-Why-clause-bad : goal.returns-in-Err-Why-clause-bad
 unfolding said_of
-returns-in-Err-Why-clause-bad c = λ rest. rw c.bad_at-in-Err-Why.ensures (refuses _ _ _ _ rest _ (omega arith) (cc) (rw c.in-Err-Why.field-0-is at c.in-Err-Why.ensures.value))
+returns-in-Err-Why-clause-bad c =
+    λ rest. rw c.bad_at-in-Err-Why.ensures (refuses _ _ _ _ rest _ (omega arith) (cc)
+    (rw c.in-Err-Why.field-0-is at c.in-Err-Why.ensures.value))

@@ -5,6 +5,9 @@ pub returns-clause-answers : goal.returns-clause-answers
 returns-clause-answers g c = record {
   answer = bytes_of c.serve-answer.result;
   shown_is = rw c.requires.own at c.put_answer.ensures.shown;
-  by_service = λ served stands. (c.serve-answer.ensures.answer served stands, c.serve-answer.ensures.next served stands);
+  by_service = λ served stands. (
+    c.serve-answer.ensures.answer served stands,
+    c.serve-answer.ensures.next served stands,
+  );
   grew = rw c.bytes.ensures.message at c.note_ran.ensures;
 }

@@ -7,14 +7,18 @@ use Rattle.server_core.proofs.session.ServerSession.finish.Goals as goal
 
 pub empty_buffers-requires-clause-apart : goal.empty_buffers-requires-clause-apart
 empty_buffers-requires-clause-apart c = λ p.
-    let front = next-front c.as_slice-request-items.result.now c.loop-request.request-index c.request-item.result c.loop-request-test.true c.request-item.is in
-    let beside = front-beside c.loop-request.pool c.request-item.result _ (rw front at c.loop-request.invariant.keeps) in
+    let front = next-front c.as_slice-request-items.result.now c.loop-request.request-index
+    c.request-item.result c.loop-request-test.true c.request-item.is in
+    let beside = front-beside c.loop-request.pool c.request-item.result _
+    (rw front at c.loop-request.invariant.keeps) in
     omega (arith, beside.apart p)
 
 pub loop-request-preserved : goal.loop-request-preserved
 loop-request-preserved c =
-    let front = next-front c.as_slice-request-items.result.now c.loop-request.request-index c.request-item.result c.loop-request-test.true c.request-item.is in
-    let beside = front-beside c.loop-request.pool c.request-item.result _ (rw front at c.loop-request.invariant.keeps) in
+    let front = next-front c.as_slice-request-items.result.now c.loop-request.request-index
+    c.request-item.result c.loop-request-test.true c.request-item.is in
+    let beside = front-beside c.loop-request.pool c.request-item.result _
+    (rw front at c.loop-request.invariant.keeps) in
     let unheld = rw front at c.loop-request.invariant.unheld in
     rw c.empty_buffers.ensures (record {
       left = rw front at c.loop-request.invariant.left;
@@ -24,9 +28,12 @@ loop-request-preserved c =
 
 pub returns-clause-pool : goal.returns-clause-pool
 returns-clause-pool c =
-    let none : drop c.loop-request.request-index c.as_slice-request-items.result.now ≡ [] = drop_of_length-le c.as_slice-request-items.result.now {i = c.loop-request.request-index} c.loop-request-test.false in
+    let none : drop c.loop-request.request-index c.as_slice-request-items.result.now ≡ [] =
+    drop_of_length-le c.as_slice-request-items.result.now {i = c.loop-request.request-index}
+    c.loop-request-test.false in
     rw none at c.loop-request.invariant.left
 
 pub returns-clause-counts : goal.returns-clause-counts
 returns-clause-counts c = λ entries counts.
-    rw (returns-clause-pool c) (counts-all c.args.pool.now c.args.self.slots entries c.requires.keeps_pool c.requires.unheld counts)
+    rw (returns-clause-pool c) (counts-all c.args.pool.now c.args.self.slots entries
+    c.requires.keeps_pool c.requires.unheld counts)

@@ -16,9 +16,12 @@ abbrev pub invariant-loop-left : goal.invariant-loop-left
 invariant-loop-left g l = record {
   holds : HoldsReplies l.fn.self.number l.pool l.tx.items l.older;
   left : l.left ≡ count_by (is_of (owner_of l.fn.self.number l.older)) l.tx.items;
-  kept : filter (is_not_of (owner_of l.fn.self.number l.older)) l.tx.items ≡ filter (is_not_of (owner_of l.fn.self.number l.older)) l.fn.tx.items;
+  kept : filter (is_not_of (owner_of l.fn.self.number l.older)) l.tx.items
+      ≡ filter (is_not_of (owner_of l.fn.self.number l.older)) l.fn.tx.items;
   size : l.tx.size ≡ l.fn.tx.size;
-  noted : (x : List Fact) × Grew g.R.Recorder.facts g.R.Recorder.whole l.fn.rec l.rec x × (x ++ flushed_facts l.fn.who l.fn.self.number (Some l.older) l.tx.items ≡ flushed_facts l.fn.who l.fn.self.number (Some l.older) l.fn.tx.items);
+  noted : (x : List Fact) × Grew g.R.Recorder.facts g.R.Recorder.whole l.fn.rec l.rec x
+      × (x ++ flushed_facts l.fn.who l.fn.self.number (Some l.older) l.tx.items
+      ≡ flushed_facts l.fn.who l.fn.self.number (Some l.older) l.fn.tx.items);
   shown : shown l.pool l.fn.self ≡ shown l.fn.pool l.fn.self;
   spare : spare_of l.pool ≡ spare_of l.fn.pool;
   others : LeavesOthers l.fn.self.slots l.fn.self.slots l.fn.pool l.pool;

@@ -4,4 +4,6 @@ use Rattle.server_core.proofs.session.ServerSession.is_held.Goals as goal
 
 pub refs-requires : goal.refs-requires
 refs-requires c =
-    placed-full c.args.pool.now c.args.self.now c.args.entry.now c.in-Some.place c.requires.keeps_pool c.requires.posted (sym (ap (λ e. e.place) c.entry.view_is) ∙ c.in-Some.is)
+    placed-full c.args.pool.now c.args.self.now c.args.entry.now c.in-Some.place
+    c.requires.keeps_pool c.requires.posted
+    (sym (ap (λ e. e.place) c.entry.view_is) ∙ c.in-Some.is)

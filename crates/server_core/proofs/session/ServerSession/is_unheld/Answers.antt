@@ -6,4 +6,6 @@ use Rattle.rpc_base.proofs.FirstLemmas.{found-holds}
 
 pub is_unheld-requires : goal.is_unheld-requires
 is_unheld-requires c =
-    found-holds (is_in_slot c.slot.result) (IsKept c.args.pool.now) c.self.inside.slots c.in-Some.newest (rw (← c.self.view_is) at c.requires.keeps_pool).kept (sym c.in-Some.ensures)
+    found-holds (is_in_slot c.slot.result) (IsKept c.args.pool.now) c.self.inside.slots
+    c.in-Some.newest (rw (← c.self.view_is) at c.requires.keeps_pool).kept
+    (sym c.in-Some.ensures)

@@ -6,21 +6,25 @@ use Rattle.server_core.specs.contracts.session.ServerSession.{the_view}
 use Rattle.server_core.proofs.AskedLemmas.{waiting-none, waiting-own}
 use Rattle.server_core.proofs.StepLemmas.{at-work}
 use Rattle.server_core.proofs.session.ServerSession.on_finished.Goals as goal
-use Rattle.server_core.proofs.session.ServerSession.on_finished.Goals.{then-get-via-then-get, then-get-via-else-get+then-not-is_working}
+use Rattle.server_core.proofs.session.ServerSession.on_finished.Goals.{then-get-via-then-get}
+use Rattle.server_core.proofs.session.ServerSession.on_finished.Goals.{then-get-via-else-get+then-not-is_working}
 use Rattle.rpc_base.proofs.FirstLemmas.{found-holds}
 
 pub returns-in_default-clause-left : goal.returns-in_default-clause-left
 returns-in_default-clause-left c =
-    let none : newest c.args.parcel.request (the_view c.self.inside) ≡ None = rw c.slot.ensures at (sym c.in_default.ensures) in
+    let none : newest c.args.parcel.request (the_view c.self.inside) ≡ None =
+    rw c.slot.ensures at (sym c.in_default.ensures) in
     record {
-      waited = rw (← c.self.view_is) (waiting-none c.args.pool.now (the_view c.self.inside) c.args.parcel.request c.self.invariant (rw none tt));
+      waited = rw (← c.self.view_is) (waiting-none c.args.pool.now (the_view c.self.inside)
+          c.args.parcel.request c.self.invariant (rw none tt));
       session = refl;
       pool = refl;
     }
 
 pub put_answer-reply-requires-clause-turn : goal.put_answer-reply-requires-clause-turn
 put_answer-reply-requires-clause-turn c =
-    found-holds (is_in_slot c.slot.result) IsInTurn c.self.inside.slots c.in-Some.request c.self.invariant.in_turn (sym c.in-Some.ensures)
+    found-holds (is_in_slot c.slot.result) IsInTurn c.self.inside.slots c.in-Some.request
+    c.self.invariant.in_turn (sym c.in-Some.ensures)
 
 pub put_answer-reply-requires-clause-working : goal.put_answer-reply-requires-clause-working
 put_answer-reply-requires-clause-working c =
@@ -28,19 +32,25 @@ put_answer-reply-requires-clause-working c =
 
 pub returns-then-get-clause-left : goal.returns-then-get-clause-left
 returns-then-get-clause-left c =
-    let found : newest c.args.parcel.request (the_view c.self.inside) ≡ Some c.in-Some.request = rw c.slot.ensures at (sym c.in-Some.ensures) in
+    let found : newest c.args.parcel.request (the_view c.self.inside) ≡ Some c.in-Some.request =
+    rw c.slot.ensures at (sym c.in-Some.ensures) in
     elim c.then-get.branch [
       | then-get-via-then-get w ↦ (
-          let away : c.in-Some.request.number ≢ c.args.parcel.request = λ same. w.if-get.true (c.get.ensures.value ∙ same ∙ sym c.get-2.ensures.value) in
+          let away : c.in-Some.request.number ≢ c.args.parcel.request =
+          λ same. w.if-get.true (c.get.ensures.value ∙ same ∙ sym c.get-2.ensures.value) in
           record {
-            waited = rw (← c.self.view_is) (waiting-none c.args.pool.now (the_view c.self.inside) c.args.parcel.request c.self.invariant (rw found away));
+            waited = rw (← c.self.view_is) (waiting-none c.args.pool.now (the_view c.self.inside)
+                c.args.parcel.request c.self.invariant (rw found away));
             session = refl;
             pool = refl;
           })
       | then-get-via-else-get+then-not-is_working w ↦ (
-          let same : c.in-Some.request.number ≡ c.args.parcel.request = sym c.get.ensures.value ∙ w.if-get.false ∙ c.get-2.ensures.value in
+          let same : c.in-Some.request.number ≡ c.args.parcel.request =
+          sym c.get.ensures.value ∙ w.if-get.false ∙ c.get-2.ensures.value in
           record {
-            waited = rw (← c.self.view_is) (waiting-own c.args.pool.now (the_view c.self.inside) c.args.parcel.request c.in-Some.request c.self.invariant found same ∙ sym w.is_working.ensures ∙ w.if-not-is_working.true);
+            waited = rw (← c.self.view_is) (waiting-own c.args.pool.now (the_view c.self.inside)
+                c.args.parcel.request c.in-Some.request c.self.invariant found same
+                ∙ sym w.is_working.ensures ∙ w.if-not-is_working.true);
             session = refl;
             pool = refl;
           })
@@ -48,12 +58,19 @@ returns-then-get-clause-left c =
 
 pub returns-clause-finished : goal.returns-clause-finished
 returns-clause-finished c =
-    let found : newest c.args.parcel.request (the_view c.self.inside) ≡ Some c.in-Some.request = rw c.slot.ensures at (sym c.in-Some.ensures) in
-    let same : c.in-Some.request.number ≡ c.args.parcel.request = sym c.get.ensures.value ∙ c.if-get.false ∙ c.get-2.ensures.value in
-    let slot : newest c.in-Some.request.number (the_view c.self.inside) ≡ Some c.in-Some.request = ap (λ r. newest r (the_view c.self.inside)) same ∙ found in
+    let found : newest c.args.parcel.request (the_view c.self.inside) ≡ Some c.in-Some.request =
+    rw c.slot.ensures at (sym c.in-Some.ensures) in
+    let same : c.in-Some.request.number ≡ c.args.parcel.request =
+    sym c.get.ensures.value ∙ c.if-get.false ∙ c.get-2.ensures.value in
+    let slot : newest c.in-Some.request.number (the_view c.self.inside) ≡ Some c.in-Some.request =
+    ap (λ r. newest r (the_view c.self.inside)) same ∙ found in
     let own : newest c.in-Some.request.number c.args.self.now ≡ Some c.in-Some.request = rw (← c.self.view_is) slot in
-    subst (λ r. IsFinished r (bytes_of c.args.parcel.out) c.args.self.now c.put_answer-reply.new.self c.args.pool.now c.put_answer-reply.new.pool c.put_answer-reply.result) same (record {
-      waited = rw (← c.self.view_is) (waiting-own c.args.pool.now (the_view c.self.inside) c.in-Some.request.number c.in-Some.request c.self.invariant slot refl ∙ sym c.is_working.ensures ∙ c.if-not-is_working.false);
+    subst (λ r. IsFinished r (bytes_of c.args.parcel.out) c.args.self.now
+    c.put_answer-reply.new.self c.args.pool.now c.put_answer-reply.new.pool
+    c.put_answer-reply.result) same (record {
+      waited = rw (← c.self.view_is) (waiting-own c.args.pool.now (the_view c.self.inside)
+          c.in-Some.request.number c.in-Some.request c.self.invariant slot refl
+          ∙ sym c.is_working.ensures ∙ c.if-not-is_working.false);
       shown_is = c.put_answer-reply.ensures.shown;
       last = rw own c.put_answer-reply.ensures.last;
       reply = c.put_answer-reply.ensures.reply;

@@ -19,20 +19,31 @@ returns-clause-handled g c =
     let step = c.step-step.result in
     let row = row_of (g.V.Service.mode_of h.req_type) c.args.jobs_full h s in
     let done = c.step-step.ensures.handled in
-    let early = early_facts c.args.who s c.args.tx.now.items row h (asked_with h c.args.body.now v) done.answer step in
+    let early = early_facts c.args.who s c.args.tx.now.items row h (asked_with h c.args.body.now v)
+    done.answer step in
     let number = number-of h c.args.body.now v w step done.answer done.steps in
     let noted = rw number at c.note.ensures in
-    let both = grew-then g.R.Recorder.facts g.R.Recorder.whole c.args.rec.now c.step-step.new.rec c.note.new.rec early (last_facts c.args.who s.number h step) done.grew noted in
+    let both = grew-then g.R.Recorder.facts g.R.Recorder.whole c.args.rec.now c.step-step.new.rec
+    c.note.new.rec early (last_facts c.args.who s.number h step) done.grew noted in
     let flushed = flushes row step c.args.who s.number (newest h.request s) c.args.tx.now.items in
     let first = first_facts c.args.who s.number h (asked_with h c.args.body.now v) done.answer step in
-    record { answer = done.answer; steps = done.steps; by_service = done.by_service; grew = rw (append_assoc flushed first (last_facts c.args.who s.number h step)) at both }
+    record {
+      answer = done.answer;
+      steps = done.steps;
+      by_service = done.by_service;
+      grew = rw (append_assoc flushed first (last_facts c.args.who s.number h step)) at both;
+    }
 
 pub returns-clause-facts : goal.returns-clause-facts
 returns-clause-facts g c = λ own.
-    by-rule c.args.self.now c.args.pool.now c.args.tx.now.items c.args.head.now c.args.body.now own (g.V.Service.mode_of c.args.head.now.req_type) c.args.jobs_full c.step-step.ensures.sound c.requires.asking c.step-step.result c.step-step.ensures.row
+    by-rule c.args.self.now c.args.pool.now c.args.tx.now.items c.args.head.now c.args.body.now own
+    (g.V.Service.mode_of c.args.head.now.req_type) c.args.jobs_full c.step-step.ensures.sound
+    c.requires.asking c.step-step.result c.step-step.ensures.row
 
 pub returns-clause-lacks : goal.returns-clause-lacks
 returns-clause-lacks g c = λ is.
     let h = c.args.head.now in
     let mode = g.V.Service.mode_of h.req_type in
-    lacks-row mode c.args.jobs_full (shown c.args.pool.now c.args.self.now) c.args.self.now.peer h (row_of mode c.args.jobs_full h c.args.self.now) c.step-step.result c.step-step.ensures.rule c.step-step.ensures.row is
+    lacks-row mode c.args.jobs_full (shown c.args.pool.now c.args.self.now) c.args.self.now.peer h
+    (row_of mode c.args.jobs_full h c.args.self.now) c.step-step.result c.step-step.ensures.rule
+    c.step-step.ensures.row is

@@ -11,7 +11,8 @@ use Rattle.server_core.specs.Session.{answer_of, ask_of, newest}
 use Rattle.server_core.specs.contracts.session.ServerSession.{the_view}
 use Rattle.server_core.proofs.BeginLemmas.{answer-held, idle-reply, is-reply}
 use Rattle.server_core.proofs.SlotLemmas.{gone-session}
-use Rattle.server_core.proofs.TakeLemmas.{gone-newest, gone-served, last-held, last-keeps, worked-shows, worked-turn, worked-whole}
+use Rattle.server_core.proofs.TakeLemmas.{gone-newest, gone-served, last-held, last-keeps}
+use Rattle.server_core.proofs.TakeLemmas.{worked-shows, worked-turn, worked-whole}
 use Rattle.server_core.proofs.OtherLemmas.{last-others}
 use Rattle.server_core.proofs.SpareLemmas.{last-spare}
 use Rattle.buffer_pool.proofs.CountLemmas.{lowest_at}
@@ -28,7 +29,10 @@ overflow_sub-number c = c.requires.turn.some
 pub invariant_of-self : goal.invariant_of-self
 invariant_of-self c =
     let found = rw (← c.self.view_is) at c.requires.found in
-    rw c.replace.ensures (gone-session (the_view c.self.inside) c.args.request (worked c.put_message-answer.result c.args.request) c.self.invariant (worked-turn c.args.request c.put_message-answer.result c.requires.turn c.requires.working (rw c.put_message-answer.ensures.size c.requires.answer)) refl found)
+    rw c.replace.ensures (gone-session (the_view c.self.inside) c.args.request
+    (worked c.put_message-answer.result c.args.request) c.self.invariant
+    (worked-turn c.args.request c.put_message-answer.result c.requires.turn c.requires.working
+    (rw c.put_message-answer.ensures.size c.requires.answer)) refl found)
 
 pub returns-clause-shown : goal.returns-clause-shown
 returns-clause-shown c =
@@ -39,7 +43,10 @@ returns-clause-shown c =
     let gone = ap ask_of c.requires.working in
     let there = rw c.put_message-answer.ensures.pool at c.put_message-answer.ensures.there in
     rw (c.replace.ensures, c.hold.ensures, c.put_message-answer.ensures.pool, ← c.self.view_is)
-    (worked-shows c.args.pool.now (the_view c.self.inside) c.args.request c.self.invariant found keeps c.put_message-answer.result.place c.args.answer c.put_message-answer.result none c.put_message-answer.ensures.place there refl c.put_message-answer.ensures.size c.put_message-answer.ensures.fits gone)
+    (worked-shows c.args.pool.now (the_view c.self.inside) c.args.request c.self.invariant found
+    keeps c.put_message-answer.result.place c.args.answer c.put_message-answer.result none
+    c.put_message-answer.ensures.place there refl c.put_message-answer.ensures.size
+    c.put_message-answer.ensures.fits gone)
 
 pub returns-clause-last : goal.returns-clause-last
 returns-clause-last c =
@@ -57,17 +64,32 @@ returns-clause-reply c =
     let gone = ap ask_of c.requires.working in
     let there = rw c.put_message-answer.ensures.pool at c.put_message-answer.ensures.there in
     let d = (worked c.put_message-answer.result c.args.request) in
-    let whole = gone-session (the_view c.self.inside) c.args.request d c.self.invariant (worked-turn c.args.request c.put_message-answer.result c.requires.turn c.requires.working (rw c.put_message-answer.ensures.size c.requires.answer)) refl found in
+    let whole = gone-session (the_view c.self.inside) c.args.request d c.self.invariant
+    (worked-turn c.args.request c.put_message-answer.result c.requires.turn
+    c.requires.working (rw c.put_message-answer.ensures.size c.requires.answer)) refl
+    found in
     let below : c.args.request.taken - 1 < d.taken = omega (arith, c.requires.turn.some) in
-    let some : 0 < refs_of c.hold.new.self c.put_message-answer.result.place = rw (c.hold.ensures, c.put_message-answer.ensures.pool) (last-held c.args.pool.now (the_view c.self.inside) c.args.request c.self.invariant found keeps d refl (sym gone) refl c.put_message-answer.result.place c.args.answer c.put_message-answer.result none refl c.put_message-answer.ensures.place there refl c.put_message-answer.ensures.size c.put_message-answer.ensures.fits) in
+    let some : 0 < refs_of c.hold.new.self c.put_message-answer.result.place =
+    rw (c.hold.ensures, c.put_message-answer.ensures.pool)
+    (last-held c.args.pool.now (the_view c.self.inside) c.args.request c.self.invariant
+    found keeps d refl (sym gone) refl c.put_message-answer.result.place c.args.answer
+    c.put_message-answer.result none refl c.put_message-answer.ensures.place there refl
+    c.put_message-answer.ensures.size c.put_message-answer.ensures.fits) in
     rw (c.entry-reply.ensures, c.replace.ensures)
-    (is-reply c.hold.new.self (with_slots (gone_on d c.self.inside.slots) (the_view c.self.inside)) d (c.args.request.taken - 1) whole (gone-newest c.args.pool.now (the_view c.self.inside) c.args.request c.self.invariant found keeps d refl) below (idle-reply d (c.args.request.taken - 1) refl) (answer-held c.hold.new.self d c.put_message-answer.result (c.args.request.taken - 1) refl some))
+    (is-reply c.hold.new.self (with_slots (gone_on d c.self.inside.slots) (the_view c.self.inside))
+    d (c.args.request.taken - 1) whole (gone-newest c.args.pool.now (the_view c.self.inside)
+    c.args.request c.self.invariant found keeps d refl) below
+    (idle-reply d (c.args.request.taken - 1) refl)
+    (answer-held c.hold.new.self d c.put_message-answer.result (c.args.request.taken - 1) refl
+    some))
 
 pub returns-clause-served : goal.returns-clause-served
 returns-clause-served c = λ mode_of all.
     let found = rw (← c.self.view_is) at c.requires.found in
     let keeps = rw (← c.self.view_is) at c.requires.keeps_pool in
-    rw c.replace.ensures (gone-served c.args.pool.now (the_view c.self.inside) c.args.request c.self.invariant found keeps mode_of (worked c.put_message-answer.result c.args.request) refl refl (rw (← c.self.view_is) at all))
+    rw c.replace.ensures (gone-served c.args.pool.now (the_view c.self.inside) c.args.request
+    c.self.invariant found keeps mode_of (worked c.put_message-answer.result c.args.request)
+    refl refl (rw (← c.self.view_is) at all))
 
 pub returns-clause-keeps_pool : goal.returns-clause-keeps_pool
 returns-clause-keeps_pool c =
@@ -78,13 +100,20 @@ returns-clause-keeps_pool c =
     let gone = ap ask_of c.requires.working in
     let there = rw c.put_message-answer.ensures.pool at c.put_message-answer.ensures.there in
     rw (c.replace.ensures, c.hold.ensures, c.put_message-answer.ensures.pool)
-    (last-keeps c.args.pool.now (the_view c.self.inside) c.args.request c.self.invariant found keeps (worked c.put_message-answer.result c.args.request) refl (sym gone) refl c.put_message-answer.result.place c.args.answer c.put_message-answer.result none refl c.put_message-answer.ensures.place there refl c.put_message-answer.ensures.size c.put_message-answer.ensures.fits)
+    (last-keeps c.args.pool.now (the_view c.self.inside) c.args.request c.self.invariant found keeps
+    (worked c.put_message-answer.result c.args.request) refl (sym gone) refl
+    c.put_message-answer.result.place c.args.answer c.put_message-answer.result none refl
+    c.put_message-answer.ensures.place there refl c.put_message-answer.ensures.size
+    c.put_message-answer.ensures.fits)
 
 pub returns-clause-others : goal.returns-clause-others
 returns-clause-others c =
     let found = rw (← c.self.view_is) at c.requires.found in
     rw (c.replace.ensures, c.hold.ensures, c.put_message-answer.ensures.pool, ← c.self.view_is)
-    (last-others c.args.pool.now (the_view c.self.inside) c.args.request c.args.request.number found (worked c.put_message-answer.result c.args.request) refl refl (sym (ap ask_of c.requires.working)) c.put_message-answer.result.place c.args.answer c.put_message-answer.result refl c.put_message-answer.ensures.place refl)
+    (last-others c.args.pool.now (the_view c.self.inside) c.args.request c.args.request.number found
+    (worked c.put_message-answer.result c.args.request) refl refl
+    (sym (ap ask_of c.requires.working)) c.put_message-answer.result.place c.args.answer
+    c.put_message-answer.result refl c.put_message-answer.ensures.place refl)
 
 pub returns-clause-spare : goal.returns-clause-spare
 returns-clause-spare c =
@@ -94,7 +123,10 @@ returns-clause-spare c =
     let none = ap answer_of c.requires.working in
     let gone = ap ask_of c.requires.working in
     rw (c.replace.ensures, c.hold.ensures, c.put_message-answer.ensures.pool, ← c.self.view_is)
-    (last-spare c.args.pool.now (the_view c.self.inside) c.args.request c.args.request.number keeps found (worked c.put_message-answer.result c.args.request) refl refl (sym gone) none c.put_message-answer.result.place c.args.answer c.put_message-answer.result refl c.put_message-answer.ensures.place refl)
+    (last-spare c.args.pool.now (the_view c.self.inside) c.args.request c.args.request.number keeps
+    found (worked c.put_message-answer.result c.args.request) refl refl (sym gone) none
+    c.put_message-answer.result.place c.args.answer c.put_message-answer.result refl
+    c.put_message-answer.ensures.place refl)
 
 pub returns-clause-holds : goal.returns-clause-holds
 returns-clause-holds c = λ entries holds.
@@ -109,18 +141,34 @@ returns-clause-holds c = λ entries holds.
     let found = rw (← c.self.view_is) at c.requires.found in
     let keeps = rw (← c.self.view_is) at c.requires.keeps_pool in
     let before : HoldsAll s c.args.pool.now entries = rw (← c.self.view_is) at holds in
-    let after : c.hold.new.self ≡ held a.place (filled a.place c.args.answer c.args.pool.now) = c.hold.ensures ∙ ap (held a.place) c.put_message-answer.ensures.pool in
-    let reply : IsReply q.number k (with_slots (gone_on d s.slots) s) (held a.place (filled a.place c.args.answer c.args.pool.now)) c.entry-reply.result = rw c.entry-reply.ensures (rw (c.replace.ensures, after, c.entry-reply.ensures) at (returns-clause-reply c)) in
-    let mine : IsReplyIn d c.entry-reply.result = rw c.entry-reply.ensures (record { taken = omega (arith, c.requires.turn.some); there = idle-reply d k refl; place_is = refl }) in
-    let place : c.entry-reply.result.place ≡ Some a.place = ap (λ e. e.place) c.entry-reply.ensures ∙ late-placed d a k refl (omega (arith, whole_is, c.requires.turn.some)) in
-    rw (c.replace.ensures, after) (answer-holds c.args.pool.now s q c.self.invariant found keeps entries before d a.place c.args.answer a k c.entry-reply.result refl (sym gone) none refl c.put_message-answer.ensures.place refl (λ x r. worked-more q a x whole_is c.requires.working r) reply place mine)
+    let after : c.hold.new.self ≡ held a.place (filled a.place c.args.answer c.args.pool.now) =
+    c.hold.ensures ∙ ap (held a.place) c.put_message-answer.ensures.pool in
+    let reply : IsReply q.number k (with_slots (gone_on d s.slots) s)
+    (held a.place (filled a.place c.args.answer c.args.pool.now)) c.entry-reply.result =
+    rw c.entry-reply.ensures (rw (c.replace.ensures, after, c.entry-reply.ensures)
+    at (returns-clause-reply c)) in
+    let mine : IsReplyIn d c.entry-reply.result =
+    rw c.entry-reply.ensures (record {
+      taken = omega (arith, c.requires.turn.some);
+      there = idle-reply d k refl;
+      place_is = refl;
+    }) in
+    let place : c.entry-reply.result.place ≡ Some a.place =
+    ap (λ e. e.place) c.entry-reply.ensures
+    ∙ late-placed d a k refl (omega (arith, whole_is, c.requires.turn.some)) in
+    rw (c.replace.ensures, after) (answer-holds c.args.pool.now s q c.self.invariant found keeps
+    entries before d a.place c.args.answer a k c.entry-reply.result refl (sym gone) none refl
+    c.put_message-answer.ensures.place refl
+    (λ x r. worked-more q a x whole_is c.requires.working r) reply place mine)
 
 pub returns-clause-no_bytes : goal.returns-clause-no_bytes
 returns-clause-no_bytes c =
     let found = rw (← c.self.view_is) at c.requires.found in
     let keeps = rw (← c.self.view_is) at c.requires.keeps_pool in
     let d = worked c.put_message-answer.result c.args.request in
-    let own : newest c.args.request.number (with_slots (gone_on d c.self.inside.slots) (the_view c.self.inside)) ≡ Some d = gone-newest c.args.pool.now (the_view c.self.inside) c.args.request c.self.invariant found keeps d refl in
+    let own : newest c.args.request.number (with_slots (gone_on d c.self.inside.slots)
+    (the_view c.self.inside)) ≡ Some d = gone-newest c.args.pool.now
+    (the_view c.self.inside) c.args.request c.self.invariant found keeps d refl in
     rw (c.replace.ensures, own) refl
 
 pub returns-clause-counts : goal.returns-clause-counts
@@ -132,10 +180,17 @@ returns-clause-counts c = λ entries counts.
     let none = ap answer_of c.requires.working in
     let gone = ap ask_of c.requires.working in
     let lowest = c.put_message-answer.ensures.place in
-    let full : IsFull (filled a.place c.args.answer pool) a.place = ap is_full (changed_own pool.uses a.place (Full 0) Empty (lowest_at pool a.place lowest).0) in
-    let place : c.entry-reply.result.place ≡ Some a.place = ap (λ e. e.place) c.entry-reply.ensures ∙ late-placed (worked a q) a (q.taken - 1) refl (omega (arith, whole_is, c.requires.turn.some)) in
+    let full : IsFull (filled a.place c.args.answer pool) a.place =
+    ap is_full (changed_own pool.uses a.place (Full 0) Empty
+    (lowest_at pool a.place lowest).0) in
+    let place : c.entry-reply.result.place ≡ Some a.place =
+    ap (λ e. e.place) c.entry-reply.ensures
+    ∙ late-placed (worked a q) a (q.taken - 1) refl
+    (omega (arith, whole_is, c.requires.turn.some)) in
     rw (c.hold.ensures, c.put_message-answer.ensures.pool)
-    (counts-placed (filled a.place c.args.answer pool) entries (counts-filled pool entries counts a.place c.args.answer lowest) a.place c.entry-reply.result place full)
+    (counts-placed (filled a.place c.args.answer pool) entries
+    (counts-filled pool entries counts a.place c.args.answer lowest) a.place
+    c.entry-reply.result place full)
 
 pub returns-clause-queued : goal.returns-clause-queued
 returns-clause-queued c = λ entries counted.
@@ -143,7 +198,9 @@ returns-clause-queued c = λ entries counted.
     let q = c.args.request in
     let found = rw (← c.self.view_is) at c.requires.found in
     let all : CountsQueued s entries = rw (← c.self.view_is) at counted in
-    rw c.replace.ensures (gone-counted s q c.self.invariant found (worked c.put_message-answer.result q) refl entries c.entry-reply.result refl (ap (λ e. e.owner) c.entry-reply.ensures) all)
+    rw c.replace.ensures (gone-counted s q c.self.invariant found
+    (worked c.put_message-answer.result q) refl entries c.entry-reply.result refl
+    (ap (λ e. e.owner) c.entry-reply.ensures) all)
 
 pub overflow_add-request : goal.overflow_add-request
 overflow_add-request c = omega (arith, c.requires.turn.few (ap answer_of c.requires.working))

@@ -15,10 +15,14 @@ use Rattle.server_core.proofs.session.ServerSession.step.Goals as goal
 
 pub begin-requires-clause-beginning : goal.begin-requires-clause-beginning
 begin-requires-clause-beginning g c =
-    (row-begins c.mode-mode.result c.args.jobs_full c.args.head.now _ c.args.self.now c.requires.asking (sym c.in-Begins.ensures.row)).0
+    (row-begins c.mode-mode.result c.args.jobs_full c.args.head.now _ c.args.self.now
+    c.requires.asking (sym c.in-Begins.ensures.row)).0
 
 -- a packet that is dropped flushes nothing
-grew-dropped : {R : Type 0} (facts : R → Option (List Fact)) (whole : R → Bool) (now : R) (row : ServerRow) (why : DropReason) (who : Who) (session : ℕ) (older : Option SlotRequest) (es : List EntryValue) → Grew facts whole now now (flushes row (Dropped why) who session older es ++ [])
+grew-dropped : {R : Type 0} (facts : R → Option (List Fact)) (whole : R → Bool) (now : R)
+    (row : ServerRow) (why : DropReason) (who : Who) (session : ℕ) (older : Option SlotRequest)
+    (es : List EntryValue)
+    → Grew facts whole now now (flushes row (Dropped why) who session older es ++ [])
 grew-dropped facts whole now (Drops x) why who session older es = grew-none facts whole now
 grew-dropped facts whole now Begins why who session older es = grew-none facts whole now
 grew-dropped facts whole now Takes why who session older es = grew-none facts whole now
@@ -29,7 +33,8 @@ returns-in-Drops-clause-handled g c = record {
   answer = [];
   steps = refl;
   by_service = tt;
-  grew = grew-dropped g.R.Recorder.facts g.R.Recorder.whole c.args.rec.now _ c.in-Drops.reason c.args.who.now c.args.self.now.number _ c.args.tx.now.items;
+  grew = grew-dropped g.R.Recorder.facts g.R.Recorder.whole c.args.rec.now _ c.in-Drops.reason
+      c.args.who.now c.args.self.now.number _ c.args.tx.now.items;
 }
 
 pub returns-in-Takes-clause-queued : goal.returns-in-Takes-clause-queued

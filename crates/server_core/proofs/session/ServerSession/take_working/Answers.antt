@@ -21,45 +21,63 @@ pub take-requires : goal.take-requires
 take-requires c = c.requires.kept.full
 
 pub unreachable-requires : goal.unreachable-requires
-unreachable-requires c = absurd (omega (arith, c.requires.kept.unnamed, c.in_default.ensures.held.0, c.in_default.ensures.held.1))
+unreachable-requires c =
+    absurd (omega (
+      arith,
+      c.requires.kept.unnamed,
+      c.in_default.ensures.held.0,
+      c.in_default.ensures.held.1,
+    ))
 
 pub invariant_of-self : goal.invariant_of-self
 invariant_of-self c =
     let found = rw (← c.self.view_is) at c.requires.found in
-    rw (c.replace.ensures, c.last_given.ensures) (gone-session (the_view c.self.inside) c.args.request (last_given c.args.request) c.self.invariant (given-turn c.args.request c.requires.size c.requires.last ((found-holds (is_in_slot (c.args.request.number % 8)) IsInTurn c.self.inside.slots c.args.request c.self.invariant.in_turn found).few (ap answer_of c.requires.taking))) refl found)
+    rw (c.replace.ensures, c.last_given.ensures)
+    (gone-session (the_view c.self.inside) c.args.request (last_given c.args.request)
+    c.self.invariant (given-turn c.args.request c.requires.size c.requires.last
+    ((found-holds (is_in_slot (c.args.request.number % 8)) IsInTurn c.self.inside.slots
+    c.args.request c.self.invariant.in_turn found).few (ap answer_of c.requires.taking))) refl
+    found)
 
 pub returns-clause-shown : goal.returns-clause-shown
 returns-clause-shown c =
     let found = rw (← c.self.view_is) at c.requires.found in
     let keeps = rw (← c.self.view_is) at c.requires.keeps_pool in
     rw (c.replace.ensures, c.last_given.ensures, c.in-Ok.ensures.taken.2, ← c.self.view_is)
-    (given-shows c.args.pool.now (the_view c.self.inside) c.args.request c.self.invariant found keeps c.args.place (ap ask_of c.requires.taking) (ap answer_of c.requires.taking))
+    (given-shows c.args.pool.now (the_view c.self.inside) c.args.request c.self.invariant found
+    keeps c.args.place (ap ask_of c.requires.taking) (ap answer_of c.requires.taking))
 
 pub returns-clause-served : goal.returns-clause-served
 returns-clause-served c = λ mode_of all.
     let found = rw (← c.self.view_is) at c.requires.found in
     let keeps = rw (← c.self.view_is) at c.requires.keeps_pool in
-    rw (c.replace.ensures, c.last_given.ensures) (gone-served c.args.pool.now (the_view c.self.inside) c.args.request c.self.invariant found keeps mode_of (last_given c.args.request) refl refl (rw (← c.self.view_is) at all))
+    rw (c.replace.ensures, c.last_given.ensures)
+    (gone-served c.args.pool.now (the_view c.self.inside) c.args.request c.self.invariant found
+    keeps mode_of (last_given c.args.request) refl refl (rw (← c.self.view_is) at all))
 
 pub returns-clause-keeps_pool : goal.returns-clause-keeps_pool
 returns-clause-keeps_pool c =
     let found = rw (← c.self.view_is) at c.requires.found in
     let keeps = rw (← c.self.view_is) at c.requires.keeps_pool in
     rw (c.replace.ensures, c.last_given.ensures, c.in-Ok.ensures.taken.2)
-    (given-keeps c.args.pool.now (the_view c.self.inside) c.args.request c.self.invariant found keeps c.args.place (ap ask_of c.requires.taking) (ap answer_of c.requires.taking))
+    (given-keeps c.args.pool.now (the_view c.self.inside) c.args.request c.self.invariant found
+    keeps c.args.place (ap ask_of c.requires.taking) (ap answer_of c.requires.taking))
 
 pub returns-clause-others : goal.returns-clause-others
 returns-clause-others c =
     let found = rw (← c.self.view_is) at c.requires.found in
     rw (c.replace.ensures, c.last_given.ensures, c.in-Ok.ensures.taken.2, ← c.self.view_is)
-    (last-given-others c.args.pool.now (the_view c.self.inside) c.args.request c.args.request.number found refl (ap answer_of c.requires.taking) c.args.place (ap ask_of c.requires.taking))
+    (last-given-others c.args.pool.now (the_view c.self.inside) c.args.request c.args.request.number
+    found refl (ap answer_of c.requires.taking) c.args.place (ap ask_of c.requires.taking))
 
 pub returns-clause-spare : goal.returns-clause-spare
 returns-clause-spare c =
     let found = rw (← c.self.view_is) at c.requires.found in
     let keeps = rw (← c.self.view_is) at c.requires.keeps_pool in
     rw (c.replace.ensures, c.last_given.ensures, c.in-Ok.ensures.taken.2, ← c.self.view_is)
-    (last-given-spare c.args.pool.now (the_view c.self.inside) c.args.request c.args.request.number keeps found refl (ap answer_of c.requires.taking) c.args.place (ap ask_of c.requires.taking) c.requires.kept.full)
+    (last-given-spare c.args.pool.now (the_view c.self.inside) c.args.request c.args.request.number
+    keeps found refl (ap answer_of c.requires.taking) c.args.place (ap ask_of c.requires.taking)
+    c.requires.kept.full)
 
 pub returns-clause-holds : goal.returns-clause-holds
 returns-clause-holds c = λ entries holds.
@@ -67,13 +85,17 @@ returns-clause-holds c = λ entries holds.
     let keeps = rw (← c.self.view_is) at c.requires.keeps_pool in
     let before : HoldsAll (the_view c.self.inside) c.args.pool.now entries = rw (← c.self.view_is) at holds in
     rw (c.replace.ensures, c.last_given.ensures, c.in-Ok.ensures.taken.2)
-    (given-holds c.args.pool.now (the_view c.self.inside) c.args.request c.self.invariant found keeps entries before c.args.place (ap ask_of c.requires.taking) (ap answer_of c.requires.taking) c.requires.last)
+    (given-holds c.args.pool.now (the_view c.self.inside) c.args.request c.self.invariant found
+    keeps entries before c.args.place (ap ask_of c.requires.taking)
+    (ap answer_of c.requires.taking) c.requires.last)
 
 pub returns-clause-newest : goal.returns-clause-newest
 returns-clause-newest c =
     let found = rw (← c.self.view_is) at c.requires.found in
     let keeps = rw (← c.self.view_is) at c.requires.keeps_pool in
-    rw (c.replace.ensures, c.last_given.ensures) (gone-newest c.args.pool.now (the_view c.self.inside) c.args.request c.self.invariant found keeps (last_given c.args.request) refl)
+    rw (c.replace.ensures, c.last_given.ensures)
+    (gone-newest c.args.pool.now (the_view c.self.inside) c.args.request c.self.invariant found
+    keeps (last_given c.args.request) refl)
 
 pub returns-clause-more : goal.returns-clause-more
 returns-clause-more c = rw c.in-Ok.ensures.taken.2 (spare-emptied c.args.pool.now c.args.place c.requires.kept.full)
@@ -86,7 +108,8 @@ last_given-requires c = omega (arith, packet_count_most c.args.request.size c.re
 
 pub returns-clause-counts : goal.returns-clause-counts
 returns-clause-counts c = λ entries counts.
-    rw c.in-Ok.ensures.taken.2 (counts-emptied c.args.pool.now entries counts c.args.place c.requires.kept.full c.requires.kept.unnamed)
+    rw c.in-Ok.ensures.taken.2 (counts-emptied c.args.pool.now entries counts c.args.place
+    c.requires.kept.full c.requires.kept.unnamed)
 
 pub returns-clause-queued : goal.returns-clause-queued
 returns-clause-queued c = λ entries counted.
@@ -94,4 +117,5 @@ returns-clause-queued c = λ entries counted.
     let q = c.args.request in
     let found = rw (← c.self.view_is) at c.requires.found in
     let all : CountsQueued s entries = rw (← c.self.view_is) at counted in
-    rw (c.replace.ensures, c.last_given.ensures) (still-counted s q c.self.invariant found (last_given q) refl entries refl all)
+    rw (c.replace.ensures, c.last_given.ensures)
+    (still-counted s q c.self.invariant found (last_given q) refl entries refl all)

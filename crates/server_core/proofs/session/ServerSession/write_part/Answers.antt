@@ -8,34 +8,52 @@ use Rattle.server_core.proofs.session.ServerSession.write_part.Goals as goal
 
 pub get_mut-requires-clause-full : goal.get_mut-requires-clause-full
 get_mut-requires-clause-full c =
-    let beside = own-beside c.args.pool.now c.args.self.now c.args.request.now c.requires.session c.requires.found c.requires.keeps_pool in
-    let asked : IsAsked c.args.pool.now c.args.request.now.size c.args.place = rw (ap ask_of c.requires.taking) at beside.own.ask in
+    let beside = own-beside c.args.pool.now c.args.self.now c.args.request.now c.requires.session
+    c.requires.found c.requires.keeps_pool in
+    let asked : IsAsked c.args.pool.now c.args.request.now.size c.args.place =
+    rw (ap ask_of c.requires.taking) at beside.own.ask in
     asked.full
 
 pub get_mut-requires-clause-free : goal.get_mut-requires-clause-free
 get_mut-requires-clause-free c =
-    let beside = own-beside c.args.pool.now c.args.self.now c.args.request.now c.requires.session c.requires.found c.requires.keeps_pool in
-    let asked : IsAsked c.args.pool.now c.args.request.now.size c.args.place = rw (ap ask_of c.requires.taking) at beside.own.ask in
+    let beside = own-beside c.args.pool.now c.args.self.now c.args.request.now c.requires.session
+    c.requires.found c.requires.keeps_pool in
+    let asked : IsAsked c.args.pool.now c.args.request.now.size c.args.place =
+    rw (ap ask_of c.requires.taking) at beside.own.ask in
     asked.unnamed
 
 pub write-requires : goal.write-requires
 write-requires c =
-    rw c.from-at.ensures (part-fits c.args.pool.now c.args.self.now c.args.request.now c.requires.session c.requires.found c.requires.keeps_pool c.args.body.now c.args.place c.get_mut.result.now (ap ask_of c.requires.taking) c.get_mut.ensures.buffer c.requires.within c.requires.long)
+    rw c.from-at.ensures (part-fits c.args.pool.now c.args.self.now c.args.request.now
+    c.requires.session c.requires.found c.requires.keeps_pool c.args.body.now c.args.place
+    c.get_mut.result.now (ap ask_of c.requires.taking) c.get_mut.ensures.buffer
+    c.requires.within c.requires.long)
 
 pub returns-clause-shown : goal.returns-clause-shown
 returns-clause-shown c =
-    rw (c.write.ensures, c.from-at.ensures) (part-shows c.args.pool.now c.args.self.now c.args.request.now c.requires.session c.requires.found c.requires.keeps_pool c.args.body.now c.args.place c.get_mut.result.now (ap ask_of c.requires.taking) c.get_mut.ensures.buffer c.requires.within c.requires.long)
+    rw (c.write.ensures, c.from-at.ensures) (part-shows c.args.pool.now c.args.self.now
+    c.args.request.now c.requires.session c.requires.found c.requires.keeps_pool c.args.body.now
+    c.args.place c.get_mut.result.now (ap ask_of c.requires.taking) c.get_mut.ensures.buffer
+    c.requires.within c.requires.long)
 
 pub returns-clause-bytes : goal.returns-clause-bytes
 returns-clause-bytes c =
-    rw (c.write.ensures, c.from-at.ensures) (part-bytes c.args.pool.now c.args.self.now c.args.request.now c.requires.session c.requires.found c.requires.keeps_pool c.args.body.now c.args.place c.get_mut.result.now (ap ask_of c.requires.taking) c.get_mut.ensures.buffer c.requires.within c.requires.long)
+    rw (c.write.ensures, c.from-at.ensures) (part-bytes c.args.pool.now c.args.self.now
+    c.args.request.now c.requires.session c.requires.found c.requires.keeps_pool c.args.body.now
+    c.args.place c.get_mut.result.now (ap ask_of c.requires.taking) c.get_mut.ensures.buffer
+    c.requires.within c.requires.long)
 
 pub returns-clause-keeps_pool : goal.returns-clause-keeps_pool
 returns-clause-keeps_pool c =
-    rw (c.write.ensures, c.from-at.ensures) (part-keeps c.args.pool.now c.args.self.now c.args.request.now c.requires.session c.requires.found c.requires.keeps_pool c.args.body.now c.args.place c.get_mut.result.now (ap ask_of c.requires.taking) c.get_mut.ensures.buffer c.requires.within c.requires.long)
+    rw (c.write.ensures, c.from-at.ensures) (part-keeps c.args.pool.now c.args.self.now
+    c.args.request.now c.requires.session c.requires.found c.requires.keeps_pool c.args.body.now
+    c.args.place c.get_mut.result.now (ap ask_of c.requires.taking) c.get_mut.ensures.buffer
+    c.requires.within c.requires.long)
 
 pub returns-clause-others : goal.returns-clause-others
-returns-clause-others c = part-others c.args.pool.now c.args.self.now c.args.request.now c.args.request.now.number c.requires.found c.args.place (ap ask_of c.requires.taking) c.write.new.self
+returns-clause-others c =
+    part-others c.args.pool.now c.args.self.now c.args.request.now c.args.request.now.number
+    c.requires.found c.args.place (ap ask_of c.requires.taking) c.write.new.self
 
 pub returns-clause-holds : goal.returns-clause-holds
 returns-clause-holds c = λ entries holds.

@@ -10,8 +10,10 @@ pub returns-in-Some : goal.returns-in-Some
 returns-in-Some c =
     let n = c.in-Some.number in
     let xs = c.self.inside.ends.items in
-    let found = first-live c.args.after 0 n n xs c.self.invariant.count (omega arith) (sym (c.self.invariant.known n) ∙ c.in-Some.ensures.taken) c.in-Some.ensures.next
-    (λ w u at lower h. sym (c.self.invariant.known u) ∙ c.in-Some.ensures.least u lower (at-place c.args.after w u at h)) in
+    let found = first-live c.args.after 0 n n xs c.self.invariant.count (omega arith)
+    (sym (c.self.invariant.known n) ∙ c.in-Some.ensures.taken) c.in-Some.ensures.next
+    (λ w u at lower h. sym (c.self.invariant.known u)
+    ∙ c.in-Some.ensures.least u lower (at-place c.args.after w u at h)) in
     sym found ∙ ap (λ (ys : List Client). option_map number_of (find (is_next_live c.args.after) ys)) c.self.view_is
 
 pub returns-in-None : goal.returns-in-None

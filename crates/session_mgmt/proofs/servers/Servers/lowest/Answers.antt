@@ -9,7 +9,9 @@ returns-in-None c =
     let p = c.peer.inside.0 in
     let k = c.client.inside.0 in
     let used = c.self.inside.used in
-    let none = none-lowest p k 0 used c.self.inside.by_number.entries c.self.invariant.ascend (λ u below. sym (c.self.invariant.placed (p, k, u)) ∙ c.in-None.ensures.none u (omega (arith, below, c.self.invariant.most))) in
+    let none = none-lowest p k 0 used c.self.inside.by_number.entries c.self.invariant.ascend
+    (λ u below. sym (c.self.invariant.placed (p, k, u))
+    ∙ c.in-None.ensures.none u (omega (arith, below, c.self.invariant.most))) in
     seen _ _ _ _ _ _ _ c.peer.view_is c.client.view_is c.self.view_is (sym none)
 
 pub returns-in-Some : goal.returns-in-Some
@@ -21,5 +23,9 @@ returns-in-Some c =
     let es = c.self.inside.by_number.entries in
     let taken = sym (c.self.invariant.placed (p, k, t)) ∙ c.in-Some.ensures.taken in
     let within = taken-below (p, k, t) 0 used es c.self.invariant.ascend taken in
-    let found = lowest p k t 0 used es c.self.invariant.ascend taken (λ u below. sym (c.self.invariant.placed (p, k, u)) ∙ c.in-Some.ensures.least u below (omega (arith, below, within, c.self.invariant.most))) in
-    seen _ _ _ _ _ _ _ c.peer.view_is c.client.view_is c.self.view_is (copied c.get.result ∙ ap (option_map server_of) c.get.ensures.value ∙ found)
+    let found = lowest p k t 0 used es c.self.invariant.ascend taken
+    (λ u below. sym (c.self.invariant.placed (p, k, u))
+    ∙ c.in-Some.ensures.least u below
+    (omega (arith, below, within, c.self.invariant.most))) in
+    seen _ _ _ _ _ _ _ c.peer.view_is c.client.view_is c.self.view_is
+    (copied c.get.result ∙ ap (option_map server_of) c.get.ensures.value ∙ found)

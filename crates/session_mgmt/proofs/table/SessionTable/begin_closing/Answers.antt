@@ -15,5 +15,7 @@ change-requires-clause-was_live c =
 pub returns-clause-closing : goal.returns-clause-closing
 returns-clause-closing c =
     c.change.ensures ∙ becomes _ c.args.end.now _ c.requires.found (comes_to Closing) (client_of c.in_state.result)
-    (comes-end _ c.args.end.now c.in_state.result (ap (λ (s : ClientState). free_credits s c.args.end.now.credits) c.requires.state) c.in_state.ensures)
+    (comes-end _ c.args.end.now c.in_state.result
+    (ap (λ (s : ClientState). free_credits s c.args.end.now.credits) c.requires.state)
+    c.in_state.ensures)
     (ap (λ (e : ClientEnd). e.number) c.in_state.ensures)

@@ -6,7 +6,9 @@ use Rattle.session_mgmt.proofs.table.SessionTable.broke.Goals as goal
 pub close-requires-clause-was_live : goal.close-requires-clause-was_live
 close-requires-clause-was_live c =
     let found = sym c.in-Some.ensures in
-    alive _ c.in-Some.end _ found _ (ap is_live (sym (state-found c.args.session c.in-Some.end c.args.self.now.clients found) ∙ c.requires)) refl refl
+    alive _ c.in-Some.end _ found _ (ap is_live
+    (sym (state-found c.args.session c.in-Some.end c.args.self.now.clients found) ∙ c.requires))
+    refl refl
 
 pub returns-in-Some : goal.returns-in-Some
 returns-in-Some c =

@@ -8,4 +8,6 @@ overflow_sub-self c =
     omega (arith, h, c.from.ensures)
 
 pub invariant_of-self : goal.invariant_of-self
-invariant_of-self c = rw c.from.ensures (counted-ended _ _ _ _ _ _ _ c.self.view_is c.requires c.end.ensures c.self.invariant)
+invariant_of-self c =
+    rw c.from.ensures (counted-ended _ _ _ _ _ _ _ c.self.view_is c.requires c.end.ensures
+    c.self.invariant)

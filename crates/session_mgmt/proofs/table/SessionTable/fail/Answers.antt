@@ -17,7 +17,10 @@ returns-in-Connecting c =
     rw c.in-Connecting.is (record {
       change = refl;
       reply = refl;
-      sessions = c.close.ensures ∙ becomes _ c.args.end.now _ c.requires (comes_to Failed) (client_of c.in_state.result)
-          (comes-end _ c.args.end.now c.in_state.result (ap (λ (s : ClientState). free_credits s c.args.end.now.credits) c.in-Connecting.is) c.in_state.ensures)
+      sessions = c.close.ensures ∙ becomes _ c.args.end.now _ c.requires (comes_to Failed)
+          (client_of c.in_state.result)
+          (comes-end _ c.args.end.now c.in_state.result
+          (ap (λ (s : ClientState). free_credits s c.args.end.now.credits) c.in-Connecting.is)
+          c.in_state.ensures)
           (ap (λ (e : ClientEnd). e.number) c.in_state.ensures);
     })

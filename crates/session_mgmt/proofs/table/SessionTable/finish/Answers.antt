@@ -22,7 +22,10 @@ returns-else-end-server c =
     rw (is, equal _ _ same) (record {
       change = refl;
       reply = refl;
-      sessions = c.close.ensures ∙ becomes _ c.args.end.now _ c.requires (comes_to Closed) (client_of c.in_state.result)
-          (comes-end _ c.args.end.now c.in_state.result (ap (λ (s : ClientState). free_credits s c.args.end.now.credits) is) c.in_state.ensures)
+      sessions = c.close.ensures ∙ becomes _ c.args.end.now _ c.requires (comes_to Closed)
+          (client_of c.in_state.result)
+          (comes-end _ c.args.end.now c.in_state.result
+          (ap (λ (s : ClientState). free_credits s c.args.end.now.credits) is)
+          c.in_state.ensures)
           (ap (λ (e : ClientEnd). e.number) c.in_state.ensures);
     })

@@ -12,6 +12,10 @@ pub returns : goal.returns
 returns c =
     let s = c.self.inside in
     let x = c.index.result.now in
-    let at = there-at s.pool s.sides.items s.servers.items s.tx c.self.invariant c.args.self.now c.self.view_is c.args.i x c.requires.known c.index.ensures in
-    let told = next-end x.is_broken s.pool x.peer x.session c.args.after (all-at (SideAscends s.pool) s.sides.items c.args.i x c.self.invariant.ascends at) in
-    read-at s.pool s.sides.items s.servers.items s.tx c.args.self.now c.self.view_is c.args.i x at (λ y. c.active.result ≡ option_and_then told_call (next_above c.args.after y)) (c.active.ensures.told ∙ told)
+    let at = there-at s.pool s.sides.items s.servers.items s.tx c.self.invariant c.args.self.now
+    c.self.view_is c.args.i x c.requires.known c.index.ensures in
+    let told = next-end x.is_broken s.pool x.peer x.session c.args.after
+    (all-at (SideAscends s.pool) s.sides.items c.args.i x c.self.invariant.ascends at) in
+    read-at s.pool s.sides.items s.servers.items s.tx c.args.self.now c.self.view_is c.args.i x
+    at (λ y. c.active.result ≡ option_and_then told_call (next_above c.args.after y))
+    (c.active.ensures.told ∙ told)

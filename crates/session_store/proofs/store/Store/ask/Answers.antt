@@ -2,15 +2,27 @@ use Rattle.session_store.proofs.AskLemmas.{clients-ask, has-turns, kept-ask, pla
 use Rattle.session_store.proofs.store.Store.ask.Goals as goal
 
 pub enqueue_at-requires-clause-turns : goal.enqueue_at-requires-clause-turns
-enqueue_at-requires-clause-turns c = has-turns c.self.inside.pool c.self.inside.sides.items c.self.inside.servers.items c.self.inside.tx c.args.i c.args.self.now c.self.view_is c.requires.connected
+enqueue_at-requires-clause-turns c =
+    has-turns c.self.inside.pool c.self.inside.sides.items c.self.inside.servers.items
+    c.self.inside.tx c.args.i c.args.self.now c.self.view_is c.requires.connected
 
 pub invariant_of-self : goal.invariant_of-self
-invariant_of-self c = kept-ask c.self.inside.pool c.self.inside.sides.items c.self.inside.servers.items c.self.inside.tx c.args.i c.args.self.now c.self.view_is c.requires.connected c.args.waiting c.enqueue_at.new.sides.items c.enqueue_at.result c.self.invariant c.requires.above c.enqueue_at.ensures.waits c.enqueue_at.ensures.unchanged
+invariant_of-self c =
+    kept-ask c.self.inside.pool c.self.inside.sides.items c.self.inside.servers.items
+    c.self.inside.tx c.args.i c.args.self.now c.self.view_is c.requires.connected c.args.waiting
+    c.enqueue_at.new.sides.items c.enqueue_at.result c.self.invariant c.requires.above
+    c.enqueue_at.ensures.waits c.enqueue_at.ensures.unchanged
 
 pub returns-clause-clients : goal.returns-clause-clients
-returns-clause-clients c = clients-ask c.self.inside.pool c.self.inside.sides.items c.self.inside.servers.items c.self.inside.tx c.args.i c.args.self.now c.self.view_is c.requires.connected c.args.waiting c.enqueue_at.new.sides.items c.enqueue_at.result c.self.invariant c.requires.above c.enqueue_at.ensures.waits
+returns-clause-clients c =
+    clients-ask c.self.inside.pool c.self.inside.sides.items c.self.inside.servers.items
+    c.self.inside.tx c.args.i c.args.self.now c.self.view_is c.requires.connected c.args.waiting
+    c.enqueue_at.new.sides.items c.enqueue_at.result c.self.invariant c.requires.above
+    c.enqueue_at.ensures.waits
 
 pub returns-clause-places : goal.returns-clause-places
 returns-clause-places c =
     let s = c.self.inside in
-    rw (← c.self.view_is) (places-ask s.pool s.sides.items c.enqueue_at.new.sides.items s.servers.items c.args.i c.args.waiting c.enqueue_at.result c.enqueue_at.ensures.waits c.enqueue_at.ensures.unchanged)
+    rw (← c.self.view_is) (places-ask s.pool s.sides.items c.enqueue_at.new.sides.items
+    s.servers.items c.args.i c.args.waiting c.enqueue_at.result c.enqueue_at.ensures.waits
+    c.enqueue_at.ensures.unchanged)

@@ -3,28 +3,42 @@ use Rattle.session_store.proofs.StoreLemmas.{size-begin, two-spare}
 use Rattle.session_store.proofs.store.Store.begin.Goals as goal
 
 pub begin_at-requires-clause-spare : goal.begin_at-requires-clause-spare
-begin_at-requires-clause-spare c = two-spare c.self.inside.pool c.self.inside.sides.items c.self.inside.servers.items c.self.inside.tx c.args.self.now c.self.invariant c.self.view_is c.requires.room
+begin_at-requires-clause-spare c =
+    two-spare c.self.inside.pool c.self.inside.sides.items c.self.inside.servers.items
+    c.self.inside.tx c.args.self.now c.self.invariant c.self.view_is c.requires.room
 
 pub invariant_of-self : goal.invariant_of-self
 invariant_of-self c =
     let h = c.begin_at.ensures in
-    let connected = connected-at c.self.inside.sides.items c.args.i c.index.result.now h.side c.index.ensures h.at c.if-index.false in
-    kept-begin c.self.inside.pool c.begin_at.new.pool c.self.inside.sides.items c.begin_at.new.sides.items c.self.inside.servers.items c.self.inside.tx c.args.i c.self.invariant c.begin_at.result h connected
+    let connected = connected-at c.self.inside.sides.items c.args.i c.index.result.now h.side
+    c.index.ensures h.at c.if-index.false in
+    kept-begin c.self.inside.pool c.begin_at.new.pool c.self.inside.sides.items
+    c.begin_at.new.sides.items c.self.inside.servers.items c.self.inside.tx c.args.i
+    c.self.invariant c.begin_at.result h connected
 
 pub returns-clause-clients : goal.returns-clause-clients
 returns-clause-clients c =
     let h = c.begin_at.ensures in
-    let connected = connected-at c.self.inside.sides.items c.args.i c.index.result.now h.side c.index.ensures h.at c.if-index.false in
-    rw (← c.self.view_is) (clients-begin c.self.inside.pool c.begin_at.new.pool c.self.inside.sides.items c.begin_at.new.sides.items c.self.inside.servers.items c.self.inside.tx c.args.i c.self.invariant c.begin_at.result h connected)
+    let connected = connected-at c.self.inside.sides.items c.args.i c.index.result.now h.side
+    c.index.ensures h.at c.if-index.false in
+    rw (← c.self.view_is) (clients-begin c.self.inside.pool c.begin_at.new.pool
+    c.self.inside.sides.items c.begin_at.new.sides.items c.self.inside.servers.items
+    c.self.inside.tx c.args.i c.self.invariant c.begin_at.result h connected)
 
 pub returns-clause-servers : goal.returns-clause-servers
 returns-clause-servers c =
     let h = c.begin_at.ensures in
-    let connected = connected-at c.self.inside.sides.items c.args.i c.index.result.now h.side c.index.ensures h.at c.if-index.false in
-    rw (← c.self.view_is) (servers-begin c.self.inside.pool c.begin_at.new.pool c.self.inside.sides.items c.begin_at.new.sides.items c.self.inside.servers.items c.self.inside.tx c.args.i c.self.invariant c.begin_at.result h connected)
+    let connected = connected-at c.self.inside.sides.items c.args.i c.index.result.now h.side
+    c.index.ensures h.at c.if-index.false in
+    rw (← c.self.view_is) (servers-begin c.self.inside.pool c.begin_at.new.pool
+    c.self.inside.sides.items c.begin_at.new.sides.items c.self.inside.servers.items
+    c.self.inside.tx c.args.i c.self.invariant c.begin_at.result h connected)
 
 pub returns-clause-places : goal.returns-clause-places
 returns-clause-places c =
     let h = c.begin_at.ensures in
-    let connected = connected-at c.self.inside.sides.items c.args.i c.index.result.now h.side c.index.ensures h.at c.if-index.false in
-    rw (← c.self.view_is) (size-begin c.self.inside.pool c.begin_at.new.pool c.self.inside.sides.items c.begin_at.new.sides.items c.self.inside.servers.items c.self.inside.tx c.args.i c.self.invariant c.begin_at.result h connected)
+    let connected = connected-at c.self.inside.sides.items c.args.i c.index.result.now h.side
+    c.index.ensures h.at c.if-index.false in
+    rw (← c.self.view_is) (size-begin c.self.inside.pool c.begin_at.new.pool
+    c.self.inside.sides.items c.begin_at.new.sides.items c.self.inside.servers.items
+    c.self.inside.tx c.args.i c.self.invariant c.begin_at.result h connected)

@@ -9,38 +9,57 @@ use Rattle.session_store.proofs.store.Store.packet.Goals as goal
 pub unreachable-requires : goal.unreachable-requires
 unreachable-requires c =
     let s = c.self.inside in
-    some-front s.pool s.sides.items s.servers.items s.tx c.self.invariant c.args.self.now c.self.view_is c.requires.some (sym (c.copied.ensures ∙ c.front.ensures) ∙ c.in_default.is)
+    some-front s.pool s.sides.items s.servers.items s.tx c.self.invariant c.args.self.now
+    c.self.view_is c.requires.some (sym (c.copied.ensures ∙ c.front.ensures) ∙ c.in_default.is)
 
 pub packet_at-requires-clause-stands : goal.packet_at-requires-clause-stands
 packet_at-requires-clause-stands c =
     let s = c.self.inside in
     let front = sym (c.copied.ensures ∙ c.front.ensures) ∙ c.in-Some.is in
-    let own : c.in-Some.entry.owner ≡ Ask c.from.result c.in-Ask.request = sym (ap (λ (e : EntryValue). e.owner) c.entry.view_is) ∙ c.in-Ask.is ∙ ap (λ n. Ask n c.in-Ask.request) (sym (c.from.ensures ∙ c.session.view_is)) in
-    front-stands s.pool s.sides.items s.servers.items s.tx c.self.invariant c.from.result c.in-Ask.request c.in-Some.entry front own
+    let own : c.in-Some.entry.owner ≡ Ask c.from.result c.in-Ask.request =
+    sym (ap (λ (e : EntryValue). e.owner) c.entry.view_is) ∙ c.in-Ask.is
+    ∙ ap (λ n. Ask n c.in-Ask.request) (sym (c.from.ensures ∙ c.session.view_is)) in
+    front-stands s.pool s.sides.items s.servers.items s.tx c.self.invariant c.from.result
+    c.in-Ask.request c.in-Some.entry front own
 
 pub reply_at-requires-clause-stands : goal.reply_at-requires-clause-stands
 reply_at-requires-clause-stands c =
     let s = c.self.inside in
     let front = sym (c.copied.ensures ∙ c.front.ensures) ∙ c.in-Some.is in
-    let own : c.in-Some.entry.owner ≡ Reply c.in-Reply.session c.in-Reply.request = sym (ap (λ (e : EntryValue). e.owner) c.entry.view_is) ∙ c.in-Reply.is in
-    end-reply s.pool s.sides.items s.servers.items s.tx c.self.invariant c.in-Reply.session c.in-Reply.request c.in-Some.entry front own
+    let own : c.in-Some.entry.owner ≡ Reply c.in-Reply.session c.in-Reply.request =
+    sym (ap (λ (e : EntryValue). e.owner) c.entry.view_is) ∙ c.in-Reply.is in
+    end-reply s.pool s.sides.items s.servers.items s.tx c.self.invariant c.in-Reply.session
+    c.in-Reply.request c.in-Some.entry front own
 
 pub unreachable-requires-in-Control : goal.unreachable-requires-in-Control
 unreachable-requires-in-Control c =
     let s = c.self.inside in
     let front = sym (c.copied.ensures ∙ c.front.ensures) ∙ c.in-Some.is in
-    no-control s.pool s.sides.items s.servers.items s.tx c.self.invariant c.args.self.now c.self.view_is c.in-Some.entry front (sym (ap (λ (e : EntryValue). e.owner) c.entry.view_is) ∙ c.in-Control.is)
+    no-control s.pool s.sides.items s.servers.items s.tx c.self.invariant c.args.self.now
+    c.self.view_is c.in-Some.entry front (sym (ap (λ (e : EntryValue). e.owner) c.entry.view_is)
+    ∙ c.in-Control.is)
 
 pub returns-in-Ask-clause-spells : goal.returns-in-Ask-clause-spells
 returns-in-Ask-clause-spells c =
     let s = c.self.inside in
     let front = sym (c.copied.ensures ∙ c.front.ensures) ∙ c.in-Some.is in
-    let own : c.in-Some.entry.owner ≡ Ask c.from.result c.in-Ask.request = sym (ap (λ (e : EntryValue). e.owner) c.entry.view_is) ∙ c.in-Ask.is ∙ ap (λ n. Ask n c.in-Ask.request) (sym (c.from.ensures ∙ c.session.view_is)) in
-    spells-seen s.pool s.sides.items s.servers.items s.tx c.self.invariant c.args.self.now c.self.view_is c.in-Some.entry front c.packet_at.new.head c.packet_at.result.now (front-spells s.pool s.sides.items s.servers.items s.tx c.self.invariant c.from.result c.in-Ask.request c.in-Some.entry front own c.packet_at.new.head c.packet_at.result.now c.packet_at.ensures.spells)
+    let own : c.in-Some.entry.owner ≡ Ask c.from.result c.in-Ask.request =
+    sym (ap (λ (e : EntryValue). e.owner) c.entry.view_is) ∙ c.in-Ask.is
+    ∙ ap (λ n. Ask n c.in-Ask.request) (sym (c.from.ensures ∙ c.session.view_is)) in
+    spells-seen s.pool s.sides.items s.servers.items s.tx c.self.invariant c.args.self.now
+    c.self.view_is c.in-Some.entry front c.packet_at.new.head c.packet_at.result.now
+    (front-spells s.pool s.sides.items s.servers.items s.tx c.self.invariant c.from.result
+    c.in-Ask.request c.in-Some.entry front own c.packet_at.new.head c.packet_at.result.now
+    c.packet_at.ensures.spells)
 
 pub returns-in-Reply-clause-spells : goal.returns-in-Reply-clause-spells
 returns-in-Reply-clause-spells c =
     let s = c.self.inside in
     let front = sym (c.copied.ensures ∙ c.front.ensures) ∙ c.in-Some.is in
-    let own : c.in-Some.entry.owner ≡ Reply c.in-Reply.session c.in-Reply.request = sym (ap (λ (e : EntryValue). e.owner) c.entry.view_is) ∙ c.in-Reply.is in
-    spells-seen s.pool s.sides.items s.servers.items s.tx c.self.invariant c.args.self.now c.self.view_is c.in-Some.entry front c.reply_at.new.head c.reply_at.result.now (end-spells s.pool s.sides.items s.servers.items s.tx c.self.invariant c.in-Reply.session c.in-Reply.request c.in-Some.entry front own c.reply_at.new.head c.reply_at.result.now c.reply_at.ensures.spells)
+    let own : c.in-Some.entry.owner ≡ Reply c.in-Reply.session c.in-Reply.request =
+    sym (ap (λ (e : EntryValue). e.owner) c.entry.view_is) ∙ c.in-Reply.is in
+    spells-seen s.pool s.sides.items s.servers.items s.tx c.self.invariant c.args.self.now
+    c.self.view_is c.in-Some.entry front c.reply_at.new.head c.reply_at.result.now
+    (end-spells s.pool s.sides.items s.servers.items s.tx c.self.invariant c.in-Reply.session
+    c.in-Reply.request c.in-Some.entry front own c.reply_at.new.head c.reply_at.result.now
+    c.reply_at.ensures.spells)

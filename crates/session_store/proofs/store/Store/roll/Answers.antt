@@ -3,19 +3,35 @@ use Rattle.session_store.proofs.RollLemmas.{roll-idle-at, rolled-clients}
 use Rattle.session_store.proofs.store.Store.roll.Goals as goal
 
 pub roll_at-requires-clause-active : goal.roll_at-requires-clause-active
-roll_at-requires-clause-active c = roll-active-at c.self.inside.pool c.self.inside.sides.items c.self.inside.servers.items c.self.inside.tx c.args.i c.args.call c.args.self.now c.self.view_is c.requires.may
+roll_at-requires-clause-active c =
+    roll-active-at c.self.inside.pool c.self.inside.sides.items c.self.inside.servers.items
+    c.self.inside.tx c.args.i c.args.call c.args.self.now c.self.view_is c.requires.may
 
 pub roll_at-requires-clause-few : goal.roll_at-requires-clause-few
-roll_at-requires-clause-few c = roll-few-at c.self.inside.pool c.self.inside.sides.items c.self.inside.servers.items c.self.inside.tx c.args.i c.args.call c.args.self.now c.self.view_is c.requires.may
+roll_at-requires-clause-few c =
+    roll-few-at c.self.inside.pool c.self.inside.sides.items c.self.inside.servers.items
+    c.self.inside.tx c.args.i c.args.call c.args.self.now c.self.view_is c.requires.may
 
 pub roll_at-requires-clause-idle : goal.roll_at-requires-clause-idle
-roll_at-requires-clause-idle c = roll-idle-at c.self.inside.pool c.self.inside.sides.items c.self.inside.servers.items c.self.inside.tx c.args.i c.args.call c.args.self.now c.self.view_is c.requires.may c.self.invariant
+roll_at-requires-clause-idle c =
+    roll-idle-at c.self.inside.pool c.self.inside.sides.items c.self.inside.servers.items
+    c.self.inside.tx c.args.i c.args.call c.args.self.now c.self.view_is c.requires.may
+    c.self.invariant
 
 pub invariant_of-self : goal.invariant_of-self
-invariant_of-self c = kept-roll c.self.inside.pool c.self.inside.sides.items c.self.inside.servers.items c.self.inside.tx c.args.i c.args.call c.args.self.now c.self.view_is c.requires.may c.roll_at.new.sides.items c.self.invariant c.roll_at.ensures
+invariant_of-self c =
+    kept-roll c.self.inside.pool c.self.inside.sides.items c.self.inside.servers.items
+    c.self.inside.tx c.args.i c.args.call c.args.self.now c.self.view_is c.requires.may
+    c.roll_at.new.sides.items c.self.invariant c.roll_at.ensures
 
 pub returns-clause-clients : goal.returns-clause-clients
-returns-clause-clients c = rolled-clients c.self.inside.pool c.self.inside.sides.items c.self.inside.servers.items c.self.inside.tx c.args.i c.args.call c.args.self.now c.self.view_is c.requires.may c.roll_at.new.sides.items c.self.invariant c.roll_at.ensures
+returns-clause-clients c =
+    rolled-clients c.self.inside.pool c.self.inside.sides.items c.self.inside.servers.items
+    c.self.inside.tx c.args.i c.args.call c.args.self.now c.self.view_is c.requires.may
+    c.roll_at.new.sides.items c.self.invariant c.roll_at.ensures
 
 pub returns-clause-places : goal.returns-clause-places
-returns-clause-places c = rw (← c.self.view_is) (places-roll c.self.inside.pool c.self.inside.sides.items c.self.inside.servers.items c.self.inside.tx c.args.i c.args.call c.args.self.now c.self.view_is c.requires.may c.roll_at.new.sides.items c.self.invariant c.roll_at.ensures)
+returns-clause-places c =
+    rw (← c.self.view_is) (places-roll c.self.inside.pool c.self.inside.sides.items
+    c.self.inside.servers.items c.self.inside.tx c.args.i c.args.call c.args.self.now c.self.view_is
+    c.requires.may c.roll_at.new.sides.items c.self.invariant c.roll_at.ensures)

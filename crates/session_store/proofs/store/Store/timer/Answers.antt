@@ -6,11 +6,18 @@ use Rattle.session_store.proofs.store.Store.timer.Goals as goal
 pub check-requires : goal.check-requires
 check-requires c =
     let s = c.self.inside in
-    let at = there-at s.pool s.sides.items s.servers.items s.tx c.self.invariant c.args.self.now c.self.view_is c.args.i c.index.result.now c.requires.known c.index.ensures in
-    record { active = watched-active s.pool s.sides.items s.servers.items s.tx c.args.self.now c.self.view_is c.args.i c.args.active.now c.requires.active c.index.result.now at }
+    let at = there-at s.pool s.sides.items s.servers.items s.tx c.self.invariant c.args.self.now
+    c.self.view_is c.args.i c.index.result.now c.requires.known c.index.ensures in
+    record {
+      active = watched-active s.pool s.sides.items s.servers.items s.tx c.args.self.now
+          c.self.view_is c.args.i c.args.active.now c.requires.active c.index.result.now at;
+    }
 
 pub returns-in-Quiet : goal.returns-in-Quiet
 returns-in-Quiet c =
     let s = c.self.inside in
-    let at = there-at s.pool s.sides.items s.servers.items s.tx c.self.invariant c.args.self.now c.self.view_is c.args.i c.index.result.now c.requires.known c.index.ensures in
-    quiet-row s.pool s.sides.items s.servers.items s.tx c.args.self.now c.self.view_is c.args.i c.args.active.now c.requires.active c.index.result.now at c.args.now c.args.timeout (c.check.ensures.quiet refl c.in-Quiet.is)
+    let at = there-at s.pool s.sides.items s.servers.items s.tx c.self.invariant c.args.self.now
+    c.self.view_is c.args.i c.index.result.now c.requires.known c.index.ensures in
+    quiet-row s.pool s.sides.items s.servers.items s.tx c.args.self.now c.self.view_is c.args.i
+    c.args.active.now c.requires.active c.index.result.now at c.args.now c.args.timeout
+    (c.check.ensures.quiet refl c.in-Quiet.is)

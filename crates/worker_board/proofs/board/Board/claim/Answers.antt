@@ -5,8 +5,13 @@ use Rattle.worker_board.proofs.WordLemmas.{taken_first}
 use Rattle.worker_board.proofs.NotesLemmas.{note_at, if_some, grows_one, saw_one, saw_then}
 
 pub compare_exchange-found-requires : goal.compare_exchange-found-requires
-compare_exchange-found-requires g c =
-    (search rules, search rules, tries g.D.Duty.answer _ _ _ _ c.generation-first.result _ _ (search rules) (hand_is _ _ c.args.seat.now.works) c.args.seat.now.idle (search rules) (search rules))
+compare_exchange-found-requires g c = (
+  search rules,
+  search rules,
+  tries g.D.Duty.answer _ _ _ _ c.generation-first.result _ _
+      (search rules) (hand_is _ _ c.args.seat.now.works) c.args.seat.now.idle (search rules)
+      (search rules),
+)
 
 pub exchange-parcel-requires : goal.exchange-parcel-requires
 exchange-parcel-requires g c = let t = c.compare_exchange-found.ensures.2.0 c.if-found-ready.false in (search rules, (Some t.0, taken_first _ _ _ _ (ap (λ m. m.1) t.2)))
@@ -16,16 +21,22 @@ load-requires g c = let t = c.compare_exchange-found.ensures.2.0 c.if-found-read
     let same = ap (λ m. m.0) now ∙ ap (λ m. m.0) t.2 in (
       search rules,
       search rules,
-      gives_back g.D.Duty.answer _ _ _ _ _ (ap (λ m. m.1) now) (search rules) (hand_is _ _ (ap (λ v. v.role) same ∙ c.args.seat.now.works)) (ap (λ v. v.turn) same)
-          (holds_now c.exchange-parcel.new.seat.me.0 c.args.seat.now.seat.me.0.held c.place-index.result _ _ (ap (λ v. v.held) same)),
+      gives_back g.D.Duty.answer _ _ _ _ _ (ap (λ m. m.1) now) (search rules)
+          (hand_is _ _ (ap (λ v. v.role) same ∙ c.args.seat.now.works)) (ap (λ v. v.turn) same)
+          (holds_now c.exchange-parcel.new.seat.me.0 c.args.seat.now.seat.me.0.held
+          c.place-index.result _ _ (ap (λ v. v.held) same)),
     )
 
 pub returns-then-found-ready-clause-found : goal.returns-then-found-ready-clause-found
 returns-then-found-ready-clause-found g c = let t = c.compare_exchange-found.ensures.2 in let not = c.if-found-ready.true in
-    saw_one c.args.ticket.place _ _ _ _ (ap (λ m. m.0.notes) (t.1 not) ∙ note_at _ _ _ _ c.place-index.ensures) (λ e. not (e ∙ omega (arith, c.generation-first.ensures)))
+    saw_one c.args.ticket.place _ _ _ _ (ap (λ m. m.0.notes) (t.1 not)
+    ∙ note_at _ _ _ _ c.place-index.ensures)
+    (λ e. not (e ∙ omega (arith, c.generation-first.ensures)))
 
 pub returns-clause-left : goal.returns-clause-left
 returns-clause-left g c = let t = c.compare_exchange-found.ensures.2 in let no = c.if-found-ready.false in
     if_some c.exchange-parcel.result (saw_then c.args.ticket.place _ _ _ _
-    (saw_one c.args.ticket.place _ _ _ _ (ap (λ m. m.0.notes) c.exchange-parcel.ensures.3 ∙ ap (λ m. m.0.notes) (t.0 no).2 ∙ note_at _ _ _ _ c.place-index.ensures) (omega (arith, c.generation-first.ensures)))
+    (saw_one c.args.ticket.place _ _ _ _ (ap (λ m. m.0.notes) c.exchange-parcel.ensures.3
+    ∙ ap (λ m. m.0.notes) (t.0 no).2 ∙ note_at _ _ _ _ c.place-index.ensures)
+    (omega (arith, c.generation-first.ensures)))
     (grows_one _ _ _ _ (ap (λ m. m.0.notes) c.load.ensures.2)))

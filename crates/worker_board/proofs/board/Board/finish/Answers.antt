@@ -12,7 +12,8 @@ load-requires g c = (
   search rules,
   search rules,
   reopens g.D.Duty.answer _ _ _ _ (search rules) (hand_is _ _ c.args.seat.now.works) c.args.seat.now.idle
-      (has_counts c.args.seat.now.seat.me.0 c.place-index.result c.args.ticket.place _ _ c.place-index.ensures c.requires.claim),
+      (has_counts c.args.seat.now.seat.me.0 c.place-index.result c.args.ticket.place _ _
+      c.place-index.ensures c.requires.claim),
 )
 
 pub store-requires : goal.store-requires
@@ -22,10 +23,14 @@ store-requires g c = let now = c.exchange-empty.ensures.3 in let same = ap (λ m
       search rules,
       search rules,
       finishes g.D.Duty.answer _ _ _ _ _ _ of c.args.parcel _ (ap (λ m. m.1) now) (search rules)
-          (hand_is _ _ (ap (λ v. v.role) same ∙ c.args.seat.now.works)) (ap (λ v. v.turn) same) at (sym c.place-index.ensures) refl c.requires.answer (omega (arith, c.generation.ensures)),
+          (hand_is _ _ (ap (λ v. v.role) same ∙ c.args.seat.now.works))
+          (ap (λ v. v.turn) same) at (sym c.place-index.ensures) refl c.requires.answer
+          (omega (arith, c.generation.ensures)),
     )
 
 pub returns-clause-left : goal.returns-clause-left
 returns-clause-left g c = let now = c.exchange-empty.ensures.3 in
-    then_saw c.args.ticket.place _ _ _ _ (grows_one _ _ _ _ (ap (λ m. m.0.notes) now ∙ ap (λ m. m.0.notes) c.load.ensures.2))
-    (saw_one c.args.ticket.place _ _ _ _ (ap (λ m. m.0.notes) c.store.ensures.2 ∙ note_at _ _ _ _ c.place-index.ensures) (omega (arith, c.generation.ensures)))
+    then_saw c.args.ticket.place _ _ _ _ (grows_one _ _ _ _
+    (ap (λ m. m.0.notes) now ∙ ap (λ m. m.0.notes) c.load.ensures.2))
+    (saw_one c.args.ticket.place _ _ _ _ (ap (λ m. m.0.notes) c.store.ensures.2
+    ∙ note_at _ _ _ _ c.place-index.ensures) (omega (arith, c.generation.ensures)))

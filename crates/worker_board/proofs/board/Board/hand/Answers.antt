@@ -6,15 +6,23 @@ use Rattle.worker_board.proofs.board.Board.hand.Goals as goal
 use Rattle.worker_board.proofs.NotesLemmas.{grows_one}
 
 pub compare_exchange-requires : goal.compare_exchange-requires
-compare_exchange-requires g c = (search rules, search rules, names g.D.Duty.answer _ _ _ c.args.number (search rules) c.args.seat.now.dispatches c.args.seat.now.idle)
+compare_exchange-requires g c = (
+  search rules,
+  search rules,
+  names g.D.Duty.answer _ _ _ c.args.number (search rules)
+      c.args.seat.now.dispatches c.args.seat.now.idle,
+)
 
 pub split_seat-seat-requires : goal.split_seat-seat-requires
 split_seat-seat-requires g c = let same = c.compare_exchange.ensures.2 in (
   search rules,
   search rules,
-  sends_out g.D.Duty.answer _ _ (ap (λ m. m.0.role) same ∙ c.args.seat.now.dispatches) (ap (λ m. m.0.turn) same ∙ c.args.seat.now.idle)
+  sends_out g.D.Duty.answer _ _ (ap (λ m. m.0.role) same ∙ c.args.seat.now.dispatches)
+      (ap (λ m. m.0.turn) same ∙ c.args.seat.now.idle)
       (ap (λ m. times m.0.next m.0.used) same ∙ c.requires.unused),
 )
 
 pub returns-clause-notes : goal.returns-clause-notes
-returns-clause-notes g c = grows_one _ _ _ _ (ap (λ m. m.0.notes) c.split_seat-seat.ensures.2 ∙ ap (λ m. m.0.notes) c.compare_exchange.ensures.2)
+returns-clause-notes g c =
+    grows_one _ _ _ _ (ap (λ m. m.0.notes) c.split_seat-seat.ensures.2
+    ∙ ap (λ m. m.0.notes) c.compare_exchange.ensures.2)

@@ -5,4 +5,6 @@ use Rattle.worker_board.proofs.board.Board.new.Goals as goal
 
 pub vacant-requires : goal.vacant-requires
 vacant-requires g c = let all = c.in_ok-words.ensures.items_if_clones_equal (λ y h. h) in
-    starts g.D.Duty.answer _ _ (search rules) (λ i near. subst (λ (ws : List ℕ). get_or ws i 0 ≡ 0) (sym (c.as_slice.ensures.value ∙ all)) (get_or-replicate c.args.places i 0 0 near))
+    starts g.D.Duty.answer _ _ (search rules)
+    (λ i near. subst (λ (ws : List ℕ). get_or ws i 0 ≡ 0) (sym (c.as_slice.ensures.value ∙ all))
+    (get_or-replicate c.args.places i 0 0 near))

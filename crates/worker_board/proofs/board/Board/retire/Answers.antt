@@ -6,11 +6,25 @@ use Rattle.worker_board.proofs.NotesLemmas.{grows_one}
 use Rattle.worker_board.specs.Moves.{note}
 
 pub join_seat-requires : goal.join_seat-requires
-join_seat-requires g c = (search rules, search rules, c.args.hand.empty, search rules, takes_in g.D.Duty.answer _ _ _ _ _ c.args.seat.now.dispatches c.args.seat.now.idle c.args.hand.works c.args.hand.idle c.requires.free)
+join_seat-requires g c = (
+  search rules,
+  search rules,
+  c.args.hand.empty,
+  search rules,
+  takes_in g.D.Duty.answer _ _ _ _ _ c.args.seat.now.dispatches c.args.seat.now.idle
+      c.args.hand.works c.args.hand.idle c.requires.free,
+)
 
 pub load-requires : goal.load-requires
-load-requires g c = let same = c.join_seat.ensures.2 in
-    (search rules, search rules, sums g.D.Duty.answer _ _ _ (search rules) (ap (λ m. m.0.role) same ∙ c.args.seat.now.dispatches) (ap (λ m. m.0.turn) same ∙ c.args.seat.now.idle))
+load-requires g c = let same = c.join_seat.ensures.2 in (
+  search rules,
+  search rules,
+  sums g.D.Duty.answer _ _ _ (search rules)
+      (ap (λ m. m.0.role) same ∙ c.args.seat.now.dispatches)
+      (ap (λ m. m.0.turn) same ∙ c.args.seat.now.idle),
+)
 
 pub returns-clause-notes : goal.returns-clause-notes
-returns-clause-notes g c = grows_one _ _ _ _ (ap (λ m. m.0.notes) c.load.ensures.2.0 ∙ ap (λ m. note 0 c.load.result ∷ m.0.notes) c.join_seat.ensures.2)
+returns-clause-notes g c =
+    grows_one _ _ _ _ (ap (λ m. m.0.notes) c.load.ensures.2.0
+    ∙ ap (λ m. note 0 c.load.result ∷ m.0.notes) c.join_seat.ensures.2)

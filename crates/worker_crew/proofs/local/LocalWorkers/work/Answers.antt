@@ -12,9 +12,11 @@ invariant_of-self-2 g c =
     let pushed = ap length c.put_last.ensures.items ∙ length-append c.self.inside.worked.items _ in (
       record {
         few = omega (arith, sound.few, c.in-Some.ensures.fewer, pushed);
-        room = subst (AllByRecursion (HasRoom g.D.Duty.answer)) (sym c.take_out.ensures.others) (all-without (HasRoom g.D.Duty.answer) c.self.inside.waiting.items c.args.j sound.room);
+        room = subst (AllByRecursion (HasRoom g.D.Duty.answer)) (sym c.take_out.ensures.others)
+            (all-without (HasRoom g.D.Duty.answer) c.self.inside.waiting.items c.args.j sound.room);
         answered = subst (AllByRecursion (IsAnswered g.D.Duty.answer)) (sym c.put_last.ensures.items)
-            (all-push (IsAnswered g.D.Duty.answer) c.self.inside.worked.items _ sound.answered c.answer_job-worked.ensures.answer);
+            (all-push (IsAnswered g.D.Duty.answer) c.self.inside.worked.items _ sound.answered
+            c.answer_job-worked.ensures.answer);
       },
       omega (arith, c.self.invariant.1, c.take_out.ensures.capacity),
       omega (arith, c.self.invariant.2, c.put_last.ensures.capacity),
@@ -22,9 +24,11 @@ invariant_of-self-2 g c =
 
 pub returns-clause-worked : goal.returns-clause-worked
 returns-clause-worked g c =
-    works g.D.Duty.answer c.args.j c.self.inside.jobs c.self.inside.given c.self.inside.waiting.items c.self.inside.worked.items
+    works g.D.Duty.answer c.args.j c.self.inside.jobs c.self.inside.given
+    c.self.inside.waiting.items c.self.inside.worked.items
     c.take_out.new.waiting.items c.put_last.new.queue.items c.in-Some.job c.answer_job-worked.result c.args.self.now
-    c.self.view_is (sym c.take_out.ensures.job ∙ c.in-Some.is) c.take_out.ensures.others c.put_last.ensures.items c.answer_job-worked.ensures.answered
+    c.self.view_is (sym c.take_out.ensures.job ∙ c.in-Some.is) c.take_out.ensures.others
+    c.put_last.ensures.items c.answer_job-worked.ensures.answered
 
 pub answer_job-worked-requires : goal.answer_job-worked-requires
 answer_job-worked-requires g c =

@@ -10,5 +10,6 @@ returns-clause-out g c =
     let waiting = c.self.inside.waiting.items in
     let rest = c.take_first.new.queue.items in
     subst (λ s. IsPermutation (out_of s) (job_of parcel ∷ map job_of (waiting ++ rest))) c.self.view_is
-    (subst (λ l. IsPermutation (map job_of (waiting ++ l)) (job_of parcel ∷ map job_of (waiting ++ rest))) (sym c.in_ok-parcel.ensures.items)
+    (subst (λ l. IsPermutation (map job_of (waiting ++ l))
+    (job_of parcel ∷ map job_of (waiting ++ rest))) (sym c.in_ok-parcel.ensures.items)
     (comes-out job_of parcel waiting rest))
