@@ -16,6 +16,7 @@ use Rattle.rpc_base.specs.declared.event.Event.TheVariants.{Posted, Took, Given,
 use Rattle.rpc_base.specs.declared.event.Event.TheVariants.{Broken, DoneOk, DoneTooSmall}
 use Rattle.rpc_base.specs.declared.event.Event.TheVariants.{DonePeerLost}
 use Rattle.rpc_base.specs.declared.fact.Fact.{Fact}
+use Rattle.rpc_base.specs.declared.limits.TheConstants.{MOST_CALLS}
 use Rattle.rpc_base.specs.declared.state.SessionState.{SessionState}
 use Rattle.rpc_base.specs.declared.state.SessionState.TheVariants.{Connecting, Closing}
 use Rattle.rpc_base.specs.declared.owner.Owner.{Owner}
@@ -51,12 +52,13 @@ abbrev pub NoneOf : ℕ → Option Progress → List Queued → Type 0
 NoneOf n None queued = Unit {0}
 NoneOf n (Some p) queued = NoneQueued (Ask n p.request) queued
 
--- a call is asked on a connected session, with the next number
+-- a call is asked on a connected session that counts fewer than the most calls, with the next number
 pub record MayAsk (s : Lists) (number session : ℕ) : Type 0 where
   pub next : number ≡ s.asked
   pub client : Client
   pub found : find (is_client session) s.clients ≡ Some client
   pub connected : is_connected client.state ≡ true
+  pub few : client.asked < MOST_CALLS
 
 -- a waiting call begins with the next number of a free slot
 pub record MayBegin (s : Lists) (number request : ℕ) : Type 0 where

@@ -1,5 +1,5 @@
 -- Each lawful step keeps what holds of a node's lists at every moment.
-use Rattle.std.proofs.Common.{◌≡◌, ℕ, ◌+◌, ◌≤◌, true, Some, List, [], ◌∷◌, arith}
+use Rattle.std.proofs.Common.{◌≡◌, ℕ, ◌+◌, ◌≤◌, true, Some, List, [], ◌∷◌, refl, arith}
 use Rattle.std.specs.Prelude.{sum_by}
 use Rattle.std.specs.List.{find}
 use Rattle.rpc_base.specs.declared.fact.Fact.{Fact}
@@ -16,12 +16,14 @@ use Rattle.node_laws.specs.Kept.{Kept}
 use Rattle.node_laws.specs.Laws.{ListsAreKept}
 use Rattle.node_laws.specs.QueuedPackets.{queued_of, asks_in}
 use Rattle.node_laws.proofs.Allowed.{Allowed, allowed-of, AllAllowed, Leads}
+use Rattle.node_laws.proofs.AskedLemmas.{asked-after, few-after}
 use Rattle.node_laws.proofs.LeadsLemmas.{LeadsAt, Lawful}
 use Rattle.node_laws.proofs.LiveLemmas.{live-after}
 use Rattle.node_laws.proofs.OpenLemmas.{turns-after}
 use Rattle.node_laws.proofs.QueueFitsLemmas.{session-fits}
 use Rattle.node_laws.proofs.QueueWindowLemmas.{windows-after}
 use Rattle.node_laws.proofs.QueuedOnceLemmas.{once-after}
+use Rattle.node_laws.proofs.ReadLemmas.{reads-after}
 use Rattle.node_laws.proofs.RunLaws.{run_leads}
 use Rattle.node_laws.proofs.TotalLemmas.{table_free, total-fits}
 use Rattle.node_laws.proofs.ValidLemmas.{valid_after, valid_new}
@@ -31,6 +33,9 @@ kept-after clock s f k a =
     let due = due_of clock f.event s.paces in
     record {
       valid = valid_after clock s f k.valid a;
+      asked = asked-after clock s f.first (front_header s.ring) (front_body s.ring) f.event a k.asked;
+      few = few-after clock s f.first (front_header s.ring) (front_body s.ring) f.event a k.few;
+      reads = reads-after f.event f.first s.ring k.reads;
       eight = turns-after clock f.event f.first (front_header s.ring) (front_body s.ring) s.clients k.eight;
       windows = windows-after clock f.event due f.first s k.valid k.windows a;
       live = live-after clock f.event due f.first s k.valid k.windows k.live a;
@@ -56,6 +61,9 @@ kept-leads s (f ∷ fs) t k l = kept-leads (after l.0 s f) fs t (kept-after l.0 
 pub kept-new : (me : ℕ) (limits : Limits) → Kept (new_lists me limits)
 kept-new me limits = record {
   valid = valid_new me limits;
+  asked = refl;
+  few = tt;
+  reads = tt;
   eight = tt;
   windows = tt;
   live = tt;

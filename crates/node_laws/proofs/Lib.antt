@@ -1,6 +1,7 @@
 pub mod AccountLemmas
 pub mod AgreeLemmas
 pub mod Allowed
+mod AskedLemmas
 pub mod BeginLemmas
 pub mod ChangeLemmas
 mod ControlLemmas
@@ -36,6 +37,7 @@ pub mod QueueFitsLemmas
 pub mod QueueLemmas
 pub mod QueueWindowLemmas
 pub mod QueuedOnceLemmas
+mod ReadLemmas
 pub mod ReplyLemmas
 pub mod RequestLaws
 pub mod RequestLemmas

@@ -1,5 +1,5 @@
 -- Beginning and posting note only what is allowed.
-use Rattle.std.proofs.Common.{◌≡◌, ℕ, zero, suc, ◌+◌, ◌<◌, Bool, true, false, not, cond, ltb}
+use Rattle.std.proofs.Common.{◌≡◌, ℕ, zero, suc, ◌+◌, ◌<◌, Bool, true, false, not, cond}
 use Rattle.std.proofs.Common.{Option, Some, None, List, length, refl, subst, arith}
 use Rattle.std.specs.Prelude.{◌==◌, slice_get, option_map, option_and_then, is_none}
 use Rattle.std.specs.List.{find, position_or_len}

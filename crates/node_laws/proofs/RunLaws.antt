@@ -59,7 +59,7 @@ use Rattle.node_laws.proofs.LeadsLemmas.{lawful-then, lawful-until, lawful-chain
 use Rattle.node_laws.proofs.PostLemmas.{posts-lawful}
 use Rattle.node_laws.proofs.ReplyLemmas.{replies-allowed}
 use Rattle.node_laws.proofs.ServeLemmas.{stands-ran, asks-allowed}
-use Rattle.node_laws.proofs.StateLemmas.{told-connected}
+use Rattle.node_laws.proofs.StateLemmas.{told-connected, told-few}
 use Rattle.node_laws.proofs.TimerLemmas.{timers-lawful}
 use Rattle.node_laws.proofs.Places.{request_of}
 use Rattle.node_laws.specs.Valid.{Valid}
@@ -174,6 +174,7 @@ asked-by s session req_type room ask (Some x) found Connected e = record {
   client = x;
   found = found;
   connected = told-connected x.state x.asked (ap is_connected e);
+  few = told-few x.state x.asked e;
 }
 asked-by s session req_type room ask o found Unknown e = tt
 asked-by s session req_type room ask o found Connecting e = tt
