@@ -1,7 +1,9 @@
 -- Which entries are an owner's, and which of them has a number.
-use Rattle.std.specs.Prelude.{ℕ, Bool, false, not, ◌&&◌, ◌==◌, ◌≤◌, IsTrue, List, Option, Some, None}
+use Rattle.std.specs.Prelude.{ℕ, Bool, true, false, not, ◌&&◌, ◌==◌, ◌≤◌, IsTrue, List, Option}
+use Rattle.std.specs.Prelude.{Some, None}
 use Rattle.std.specs.List.{AllByRecursion}
 use Rattle.rpc_base.specs.declared.owner.Owner.{Owner}
+use Rattle.rpc_base.specs.declared.owner.Owner.TheVariants.{Ask, Reply, Control}
 use Rattle.rpc_base.specs.Owners.{same_owner}
 use Rattle.packet_rings.specs.Values.{EntryValue}
 
@@ -11,6 +13,15 @@ is_of owner e = same_owner e.owner owner
 
 abbrev pub is_not_of : Owner → EntryValue → Bool
 is_not_of owner e = not (is_of owner e)
+
+-- whether it is a reply
+abbrev pub is_reply_owner : Owner → Bool
+is_reply_owner (Reply t r) = true
+is_reply_owner (Ask s r) = false
+is_reply_owner Control = false
+
+abbrev pub is_reply : EntryValue → Bool
+is_reply e = is_reply_owner e.owner
 
 abbrev pub number_of : EntryValue → ℕ
 number_of e = e.number

@@ -1,9 +1,11 @@
 //! The transmit ring.
 ghost use Rattle.std.specs.Prelude.{◌≡◌, ◌<◌, ◌≤◌, ◌↔◌, [], ◌∷◌, ◌++◌, ◌+◌, ℕ, false, length, drop};
-ghost use Rattle.std.specs.Prelude.{slice_get, option_copied, IfOk, IfSome, IfNone, IsNone, IsTrue};
+ghost use Rattle.std.specs.Prelude.{count_by, slice_get, option_copied, IfOk, IfSome, IfNone};
+ghost use Rattle.std.specs.Prelude.{IsNone, IsTrue};
 ghost use Rattle.std.specs.List.{list_any, filter, Contains};
 ghost use Rattle.rpc_base.specs.Least.{least_number, least, without_least};
-ghost use Rattle.packet_rings.specs.Entries.{is_of, is_not_of, is_entry, number_of, NoneLower};
+ghost use Rattle.packet_rings.specs.Entries.{is_of, is_not_of, is_entry, is_reply};
+ghost use Rattle.packet_rings.specs.Entries.{is_reply_owner, number_of, NoneLower};
 ghost use Rattle.packet_rings.specs.Mentions.{mentions};
 ghost use Rattle.rpc_base.specs.Taking.{TakenOut};
 ghost use Rattle.packet_rings.specs.Rings.{ring};
@@ -33,6 +35,15 @@ impl Model for TxRing {
 
     ghost invariant = { λ r. (length r.entries.items ≤ r.entries.capacity)
         × (r.entries.capacity < 2 ^ 32) };
+}
+
+fn is_reply(owner: Owner) -> bool
+    ensures { result ≡ is_reply_owner owner }
+{
+    match owner {
+        Owner::Reply { .. } => true,
+        _ => false,
+    }
 }
 
 impl TxRing {
@@ -66,6 +77,18 @@ impl TxRing {
         ensures { IsTrue result ↔ (self.now.items ≡ []) }
     {
         self.entries.is_empty()
+    }
+
+    /// How many entries are replies.
+    pub fn replies(&self) -> u32
+        ensures { result ≡ count_by is_reply self.now.items }
+    {
+        let count = self
+            .entries
+            .iter()
+            .filter(|entry| is_reply(entry.owner))
+            .count();
+        count as u32
     }
 
     /// Puts an entry at the back of a ring that isn't full.
