@@ -1,5 +1,5 @@
 -- What follows where a reply is taken: whose turn it is, how the call stands, and that it stays in turn.
-use Rattle.std.proofs.Common.{◌≡◌, ℕ, ◌+◌, ◌-◌, ◌*◌, ◌<◌, ◌≤◌, Bool, true, false, not, cond, eqb}
+use Rattle.std.proofs.Common.{◌≡◌, ℕ, ◌+◌, ◌-◌, ◌*◌, ◌<◌, ◌≤◌, Bool, true, false, cond, eqb}
 use Rattle.std.proofs.Common.{ltb, Option, Some, None, refl, arith, ltb-true}
 use Rattle.std.specs.Prelude.{◌||◌, ◌&&◌, is_none, nat_le, nat_lt, IfSome}
 use Rattle.std.proofs.lemmas.Bool.{and_parts, eqb-true, ltb-false}

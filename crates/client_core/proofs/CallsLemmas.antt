@@ -1,12 +1,11 @@
 -- What is found in a list of calls, before and after the first that passes a test is changed.
-use Rattle.std.proofs.Common.{◌≡◌, ℕ, ◌+◌, ◌≤◌, Bool, true, false, cond, Option, Some, None, List}
-use Rattle.std.proofs.Common.{[], ◌∷◌, ◌++◌, length, drop, refl, ap, ◌∙◌, arith}
+use Rattle.std.proofs.Common.{◌≡◌, ℕ, Bool, true, false, cond, Option, Some, None, List}
+use Rattle.std.proofs.Common.{[], ◌∷◌, length, drop, refl, ap, arith}
 use Rattle.std.specs.Prelude.{◌↔◌, ◌||◌, IsNone, count_by, sum_by, slice_get}
 use Rattle.std.specs.List.{AllByRecursion, find, list_any}
 use Rattle.std.proofs.lemmas.List.Sums.{sum_by-cons}
 use Rattle.rpc_base.specs.Tables.{at_first}
-use Rattle.rpc_base.proofs.TakingLemmas.{find-passes}
-use Rattle.rpc_base.proofs.FirstLemmas.{counted-cons, some-counted}
+use Rattle.rpc_base.proofs.FirstLemmas.{counted-cons}
 
 module _ {A : Type 0} where
   pub all-rest : (P : A → Type 0) (xs : List A) → AllByRecursion P xs → AllByRecursion P (drop 1 xs)

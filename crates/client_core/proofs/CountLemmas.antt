@@ -1,23 +1,16 @@
 -- The places have as many references as entries name them, before and after a call of a session.
-use Rattle.std.proofs.Common.{◌≡◌, ◌≢◌, ℕ, ◌+◌, Bool, Option, Some, None, List, [], ◌∷◌, ◌++◌, refl}
-use Rattle.std.proofs.Common.{sym, ap, ◌∙◌, inl, inr, arith}
-use Rattle.std.specs.Prelude.{IfSome}
-use Rattle.std.proofs.lemmas.Bool.{cases_eq}
-use Rattle.message_buffer.specs.Buffer.{Buffer}
+use Rattle.std.proofs.Common.{◌≡◌, ◌≢◌, ℕ, List}
+use Rattle.std.proofs.Common.{sym, ap, ◌∙◌}
 use Rattle.buffer_pool.specs.declared.usage.Use.TheVariants.{Empty}
 use Rattle.buffer_pool.specs.Uses.{is_full}
-use Rattle.buffer_pool.specs.Pool.{Pool, IsFull, emptied, filled, lowest_empty, refs_of}
-use Rattle.buffer_pool.proofs.CountLemmas.{refs_emptied, refs_filled, refs_held_other, refs_released_other}
-use Rattle.buffer_pool.proofs.PoolLemmas.{changed_other, held_refs, released_refs}
+use Rattle.buffer_pool.specs.Pool.{Pool, IsFull, emptied, refs_of}
+use Rattle.buffer_pool.proofs.CountLemmas.{refs_emptied}
+use Rattle.buffer_pool.proofs.PoolLemmas.{changed_other}
 use Rattle.packet_header.specs.declared.packet.MessageHeader.{MessageHeader}
-use Rattle.packet_rings.specs.Mentions.{mentions}
 use Rattle.packet_rings.specs.Values.{EntryValue}
-use Rattle.packet_rings.proofs.MentionsLemmas.{mentions-append, mentions-none, mentions-other}
-use Rattle.packet_rings.proofs.MentionsLemmas.{mentions-own, mentions-taken}
-use Rattle.rpc_base.specs.Taking.{TakenOut}
 use Rattle.client_core.specs.declared.call.ActiveCall.{ActiveCall}
 use Rattle.client_core.specs.Counting.{Counts}
-use Rattle.client_core.specs.KeepsPool.{IsHeld, IsKept, MayHold, held_at, released_at}
+use Rattle.client_core.specs.KeepsPool.{IsKept}
 use Rattle.client_core.specs.Replies.{IsUnheld, answered, without_buffers}
 use Rattle.client_core.proofs.AnswerLemmas.{answered-refs}
 use Rattle.buffer_pool.proofs.CountingLemmas.{counts-emptied}

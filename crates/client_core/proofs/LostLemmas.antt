@@ -1,7 +1,7 @@
 -- A rollback and a loss are the steps Rolled and Done of what is shown.
 use Rattle.std.proofs.Common.{◌≡◌, ℕ, ◌%◌, ◌<◌, Bool, true, false, cond, Option, Some, None, List}
 use Rattle.std.proofs.Common.{[], ◌∷◌, ◌++◌, length, drop, refl, ◌∙◌, arith}
-use Rattle.std.specs.Prelude.{◌||◌, IfSome, map, slice_get}
+use Rattle.std.specs.Prelude.{◌||◌, map, slice_get}
 use Rattle.std.specs.List.{find, list_any}
 use Rattle.std.proofs.lemmas.Bool.{eq-eqb}
 use Rattle.rpc_base.specs.declared.event.Event.TheVariants.{DonePeerLost}

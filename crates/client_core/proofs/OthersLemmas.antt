@@ -30,7 +30,6 @@ use Rattle.client_core.specs.Timeouts.{rolled_call}
 use Rattle.client_core.proofs.CallsLemmas.{sum-at_first}
 use Rattle.client_core.proofs.PoolLemmas.{names-cons}
 use Rattle.rpc_base.proofs.TakingLemmas.{find-passes}
-use Rattle.rpc_base.proofs.TablesLemmas.{position-at}
 use Rattle.buffer_pool.proofs.PlacesLemmas.{named-one, lowest-empty}
 
 away-none : (a p : ℕ) → p ≢ a → cond {A = ℕ} (eqb a p) 1 0 ≡ 0

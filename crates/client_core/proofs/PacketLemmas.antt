@@ -1,8 +1,7 @@
 -- The packets of a call's entries: their headers, and the bodies that the pool has.
 use Rattle.std.proofs.Common.{◌≡◌, ℕ, ◌<◌, ◌≤◌, Bool, true, false, cond, ltb, Option, Some, None}
-use Rattle.std.proofs.Common.{List, [], length, refl, ◌∙◌, arith, ltb-true}
+use Rattle.std.proofs.Common.{List, [], length, refl, arith, ltb-true}
 use Rattle.std.specs.Prelude.{IfSome}
-use Rattle.std.proofs.lemmas.List.{length-take-le}
 use Rattle.packet_header.specs.Header.{HasHead, MessageInRange}
 use Rattle.packet_header.specs.Parts.{packet_count, part, IsMessage}
 use Rattle.packet_header.specs.declared.packet.Kind.TheVariants.{Request, Rfr}

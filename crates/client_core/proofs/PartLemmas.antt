@@ -1,9 +1,8 @@
 -- The bytes of an answer, once one more of its parts is written.
 use Rattle.std.proofs.Common.{◌≡◌, ℕ, ◌+◌, ◌-◌, ◌*◌, ◌≤◌, true, Option, Some, None, List, ◌++◌}
-use Rattle.std.proofs.Common.{length, take, drop, refl, sym, ap, ◌∙◌, inl, inr, arith, append_assoc}
-use Rattle.std.specs.Prelude.{◌⊎◌}
-use Rattle.std.proofs.lemmas.Bool.{cases_lt, eqb-true}
-use Rattle.std.proofs.lemmas.List.{length-take, length-take-le, take-take, take_all, take_at, length-append}
+use Rattle.std.proofs.Common.{length, take, refl, ◌∙◌, arith}
+use Rattle.std.proofs.lemmas.Bool.{eqb-true}
+use Rattle.std.proofs.lemmas.List.{length-take, take-take, take_all}
 use Rattle.packet_header.specs.Parts.{packet_count, part_size}
 use Rattle.packet_header.specs.declared.packet.MessageHeader.{MessageHeader}
 use Rattle.message_buffer.specs.Buffer.{Buffer, bytes_of, overwritten}

@@ -1,17 +1,16 @@
 -- What a session's places are in the pool, before and after a call of the session.
-use Rattle.std.proofs.Common.{◌≡◌, ◌≢◌, ℕ, ◌+◌, ◌-◌, ◌<◌, ◌≤◌, Bool, true, false, cond, ltb, Option}
+use Rattle.std.proofs.Common.{◌≡◌, ◌≢◌, ℕ, ◌+◌, ◌-◌, ◌<◌, ◌≤◌, Bool, true, false, cond, Option}
 use Rattle.std.proofs.Common.{Some, None, List, [], ◌∷◌, ◌++◌, length, get_or, set, refl, sym, ap}
-use Rattle.std.proofs.Common.{◌∙◌, inl, inr, arith, ltb-true, eqb}
-use Rattle.std.specs.Prelude.{position}
-use Rattle.std.proofs.lemmas.Bool.{cases_eq, cases_lt, eq-eqb, eqb-false, ne_eqb}
+use Rattle.std.proofs.Common.{◌∙◌, inl, inr, arith, eqb}
+use Rattle.std.proofs.lemmas.Bool.{cases_eq, cases_lt, eq-eqb}
 use Rattle.std.proofs.lemmas.List.{get_or_past, length-set}
-use Rattle.std.specs.List.{AllByRecursion, find, position_or_len}
-use Rattle.std.proofs.lemmas.List.Sums.{passes_at_first, sum_by-append, sum_by-set, sum_by-cons}
+use Rattle.std.specs.List.{AllByRecursion, find}
+use Rattle.std.proofs.lemmas.List.Sums.{sum_by-append, sum_by-cons}
 use Rattle.message_buffer.specs.Buffer.{Buffer}
 use Rattle.buffer_pool.specs.declared.usage.Use.{Use}
-use Rattle.buffer_pool.specs.declared.usage.Use.TheVariants.{Empty, Full, Lent}
+use Rattle.buffer_pool.specs.declared.usage.Use.TheVariants.{Empty, Full}
 use Rattle.buffer_pool.specs.Uses.{is_empty, is_full, refs_in}
-use Rattle.buffer_pool.specs.Pool.{Pool, IsFull, buf_at, filled, held, lowest_empty, refs_of, released, spare_of}
+use Rattle.buffer_pool.specs.Pool.{Pool, IsFull, buf_at, filled, held, lowest_empty, refs_of, released}
 use Rattle.buffer_pool.proofs.PoolLemmas.{changed_other, changed_own, full_within}
 use Rattle.rpc_base.specs.Tables.{at_first}
 use Rattle.client_core.specs.declared.call.ActiveCall.{ActiveCall}
@@ -20,7 +19,6 @@ use Rattle.client_core.specs.KeepsPool.{CanHold, IsHeld, IsKept, KeepsPool, MayH
 use Rattle.client_core.specs.Posting.{marked, one_left, one_posted, place_of}
 use Rattle.client_core.proofs.CallsLemmas.{sum-at_first}
 use Rattle.rpc_base.proofs.FirstLemmas.{all-push, found-holds, all-kept, all-each}
-use Rattle.rpc_base.proofs.BasicLemmas.{found-at}
 use Rattle.rpc_base.proofs.TablesLemmas.{position-at}
 use Rattle.message_buffer.specs.Messages.{HasSize}
 use Rattle.buffer_pool.proofs.PlacesLemmas.{full-cases, full-empty, unnamed-cases, unnamed-one}

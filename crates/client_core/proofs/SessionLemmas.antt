@@ -4,7 +4,6 @@ use Rattle.std.proofs.Common.{Some, None, List, [], ◌∷◌, ◌++◌, length,
 use Rattle.std.proofs.Common.{◌∙◌, inl, inr, arith, eqb, ltb-true}
 use Rattle.std.specs.Prelude.{◌⊎◌, ◌↔◌, IsNone, is_none, is_some, position, option_map, count_by}
 use Rattle.std.specs.List.{AllByRecursion, list_any, find}
-use Rattle.std.specs.Option.{option_or}
 use Rattle.std.proofs.lemmas.Bool.{and_parts, cases_eq, eq-eqb, eqb-false, eqb-true, ne_eqb}
 use Rattle.std.proofs.lemmas.List.{get_or-set_same, get_or-set_other, length-set, length-append}
 use Rattle.std.proofs.lemmas.List.Folds.{find-append}

@@ -1,5 +1,5 @@
 -- A session as the definitions over histories have it: with the bytes that its places hold.
-use Rattle.std.specs.Prelude.{◌≡◌, ℕ, ◌+◌, ◌-◌, ◌*◌, ◌≤◌, List, [], ◌∷◌, ◌++◌, count_by, map, take}
+use Rattle.std.specs.Prelude.{ℕ, ◌+◌, ◌-◌, ◌*◌, ◌≤◌, List, [], ◌∷◌, ◌++◌, count_by, map, take}
 use Rattle.std.specs.Prelude.{Option, Some, None, option_map}
 use Rattle.rpc_base.specs.declared.event.Event.{Event}
 use Rattle.rpc_base.specs.declared.event.Event.TheVariants.{Asked, Begun, DoneOk, DonePeerLost}
@@ -9,7 +9,6 @@ use Rattle.rpc_base.specs.declared.fact.Fact.{Fact}
 use Rattle.rpc_base.specs.declared.owner.Owner.TheVariants.{Ask}
 use Rattle.rpc_base.specs.declared.state.SessionState.TheVariants.{Connected}
 use Rattle.packet_header.specs.Parts.{packet_count}
-use Rattle.packet_header.specs.Header.{HasHead, InRange}
 use Rattle.packet_header.specs.declared.packet.MessageHeader.{MessageHeader}
 use Rattle.message_buffer.specs.Buffer.{Buffer, bytes_of, capacity_of}
 use Rattle.buffer_pool.specs.Pool.{Pool, buf_at}

@@ -2,7 +2,8 @@
 //! the modules below.
 ghost use Rattle.std.specs.Prelude.{◌≡◌, ◌<◌, ◌≤◌, ◌+◌, ◌^◌, ◌↔◌, ◌⊎◌, ℕ, Bool, List, [], ◌∷◌};
 ghost use Rattle.std.specs.Prelude.{◌++◌, false, count_by, length, option_map, IfErr, IfNone};
-ghost use Rattle.std.specs.Prelude.{IfSome, IsNone, IsTrue, OnErr, OnOk};
+ghost use Rattle.std.specs.Prelude.{◌-◌, IfSome, IsNone, IsTrue, OnErr, OnOk, option_copied};
+ghost use Rattle.std.specs.Prelude.{slice_get};
 ghost use Rattle.std.specs.List.{list_any};
 ghost use Rattle.packet_header.specs.Header.{AreBytes};
 ghost use Rattle.buffer_pool.specs.Pool.{Pool, spare_of};
@@ -170,6 +171,14 @@ impl ClientSession {
         self.slots.wait(w)?;
         self.waiting += 1;
         Ok(())
+    }
+
+    /// The call that `enqueue` took last, where it waits. None comes exactly where no call waits.
+    pub fn newest(&self) -> Option<&Waiting>
+        ensures { option_copied result
+            ≡ slice_get self.now.slots.waiting (length self.now.slots.waiting - 1) }
+    {
+        self.slots.newest()
     }
 
     /// The call that waited longest begins in the lowest free slot, and its buffers go into the

@@ -1,8 +1,8 @@
 -- A request that begins in the lowest free slot: what it does to the other requests, to the numbers
 -- given, and to what holds of every table.
-use Rattle.std.proofs.Common.{◌≡◌, ◌≢◌, ◌⊎◌, ◌↔◌, ℕ, ◌+◌, ◌*◌, ◌/◌, ◌%◌, ◌<◌, Bool, true, false}
-use Rattle.std.proofs.Common.{cond, ltb, Option, Some, None, List, length, get_or, set, sym, ◌∙◌}
-use Rattle.std.proofs.Common.{ap, refl, inl, inr, ⊎_elim, arith, ltb-true}
+use Rattle.std.proofs.Common.{◌≡◌, ◌≢◌, ◌⊎◌, ◌↔◌, ℕ, ◌+◌, ◌*◌, ◌/◌, ◌%◌, ◌<◌}
+use Rattle.std.proofs.Common.{Option, Some, None, List, length, get_or, set, sym, ◌∙◌}
+use Rattle.std.proofs.Common.{ap, refl, inl, inr, ⊎_elim, arith}
 use Rattle.std.specs.Prelude.{is_none, position, option_and_then}
 use Rattle.std.specs.List.{position_or_len}
 use Rattle.std.proofs.lemmas.Bool.{cases_eq, cases_lt}

@@ -1,6 +1,6 @@
 //! The table of a session's slots, with the calls that wait for one.
 ghost use Rattle.std.specs.Prelude.{◌≡◌, ◌<◌, ◌^◌, ◌↔◌, ◌⊎◌, [], IsNone, IfNone, IfSome, OnSome};
-ghost use Rattle.std.specs.Prelude.{IfErr, OnErr, OnOk, slice_get};
+ghost use Rattle.std.specs.Prelude.{◌-◌, IfErr, OnErr, OnOk, length, option_copied, slice_get};
 ghost use Rattle.session_slots.specs.Slots.{Activates, Begins, Deactivates, IsActive, IsNewNumber};
 ghost use Rattle.session_slots.specs.Slots.{IsSound, WasGiven, active_call, all_free, drained};
 ghost use Rattle.session_slots.specs.Slots.{ended, lowest_free, waited};
@@ -81,6 +81,14 @@ impl SlotTable {
             }
             Err(refused) => Err(refused.value),
         }
+    }
+
+    /// The call that was taken last, where it waits. None comes exactly where no call waits.
+    pub fn newest(&self) -> Option<&Waiting>
+        ensures { option_copied result
+            ≡ slice_get self.now.waiting (length self.now.waiting - 1) }
+    {
+        self.waiting.back()
     }
 
     fn lowest_free(&self) -> Option<usize>
