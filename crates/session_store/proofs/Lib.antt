@@ -4,6 +4,7 @@ mod BesideLemmas
 mod EndLemmas
 mod GoneLemmas
 mod KeptLemmas
+pub mod CountLemmas
 pub mod ListLemmas
 mod PlaceLemmas
 mod PostedLemmas
@@ -21,3 +22,4 @@ mod LoseLemmas
 mod FinishLemmas
 mod ServeLemmas
 mod ReadLemmas
+mod NewestLemmas

@@ -5,9 +5,7 @@ use Rattle.std.specs.Prelude.{IfSome, map, option_map}
 use Rattle.std.specs.List.{AllByRecursion}
 use Rattle.std.proofs.lemmas.Bool.{eqb-true}
 use Rattle.std.proofs.lemmas.List.Sums.{sum_by-cons}
-use Rattle.buffer_pool.specs.declared.usage.Use.{Use}
-use Rattle.buffer_pool.specs.declared.usage.Use.TheVariants.{Empty, Full, Lent}
-use Rattle.buffer_pool.specs.Uses.{is_empty, is_full, refs_in}
+use Rattle.buffer_pool.specs.Uses.{is_full, refs_in}
 use Rattle.buffer_pool.specs.Pool.{Pool, IsFull, buf_at, use_at}
 use Rattle.buffer_pool.proofs.PlacesLemmas.{named-one}
 use Rattle.client_core.specs.declared.call.ActiveCall.{ActiveCall}

@@ -22,14 +22,12 @@ use Rattle.packet_rings.specs.Entries.{is_not_of, is_of}
 use Rattle.packet_rings.specs.Rings.{Ring, ring}
 use Rattle.packet_rings.specs.Values.{EntryValue}
 use Rattle.packet_rings.proofs.MentionsLemmas.{mentions-le-length}
-use Rattle.rpc_base.specs.Tables.{at_first}
-use Rattle.rpc_laws.specs.Requests.{answered, given, in_slot_of, is_request, took_packet}
+use Rattle.rpc_laws.specs.Requests.{in_slot_of}
 use Rattle.rpc_laws.specs.ServerTable.{served_facts}
 use Rattle.rpc_laws.specs.declared.rows.ServerRow.{ServerRow}
 use Rattle.rpc_laws.specs.declared.rows.ServerRow.TheVariants.{Drops, Begins, Takes, Repeats}
 use Rattle.rpc_laws.specs.declared.tables.Queued.{Queued}
 use Rattle.rpc_laws.specs.declared.tables.Server.{Server}
-use Rattle.rpc_laws.specs.declared.tables.Served.{Served as ServedRequest}
 use Rattle.rpc_outside.specs.Recording.{Grew}
 use Rattle.rpc_outside.specs.Served.{Served}
 use Rattle.rpc_outside.specs.declared.service.Mode.{Mode}
@@ -45,16 +43,15 @@ use Rattle.server_core.specs.Replies.{CanHold}
 use Rattle.server_core.specs.Rows.{row_of}
 use Rattle.server_core.specs.Session.{Session as Serving, answer_of, is_in_slot, newest, owner_of}
 use Rattle.server_core.specs.Shown.{shown as shown_server, shown_request}
-use Rattle.server_core.specs.Steps.{AreServed, IfReply, IsReply, IsStepOf, Steps, asked_with, gave}
-use Rattle.server_core.specs.Steps.{ran, took}
+use Rattle.server_core.specs.Steps.{AreServed, IfReply, IsReply, IsStepOf, asked_with}
 use Rattle.server_core.proofs.FlushLemmas.{ring-room}
 use Rattle.server_core.proofs.SpareLemmas.{places-most}
 use Rattle.session_store.specs.declared.side.Side.{Side}
 use Rattle.session_store.specs.Effects.{ServerStep}
 use Rattle.session_store.specs.Queue.{is_owned}
 use Rattle.session_store.specs.Serving.{AreServedAt, Handles, HandlesAt, ServerCanHold}
-use Rattle.session_store.specs.Serving.{ServerServed, handled_facts, queue_handled, row_at}
-use Rattle.session_store.specs.Serving.{without_owned}
+use Rattle.session_store.specs.Serving.{IsReplyOf, ServerServed, handled_facts, queue_handled}
+use Rattle.session_store.specs.Serving.{row_at, without_owned}
 use Rattle.session_store.specs.Sides.{IsOf, Kept, ServerHolds, ServerQueued, Shown, places_in}
 use Rattle.session_store.specs.Sides.{queued_of, served_places, shown_of, shown_side}
 use Rattle.session_store.proofs.BesideLemmas.{rest, rest-push}
@@ -354,6 +351,19 @@ module _ {R : Type 0} (facts : R → Option (List Fact)) (whole : R → Bool) (m
       (map queued_of old.items)) (sym (older-shown pool g.server h.request)))
       ∙ ap (λ r. queue_handled r step server_seen h (map queued_of old.items)) row-seen
 
+  own-of : (e : EntryValue) → IsReply h.request h.number g.later after e
+      → IsReplyOf g.server.number h e
+  own-of e is = (is.owner ∙ ap (λ n. Reply n h.request) same-number, is.number)
+
+  reply-own : (t : Step) → IfReply t (IsReply h.request h.number g.later after)
+      → IfReply t (IsReplyOf g.server.number h)
+  reply-own (Took None) is = absurd is
+  reply-own (Took (Some e)) is = own-of e is
+  reply-own (Again e) is = own-of e is
+  reply-own (Ran e) is = own-of e is
+  reply-own (Give parcel) is = tt
+  reply-own (Dropped why) is = tt
+
   pub serve-at : (session : h.session ≡ g.server.number) (before then : Shown)
       → shown_of pool sides servers old ≡ before → shown_of after sides now final ≡ then
       → HandlesAt facts whole mode jobs_full me i h body answer_of stands then_stands noted_before
@@ -377,6 +387,7 @@ module _ {R : Type 0} (facts : R → Option (List Fact)) (whole : R → Bool) (m
           by_service = done.by_service;
           grew = subst (λ fs. Grew facts whole noted_before noted_now fs) noted done.grew;
         };
+        reply = reply-own step g.step.reply;
         give = g.step.give;
         changed = ap (map (shown_server after)) g.changed
             ∙ servers-set pool after sides servers i g.server g.later old final g.at kept

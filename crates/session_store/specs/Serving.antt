@@ -107,6 +107,10 @@ queue_handled row step v h queued =
     then without_owned v.way.number (find (in_slot_of h.request) v.slots) queued else queued)
     ++ map queued_of (replies_of step)
 
+-- the reply to a packet of server session t
+abbrev pub IsReplyOf : (t : ℕ) → MessageHeader → EntryValue → Type 0
+IsReplyOf t h e = (e.owner ≡ Reply t h.request) × (e.number ≡ h.number)
+
 -- what the server rule says of a packet to a session
 abbrev pub row_at : Mode → (jobs_full lacks : Bool) → MessageHeader → Server → ServerRow
 row_at mode jobs_full lacks h v = server_row mode jobs_full lacks (Some v) v.way.peer h
@@ -125,6 +129,7 @@ pub record HandlesAt {R : Type 0} (facts : R → Option (List Fact)) (whole : R 
       (served_facts mode me answer old.queued (Some server) h body
       (row_at mode jobs_full false h server)) step) answer_of stands then_stands h body server later
       step
+  pub reply : IfReply step (IsReplyOf server.way.number h)
   pub give : IfGiven step (IsParcel answer_of stands h body server)
   pub changed : new.servers ≡ slice_set old.servers i later
   pub queue : new.queued ≡ queue_handled (row_at mode jobs_full false h server) step server h

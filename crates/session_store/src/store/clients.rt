@@ -1,7 +1,7 @@
 //! The client sessions: calls are asked, begin and are answered.
 ghost use Rattle.std.specs.Prelude.{◌≡◌, ◌<◌, ◌≤◌, ◌+◌, ◌*◌, ◌++◌, [], ◌∷◌, length};
 ghost use Rattle.std.specs.Prelude.{option_and_then, option_map, slice_get, IfErr, IfSome, OnErr};
-ghost use Rattle.std.specs.Prelude.{OnOk};
+ghost use Rattle.std.specs.Prelude.{List, OnOk};
 ghost use Rattle.std.specs.List.{AllByRecursion, list_any};
 ghost use Rattle.rpc_base.specs.declared.owner.Owner.TheVariants.{Ask};
 ghost use Rattle.rpc_base.specs.declared.state.SessionState.TheVariants.{Connected};
@@ -9,7 +9,10 @@ ghost use Rattle.rpc_laws.specs.Groups.{state_of};
 ghost use Rattle.node_laws.specs.Windows.{Windows};
 ghost use Rattle.packet_header.specs.Header.{MessageInRange};
 ghost use Rattle.rpc_laws.specs.Queues.{is_queued};
+ghost use Rattle.rpc_laws.specs.Calls.{asking};
 ghost use Rattle.rpc_laws.specs.Sessions.{asks, client_end};
+ghost use Rattle.rpc_laws.specs.declared.tables.Asking.{Asking};
+ghost use Rattle.rpc_laws.specs.declared.tables.Call.{Call};
 ghost use Rattle.session_store.specs.Changes.{BeginsAt, ChangesAt, PostsAt};
 ghost use Rattle.session_store.specs.Effects.{asking_in, packet_of_entry, request_in};
 ghost use Rattle.session_store.specs.Ends.{next_above, told_call};
@@ -29,11 +32,15 @@ use session_slots::Waiting;
 use std::alloc::Global;
 
 impl Store {
-    /// How many client sessions there are.
+    /// How many client sessions there are: no more than there are numbers of 16 bits.
     pub fn clients(&self) -> usize
-        ensures { result ≡ length self.now.clients }
+        ensures count { result ≡ length self.now.clients }
+        ensures few { result ≤ 65536 }
     {
-        self.sides.len()
+        let Some(last) = self.sides.last() else {
+            return 0;
+        };
+        usize::from(last.session.session().0) + 1
     }
 
     /// A client session is made that is connected from the start, with 1 to 256 credits; its number
@@ -133,6 +140,18 @@ impl Store {
         ensures handed_back { IfErr result (λ back. back ≡ waiting) }
     {
         enqueue_at(&mut self.sides, i, waiting)
+    }
+
+    /// The bytes of the newest call of session `i`, where it waits.
+    pub fn newest_ask(&self, i: usize) -> &[u8]
+        requires known { i < length self.now.clients }
+        ensures { IfSome (slice_get self.now.clients i) (λ x. (calls : List Call) (what : Asking)
+            → x.calls ≡ asking what calls → result.now ≡ what.ask) }
+    {
+        match self.sides[i].session.newest() {
+            Some(waiting) => waiting.req.bytes(),
+            None => &[],
+        }
     }
 
     /// The call of session `i` that waited longest begins, where a slot is free. A session that

@@ -4,6 +4,7 @@ ghost use Rattle.std.specs.Prelude.{IfSome};
 ghost use Rattle.rpc_base.specs.Least.{least, without_least};
 ghost use Rattle.rpc_base.specs.declared.owner.Owner.TheVariants.{Ask, Reply as OfReply};
 ghost use Rattle.packet_header.specs.Header.{AreBytes};
+ghost use Rattle.rpc_laws.specs.Queues.{replies};
 ghost use Rattle.session_store.specs.Queue.{IsFront, SendsFront, SpellsFront, is_owned};
 ghost use Rattle.session_store.specs.Queue.{queued_number};
 ghost use Rattle.session_store.specs.Sides.{queued_of};
@@ -23,6 +24,20 @@ impl Store {
         ensures none { IfNone result (self.now.queued ≡ []) }
     {
         self.tx.front().copied()
+    }
+
+    /// How many packets are queued.
+    pub fn queued(&self) -> u32
+        ensures { result ≡ length self.now.queued }
+    {
+        self.tx.len()
+    }
+
+    /// How many replies are queued.
+    pub fn replies(&self) -> u32
+        ensures { result ≡ replies self.now.queued }
+    {
+        self.tx.replies()
     }
 
     /// Writes the header of the entry in front of the queue, and lends its body.

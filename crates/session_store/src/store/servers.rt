@@ -35,6 +35,14 @@ impl Store {
         place_of(&self.servers, number)
     }
 
+    /// The peer of the server session at place `i`.
+    pub fn peer_of_server(&self, i: usize) -> Peer
+        requires known { i < length self.now.servers }
+        ensures { IfSome (slice_get self.now.servers i) (λ v. result ≡ v.way.peer) }
+    {
+        self.servers[i].peer()
+    }
+
     /// A server session is made that is connected from the start, with 1 to 256 credits. Its number
     /// is above those of the others, and the client's is below 65,535. `NoMemory` comes where there
     /// is no memory for it.
