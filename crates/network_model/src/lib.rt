@@ -3,10 +3,12 @@
 #![tactic(auto)]
 
 mod net;
+mod node_link;
 mod stage;
 #[cfg(test)]
 mod tests;
 
 pub use net::Net;
+pub use node_link::NodeLink;
 pub use rpc_laws::InFlight as Copy;
 pub use stage::Stage;

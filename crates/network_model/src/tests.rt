@@ -1,6 +1,7 @@
 //! One walk through the calls, beside what each leaves in flight.
-use crate::{Copy, Net};
-use rpc_base::NodeId;
+use crate::{Copy, Net, NodeLink};
+use rpc_base::{NodeId, Peer};
+use rpc_outside::{Link, Taken};
 use std::test::Fail;
 
 const ZERO: NodeId = NodeId(0);
@@ -29,5 +30,19 @@ fn copies_are_numbered_from_the_front(rt: HostRuntime) -> Result<(), Fail> {
     assert_eq!(rt; shown(net.lose(1)), None);
     assert_eq!(rt; shown(net.carry(0)), Some((0, b'c')));
     assert_eq!(rt; net.len(), 0);
+    Ok(())
+}
+
+#[test]
+fn what_a_node_sent_stands_behind_what_is_in_flight(rt: HostRuntime) -> Result<(), Fail> {
+    let alloc = rt.alloc();
+    let mut net = Net::new(alloc);
+    net.send(ZERO, ONE, b"head", b"a")?;
+    let mut link = NodeLink::new(alloc, ONE);
+    assert_eq!(rt; link.send(Peer(0), b"head", b"b"), Ok(Taken::Whole));
+    link.send_into(&mut net)?;
+    assert_eq!(rt; net.len(), 2);
+    assert_eq!(rt; shown(net.carry(0)), Some((0, b'a')));
+    assert_eq!(rt; shown(net.carry(0)), Some((1, b'b')));
     Ok(())
 }

@@ -1,0 +1,121 @@
+//! The network as the link of one node.
+ghost use Rattle.std.specs.Prelude.{◌≡◌, ◌≢◌, ◌++◌, ◌∷◌, [], Ok, Some, map, IfOk, IsOk, OnErr, OnOk};
+ghost use Rattle.network_model.specs.Sending.{copy_from};
+ghost use Rattle.rpc_outside.specs.Faults.{HasCause};
+ghost use Rattle.rpc_outside.specs.declared.link.Got.TheVariants.{Nothing};
+ghost use Rattle.rpc_outside.specs.declared.link.Taken.TheVariants.{Whole};
+
+use crate::net::Net;
+use rpc_base::{NoMemory, NodeId, Octets, Peer};
+use rpc_outside::{Failed, Got, Link, MOST_LINK_BYTES, Taken};
+use std::alloc::Global;
+use std::marker::Model;
+
+/// The link by which one node sends into the network: a peer's number is its node's. It is never
+/// busy, and fails where memory is wanting. Nothing comes from it, since a script says what
+/// arrives. Contracts see what was sent, and how often it failed.
+#[derive(Debug, Drop)]
+pub struct NodeLink {
+    me: NodeId,
+    sent: Vec<(Peer, Octets)>,
+    faults: u64,
+}
+
+impl Model for NodeLink {
+    ghost use Rattle.network_model.specs.Sending.{Sending};
+
+    ghost Value = { Sending };
+
+    ghost view = { λ l. record { me = l.me; sent = l.sent.items; faults = l.faults } };
+}
+
+impl NodeLink {
+    /// The link of node `me`, by which nothing was sent. Takes no memory yet.
+    pub fn new(alloc: Global, me: NodeId) -> NodeLink
+        ensures { result ≡ record { me = me; sent = []; faults = 0 } }
+    {
+        NodeLink {
+            me,
+            sent: Vec::new(alloc),
+            faults: 0,
+        }
+    }
+
+    /// Puts what was sent into the network, in order, behind what is in flight. `NoMemory` comes
+    /// only where there is no memory for it.
+    pub fn send_into(&self, net: &mut Net) -> Result<(), NoMemory>
+        ensures { OnOk result (net.new ≡ net.old ++ map (copy_from self.now.me) self.now.sent) }
+    {
+        'datagrams: for datagram in &self.sent {
+            net.send(self.me, NodeId(datagram.0.0), &[], datagram.1.bytes())?;
+        }
+        Ok(())
+    }
+}
+
+impl Link for NodeLink {
+    ghost sent = { λ l. Some l.sent };
+
+    ghost received = { λ l. Some [] };
+
+    ghost waiting = { λ l. Some [] };
+
+    ghost faults = { λ l. l.faults };
+
+    ghost busies = { λ l. 0 };
+
+    /// Takes every address.
+    fn bind(&mut self, _addr: &str) -> Result<(), Failed>
+        ensures unchanged { self.new ≡ self.old }
+        ensures taken { IsOk result }
+        ensures cause { HasCause self.old.faults self.new.faults result }
+    {
+        Ok(())
+    }
+
+    /// Peer 0.
+    fn peer(&mut self, _addr: &str) -> Result<Peer, Failed>
+        ensures unchanged { self.new ≡ self.old }
+        ensures peer { result ≡ Ok 0 }
+        ensures cause { HasCause self.old.faults self.new.faults result }
+    {
+        Ok(Peer(0))
+    }
+
+    /// Sends the datagram whole. It fails only where memory is wanting, and then nothing was sent.
+    fn send(&mut self, to: Peer, head: &[u8], body: &[u8]) -> Result<Taken, Failed>
+        ensures taken { IfOk result (λ t. t ≡ Whole) }
+        ensures kept { OnOk result
+            (self.new.sent ≡ self.old.sent ++ (to, head.now ++ body.now) ∷ []) }
+        ensures unsent { OnErr result (self.new.sent ≡ self.old.sent) }
+        ensures me { self.new.me ≡ self.old.me }
+        ensures cause { HasCause self.old.faults self.new.faults result }
+    {
+        if keep(&mut self.sent, to, head, body).is_err() {
+            self.faults = self.faults.saturating_add(1);
+            return Err(Failed);
+        }
+        Ok(Taken::Whole)
+    }
+
+    /// Nothing.
+    fn recv(&mut self, _out: &mut [u8; MOST_LINK_BYTES]) -> Result<Got, Failed>
+        ensures unchanged { self.new ≡ self.old }
+        ensures nothing { result ≡ Ok Nothing }
+        ensures cause { HasCause self.old.faults self.new.faults result }
+    {
+        Ok(Got::Nothing)
+    }
+}
+
+// Keeps a datagram behind those that were sent before.
+fn keep(sent: &mut Vec<(Peer, Octets)>, to: Peer, head: &[u8], body: &[u8]) -> Result<(), NoMemory>
+    ensures kept { OnOk result
+        (sent.new.items ≡ sent.old.items ++ (to, head.now ++ body.now) ∷ []) }
+    ensures unchanged { OnErr result (sent.new.items ≡ sent.old.items) }
+{
+    let mut bytes = Octets::copy(*sent.allocator(), head)?;
+    bytes.append(body)?;
+    sent.push((to, bytes))?;
+    Ok(())
+}
