@@ -24,7 +24,7 @@ use Rattle.node_laws.specs.QueuedPackets.{asks_in, is_ask}
 use Rattle.node_laws.proofs.KeptLemmas.{kept-total}
 use Rattle.node_laws.proofs.TotalLemmas.{table_free}
 use Rattle.session_store.proofs.ListLemmas.{all-at, sum-one}
-use Rattle.endpoint_loop.specs.Fits.{Fits, HasCredit, IsReady, IsSettled, is_of_call}
+use Rattle.endpoint_loop.specs.Fits.{HasCredit, IsReady, IsSettled, is_of_call, is_paired}
 
 -- what is queued are packets of calls and replies
 one-part : (o : Owner) → is_of_call o ≡ true → cond {A = ℕ} (is_ask o) 1 0 + cond (is_reply o) 1 0 ≡ 1
@@ -126,6 +126,7 @@ pub settled-live : (x y : Client) → IsSettled x → is_live x.state ≡ true �
 settled-live x y settled live state limit =
     let up : is_live y.state ≡ true = ap is_live state ∙ live in
     record {
+      paired = ap is_paired state ∙ settled.paired;
       some = omega (arith, limit, settled.some);
       none_free = λ closed. let clash : true ≡ false = sym up ∙ closed in cc;
       none_left = λ closed. let clash : true ≡ false = sym up ∙ closed in cc;

@@ -40,7 +40,6 @@ use Rattle.rpc_laws.specs.declared.tables.Lists.{Lists}
 use Rattle.rpc_laws.specs.declared.tables.Pace.{Pace}
 use Rattle.rpc_laws.specs.declared.tables.Progress.{Progress}
 use Rattle.rpc_laws.specs.declared.tables.Queued.{Queued}
-use Rattle.rpc_laws.specs.declared.tables.Server.{Server}
 use Rattle.rpc_laws.specs.declared.tables.Timed.{Timed}
 use Rattle.rpc_laws.specs.Calls.{is_call, is_active, moved, took_reply, asked_packets, with_reply}
 use Rattle.rpc_laws.specs.ClientTable.{call_ending, client_row, end_facts, end_row, progress_ending}
@@ -91,7 +90,7 @@ module _ (p q : Call → Bool) (c : Call) where
   found-cons y ys true e t ih = let same : y ≡ c = cc in rw (ap q same ∙ t) refl
   found-cons y ys false e t ih = rw (ih e) (or-true (q y))
 
-  found-any : (cs : List Call) → find p cs ≡ Some c → q c ≡ true → list_any q cs ≡ true
+  pub found-any : (cs : List Call) → find p cs ≡ Some c → q c ≡ true → list_any q cs ≡ true
   found-any [] e t = cc
   found-any (y ∷ ys) e t = found-cons y ys (p y) e t (λ h. found-any ys h t)
 
@@ -152,7 +151,7 @@ cond-one : (b : Bool) (x y z : Client) → b ≡ true → cond b (x ∷ []) (y �
 cond-one true x y z t e = cc
 cond-one false x y z t e = cc
 
-set-twice : (xs : List Client) (i : ℕ) (x y : Client)
+pub set-twice : (xs : List Client) (i : ℕ) (x y : Client)
     → slice_set (slice_set xs i x) i y ≡ slice_set xs i y
 set-twice [] i x y = refl
 set-twice (z ∷ xs) zero x y = refl
@@ -168,7 +167,7 @@ pub some-front : (ds : List DatagramValue) (h : MessageHeader) (o : Option Datag
 some-front [] h o e n front = let none : None ≡ Some h = sym none-read ∙ front in cc
 some-front (d ∷ ds) h o e n front = cc
 
-front-there : (ds : List DatagramValue) (d : DatagramValue) → slice_get ds 0 ≡ Some d
+pub front-there : (ds : List DatagramValue) (d : DatagramValue) → slice_get ds 0 ≡ Some d
     → slice_get (map arrival_of ds) 0 ≡ Some (arrival_of d)
 front-there [] d e = cc
 front-there (y ∷ ds) d e = let same : y ≡ d = cc in ap (λ (z : DatagramValue). Some (arrival_of z)) same
@@ -322,6 +321,12 @@ module _ (me : ℕ) (limits : Limits) (tallies : Tallies) (paces : List Pace) (j
               ascends = rw p.changed (all-set CallsAscend s.clients i p.later up
                   (λ j y e other. all-at CallsAscend s.clients j y fits.ascends e));
               unpaced = fits.unpaced;
+              numbers = omega (
+                arith,
+                ap (λ (zs : List Client). length zs) p.changed,
+                length-set s.clients i p.later,
+                fits.numbers,
+              );
               settled = rw p.changed (all-set IsSettled s.clients i p.later
                   (settled-live p.client p.later
                   (all-at IsSettled s.clients i p.client fits.settled p.at) live state limit)
@@ -467,7 +472,8 @@ module _ (me : ℕ) (limits : Limits) (tallies : Tallies) (paces : List Pace) (j
                   front = arrival_of d;
                   is_front = is-front;
                   facts = facts-ended;
-                  goes = goes-done (asking_jobs asks jobs) o.call o.outcome (end_bytes o.outcome o.resp) clients-ended;
+                  goes = goes-done (asking_jobs asks jobs) o.call o.outcome
+                      (end_bytes o.outcome o.resp) clients-ended;
                   over = refl;
                 };
               }

@@ -1,7 +1,28 @@
-pub mod FitsLemmas
-pub mod HearLemmas
-pub mod NodeLemmas
-pub mod NotingLemmas
-pub mod PostLemmas
-pub mod SentLemmas
+mod AskLemmas
+mod AskedLemmas
+mod BreakLemmas
+mod CrewLemmas
+mod FinishLemmas
+mod FitsLemmas
+mod FlushLemmas
+mod FlushedLemmas
+mod GatherLemmas
 mod HandleLemmas
+mod HearLemmas
+mod IdleLemmas
+mod JobLemmas
+mod LoseLemmas
+mod NextLemmas
+mod NodeLemmas
+mod NotesLemmas
+mod NotingLemmas
+mod PairLemmas
+mod PlaceLemmas
+mod PostLemmas
+mod RollLemmas
+mod SentLemmas
+mod ServeLemmas
+mod ServerLemmas
+mod TakenLemmas
+mod WalkLemmas
+mod WatchLemmas

@@ -18,7 +18,6 @@ use Rattle.rpc_laws.specs.declared.tables.Client.{Client}
 use Rattle.rpc_laws.specs.declared.tables.Jobs.{Jobs}
 use Rattle.rpc_laws.specs.declared.tables.Pace.{Pace}
 use Rattle.rpc_laws.specs.declared.tables.Queued.{Queued}
-use Rattle.rpc_laws.specs.declared.tables.Server.{Server}
 use Rattle.rpc_laws.specs.declared.tables.Timed.{Timed}
 use Rattle.rpc_laws.specs.Facts.{plain}
 use Rattle.rpc_laws.specs.NodeLists.{after}
@@ -109,6 +108,7 @@ module _ {R : Type 0} (facts : R → Option (List Fact)) (whole : R → Bool) (i
             (posted-allowed i (seen s).lists event fits.kept.valid is-next));
         ascends = ascends-posted i (packet_of_entry e) s.clients t.clients at fits.ascends;
         unpaced = fits.unpaced;
+        numbers = omega (arith, same-length s.clients t.clients _ at.changed, fits.numbers);
         settled = rw at.changed (all-set IsSettled s.clients i (posts r e.number at.client)
             (settled-live at.client (posts r e.number at.client)
             (all-at IsSettled s.clients i at.client fits.settled at.place)
@@ -158,6 +158,7 @@ module _ {R : Type 0} (facts : R → Option (List Fact)) (whole : R → Bool) (i
                 (begun-allowed i (seen s).lists began fits.kept.valid at.0));
             ascends = ascends-begun i p s.clients t.clients at fits.ascends;
             unpaced = fits.unpaced;
+            numbers = omega (arith, same-length s.clients t.clients _ change.changed, fits.numbers);
             settled = rw change.changed (all-set IsSettled s.clients i (begins p.0 p.1 change.client)
                 (settled-live change.client (begins p.0 p.1 change.client)
                 (all-at IsSettled s.clients i change.client fits.settled change.place)

@@ -25,6 +25,13 @@ module _ {R : Type 0} (facts : R → Option (List Fact)) (whole : R → Bool) wh
     step = λ asks. more (p.step asks) q.noted (asking asks c) (q.step asks);
   }
 
+  -- a step after which nothing changed
+  pub as-same : (P : Rel) (a b c : Timed) (f g h : R) → c ≡ b → h ≡ g → Makes facts whole P a b f g
+      → Makes facts whole P a c f h
+  as-same P a b c f g h node recorder p =
+      subst (λ (z : R). Makes facts whole P a c f z) (sym recorder)
+      (subst (λ (z : Timed). Makes facts whole P a z f g) (sym node) p)
+
   pub makes-until : (P : Rel) (Over : Timed → Type 0) (a b : Timed) (f g : R)
       → Makes facts whole (Chain P) a b f g → ((asks : Asks) → Over (asking asks b))
       → Makes facts whole (Until P Over) a b f g
@@ -118,4 +125,5 @@ module _ {R L : Type 0} (facts : R → Option (List Fact)) (whole : R → Bool)
 pub none-comes : {L : Type 0} (waiting received : L → Option (List Carried)) (k l m : L)
     → NoneComes waiting received k l → NoneComes waiting received l m
     → NoneComes waiting received k m
-none-comes waiting received k l m p q = record { waits = q.waits ∙ p.waits; stays = q.stays ∙ p.stays }
+none-comes waiting received k l m p q =
+    record { waits = q.waits ∙ p.waits; stays = q.stays ∙ p.stays }

@@ -5,7 +5,6 @@ use Rattle.std.proofs.Common.{arith}
 use Rattle.std.specs.Prelude.{◌↔◌, is_some, map, not, option_map, slice_get, IfNone, IfSome, IsTrue}
 use Rattle.std.specs.List.{AllByRecursion, find}
 use Rattle.std.proofs.lemmas.Bool.{eq-eqb}
-use Rattle.rpc_base.specs.Owners.{same_owner}
 use Rattle.rpc_base.specs.Tables.{at_first, without_first}
 use Rattle.rpc_base.specs.declared.event.Event.TheVariants.{Polled, Sent}
 use Rattle.rpc_base.specs.declared.fact.Fact.{Fact}
@@ -213,7 +212,8 @@ module _ (me : ℕ) (limits : Limits) (tallies : Tallies) (paces : List Pace) (j
           clock = clock;
         }
     goes js p head body =
-        goes-by js e.owner e.number p head body ready.0 changed servers (front-out q s.queued front.front ∙ sym queued)
+        goes-by js e.owner e.number p head body ready.0 changed servers
+        (front-out q s.queued front.front ∙ sym queued)
 
     module _ (head body : List ℕ) (long : length head ≡ 16) (bytes : AreBytes head)
         (spells : SpellsFront s head body) where
@@ -280,6 +280,7 @@ module _ (me : ℕ) (limits : Limits) (tallies : Tallies) (paces : List Pace) (j
 
     settled-sent : (r k : ℕ) (x : Client) → IsSettled x → IsSettled (sends clock r k x)
     settled-sent r k x settled = record {
+      paired = settled.paired;
       some = settled.some;
       none_free = settled.none_free;
       none_left = λ closed. ap (at_first (is_active r) (moved (sent_packet clock k)))
@@ -295,6 +296,12 @@ module _ (me : ℕ) (limits : Limits) (tallies : Tallies) (paces : List Pace) (j
           (λ r k x up. ascends-changed (is_active r) (moved (sent_packet clock k))
           (λ d. refl) x.calls up) e.owner e.number s.clients fits.ascends);
       unpaced = fits.unpaced;
+      numbers = omega (
+        arith,
+        ap (λ (xs : List Client). length xs) changed,
+        sent-long e.owner e.number s.clients,
+        fits.numbers,
+      );
       settled = rw changed (sent-kept IsSettled settled-sent e.owner e.number s.clients fits.settled);
       credits = rw servers fits.credits;
       ready = rw queued (rest-ready s.queued fits.ready);

@@ -1,8 +1,11 @@
 -- What always holds of a node and of what its store has room for.
-use Rattle.std.specs.Prelude.{◌≡◌, ℕ, ◌+◌, ◌*◌, ◌≤◌, Bool, true, false, None, []}
+use Rattle.std.specs.Prelude.{◌≡◌, ℕ, ◌+◌, ◌*◌, ◌≤◌, Bool, true, false, None, [], length}
 use Rattle.std.specs.List.{AllByRecursion}
+use Rattle.rpc_base.specs.declared.limits.TheConstants.{SESSION_NUMBERS}
 use Rattle.rpc_base.specs.declared.owner.Owner.{Owner}
 use Rattle.rpc_base.specs.declared.owner.Owner.TheVariants.{Ask, Reply, Control}
+use Rattle.rpc_base.specs.declared.state.SessionState.{SessionState}
+use Rattle.rpc_base.specs.declared.state.SessionState.TheVariants.{Broken, Connected, Spent}
 use Rattle.rpc_laws.specs.declared.tables.Client.{Client}
 use Rattle.rpc_laws.specs.declared.tables.Pace.{Pace}
 use Rattle.rpc_laws.specs.declared.tables.Queued.{Queued}
@@ -29,8 +32,16 @@ IsUnpaced p = p.rate ≡ 0
 abbrev pub CallsAscend : Client → Type 0
 CallsAscend x = Ascends x.calls
 
--- a client session has a credit. One that isn't live has none free, and no call
+-- a session that was paired neither opens nor closes
+abbrev pub is_paired : SessionState → Bool
+is_paired Connected = true
+is_paired Spent = true
+is_paired Broken = true
+is_paired _ = false
+
+-- a client session was paired, and has a credit. One that isn't live has none free, and no call
 pub record IsSettled (x : Client) : Type 0 where
+  pub paired : is_paired x.state ≡ true
   pub some : 1 ≤ x.limit
   pub none_free : is_live x.state ≡ false → x.free ≡ 0
   pub none_left : is_live x.state ≡ false → x.calls ≡ []
@@ -38,14 +49,15 @@ pub record IsSettled (x : Client) : Type 0 where
 abbrev pub HasCredit : Server → Type 0
 HasCredit v = 1 ≤ v.credits
 
--- the lists are kept, the calls of each session stand in the order of their numbers, and no session
--- has a rate. The transmit ring has room for as many packets of calls as the receive ring is long,
--- and for as many replies. The pool has sixteen places for each credit that the sessions may have,
--- and two for each job
+-- the lists are kept, the calls of each session stand in the order of their numbers, no session has
+-- a rate, and there are no more client sessions than numbers. The transmit ring has room for as many
+-- packets of calls as the receive ring is long, and for as many replies. The pool has sixteen places
+-- for each credit that the sessions may have, and two for each job
 pub record Fits (s : Timed) (size places : ℕ) : Type 0 where
   pub kept : Kept s.lists
   pub ascends : AllByRecursion CallsAscend s.lists.clients
   pub unpaced : AllByRecursion IsUnpaced s.lists.paces
+  pub numbers : length s.lists.clients ≤ SESSION_NUMBERS
   pub settled : AllByRecursion IsSettled s.lists.clients
   pub credits : AllByRecursion HasCredit s.lists.servers
   pub ready : AllByRecursion IsReady s.lists.queued

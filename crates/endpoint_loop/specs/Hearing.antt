@@ -1,8 +1,7 @@
 -- What a node does with the reply in front of its receive ring.
-use Rattle.std.specs.Prelude.{ℕ, ◌≡◌, false, Option, Some, None, List, [], ◌∷◌, drop, slice_get}
+use Rattle.std.specs.Prelude.{ℕ, ◌≡◌, Option, Some, None, List, [], ◌∷◌, drop, slice_get}
 use Rattle.client_core.specs.Shown.{done_fact}
 use Rattle.client_core.specs.declared.outcome.Done.{Done}
-use Rattle.packet_header.specs.Kinds.{is_asking}
 use Rattle.packet_header.specs.Reading.{body_of}
 use Rattle.packet_header.specs.declared.packet.MessageHeader.{MessageHeader}
 use Rattle.rpc_base.specs.declared.event.Event.TheVariants.{Dropped}
@@ -11,9 +10,8 @@ use Rattle.rpc_base.specs.declared.state.DropReason.{DropReason}
 use Rattle.rpc_laws.specs.declared.tables.Arrival.{Arrival}
 use Rattle.rpc_laws.specs.declared.tables.Timed.{Timed}
 use Rattle.rpc_laws.specs.Facts.{plain}
-use Rattle.rpc_laws.specs.PollOrder.{Handles, replies_facts}
+use Rattle.rpc_laws.specs.PollOrder.{replies_facts}
 use Rattle.rpc_laws.specs.Steps.{Goes}
-use Rattle.rpc_outside.specs.declared.service.Mode.{Mode}
 
 -- the front of the ring is dropped
 pub record Drops (why : DropReason) (s : Timed) (x : List Fact) (t : Timed) : Type 0 where
@@ -33,15 +31,4 @@ pub record HearsReply (h : MessageHeader) (o : Option Done) (s : Timed) (x : Lis
   pub is_front : slice_get s.lists.ring 0 ≡ Some front
   pub facts : x ≡ replies_facts s.lists front.peer h (body_of front.bytes)
   pub goes : Goes s x t
-  pub over : drop 1 x ≡ over_facts s.lists.me o
-
--- there is a packet, and it is a CR or Response
-abbrev pub IsReply : Option MessageHeader → Type 0
-IsReply None = ⊥
-IsReply (Some h) = is_asking h.kind ≡ false
-
--- and so the front of the ring is handled, at any node
-pub record HandlesReply (mode : ℕ → Mode) (o : Option Done) (s : Timed) (x : List Fact) (t : Timed)
-    : Type 0 where
-  pub handles : Handles mode s x t
   pub over : drop 1 x ≡ over_facts s.lists.me o

@@ -1,5 +1,10 @@
+pub mod Asking
+pub mod Finishing
 pub mod Fits
+pub mod Handling
 pub mod Hearing
 pub mod Measures
 pub mod Noting
 pub mod Seen
+pub mod Serving
+pub mod Watching

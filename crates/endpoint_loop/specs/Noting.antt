@@ -1,8 +1,11 @@
 -- What a step of an endpoint notes, by any recorder.
 use Rattle.std.specs.Prelude.{◌≡◌, ℕ, Bool, true, false, Option, None, option_map, List, [], ◌∷◌}
-use Rattle.std.specs.Prelude.{◌++◌}
+use Rattle.std.specs.Prelude.{◌++◌, map}
+use Rattle.std.specs.List.{filter}
 use Rattle.rpc_base.specs.declared.event.Event.{Event}
-use Rattle.rpc_base.specs.declared.event.Event.TheVariants.{Sent}
+use Rattle.rpc_base.specs.declared.event.Event.TheVariants.{Sent, DoneOk, DoneTooSmall, DonePeerLost}
+use Rattle.client_core.specs.Shown.{done_fact}
+use Rattle.client_core.specs.declared.outcome.Done.{Done}
 use Rattle.rpc_base.specs.declared.fact.Fact.{Fact}
 use Rattle.rpc_laws.specs.declared.tables.Lists.{Lists}
 use Rattle.rpc_laws.specs.declared.tables.Timed.{Timed}
@@ -49,3 +52,29 @@ pub record SendsNone {R L : Type 0} (sent : L → Option (List Carried)) (old ne
   pub node : new ≡ old
   pub recorder : now ≡ before
   pub link : sent to ≡ sent from
+
+-- the same where something is known of what the jobs ask
+pub record MakesWhere {R : Type 0} (facts : R → Option (List Fact)) (whole : R → Bool)
+    (Asked : Asks → Type 0) (P : Rel) (old new : Timed) (before now : R) : Type 0 where
+  pub noted : List Fact
+  pub grew : Grew facts whole before now noted
+  pub step : (asks : Asks) → Asked asks → P (asking asks old) noted (asking asks new)
+
+abbrev pub is_end_event : Event → Bool
+is_end_event (DoneOk call) = true
+is_end_event (DoneTooSmall call size) = true
+is_end_event (DonePeerLost call) = true
+is_end_event _ = false
+
+-- the end of a call
+abbrev pub is_end : Fact → Bool
+is_end f = is_end_event f.event
+
+-- calls ended: those that the continuation was given are those whose ends were noted, in order
+pub record MakesEnds {R K : Type 0} (facts : R → Option (List Fact)) (whole : R → Bool)
+    (given : K → Option (List Done)) (P : Rel) (old new : Timed) (before now : R) (from to : K)
+    : Type 0 where
+  pub makes : Makes facts whole P old new before now
+  pub dones : List Done
+  pub ends : filter is_end makes.noted ≡ map (done_fact old.lists.me) dones
+  pub gave : given to ≡ option_map (λ ds. ds ++ dones) (given from)

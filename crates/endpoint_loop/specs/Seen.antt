@@ -10,9 +10,18 @@ use Rattle.rpc_laws.specs.declared.tables.Jobs.{Jobs}
 use Rattle.rpc_laws.specs.declared.tables.Pace.{Pace}
 use Rattle.rpc_laws.specs.declared.tables.Timed.{Timed}
 use Rattle.session_store.specs.Sides.{Shown}
+use Rattle.endpoint_loop.specs.declared.node.JobName.{JobName}
 
 abbrev pub arrival_of : DatagramValue → Arrival
 arrival_of d = record { peer = d.peer; bytes = d.bytes }
+
+-- the jobs that are out, of which a node knows whose they are
+abbrev pub unasked : JobName → Job
+unasked n =
+    record { session = n.session; request = n.request; req_type = n.req_type; ask = [] }
+
+abbrev pub jobs_in : (limit given : ℕ) → List JobName → Jobs
+jobs_in limit given names = record { limit = limit; given = given; out = map unasked names }
 
 -- what each job that is out asks, by its session and request: the workers have the bytes
 abbrev pub Asks : Type 0

@@ -1,13 +1,11 @@
 //! Step 3 of a poll, for replies: a CR or Response in front of the receive ring is handled.
-ghost use Rattle.std.specs.Prelude.{◌≡◌, ◌<◌, ◌+◌, ℕ, Some, IfSome, length};
+ghost use Rattle.std.specs.Prelude.{◌≡◌, ◌≢◌, ◌+◌, [], None, Some, IfSome, length};
 ghost use Rattle.client_core.specs.Shown.{done_event, end_bytes};
-ghost use Rattle.endpoint_loop.specs.Hearing.{Drops, HandlesReply, HearsReply, IsReply};
+ghost use Rattle.endpoint_loop.specs.Hearing.{Drops, HearsReply};
 ghost use Rattle.endpoint_loop.specs.Noting.{Makes};
 ghost use Rattle.packet_header.specs.Header.{MessageInRange, MessageLength};
 ghost use Rattle.packet_header.specs.Reading.{body_of, message_of};
 ghost use Rattle.rpc_laws.specs.Front.{front_body, front_header};
-ghost use Rattle.rpc_laws.specs.Queues.{replies};
-ghost use Rattle.rpc_outside.specs.declared.service.Mode.{Mode};
 
 use crate::node::Node;
 use client_core::{Done, Outcome, Reply};
@@ -29,8 +27,8 @@ pub fn read(bytes: &[u8]) -> Option<MessageHeader>
     }
 }
 
-// What follows the header of a datagram.
-fn body(bytes: &[u8]) -> &[u8]
+/// What follows the header of a datagram.
+pub fn body(bytes: &[u8]) -> &[u8]
     ensures { result.now ≡ body_of bytes.now }
 {
     bytes.get(HEAD_BYTES..).unwrap_or_default()
@@ -60,9 +58,12 @@ fn answer_of(done: &Done) -> &[u8]
 }
 
 impl Node {
-    // The front of the receive ring is dropped for this reason.
-    fn drop_front<R: Recorder>(&mut self, reason: DropReason, rec: &mut R)
-        ensures { Makes R.facts R.whole (Drops reason) self.old self.new rec.old rec.new }
+    /// The front of the receive ring is dropped for this reason.
+    pub(crate) fn drop_front<R: Recorder>(&mut self, reason: DropReason, rec: &mut R)
+        ensures drops { Makes R.facts R.whole (Drops reason) self.old self.new rec.old rec.new }
+        ensures jobs { self.new.lists.jobs ≡ self.old.lists.jobs }
+        ensures clients { self.new.lists.clients ≡ self.old.lists.clients }
+        ensures servers { self.new.lists.servers ≡ self.old.lists.servers }
     {
         let event = Event::Dropped { reason };
         rec.note(Who::Node(self.me), event, &[], &[]);
@@ -75,8 +76,10 @@ impl Node {
     pub fn hear_reply<R: Recorder>(&mut self, head: &MessageHeader, rec: &mut R) -> Option<Done>
         requires in_range { MessageInRange head.now }
         requires front { front_header self.old.lists.ring ≡ Some head.now }
-        ensures { Makes R.facts R.whole (HearsReply head.now result) self.old self.new rec.old
+        ensures hears { Makes R.facts R.whole (HearsReply head.now result) self.old self.new rec.old
             rec.new }
+        ensures jobs { self.new.lists.jobs ≡ self.old.lists.jobs }
+        ensures servers { self.new.lists.servers ≡ self.old.lists.servers }
     {
         let Some(front) = self.rx.front() else {
             unreachable!()
@@ -116,9 +119,10 @@ impl Node {
         }
     }
 
-    // The header of the packet in front of the receive ring. None comes exactly where the ring is
-    // empty, or its front is no packet of a call.
-    fn front_head(&self) -> Option<MessageHeader>
+    /// The header of the packet in front of the receive ring. None comes exactly where the ring is
+    /// empty.
+    pub(crate) fn front_head(&self) -> Option<MessageHeader>
+        ensures there { self.now.lists.ring ≢ [] → result ≢ None }
         ensures value { result ≡ front_header self.now.lists.ring }
         ensures in_range { IfSome result (λ h. MessageInRange h) }
         ensures long { IfSome result (λ h. MessageLength h.kind h.size h.number
@@ -128,20 +132,5 @@ impl Node {
             return None;
         };
         read(front.bytes())
-    }
-
-    /// A turn of step 3 of a poll: handles the packet in front of the receive ring, which is a CR
-    /// or Response, while fewer replies are queued than the ring is long. What is given out is the
-    /// call that it ended, with the call's buffers.
-    pub fn handle_front<R: Recorder>(&mut self, rec: &mut R) -> Option<Done>
-        requires reply { IsReply (front_header self.old.lists.ring) }
-        requires room { replies self.old.lists.queued < self.old.lists.room }
-        ensures { (mode : ℕ → Mode) → Makes R.facts R.whole (HandlesReply mode result) self.old
-            self.new rec.old rec.new }
-    {
-        let Some(head) = self.front_head() else {
-            unreachable!()
-        };
-        self.hear_reply(&head, rec)
     }
 }

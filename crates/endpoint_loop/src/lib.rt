@@ -1,16 +1,26 @@
 //! The endpoint: the event loop that owns the sessions of a node, its rings and its buffers. So far
-//! it takes datagrams, handles replies, begins and posts calls, and sends packets; the program runs
-//! the nodes of the simulation.
+//! it takes datagrams, finishes jobs, handles requests and replies, looks at the timers, begins and
+//! posts calls, and sends packets; the program runs the nodes of the simulation.
 #![tactic(auto)]
 
+mod asking;
 mod closing;
+mod continuation;
 mod delivering;
+mod finishing;
+mod handling;
 mod hearing;
 mod node;
+mod pairing;
 mod posting;
+mod rolling;
 mod sending;
+mod serving;
+mod watching;
 
-pub use node::Node;
+pub use asking::{AskError, Refused};
+pub use continuation::Continuation;
+pub use node::{JobName, Node};
 
 #[cfg(test)]
 mod tests;

@@ -4,10 +4,11 @@ ghost use Rattle.rpc_base.specs.Limits.{Fits as InRange};
 ghost use Rattle.rpc_laws.specs.NodeLists.{new_node};
 
 use packet_rings::RxRing;
-use rpc_base::{Limits, Listed, NoMemory, NodeId};
-use rpc_laws::{Counted, Jobs, Pace};
+use rpc_base::{Limits, NoMemory, NodeId, RequestNo, SessionNo};
+use rpc_laws::{Counted, Pace};
 use session_store::Store;
 use std::alloc::Global;
+use std::collections::VecDeque;
 use std::marker::Model;
 
 // The places that the eight calls or requests of a session name, two each.
@@ -15,6 +16,14 @@ const PLACES_OF_SESSION: u32 = 16;
 
 // A job that is out may need so many for its answer.
 const PLACES_OF_JOB: u32 = 2;
+
+/// Whose a job is that was given and isn't finished. Its bytes are with the workers.
+#[derive(Clone, Copy, Debug, PartialEq, Eq)]
+pub struct JobName {
+    pub session: SessionNo,
+    pub request: RequestNo,
+    pub req_type: u8,
+}
 
 /// The lists of a node, with its sessions on one pool and one transmit ring. Contracts see them as
 /// the definitions over histories have them.
@@ -28,7 +37,10 @@ pub struct Node {
     pub(crate) server_numbers: u64,
     pub(crate) counts: Counted,
     pub(crate) paces: Vec<Pace>,
-    pub(crate) jobs: Jobs,
+    /// How many jobs were given so far.
+    pub(crate) given: u64,
+    /// The jobs that are out, in order of giving.
+    pub(crate) jobs: VecDeque<JobName>,
     /// In microseconds.
     pub(crate) clock: u64,
     pub(crate) rx: RxRing,
@@ -38,7 +50,9 @@ pub struct Node {
 impl Model for Node {
     ghost use Rattle.rpc_laws.specs.declared.tables.Timed.{Timed};
     ghost use Rattle.endpoint_loop.specs.Fits.{Fits};
-    ghost use Rattle.endpoint_loop.specs.Seen.{seen_node};
+    ghost use Rattle.endpoint_loop.specs.Seen.{jobs_in, seen_node};
+    ghost use Rattle.std.specs.Prelude.{◌≤◌};
+    ghost use Rattle.std.specs.VecDeque.{deque_capacity};
 
     ghost Value = { Timed };
 
@@ -46,13 +60,16 @@ impl Model for Node {
       asked = n.asked;
       server_numbers = n.server_numbers;
       counts = n.counts;
-    }) n.paces.items n.jobs n.clock n.rx n.store };
+    }) n.paces.items (jobs_in n.limits.jobs n.given n.jobs.items) n.clock n.rx
+        n.store };
 
     ghost invariant = { λ n. Fits (seen_node n.me n.limits (record {
       asked = n.asked;
       server_numbers = n.server_numbers;
       counts = n.counts;
-    }) n.paces.items n.jobs n.clock n.rx n.store) n.store.size n.store.places };
+    }) n.paces.items (jobs_in n.limits.jobs n.given n.jobs.items) n.clock n.rx
+        n.store) n.store.size n.store.places
+        × (n.limits.jobs ≤ deque_capacity n.jobs) };
 }
 
 impl Node {
@@ -75,11 +92,8 @@ impl Node {
                 overflowed: 0,
             },
             paces: Vec::new(alloc),
-            jobs: Jobs {
-                limit: limits.jobs,
-                given: 0,
-                out: Listed::new(alloc),
-            },
+            given: 0,
+            jobs: VecDeque::with_capacity(alloc, limits.jobs as usize)?,
             clock: 0,
             rx: RxRing::new(alloc, limits.ring)?,
             store: Store::new(alloc, 2 * limits.ring, places)?,

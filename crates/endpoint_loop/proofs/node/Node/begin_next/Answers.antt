@@ -1,24 +1,28 @@
 use Rattle.endpoint_loop.proofs.FitsLemmas.{has-places}
 use Rattle.endpoint_loop.proofs.NodeLemmas.{fits-begun, node-begun}
 use Rattle.endpoint_loop.proofs.PostLemmas.{begun-fewer}
+use Rattle.endpoint_loop.specs.Seen.{jobs_in}
 use Rattle.endpoint_loop.proofs.node.Node.begin_next.Goals as goal
 
 pub begin-requires-clause-room : goal.begin-requires-clause-room
 begin-requires-clause-room g c =
-    let fits = c.self.invariant in
+    let fits = c.self.invariant.0 in
     has-places _ _ fits.kept fits.settled fits.credits fits.jobs fits.buffers
 
 pub invariant_of-self-2 : goal.invariant_of-self-2
 invariant_of-self-2 g c =
-    let h = rw c.in-Some.is at c.begin.ensures in
-    fits-begun g.R.Recorder.facts g.R.Recorder.whole c.args.i c.self.inside.me c.self.inside.limits
-    (record {
-      asked = c.self.inside.asked;
-      server_numbers = c.self.inside.server_numbers;
-      counts = c.self.inside.counts;
-    }) c.self.inside.paces.items c.self.inside.jobs
-    c.self.inside.clock c.self.inside.rx c.self.inside.store c.begin.new.self c.args.rec.now
-    c.note.new.self c.self.invariant h.servers h.size h.places _ h.clients h.queued
+    let h = rw c.in-Some.is at c.begin.ensures in (
+      fits-begun g.R.Recorder.facts g.R.Recorder.whole c.args.i c.self.inside.me c.self.inside.limits
+          (record {
+            asked = c.self.inside.asked;
+            server_numbers = c.self.inside.server_numbers;
+            counts = c.self.inside.counts;
+          }) c.self.inside.paces.items (jobs_in c.self.inside.limits.jobs c.self.inside.given
+          c.self.inside.jobs.items)
+          c.self.inside.clock c.self.inside.rx c.self.inside.store c.begin.new.self c.args.rec.now
+          c.note.new.self c.self.invariant.0 h.servers h.size h.places _ h.clients h.queued,
+      c.self.invariant.1,
+    )
 
 pub returns-clause-notes : goal.returns-clause-notes
 returns-clause-notes g c =
@@ -29,12 +33,12 @@ returns-clause-notes g c =
       asked = c.self.inside.asked;
       server_numbers = c.self.inside.server_numbers;
       counts = c.self.inside.counts;
-    }) c.self.inside.paces.items c.self.inside.jobs
+    }) c.self.inside.paces.items (jobs_in c.self.inside.limits.jobs c.self.inside.given c.self.inside.jobs.items)
     c.self.inside.clock c.self.inside.rx c.self.inside.store c.begin.new.self c.args.rec.now
-    c.note.new.self c.self.invariant h.servers h.size h.places _ h.clients h.queued
+    c.note.new.self c.self.invariant.0 h.servers h.size h.places _ h.clients h.queued
     c.note.ensures)
 
 pub returns-clause-fewer : goal.returns-clause-fewer
 returns-clause-fewer g c = λ went.
     let h = rw c.in-Some.is at c.begin.ensures in
-    rw (← c.self.view_is) (begun-fewer c.args.i _ _ _ h.clients c.self.invariant.ascends)
+    rw (← c.self.view_is) (begun-fewer c.args.i _ _ _ h.clients c.self.invariant.0.ascends)

@@ -1,4 +1,5 @@
 use Rattle.endpoint_loop.proofs.SentLemmas.{node-closed}
+use Rattle.endpoint_loop.specs.Seen.{jobs_in}
 use Rattle.endpoint_loop.proofs.node.Node.close.Goals as goal
 
 pub returns : goal.returns
@@ -9,5 +10,6 @@ returns g c =
       server_numbers = c.self.inside.server_numbers;
       counts = c.self.inside.counts;
     })
-    c.self.inside.paces.items c.self.inside.jobs c.self.inside.clock c.self.inside.rx
-    c.self.inside.store c.args.rec.now c.note.new.self c.self.invariant c.note.ensures)
+    c.self.inside.paces.items (jobs_in c.self.inside.limits.jobs c.self.inside.given
+    c.self.inside.jobs.items) c.self.inside.clock c.self.inside.rx
+    c.self.inside.store c.args.rec.now c.note.new.self c.self.invariant.0 c.note.ensures)

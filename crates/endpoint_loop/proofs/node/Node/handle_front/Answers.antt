@@ -1,9 +1,38 @@
-use Rattle.std.proofs.Common.{sym, ◌∙◌}
-use Rattle.endpoint_loop.proofs.HandleLemmas.{node-handles}
+use Rattle.std.proofs.Common.{refl, sym, ◌∙◌}
+use Rattle.endpoint_loop.proofs.HandleLemmas.{asks-kind, gave-none, gave-one, node-replies, node-requests}
+use Rattle.endpoint_loop.proofs.HandleLemmas.{replies-kind}
 use Rattle.endpoint_loop.proofs.node.Node.handle_front.Goals as goal
 
-pub returns : goal.returns
-returns g c = λ mode.
-    node-handles g.R.Recorder.facts g.R.Recorder.whole mode c.in-Some.head _ _ _ _ _
-    (sym c.front_head.ensures.value ∙ c.in-Some.is) c.requires.reply c.requires.room
-    c.hear_reply.ensures
+pub unreachable-requires : goal.unreachable-requires
+unreachable-requires g c = c.front_head.ensures.there c.requires.some c.in_default.is
+
+pub returns-in-Request-clause-handles : goal.returns-in-Request-clause-handles
+returns-in-Request-clause-handles g c =
+    let front = sym c.front_head.ensures.value ∙ c.in-Some.is in
+    node-requests g.R.Recorder.facts g.R.Recorder.whole g.K.Continuation.given
+    (record { mode = g.V.Service.mode_of; answer = g.V.Service.answer })
+    (g.V.Service.stands c.args.service.now) c.in-Some.head _ _ _ _ front c.requires.room
+    (g.V.Service.stands c.serve_request.new.service) c.serve_request.result _ _
+    (asks-kind c.in-Some.head.kind c.in-Request.is) refl
+    c.serve_request.ensures.serves
+
+pub returns-in-None-clause-handles : goal.returns-in-None-clause-handles
+returns-in-None-clause-handles g c =
+    let front = sym c.front_head.ensures.value ∙ c.in-Some.is in
+    node-replies g.R.Recorder.facts g.R.Recorder.whole g.K.Continuation.given
+    (record { mode = g.V.Service.mode_of; answer = g.V.Service.answer })
+    (g.V.Service.stands c.args.service.now) c.in-Some.head _ _ _ _ front c.requires.room
+    c.hear_reply.result _ _ (replies-kind c.in-Some.head.kind c.in-Cr.is)
+    c.hear_reply.ensures.hears c.hear_reply.ensures.jobs
+    (gave-none c.hear_reply.result (g.K.Continuation.given c.args.k.now) c.in-None.is)
+
+pub returns-in-Some-hear_reply-clause-handles : goal.returns-in-Some-hear_reply-clause-handles
+returns-in-Some-hear_reply-clause-handles g c =
+    let front = sym c.front_head.ensures.value ∙ c.in-Some.is in
+    node-replies g.R.Recorder.facts g.R.Recorder.whole g.K.Continuation.given
+    (record { mode = g.V.Service.mode_of; answer = g.V.Service.answer })
+    (g.V.Service.stands c.args.service.now) c.in-Some.head _ _ _ _ front c.requires.room
+    c.hear_reply.result _ _ (replies-kind c.in-Some.head.kind c.in-Cr.is)
+    c.hear_reply.ensures.hears c.hear_reply.ensures.jobs
+    (gave-one c.hear_reply.result c.in-Some-hear_reply.done (g.K.Continuation.given c.args.k.now)
+    (g.K.Continuation.given c.done.new.self) c.in-Some-hear_reply.is c.done.ensures)

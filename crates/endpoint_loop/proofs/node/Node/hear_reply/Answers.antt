@@ -5,6 +5,7 @@ use Rattle.packet_header.specs.declared.packet.MessageHeader.{MessageHeader}
 use Rattle.endpoint_loop.proofs.HearLemmas.{as-told, fits-dropped, fits-ended, fits-took}
 use Rattle.endpoint_loop.proofs.HearLemmas.{node-dropped, node-ended, node-took, node-unheard}
 use Rattle.endpoint_loop.proofs.HearLemmas.{some-front}
+use Rattle.endpoint_loop.specs.Seen.{jobs_in}
 use Rattle.endpoint_loop.proofs.node.Node.hear_reply.Goals as goal
 
 pub unreachable-requires : goal.unreachable-requires
@@ -12,22 +13,22 @@ unreachable-requires g c =
     let front = rw (← c.self.view_is) at c.requires.front in
     some-front c.self.inside.rx.items c.args.head.now _ c.front.ensures (ap option_copied c.in_default.is) front
 
-pub returns-then-i-clients : goal.returns-then-i-clients
-returns-then-i-clients g c =
+pub returns-then-i-clients-clause-hears : goal.returns-then-i-clients-clause-hears
+returns-then-i-clients-clause-hears g c =
     let front = rw (← c.self.view_is) at c.requires.front in
     let here = sym c.front.ensures ∙ ap option_copied c.in-Some.is in
     let number = ap (λ (v : MessageHeader). v.session) (sym c.head.view_is) ∙ sym c.from-i.ensures in
-    let made = rw (← c.self.view_is) at c.drop_front.ensures in
+    let made = rw (← c.self.view_is) at c.drop_front.ensures.drops in
     rw (← c.self.view_is) (node-unheard c.self.inside.me c.self.inside.limits
     (record {
       asked = c.self.inside.asked;
       server_numbers = c.self.inside.server_numbers;
       counts = c.self.inside.counts;
-    }) c.self.inside.paces.items c.self.inside.jobs
-    c.self.inside.clock c.self.inside.rx c.self.inside.store c.self.invariant c.args.head.now
+    }) c.self.inside.paces.items (jobs_in c.self.inside.limits.jobs c.self.inside.given c.self.inside.jobs.items)
+    c.self.inside.clock c.self.inside.rx c.self.inside.store c.self.invariant.0 c.args.head.now
     c.in-Some.front.now front here g.R.Recorder.facts g.R.Recorder.whole c.args.rec.now
     c.drop_front.new.rec c.drop_front.new.self
-    (omega (arith, c.if-i-clients.true, c.clients.ensures, number)) made)
+    (omega (arith, c.if-i-clients.true, c.clients.ensures.count, number)) made)
 
 pub invariant_of-self : goal.invariant_of-self
 invariant_of-self g c =
@@ -35,20 +36,23 @@ invariant_of-self g c =
     let here = sym c.front.ensures ∙ ap option_copied c.in-Some.is in
     let number = ap (λ (v : MessageHeader). v.session) (sym c.head.view_is) ∙ sym c.from-i.ensures in
     let p = as-told _ _ _ _ _ _ _ _ _ _ _ c.peer.ensures
-    (c.body.ensures ∙ ap body_of c.bytes.ensures.bytes) c.in-Dropped.ensures.clients in
-    fits-dropped c.self.inside.me c.self.inside.limits
-    (record {
-      asked = c.self.inside.asked;
-      server_numbers = c.self.inside.server_numbers;
-      counts = c.self.inside.counts;
-    }) c.self.inside.paces.items c.self.inside.jobs
-    c.self.inside.clock c.self.inside.rx c.self.inside.store c.self.invariant c.args.head.now
-    c.in-Some.front.now front here c.from-i.result number c.on_reply-reply.new.self
-    c.on_reply-reply.ensures.servers c.on_reply-reply.ensures.queued
-    c.on_reply-reply.ensures.size c.on_reply-reply.ensures.places c.in-Dropped.reason p
+    (c.body.ensures ∙ ap body_of c.bytes.ensures.bytes) c.in-Dropped.ensures.clients in (
+      fits-dropped c.self.inside.me c.self.inside.limits
+          (record {
+            asked = c.self.inside.asked;
+            server_numbers = c.self.inside.server_numbers;
+            counts = c.self.inside.counts;
+          }) c.self.inside.paces.items (jobs_in c.self.inside.limits.jobs c.self.inside.given
+          c.self.inside.jobs.items)
+          c.self.inside.clock c.self.inside.rx c.self.inside.store c.self.invariant.0 c.args.head.now
+          c.in-Some.front.now front here c.from-i.result number c.on_reply-reply.new.self
+          c.on_reply-reply.ensures.servers c.on_reply-reply.ensures.queued
+          c.on_reply-reply.ensures.size c.on_reply-reply.ensures.places c.in-Dropped.reason p,
+      c.self.invariant.1,
+    )
 
-pub returns-in-Dropped : goal.returns-in-Dropped
-returns-in-Dropped g c =
+pub returns-in-Dropped-clause-hears : goal.returns-in-Dropped-clause-hears
+returns-in-Dropped-clause-hears g c =
     let front = rw (← c.self.view_is) at c.requires.front in
     let here = sym c.front.ensures ∙ ap option_copied c.in-Some.is in
     let number = ap (λ (v : MessageHeader). v.session) (sym c.head.view_is) ∙ sym c.from-i.ensures in
@@ -59,13 +63,13 @@ returns-in-Dropped g c =
       asked = c.self.inside.asked;
       server_numbers = c.self.inside.server_numbers;
       counts = c.self.inside.counts;
-    }) c.self.inside.paces.items c.self.inside.jobs
-    c.self.inside.clock c.self.inside.rx c.self.inside.store c.self.invariant c.args.head.now
+    }) c.self.inside.paces.items (jobs_in c.self.inside.limits.jobs c.self.inside.given c.self.inside.jobs.items)
+    c.self.inside.clock c.self.inside.rx c.self.inside.store c.self.invariant.0 c.args.head.now
     c.in-Some.front.now front here c.from-i.result number c.on_reply-reply.new.self
     c.on_reply-reply.ensures.servers c.on_reply-reply.ensures.queued
     c.on_reply-reply.ensures.size c.on_reply-reply.ensures.places c.in-Dropped.reason p
     g.R.Recorder.facts g.R.Recorder.whole c.args.rec.now c.drop_front-in-Dropped.new.rec
-    c.drop_front-in-Dropped.new.self c.drop_front-in-Dropped.ensures)
+    c.drop_front-in-Dropped.new.self c.drop_front-in-Dropped.ensures.drops)
 
 pub invariant_of-self-in-Took : goal.invariant_of-self-in-Took
 invariant_of-self-in-Took g c =
@@ -73,21 +77,24 @@ invariant_of-self-in-Took g c =
     let here = sym c.front.ensures ∙ ap option_copied c.in-Some.is in
     let number = ap (λ (v : MessageHeader). v.session) (sym c.head.view_is) ∙ sym c.from-i.ensures in
     let p = as-told _ _ _ _ _ _ _ _ _ _ _ c.peer.ensures
-    (c.body.ensures ∙ ap body_of c.bytes.ensures.bytes) c.in-Took.ensures.clients in
-    fits-took c.self.inside.me c.self.inside.limits
-    (record {
-      asked = c.self.inside.asked;
-      server_numbers = c.self.inside.server_numbers;
-      counts = c.self.inside.counts;
-    }) c.self.inside.paces.items c.self.inside.jobs
-    c.self.inside.clock c.self.inside.rx c.self.inside.store c.self.invariant c.args.head.now
-    c.in-Some.front.now front here c.from-i.result number c.on_reply-reply.new.self
-    c.on_reply-reply.ensures.servers c.on_reply-reply.ensures.queued
-    c.on_reply-reply.ensures.size c.on_reply-reply.ensures.places c.drop_front-in-Took.new.self
-    c.drop_front-in-Took.ensures p
+    (c.body.ensures ∙ ap body_of c.bytes.ensures.bytes) c.in-Took.ensures.clients in (
+      fits-took c.self.inside.me c.self.inside.limits
+          (record {
+            asked = c.self.inside.asked;
+            server_numbers = c.self.inside.server_numbers;
+            counts = c.self.inside.counts;
+          }) c.self.inside.paces.items (jobs_in c.self.inside.limits.jobs c.self.inside.given
+          c.self.inside.jobs.items)
+          c.self.inside.clock c.self.inside.rx c.self.inside.store c.self.invariant.0 c.args.head.now
+          c.in-Some.front.now front here c.from-i.result number c.on_reply-reply.new.self
+          c.on_reply-reply.ensures.servers c.on_reply-reply.ensures.queued
+          c.on_reply-reply.ensures.size c.on_reply-reply.ensures.places c.drop_front-in-Took.new.self
+          c.drop_front-in-Took.ensures p,
+      c.self.invariant.1,
+    )
 
-pub returns-in-Took : goal.returns-in-Took
-returns-in-Took g c =
+pub returns-in-Took-clause-hears : goal.returns-in-Took-clause-hears
+returns-in-Took-clause-hears g c =
     let front = rw (← c.self.view_is) at c.requires.front in
     let here = sym c.front.ensures ∙ ap option_copied c.in-Some.is in
     let number = ap (λ (v : MessageHeader). v.session) (sym c.head.view_is) ∙ sym c.from-i.ensures in
@@ -98,8 +105,8 @@ returns-in-Took g c =
       asked = c.self.inside.asked;
       server_numbers = c.self.inside.server_numbers;
       counts = c.self.inside.counts;
-    }) c.self.inside.paces.items c.self.inside.jobs
-    c.self.inside.clock c.self.inside.rx c.self.inside.store c.self.invariant c.args.head.now
+    }) c.self.inside.paces.items (jobs_in c.self.inside.limits.jobs c.self.inside.given c.self.inside.jobs.items)
+    c.self.inside.clock c.self.inside.rx c.self.inside.store c.self.invariant.0 c.args.head.now
     c.in-Some.front.now front here c.from-i.result number c.on_reply-reply.new.self
     c.on_reply-reply.ensures.servers c.on_reply-reply.ensures.queued
     c.on_reply-reply.ensures.size c.on_reply-reply.ensures.places c.drop_front-in-Took.new.self
@@ -113,21 +120,24 @@ invariant_of-self-in-Ended g c =
     let here = sym c.front.ensures ∙ ap option_copied c.in-Some.is in
     let number = ap (λ (v : MessageHeader). v.session) (sym c.head.view_is) ∙ sym c.from-i.ensures in
     let p = as-told _ _ _ _ _ _ _ _ _ _ _ c.peer.ensures
-    (c.body.ensures ∙ ap body_of c.bytes.ensures.bytes) c.in-Ended.ensures.clients in
-    fits-ended c.self.inside.me c.self.inside.limits
-    (record {
-      asked = c.self.inside.asked;
-      server_numbers = c.self.inside.server_numbers;
-      counts = c.self.inside.counts;
-    }) c.self.inside.paces.items c.self.inside.jobs
-    c.self.inside.clock c.self.inside.rx c.self.inside.store c.self.invariant c.args.head.now
-    c.in-Some.front.now front here c.from-i.result number c.on_reply-reply.new.self
-    c.on_reply-reply.ensures.servers c.on_reply-reply.ensures.queued
-    c.on_reply-reply.ensures.size c.on_reply-reply.ensures.places c.drop_front-in-Ended.new.self
-    c.drop_front-in-Ended.ensures c.in-Ended.done p
+    (c.body.ensures ∙ ap body_of c.bytes.ensures.bytes) c.in-Ended.ensures.clients in (
+      fits-ended c.self.inside.me c.self.inside.limits
+          (record {
+            asked = c.self.inside.asked;
+            server_numbers = c.self.inside.server_numbers;
+            counts = c.self.inside.counts;
+          }) c.self.inside.paces.items (jobs_in c.self.inside.limits.jobs c.self.inside.given
+          c.self.inside.jobs.items)
+          c.self.inside.clock c.self.inside.rx c.self.inside.store c.self.invariant.0 c.args.head.now
+          c.in-Some.front.now front here c.from-i.result number c.on_reply-reply.new.self
+          c.on_reply-reply.ensures.servers c.on_reply-reply.ensures.queued
+          c.on_reply-reply.ensures.size c.on_reply-reply.ensures.places c.drop_front-in-Ended.new.self
+          c.drop_front-in-Ended.ensures c.in-Ended.done p,
+      c.self.invariant.1,
+    )
 
-pub returns-in-Ended : goal.returns-in-Ended
-returns-in-Ended g c =
+pub returns-in-Ended-clause-hears : goal.returns-in-Ended-clause-hears
+returns-in-Ended-clause-hears g c =
     let front = rw (← c.self.view_is) at c.requires.front in
     let here = sym c.front.ensures ∙ ap option_copied c.in-Some.is in
     let number = ap (λ (v : MessageHeader). v.session) (sym c.head.view_is) ∙ sym c.from-i.ensures in
@@ -138,8 +148,8 @@ returns-in-Ended g c =
       asked = c.self.inside.asked;
       server_numbers = c.self.inside.server_numbers;
       counts = c.self.inside.counts;
-    }) c.self.inside.paces.items c.self.inside.jobs
-    c.self.inside.clock c.self.inside.rx c.self.inside.store c.self.invariant c.args.head.now
+    }) c.self.inside.paces.items (jobs_in c.self.inside.limits.jobs c.self.inside.given c.self.inside.jobs.items)
+    c.self.inside.clock c.self.inside.rx c.self.inside.store c.self.invariant.0 c.args.head.now
     c.in-Some.front.now front here c.from-i.result number c.on_reply-reply.new.self
     c.on_reply-reply.ensures.servers c.on_reply-reply.ensures.queued
     c.on_reply-reply.ensures.size c.on_reply-reply.ensures.places c.drop_front-in-Ended.new.self

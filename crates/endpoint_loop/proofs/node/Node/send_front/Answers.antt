@@ -1,19 +1,23 @@
 use Rattle.std.proofs.Common.{ap}
 use Rattle.endpoint_loop.proofs.SentLemmas.{fits-sent, front-fewer, node-sent}
+use Rattle.endpoint_loop.specs.Seen.{jobs_in}
 use Rattle.endpoint_loop.proofs.node.Node.send_front.Goals as goal
 
 pub invariant_of-self : goal.invariant_of-self
 invariant_of-self g c =
-    let front = rw c.in-Some.is at c.front.ensures.front in
-    fits-sent c.self.inside.me c.self.inside.limits
-    (record {
-      asked = c.self.inside.asked;
-      server_numbers = c.self.inside.server_numbers;
-      counts = c.self.inside.counts;
-    }) c.self.inside.paces.items c.self.inside.jobs
-    c.self.inside.clock c.self.inside.rx c.self.inside.store c.sent.new.self c.self.invariant
-    c.in-Some.entry front c.sent.ensures.clients c.sent.ensures.servers c.sent.ensures.queued
-    c.sent.ensures.size c.sent.ensures.places
+    let front = rw c.in-Some.is at c.front.ensures.front in (
+      fits-sent c.self.inside.me c.self.inside.limits
+          (record {
+            asked = c.self.inside.asked;
+            server_numbers = c.self.inside.server_numbers;
+            counts = c.self.inside.counts;
+          }) c.self.inside.paces.items (jobs_in c.self.inside.limits.jobs c.self.inside.given
+          c.self.inside.jobs.items)
+          c.self.inside.clock c.self.inside.rx c.self.inside.store c.sent.new.self c.self.invariant.0
+          c.in-Some.entry front c.sent.ensures.clients c.sent.ensures.servers c.sent.ensures.queued
+          c.sent.ensures.size c.sent.ensures.places,
+      c.self.invariant.1,
+    )
 
 pub returns-in-Whole-clause-sent : goal.returns-in-Whole-clause-sent
 returns-in-Whole-clause-sent g c = λ went.
@@ -24,8 +28,9 @@ returns-in-Whole-clause-sent g c = λ went.
             asked = c.self.inside.asked;
             server_numbers = c.self.inside.server_numbers;
             counts = c.self.inside.counts;
-          }) c.self.inside.paces.items c.self.inside.jobs
-          c.self.inside.clock c.self.inside.rx c.self.inside.store c.sent.new.self c.self.invariant
+          }) c.self.inside.paces.items (jobs_in c.self.inside.limits.jobs c.self.inside.given
+          c.self.inside.jobs.items)
+          c.self.inside.clock c.self.inside.rx c.self.inside.store c.sent.new.self c.self.invariant.0
           c.in-Some.entry front c.sent.ensures.clients c.sent.ensures.servers c.sent.ensures.queued
           c.packet-body.new.head c.packet-body.result.now c.packet-body.array_long
           c.packet-body.ensures.bytes c.packet-body.ensures.spells g.R.Recorder.facts

@@ -1,0 +1,521 @@
+-- A job that is finished, from what the store did to what the node notes.
+use Rattle.std.proofs.Common.{◌≡◌, ◌≢◌, ℕ, ◌+◌, ◌-◌, ◌<◌, Bool, true, false, cond, Option, Some}
+use Rattle.std.proofs.Common.{None}
+use Rattle.std.proofs.Common.{List, [], ◌∷◌, ◌++◌, length, refl, sym, ap, subst, ◌∙◌, append-nil}
+use Rattle.std.proofs.Common.{inr, arith}
+use Rattle.std.specs.Prelude.{◌==◌, IfSome, map, option_and_then, option_map, slice_get, slice_set}
+use Rattle.std.specs.List.{find, position}
+use Rattle.std.proofs.lemmas.Bool.{and_parts, eqb-true}
+use Rattle.std.proofs.lemmas.List.Sums.{sum_by-append}
+use Rattle.message_buffer.specs.Buffer.{bytes_of}
+use Rattle.packet_header.specs.Parts.{packet_count}
+use Rattle.packet_rings.specs.Rings.{Ring}
+use Rattle.packet_rings.specs.Values.{DatagramValue, EntryValue}
+use Rattle.rpc_base.specs.Tables.{at_first, without_first}
+use Rattle.rpc_base.specs.declared.event.Event.TheVariants.{Posted, Ran}
+use Rattle.rpc_base.specs.declared.fact.Fact.{Fact}
+use Rattle.rpc_base.specs.declared.limits.Limits.{Limits}
+use Rattle.rpc_base.specs.declared.owner.Owner.{Owner}
+use Rattle.rpc_base.specs.declared.owner.Owner.TheVariants.{Reply}
+use Rattle.rpc_base.proofs.FirstLemmas.{all-kept, all-push, counted-cons, missing-same}
+use Rattle.rpc_base.proofs.FirstLemmas.{sum-fewer}
+use Rattle.rpc_base.proofs.TablesLemmas.{at_first-found, find-found, find-missing}
+use Rattle.rpc_base.proofs.TakingLemmas.{find-passes}
+use Rattle.rpc_laws.specs.declared.tables.Counted.{Counted}
+use Rattle.rpc_laws.specs.declared.tables.Job.{Job}
+use Rattle.rpc_laws.specs.declared.tables.Jobs.{Jobs}
+use Rattle.rpc_laws.specs.declared.tables.Lists.{Lists}
+use Rattle.rpc_laws.specs.declared.tables.Pace.{Pace}
+use Rattle.rpc_laws.specs.declared.tables.Queued.{Queued}
+use Rattle.rpc_laws.specs.declared.tables.Served.{Served}
+use Rattle.rpc_laws.specs.declared.tables.Server.{Server}
+use Rattle.rpc_laws.specs.declared.tables.Timed.{Timed}
+use Rattle.rpc_laws.specs.Facts.{plain, with_two}
+use Rattle.rpc_laws.specs.Jobs.{is_job}
+use Rattle.rpc_laws.specs.NodeLists.{after, one_more}
+use Rattle.rpc_laws.specs.PollOrder.{finished_facts, is_awaited, is_working}
+use Rattle.rpc_laws.specs.Queues.{is_reply, replies}
+use Rattle.rpc_laws.specs.Requests.{answered, is_request, is_server}
+use Rattle.rpc_outside.specs.Recording.{Grew}
+use Rattle.rpc_outside.specs.declared.service.Mode.{Mode}
+use Rattle.rpc_outside.specs.declared.service.Mode.TheVariants.{Unserved}
+use Rattle.node_laws.specs.Kept.{Kept}
+use Rattle.node_laws.proofs.Allowed.{Stands}
+use Rattle.node_laws.proofs.KeptLemmas.{kept-all, kept-total}
+use Rattle.node_laws.proofs.ServeLemmas.{stands-ran}
+use Rattle.server_core.proofs.FlushLemmas.{grew-then}
+use Rattle.server_core.specs.Steps.{gone_on_as}
+use Rattle.session_store.specs.Changes.{is_waited}
+use Rattle.session_store.specs.Sides.{HasRoom, Shown, listed_queued}
+use Rattle.session_store.proofs.ListLemmas.{all-at, all-set}
+use Rattle.worker_board.specs.declared.Parcel.{Parcel}
+use Rattle.endpoint_loop.specs.Finishing.{AnswersTo, AsksOf, WaitsWith, is_named, request_at}
+use Rattle.endpoint_loop.specs.Fits.{Fits, HasCredit, IsReady}
+use Rattle.endpoint_loop.specs.Noting.{MakesWhere}
+use Rattle.endpoint_loop.specs.Seen.{Asks, Tallies, asking, asking_jobs, jobs_in, seen_node}
+use Rattle.endpoint_loop.specs.Seen.{unasked, with_ask}
+use Rattle.endpoint_loop.specs.Serving.{AllServed, FinishesWith, SlotsServed}
+use Rattle.endpoint_loop.specs.declared.node.JobName.{JobName}
+use Rattle.endpoint_loop.proofs.FitsLemmas.{has-places, put-behind, two-parts}
+
+-- the first that passes, by what is shown of the elements
+module _ {A B : Type 0} (f : A → B) (p : B → Bool) where
+  find-shown-cons : (x : A) (xs : List A) (b : Bool)
+      → find p (map f xs) ≡ option_map f (find (λ y. p (f y)) xs)
+      → cond b (Some (f x)) (find p (map f xs))
+      ≡ option_map f (cond b (Some x) (find (λ y. p (f y)) xs))
+  find-shown-cons x xs true ih = refl
+  find-shown-cons x xs false ih = ih
+
+  pub find-shown : (xs : List A) → find p (map f xs) ≡ option_map f (find (λ y. p (f y)) xs)
+  find-shown [] = refl
+  find-shown (x ∷ xs) = find-shown-cons x xs (p (f x)) (find-shown xs)
+
+  without-shown-cons : (x : A) (xs : List A) (b : Bool)
+      → map f (without_first (λ y. p (f y)) xs) ≡ without_first p (map f xs)
+      → map f (cond b xs (x ∷ without_first (λ y. p (f y)) xs))
+      ≡ cond b (map f xs) (f x ∷ without_first p (map f xs))
+  without-shown-cons x xs true ih = refl
+  without-shown-cons x xs false ih = ap (λ (ys : List B). f x ∷ ys) ih
+
+  pub without-shown : (xs : List A) → map f (without_first (λ y. p (f y)) xs) ≡ without_first p
+      (map f xs)
+  without-shown [] = refl
+  without-shown (x ∷ xs) = without-shown-cons x xs (p (f x)) (without-shown xs)
+
+-- what changes nothing in the first that passes
+module _ {A : Type 0} (p : A → Bool) (f : A → A) where
+  own-cons : (x : A) (xs : List A) (b : Bool)
+      → ((y : A) → cond b (Some x) (find p xs) ≡ Some y → f y ≡ y)
+      → (((y : A) → find p xs ≡ Some y → f y ≡ y) → at_first p f xs ≡ xs)
+      → cond b (f x ∷ xs) (x ∷ at_first p f xs) ≡ x ∷ xs
+  own-cons x xs true same ih = ap (λ (y : A). y ∷ xs) (same x refl)
+  own-cons x xs false same ih = ap (λ (ys : List A). x ∷ ys) (ih same)
+
+  pub first-own : (xs : List A) → ((y : A) → find p xs ≡ Some y → f y ≡ y) → at_first p f xs ≡ xs
+  first-own [] same = refl
+  first-own (x ∷ xs) same = own-cons x xs (p x) same (first-own xs)
+
+-- the jobs that are out, without one
+abbrev pub without_job : (t r : ℕ) → Jobs → Jobs
+without_job t r jobs = record jobs { out = without_first (is_job t r) jobs.out }
+
+pub jobs-left : (t r limit given : ℕ) (names left : List JobName) → left ≡ without_first (is_named
+    t r) names
+    → jobs_in limit given left ≡ without_job t r (jobs_in limit given names)
+jobs-left t r limit given names left e =
+    ap (λ (out : List Job). record { limit = limit; given = given; out = out })
+    (ap (λ (xs : List JobName). map unasked xs) e ∙ without-shown unasked (is_job t r) names)
+
+asked-left : (asks : Asks) (t r : ℕ) (jobs : Jobs)
+    → asking_jobs asks (without_job t r jobs) ≡ without_job t r (asking_jobs asks jobs)
+asked-left asks t r jobs =
+    ap (λ (out : List Job). record { limit = jobs.limit; given = jobs.given; out = out })
+    (without-shown (with_ask asks) (is_job t r) jobs.out)
+
+pub job-found : (t r limit given : ℕ) (names : List JobName) (o : Option JobName)
+    → o ≡ find (is_named t r) names
+    → find (is_job t r) (jobs_in limit given names).out ≡ option_map unasked o
+job-found t r limit given names o e = find-shown unasked (is_job t r) names ∙ ap (option_map
+    unasked) (sym e)
+
+job-asked : (asks : Asks) (t r : ℕ) (out : List Job) (job : Job) → find (is_job t r) out ≡ Some job
+    → find (is_job t r) (map (with_ask asks) out) ≡ Some (with_ask asks job)
+job-asked asks t r out job e = find-shown (with_ask asks) (is_job t r) out ∙ ap (option_map
+    (with_ask asks)) e
+
+pub whose-job : (t r : ℕ) (job : Job) → is_job t r job ≡ true → (job.session ≡ t) × (job.request ≡
+    r)
+whose-job t r job e =
+    let parts = and_parts (job.session == t) (job.request == r) e in
+    (eqb-true job.session t parts.0, eqb-true job.request r parts.1)
+
+-- where none passes, none is taken out
+same-cons : {A : Type 0} (p : A → Bool) (y : A) (ys : List A) (b : Bool)
+    → (find p ys ≡ None → without_first p ys ≡ ys) → cond b (Some y) (find p ys) ≡ None
+    → cond b ys (y ∷ without_first p ys) ≡ y ∷ ys
+same-cons p y ys true ih e = cc
+same-cons p y ys false ih e = ap (λ zs. y ∷ zs) (ih e)
+
+pub same-left : {A : Type 0} (p : A → Bool) (xs : List A) → find p xs ≡ None → without_first p xs ≡
+    xs
+same-left p [] e = refl
+same-left p (y ∷ ys) e = same-cons p y ys (p y) (same-left p ys) e
+
+-- lists with a job less are kept
+kept-fewer : (s : Lists) (counts : Counted) (p : Job → Bool) → Kept s
+    → Kept (record s {
+      counts = counts;
+      jobs = record s.jobs { out = without_first p s.jobs.out };
+    })
+kept-fewer s counts p k = record {
+  valid = record {
+    numbered = k.valid.numbered;
+    alone = k.valid.alone;
+    once = k.valid.once;
+    sound = k.valid.sound;
+    idle = k.valid.idle;
+    served = k.valid.served;
+    runs = λ t r.
+        omega (
+          arith,
+          k.valid.runs t r,
+          sum-fewer p (λ (job : Job). cond (is_job t r job) 1 0)
+              s.jobs.out,
+        );
+    shared = k.valid.shared;
+  };
+  asked = k.asked;
+  few = k.few;
+  reads = k.reads;
+  eight = k.eight;
+  windows = k.windows;
+  live = k.live;
+  once = k.once;
+}
+
+-- a request that doesn't wait
+waits-cases : (r : ℕ) (o : Option Server) → IfSome o (λ v. is_waited r v ≡ false)
+    → is_working (option_and_then (λ v. find (is_request r) v.slots) o) ≡ false
+waits-cases r None h = refl
+waits-cases r (Some v) h = h
+
+unawaited : (t r : ℕ) (bytes : List ℕ) (xs ys : List Server) (o : Option ℕ)
+    → position (is_server t) xs ≡ o → AnswersTo o r bytes None xs ys
+    → is_working (request_at t r xs) ≡ false
+unawaited t r bytes xs ys None e h =
+    ap (λ (v : Option Server). is_working (option_and_then (λ v. find (is_request r) v.slots) v))
+    (find-missing (is_server t) xs e)
+unawaited t r bytes xs ys (Some i) e h =
+    ap (λ (v : Option Server). is_working (option_and_then (λ v. find (is_request r) v.slots) v))
+    (find-found (is_server t) xs i e) ∙ waits-cases r (slice_get xs i) h.0
+
+servers-stay : (r : ℕ) (bytes : List ℕ) (xs ys : List Server) (o : Option ℕ)
+    → AnswersTo o r bytes None xs ys → ys ≡ xs
+servers-stay r bytes xs ys None h = h.1
+servers-stay r bytes xs ys (Some i) h = h.1
+
+-- a request that would wait if it were there isn't there
+not-there : (size : ℕ) (o : Option Served) → IfSome o (WaitsWith size) → is_working o ≡ false
+    → o ≡ None
+not-there size None waits idle = refl
+not-there size (Some q) waits idle = let clash : true ≡ false = sym waits.0 ∙ idle in cc
+
+none-here : (r : ℕ) (v : Server) (o : Option Server)
+    → option_and_then (λ v. find (is_request r) v.slots) o ≡ None → o ≡ Some v
+    → find (is_request r) v.slots ≡ None
+none-here r v None e h = cc
+none-here r v (Some w) e h =
+    let same : w ≡ v = cc in subst (λ (x : Server). find (is_request r) x.slots ≡ None) same e
+
+unanswered : (t r : ℕ) (bytes : List ℕ) (xs : List Server) → request_at t r xs ≡ None
+    → at_first (is_server t) (gone_on_as r (answered bytes)) xs ≡ xs
+unanswered t r bytes xs none =
+    first-own (is_server t) (gone_on_as r (answered bytes)) xs (λ v e.
+    ap (λ (slots : List Served). record { way = v.way; credits = v.credits; slots = slots })
+    (missing-same (is_request r) (answered bytes) v.slots
+    (none-here r v (find (is_server t) xs) none e)))
+
+-- the session of a job stands at its place
+there : (n i : ℕ) (vs : List Server) (v : Server) → position (is_server n) vs ≡ Some i
+    → slice_get vs i ≡ Some v → v.way.number ≡ n
+there n i vs v e at =
+    eqb-true v.way.number n (find-passes (is_server n) vs v (find-found (is_server n) vs i e ∙ at))
+
+pub session-there : (n i : ℕ) (vs : List Server) → position (is_server n) vs ≡ Some i
+    → IfSome (slice_get vs i) (λ v. n ≡ v.way.number)
+session-there n i vs e = by (slice_get vs i) refl
+  where
+    by : (o : Option Server) → slice_get vs i ≡ o → IfSome o (λ v. n ≡ v.way.number)
+    by None at = tt
+    by (Some v) at = sym (there n i vs v e at)
+
+-- the types of the requests stay
+slots-served : (mode : ℕ → Mode) (r : ℕ) (bytes : List ℕ) (v : Server) → SlotsServed mode v
+    → SlotsServed mode (gone_on_as r (answered bytes) v)
+slots-served mode r bytes v served =
+    all-kept (is_request r) (answered bytes) (λ (q : Served). mode q.req_type ≢ Unserved) v.slots
+    (λ q h e. h)
+    served
+
+pub still-served : (mode : ℕ → Mode) (r : ℕ) (bytes : List ℕ) (xs ys : List Server) (o : Option ℕ)
+    (e : Option EntryValue) → AnswersTo o r bytes e xs ys → AllServed mode xs → AllServed mode ys
+still-served mode r bytes xs ys None e h served = rw h.1 served
+still-served mode r bytes xs ys (Some i) None h served = rw h.1 served
+still-served mode r bytes xs ys (Some i) (Some e) h served =
+    rw h.changed (all-set (SlotsServed mode) xs i (gone_on_as r (answered bytes) h.server)
+    (slots-served mode r bytes h.server (all-at (SlotsServed mode) xs i h.server served h.place))
+    (λ j x f other. all-at (SlotsServed mode) xs j x served f))
+
+-- the request that waited, and the number of its reply
+record Waited (t r : ℕ) (bytes : List ℕ) (e : EntryValue) (xs ys : List Server) : Type 0 where
+  pub place : ℕ
+  pub server : Server
+  pub at : slice_get xs place ≡ Some server
+  pub found : find (is_server t) xs ≡ Some server
+  pub waited : is_waited r server ≡ true
+  pub owner : e.owner ≡ Reply t r
+  pub last : IfSome (find (is_request r) server.slots) (λ q. e.number + 1 ≡ packet_count q.size)
+  pub told : ys ≡ at_first (is_server t) (gone_on_as r (answered bytes)) xs
+  pub changed : ys ≡ slice_set xs place (gone_on_as r (answered bytes) server)
+
+waited-for : (t r : ℕ) (bytes : List ℕ) (e : EntryValue) (xs ys : List Server) (o : Option ℕ)
+    → position (is_server t) xs ≡ o → AnswersTo o r bytes (Some e) xs ys → Waited t r bytes e xs ys
+waited-for t r bytes e xs ys None p h = let clash : Some e ≡ None = h.0 in cc
+waited-for t r bytes e xs ys (Some i) p h = record {
+  place = i;
+  server = h.server;
+  at = h.place;
+  found = find-found (is_server t) xs i p ∙ h.place;
+  waited = h.waited;
+  owner = h.owner ∙ ap (λ n. Reply n r) (there t i xs h.server p h.place);
+  last = h.last;
+  told = h.changed ∙ sym (at_first-found (is_server t) (gone_on_as r (answered bytes)) xs i
+      h.server p h.place);
+  changed = h.changed;
+}
+
+last-of : (size n : ℕ) (o : Option Served) → is_working o ≡ true
+    → IfSome o (λ q. n + 1 ≡ packet_count q.size) → IfSome o (WaitsWith size)
+    → packet_count size - 1 ≡ n
+last-of size n None w last waits = let clash : false ≡ true = w in cc
+last-of size n (Some q) w last waits =
+    let same : packet_count size ≡ packet_count q.size = ap packet_count waits.1 in
+    omega (arith, same, last)
+
+replies-more : (qs : List Queued) (q : Queued) → is_reply q.owner ≡ true
+    → replies (qs ++ q ∷ []) ≡ replies qs + 1
+replies-more qs q one =
+    let last = counted-cons (λ (p : Queued). is_reply p.owner) q [] true one in
+    omega (arith, sum_by-append (λ (p : Queued). cond (is_reply p.owner) 1 0) qs (q ∷ []), last)
+
+module _ (me : ℕ) (limits : Limits) (tallies : Tallies) (paces : List Pace) (jobs : Jobs)
+    (clock : ℕ) (rx : Ring DatagramValue) (s : Shown) where
+  abbrev seen_with : Jobs → Timed
+  seen_with js = seen_node me limits tallies paces js clock rx s
+
+  -- the old node, in which fewer replies are queued than the ring is long
+  module _ (fits : Fits (seen_with jobs) s.size s.places) where
+    pub ring-room : replies s.queued < rx.size → length s.queued < s.size
+    ring-room room =
+        let total = kept-total (seen_with jobs).lists fits.kept in
+        omega (arith, two-parts s.queued fits.ready, total, room, fits.packets)
+
+    pub pool-room : HasRoom s
+    pool-room = has-places (seen_with jobs).lists s.places fits.kept fits.settled fits.credits
+        fits.jobs fits.buffers
+
+    module _ (t : Shown) (p : Parcel) (n : ℕ)
+        (clients : t.clients ≡ s.clients) (size : t.size ≡ s.size) (places : t.places ≡ s.places)
+        (more : n ≡ one_more tallies.counts.ran)
+        (later : Jobs) (left : later ≡ without_job p.session p.request jobs) (job : Job)
+        (out : find (is_job p.session p.request) jobs.out ≡ Some job) where
+      abbrev session : ℕ
+      session = p.session
+
+      abbrev request : ℕ
+      request = p.request
+
+      abbrev bytes : List ℕ
+      bytes = bytes_of p.out
+
+      abbrev counts : Counted
+      counts = record tallies.counts { ran = n }
+
+      -- the node that it becomes
+      abbrev next_with : Jobs → Timed
+      next_with js =
+          seen_node me limits (record tallies { counts = counts }) paces js clock rx t
+
+      whose : (job.session ≡ session) × (job.request ≡ request)
+      whose = whose-job session request job (find-passes (is_job session request) jobs.out job out)
+
+      abbrev ran : List ℕ → Fact
+      ran ask = with_two me (Ran session request job.req_type) ask bytes
+
+      abbrev told : List Server
+      told = at_first (is_server session) (gone_on_as request (answered bytes)) s.servers
+
+      -- the node after the run is noted
+      goes-ran : (js : Jobs) (ask : List ℕ) → t.servers ≡ told → t.queued ≡ s.queued
+          → next_with (without_job session request js)
+          ≡ record { lists = after clock (seen_with js).lists (ran ask); clock = clock }
+      goes-ran js ask servers queued = rw (clients, servers, queued, more) refl
+
+      awaited-as : (asks : Asks) → is_awaited (with_ask asks job) s.servers
+          ≡ is_working (request_at session request s.servers)
+      awaited-as asks = rw (whose.0, whose.1) refl
+
+      facts-are : (asks : Asks) (ask : List ℕ) (b : Bool) → asks session request ≡ ask
+          → is_working (request_at session request s.servers) ≡ b
+          → finished_facts bytes (asking asks (seen_with jobs)).lists (with_ask asks job)
+          ≡ ran ask ∷ cond b (plain me (Posted (Reply session request) (packet_count (length ask) -
+          1))
+          ∷ []) []
+      facts-are asks ask b same e =
+          let is : is_awaited (with_ask asks job) s.servers ≡ b = awaited-as asks ∙ e in
+          rw (is, whose.0, whose.1, same) refl
+
+      out-asked : (asks : Asks) → find (is_job session request) (asking_jobs asks jobs).out ≡ Some
+          (with_ask asks job)
+      out-asked asks = job-asked asks session request jobs.out job out
+
+      next-asked : (asks : Asks) → asking_jobs asks later ≡ without_job session request
+          (asking_jobs asks jobs)
+      next-asked asks = ap (asking_jobs asks) left ∙ asked-left asks session request jobs
+
+      -- its request doesn't wait for it
+      module _ (answers : AnswersTo (position (is_server session) s.servers) request bytes None
+          s.servers t.servers) (queued : t.queued ≡ s.queued ++ listed_queued None) where
+        same-servers : t.servers ≡ s.servers
+        same-servers = servers-stay request bytes s.servers t.servers (position (is_server session)
+            s.servers) answers
+
+        same-queue : t.queued ≡ s.queued
+        same-queue = queued ∙ append-nil s.queued
+
+        idle : is_working (request_at session request s.servers) ≡ false
+        idle = unawaited session request bytes s.servers t.servers
+            (position (is_server session) s.servers) refl answers
+
+        pub fits-unposted : Fits (next_with later) t.size t.places
+        fits-unposted = record {
+          kept = rw (clients, same-servers, same-queue, left)
+              (kept-fewer (seen_with jobs).lists counts (is_job session request) fits.kept);
+          ascends = rw clients fits.ascends;
+          unpaced = fits.unpaced;
+          settled = rw clients fits.settled;
+          numbers = rw clients fits.numbers;
+          credits = rw same-servers fits.credits;
+          ready = rw same-queue fits.ready;
+          replies = rw same-queue fits.replies;
+          packets = size ∙ fits.packets;
+          jobs = rw left fits.jobs;
+          buffers = rw left (places ∙ fits.buffers);
+        }
+
+        pub node-unposted : {R : Type 0} (facts : R → Option (List Fact)) (whole : R → Bool)
+            (before now : R) (first second : List ℕ) → first ≡ bytes_of p.ask → second ≡ bytes
+            → Grew facts whole before now
+            (with_two me (Ran session request job.req_type) first second ∷ [])
+            → MakesWhere facts whole (AsksOf p s.servers) (FinishesWith session request bytes)
+            (seen_with jobs) (next_with later) before now
+        node-unposted facts whole before now first second is_first is_second grew = record {
+          noted = ran first ∷ [];
+          grew = rw (← is_second) grew;
+          step = λ asks asked. record {
+            job = with_ask asks job;
+            is_out = out-asked asks;
+            facts = sym (facts-are asks first false (asked.bytes ∙ sym is_first) idle);
+            goes = ap next_with (next-asked asks)
+                ∙ goes-ran (asking_jobs asks jobs) first
+                (same-servers ∙ sym (unanswered session request bytes s.servers
+                (not-there (length (asks session request)) (request_at session request s.servers)
+                asked.waits idle))) same-queue;
+          };
+        }
+
+      -- its request waits for it
+      module _ (e : EntryValue) (answers : AnswersTo (position (is_server session) s.servers)
+          request
+          bytes (Some e) s.servers t.servers) (queued : t.queued ≡ s.queued ++ listed_queued (Some
+          e))
+        where
+          w : Waited session request bytes e s.servers t.servers
+          w = waited-for session request bytes e s.servers t.servers
+              (position (is_server session) s.servers) refl answers
+
+          abbrev posted : Fact
+          posted = plain me (Posted (Reply session request) e.number)
+
+          abbrev entry : Queued
+          entry = record { owner = Reply session request; number = e.number; due = None }
+
+          one-more : t.queued ≡ s.queued ++ entry ∷ []
+          one-more = queued
+              ∙ ap (λ (o : Owner). s.queued ++ record { owner = o; number = e.number; due = None }
+              ∷ []) w.owner
+
+          at-work : is_working (request_at session request s.servers) ≡ true
+          at-work =
+              ap (λ (v : Option Server). is_working (option_and_then (λ v. find (is_request
+              request) v.slots) v))
+              w.found ∙ w.waited
+
+          goes-posted : (js : Jobs) (ask : List ℕ) → next_with (without_job session request js)
+              ≡ record {
+                lists = after clock (after clock (seen_with js).lists (ran ask)) posted;
+                clock = clock;
+              }
+          goes-posted js ask =
+              rw (clients, w.told, one-more, more, put-behind entry s.queued refl fits.ready) refl
+
+          pub fits-answered : replies s.queued < rx.size → Fits (next_with later) t.size t.places
+          fits-answered room = record {
+            kept = rw left (rw (ap (λ (u : Timed). u.lists) (goes-posted jobs []))
+                (kept-all clock (seen_with jobs).lists (ran [] ∷ posted ∷ []) fits.kept (
+                  inr (record { job = job; found = out }),
+                  (
+                    stands-ran session request bytes s.servers
+                        (stands (request_at session request s.servers) refl at-work),
+                    tt,
+                  ),
+                )));
+            ascends = rw clients fits.ascends;
+            unpaced = fits.unpaced;
+            settled = rw clients fits.settled;
+            numbers = rw clients fits.numbers;
+            credits = rw w.changed (all-set HasCredit s.servers w.place
+                (gone_on_as request (answered bytes) w.server)
+                (all-at HasCredit s.servers w.place w.server fits.credits w.at)
+                (λ j x f other. all-at HasCredit s.servers j x fits.credits f));
+            ready = rw one-more (all-push IsReady s.queued entry fits.ready (refl, refl));
+            replies = rw one-more (omega (arith, replies-more s.queued entry refl, room));
+            packets = size ∙ fits.packets;
+            jobs = rw left fits.jobs;
+            buffers = rw left (places ∙ fits.buffers);
+          }
+            where
+              stands : (o : Option Served) → request_at session request s.servers ≡ o
+                  → is_working o ≡ true → Stands s.servers session request
+              stands None found h = cc
+              stands (Some q) found h = record { served = q; found = found }
+
+          last-number : (size : ℕ) → IfSome (request_at session request s.servers) (WaitsWith size)
+              → packet_count size - 1 ≡ e.number
+          last-number size waits =
+              let here : request_at session request s.servers ≡ find (is_request request)
+              w.server.slots =
+              ap (λ (v : Option Server). option_and_then (λ v. find (is_request request) v.slots) v)
+              w.found in
+              last-of size e.number (find (is_request request) w.server.slots) w.waited w.last
+              (subst (λ (o : Option Served). IfSome o (WaitsWith size)) here waits)
+
+          pub node-answered : {R : Type 0} (facts : R → Option (List Fact)) (whole : R → Bool)
+              (before between now : R) (first second : List ℕ) (number : ℕ) → first ≡ bytes_of p.ask
+              → second ≡ bytes → number ≡ e.number
+              → Grew facts whole before between
+              (with_two me (Ran session request job.req_type) first second ∷ [])
+              → Grew facts whole between now (plain me (Posted (Reply session request) number) ∷ [])
+              → MakesWhere facts whole (AsksOf p s.servers) (FinishesWith session request bytes)
+              (seen_with jobs) (next_with later) before now
+          node-answered facts whole before between now first second number is_first is_second
+              is_number one two = record {
+                noted = ran first ∷ posted ∷ [];
+                grew = grew-then facts whole before between now (ran first ∷ []) (posted ∷ [])
+                    (rw (← is_second) one) (rw (← is_number) two);
+                step = λ asks asked.
+                    let same : asks session request ≡ first = asked.bytes ∙ sym is_first in
+                    let last : packet_count (length first) - 1 ≡ e.number =
+                    subst (λ (xs : List ℕ). packet_count (length xs) - 1 ≡ e.number) same
+                    (last-number (length (asks session request)) asked.waits) in
+                    record {
+                      job = with_ask asks job;
+                      is_out = out-asked asks;
+                      facts = ap (λ (k : ℕ). ran first ∷ plain me (Posted (Reply session request)
+                          k) ∷ [])
+                          (sym last) ∙ sym (facts-are asks first true same at-work);
+                      goes = ap next_with (next-asked asks) ∙ goes-posted (asking_jobs asks jobs)
+                          first;
+                    };
+              }

@@ -1,0 +1,133 @@
+-- What always holds of a node, after it made one end of a session.
+use Rattle.std.proofs.Common.{◌≡◌, ℕ, ◌+◌, ◌*◌, ◌≤◌, ◌<◌, Bool, true, false, Option, None, List, []}
+use Rattle.std.proofs.Common.{◌∷◌, ◌++◌, cond, length, refl, ap, ◌∙◌, arith, eq-eqb, leb-false}
+use Rattle.std.specs.Prelude.{count_by, nat_le}
+use Rattle.std.specs.List.{AllByRecursion}
+use Rattle.std.proofs.lemmas.List.{length-append}
+use Rattle.rpc_base.specs.declared.event.Event.{Event}
+use Rattle.rpc_base.specs.declared.event.Event.TheVariants.{PairedClient, PairedServer}
+use Rattle.rpc_base.specs.declared.limits.Limits.{Limits}
+use Rattle.rpc_base.specs.declared.limits.TheConstants.{SESSION_NUMBERS}
+use Rattle.rpc_base.proofs.FirstLemmas.{all-push, counted-cons}
+use Rattle.packet_rings.specs.Rings.{Ring}
+use Rattle.packet_rings.specs.Values.{DatagramValue}
+use Rattle.rpc_laws.specs.declared.tables.Client.{Client}
+use Rattle.rpc_laws.specs.declared.tables.Jobs.{Jobs}
+use Rattle.rpc_laws.specs.declared.tables.Lists.{Lists}
+use Rattle.rpc_laws.specs.declared.tables.Pace.{Pace}
+use Rattle.rpc_laws.specs.declared.tables.Server.{Server}
+use Rattle.rpc_laws.specs.declared.tables.Timed.{Timed}
+use Rattle.rpc_laws.specs.Facts.{plain}
+use Rattle.rpc_laws.specs.Groups.{client_refusal, clients_spent, refusal_by, server_refusal, servers_spent}
+use Rattle.rpc_laws.specs.NodeLists.{after}
+use Rattle.rpc_laws.specs.Requests.{is_server, server_end}
+use Rattle.rpc_laws.specs.Sessions.{client_end}
+use Rattle.node_laws.specs.Valid.{to_come}
+use Rattle.node_laws.proofs.KeptLemmas.{kept-after}
+use Rattle.node_laws.proofs.RunLaws.{pair-fits}
+use Rattle.session_store.specs.Sides.{Shown}
+use Rattle.endpoint_loop.specs.Fits.{CallsAscend, Fits, HasCredit, IsSettled, IsUnpaced}
+use Rattle.endpoint_loop.specs.Seen.{Tallies, seen_node}
+
+-- what nothing refuses has a number that wasn't used
+few-paired : (spent : Bool) (s : Lists) (credits : ℕ) → clients_spent s ≡ spent
+    → refusal_by spent credits s ≡ None → length s.clients < SESSION_NUMBERS
+few-paired true s credits e taken = cc
+few-paired false s credits e taken = leb-false SESSION_NUMBERS (length s.clients) e
+
+module _ (me : ℕ) (limits : Limits) (tallies : Tallies) (paces : List Pace) (jobs : Jobs)
+    (clock : ℕ) (rx : Ring DatagramValue) (s t : Shown) where
+  abbrev old : Timed
+  old = seen_node me limits tallies paces jobs clock rx s
+
+  module _ (fits : Fits old s.size s.places) (credits peer other : ℕ) (some : 1 ≤ credits)
+      (queued : t.queued ≡ s.queued) (size : t.size ≡ s.size) (places : t.places ≡ s.places) where
+    pub fits-paired-client : (now : List Pace)
+        → now ≡ paces ++ record { session = length s.clients; rate = 0; next = 0 } ∷ []
+        → client_refusal credits old.lists ≡ None
+        → t.clients ≡ s.clients ++ client_end (length s.clients) peer other credits ∷ []
+        → t.servers ≡ s.servers
+        → Fits (seen_node me limits tallies now jobs clock rx t) t.size t.places
+    fits-paired-client now paced taken clients servers =
+        let made : Event = PairedClient (length s.clients) peer other credits in
+        record {
+          kept = rw (paced, clients, servers, queued) (kept-after clock old.lists (plain me made)
+              fits.kept (record {
+                numbered = refl;
+                room = pair-fits (clients_spent old.lists) credits old.lists taken;
+              }));
+          ascends = rw clients (all-push CallsAscend s.clients
+              (client_end (length s.clients) peer other credits) fits.ascends tt);
+          unpaced = rw paced (all-push IsUnpaced paces
+              (record { session = length s.clients; rate = 0; next = 0 }) fits.unpaced refl);
+          settled = rw clients (all-push IsSettled s.clients
+              (client_end (length s.clients) peer other credits) fits.settled
+              (record {
+                paired = refl;
+                some = some;
+                none_free = λ closed. cc;
+                none_left = λ closed. refl;
+              }));
+          numbers = rw clients (omega (
+            arith,
+            length-append s.clients (client_end (length s.clients) peer other credits ∷ []),
+            few-paired (clients_spent old.lists) old.lists credits refl taken,
+          ));
+          credits = rw servers fits.credits;
+          ready = rw queued fits.ready;
+          replies = rw queued fits.replies;
+          packets = size ∙ fits.packets;
+          jobs = fits.jobs;
+          buffers = places ∙ fits.buffers;
+        }
+
+    pub fits-paired-server : (next : ℕ) → next ≡ tallies.server_numbers + 1
+        → server_refusal credits old.lists ≡ None → t.clients ≡ s.clients
+        → t.servers ≡ s.servers ++ server_end tallies.server_numbers peer other credits ∷ []
+        → Fits (seen_node me limits (record tallies { server_numbers = next }) paces jobs clock rx t)
+        t.size t.places
+    fits-paired-server next after-is taken clients servers =
+        let made : Event = PairedServer tallies.server_numbers peer other credits in
+        record {
+          kept = rw (after-is, clients, servers, queued) (kept-after clock old.lists (plain me made)
+              fits.kept (record {
+                numbered = refl;
+                room = pair-fits (servers_spent old.lists) credits old.lists taken;
+              }));
+          ascends = rw clients fits.ascends;
+          unpaced = fits.unpaced;
+          settled = rw clients fits.settled;
+          numbers = rw clients fits.numbers;
+          credits = rw servers (all-push HasCredit s.servers
+              (server_end tallies.server_numbers peer other credits) fits.credits some);
+          ready = rw queued fits.ready;
+          replies = rw queued fits.replies;
+          packets = size ∙ fits.packets;
+          jobs = fits.jobs;
+          buffers = places ∙ fits.buffers;
+        }
+
+-- the numbers of server sessions lie below those that weren't used
+pub below-used : (n used count : ℕ) (b : Bool) → nat_le used n ≡ b → 1 ≤ count
+    → count + cond b 1 0 ≤ 1 → n < used
+below-used n used count true t one all = absurd (omega (arith, one, all))
+below-used n used count false t one all = leb-false used n t
+
+pub numbers-below : (used : ℕ) (vs : List Server)
+    → ((t : ℕ) → count_by (is_server t) vs + to_come used t ≤ 1)
+    → AllByRecursion (λ v. v.way.number < used) vs
+numbers-below used [] alone = tt
+numbers-below used (v ∷ vs) alone = (
+  below-used v.way.number used (count_by (is_server v.way.number) (v ∷ vs))
+      (nat_le used v.way.number) refl
+      (omega (
+        arith,
+        counted-cons (is_server v.way.number) v vs true
+            (eq-eqb v.way.number v.way.number refl),
+      )) (alone v.way.number),
+  numbers-below used vs (λ t. omega (
+    arith,
+    alone t,
+    counted-cons (is_server t) v vs (is_server t v) refl,
+  )),
+)

@@ -1,0 +1,158 @@
+use Rattle.std.proofs.Common.{Some, None, refl, sym, ap, ◌∙◌, arith}
+use Rattle.rpc_laws.specs.declared.tables.Jobs.{Jobs}
+use Rattle.endpoint_loop.proofs.FinishLemmas.{fits-answered, fits-unposted, job-found, jobs-left}
+use Rattle.endpoint_loop.proofs.FinishLemmas.{node-answered, node-unposted, pool-room, ring-room}
+use Rattle.endpoint_loop.proofs.FinishLemmas.{same-left, still-served}
+use Rattle.endpoint_loop.specs.Finishing.{is_named}
+use Rattle.endpoint_loop.specs.Seen.{jobs_in, unasked}
+use Rattle.endpoint_loop.proofs.node.Node.finish.Goals as goal
+
+pub invariant_of-self : goal.invariant_of-self
+invariant_of-self g c =
+    let same = c.take_job.ensures.left ∙ same-left (is_named c.args.parcel.session
+    c.args.parcel.request) c.self.inside.jobs.items (sym c.take_job.ensures.found ∙
+    c.in_default.is) in
+    (rw same c.self.invariant.0, omega (arith, c.take_job.ensures.capacity, c.self.invariant.1))
+
+pub returns-in_default-clause-none : goal.returns-in_default-clause-none
+returns-in_default-clause-none g c = λ none.
+    let same = c.take_job.ensures.left ∙ same-left (is_named c.args.parcel.session
+    c.args.parcel.request) c.self.inside.jobs.items (sym c.take_job.ensures.found ∙
+    c.in_default.is) in (
+      rw same c.self.view_is,
+      refl,
+      rw (← c.self.view_is) (job-found _ _ c.self.inside.limits.jobs c.self.inside.given
+          c.self.inside.jobs.items None (sym c.in_default.is ∙ c.take_job.ensures.found)),
+    )
+
+pub post_answer-requires-clause-ring : goal.post_answer-requires-clause-ring
+post_answer-requires-clause-ring g c =
+    ring-room c.self.inside.me c.self.inside.limits
+    (record {
+      asked = c.self.inside.asked;
+      server_numbers = c.self.inside.server_numbers;
+      counts = c.self.inside.counts;
+    }) c.self.inside.paces.items (jobs_in c.self.inside.limits.jobs c.self.inside.given
+    c.self.inside.jobs.items)
+    c.self.inside.clock c.self.inside.rx c.self.inside.store c.self.invariant.0
+    (rw (← c.self.view_is) at c.requires.room)
+
+pub post_answer-requires-clause-room : goal.post_answer-requires-clause-room
+post_answer-requires-clause-room g c =
+    pool-room c.self.inside.me c.self.inside.limits
+    (record {
+      asked = c.self.inside.asked;
+      server_numbers = c.self.inside.server_numbers;
+      counts = c.self.inside.counts;
+    }) c.self.inside.paces.items (jobs_in c.self.inside.limits.jobs c.self.inside.given
+    c.self.inside.jobs.items)
+    c.self.inside.clock c.self.inside.rx c.self.inside.store c.self.invariant.0
+
+pub invariant_of-self-in_default-post_answer : goal.invariant_of-self-in_default-post_answer
+invariant_of-self-in_default-post_answer g c = (
+  fits-unposted c.self.inside.me c.self.inside.limits
+      (record {
+        asked = c.self.inside.asked;
+        server_numbers = c.self.inside.server_numbers;
+        counts = c.self.inside.counts;
+      }) c.self.inside.paces.items (jobs_in c.self.inside.limits.jobs c.self.inside.given
+      c.self.inside.jobs.items)
+      c.self.inside.clock c.self.inside.rx c.self.inside.store c.self.invariant.0
+      c.post_answer.new.store c.args.parcel _ c.post_answer.ensures.clients
+      c.post_answer.ensures.size c.post_answer.ensures.places c.saturating_add-self-inside.ensures _
+      (jobs-left _ _ c.self.inside.limits.jobs c.self.inside.given c.self.inside.jobs.items
+      c.take_job.new.jobs.items c.take_job.ensures.left) (unasked c.in-Some.job)
+      (job-found _ _ c.self.inside.limits.jobs c.self.inside.given c.self.inside.jobs.items
+      (Some c.in-Some.job) (sym c.in-Some.is ∙ c.take_job.ensures.found))
+      (rw c.in_default-post_answer.is at c.post_answer.ensures.servers)
+      (rw c.in_default-post_answer.is at c.post_answer.ensures.queued),
+  omega (arith, c.take_job.ensures.capacity, c.self.invariant.1),
+)
+
+pub returns-in_default-post_answer-clause-done : goal.returns-in_default-post_answer-clause-done
+returns-in_default-post_answer-clause-done g c = λ yes.
+    rw (← c.self.view_is) (node-unposted c.self.inside.me c.self.inside.limits
+    (record {
+      asked = c.self.inside.asked;
+      server_numbers = c.self.inside.server_numbers;
+      counts = c.self.inside.counts;
+    }) c.self.inside.paces.items (jobs_in c.self.inside.limits.jobs c.self.inside.given
+    c.self.inside.jobs.items)
+    c.self.inside.clock c.self.inside.rx c.self.inside.store c.self.invariant.0
+    c.post_answer.new.store c.args.parcel _ c.post_answer.ensures.clients
+    c.post_answer.ensures.size c.post_answer.ensures.places c.saturating_add-self-inside.ensures _
+    (jobs-left _ _ c.self.inside.limits.jobs c.self.inside.given c.self.inside.jobs.items
+    c.take_job.new.jobs.items c.take_job.ensures.left) (unasked c.in-Some.job)
+    (job-found _ _ c.self.inside.limits.jobs c.self.inside.given c.self.inside.jobs.items
+    (Some c.in-Some.job) (sym c.in-Some.is ∙ c.take_job.ensures.found))
+    (rw c.in_default-post_answer.is at c.post_answer.ensures.servers)
+    (rw c.in_default-post_answer.is at c.post_answer.ensures.queued) g.R.Recorder.facts
+    g.R.Recorder.whole c.args.rec.now c.note.new.self
+    _ _ c.bytes-ask.ensures.message c.bytes-answer.ensures.message c.note.ensures)
+
+pub returns-in_default-post_answer-clause-names : goal.returns-in_default-post_answer-clause-names
+returns-in_default-post_answer-clause-names g c = λ yes.
+    rw (← c.self.view_is) (ap (λ (js : Jobs). js.out) (jobs-left _ _ c.self.inside.limits.jobs
+    c.self.inside.given c.self.inside.jobs.items c.take_job.new.jobs.items c.take_job.ensures.left))
+
+pub invariant_of-self-2 : goal.invariant_of-self-2
+invariant_of-self-2 g c = (
+  fits-answered c.self.inside.me c.self.inside.limits
+      (record {
+        asked = c.self.inside.asked;
+        server_numbers = c.self.inside.server_numbers;
+        counts = c.self.inside.counts;
+      }) c.self.inside.paces.items (jobs_in c.self.inside.limits.jobs c.self.inside.given
+      c.self.inside.jobs.items)
+      c.self.inside.clock c.self.inside.rx c.self.inside.store c.self.invariant.0
+      c.post_answer.new.store c.args.parcel _ c.post_answer.ensures.clients
+      c.post_answer.ensures.size c.post_answer.ensures.places c.saturating_add-self-inside.ensures _
+      (jobs-left _ _ c.self.inside.limits.jobs c.self.inside.given c.self.inside.jobs.items
+      c.take_job.new.jobs.items c.take_job.ensures.left) (unasked c.in-Some.job)
+      (job-found _ _ c.self.inside.limits.jobs c.self.inside.given c.self.inside.jobs.items
+      (Some c.in-Some.job) (sym c.in-Some.is ∙ c.take_job.ensures.found))
+      c.in-Some-post_answer.entry
+      (rw c.in-Some-post_answer.is at c.post_answer.ensures.servers)
+      (rw c.in-Some-post_answer.is at c.post_answer.ensures.queued) (rw (← c.self.view_is) at
+      c.requires.room),
+  omega (arith, c.take_job.ensures.capacity, c.self.invariant.1),
+)
+
+pub returns-clause-done : goal.returns-clause-done
+returns-clause-done g c = λ yes.
+    rw (← c.self.view_is) (node-answered c.self.inside.me c.self.inside.limits
+    (record {
+      asked = c.self.inside.asked;
+      server_numbers = c.self.inside.server_numbers;
+      counts = c.self.inside.counts;
+    }) c.self.inside.paces.items (jobs_in c.self.inside.limits.jobs c.self.inside.given
+    c.self.inside.jobs.items)
+    c.self.inside.clock c.self.inside.rx c.self.inside.store c.self.invariant.0
+    c.post_answer.new.store c.args.parcel _ c.post_answer.ensures.clients
+    c.post_answer.ensures.size c.post_answer.ensures.places c.saturating_add-self-inside.ensures _
+    (jobs-left _ _ c.self.inside.limits.jobs c.self.inside.given c.self.inside.jobs.items
+    c.take_job.new.jobs.items c.take_job.ensures.left) (unasked c.in-Some.job)
+    (job-found _ _ c.self.inside.limits.jobs c.self.inside.given c.self.inside.jobs.items
+    (Some c.in-Some.job) (sym c.in-Some.is ∙ c.take_job.ensures.found))
+    c.in-Some-post_answer.entry
+    (rw c.in-Some-post_answer.is at c.post_answer.ensures.servers)
+    (rw c.in-Some-post_answer.is at c.post_answer.ensures.queued) g.R.Recorder.facts
+    g.R.Recorder.whole c.args.rec.now c.note.new.self c.note-2.new.self
+    _ _ _ c.bytes-ask.ensures.message c.bytes-answer.ensures.message
+    (ap (λ e. e.number) c.entry.view_is) c.note.ensures c.note-2.ensures)
+
+pub returns-clause-names : goal.returns-clause-names
+returns-clause-names g c = λ yes.
+    rw (← c.self.view_is) (ap (λ (js : Jobs). js.out) (jobs-left _ _ c.self.inside.limits.jobs
+    c.self.inside.given c.self.inside.jobs.items c.take_job.new.jobs.items c.take_job.ensures.left))
+
+pub returns-in_default-clause-served : goal.returns-in_default-clause-served
+returns-in_default-clause-served g c = λ mode served. rw (← c.self.view_is) at served
+
+pub returns-in_default-post_answer-clause-served : goal.returns-in_default-post_answer-clause-served
+returns-in_default-post_answer-clause-served g c = λ mode served.
+    still-served mode _ _ _ _ _ _ c.post_answer.ensures.servers (rw (← c.self.view_is) at served)
+
+pub returns-clause-served : goal.returns-clause-served
+returns-clause-served g c = λ mode served.
+    still-served mode _ _ _ _ _ _ c.post_answer.ensures.servers (rw (← c.self.view_is) at served)

@@ -1,0 +1,34 @@
+use Rattle.std.proofs.Common.{refl, ◌∙◌, arith}
+use Rattle.endpoint_loop.proofs.CrewLemmas.{finished-still, finished-then}
+use Rattle.endpoint_loop.proofs.node.Node.finish_all.Goals as goal
+
+pub jobs-init : goal.jobs-init
+jobs-init g c = (
+  finished-still g.R.Recorder.facts g.R.Recorder.whole g.W.Workers.answer _ _ _ _,
+  refl,
+  λ mode served. served,
+  refl,
+  refl,
+  omega arith,
+)
+
+pub jobs-preserved : goal.jobs-preserved
+jobs-preserved g c =
+    let i = c.jobs.invariant in (
+      finished-then g.R.Recorder.facts g.R.Recorder.whole g.W.Workers.answer _ _ _ _ _ _ _ _ _ _ _ _
+          i.0 c.finish_next.ensures.makes,
+      c.finish_next.ensures.clients ∙ i.1,
+      λ mode served. c.finish_next.ensures.served mode (i.2 mode served),
+      c.finish_next.ensures.given ∙ i.3,
+      c.finish_next.ensures.limit ∙ i.4,
+      omega (arith, i.5, c.finish_next.ensures.looks),
+    )
+
+pub returns-then-not-finish_next-clause-makes : goal.returns-then-not-finish_next-clause-makes
+returns-then-not-finish_next-clause-makes g c =
+    finished-then g.R.Recorder.facts g.R.Recorder.whole g.W.Workers.answer _ _ _ _ _ _ _ _ _ _ _ _
+    c.jobs.invariant.0 c.finish_next.ensures.makes
+
+pub returns-then-not-finish_next-clause-served : goal.returns-then-not-finish_next-clause-served
+returns-then-not-finish_next-clause-served g c = λ mode served.
+    c.finish_next.ensures.served mode (c.jobs.invariant.2 mode served)

@@ -1,0 +1,21 @@
+use Rattle.std.proofs.Common.{◌≡◌, ◌≤◌, ℕ, length}
+use Rattle.endpoint_loop.specs.Finishing.{MakesFinished}
+use Rattle.endpoint_loop.specs.Serving.{AllServed}
+use Rattle.rpc_outside.specs.declared.service.Mode.{Mode}
+use Rattle.endpoint_loop.proofs.node.Node.finish_all.Given as goal
+
+abbrev pub invariant-jobs : goal.invariant-jobs
+invariant-jobs g l =
+    MakesFinished g.R.Recorder.facts g.R.Recorder.whole g.W.Workers.answer
+    (g.W.Workers.out l.initial.workers) (g.W.Workers.out l.workers)
+    (g.W.Workers.worked l.initial.workers) (g.W.Workers.worked l.workers) l.initial.self l.self
+    l.initial.rec l.rec
+    × (l.self.lists.clients ≡ l.initial.self.lists.clients)
+    × ((mode : ℕ → Mode) → AllServed mode l.initial.self.lists.servers
+    → AllServed mode l.self.lists.servers)
+    × (g.W.Workers.given l.workers ≡ g.W.Workers.given l.initial.workers)
+    × (g.W.Workers.limit l.workers ≡ g.W.Workers.limit l.initial.workers)
+    × (g.W.Workers.looks l.initial.workers ≤ g.W.Workers.looks l.workers)
+
+abbrev pub decreases-jobs : goal.decreases-jobs
+decreases-jobs g l = length (g.W.Workers.out l.workers)

@@ -1,0 +1,64 @@
+use Rattle.std.proofs.Common.{sym, ap, ◌∙◌}
+use Rattle.std.specs.Option.{option_copied}
+use Rattle.rpc_laws.specs.declared.tables.Jobs.{Jobs}
+use Rattle.endpoint_loop.proofs.HearLemmas.{some-front}
+use Rattle.endpoint_loop.proofs.ServeLemmas.{node-stranger, node-unknown}
+use Rattle.endpoint_loop.proofs.ServerLemmas.{alike, differ, number-there, peer-there}
+use Rattle.endpoint_loop.specs.Seen.{jobs_in}
+use Rattle.endpoint_loop.proofs.node.Node.serve_request.Goals as goal
+
+pub unreachable-requires : goal.unreachable-requires
+unreachable-requires g c =
+    let front = rw (← c.self.view_is) at c.requires.front in
+    some-front c.self.inside.rx.items c.args.head.now _ c.front.ensures (ap option_copied
+    c.in_default.is) front
+
+pub returns-in_default-place_of_server-clause-serves :
+    goal.returns-in_default-place_of_server-clause-serves
+returns-in_default-place_of_server-clause-serves g c =
+    let front = rw (← c.self.view_is) at c.requires.front in
+    let here = sym c.front.ensures ∙ ap option_copied c.in-Some.is in
+    let made = rw (← c.self.view_is) at c.drop_front.ensures.drops in
+    let same = rw (← c.self.view_is) at c.drop_front.ensures.jobs in
+    rw (← c.self.view_is) (node-unknown c.self.inside.me c.self.inside.limits (record {
+      asked = c.self.inside.asked;
+      server_numbers = c.self.inside.server_numbers;
+      counts = c.self.inside.counts;
+    }) c.self.inside.paces.items (jobs_in c.self.inside.limits.jobs c.self.inside.given
+    c.self.inside.jobs.items) c.self.inside.clock c.self.inside.rx c.self.inside.store
+    c.self.invariant.0 c.args.head.now c.in-Some.front.now front here g.V.Service.mode_of
+    g.R.Recorder.facts g.R.Recorder.whole c.args.rec.now c.drop_front.new.rec g.V.Service.answer
+    (g.V.Service.stands c.args.service.now) (g.V.Service.stands c.args.service.now)
+    c.drop_front.new.self (sym c.place_of_server.ensures ∙ c.in_default-place_of_server.is) (ap
+    (λ (js : Jobs). js.out) same) (λ was st. st) made)
+
+pub returns-then-ne-clause-serves : goal.returns-then-ne-clause-serves
+returns-then-ne-clause-serves g c =
+    let front = rw (← c.self.view_is) at c.requires.front in
+    let here = sym c.front.ensures ∙ ap option_copied c.in-Some.is in
+    let made = rw (← c.self.view_is) at c.drop_front-then-ne.ensures.drops in
+    let same = rw (← c.self.view_is) at c.drop_front-then-ne.ensures.jobs in
+    let place = sym c.place_of_server.ensures ∙ c.in-Some-place_of_server.is in
+    let there = number-there c.args.head.now.session c.in-Some-place_of_server.i
+    c.self.inside.store.servers place in
+    rw (← c.self.view_is) (node-stranger c.self.inside.me c.self.inside.limits (record {
+      asked = c.self.inside.asked;
+      server_numbers = c.self.inside.server_numbers;
+      counts = c.self.inside.counts;
+    }) c.self.inside.paces.items (jobs_in c.self.inside.limits.jobs c.self.inside.given
+    c.self.inside.jobs.items) c.self.inside.clock c.self.inside.rx c.self.inside.store
+    c.self.invariant.0 c.args.head.now c.in-Some.front.now front here g.V.Service.mode_of
+    g.R.Recorder.facts g.R.Recorder.whole c.args.rec.now c.drop_front-then-ne.new.rec
+    g.V.Service.answer (g.V.Service.stands c.args.service.now) (g.V.Service.stands
+    c.args.service.now) c.drop_front-then-ne.new.self c.in-Some-place_of_server.i
+    c.peer_of_server.result place c.peer_of_server.ensures there.0 (differ
+    c.peer_of_server.result c.peer.result c.in-Some.front.now.peer c.ne.result c.ne.ensures
+    c.if-ne.true c.peer.ensures) (ap (λ (js : Jobs). js.out) same) (λ was st. st) made)
+
+pub serve_at-requires-clause-peer : goal.serve_at-requires-clause-peer
+serve_at-requires-clause-peer g c =
+    let here = sym c.front.ensures ∙ ap option_copied c.in-Some.is in
+    rw (← c.self.view_is) (peer-there c.self.inside.store.servers c.in-Some-place_of_server.i
+    c.peer_of_server.result c.self.inside.rx.items c.in-Some.front.now here
+    c.peer_of_server.ensures (alike c.peer_of_server.result c.peer.result c.ne.result
+    c.ne.ensures c.if-ne.false ∙ c.peer.ensures))
