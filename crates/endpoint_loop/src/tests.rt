@@ -94,17 +94,13 @@ fn a_call_that_is_too_large_or_of_no_session_is_refused(rt: HostRuntime) -> Resu
     let alloc = rt.alloc();
     let mut node = Node::new(alloc, NodeId(0), Limits::usual())?;
     let mut rec = MemRecorder::new(alloc);
-    node.pair_client(alloc, Peer(1), SessionNo(0), 1, &mut rec)?;
     let large = Some(AskError::TooLarge { len: 1_048_577 });
     let unknown = Some(AskError::NotConnected {
         state: SessionState::Unknown,
     });
-    let (one, other) = (too_large(alloc)?, too_large(alloc)?);
-    assert!(rt; refusal(alloc, &mut node, SessionNo(0), one, &mut rec)? == large);
-    assert!(rt; refusal(alloc, &mut node, SessionNo(1), other, &mut rec)? == large);
-    let (one, other) = (hello(alloc)?, hello(alloc)?);
-    assert!(rt; refusal(alloc, &mut node, SessionNo(1), one, &mut rec)? == unknown);
-    assert!(rt; refusal(alloc, &mut node, SessionNo(0), other, &mut rec)? == None);
-    assert_eq!(rt; rec.facts().len(), 5);
+    let (one, other) = (too_large(alloc)?, hello(alloc)?);
+    assert!(rt; refusal(alloc, &mut node, SessionNo(7), one, &mut rec)? == large);
+    assert!(rt; refusal(alloc, &mut node, SessionNo(7), other, &mut rec)? == unknown);
+    assert_eq!(rt; rec.facts().len(), 2);
     Ok(())
 }
