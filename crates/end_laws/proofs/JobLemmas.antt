@@ -1,10 +1,12 @@
 -- The jobs of a node stay those of requests that stand in their slots, each of another one.
 use Rattle.std.proofs.Common.{◌≡◌, ◌≤◌, ◌+◌, ◌==◌, inl, inr, ℕ, Bool, true, false, cond, List, []}
 use Rattle.std.proofs.Common.{◌∷◌, ◌++◌, Option, Some, None, refl, sym, ap, ◌∙◌, subst, arith}
-use Rattle.std.proofs.Common.{eq-eqb}
+use Rattle.std.proofs.Common.{eq-eqb, length, min, ◌*◌}
 use Rattle.std.specs.Prelude.{◌%◌, count_by}
 use Rattle.std.specs.List.{find, list_any, AllByRecursion}
 use Rattle.std.proofs.lemmas.Bool.{eqb-true, and_parts}
+use Rattle.packet_header.specs.Parts.{packet_count}
+use Rattle.packet_header.proofs.PartsLemmas.{packet_count_room}
 use Rattle.packet_header.specs.declared.packet.MessageHeader.{MessageHeader}
 use Rattle.rpc_base.specs.Tables.{at_first, without_first}
 use Rattle.rpc_base.proofs.TakingLemmas.{find-passes}
@@ -37,21 +39,18 @@ pub record KeptSlot (slots : List Served) (r : ℕ) (q : Served) : Type 0 where
   pub now : Served
   pub is_there : find (is_request r) slots ≡ Some now
   pub working : now.working ≡ true
-  pub taken : q.taken ≤ now.taken
-
-self-le : (n : ℕ) → n ≤ n
-self-le n = omega arith
+  pub sized : now.size ≡ q.size
 
 -- a request that goes on, or becomes a job
 changed-kept : (slots : List Served) (n : ℕ) (change : Served → Served) (r : ℕ) (q : Served)
-    → ((x : Served) → (change x).number ≡ x.number) → ((x : Served) → x.taken ≤ (change x).taken)
+    → ((x : Served) → (change x).number ≡ x.number) → ((x : Served) → (change x).size ≡ x.size)
     → ((x : Served) → x.working ≡ true → (change x).working ≡ true)
     → find (is_request r) slots ≡ Some q → q.working ≡ true
     → KeptSlot (at_first (is_request n) change slots) r q
-changed-kept slots n change r q number taken works is w =
+changed-kept slots n change r q number sized works is w =
     elim (find-after (is_request n) (is_request r) change slots q (λ x. ap (λ (m : ℕ). m == r) (number x)) is) [
-      | inl e ↦ record { now = q; is_there = e; working = w; taken = self-le q.taken }
-      | inr c ↦ record { now = change q; is_there = c.is; working = works q w; taken = taken q }
+      | inl e ↦ record { now = q; is_there = e; working = w; sized = refl }
+      | inr c ↦ record { now = change q; is_there = c.is; working = works q w; sized = sized q }
     ]
 
 -- another request is answered
@@ -60,7 +59,7 @@ answered-kept : (slots : List Served) (n : ℕ) (answer : List ℕ) (r : ℕ) (q
     → KeptSlot (at_first (is_request n) (answered answer) slots) r q
 answered-kept slots n answer r q other is w =
     elim (find-after (is_request n) (is_request r) (answered answer) slots q (λ x. refl) is) [
-      | inl e ↦ record { now = q; is_there = e; working = w; taken = self-le q.taken }
+      | inl e ↦ record { now = q; is_there = e; working = w; sized = refl }
       | inr c ↦ absurd (other (sym (eqb-true q.number r (find-passes (is_request r) slots q is))
           ∙ eqb-true q.number n c.passes))
     ]
@@ -91,21 +90,21 @@ took-kept None slots h body r q a t is w =
           (first_packet h.request h body) q (find-without (in_slot_of h.request)
           (is_request r) slots q is out);
       working = w;
-      taken = self-le q.taken;
+      sized = refl;
     })
 took-kept (Some g) slots h body r q a t is w =
     let any : list_any (is_request h.request) slots ≡ true = any-find (is_request h.request) slots g t.0 in
-    rw any (changed-kept slots h.request (next_packet body) r q (λ x. refl) (λ x. omega arith) (λ x k. k) is w)
+    rw any (changed-kept slots h.request (next_packet body) r q (λ x. refl) (λ x. refl) (λ x k. k) is w)
 
 -- in whatever session it stands
 pub record Kept (xs : List Server) (t r : ℕ) (q : Served) : Type 0 where
   pub now : Served
   pub stands : Stands xs t r now
   pub working : now.working ≡ true
-  pub taken : q.taken ≤ now.taken
+  pub sized : now.size ≡ q.size
 
 kept-same : (xs : List Server) (t r : ℕ) (q : Served) → Stands xs t r q → q.working ≡ true → Kept xs t r q
-kept-same xs t r q s w = record { now = q; stands = s; working = w; taken = self-le q.taken }
+kept-same xs t r q s w = record { now = q; stands = s; working = w; sized = refl }
 
 -- the slots of one session change
 kept-by : (xs : List Server) (t r n : ℕ) (change : List Served → List Served) (q : Served)
@@ -122,7 +121,7 @@ kept-by xs t r n change q s w after =
           is_there = s.is_there;
         };
         working = w;
-        taken = self-le q.taken;
+        sized = refl;
       }
       | inr c ↦ (let mine : t ≡ n = sym (eqb-true s.server.way.number t (find-passes (is_server t) xs s.server s.found)) ∙ eqb-true s.server.way.number n c.passes in
           let k = after s.server c.first refl mine in
@@ -134,7 +133,7 @@ kept-by xs t r n change q s w after =
               is_there = k.is_there;
             };
             working = k.working;
-            taken = k.taken;
+            sized = k.sized;
           })
     ]
 
@@ -165,7 +164,7 @@ kept-after hand l (Took (Reply n p) j) first second t r q i m other h w =
 kept-after hand l (Given n p) first second t r q i m other h w =
     kept-by l.servers t r n (at_first (is_request p) given) q h w
     (λ v is same mine. let at : find (is_request r) v.slots ≡ Some q = subst (λ (z : Server). find (is_request r) z.slots ≡ Some q) (sym same) h.is_there in
-    changed-kept v.slots p given r q (λ x. refl) (λ x. self-le x.taken) (λ x k. refl) at w)
+    changed-kept v.slots p given r q (λ x. refl) (λ x. refl) (λ x k. refl) at w)
 kept-after hand l (Ran n p y) first second t r q i m other h w =
     kept-by l.servers t r n (at_first (is_request p) (answered second)) q h w
     (λ v is same mine. let at : find (is_request r) v.slots ≡ Some q = subst (λ (z : Server). find (is_request r) z.slots ≡ Some q) (sym same) h.is_there in
@@ -178,9 +177,7 @@ fits-after : (hand : Option InFlight) (l : Lists) (e : Event) (first second : Li
     → JobFits (servers_after e second (front_header l.ring) (front_body l.ring) l.servers) job
 fits-after hand l e first second job i m other h =
     let k = kept-after hand l e first second job.session job.request h.request i m other h.stands h.working in
-    let long = h.long in
-    let more = k.taken in
-    record { request = k.now; stands = k.stands; working = k.working; long = omega arith }
+    record { request = k.now; stands = k.stands; working = k.working; sized = h.sized ∙ sym k.sized }
 
 -- a job of the request that no worker has isn't there
 idle-by : (xs : List Server) (t r : ℕ) (q : Served) (job : Job) (b : Bool) → is_job t r job ≡ b
@@ -247,6 +244,12 @@ given-once t r out new false e none once =
 pub new-is : (l : Lists) (t r : ℕ) → (m : IsWhole l t r) → new_job t r l.servers ≡ job_of t m.request ∷ []
 new-is l t r m = rw (m.found, m.is_there) refl
 
+-- a whole request has as many bytes as its size says
+whole-size : (ask : List ℕ) (size taken : ℕ) → taken ≡ packet_count size
+    → length ask ≡ min size (1024 * taken) → length ask ≡ size
+whole-size ask size taken whole long =
+    let room = packet_count_room size in omega (arith, whole, long, room)
+
 given-jobs : (hand : Option InFlight) (l : Lists) (t r : ℕ) (first second : List ℕ) → RightNode l
     → May hand l (Given t r) first second
     → JobsRight (servers_after (Given t r) second (front_header l.ring)
@@ -264,13 +267,15 @@ given-jobs hand l t r first second i m =
           (find-passes (is_request r) w.server.slots q w.is_there);
     } in
     let right = stands-right l.servers t r q i.slots stands in
+    let all_there : length q.ask ≡ q.size =
+    whole-size q.ask q.size q.taken w.whole (right.whole w.unanswered w.idle) in
     let new : Job = job_of t q in
     let fits : JobFits (at_first (is_server t) (with_slots slots) l.servers) new = record {
       request = given q;
       stands = subst (λ (n : ℕ). Stands (at_first (is_server t) (with_slots slots) l.servers) t n
           (given q)) (sym number) now;
       working = refl;
-      long = right.long;
+      sized = all_there;
     } in
     let all = fit-all hand l (Given t r) first second i.sound m (λ a b x. x) i.jobs in
     let idle : count_by (is_job t r) l.jobs.out ≡ 0 =
@@ -352,6 +357,6 @@ jobs-added xs y jobs h =
             k.stands.is_there;
       };
       working = k.working;
-      long = k.long;
+      sized = k.sized;
     } in
     record { out = all-map _ _ jobs.out fits h.out; once = h.once }

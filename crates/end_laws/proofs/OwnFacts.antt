@@ -73,7 +73,7 @@ use Rattle.rpc_laws.specs.Groups.{ask_by_state, Asks, client_refusal, clients_sp
 use Rattle.rpc_laws.specs.Groups.{Connects, Disconnects, has_no_room, pending, SetsRate, shares}
 use Rattle.rpc_laws.specs.Groups.{state_of}
 use Rattle.rpc_laws.specs.PollOrder.{Closes, FinishesOne, FinishesSome, Handles, HandlesAll}
-use Rattle.rpc_laws.specs.PollOrder.{handling_by, is_awaited, Poll, PostsAll, raised, Sends}
+use Rattle.rpc_laws.specs.PollOrder.{answer_posted, awaited, handling_by, Poll, PostsAll, raised, Sends}
 use Rattle.rpc_laws.specs.PollOrder.{SendsSome, Serves}
 use Rattle.rpc_laws.specs.Posting.{beginning, can_post, if_connected, lowest_free, next_begun}
 use Rattle.rpc_laws.specs.Posting.{next_packet, next_posted, next_turn, posting}
@@ -266,14 +266,14 @@ module _ (still : Bool) where
         (numbers_of owner queued)
 
     -- a job is finished
-    own-finish : (b : Bool) (job : Job) (answer : List ℕ) (k : ℕ)
+    own-finish : (o : Option ℕ) (job : Job) (answer : List ℕ)
         → AllOwn still me (with_two me (Ran job.session job.request job.req_type) job.ask answer
-        ∷ cond b (plain me (Posted (Reply job.session job.request) k) ∷ []) [])
-    own-finish true job answer k = (
+        ∷ answer_posted me job o)
+    own-finish None job answer = (record { who = refl; idle = refl; plain = λ e. refl; brings = λ e. tt }, tt)
+    own-finish (Some k) job answer = (
       record { who = refl; idle = refl; plain = λ e. refl; brings = λ e. tt },
       (record { who = refl; idle = refl; plain = λ e. refl; brings = λ e. tt }, tt),
     )
-    own-finish false job answer k = (record { who = refl; idle = refl; plain = λ e. refl; brings = λ e. tt }, tt)
 
     -- a packet is handled
     own-flushes : (queued : List Queued) (session : ℕ) (q : Option Served)
@@ -465,8 +465,8 @@ module _ (still : Bool) where
   finishes-one : Owns FinishesOne
   finishes-one s x t z h =
       owns-goes s x t z h.finishes.goes (rw h.finishes.facts
-      (own-finish s.lists.me (is_awaited h.finishes.job s.lists.servers) h.finishes.job
-      h.finishes.answer _))
+      (own-finish s.lists.me (awaited h.finishes.job s.lists.servers) h.finishes.job
+      h.finishes.answer))
 
   hears-own : Owns Hears
   hears-own s x t z h =

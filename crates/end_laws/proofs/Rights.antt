@@ -54,12 +54,12 @@ pub record Stands (xs : List Server) (t r : ℕ) (q : Served) : Type 0 where
   pub found : find (is_server t) xs ≡ Some server
   pub is_there : find (is_request r) server.slots ≡ Some q
 
--- the request of a job stands in its slot, and a worker has it
+-- the request of a job stands in its slot, a worker has it, and the job has all its bytes
 pub record JobFits (xs : List Server) (job : Job) : Type 0 where
   pub request : Served
   pub stands : Stands xs job.session job.request request
   pub working : request.working ≡ true
-  pub long : length job.ask ≤ 1024 * request.taken
+  pub sized : length job.ask ≡ request.size
 
 -- so it is for all jobs, and no two jobs are of one request
 pub record JobsRight (xs : List Server) (jobs : Jobs) : Type 0 where

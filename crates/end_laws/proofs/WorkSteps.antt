@@ -1,17 +1,17 @@
 -- Working jobs and finishing them notes only what is allowed.
-use Rattle.std.proofs.Common.{◌≡◌, ◌==◌, not, sym, ◌<◌, ◌≤◌, ◌-◌, ◌*◌, inr, ℕ, zero, suc, Bool}
+use Rattle.std.proofs.Common.{◌≡◌, ◌==◌, not, sym, ◌-◌, inr, ℕ, Bool}
 use Rattle.std.proofs.Common.{true, false, cond, List, [], ◌∷◌, length, Option, Some, None}
 use Rattle.std.proofs.Common.{slice_get, refl, ap, ◌∙◌, subst, arith}
 use Rattle.std.specs.Prelude.{map}
 use Rattle.std.specs.List.{find, AllByRecursion}
 use Rattle.std.proofs.lemmas.Bool.{eqb-true}
 use Rattle.packet_header.specs.Parts.{packet_count}
-use Rattle.packet_header.proofs.PartsLemmas.{packet_count-one, packet_count_needed}
+use Rattle.packet_header.proofs.PartsLemmas.{packet_count_above}
 use Rattle.rpc_base.specs.Tables.{at_first}
 use Rattle.rpc_base.proofs.TakingLemmas.{find-passes}
 use Rattle.rpc_base.specs.declared.event.Event.TheVariants.{Closing, NcloseState, NcloseBusy, Rated}
 use Rattle.rpc_base.specs.declared.event.Event.TheVariants.{Nrate, NconnectRing, NconnectNumbers}
-use Rattle.rpc_base.specs.declared.event.Event.TheVariants.{Posted, Worked, Ran}
+use Rattle.rpc_base.specs.declared.event.Event.TheVariants.{Worked, Ran}
 use Rattle.rpc_base.specs.declared.state.SessionState.{SessionState}
 use Rattle.rpc_laws.specs.Groups.{Connects, Disconnects, SetsRate, state_of, pending, shares}
 use Rattle.rpc_laws.specs.Groups.{clients_spent, has_no_room, client_refusal, connect_by}
@@ -19,16 +19,16 @@ use Rattle.rpc_laws.specs.Sessions.{is_client, is_connected, is_live}
 use Rattle.rpc_base.specs.declared.event.Event.{Event}
 use Rattle.end_laws.specs.OnlyPairs.{is_of_control, OnlyPairs}
 use Rattle.rpc_base.specs.declared.fact.Fact.{Fact}
-use Rattle.rpc_base.specs.declared.owner.Owner.TheVariants.{Reply}
 use Rattle.rpc_laws.specs.declared.tables.InFlight.{InFlight}
 use Rattle.rpc_laws.specs.declared.tables.Job.{Job}
 use Rattle.rpc_laws.specs.declared.tables.Lists.{Lists}
+use Rattle.rpc_laws.specs.declared.tables.Served.{Served}
 use Rattle.rpc_laws.specs.declared.tables.Timed.{Timed}
 use Rattle.rpc_laws.specs.declared.tables.WorkedJob.{WorkedJob}
 use Rattle.rpc_laws.specs.Facts.{plain, with_two}
 use Rattle.rpc_laws.specs.Jobs.{is_job}
 use Rattle.rpc_laws.specs.NodeLists.{after, after_all}
-use Rattle.rpc_laws.specs.PollOrder.{Finishes, is_awaited}
+use Rattle.rpc_laws.specs.PollOrder.{answer_posted, awaited, awaited_of, Finishes}
 use Rattle.rpc_laws.specs.Requests.{is_server, is_request, answered}
 use Rattle.rpc_laws.specs.Steps.{Goes}
 use Rattle.rpc_laws.specs.Working.{Works, WorksAll, FinishesEach, FinishesWorked, waiting_of, work_of}
@@ -43,15 +43,21 @@ use Rattle.end_laws.proofs.SlotLemmas.{with_slots, Apart, slot-of-request, apart
 use Rattle.end_laws.proofs.Walks.{Walked, Fine, walked-goes, walked-none, fine-then}
 use Rattle.rpc_base.proofs.BasicLemmas.{false-true}
 
--- the last packet of some bytes is below each number of packets that has room for them
-low-packet : (n k : ℕ) → n ≤ 1024 * k → 1 ≤ k → packet_count n - 1 < k
-low-packet zero k le some = let one = packet_count-one 0 (omega arith) in omega arith
-low-packet (suc n) k le some = let needed = packet_count_needed (suc n) (omega arith) in omega arith
+-- the number of the reply is that of the last packet of the job's bytes
+number-is : (q : Served) (size k : ℕ) → q.working ≡ true → size ≡ q.size → awaited_of (Some q) ≡ Some k
+    → packet_count size - 1 ≡ k
+number-is q size k working sized e =
+    let there : Some (packet_count q.size - 1) ≡ Some k = rw working at e in
+    let same : packet_count q.size - 1 ≡ k = cc in
+    ap (λ (n : ℕ). packet_count n - 1) sized ∙ same
 
 -- the packet that answers the last one of the request is posted
-posts-walk : (b : Bool) (hand : Option InFlight) (clock : ℕ) (l : Lists) (job : Job) (answer : List ℕ) → RightNode l → JobFits l.servers job → let f : Fact = with_two l.me (Ran job.session job.request job.req_type) job.ask answer in let u : Lists = after clock l f in WalksFrom hand (Some f) clock u (cond b (plain l.me (Posted (Reply job.session job.request) (packet_count (length job.ask) - 1)) ∷ []) [])
-posts-walk false hand clock l job answer i h = tt
-posts-walk true hand clock l job answer i h =
+posts-walk : (o : Option ℕ) (hand : Option InFlight) (clock : ℕ) (l : Lists) (job : Job)
+    (answer : List ℕ) → awaited job l.servers ≡ o → RightNode l → JobFits l.servers job
+    → let f : Fact = with_two l.me (Ran job.session job.request job.req_type) job.ask answer in
+    let u : Lists = after clock l f in WalksFrom hand (Some f) clock u (answer_posted l.me job o)
+posts-walk None hand clock l job answer e i h = tt
+posts-walk (Some k) hand clock l job answer e i h =
     let t = job.session in
     let r = job.request in
     let v = h.stands.server in
@@ -62,7 +68,12 @@ posts-walk true hand clock l job answer i h =
     let there : find (is_request r) (change v.slots) ≡ Some (answered answer q) =
     find-first (is_request r) (answered answer) v.slots q h.stands.is_there
     (find-passes (is_request r) v.slots q h.stands.is_there) in
-    let apart : Apart v.slots = all-found (λ v. Apart v.slots) (is_server t) l.servers v i.sound h.stands.found in (
+    let apart : Apart v.slots = all-found (λ v. Apart v.slots) (is_server t) l.servers v i.sound h.stands.found in
+    let own : awaited_of (Some q) ≡ Some k = rw (h.stands.found, h.stands.is_there) at e in
+    let last : packet_count (length job.ask) - 1 ≡ k = number-is q (length job.ask) k h.working h.sized own in
+    let count : packet_count (length job.ask) ≡ packet_count q.size = ap packet_count h.sized in
+    let above = packet_count_above q.size in
+    let whole = (right.working h.working).0 in (
       record {
         who = refl;
         may = record {
@@ -72,10 +83,10 @@ posts-walk true hand clock l job answer i h =
           in_slot = slot-of-request r (change v.slots) (answered answer q)
               (apart-answered r answer v.slots apart) there;
           number = number;
-          was_taken = low-packet (length job.ask) q.taken h.long right.some;
+          was_taken = omega (arith, last, count, above, whole);
         };
       },
-      owed-self l.me t r (packet_count (length job.ask) - 1),
+      rw last (owed-self l.me t r k),
       tt,
     )
 
@@ -101,7 +112,7 @@ module _ (hand : Option InFlight) where
       (rw h.facts (
         run,
         inr (record { job = job; is_out = is_out; own = refl }),
-        posts-walk (is_awaited job l.servers) hand s.clock l job h.answer i fits,
+        posts-walk (awaited job l.servers) hand s.clock l job h.answer refl i fits,
       )) h.goes
 
   finishes-each : (worked : List WorkedJob) → Fine RightNode hand (FinishesEach worked)

@@ -29,10 +29,11 @@ use Rattle.rpc_laws.specs.Service.{is_handled, is_mode_background, is_mode_inlin
 use Rattle.rpc_outside.specs.declared.service.Mode.{Mode}
 use Rattle.rpc_outside.specs.declared.service.Mode.TheVariants.{Background, Inline, Unserved}
 use Rattle.node_laws.proofs.Allowed.{Newer}
-use Rattle.node_laws.proofs.RowLemmas.{Next, continues-slot, drops-begins, drops-takes, last-parts}
-use Rattle.node_laws.proofs.RowLemmas.{not-begins, not-takes, starts-slot}
+use Rattle.node_laws.proofs.RowLemmas.{Next, before-takes, continues-slot, drops-begins}
+use Rattle.node_laws.proofs.RowLemmas.{drops-takes, last-parts, not-begins, not-takes, starts-slot}
 use Rattle.node_laws.proofs.ServerLemmas.{few-requests, request-slot}
 use Rattle.node_laws.specs.Valid.{RunWhole, SoundServer, is_due, left_in, left_of}
+use Rattle.server_core.proofs.TableLemmas.{handled-cases}
 use Rattle.session_store.specs.Serving.{row_at}
 
 -- the modes
@@ -46,11 +47,6 @@ pub background-of : (mode : Mode) → is_mode_background mode ≡ true → mode 
 background-of Inline back = cc
 background-of Background back = refl
 background-of Unserved back = cc
-
-served-of : (mode : Mode) → is_handled mode ≡ true → mode ≢ Unserved
-served-of Inline h e = cc
-served-of Background h e = cc
-served-of Unserved h e = cc
 
 -- a row that begins
 new-parts : (mode : Mode) (working full : Bool) (h : MessageHeader)
@@ -67,10 +63,6 @@ new-parts mode working full h e =
     (not-false (is_handled mode) three.0, four.0)
 
 -- a row that takes
-before-takes : (b : Bool) → cond b (Drops Working) Repeats ≡ Takes → ⊥
-before-takes true e = cc
-before-takes false e = cc
-
 own-parts : (mode : Mode) (full : Bool) (l : Served) (h : MessageHeader)
     → own_row mode full false (newest_of l) h ≡ Takes
     → (is_mismatch (newest_of l) h ≡ false) × ((makes_job mode h && full) ≡ false)
@@ -134,7 +126,7 @@ has-begun mode full v h e =
     let slot = sym (by-peer mode full v h) ∙ e in
     let starts = starts-slot mode full false (find (in_slot_of h.request) v.slots) h slot in
     let parts = begun-slot mode full h (find (in_slot_of h.request) v.slots) starts.newer slot in
-    record { newer = starts.newer; served = served-of mode parts.0; free = parts.1 }
+    record { newer = starts.newer; served = handled-cases mode parts.0; free = parts.1 }
 
 gone-slot : (mode : Mode) (full : Bool) (h : MessageHeader) (o : Option Served) (l : Served)
     → o ≡ Some l → l.number ≡ h.request → slot_row mode full false o h ≡ Takes

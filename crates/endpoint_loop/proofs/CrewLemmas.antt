@@ -3,38 +3,31 @@ use Rattle.std.proofs.Common.{◌≡◌, ℕ, ◌-◌, ◌≤◌, ◌<◌, ◌&&
 use Rattle.std.proofs.Common.{Some, None, List, [], ◌∷◌, ◌++◌, length, refl, sym, ap, ap₂, subst}
 use Rattle.std.proofs.Common.{◌∙◌}
 use Rattle.std.proofs.Common.{append-nil, append_assoc, IsPermutation, arith}
-use Rattle.std.specs.Prelude.{◌==◌, IfSome, count_by, map, option_map, sum_by}
+use Rattle.std.specs.Prelude.{◌==◌, count_by, map, option_map, sum_by}
 use Rattle.std.specs.List.{AllByRecursion, find, list_any}
 use Rattle.std.proofs.lemmas.Bool.{and_parts, eq-eqb, eqb-true}
 use Rattle.std.proofs.lemmas.List.Sorted.{length_permutation, sum_by-IsPermutation}
 use Rattle.std.proofs.lemmas.List.Sums.{sum_by-cons}
 use Rattle.message_buffer.specs.Buffer.{bytes_of}
-use Rattle.packet_header.specs.Parts.{IsMessage, packet_count}
-use Rattle.rpc_base.specs.Tables.{at_first, without_first}
-use Rattle.rpc_base.specs.declared.event.Event.TheVariants.{Posted, Ran}
+use Rattle.packet_header.specs.Parts.{IsMessage}
+use Rattle.rpc_base.specs.Tables.{without_first}
 use Rattle.rpc_base.specs.declared.fact.Fact.{Fact}
-use Rattle.rpc_base.specs.declared.owner.Owner.TheVariants.{Reply}
-use Rattle.rpc_base.proofs.FindLemmas.{all-unpassed}
-use Rattle.rpc_base.proofs.FirstLemmas.{all-left, counted-none, found-holds, sum-left}
+use Rattle.rpc_base.proofs.FirstLemmas.{all-both, all-left, counted-none, found-holds, sum-left}
 use Rattle.rpc_base.proofs.TakingLemmas.{find-passes}
 use Rattle.rpc_laws.specs.declared.tables.Job.{Job}
-use Rattle.rpc_laws.specs.declared.tables.Server.{Server}
+use Rattle.rpc_laws.specs.declared.tables.Jobs.{Jobs}
 use Rattle.rpc_laws.specs.declared.tables.Timed.{Timed}
-use Rattle.rpc_laws.specs.Facts.{plain, with_two}
 use Rattle.rpc_laws.specs.Jobs.{is_job}
-use Rattle.rpc_laws.specs.NodeLists.{after_all}
-use Rattle.rpc_laws.specs.PollOrder.{finished_facts, is_awaited}
+use Rattle.rpc_laws.specs.PollOrder.{finished_facts}
 use Rattle.rpc_laws.specs.Queues.{replies}
-use Rattle.rpc_laws.specs.Requests.{answered, is_request, is_server}
 use Rattle.node_laws.specs.Kept.{Kept}
-use Rattle.node_laws.proofs.LookLemmas.{look-other}
 use Rattle.server_core.proofs.FlushLemmas.{grew-none, grew-then}
 use Rattle.worker_board.specs.declared.Parcel.{Parcel}
 use Rattle.worker_crew.specs.Jobs.{IsAnswered, Job as CrewJob, TakesFirst, job_of}
 use Rattle.worker_crew.specs.declared.workers.Finished.{Finished}
+use Rattle.endpoint_loop.specs.Finishing.{jobs_left}
 use Rattle.endpoint_loop.specs.Finishing.{Agree, AsksOf, FinishesBy, FinishesTaken, FinishesThese}
-use Rattle.endpoint_loop.specs.Finishing.{MakesFinished, CanFinish, WaitsWith, asked_job}
-use Rattle.endpoint_loop.specs.Finishing.{request_at}
+use Rattle.endpoint_loop.specs.Finishing.{MakesFinished, CanFinish, asked_job}
 use Rattle.endpoint_loop.specs.Noting.{MakesWhere}
 use Rattle.endpoint_loop.specs.Seen.{Asks, asking, with_ask}
 use Rattle.endpoint_loop.specs.Serving.{FinishesWith}
@@ -91,7 +84,7 @@ yes-counted : (b : Bool) → 1 ≤ cond {A = ℕ} b 1 0 → b ≡ true
 yes-counted true h = refl
 yes-counted false h = absurd (omega (arith, h))
 
-by-counts : (x y : CrewJob) → ((count : CrewJob → ℕ) → count x ≤ count y) → x ≡ y
+pub by-counts : (x y : CrewJob) → ((count : CrewJob → ℕ) → count x ≤ count y) → x ≡ y
 by-counts x y counts =
     let most : cond {A = ℕ} (same_job x x) 1 0 ≤ cond (same_job x y) 1 0 = counts (λ z. cond
     (same_job x z) 1 0) in
@@ -109,12 +102,12 @@ module _ {A : Type 0} (p : A → Bool) (f : A → ℕ) where
       let first : cond {A = ℕ} (p x) (f x) 0 ≡ 0 = ap (λ (b : Bool). cond {A = ℕ} b (f x) 0) t in
       omega (arith, sum_by-cons (λ (y : A). cond (p y) (f y) 0) x xs, first, ih e)
 
-  none-sum : (xs : List A) → list_any p xs ≡ false → sum_by (λ y. cond (p y) (f y) 0) xs ≡ 0
+  pub none-sum : (xs : List A) → list_any p xs ≡ false → sum_by (λ y. cond (p y) (f y) 0) xs ≡ 0
   none-sum [] e = refl
   none-sum (x ∷ xs) e = none-cons x xs (p x) refl e (none-sum xs)
 
 -- none that passes, where none is found
-none-any : {A : Type 0} (p : A → Bool) (xs : List A) → find p xs ≡ None → list_any p xs ≡ false
+pub none-any : {A : Type 0} (p : A → Bool) (xs : List A) → find p xs ≡ None → list_any p xs ≡ false
 none-any {A} p [] e = refl
 none-any {A} p (x ∷ xs) e = by (p x) e (none-any p xs)
   where
@@ -126,24 +119,11 @@ none-any {A} p (x ∷ xs) e = by (p x) e (none-any p xs)
 abbrev is_crew : (t r : ℕ) → CrewJob → Bool
 is_crew t r job = job.session == t && job.request == r
 
-turned : (a b c d : ℕ) → (b == a && d == c) ≡ false → (a == b && c == d) ≡ false
-turned a b c d e = by (a == b) (c == d) refl refl
-  where
-    by : (x y : Bool) → (a == b) ≡ x → (c == d) ≡ y → (x && y) ≡ false
-    by true true g h =
-        let one : (b == a) ≡ true = eq-eqb b a (sym (eqb-true a b g)) in
-        let two : (d == c) ≡ true = eq-eqb d c (sym (eqb-true c d h)) in
-        rw (one, two) at e
-    by true false g h = refl
-    by false y g h = refl
-
 -- the job of a node that came back, which the workers have
 pub record Held (asks : Asks) (out : List Job) (p : Parcel) : Type 0 where
   pub job : Job
   pub found : find (is_job p.session p.request) out ≡ Some job
   pub same : asked_job asks job ≡ job_of p
-  pub left : list_any (is_job p.session p.request) (without_first (is_job p.session p.request) out)
-      ≡ false
 
 module _ (answer : ℕ → List ℕ → List ℕ) (asks : Asks) (out later : List CrewJob) (s : Timed)
     (p : Parcel) (alone : count_by (is_job p.session p.request) s.lists.jobs.out ≤ 1)
@@ -200,7 +180,6 @@ module _ (answer : ℕ → List ℕ → List ℕ) (asks : Asks) (out later : Lis
                 ap (λ (b : Bool). cond {A = ℕ} b (count (asked_job asks job)) 0)
                 (find-passes is jobs job e) in
                 omega (arith, some, one, rest, here)));
-            left = none;
           }
 
   -- without it the workers have the others
@@ -214,27 +193,14 @@ module _ (answer : ℕ → List ℕ → List ℕ) (asks : Asks) (out later : Lis
       let one : count (asked_job asks held.job) ≡ count (job_of p) = ap count held.same in
       omega (arith, less, whole, moved, first, one)
 
-  request-ready : (k : Job) → is k ≡ true → CanFinish answer asks s.lists.servers k
-      → IfSome (request_at p.session p.request s.lists.servers)
-      (WaitsWith (length (asks p.session p.request)))
-  request-ready k e ready =
-      let own = whose-job p.session p.request k e in
-      rw (← own.0, ← own.1) ready.waits
+  own-ready : CanFinish answer asks held.job
+  own-ready = found-holds is (CanFinish answer asks) jobs held.job agree.ready held.found
 
-  own-ready : CanFinish answer asks s.lists.servers held.job
-  own-ready = found-holds is (CanFinish answer asks s.lists.servers) jobs held.job agree.ready
-      held.found
-
-  own-bytes : asks p.session p.request ≡ bytes_of p.ask
+  -- what it asks are the parcel's bytes
+  pub own-bytes : AsksOf p asks
   own-bytes =
       let own = whose-job p.session p.request held.job (find-passes is jobs held.job held.found) in
       ap₂ (λ (a b : ℕ). asks a b) (sym own.0) (sym own.1) ∙ ap (λ (x : CrewJob). x.ask) held.same
-
-  asks-of : AsksOf p s.lists.servers asks
-  asks-of = record {
-    bytes = own-bytes;
-    waits = request-ready held.job (find-passes is jobs held.job held.found) own-ready;
-  }
 
   module _ (right : IsAnswered answer p) where
     -- its answer is no longer than a message
@@ -244,10 +210,10 @@ module _ (answer : ℕ → List ℕ → List ℕ) (asks : Asks) (out later : Lis
         let ask : asks held.job.session held.job.request ≡ bytes_of p.ask = ap (λ (x : CrewJob).
         x.ask) held.same in
         subst (λ (n : ℕ). IsMessage n) (ap length (ap₂ answer type ask ∙ sym right))
-        own-ready.message
+        own-ready
 
     module _ (room : replies s.lists.queued < s.lists.room) (t : Timed) (x : List Fact)
-        (out-left : t.lists.jobs.out ≡ without_first is jobs)
+        (jobs-left : t.lists.jobs ≡ record s.lists.jobs { out = without_first is jobs })
         (step : FinishesWith p.session p.request (bytes_of p.out) (asking asks s) x (asking asks t))
       where
         job-asked : step.job ≡ with_ask asks held.job
@@ -276,53 +242,12 @@ module _ (answer : ℕ → List ℕ → List ℕ) (asks : Asks) (out later : Lis
           goes = step.goes;
         }
 
-        -- the other requests stay as they were
-        told-by : (b : Bool) (k : ℕ) → (after_all s.clock (asking asks s).lists
-            (with_two s.lists.me (Ran step.job.session step.job.request step.job.req_type)
-            step.job.ask
-            (bytes_of p.out)
-            ∷ cond b (plain s.lists.me (Posted (Reply step.job.session step.job.request) k) ∷ [])
-            [])).servers
-            ≡ at_first (is_server step.job.session) (λ v. record v {
-              slots = at_first (is_request step.job.request) (answered (bytes_of p.out)) v.slots;
-            }) s.lists.servers
-        told-by true k = refl
-        told-by false k = refl
-
-        servers-told : t.lists.servers ≡ at_first (is_server p.session) (λ v. record v {
-          slots = at_first (is_request p.request) (answered (bytes_of p.out)) v.slots;
-        }) s.lists.servers
-        servers-told =
-            let own = whose-job p.session p.request step.job
-            (find-passes is (asking asks s).lists.jobs.out step.job step.is_out) in
-            let told = ap (λ (u : Timed). u.lists.servers) step.goes
-            ∙ ap (λ (fs : List Fact). (after_all s.clock (asking asks s).lists fs).servers)
-            step.facts
-            ∙ told-by (is_awaited step.job s.lists.servers) (packet_count (length step.job.ask) -
-            1) in
-            rw (← own.0, ← own.1) told
-
-        still-ready : (k : Job) → is k ≡ false → CanFinish answer asks s.lists.servers k
-            → CanFinish answer asks t.lists.servers k
-        still-ready k other ready =
-            let off : (p.session == k.session && p.request == k.request) ≡ false = turned p.session
-            k.session p.request k.request other in
-            let same : request_at k.session k.request t.lists.servers
-            ≡ request_at k.session k.request s.lists.servers =
-            ap (λ (vs : List Server). request_at k.session k.request vs) servers-told
-            ∙ look-other k.session k.request (answered (bytes_of p.out)) (λ q. refl) p.session
-            p.request
-            off s.lists.servers in
-            record { message = ready.message; waits = rw same ready.waits }
-
         agree-left : Agree answer asks later t
         agree-left = record {
           same = λ count.
-              ap (λ (js : List Job). sum_by (λ job. count (asked_job asks job)) js) out-left ∙
+              ap (λ (js : Jobs). sum_by (λ job. count (asked_job asks job)) js.out) jobs-left ∙
               others-same count;
-          ready = rw out-left (all-unpassed is (CanFinish answer asks s.lists.servers)
-              (CanFinish answer asks t.lists.servers) (without_first is jobs) held.left still-ready
-              (all-left is (CanFinish answer asks s.lists.servers) jobs agree.ready));
+          ready = rw jobs-left (all-left is (CanFinish answer asks) jobs agree.ready);
         }
 
         pub one-taken : (worked rest : Option (List Parcel))
@@ -340,6 +265,7 @@ module _ (answer : ℕ → List ℕ → List ℕ) (asks : Asks) (out later : Lis
             second = (refl, refl);
           };
           first = first;
+          left = jobs-left;
           agree = agree-left;
         }
 
@@ -383,10 +309,17 @@ these-then answer (p ∷ a) b s t u x y h k = record {
   second = these-then answer a b h.between t u h.back y h.second k;
 }
 
-all-joined : (P : Parcel → Type 0) (a b : List Parcel) → AllByRecursion P a → AllByRecursion P b
-    → AllByRecursion P (a ++ b)
-all-joined P [] b f g = g
-all-joined P (p ∷ a) b f g = (f.0, all-joined P a b f.1 g)
+-- the jobs that are left
+jobs-then : (a b : List Parcel) (out : List Job)
+    → jobs_left b (jobs_left a out) ≡ jobs_left (a ++ b) out
+jobs-then [] b out = refl
+jobs-then (p ∷ a) b out = jobs-then a b (without_first (is_job p.session p.request) out)
+
+left-then : (a b : List Parcel) (x y z : Jobs) → y ≡ record x { out = jobs_left a x.out }
+    → z ≡ record y { out = jobs_left b y.out } → z ≡ record x { out = jobs_left (a ++ b) x.out }
+left-then a b x y z one two =
+    two ∙ ap (λ (js : Jobs). record js { out = jobs_left b js.out }) one
+    ∙ ap (λ (out : List Job). record x { out = out }) (jobs-then a b x.out)
 
 module _ {R : Type 0} (facts : R → Option (List Fact)) (whole : R → Bool)
     (answer : ℕ → List ℕ → List ℕ) where
@@ -401,6 +334,7 @@ module _ {R : Type 0} (facts : R → Option (List Fact)) (whole : R → Bool)
       answered = tt;
       finishes = (refl, refl);
       first = taken-none worked rest first;
+      left = refl;
       agree = rw same agree;
     };
   }
@@ -415,6 +349,7 @@ module _ {R : Type 0} (facts : R → Option (List Fact)) (whole : R → Bool)
       answered = tt;
       finishes = (refl, refl);
       first = same worked;
+      left = refl;
       agree = agree;
     };
   }
@@ -435,12 +370,14 @@ module _ {R : Type 0} (facts : R → Option (List Fact)) (whole : R → Bool)
         let two = q.step asks one.agree in
         record {
           parcels = one.parcels ++ two.parcels;
-          answered = all-joined (IsAnswered answer) one.parcels two.parcels one.answered
+          answered = all-both (IsAnswered answer) one.parcels two.parcels one.answered
               two.answered;
           finishes = these-then answer one.parcels two.parcels (asking asks a) (asking asks b)
               (asking asks c) p.noted q.noted one.finishes two.finishes;
           first = one.first ∙ ap (option_map (λ ps. one.parcels ++ ps)) two.first
               ∙ taken-then one.parcels two.parcels w;
+          left = left-then one.parcels two.parcels a.lists.jobs b.lists.jobs c.lists.jobs one.left
+              two.left;
           agree = two.agree;
         };
   }
@@ -477,10 +414,11 @@ module _ {R : Type 0} (facts : R → Option (List Fact)) (whole : R → Bool)
 
     pub finished-turn : (b : Timed) (before now : R) (went : Bool)
         → replies a.lists.queued < a.lists.room
-        → (went ≡ true → MakesWhere facts whole (AsksOf f.parcel a.lists.servers)
+        → (went ≡ true → MakesWhere facts whole (AsksOf f.parcel)
         (FinishesWith f.parcel.session f.parcel.request (bytes_of f.parcel.out)) a b before now)
-        → (went ≡ true → b.lists.jobs.out
-        ≡ without_first (is_job f.parcel.session f.parcel.request) a.lists.jobs.out)
+        → (went ≡ true → b.lists.jobs ≡ record a.lists.jobs {
+          out = without_first (is_job f.parcel.session f.parcel.request) a.lists.jobs.out;
+        })
         → (went ≡ false → (b ≡ a) × (now ≡ before)
         × (find (is_job f.parcel.session f.parcel.request) a.lists.jobs.out ≡ None))
         → MakesFinished facts whole answer out later worked rest a b before now
@@ -491,7 +429,7 @@ module _ {R : Type 0} (facts : R → Option (List Fact)) (whole : R → Bool)
           grew = made.grew;
           step = λ asks agree.
               one-taken answer asks out later a f.parcel alone agree taken right room b made.noted
-              (names refl) (made.step asks (asks-of answer asks out later a f.parcel alone agree
+              (names refl) (made.step asks (own-bytes answer asks out later a f.parcel alone agree
               taken))
               worked rest (taken-one worked rest f first);
         }

@@ -18,7 +18,7 @@ use Rattle.rpc_base.specs.declared.limits.Limits.{Limits}
 use Rattle.rpc_base.specs.declared.owner.Owner.{Owner}
 use Rattle.rpc_base.specs.declared.owner.Owner.TheVariants.{Reply}
 use Rattle.rpc_base.proofs.FirstLemmas.{all-kept, all-push, counted-cons, missing-same}
-use Rattle.rpc_base.proofs.FirstLemmas.{sum-fewer}
+use Rattle.rpc_base.proofs.FirstLemmas.{all-left, some-counted, sum-fewer}
 use Rattle.rpc_base.proofs.TablesLemmas.{at_first-found, find-found, find-missing}
 use Rattle.rpc_base.proofs.TakingLemmas.{find-passes}
 use Rattle.rpc_laws.specs.declared.tables.Counted.{Counted}
@@ -33,23 +33,24 @@ use Rattle.rpc_laws.specs.declared.tables.Timed.{Timed}
 use Rattle.rpc_laws.specs.Facts.{plain, with_two}
 use Rattle.rpc_laws.specs.Jobs.{is_job}
 use Rattle.rpc_laws.specs.NodeLists.{after, one_more}
-use Rattle.rpc_laws.specs.PollOrder.{finished_facts, is_awaited, is_working}
+use Rattle.rpc_laws.specs.PollOrder.{awaited, awaited_of, finished_facts, is_working}
 use Rattle.rpc_laws.specs.Queues.{is_reply, replies}
-use Rattle.rpc_laws.specs.Requests.{answered, is_request, is_server}
+use Rattle.rpc_laws.specs.Requests.{answered, is_request, is_server, request_of}
 use Rattle.rpc_outside.specs.Recording.{Grew}
 use Rattle.rpc_outside.specs.declared.service.Mode.{Mode}
-use Rattle.rpc_outside.specs.declared.service.Mode.TheVariants.{Unserved}
+use Rattle.rpc_outside.specs.declared.service.Mode.TheVariants.{Background, Unserved}
 use Rattle.node_laws.specs.Kept.{Kept}
 use Rattle.node_laws.proofs.Allowed.{Stands}
 use Rattle.node_laws.proofs.KeptLemmas.{kept-all, kept-total}
 use Rattle.node_laws.proofs.ServeLemmas.{stands-ran}
+use Rattle.node_laws.proofs.WorkLemmas.{job-has-worker}
 use Rattle.server_core.proofs.FlushLemmas.{grew-then}
 use Rattle.server_core.specs.Steps.{gone_on_as}
 use Rattle.session_store.specs.Changes.{is_waited}
 use Rattle.session_store.specs.Sides.{HasRoom, Shown, listed_queued}
 use Rattle.session_store.proofs.ListLemmas.{all-at, all-set}
 use Rattle.worker_board.specs.declared.Parcel.{Parcel}
-use Rattle.endpoint_loop.specs.Finishing.{AnswersTo, AsksOf, WaitsWith, is_named, request_at}
+use Rattle.endpoint_loop.specs.Finishing.{AllBackground, AnswersTo, AsksOf, is_named}
 use Rattle.endpoint_loop.specs.Fits.{Fits, HasCredit, IsReady}
 use Rattle.endpoint_loop.specs.Noting.{MakesWhere}
 use Rattle.endpoint_loop.specs.Seen.{Asks, Tallies, asking, asking_jobs, jobs_in, seen_node}
@@ -163,6 +164,13 @@ kept-fewer s counts p k = record {
           sum-fewer p (λ (job : Job). cond (is_job t r job) 1 0)
               s.jobs.out,
         );
+    works = λ t r.
+        omega (
+          arith,
+          k.valid.works t r,
+          sum-fewer p (λ (job : Job). cond (is_job t r job) 1 0)
+              s.jobs.out,
+        );
     shared = k.valid.shared;
   };
   asked = k.asked;
@@ -182,7 +190,7 @@ waits-cases r (Some v) h = h
 
 unawaited : (t r : ℕ) (bytes : List ℕ) (xs ys : List Server) (o : Option ℕ)
     → position (is_server t) xs ≡ o → AnswersTo o r bytes None xs ys
-    → is_working (request_at t r xs) ≡ false
+    → is_working (request_of t r xs) ≡ false
 unawaited t r bytes xs ys None e h =
     ap (λ (v : Option Server). is_working (option_and_then (λ v. find (is_request r) v.slots) v))
     (find-missing (is_server t) xs e)
@@ -195,11 +203,24 @@ servers-stay : (r : ℕ) (bytes : List ℕ) (xs ys : List Server) (o : Option �
 servers-stay r bytes xs ys None h = h.1
 servers-stay r bytes xs ys (Some i) h = h.1
 
--- a request that would wait if it were there isn't there
-not-there : (size : ℕ) (o : Option Served) → IfSome o (WaitsWith size) → is_working o ≡ false
-    → o ≡ None
-not-there size None waits idle = refl
-not-there size (Some q) waits idle = let clash : true ≡ false = sym waits.0 ∙ idle in cc
+-- a request that would be with a worker if it were there isn't there
+not-there : (o : Option Served) → ((q : Served) → o ≡ Some q → q.working ≡ true)
+    → is_working o ≡ false → o ≡ None
+not-there None works idle = refl
+not-there (Some q) works idle = let clash : true ≡ false = sym (works q refl) ∙ idle in cc
+
+-- the number of the reply to a request
+none-awaited : (o : Option Served) → is_working o ≡ false → awaited_of o ≡ None
+none-awaited None idle = refl
+none-awaited (Some q) idle = let off : q.working ≡ false = idle in rw off refl
+
+number-awaited : (n : ℕ) (o : Option Served) → is_working o ≡ true
+    → IfSome o (λ q. n + 1 ≡ packet_count q.size) → awaited_of o ≡ Some n
+number-awaited n None w last = let clash : false ≡ true = w in cc
+number-awaited n (Some q) w last =
+    let on : q.working ≡ true = w in
+    let same : packet_count q.size - 1 ≡ n = omega (arith, last) in
+    rw on (ap (λ (k : ℕ). Some k) same)
 
 none-here : (r : ℕ) (v : Server) (o : Option Server)
     → option_and_then (λ v. find (is_request r) v.slots) o ≡ None → o ≡ Some v
@@ -208,7 +229,7 @@ none-here r v None e h = cc
 none-here r v (Some w) e h =
     let same : w ≡ v = cc in subst (λ (x : Server). find (is_request r) x.slots ≡ None) same e
 
-unanswered : (t r : ℕ) (bytes : List ℕ) (xs : List Server) → request_at t r xs ≡ None
+unanswered : (t r : ℕ) (bytes : List ℕ) (xs : List Server) → request_of t r xs ≡ None
     → at_first (is_server t) (gone_on_as r (answered bytes)) xs ≡ xs
 unanswered t r bytes xs none =
     first-own (is_server t) (gone_on_as r (answered bytes)) xs (λ v e.
@@ -229,6 +250,12 @@ session-there n i vs e = by (slice_get vs i) refl
     by : (o : Option Server) → slice_get vs i ≡ o → IfSome o (λ v. n ≡ v.way.number)
     by None at = tt
     by (Some v) at = sym (there n i vs v e at)
+
+-- the types of the jobs are told by those that were out
+pub still-background : (mode : ℕ → Mode) (t r : ℕ) (out left : List Job)
+    → left ≡ without_first (is_job t r) out → AllBackground mode out → AllBackground mode left
+still-background mode t r out left is all =
+    rw is (all-left (is_job t r) (λ (job : Job). mode job.req_type ≡ Background) out all)
 
 -- the types of the requests stay
 slots-served : (mode : ℕ → Mode) (r : ℕ) (bytes : List ℕ) (v : Server) → SlotsServed mode v
@@ -274,14 +301,6 @@ waited-for t r bytes e xs ys (Some i) p h = record {
       h.server p h.place);
   changed = h.changed;
 }
-
-last-of : (size n : ℕ) (o : Option Served) → is_working o ≡ true
-    → IfSome o (λ q. n + 1 ≡ packet_count q.size) → IfSome o (WaitsWith size)
-    → packet_count size - 1 ≡ n
-last-of size n None w last waits = let clash : false ≡ true = w in cc
-last-of size n (Some q) w last waits =
-    let same : packet_count size ≡ packet_count q.size = ap packet_count waits.1 in
-    omega (arith, same, last)
 
 replies-more : (qs : List Queued) (q : Queued) → is_reply q.owner ≡ true
     → replies (qs ++ q ∷ []) ≡ replies qs + 1
@@ -333,6 +352,10 @@ module _ (me : ℕ) (limits : Limits) (tallies : Tallies) (paces : List Pace) (j
       abbrev ran : List ℕ → Fact
       ran ask = with_two me (Ran session request job.req_type) ask bytes
 
+      abbrev posted_by : Option ℕ → List Fact
+      posted_by None = []
+      posted_by (Some k) = plain me (Posted (Reply session request) k) ∷ []
+
       abbrev told : List Server
       told = at_first (is_server session) (gone_on_as request (answered bytes)) s.servers
 
@@ -342,18 +365,21 @@ module _ (me : ℕ) (limits : Limits) (tallies : Tallies) (paces : List Pace) (j
           ≡ record { lists = after clock (seen_with js).lists (ran ask); clock = clock }
       goes-ran js ask servers queued = rw (clients, servers, queued, more) refl
 
-      awaited-as : (asks : Asks) → is_awaited (with_ask asks job) s.servers
-          ≡ is_working (request_at session request s.servers)
+      abbrev waiting : Option Served
+      waiting = request_of session request s.servers
+
+      awaited-as : (asks : Asks) → awaited (with_ask asks job) s.servers ≡ awaited_of waiting
       awaited-as asks = rw (whose.0, whose.1) refl
 
-      facts-are : (asks : Asks) (ask : List ℕ) (b : Bool) → asks session request ≡ ask
-          → is_working (request_at session request s.servers) ≡ b
+      facts-are : (asks : Asks) (ask : List ℕ) (o : Option ℕ) → asks session request ≡ ask
+          → awaited_of waiting ≡ o
           → finished_facts bytes (asking asks (seen_with jobs)).lists (with_ask asks job)
-          ≡ ran ask ∷ cond b (plain me (Posted (Reply session request) (packet_count (length ask) -
-          1))
-          ∷ []) []
-      facts-are asks ask b same e =
-          let is : is_awaited (with_ask asks job) s.servers ≡ b = awaited-as asks ∙ e in
+          ≡ ran ask ∷ posted_by o
+      facts-are asks ask None same e =
+          let is : awaited (with_ask asks job) s.servers ≡ None = awaited-as asks ∙ e in
+          rw (is, whose.0, whose.1, same) refl
+      facts-are asks ask (Some k) same e =
+          let is : awaited (with_ask asks job) s.servers ≡ Some k = awaited-as asks ∙ e in
           rw (is, whose.0, whose.1, same) refl
 
       out-asked : (asks : Asks) → find (is_job session request) (asking_jobs asks jobs).out ≡ Some
@@ -374,9 +400,16 @@ module _ (me : ℕ) (limits : Limits) (tallies : Tallies) (paces : List Pace) (j
         same-queue : t.queued ≡ s.queued
         same-queue = queued ∙ append-nil s.queued
 
-        idle : is_working (request_at session request s.servers) ≡ false
+        idle : is_working waiting ≡ false
         idle = unawaited session request bytes s.servers t.servers
             (position (is_server session) s.servers) refl answers
+
+        -- a worker has the request of each job, so this one isn't there
+        none-waits : waiting ≡ None
+        none-waits =
+            not-there waiting (λ q found. job-has-worker session request (seen_with jobs).lists
+            fits.kept.valid q found (some-counted (is_job session request) (is_job session request)
+            jobs.out job out (find-passes (is_job session request) jobs.out job out))) idle
 
         pub fits-unposted : Fits (next_with later) t.size t.places
         fits-unposted = record {
@@ -398,7 +431,7 @@ module _ (me : ℕ) (limits : Limits) (tallies : Tallies) (paces : List Pace) (j
             (before now : R) (first second : List ℕ) → first ≡ bytes_of p.ask → second ≡ bytes
             → Grew facts whole before now
             (with_two me (Ran session request job.req_type) first second ∷ [])
-            → MakesWhere facts whole (AsksOf p s.servers) (FinishesWith session request bytes)
+            → MakesWhere facts whole (AsksOf p) (FinishesWith session request bytes)
             (seen_with jobs) (next_with later) before now
         node-unposted facts whole before now first second is_first is_second grew = record {
           noted = ran first ∷ [];
@@ -406,12 +439,12 @@ module _ (me : ℕ) (limits : Limits) (tallies : Tallies) (paces : List Pace) (j
           step = λ asks asked. record {
             job = with_ask asks job;
             is_out = out-asked asks;
-            facts = sym (facts-are asks first false (asked.bytes ∙ sym is_first) idle);
+            facts = sym (facts-are asks first None (asked ∙ sym is_first)
+                (none-awaited waiting idle));
             goes = ap next_with (next-asked asks)
                 ∙ goes-ran (asking_jobs asks jobs) first
-                (same-servers ∙ sym (unanswered session request bytes s.servers
-                (not-there (length (asks session request)) (request_at session request s.servers)
-                asked.waits idle))) same-queue;
+                (same-servers ∙ sym (unanswered session request bytes s.servers none-waits))
+                same-queue;
           };
         }
 
@@ -436,7 +469,7 @@ module _ (me : ℕ) (limits : Limits) (tallies : Tallies) (paces : List Pace) (j
               ∙ ap (λ (o : Owner). s.queued ++ record { owner = o; number = e.number; due = None }
               ∷ []) w.owner
 
-          at-work : is_working (request_at session request s.servers) ≡ true
+          at-work : is_working (request_of session request s.servers) ≡ true
           at-work =
               ap (λ (v : Option Server). is_working (option_and_then (λ v. find (is_request
               request) v.slots) v))
@@ -457,7 +490,7 @@ module _ (me : ℕ) (limits : Limits) (tallies : Tallies) (paces : List Pace) (j
                   inr (record { job = job; found = out }),
                   (
                     stands-ran session request bytes s.servers
-                        (stands (request_at session request s.servers) refl at-work),
+                        (stands (request_of session request s.servers) refl at-work),
                     tt,
                   ),
                 )));
@@ -476,20 +509,18 @@ module _ (me : ℕ) (limits : Limits) (tallies : Tallies) (paces : List Pace) (j
             buffers = rw left (places ∙ fits.buffers);
           }
             where
-              stands : (o : Option Served) → request_at session request s.servers ≡ o
+              stands : (o : Option Served) → request_of session request s.servers ≡ o
                   → is_working o ≡ true → Stands s.servers session request
               stands None found h = cc
               stands (Some q) found h = record { served = q; found = found }
 
-          last-number : (size : ℕ) → IfSome (request_at session request s.servers) (WaitsWith size)
-              → packet_count size - 1 ≡ e.number
-          last-number size waits =
-              let here : request_at session request s.servers ≡ find (is_request request)
-              w.server.slots =
+          number-is : awaited_of waiting ≡ Some e.number
+          number-is =
+              let here : waiting ≡ find (is_request request) w.server.slots =
               ap (λ (v : Option Server). option_and_then (λ v. find (is_request request) v.slots) v)
               w.found in
-              last-of size e.number (find (is_request request) w.server.slots) w.waited w.last
-              (subst (λ (o : Option Served). IfSome o (WaitsWith size)) here waits)
+              ap (λ (o : Option Served). awaited_of o) here
+              ∙ number-awaited e.number (find (is_request request) w.server.slots) w.waited w.last
 
           pub node-answered : {R : Type 0} (facts : R → Option (List Fact)) (whole : R → Bool)
               (before between now : R) (first second : List ℕ) (number : ℕ) → first ≡ bytes_of p.ask
@@ -497,25 +528,18 @@ module _ (me : ℕ) (limits : Limits) (tallies : Tallies) (paces : List Pace) (j
               → Grew facts whole before between
               (with_two me (Ran session request job.req_type) first second ∷ [])
               → Grew facts whole between now (plain me (Posted (Reply session request) number) ∷ [])
-              → MakesWhere facts whole (AsksOf p s.servers) (FinishesWith session request bytes)
+              → MakesWhere facts whole (AsksOf p) (FinishesWith session request bytes)
               (seen_with jobs) (next_with later) before now
           node-answered facts whole before between now first second number is_first is_second
               is_number one two = record {
                 noted = ran first ∷ posted ∷ [];
                 grew = grew-then facts whole before between now (ran first ∷ []) (posted ∷ [])
                     (rw (← is_second) one) (rw (← is_number) two);
-                step = λ asks asked.
-                    let same : asks session request ≡ first = asked.bytes ∙ sym is_first in
-                    let last : packet_count (length first) - 1 ≡ e.number =
-                    subst (λ (xs : List ℕ). packet_count (length xs) - 1 ≡ e.number) same
-                    (last-number (length (asks session request)) asked.waits) in
-                    record {
-                      job = with_ask asks job;
-                      is_out = out-asked asks;
-                      facts = ap (λ (k : ℕ). ran first ∷ plain me (Posted (Reply session request)
-                          k) ∷ [])
-                          (sym last) ∙ sym (facts-are asks first true same at-work);
-                      goes = ap next_with (next-asked asks) ∙ goes-posted (asking_jobs asks jobs)
-                          first;
-                    };
+                step = λ asks asked. record {
+                  job = with_ask asks job;
+                  is_out = out-asked asks;
+                  facts = sym (facts-are asks first (Some e.number) (asked ∙ sym is_first)
+                      number-is);
+                  goes = ap next_with (next-asked asks) ∙ goes-posted (asking_jobs asks jobs) first;
+                };
               }

@@ -1,19 +1,19 @@
 -- Queued packets of an owner are taken out one by one, in ascending number.
-use Rattle.std.proofs.Common.{◌≡◌, ℕ, ◌≤◌, ◌<◌, ◌||◌, Bool, true, false, cond, eqb, leb}
+use Rattle.std.proofs.Common.{◌≡◌, ℕ, ◌≤◌, ◌<◌, Bool, true, false, cond, eqb, leb}
 use Rattle.std.proofs.Common.{Option, Some, None, List, [], ◌∷◌, ◌++◌, length, refl, sym, ap, subst}
 use Rattle.std.proofs.Common.{◌∙◌, append_assoc, append-nil, arith}
 use Rattle.std.specs.Prelude.{map}
 use Rattle.std.specs.List.{find, list_any}
-use Rattle.std.proofs.lemmas.Bool.{and_parts, eq-eqb, eqb-true, leb-false, ne_eqb}
+use Rattle.std.proofs.lemmas.Bool.{and_parts, eq-eqb, eqb-true}
 use Rattle.rpc_base.specs.Least.{bearer, least, least_number, smaller, without_bearer}
 use Rattle.rpc_base.specs.Least.{without_least}
-use Rattle.rpc_base.specs.Owners.{same_owner}
+use Rattle.rpc_laws.specs.Queues.{is_reply}
 use Rattle.rpc_base.specs.Tables.{without_first}
 use Rattle.rpc_base.specs.declared.event.Event.TheVariants.{Flushed}
 use Rattle.rpc_base.specs.declared.fact.Fact.{Fact}
 use Rattle.rpc_base.specs.declared.limits.Limits.{Limits}
 use Rattle.rpc_base.specs.declared.owner.Owner.{Owner}
-use Rattle.rpc_base.specs.declared.owner.Owner.TheVariants.{Ask, Reply, Control}
+use Rattle.rpc_base.specs.declared.owner.Owner.TheVariants.{Ask}
 use Rattle.rpc_base.proofs.FirstLemmas.{all-left, sum-fewer}
 use Rattle.rpc_base.proofs.LeastLemmas.{least-none, least-same, none-passes}
 use Rattle.rpc_base.proofs.TakingLemmas.{find-passes}
@@ -26,8 +26,9 @@ use Rattle.rpc_laws.specs.declared.tables.Queued.{Queued}
 use Rattle.rpc_laws.specs.declared.tables.Timed.{Timed}
 use Rattle.rpc_laws.specs.Facts.{plain}
 use Rattle.rpc_laws.specs.NodeLists.{after}
-use Rattle.rpc_laws.specs.Queues.{flush_facts, is_queued, is_reply, numbers_of, put, replies}
+use Rattle.rpc_laws.specs.Queues.{flush_facts, is_queued, numbers_of, put, replies}
 use Rattle.node_laws.proofs.KeptLemmas.{kept-after}
+use Rattle.server_core.proofs.FlushLemmas.{none-cons, not-equal, put-first, put-later, some-is}
 use Rattle.session_store.specs.Queue.{is_owned, queued_number}
 use Rattle.session_store.specs.Sides.{Shown}
 use Rattle.endpoint_loop.specs.Fits.{Fits, IsReady}
@@ -36,39 +37,16 @@ use Rattle.endpoint_loop.specs.Seen.{Tallies, asking, asking_jobs, seen_node}
 use Rattle.endpoint_loop.specs.Watching.{FlushesSome, Notes, flushing}
 use Rattle.endpoint_loop.proofs.NotesLemmas.{goes-then, makes-as, makes-join, me-goes}
 
--- the owner of a call's packets
-pub owner-is : (o : Owner) (i r : ℕ) → same_owner o (Ask i r) ≡ true → o ≡ Ask i r
-owner-is (Ask s q) i r t =
-    let parts = and_parts (eqb s i) (eqb q r) t in
-    ap (λ n. Ask n q) (eqb-true s i parts.0) ∙ ap (Ask i) (eqb-true q r parts.1)
-owner-is (Reply s q) i r t = cc
-owner-is Control i r t = cc
-
 -- the numbers of an owner's packets, one taken out after another
 module _ (owner : Owner) where
   abbrev numbers : List Queued → List ℕ
   numbers qs = numbers_of owner qs
-
-  none-cons : (b c : Bool) (k : ℕ) (ks : List ℕ) → (b || c) ≡ false → (c ≡ false → ks ≡ [])
-      → cond b (put k ks) ks ≡ []
-  none-cons true c k ks none rest = cc
-  none-cons false c k ks none rest = rest none
 
   pub numbers-none : (qs : List Queued) → list_any (is_owned owner) qs ≡ false → numbers qs ≡ []
   numbers-none [] none = refl
   numbers-none (q ∷ qs) none =
       none-cons (is_owned owner q) (list_any (is_owned owner) qs) q.number (numbers qs) none
       (numbers-none qs)
-
-  put-first : (n m k : ℕ) (ks : List ℕ) → leb n m ≡ true → n ≡ k → put n (m ∷ ks) ≡ k ∷ m ∷ ks
-  put-first n m k ks below same = rw (below, same) refl
-
-  put-later : (n m : ℕ) (ks : List ℕ) → leb n m ≡ false → put n (m ∷ ks) ≡ m ∷ put n ks
-  put-later n m ks above = rw above refl
-
-  not-equal : (n m : ℕ) → leb n m ≡ false → eqb n m ≡ false
-  not-equal n m above =
-      ne_eqb n m (λ same. let more = leb-false n m above in absurd (omega (arith, same, more)))
 
   module _ (x : Queued) (qs : List Queued) (own : is_owned owner x ≡ true) where
     mine : numbers (x ∷ qs) ≡ put x.number (numbers qs)
@@ -112,9 +90,6 @@ module _ (owner : Owner) where
       → numbers qs ≡ k ∷ numbers (without_first (is_queued owner k) qs)
       → numbers (x ∷ qs) ≡ k ∷ numbers (without_first (is_queued owner k) (x ∷ qs))
   not-mine x qs k other ih = rw (other, other) ih
-
-  some-is : (n k : ℕ) → Some n ≡ Some k → n ≡ k
-  some-is n k e = cc
 
   cases : (x : Queued) (qs : List Queued) (k : ℕ) (b : Bool) → is_owned owner x ≡ b
       → cond b (Some (smaller x.number (least_number (is_owned owner) queued_number qs)))

@@ -32,7 +32,7 @@ use Rattle.server_core.proofs.FlushLemmas.{grew-none}
 use Rattle.endpoint_loop.specs.Noting.{Makes}
 use Rattle.endpoint_loop.specs.Seen.{asking}
 use Rattle.endpoint_loop.specs.Watching.{Notes, calls_at, flushing, flushing_all}
-use Rattle.endpoint_loop.proofs.FlushLemmas.{owner-is}
+use Rattle.session_store.proofs.StandLemmas.{owner-is}
 use Rattle.endpoint_loop.proofs.NextLemmas.{Told, is_next}
 use Rattle.endpoint_loop.proofs.NotesLemmas.{goes-then, makes-as, makes-join, me-goes}
 

@@ -26,7 +26,6 @@ use Rattle.rpc_laws.specs.declared.tables.Arrival.{Arrival}
 use Rattle.rpc_laws.specs.declared.tables.Asking.{Asking}
 use Rattle.rpc_laws.specs.declared.tables.Call.{Call}
 use Rattle.rpc_laws.specs.declared.tables.Client.{Client}
-use Rattle.rpc_laws.specs.declared.tables.Jobs.{Jobs}
 use Rattle.rpc_laws.specs.declared.tables.Lists.{Lists}
 use Rattle.rpc_laws.specs.declared.tables.Progress.{Progress}
 use Rattle.rpc_laws.specs.declared.tables.Queued.{Queued}
@@ -190,15 +189,15 @@ ends-over : (me : ℕ) (x : List Fact) (o : Option Done) → IsOver x → drop 1
 ends-over me [] o over e = absurd over
 ends-over me (f ∷ fs) o over e = rw over.0 (over.1.0 ∙ e ∙ listed me o)
 
-abbrev no-asks : Asks
+abbrev pub no-asks : Asks
 no-asks s r = []
 
 -- what a job that is given asks
-abbrev asks-of : Option Parcel → Asks
+abbrev pub asks-of : Option Parcel → Asks
 asks-of None = no-asks
 asks-of (Some p) = λ s r. bytes_of p.ask
 
-asks-as : (job : Option Parcel) → AsksAs job (asks-of job)
+pub asks-as : (job : Option Parcel) → AsksAs job (asks-of job)
 asks-as None = tt
 asks-as (Some p) = refl
 
@@ -246,7 +245,8 @@ module _ {R K : Type 0} (facts : R → Option (List Fact)) (whole : R → Bool)
               let done = over-answers makes.noted over v served in
               (done.0, subst stands (sym done.1) before-it);
           parcel = tt;
-          names = ap (λ (j : Jobs). j.out) jobs ∙ sym (append-nil a.lists.jobs.out);
+          jobs = jobs;
+          vacant = tt;
         };
         dones = option_to_list o;
         ends = ends-over a.lists.me makes.noted o over first.over;
@@ -282,7 +282,8 @@ module _ {R K : Type 0} (facts : R → Option (List Fact)) (whole : R → Bool)
           };
           answers = served.answers;
           parcel = served.parcel;
-          names = served.names;
+          jobs = served.jobs;
+          vacant = served.vacant;
         };
         dones = [];
         ends = ap (λ (x : List Fact). filter is_end x) one.facts

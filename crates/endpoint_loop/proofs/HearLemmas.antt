@@ -167,6 +167,12 @@ pub some-front : (ds : List DatagramValue) (h : MessageHeader) (o : Option Datag
 some-front [] h o e n front = let none : None ≡ Some h = sym none-read ∙ front in cc
 some-front (d ∷ ds) h o e n front = cc
 
+-- and the ring once it is dropped
+pub ring-left : (rx q : Ring DatagramValue) → q ≡ ring (drop 1 rx.items) rx.size
+    → map arrival_of q.items ≡ drop 1 (map arrival_of rx.items)
+ring-left rx q rest = ap (λ (z : Ring DatagramValue). map arrival_of z.items) rest
+    ∙ sym (drop-map arrival_of 1 rx.items)
+
 pub front-there : (ds : List DatagramValue) (d : DatagramValue) → slice_get ds 0 ≡ Some d
     → slice_get (map arrival_of ds) 0 ≡ Some (arrival_of d)
 front-there [] d e = cc

@@ -26,6 +26,7 @@ use Rattle.rpc_laws.specs.GoBackN.{row_facts, row_of}
 use Rattle.rpc_laws.specs.NodeLists.{after, after_all}
 use Rattle.rpc_laws.specs.Queues.{numbers_of}
 use Rattle.rpc_laws.specs.Sessions.{breaks, clients_after, ends, has_call, is_client, rolls}
+use Rattle.rpc_base.proofs.BasicLemmas.{or-false}
 use Rattle.rpc_base.proofs.TakingLemmas.{find-passes}
 use Rattle.session_store.specs.Changes.{calls_in}
 use Rattle.session_store.specs.Ends.{Ascends, is_above}
@@ -226,10 +227,6 @@ module _ (i m : ℕ) where
       → list_any (has_number m) (at_first p (moved g) cs) ≡ list_any (has_number m) cs
   idle-moved p g [] = refl
   idle-moved p g (c ∷ cs) = moved-cons p g c cs (p c) (idle-moved p g cs)
-
-  or-false : (a b : Bool) → (a || b) ≡ false → (a ≡ false) × (b ≡ false)
-  or-false true b e = cc
-  or-false false b e = (refl, e)
 
   without-cons : (p : Call → Bool) (c : Call) (cs : List Call) (b : Bool)
       → list_any (has_number m) (c ∷ cs) ≡ false

@@ -89,6 +89,7 @@ kept-jobs s js few k = record {
     idle = k.valid.idle;
     served = k.valid.served;
     runs = λ t r. omega (arith, few t r, k.valid.runs t r);
+    works = λ t r. omega (arith, few t r, k.valid.works t r);
     shared = k.valid.shared;
   };
   asked = k.asked;

@@ -7,6 +7,7 @@ mod FitsLemmas
 mod FlushLemmas
 mod FlushedLemmas
 mod GatherLemmas
+mod GivingLemmas
 mod HandleLemmas
 mod HearLemmas
 mod IdleLemmas
@@ -26,3 +27,6 @@ mod ServerLemmas
 mod TakenLemmas
 mod WalkLemmas
 mod WatchLemmas
+mod StillLemmas
+mod ToldLemmas
+mod PollLemmas

@@ -1,6 +1,6 @@
 -- What always holds of a node, after it made one end of a session.
-use Rattle.std.proofs.Common.{◌≡◌, ℕ, ◌+◌, ◌*◌, ◌≤◌, ◌<◌, Bool, true, false, Option, None, List, []}
-use Rattle.std.proofs.Common.{◌∷◌, ◌++◌, cond, length, refl, ap, ◌∙◌, arith, eq-eqb, leb-false}
+use Rattle.std.proofs.Common.{◌≡◌, ℕ, ◌+◌, ◌≤◌, ◌<◌, Bool, true, false, None, List, []}
+use Rattle.std.proofs.Common.{◌∷◌, ◌++◌, cond, length, refl, ◌∙◌, arith, eq-eqb, leb-false}
 use Rattle.std.specs.Prelude.{count_by, nat_le}
 use Rattle.std.specs.List.{AllByRecursion}
 use Rattle.std.proofs.lemmas.List.{length-append}
@@ -11,7 +11,6 @@ use Rattle.rpc_base.specs.declared.limits.TheConstants.{SESSION_NUMBERS}
 use Rattle.rpc_base.proofs.FirstLemmas.{all-push, counted-cons}
 use Rattle.packet_rings.specs.Rings.{Ring}
 use Rattle.packet_rings.specs.Values.{DatagramValue}
-use Rattle.rpc_laws.specs.declared.tables.Client.{Client}
 use Rattle.rpc_laws.specs.declared.tables.Jobs.{Jobs}
 use Rattle.rpc_laws.specs.declared.tables.Lists.{Lists}
 use Rattle.rpc_laws.specs.declared.tables.Pace.{Pace}
@@ -19,15 +18,16 @@ use Rattle.rpc_laws.specs.declared.tables.Server.{Server}
 use Rattle.rpc_laws.specs.declared.tables.Timed.{Timed}
 use Rattle.rpc_laws.specs.Facts.{plain}
 use Rattle.rpc_laws.specs.Groups.{client_refusal, clients_spent, refusal_by, server_refusal, servers_spent}
-use Rattle.rpc_laws.specs.NodeLists.{after}
 use Rattle.rpc_laws.specs.Requests.{is_server, server_end}
 use Rattle.rpc_laws.specs.Sessions.{client_end}
+use Rattle.rpc_outside.specs.declared.service.Mode.{Mode}
 use Rattle.node_laws.specs.Valid.{to_come}
 use Rattle.node_laws.proofs.KeptLemmas.{kept-after}
 use Rattle.node_laws.proofs.RunLaws.{pair-fits}
 use Rattle.session_store.specs.Sides.{Shown}
 use Rattle.endpoint_loop.specs.Fits.{CallsAscend, Fits, HasCredit, IsSettled, IsUnpaced}
 use Rattle.endpoint_loop.specs.Seen.{Tallies, seen_node}
+use Rattle.endpoint_loop.specs.Serving.{AllServed, SlotsServed}
 
 -- what nothing refuses has a number that wasn't used
 few-paired : (spent : Bool) (s : Lists) (credits : ℕ) → clients_spent s ≡ spent
@@ -131,3 +131,10 @@ numbers-below used (v ∷ vs) alone = (
     counted-cons (is_server t) v vs (is_server t v) refl,
   )),
 )
+
+-- a new session has no requests
+pub served-more : (mode : ℕ → Mode) (servers vs : List Server) (number peer other credits : ℕ)
+    → vs ≡ servers ++ server_end number peer other credits ∷ [] → AllServed mode servers
+    → AllServed mode vs
+served-more mode servers vs number peer other credits is served =
+    rw is (all-push (SlotsServed mode) servers (server_end number peer other credits) served tt)

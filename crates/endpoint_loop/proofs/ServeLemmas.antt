@@ -3,7 +3,7 @@ use Rattle.std.proofs.Common.{◌≡◌, ℕ, ◌+◌, ◌<◌, ◌≤◌, Bool,
 use Rattle.std.proofs.Common.{List, [], ◌∷◌, ◌++◌, length, drop, refl, sym, ap, subst, ◌∙◌, arith}
 use Rattle.std.proofs.Common.{append-nil}
 use Rattle.endpoint_loop.specs.Hearing.{Drops as DropsFront}
-use Rattle.std.specs.Prelude.{◌==◌, IfSome, map, option_map, option_to_list, slice_get, slice_set}
+use Rattle.std.specs.Prelude.{◌==◌, IfSome, map, slice_get, slice_set}
 use Rattle.std.specs.List.{AllByRecursion, find, position}
 use Rattle.std.proofs.lemmas.Bool.{eqb-true, ne_eqb}
 use Rattle.std.proofs.lemmas.List.{drop-map}
@@ -67,7 +67,7 @@ use Rattle.endpoint_loop.specs.Fits.{Fits, HasCredit, IsReady}
 use Rattle.endpoint_loop.specs.Noting.{Makes}
 use Rattle.endpoint_loop.specs.Seen.{Asks, Tallies, arrival_of, asking_jobs, seen_node}
 use Rattle.endpoint_loop.specs.Serving.{AllServed, AsksAs, IsGiven, MakesServed, ServesRequest}
-use Rattle.endpoint_loop.specs.Serving.{SlotsServed, job_named}
+use Rattle.endpoint_loop.specs.Serving.{SlotsServed, job_named, with_given}
 use Rattle.endpoint_loop.proofs.AskedLemmas.{background-of, inline-of, unfilled}
 use Rattle.endpoint_loop.proofs.FitsLemmas.{put-behind}
 use Rattle.endpoint_loop.proofs.FlushedLemmas.{one-reply}
@@ -129,9 +129,9 @@ module _ (me : ℕ) (limits : Limits) (tallies : Tallies) (paces : List Pace) (j
           ≡ record { lists = after_all clock (old (asking_jobs asks jobs)) x; clock = clock })
           → ((served : Served) → stands served → Answers v_of served x
           × then_stands (served_after_all mode_of served x))
-          → IfSome o (IsGiven v_of stands)
-          → js.out ≡ jobs.out ++ option_to_list (option_map job_named o) → Result o ta js q u
-      node-served o ta js q u lacks answer x grew is goes answers parcel names = record {
+          → IfSome o (IsGiven v_of stands) → js ≡ with_given o jobs
+          → IfSome o (λ p. are_full jobs ≡ false) → Result o ta js q u
+      node-served o ta js q u lacks answer x grew is goes answers parcel given vacant = record {
         makes = record {
           noted = x;
           grew = grew;
@@ -146,18 +146,19 @@ module _ (me : ℕ) (limits : Limits) (tallies : Tallies) (paces : List Pace) (j
         };
         answers = answers;
         parcel = parcel;
-        names = names;
+        jobs = given;
+        vacant = vacant;
       }
 
       -- a packet to no session, or from another peer than its session's
       dropped-by : (why : DropReason) (u : Timed)
           → ((js : Jobs) → asks_facts mode_of false [] (old js) d.peer h body
-          ≡ plain me (DroppedEvent why) ∷ []) → u.lists.jobs.out ≡ jobs.out
+          ≡ plain me (DroppedEvent why) ∷ []) → u.lists.jobs ≡ jobs
           → ((served : Served) → stands served → then_stands served)
           → Makes facts whole (DropsFront why) (seen tallies jobs rx s) u before now
           → MakesServed facts whole v_of stands then_stands (ServesRequest mode_of h) None
           (seen tallies jobs rx s) u before now
-      dropped-by why u is names still makes = record {
+      dropped-by why u is left still makes = record {
         makes = record {
           noted = makes.noted;
           grew = makes.grew;
@@ -175,27 +176,28 @@ module _ (me : ℕ) (limits : Limits) (tallies : Tallies) (paces : List Pace) (j
             × then_stands (served_after_all mode_of served x))
             (sym (makes.step (λ a b. [])).facts) ((tt, tt), still served st);
         parcel = tt;
-        names = names ∙ sym (append-nil jobs.out);
+        jobs = left;
+        vacant = tt;
       }
 
       pub node-unknown : (u : Timed) → position (is_server h.session) s.servers ≡ None
-          → u.lists.jobs.out ≡ jobs.out
+          → u.lists.jobs ≡ jobs
           → ((served : Served) → stands served → then_stands served)
           → Makes facts whole (DropsFront NoSession) (seen tallies jobs rx s) u before now
           → MakesServed facts whole v_of stands then_stands (ServesRequest mode_of h) None
           (seen tallies jobs rx s) u before now
-      node-unknown u missing names still makes =
+      node-unknown u missing left still makes =
           let none = find-missing (is_server h.session) s.servers missing in
-          dropped-by NoSession u (λ js. rw none refl) names still makes
+          dropped-by NoSession u (λ js. rw none refl) left still makes
 
       pub node-stranger : (u : Timed) (i p : ℕ) → position (is_server h.session) s.servers ≡ Some i
           → IfSome (slice_get s.servers i) (λ v. p ≡ v.way.peer) → i < length s.servers
-          → (p ≡ d.peer → ⊥) → u.lists.jobs.out ≡ jobs.out
+          → (p ≡ d.peer → ⊥) → u.lists.jobs ≡ jobs
           → ((served : Served) → stands served → then_stands served)
           → Makes facts whole (DropsFront WrongPeer) (seen tallies jobs rx s) u before now
           → MakesServed facts whole v_of stands then_stands (ServesRequest mode_of h) None
           (seen tallies jobs rx s) u before now
-      node-stranger u i p place own within other names still makes =
+      node-stranger u i p place own within other left still makes =
           by (slice_get s.servers i) refl own
         where
           by : (o : Option Server) → slice_get s.servers i ≡ o → IfSome o (λ v. p ≡ v.way.peer)
@@ -207,7 +209,7 @@ module _ (me : ℕ) (limits : Limits) (tallies : Tallies) (paces : List Pace) (j
               find-found (is_server h.session) s.servers i place ∙ e in
               let unlike : (v.way.peer == d.peer) ≡ false =
               ne_eqb v.way.peer d.peer (λ same. other (is ∙ same)) in
-              dropped-by WrongPeer u (λ js. rw (found, unlike) refl) names still makes
+              dropped-by WrongPeer u (λ js. rw (found, unlike) refl) left still makes
 
     -- what always holds, once the queue and one server session changed
     module _ (i : ℕ) (t : Shown) (clients : t.clients ≡ s.clients) (size : t.size ≡ s.size)
@@ -416,7 +418,7 @@ module _ (me : ℕ) (limits : Limits) (tallies : Tallies) (paces : List Pace) (j
                 (λ asks. facts-again (asking_jobs asks jobs) (full-asking asks jobs))
                 (λ asks asked. goes-again (asking_jobs asks jobs))
                 (λ old_served st. ((tt, (tt, tt)), still old_served st))
-                tt (sym (append-nil jobs.out))
+                tt refl tt
 
         -- a packet that is dropped
         module _ (why : DropReason) (p : At (Dropped why)) (n : ℕ)
@@ -476,7 +478,7 @@ module _ (me : ℕ) (limits : Limits) (tallies : Tallies) (paces : List Pace) (j
               (λ asks. facts-drop (asking_jobs asks jobs) (full-asking asks jobs))
               (λ asks asked. goes-dropped (asking_jobs asks jobs))
               (λ old_served st. ((tt, tt), still old_served st))
-              tt (sym (append-nil jobs.out))
+              tt refl tt
 
         -- a packet that is taken
         module _ (step : Step) (p : At step) (takes : takes_it step ≡ true) where
@@ -577,7 +579,7 @@ module _ (me : ℕ) (limits : Limits) (tallies : Tallies) (paces : List Pace) (j
                       (sym (tk.serves serving old_served (took ∷ posted ∷ [])))
                       (still old_served st),
                 ))
-                tt (sym (append-nil jobs.out))
+                tt refl tt
 
         abbrev Replied : Step → Server → Type 0
         Replied step v =
@@ -709,7 +711,7 @@ module _ (me : ℕ) (limits : Limits) (tallies : Tallies) (paces : List Pace) (j
                     (tt, (own.0, (tt, tt))),
                 subst then_stands (sym (then-served old_served)) own.1,
               ))
-              tt (sym (append-nil jobs.out))
+              tt refl tt
 
         pub unfull-of : (parcel : Parcel) → At (Give parcel) → full ≡ false
         unfull-of parcel p =
@@ -868,9 +870,10 @@ module _ (me : ℕ) (limits : Limits) (tallies : Tallies) (paces : List Pace) (j
             most = p.give.most;
           }
 
-          pub node-give : ((old_served : Served) → stands old_served → then_stands old_served)
+          pub node-give : js_now.given ≡ jobs.given + 1
+              → ((old_served : Served) → stands old_served → then_stands old_served)
               → Ends (Some parcel) given_tallies js_now
-          node-give still =
+          node-give more still =
               node-served facts whole before now answer_of stands then_stands (Some parcel)
               given_tallies js_now q t false p.handled.answer noted-give
               (subst (λ (x : List Fact). Grew facts whole before now x) ruled-give p.handled.grew)
@@ -883,4 +886,5 @@ module _ (me : ℕ) (limits : Limits) (tallies : Tallies) (paces : List Pace) (j
                     (sym (tg.serves serving old_served (took ∷ given_fact ∷ [])))
                     (still old_served st),
               ))
-              is-given named
+              is-given (rw (← limit, ← more, ← named) refl)
+              (sym is_full ∙ unfull-of parcel p)

@@ -11,11 +11,8 @@ use Rattle.packet_header.specs.declared.packet.MessageHeader.{MessageHeader}
 use Rattle.packet_rings.specs.Values.{DatagramValue}
 use Rattle.rpc_base.specs.Tables.{at_first}
 use Rattle.rpc_base.specs.declared.fact.Fact.{Fact}
-use Rattle.rpc_base.specs.declared.state.DropReason.{DropReason}
 use Rattle.rpc_base.proofs.TablesLemmas.{find-found}
 use Rattle.rpc_base.proofs.TakingLemmas.{find-passes}
-use Rattle.rpc_laws.specs.declared.rows.ServerRow.{ServerRow}
-use Rattle.rpc_laws.specs.declared.rows.ServerRow.TheVariants.{Drops, Begins, Takes, Repeats}
 use Rattle.rpc_laws.specs.declared.tables.Arrival.{Arrival}
 use Rattle.rpc_laws.specs.declared.tables.Jobs.{Jobs}
 use Rattle.rpc_laws.specs.declared.tables.Lists.{Lists}
@@ -28,10 +25,8 @@ use Rattle.rpc_outside.specs.Served.{Served}
 use Rattle.rpc_outside.specs.declared.service.Mode.{Mode}
 use Rattle.node_laws.specs.Kept.{Kept}
 use Rattle.node_laws.proofs.KeptLemmas.{kept-total}
-use Rattle.server_core.specs.Flushing.{has_begun}
 use Rattle.server_core.specs.Steps.{gave, ran, took as took_by}
 use Rattle.server_core.specs.declared.step.Step.{Step}
-use Rattle.server_core.specs.declared.step.Step.TheVariants.{Dropped}
 use Rattle.session_store.specs.Serving.{HandlesAt}
 use Rattle.session_store.specs.Sides.{Shown}
 use Rattle.session_store.proofs.ListLemmas.{all-at, all-set, get-own}
@@ -68,13 +63,6 @@ peers-agree (Some w) (Some y) v x e f p =
     let same : w ≡ v = cc in
     let own : y ≡ x = cc in
     ap (λ (z : Server). z.way.peer) (sym same) ∙ p ∙ ap (λ (z : Arrival). z.peer) own
-
--- a packet that is dropped begins no request
-pub dropped-begins : (row : ServerRow) (why : DropReason) → has_begun row (Dropped why) ≡ false
-dropped-begins (Drops x) why = refl
-dropped-begins Begins why = refl
-dropped-begins Takes why = refl
-dropped-begins Repeats why = refl
 
 pub slice_get-some : {A : Type 0} (xs : List A) (i : ℕ) → i < length xs → slice_get xs i ≡ None → ⊥
 slice_get-some [] i within e = absurd (omega arith)

@@ -1,22 +1,23 @@
 -- Jobs that are finished: whose they are, what is known of what they asked, and where their answers
 -- go.
-use Rattle.std.specs.Prelude.{◌≡◌, ℕ, ◌<◌, ◌==◌, ◌&&◌, ◌++◌, Bool, true, Option, Some, None, IfSome}
-use Rattle.std.specs.Prelude.{option_and_then, option_map, List, [], ◌∷◌, length, sum_by}
+use Rattle.std.specs.Prelude.{◌≡◌, ℕ, ◌<◌, ◌==◌, ◌&&◌, ◌++◌, Bool, Option, Some, None, IfSome}
+use Rattle.std.specs.Prelude.{option_map, List, [], ◌∷◌, length, sum_by}
 use Rattle.std.specs.List.{AllByRecursion, find}
 use Rattle.message_buffer.specs.Buffer.{bytes_of}
 use Rattle.packet_header.specs.Parts.{IsMessage}
 use Rattle.packet_rings.specs.Values.{EntryValue}
+use Rattle.rpc_base.specs.Tables.{without_first}
 use Rattle.rpc_base.specs.declared.fact.Fact.{Fact}
 use Rattle.rpc_laws.specs.declared.tables.Job.{Job}
-use Rattle.rpc_laws.specs.declared.tables.Served.{Served}
 use Rattle.rpc_laws.specs.declared.tables.Server.{Server}
 use Rattle.rpc_laws.specs.declared.tables.Timed.{Timed}
 use Rattle.rpc_laws.specs.Jobs.{is_job}
 use Rattle.rpc_laws.specs.PollOrder.{finished_facts}
 use Rattle.rpc_laws.specs.Queues.{replies}
-use Rattle.rpc_laws.specs.Requests.{is_request, is_server}
 use Rattle.rpc_laws.specs.Steps.{Rel, Goes, Then}
 use Rattle.rpc_outside.specs.Recording.{Grew}
+use Rattle.rpc_outside.specs.declared.service.Mode.{Mode}
+use Rattle.rpc_outside.specs.declared.service.Mode.TheVariants.{Background}
 use Rattle.session_store.specs.Changes.{FinishesAt}
 use Rattle.worker_board.specs.declared.Parcel.{Parcel}
 use Rattle.worker_crew.specs.Jobs.{FoundUnfinished, IsAnswered, Job as CrewJob}
@@ -27,21 +28,13 @@ use Rattle.endpoint_loop.specs.declared.node.JobName.{JobName}
 abbrev pub is_named : (t r : ℕ) → JobName → Bool
 is_named t r n = n.session == t && n.request == r
 
--- request r of session t, where it is the newest of its slot
-abbrev pub request_at : (t r : ℕ) → List Server → Option Served
-request_at t r servers =
-    option_and_then (λ v. find (is_request r) v.slots) (find (is_server t) servers)
+-- all jobs that are out are of types that workers answer
+abbrev pub AllBackground : (ℕ → Mode) → List Job → Type 0
+AllBackground mode jobs = AllByRecursion (λ job. mode job.req_type ≡ Background) jobs
 
--- a request of so many bytes waits for a worker's answer
-abbrev pub WaitsWith : (size : ℕ) → Served → Type 0
-WaitsWith size q = (q.working ≡ true) × (size ≡ q.size)
-
--- what the job of a parcel asks are the parcel's bytes; and where its request is the newest of its
--- slot, it waits for the answer, and the job asks all its bytes
-pub record AsksOf (p : Parcel) (servers : List Server) (asks : Asks) : Type 0 where
-  pub bytes : asks p.session p.request ≡ bytes_of p.ask
-  pub waits : IfSome (request_at p.session p.request servers)
-      (WaitsWith (length (asks p.session p.request)))
+-- what the job of a parcel asks are the parcel's bytes
+abbrev pub AsksOf : Parcel → Asks → Type 0
+AsksOf p asks = asks p.session p.request ≡ bytes_of p.ask
 
 -- a worker's answer goes to the request of a server session, where the session stands
 abbrev pub AnswersTo : Option ℕ → (r : ℕ) → List ℕ → Option EntryValue → List Server → List Server
@@ -58,13 +51,10 @@ asked_job asks job = record {
   ask = asks job.session job.request;
 }
 
--- the answer to such a job is no longer than a message; and where its request is the newest of its
--- slot, it waits for the answer, and the job asks all its bytes
-pub record CanFinish (answer : ℕ → List ℕ → List ℕ) (asks : Asks) (servers : List Server)
-    (job : Job) : Type 0 where
-  pub message : IsMessage (length (answer job.req_type (asks job.session job.request)))
-  pub waits : IfSome (request_at job.session job.request servers)
-      (WaitsWith (length (asks job.session job.request)))
+-- the answer to such a job is no longer than a message
+abbrev pub CanFinish : (answer : ℕ → List ℕ → List ℕ) → Asks → Job → Type 0
+CanFinish answer asks job =
+    IsMessage (length (answer job.req_type (asks job.session job.request)))
 
 -- the workers, which answer so, have exactly the jobs of the node that are out, and these ask so:
 -- however jobs are counted, the two counts are the same
@@ -72,7 +62,23 @@ pub record Agree (answer : ℕ → List ℕ → List ℕ) (asks : Asks) (out : L
     : Type 0 where
   pub same : (count : CrewJob → ℕ)
       → sum_by (λ job. count (asked_job asks job)) s.lists.jobs.out ≡ sum_by count out
-  pub ready : AllByRecursion (CanFinish answer asks s.lists.servers) s.lists.jobs.out
+  pub ready : AllByRecursion (CanFinish answer asks) s.lists.jobs.out
+
+-- what the workers of a node are, beside what they answer: how many jobs they take, how many they
+-- were given, which are out, and which of them wait to be worked, where that is told
+pub record Staff : Type 0 where
+  pub limit : ℕ
+  pub given : ℕ
+  pub out : List CrewJob
+  pub waiting : Option (List Parcel)
+
+-- workers that have exactly the jobs of the node take as many as the node does, and were given as
+-- many
+pub record AreStaffed (answer : ℕ → List ℕ → List ℕ) (asks : Asks) (staff : Staff) (s : Timed)
+    : Type 0 where
+  pub agree : Agree answer asks staff.out s
+  pub limit_is : staff.limit ≡ s.lists.jobs.limit
+  pub given_is : staff.given ≡ s.lists.jobs.given
 
 -- the job of this request is finished with its worker's answer, while fewer replies are queued than
 -- the ring is long
@@ -90,6 +96,11 @@ FinishesThese answer [] s x t = (x ≡ []) × (t ≡ s)
 FinishesThese answer (p ∷ ps) s x t =
     Then (FinishesBy answer p.session p.request) (FinishesThese answer ps) s x t
 
+-- the jobs without those of these parcels
+abbrev pub jobs_left : List Parcel → List Job → List Job
+jobs_left [] out = out
+jobs_left (p ∷ ps) out = jobs_left ps (without_first (is_job p.session p.request) out)
+
 -- jobs that came back are finished, each with its answer. Where the workers tell which jobs are
 -- worked, these are the first of them, in order. The others are out
 pub record FinishesTaken (answer : ℕ → List ℕ → List ℕ) (later : List CrewJob)
@@ -99,6 +110,7 @@ pub record FinishesTaken (answer : ℕ → List ℕ → List ℕ) (later : List 
   pub answered : AllByRecursion (IsAnswered answer) parcels
   pub finishes : FinishesThese answer parcels (asking asks s) x (asking asks t)
   pub first : worked ≡ option_map (λ ps. parcels ++ ps) rest
+  pub left : t.lists.jobs ≡ record s.lists.jobs { out = jobs_left parcels s.lists.jobs.out }
   pub agree : Agree answer asks later t
 
 -- so it is, whatever the jobs ask, as long as the workers had exactly the jobs of the node

@@ -1,10 +1,14 @@
+pub mod Applying
 pub mod Asking
 pub mod Finishing
 pub mod Fits
 pub mod Handling
 pub mod Hearing
+pub mod Lending
 pub mod Measures
 pub mod Noting
+pub mod Polling
+pub mod Running
 pub mod Seen
 pub mod Serving
 pub mod Watching

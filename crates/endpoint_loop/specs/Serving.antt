@@ -1,6 +1,6 @@
 -- What a node does with the request in front of its receive ring, and with a job that is finished.
-use Rattle.std.specs.Prelude.{◌≡◌, ◌≢◌, ℕ, ◌++◌, Bool, Option, Some, None, IfSome, List, [], ◌∷◌, length}
-use Rattle.std.specs.Prelude.{map, slice_get, option_map, option_to_list}
+use Rattle.std.specs.Prelude.{◌≡◌, ◌≢◌, ℕ, ◌+◌, ◌++◌, Bool, false, Option, Some, None, IfSome, List}
+use Rattle.std.specs.Prelude.{[], ◌∷◌, length, slice_get}
 use Rattle.std.specs.List.{AllByRecursion, find}
 use Rattle.message_buffer.specs.Buffer.{bytes_of}
 use Rattle.packet_header.specs.Parts.{IsMessage}
@@ -9,13 +9,13 @@ use Rattle.packet_header.specs.declared.packet.MessageHeader.{MessageHeader}
 use Rattle.rpc_base.specs.declared.fact.Fact.{Fact}
 use Rattle.rpc_laws.specs.declared.tables.Arrival.{Arrival}
 use Rattle.rpc_laws.specs.declared.tables.Job.{Job}
+use Rattle.rpc_laws.specs.declared.tables.Jobs.{Jobs}
 use Rattle.rpc_laws.specs.declared.tables.Server.{Server}
 use Rattle.rpc_laws.specs.declared.tables.Timed.{Timed}
-use Rattle.rpc_laws.specs.Jobs.{is_job}
+use Rattle.rpc_laws.specs.Jobs.{are_full, is_job}
 use Rattle.rpc_laws.specs.PollOrder.{asks_facts, finished_facts}
 use Rattle.rpc_laws.specs.Service.{Answers, Serving, served_after_all}
 use Rattle.rpc_laws.specs.Steps.{Rel, Goes}
-use Rattle.rpc_outside.specs.Recording.{Grew}
 use Rattle.rpc_outside.specs.Served.{Served}
 use Rattle.rpc_outside.specs.declared.service.Mode.{Mode}
 use Rattle.rpc_outside.specs.declared.service.Mode.TheVariants.{Background, Unserved}
@@ -56,9 +56,15 @@ pub record IsGiven (v : Serving) (stands : Served → Type 0) (p : Parcel) : Typ
       → length (v.answer served p.req_type (bytes_of p.ask)) ≡ p.out.len
   pub most : IsMessage p.out.len
 
--- a step that may run a handler, or make a job, which is given out. Where the service stood for what
--- was served before, each handler that ran has its answer, and the service stands for what was
--- served after
+-- the jobs of a node with the one that is given, where one is
+abbrev pub with_given : Option Parcel → Jobs → Jobs
+with_given None jobs = jobs
+with_given (Some p) jobs =
+    record jobs { given = jobs.given + 1; out = jobs.out ++ job_named p ∷ [] }
+
+-- a step that may run a handler, or make a job, which is given out, and then the jobs weren't full.
+-- Where the service stood for what was served before, each handler that ran has its answer, and the
+-- service stands for what was served after
 pub record MakesServed {R : Type 0} (facts : R → Option (List Fact)) (whole : R → Bool)
     (v : Serving) (stands then_stands : Served → Type 0) (P : Rel) (given : Option Parcel)
     (old new : Timed) (before now : R) : Type 0 where
@@ -66,7 +72,8 @@ pub record MakesServed {R : Type 0} (facts : R → Option (List Fact)) (whole : 
   pub answers : (served : Served) → stands served
       → Answers v served makes.noted × then_stands (served_after_all v.mode served makes.noted)
   pub parcel : IfSome given (IsGiven v stands)
-  pub names : new.lists.jobs.out ≡ old.lists.jobs.out ++ option_to_list (option_map job_named given)
+  pub jobs : new.lists.jobs ≡ with_given given old.lists.jobs
+  pub vacant : IfSome given (λ p. are_full old.lists.jobs ≡ false)
 
 -- the job of this request is finished, with this answer
 pub record FinishesWith (session request : ℕ) (answer : List ℕ) (s : Timed) (x : List Fact)

@@ -64,6 +64,7 @@ impl Node {
         requires message { waiting.req.len ≤ MOST_MESSAGE_BYTES }
         ensures makes { OnOk result (Makes R.facts R.whole (Asks session waiting.req_type
             (bytes_of waiting.req) (capacity_of waiting.resp)) self.old self.new rec.old rec.new) }
+        ensures jobs { self.new.lists.jobs ≡ self.old.lists.jobs }
         ensures servers { self.new.lists.servers ≡ self.old.lists.servers }
         ensures unchanged { OnErr result ((self.new ≡ self.old) × (rec.new ≡ rec.old)) }
         ensures handed_back { IfErr result (λ back. back ≡ waiting) }
@@ -98,6 +99,7 @@ impl Node {
             (bytes_of req) (capacity_of resp)) self.old self.new rec.old rec.new) }
         ensures asked { IsAskedAs (refusal_of req.len (state_of (find (is_client session)
             self.old.lists.clients))) self.old.lists.asked req resp result }
+        ensures jobs { self.new.lists.jobs ≡ self.old.lists.jobs }
         ensures servers { self.new.lists.servers ≡ self.old.lists.servers }
         ensures unchanged { OnErr result (self.new ≡ self.old) }
         ensures wanting { IfWanting result (rec.new ≡ rec.old) }

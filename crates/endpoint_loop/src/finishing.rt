@@ -1,10 +1,10 @@
 //! Step 1 of a poll: jobs are finished.
 ghost use Rattle.std.specs.Prelude.{◌≡◌, ◌++◌, ◌<◌, ◌≤◌, ◌⊎◌, ℕ, true, false, None, length};
-ghost use Rattle.std.specs.Prelude.{slice_get};
+ghost use Rattle.std.specs.Prelude.{[], slice_get};
 ghost use Rattle.std.specs.List.{find, position, remove};
 ghost use Rattle.std.specs.VecDeque.{deque_capacity};
-ghost use Rattle.endpoint_loop.specs.Finishing.{AnswersTo, AsksOf, MakesFinished, NoneBack};
-ghost use Rattle.endpoint_loop.specs.Finishing.{is_named};
+ghost use Rattle.endpoint_loop.specs.Finishing.{AllBackground, AnswersTo, AsksOf, MakesFinished};
+ghost use Rattle.endpoint_loop.specs.Finishing.{NoneBack, is_named};
 ghost use Rattle.endpoint_loop.specs.Noting.{MakesWhere};
 ghost use Rattle.endpoint_loop.specs.Serving.{AllServed, FinishesWith};
 ghost use Rattle.message_buffer.specs.Buffer.{bytes_of};
@@ -91,16 +91,19 @@ impl Node {
     pub fn finish<R: Recorder>(&mut self, parcel: Parcel, rec: &mut R) -> bool
         requires room { replies self.old.lists.queued < self.old.lists.room }
         requires answer { IsMessage parcel.out.len }
-        ensures done { result ≡ true → MakesWhere R.facts R.whole
-            (AsksOf parcel self.old.lists.servers) (FinishesWith parcel.session parcel.request
-            (bytes_of parcel.out)) self.old self.new rec.old rec.new }
-        ensures names { result ≡ true → self.new.lists.jobs.out
-            ≡ without_first (is_job parcel.session parcel.request) self.old.lists.jobs.out }
+        ensures done { result ≡ true → MakesWhere R.facts R.whole (AsksOf parcel)
+            (FinishesWith parcel.session parcel.request (bytes_of parcel.out)) self.old self.new
+            rec.old rec.new }
+        ensures jobs { result ≡ true → self.new.lists.jobs ≡ record self.old.lists.jobs {
+          out = without_first (is_job parcel.session parcel.request) self.old.lists.jobs.out;
+        } }
         ensures none { result ≡ false → (self.new ≡ self.old) × (rec.new ≡ rec.old)
             × (find (is_job parcel.session parcel.request) self.old.lists.jobs.out ≡ None) }
         ensures clients { self.new.lists.clients ≡ self.old.lists.clients }
         ensures served { (mode : ℕ → Mode) → AllServed mode self.old.lists.servers
             → AllServed mode self.new.lists.servers }
+        ensures background { (mode : ℕ → Mode) → AllBackground mode self.old.lists.jobs.out
+            → AllBackground mode self.new.lists.jobs.out }
     {
         let (session, request) = (parcel.session, parcel.request);
         let Some(job) = take_job(&mut self.jobs, session, request) else {
@@ -126,8 +129,9 @@ impl Node {
     }
 
     // What always holds of the lists of a node holds of this one's.
-    fn sound(&self)
-        ensures { Kept self.now.lists }
+    pub(crate) fn sound(&self)
+        ensures kept { Kept self.now.lists }
+        ensures inbox { self.now.lists.inbox ≡ [] }
     {
         let _me = self.me;
     }
@@ -147,6 +151,9 @@ impl Node {
         ensures clients { self.new.lists.clients ≡ self.old.lists.clients }
         ensures served { (mode : ℕ → Mode) → AllServed mode self.old.lists.servers
             → AllServed mode self.new.lists.servers }
+        ensures background { (mode : ℕ → Mode) → AllBackground mode self.old.lists.jobs.out
+            → AllBackground mode self.new.lists.jobs.out }
+        ensures waiting { W.waiting workers.new ≡ W.waiting workers.old }
         ensures given { W.given workers.new ≡ W.given workers.old }
         ensures limit { W.limit workers.new ≡ W.limit workers.old }
         ensures looks { W.looks workers.old ≤ W.looks workers.new }
@@ -164,7 +171,7 @@ impl Node {
     }
 
     // Whether fewer replies are queued than the ring is long.
-    fn has_room(&self) -> bool
+    pub(crate) fn has_room(&self) -> bool
         ensures less { result ≡ true → replies self.now.lists.queued < self.now.lists.room }
         ensures full { result ≡ false → self.now.lists.room ≤ replies self.now.lists.queued }
     {
@@ -184,6 +191,9 @@ impl Node {
         ensures clients { self.new.lists.clients ≡ self.old.lists.clients }
         ensures served { (mode : ℕ → Mode) → AllServed mode self.old.lists.servers
             → AllServed mode self.new.lists.servers }
+        ensures background { (mode : ℕ → Mode) → AllBackground mode self.old.lists.jobs.out
+            → AllBackground mode self.new.lists.jobs.out }
+        ensures waiting { W.waiting workers.new ≡ W.waiting workers.old }
         ensures given { W.given workers.new ≡ W.given workers.old }
         ensures limit { W.limit workers.new ≡ W.limit workers.old }
         ensures looks { W.looks workers.old ≤ W.looks workers.new }

@@ -1,8 +1,9 @@
 //! Step 3 of a poll: the packets of the receive ring are handled.
-ghost use Rattle.std.specs.Prelude.{◌≡◌, ◌≢◌, ◌<◌, []};
-ghost use Rattle.endpoint_loop.specs.Handling.{MakesHandled};
+ghost use Rattle.std.specs.Prelude.{◌≡◌, ◌≢◌, ◌<◌, [], true, false, drop, length};
+ghost use Rattle.endpoint_loop.specs.Handling.{MakesAllHandled, MakesHandled, StandsForSome};
+ghost use Rattle.endpoint_loop.specs.Handling.{WorksFor};
 ghost use Rattle.endpoint_loop.specs.Serving.{AllServed};
-ghost use Rattle.rpc_laws.specs.PollOrder.{Handles};
+ghost use Rattle.rpc_laws.specs.PollOrder.{Handles, HandlesAll, NoMoreToHandle};
 ghost use Rattle.rpc_laws.specs.Queues.{replies};
 
 use crate::continuation::Continuation;
@@ -11,6 +12,7 @@ use packet_header::Kind;
 use rpc_outside::{Recorder, Service};
 use std::alloc::Global;
 use worker_board::Parcel;
+use worker_crew::Workers;
 
 impl Node {
     /// A turn of step 3 of a poll: handles the packet in front of the receive ring, while fewer
@@ -31,6 +33,7 @@ impl Node {
           answer = V.answer;
         }) (V.stands service.old) (V.stands service.new) (Handles V.mode_of) result self.old
             self.new rec.old rec.new k.old k.new }
+        ensures ring { self.new.lists.ring ≡ drop 1 self.old.lists.ring }
         ensures served { AllServed V.mode_of self.new.lists.servers }
     {
         let Some(head) = self.front_head() else {
@@ -45,6 +48,86 @@ impl Node {
                     None
                 }
             },
+        }
+    }
+
+    // Whether a packet can be handled: there is one, and fewer replies are queued than the ring is
+    // long.
+    fn can_handle(&self) -> bool
+        ensures some { result ≡ true → self.now.lists.ring ≢ [] }
+        ensures room { result ≡ true → replies self.now.lists.queued < self.now.lists.room }
+        ensures over { result ≡ false → NoMoreToHandle self.now }
+    {
+        !self.rx.is_empty() && self.has_room()
+    }
+
+    // A turn of step 3 of a poll. A job that the packet makes is given to the workers.
+    fn handle_next<V: Service, W: Workers, K: Continuation, R: Recorder>(
+        &mut self,
+        alloc: Global,
+        service: &mut V,
+        workers: &mut W,
+        k: &mut K,
+        rec: &mut R,
+    )
+        requires some { self.old.lists.ring ≢ [] }
+        requires room { replies self.old.lists.queued < self.old.lists.room }
+        requires served { AllServed V.mode_of self.old.lists.servers }
+        requires founded { StandsForSome (V.stands service.old) }
+        requires works { WorksFor W.answer (record { mode = V.mode_of; answer = V.answer }) }
+        ensures handles { MakesAllHandled R.facts R.whole K.given (λ w. record {
+          limit = W.limit w;
+          given = W.given w;
+          out = W.out w;
+          waiting = W.waiting w;
+        }) (record { mode = V.mode_of; answer = V.answer }) (V.stands service.old)
+            (V.stands service.new) W.answer (Handles V.mode_of) self.old self.new rec.old rec.new
+            k.old k.new workers.old workers.new }
+        ensures fewer { length self.new.lists.ring < length self.old.lists.ring }
+        ensures served { AllServed V.mode_of self.new.lists.servers }
+        ensures me { self.new.lists.me ≡ self.old.lists.me }
+        ensures founded { StandsForSome (V.stands service.new) }
+        ensures worked { W.worked workers.new ≡ W.worked workers.old }
+        ensures looks { W.looks workers.new ≡ W.looks workers.old }
+    {
+        let Some(parcel) = self.handle_front(alloc, service, k, rec) else {
+            return;
+        };
+        self.sound();
+        // Workers that have the jobs of the node aren't full: the node counts them.
+        let _given = workers.give(parcel);
+    }
+
+    /// Step 3 of a poll: the packets of the receive ring are handled in the order of their arrival,
+    /// while fewer replies are queued than the ring is long. Calls that end go to the continuation,
+    /// and jobs to the workers, which answer background requests as the service does.
+    pub fn handle_all<V: Service, W: Workers, K: Continuation, R: Recorder>(
+        &mut self,
+        alloc: Global,
+        service: &mut V,
+        workers: &mut W,
+        k: &mut K,
+        rec: &mut R,
+    )
+        requires served { AllServed V.mode_of self.old.lists.servers }
+        requires founded { StandsForSome (V.stands service.old) }
+        requires works { WorksFor W.answer (record { mode = V.mode_of; answer = V.answer }) }
+        ensures handles { MakesAllHandled R.facts R.whole K.given (λ w. record {
+          limit = W.limit w;
+          given = W.given w;
+          out = W.out w;
+          waiting = W.waiting w;
+        }) (record { mode = V.mode_of; answer = V.answer }) (V.stands service.old)
+            (V.stands service.new) W.answer (HandlesAll V.mode_of) self.old self.new rec.old rec.new
+            k.old k.new workers.old workers.new }
+        ensures served { AllServed V.mode_of self.new.lists.servers }
+        ensures me { self.new.lists.me ≡ self.old.lists.me }
+        ensures founded { StandsForSome (V.stands service.new) }
+        ensures worked { W.worked workers.new ≡ W.worked workers.old }
+        ensures looks { W.looks workers.new ≡ W.looks workers.old }
+    {
+        'packets: while self.can_handle() {
+            self.handle_next(alloc, service, workers, k, rec);
         }
     }
 }

@@ -1,5 +1,5 @@
 //! Step 3 of a poll, for replies: a CR or Response in front of the receive ring is handled.
-ghost use Rattle.std.specs.Prelude.{◌≡◌, ◌≢◌, ◌+◌, [], None, Some, IfSome, length};
+ghost use Rattle.std.specs.Prelude.{◌≡◌, ◌≢◌, ◌+◌, [], None, Some, IfSome, drop, length};
 ghost use Rattle.client_core.specs.Shown.{done_event, end_bytes};
 ghost use Rattle.endpoint_loop.specs.Hearing.{Drops, HearsReply};
 ghost use Rattle.endpoint_loop.specs.Noting.{Makes};
@@ -61,6 +61,7 @@ impl Node {
     /// The front of the receive ring is dropped for this reason.
     pub(crate) fn drop_front<R: Recorder>(&mut self, reason: DropReason, rec: &mut R)
         ensures drops { Makes R.facts R.whole (Drops reason) self.old self.new rec.old rec.new }
+        ensures ring { self.new.lists.ring ≡ drop 1 self.old.lists.ring }
         ensures jobs { self.new.lists.jobs ≡ self.old.lists.jobs }
         ensures clients { self.new.lists.clients ≡ self.old.lists.clients }
         ensures servers { self.new.lists.servers ≡ self.old.lists.servers }
@@ -78,6 +79,7 @@ impl Node {
         requires front { front_header self.old.lists.ring ≡ Some head.now }
         ensures hears { Makes R.facts R.whole (HearsReply head.now result) self.old self.new rec.old
             rec.new }
+        ensures ring { self.new.lists.ring ≡ drop 1 self.old.lists.ring }
         ensures jobs { self.new.lists.jobs ≡ self.old.lists.jobs }
         ensures servers { self.new.lists.servers ≡ self.old.lists.servers }
     {

@@ -3,15 +3,18 @@
 //! posts calls, and sends packets; the program runs the nodes of the simulation.
 #![tactic(auto)]
 
+mod applying;
 mod asking;
 mod closing;
 mod continuation;
 mod delivering;
+mod endpoint;
 mod finishing;
 mod handling;
 mod hearing;
 mod node;
 mod pairing;
+mod polling;
 mod posting;
 mod rolling;
 mod sending;
@@ -20,7 +23,9 @@ mod watching;
 
 pub use asking::{AskError, Refused};
 pub use continuation::Continuation;
+pub use endpoint::Endpoint;
 pub use node::{JobName, Node};
+pub use polling::LinkFault;
 
 #[cfg(test)]
 mod tests;

@@ -1,6 +1,7 @@
 //! What an endpoint has, beside its service and its workers.
-ghost use Rattle.std.specs.Prelude.{◌≡◌, IfOk};
+ghost use Rattle.std.specs.Prelude.{◌≡◌, ◌≤◌, IfOk};
 ghost use Rattle.rpc_base.specs.Limits.{Fits as InRange};
+ghost use Rattle.rpc_laws.specs.Groups.{shares};
 ghost use Rattle.rpc_laws.specs.NodeLists.{new_node};
 
 use packet_rings::RxRing;
@@ -98,5 +99,15 @@ impl Node {
             rx: RxRing::new(alloc, limits.ring)?,
             store: Store::new(alloc, 2 * limits.ring, places)?,
         })
+    }
+
+    // The credits of its live sessions.
+    pub(crate) fn shares(&self) -> u32
+        ensures shares { result ≡ shares self.now.lists }
+        ensures within { result ≤ self.now.lists.room }
+    {
+        self.sound();
+        let _room = self.rx.size();
+        self.store.shares()
     }
 }

@@ -1,9 +1,11 @@
 //! Sessions that are connected from the start.
-ghost use Rattle.std.specs.Prelude.{◌≡◌, ◌<◌, ◌≤◌, None, Some, length, OnErr, OnOk};
+ghost use Rattle.std.specs.Prelude.{◌≡◌, ◌<◌, ◌≤◌, ℕ, None, Some, length, OnErr, OnOk};
 ghost use Rattle.endpoint_loop.specs.Noting.{Makes};
+ghost use Rattle.endpoint_loop.specs.Serving.{AllServed};
 ghost use Rattle.rpc_base.specs.declared.event.Event.TheVariants.{PairedClient, PairedServer};
 ghost use Rattle.rpc_laws.specs.Groups.{client_refusal, server_refusal};
 ghost use Rattle.rpc_laws.specs.Steps.{NotesNext};
+ghost use Rattle.rpc_outside.specs.declared.service.Mode.{Mode};
 
 use crate::node::Node;
 use rpc_base::{Event, MOST_CREDITS, NoMemory, Peer, SESSION_NUMBERS, SessionNo, Who};
@@ -38,6 +40,7 @@ impl Node {
         ensures makes { OnOk result (Makes R.facts R.whole (NotesNext (λ s. Some
             (PairedClient (length s.clients) peer server credits))) self.old self.new rec.old
             rec.new) }
+        ensures jobs { self.new.lists.jobs ≡ self.old.lists.jobs }
         ensures servers { self.new.lists.servers ≡ self.old.lists.servers }
         ensures unchanged { OnErr result ((self.new ≡ self.old) × (rec.new ≡ rec.old)) }
     {
@@ -80,6 +83,9 @@ impl Node {
             (PairedServer s.server_numbers peer client credits))) self.old self.new rec.old
             rec.new) }
         ensures clients { self.new.lists.clients ≡ self.old.lists.clients }
+        ensures jobs { self.new.lists.jobs ≡ self.old.lists.jobs }
+        ensures served { (mode : ℕ → Mode) → AllServed mode self.old.lists.servers
+            → AllServed mode self.new.lists.servers }
         ensures unchanged { OnErr result ((self.new ≡ self.old) × (rec.new ≡ rec.old)) }
     {
         let session = SessionNo(self.server_numbers as u16);

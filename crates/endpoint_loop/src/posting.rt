@@ -17,6 +17,8 @@ impl Node {
             rec.new }
         ensures fewer { result ≡ true →
             free_at i self.new.lists.clients < free_at i self.old.lists.clients }
+        ensures jobs { self.new.lists.jobs ≡ self.old.lists.jobs }
+        ensures servers { self.new.lists.servers ≡ self.old.lists.servers }
     {
         if i >= self.store.clients() {
             return false;
@@ -38,6 +40,8 @@ impl Node {
             rec.new }
         ensures fewer { result ≡ true →
             waiting_at i self.new.lists.clients < waiting_at i self.old.lists.clients }
+        ensures jobs { self.new.lists.jobs ≡ self.old.lists.jobs }
+        ensures servers { self.new.lists.servers ≡ self.old.lists.servers }
     {
         if i >= self.store.clients() {
             return false;
@@ -55,23 +59,29 @@ impl Node {
 
     // Session `i` posts until it has nothing to post.
     fn post_all<R: Recorder>(&mut self, i: usize, rec: &mut R)
-        ensures { Makes R.facts R.whole (NotesAll (next_posted i)) self.old self.new rec.old
+        ensures makes { Makes R.facts R.whole (NotesAll (next_posted i)) self.old self.new rec.old
             rec.new }
+        ensures jobs { self.new.lists.jobs ≡ self.old.lists.jobs }
+        ensures servers { self.new.lists.servers ≡ self.old.lists.servers }
     {
         'packets: while self.post_next(i, rec) {}
     }
 
     // The waiting calls of session `i` begin, as long as a slot is free.
     fn begin_all<R: Recorder>(&mut self, i: usize, rec: &mut R)
-        ensures { Makes R.facts R.whole (NotesAll (next_begun i)) self.old self.new rec.old
+        ensures makes { Makes R.facts R.whole (NotesAll (next_begun i)) self.old self.new rec.old
             rec.new }
+        ensures jobs { self.new.lists.jobs ≡ self.old.lists.jobs }
+        ensures servers { self.new.lists.servers ≡ self.old.lists.servers }
     {
         'calls: while self.begin_next(i, rec) {}
     }
 
     // Session `i` begins its waiting calls, and then posts its packets.
     fn serve_session<R: Recorder>(&mut self, i: usize, rec: &mut R)
-        ensures { Makes R.facts R.whole (Serves i) self.old self.new rec.old rec.new }
+        ensures makes { Makes R.facts R.whole (Serves i) self.old self.new rec.old rec.new }
+        ensures jobs { self.new.lists.jobs ≡ self.old.lists.jobs }
+        ensures servers { self.new.lists.servers ≡ self.old.lists.servers }
     {
         self.begin_all(i, rec);
         self.post_all(i, rec);
@@ -80,7 +90,9 @@ impl Node {
     /// Step 5 of a poll: the client sessions are visited in the order of their numbers. Each begins
     /// its waiting calls, and then posts its packets.
     pub fn serve_sessions<R: Recorder>(&mut self, rec: &mut R)
-        ensures { Makes R.facts R.whole PostsAll self.old self.new rec.old rec.new }
+        ensures makes { Makes R.facts R.whole PostsAll self.old self.new rec.old rec.new }
+        ensures jobs { self.new.lists.jobs ≡ self.old.lists.jobs }
+        ensures servers { self.new.lists.servers ≡ self.old.lists.servers }
     {
         let count = self.store.clients();
         'sessions: for i in 0..count {

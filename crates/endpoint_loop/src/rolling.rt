@@ -92,6 +92,7 @@ impl Node {
         ensures clients { self.new.lists.clients ≡ self.old.lists.clients }
         ensures servers { self.new.lists.servers ≡ self.old.lists.servers }
         ensures me { self.new.lists.me ≡ self.old.lists.me }
+        ensures jobs { self.new.lists.jobs ≡ self.old.lists.jobs }
     {
         let Some(entry) = self.store.flush(i, request) else {
             return false;
@@ -113,6 +114,7 @@ impl Node {
         ensures clients { self.new.lists.clients ≡ self.old.lists.clients }
         ensures servers { self.new.lists.servers ≡ self.old.lists.servers }
         ensures me { self.new.lists.me ≡ self.old.lists.me }
+        ensures jobs { self.new.lists.jobs ≡ self.old.lists.jobs }
     {
         'packets: while self.flush_next(i, request, rec) {}
     }
@@ -128,6 +130,7 @@ impl Node {
             rec.new }
         ensures servers { self.new.lists.servers ≡ self.old.lists.servers }
         ensures me { self.new.lists.me ≡ self.old.lists.me }
+        ensures jobs { self.new.lists.jobs ≡ self.old.lists.jobs }
     {
         self.store.roll(i, active.call);
         let event = Event::Rolled {
@@ -148,6 +151,7 @@ impl Node {
             rec.old rec.new }
         ensures servers { self.new.lists.servers ≡ self.old.lists.servers }
         ensures me { self.new.lists.me ≡ self.old.lists.me }
+        ensures jobs { self.new.lists.jobs ≡ self.old.lists.jobs }
     {
         self.flush_call(i, active.request, rec);
         self.roll_idle(i, active, rec);
@@ -162,6 +166,7 @@ impl Node {
         ensures clients { self.new.lists.clients ≡ self.old.lists.clients }
         ensures servers { self.new.lists.servers ≡ self.old.lists.servers }
         ensures me { self.new.lists.me ≡ self.old.lists.me }
+        ensures jobs { self.new.lists.jobs ≡ self.old.lists.jobs }
     {
         let mut after = None;
         'calls: while let Some(active) = self.store.active(i, after) {
@@ -178,6 +183,7 @@ impl Node {
             rec.old rec.new k.old k.new }
         ensures servers { self.new.lists.servers ≡ self.old.lists.servers }
         ensures me { self.new.lists.me ≡ self.old.lists.me }
+        ensures jobs { self.new.lists.jobs ≡ self.old.lists.jobs }
     {
         lose_session(&mut self.store, self.me, i, k, rec);
     }
@@ -195,6 +201,7 @@ impl Node {
             rec.old rec.new k.old k.new }
         ensures servers { self.new.lists.servers ≡ self.old.lists.servers }
         ensures me { self.new.lists.me ≡ self.old.lists.me }
+        ensures jobs { self.new.lists.jobs ≡ self.old.lists.jobs }
     {
         self.flush_session(i, rec);
         self.break_idle(i, k, rec);

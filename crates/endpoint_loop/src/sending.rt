@@ -30,6 +30,8 @@ impl Node {
             (SendsNone L.sent self.old self.new rec.old rec.new link.old link.new) }
         ensures fewer { IfOk result (λ went. went ≡ true →
             length self.new.lists.queued < length self.old.lists.queued) }
+        ensures jobs { self.new.lists.jobs ≡ self.old.lists.jobs }
+        ensures servers { self.new.lists.servers ≡ self.old.lists.servers }
         ensures lists { NoneComes L.waiting L.received link.old link.new }
         ensures cause { HasCause (L.faults link.old) (L.faults link.new) result }
     {
@@ -77,6 +79,8 @@ impl Node {
             × (L.busies link.new ≡ L.busies link.old)) }
         ensures busy { IfOk result (λ busy. busy ≡ true →
             HasRisen (L.busies link.old) (L.busies link.new)) }
+        ensures jobs { self.new.lists.jobs ≡ self.old.lists.jobs }
+        ensures servers { self.new.lists.servers ≡ self.old.lists.servers }
         ensures lists { NoneComes L.waiting L.received link.old link.new }
         ensures cause { HasCause (L.faults link.old) (L.faults link.new) result }
     {

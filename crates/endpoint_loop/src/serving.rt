@@ -1,5 +1,5 @@
 //! Step 3 of a poll, for requests: a Request or RFR in front of the receive ring is handled.
-ghost use Rattle.std.specs.Prelude.{◌≡◌, ◌<◌, ◌+◌, true, Some, IfSome, length, slice_get};
+ghost use Rattle.std.specs.Prelude.{◌≡◌, ◌<◌, ◌+◌, true, Some, IfSome, drop, length, slice_get};
 ghost use Rattle.std.specs.List.{position};
 ghost use Rattle.endpoint_loop.specs.Serving.{AllServed, MakesServed, ServesRequest};
 ghost use Rattle.packet_header.specs.Header.{MessageInRange, MessageLength};
@@ -52,6 +52,7 @@ impl Node {
         }) (V.stands service.old) (V.stands service.new) (ServesRequest V.mode_of head.now) result
             self.old self.new rec.old rec.new }
         ensures served { AllServed V.mode_of self.new.lists.servers }
+        ensures ring { self.new.lists.ring ≡ drop 1 self.old.lists.ring }
         ensures clients { self.new.lists.clients ≡ self.old.lists.clients }
     {
         let full = self.jobs_full();
@@ -109,6 +110,7 @@ impl Node {
         }) (V.stands service.old) (V.stands service.new) (ServesRequest V.mode_of head.now) result
             self.old self.new rec.old rec.new }
         ensures served { AllServed V.mode_of self.new.lists.servers }
+        ensures ring { self.new.lists.ring ≡ drop 1 self.old.lists.ring }
         ensures clients { self.new.lists.clients ≡ self.old.lists.clients }
     {
         let Some(front) = self.rx.front() else {

@@ -31,6 +31,7 @@ impl Node {
             self.old self.new rec.old rec.new k.old k.new }
         ensures servers { self.new.lists.servers ≡ self.old.lists.servers }
         ensures me { self.new.lists.me ≡ self.old.lists.me }
+        ensures jobs { self.new.lists.jobs ≡ self.old.lists.jobs }
     {
         match self.store.timer(i, active, self.clock, timeout) {
             TimerRow::Waits => {}
@@ -53,6 +54,7 @@ impl Node {
         ensures order { Ascends (calls_at i self.old) }
         ensures servers { self.new.lists.servers ≡ self.old.lists.servers }
         ensures me { self.new.lists.me ≡ self.old.lists.me }
+        ensures jobs { self.new.lists.jobs ≡ self.old.lists.jobs }
     {
         if i >= self.store.clients() {
             return None;
@@ -77,6 +79,7 @@ impl Node {
             rec.old rec.new k.old k.new }
         ensures servers { self.new.lists.servers ≡ self.old.lists.servers }
         ensures me { self.new.lists.me ≡ self.old.lists.me }
+        ensures jobs { self.new.lists.jobs ≡ self.old.lists.jobs }
     {
         if i >= self.store.clients() {
             return;
@@ -94,6 +97,7 @@ impl Node {
         ensures ended { MakesEnds R.facts R.whole K.given TimesAll self.old self.new rec.old rec.new
             k.old k.new }
         ensures servers { self.new.lists.servers ≡ self.old.lists.servers }
+        ensures jobs { self.new.lists.jobs ≡ self.old.lists.jobs }
     {
         let timeout = self.limits.timeout;
         let count = self.store.clients();

@@ -38,9 +38,9 @@ use Rattle.rpc_laws.specs.Jobs.{is_job}
 use Rattle.rpc_laws.specs.NodeLists.{after}
 use Rattle.rpc_laws.specs.Posting.{is_taken, next_turn}
 use Rattle.rpc_laws.specs.Queues.{is_queued}
-use Rattle.rpc_laws.specs.Requests.{is_server, is_request, in_slot_of}
+use Rattle.rpc_laws.specs.Requests.{is_server, is_request, in_slot_of, request_of}
 use Rattle.rpc_laws.specs.Sessions.{is_client, is_connected, is_live}
-use Rattle.node_laws.proofs.Places.{request_of, Place, Active}
+use Rattle.node_laws.proofs.Places.{Place, Active}
 use Rattle.node_laws.specs.Valid.{is_due}
 
 -- no packet of this owner is queued

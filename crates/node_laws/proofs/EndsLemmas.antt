@@ -16,13 +16,12 @@ use Rattle.rpc_laws.specs.declared.tables.Lists.{Lists}
 use Rattle.rpc_laws.specs.declared.tables.Server.{Server}
 use Rattle.rpc_laws.specs.Front.{front_header, front_body}
 use Rattle.rpc_laws.specs.NodeLists.{after}
-use Rattle.rpc_laws.specs.Requests.{is_server, is_request, server_end, took_packet, given, answered}
+use Rattle.rpc_laws.specs.Requests.{is_server, is_request, server_end, took_packet, given, answered, request_of}
 use Rattle.rpc_laws.specs.Requests.{servers_after, server_numbers_after}
 use Rattle.node_laws.specs.EndedSessions.{ends_session, posts_for}
 use Rattle.node_laws.proofs.Allowed.{Allowed, Stands, Leads}
 use Rattle.rpc_base.proofs.FindLemmas.{none-found}
 use Rattle.rpc_base.proofs.FirstLemmas.{sum-left}
-use Rattle.node_laws.proofs.Places.{request_of}
 use Rattle.node_laws.specs.Valid.{to_come}
 use Rattle.rpc_base.proofs.TakingLemmas.{find-passes}
 

@@ -36,7 +36,7 @@ job-counted t r n k job e =
 given-by : (t r n k : ℕ) (s : Lists) (a : MayGive s n k) → new_job n k s.servers ≡ job_of n a.served ∷ []
 given-by t r n k s a = rw (a.found, a.is_served) refl
 
-given-counted : (t r n k : ℕ) (s : Lists) (a : MayGive s n k)
+pub given-counted : (t r n k : ℕ) (s : Lists) (a : MayGive s n k)
     → jobs_of t r (s.jobs.out ++ new_job n k s.servers)
     ≡ jobs_of t r s.jobs.out + cond (n == t && k == r) 1 0
 given-counted t r n k s a =
@@ -50,7 +50,7 @@ given-counted t r n k s a =
 
 module _ (t r : ℕ) (s : Lists) (valid : Valid s) where
   -- a job that is finished is out no more
-  out-of-jobs : (n k : ℕ) (a : MayFinish s n k)
+  pub out-of-jobs : (n k : ℕ) (a : MayFinish s n k)
       → jobs_of t r (without_first (is_job n k) s.jobs.out) + cond (n == t && k == r) 1 0
       ≡ jobs_of t r s.jobs.out
   out-of-jobs n k a =

@@ -90,8 +90,9 @@ no-more-by false true c d h = omega arith
 no-more-by false false true d h = rw (h refl) (omega arith)
 no-more-by false false false d h = omega arith
 
-module _ (test : Served → Bool) (falls : Falls test) where
-  left-le : (r : ℕ) (o : Option Served) → left_of test r o ≤ 1
+module _ (test : Served → Bool)
+    (next : (body : List ℕ) (q : Served) → test (next_packet body q) ≡ test q) where
+  pub left-le : (r : ℕ) (o : Option Served) → left_of test r o ≤ 1
   left-le r None = omega arith
   left-le r (Some l) = at-most (ltb r l.number) (ltb l.number r) (test l)
 
@@ -132,7 +133,7 @@ module _ (test : Served → Bool) (falls : Falls test) where
 
   next-left : (r : ℕ) (body : List ℕ) (q : Served)
       → left_of test r (Some (next_packet body q)) ≤ left_of test r (Some q)
-  next-left r body q = rw (falls.next body q) (omega arith)
+  next-left r body q = rw (next body q) (omega arith)
 
   took-left-by : (r n : ℕ) (h : MessageHeader) (body : List ℕ) (qs : List Served) (b : Bool)
       → list_any (is_request n) qs ≡ b → ((slot : ℕ) → in_place slot qs ≤ 1)

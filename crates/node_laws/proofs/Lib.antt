@@ -68,3 +68,4 @@ pub mod ValidLemmas
 pub mod WindowEndLemmas
 pub mod WindowLemmas
 pub mod WorkedRows
+pub mod WorkLemmas

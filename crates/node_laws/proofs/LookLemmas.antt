@@ -8,14 +8,13 @@ use Rattle.rpc_base.specs.Tables.{at_first, without_first}
 use Rattle.rpc_laws.specs.declared.tables.Lists.{Lists}
 use Rattle.rpc_laws.specs.declared.tables.Served.{Served}
 use Rattle.rpc_laws.specs.declared.tables.Server.{Server}
-use Rattle.rpc_laws.specs.Requests.{is_server, is_request, in_slot_of, server_end, first_packet}
+use Rattle.rpc_laws.specs.Requests.{is_server, is_request, in_slot_of, server_end, first_packet, request_of}
 use Rattle.rpc_laws.specs.Requests.{next_packet, took_packet}
 use Rattle.node_laws.proofs.Allowed.{MayServe}
 use Rattle.rpc_base.proofs.FindLemmas.{push-found, push-other, skip-found, count-out, none-found}
 use Rattle.rpc_base.proofs.FindLemmas.{mapped-found, unchanged-found}
 use Rattle.node_laws.proofs.ServerLemmas.{in_place, request-slot}
 use Rattle.rpc_base.proofs.FirstLemmas.{count-fewer, found-holds, none-counted, sum-fewer}
-use Rattle.node_laws.proofs.Places.{request_of}
 use Rattle.node_laws.specs.Valid.{SoundServer, Valid}
 
 -- request r of a session that is found

@@ -10,7 +10,7 @@ use Rattle.rpc_base.specs.declared.owner.Owner.TheVariants.{Reply}
 use Rattle.rpc_laws.specs.declared.tables.Lists.{Lists}
 use Rattle.rpc_laws.specs.declared.tables.Served.{Served}
 use Rattle.rpc_laws.specs.declared.tables.Server.{Server}
-use Rattle.rpc_laws.specs.Requests.{is_server, is_request, in_slot_of, first_packet, next_packet}
+use Rattle.rpc_laws.specs.Requests.{is_server, is_request, in_slot_of, first_packet, next_packet, request_of}
 use Rattle.node_laws.proofs.Allowed.{Newer, MayServe, Stands}
 use Rattle.rpc_base.proofs.FindLemmas.{missing-none}
 use Rattle.node_laws.proofs.LeftLemmas.{own-slot, same-slot}
@@ -18,7 +18,6 @@ use Rattle.node_laws.proofs.LookLemmas.{request_on, taken, look-next, look-first
 use Rattle.node_laws.proofs.ServedLemmas.{served-after}
 use Rattle.node_laws.proofs.ServerLemmas.{few-requests}
 use Rattle.rpc_base.proofs.FirstLemmas.{found-holds, found-own}
-use Rattle.node_laws.proofs.Places.{request_of}
 use Rattle.node_laws.specs.Valid.{SoundServer, left_of, left_on, left, to_come, Valid}
 use Rattle.rpc_base.proofs.TakingLemmas.{find-passes}
 

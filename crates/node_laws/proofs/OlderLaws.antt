@@ -15,6 +15,7 @@ use Rattle.rpc_laws.specs.Front.{front_header, front_body}
 use Rattle.rpc_laws.specs.NodeLists.{after, new_lists}
 use Rattle.rpc_laws.specs.Pacing.{due_of}
 use Rattle.rpc_laws.specs.Requests.{is_server, is_request, in_slot_of, servers_after, server_numbers_after}
+use Rattle.rpc_laws.specs.Requests.{request_of}
 use Rattle.node_laws.specs.EndedCalls.{queued_by}
 use Rattle.node_laws.specs.Laws.{OlderRequestsAreNotQueued}
 use Rattle.node_laws.specs.OlderRequests.{takes_request, posts_reply, IsOlder, GivesUp, BeginsClean}
@@ -28,7 +29,6 @@ use Rattle.node_laws.proofs.RunLaws.{run_leads}
 use Rattle.node_laws.proofs.ServantLemmas.{left-after}
 use Rattle.node_laws.proofs.StandLemmas.{Standing, standing-after, own-found, own-numbered, older-clean}
 use Rattle.rpc_base.proofs.FirstLemmas.{found-holds}
-use Rattle.node_laws.proofs.Places.{request_of}
 use Rattle.node_laws.specs.Valid.{SoundServer, left_of, left, Valid}
 use Rattle.node_laws.proofs.ValidLemmas.{valid_after, valid_new}
 use Rattle.rpc_base.proofs.TakingLemmas.{find-passes}

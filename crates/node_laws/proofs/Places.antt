@@ -1,17 +1,10 @@
--- Where requests and calls stand in a node's lists.
-use Rattle.std.specs.Prelude.{ℕ, ◌≡◌, Bool, Option, Some, option_and_then, List}
+-- Where calls stand in a node's lists.
+use Rattle.std.specs.Prelude.{ℕ, ◌≡◌, Bool, Some, List}
 use Rattle.std.specs.List.{find}
 use Rattle.rpc_laws.specs.declared.tables.Call.{Call}
 use Rattle.rpc_laws.specs.declared.tables.Client.{Client}
 use Rattle.rpc_laws.specs.declared.tables.Progress.{Progress}
-use Rattle.rpc_laws.specs.declared.tables.Served.{Served}
-use Rattle.rpc_laws.specs.declared.tables.Server.{Server}
-use Rattle.rpc_laws.specs.Requests.{is_server, is_request}
 use Rattle.rpc_laws.specs.Sessions.{is_client}
-
--- request r of session t, where it stands in its slot
-abbrev pub request_of : (t r : ℕ) → List Server → Option Served
-request_of t r servers = option_and_then (λ v. find (is_request r) v.slots) (find (is_server t) servers)
 
 -- a call of a session
 pub record Place (clients : List Client) (session : ℕ) (x : Client) (c : Call) : Type 0 where

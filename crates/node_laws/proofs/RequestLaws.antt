@@ -15,7 +15,7 @@ use Rattle.rpc_laws.specs.declared.tables.Lists.{Lists}
 use Rattle.rpc_laws.specs.declared.tables.Served.{Served}
 use Rattle.rpc_laws.specs.Front.{front_header, front_body}
 use Rattle.rpc_laws.specs.Jobs.{is_job}
-use Rattle.rpc_laws.specs.Requests.{is_request, is_server, next_packet, given, answered}
+use Rattle.rpc_laws.specs.Requests.{is_request, is_server, next_packet, given, answered, request_of}
 use Rattle.rpc_laws.specs.Requests.{servers_after, server_numbers_after}
 use Rattle.node_laws.specs.RequestHistory.{takes_newer, ring_by}
 use Rattle.node_laws.proofs.Allowed.{Allowed, MayServe, MayGive, MayFinish}
@@ -27,7 +27,6 @@ use Rattle.node_laws.proofs.RequestLemmas.{concerns, Told, told-stays, next-told
 use Rattle.node_laws.proofs.ServantLemmas.{Left, ended-by, left-after}
 use Rattle.rpc_base.proofs.FirstLemmas.{some-counted}
 use Rattle.node_laws.proofs.TellEventLemmas.{noted}
-use Rattle.node_laws.proofs.Places.{request_of}
 use Rattle.node_laws.specs.Valid.{is_due, left, Valid}
 use Rattle.rpc_base.proofs.TakingLemmas.{find-passes}
 
@@ -191,7 +190,7 @@ module _ (who : Who) (bytes second : List ℕ) (past : List Fact) (s : Lists) (v
       (request_of t r s.servers) e told)
 
   -- a session ends
-  ended-told : (n : ℕ) → Left (λ q. true) (falls-always true) t n s.server_numbers s.servers
+  ended-told : (n : ℕ) → Left (λ q. true) (falls-always true).next t n s.server_numbers s.servers
       → Told t r past (request_of t r s.servers)
       → Told t r (noted who (Ended n) bytes second ∷ past)
       (request_of t r (without_first (is_server n) s.servers))
@@ -215,7 +214,7 @@ module _ (who : Who) (bytes second : List ℕ) (past : List Fact) (s : Lists) (v
       (told-stays t r past (noted who (Accepted n peer c credits) bytes second)
       (request_of t r s.servers) refl told)
   told-after (Ended n) a told =
-      ended-told n (ended-by (λ q. true) (falls-always true) t n s.server_numbers s.servers (valid.alone t)) told
+      ended-told n (ended-by (λ q. true) (falls-always true).next t n s.server_numbers s.servers (valid.alone t)) told
   told-after (Took (Reply n k) i) a told = took-told n k i a (n == t && k == r) refl told
   told-after (Given n k) a told = give-told n k a (n == t && k == r) refl told
   told-after (Ran n k y) a told = run-told n k y (n == t && k == r) refl told

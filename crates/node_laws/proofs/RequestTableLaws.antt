@@ -17,7 +17,7 @@ use Rattle.rpc_laws.specs.declared.tables.Server.{Server}
 use Rattle.rpc_laws.specs.Front.{front_header, front_body}
 use Rattle.rpc_laws.specs.NodeLists.{after, new_lists}
 use Rattle.rpc_laws.specs.Queues.{ring_after}
-use Rattle.rpc_laws.specs.Requests.{is_server, is_request}
+use Rattle.rpc_laws.specs.Requests.{is_server, is_request, request_of}
 use Rattle.node_laws.specs.CallHistory.{latest_first}
 use Rattle.node_laws.specs.EndedSessions.{ends_session}
 use Rattle.node_laws.specs.Laws.{RequestsTellTheHistory}
@@ -36,7 +36,6 @@ use Rattle.node_laws.proofs.ServantLemmas.{left-after}
 use Rattle.node_laws.proofs.ServerLemmas.{few-requests}
 use Rattle.rpc_base.proofs.FirstLemmas.{any-counted, none-counted, found-any, found-holds, some-counted}
 use Rattle.node_laws.proofs.TellLemmas.{count-new}
-use Rattle.node_laws.proofs.Places.{request_of}
 use Rattle.node_laws.specs.Valid.{SoundServer, left_of, left, to_come, Valid}
 use Rattle.node_laws.proofs.ValidLemmas.{valid_after, valid_new}
 use Rattle.rpc_base.proofs.TakingLemmas.{find-passes}

@@ -44,7 +44,7 @@ before-begins : (b : Bool) → cond b (Drops Working) Repeats ≡ Begins → ⊥
 before-begins true e = cc
 before-begins false e = cc
 
-before-takes : (b : Bool) → cond b (Drops Working) Repeats ≡ Takes → ⊥
+pub before-takes : (b : Bool) → cond b (Drops Working) Repeats ≡ Takes → ⊥
 before-takes true e = cc
 before-takes false e = cc
 

@@ -1,11 +1,10 @@
 -- A run of a node notes only what is allowed, and what always holds does.
-use Rattle.std.proofs.Common.{◌≡◌, ℕ, suc, ◌+◌, ◌-◌, ◌≤◌, Bool, true, false, not, cond, ltb, Option}
+use Rattle.std.proofs.Common.{◌≡◌, ℕ, suc, ◌+◌, ◌≤◌, Bool, true, false, not, cond, ltb, Option}
 use Rattle.std.proofs.Common.{Some, None, List, [], ◌∷◌, length, refl, ap, ap₂, subst, ◌∙◌, inl}
 use Rattle.std.proofs.Common.{inr, arith}
 use Rattle.std.specs.Prelude.{◌==◌, slice_get}
 use Rattle.std.specs.List.{find}
 use Rattle.std.proofs.lemmas.Bool.{and_parts, eqb-true, ltb-true, ltb-false, not-false}
-use Rattle.packet_header.specs.Parts.{packet_count}
 use Rattle.packet_header.specs.Reading.{message_of, body_of}
 use Rattle.packet_header.specs.declared.packet.Kind.{Kind}
 use Rattle.packet_header.specs.declared.packet.Kind.TheVariants.{Request, Rfr, Cr, Response}
@@ -15,9 +14,8 @@ use Rattle.rpc_base.specs.declared.event.Event.TheVariants.{PairedClient, Paired
 use Rattle.rpc_base.specs.declared.event.Event.TheVariants.{Closing as BeginsClosing}
 use Rattle.rpc_base.specs.declared.event.Event.TheVariants.{NconnectNumbers, NconnectRing}
 use Rattle.rpc_base.specs.declared.event.Event.TheVariants.{NcloseState, NcloseBusy, Rated, Nrate}
-use Rattle.rpc_base.specs.declared.event.Event.TheVariants.{NcallTooLarge, Posted, Arrived}
+use Rattle.rpc_base.specs.declared.event.Event.TheVariants.{NcallTooLarge, Arrived}
 use Rattle.rpc_base.specs.declared.event.Event.TheVariants.{Overflowed, Bad, Ran, Worked, Missed}
-use Rattle.rpc_base.specs.declared.owner.Owner.TheVariants.{Reply}
 use Rattle.rpc_base.specs.declared.fact.Fact.{Fact}
 use Rattle.rpc_base.specs.declared.state.SessionState.{SessionState}
 use Rattle.rpc_base.specs.declared.state.SessionState.TheVariants.{Unknown, Connecting, Connected}
@@ -40,7 +38,8 @@ use Rattle.rpc_laws.specs.Groups.{ask_by_state, shares, clients_spent, servers_s
 use Rattle.rpc_laws.specs.Groups.{refusal_by, connect_by, disconnect_by, pending}
 use Rattle.rpc_laws.specs.Jobs.{is_job}
 use Rattle.rpc_laws.specs.NodeLists.{after, new_lists, new_node}
-use Rattle.rpc_laws.specs.PollOrder.{is_working, is_awaited, Finishes, FinishesOne, FinishesSome}
+use Rattle.rpc_laws.specs.PollOrder.{answer_posted, awaited, awaited_of, Finishes, FinishesOne}
+use Rattle.rpc_laws.specs.PollOrder.{FinishesSome}
 use Rattle.rpc_laws.specs.PollOrder.{handling_by, Handles, NoMoreToHandle, HandlesAll, PostsAll}
 use Rattle.rpc_laws.specs.PollOrder.{Sends, SendsSome, Closes, raised, Poll}
 use Rattle.rpc_outside.specs.declared.service.Mode.{Mode}
@@ -48,6 +47,7 @@ use Rattle.rpc_base.specs.declared.limits.Limits.{Limits}
 use Rattle.rpc_laws.specs.Service.{Serving}
 use Rattle.rpc_laws.specs.Sessions.{is_client, is_connected, is_live}
 use Rattle.rpc_laws.specs.Steps.{Then}
+use Rattle.rpc_laws.specs.Requests.{request_of}
 use Rattle.node_laws.specs.NodeRun.{Notes, Group, pairs_client, pairs_server, refuses, connects}
 use Rattle.node_laws.specs.NodeRun.{disconnects, sets_rate, asks, delivers, polls, works, misses}
 use Rattle.node_laws.specs.NodeRun.{NodeRun}
@@ -61,7 +61,6 @@ use Rattle.node_laws.proofs.ReplyLemmas.{replies-allowed}
 use Rattle.node_laws.proofs.ServeLemmas.{stands-ran, asks-allowed}
 use Rattle.node_laws.proofs.StateLemmas.{told-connected, told-few}
 use Rattle.node_laws.proofs.TimerLemmas.{timers-lawful}
-use Rattle.node_laws.proofs.Places.{request_of}
 use Rattle.node_laws.specs.Valid.{Valid}
 use Rattle.node_laws.proofs.ValidLemmas.{valid_new}
 use Rattle.rpc_base.proofs.TakingLemmas.{find-passes}
@@ -94,20 +93,20 @@ handles-lawful mode s x t v h =
 
 -- a job is finished
 
-awaited-stands : (t r : ℕ) (servers : List Server) (o : Option Served) → request_of t r servers ≡ o
-    → is_working o ≡ true → Stands servers t r
-awaited-stands t r servers None e h = cc
-awaited-stands t r servers (Some q) e h = record { served = q; found = e }
+awaited-stands : (t r k : ℕ) (servers : List Server) (o : Option Served)
+    → request_of t r servers ≡ o → awaited_of o ≡ Some k → Stands servers t r
+awaited-stands t r k servers None e h = cc
+awaited-stands t r k servers (Some q) e h = record { served = q; found = e }
 
-finish-allowed : (clock : ℕ) (s : Lists) (job : Job) (answer : List ℕ) (k : ℕ) (b : Bool)
-    → is_awaited job s.servers ≡ b → MayFinish s job.session job.request
+finish-allowed : (clock : ℕ) (s : Lists) (job : Job) (answer : List ℕ) (o : Option ℕ)
+    → awaited job s.servers ≡ o → MayFinish s job.session job.request
     → AllAllowed clock s (with_two s.me (Ran job.session job.request job.req_type) job.ask answer
-    ∷ cond b (plain s.me (Posted (Reply job.session job.request) k) ∷ []) [])
-finish-allowed clock s job answer k true e may =
-    let stands = awaited-stands job.session job.request s.servers
+    ∷ answer_posted s.me job o)
+finish-allowed clock s job answer None e may = (inr may, tt)
+finish-allowed clock s job answer (Some k) e may =
+    let stands = awaited-stands job.session job.request k s.servers
     (request_of job.session job.request s.servers) refl e in
     (inr may, (stands-ran job.session job.request answer s.servers stands, tt))
-finish-allowed clock s job answer k false e may = (inr may, tt)
 
 own-finish : (s : Lists) (session request : ℕ) (job : Job)
     → find (is_job session request) s.jobs.out ≡ Some job → MayFinish s job.session job.request
@@ -122,8 +121,7 @@ finishes-lawful : (session request : ℕ) → Lawful (Finishes session request)
 finishes-lawful session request s x t v h =
     let job = h.job in
     lawful-goes s x t h.goes (rw h.facts (finish-allowed s.clock s.lists job h.answer
-    (packet_count (length job.ask) - 1) (is_awaited job s.lists.servers) refl
-    (own-finish s.lists session request job h.is_out)))
+    (awaited job s.lists.servers) refl (own-finish s.lists session request job h.is_out)))
 
 pub finishes-some : Lawful FinishesSome
 finishes-some s x t v h =

@@ -14,8 +14,8 @@ use Rattle.rpc_base.specs.declared.owner.Owner.TheVariants.{Reply}
 use Rattle.rpc_laws.specs.declared.tables.Lists.{Lists}
 use Rattle.rpc_laws.specs.declared.tables.Served.{Served}
 use Rattle.rpc_laws.specs.declared.tables.Server.{Server}
-use Rattle.rpc_laws.specs.Requests.{is_server, is_request, server_end, took_packet, given, answered}
-use Rattle.rpc_laws.specs.Requests.{servers_after, server_numbers_after}
+use Rattle.rpc_laws.specs.Requests.{is_server, is_request, server_end, next_packet, took_packet, given}
+use Rattle.rpc_laws.specs.Requests.{answered, servers_after, server_numbers_after}
 use Rattle.node_laws.proofs.Allowed.{Allowed, MayServe, MayGive}
 use Rattle.rpc_base.proofs.FindLemmas.{changed-le, none-found}
 use Rattle.node_laws.proofs.LeftLemmas.{Falls, falls-due, took-left, changed-left, own-left}
@@ -23,7 +23,14 @@ use Rattle.rpc_base.proofs.FirstLemmas.{found-holds, found-changed}
 use Rattle.node_laws.specs.Valid.{is_due, SoundServer, left_in, left_on, left, to_come, to_give, Valid}
 use Rattle.rpc_base.proofs.TakingLemmas.{find-passes}
 
-module _ (test : Served → Bool) (falls : Falls test) where
+-- facts by which nothing is given to a worker, and no handler runs
+abbrev pub IsElse : Event → Type 0
+IsElse (Given t r) = ⊥
+IsElse (Ran t r y) = ⊥
+IsElse _ = Unit {0}
+
+module _ (test : Served → Bool)
+    (next : (body : List ℕ) (q : Served) → test (next_packet body q) ≡ test q) where
   made-by : (r m k : ℕ) (b : Bool) (v : Server) (o p : Option Server)
       → left_on test r k p ≤ left_on test r m o
       → left_on test r k (cond b (Some v) p) ≤ left_on test r m (cond b (Some v) o)
@@ -97,7 +104,7 @@ module _ (test : Served → Bool) (falls : Falls test) where
       let same : a.server ≡ v = same-server (find (is_server n) s.servers) a.server v a.found e in
       let sound = found-holds (is_server n) SoundServer s.servers a.server valid.served a.found in
       let less : left_in test r (took_packet k head body a.server.slots) ≤ left_in test r
-      a.server.slots = took-left test falls r k head body a.server sound a.newer in
+      a.server.slots = took-left test next r k head body a.server sound a.newer in
       rw same at less)
     where
       same-server : (o : Option Server) (v w : Server) → o ≡ Some v → o ≡ Some w → v ≡ w
@@ -112,27 +119,38 @@ module _ (test : Served → Bool) (falls : Falls test) where
   worked-le f numbers fall t r n k used servers =
       changed-le (left_on test r (to_come used t)) (is_server n)
       (λ v. record v { slots = at_first (is_request k) f v.slots }) (is_server t)
-      (λ v. refl) servers (λ v e. changed-left test falls f numbers fall r k v.slots)
+      (λ v. refl) servers (λ v e. changed-left test next f numbers fall r k v.slots)
 
+  -- no such fact leaves more
+  pub left-else : (t r : ℕ) (e : Event) (answer : List ℕ) (head : Option MessageHeader)
+      (body : List ℕ) (s : Lists) → Valid s → IsElse e → Allowed s e
+      → left test t r (server_numbers_after e s.server_numbers)
+      (servers_after e answer head body s.servers) ≤ left test t r s.server_numbers s.servers
+  left-else t r (PairedServer n peer c credits) answer head body s v u a =
+      rw a.numbered (made-le t r s.server_numbers peer c credits s.servers)
+  left-else t r (Accepted n peer c credits) answer head body s v u a =
+      rw a.numbered (made-le t r s.server_numbers peer c credits s.servers)
+  left-else t r (Ended n) answer head body s v u a =
+      over-by r (to_come s.server_numbers t) (find (is_server t) s.servers)
+      (find (is_server t) (without_first (is_server n) s.servers))
+      (ended-by t n s.server_numbers s.servers (v.alone t))
+  left-else t r (Took (Reply n k) i) answer head body s v u a = took-le t r s.server_numbers s v n k head body a
+  left-else t r (Given n k) answer head body s v u a = absurd u
+  left-else t r (Ran n k y) answer head body s v u a = absurd u
+  left-else t r _ answer head body s v u a = omega arith
+
+module _ (test : Served → Bool) (falls : Falls test) where
   -- no fact leaves more
   pub left-after : (t r : ℕ) (e : Event) (answer : List ℕ) (head : Option MessageHeader)
       (body : List ℕ) (s : Lists) → Valid s → Allowed s e
       → left test t r (server_numbers_after e s.server_numbers)
       (servers_after e answer head body s.servers) ≤ left test t r s.server_numbers s.servers
-  left-after t r (PairedServer n peer c credits) answer head body s v a =
-      rw a.numbered (made-le t r s.server_numbers peer c credits s.servers)
-  left-after t r (Accepted n peer c credits) answer head body s v a =
-      rw a.numbered (made-le t r s.server_numbers peer c credits s.servers)
-  left-after t r (Ended n) answer head body s v a =
-      over-by r (to_come s.server_numbers t) (find (is_server t) s.servers)
-      (find (is_server t) (without_first (is_server n) s.servers))
-      (ended-by t n s.server_numbers s.servers (v.alone t))
-  left-after t r (Took (Reply n k) i) answer head body s v a = took-le t r s.server_numbers s v n k head body a
   left-after t r (Given n k) answer head body s v a =
-      worked-le given (λ q. refl) falls.given t r n k s.server_numbers s.servers
+      worked-le test falls.next given (λ q. refl) falls.given t r n k s.server_numbers s.servers
   left-after t r (Ran n k y) answer head body s v a =
-      worked-le (answered answer) (λ q. refl) (falls.answered answer) t r n k s.server_numbers s.servers
-  left-after t r _ answer head body s v a = omega arith
+      worked-le test falls.next (answered answer) (λ q. refl) (falls.answered answer) t r n k
+      s.server_numbers s.servers
+  left-after t r e answer head body s v a = left-else test falls.next t r e answer head body s v tt a
 
 -- a request that is run or given takes one
 module _ (t r : ℕ) (s : Lists) (valid : Valid s) (f : Served → Served)
@@ -165,7 +183,9 @@ module _ (t r : ℕ) (s : Lists) (valid : Valid s) (f : Served → Served)
       let own : MayGive s t r = rw (← session, ← request) a in
       rw (session, request) (worked-own own)
   worked-by n k false e a =
-      let less = worked-le is_due falls-due f numbers (λ q h. let none = over q in cc) t r n k s.server_numbers s.servers in omega arith
+      let less = worked-le is_due falls-due.next f numbers (λ q h. let none = over q in cc) t r n k
+      s.server_numbers s.servers in
+      omega arith
 
   pub worked-spends : (n k : ℕ) → MayGive s n k
       → cond (n == t && k == r) 1 0 + to_give t r s.server_numbers

@@ -16,7 +16,7 @@ use Rattle.rpc_laws.specs.declared.tables.Served.{Served}
 use Rattle.rpc_laws.specs.declared.tables.Server.{Server}
 use Rattle.rpc_laws.specs.Front.{front_header}
 use Rattle.rpc_laws.specs.Queues.{is_queued, put_queued, queued_after}
-use Rattle.rpc_laws.specs.Requests.{is_server, is_request, in_slot_of, given, answered, servers_after}
+use Rattle.rpc_laws.specs.Requests.{is_server, is_request, in_slot_of, given, answered, servers_after, request_of}
 use Rattle.node_laws.proofs.Allowed.{Allowed, NoneQueued, NoneOlder, MayServe, MayLeave, Stands}
 use Rattle.rpc_base.proofs.FindLemmas.{missing-none, skip-found}
 use Rattle.node_laws.proofs.FlushLemmas.{no-more-same}
@@ -26,7 +26,6 @@ use Rattle.node_laws.proofs.LookLemmas.{taken, Replaces, look-next, look-first, 
 use Rattle.node_laws.proofs.PutLemmas.{none-put, none-ready}
 use Rattle.node_laws.proofs.QueueLemmas.{no-more-out, none-stays}
 use Rattle.rpc_base.proofs.FirstLemmas.{found-holds}
-use Rattle.node_laws.proofs.Places.{request_of}
 use Rattle.node_laws.specs.Valid.{SoundServer, Valid}
 use Rattle.rpc_base.proofs.TakingLemmas.{find-passes}
 

@@ -37,6 +37,7 @@ use Rattle.node_laws.proofs.ChangeLemmas.{sound-ends, sound-opened, sound-lives,
 use Rattle.node_laws.proofs.ChangeLemmas.{sound-connects, sound-requests}
 use Rattle.node_laws.proofs.IdleLemmas.{idle-after}
 use Rattle.node_laws.proofs.JobLemmas.{run-spends}
+use Rattle.node_laws.proofs.WorkLemmas.{work-stays}
 use Rattle.node_laws.proofs.NumberLemmas.{numbered-push, numbered-kept, by_number}
 use Rattle.node_laws.proofs.ServedLemmas.{alone-after, served-after}
 use Rattle.node_laws.proofs.ShareLemmas.{shares-after}
@@ -327,6 +328,7 @@ valid_after clock s f v a = record {
   alone = λ t. alone-after t f.event f.second (front_header s.ring) (front_body s.ring) s (v.alone t) a;
   served = served-after f.event f.second (front_header s.ring) (front_body s.ring) s v a;
   runs = λ t r. let spent = run-spends t r s v clock f a in let was = v.runs t r in omega arith;
+  works = λ t r. let spent = work-stays t r s v clock f a in let was = v.works t r in omega arith;
   shared = shares-after clock s f v.shared a;
 }
 
@@ -335,4 +337,14 @@ one-cond true = omega arith
 one-cond false = omega arith
 
 pub valid_new : (me : ℕ) (limits : Limits) → Valid (new_lists me limits)
-valid_new me limits = record { numbered = tt; alone = λ t. one-cond (leb 0 t); once = λ number. one-cond (leb 0 number); sound = tt; idle = tt; served = tt; runs = λ t r. let one = one-cond (leb 0 t) in omega arith; shared = omega arith }
+valid_new me limits = record {
+  numbered = tt;
+  alone = λ t. one-cond (leb 0 t);
+  once = λ number. one-cond (leb 0 number);
+  sound = tt;
+  idle = tt;
+  served = tt;
+  runs = λ t r. let one = one-cond (leb 0 t) in omega arith;
+  works = λ t r. let one = one-cond (leb 0 t) in omega arith;
+  shared = omega arith;
+}

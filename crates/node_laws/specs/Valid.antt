@@ -128,10 +128,20 @@ jobs_of t r jobs = count_by (is_job t r) jobs
 abbrev pub to_run : ℕ → ℕ → Lists → ℕ
 to_run t r s = to_give t r s.server_numbers s.servers + jobs_of t r s.jobs.out
 
+-- whether no worker has a request
+abbrev pub lacks_worker : Served → Bool
+lacks_worker q = not q.working
+
+-- how often a request may still come to a worker that doesn't have it, and how many jobs of it are
+-- out
+abbrev pub to_work : ℕ → ℕ → Lists → ℕ
+to_work t r s = left lacks_worker t r s.server_numbers s.servers + jobs_of t r s.jobs.out
+
 -- sessions are numbered in order, no call number stands twice or comes again, each session is
--- sound, only connected sessions have calls, no request may run twice, and the credits of the live
--- sessions are no more than the ring is long. A session that broke has its calls until each is told
--- to be over
+-- sound, only connected sessions have calls, no request may run twice, a worker has the request of
+-- each job that is out where that is the newest of its slot, and the credits of the live sessions
+-- are no more than the ring is long. A session that broke has its calls until each is told to be
+-- over
 pub record Valid (s : Lists) : Type 0 where
   pub numbered : NumberedFrom client_no 0 s.clients
   pub alone : (t : ℕ) → count_by (is_server t) s.servers + to_come s.server_numbers t ≤ 1
@@ -140,4 +150,5 @@ pub record Valid (s : Lists) : Type 0 where
   pub idle : AllByRecursion Idle s.clients
   pub served : AllByRecursion SoundServer s.servers
   pub runs : (t r : ℕ) → to_run t r s ≤ 1
+  pub works : (t r : ℕ) → to_work t r s ≤ 1
   pub shared : shares s ≤ s.room

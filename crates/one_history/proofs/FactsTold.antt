@@ -1,9 +1,8 @@
 -- The facts of each row have no other bytes than those that their lines show.
-use Rattle.std.proofs.Common.{◌-◌, ℕ, Bool, true, false, cond, List, [], ◌∷◌, ◌++◌, length, map}
+use Rattle.std.proofs.Common.{ℕ, Bool, true, false, cond, List, [], ◌∷◌, ◌++◌, length, map}
 use Rattle.std.proofs.Common.{Option, Some, None, refl, nat_lt}
 use Rattle.std.specs.Prelude.{◌==◌, flat_map}
 use Rattle.std.specs.List.{find}
-use Rattle.packet_header.specs.Parts.{packet_count}
 use Rattle.packet_header.specs.declared.packet.ControlHeader.{ControlHeader}
 use Rattle.packet_header.specs.declared.packet.Kind.{Kind}
 use Rattle.packet_header.specs.declared.packet.Kind.TheVariants.{Request, Rfr, Cr, Response}
@@ -51,7 +50,7 @@ use Rattle.rpc_laws.specs.Front.{is_control, is_message}
 use Rattle.rpc_laws.specs.GoBackN.{call_facts, client_facts, flushes_of, progress_facts, row_facts, row_of}
 use Rattle.rpc_laws.specs.Groups.{ask_by_state, ask_fact, connect_by, state_of}
 use Rattle.rpc_laws.specs.Jobs.{are_full}
-use Rattle.rpc_laws.specs.PollOrder.{finished_facts, handling_by, is_awaited}
+use Rattle.rpc_laws.specs.PollOrder.{answer_posted, awaited, finished_facts, handling_by}
 use Rattle.rpc_laws.specs.Queues.{flush_facts, numbers_of}
 use Rattle.rpc_laws.specs.Requests.{in_slot_of, is_server}
 use Rattle.rpc_laws.specs.ServerTable.{brings, flushes, flushes_older, is_last, makes_job}
@@ -178,13 +177,12 @@ told-handling Response mode lacks answer s peer h body =
     (client_row s.queued (find (is_client h.session) s.clients) peer h (length body))
 
 -- a job that is finished
+told-posted : (me : ℕ) (job : Job) (o : Option ℕ) → AllTold (answer_posted me job o)
+told-posted me job None = tt
+told-posted me job (Some k) = ((refl, refl), tt)
+
 pub told-finished : (answer : List ℕ) (s : Lists) (job : Job) → AllTold (finished_facts answer s job)
-told-finished answer s job = (
-  tt,
-  told-if (is_awaited job s.servers) (plain s.me
-      (Posted (Reply job.session job.request) (packet_count (length job.ask) - 1)) ∷ []) []
-      ((refl, refl), tt) tt,
-)
+told-finished answer s job = (tt, told-posted s.me job (awaited job s.servers))
 
 -- the control rule
 told-session-end : (me : ℕ) (queued : List Queued) (o : Option Server) → AllTold (session_end me queued o)

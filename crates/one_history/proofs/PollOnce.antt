@@ -1,15 +1,13 @@
 -- A poll whose worked jobs are finished in their order, and that sends all: from each state there is one.
-use Rattle.std.proofs.Common.{◌≡◌, ◌⊎◌, inl, inr, ◌≤◌, ◌-◌, ℕ, Bool, true, cond, List, [], ◌∷◌}
+use Rattle.std.proofs.Common.{◌≡◌, ◌⊎◌, inl, inr, ◌≤◌, ℕ, Bool, true, cond, List, [], ◌∷◌}
 use Rattle.std.proofs.Common.{◌++◌, length, Some, slice_get, sym, ap, ◌∙◌, subst, arith}
 use Rattle.std.specs.List.{find}
 use Rattle.packet_header.proofs.Heads.{one_head}
 use Rattle.packet_header.specs.Header.{HasHead}
-use Rattle.packet_header.specs.Parts.{packet_count}
 use Rattle.packet_header.specs.Reading.{message_of, body_of}
 use Rattle.packet_header.specs.declared.packet.MessageHeader.{MessageHeader}
-use Rattle.rpc_base.specs.declared.event.Event.TheVariants.{Posted, Sent}
+use Rattle.rpc_base.specs.declared.event.Event.TheVariants.{Sent}
 use Rattle.rpc_base.specs.declared.fact.Fact.{Fact}
-use Rattle.rpc_base.specs.declared.owner.Owner.TheVariants.{Reply}
 use Rattle.rpc_laws.specs.declared.tables.Arrival.{Arrival}
 use Rattle.rpc_laws.specs.declared.tables.Job.{Job}
 use Rattle.rpc_laws.specs.declared.tables.Lists.{Lists}
@@ -18,13 +16,13 @@ use Rattle.rpc_laws.specs.declared.tables.Queued.{Queued}
 use Rattle.rpc_laws.specs.declared.tables.Timed.{Timed}
 use Rattle.rpc_laws.specs.declared.tables.WorkedJob.{WorkedJob}
 use Rattle.rpc_laws.specs.ControlSteps.{HearsAll, TimesAll}
-use Rattle.rpc_laws.specs.Facts.{plain, with_two}
+use Rattle.rpc_laws.specs.Facts.{with_two}
 use Rattle.rpc_laws.specs.Jobs.{is_job}
 use Rattle.rpc_laws.specs.Packets.{outgoing}
 use Rattle.rpc_laws.specs.Pacing.{line}
 use Rattle.rpc_laws.specs.PollOrder.{Closes, Finishes, finished_facts, Handles, HandlesAll}
-use Rattle.rpc_laws.specs.PollOrder.{handling_by, is_awaited, NoMoreToHandle, PollBy, PostsAll}
-use Rattle.rpc_laws.specs.PollOrder.{raised, Sends, SendsAll, Serves}
+use Rattle.rpc_laws.specs.PollOrder.{answer_posted, awaited, handling_by, NoMoreToHandle, PollBy}
+use Rattle.rpc_laws.specs.PollOrder.{PostsAll, raised, Sends, SendsAll, Serves}
 use Rattle.rpc_laws.specs.Posting.{next_begun, next_posted}
 use Rattle.rpc_laws.specs.Queues.{is_due, replies}
 use Rattle.rpc_laws.specs.Steps.{NotesAll, Then}
@@ -131,10 +129,7 @@ module _ (n : ℕ) where
       → Fine n served (finished_facts a s job) → Fine n served (finished_facts b s job)
       → finished_facts a s job ≡ finished_facts b s job
   finished-same served s job a b m f g =
-      let rest : List Fact =
-      cond (is_awaited job s.servers)
-      (plain s.me (Posted (Reply job.session job.request)
-      (packet_count (length job.ask) - 1)) ∷ []) [] in
+      let rest : List Fact = answer_posted s.me job (awaited job s.servers) in
       ap (λ (z : List ℕ). finished_facts z s job)
       (ran-same n served s.me job.session job.request job.req_type job.ask a b rest rest m f g)
 

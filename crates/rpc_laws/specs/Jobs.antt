@@ -1,7 +1,6 @@
 -- Background jobs of a node: given and finished. That a job was worked changes none of them.
 use Rattle.std.specs.Prelude.{ℕ, ◌+◌, ◌^◌, ◌==◌, ◌&&◌, ◌||◌, nat_le, Bool, List, [], ◌++◌, length}
-use Rattle.std.specs.Prelude.{option_and_then, option_map, option_to_list}
-use Rattle.std.specs.List.{find}
+use Rattle.std.specs.Prelude.{option_map, option_to_list}
 use Rattle.rpc_base.specs.Tables.{without_first}
 use Rattle.rpc_base.specs.declared.event.Event.{Event}
 use Rattle.rpc_base.specs.declared.event.Event.TheVariants.{Given, Ran}
@@ -10,7 +9,7 @@ use Rattle.rpc_laws.specs.declared.tables.Job.{Job}
 use Rattle.rpc_laws.specs.declared.tables.Jobs.{Jobs}
 use Rattle.rpc_laws.specs.declared.tables.Served.{Served}
 use Rattle.rpc_laws.specs.declared.tables.Server.{Server}
-use Rattle.rpc_laws.specs.Requests.{is_server, is_request}
+use Rattle.rpc_laws.specs.Requests.{request_of}
 
 -- the job that a request of session t becomes: its bytes go with it
 abbrev pub job_of : ℕ → Served → Job
@@ -18,9 +17,7 @@ job_of t q = record { session = t; request = q.number; req_type = q.req_type; as
 
 -- request r of session t becomes a job, where it is there
 abbrev pub new_job : ℕ → ℕ → List Server → List Job
-new_job t r servers =
-    option_to_list (option_map (job_of t)
-    (option_and_then (λ v. find (is_request r) v.slots) (find (is_server t) servers)))
+new_job t r servers = option_to_list (option_map (job_of t) (request_of t r servers))
 
 -- whether a job is that of request r of session t
 abbrev pub is_job : ℕ → ℕ → Job → Bool

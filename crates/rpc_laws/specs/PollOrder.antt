@@ -1,8 +1,7 @@
 -- A poll: finished jobs, the inbox, the packets of the ring in order of arrival, the timers,
 -- posting, sending, and the Polled that ends it.
 use Rattle.std.specs.Prelude.{ℕ, ◌≡◌, ◌⊎◌, ◌-◌, ◌<◌, ◌≤◌, max, Bool, true, false, Option, Some}
-use Rattle.std.specs.Prelude.{None, option_and_then, List, [], ◌∷◌, length, slice_get}
-use Rattle.std.specs.Prelude.{if◌then◌else◌}
+use Rattle.std.specs.Prelude.{None, List, [], ◌∷◌, length, slice_get, if◌then◌else◌}
 use Rattle.std.specs.List.{find}
 use Rattle.packet_header.specs.Parts.{packet_count}
 use Rattle.packet_header.specs.Header.{AreBytes, HasHead, InRange}
@@ -30,28 +29,37 @@ use Rattle.rpc_laws.specs.Packets.{outgoing}
 use Rattle.rpc_laws.specs.Pacing.{line}
 use Rattle.rpc_laws.specs.Posting.{next_begun, next_posted}
 use Rattle.rpc_laws.specs.Queues.{is_due, replies}
-use Rattle.rpc_laws.specs.Requests.{is_server, is_request}
+use Rattle.rpc_laws.specs.Requests.{is_server, request_of}
 use Rattle.rpc_laws.specs.ServerTable.{server_row, served_facts}
 use Rattle.rpc_laws.specs.Sessions.{is_client}
 use Rattle.rpc_laws.specs.Steps.{Rel, Goes, Then, Chain, Until, Visits, NotesAll}
 
+-- whether a worker has a request
 abbrev pub is_working : Option Served → Bool
 is_working None = false
 is_working (Some q) = q.working
 
--- whether a job's request waits for it: it is the newest of its slot, and a worker has it
-abbrev pub is_awaited : Job → List Server → Bool
-is_awaited job servers =
-    is_working (option_and_then (λ v. find (is_request job.request) v.slots)
-    (find (is_server job.session) servers))
+-- the number of the packet that answers the last one of a request, where a worker has it
+abbrev pub awaited_of : Option Served → Option ℕ
+awaited_of None = None
+awaited_of (Some q) = if q.working then Some (packet_count q.size - 1) else None
+
+-- and of a job's request, where that waits for the answer: it is the newest of its slot, and a
+-- worker has it
+abbrev pub awaited : Job → List Server → Option ℕ
+awaited job servers = awaited_of (request_of job.session job.request servers)
+
+-- that packet is posted
+abbrev pub answer_posted : ℕ → Job → Option ℕ → List Fact
+answer_posted me job None = []
+answer_posted me job (Some k) = plain me (Posted (Reply job.session job.request) k) ∷ []
 
 -- a job is finished: the handler ran on its bytes and gave this answer, and the packet that answers
 -- the last one of its request is posted where the request waits for it
 abbrev pub finished_facts : List ℕ → Lists → Job → List Fact
 finished_facts answer s job =
     with_two s.me (Ran job.session job.request job.req_type) job.ask answer
-    ∷ (if is_awaited job s.servers then plain s.me
-    (Posted (Reply job.session job.request) (packet_count (length job.ask) - 1)) ∷ [] else [])
+    ∷ answer_posted s.me job (awaited job s.servers)
 
 -- the job of this request is finished, while fewer replies are queued than the ring is long
 pub record Finishes (session request : ℕ) (s : Timed) (x : List Fact) (t : Timed) : Type 0 where

@@ -1,7 +1,7 @@
 -- The live server sessions with the newest request of each slot, as the facts of a node leave them.
 use Rattle.std.specs.Prelude.{ℕ, ◌+◌, ◌%◌, ◌==◌, Bool, true, false, Option, Some, None, List, []}
-use Rattle.std.specs.Prelude.{◌∷◌, ◌++◌, if◌then◌else◌}
-use Rattle.std.specs.List.{list_any}
+use Rattle.std.specs.Prelude.{◌∷◌, ◌++◌, if◌then◌else◌, option_and_then}
+use Rattle.std.specs.List.{find, list_any}
 use Rattle.packet_header.specs.declared.packet.MessageHeader.{MessageHeader}
 use Rattle.rpc_base.specs.declared.event.Event.{Event}
 use Rattle.rpc_base.specs.declared.event.Event.TheVariants.{PairedServer, Accepted, Ended, Took, Given, Ran}
@@ -19,6 +19,11 @@ is_request r q = q.number == r
 -- the newest request of the slot of r
 abbrev pub in_slot_of : ℕ → Served → Bool
 in_slot_of r q = q.number % 8 == r % 8
+
+-- request r of session t, where it is the newest of its slot
+abbrev pub request_of : (t r : ℕ) → List Server → Option Served
+request_of t r servers =
+    option_and_then (λ v. find (is_request r) v.slots) (find (is_server t) servers)
 
 abbrev pub server_end : ℕ → ℕ → ℕ → ℕ → Server
 server_end number peer other credits =

@@ -42,15 +42,28 @@ use Rattle.server_core.proofs.ReplyLemmas.{kept-answer, placed-part}
 use Rattle.rpc_base.proofs.FirstLemmas.{found-holds}
 use Rattle.buffer_pool.proofs.CountLemmas.{full_used}
 
+-- numbers that are put into an ascending list
+pub none-cons : (b c : Bool) (k : ℕ) (ks : List ℕ) → (b || c) ≡ false → (c ≡ false → ks ≡ [])
+    → cond b (put k ks) ks ≡ []
+none-cons true c k ks none rest = cc
+none-cons false c k ks none rest = rest none
+
+pub put-first : (n m k : ℕ) (ks : List ℕ) → leb n m ≡ true → n ≡ k → put n (m ∷ ks) ≡ k ∷ m ∷ ks
+put-first n m k ks below same = rw (below, same) refl
+
+pub put-later : (n m : ℕ) (ks : List ℕ) → leb n m ≡ false → put n (m ∷ ks) ≡ m ∷ put n ks
+put-later n m ks above = rw above refl
+
+pub not-equal : (n m : ℕ) → leb n m ≡ false → eqb n m ≡ false
+not-equal n m above = ne_eqb n m (λ same. let more = leb-false n m above in absurd (omega (arith, same, more)))
+
+pub some-is : (n k : ℕ) → Some n ≡ Some k → n ≡ k
+some-is n k e = cc
+
 -- the numbers of an owner's entries, one taken out after another
 module _ (owner : Owner) where
   abbrev numbers : List EntryValue → List ℕ
   numbers es = numbers_of owner (queued_of es)
-
-  none-cons : (b c : Bool) (k : ℕ) (ks : List ℕ) → (b || c) ≡ false → (c ≡ false → ks ≡ [])
-      → cond b (put k ks) ks ≡ []
-  none-cons true c k ks none rest = cc
-  none-cons false c k ks none rest = rest none
 
   pub numbers-none : (es : List EntryValue) → list_any (is_of owner) es ≡ false → numbers es ≡ []
   numbers-none [] none = refl
@@ -60,15 +73,6 @@ module _ (owner : Owner) where
 
   abbrev bears : ℕ → EntryValue → Bool
   bears k e = is_of owner e && number_of e == k
-
-  put-first : (n m k : ℕ) (ks : List ℕ) → leb n m ≡ true → n ≡ k → put n (m ∷ ks) ≡ k ∷ m ∷ ks
-  put-first n m k ks below same = rw (below, same) refl
-
-  put-later : (n m : ℕ) (ks : List ℕ) → leb n m ≡ false → put n (m ∷ ks) ≡ m ∷ put n ks
-  put-later n m ks above = rw above refl
-
-  not-equal : (n m : ℕ) → leb n m ≡ false → eqb n m ≡ false
-  not-equal n m above = ne_eqb n m (λ same. let more = leb-false n m above in absurd (omega (arith, same, more)))
 
   module _ (x : EntryValue) (es : List EntryValue) (own : is_of owner x ≡ true) where
     mine : numbers (x ∷ es) ≡ put x.number (numbers es)
@@ -108,9 +112,6 @@ module _ (owner : Owner) where
       → numbers es ≡ k ∷ numbers (without_first (bears k) es)
       → numbers (x ∷ es) ≡ k ∷ numbers (without_first (bears k) (x ∷ es))
   not-mine x es k other ih = rw (other, other) ih
-
-  some-is : (n k : ℕ) → Some n ≡ Some k → n ≡ k
-  some-is n k e = cc
 
   cases : (x : EntryValue) (es : List EntryValue) (k : ℕ) (b : Bool) → is_of owner x ≡ b
       → cond b (Some (smaller x.number (least_number (is_of owner) number_of es)))

@@ -95,7 +95,7 @@ slot-begins mode full h (Some q) e =
     let new = new-begins (is_at_work q.state) mode full h is in
     (newer, new.0, new.1, new.2)
 
-handled-cases : (mode : Mode) → is_handled mode ≡ true → mode ≢ Unserved
+pub handled-cases : (mode : Mode) → is_handled mode ≡ true → mode ≢ Unserved
 handled-cases Inline e = λ is. cc
 handled-cases Background e = λ is. cc
 handled-cases Unserved e = cc

@@ -8,7 +8,7 @@ pub mod CountLemmas
 pub mod ListLemmas
 mod PlaceLemmas
 mod PostedLemmas
-mod StandLemmas
+pub mod StandLemmas
 mod StoreLemmas
 mod TimerLemmas
 mod ReplyGoneLemmas
@@ -20,6 +20,7 @@ mod ReplyLemmas
 mod RollLemmas
 mod LoseLemmas
 mod FinishLemmas
-mod ServeLemmas
+pub mod ServeLemmas
 mod ReadLemmas
 mod NewestLemmas
+mod ShareLemmas

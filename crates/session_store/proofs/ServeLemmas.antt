@@ -196,13 +196,14 @@ older-shown pool v r =
     found-shown (shown_request pool) (in_slot_of r)
     (is_in_slot (r % 8)) v.slots (slots-same pool r v.slots)
 
--- the facts of the packet at a node
-begun-none : (row : ServerRow) (why : DropReason) → has_begun row (Dropped why) ≡ false
+-- a packet that is dropped begins no request
+pub begun-none : (row : ServerRow) (why : DropReason) → has_begun row (Dropped why) ≡ false
 begun-none (Drops x) why = refl
 begun-none Begins why = refl
 begun-none Takes why = refl
 begun-none Repeats why = refl
 
+-- the facts of the packet at a node
 module _ (me : ℕ) (mode : Mode) (v : Serving) (entries : List EntryValue) (row : ServerRow)
     (h : MessageHeader) (body ask answer : List ℕ) (server : Server) where
   abbrev ruled : List Fact

@@ -1,6 +1,8 @@
 -- Sessions that share a pool and a transmit ring: what they show, and what always holds of them.
 use Rattle.std.specs.Prelude.{◌≡◌, ℕ, ◌+◌, ◌*◌, ◌<◌, ◌≤◌, ◌==◌, ◌&&◌, Bool, true, false, Option}
 use Rattle.std.specs.Prelude.{Some, None, List, [], ◌∷◌, count_by, length, map, sum_by, slice_get}
+use Rattle.std.specs.Prelude.{if◌then◌else◌}
+use Rattle.credit_book.specs.Credits.{limit_of}
 use Rattle.std.specs.List.{AllByRecursion, find, list_any}
 use Rattle.rpc_base.specs.declared.owner.Owner.{Owner}
 use Rattle.rpc_base.specs.declared.owner.Owner.TheVariants.{Ask, Reply, Control}
@@ -28,6 +30,10 @@ use Rattle.session_store.specs.declared.side.Side.{Side}
 -- a client session as the definitions over histories have it
 abbrev pub shown_side : Pool → Side → Client
 shown_side pool s = shown_end s.is_broken pool s.peer s.session
+
+-- the credits of a client session, none where it lost its peer
+abbrev pub side_credits : Side → ℕ
+side_credits s = if s.is_broken then 0 else limit_of s.session.credits
 
 abbrev pub queued_of : EntryValue → Queued
 queued_of e = record { owner = e.owner; number = e.number; due = None }

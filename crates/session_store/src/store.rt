@@ -5,6 +5,7 @@ ghost use Rattle.session_store.specs.Sides.{no_sessions};
 mod clients;
 mod queue;
 mod servers;
+mod shares;
 mod timers;
 
 use crate::side::Side;

@@ -1,9 +1,8 @@
 -- A job that is finished, from what the workers and its session did to what the node notes.
-use Rattle.std.proofs.Common.{◌≡◌, ℕ, suc, ◌-◌, ◌<◌, Bool, true, false, cond, Option, Some, List, [], ◌∷◌, ◌++◌, length, take, drop, refl, sym, ap, subst, ◌∙◌, append_assoc, append-nil, inl, inr}
+use Rattle.std.proofs.Common.{◌≡◌, ℕ, suc, ◌<◌, Bool, true, false, cond, Option, Some, None, List, [], ◌∷◌, ◌++◌, take, drop, refl, sym, ap, subst, ◌∙◌, append_assoc, append-nil, inl, inr}
 use Rattle.std.specs.Prelude.{◌==◌, option_and_then, slice_get}
 use Rattle.std.specs.List.{find, filter, position}
 use Rattle.std.proofs.lemmas.Bool.{eqb-true}
-use Rattle.packet_header.specs.Parts.{packet_count}
 use Rattle.rpc_base.specs.Tables.{without_first}
 use Rattle.rpc_base.proofs.TablesLemmas.{at_first-found, find-found}
 use Rattle.rpc_base.specs.declared.event.Event.TheVariants.{Posted, Ran}
@@ -17,7 +16,7 @@ use Rattle.rpc_laws.specs.declared.tables.Timed.{Timed}
 use Rattle.rpc_laws.specs.declared.tables.WorkedJob.{WorkedJob}
 use Rattle.rpc_laws.specs.Facts.{plain, with_two}
 use Rattle.rpc_laws.specs.Jobs.{is_job}
-use Rattle.rpc_laws.specs.PollOrder.{Finishes, finished_facts, is_awaited, is_working}
+use Rattle.rpc_laws.specs.PollOrder.{awaited, awaited_of, Finishes, finished_facts}
 use Rattle.rpc_laws.specs.Queues.{replies}
 use Rattle.rpc_laws.specs.Requests.{is_request, is_server}
 use Rattle.rpc_laws.specs.Service.{is_background}
@@ -39,7 +38,7 @@ use Rattle.sim_node.proofs.TakeLemmas.{found-passes}
 use Rattle.sim_node.proofs.WorkLemmas.{filter-more, filter-parts}
 
 -- a job is finished
-module _ (a s : Timed) (session request : ℕ) (job : Job) (answer : List ℕ) (vs : List Server) (waited : Bool) (view : a ≡ s) (known : IsApart s) (room : replies s.lists.queued < s.lists.room) (found : find (is_job session request) a.lists.jobs.out ≡ Some job) (steady : IsSteady job answer) (q : StoresAt session request answer waited a.lists.servers vs) where
+module _ (a s : Timed) (session request : ℕ) (job : Job) (answer : List ℕ) (vs : List Server) (reply : Option ℕ) (view : a ≡ s) (known : IsApart s) (room : replies s.lists.queued < s.lists.room) (found : find (is_job session request) a.lists.jobs.out ≡ Some job) (steady : IsSteady job answer) (q : StoresAt session request answer reply a.lists.servers vs) where
   whose : (job.session ≡ session) × (job.request ≡ request)
   whose = job-is session request job (found-passes (is_job session request) a.lists.jobs.out job found)
 
@@ -52,8 +51,12 @@ module _ (a s : Timed) (session request : ℕ) (job : Job) (answer : List ℕ) (
   abbrev ran : Fact
   ran = with_two a.lists.me (Ran session request job.req_type) job.ask answer
 
-  abbrev posted : Fact
-  posted = plain a.lists.me (Posted (Reply session request) (packet_count (length job.ask) - 1))
+  abbrev posted : ℕ → Fact
+  posted n = plain a.lists.me (Posted (Reply session request) n)
+
+  abbrev posted_by : Option ℕ → List Fact
+  posted_by None = []
+  posted_by (Some n) = posted n ∷ []
 
   told-servers : told_servers a ran ≡ vs
   told-servers =
@@ -73,39 +76,42 @@ module _ (a s : Timed) (session request : ℕ) (job : Job) (answer : List ℕ) (
     pub apart-ran : IsApart c
     apart-ran = rw aside.rest (subst IsApart (sym view) known)
 
-    waits-is : is_awaited job a.lists.servers ≡ waited
+    waits-is : awaited job a.lists.servers ≡ reply
     waits-is =
-        rw (whose.0, whose.1) (ap (λ (o : Option Server). is_working (option_and_then (λ v. find (is_request request) v.slots) o)) own ∙ sym q.posted)
+        rw (whose.0, whose.1) (ap (λ (o : Option Server). awaited_of (option_and_then (λ v. find (is_request request) v.slots) o)) own ∙ sym q.posted)
 
-    facts-are : (b : Bool) → waited ≡ b → finished_facts answer a.lists job ≡ ran ∷ cond b (posted ∷ []) []
-    facts-are b e =
-        let is : is_awaited job a.lists.servers ≡ b = waits-is ∙ e in
+    facts-are : (o : Option ℕ) → reply ≡ o → finished_facts answer a.lists job ≡ ran ∷ posted_by o
+    facts-are None e =
+        let is : awaited job a.lists.servers ≡ None = waits-is ∙ e in
+        rw (is, whose.0, whose.1) refl
+    facts-are (Some n) e =
+        let is : awaited job a.lists.servers ≡ Some n = waits-is ∙ e in
         rw (is, whose.0, whose.1) refl
 
-    quiet : (b : Bool) → Quiet (ran ∷ cond b (posted ∷ []) [])
-    quiet true served =
+    quiet : (o : Option ℕ) → Quiet (ran ∷ posted_by o)
+    quiet (Some n) served =
         rw (not-inline (plain_mode job.req_type) steady.background) ((steady.right ∙ sym (by-worker served job.req_type job.ask steady.background), (tt, tt)), refl, refl)
-    quiet false served =
+    quiet None served =
         rw (not-inline (plain_mode job.req_type) steady.background) ((steady.right ∙ sym (by-worker served job.req_type job.ask steady.background), tt), refl, refl)
 
-    finishes : (b : Bool) (d : Timed) (k : List Fact) → waited ≡ b → Noted (ran ∷ cond b (posted ∷ []) []) a d f k → ServesQuietly (Finishes session request) s d f k
-    finishes b d k e n =
+    finishes : (o : Option ℕ) (d : Timed) (k : List Fact) → reply ≡ o → Noted (ran ∷ posted_by o) a d f k → ServesQuietly (Finishes session request) s d f k
+    finishes o d k e n =
         let made : ServesQuietly (Finishes session request) a d f k = record {
-          noted = ran ∷ cond b (posted ∷ []) [];
+          noted = ran ∷ posted_by o;
           grew = n.grew;
-          step = record { room = rw view room; job = job; is_out = found; answer = answer; facts = sym (facts-are b e); goes = n.goes };
-          plain = quiet b;
+          step = record { room = rw view room; job = job; is_out = found; answer = answer; facts = sym (facts-are o e); goes = n.goes };
+          plain = quiet o;
         } in
         subst (λ (z : Timed). ServesQuietly (Finishes session request) z d f k) view made
 
-    pub finished-unawaited : waited ≡ false → ServesQuietly (Finishes session request) s c f g
-    finished-unawaited e = finishes false c g e ran-noted
+    pub finished-unawaited : reply ≡ None → ServesQuietly (Finishes session request) s c f g
+    finished-unawaited e = finishes None c g e ran-noted
 
-    pub finished-awaited : (owner : Owner) (n : ℕ) (d : Timed) (k : List Fact) → waited ≡ true → owner ≡ Reply session request → n ≡ packet_count (length job.ask) - 1 → Noted (plain c.lists.me (Posted owner n) ∷ []) c d g k → ServesQuietly (Finishes session request) s d f k
-    finished-awaited owner n d k e is_owner is_n noted =
+    pub finished-awaited : (owner : Owner) (n : ℕ) (d : Timed) (k : List Fact) → reply ≡ Some n → owner ≡ Reply session request → Noted (plain c.lists.me (Posted owner n) ∷ []) c d g k → ServesQuietly (Finishes session request) s d f k
+    finished-awaited owner n d k e is_owner noted =
         let me : c.lists.me ≡ a.lists.me = ap (λ (z : Timed). z.lists.me) aside.rest in
-        let own_posted : Noted (posted ∷ []) c d g k = subst (λ (z : Fact). Noted (z ∷ []) c d g k) (rw (me, is_owner, is_n) refl) noted in
-        finishes true d k e (noted-then a c d (ran ∷ []) (posted ∷ []) f g k ran-noted own_posted)
+        let own_posted : Noted (posted n ∷ []) c d g k = subst (λ (z : Fact). Noted (z ∷ []) c d g k) (rw (me, is_owner) refl) noted in
+        finishes (Some n) d k e (noted-then a c d (ran ∷ []) (posted n ∷ []) f g k ran-noted own_posted)
 
 -- with what the workers gave
 pub record Given (session request : ℕ) (job : Job) (p_session p_request p_type : ℕ) (p_ask answer : List ℕ) : Type 0 where
@@ -116,7 +122,7 @@ pub record Given (session request : ℕ) (job : Job) (p_session p_request p_type
   pub ask_is : p_ask ≡ job.ask
   pub right : answer ≡ background_answer p_type p_ask
 
-module _ (a s d0 b : Timed) (js : Jobs) (session request : ℕ) (job : Job) (p_session p_request p_type : ℕ) (p_ask answer first second : List ℕ) (vs : List Server) (waited : Bool) (f g : List Fact) (view : a ≡ s) (known : IsApart s) (room : replies s.lists.queued < s.lists.room) (found : find (is_job session request) a.lists.jobs.out ≡ Some job) (left : js ≡ record a.lists.jobs { out = without_first (is_job session request) a.lists.jobs.out }) (given : Given session request job p_session p_request p_type p_ask answer) (is_first : first ≡ job.ask) (is_second : second ≡ answer) (noted_aside : NotedAside (with_two a.lists.me (Ran session request job.req_type) first second) (with_jobs js a) d0 f g) (again : b ≡ d0) (q : StoresAt p_session p_request answer waited b.lists.servers vs) where
+module _ (a s d0 b : Timed) (js : Jobs) (session request : ℕ) (job : Job) (p_session p_request p_type : ℕ) (p_ask answer first second : List ℕ) (vs : List Server) (reply : Option ℕ) (f g : List Fact) (view : a ≡ s) (known : IsApart s) (room : replies s.lists.queued < s.lists.room) (found : find (is_job session request) a.lists.jobs.out ≡ Some job) (left : js ≡ record a.lists.jobs { out = without_first (is_job session request) a.lists.jobs.out }) (given : Given session request job p_session p_request p_type p_ask answer) (is_first : first ≡ job.ask) (is_second : second ≡ answer) (noted_aside : NotedAside (with_two a.lists.me (Ran session request job.req_type) first second) (with_jobs js a) d0 f g) (again : b ≡ d0) (q : StoresAt p_session p_request answer reply b.lists.servers vs) where
   same : (job.session ≡ session) × (job.request ≡ request)
   same = job-is session request job (found-passes (is_job session request) a.lists.jobs.out job found)
 
@@ -129,22 +135,22 @@ module _ (a s d0 b : Timed) (js : Jobs) (session request : ℕ) (job : Job) (p_s
       let two : NotedAside (with_two a.lists.me (Ran session request job.req_type) job.ask answer) (with_jobs js a) b f g = subst (λ (z : Timed). NotedAside (with_two a.lists.me (Ran session request job.req_type) job.ask answer) (with_jobs js a) z f g) (sym again) one in
       subst (λ (z : Jobs). NotedAside (with_two a.lists.me (Ran session request job.req_type) job.ask answer) (with_jobs z a) b f g) left two
 
-  stored : StoresAt session request answer waited a.lists.servers vs
+  stored : StoresAt session request answer reply a.lists.servers vs
   stored =
-      let one : StoresAt session p_request answer waited b.lists.servers vs = subst (λ n. StoresAt n p_request answer waited b.lists.servers vs) (given.session_is ∙ same.0) q in
-      let two : StoresAt session request answer waited b.lists.servers vs = subst (λ n. StoresAt session n answer waited b.lists.servers vs) (given.request_is ∙ same.1) one in
-      subst (λ (ws : List Server). StoresAt session request answer waited ws vs) (ap (λ (z : Timed). z.lists.servers) noted.rest) two
+      let one : StoresAt session p_request answer reply b.lists.servers vs = subst (λ n. StoresAt n p_request answer reply b.lists.servers vs) (given.session_is ∙ same.0) q in
+      let two : StoresAt session request answer reply b.lists.servers vs = subst (λ n. StoresAt session n answer reply b.lists.servers vs) (given.request_is ∙ same.1) one in
+      subst (λ (ws : List Server). StoresAt session request answer reply ws vs) (ap (λ (z : Timed). z.lists.servers) noted.rest) two
 
   pub is-apart : IsApart (with_servers vs b)
-  is-apart = apart-ran a s session request job answer vs waited view known room found steady stored b f g noted
+  is-apart = apart-ran a s session request job answer vs reply view known room found steady stored b f g noted
 
-  pub is-unawaited : waited ≡ false → ServesQuietly (Finishes session request) s (with_servers vs b) f g
+  pub is-unawaited : reply ≡ None → ServesQuietly (Finishes session request) s (with_servers vs b) f g
   is-unawaited e =
-      finished-unawaited a s session request job answer vs waited view known room found steady stored b f g noted e
+      finished-unawaited a s session request job answer vs reply view known room found steady stored b f g noted e
 
-  pub is-awaited : (owner : Owner) (n : ℕ) (c : Timed) (k : List Fact) → waited ≡ true → owner ≡ Reply session request → n ≡ packet_count (length first) - 1 → Noted (plain (with_servers vs b).lists.me (Posted owner n) ∷ []) (with_servers vs b) c g k → ServesQuietly (Finishes session request) s c f k
-  is-awaited owner n c k e is_owner is_n posted =
-      finished-awaited a s session request job answer vs waited view known room found steady stored b f g noted owner n c k e is_owner (is_n ∙ ap (λ (xs : List ℕ). packet_count (length xs) - 1) is_first) posted
+  pub is-awaited : (owner : Owner) (n : ℕ) (c : Timed) (k : List Fact) → reply ≡ Some n → owner ≡ Reply session request → Noted (plain (with_servers vs b).lists.me (Posted owner n) ∷ []) (with_servers vs b) c g k → ServesQuietly (Finishes session request) s c f k
+  is-awaited owner n c k e is_owner posted =
+      finished-awaited a s session request job answer vs reply view known room found steady stored b f g noted owner n c k e is_owner posted
 
 -- one job of the list after another
 pub each-none : (s : Timed) (f : List Fact) → ServesQuietly (FinishesEach []) s s f f

@@ -10,7 +10,7 @@ use Rattle.rpc_laws.specs.declared.tables.Server.{Server}
 use Rattle.rpc_laws.specs.declared.tables.Timed.{Timed}
 use Rattle.rpc_laws.specs.declared.tables.WorkedJob.{WorkedJob}
 use Rattle.rpc_laws.specs.Facts.{plain}
-use Rattle.rpc_laws.specs.PollOrder.{is_working}
+use Rattle.rpc_laws.specs.PollOrder.{awaited_of}
 use Rattle.rpc_laws.specs.Queues.{replies}
 use Rattle.rpc_laws.specs.Requests.{is_request, is_server}
 use Rattle.rpc_laws.specs.Service.{is_background}
@@ -19,14 +19,16 @@ use Rattle.rpc_outside.specs.PlainAnswer.{background_answer}
 use Rattle.sim_server.specs.Ends.{finished}
 use Rattle.sim_node.specs.Answering.{ServesQuietly}
 
--- the answer of a job went to its request; waited: whether that waited for it
-pub record StoresAt (session request : ℕ) (answer : List ℕ) (waited : Bool) (old new : List Server) : Type 0 where
+-- the answer of a job went to its request; number is that of the reply, where the request waited for
+-- it
+pub record StoresAt (session request : ℕ) (answer : List ℕ) (number : Option ℕ)
+    (old new : List Server) : Type 0 where
   pub place : ℕ
   pub server : Server
   pub found : position (is_server session) old ≡ Some place
   pub at : slice_get old place ≡ Some server
   pub changed : new ≡ slice_set old place (finished request answer server)
-  pub posted : waited ≡ is_working (find (is_request request) server.slots)
+  pub posted : number ≡ awaited_of (find (is_request request) server.slots)
 
 -- whose a job is
 abbrev pub named : Job → ℕ × ℕ

@@ -1,7 +1,6 @@
 //! Jobs that were worked are finished: the answers of their handlers are there.
-ghost use Rattle.std.specs.Prelude.{◌≡◌, ◌<◌, ◌≤◌, ◌-◌, true, false, Some, length, IfOk, IsTrue, OnOk};
+ghost use Rattle.std.specs.Prelude.{◌≡◌, ◌<◌, ◌≤◌, true, false, Some, length, IfOk, IsTrue, OnOk};
 ghost use Rattle.message_buffer.specs.Buffer.{bytes_of};
-ghost use Rattle.packet_header.specs.Parts.{packet_count};
 ghost use Rattle.std.specs.List.{find};
 ghost use Rattle.rpc_base.specs.Tables.{without_first};
 ghost use Rattle.rpc_laws.specs.Jobs.{is_job};
@@ -19,7 +18,6 @@ use crate::noting::{note, note_aside};
 use crate::servers::place_of_server;
 use crate::tables::Tables;
 use node_tables::count_replies;
-use packet_header::count;
 use rpc_base::{Event, Fact, Listed, MOST_MESSAGE_BYTES, NoMemory, Owner, RequestNo, SessionNo};
 use rpc_laws::{Job, Jobs, WorkedJob};
 use rpc_outside::{Mode, PlainService, Service};
@@ -28,22 +26,12 @@ use std::alloc::Global;
 use worker_board::Parcel;
 use worker_crew::Workers;
 
-// The number of the last packet of a request of these bytes. More bytes than a message has come of no request,
-// and end as want of memory.
-fn last_number(ask: &[u8]) -> Result<u16, NoMemory>
-    ensures { IfOk result (λ k. k ≡ packet_count (length ask.now) - 1) }
-{
-    let len = u32::try_from(ask.len()).map_err(|_| NoMemory)?;
-    if len > MOST_MESSAGE_BYTES {
-        return Err(NoMemory);
-    }
-    Ok((count(len) - 1) as u16)
-}
-
-// The answer of a job goes to its request, in whose session it is. Tells whether the request waited for it. A
-// session that isn't there, or an answer larger than a message, comes of no job, and ends as want of memory.
-fn store(servers: &mut Listed<ServerEnd>, parcel: Parcel) -> Result<bool, NoMemory>
-    ensures { IfOk result (λ b. StoresAt parcel.session parcel.request (bytes_of parcel.out) b servers.old servers.new) }
+// The answer of a job goes to its request, in whose session it is. Tells the number of its reply, where
+// the request waited for it. A session that isn't there, or an answer larger than a message, comes of no
+// job, and ends as want of memory.
+fn store(servers: &mut Listed<ServerEnd>, parcel: Parcel) -> Result<Option<u16>, NoMemory>
+    ensures { IfOk result (λ o.
+        StoresAt parcel.session parcel.request (bytes_of parcel.out) o servers.old servers.new) }
 {
     if parcel.out.len() > MOST_MESSAGE_BYTES {
         return Err(NoMemory);
@@ -51,8 +39,8 @@ fn store(servers: &mut Listed<ServerEnd>, parcel: Parcel) -> Result<bool, NoMemo
     let Some(place) = place_of_server(servers, parcel.session) else {
         return Err(NoMemory);
     };
-    let waited = servers.at_mut(place).on_finished(parcel)?;
-    Ok(waited)
+    let number = servers.at_mut(place).on_finished(parcel)?;
+    Ok(number)
 }
 
 // Whether a worker serves a type.
@@ -125,15 +113,15 @@ fn finish(
         request,
         req_type: job.req_type,
     };
+    note_aside(alloc, node, facts, &ran, ask, answer)?;
+    let stored = store(&mut node.servers, parcel)?;
+    let Some(number) = stored else {
+        return Ok(());
+    };
     let posted = Event::Posted {
         owner: Owner::Reply { session, request },
-        number: last_number(ask)?,
+        number,
     };
-    note_aside(alloc, node, facts, &ran, ask, answer)?;
-    let is_awaited = store(&mut node.servers, parcel)?;
-    if !is_awaited {
-        return Ok(());
-    }
     note(alloc, node, facts, &posted, &[], &[])?;
     Ok(())
 }

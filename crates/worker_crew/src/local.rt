@@ -139,6 +139,8 @@ impl<D: Duty> Workers for LocalWorkers<D> {
 
     ghost worked = { λ w. Some w.worked };
 
+    ghost waiting = { λ w. Some w.waiting };
+
     ghost looks = { λ _. 0 };
 
     /// As the trait says; the job waits behind all others.

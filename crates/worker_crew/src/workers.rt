@@ -1,5 +1,6 @@
 //! What an endpoint asks of its workers.
-ghost use Rattle.std.specs.Prelude.{◌≡◌, ◌≤◌, ◌+◌, ◌∷◌, ◌↔◌, ℕ, List, Option, length, true, IsTrue};
+ghost use Rattle.std.specs.Prelude.{◌≡◌, ◌≤◌, ◌+◌, ◌∷◌, ◌++◌, [], ◌↔◌, ℕ, List, Option, length};
+ghost use Rattle.std.specs.Prelude.{option_map, true, IsTrue};
 ghost use Rattle.std.specs.Prelude.{IsErr, IfErr, IfSome, IfNone, OnOk, OnErr, IsPermutation};
 ghost use Rattle.worker_board.specs.declared.Parcel.{Parcel};
 ghost use Rattle.worker_crew.specs.Jobs.{Job, job_of, HasRoom, IsAnswered, IsFull, TakesFirst, FoundUnfinished};
@@ -31,6 +32,9 @@ pub trait Workers {
     // The worked jobs, in the order in which they are taken, where the workers tell them.
     ghost worked: { Self → Option (List Parcel) };
 
+    // The jobs that wait to be worked, in the order of giving, where the workers tell them.
+    ghost waiting: { Self → Option (List Parcel) };
+
     // How often a job was looked at and found unfinished.
     ghost looks: { Self → ℕ };
 
@@ -46,6 +50,8 @@ pub trait Workers {
         ensures unchanged { OnErr result ((out self.new ≡ out self.old)
             × (given self.new ≡ given self.old)) }
         ensures worked { worked self.new ≡ worked self.old }
+        ensures waits { OnOk result (waiting self.new
+            ≡ option_map (λ jobs. jobs ++ job ∷ []) (waiting self.old)) }
         ensures limit { limit self.new ≡ limit self.old }
         ensures looks { looks self.new ≡ looks self.old };
 
@@ -63,6 +69,7 @@ pub trait Workers {
         ensures unchanged { IfNone result (out self.new ≡ out self.old) }
         ensures unfinished { IfNone result (FoundUnfinished (worked self.old)
             (length (out self.old)) (looks self.old) (looks self.new)) }
+        ensures waits { waiting self.new ≡ waiting self.old }
         ensures given { given self.new ≡ given self.old }
         ensures limit { limit self.new ≡ limit self.old }
         ensures looks { looks self.old ≤ looks self.new };

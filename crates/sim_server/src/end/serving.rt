@@ -1,10 +1,10 @@
 //! Packets of the client are handled here, and jobs that are finished.
-ghost use Rattle.std.specs.Prelude.{◌≡◌, ◌≤◌, ◌<◌, ◌++◌, ℕ, Some, false, true, length, option_map, IfOk, IfSome, IsTrue, OnOk};
+ghost use Rattle.std.specs.Prelude.{◌≡◌, ◌≤◌, ◌<◌, ◌++◌, ℕ, Some, false, true, length, option_map, IfNone, IfOk, IfSome, IsTrue, OnOk};
 ghost use Rattle.std.specs.List.{find};
 ghost use Rattle.message_buffer.specs.Buffer.{bytes_of};
 ghost use Rattle.worker_crew.specs.Jobs.{HasRoom};
 ghost use Rattle.rpc_outside.specs.PlainAnswer.{background_answer, plain_mode};
-ghost use Rattle.rpc_laws.specs.PollOrder.{is_working};
+ghost use Rattle.rpc_laws.specs.PollOrder.{awaited_of, is_working};
 ghost use Rattle.rpc_laws.specs.Requests.{in_slot_of, is_request};
 ghost use Rattle.rpc_laws.specs.ServerTable.{is_last};
 ghost use Rattle.rpc_laws.specs.Service.{answer_with, is_background};
@@ -13,7 +13,6 @@ ghost use Rattle.rpc_laws.specs.declared.rows.ServerRow.TheVariants.{Begins};
 ghost use Rattle.server_core.specs.KeepsPool.{KeepsPool};
 ghost use Rattle.server_core.specs.Replies.{CanHold};
 ghost use Rattle.server_core.specs.Serving.{IsUnheld};
-ghost use Rattle.server_core.specs.Finishing.{is_waiting};
 ghost use Rattle.server_core.specs.Session.{IsSession, newest};
 ghost use Rattle.server_core.specs.Shown.{shown};
 ghost use Rattle.server_core.specs.Steps.{AreServed, IsAsking};
@@ -91,24 +90,27 @@ impl ServerEnd {
         Ok(parcel_of(step))
     }
 
-    /// A job of this session is finished: its answer goes to the request, where that waits for it. The
-    /// answer tells whether the packet that answers the last one of the request is to be posted. NoMemory
-    /// comes where the request is there and no worker has it, or no place is empty: where no node leads.
-    pub fn on_finished(&mut self, parcel: Parcel) -> Result<bool, NoMemory>
+    /// A job of this session is finished: its answer goes to the request, where that waits for it.
+    /// The result tells then the number of the packet that answers the last one of the request, which
+    /// is to be posted. NoMemory comes where the request is there and no worker has it, or no place is
+    /// empty: where no node leads.
+    pub fn on_finished(&mut self, parcel: Parcel) -> Result<Option<u16>, NoMemory>
         requires session { parcel.session ≡ self.old.way.number }
         requires most { parcel.out.len ≤ 1048576 }
         ensures after { OnOk result (self.new ≡ finished parcel.request (bytes_of parcel.out) self.old) }
-        ensures posted { IfOk result (λ b. b ≡ is_working (find (is_request parcel.request) self.old.slots)) }
+        ensures posted { IfOk result (λ o.
+            o ≡ awaited_of (find (is_request parcel.request) self.old.slots)) }
     {
         if self.pool.spare() == 0 {
             return Err(NoMemory);
         }
         let is_newest = self.is_newest(parcel.request);
-        let waited = finish(&mut self.session, &mut self.pool, parcel);
+        let number = finish(&mut self.session, &mut self.pool, parcel);
+        let waited = number.is_some();
         if is_newest && !waited {
             return Err(NoMemory);
         }
-        Ok(waited)
+        Ok(number)
     }
 
     // Whether the newest request of the slot of this number has it.
@@ -122,24 +124,26 @@ impl ServerEnd {
     }
 }
 
-// A job is finished: its answer goes to the request, where that waits for it, and its reply is held. The
-// answer tells whether it does.
-fn finish(session: &mut ServerSession, pool: &mut BufferPool, parcel: Parcel) -> bool
+// A job is finished: its answer goes to the request, where that waits for it, and its reply is held.
+// The result tells the number of the reply then.
+fn finish(session: &mut ServerSession, pool: &mut BufferPool, parcel: Parcel) -> Option<u16>
     requires session { parcel.session ≡ session.old.number }
     requires answer { IsMessage parcel.out.len }
     requires keeps_pool { KeepsPool pool.old session.old.slots }
     requires all_served { AreServed plain_mode session.old.slots }
     requires spare { 0 < spare_of pool.old }
-    ensures waited { result ≡ is_waiting parcel.request (shown pool.old session.old) }
-    ensures finished { result ≡ true → shown pool.new session.new ≡ finished parcel.request (bytes_of parcel.out) (shown pool.old session.old) }
-    ensures left { result ≡ false → shown pool.new session.new ≡ shown pool.old session.old }
+    ensures number { result
+        ≡ awaited_of (find (is_request parcel.request) (shown pool.old session.old).slots) }
+    ensures finished { IfSome result (λ k. shown pool.new session.new
+        ≡ finished parcel.request (bytes_of parcel.out) (shown pool.old session.old)) }
+    ensures left { IfNone result (shown pool.new session.new ≡ shown pool.old session.old) }
     ensures sound { IsSession session.old }
     ensures all_served { AreServed plain_mode session.new.slots }
     ensures keeps_pool { KeepsPool pool.new session.new.slots }
 {
     match session.on_finished(pool, parcel) {
-        None => false,
-        Some(_reply) => true,
+        None => None,
+        Some(reply) => Some(reply.number),
     }
 }
 

@@ -2,8 +2,8 @@ use Rattle.endpoint_loop.proofs.SentLemmas.{node-closed}
 use Rattle.endpoint_loop.specs.Seen.{jobs_in}
 use Rattle.endpoint_loop.proofs.node.Node.close.Goals as goal
 
-pub returns : goal.returns
-returns g c =
+pub returns-clause-makes : goal.returns-clause-makes
+returns-clause-makes g c =
     rw (← c.self.view_is) (node-closed g.R.Recorder.facts g.R.Recorder.whole c.self.inside.me
     c.self.inside.limits (record {
       asked = c.self.inside.asked;

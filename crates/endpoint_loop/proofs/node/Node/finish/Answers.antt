@@ -2,7 +2,7 @@ use Rattle.std.proofs.Common.{Some, None, refl, sym, ap, ◌∙◌, arith}
 use Rattle.rpc_laws.specs.declared.tables.Jobs.{Jobs}
 use Rattle.endpoint_loop.proofs.FinishLemmas.{fits-answered, fits-unposted, job-found, jobs-left}
 use Rattle.endpoint_loop.proofs.FinishLemmas.{node-answered, node-unposted, pool-room, ring-room}
-use Rattle.endpoint_loop.proofs.FinishLemmas.{same-left, still-served}
+use Rattle.endpoint_loop.proofs.FinishLemmas.{same-left, still-background, still-served}
 use Rattle.endpoint_loop.specs.Finishing.{is_named}
 use Rattle.endpoint_loop.specs.Seen.{jobs_in, unasked}
 use Rattle.endpoint_loop.proofs.node.Node.finish.Goals as goal
@@ -90,10 +90,10 @@ returns-in_default-post_answer-clause-done g c = λ yes.
     g.R.Recorder.whole c.args.rec.now c.note.new.self
     _ _ c.bytes-ask.ensures.message c.bytes-answer.ensures.message c.note.ensures)
 
-pub returns-in_default-post_answer-clause-names : goal.returns-in_default-post_answer-clause-names
-returns-in_default-post_answer-clause-names g c = λ yes.
-    rw (← c.self.view_is) (ap (λ (js : Jobs). js.out) (jobs-left _ _ c.self.inside.limits.jobs
-    c.self.inside.given c.self.inside.jobs.items c.take_job.new.jobs.items c.take_job.ensures.left))
+pub returns-in_default-post_answer-clause-jobs : goal.returns-in_default-post_answer-clause-jobs
+returns-in_default-post_answer-clause-jobs g c = λ yes.
+    rw (← c.self.view_is) (jobs-left _ _ c.self.inside.limits.jobs
+    c.self.inside.given c.self.inside.jobs.items c.take_job.new.jobs.items c.take_job.ensures.left)
 
 pub invariant_of-self-2 : goal.invariant_of-self-2
 invariant_of-self-2 g c = (
@@ -141,10 +141,10 @@ returns-clause-done g c = λ yes.
     _ _ _ c.bytes-ask.ensures.message c.bytes-answer.ensures.message
     (ap (λ e. e.number) c.entry.view_is) c.note.ensures c.note-2.ensures)
 
-pub returns-clause-names : goal.returns-clause-names
-returns-clause-names g c = λ yes.
-    rw (← c.self.view_is) (ap (λ (js : Jobs). js.out) (jobs-left _ _ c.self.inside.limits.jobs
-    c.self.inside.given c.self.inside.jobs.items c.take_job.new.jobs.items c.take_job.ensures.left))
+pub returns-clause-jobs : goal.returns-clause-jobs
+returns-clause-jobs g c = λ yes.
+    rw (← c.self.view_is) (jobs-left _ _ c.self.inside.limits.jobs
+    c.self.inside.given c.self.inside.jobs.items c.take_job.new.jobs.items c.take_job.ensures.left)
 
 pub returns-in_default-clause-served : goal.returns-in_default-clause-served
 returns-in_default-clause-served g c = λ mode served. rw (← c.self.view_is) at served
@@ -156,3 +156,21 @@ returns-in_default-post_answer-clause-served g c = λ mode served.
 pub returns-clause-served : goal.returns-clause-served
 returns-clause-served g c = λ mode served.
     still-served mode _ _ _ _ _ _ c.post_answer.ensures.servers (rw (← c.self.view_is) at served)
+
+pub returns-in_default-post_answer-clause-background : goal.returns-in_default-post_answer-clause-background
+returns-in_default-post_answer-clause-background g c = λ mode all.
+    still-background mode _ _ _ _ (ap (λ (js : Jobs). js.out) (jobs-left _ _
+    c.self.inside.limits.jobs c.self.inside.given c.self.inside.jobs.items c.take_job.new.jobs.items
+    c.take_job.ensures.left)) (rw (← c.self.view_is) at all)
+
+pub returns-clause-background : goal.returns-clause-background
+returns-clause-background g c = λ mode all.
+    still-background mode _ _ _ _ (ap (λ (js : Jobs). js.out) (jobs-left _ _
+    c.self.inside.limits.jobs c.self.inside.given c.self.inside.jobs.items c.take_job.new.jobs.items
+    c.take_job.ensures.left)) (rw (← c.self.view_is) at all)
+
+pub returns-in_default-clause-background : goal.returns-in_default-clause-background
+returns-in_default-clause-background g c = λ mode all.
+    still-background mode _ _ _ _ (ap (λ (js : Jobs). js.out) (jobs-left _ _
+    c.self.inside.limits.jobs c.self.inside.given c.self.inside.jobs.items c.take_job.new.jobs.items
+    c.take_job.ensures.left)) (rw (← c.self.view_is) at all)

@@ -7,6 +7,8 @@ jobs-init g c = (
   finished-still g.R.Recorder.facts g.R.Recorder.whole g.W.Workers.answer _ _ _ _,
   refl,
   λ mode served. served,
+  λ mode all. all,
+  refl,
   refl,
   refl,
   omega arith,
@@ -19,9 +21,11 @@ jobs-preserved g c =
           i.0 c.finish_next.ensures.makes,
       c.finish_next.ensures.clients ∙ i.1,
       λ mode served. c.finish_next.ensures.served mode (i.2 mode served),
-      c.finish_next.ensures.given ∙ i.3,
-      c.finish_next.ensures.limit ∙ i.4,
-      omega (arith, i.5, c.finish_next.ensures.looks),
+      λ mode all. c.finish_next.ensures.background mode (i.3 mode all),
+      c.finish_next.ensures.waiting ∙ i.4,
+      c.finish_next.ensures.given ∙ i.5,
+      c.finish_next.ensures.limit ∙ i.6,
+      omega (arith, i.7, c.finish_next.ensures.looks),
     )
 
 pub returns-then-not-finish_next-clause-makes : goal.returns-then-not-finish_next-clause-makes
@@ -32,3 +36,8 @@ returns-then-not-finish_next-clause-makes g c =
 pub returns-then-not-finish_next-clause-served : goal.returns-then-not-finish_next-clause-served
 returns-then-not-finish_next-clause-served g c = λ mode served.
     c.finish_next.ensures.served mode (c.jobs.invariant.2 mode served)
+
+pub returns-then-not-finish_next-clause-background :
+    goal.returns-then-not-finish_next-clause-background
+returns-then-not-finish_next-clause-background g c = λ mode all.
+    c.finish_next.ensures.background mode (c.jobs.invariant.3 mode all)

@@ -1,5 +1,5 @@
 use Rattle.std.proofs.Common.{◌≡◌, ◌≤◌, ℕ, length}
-use Rattle.endpoint_loop.specs.Finishing.{MakesFinished}
+use Rattle.endpoint_loop.specs.Finishing.{AllBackground, MakesFinished}
 use Rattle.endpoint_loop.specs.Serving.{AllServed}
 use Rattle.rpc_outside.specs.declared.service.Mode.{Mode}
 use Rattle.endpoint_loop.proofs.node.Node.finish_all.Given as goal
@@ -13,6 +13,9 @@ invariant-jobs g l =
     × (l.self.lists.clients ≡ l.initial.self.lists.clients)
     × ((mode : ℕ → Mode) → AllServed mode l.initial.self.lists.servers
     → AllServed mode l.self.lists.servers)
+    × ((mode : ℕ → Mode) → AllBackground mode l.initial.self.lists.jobs.out
+    → AllBackground mode l.self.lists.jobs.out)
+    × (g.W.Workers.waiting l.workers ≡ g.W.Workers.waiting l.initial.workers)
     × (g.W.Workers.given l.workers ≡ g.W.Workers.given l.initial.workers)
     × (g.W.Workers.limit l.workers ≡ g.W.Workers.limit l.initial.workers)
     × (g.W.Workers.looks l.initial.workers ≤ g.W.Workers.looks l.workers)

@@ -10,7 +10,7 @@ returns-in_default-clause-makes g c =
 pub returns-then-bytes-clause-makes : goal.returns-then-bytes-clause-makes
 returns-then-bytes-clause-makes g c =
     finished-long g.R.Recorder.facts g.R.Recorder.whole g.W.Workers.answer _ _ _ _
-    c.in-Some.finished _ c.sound.ensures c.in-Some.ensures.out c.in-Some.ensures.answered.1
+    c.in-Some.finished _ c.sound.ensures.kept c.in-Some.ensures.out c.in-Some.ensures.answered.1
     c.in-Some.ensures.first _
     (λ most.
     let same = ap length c.bytes.ensures.message in omega (arith, most, c.if-bytes.true, same))
@@ -21,9 +21,9 @@ returns-then-bytes-clause-fewer g c = λ yes. one-less _ _ _ c.in-Some.ensures.o
 pub returns-clause-makes : goal.returns-clause-makes
 returns-clause-makes g c =
     finished-turn g.R.Recorder.facts g.R.Recorder.whole g.W.Workers.answer _ _ _ _
-    c.in-Some.finished _ c.sound.ensures c.in-Some.ensures.out c.in-Some.ensures.answered.1
+    c.in-Some.finished _ c.sound.ensures.kept c.in-Some.ensures.out c.in-Some.ensures.answered.1
     c.in-Some.ensures.first _ _ _ c.finish-went.result c.requires.room c.finish-went.ensures.done
-    c.finish-went.ensures.names c.finish-went.ensures.none
+    c.finish-went.ensures.jobs c.finish-went.ensures.none
 
 pub returns-clause-fewer : goal.returns-clause-fewer
 returns-clause-fewer g c = λ yes. one-less _ _ _ c.in-Some.ensures.out

@@ -13,6 +13,7 @@ packets-preserved g c =
       h.clients ∙ i.1,
       h.servers ∙ i.2,
       h.me ∙ i.3,
+      h.jobs ∙ i.4,
     )
 
 pub returns-clause-makes : goal.returns-clause-makes

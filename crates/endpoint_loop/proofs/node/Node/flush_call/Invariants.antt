@@ -11,6 +11,7 @@ invariant-packets g l =
     × (l.self.lists.clients ≡ l.initial.self.lists.clients)
     × (l.self.lists.servers ≡ l.initial.self.lists.servers)
     × (l.self.lists.me ≡ l.initial.self.lists.me)
+    × (l.self.lists.jobs ≡ l.initial.self.lists.jobs)
 
 abbrev pub decreases-packets : goal.decreases-packets
 decreases-packets g l = length l.self.lists.queued

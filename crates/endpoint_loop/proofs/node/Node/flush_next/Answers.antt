@@ -1,7 +1,8 @@
 use Rattle.std.proofs.Common.{ap, ◌∙◌}
-use Rattle.endpoint_loop.proofs.FlushLemmas.{fits-flushed, node-flushed, none-owned, owner-is}
+use Rattle.endpoint_loop.proofs.FlushLemmas.{fits-flushed, node-flushed, none-owned}
 use Rattle.endpoint_loop.proofs.FlushLemmas.{none-taken, taken-out}
 use Rattle.session_store.specs.Sides.{queued_of}
+use Rattle.session_store.proofs.StandLemmas.{owner-is}
 use Rattle.endpoint_loop.specs.Seen.{jobs_in}
 use Rattle.endpoint_loop.proofs.node.Node.flush_next.Goals as goal
 

@@ -13,6 +13,7 @@ invariant-calls g l =
     × (l.self.lists.clients ≡ l.initial.self.lists.clients)
     × (l.self.lists.servers ≡ l.initial.self.lists.servers)
     × (l.self.lists.me ≡ l.initial.self.lists.me)
+    × (l.self.lists.jobs ≡ l.initial.self.lists.jobs)
 
 abbrev pub decreases-calls : goal.decreases-calls
 decreases-calls g l = length (filter (is_above l.after) (calls_at l.i l.initial.self))

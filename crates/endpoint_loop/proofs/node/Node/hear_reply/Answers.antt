@@ -4,7 +4,7 @@ use Rattle.packet_header.specs.Reading.{body_of}
 use Rattle.packet_header.specs.declared.packet.MessageHeader.{MessageHeader}
 use Rattle.endpoint_loop.proofs.HearLemmas.{as-told, fits-dropped, fits-ended, fits-took}
 use Rattle.endpoint_loop.proofs.HearLemmas.{node-dropped, node-ended, node-took, node-unheard}
-use Rattle.endpoint_loop.proofs.HearLemmas.{some-front}
+use Rattle.endpoint_loop.proofs.HearLemmas.{ring-left, some-front}
 use Rattle.endpoint_loop.specs.Seen.{jobs_in}
 use Rattle.endpoint_loop.proofs.node.Node.hear_reply.Goals as goal
 
@@ -158,3 +158,11 @@ returns-in-Ended-clause-hears g c =
     (ap (λ (v : MessageHeader). v.request) c.head.view_is)
     (ap (λ (v : MessageHeader). v.number) c.head.view_is) c.end_event.ensures
     c.answer_of.ensures c.note-in-Ended.ensures c.note-in-Ended-2.ensures)
+
+pub returns-in-Took-clause-ring : goal.returns-in-Took-clause-ring
+returns-in-Took-clause-ring g c =
+    rw (← c.self.view_is) (ring-left c.self.inside.rx c.drop_front-in-Took.new.self c.drop_front-in-Took.ensures)
+
+pub returns-in-Ended-clause-ring : goal.returns-in-Ended-clause-ring
+returns-in-Ended-clause-ring g c =
+    rw (← c.self.view_is) (ring-left c.self.inside.rx c.drop_front-in-Ended.new.self c.drop_front-in-Ended.ensures)

@@ -1,6 +1,6 @@
 use Rattle.std.proofs.Common.{◌+◌, refl}
 use Rattle.endpoint_loop.specs.Seen.{jobs_in}
-use Rattle.endpoint_loop.proofs.PairLemmas.{fits-paired-server, numbers-below}
+use Rattle.endpoint_loop.proofs.PairLemmas.{fits-paired-server, numbers-below, served-more}
 use Rattle.endpoint_loop.proofs.node.Node.pair_server.Goals as goal
 
 pub pair_server-requires-clause-above : goal.pair_server-requires-clause-above
@@ -25,3 +25,8 @@ invariant_of-self-2 g c =
           made.clients made.servers,
       c.self.invariant.1,
     )
+
+pub returns-clause-served : goal.returns-clause-served
+returns-clause-served g c = λ mode served.
+    served-more mode _ _ _ _ _ _ c.in_ok-pair_server.ensures.servers
+    (rw (← c.self.view_is) at served)

@@ -1,11 +1,16 @@
+use Rattle.std.proofs.Common.{refl, ◌∙◌}
 use Rattle.endpoint_loop.proofs.NotingLemmas.{makes-more, makes-none, notes-one}
 use Rattle.endpoint_loop.proofs.node.Node.post_all.Goals as goal
 
 pub packets-init : goal.packets-init
-packets-init g c = makes-none g.R.Recorder.facts g.R.Recorder.whole _ _ _
+packets-init g c = (makes-none g.R.Recorder.facts g.R.Recorder.whole _ _ _, refl, refl)
 
 pub packets-preserved : goal.packets-preserved
 packets-preserved g c =
-    makes-more g.R.Recorder.facts g.R.Recorder.whole _ _ _ _ _ _ _ c.packets.invariant
-    (notes-one g.R.Recorder.facts g.R.Recorder.whole _ _ _ _ _ _ c.packets-test.true
-    c.post_next.ensures.notes)
+    let i = c.packets.invariant in
+    let h = c.post_next.ensures in (
+      makes-more g.R.Recorder.facts g.R.Recorder.whole _ _ _ _ _ _ _ i.0
+          (notes-one g.R.Recorder.facts g.R.Recorder.whole _ _ _ _ _ _ c.packets-test.true h.notes),
+      h.jobs ∙ i.1,
+      h.servers ∙ i.2,
+    )

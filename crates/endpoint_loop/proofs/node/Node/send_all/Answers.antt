@@ -9,6 +9,8 @@ packets-init g c = (
   refl,
   refl,
   record { waits = refl; stays = refl },
+  refl,
+  refl,
 )
 
 pub packets-preserved : goal.packets-preserved
@@ -21,6 +23,8 @@ packets-preserved g c =
       c.in_ok-send_front.ensures.cause
           ∙ i.2,
       none-comes g.L.Link.waiting g.L.Link.received _ _ _ i.3 c.send_front.ensures.lists,
+      c.send_front.ensures.jobs ∙ i.4,
+      c.send_front.ensures.servers ∙ i.5,
     )
 
 pub returns-in_err-send_front-clause-sent : goal.returns-in_err-send_front-clause-sent

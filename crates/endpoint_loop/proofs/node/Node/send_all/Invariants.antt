@@ -11,6 +11,8 @@ invariant-packets g l =
     × (g.L.Link.busies l.link ≡ g.L.Link.busies l.initial.link)
     × (g.L.Link.faults l.link ≡ g.L.Link.faults l.initial.link)
     × NoneComes g.L.Link.waiting g.L.Link.received l.initial.link l.link
+    × (l.self.lists.jobs ≡ l.initial.self.lists.jobs)
+    × (l.self.lists.servers ≡ l.initial.self.lists.servers)
 
 abbrev pub decreases-packets : goal.decreases-packets
 decreases-packets g l = length l.self.lists.queued

@@ -3,7 +3,7 @@ use Rattle.std.specs.Option.{option_copied}
 use Rattle.packet_header.specs.Header.{MessageLength}
 use Rattle.packet_header.specs.Reading.{body_of}
 use Rattle.endpoint_loop.proofs.FitsLemmas.{has-places}
-use Rattle.endpoint_loop.proofs.HearLemmas.{body-there, some-front}
+use Rattle.endpoint_loop.proofs.HearLemmas.{body-there, ring-left, some-front}
 use Rattle.endpoint_loop.proofs.JobLemmas.{asking-one, has-job-room, named}
 use Rattle.endpoint_loop.proofs.ServeLemmas.{fits-again, fits-drop, fits-give, fits-ran}
 use Rattle.endpoint_loop.proofs.ServeLemmas.{fits-took-it, node-again, node-drop, node-give}
@@ -331,7 +331,7 @@ returns-in-Give-clause-serves g c =
     c.self.inside.limits.jobs c.self.inside.given c.self.inside.jobs.items _ c.in-Give.parcel
     refl refl refl _ c.push_back_reserved.ensures.items) (λ asks own. asking-one
     c.self.inside.limits.jobs c.self.inside.given c.self.inside.jobs.items _ c.in-Give.parcel
-    refl refl refl asks _ c.push_back_reserved.ensures.items own) (λ was st. subst (λ z.
+    refl refl refl asks _ c.push_back_reserved.ensures.items own) refl (λ was st. subst (λ z.
     g.V.Service.stands z was) (sym c.in-Give.ensures.service) st))
 
 pub overflow_add-self : goal.overflow_add-self
@@ -424,3 +424,23 @@ returns-in-Dropped-clause-served g c =
     let p = c.on_packet-step.ensures.handles in
     served-then g.V.Service.mode_of _ _ c.args.i p.server p.later served p.place p.changed
     c.on_packet-step.ensures.all_served
+
+pub returns-in-Took-clause-ring : goal.returns-in-Took-clause-ring
+returns-in-Took-clause-ring g c =
+    rw (← c.self.view_is) (ring-left c.self.inside.rx c.drop_front.new.self c.drop_front.ensures)
+
+pub returns-in-Again-clause-ring : goal.returns-in-Again-clause-ring
+returns-in-Again-clause-ring g c =
+    rw (← c.self.view_is) (ring-left c.self.inside.rx c.drop_front.new.self c.drop_front.ensures)
+
+pub returns-in-Ran-clause-ring : goal.returns-in-Ran-clause-ring
+returns-in-Ran-clause-ring g c =
+    rw (← c.self.view_is) (ring-left c.self.inside.rx c.drop_front.new.self c.drop_front.ensures)
+
+pub returns-in-Give-clause-ring : goal.returns-in-Give-clause-ring
+returns-in-Give-clause-ring g c =
+    rw (← c.self.view_is) (ring-left c.self.inside.rx c.drop_front.new.self c.drop_front.ensures)
+
+pub returns-in-Dropped-clause-ring : goal.returns-in-Dropped-clause-ring
+returns-in-Dropped-clause-ring g c =
+    rw (← c.self.view_is) (ring-left c.self.inside.rx c.drop_front.new.self c.drop_front.ensures)

@@ -1,6 +1,5 @@
 use Rattle.std.proofs.Common.{sym, ap, ◌∙◌}
 use Rattle.std.specs.Option.{option_copied}
-use Rattle.rpc_laws.specs.declared.tables.Jobs.{Jobs}
 use Rattle.endpoint_loop.proofs.HearLemmas.{some-front}
 use Rattle.endpoint_loop.proofs.ServeLemmas.{node-stranger, node-unknown}
 use Rattle.endpoint_loop.proofs.ServerLemmas.{alike, differ, number-there, peer-there}
@@ -29,8 +28,8 @@ returns-in_default-place_of_server-clause-serves g c =
     c.self.invariant.0 c.args.head.now c.in-Some.front.now front here g.V.Service.mode_of
     g.R.Recorder.facts g.R.Recorder.whole c.args.rec.now c.drop_front.new.rec g.V.Service.answer
     (g.V.Service.stands c.args.service.now) (g.V.Service.stands c.args.service.now)
-    c.drop_front.new.self (sym c.place_of_server.ensures ∙ c.in_default-place_of_server.is) (ap
-    (λ (js : Jobs). js.out) same) (λ was st. st) made)
+    c.drop_front.new.self (sym c.place_of_server.ensures ∙ c.in_default-place_of_server.is) same
+    (λ was st. st) made)
 
 pub returns-then-ne-clause-serves : goal.returns-then-ne-clause-serves
 returns-then-ne-clause-serves g c =
@@ -53,7 +52,7 @@ returns-then-ne-clause-serves g c =
     c.args.service.now) c.drop_front-then-ne.new.self c.in-Some-place_of_server.i
     c.peer_of_server.result place c.peer_of_server.ensures there.0 (differ
     c.peer_of_server.result c.peer.result c.in-Some.front.now.peer c.ne.result c.ne.ensures
-    c.if-ne.true c.peer.ensures) (ap (λ (js : Jobs). js.out) same) (λ was st. st) made)
+    c.if-ne.true c.peer.ensures) same (λ was st. st) made)
 
 pub serve_at-requires-clause-peer : goal.serve_at-requires-clause-peer
 serve_at-requires-clause-peer g c =

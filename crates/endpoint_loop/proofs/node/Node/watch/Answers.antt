@@ -12,6 +12,7 @@ sessions-init g c = (
       (λ asks. (refl, refl)),
   refl,
   refl,
+  refl,
 )
 
 pub sessions-preserved : goal.sessions-preserved
@@ -23,6 +24,7 @@ sessions-preserved g c =
           (omega arith) i.2 i.0 h.ended,
       h.servers ∙ i.1,
       h.me ∙ i.2,
+      h.jobs ∙ i.3,
     )
 
 pub returns-clause-ended : goal.returns-clause-ended

@@ -10,3 +10,4 @@ invariant-sessions g l =
     (Visits (TimesSession l.timeout) l.i) l.initial.self l.self l.initial.rec l.rec l.initial.k l.k
     × (l.self.lists.servers ≡ l.initial.self.lists.servers)
     × (l.self.lists.me ≡ l.initial.self.lists.me)
+    × (l.self.lists.jobs ≡ l.initial.self.lists.jobs)

@@ -30,6 +30,7 @@ calls-init g c = (
   known-start c.args.i c.args.self.now,
   refl,
   refl,
+  refl,
 )
 
 pub calls-smaller : goal.calls-smaller
@@ -63,6 +64,7 @@ calls-preserved g c =
           c.watch_next.new.rec c.watch_next.new.k looks.0 looks.1,
       c.watch_next.ensures.servers ∙ i.2,
       c.watch_next.ensures.me ∙ i.3,
+      c.watch_next.ensures.jobs ∙ i.4,
     )
 
 pub returns-clause-ended : goal.returns-clause-ended

@@ -11,6 +11,7 @@ invariant-calls g l =
     × Known l.i l.initial.self l.self
     × (l.self.lists.servers ≡ l.initial.self.lists.servers)
     × (l.self.lists.me ≡ l.initial.self.lists.me)
+    × (l.self.lists.jobs ≡ l.initial.self.lists.jobs)
 
 abbrev pub decreases-calls : goal.decreases-calls
 decreases-calls g l = length (still l.after (calls_at l.i l.initial.self))

@@ -1,0 +1,58 @@
+use Rattle.std.proofs.Common.{◌≡◌, false, true, [], sym, ap, ◌∙◌}
+use Rattle.endpoint_loop.specs.Polling.{is_stopped}
+use Rattle.endpoint_loop.proofs.PollLemmas.{makes-poll, still-serving}
+use Rattle.endpoint_loop.proofs.endpoint.Endpoint.poll.Goals as goal
+use Rattle.endpoint_loop.proofs.endpoint.Endpoint.poll.Goals.{in-Ok, in-Err}
+
+pub handle_all-requires-clause-served : goal.handle_all-requires-clause-served
+handle_all-requires-clause-served g c =
+    c.finish_all.ensures.served g.V.Service.mode_of
+    (rw (c.raise_clock.ensures) c.self.invariant.served)
+
+pub invariant_of-self : goal.invariant_of-self
+invariant_of-self g c =
+    let h = c.handle_all.ensures.handles in
+    still-serving _ _ _ c.finish_all.new.self c.handle_all.new.self c.close.new.self h.gave
+    c.handle_all.ensures.founded c.self.invariant.works c.handle_all.ensures.served
+    (c.close.ensures.servers ∙ c.send_all-sent.ensures.servers ∙ c.serve_sessions.ensures.servers
+    ∙ c.watch.ensures.servers)
+    (c.finish_all.ensures.background g.V.Service.mode_of (rw (c.raise_clock.ensures)
+    c.self.invariant.background)) h.background
+    h.jobs
+    (c.close.ensures.jobs ∙ c.send_all-sent.ensures.jobs ∙ c.serve_sessions.ensures.jobs
+    ∙ c.watch.ensures.jobs)
+
+pub returns-clause-polls : goal.returns-clause-polls
+returns-clause-polls g c =
+    rw (← c.self.view_is) (makes-poll g.R.Recorder.facts g.R.Recorder.whole g.K.Continuation.given
+    g.L.Link.sent (λ w. record {
+      staff = record {
+        limit = g.W.Workers.limit w;
+        given = g.W.Workers.given w;
+        out = g.W.Workers.out w;
+        waiting = g.W.Workers.waiting w;
+      };
+      worked = g.W.Workers.worked w;
+      looks = g.W.Workers.looks w;
+    }) (record { mode = g.V.Service.mode_of; answer = g.V.Service.answer }) g.V.Service.stands
+    g.W.Workers.answer c.self.invariant.works c.args.now c.self.inside.node c.finish_all.new.self
+    c.handle_all.new.self c.watch.new.self c.serve_sessions.new.self c.send_all-sent.new.self
+    c.close.new.self c.self.inside.workers c.finish_all.new.workers c.handle_all.new.workers
+    c.self.inside.service c.handle_all.new.service c.args.rec.now c.finish_all.new.rec
+    c.handle_all.new.rec c.watch.new.rec c.serve_sessions.new.rec c.send_all-sent.new.rec
+    c.close.new.rec c.args.k.now c.handle_all.new.k c.watch.new.k c.args.link.now
+    c.send_all-sent.new.link c.self.invariant.background
+    (rw (c.raise_clock.ensures) at c.finish_all.ensures.makes) c.finish_all.ensures.over
+    c.finish_all.ensures.limit c.finish_all.ensures.given c.finish_all.ensures.waiting
+    c.sound.ensures.inbox c.handle_all.ensures.handles c.handle_all.ensures.worked
+    c.handle_all.ensures.looks c.handle_all.ensures.me c.watch.ensures.ended
+    c.serve_sessions.ensures.makes c.send_all-sent.ensures.sent c.close.ensures.makes
+    (is_stopped c.match-sent.result) all
+    (c.close.ensures.jobs ∙ c.send_all-sent.ensures.jobs ∙ c.serve_sessions.ensures.jobs
+    ∙ c.watch.ensures.jobs) c.sound-2.ensures.kept)
+  where
+    all : is_stopped c.match-sent.result ≡ false → c.send_all-sent.new.self.lists.queued ≡ []
+    all = elim c.match-sent.branch [
+      | in-Ok w ↦ λ e. (w.in-Ok.ensures.all (ap is_stopped (sym w.result-is) ∙ e)).0
+      | in-Err w ↦ λ e. let no : true ≡ false = ap is_stopped (sym w.result-is) ∙ e in cc
+    ]

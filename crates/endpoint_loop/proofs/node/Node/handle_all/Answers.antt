@@ -1,0 +1,50 @@
+use Rattle.std.proofs.Common.{refl, ◌∙◌}
+use Rattle.endpoint_loop.proofs.GivingLemmas.{all-handled-more, all-handled-none, all-handled-over}
+use Rattle.endpoint_loop.proofs.node.Node.handle_all.Goals as goal
+
+pub packets-init : goal.packets-init
+packets-init g c = (
+  all-handled-none g.R.Recorder.facts g.R.Recorder.whole g.K.Continuation.given
+      (λ w. record {
+        limit = g.W.Workers.limit w;
+        given = g.W.Workers.given w;
+        out = g.W.Workers.out w;
+        waiting = g.W.Workers.waiting w;
+      }) (record { mode = g.V.Service.mode_of; answer = g.V.Service.answer })
+      g.W.Workers.answer _ _ _ _ _ _,
+  c.requires.served,
+  c.requires.founded,
+  refl,
+  refl,
+  refl,
+)
+
+pub packets-preserved : goal.packets-preserved
+packets-preserved g c =
+    let i = c.packets.invariant in
+    let h = c.handle_next.ensures in (
+      all-handled-more g.R.Recorder.facts g.R.Recorder.whole g.K.Continuation.given
+          (λ w. record {
+            limit = g.W.Workers.limit w;
+            given = g.W.Workers.given w;
+            out = g.W.Workers.out w;
+            waiting = g.W.Workers.waiting w;
+          }) (record { mode = g.V.Service.mode_of; answer = g.V.Service.answer })
+          g.W.Workers.answer _ _ _ _ _ _ _ _ _ _ _ _ _ _ _ _ i.3 i.0 h.handles,
+      h.served,
+      h.founded,
+      h.me ∙ i.3,
+      h.worked ∙ i.4,
+      h.looks ∙ i.5,
+    )
+
+pub returns-clause-handles : goal.returns-clause-handles
+returns-clause-handles g c =
+    all-handled-over g.R.Recorder.facts g.R.Recorder.whole g.K.Continuation.given
+    (λ w. record {
+      limit = g.W.Workers.limit w;
+      given = g.W.Workers.given w;
+      out = g.W.Workers.out w;
+      waiting = g.W.Workers.waiting w;
+    }) (record { mode = g.V.Service.mode_of; answer = g.V.Service.answer })
+    g.W.Workers.answer _ _ _ _ _ _ _ _ _ _ (c.can_handle.ensures.over c.packets-test.false) c.packets.invariant.0

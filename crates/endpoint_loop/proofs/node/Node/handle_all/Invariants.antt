@@ -1,0 +1,26 @@
+use Rattle.std.proofs.Common.{◌≡◌, length}
+use Rattle.rpc_laws.specs.PollOrder.{Handles}
+use Rattle.rpc_laws.specs.Steps.{Chain}
+use Rattle.endpoint_loop.specs.Handling.{MakesAllHandled, StandsForSome}
+use Rattle.endpoint_loop.specs.Serving.{AllServed}
+use Rattle.endpoint_loop.proofs.node.Node.handle_all.Given as goal
+
+abbrev pub invariant-packets : goal.invariant-packets
+invariant-packets g l =
+    MakesAllHandled g.R.Recorder.facts g.R.Recorder.whole g.K.Continuation.given
+    (λ w. record {
+      limit = g.W.Workers.limit w;
+      given = g.W.Workers.given w;
+      out = g.W.Workers.out w;
+      waiting = g.W.Workers.waiting w;
+    }) (record { mode = g.V.Service.mode_of; answer = g.V.Service.answer }) (g.V.Service.stands l.initial.service)
+    (g.V.Service.stands l.service) g.W.Workers.answer (Chain (Handles g.V.Service.mode_of))
+    l.initial.self l.self l.initial.rec l.rec l.initial.k l.k l.initial.workers l.workers
+    × AllServed g.V.Service.mode_of l.self.lists.servers
+    × StandsForSome (g.V.Service.stands l.service)
+    × (l.self.lists.me ≡ l.initial.self.lists.me)
+    × (g.W.Workers.worked l.workers ≡ g.W.Workers.worked l.initial.workers)
+    × (g.W.Workers.looks l.workers ≡ g.W.Workers.looks l.initial.workers)
+
+abbrev pub decreases-packets : goal.decreases-packets
+decreases-packets g l = length l.self.lists.ring

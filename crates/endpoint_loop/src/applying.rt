@@ -1,0 +1,101 @@
+//! What an application and its network do with an endpoint, between two polls.
+ghost use Rattle.std.specs.Prelude.{◌≡◌, ◌<◌, ◌≤◌, None, Some, length, OnErr, OnOk};
+ghost use Rattle.std.specs.List.{find};
+ghost use Rattle.endpoint_loop.specs.Applying.{Leaves};
+ghost use Rattle.endpoint_loop.specs.Asking.{IfWanting, IsAskedAs, UnlessWanting, refusal_of};
+ghost use Rattle.endpoint_loop.specs.Noting.{Makes};
+ghost use Rattle.message_buffer.specs.Buffer.{bytes_of, capacity_of};
+ghost use Rattle.rpc_base.specs.declared.event.Event.TheVariants.{PairedClient, PairedServer};
+ghost use Rattle.rpc_laws.specs.Deliveries.{Delivers};
+ghost use Rattle.rpc_laws.specs.Groups.{Asks, client_refusal, server_refusal, state_of};
+ghost use Rattle.rpc_laws.specs.Sessions.{is_client};
+ghost use Rattle.rpc_laws.specs.Steps.{NotesNext};
+
+use crate::asking::Refused;
+use crate::endpoint::Endpoint;
+use message_buffer::MsgBuf;
+use rpc_base::{CallNo, MOST_CREDITS, NoMemory, Peer, SESSION_NUMBERS, SessionNo};
+use rpc_outside::{Recorder, Service};
+use worker_crew::Workers;
+
+impl<V: Service, W: Workers> Endpoint<V, W> {
+    /// Makes the client end of a session with a peer that is connected from the start, with the
+    /// next number and 1 to 256 credits, for which there is room. The other end has the number
+    /// `server`. `NoMemory` comes where there is no memory for it, and then nothing changed.
+    pub fn pair_client<R: Recorder>(
+        &mut self,
+        peer: Peer,
+        server: SessionNo,
+        credits: u16,
+        rec: &mut R,
+    ) -> Result<(), NoMemory>
+        requires fits { client_refusal credits self.old.timed.lists ≡ None }
+        requires server { server < SESSION_NUMBERS }
+        requires some { 1 ≤ credits }
+        requires most { credits ≤ MOST_CREDITS }
+        ensures makes { OnOk result (Makes R.facts R.whole (NotesNext (λ s. Some
+            (PairedClient (length s.clients) peer server credits))) self.old.timed self.new.timed
+            rec.old rec.new) }
+        ensures leaves { Leaves self.old self.new }
+        ensures unchanged { OnErr result ((self.new ≡ self.old) × (rec.new ≡ rec.old)) }
+    {
+        self.node
+            .pair_client(self.alloc, peer, server, credits, rec)
+    }
+
+    /// Makes the server end of a session with a peer that is connected from the start, with the
+    /// next number and 1 to 256 credits, for which there is room. The other end has the number
+    /// `client`. `NoMemory` comes where there is no memory for it, and then nothing changed.
+    pub fn pair_server<R: Recorder>(
+        &mut self,
+        peer: Peer,
+        client: SessionNo,
+        credits: u16,
+        rec: &mut R,
+    ) -> Result<(), NoMemory>
+        requires fits { server_refusal credits self.old.timed.lists ≡ None }
+        requires client { client < SESSION_NUMBERS }
+        requires some { 1 ≤ credits }
+        requires most { credits ≤ MOST_CREDITS }
+        ensures makes { OnOk result (Makes R.facts R.whole (NotesNext (λ s. Some
+            (PairedServer s.server_numbers peer client credits))) self.old.timed self.new.timed
+            rec.old rec.new) }
+        ensures leaves { Leaves self.old self.new }
+        ensures unchanged { OnErr result ((self.new ≡ self.old) × (rec.new ≡ rec.old)) }
+    {
+        self.node.pair_server(peer, client, credits, rec)
+    }
+
+    /// Asks a call on a client session. Its number counts the accepted calls of the endpoint from
+    /// 0, `tag` is the application's own name for it, and the answer goes into `resp`, whose
+    /// capacity is the call's room. A refusal hands both buffers back, and changes nothing.
+    pub fn ask<R: Recorder>(
+        &mut self,
+        session: SessionNo,
+        req_type: u8,
+        req: MsgBuf,
+        resp: MsgBuf,
+        tag: u64,
+        rec: &mut R,
+    ) -> Result<CallNo, Refused>
+        ensures asks { UnlessWanting result (Makes R.facts R.whole (Asks session req_type
+            (bytes_of req) (capacity_of resp)) self.old.timed self.new.timed rec.old rec.new) }
+        ensures asked { IsAskedAs (refusal_of req.len (state_of (find (is_client session)
+            self.old.timed.lists.clients))) self.old.timed.lists.asked req resp result }
+        ensures leaves { Leaves self.old self.new }
+        ensures unchanged { OnErr result (self.new ≡ self.old) }
+        ensures wanting { IfWanting result (rec.new ≡ rec.old) }
+    {
+        self.node.ask(session, req_type, req, resp, tag, rec)
+    }
+
+    /// Takes a datagram from a peer: it is copied into the receive ring where it is a packet of a
+    /// call and there is room.
+    pub fn deliver<R: Recorder>(&mut self, peer: Peer, bytes: &[u8], rec: &mut R)
+        ensures makes { Makes R.facts R.whole (Delivers peer bytes.now) self.old.timed
+            self.new.timed rec.old rec.new }
+        ensures leaves { Leaves self.old self.new }
+    {
+        self.node.deliver(peer, bytes, rec);
+    }
+}

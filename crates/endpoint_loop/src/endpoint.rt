@@ -1,0 +1,149 @@
+//! The endpoint: a node with a service and workers.
+ghost use Rattle.std.specs.Prelude.{◌≡◌, ◌≤◌, [], length, IfOk, IfErr};
+ghost use Rattle.std.specs.Borrow.{sem};
+ghost use Rattle.std.specs.List.{find};
+ghost use Rattle.node_laws.specs.Kept.{Kept};
+ghost use Rattle.rpc_base.specs.Limits.{Fits as InRange};
+ghost use Rattle.rpc_laws.specs.Groups.{shares, state_of};
+ghost use Rattle.rpc_laws.specs.NodeLists.{new_node};
+ghost use Rattle.rpc_laws.specs.Sessions.{is_client};
+ghost use Rattle.endpoint_loop.specs.Handling.{WorksFor};
+
+use crate::node::Node;
+use rpc_base::{Limits, NodeId, SessionNo, SessionState};
+use rpc_outside::Service;
+use std::alloc::Global;
+use std::marker::Model;
+use worker_crew::Workers;
+
+/// An endpoint of an application: its sessions, the service that answers requests, and the workers
+/// that answer those in the background. Contracts see its lists and its clock as the definitions
+/// over histories have them, with its service and its workers.
+#[derive(Drop)]
+pub struct Endpoint<V: Service, W: Workers> {
+    pub(crate) alloc: Global,
+    pub(crate) node: Node,
+    pub(crate) service: V,
+    pub(crate) workers: W,
+}
+
+impl<V: Service, W: Workers> Model for Endpoint<V, W> {
+    ghost use Rattle.endpoint_loop.specs.Running.{IsServing, Running};
+
+    ghost Value = { Running V W };
+
+    ghost view = { λ e. record { timed = e.node; service = e.service; workers = e.workers } };
+
+    ghost invariant = { λ e. IsServing (record { mode = V.mode_of; answer = V.answer })
+        (V.stands e.service) W.answer e.node.lists };
+}
+
+impl<V: Service, W: Workers> Endpoint<V, W> {
+    /// Endpoint `me` with these limits, which are in their ranges, over workers to which no job was
+    /// given, which take as many jobs, and which answer background requests as the service does.
+    /// Its lists are empty. Where there is no memory for its rings and its pool the workers come
+    /// back.
+    pub fn new(
+        alloc: Global,
+        me: NodeId,
+        limits: Limits,
+        service: V,
+        workers: W,
+    ) -> Result<Endpoint<V, W>, W>
+    where
+        V: Drop,
+        requires limits { InRange limits }
+        requires workers { (W.limit workers ≡ limits.jobs) × (W.given workers ≡ 0)
+            × (W.out workers ≡ []) }
+        requires works { WorksFor W.answer (record { mode = V.mode_of; answer = V.answer }) }
+        requires service { V.stands service [] }
+        ensures made { IfOk result (λ e. e ≡ record {
+          timed = new_node me limits;
+          service = service;
+          workers = workers;
+        }) }
+        ensures wanting { IfErr result (λ back. back ≡ workers) }
+    {
+        let Ok(node) = Node::new(alloc, me, limits) else {
+            return Err(workers);
+        };
+        Ok(Endpoint {
+            alloc,
+            node,
+            service,
+            workers,
+        })
+    }
+}
+
+impl<V: Service, W: Workers> Endpoint<V, W> {
+    ghost use Rattle.endpoint_loop.specs.Lending.{lends_workers};
+
+    /// The number of its node.
+    pub fn me(&self) -> NodeId
+        ensures { result ≡ self.now.timed.lists.me }
+    {
+        self.node.me
+    }
+
+    /// The length of its receive ring, in packets.
+    pub fn ring(&self) -> u32
+        ensures { result ≡ self.now.timed.lists.room }
+    {
+        self.node.rx.size()
+    }
+
+    /// How many numbers of client sessions were used: the number of the next one.
+    pub fn next_client(&self) -> u32
+        ensures { result ≡ length self.now.timed.lists.clients }
+    {
+        self.node.store.clients() as u32
+    }
+
+    /// How many numbers of server sessions were used: the number of the next one.
+    pub fn next_server(&self) -> u64
+        ensures { result ≡ self.now.timed.lists.server_numbers }
+    {
+        self.node.server_numbers
+    }
+
+    /// The credits of its live sessions, which never exceed the length of its receive ring.
+    pub fn shares(&self) -> u32
+        ensures shares { result ≡ shares self.now.timed.lists }
+        ensures within { result ≤ self.now.timed.lists.room }
+    {
+        self.node.shares()
+    }
+
+    /// What always holds of its lists.
+    pub fn sound(&self)
+        ensures { Kept self.now.timed.lists }
+    {
+        self.node.sound();
+    }
+
+    /// The state of a client session: Unknown where its number was never used.
+    pub fn state(&self, session: SessionNo) -> SessionState
+        ensures { result ≡ state_of (find (is_client session) self.now.timed.lists.clients) }
+    {
+        self.node.state(session)
+    }
+
+    /// Lends the workers.
+    pub fn workers(&mut self) -> &mut W
+        ensures* writes_back { sem 𝓛 (lends_workers V.row W.row V.Service W.Workers self.entry result) }
+        ensures value { result.now ≡ self.old.workers }
+    {
+        &mut self.workers
+    }
+
+    /// Gives the workers out, with the jobs that they have.
+    pub fn into_workers(self) -> W
+    where
+        V: Drop,
+        ensures { result ≡ self.workers }
+    {
+        let Endpoint { workers, .. } = self;
+        workers
+    }
+}

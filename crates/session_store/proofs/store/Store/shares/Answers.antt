@@ -1,0 +1,19 @@
+use Rattle.std.proofs.Common.{arith, sym, ap, ◌∙◌, sum_by}
+use Rattle.session_store.specs.Sides.{side_credits}
+use Rattle.session_store.proofs.ShareLemmas.{all-share}
+use Rattle.session_store.proofs.store.Store.shares.Goals as goal
+
+pub overflow_add-result : goal.overflow_add-result
+overflow_add-result c =
+    omega (
+      arith,
+      c.requires.few,
+      all-share _ _ _ _ _ _ _ c.self.view_is
+          (c.of_clients.ensures ∙ ap (sum_by side_credits) c.deref.ensures.value)
+          (c.of_servers.ensures ∙ ap (sum_by (λ v. v.credits)) c.deref-2.ensures.value),
+    )
+
+pub returns : goal.returns
+returns c = all-share _ _ _ _ _ _ _ c.self.view_is
+    (c.of_clients.ensures ∙ ap (sum_by side_credits) c.deref.ensures.value)
+    (c.of_servers.ensures ∙ ap (sum_by (λ v. v.credits)) c.deref-2.ensures.value)
