@@ -78,7 +78,8 @@ use Rattle.endpoint_loop.proofs.TakenLemmas.{TakenBy, drops-with, facts-dropped,
 use Rattle.endpoint_loop.proofs.TakenLemmas.{facts-ran, facts-took, job-parts, no-job, step-again}
 use Rattle.endpoint_loop.proofs.TakenLemmas.{step-give, step-ran}
 use Rattle.endpoint_loop.proofs.TakenLemmas.{step-took, taken-by, takes_it}
-use Rattle.endpoint_loop.proofs.ServerLemmas.{dropped-begins, full-asking, gives, later-gave}
+use Rattle.session_store.proofs.ServeLemmas.{begun-none}
+use Rattle.endpoint_loop.proofs.ServerLemmas.{full-asking, gives, later-gave}
 use Rattle.endpoint_loop.proofs.ServerLemmas.{later-ran, later-took, peers-agree, runs}
 use Rattle.endpoint_loop.proofs.ServerLemmas.{slice_get-some}
 use Rattle.endpoint_loop.proofs.ServerLemmas.{takes, twice-first}
@@ -452,7 +453,7 @@ module _ (me : ℕ) (limits : Limits) (tallies : Tallies) (paces : List Pace) (j
           queue-dropped = p.queue ∙ append-nil _
               ∙ ap (λ (b : Bool). cond b (without_owned p.server.way.number
               (find (in_slot_of h.request) p.server.slots) s.queued) s.queued)
-              (dropped-begins (row (Dropped why) p) why)
+              (begun-none (row (Dropped why) p) why)
 
           goes-dropped : (js : Jobs) → seen dropped_tallies js q t
               ≡ record { lists = after_all clock (old js) (dropped ∷ []); clock = clock }

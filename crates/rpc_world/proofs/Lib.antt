@@ -1,8 +1,15 @@
+pub mod CallLemmas
+pub mod CrewLemmas
+pub mod EndLemmas
+pub mod FollowLemmas
 pub mod LineLemmas
+pub mod NetLemmas
 pub mod PairLemmas
 pub mod PlainLemmas
+pub mod PollingLemmas
+pub mod QuietLemmas
 pub mod ServedLaws
 pub mod StageLemmas
 pub mod StaysLemmas
 pub mod StepLemmas
-pub mod WantingLemmas
+pub mod WorkingLemmas

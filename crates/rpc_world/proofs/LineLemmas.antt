@@ -5,12 +5,12 @@ use Rattle.std.proofs.Common.{refl, sym, ap, subst, ◌∙◌, arith, length-app
 use Rattle.std.proofs.lemmas.List.{get_or_append_left, get_or-append_right}
 use Rattle.std.specs.Prelude.{find}
 use Rattle.rpc_base.specs.declared.fact.Fact.{Fact}
-use Rattle.rpc_world.specs.Answered.{Play}
+use Rattle.rpc_world.specs.Answered.{Play, stage_of}
 use Rattle.rpc_world.specs.Performed.{Performed}
 use Rattle.rpc_world.specs.Before.{IsNumbered, Names}
 use Rattle.rpc_world.specs.Served.{is_served, later_of}
 use Rattle.rpc_world.proofs.ServedLaws.{none-later}
-use Rattle.rpc_world.proofs.StaysLemmas.{does-leaves, does-numbered, made, passed}
+use Rattle.rpc_world.proofs.StaysLemmas.{does-leaves, does-long, does-numbered, made, passed}
 use Rattle.script_grammar.specs.declared.line.Command.{Command}
 use Rattle.script_grammar.specs.declared.line.Command.TheVariants.{Node, Tick}
 use Rattle.script_grammar.specs.declared.line.Line.{Line}
@@ -126,24 +126,21 @@ order (suc i) (suc k) =
 -- how the world stands once i of the lines ran
 pub record Stands (lines : List Line) (i : ℕ) (s : Play) : Type 0 where
   pub numbered : IsNumbered s
-  pub there : (is : IsScript lines) → MadeBy (length is.nodes) i (length s.stage.nodes)
-  pub clock : s.stage.clock ≤ i * MOST_TICK
+  pub there : (is : IsScript lines) → MadeBy (length is.nodes) i (length s.ends)
+  pub clock : s.clock ≤ i * MOST_TICK
 
 pub stands-first : (lines : List Line)
-    → Stands lines 0 (record {
-      stage = record { nodes = []; flight = []; worked = []; clock = 0 };
-      totals = [];
-    })
+    → Stands lines 0 (record { ends = []; flight = []; worked = []; clock = 0 })
 stands-first lines = record {
-  numbered = record { nodes = λ n x h. cc; services = refl; few = omega arith };
+  numbered = record { playing = record { each = λ n e h. cc; theirs = tt }; few = omega arith };
   there = λ is. (λ low. refl, λ high. omega (arith, high));
   clock = omega arith;
 }
 
 pub stands-names : (lines : List Line) (is : IsScript lines) (i : ℕ) (d : Line) (s : Play)
-    → i < length lines → Stands lines i s → Names (length s.stage.nodes) (get_or lines i d).command
+    → i < length lines → Stands lines i s → Names (length s.ends) (get_or lines i d).command
 stands-names lines is i d s within h =
-    names-by (length is.nodes) i (length s.stage.nodes)
+    names-by (length is.nodes) i (length s.ends)
     (get_or lines i d).command is.at_most_eight (line-is lines is i d within) (h.there is)
     (order i (length is.nodes))
 
@@ -152,19 +149,19 @@ pub stands-next : (lines : List Line) (is : IsScript lines) (i : ℕ) (d : Line)
     → Performed (Does (get_or lines i d).command) s t f g → Stands lines (i + 1) t
 stands-next lines is i d s t f g within h p =
     let c = (get_or lines i d).command in
-    let left = does-leaves c s.stage p.group t.stage p.does in
+    let left = does-leaves c (stage_of s) p.group (stage_of t) p.does in
     let most = passed-most c (is.ranges i d within) in
     record {
       numbered = does-numbered c s t f g (stands-names lines is i d s within h) p h.numbered;
-      there = λ other. made-by (length other.nodes) i (length s.stage.nodes)
-          (length t.stage.nodes) c (line-is lines other i d within)
-          (h.there other) left.long (order i (length other.nodes));
+      there = λ other. made-by (length other.nodes) i (length s.ends)
+          (length t.ends) c (line-is lines other i d within)
+          (h.there other) (does-long c s t f g p) (order i (length other.nodes));
       clock = omega (arith, left.clock, most, h.clock);
     }
 
 -- the clock has room for one more tick
 pub stands-clock : (lines : List Line) (is : IsScript lines) (i : ℕ) (s : Play) → i < length lines
-    → Stands lines i s → s.stage.clock + MOST_TICK < 2 ^ 64
+    → Stands lines i s → s.clock + MOST_TICK < 2 ^ 64
 stands-clock lines is i s within h =
     let few = rising-few 2 lines is.rising (omega arith) in
     omega (arith, h.clock, few, within)
@@ -173,8 +170,8 @@ stands-clock lines is i s within h =
 pub record Ready (s : Play) (c : Command) : Type 0 where
   pub served : is_served c ≡ true
   pub ranges : IsInRange c
-  pub names : Names (length s.stage.nodes) c
-  pub clock : s.stage.clock + MOST_TICK < 2 ^ 64
+  pub names : Names (length s.ends) c
+  pub clock : s.clock + MOST_TICK < 2 ^ 64
 
 ready-at : (lines : List Line) (is : IsScript lines) (i : ℕ) (d : Line) (s : Play)
     → later_of lines ≡ None → i < length lines → Stands lines i s

@@ -1,35 +1,24 @@
 -- What the services of the nodes answered: of steps of one node, of the network, and of one thing after another.
-use Rattle.std.proofs.Common.{◌≡◌, ◌≢◌, ℕ, zero, suc, ◌^◌, ◌<◌, Bool, true, false, ◌||◌, cond, Some}
+use Rattle.std.proofs.Common.{◌≡◌, ◌≢◌, ℕ, zero, suc, Bool, true, false, ◌||◌, Some}
 use Rattle.std.proofs.Common.{List, [], ◌∷◌, ◌++◌, refl, subst, sym, ap, ◌∙◌, inl, inr}
-use Rattle.std.specs.Prelude.{map}
 use Rattle.std.specs.List.{AllByRecursion, list_any, slice_get, slice_set}
 use Rattle.std.proofs.lemmas.Bool.{cases_eq, eq-eqb, ne_eqb}
 use Rattle.std.proofs.lemmas.List.Elements.{filter-append}
+use Rattle.end_laws.proofs.OwnFacts.{IsOwn}
 use Rattle.rpc_base.specs.declared.event.Event.{Event}
-use Rattle.rpc_base.specs.declared.event.Event.TheVariants.{Arrived, Overflowed, Bad, Worked}
+use Rattle.rpc_base.specs.declared.event.Event.TheVariants.{Ran}
 use Rattle.rpc_base.specs.declared.fact.Fact.{Fact}
 use Rattle.rpc_base.specs.declared.fact.Who.TheVariants.{Node}
-use Rattle.rpc_laws.specs.declared.tables.Job.{Job}
-use Rattle.rpc_laws.specs.declared.tables.Timed.{Timed}
-use Rattle.rpc_laws.specs.declared.tables.WorkedJob.{WorkedJob}
 use Rattle.rpc_laws.specs.AtMostOnce.{is_at}
-use Rattle.rpc_laws.specs.Deliveries.{Delivers}
-use Rattle.rpc_laws.specs.Facts.{of_net, plain, with_bytes}
-use Rattle.rpc_laws.specs.Groups.{Asks}
-use Rattle.rpc_laws.specs.PollOrder.{PollBy, SendsAll}
-use Rattle.rpc_laws.specs.Working.{FinishesWorked, Works, WorksAll, worked_after, worked_after_all}
-use Rattle.rpc_laws.proofs.PollLemmas.{poll-within}
+use Rattle.rpc_laws.specs.Facts.{of_net}
+use Rattle.rpc_laws.specs.Service.{AnswersAt, plain_serving, served_after, served_after_all}
+use Rattle.rpc_laws.proofs.AnswerLemmas.{answers-append, served-append}
 use Rattle.rpc_outside.specs.PlainAnswer.{plain_mode}
-use Rattle.rpc_outside.proofs.Filling.{one_tally, stands-for}
-use Rattle.end_laws.proofs.OwnFacts.{IsOwn, asks-own, delivers-own, poll-own}
-use Rattle.sim_node.specs.Answering.{Quiet, ServesAll, Whole, is_wanting}
-use Rattle.sim_node.proofs.AnswerLemmas.{quiet-none, quiet-serves, serves-append}
-use Rattle.rpc_world.specs.Answered.{Plainly, facts_at, total_at}
-
-pub worked-append : (worked : List WorkedJob) (x y : List Fact)
-    → worked_after_all worked (x ++ y) ≡ worked_after_all (worked_after_all worked x) y
-worked-append worked [] y = refl
-worked-append worked (f ∷ x) y = worked-append (worked_after worked f) x y
+use Rattle.rpc_outside.specs.PlainStands.{PlainStands}
+use Rattle.rpc_outside.specs.Served.{Served}
+use Rattle.sim_script.specs.FollowsScript.{is_wanting}
+use Rattle.work_laws.specs.Known.{changes_work}
+use Rattle.rpc_world.specs.Answered.{Plainly, Quiet, ServesAll, Whole, facts_at, total_at}
 
 -- one thing after another
 whole-by : (b : Bool) (x y : List Fact) → (b || list_any (λ f. is_wanting f.event) x) ≡ false
@@ -37,9 +26,59 @@ whole-by : (b : Bool) (x y : List Fact) → (b || list_any (λ f. is_wanting f.e
 whole-by true x y p k = cc
 whole-by false x y p k = k p
 
-whole-append : (x y : List Fact) → Whole x → Whole y → Whole (x ++ y)
+pub whole-append : (x y : List Fact) → Whole x → Whole y → Whole (x ++ y)
 whole-append [] y p q = q
 whole-append (f ∷ x) y p q = whole-by (is_wanting f.event) x y p (λ r. whole-append x y r q)
+
+pub quiet-none : Quiet []
+quiet-none served = (tt, refl)
+
+pub quiet-serves : (n : ℕ) (x : List Fact) → Quiet x → ServesAll n n x
+quiet-serves n x p served stands =
+    let one = p served in
+    (one.0, subst (λ (z : Served). PlainStands n z) (sym one.1) stands)
+
+pub serves-append : (a b c : ℕ) (x y : List Fact) → ServesAll a b x → ServesAll b c y → ServesAll a c (x ++ y)
+serves-append a b c x y p q served stands =
+    let one = p served stands in
+    let two = q (served_after_all plain_mode served x) one.1 in (
+      answers-append plain_serving served x y one.0 two.0,
+      subst (λ (z : Served). PlainStands c z) (sym (served-append plain_mode served x y)) two.1,
+    )
+
+-- facts of which none is a Ran
+abbrev pub is_ran : Event → Bool
+is_ran (Ran session request req_type) = true
+is_ran _ = false
+
+unran-answers : (e : Event) (served : Served) (first second : List ℕ) → is_ran e ≡ false
+    → AnswersAt plain_serving served e first second
+unran-answers (Ran t r y) served first second h = cc
+unran-answers _ served first second h = tt
+
+unran-served : (e : Event) (served : Served) (first : List ℕ) → is_ran e ≡ false
+    → served_after plain_mode e first served ≡ served
+unran-served (Ran t r y) served first h = cc
+unran-served _ served first h = refl
+
+pub unran-quiet : (x : List Fact) → AllByRecursion (λ f. is_ran f.event ≡ false) x → Quiet x
+unran-quiet [] h served = (tt, refl)
+unran-quiet (f ∷ x) h served =
+    let same = unran-served f.event served f.first h.0 in
+    let rest = unran-quiet x h.1 (served_after plain_mode f.event f.first served) in
+    ((unran-answers f.event served f.first f.second h.0, rest.0), rest.1 ∙ same)
+
+idle-event : (e : Event) → changes_work e ≡ false → is_ran e ≡ false
+idle-event (Ran t r y) h = cc
+idle-event _ h = refl
+
+pub idle-quiet : (x : List Fact) → AllByRecursion (λ f. changes_work f.event ≡ false) x → Quiet x
+idle-quiet x h = unran-quiet x (each x h)
+  where
+    each : (y : List Fact) → AllByRecursion (λ f. changes_work f.event ≡ false) y
+        → AllByRecursion (λ f. is_ran f.event ≡ false) y
+    each [] h = tt
+    each (f ∷ y) h = (idle-event f.event h.0, each y h.1)
 
 pub plainly-none : (a : List ℕ) → Plainly [] a a
 plainly-none a = record { whole = refl; serves = λ n. quiet-serves (total_at n a) [] quiet-none }
@@ -78,9 +117,9 @@ serves-at m n a b x all own other = elim (cases_eq n m) [
       (subst (λ k. ServesAll a k []) (other apart) (quiet-serves a [] quiet-none))
 ]
 
-pub plainly-quiet : (n : ℕ) (x : List Fact) (a : List ℕ) → AllOf n x → Quiet x → Plainly x a a
-plainly-quiet n x a all quiet = record {
-  whole = (quiet []).2;
+pub plainly-quiet : (n : ℕ) (x : List Fact) (a : List ℕ) → AllOf n x → Quiet x → Whole x → Plainly x a a
+plainly-quiet n x a all quiet whole = record {
+  whole = whole;
   serves = λ m. serves-at m n (total_at m a) (total_at m a) x all
       (λ same. quiet-serves (total_at m a) x quiet) (λ other. refl);
 }
@@ -98,12 +137,12 @@ get-other (k ∷ a) zero (suc m) next h = refl
 get-other (k ∷ a) (suc n) zero next h = refl
 get-other (k ∷ a) (suc n) (suc m) next h = get-other a n m next (λ e. h (ap suc e))
 
-pub plainly-served : (n t next : ℕ) (x : List Fact) (a : List ℕ) → t < 2 ^ 64
-    → slice_get a n ≡ Some t → AllOf n x → ServesAll t next x → Plainly x a (slice_set a n next)
-plainly-served n t next x a below at all serves =
+pub plainly-served : (n t next : ℕ) (x : List Fact) (a : List ℕ) → slice_get a n ≡ Some t → AllOf n x
+    → ServesAll t next x → Whole x → Plainly x a (slice_set a n next)
+plainly-served n t next x a at all serves whole =
     let own = get-own a n t next at in
     record {
-      whole = (serves (one_tally t) (stands-for t below)).2;
+      whole = whole;
       serves = λ m. serves-at m n (total_at m a)
           (total_at m (slice_set a n next)) x all
           (λ same. subst (λ k. ServesAll (total_at k a) (total_at k (slice_set a n next)) x) same
@@ -126,45 +165,6 @@ plainly-made x a p =
     }
 
 -- whose facts those of a step are
-all-owned : (n : ℕ) (x : List Fact) → AllByRecursion (IsOwn false n) x → AllOf n x
+pub all-owned : (n : ℕ) (x : List Fact) → AllByRecursion (IsOwn false n) x → AllOf n x
 all-owned n [] all = tt
 all-owned n (f ∷ x) all = (all.0.who, all-owned n x all.1)
-
-module _ (n : ℕ) (s : Timed) (x : List Fact) (t : Timed) (me : s.lists.me ≡ n) where
-  pub of-poll : (worked : List WorkedJob) (now : ℕ)
-      → PollBy (FinishesWorked worked) SendsAll plain_mode now s x t → AllOf n x
-  of-poll worked now p =
-      let o = poll-own false plain_mode now s x t (λ e. cc) (poll-within worked plain_mode now s x t p) in
-      subst (λ k. AllOf k x) me (all-owned s.lists.me x o.facts)
-
-  pub of-call : (session req_type : ℕ) (ask : List ℕ) (room : ℕ) → Asks session req_type ask room s x t → AllOf n x
-  of-call session req_type ask room p =
-      let o = asks-own false session req_type ask room s x t (λ e. cc) p in
-      subst (λ k. AllOf k x) me (all-owned s.lists.me x o.facts)
-
-  pub of-delivery : (peer : ℕ) (bytes : List ℕ) → Delivers peer bytes s x t → AllOf n x
-  of-delivery peer bytes p =
-      let o = delivers-own false peer bytes (λ e. cc) s x t (λ e. cc) p in
-      subst (λ k. AllOf k x) me (all-owned s.lists.me x o.facts)
-
-  pub of-work : (worked : List WorkedJob) (i : ℕ) → Works worked i s x t → AllOf n x
-  of-work worked i p = rw (p.facts, me) (refl, tt)
-
-  all-worked : (jobs : List Job)
-      → AllOf s.lists.me (map (λ (job : Job). plain s.lists.me (Worked job.session job.request))
-      jobs)
-  all-worked [] = tt
-  all-worked (j ∷ js) = (refl, all-worked js)
-
-  pub of-works : (worked : List WorkedJob) → WorksAll worked s x t → AllOf n x
-  of-works worked p = subst (λ k. AllOf k x) me (rw p.facts (all-worked _))
-
--- a delivery runs nothing
-pub quiet-delivery : (me peer : ℕ) (bytes : List ℕ) (a b c d : Bool)
-    → Quiet (with_bytes me (cond a (cond b (Arrived peer) (Overflowed peer))
-    (cond c (cond d (Arrived peer) (Overflowed peer)) (Bad peer))) bytes ∷ [])
-quiet-delivery me peer bytes true true c d served = ((tt, tt), refl, refl)
-quiet-delivery me peer bytes true false c d served = ((tt, tt), refl, refl)
-quiet-delivery me peer bytes false b true true served = ((tt, tt), refl, refl)
-quiet-delivery me peer bytes false b true false served = ((tt, tt), refl, refl)
-quiet-delivery me peer bytes false b false d served = ((tt, tt), refl, refl)

@@ -17,9 +17,7 @@ use Rattle.end_laws.proofs.SendsLaw.{course-sends}
 use Rattle.end_laws.proofs.StillLeads.{pairs-only}
 use Rattle.end_laws.specs.Moments.{first_moment}
 use Rattle.end_laws.specs.OnlyPairs.{LeavesSessions, OnlyPairs, PairsOnly}
-use Rattle.one_history.proofs.ScriptTold.{all-told}
 use Rattle.one_history.proofs.StagesOnce.{one-history}
-use Rattle.report_text.specs.Told.{AllTold}
 use Rattle.ring_laws.specs.CalmRing.{MessagesFit}
 use Rattle.ring_laws.specs.PairsOnce.{PairsOnce}
 use Rattle.ring_laws.proofs.PairLaw.{course-pairs, first-tidy, first-valid}

@@ -1,6 +1,6 @@
 -- What was performed, one thing after another, and rounds.
 use Rattle.std.proofs.Common.{◌≡◌, ℕ, suc, ◌+◌, ◌-◌, ◌<◌, ◌≤◌, Bool, true, false, List, [], ◌++◌}
-use Rattle.std.proofs.Common.{length, refl, sym, ap, ◌∙◌, append_assoc, append-nil, length-append}
+use Rattle.std.proofs.Common.{length, refl, subst, sym, ap, ◌∙◌, append_assoc, append-nil, length-append}
 use Rattle.std.proofs.Common.{take, drop, arith}
 use Rattle.std.proofs.lemmas.List.{take_all}
 use Rattle.std.proofs.Math.Seq.{drop-append_seam}
@@ -8,22 +8,22 @@ use Rattle.std.specs.List.{list_all}
 use Rattle.rpc_base.specs.declared.fact.Fact.{Fact}
 use Rattle.network_model.specs.declared.stage.Stage.{Stage}
 use Rattle.sim_script.specs.FollowsScript.{Carries, Joins, Round, Settles, Times, Unless, WorksAndPolls, is_polled}
-use Rattle.rpc_world.specs.Answered.{Plainly, Play}
+use Rattle.rpc_world.specs.Answered.{Plainly, Play, stage_of, totals_of}
 use Rattle.rpc_world.specs.Performed.{Performed, MakesRound}
-use Rattle.rpc_world.specs.Before.{IsNumbered}
+use Rattle.rpc_world.specs.Before.{AllPlay, IsNumbered}
 use Rattle.rpc_world.proofs.PlainLemmas.{plainly-append, plainly-none}
-use Rattle.rpc_world.proofs.StaysLemmas.{performed-numbered, stays-round}
+use Rattle.rpc_world.proofs.StaysLemmas.{ends-long, performed-numbered, stays-round}
 
 -- nothing yet
 pub performed-none : (P : Stage → List Fact → Stage → Type 0) (s : Play) (f : List Fact)
-    → P s.stage [] s.stage → Performed P s s f f
+    → P (stage_of s) [] (stage_of s) → Performed P s s f f
 performed-none P s f p =
     record {
       group = [];
       grew = sym (append-nil f);
       does = p;
-      plain = plainly-none s.totals;
-      services = omega arith;
+      plain = plainly-none (totals_of s);
+      keeps = λ a. a;
     }
 
 -- P, and then Q
@@ -33,44 +33,44 @@ performed-joins P Q s t u f g h p q = record {
   group = p.group ++ q.group;
   grew = q.grew ∙ rw p.grew (append_assoc f p.group q.group);
   does = record {
-    between = t.stage;
+    between = stage_of t;
     group = p.group;
     rest = q.group;
     joined = refl;
     does = p.does;
     follows = q.does;
   };
-  plain = plainly-append p.group q.group s.totals t.totals u.totals p.plain q.plain;
-  services = omega (arith, p.services, q.services);
+  plain = plainly-append p.group q.group (totals_of s) (totals_of t) (totals_of u) p.plain q.plain;
+  keeps = λ a. q.keeps (p.keeps a);
 }
 
 -- the copies in flight are carried, and then the nodes worked and polled
 pub round-by : (s t u : Play) (f g h : List Fact)
-    → Performed (Times (Carries 0) (length s.stage.flight)) s t f g
-    → Performed (WorksAndPolls (length t.stage.nodes)) t u g h → Performed Round s u f h
+    → Performed (Times (Carries 0) (length s.flight)) s t f g
+    → Performed (WorksAndPolls (length t.ends)) t u g h → Performed Round s u f h
 round-by s t u f g h p q = record {
   group = p.group ++ q.group;
   grew = q.grew ∙ rw p.grew (append_assoc f p.group q.group);
   does = record {
-    between = t.stage;
+    between = stage_of t;
     group = p.group;
     rest = q.group;
     joined = refl;
     does = p.does;
-    follows = q.does;
+    follows = subst (λ (n : ℕ). WorksAndPolls n (stage_of t) q.group (stage_of u)) (sym (ends-long t)) q.does;
   };
-  plain = plainly-append p.group q.group s.totals t.totals u.totals p.plain q.plain;
-  services = omega (arith, p.services, q.services);
+  plain = plainly-append p.group q.group (totals_of s) (totals_of t) (totals_of u) p.plain q.plain;
+  keeps = λ a. q.keeps (p.keeps a);
 }
 
 -- i rounds of n were made: what the others do completes the n
 pub record Goes (n i : ℕ) (s t : Play) (f g : List Fact) : Type 0 where
   pub group : List Fact
   pub grew : g ≡ f ++ group
-  pub rest : (k : ℕ) (x : List Fact) (u : Stage) → i + k ≡ n → Settles k t.stage x u
-      → Settles n s.stage (group ++ x) u
-  pub plain : Plainly group s.totals t.totals
-  pub services : length t.totals + length s.stage.nodes ≡ length s.totals + length t.stage.nodes
+  pub rest : (k : ℕ) (x : List Fact) (u : Stage) → i + k ≡ n → Settles k (stage_of t) x u
+      → Settles n (stage_of s) (group ++ x) u
+  pub plain : Plainly group (totals_of s) (totals_of t)
+  pub keeps : AllPlay s → AllPlay t
   pub numbered : IsNumbered s → IsNumbered t
 
 pub goes-none : (n : ℕ) (s : Play) (f : List Fact) → Goes n 0 s s f f
@@ -78,8 +78,8 @@ goes-none n s f = record {
   group = [];
   grew = sym (append-nil f);
   rest = λ k x u e d. let same : k ≡ n = omega (arith, e) in rw (← same) d;
-  plain = plainly-none s.totals;
-  services = omega arith;
+  plain = plainly-none (totals_of s);
+  keeps = λ a. a;
   numbered = λ m. m;
 }
 
@@ -105,9 +105,9 @@ goes-more n i quiet s t u f g h p loud m = record {
       let more : i + suc k ≡ n = omega (arith, e) in
       rw (append_assoc p.group m.made.group x)
       (p.rest (suc k) (m.made.group ++ x) v more
-      (more-round k false t.stage u.stage v m.made.group x m.made.does (sym loud ∙ m.quiet) d));
-  plain = plainly-append p.group m.made.group s.totals t.totals u.totals p.plain m.made.plain;
-  services = omega (arith, p.services, m.made.services);
+      (more-round k false (stage_of t) (stage_of u) v m.made.group x m.made.does (sym loud ∙ m.quiet) d));
+  plain = plainly-append p.group m.made.group (totals_of s) (totals_of t) (totals_of u) p.plain m.made.plain;
+  keeps = λ a. m.made.keeps (p.keeps a);
   numbered = λ first. performed-numbered Round stays-round t u g h m.made (p.numbered first);
 }
 
@@ -120,12 +120,12 @@ settles-quiet n i quiet s t u f g h within p still m =
     record {
       group = p.group ++ (m.made.group ++ []);
       grew = m.made.grew ∙ rw (p.grew, append-nil m.made.group) (append_assoc f p.group m.made.group);
-      does = p.rest (suc k) (m.made.group ++ []) u.stage more
-          (more-round k true t.stage u.stage u.stage m.made.group [] m.made.does
+      does = p.rest (suc k) (m.made.group ++ []) (stage_of u) more
+          (more-round k true (stage_of t) (stage_of u) (stage_of u) m.made.group [] m.made.does
           (sym still ∙ m.quiet) (refl, refl));
-      plain = plainly-append p.group (m.made.group ++ []) s.totals t.totals u.totals p.plain
+      plain = plainly-append p.group (m.made.group ++ []) (totals_of s) (totals_of t) (totals_of u) p.plain
           (rw (append-nil m.made.group) m.made.plain);
-      services = omega (arith, p.services, m.made.services);
+      keeps = λ a. m.made.keeps (p.keeps a);
     }
 
 -- all n were made
@@ -135,9 +135,9 @@ settles-all n i s t f g e p =
     record {
       group = p.group ++ [];
       grew = p.grew ∙ rw (append-nil p.group) refl;
-      does = p.rest 0 [] t.stage over (refl, refl);
+      does = p.rest 0 [] (stage_of t) over (refl, refl);
       plain = rw (append-nil p.group) p.plain;
-      services = p.services;
+      keeps = p.keeps;
     }
 
 pub back-part : (f x h : List Fact) → h ≡ f ++ x → take (length h - length f) (drop (length f) h) ≡ x
@@ -149,8 +149,8 @@ back-part f x h e =
 
 -- a round, and whether it was quiet, from the facts since it began
 pub makes-round : (quiet : Bool) (s t u : Play) (f g h all : List Fact) (n : ℕ)
-    → Performed (Times (Carries 0) (length s.stage.flight)) s t f g
-    → Performed (WorksAndPolls (length t.stage.nodes)) t u g h → n ≡ length f → all ≡ h
+    → Performed (Times (Carries 0) (length s.flight)) s t f g
+    → Performed (WorksAndPolls (length t.ends)) t u g h → n ≡ length f → all ≡ h
     → quiet ≡ list_all (λ f. is_polled f.event) (take (length all - n) (drop n all))
     → MakesRound quiet s u f h
 makes-round quiet s t u f g h all n p q is_n is_all is =

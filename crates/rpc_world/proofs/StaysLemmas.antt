@@ -1,12 +1,12 @@
 -- What the commands of a script leave as it was: the place of each node, how many there are, and the clock.
 use Rattle.std.proofs.Common.{◌≡◌, ◌<◌, ◌≤◌, ◌+◌, ℕ, zero, suc, nat_lt, Bool, true, false, cond}
-use Rattle.std.proofs.Common.{Option, Some, None, List, [], ◌∷◌, length, refl, sym, ap, subst, ◌∙◌}
+use Rattle.std.proofs.Common.{Option, Some, None, List, [], ◌∷◌, length, refl, sym, ap, ◌∙◌}
 use Rattle.std.proofs.Common.{arith, length-append}
+use Rattle.std.proofs.lemmas.List.{length-map}
 use Rattle.std.proofs.lemmas.List.Edits.{length-remove}
 use Rattle.std.specs.Bool.{MatchBool}
 use Rattle.std.specs.List.{list_all, remove, slice_get, slice_set}
-use Rattle.end_laws.proofs.ListLemmas.{add-placed, length-slice_set}
-use Rattle.end_laws.proofs.OwnFacts.{poll-own}
+use Rattle.end_laws.proofs.ListLemmas.{length-slice_set}
 use Rattle.network_model.specs.declared.stage.Stage.{Stage}
 use Rattle.rpc_base.specs.declared.event.Event.{Event}
 use Rattle.rpc_base.specs.declared.event.Event.TheVariants.{Arrived, Bad, Lost, Missed, Overflowed, Repeated}
@@ -20,16 +20,13 @@ use Rattle.rpc_laws.specs.Groups.{Asks, Connects, Disconnects, SetsRate, pair_re
 use Rattle.rpc_laws.specs.InFlight.{flight_after_all}
 use Rattle.rpc_laws.specs.NodeLists.{new_node}
 use Rattle.rpc_laws.specs.PollOrder.{PollBy, SendsAll}
-use Rattle.rpc_laws.specs.Steps.{Goes, Rel}
+use Rattle.rpc_laws.specs.Steps.{Rel}
 use Rattle.rpc_laws.specs.UsualLimits.{with_ring}
 use Rattle.rpc_laws.specs.Working.{FinishesWorked, Works, WorksAll}
-use Rattle.one_history.proofs.StagesOnce.{set-all}
-use Rattle.rpc_laws.proofs.PollLemmas.{poll-within}
-use Rattle.rpc_laws.proofs.RunLemmas.{me-after_all}
 use Rattle.rpc_outside.specs.PlainAnswer.{plain_mode}
-use Rattle.rpc_world.specs.Answered.{Play}
+use Rattle.rpc_world.specs.Answered.{Play, stage_of, told_end}
 use Rattle.rpc_world.specs.Performed.{Performed}
-use Rattle.rpc_world.specs.Before.{InPlace, IsNumbered, Names}
+use Rattle.rpc_world.specs.Before.{IsNumbered, Names}
 use Rattle.script_grammar.specs.declared.line.Command.{Command}
 use Rattle.script_grammar.specs.declared.line.Command.TheVariants.{Node, Pair, Connect, Disconnect}
 use Rattle.script_grammar.specs.declared.line.Command.TheVariants.{Rate, Call, Poll, Arrive, Lose}
@@ -40,7 +37,6 @@ use Rattle.sim_script.specs.FollowsScript.{Settles, Ticks, Times, Unless, WorksF
 use Rattle.sim_script.specs.FollowsScript.{ask_bytes, is_polled, noted, or_missed}
 
 pub record Stays (s t : Stage) : Type 0 where
-  pub nodes : InPlace s.nodes → InPlace t.nodes
   pub long : length t.nodes ≡ length s.nodes
   pub clock : t.clock ≡ s.clock
 
@@ -51,83 +47,56 @@ abbrev pub StaysBy : Group → Type 0
 StaysBy P = (s : Stage) (x : List Fact) (t : Stage) → P s x t → Stays s t
 
 stays-self : (s t : Stage) → t ≡ s → Stays s t
-stays-self s t e = record {
-  nodes = λ h. subst (λ (v : Stage). InPlace v.nodes) (sym e) h;
-  long = ap (λ (v : Stage). length v.nodes) e;
-  clock = ap (λ (v : Stage). v.clock) e;
-}
+stays-self s t e =
+    record { long = ap (λ (v : Stage). length v.nodes) e; clock = ap (λ (v : Stage). v.clock) e }
 
 stays-then : (s t u : Stage) → Stays s t → Stays t u → Stays s u
-stays-then s t u p q =
-    record { nodes = λ h. q.nodes (p.nodes h); long = q.long ∙ p.long; clock = q.clock ∙ p.clock }
+stays-then s t u p q = record { long = q.long ∙ p.long; clock = q.clock ∙ p.clock }
 
--- a stage with these nodes and the same clock
-stays-by : (s t v : Stage) → t ≡ v → (InPlace s.nodes → InPlace v.nodes)
-    → length v.nodes ≡ length s.nodes → v.clock ≡ s.clock → Stays s t
-stays-by s t v e nodes long clock = record {
-  nodes = λ h. subst (λ (w : Stage). InPlace w.nodes) (sym e) (nodes h);
+-- a stage with as many nodes and the same clock
+stays-by : (s t v : Stage) → t ≡ v → length v.nodes ≡ length s.nodes → v.clock ≡ s.clock → Stays s t
+stays-by s t v e long clock = record {
   long = ap (λ (w : Stage). length w.nodes) e ∙ long;
   clock = ap (λ (w : Stage). w.clock) e ∙ clock;
 }
 
--- each step of P leaves the node its number
-abbrev KeepsNumber : Rel → Type 0
-KeepsNumber P = (s : Timed) (x : List Fact) (t : Timed) → P s x t → t.lists.me ≡ s.lists.me
-
-goes-number : (s : Timed) (x : List Fact) (t : Timed) → Goes s x t → t.lists.me ≡ s.lists.me
-goes-number s x t h = ap (λ (v : Timed). v.lists.me) h ∙ me-after_all s.clock s.lists x
-
-stays-at : (P : Rel) (n : ℕ) → KeepsNumber P → StaysBy (AtNode P n)
-stays-at P n keeps s x t h =
-    stays-by s t _ h.left (λ m. set-all (λ j z. z.lists.me ≡ j) s.nodes n h.now
-    (keeps h.before x h.now h.step ∙ m n h.before h.is_node) m)
-    (length-slice_set s.nodes n h.now) refl
+stays-at : (P : Rel) (n : ℕ) → StaysBy (AtNode P n)
+stays-at P n s x t h = stays-by s t _ h.left (length-slice_set s.nodes n h.now) refl
 
 pub stays-polled : (n : ℕ) → StaysBy (PollsNode n)
-stays-polled n s x t h =
-    stays-at (PollBy (FinishesWorked s.worked) SendsAll plain_mode s.clock) n
-    (λ v y w p. (poll-own false plain_mode s.clock v y w (λ e. cc)
-    (poll-within s.worked plain_mode s.clock v y w p)).me) s x t h
+stays-polled n s x t h = stays-at (PollBy (FinishesWorked s.worked) SendsAll plain_mode s.clock) n s x t h
 
 pub stays-worked : (n : ℕ) → StaysBy (WorksNode n)
-stays-worked n s x t h =
-    stays-at (WorksAll s.worked) n (λ v y w p. goes-number v y w p.goes) s x t h
+stays-worked n s x t h = stays-at (WorksAll s.worked) n s x t h
 
 stays-net : (e : Event) → StaysBy (OfNet e)
-stays-net e s x t h = stays-by s t _ h.left (λ m. m) refl refl
+stays-net e s x t h = stays-by s t _ h.left refl refl
 
 -- a pairing
 stays-ends : (a b credits : ℕ) (client server : Timed) (s : Stage) (x : List Fact) (t : Stage)
-    → slice_get s.nodes a ≡ Some client → slice_get s.nodes b ≡ Some server
     → PairsEnds a b credits client server s x t → Stays s t
-stays-ends a b credits client server s x t is_a is_b h =
+stays-ends a b credits client server s x t h =
     let one : List Timed = slice_set s.nodes a (noted client h.at_client) in
     stays-by s t _ h.left
-    (λ m. set-all (λ j z. z.lists.me ≡ j) one b (noted server h.at_server) (m b server is_b)
-    (set-all (λ j z. z.lists.me ≡ j) s.nodes a (noted client h.at_client) (m a client is_a) m))
     (length-slice_set one b (noted server h.at_server) ∙ length-slice_set s.nodes a (noted client h.at_client)) refl
 
 stays-pairs-by : (o r : Option Event) (a b credits : ℕ) (client server : Timed) (s : Stage)
-    (x : List Fact) (t : Stage) → slice_get s.nodes a ≡ Some client
-    → slice_get s.nodes b ≡ Some server → PairsBy o r a b credits client server s x t → Stays s t
-stays-pairs-by (Some e) r a b credits client server s x t is_a is_b h = stays-self s t h.1
-stays-pairs-by None (Some e) a b credits client server s x t is_a is_b h = stays-self s t h.1
-stays-pairs-by None None a b credits client server s x t is_a is_b h =
-    stays-ends a b credits client server s x t is_a is_b h
+    (x : List Fact) (t : Stage) → PairsBy o r a b credits client server s x t → Stays s t
+stays-pairs-by (Some e) r a b credits client server s x t h = stays-self s t h.1
+stays-pairs-by None (Some e) a b credits client server s x t h = stays-self s t h.1
+stays-pairs-by None None a b credits client server s x t h = stays-ends a b credits client server s x t h
 
 stays-pairs : (a b credits : ℕ) → StaysBy (Pairs a b credits)
 stays-pairs a b credits s x t h =
     stays-pairs-by (pair_refusal credits h.client.lists)
-    (pair_refusal credits h.server.lists) a b credits h.client h.server s x t h.is_client
-    h.is_server h.pairs
+    (pair_refusal credits h.server.lists) a b credits h.client h.server s x t h.pairs
 
 -- a copy is carried
 stays-carried : (i : ℕ) → StaysBy (Carries i)
 stays-carried i s x t h =
     let a = stays-at (Delivers h.copy.from h.copy.bytes) h.copy.to
-    (λ v y w p. goes-number v y w p.goes)
     (record s { flight = remove s.flight i }) h.delivered t h.arrives in
-    record { nodes = a.nodes; long = a.long; clock = a.clock }
+    record { long = a.long; clock = a.clock }
 
 stays-arrives : (i : ℕ) (b : Bool) (s : Stage) (x : List Fact) (t : Stage)
     → MatchBool b (Carries i s x t) (OfNet (Missed i) s x t) → Stays s t
@@ -183,19 +152,15 @@ passed (Tick by) = by
 passed _ = 0
 
 pub record Leaves (c : Command) (s t : Stage) : Type 0 where
-  pub nodes : InPlace s.nodes → InPlace t.nodes
   pub long : length t.nodes ≡ length s.nodes + made c
   pub clock : t.clock ≡ s.clock + passed c
 
 leaves-of : (c : Command) (s t : Stage) → made c ≡ 0 → passed c ≡ 0 → Stays s t → Leaves c s t
 leaves-of c s t none still p =
-    record { nodes = p.nodes; long = omega (arith, p.long, none); clock = omega (arith, p.clock, still) }
+    record { long = omega (arith, p.long, none); clock = omega (arith, p.clock, still) }
 
 leaves-made : (ring : ℕ) (s : Stage) (x : List Fact) (t : Stage) → Makes ring s x t → Leaves (Node ring) s t
 leaves-made ring s x t h = record {
-  nodes = λ m. subst (λ (v : Stage). InPlace v.nodes) (sym h.left)
-      (add-placed (λ j (z : Timed). z.lists.me ≡ j) s.nodes
-      (new_node (length s.nodes) (with_ring ring)) refl m);
   long = ap (λ (v : Stage). length v.nodes) h.left
       ∙ length-append s.nodes (new_node (length s.nodes) (with_ring ring) ∷ []);
   clock = omega (arith, ap (λ (v : Stage). v.clock) h.left);
@@ -203,7 +168,6 @@ leaves-made ring s x t h = record {
 
 leaves-ticked : (by : ℕ) (s : Stage) (x : List Fact) (t : Stage) → Ticks by s x t → Leaves (Tick by) s t
 leaves-ticked by s x t h = record {
-  nodes = λ m. subst (λ (v : Stage). InPlace v.nodes) (sym h.left) m;
   long = omega (arith, ap (λ (v : Stage). length v.nodes) h.left);
   clock = ap (λ (v : Stage). v.clock) h.left;
 }
@@ -214,17 +178,16 @@ does-leaves (Pair a b credits) s x t h =
     leaves-of (Pair a b credits) s t refl refl (stays-pairs a b credits s x t h)
 does-leaves (Connect a b credits) s x t h =
     leaves-of (Connect a b credits) s t refl refl
-    (stays-at (Connects b credits 0) a (λ v y w p. goes-number v y w p.goes) s x t h)
+    (stays-at (Connects b credits 0) a s x t h)
 does-leaves (Disconnect n session) s x t h =
     leaves-of (Disconnect n session) s t refl refl
-    (stays-at (Disconnects session) n (λ v y w p. goes-number v y w p.goes) s x t h)
+    (stays-at (Disconnects session) n s x t h)
 does-leaves (Rate n session rate) s x t h =
     leaves-of (Rate n session rate) s t refl refl
-    (stays-at (SetsRate session rate) n (λ v y w p. goes-number v y w p.goes) s x t h)
+    (stays-at (SetsRate session rate) n s x t h)
 does-leaves (Call n session y ask room) s x t h =
     leaves-of (Call n session y ask room) s t refl refl
-    (stays-at (Asks session y (ask_bytes ask) room) n (λ v z w p. goes-number v z w p.goes) s x
-    t h)
+    (stays-at (Asks session y (ask_bytes ask) room) n s x t h)
 does-leaves (Poll n) s x t h = leaves-of (Poll n) s t refl refl (stays-polled n s x t h)
 does-leaves (Arrive i) s x t h =
     leaves-of (Arrive i) s t refl refl (stays-arrives i (nat_lt i (length s.flight)) s x t h)
@@ -234,7 +197,7 @@ does-leaves (Repeat i) s x t h =
     leaves-of (Repeat i) s t refl refl (stays-net (or_missed s.flight i (Repeated i)) s x t h)
 does-leaves (Tick by) s x t h = leaves-ticked by s x t h
 does-leaves (Work n i) s x t h =
-    leaves-of (Work n i) s t refl refl (stays-at (Works s.worked i) n (λ v y w p. goes-number v y w p.goes) s x t h)
+    leaves-of (Work n i) s t refl refl (stays-at (Works s.worked i) n s x t h)
 does-leaves (Settle rounds) s x t h =
     leaves-of (Settle rounds) s t refl refl (stays-settles rounds s x t h)
 
@@ -276,34 +239,39 @@ times-flight (suc n) s x t h =
     let here = carried-flight 0 h.between h.rest t h.follows in
     omega (arith, before, here)
 
+-- as many endpoints as the stage has nodes
+pub ends-long : (s : Play) → length (stage_of s).nodes ≡ length s.ends
+ends-long s = length-map s.ends told_end
+
 -- what the world has before each command it has after it
-pub stays-numbered : (s t : Play) → Stays s.stage t.stage
-    → length t.totals + length s.stage.nodes ≡ length s.totals + length t.stage.nodes → IsNumbered s
-    → IsNumbered t
-stays-numbered s t p services m = record {
-  nodes = p.nodes m.nodes;
-  services = omega (arith, services, p.long, m.services);
-  few = omega (arith, p.long, m.few);
-}
+pub performed-long : (P : Group) → StaysBy P → (s t : Play) (f g : List Fact) → Performed P s t f g
+    → length t.ends ≡ length s.ends
+performed-long P p s t f g h =
+    sym (ends-long t) ∙ ((p (stage_of s) h.group (stage_of t) h.does).long ∙ ends-long s)
 
 pub performed-numbered : (P : Group) → StaysBy P → (s t : Play) (f g : List Fact)
     → Performed P s t f g → IsNumbered s → IsNumbered t
-performed-numbered P p s t f g h m = stays-numbered s t (p s.stage h.group t.stage h.does) h.services m
-
-pub performed-long : (P : Group) → StaysBy P → (s t : Play) (f g : List Fact) → Performed P s t f g
-    → length t.stage.nodes ≡ length s.stage.nodes
-performed-long P p s t f g h = (p s.stage h.group t.stage h.does).long
+performed-numbered P p s t f g h m = record {
+  playing = h.keeps m.playing;
+  few = let same = performed-long P p s t f g h in omega (arith, same, m.few);
+}
 
 made-few : (n : ℕ) (c : Command) → Names n c → n ≤ 8 → n + made c ≤ 8
 made-few n (Node ring) h few = omega (arith, h)
 made-few n _ h few = omega (arith, few)
 
-pub does-numbered : (c : Command) (s t : Play) (f g : List Fact) → Names (length s.stage.nodes) c
+pub does-long : (c : Command) (s t : Play) (f g : List Fact) → Performed (Does c) s t f g
+    → length t.ends ≡ length s.ends + made c
+does-long c s t f g h =
+    sym (ends-long t) ∙ ((does-leaves c (stage_of s) h.group (stage_of t) h.does).long
+    ∙ ap (λ n. n + made c) (ends-long s))
+
+pub does-numbered : (c : Command) (s t : Play) (f g : List Fact) → Names (length s.ends) c
     → Performed (Does c) s t f g → IsNumbered s → IsNumbered t
-does-numbered c s t f g names h m =
-    let p = does-leaves c s.stage h.group t.stage h.does in
-    record {
-      nodes = p.nodes m.nodes;
-      services = omega (arith, h.services, m.services);
-      few = let less = made-few (length s.stage.nodes) c names m.few in omega (arith, p.long, less);
-    }
+does-numbered c s t f g names h m = record {
+  playing = h.keeps m.playing;
+  few =
+      let less = made-few (length s.ends) c names m.few in
+      let long = does-long c s t f g h in
+      omega (arith, long, less);
+}

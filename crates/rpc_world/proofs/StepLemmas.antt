@@ -1,198 +1,191 @@
 -- A step of one node, as what a script did.
-use Rattle.std.proofs.Common.{◌≡◌, ℕ, ◌-◌, ◌<◌, ◌^◌, ◌++◌, List, length, take, drop, refl, subst, sym, ap, ◌∙◌, arith}
-use Rattle.std.specs.List.{slice_get, slice_set}
+use Rattle.std.proofs.Common.{◌≡◌, ℕ, zero, suc, ◌<◌, true, Option, Some, List, [], ◌∷◌, ◌++◌}
+use Rattle.std.proofs.Common.{◌≤◌, append_assoc, length, length-append, drop, subst, sym, ap, ◌∙◌, arith, inl, inr}
+use Rattle.std.specs.Prelude.{option_map}
+use Rattle.std.specs.List.{AllByRecursion, slice_get, slice_set}
+use Rattle.std.proofs.Math.Seq.{drop-append_seam}
+use Rattle.std.proofs.lemmas.Bool.{cases_eq}
+use Rattle.std.proofs.lemmas.Option.{slice_get-map}
+use Rattle.end_laws.proofs.ListLemmas.{all-without, length-slice_set, set-here, set-other}
+use Rattle.ring_laws.proofs.Frames.{map-set}
+use Rattle.network_model.specs.declared.stage.Stage.{Stage}
+use Rattle.rpc_base.specs.declared.event.Event.{Event}
+use Rattle.rpc_base.specs.declared.event.Event.TheVariants.{Ran, Worked}
 use Rattle.rpc_base.specs.declared.fact.Fact.{Fact}
-use Rattle.rpc_laws.specs.declared.tables.InFlight.{InFlight}
 use Rattle.rpc_laws.specs.declared.tables.Timed.{Timed}
 use Rattle.rpc_laws.specs.declared.tables.WorkedJob.{WorkedJob}
-use Rattle.end_laws.proofs.ListLemmas.{length-slice_set}
-use Rattle.node_tables.specs.Noted.{Noted}
-use Rattle.rpc_laws.specs.Deliveries.{Delivers, delivery_facts, inbox_room}
-use Rattle.rpc_laws.specs.Front.{is_control, is_message}
 use Rattle.rpc_laws.specs.InFlight.{flight_after_all}
 use Rattle.rpc_laws.specs.Steps.{Rel}
-use Rattle.rpc_laws.specs.PollOrder.{PollBy, SendsAll}
-use Rattle.rpc_laws.specs.Working.{FinishesWorked, WorksAll, worked_after_all}
-use Rattle.rpc_outside.specs.PlainAnswer.{plain_mode}
-use Rattle.sim_node.specs.Answering.{Serves, ServesQuietly}
-use Rattle.sim_script.specs.FollowsScript.{AtNode, PollsNode, WorksNode}
-use Rattle.std.specs.Prelude.{Some, nat_lt}
-use Rattle.rpc_world.specs.Answered.{Plainly, Play}
-use Rattle.rpc_world.specs.Performed.{IsNode, Performed}
-use Rattle.rpc_world.proofs.PlainLemmas.{AllOf, of-poll, of-works, plainly-quiet, plainly-served, quiet-delivery}
-use Rattle.rpc_world.proofs.StageLemmas.{back-part}
+use Rattle.rpc_laws.specs.Working.{is_worked, worked_after, worked_after_all, worked_after_node}
+use Rattle.rpc_outside.specs.Recording.{Grew}
+use Rattle.rpc_outside.specs.declared.recorder.MemRecorder.{MemRecorder}
+use Rattle.sim_script.specs.FollowsScript.{AtNode}
+use Rattle.world_laws.proofs.FactLemmas.{set-same}
+use Rattle.work_laws.proofs.StayLaws.{node-at, others-knows}
+use Rattle.rpc_world.specs.Answered.{End, Plainly, Play, Quiet, Whole, stage_of, told_end, totals_of}
+use Rattle.rpc_world.specs.Before.{AllPlay, IsPlaying}
+use Rattle.rpc_world.specs.Performed.{Performed}
+use Rattle.rpc_world.proofs.PlainLemmas.{AllOf, plainly-quiet}
 
--- the facts since the step began are those that the node noted
-pub stepped : (P : Rel) (n : ℕ) (s : Play) (totals : List ℕ) (before now : Timed)
-    (noted f g : List Fact) (from : ℕ) (flight : List InFlight) (worked : List WorkedJob)
-    → slice_get s.stage.nodes n ≡ Some before → P before noted now → g ≡ f ++ noted
-    → Plainly noted s.totals totals → length totals ≡ length s.totals → from ≡ length f
-    → flight ≡ flight_after_all s.stage.flight (take (length g - from) (drop from g))
-    → worked ≡ worked_after_all s.stage.worked (take (length g - from) (drop from g))
-    → Performed (AtNode P n) s (record {
-      stage =
-          record {
-            nodes = slice_set s.stage.nodes n now;
-            flight = flight;
-            worked = worked;
-            clock = s.stage.clock;
-          };
-      totals = totals;
-    }) f g
-stepped P n s totals before now noted f g from flight worked at step grew plain long is_from is_flight is_worked =
-    let back : take (length g - from) (drop from g) ≡ noted = rw is_from (back-part f noted g grew) in
+-- what a recorder kept that is whole
+pub grew-facts : (old new : MemRecorder) (x : List Fact)
+    → Grew (λ (r : MemRecorder). Some r.facts.items) (λ (r : MemRecorder). r.whole) old new x
+    → new.whole ≡ true → new.facts.items ≡ old.facts.items ++ x
+grew-facts old new x g w = cc (g.told w)
+
+-- what stood there before is there still
+pub grew-since : (old new : MemRecorder) (x : List Fact) (from : ℕ)
+    → Grew (λ (r : MemRecorder). Some r.facts.items) (λ (r : MemRecorder). r.whole) old new x
+    → from ≡ length old.facts.items → new.whole ≡ true → from ≤ length new.facts.items
+grew-since old new x from g is w =
+    omega (arith, is, ap length (grew-facts old new x g w), length-append old.facts.items x)
+
+-- a recorder that grew twice
+pub grew-both : (r q u : MemRecorder) (x y : List Fact)
+    → Grew (λ (r : MemRecorder). Some r.facts.items) (λ (r : MemRecorder). r.whole) r q x
+    → Grew (λ (r : MemRecorder). Some r.facts.items) (λ (r : MemRecorder). r.whole) q u y
+    → Grew (λ (r : MemRecorder). Some r.facts.items) (λ (r : MemRecorder). r.whole) r u (x ++ y)
+grew-both r q u x y g h = record {
+  since = λ w. g.since (h.since w);
+  told = λ w. h.told w ∙ ap (λ (fs : List Fact). Some (fs ++ y)) (grew-facts r q x g (h.since w))
+      ∙ ap Some (append_assoc r.facts.items x y);
+}
+
+-- the facts since a step began
+pub since : (f x g : List Fact) (from : ℕ) → g ≡ f ++ x → from ≡ length f → drop from g ≡ x
+since f x g from e is = rw (is, e) (drop-append_seam f x)
+
+-- each worked job is of a node that is there
+abbrev pub AreTheirs : ℕ → List WorkedJob → Type 0
+AreTheirs n worked = AllByRecursion (λ w. w.node < n) worked
+
+theirs-more : (n : ℕ) (worked : List WorkedJob) (w : WorkedJob) → w.node < n → AreTheirs n worked
+    → AreTheirs n (worked ++ w ∷ [])
+theirs-more n [] w h all = (h, tt)
+theirs-more n (v ∷ worked) w h all = (all.0, theirs-more n worked w h all.1)
+
+theirs-event : (n m : ℕ) (e : Event) (worked : List WorkedJob) → m < n → AreTheirs n worked
+    → AreTheirs n (worked_after_node m e worked)
+theirs-event n m (Worked t r) worked less all =
+    theirs-more n worked (record { node = m; session = t; request = r }) less all
+theirs-event n m (Ran t r y) worked less all =
+    all-without (λ (w : WorkedJob). w.node < n) (is_worked m t r) worked all
+theirs-event n m _ worked less all = all
+
+pub theirs-all : (n m : ℕ) (x : List Fact) (worked : List WorkedJob) → m < n → AllOf m x
+    → AreTheirs n worked → AreTheirs n (worked_after_all worked x)
+theirs-all n m [] worked less own all = all
+theirs-all n m (f ∷ x) worked less own all =
+    theirs-all n m x (worked_after worked f) less own.1
+    (rw own.0 (theirs-event n m f.event worked less all))
+
+-- a step of node n, whose endpoint plays on
+pub record NodeStep (P : Rel) (n : ℕ) (worked : List WorkedJob) (e new : End) (x : List Fact) : Type 0 where
+  pub step : P (told_end e) x (told_end new)
+  pub own : AllOf n x
+  pub plain : (a : List ℕ) → slice_get a n ≡ Some e.service → Plainly x a (slice_set a n new.service)
+  pub plays : IsPlaying (worked_after_all worked x) n new
+
+-- nothing runs in its event loop, and nothing is wanting
+pub quiet-plain : (n : ℕ) (e new : End) (x : List Fact) → new.service ≡ e.service → AllOf n x → Quiet x
+    → Whole x → (a : List ℕ) → slice_get a n ≡ Some e.service → Plainly x a (slice_set a n new.service)
+quiet-plain n e new x same own quiet whole a at =
+    let still : a ≡ slice_set a n new.service =
+    set-same a n e.service at ∙ ap (slice_set a n) (sym same) in
+    subst (λ (b : List ℕ). Plainly x a b) still (plainly-quiet n x a own quiet whole)
+
+pub place-in : {A : Type 0} (xs : List A) (i : ℕ) (x : A) → slice_get xs i ≡ Some x → i < length xs
+place-in [] i x h = cc
+place-in (y ∷ ys) zero x h = omega arith
+place-in (y ∷ ys) (suc i) x h = let less = place-in ys i x h in omega (arith, less)
+
+some-one : {A : Type 0} (x y : A) (o : Option A) → o ≡ Some x → o ≡ Some y → x ≡ y
+some-one x y o p q = cc
+
+-- the world with another endpoint in place n, once these facts happened there
+abbrev pub stepped_play : Play → ℕ → End → List Fact → Play
+stepped_play s n new x = record {
+  ends = slice_set s.ends n new;
+  flight = flight_after_all s.flight x;
+  worked = worked_after_all s.worked x;
+  clock = s.clock;
+}
+
+module _ (n : ℕ) (s : Play) (e new : End) (x : List Fact) (at : slice_get s.ends n ≡ Some e)
+    (own : AllOf n x) (plays : IsPlaying s.worked n e → IsPlaying (worked_after_all s.worked x) n new) where
+  each-plays : AllPlay s → (m : ℕ) (y : End) → slice_get (slice_set s.ends n new) m ≡ Some y
+      → IsPlaying (worked_after_all s.worked x) m y
+  each-plays all m y here = elim (cases_eq m n) [
+    | inl same ↦
+        let found : slice_get (slice_set s.ends n new) n ≡ Some y =
+        subst (λ k. slice_get (slice_set s.ends n new) k ≡ Some y) same here in
+        let is : new ≡ y = some-one new y (slice_get (slice_set s.ends n new) n) (set-here s.ends n e new at) found in
+        subst (λ k. IsPlaying (worked_after_all s.worked x) k y) (sym same)
+        (subst (λ (z : End). IsPlaying (worked_after_all s.worked x) n z) is (plays (all.each n e at)))
+    | inr apart ↦
+        let p = all.each m y (sym (set-other s.ends n m new apart) ∙ here) in
+        record {
+          me = p.me;
+          staffed = p.staffed;
+          knows = others-knows n x s.worked (told_end y) y.workers (node-at n x own)
+              (λ q. apart (sym (q ∙ p.me))) p.knows;
+        }
+  ]
+
+  pub steps-play : AllPlay s → AllPlay (stepped_play s n new x)
+  steps-play all = record {
+    each = each-plays all;
+    theirs = subst (λ k. AreTheirs k (worked_after_all s.worked x)) (sym (length-slice_set s.ends n new))
+        (theirs-all (length s.ends) n x s.worked (place-in s.ends n e at) own all.theirs);
+  }
+
+pub at-node : (P : Rel) (n : ℕ) (s : Play) (e new : End) (x f g : List Fact) → AllPlay s
+    → slice_get s.ends n ≡ Some e → (IsPlaying s.worked n e → NodeStep P n s.worked e new x)
+    → g ≡ f ++ x → Performed (AtNode P n) s (stepped_play s n new x) f g
+at-node P n s e new x f g all at step grew =
+    let done = step (all.each n e at) in
     record {
-      group = noted;
+      group = x;
       grew = grew;
       does = record {
-        before = before;
-        now = now;
-        is_node = at;
-        step = step;
-        left = rw (is_flight, is_worked, back) refl;
+        before = told_end e;
+        now = told_end new;
+        is_node = slice_get-map told_end s.ends n ∙ ap (λ o. option_map told_end o) at;
+        step = done.step;
+        left = ap (λ (ns : List Timed). record {
+          nodes = ns;
+          flight = flight_after_all s.flight x;
+          worked = worked_after_all s.worked x;
+          clock = s.clock;
+        }) (map-set told_end s.ends n new);
       };
-      plain = plain;
-      services = let same = length-slice_set s.stage.nodes n now in omega (arith, long, same);
+      plain = subst (λ (b : List ℕ). Plainly x (totals_of s) b)
+          (sym (map-set (λ (y : End). y.service) s.ends n new))
+          (done.plain (totals_of s) (slice_get-map (λ (y : End). y.service) s.ends n
+          ∙ ap (λ o. option_map (λ (y : End). y.service) o) at));
+      keeps = λ a. steps-play n s e new x at done.own (λ p. (step p).plays) a;
     }
 
--- what stands in place n has this number
-abbrev pub Knows : Play → ℕ → Type 0
-Knows s n = (x : Timed) → slice_get s.stage.nodes n ≡ Some x → x.lists.me ≡ n
+-- so it is where the world was taken apart and put together again
+pub stepped : (P : Rel) (n : ℕ) (s z : Play) (e new : End) (x f g : List Fact) (from : ℕ) (t : Play)
+    → z ≡ s → AllPlay s → slice_get z.ends n ≡ Some e
+    → (IsPlaying s.worked n e → NodeStep P n s.worked e new x) → g ≡ f ++ x → from ≡ length f
+    → t ≡ stepped_play z n new (drop from g) → Performed (AtNode P n) s t f g
+stepped P n s z e new x f g from t view all at step grew is_from is =
+    let back = since f x g from grew is_from in
+    let same : stepped_play s n new x ≡ t =
+    ap (λ (y : Play). stepped_play y n new x) (sym view) ∙ (ap (stepped_play z n new) (sym back) ∙ sym is) in
+    subst (λ (u : Play). Performed (AtNode P n) s u f g) same
+    (at-node P n s e new x f g all (ap (λ (y : Play). slice_get y.ends n) (sym view) ∙ at) step grew)
 
--- the node is the one that is there
-pub is-own : (s : Play) (n : ℕ) → IsNode s.stage n → Knows s n
-is-own s n here x at = ap (λ (y : Timed). y.lists.me) (same here.1 at) ∙ here.2
-  where
-    same : slice_get s.stage.nodes n ≡ Some here.0 → slice_get s.stage.nodes n ≡ Some x → x ≡ here.0
-    same p q = cc
-
--- of a step that runs nothing in the event loop
-pub quiet-step : (P : Rel) (s z : Play) (n : ℕ) (before now : Timed) (f g : List Fact) (from : ℕ)
-    (flight : List InFlight) (worked : List WorkedJob) → s ≡ z → Knows z n
-    → slice_get s.stage.nodes n ≡ Some before
-    → ((x : List Fact) → before.lists.me ≡ n → P before x now → AllOf n x)
-    → ServesQuietly P before now f g → from ≡ length f
-    → flight ≡ flight_after_all s.stage.flight (take (length g - from) (drop from g))
-    → worked ≡ worked_after_all s.stage.worked (take (length g - from) (drop from g))
-    → Performed (AtNode P n) z (record {
-      stage =
-          record {
-            nodes = slice_set s.stage.nodes n now;
-            flight = flight;
-            worked = worked;
-            clock = s.stage.clock;
-          };
-      totals = s.totals;
-    }) f g
-quiet-step P s z n before now f g from flight worked view here at own p is_from is_flight is_worked =
-    let me = subst (λ (y : Play). Knows y n) (sym view) here before at in
-    let plain = plainly-quiet n p.noted s.totals (own p.noted me p.step) p.plain in
-    subst (λ (y : Play). Performed (AtNode P n) y
-    (record {
-      stage = record {
-        nodes = slice_set s.stage.nodes n now;
-        flight = flight;
-        worked = worked;
-        clock = s.stage.clock;
-      };
-      totals = s.totals;
-    }) f g) view
-    (stepped P n s s.totals before now p.noted f g from flight worked at p.step p.grew plain
-    refl is_from is_flight is_worked)
-
--- of a poll
-pub polls-step : (s z : Play) (n t next : ℕ) (before now : Timed) (f g : List Fact) (from : ℕ)
-    (flight : List InFlight) (worked : List WorkedJob) → s ≡ z → Knows z n
-    → slice_get s.stage.nodes n ≡ Some before → slice_get s.totals n ≡ Some t → t < 2 ^ 64
-    → Serves (PollBy (FinishesWorked s.stage.worked) SendsAll plain_mode s.stage.clock) t next
-    before now f g → from ≡ length f
-    → flight ≡ flight_after_all s.stage.flight (take (length g - from) (drop from g))
-    → worked ≡ worked_after_all s.stage.worked (take (length g - from) (drop from g))
-    → Performed (PollsNode n) z (record {
-      stage =
-          record {
-            nodes = slice_set s.stage.nodes n now;
-            flight = flight;
-            worked = worked;
-            clock = s.stage.clock;
-          };
-      totals = slice_set s.totals n next;
-    }) f g
-polls-step s z n t next before now f g from flight worked view here at of_service below p is_from
-    is_flight is_worked =
-    let me = subst (λ (y : Play). Knows y n) (sym view) here before at in
-    let plain = plainly-served n t next p.noted s.totals below of_service
-    (of-poll n before p.noted now me s.stage.worked s.stage.clock p.step) p.plain in
-    let made = stepped (PollBy (FinishesWorked s.stage.worked) SendsAll plain_mode s.stage.clock) n
-    s (slice_set s.totals n next) before now p.noted f g from flight worked at p.step p.grew
-    plain (length-slice_set s.totals n next) is_from is_flight is_worked in
-    subst (λ (y : Play). Performed (PollsNode n) y
-    (record {
-      stage = record {
-        nodes = slice_set s.stage.nodes n now;
-        flight = flight;
-        worked = worked;
-        clock = s.stage.clock;
-      };
-      totals = slice_set s.totals n next;
-    }) f g) view
-    (record {
-      group = made.group;
-      grew = made.grew;
-      does = made.does;
-      plain = made.plain;
-      services = made.services;
-    })
-
--- of the working of all jobs
-pub works-step : (s z : Play) (n : ℕ) (before now : Timed) (f g : List Fact) (from : ℕ)
-    (flight : List InFlight) (worked : List WorkedJob) → s ≡ z → Knows z n
-    → slice_get s.stage.nodes n ≡ Some before
-    → ServesQuietly (WorksAll s.stage.worked) before now f g → from ≡ length f
-    → flight ≡ flight_after_all s.stage.flight (take (length g - from) (drop from g))
-    → worked ≡ worked_after_all s.stage.worked (take (length g - from) (drop from g))
-    → Performed (WorksNode n) z (record {
-      stage =
-          record {
-            nodes = slice_set s.stage.nodes n now;
-            flight = flight;
-            worked = worked;
-            clock = s.stage.clock;
-          };
-      totals = s.totals;
-    }) f g
-works-step s z n before now f g from flight worked view here at p is_from is_flight is_worked =
-    let made = quiet-step (WorksAll s.stage.worked) s s n before now f g from flight worked refl
-    (subst (λ (y : Play). Knows y n) (sym view) here)
-    at (λ x me w. of-works n before x now me s.stage.worked w) p is_from is_flight
-    is_worked in
-    subst (λ (y : Play). Performed (WorksNode n) y
-    (record {
-      stage = record {
-        nodes = slice_set s.stage.nodes n now;
-        flight = flight;
-        worked = worked;
-        clock = s.stage.clock;
-      };
-      totals = s.totals;
-    }) f g) view
-    (record {
-      group = made.group;
-      grew = made.grew;
-      does = made.does;
-      plain = made.plain;
-      services = made.services;
-    })
-
--- a delivery runs nothing
-pub delivers-quietly : (peer : ℕ) (bytes : List ℕ) (s t : Timed) (f g : List Fact)
-    → Noted (delivery_facts s.lists peer bytes) s t f g
-    → ServesQuietly (Delivers peer bytes) s t f g
-delivers-quietly peer bytes s t f g n = record {
-  noted = delivery_facts s.lists peer bytes;
-  grew = n.grew;
-  step = record { facts = refl; goes = n.goes };
-  plain = quiet-delivery s.lists.me peer bytes (is_message bytes)
-      (nat_lt (length s.lists.ring) s.lists.room) (is_control bytes)
-      (nat_lt (length s.lists.inbox) inbox_room);
+-- the same group, as another relation has it
+pub performed-as : (P Q : Stage → List Fact → Stage → Type 0) (s t : Play) (f g : List Fact)
+    → ((x : List Fact) → P (stage_of s) x (stage_of t) → Q (stage_of s) x (stage_of t))
+    → Performed P s t f g → Performed Q s t f g
+performed-as P Q s t f g h p = record {
+  group = p.group;
+  grew = p.grew;
+  does = h p.group p.does;
+  plain = p.plain;
+  keeps = p.keeps;
 }

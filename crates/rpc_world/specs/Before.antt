@@ -1,22 +1,43 @@
 -- What the world has before each command of a script, and what that command may name.
 use Rattle.std.specs.Prelude.{ℕ, ◌≡◌, ◌<◌, ◌≤◌, List, Some, length, slice_get}
-use Rattle.rpc_laws.specs.declared.tables.Timed.{Timed}
-use Rattle.rpc_world.specs.Answered.{Play}
+use Rattle.std.specs.List.{AllByRecursion}
+use Rattle.endpoint_loop.specs.Finishing.{Staff}
+use Rattle.endpoint_loop.specs.Running.{IsStaffed}
+use Rattle.rpc_laws.specs.declared.tables.WorkedJob.{WorkedJob}
+use Rattle.rpc_outside.specs.PlainAnswer.{background_answer}
+use Rattle.rpc_world.specs.Answered.{End, Play, told_end}
 use Rattle.script_grammar.specs.declared.line.Command.{Command}
 use Rattle.script_grammar.specs.declared.line.Command.TheVariants.{Node}
 use Rattle.script_grammar.specs.declared.before.TheConstants.{MOST_NODES}
 use Rattle.script_grammar.specs.Conditions.{IsAmong}
+use Rattle.work_laws.specs.Known.{KnowsWork}
+use Rattle.worker_crew.specs.Local.{Local, out_of}
 
--- each node stands in the place of its number
-abbrev pub InPlace : List Timed → Type 0
-InPlace nodes = (n : ℕ) (x : Timed) → slice_get nodes n ≡ Some x → x.lists.me ≡ n
+-- what the workers of an endpoint are
+abbrev pub staff_of : Local → Staff
+staff_of w = record {
+  limit = w.limit;
+  given = w.given;
+  out = out_of w;
+  waiting = Some w.waiting;
+}
 
--- each node stands in the place of its number and has a service of its own, and there are at most
--- eight
+-- the endpoint in place n has this number, and its workers have exactly its jobs: those that wait
+-- and those that were worked are the ones that the world says
+pub record IsPlaying (worked : List WorkedJob) (n : ℕ) (e : End) : Type 0 where
+  pub me : e.timed.lists.me ≡ n
+  pub staffed : IsStaffed background_answer (staff_of e.workers) e.timed
+  pub knows : KnowsWork worked (told_end e) e.workers
+
+-- so it is of each endpoint, and each job that was worked is one of theirs
+pub record AllPlay (s : Play) : Type 0 where
+  pub each : (n : ℕ) (e : End) → slice_get s.ends n ≡ Some e → IsPlaying s.worked n e
+  pub theirs : AllByRecursion (λ w. w.node < length s.ends) s.worked
+
+-- and there are at most eight
 pub record IsNumbered (s : Play) : Type 0 where
-  pub nodes : InPlace s.stage.nodes
-  pub services : length s.totals ≡ length s.stage.nodes
-  pub few : length s.stage.nodes ≤ MOST_NODES
+  pub playing : AllPlay s
+  pub few : length s.ends ≤ MOST_NODES
 
 -- a `node` command while fewer than eight nodes are there, else a command among those that are
 abbrev pub Names : ℕ → Command → Type 0

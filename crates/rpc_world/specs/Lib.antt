@@ -2,3 +2,4 @@ pub mod Answered
 pub mod Before
 pub mod Performed
 pub mod Served
+pub mod Worked

@@ -1,15 +1,20 @@
 //! `call`: a node is asked a call.
-ghost use Rattle.std.specs.Prelude.{◌≡◌, ◌<◌, ◌≤◌, ◌%◌, length, map, IfOk, OnOk};
+ghost use Rattle.std.specs.Prelude.{◌≡◌, ◌≢◌, ◌<◌, ◌≤◌, ◌%◌, false, length, map, IfErr, IfOk, OnOk};
 ghost use Rattle.std.specs.List.{range_with_len};
+ghost use Rattle.message_buffer.specs.Buffer.{bytes_of};
 ghost use Rattle.rpc_laws.specs.Groups.{Asks};
+ghost use Rattle.script_grammar.specs.Conditions.{IsAskInRange};
 ghost use Rattle.sim_script.specs.FollowsScript.{AtNode, ask_bytes};
 ghost use Rattle.rpc_world.specs.Performed.{Performed};
 ghost use Rattle.rpc_world.specs.Before.{IsNumbered};
 
-use crate::finished::keep;
-use crate::network::launch;
+use crate::landing::land;
 use crate::running::Running;
-use rpc_base::{Fact, Listed, MOST_MESSAGE_BYTES, NoMemory, NodeId, Octets, SessionNo};
+use endpoint_loop::{AskError, Refused};
+use message_buffer::{MOST_CAPACITY, MsgBuf};
+use rpc_base::{CallNo, MOST_MESSAGE_BYTES, NoMemory, NodeId, Octets, SessionNo};
+use rpc_outside::MemRecorder;
+use script_grammar::MOST_ASK_BYTES;
 use sim_script::AskBytes;
 use std::alloc::{AllocError, Global};
 
@@ -26,7 +31,7 @@ fn counted(alloc: Global, n: u32) -> Result<Octets, NoMemory>
     Ok(Octets::from(bytes))
 }
 
-fn bytes_of(alloc: Global, ask: &AskBytes) -> Result<Octets, NoMemory>
+fn bytes_to_ask(alloc: Global, ask: &AskBytes) -> Result<Octets, NoMemory>
     ensures { IfOk result (λ o. o ≡ ask_bytes ask.now) }
 {
     match ask {
@@ -35,29 +40,55 @@ fn bytes_of(alloc: Global, ask: &AskBytes) -> Result<Octets, NoMemory>
     }
 }
 
+// A buffer with these bytes.
+fn buffer_of(alloc: Global, bytes: &[u8]) -> Result<MsgBuf, NoMemory>
+    requires { length bytes.now ≤ MOST_CAPACITY }
+    ensures bytes { IfOk result (λ b. bytes_of b ≡ bytes.now) }
+{
+    let len = bytes.len() as u32;
+    let mut buf = MsgBuf::new(alloc, len)?;
+    buf.set_len(len);
+    buf.write(0, bytes);
+    Ok(buf)
+}
+
+// Whether a call was refused for want of memory.
+fn wants_memory(asked: &Result<CallNo, Refused>) -> bool
+    ensures { IfErr asked.now (λ r. result ≡ false → r.why ≢ AskError.NoMemory) }
+{
+    match asked {
+        Ok(_) => false,
+        Err(refused) => refused.why == AskError::NoMemory,
+    }
+}
+
 fn ask_on(
     alloc: Global,
     stage: &mut Running,
-    facts: &mut Listed<Fact>,
+    rec: &mut MemRecorder,
     node: NodeId,
     session: SessionNo,
     req_type: u8,
     ask: &[u8],
     room: u32,
 ) -> Result<(), NoMemory>
-    requires node { node < length stage.old.stage.nodes }
+    requires node { node < length stage.old.ends }
+    requires ask { length ask.now ≤ MOST_ASK_BYTES }
     requires room { room ≤ MOST_MESSAGE_BYTES }
     requires numbered { IsNumbered stage.old }
     ensures { OnOk result
         (Performed (AtNode (Asks session req_type ask.now room) node)
-        stage.old stage.new facts.old facts.new) }
+        stage.old stage.new rec.old.facts.items rec.new.facts.items) }
 {
-    let place = usize::from(node.0);
-    let before = facts.len();
-    let asked = stage.nodes.at_mut(place);
-    asked.ask(alloc, facts, session, req_type, ask, room)?;
-    launch(&mut stage.flight, &facts.as_slice()[before..])?;
-    keep(&mut stage.worked, &facts.as_slice()[before..])?;
+    let req = buffer_of(alloc, ask)?;
+    let resp = MsgBuf::new(alloc, room)?;
+    let before = rec.facts().len();
+    let asking = stage.nodes.at_mut(usize::from(node.0));
+    let asked = asking.ask(session, req_type, req, resp, 0, rec);
+    if wants_memory(&asked) {
+        return Err(NoMemory);
+    }
+    land(stage, rec, before)?;
     Ok(())
 }
 
@@ -65,25 +96,26 @@ fn ask_on(
 pub fn call_on(
     alloc: Global,
     stage: &mut Running,
-    facts: &mut Listed<Fact>,
+    rec: &mut MemRecorder,
     node: NodeId,
     session: SessionNo,
     req_type: u8,
     ask: &AskBytes,
     room: u32,
 ) -> Result<(), NoMemory>
-    requires node { node < length stage.old.stage.nodes }
+    requires node { node < length stage.old.ends }
+    requires ask { IsAskInRange ask.now }
     requires room { room ≤ MOST_MESSAGE_BYTES }
     requires numbered { IsNumbered stage.old }
     ensures { OnOk result
         (Performed (AtNode (Asks session req_type (ask_bytes ask.now) room) node)
-        stage.old stage.new facts.old facts.new) }
+        stage.old stage.new rec.old.facts.items rec.new.facts.items) }
 {
-    let bytes = bytes_of(alloc, ask)?;
+    let bytes = bytes_to_ask(alloc, ask)?;
     ask_on(
         alloc,
         stage,
-        facts,
+        rec,
         node,
         session,
         req_type,

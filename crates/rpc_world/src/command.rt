@@ -13,57 +13,45 @@ use crate::network::{note_of_net, perform_net};
 use crate::pairing::pair;
 use crate::running::Running;
 use crate::settling::settle;
-use crate::stepping::{arrive, poll_node, work_job};
-use rpc_base::{Event, Fact, Listed, NoMemory};
+use crate::stepping::{arrive, poll_node};
+use crate::working::work_job;
+use rpc_base::{Event, NoMemory};
+use rpc_outside::MemRecorder;
 use script_grammar::MOST_TICK;
 use sim_script::Command;
 use std::alloc::Global;
 
-fn lose(
-    alloc: Global,
-    stage: &mut Running,
-    facts: &mut Listed<Fact>,
-    copy: u32,
-) -> Result<(), NoMemory>
+fn lose(stage: &mut Running, rec: &mut MemRecorder, copy: u32) -> Result<(), NoMemory>
     ensures { OnOk result
-        (Performed (OfNet (or_missed stage.old.stage.flight copy (Event.Lost copy)))
-        stage.old stage.new facts.old facts.new) }
+        (Performed (OfNet (or_missed stage.old.flight copy (Event.Lost copy)))
+        stage.old stage.new rec.old.facts.items rec.new.facts.items) }
 {
     if (copy as usize) < stage.flight.len() {
-        perform_net(alloc, stage, facts, &Event::Lost { copy })
+        perform_net(stage, rec, &Event::Lost { copy })
     } else {
-        perform_net(alloc, stage, facts, &Event::Missed { number: copy })
+        perform_net(stage, rec, &Event::Missed { number: copy })
     }
 }
 
-fn repeat(
-    alloc: Global,
-    stage: &mut Running,
-    facts: &mut Listed<Fact>,
-    copy: u32,
-) -> Result<(), NoMemory>
+fn repeat(stage: &mut Running, rec: &mut MemRecorder, copy: u32) -> Result<(), NoMemory>
     ensures { OnOk result
-        (Performed (OfNet (or_missed stage.old.stage.flight copy (Event.Repeated copy)))
-        stage.old stage.new facts.old facts.new) }
+        (Performed (OfNet (or_missed stage.old.flight copy (Event.Repeated copy)))
+        stage.old stage.new rec.old.facts.items rec.new.facts.items) }
 {
     if (copy as usize) < stage.flight.len() {
-        perform_net(alloc, stage, facts, &Event::Repeated { copy })
+        perform_net(stage, rec, &Event::Repeated { copy })
     } else {
-        perform_net(alloc, stage, facts, &Event::Missed { number: copy })
+        perform_net(stage, rec, &Event::Missed { number: copy })
     }
 }
 
-fn tick(
-    alloc: Global,
-    stage: &mut Running,
-    facts: &mut Listed<Fact>,
-    by: u32,
-) -> Result<(), NoMemory>
-    requires clock { stage.old.stage.clock + by < 2 ^ 64 }
-    ensures { OnOk result (Performed (Ticks by) stage.old stage.new facts.old facts.new) }
+fn tick(stage: &mut Running, rec: &mut MemRecorder, by: u32) -> Result<(), NoMemory>
+    requires clock { stage.old.clock + by < 2 ^ 64 }
+    ensures { OnOk result
+        (Performed (Ticks by) stage.old stage.new rec.old.facts.items rec.new.facts.items) }
 {
     stage.clock += u64::from(by);
-    note_of_net(alloc, facts, &Event::Ticked { by })?;
+    note_of_net(rec, &Event::Ticked { by })?;
     Ok(())
 }
 
@@ -71,33 +59,34 @@ fn tick(
 pub fn execute(
     alloc: Global,
     stage: &mut Running,
-    facts: &mut Listed<Fact>,
+    rec: &mut MemRecorder,
     command: &Command,
 ) -> Result<(), NoMemory>
     requires served { is_served command.now ≡ true }
     requires ranges { IsInRange command.now }
-    requires names { Names (length stage.old.stage.nodes) command.now }
+    requires names { Names (length stage.old.ends) command.now }
     requires numbered { IsNumbered stage.old }
-    requires clock { stage.old.stage.clock + MOST_TICK < 2 ^ 64 }
-    ensures { OnOk result (Performed (Does command.now) stage.old stage.new facts.old facts.new) }
+    requires clock { stage.old.clock + MOST_TICK < 2 ^ 64 }
+    ensures { OnOk result
+        (Performed (Does command.now) stage.old stage.new rec.old.facts.items rec.new.facts.items) }
 {
     match command {
-        Command::Node { ring } => make_node(alloc, stage, facts, *ring),
-        Command::Pair { a, b, credits } => pair(alloc, stage, facts, *a, *b, *credits),
+        Command::Node { ring } => make_node(alloc, stage, rec, *ring),
+        Command::Pair { a, b, credits } => pair(stage, rec, *a, *b, *credits),
         Command::Call {
             node,
             session,
             req_type,
             ask,
             room,
-        } => { call_on(alloc, stage, facts, *node, *session, *req_type, ask, *room) }
-        Command::Poll { node } => poll_node(alloc, stage, facts, *node),
-        Command::Arrive { copy } => arrive(alloc, stage, facts, *copy),
-        Command::Lose { copy } => lose(alloc, stage, facts, *copy),
-        Command::Repeat { copy } => repeat(alloc, stage, facts, *copy),
-        Command::Tick { by } => tick(alloc, stage, facts, *by),
-        Command::Work { node, job } => work_job(alloc, stage, facts, *node, *job),
-        Command::Settle { rounds } => settle(alloc, stage, facts, *rounds),
+        } => { call_on(alloc, stage, rec, *node, *session, *req_type, ask, *room) }
+        Command::Poll { node } => poll_node(alloc, stage, rec, *node),
+        Command::Arrive { copy } => arrive(stage, rec, *copy),
+        Command::Lose { copy } => lose(stage, rec, *copy),
+        Command::Repeat { copy } => repeat(stage, rec, *copy),
+        Command::Tick { by } => tick(stage, rec, *by),
+        Command::Work { node, job } => work_job(stage, rec, *node, *job),
+        Command::Settle { rounds } => settle(alloc, stage, rec, *rounds),
         Command::Connect { .. } => unreachable!(),
         Command::Disconnect { .. } => unreachable!(),
         Command::Rate { .. } => unreachable!(),

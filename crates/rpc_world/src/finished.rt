@@ -1,7 +1,8 @@
 //! The jobs that were worked and aren't finished.
 ghost use Rattle.std.specs.Prelude.{◌≡◌, OnOk};
 ghost use Rattle.rpc_base.specs.Tables.{without_first};
-ghost use Rattle.rpc_laws.specs.Working.{is_worked, worked_after, worked_after_all, worked_after_node};
+ghost use Rattle.rpc_laws.specs.Working.{is_worked, worked_after, worked_after_all};
+ghost use Rattle.rpc_laws.specs.Working.{worked_after_node};
 ghost use Rattle.std.specs.List.{position};
 
 use rpc_base::{Event, Fact, Listed, NoMemory, NodeId, RequestNo, SessionNo, Who};

@@ -3,7 +3,9 @@
 
 mod calling;
 mod command;
+mod dropping;
 mod finished;
+mod landing;
 mod making;
 mod network;
 mod pairing;
@@ -11,6 +13,7 @@ mod running;
 mod serving;
 mod settling;
 mod stepping;
+mod working;
 mod world;
 
 pub use world::World;

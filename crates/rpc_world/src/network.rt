@@ -1,29 +1,23 @@
 //! The copies in flight, and the facts of the network.
 ghost use Rattle.std.specs.Prelude.{◌≡◌, ◌++◌, ◌∷◌, [], false, OnOk};
 ghost use Rattle.rpc_laws.specs.Facts.{of_net};
-ghost use Rattle.rpc_laws.specs.InFlight.{flight_after, flight_after_all, flight_after_net, flight_after_node};
-ghost use Rattle.sim_script.specs.FollowsScript.{OfNet};
+ghost use Rattle.rpc_laws.specs.InFlight.{flight_after, flight_after_all, flight_after_net};
+ghost use Rattle.rpc_laws.specs.InFlight.{flight_after_node};
+ghost use Rattle.sim_script.specs.FollowsScript.{OfNet, is_wanting};
 ghost use Rattle.rpc_world.specs.Performed.{Performed};
-ghost use Rattle.sim_node.specs.Answering.{is_wanting};
 
+use crate::landing::check_whole;
 use crate::running::Running;
 use network_model::Net;
-use rpc_base::{Event, Fact, Listed, NoMemory, NodeId, Octets, Who};
-use std::alloc::Global;
+use rpc_base::{Event, Fact, NoMemory, NodeId, Who};
+use rpc_outside::{MemRecorder, Recorder};
 
 /// Notes a fact of the network.
-pub fn note_of_net(alloc: Global, facts: &mut Listed<Fact>, event: &Event) -> Result<(), NoMemory>
-    ensures { OnOk result (facts.new ≡ facts.old ++ of_net event.now ∷ []) }
+pub fn note_of_net(rec: &mut MemRecorder, event: &Event) -> Result<(), NoMemory>
+    ensures { OnOk result (rec.new.facts.items ≡ rec.old.facts.items ++ of_net event.now ∷ []) }
 {
-    let first = Octets::from(Vec::new(alloc));
-    let second = Octets::from(Vec::new(alloc));
-    facts.push(Fact {
-        who: Who::Net,
-        event: *event,
-        first,
-        second,
-    })?;
-    Ok(())
+    rec.note(Who::Net, *event, &[], &[]);
+    check_whole(rec)
 }
 
 fn send_of(flight: &mut Net, from: NodeId, fact: &Fact) -> Result<(), NoMemory>
@@ -84,15 +78,15 @@ pub fn launch(flight: &mut Net, facts: &[Fact]) -> Result<(), NoMemory>
 
 /// The network does something that only changes the copies in flight.
 pub fn perform_net(
-    alloc: Global,
     stage: &mut Running,
-    facts: &mut Listed<Fact>,
+    rec: &mut MemRecorder,
     event: &Event,
 ) -> Result<(), NoMemory>
     requires { is_wanting event.now ≡ false }
-    ensures { OnOk result (Performed (OfNet event.now) stage.old stage.new facts.old facts.new) }
+    ensures { OnOk result
+        (Performed (OfNet event.now) stage.old stage.new rec.old.facts.items rec.new.facts.items) }
 {
     change(&mut stage.flight, event)?;
-    note_of_net(alloc, facts, event)?;
+    note_of_net(rec, event)?;
     Ok(())
 }

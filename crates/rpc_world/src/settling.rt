@@ -7,36 +7,36 @@ ghost use Rattle.rpc_world.specs.Performed.{Performed, MakesRound};
 ghost use Rattle.rpc_world.specs.Before.{IsNumbered};
 
 use crate::running::Running;
-use crate::stepping::{carry_first, poll_node, work_node};
-use rpc_base::{Event, Fact, Listed, NoMemory, NodeId};
+use crate::stepping::{carry_first, poll_node};
+use crate::working::work_node;
+use rpc_base::{Event, Fact, NoMemory, NodeId};
+use rpc_outside::MemRecorder;
 use std::alloc::Global;
 
 // Delivering a copy sends nothing, so there is a copy 0 in each turn.
-fn carry_all(alloc: Global, stage: &mut Running, facts: &mut Listed<Fact>) -> Result<(), NoMemory>
+fn carry_all(stage: &mut Running, rec: &mut MemRecorder) -> Result<(), NoMemory>
+    requires numbered { IsNumbered stage.old }
     ensures { OnOk result
-        (Performed (Times (Carries 0) (length stage.old.stage.flight))
-        stage.old stage.new facts.old facts.new) }
+        (Performed (Times (Carries 0) (length stage.old.flight))
+        stage.old stage.new rec.old.facts.items rec.new.facts.items) }
 {
     let count = stage.flight.len();
     'copies: for i in 0..count {
-        carry_first(alloc, stage, facts)?;
+        carry_first(stage, rec)?;
     }
     Ok(())
 }
 
 // Works the jobs of the first nodes, so many of them, in order.
-fn work_first(
-    alloc: Global,
-    stage: &mut Running,
-    facts: &mut Listed<Fact>,
-    count: u8,
-) -> Result<(), NoMemory>
-    requires count { count ≤ length stage.old.stage.nodes }
+fn work_first(stage: &mut Running, rec: &mut MemRecorder, count: u8) -> Result<(), NoMemory>
+    requires count { count ≤ length stage.old.ends }
     requires numbered { IsNumbered stage.old }
-    ensures { OnOk result (Performed (WorksFirst count) stage.old stage.new facts.old facts.new) }
+    ensures { OnOk result
+        (Performed (WorksFirst count) stage.old stage.new rec.old.facts.items
+        rec.new.facts.items) }
 {
     'workers: for i in 0..count {
-        work_node(alloc, stage, facts, NodeId(i))?;
+        work_node(stage, rec, NodeId(i))?;
     }
     Ok(())
 }
@@ -45,33 +45,31 @@ fn work_first(
 fn poll_first(
     alloc: Global,
     stage: &mut Running,
-    facts: &mut Listed<Fact>,
+    rec: &mut MemRecorder,
     count: u8,
 ) -> Result<(), NoMemory>
-    requires count { count ≤ length stage.old.stage.nodes }
+    requires count { count ≤ length stage.old.ends }
     requires numbered { IsNumbered stage.old }
-    ensures { OnOk result (Performed (PollsFirst count) stage.old stage.new facts.old facts.new) }
+    ensures { OnOk result
+        (Performed (PollsFirst count) stage.old stage.new rec.old.facts.items
+        rec.new.facts.items) }
 {
     'nodes: for i in 0..count {
-        poll_node(alloc, stage, facts, NodeId(i))?;
+        poll_node(alloc, stage, rec, NodeId(i))?;
     }
     Ok(())
 }
 
 // Works the jobs of each node, and then polls each.
-fn work_and_poll(
-    alloc: Global,
-    stage: &mut Running,
-    facts: &mut Listed<Fact>,
-) -> Result<(), NoMemory>
+fn work_and_poll(alloc: Global, stage: &mut Running, rec: &mut MemRecorder) -> Result<(), NoMemory>
     requires numbered { IsNumbered stage.old }
     ensures { OnOk result
-        (Performed (WorksAndPolls (length stage.old.stage.nodes))
-        stage.old stage.new facts.old facts.new) }
+        (Performed (WorksAndPolls (length stage.old.ends))
+        stage.old stage.new rec.old.facts.items rec.new.facts.items) }
 {
     let count = stage.nodes.len() as u8;
-    work_first(alloc, stage, facts, count)?;
-    poll_first(alloc, stage, facts, count)?;
+    work_first(stage, rec, count)?;
+    poll_first(alloc, stage, rec, count)?;
     Ok(())
 }
 
@@ -92,19 +90,16 @@ fn are_polled(facts: &[Fact]) -> bool
 
 // Carries each copy that is in flight, works the jobs of each node, polls each, and tells whether
 // there was nothing but polls.
-fn make_round(
-    alloc: Global,
-    stage: &mut Running,
-    facts: &mut Listed<Fact>,
-) -> Result<bool, NoMemory>
+fn make_round(alloc: Global, stage: &mut Running, rec: &mut MemRecorder) -> Result<bool, NoMemory>
     requires numbered { IsNumbered stage.old }
     ensures { IfOk result
-        (λ is_quiet. MakesRound is_quiet stage.old stage.new facts.old facts.new) }
+        (λ is_quiet. MakesRound is_quiet stage.old stage.new rec.old.facts.items
+        rec.new.facts.items) }
 {
-    let before = facts.len();
-    carry_all(alloc, stage, facts)?;
-    work_and_poll(alloc, stage, facts)?;
-    Ok(are_polled(&facts.as_slice()[before..]))
+    let before = rec.facts().len();
+    carry_all(stage, rec)?;
+    work_and_poll(alloc, stage, rec)?;
+    Ok(are_polled(&rec.facts()[before..]))
 }
 
 /// `settle K`: makes at most that many rounds, and none after one in which there was nothing but
@@ -112,14 +107,16 @@ fn make_round(
 pub fn settle(
     alloc: Global,
     stage: &mut Running,
-    facts: &mut Listed<Fact>,
+    rec: &mut MemRecorder,
     rounds: u32,
 ) -> Result<(), NoMemory>
     requires numbered { IsNumbered stage.old }
-    ensures { OnOk result (Performed (Settles rounds) stage.old stage.new facts.old facts.new) }
+    ensures { OnOk result
+        (Performed (Settles rounds) stage.old stage.new rec.old.facts.items
+        rec.new.facts.items) }
 {
     'rounds: for i in 0..rounds {
-        if make_round(alloc, stage, facts)? {
+        if make_round(alloc, stage, rec)? {
             return Ok(());
         }
     }

@@ -18,8 +18,9 @@ ghost use Rattle.world_laws.specs.Laws.{EachNode, EndTells, KeepsRing};
 use crate::command::execute;
 use crate::running::Running;
 use crate::serving::is_served;
-use rpc_base::{Listed, NoMemory};
+use rpc_base::NoMemory;
 use rpc_laws::History;
+use rpc_outside::MemRecorder;
 use sim_script::Script;
 use std::alloc::Global;
 use std::marker::Model;
@@ -82,13 +83,13 @@ impl World {
         ensures follows { IfOk result (λ w. Follows script.now w) }
         ensures script { IfOk result (λ w. IsScript script.now) }
     {
-        let mut facts = Listed::new(alloc);
+        let mut rec = MemRecorder::new(alloc);
         let mut stage = Running::new(alloc);
         for line in script.lines() {
-            execute(alloc, &mut stage, &mut facts, &line.command)?;
+            execute(alloc, &mut stage, &mut rec, &line.command)?;
         }
         Ok(World {
-            history: History::of(facts.into_vec()),
+            history: History::of(rec.into_facts()),
         })
     }
 

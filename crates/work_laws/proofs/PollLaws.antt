@@ -1,7 +1,7 @@
 -- A poll of a node whose workers hold what the world says: those that come back are the first that were worked.
 use Rattle.std.proofs.Common.{◌≡◌, ℕ, ◌+◌, ◌≤◌, Bool, true, false, ◌==◌, ◌&&◌, cond, List, [], ◌∷◌, ◌++◌}
 use Rattle.std.proofs.Common.{map, ◌⊎◌, inl, inr, refl, sym, ap, ap₂, ◌∙◌, subst, arith, eq-eqb}
-use Rattle.std.specs.Prelude.{count_by}
+use Rattle.std.specs.Prelude.{count_by, Option, Some, None}
 use Rattle.std.specs.List.{list_any}
 use Rattle.std.proofs.lemmas.Bool.{and_parts, eqb-true}
 use Rattle.std.proofs.lemmas.List.{map-append}
@@ -27,7 +27,7 @@ use Rattle.rpc_laws.specs.AtMostOnce.{runs_request}
 use Rattle.rpc_laws.specs.Facts.{plain, with_two}
 use Rattle.rpc_laws.specs.Jobs.{is_job}
 use Rattle.rpc_laws.specs.NodeLists.{after, after_all}
-use Rattle.rpc_laws.specs.PollOrder.{is_awaited, Poll, PollBy, raised, SendsAll}
+use Rattle.rpc_laws.specs.PollOrder.{answer_posted, awaited, Poll, PollBy, raised, SendsAll}
 use Rattle.rpc_laws.specs.Working.{FinishesEach, FinishesWorked, is_worked, worked_after_all}
 use Rattle.rpc_laws.specs.Working.{worked_of}
 use Rattle.rpc_laws.specs.declared.tables.Job.{Job}
@@ -76,12 +76,12 @@ parted me worked all ps later done split =
     ∙ (ap (map (worked_as me)) split ∙ map-append (worked_as me) ps later)))
 
 -- a job is finished
-finished-one : (me : ℕ) (b : Bool) (job : Job) (answer : List ℕ) (k : ℕ) (worked : List WorkedJob)
+finished-one : (me : ℕ) (posted : Option ℕ) (job : Job) (answer : List ℕ) (worked : List WorkedJob)
     → worked_after_all worked (with_two me (Ran job.session job.request job.req_type) job.ask answer
-    ∷ cond b (plain me (Posted (Reply job.session job.request) k) ∷ []) [])
+    ∷ answer_posted me job posted)
     ≡ without_first (is_worked me job.session job.request) worked
-finished-one me true job answer k worked = refl
-finished-one me false job answer k worked = refl
+finished-one me None job answer worked = refl
+finished-one me (Some k) job answer worked = refl
 
 -- the first of the worked jobs are finished
 finishes-first : (me : ℕ) (ps : List Parcel) (rest worked : List WorkedJob) (s : Timed) (x : List Fact)
@@ -99,7 +99,7 @@ finishes-first me (p ∷ ps) rest worked s x t mine e h =
     let test = is_worked me p.session p.request in
     let front : worked_after_all worked h.front ≡ without_first test worked =
     ap (worked_after_all worked) f.facts
-    ∙ (finished-one s.lists.me (is_awaited job s.lists.servers) job f.answer _ worked
+    ∙ (finished-one s.lists.me (awaited job s.lists.servers) job f.answer worked
     ∙ (ap (λ (n : ℕ). without_first (is_worked n job.session job.request) worked) mine
     ∙ ap₂ (λ (t r : ℕ). without_first (is_worked me t r) worked) session request)) in
     let passes : test (worked_as me p) ≡ true =

@@ -1,16 +1,27 @@
-use Rattle.std.proofs.Common.{◌≡◌, ◌∙◌}
+use Rattle.std.proofs.Common.{◌≡◌, ◌∙◌, ap, length}
 use Rattle.rpc_laws.specs.Groups.{Asks}
-use Rattle.rpc_world.proofs.PlainLemmas.{of-call}
-use Rattle.rpc_world.proofs.StepLemmas.{quiet-step}
+use Rattle.rpc_world.proofs.QuietLemmas.{asked-makes, asks-still, leaving-step}
+use Rattle.rpc_world.proofs.StepLemmas.{grew-facts, grew-since, stepped}
 use Rattle.rpc_world.proofs.calling.ask_on.Goals as goal
+
+pub land-requires : goal.land-requires
+land-requires c =
+    let makes = asked-makes c.ask-asked.result _ c.wants_memory.result c.if-wants_memory.false
+    c.wants_memory.ensures c.ask-asked.ensures.asks in
+    grew-since _ _ _ _ makes.grew (ap length c.facts-before.ensures)
 
 pub returns : goal.returns
 returns c =
-    let is_n : c.from-place.result ≡ c.args.node = c.from-place.ensures ∙ c.node.view_is in
-    rw is_n (quiet-step (Asks c.args.session c.args.req_type c.args.ask.now c.args.room) _ _
-    c.args.node _ _ _ _ _ _ _ c.stage.view_is (c.requires.numbered.nodes c.args.node)
-    (rw is_n at c.at_mut-asked.ensures.value)
-    (λ x me p. of-call c.args.node _ x _ me c.args.session c.args.req_type c.args.ask.now
-    c.args.room p) c.in_ok-ask.ensures c.len-before.ensures
-    (rw c.as_slice.ensures at c.in_ok-launch.ensures)
-    (rw c.as_slice-2.ensures at c.in_ok-keep.ensures))
+    let is_n : c.from.result ≡ c.args.node = c.from.ensures ∙ c.node.view_is in
+    let land = c.in_ok-land.ensures in
+    let P = Asks c.args.session c.args.req_type c.args.ask.now c.args.room in
+    let makes = rw (c.in_ok-req.ensures.bytes, c.in_ok-resp.ensures.capacity)
+    at (asked-makes c.ask-asked.result _ c.wants_memory.result c.if-wants_memory.false
+    c.wants_memory.ensures c.ask-asked.ensures.asks) in
+    stepped P c.args.node c.args.stage.now _
+    c.at_mut-asking.result.now _ _ _ _ _ _ c.stage.view_is c.requires.numbered.playing
+    (rw is_n at c.at_mut-asking.ensures.value)
+    (leaving-step P c.args.node c.args.stage.now.worked c.at_mut-asking.result.now _ makes.noted
+    c.ask-asked.ensures.leaves (λ s t h. asks-still c.args.session c.args.req_type c.args.ask.now c.args.room
+    s makes.noted t h) makes.step)
+    (grew-facts _ _ _ makes.grew land.whole) (ap length c.facts-before.ensures) (rw is_n at land.stage)

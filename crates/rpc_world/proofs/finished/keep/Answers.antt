@@ -1,6 +1,6 @@
 use Rattle.std.proofs.Common.{◌<◌, length, arith}
 use Rattle.std.proofs.lemmas.List.{take_more}
-use Rattle.rpc_world.proofs.PlainLemmas.{worked-append}
+use Rattle.work_laws.proofs.HistoryLemmas.{worked-append}
 use Rattle.rpc_world.proofs.finished.keep.Goals as goal
 
 pub loop-fact-preserved : goal.loop-fact-preserved

@@ -1,36 +1,43 @@
-use Rattle.std.proofs.Common.{◌≡◌, ◌∙◌, ap, arith}
-use Rattle.rpc_world.specs.Answered.{Play}
-use Rattle.rpc_world.proofs.PairLemmas.{ends-by, ends-seen, fits-other, fits-unspent}
+use Rattle.std.proofs.Common.{◌≡◌, ◌∙◌, ap, length, arith, refl}
+use Rattle.rpc_base.specs.declared.event.Event.TheVariants.{PairedClient, PairedServer}
+use Rattle.rpc_world.specs.Answered.{End}
+use Rattle.rpc_world.proofs.PairLemmas.{ends-by, fits-other, fits-unspent, notes-end, same-end, still-end}
+use Rattle.rpc_world.proofs.StepLemmas.{grew-facts}
 use Rattle.rpc_world.proofs.pairing.make_ends.Goals as goal
 
 pub returns : goal.returns
 returns c =
     let is_a : c.from-client.result ≡ c.args.a = c.from-client.ensures ∙ c.a.view_is in
     let is_b : c.from-server.result ≡ c.args.b = c.from-server.ensures ∙ c.b.view_is in
-    ends-seen c.args.a c.args.b c.args.credits _ _ _ _ _ c.stage.view_is
-    (rw (is_a, is_b) (ends-by c.args.a c.args.b c.args.credits _ _ _ _ _ _ _ _ _ _ _ _
-    c.requires.two (rw is_a at c.at.ensures) (rw is_b at c.at-2.ensures)
-    (rw is_a at c.at_mut-asking.ensures.value)
-    (rw (is_a, is_b) at c.at_mut-serving.ensures.value)
-    (c.next_number-of_client.ensures.number ∙ c.next_client.ensures)
-    (c.next_number-of_server.ensures.number ∙ c.next_server.ensures)
-    (rw c.b.view_is at c.in_ok-pair_client.ensures)
-    (rw c.a.view_is at c.in_ok-pair_server.ensures)))
+    let z = c.stage.inside in
+    let asking = c.at_mut-asking.result.now in
+    let serving = c.at_mut-serving.result.now in
+    let at_a = rw is_a at c.at_mut-asking.ensures.value in
+    let at_b = rw (is_a, is_b) at c.at_mut-serving.ensures.value in
+    let of_client = c.next_number-of_client.result in
+    let of_server = c.next_number-of_server.result in
+    let is_p = c.next_number-of_client.ensures.number ∙ (c.from.ensures ∙ (c.next_client.ensures
+    ∙ ap (λ (e : End). length e.timed.lists.clients) (same-end _ c.args.a _ asking (rw is_a at c.at.ensures) at_a))) in
+    let is_q = c.next_number-of_server.ensures.number ∙ (c.next_server.ensures
+    ∙ ap (λ (e : End). e.timed.lists.server_numbers)
+    (still-end _ c.args.a c.args.b _ _ serving c.requires.two (rw is_b at c.at-2.ensures) at_b)) in
+    let first = rw c.b.view_is at c.in_ok-pair_client.ensures.makes in
+    let second = rw c.a.view_is at c.in_ok-pair_server.ensures.makes in
+    let m = notes-end c.args.a (λ l. PairedClient (length l.clients) c.args.b of_server c.args.credits) z.worked
+    asking c.pair_client.new.self first.noted (λ l. refl) (λ l. refl) c.pair_client.ensures.leaves first.step in
+    let n = notes-end c.args.b (λ l. PairedServer l.server_numbers c.args.a of_client c.args.credits) z.worked
+    serving c.pair_server.new.self second.noted (λ l. refl) (λ l. refl) c.pair_server.ensures.leaves second.step in
+    let whole = c.in_ok-check_whole.ensures in
+    rw (is_a, is_b) (ends-by c.args.a c.args.b c.args.credits of_client of_server _ asking _ serving _ _ _
+    c.requires.two at_a at_b is_p is_q m n _ _ _ _ c.stage.view_is
+    (grew-facts _ _ _ first.grew (second.grew.since whole)) (grew-facts _ _ _ second.grew whole))
 
 pub pair_server-requires-clause-fits : goal.pair_server-requires-clause-fits
 pair_server-requires-clause-fits c =
     let is_a : c.from-client.result ≡ c.args.a = c.from-client.ensures ∙ c.a.view_is in
     let is_b : c.from-server.result ≡ c.args.b = c.from-server.ensures ∙ c.b.view_is in
-    fits-other c.args.a c.args.b c.args.credits c.args.stage.now c.stage.inside.nodes _ _
-    (ap (λ (z : Play). z.stage.nodes) c.stage.view_is) c.requires.two c.requires.server_fits
+    fits-other c.args.a c.args.b c.args.credits _ _ _ _ c.stage.view_is c.requires.two c.requires.server_fits
     (rw (is_a, is_b) at c.at_mut-serving.ensures.value)
-
-pub next_number-of_client-requires : goal.next_number-of_client-requires
-next_number-of_client-requires c =
-    let is_a : c.from-client.result ≡ c.args.a = c.from-client.ensures ∙ c.a.view_is in
-    let free = fits-unspent c.args.a _ c.args.credits _ _ _ c.stage.view_is is_a
-    c.requires.client_fits c.at.ensures in
-    omega (arith, free.0, c.next_client.ensures)
 
 pub next_number-of_server-requires : goal.next_number-of_server-requires
 next_number-of_server-requires c =

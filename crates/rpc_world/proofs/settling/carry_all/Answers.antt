@@ -1,7 +1,8 @@
 use Rattle.std.proofs.Common.{◌≡◌, ◌∙◌, add-one, ap, arith, length, refl}
 use Rattle.rpc_world.specs.Answered.{Play}
 use Rattle.rpc_world.proofs.StageLemmas.{performed-none, performed-joins}
-use Rattle.rpc_world.proofs.StaysLemmas.{times-flight}
+use Rattle.rpc_world.proofs.StaysLemmas.{performed-numbered, stays-carries, times-flight}
+use Rattle.sim_script.specs.FollowsScript.{Carries, Times}
 use Rattle.rpc_world.proofs.settling.carry_all.Goals as goal
 
 pub copies-init : goal.copies-init
@@ -10,9 +11,14 @@ copies-init c = performed-none _ _ _ (refl, refl)
 pub copies-preserved : goal.copies-preserved
 copies-preserved c = rw add-one (performed-joins _ _ _ _ _ _ _ _ c.copies.invariant c.in_ok-carry_first.ensures)
 
-pub carry_first-requires : goal.carry_first-requires
-carry_first-requires c =
+pub carry_first-requires-clause-some : goal.carry_first-requires-clause-some
+carry_first-requires-clause-some c =
     let gone = times-flight c.copies.i _ _ _ c.copies.invariant.does in
-    let there : c.len-count.result ≡ length c.args.stage.now.stage.flight =
-    c.len-count.ensures ∙ ap (λ (z : Play). length z.stage.flight) c.stage.view_is in
+    let there : c.len-count.result ≡ length c.args.stage.now.flight =
+    c.len-count.ensures ∙ ap (λ (z : Play). length z.flight) c.stage.view_is in
     omega (arith, gone, there, c.copies-test.true)
+
+pub carry_first-requires-clause-numbered : goal.carry_first-requires-clause-numbered
+carry_first-requires-clause-numbered c =
+    performed-numbered (Times (Carries 0) c.copies.i) (stays-carries c.copies.i) _ _ _ _ c.copies.invariant
+    c.requires.numbered

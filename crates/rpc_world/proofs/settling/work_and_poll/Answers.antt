@@ -6,7 +6,7 @@ use Rattle.rpc_world.proofs.settling.work_and_poll.Goals as goal
 
 pub returns : goal.returns
 returns c =
-    let n : c.len-count.result ≡ length c.args.stage.now.stage.nodes = search rules in
+    let n : c.len-count.result ≡ length c.args.stage.now.ends = search rules in
     rw (← n) (performed-joins _ _ _ _ _ _ _ _ c.in_ok-work_first.ensures c.in_ok-poll_first.ensures)
 
 pub poll_first-requires-clause-numbered : goal.poll_first-requires-clause-numbered

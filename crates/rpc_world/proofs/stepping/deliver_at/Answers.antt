@@ -1,17 +1,18 @@
-use Rattle.std.proofs.Common.{◌≡◌, ◌∙◌}
+use Rattle.std.proofs.Common.{◌≡◌, ◌∙◌, ap, length}
 use Rattle.rpc_laws.specs.Deliveries.{Delivers}
-use Rattle.rpc_world.proofs.PlainLemmas.{of-delivery}
-use Rattle.rpc_world.proofs.StepLemmas.{delivers-quietly, is-own, quiet-step}
+use Rattle.rpc_world.proofs.QuietLemmas.{delivers-still, leaving-step}
+use Rattle.rpc_world.proofs.StepLemmas.{grew-facts, stepped}
 use Rattle.rpc_world.proofs.stepping.deliver_at.Goals as goal
 
 pub returns : goal.returns
 returns c =
     let is_n : c.from-place.result ≡ c.args.node = c.from-place.ensures ∙ c.node.view_is in
-    rw is_n (quiet-step (Delivers c.args.sender c.args.bytes.now) _ _ c.args.node _ _ _ _ _ _ _
-    c.stage.view_is (is-own c.args.stage.now c.args.node
-    (c.is_there.ensures c.if-not-is_there.false)) (rw is_n at c.at_mut-receiver.ensures.value)
-    (λ x me p. of-delivery c.args.node _ x _ me c.args.sender c.args.bytes.now p)
-    (delivers-quietly c.args.sender c.args.bytes.now _ _ _ _
-    (rw c.sender.view_is at c.in_ok-deliver.ensures)) c.len-before.ensures
-    (rw c.as_slice.ensures at c.in_ok-launch.ensures)
-    (rw c.as_slice-2.ensures at c.in_ok-keep.ensures))
+    let land = c.in_ok-land.ensures in
+    let P = Delivers c.args.sender c.args.bytes.now in
+    let makes = rw c.sender.view_is at c.deliver.ensures.makes in
+    stepped P c.args.node c.args.stage.now _
+    c.at_mut-receiver.result.now _ _ _ _ _ _ c.stage.view_is c.requires.numbered.playing
+    (rw is_n at c.at_mut-receiver.ensures.value)
+    (leaving-step P c.args.node c.args.stage.now.worked c.at_mut-receiver.result.now _ makes.noted
+    c.deliver.ensures.leaves (λ s t h. delivers-still c.args.sender c.args.bytes.now s makes.noted t h) makes.step)
+    (grew-facts _ _ _ makes.grew land.whole) (ap length c.facts-before.ensures) (rw is_n at land.stage)

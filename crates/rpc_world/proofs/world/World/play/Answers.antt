@@ -3,13 +3,14 @@ use Rattle.std.proofs.lemmas.List.{take_all, take_more}
 use Rattle.script_grammar.specs.declared.line.Line.{Line}
 use Rattle.sim_script.specs.FollowsScript.{FollowsFrom, empty_stage}
 use Rattle.sim_script.proofs.FollowsLemmas.{follows-more}
+use Rattle.rpc_world.specs.Answered.{stage_of}
 use Rattle.rpc_world.proofs.LineLemmas.{ready, stands-after, stands-first}
 use Rattle.rpc_world.proofs.PlainLemmas.{plainly-append, plainly-none}
-use Rattle.rpc_world.proofs.WantingLemmas.{follows-by}
+use Rattle.rpc_world.proofs.FollowLemmas.{follows-by}
 use Rattle.rpc_world.proofs.world.World.play.Goals as goal
 
 pub loop-line-init : goal.loop-line-init
-loop-line-init c = rw (c.new-facts.ensures, c.new-stage.ensures) ((refl, refl), plainly-none [], stands-first _)
+loop-line-init c = rw (c.new-rec.ensures.facts, c.new-stage.ensures) ((refl, refl), plainly-none [], stands-first _)
 
 pub loop-line-preserved : goal.loop-line-preserved
 loop-line-preserved c =
@@ -29,12 +30,12 @@ loop-line-preserved c =
 
 pub returns-clause-follows : goal.returns-clause-follows
 returns-clause-follows c =
-    let same : c.of.result ≡ c.loop-line.facts = search rules in
+    let same : c.of.result ≡ c.loop-line.rec.facts.items = search rules in
     let long : length c.lines-line-items.result.now ≤ c.loop-line.line-index = omega arith in
     let whole = take_all c.loop-line.line-index c.lines-line-items.result.now long in
-    let all : FollowsFrom c.args.script.now empty_stage c.loop-line.facts c.loop-line.stage.stage =
-    subst (λ (ls : List Line). FollowsFrom ls empty_stage c.loop-line.facts
-    c.loop-line.stage.stage) (whole ∙ c.lines-line-items.ensures.lines)
+    let all : FollowsFrom c.args.script.now empty_stage c.loop-line.rec.facts.items (stage_of c.loop-line.stage) =
+    subst (λ (ls : List Line). FollowsFrom ls empty_stage c.loop-line.rec.facts.items
+    (stage_of c.loop-line.stage)) (whole ∙ c.lines-line-items.ensures.lines)
     c.loop-line.invariant.0 in
     rw same (follows-by _ _ c.loop-line.stage all c.loop-line.invariant.1)
 

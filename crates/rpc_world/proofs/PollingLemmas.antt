@@ -1,0 +1,184 @@
+-- A poll of an endpoint, as what a script did.
+use Rattle.std.proofs.Common.{◌≡◌, ℕ, ◌≤◌, ◌⊎◌, inl, inr, Bool, true, false, Some, None, Result, Ok, Err}
+use Rattle.std.proofs.Common.{List, [], ◌∷◌, ◌++◌, map, length, refl, sym, ap, ap₂, subst, ◌∙◌, arith}
+use Rattle.std.specs.Prelude.{IfOk}
+use Rattle.std.proofs.lemmas.List.{map-append}
+use Rattle.std.proofs.lemmas.Simd.{map-map}
+use Rattle.end_laws.proofs.OwnFacts.{poll-own}
+use Rattle.endpoint_loop.specs.Finishing.{FinishesThese, NoneBack, jobs_left}
+use Rattle.endpoint_loop.specs.Polling.{FinishesBack, PollsWith as EndPolls, SendsOver, is_stopped}
+use Rattle.endpoint_loop.specs.Running.{Crew}
+use Rattle.endpoint_loop.specs.Seen.{Asks, with_ask}
+use Rattle.endpoint_loop.specs.Serving.{job_named}
+use Rattle.node_laws.specs.Kept.{Kept}
+use Rattle.rpc_base.specs.declared.fact.Fact.{Fact}
+use Rattle.rpc_laws.proofs.PollLemmas.{poll-within}
+use Rattle.rpc_laws.specs.declared.tables.Job.{Job}
+use Rattle.rpc_laws.specs.declared.tables.Timed.{Timed}
+use Rattle.rpc_laws.specs.declared.tables.WorkedJob.{WorkedJob}
+use Rattle.rpc_base.specs.Tables.{without_first}
+use Rattle.rpc_laws.specs.ControlSteps.{HearsAll, TimesAll}
+use Rattle.rpc_laws.specs.Jobs.{is_job}
+use Rattle.rpc_outside.specs.declared.service.Mode.{Mode}
+use Rattle.rpc_laws.specs.PollOrder.{Closes, HandlesAll, PollBy, PostsAll, SendsAll, raised}
+use Rattle.rpc_laws.specs.Queues.{replies}
+use Rattle.rpc_laws.specs.Service.{plain_serving}
+use Rattle.rpc_laws.specs.Steps.{Rel, Then}
+use Rattle.rpc_laws.specs.Working.{FinishesEach, FinishesWorked}
+use Rattle.rpc_outside.specs.Faults.{HasCause, HasRisen}
+use Rattle.rpc_outside.specs.PlainAnswer.{background_answer, plain_mode}
+use Rattle.sim_script.specs.FollowsScript.{AtNode, PollsNode}
+use Rattle.rpc_world.specs.Answered.{End, Play, ServesAll, Whole, stage_of, told_end}
+use Rattle.rpc_world.specs.Before.{IsPlaying, staff_of}
+use Rattle.rpc_world.specs.Performed.{Performed}
+use Rattle.rpc_world.proofs.EndLemmas.{staffed-has, valid-told}
+use Rattle.rpc_world.proofs.PlainLemmas.{AllOf, all-owned, plainly-served}
+use Rattle.rpc_world.proofs.StepLemmas.{NodeStep, performed-as}
+use Rattle.work_laws.proofs.NameLemmas.{out-names}
+use Rattle.work_laws.proofs.PollLaws.{polls-known}
+use Rattle.work_laws.specs.Known.{FinishesFirst, job_name, left_names, worked_as}
+use Rattle.work_laws.specs.Laws.{PollsKnown, PollsWith}
+use Rattle.worker_board.specs.declared.Parcel.{Parcel}
+use Rattle.worker_crew.specs.Local.{Local}
+
+-- a link that is never busy and never fails doesn't stop the sending
+not-risen : HasRisen 0 0 → ⊥
+not-risen h = absurd (omega (arith, h.rose))
+
+never-busy : (b : Bool) → (b ≡ true → HasRisen 0 0) → b ≡ false
+never-busy true h = absurd (not-risen (h refl))
+never-busy false h = refl
+
+pub never-stopped : {E : Type 0} (o : Result Bool E) → IfOk o (λ busy. busy ≡ true → HasRisen 0 0)
+    → HasCause 0 0 o → is_stopped o ≡ false
+never-stopped (Ok busy) h c = never-busy busy h
+never-stopped (Err e) h c = absurd (not-risen c)
+
+-- what an endpoint is to its workers
+abbrev pub crew_of : Local → Crew
+crew_of w = record { staff = staff_of w; worked = Some w.worked; looks = 0 }
+
+-- the jobs that came back
+finishes-each : (answer : ℕ → List ℕ → List ℕ) (me : ℕ) (ps : List Parcel) (s : Timed) (x : List Fact) (t : Timed)
+    → FinishesThese answer ps s x t → FinishesEach (map (worked_as me) ps) s x t
+finishes-each answer me [] s x t h = h
+finishes-each answer me (p ∷ ps) s x t h = record {
+  between = h.between;
+  front = h.front;
+  back = h.back;
+  joined = h.joined;
+  first = record {
+    room = h.first.room;
+    job = h.first.job;
+    is_out = h.first.is_out;
+    answer = answer h.first.job.req_type h.first.job.ask;
+    facts = h.first.facts;
+    goes = h.first.goes;
+  };
+  second = finishes-each answer me ps h.between h.back t h.second;
+}
+
+over-as : (ps : List Parcel) (out before now : ℕ) (room : Type 0) → room ⊎ NoneBack (Some ps) out before now
+    → (ps ≡ []) ⊎ room
+over-as ps out before now room (inl o) = inr o
+over-as ps out before now room (inr h) = inl h.0
+
+left-names : (ps : List Parcel) (out : List Job) → map job_name (jobs_left ps out) ≡ left_names ps (map job_name out)
+left-names [] out = refl
+left-names (p ∷ ps) out =
+    left-names ps (without_first (is_job p.session p.request) out)
+    ∙ ap (left_names ps) (out-names p.session p.request out)
+
+asked-names : (asks : Asks) (out : List Job) → map job_name (map (with_ask asks) out) ≡ map job_name out
+asked-names asks out = map-map job_name (with_ask asks) out
+
+then-as : (P Q R S : Rel) (s : Timed) (x : List Fact) (t : Timed)
+    → ((s : Timed) (x : List Fact) (t : Timed) → P s x t → Q s x t)
+    → ((s : Timed) (x : List Fact) (t : Timed) → R s x t → S s x t) → Then P R s x t → Then Q S s x t
+then-as P Q R S s x t f g h = record {
+  between = h.between;
+  front = h.front;
+  back = h.back;
+  joined = h.joined;
+  first = f s h.front h.between h.first;
+  second = g h.between h.back t h.second;
+}
+
+same : (P : Rel) (s : Timed) (x : List Fact) (t : Timed) → P s x t → P s x t
+same P s x t h = h
+
+poll-as : (P Q R S : Rel) (mode : ℕ → Mode) (now : ℕ) (s : Timed) (x : List Fact) (t : Timed)
+    → ((s : Timed) (x : List Fact) (t : Timed) → P s x t → Q s x t)
+    → ((s : Timed) (x : List Fact) (t : Timed) → R s x t → S s x t)
+    → PollBy P R mode now s x t → PollBy Q S mode now s x t
+poll-as P Q R S mode now s x t f g h =
+    then-as P Q _ _ (raised now s) x t f (λ a y b k. then-as HearsAll HearsAll _ _ a y b (same HearsAll)
+    (λ a y b k. then-as (HandlesAll mode) (HandlesAll mode) _ _ a y b (same (HandlesAll mode))
+    (λ a y b k. then-as TimesAll TimesAll _ _ a y b (same TimesAll)
+    (λ a y b k. then-as PostsAll PostsAll _ _ a y b (same PostsAll)
+    (λ a y b k. then-as R S Closes Closes a y b g (same Closes) k) k) k) k) k) h
+
+sends-as : (b : Bool) (s : Timed) (x : List Fact) (t : Timed) → b ≡ false → SendsOver b None None s x t
+    → SendsAll s x t
+sends-as true s x t e h = cc
+sends-as false s x t e h = h.sends
+
+module _ (n now : ℕ) (worked : List WorkedJob) (e new : End) (x : List Fact) (stopped : Bool)
+    (k : Kept e.timed.lists) (goes_on : stopped ≡ false)
+    (p : EndPolls plain_serving background_answer stopped now None None (crew_of e.workers)
+    (crew_of new.workers) e.timed x new.timed)
+    (plays : IsPlaying worked n e) where
+  with-parcels : PollsWith plain_mode now p.parcels p.gave e.workers new.workers (told_end e) x (told_end new)
+  with-parcels = record {
+    back = cc (p.first);
+    given = cc (p.waits);
+    polls = poll-as (FinishesBack background_answer p.parcels (crew_of e.workers) (crew_of new.workers))
+        (FinishesFirst (map (worked_as (told_end e).lists.me) p.parcels) (new.workers.worked ≡ []))
+        (SendsOver stopped None None) SendsAll plain_mode now (told_end e) x (told_end new)
+        (λ s y t h. record {
+          finishes = finishes-each background_answer (told_end e).lists.me p.parcels s y t h.finishes;
+          over = over-as new.workers.worked (length t.lists.jobs.out) 0 0
+              (t.lists.room ≤ replies t.lists.queued) h.over;
+        }) (λ s y t h. sends-as stopped s y t goes_on h) p.polls;
+    names = asked-names _ new.timed.lists.jobs.out
+        ∙ (ap (map job_name) p.jobs
+        ∙ (map-append job_name (jobs_left p.parcels e.timed.lists.jobs.out) (map job_named p.gave)
+        ∙ ap₂ (λ (a b : List (ℕ × ℕ)). a ++ b)
+        (left-names p.parcels e.timed.lists.jobs.out
+        ∙ ap (left_names p.parcels) (sym (asked-names _ e.timed.lists.jobs.out)))
+        (map-map job_name job_named p.gave)));
+  }
+
+  known : PollsKnown plain_mode now worked new.workers (told_end e) x (told_end new)
+  known =
+      polls-known plain_mode now worked e.workers new.workers p.parcels p.gave (told_end e) x (told_end new)
+      (valid-told e k) plays.knows (staffed-has e plays.staffed) with-parcels
+
+  mine : AllOf n x
+  mine =
+      let o = poll-own false plain_mode now (told_end e) x (told_end new) (λ e. cc)
+      (poll-within worked plain_mode now (told_end e) x (told_end new) known.polls) in
+      subst (λ m. AllOf m x) plays.me (all-owned e.timed.lists.me x o.facts)
+
+  still-me : new.timed.lists.me ≡ e.timed.lists.me
+  still-me =
+      (poll-own false plain_mode now (told_end e) x (told_end new) (λ e. cc)
+      (poll-within worked plain_mode now (told_end e) x (told_end new) known.polls)).me
+
+  pub poll-step : ServesAll e.service new.service x → Whole x
+      → NodeStep (PollBy (FinishesWorked worked) SendsAll plain_mode now) n worked e new x
+  poll-step serves whole = record {
+    step = known.polls;
+    own = mine;
+    plain = λ a at. plainly-served n e.service new.service x a at mine serves whole;
+    plays = record { me = still-me ∙ plays.me; staffed = p.staffed; knows = known.knows };
+  }
+
+-- the poll that the world asks for
+pub at-polls : (n now : ℕ) (s t : Play) (f g : List Fact) → now ≡ s.clock
+    → Performed (AtNode (PollBy (FinishesWorked s.worked) SendsAll plain_mode now) n) s t f g
+    → Performed (PollsNode n) s t f g
+at-polls n now s t f g is p =
+    performed-as (AtNode (PollBy (FinishesWorked s.worked) SendsAll plain_mode now) n) (PollsNode n) s t f g
+    (λ x h. subst (λ (k : ℕ). AtNode (PollBy (FinishesWorked s.worked) SendsAll plain_mode k) n (stage_of s) x
+    (stage_of t)) is h) p

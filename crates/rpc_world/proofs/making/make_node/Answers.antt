@@ -1,0 +1,11 @@
+use Rattle.std.proofs.Common.{◌∙◌, refl}
+use Rattle.rpc_world.proofs.NetLemmas.{makes-node}
+use Rattle.rpc_world.proofs.StepLemmas.{grew-facts}
+use Rattle.rpc_world.proofs.making.make_node.Goals as goal
+
+pub returns : goal.returns
+returns c =
+    rw c.in_ok-push.ensures.pushed (makes-node c.args.ring _ c.in-Ok.made
+    (c.in-Ok.ensures.made ∙ rw (c.len.ensures, c.new-2.ensures, c.in_ok-workers.ensures.made) refl)
+    _ _ _ c.stage.view_is
+    (grew-facts _ _ _ (rw c.len.ensures at c.note.ensures) c.in_ok-check_whole.ensures))

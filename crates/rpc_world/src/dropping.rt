@@ -1,0 +1,15 @@
+//! What the world does with calls that are over: the history tells their answers.
+ghost use Rattle.std.specs.Prelude.{None};
+
+use client_core::Done;
+use endpoint_loop::Continuation;
+
+/// Lets each call go that is over.
+#[derive(Clone, Copy, Debug, PartialEq, Eq)]
+pub struct Dropping;
+
+impl Continuation for Dropping {
+    ghost given = { λ _. None };
+
+    fn done(&mut self, _done: Done) {}
+}

@@ -1,3 +1,0 @@
-pub mod AscendsLemmas
-pub mod EndLemmas
-pub mod TimerLemmas

@@ -1,9 +1,0 @@
-use Rattle.node_tables.proofs.NotedLemmas.{makes-none, makes-more}
-use Rattle.sim_node.proofs.sending.send_all.Goals as goal
-
-pub packets-init : goal.packets-init
-packets-init c = (makes-none _ _ _, c.requires.apart)
-
-pub packets-preserved : goal.packets-preserved
-packets-preserved c =
-    (makes-more _ _ _ _ _ _ _ c.packets.invariant.0 c.in_ok-send_front.ensures.makes, c.in_ok-send_front.ensures.apart)

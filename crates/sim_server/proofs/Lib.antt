@@ -1,4 +1,0 @@
-pub mod EndLemmas
-pub mod FinishLemmas
-pub mod ServiceLemmas
-pub mod WorkLemmas
