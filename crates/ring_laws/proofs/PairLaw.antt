@@ -11,7 +11,7 @@ use Rattle.rpc_base.specs.declared.fact.Who.TheVariants.{Node, Net}
 use Rattle.rpc_base.specs.declared.owner.Owner.TheVariants.{Ask}
 use Rattle.rpc_laws.specs.declared.tables.Lists.{Lists}
 use Rattle.rpc_laws.specs.BufferSafety.{changed}
-use Rattle.rpc_laws.specs.Facts.{plain}
+use Rattle.rpc_laws.specs.Facts.{plain, with_two}
 use Rattle.rpc_laws.specs.NodeLists.{after, new_lists}
 use Rattle.rpc_laws.specs.Sessions.{client_end}
 use Rattle.node_laws.specs.Valid.{Valid}
@@ -44,7 +44,7 @@ use Rattle.ring_laws.proofs.PairPlaces.{StandsIn, PairAt, Pairs, AllValid}
 use Rattle.ring_laws.proofs.PairSteps.{Standing, standing-after}
 use Rattle.ring_laws.proofs.RingLaw.{met-net, met-node, met-made, met-pair, rough-roll}
 use Rattle.ring_laws.proofs.RingLaw.{rough-repeat, calm-parts, grows-paired}
-use Rattle.ring_laws.proofs.WithinSteps.{no_repeat, part-same, own-fact, fact, load-noted, load-net}
+use Rattle.ring_laws.proofs.WithinSteps.{no_repeat, part-same, own-fact, load-noted, load-net}
 use Rattle.ring_laws.proofs.WithinSteps.{nodes-net, load-made, load-pair, lists1, lists2, nodes1}
 use Rattle.ring_laws.proofs.WithinSteps.{nodes2, is_server1, paired-nodes}
 use Rattle.rpc_base.proofs.BasicLemmas.{and-false}
@@ -99,11 +99,11 @@ pair-made w ring x r k h =
 
 -- a fact of a node
 module _ (w : Moment) (n : ℕ) (l : Lists) (e : Event) (first second : List ℕ) (x : Pairing)
-    (a : AtNode w n l (fact n e first second)) (m : Mirrors (frame w)) (i : RightNode l)
+    (a : AtNode w n l (with_two n e first second)) (m : Mirrors (frame w)) (i : RightNode l)
     (v : Valid l) (quiet : CalmNode l) (calm : no_roll e ≡ true) (fits : FitsIn (frame w) x)
     (r k : ℕ) where
   abbrev pub noted : Moment
-  noted = noted_at w n l (fact n e first second)
+  noted = noted_at w n l (with_two n e first second)
 
   pair-by : (b : Bool) → (n == x.home) ≡ b → PairAt w x r k → PairAt noted x r k
   pair-by true t h =
@@ -114,9 +114,9 @@ module _ (w : Moment) (n : ℕ) (l : Lists) (e : Event) (first second : List ℕ
       subst (λ (b : Bool). load p x noted + cond b (took_reply p x.client e) 0 ≤ load p x w
       + cond b (posted_ask p x.client e) 0) t step in
       let was : slice_get w.nodes x.home ≡ Some l = ap (slice_get w.nodes) (sym home) ∙ a.is_node in
-      let now : slice_get noted.nodes x.home ≡ Some (after w.clock l (fact n e first second)) =
+      let now : slice_get noted.nodes x.home ≡ Some (after w.clock l (with_two n e first second)) =
       ap (slice_get noted.nodes) (sym home)
-      ∙ set-here w.nodes n l (after w.clock l (fact n e first second)) a.is_node in
+      ∙ set-here w.nodes n l (after w.clock l (with_two n e first second)) a.is_node in
       let old : Standing (load p x w) l.clients x.client r k =
       (h.0, λ some. subst (λ (o : Option Lists). StandsIn o x.client r k) was (h.1 some)) in
       let new = standing-after w.clock e first l x.client r k (load p x w)
@@ -130,7 +130,7 @@ module _ (w : Moment) (n : ℕ) (l : Lists) (e : Event) (first second : List ℕ
       + cond b (posted_ask p x.client e) 0) t step in
       let most = h.0 in
       let now : slice_get noted.nodes x.home ≡ slice_get w.nodes x.home =
-      set-other w.nodes n x.home (after w.clock l (fact n e first second))
+      set-other w.nodes n x.home (after w.clock l (with_two n e first second))
       (λ same. eqb-false n x.home t (sym same)) in
       (omega arith, λ some. subst (λ (o : Option Lists). StandsIn o x.client r k) (sym now) (h.1 (omega arith)))
 
@@ -142,7 +142,7 @@ pair-node : (w : Moment) (n : ℕ) (l : Lists) (f : Fact) (x : Pairing) (r k : �
     → FitsIn (frame w) x → PairAt w x r k → PairAt (moved w f) x r k
 pair-node w n l f x r k a m i v quiet calm fits h =
     let e = own-fact f (Node n) (a.allowed.who ∙ ap Node a.me) in
-    let at : AtNode w n l (fact n f.event f.first f.second) = subst (AtNode w n l) e a in
+    let at : AtNode w n l (with_two n f.event f.first f.second) = subst (AtNode w n l) e a in
     let g = pair-noted w n l f.event f.first f.second x at m i v quiet calm fits r k h in
     subst (λ (u : Moment). PairAt u x r k) (sym (moved-node w n l f a))
     (subst (λ (z : Fact). PairAt (noted_at w n l z) x r k) (sym e) g)

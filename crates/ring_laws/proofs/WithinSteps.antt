@@ -14,7 +14,7 @@ use Rattle.rpc_laws.specs.declared.tables.Client.{Client}
 use Rattle.rpc_laws.specs.declared.tables.InFlight.{InFlight}
 use Rattle.rpc_laws.specs.declared.tables.Lists.{Lists}
 use Rattle.rpc_laws.specs.BufferSafety.{changed, nodes_at}
-use Rattle.rpc_laws.specs.Facts.{plain}
+use Rattle.rpc_laws.specs.Facts.{plain, with_two}
 use Rattle.rpc_laws.specs.InFlight.{flight_after_net}
 use Rattle.rpc_laws.specs.NodeLists.{after, new_lists}
 use Rattle.rpc_laws.specs.Pacing.{due_of}
@@ -61,9 +61,6 @@ part-same f nodes n k l m is same = by (n == k) refl
     by true e = here-now f nodes n k l m is e ∙ (same ∙ sym (here-was f nodes n k l is e))
     by false e = there-same f nodes n k m e
 
-abbrev pub fact : ℕ → Event → List ℕ → List ℕ → Fact
-fact n e first second = record { who = Node n; event = e; first = first; second = second }
-
 abbrev of-free : Pairing → Lists → ℕ
 of-free x l = free_of x.client l.clients
 
@@ -71,9 +68,9 @@ abbrev of-limit : Pairing → Lists → ℕ
 of-limit x l = limit_of x.client l.clients
 
 module _ (w : Moment) (n : ℕ) (l : Lists) (e : Event) (first second : List ℕ) (x : Pairing)
-    (a : AtNode w n l (fact n e first second)) (m : Mirrors (frame w)) (i : RightNode l) where
+    (a : AtNode w n l (with_two n e first second)) (m : Mirrors (frame w)) (i : RightNode l) where
   abbrev now : Lists
-  now = after w.clock l (fact n e first second)
+  now = after w.clock l (with_two n e first second)
 
   module _ (p : Filter) where
     node-client : (b : Bool) → (n == x.home) ≡ b
@@ -106,7 +103,7 @@ module _ (w : Moment) (n : ℕ) (l : Lists) (e : Event) (first second : List ℕ
 
     -- what is on its way for a session, less a reply that is taken, is no more than before, but for what is posted
     pub load-noted : FitsIn (frame w) x
-        → load p x (noted_at w n l (fact n e first second))
+        → load p x (noted_at w n l (with_two n e first second))
         + if_at (n == x.home) (took_reply p x.client e) ≤ load p x w
         + if_at (n == x.home) (posted_ask p x.client e)
     load-noted fits =
@@ -131,7 +128,7 @@ module _ (w : Moment) (n : ℕ) (l : Lists) (e : Event) (first second : List ℕ
       (limit-step w.clock x.client w.hand l e first second a.allowed.may)
 
   pub within-noted : no_roll e ≡ true → FitsIn (frame w) x → Within w x
-      → Within (noted_at w n l (fact n e first second)) x
+      → Within (noted_at w n l (with_two n e first second)) x
   within-noted calm fits h =
       let c = load-noted all fits in
       let f = node-free calm (n == x.home) refl in
@@ -148,7 +145,7 @@ pub within-node : (w : Moment) (n : ℕ) (l : Lists) (f : Fact) (x : Pairing) �
     → Within (moved w f) x
 within-node w n l f x a m i calm fits h =
     let e = own-fact f (Node n) (a.allowed.who ∙ ap Node a.me) in
-    let at : AtNode w n l (fact n f.event f.first f.second) = subst (AtNode w n l) e a in
+    let at : AtNode w n l (with_two n f.event f.first f.second) = subst (AtNode w n l) e a in
     let k = within-noted w n l f.event f.first f.second x at m i calm fits h in
     subst (λ (v : Moment). Within v x) (sym (moved-node w n l f a))
     (subst (λ (g : Fact). Within (noted_at w n l g) x) (sym e) k)

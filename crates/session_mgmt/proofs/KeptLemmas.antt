@@ -25,11 +25,11 @@ use Rattle.session_mgmt.specs.Ends.{AreKept, Ascend, Kept, Place, ServerEnds, by
 use Rattle.session_mgmt.specs.Ends.{server_of, stands_at}
 
 -- tests of numbers
-same-number : (a b : ℕ) → is_eq (nat_cmp a b) ≡ (a == b)
+pub same-number : (a b : ℕ) → is_eq (nat_cmp a b) ≡ (a == b)
 same-number a b = grind (arith, nat_tests)
 
-turned : (a b : ℕ) → (a == b) ≡ (b == a)
-turned a b = grind (arith, nat_tests)
+same-turned : (a b : ℕ) → is_eq (nat_cmp a b) ≡ (b == a)
+same-turned a b = grind (arith, nat_tests)
 
 equal-self : (a : ℕ) → (a == a) ≡ true
 equal-self a = grind (arith, nat_tests)
@@ -99,7 +99,7 @@ by-step o r v true h = refl
 by-step o r v false h = h
 
 test-number : (t : ℕ) (e : Kept) → e.0 ≡ e.1.number → is_eq (nat_cmp t e.0) ≡ (e.1.number == t)
-test-number t e h = same-number t e.0 ∙ turned t e.0 ∙ ap (λ n. n == t) h
+test-number t e h = same-turned t e.0 ∙ ap (λ n. n == t) h
 
 pub named : (t low high : ℕ) (es : List Kept) → Ascend low high es
     → option_map server_of (lookup (is_at (nat_cmp t)) es) ≡ find (is_server t) (servers_of es)

@@ -6,7 +6,7 @@ use Rattle.std.specs.Prelude.{option_map, option_copied, IfSome, is_some, slice_
 use Rattle.std.specs.Prelude.{◌==◌}
 use Rattle.std.specs.List.{find, list_any}
 use Rattle.std.specs.BTreeMap.{is_at}
-use Rattle.std.specs.Ordering.{nat_cmp, is_eq}
+use Rattle.std.specs.Ordering.{nat_cmp}
 use Rattle.std.proofs.lemmas.Bool.{eqb-true}
 use Rattle.std.proofs.lemmas.Bool.Decides.{nat_tests}
 use Rattle.std.proofs.lemmas.List.{map-append, length-map}
@@ -16,11 +16,9 @@ use Rattle.rpc_base.specs.declared.limits.TheConstants.{SESSION_NUMBERS}
 use Rattle.rpc_laws.specs.Sessions.{is_client, is_live}
 use Rattle.rpc_laws.specs.declared.tables.Client.{Client}
 use Rattle.session_mgmt.specs.declared.clients.ClientEnd.{ClientEnd}
+use Rattle.session_mgmt.proofs.KeptLemmas.{same-number}
 use Rattle.session_mgmt.specs.ClientEnds.{AreNumbered, Count, client_of, clients_of, is_next}
 use Rattle.session_mgmt.specs.ClientEnds.{is_next_live, lives, number_of, told}
-
-same-number : (a b : ℕ) → is_eq (nat_cmp a b) ≡ (a == b)
-same-number a b = grind (arith, nat_tests)
 
 equal : (a b : ℕ) → a ≡ b → (a == b) ≡ true
 equal a b h = grind (arith, nat_tests)
