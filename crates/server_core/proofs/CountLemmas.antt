@@ -1,7 +1,7 @@
 -- The places have as many references as entries name them, before and after a call of a session.
 use Rattle.server_core.specs.Session.{ask_of, answer_of}
 use Rattle.std.proofs.Common.{◌≡◌, ℕ, ◌+◌, Bool, Option, Some, None, List, [], ◌∷◌, ◌++◌, get_or}
-use Rattle.std.proofs.Common.{refl, sym, ap, ◌∙◌, inl, inr, arith}
+use Rattle.std.proofs.Common.{refl, sym, ap, ◌∙◌, append_assoc, inl, inr, arith}
 use Rattle.std.specs.Prelude.{IfSome}
 use Rattle.std.specs.List.{AllByRecursion, find}
 use Rattle.std.proofs.lemmas.Bool.{cases_eq}
@@ -10,6 +10,7 @@ use Rattle.packet_rings.specs.Mentions.{mentions}
 use Rattle.packet_rings.specs.Values.{EntryValue}
 use Rattle.packet_rings.proofs.MentionsLemmas.{mentions-append, mentions-none, mentions-other}
 use Rattle.packet_rings.proofs.MentionsLemmas.{mentions-own, mentions-taken}
+use Rattle.rpc_base.specs.Taking.{TakenOut}
 use Rattle.server_core.specs.declared.slot.SlotRequest.{SlotRequest}
 use Rattle.server_core.specs.declared.slot.Stored.{Stored}
 use Rattle.server_core.specs.KeepsPool.{KeepsPool}
@@ -62,3 +63,14 @@ counts-all pool (q ∷ qs) es keeps unheld counts =
     let beside = front-beside pool q qs keeps in
     counts-all (without_buffers q pool) qs es (gone-keeps pool q qs beside)
     (unheld-rest pool q qs beside unheld.1) (gone-counts pool es q qs beside unheld.0 counts)
+
+-- an entry leaves a list that has others behind it
+pub taken-beside : (passes : EntryValue → Bool) (e : EntryValue) (old new others : List EntryValue)
+    → TakenOut passes e old new → TakenOut passes e (old ++ others) (new ++ others)
+taken-beside passes e old new others out = record {
+  before = out.before;
+  after = out.after ++ others;
+  was = ap (λ es. es ++ others) out.was ∙ append_assoc out.before (e ∷ out.after) others;
+  left = ap (λ es. es ++ others) out.left ∙ append_assoc out.before out.after others;
+  first = out.first;
+}

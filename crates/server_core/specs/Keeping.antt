@@ -1,5 +1,5 @@
 -- What a call makes of a ring that holds each reply of a session, for any list of its entries.
-use Rattle.std.specs.Prelude.{List}
+use Rattle.std.specs.Prelude.{List, ◌++◌}
 use Rattle.buffer_pool.specs.Counting.{Counts}
 use Rattle.buffer_pool.specs.Pool.{Pool}
 use Rattle.packet_rings.specs.Still.{Still, StillWith, StillWithout}
@@ -40,3 +40,15 @@ LeftQueued e s w =
 
 abbrev pub LeftCounts : EntryValue → (before after : Pool) → Type 0
 LeftCounts e before after = StillWithout e (Counts before) (Counts after)
+
+-- the entries of a ring that changed and any others count the references, as before
+abbrev pub CountsBeside : (old new : List EntryValue) → (before after : Pool) → Type 0
+CountsBeside old new before after =
+    (others : List EntryValue) → Counts before (old ++ others) → Counts after (new ++ others)
+
+-- so they do with these replies behind them
+abbrev pub CountsBehind : (replies : List EntryValue) → (old new : List EntryValue)
+    → (before after : Pool) → Type 0
+CountsBehind replies old new before after =
+    (others : List EntryValue) → Counts before (old ++ others)
+    → Counts after ((new ++ others) ++ replies)

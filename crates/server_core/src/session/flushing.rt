@@ -10,7 +10,7 @@ ghost use Rattle.server_core.specs.KeepsPool.{KeepsPool, LeavesOthers};
 ghost use Rattle.server_core.specs.Serving.{IsUnheld};
 ghost use Rattle.server_core.specs.Session.{newest};
 ghost use Rattle.server_core.specs.Shown.{shown};
-ghost use Rattle.buffer_pool.specs.Counting.{Counts};
+ghost use Rattle.server_core.specs.Keeping.{CountsBeside};
 
 use super::ServerSession;
 use buffer_pool::BufferPool;
@@ -47,7 +47,7 @@ impl ServerSession {
             HoldsAll (without_newest request self.now) pool.new tx.new.items }
         ensures queued { CountsQueued self.now tx.old.items →
             CountsQueued (without_newest request self.now) tx.new.items }
-        ensures counts { Counts pool.old tx.old.items → Counts pool.new tx.new.items }
+        ensures counts { CountsBeside tx.old.items tx.new.items pool.old pool.new }
         ensures keeps_pool { KeepsPool pool.new self.now.slots }
     {
         let Some(older) = self.slots.of_slot(request.slot()) else {

@@ -12,7 +12,7 @@ ghost use Rattle.rpc_laws.specs.Service.{is_handled};
 ghost use Rattle.rpc_laws.specs.ServerTable.{new_row, server_row};
 ghost use Rattle.server_core.specs.Counting.{CountsQueued, IsCounted, repeated};
 ghost use Rattle.server_core.specs.Flushing.{HoldsAll, HoldsReplies, replies_of, ring_after};
-ghost use Rattle.server_core.specs.Keeping.{CountsWith, HoldsWith, QueuedWith};
+ghost use Rattle.server_core.specs.Keeping.{CountsBehind, CountsWith, HoldsWith, QueuedWith};
 ghost use Rattle.server_core.specs.KeepsPool.{KeepsPool, KeepsSpare, LeavesOthers};
 ghost use Rattle.server_core.specs.Noting.{Handled, IsByRule, early_facts, packet_facts};
 ghost use Rattle.server_core.specs.Rows.{row_of};
@@ -119,9 +119,9 @@ impl ServerSession {
         ensures queued { HoldsAll self.old pool.old tx.old.items →
             CountsQueued self.old tx.old.items →
             CountsQueued self.new (tx.new.items ++ replies_of result) }
-        // The places have as many references as these entries name them, as before.
-        ensures counts { Counts pool.old tx.old.items →
-            Counts pool.new (tx.new.items ++ replies_of result) }
+        // The places have as many references as these entries and any others name them, as before.
+        ensures counts { CountsBehind (replies_of result) tx.old.items tx.new.items pool.old
+            pool.new }
         ensures keeps_pool { KeepsPool pool.new self.new.slots }
     {
         let step = self.step(alloc, pool, tx, service, head, body, jobs_full, &who, rec);
@@ -191,8 +191,8 @@ impl ServerSession {
         ensures queued { HoldsAll self.old pool.old tx.old.items →
             CountsQueued self.old tx.old.items →
             CountsQueued self.new (tx.new.items ++ replies_of result) }
-        ensures counts { Counts pool.old tx.old.items →
-            Counts pool.new (tx.new.items ++ replies_of result) }
+        ensures counts { CountsBehind (replies_of result) tx.old.items tx.new.items pool.old
+            pool.new }
         ensures keeps_pool { KeepsPool pool.new self.new.slots }
     {
         let mode = service.mode(head.req_type);

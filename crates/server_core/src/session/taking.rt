@@ -17,7 +17,7 @@ ghost use Rattle.rpc_outside.specs.declared.service.Mode.TheVariants.{Unserved};
 ghost use Rattle.server_core.specs.Counting.{CountsQueued, IsCounted};
 ghost use Rattle.server_core.specs.Flushing.{HoldsAll, HoldsReplies, replies_of, ring_after};
 ghost use Rattle.server_core.specs.Flushing.{without_newest};
-ghost use Rattle.server_core.specs.Keeping.{CountsWith, HoldsWith, QueuedWith, StillCounts};
+ghost use Rattle.server_core.specs.Keeping.{CountsBehind, CountsWith, HoldsWith, QueuedWith, StillCounts};
 ghost use Rattle.server_core.specs.Keeping.{StillHolds};
 ghost use Rattle.server_core.specs.KeepsPool.{IsKept, KeepsPool, KeepsSpare, LeavesOthers};
 ghost use Rattle.server_core.specs.KeepsPool.{own_names};
@@ -101,8 +101,8 @@ impl ServerSession {
         ensures queued { HoldsAll self.old pool.old tx.old.items →
             CountsQueued self.old tx.old.items →
             CountsQueued self.new (tx.new.items ++ replies_of result) }
-        ensures counts { Counts pool.old tx.old.items →
-            Counts pool.new (tx.new.items ++ replies_of result) }
+        ensures counts { CountsBehind (replies_of result) tx.old.items tx.new.items pool.old
+            pool.new }
         ensures keeps_pool { KeepsPool pool.new self.new.slots }
     {
         if count(head.size) > 1 {

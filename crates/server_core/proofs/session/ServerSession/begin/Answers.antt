@@ -1,4 +1,4 @@
-use Rattle.std.proofs.Common.{◌≡◌, None, [], ◌∷◌, refl, sym, ap, ◌∙◌, append-nil, arith}
+use Rattle.std.proofs.Common.{◌≡◌, None, [], ◌∷◌, ◌++◌, refl, sym, ap, ◌∙◌, append-nil, arith}
 use Rattle.packet_header.specs.Parts.{packet_count}
 use Rattle.packet_header.proofs.PartsLemmas.{packet_count_above}
 use Rattle.rpc_laws.specs.Requests.{answered, given}
@@ -122,18 +122,18 @@ returns-clause-all_served g c =
     c.requires.all_served)
 
 pub returns-then-is_background-clause-counts : goal.returns-then-is_background-clause-counts
-returns-then-is_background-clause-counts g c = λ counts.
-    let items = c.flush_older-then-is_background.new.tx.items in
+returns-then-is_background-clause-counts g c = λ others counts.
+    let items = c.flush_older-then-is_background.new.tx.items ++ others in
     let all : Counts c.begin_working.new.pool items =
     c.begin_working.ensures.counts items
-    (c.flush_older-then-is_background.ensures.counts counts) in
+    (c.flush_older-then-is_background.ensures.counts others counts) in
     rw (append-nil items) all
 
 pub returns-clause-counts : goal.returns-clause-counts
-returns-clause-counts g c = λ counts.
-    let items = c.flush_older-2.new.tx.items in
+returns-clause-counts g c = λ others counts.
+    let items = c.flush_older-2.new.tx.items ++ others in
     c.answer_inline-reply.ensures.counts items
-    (c.begin_working-2.ensures.counts items (c.flush_older-2.ensures.counts counts))
+    (c.begin_working-2.ensures.counts items (c.flush_older-2.ensures.counts others counts))
 
 pub returns-then-count-gt1-clause-queued : goal.returns-then-count-gt1-clause-queued
 returns-then-count-gt1-clause-queued g c = λ holds counted.

@@ -25,6 +25,7 @@ use Rattle.server_core.proofs.PoolLemmas.{keeps-released}
 use Rattle.server_core.proofs.session.ServerSession.flush_older.Goals as goal
 use Rattle.rpc_base.proofs.FirstLemmas.{counted-none, found-holds, none-counted}
 use Rattle.buffer_pool.proofs.CountingLemmas.{counts-released}
+use Rattle.server_core.proofs.CountLemmas.{taken-beside}
 
 pub release_at-requires : goal.release_at-requires
 release_at-requires g c =
@@ -97,7 +98,8 @@ loop-left-preserved g c =
           (is_in_slot (c.args.request % 8)) c.args.self.now.slots found);
       all = λ before. sent-of pool c.args.self.now sound inv.keeps _ e old new out (inv.all before)
           c.args.request q found (reply-is n q.number e.owner own);
-      counts = λ before. counts-released pool old (inv.counts before) _ e new out
+      counts = λ others before. counts-released pool (old ++ others) (inv.counts others before) _ e
+          (new ++ others) (taken-beside _ e old new others out)
           (flush-held n q pool old new _ e inv.holds out own kept);
       keeps = keeps-released pool e.place c.args.self.now.slots
           (flush-held n q pool old new _ e inv.holds out own kept) inv.keeps;
@@ -169,8 +171,8 @@ returns-in_default-clause-holds g c = λ holds.
     none-gone c.args.pool.now c.args.self.now c.args.request none c.args.tx.now.items holds
 
 pub returns-clause-counts : goal.returns-clause-counts
-returns-clause-counts g c = λ counts.
-    c.loop-left.invariant.counts counts
+returns-clause-counts g c = λ others counts.
+    c.loop-left.invariant.counts others counts
 
 pub unreachable-requires : goal.unreachable-requires
 unreachable-requires g c =

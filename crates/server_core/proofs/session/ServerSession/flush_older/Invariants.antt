@@ -10,7 +10,7 @@ use Rattle.server_core.specs.KeepsPool.{KeepsPool, LeavesOthers}
 use Rattle.server_core.specs.Session.{owner_of}
 use Rattle.server_core.specs.Shown.{shown}
 use Rattle.server_core.proofs.session.ServerSession.flush_older.Given as goal
-use Rattle.buffer_pool.specs.Counting.{Counts}
+use Rattle.server_core.specs.Keeping.{CountsBeside}
 
 abbrev pub invariant-loop-left : goal.invariant-loop-left
 invariant-loop-left g l = record {
@@ -26,7 +26,7 @@ invariant-loop-left g l = record {
   spare : spare_of l.pool ≡ spare_of l.fn.pool;
   others : LeavesOthers l.fn.self.slots l.fn.self.slots l.fn.pool l.pool;
   all : HoldsAll l.fn.self l.fn.pool l.fn.tx.items → HoldsAll l.fn.self l.pool l.tx.items;
-  counts : Counts l.fn.pool l.fn.tx.items → Counts l.pool l.tx.items;
+  counts : CountsBeside l.fn.tx.items l.tx.items l.fn.pool l.pool;
   keeps : KeepsPool l.pool l.fn.self.slots;
 }
 
