@@ -58,6 +58,20 @@ front-first : (p : Paced) (ps : List Paced) → IsNonDecreasingBy due_of (p ∷ 
     → AllByRecursion (λ q. p.due ≤ q.due) ps
 front-first p ps sorted = later p.due ps (λ k d less. sorted 0 (suc k) d (omega arith) (omega (arith, less)))
 
+-- no entry is due before the front
+pub front-least : (p : Paced) (ps : List Paced) → IsNonDecreasingBy due_of ps
+    → slice_get ps 0 ≡ Some p → AllByRecursion (λ q. p.due ≤ q.due) ps
+front-least p [] sorted is = cc
+front-least p (q ∷ qs) sorted is =
+    let same : q ≡ p = cc in
+    subst (λ (x : Paced). AllByRecursion (λ d. x.due ≤ d.due) (q ∷ qs)) same
+    (omega arith, front-first q qs sorted)
+
+pub fronts : (o : Option Paced) (ps : List Paced) → IsNonDecreasingBy due_of ps
+    → o ≡ slice_get ps 0 → IfSome o (λ p. AllByRecursion (λ q. p.due ≤ q.due) ps)
+fronts None ps sorted is = tt
+fronts (Some p) ps sorted is = front-least p ps sorted (sym is)
+
 module _ (now : ℕ) where
   smaller-least : (n : ℕ) (o : Option ℕ) → IfSome o (λ m. n ≤ m) → smaller n o ≡ n
   smaller-least n None h = refl

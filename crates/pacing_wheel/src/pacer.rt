@@ -1,7 +1,7 @@
 //! The pacer.
 ghost use Rattle.std.specs.Prelude.{◌≡◌, ◌<◌, ◌≤◌, ◌↔◌, ◌+◌, [], false, length, option_map, slice_get};
-ghost use Rattle.std.specs.Prelude.{IfOk, IsNone, IsOk, IsTrue};
-ghost use Rattle.std.specs.List.{find, list_any, position};
+ghost use Rattle.std.specs.Prelude.{IfOk, IfSome, IsNone, IsOk, IsTrue, drop};
+ghost use Rattle.std.specs.List.{AllByRecursion, find, list_any, position};
 ghost use Rattle.std.specs.VecDeque.{deque_capacity};
 ghost use Rattle.rpc_base.specs.Tables.{without_first};
 ghost use Rattle.rpc_base.specs.Least.{least, least_number, smaller, without_least};
@@ -91,6 +91,26 @@ impl Pacer {
         };
     }
 
+    /// The entry that is due first, among equals the one added first, with its due time. None comes
+    /// exactly where no entry waits.
+    pub fn front(&self) -> Option<Paced>
+        ensures front { result ≡ slice_get self.now.items 0 }
+        ensures first { IfSome result (λ p. AllByRecursion (λ q. p.due ≤ q.due) self.now.items) }
+    {
+        first_of(&self.waiting)
+    }
+
+    /// Takes that entry out. None comes exactly where no entry waits.
+    pub fn pop(&mut self) -> Option<Entry>
+        ensures front { result ≡ option_map entry_of (slice_get self.old.items 0) }
+        ensures rest { self.new ≡ wheel (drop 1 self.old.items) self.old.size }
+    {
+        let Some(paced) = self.waiting.pop_front() else {
+            return None;
+        };
+        Some(entry_in(&paced))
+    }
+
     /// Takes out the entry that is due first, among equals the one added first, where it is due at
     /// `now`, in microseconds. None comes exactly where no entry is.
     pub fn release(&mut self, now: u64) -> Option<Entry>
@@ -171,6 +191,16 @@ fn least_of(waiting: &VecDeque<Paced>, owner: &Owner) -> Option<u16>
         }
     }
     least
+}
+
+// The front entry.
+fn first_of(waiting: &VecDeque<Paced>) -> Option<Paced>
+    ensures { result ≡ slice_get waiting.now.items 0 }
+{
+    match waiting.front() {
+        Some(paced) => Some(*paced),
+        None => None,
+    }
 }
 
 // Whether there is a front entry and it is due.

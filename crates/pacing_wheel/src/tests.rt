@@ -28,6 +28,7 @@ fn entries_leave_by_their_due_times(rt: HostRuntime) -> Result<(), Fail> {
         }
     }
     assert!(rt; pacer.len() == 3 && pacer.size() == 4 && !pacer.is_empty());
+    assert_eq!(rt; pacer.front().map(|paced| paced.due), Some(5));
     assert_eq!(rt; pacer.release(4), None);
     for entry in [Some(b), Some(a), Some(c), None] {
         assert_eq!(rt; pacer.release(10), entry);
@@ -49,6 +50,7 @@ fn the_least_number_leaves_first(rt: HostRuntime) -> Result<(), Fail> {
     for entry in [Some(second), Some(first), None] {
         assert_eq!(rt; pacer.flush(first.owner), entry);
     }
-    assert_eq!(rt; pacer.release(2), Some(other));
+    assert_eq!(rt; pacer.pop(), Some(other));
+    assert_eq!(rt; pacer.pop(), None);
     Ok(())
 }
