@@ -49,6 +49,11 @@ abbrev pub queued_in : Option ActiveCall → ℕ
 queued_in None = 0
 queued_in (Some c) = c.queued
 
+-- how many bytes a call asks
+abbrev pub bytes_in : Option ActiveCall → ℕ
+bytes_in None = 0
+bytes_in (Some c) = c.len
+
 -- a call as the slots know it
 abbrev pub begun_as : ActiveCall → Begun
 begun_as c = record { request = c.request; call = c.call }

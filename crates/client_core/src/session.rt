@@ -19,7 +19,8 @@ ghost use Rattle.client_core.specs.KeepsEntries.{KeepsEntries};
 ghost use Rattle.client_core.specs.KeepsPool.{CanHold, IsHeld, KeepsPool, LeavesOthers, held_for, released_at};
 ghost use Rattle.client_core.specs.Posting.{IsPacketOf, Starts, call_of, flushed_at, next_entry, posted, sent_at};
 ghost use Rattle.client_core.specs.Replies.{call_as};
-ghost use Rattle.client_core.specs.Session.{IsSession, can_post, enqueued, new_session, queued_in};
+ghost use Rattle.client_core.specs.Session.{IsSession, bytes_in, can_post, enqueued, new_session};
+ghost use Rattle.client_core.specs.Session.{queued_in};
 ghost use Rattle.client_core.specs.Shown.{asked, begun_event, packet_of, paired, posted_event};
 ghost use Rattle.client_core.specs.Shown.{sent_event, shown, stepped};
 ghost use Rattle.client_core.specs.Timeouts.{is_numbered};
@@ -322,6 +323,16 @@ impl ClientSession {
     {
         match self.calls.of_request(request) {
             Some(call) => call.queued,
+            None => 0,
+        }
+    }
+
+    /// How many bytes the active call with this request asks, 0 where there is none.
+    pub fn bytes(&self, request: RequestNo) -> u32
+        ensures { result ≡ bytes_in (call_as request self.now) }
+    {
+        match self.calls.of_request(request) {
+            Some(call) => call.len,
             None => 0,
         }
     }
