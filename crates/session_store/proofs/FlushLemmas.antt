@@ -1,6 +1,6 @@
 -- What is seen of the entry of least number of an owner, and of the ring without it.
 use Rattle.std.proofs.Common.{◌≡◌, ℕ, ◌<◌, ◌&&◌, Bool, true, false, cond, eqb, Option, Some, None}
-use Rattle.std.proofs.Common.{List, [], ◌∷◌, length, get_or, refl, ap, ◌∙◌, arith}
+use Rattle.std.proofs.Common.{List, [], ◌∷◌, length, get_or, refl, sym, ap, ◌∙◌, arith}
 use Rattle.std.specs.Prelude.{IsTrue, map, option_map, slice_get, ◌==◌}
 use Rattle.std.proofs.lemmas.List.{length-map}
 use Rattle.std.specs.List.{find}
@@ -18,69 +18,21 @@ use Rattle.packet_rings.specs.Rings.{Ring}
 use Rattle.server_core.specs.Session.{Session as Serving}
 use Rattle.session_store.specs.declared.side.Side.{Side}
 use Rattle.session_store.specs.Sides.{Kept, Shown, queued_of, shown_of, shown_side}
+use Rattle.pacing_wheel.specs.Wheel.{Wheel}
+use Rattle.session_store.specs.Joined.{joined, queue_of, without_due}
+use Rattle.session_store.proofs.LeastMapLemmas.{least-map}
 use Rattle.session_store.proofs.ListLemmas.{get-there}
+use Rattle.session_store.proofs.UndueLemmas.{queue-undue}
 use Rattle.session_store.proofs.StandLemmas.{owner-is}
 
-module _ (owner : Owner) where
-  number-seen : (ds : List EntryValue)
-      → least_number (is_owned owner) queued_number (map queued_of ds) ≡ least_number (is_of owner) number_of ds
-  number-seen [] = refl
-  number-seen (d ∷ ds) = rw (number-seen ds) refl
-
-  found-cons : (n : ℕ) (d : EntryValue) (ds : List EntryValue) (b : Bool)
-      → find (λ q. is_owned owner q && queued_number q == n)
-      (map queued_of ds) ≡ option_map queued_of (find (λ x. is_of owner x && number_of x == n) ds)
-      → cond b (Some (queued_of d))
-      (find (λ q. is_owned owner q && queued_number q == n) (map queued_of ds))
-      ≡ option_map queued_of (cond b (Some d)
-      (find (λ x. is_of owner x && number_of x == n) ds))
-  found-cons n d ds true ih = refl
-  found-cons n d ds false ih = ih
-
-  found-seen : (n : ℕ) (ds : List EntryValue) → find (λ q. is_owned owner q && queued_number q == n)
-      (map queued_of ds) ≡ option_map queued_of (find (λ x. is_of owner x && number_of x == n) ds)
-  found-seen n [] = refl
-  found-seen n (d ∷ ds) = found-cons n d ds (is_of owner d && number_of d == n) (found-seen n ds)
-
-  left-cons : (n : ℕ) (d : EntryValue) (ds : List EntryValue) (b : Bool)
-      → without_first (λ q. is_owned owner q && queued_number q == n)
-      (map queued_of ds) ≡ map queued_of (without_first (λ x. is_of owner x && number_of x == n) ds)
-      → cond b (map queued_of ds)
-      (queued_of d ∷ without_first (λ q. is_owned owner q && queued_number q == n)
-      (map queued_of ds)) ≡ map queued_of
-      (cond b ds (d ∷ without_first (λ x. is_of owner x && number_of x == n) ds))
-  left-cons n d ds true ih = refl
-  left-cons n d ds false ih = ap (λ qs. queued_of d ∷ qs) ih
-
-  left-seen : (n : ℕ) (ds : List EntryValue)
-      → without_first (λ q. is_owned owner q && queued_number q == n)
-      (map queued_of ds) ≡ map queued_of (without_first (λ x. is_of owner x && number_of x == n) ds)
-  left-seen n [] = refl
-  left-seen n (d ∷ ds) = left-cons n d ds (is_of owner d && number_of d == n) (left-seen n ds)
-
-  least-by : (ds : List EntryValue) (o : Option ℕ)
-      → bearer (is_owned owner) queued_number (map queued_of ds) o
-      ≡ option_map queued_of (bearer (is_of owner) number_of ds o)
-  least-by ds None = refl
-  least-by ds (Some n) = found-seen n ds
-
-  pub least-seen : (ds : List EntryValue)
-      → least (is_owned owner) queued_number (map queued_of ds)
-      ≡ option_map queued_of (least (is_of owner) number_of ds)
-  least-seen ds = ap (bearer (is_owned owner) queued_number (map queued_of ds)) (number-seen ds)
-      ∙ least-by ds (least_number (is_of owner) number_of ds)
-
-  without-by : (ds : List EntryValue) (o : Option ℕ)
-      → without_bearer (is_owned owner) queued_number (map queued_of ds) o
-      ≡ map queued_of (without_bearer (is_of owner) number_of ds o)
-  without-by ds None = refl
-  without-by ds (Some n) = left-seen n ds
-
-  pub without-seen : (ds : List EntryValue)
-      → without_least (is_owned owner) queued_number (map queued_of ds)
-      ≡ map queued_of (without_least (is_of owner) number_of ds)
-  without-seen ds = ap (without_bearer (is_owned owner) queued_number (map queued_of ds))
-      (number-seen ds) ∙ without-by ds (least_number (is_of owner) number_of ds)
+-- what is seen of the ring and the pacer
+pub taken-seen : (owner : Owner) (tx : Ring EntryValue) (paced : Wheel)
+    → option_map queued_of (least (is_of owner) number_of (joined tx paced).items)
+    ≡ option_map without_due (least (is_owned owner) queued_number (queue_of tx paced))
+taken-seen owner tx paced =
+    sym (least-map queued_of (is_owned owner) queued_number (joined tx paced).items)
+    ∙ ap (least (is_owned owner) queued_number) (sym (queue-undue tx paced))
+    ∙ least-map without_due (is_owned owner) queued_number (queue_of tx paced)
 
 -- a session that is looked at has its place's number
 module _ (pool : Pool) (sides : List Side) (servers : List Serving) (tx : Ring EntryValue)

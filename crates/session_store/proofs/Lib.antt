@@ -6,6 +6,12 @@ mod GoneLemmas
 mod KeptLemmas
 pub mod CountLemmas
 pub mod ListLemmas
+mod LeastMapLemmas
+mod JoinLemmas
+mod PutLemmas
+mod UndueLemmas
+mod HandledLemmas
+mod SizeLemmas
 mod PlaceLemmas
 mod PostedLemmas
 pub mod StandLemmas

@@ -23,7 +23,11 @@ use Rattle.packet_rings.specs.Rings.{Ring, ring}
 use Rattle.packet_rings.specs.Values.{EntryValue}
 use Rattle.packet_rings.proofs.MentionsLemmas.{mentions-le-length}
 use Rattle.rpc_laws.specs.Requests.{in_slot_of}
-use Rattle.rpc_laws.specs.ServerTable.{served_facts}
+use Rattle.rpc_base.specs.declared.event.Event.TheVariants.{Flushed}
+use Rattle.rpc_laws.specs.Facts.{plain}
+use Rattle.rpc_laws.specs.Queues.{numbers_of}
+use Rattle.rpc_laws.specs.ServerTable.{flushes, served_facts, took_facts}
+use Rattle.rpc_laws.specs.declared.tables.Served.{Served as ServedRequest}
 use Rattle.rpc_laws.specs.declared.rows.ServerRow.{ServerRow}
 use Rattle.rpc_laws.specs.declared.rows.ServerRow.TheVariants.{Drops, Begins, Takes, Repeats}
 use Rattle.rpc_laws.specs.declared.tables.Queued.{Queued}
@@ -48,6 +52,7 @@ use Rattle.server_core.proofs.FlushLemmas.{ring-room}
 use Rattle.server_core.proofs.SpareLemmas.{places-most}
 use Rattle.session_store.specs.declared.side.Side.{Side}
 use Rattle.session_store.specs.Effects.{ServerStep}
+use Rattle.session_store.specs.Joined.{put_ready}
 use Rattle.session_store.specs.Queue.{is_owned}
 use Rattle.session_store.specs.Serving.{AreServedAt, Handles, HandlesAt, ServerCanHold}
 use Rattle.session_store.specs.Serving.{IsReplyOf, ServerServed, handled_facts, queue_handled}
@@ -177,7 +182,7 @@ seen-out o (e ∷ es) =
     seen-cons o e (filter (is_not_of o) es) (filter (λ x. not (is_owned o x)) (map queued_of es))
     (not (is_of o e)) (seen-out o es)
 
-seen-after : (pool : Pool) (n : ℕ) (o : Option SlotRequest) (es : List EntryValue) (b : Bool)
+pub seen-after : (pool : Pool) (n : ℕ) (o : Option SlotRequest) (es : List EntryValue) (b : Bool)
     → map queued_of (cond b (without_replies n o es) es)
     ≡ cond b (without_owned n (option_map (shown_request pool) o) (map queued_of es))
     (map queued_of es)
@@ -218,6 +223,26 @@ module _ (me : ℕ) (mode : Mode) (v : Serving) (entries : List EntryValue) (row
   facts-same (Give parcel) rule = rule (λ e. cc)
   facts-same (Dropped NoMemory) rule = rw (begun-none row NoMemory) refl
   facts-same (Dropped why) rule = rule (λ e. cc)
+
+-- the facts of the server rule look only at the numbers of the replies that are queued
+flushes-same : (me t : ℕ) (qs rs : List Queued)
+    → ((r : ℕ) → numbers_of (Reply t r) qs ≡ numbers_of (Reply t r) rs)
+    → (o : Option ServedRequest) → flushes me qs t o ≡ flushes me rs t o
+flushes-same me t qs rs same None = refl
+flushes-same me t qs rs same (Some q) =
+    ap (map (λ k. plain me (Flushed (Reply t q.number) k))) (same q.number)
+
+pub served-same : (mode : Mode) (me : ℕ) (answer : List ℕ) (qs rs : List Queued) (v : Server)
+    (h : MessageHeader) (body : List ℕ)
+    → ((r : ℕ) → numbers_of (Reply v.way.number r) qs ≡ numbers_of (Reply v.way.number r) rs)
+    → (row : ServerRow) → served_facts mode me answer qs (Some v) h body row
+    ≡ served_facts mode me answer rs (Some v) h body row
+served-same mode me answer qs rs v h body same (Drops why) = refl
+served-same mode me answer qs rs v h body same Begins =
+    ap (λ fs. fs ++ took_facts mode me answer h body)
+    (flushes-same me v.way.number qs rs same (find (in_slot_of h.request) v.slots))
+served-same mode me answer qs rs v h body same Takes = refl
+served-same mode me answer qs rs v h body same Repeats = refl
 
 -- requests of types that are served, as they are shown
 pub served-seen : (pool : Pool) (mode_of : ℕ → Mode) (qs : List SlotRequest)
@@ -262,7 +287,7 @@ module _ {R : Type 0} (facts : R → Option (List Fact)) (whole : R → Bool) (m
   same-peer : g.later.peer ≡ g.server.peer
   same-peer = ap (λ w. w.peer) same-way
 
-  items-are : new.items ≡ cond begins (without_replies g.server.number older old.items) old.items
+  pub items-are : new.items ≡ cond begins (without_replies g.server.number older old.items) old.items
   items-are = ap (λ (r : Ring EntryValue). r.items) g.step.ring_is
 
   size-is : new.size ≡ old.size
@@ -309,7 +334,9 @@ module _ {R : Type 0} (facts : R → Option (List Fact)) (whole : R → Bool) (m
         acts = record {
           leaves = g.step.leaves;
           few = g.step.keeps.apart;
-          counts = g.step.counts kept.counted;
+          counts = subst (λ es. Counts after (es ++ replies_of step)) (append-nil new.items)
+              (g.step.counts [] (subst (λ es. Counts pool es) (sym (append-nil old.items))
+              kept.counted));
           beside = beside-then;
           within = omega (arith, new-room, one-most, length-append new.items (replies_of step));
           size = size-is;
@@ -341,16 +368,16 @@ module _ {R : Type 0} (facts : R → Option (List Fact)) (whole : R → Bool) (m
   row-seen : row ≡ row_at mode jobs_full false h server_seen
   row-seen = sym g.step.rule
 
-  queue-seen : map queued_of (new.items ++ replies_of step)
-      ≡ queue_handled (row_at mode jobs_full false h server_seen) step server_seen h
-      (map queued_of old.items)
-  queue-seen =
-      map-append queued_of new.items (replies_of step)
-      ∙ ap (λ qs. qs ++ map queued_of (replies_of step))
-      (ap (map queued_of) items-are ∙ seen-after pool g.server.number older old.items begins
-      ∙ ap (λ o. cond begins (without_owned g.server.number o (map queued_of old.items))
-      (map queued_of old.items)) (sym (older-shown pool g.server h.request)))
-      ∙ ap (λ r. queue_handled r step server_seen h (map queued_of old.items)) row-seen
+  -- any queue is as the definitions have it, where the older request's replies left it and the
+  -- reply was put in
+  pub queue-by : (queued now_queued : List Queued)
+      → now_queued ≡ put_ready (replies_of step) (cond begins (without_owned g.server.number
+      (option_map (shown_request pool) older) queued) queued)
+      → now_queued ≡ queue_handled (row_at mode jobs_full false h server_seen) step server_seen h queued
+  queue-by queued now_queued is =
+      is ∙ ap (λ o. put_ready (replies_of step) (cond begins
+      (without_owned g.server.number o queued) queued)) (sym (older-shown pool g.server h.request))
+      ∙ ap (λ r. queue_handled r step server_seen h queued) row-seen
 
   own-of : (e : EntryValue) → IsReply h.request h.number g.later after e
       → IsReplyOf g.server.number h e
@@ -366,19 +393,27 @@ module _ {R : Type 0} (facts : R → Option (List Fact)) (whole : R → Bool) (m
   reply-own (Dropped why) is = tt
 
   pub serve-at : (session : h.session ≡ g.server.number) (before then : Shown)
-      → shown_of pool sides servers old ≡ before → shown_of after sides now final ≡ then
-      → HandlesAt facts whole mode jobs_full me i h body answer_of stands then_stands noted_before
-      noted_now step before then
-  serve-at session before then view later-view =
+      → map (shown_server pool) servers ≡ before.servers
+      → map (shown_server after) now ≡ then.servers
+      → ((r : ℕ) → numbers_of (Reply g.server.number r) (map queued_of old.items)
+      ≡ numbers_of (Reply g.server.number r) before.queued)
+      → then.queued ≡ queue_handled (row_at mode jobs_full false h server_seen) step server_seen h
+      before.queued → HandlesAt facts whole mode jobs_full me i h body answer_of stands then_stands
+      noted_before noted_now step before then
+  serve-at session before then view later-view numbers queue =
       let done = g.step.handled in
       let ruled = facts-same me mode g.server old.items row h body (asked_with h body server_seen)
       done.answer server_seen step (g.step.by_rule session me done.answer) in
       let noted = ruled ∙ ap (λ r. handled_facts me
       (served_facts mode me done.answer (map queued_of old.items)
-      (Some server_seen) h body r) step) row-seen in
-      rw (← view, ← later-view) (record {
+      (Some server_seen) h body r) step) row-seen
+      ∙ ap (λ fs. handled_facts me fs step) (served-same mode me done.answer
+      (map queued_of old.items) before.queued server_seen h body numbers
+      (row_at mode jobs_full false h server_seen)) in
+      record {
         server = server_seen;
-        place = get-map (shown_server pool) servers i g.server g.at;
+        place = subst (λ vs. slice_get vs i ≡ Some server_seen) view
+            (get-map (shown_server pool) servers i g.server g.at);
         row = subst (λ r. IsStepOf mode h r step) row-seen g.step.row;
         lacks = g.step.lacks;
         later = shown_server after g.later;
@@ -390,11 +425,11 @@ module _ {R : Type 0} (facts : R → Option (List Fact)) (whole : R → Bool) (m
         };
         reply = reply-own step g.step.reply;
         give = g.step.give;
-        changed = ap (map (shown_server after)) g.changed
+        changed = sym later-view ∙ ap (map (shown_server after)) g.changed
             ∙ servers-set pool after sides servers i g.server g.later old final g.at kept
-            serve-acts;
-        queue = queue-seen;
-      })
+            serve-acts ∙ ap (λ vs. slice_set vs i (shown_server after g.later)) view;
+        queue = queue;
+      }
 
   pub final-none : replies_of step ≡ [] → final ≡ new
   final-none e = ap (λ rs. ring (new.items ++ rs) new.size) e ∙ ap (λ xs. ring xs new.size) (append-nil new.items)

@@ -13,7 +13,7 @@ use Rattle.rpc_base.specs.declared.owner.Owner.TheVariants.{Ask}
 use Rattle.rpc_base.proofs.FirstLemmas.{all-push, counted-cons}
 use Rattle.buffer_pool.specs.Counting.{Counts}
 use Rattle.buffer_pool.specs.Pool.{Pool, spare_of}
-use Rattle.packet_rings.specs.Entries.{is_of}
+use Rattle.packet_rings.specs.Entries.{is_of, is_reply}
 use Rattle.packet_rings.specs.Rings.{Ring, ring}
 use Rattle.packet_rings.specs.Values.{EntryValue}
 use Rattle.packet_rings.proofs.MentionsLemmas.{mentions-le-length}
@@ -144,6 +144,20 @@ module _ (pool after : Pool) (sides now : List Side) (servers : List Serving) (t
       let own : length (map queued_of tx.items) + (shown_side pool h.side).free ≤ tx.size =
       rw (get-map (shown_side pool) sides i h.side h.at) at here in
       omega (arith, own, side-free, length-map tx.items queued_of)
+
+  -- so there is among those that are paced, of which there are n
+  pub paced-there : (seen : Shown) → shown_of pool sides servers tx ≡ seen → (n : ℕ)
+      → IfSome (slice_get seen.clients i) (λ x. 2 * (n + x.free) ≤ seen.size)
+      → 2 * n + 2 ≤ tx.size
+  paced-there seen view n room =
+      let here : IfSome (slice_get (map (shown_side pool) sides) i)
+      (λ x. 2 * (n + x.free) ≤ tx.size) = rw (← view) at room in
+      let own : 2 * (n + (shown_side pool h.side).free) ≤ tx.size =
+      rw (get-map (shown_side pool) sides i h.side h.at) at here in
+      omega (arith, own, side-free)
+
+  pub posted-call : is_reply e ≡ false
+  posted-call = rw mine refl
 
   pub kept-posted : length tx.items < tx.size
       → Kept after now servers (ring (tx.items ++ e ∷ []) tx.size)

@@ -21,7 +21,10 @@ use Rattle.packet_rings.specs.Rings.{Ring}
 use Rattle.packet_rings.specs.Values.{EntryValue}
 use Rattle.packet_rings.proofs.MentionsLemmas.{mentions-cons, mentions-none, mentions-other}
 use Rattle.node_laws.specs.Windows.{InWindow, Inside, Stands, Windows}
+use Rattle.pacing_wheel.specs.Wheel.{Wheel}
 use Rattle.rpc_laws.specs.Calls.{is_active}
+use Rattle.session_store.specs.Joined.{joined, queue_of}
+use Rattle.session_store.proofs.UndueLemmas.{queue-undue, queued-undue}
 use Rattle.rpc_laws.specs.Queues.{is_queued}
 use Rattle.rpc_laws.specs.Sessions.{is_client}
 use Rattle.client_core.specs.declared.call.ActiveCall.{ActiveCall}
@@ -339,3 +342,11 @@ pub entry-queued : (s r k : ℕ) (entries : List EntryValue) → list_any (is_qu
     (map queued_of entries) ≡ list_any (is_entry (Ask s r) k) entries
 entry-queued s r k [] = refl
 entry-queued s r k (e ∷ es) = rw (entry-queued s r k es) refl
+
+pub entry-seen : (s r k : ℕ) (tx : Ring EntryValue) (paced : Wheel)
+    → list_any (is_queued (Ask s r) k) (queue_of tx paced)
+    ≡ list_any (is_entry (Ask s r) k) (joined tx paced).items
+entry-seen s r k tx paced =
+    sym (queued-undue (Ask s r) k (queue_of tx paced))
+    ∙ ap (λ qs. list_any (is_queued (Ask s r) k) qs) (queue-undue tx paced)
+    ∙ entry-queued s r k (joined tx paced).items

@@ -1,5 +1,5 @@
 -- The queue of a store, as it is seen: its front, and what is sent and flushed of it.
-use Rattle.std.specs.Prelude.{ℕ, ◌≡◌, Bool, Option, Some, None, IfSome, List, option_map, slice_get}
+use Rattle.std.specs.Prelude.{ℕ, ◌≡◌, Bool, true, Option, Some, None, IfSome, List, option_map, slice_get}
 use Rattle.std.specs.List.{find}
 use Rattle.rpc_base.specs.Owners.{same_owner}
 use Rattle.rpc_base.specs.Tables.{at_first}
@@ -12,6 +12,7 @@ use Rattle.rpc_laws.specs.declared.tables.Queued.{Queued}
 use Rattle.rpc_laws.specs.Packets.{IsSpelled, ask_packet, reply_packet}
 use Rattle.rpc_laws.specs.Requests.{is_server}
 use Rattle.rpc_laws.specs.Sessions.{is_client, sends}
+use Rattle.session_store.specs.Joined.{is_some_due, without_due}
 use Rattle.session_store.specs.Sides.{Shown, queued_of}
 
 -- the packet of an owner, as the definitions over histories have it
@@ -26,9 +27,11 @@ peer_in s (Ask i r) = option_map (λ x. x.way.peer) (find (is_client i) s.client
 peer_in s (Reply t r) = option_map (λ v. v.way.peer) (find (is_server t) s.servers)
 peer_in s Control = None
 
--- the front of the queue: its session is there, and it goes to the session's peer
-pub record IsFront (s : Shown) (e : EntryValue) : Type 0 where
-  pub front : slice_get s.queued 0 ≡ Some (queued_of e)
+-- the front of the queue: it may be sent at this clock, its session is there, and it goes to the
+-- session's peer
+pub record IsFront (now : ℕ) (s : Shown) (e : EntryValue) : Type 0 where
+  pub front : option_map without_due (slice_get s.queued 0) ≡ Some (queued_of e)
+  pub due : is_some_due now (slice_get s.queued 0) ≡ true
   pub peer : peer_in s e.owner ≡ Some e.peer
 
 -- the front's packet is sent with this header and body

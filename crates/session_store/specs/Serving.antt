@@ -1,5 +1,5 @@
 -- What a Request or RFR does to the server session that it is for, and to the queue.
-use Rattle.std.specs.Prelude.{◌≡◌, ◌≢◌, ℕ, ◌++◌, Bool, true, false, not, List, [], ◌∷◌, map}
+use Rattle.std.specs.Prelude.{◌≡◌, ◌≢◌, ℕ, ◌++◌, Bool, true, false, not, List, [], ◌∷◌}
 use Rattle.std.specs.Prelude.{Option, Some, None, IfSome, slice_get, slice_set, if◌then◌else◌}
 use Rattle.std.specs.List.{AllByRecursion, filter, find}
 use Rattle.rpc_base.specs.declared.event.Event.TheVariants.{Dropped as DroppedEvent}
@@ -7,7 +7,6 @@ use Rattle.rpc_base.specs.declared.fact.Fact.{Fact}
 use Rattle.rpc_base.specs.declared.fact.Who.{Who}
 use Rattle.rpc_base.specs.declared.owner.Owner.TheVariants.{Reply}
 use Rattle.rpc_base.specs.declared.state.DropReason.TheVariants.{NoMemory}
-use Rattle.buffer_pool.specs.Counting.{Counts}
 use Rattle.buffer_pool.specs.Pool.{Pool}
 use Rattle.packet_header.specs.declared.packet.MessageHeader.{MessageHeader}
 use Rattle.packet_rings.specs.Rings.{Ring, ring}
@@ -26,6 +25,7 @@ use Rattle.rpc_outside.specs.declared.service.Mode.TheVariants.{Unserved}
 use Rattle.server_core.specs.Counting.{CountsQueued}
 use Rattle.server_core.specs.Flushing.{HoldsAll, has_begun, replies_of, ring_after}
 use Rattle.server_core.specs.KeepsPool.{KeepsPool, KeepsSpare, LeavesOthers}
+use Rattle.server_core.specs.Keeping.{CountsBehind}
 use Rattle.server_core.specs.Noting.{Handled, IsByRule, packet_facts}
 use Rattle.server_core.specs.Replies.{CanHold}
 use Rattle.server_core.specs.Rows.{row_of}
@@ -36,7 +36,8 @@ use Rattle.server_core.specs.Steps.{asked_with}
 use Rattle.server_core.specs.declared.step.Step.{Step}
 use Rattle.server_core.specs.declared.step.Step.TheVariants.{Took, Again, Ran, Give, Dropped}
 use Rattle.session_store.specs.Queue.{is_owned}
-use Rattle.session_store.specs.Sides.{Shown, queued_of}
+use Rattle.session_store.specs.Joined.{put_ready}
+use Rattle.session_store.specs.Sides.{Shown}
 
 abbrev pub listed_entry : Option EntryValue → List EntryValue
 listed_entry None = []
@@ -82,7 +83,7 @@ pub record Handles {R : Type 0} (facts : R → Option (List Fact)) (whole : R �
   pub holds : HoldsAll v before old.items → HoldsAll w after (new.items ++ replies_of step)
   pub queued : HoldsAll v before old.items → CountsQueued v old.items
       → CountsQueued w (new.items ++ replies_of step)
-  pub counts : Counts before old.items → Counts after (new.items ++ replies_of step)
+  pub counts : CountsBehind (replies_of step) old.items new.items before after
   pub keeps : KeepsPool after w.slots
 
 -- the facts of a packet at a node, which are those of the server rule unless memory was wanting
@@ -100,12 +101,11 @@ without_owned t None queued = queued
 without_owned t (Some q) queued = filter (λ x. not (is_owned (Reply t q.number) x)) queued
 
 -- and once a packet was handled: where a request began, the replies to the older one of its slot
--- are taken out, and the packet's reply is put behind
+-- are taken out, and the packet's reply is put behind what is ready
 abbrev pub queue_handled : ServerRow → Step → Server → MessageHeader → List Queued → List Queued
 queue_handled row step v h queued =
-    (if has_begun row step
+    put_ready (replies_of step) (if has_begun row step
     then without_owned v.way.number (find (in_slot_of h.request) v.slots) queued else queued)
-    ++ map queued_of (replies_of step)
 
 -- the reply to a packet of server session t
 abbrev pub IsReplyOf : (t : ℕ) → MessageHeader → EntryValue → Type 0

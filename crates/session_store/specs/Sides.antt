@@ -1,4 +1,5 @@
--- Sessions that share a pool and a transmit ring: what they show, and what always holds of them.
+-- Sessions that share a pool and a transmit ring: what they show, and what always holds of them. The
+-- ring has here all that is queued, also what is paced.
 use Rattle.std.specs.Prelude.{◌≡◌, ℕ, ◌+◌, ◌*◌, ◌<◌, ◌≤◌, ◌==◌, ◌&&◌, Bool, true, false, Option}
 use Rattle.std.specs.Prelude.{Some, None, List, [], ◌∷◌, count_by, length, map, sum_by, slice_get}
 use Rattle.std.specs.Prelude.{if◌then◌else◌}
@@ -38,10 +39,6 @@ side_credits s = if s.is_broken then 0 else limit_of s.session.credits
 abbrev pub queued_of : EntryValue → Queued
 queued_of e = record { owner = e.owner; number = e.number; due = None }
 
-abbrev pub listed_queued : Option EntryValue → List Queued
-listed_queued None = []
-listed_queued (Some e) = queued_of e ∷ []
-
 -- how often all client sessions name a place, and how many places they name
 abbrev pub names_in : ℕ → List Side → ℕ
 names_in p sides = sum_by (λ s. names p s.session.active) sides
@@ -56,7 +53,7 @@ served_names p servers = sum_by (λ v. slot_names p v.slots) servers
 abbrev pub served_places : List Serving → ℕ
 served_places servers = sum_by (λ v. slot_places v.slots) servers
 
--- what contracts see of all sessions and of the ring
+-- what contracts see of all sessions and of what is queued
 pub record Shown : Type 0 where
   pub clients : List Client
   pub servers : List Server

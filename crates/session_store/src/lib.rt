@@ -2,6 +2,7 @@
 //! facts and read no clock.
 #![tactic(auto)]
 
+mod line;
 mod server;
 mod side;
 mod store;

@@ -1,5 +1,5 @@
-//! The sessions of an endpoint, with the pool and the ring that they share.
-ghost use Rattle.std.specs.Prelude.{◌≡◌, ◌<◌, IfOk};
+//! The sessions of an endpoint, with the pool, the ring and the pacer that they share.
+ghost use Rattle.std.specs.Prelude.{◌≡◌, ◌<◌, ◌*◌, IfOk};
 ghost use Rattle.session_store.specs.Sides.{no_sessions};
 
 mod clients;
@@ -10,45 +10,53 @@ mod timers;
 
 use crate::side::Side;
 use buffer_pool::BufferPool;
+use pacing_wheel::Pacer;
 use packet_rings::TxRing;
 use rpc_base::NoMemory;
 use server_core::ServerSession;
 use std::alloc::Global;
 use std::marker::Model;
 
-/// All sessions, one pool for the buffers of their calls and requests, and one ring for their
-/// packets. Contracts see the sessions and the queue as the definitions over histories have them. A
-/// client session's number is its place; server sessions stand in the order of their numbers.
+/// All sessions, one pool for the buffers of their calls and requests, and one queue for their
+/// packets: a ring for what is ready, and behind it a pacer for what has a time when it is due.
+/// Contracts see the sessions and the queue as the definitions over histories have them. A client
+/// session's number is its place; server sessions stand in the order of their numbers.
 #[derive(Drop)]
 pub struct Store {
     pool: BufferPool,
     tx: TxRing,
+    pacer: Pacer,
     sides: Vec<Side>,
     servers: Vec<ServerSession>,
 }
 
 impl Model for Store {
-    ghost use Rattle.session_store.specs.Sides.{Kept, Shown, shown_of};
+    ghost use Rattle.session_store.specs.Joined.{Paces, joined, shown_with};
+    ghost use Rattle.session_store.specs.Sides.{Kept, Shown};
 
     ghost Value = { Shown };
 
-    ghost view = { λ s. shown_of s.pool s.sides.items s.servers.items s.tx };
+    ghost view = { λ s. shown_with s.pool s.sides.items s.servers.items s.tx s.pacer };
 
-    ghost invariant = { λ s. Kept s.pool s.sides.items s.servers.items s.tx };
+    ghost invariant = { λ s. Kept s.pool s.sides.items s.servers.items (joined s.tx s.pacer)
+        × Paces s.tx s.pacer };
 }
 
 impl Store {
-    /// A store with no session, whose ring has room for `ring` packets, fewer than 2^32 - 1, and
-    /// whose pool has so many places. `NoMemory` comes where there is no memory for them.
+    /// A store with no session, whose ring has room for twice `ring` packets, fewer than 2^32 - 1,
+    /// and whose pacer for `ring`; its pool has so many places. `NoMemory` comes where there is no
+    /// memory for them.
     pub fn new(alloc: Global, ring: u32, places: u32) -> Result<Store, NoMemory>
-        requires few { ring < 4294967295 }
-        ensures { IfOk result (λ s. s ≡ no_sessions ring places) }
+        requires few { 2 * ring < 4294967295 }
+        ensures { IfOk result (λ s. s ≡ no_sessions (2 * ring) places) }
     {
         let pool = BufferPool::new(alloc, places)?;
-        let tx = TxRing::new(alloc, ring)?;
+        let tx = TxRing::new(alloc, 2 * ring)?;
+        let pacer = Pacer::new(alloc, ring)?;
         Ok(Store {
             pool,
             tx,
+            pacer,
             sides: Vec::new(alloc),
             servers: Vec::new(alloc),
         })

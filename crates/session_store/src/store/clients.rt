@@ -1,15 +1,17 @@
 //! The client sessions: calls are asked, begin and are answered.
 ghost use Rattle.std.specs.Prelude.{◌≡◌, ◌<◌, ◌≤◌, ◌+◌, ◌*◌, ◌++◌, [], ◌∷◌, length};
 ghost use Rattle.std.specs.Prelude.{option_and_then, option_map, slice_get, IfErr, IfSome, OnErr};
-ghost use Rattle.std.specs.Prelude.{List, OnOk};
+ghost use Rattle.std.specs.Prelude.{count_by, IsSome, List, OnOk};
 ghost use Rattle.std.specs.List.{AllByRecursion, list_any};
 ghost use Rattle.rpc_base.specs.declared.owner.Owner.TheVariants.{Ask};
 ghost use Rattle.rpc_base.specs.declared.state.SessionState.TheVariants.{Connected};
 ghost use Rattle.rpc_laws.specs.Groups.{state_of};
 ghost use Rattle.node_laws.specs.Windows.{Windows};
 ghost use Rattle.packet_header.specs.Header.{MessageInRange};
+ghost use Rattle.packet_header.specs.Parts.{part_size};
 ghost use Rattle.rpc_laws.specs.Queues.{is_queued};
 ghost use Rattle.rpc_laws.specs.Calls.{asking};
+ghost use Rattle.rpc_laws.specs.Pacing.{packet_size};
 ghost use Rattle.rpc_laws.specs.Sessions.{asks, client_end};
 ghost use Rattle.rpc_laws.specs.declared.tables.Asking.{Asking};
 ghost use Rattle.rpc_laws.specs.declared.tables.Call.{Call};
@@ -17,12 +19,14 @@ ghost use Rattle.session_store.specs.Changes.{BeginsAt, ChangesAt, PostsAt};
 ghost use Rattle.session_store.specs.Effects.{asking_in, packet_of_entry, request_in};
 ghost use Rattle.session_store.specs.Ends.{next_above, told_call};
 ghost use Rattle.session_store.specs.Hearing.{RepliesAt};
-ghost use Rattle.session_store.specs.Sides.{HasRoom, listed_queued};
+ghost use Rattle.session_store.specs.Joined.{is_paced, put_listed};
+ghost use Rattle.session_store.specs.Sides.{HasRoom};
 
 use super::Store;
+use crate::line::{holds_in, put_in};
 use crate::side::{Side, begin_at, enqueue_at, heard_at, post_at};
 use client_core::{Active, ClientSession, Reply};
-use packet_header::MessageHeader;
+use packet_header::{HEAD_BYTES, MessageHeader, PART_BYTES};
 use packet_rings::Entry;
 use rpc_base::{
     CallNo, DropReason, MOST_CALLS, MOST_CREDITS, MOST_MESSAGE_BYTES, NoMemory, Owner, Peer,
@@ -30,6 +34,14 @@ use rpc_base::{
 };
 use session_slots::Waiting;
 use std::alloc::Global;
+
+// How long the datagram of part `number` of a message of `size` bytes is.
+fn datagram_size(size: u32, number: u16) -> u64
+    ensures { result ≡ 16 + part_size size number }
+{
+    let rest = size.saturating_sub(PART_BYTES * u32::from(number));
+    HEAD_BYTES as u64 + u64::from(rest.min(PART_BYTES))
+}
 
 impl Store {
     /// How many client sessions there are: no more than there are numbers of 16 bits.
@@ -142,6 +154,15 @@ impl Store {
         enqueue_at(&mut self.sides, i, waiting)
     }
 
+    /// How long the datagram of this packet of an active call of session `i` is, in bytes.
+    pub fn packet_size(&self, i: usize, request: RequestNo, number: u16) -> u64
+        requires known { i < length self.now.clients }
+        ensures { IfSome (slice_get self.now.clients i)
+            (λ x. result ≡ packet_size request number (Some x)) }
+    {
+        datagram_size(self.sides[i].session.bytes(request), number)
+    }
+
     /// The bytes of the newest call of session `i`, where it waits.
     pub fn newest_ask(&self, i: usize) -> &[u8]
         requires known { i < length self.now.clients }
@@ -171,15 +192,18 @@ impl Store {
         begin_at(&mut self.sides, i, &mut self.pool)
     }
 
-    /// Session `i` posts its next packet: it is put behind the queue.
-    pub fn post(&mut self, i: usize) -> Option<Entry>
+    /// Session `i` posts its next packet: it is put behind what is ready or, with a time in
+    /// microseconds when it is due, behind what is due no later.
+    pub fn post(&mut self, i: usize, due: Option<u64>) -> Option<Entry>
         requires known { i < length self.old.clients }
         requires room { IfSome (slice_get self.old.clients i)
             (λ x. length self.old.queued + x.free ≤ self.old.size) }
+        requires paced { IsSome due → IfSome (slice_get self.old.clients i)
+            (λ x. 2 * (count_by is_paced self.old.queued + x.free) ≤ self.old.size) }
         ensures clients { PostsAt i (option_map packet_of_entry result) self.old.clients
             self.new.clients }
         ensures servers { self.new.servers ≡ self.old.servers }
-        ensures queued { self.new.queued ≡ self.old.queued ++ listed_queued result }
+        ensures queued { self.new.queued ≡ put_listed due result self.old.queued }
         ensures size { self.new.size ≡ self.old.size }
         ensures places { self.new.places ≡ self.old.places }
         ensures owner { IfSome result (λ e. e.owner ≡ Ask i (request_in e.owner)) }
@@ -191,7 +215,7 @@ impl Store {
         let Some(entry) = posted else {
             return None;
         };
-        self.tx.push(entry);
+        put_in(&mut self.tx, &mut self.pacer, due, entry);
         Some(entry)
     }
 
@@ -235,8 +259,8 @@ impl Store {
         )
     }
 
-    // Whether this packet of a call of session `i` is queued. The ring is looked at only where its
-    // call has a packet there.
+    // Whether this packet of a call of session `i` is queued. The ring and the pacer are looked at
+    // only where its call has a packet there.
     pub(super) fn is_waiting(&self, i: usize, request: RequestNo, number: u16) -> bool
         requires known { i < length self.now.clients }
         ensures { result ≡ list_any (is_queued (Ask i request) number) self.now.queued }
@@ -248,6 +272,6 @@ impl Store {
             session: self.sides[i].session.session(),
             request,
         };
-        self.tx.holds(owner, number)
+        holds_in(&self.tx, &self.pacer, &owner, number)
     }
 }

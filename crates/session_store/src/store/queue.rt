@@ -1,15 +1,18 @@
-//! The queue: its front is sent, and packets are taken out unsent.
+//! The queue: its front is sent, packets are taken out unsent, and what is due is made ready.
 ghost use Rattle.std.specs.Prelude.{◌≡◌, ◌≢◌, ◌<◌, ◌*◌, [], drop, length, option_map, IfNone};
-ghost use Rattle.std.specs.Prelude.{IfSome};
+ghost use Rattle.std.specs.Prelude.{IfSome, map};
 ghost use Rattle.rpc_base.specs.Least.{least, without_least};
 ghost use Rattle.rpc_base.specs.declared.owner.Owner.TheVariants.{Ask, Reply as OfReply};
 ghost use Rattle.packet_header.specs.Header.{AreBytes};
-ghost use Rattle.rpc_laws.specs.Queues.{replies};
+ghost use Rattle.rpc_laws.specs.Pacing.{line};
+ghost use Rattle.rpc_laws.specs.Queues.{made_ready, replies};
+ghost use Rattle.session_store.specs.Joined.{without_due};
 ghost use Rattle.session_store.specs.Queue.{IsFront, SendsFront, SpellsFront, is_owned};
 ghost use Rattle.session_store.specs.Queue.{queued_number};
 ghost use Rattle.session_store.specs.Sides.{queued_of};
 
 use super::Store;
+use crate::line::{first_in, flush_in, front_at, make_ready_in, pop_in};
 use crate::server::{reply_at, reply_flushed_at, reply_sent_at};
 use crate::side::{flushed_at, packet_at, sent_at};
 use client_core::Reply;
@@ -18,19 +21,20 @@ use packet_rings::Entry;
 use rpc_base::{Owner, RequestNo, SessionNo};
 
 impl Store {
-    /// The entry in front of the queue. None comes exactly where nothing is queued.
-    pub fn front(&self) -> Option<Entry>
-        ensures front { IfSome result (IsFront self.now) }
-        ensures none { IfNone result (self.now.queued ≡ []) }
+    /// The entry in front of the queue where it may be sent at `now`, in microseconds: it is ready,
+    /// or due by then. None comes exactly where nothing that is queued may be sent.
+    pub fn front(&self, now: u64) -> Option<Entry>
+        ensures front { IfSome result (IsFront now self.now) }
+        ensures none { IfNone result (line now self.now.queued ≡ []) }
     {
-        self.tx.front().copied()
+        front_at(&self.tx, &self.pacer, now)
     }
 
     /// How many packets are queued.
     pub fn queued(&self) -> u32
         ensures { result ≡ length self.now.queued }
     {
-        self.tx.len()
+        self.tx.len() + self.pacer.len()
     }
 
     /// How many replies are queued.
@@ -46,7 +50,7 @@ impl Store {
         ensures spells { SpellsFront self.now head.new result.now }
         ensures bytes { AreBytes head.new }
     {
-        let Some(entry) = self.tx.front().copied() else {
+        let Some(entry) = first_in(&self.tx, &self.pacer) else {
             unreachable!()
         };
         match &entry.owner {
@@ -79,7 +83,7 @@ impl Store {
         ensures size { self.new.size ≡ self.old.size }
         ensures places { self.new.places ≡ self.old.places }
     {
-        let Some(entry) = self.tx.pop() else {
+        let Some(entry) = pop_in(&mut self.tx, &mut self.pacer) else {
             unreachable!()
         };
         match &entry.owner {
@@ -103,8 +107,8 @@ impl Store {
     /// exactly where none of it is queued.
     pub fn flush(&mut self, i: usize, request: RequestNo) -> Option<Entry>
         requires known { i < length self.old.clients }
-        ensures taken { option_map queued_of result
-            ≡ least (is_owned (Ask i request)) queued_number self.old.queued }
+        ensures taken { option_map queued_of result ≡ option_map without_due
+            (least (is_owned (Ask i request)) queued_number self.old.queued) }
         ensures queued { self.new.queued
             ≡ without_least (is_owned (Ask i request)) queued_number self.old.queued }
         ensures clients { self.new.clients ≡ self.old.clients }
@@ -116,7 +120,7 @@ impl Store {
             session: self.sides[i].session.session(),
             request,
         };
-        let flushed = self.tx.flush(owner);
+        let flushed = flush_in(&mut self.tx, &mut self.pacer, &owner);
         let Some(entry) = flushed else {
             return None;
         };
@@ -127,8 +131,8 @@ impl Store {
     /// Takes the queued reply of least number to a request of a server session out, unsent. None
     /// comes exactly where none of them is queued.
     pub fn flush_reply(&mut self, session: SessionNo, request: RequestNo) -> Option<Entry>
-        ensures taken { option_map queued_of result
-            ≡ least (is_owned (OfReply session request)) queued_number self.old.queued }
+        ensures taken { option_map queued_of result ≡ option_map without_due
+            (least (is_owned (OfReply session request)) queued_number self.old.queued) }
         ensures queued { self.new.queued
             ≡ without_least (is_owned (OfReply session request)) queued_number self.old.queued }
         ensures clients { self.new.clients ≡ self.old.clients }
@@ -136,11 +140,23 @@ impl Store {
         ensures size { self.new.size ≡ self.old.size }
         ensures places { self.new.places ≡ self.old.places }
     {
-        let flushed = self.tx.flush(Owner::Reply { session, request });
+        let owner = Owner::Reply { session, request };
+        let flushed = flush_in(&mut self.tx, &mut self.pacer, &owner);
         let Some(entry) = flushed else {
             return None;
         };
         reply_flushed_at(&mut self.servers, session, &mut self.pool, &entry);
         Some(entry)
+    }
+
+    /// At the end of a poll at `now`, in microseconds, what was due by then is ready.
+    pub fn make_ready(&mut self, now: u64)
+        ensures queued { self.new.queued ≡ map (made_ready now) self.old.queued }
+        ensures clients { self.new.clients ≡ self.old.clients }
+        ensures servers { self.new.servers ≡ self.old.servers }
+        ensures size { self.new.size ≡ self.old.size }
+        ensures places { self.new.places ≡ self.old.places }
+    {
+        make_ready_in(&mut self.tx, &mut self.pacer, now);
     }
 }

@@ -1,5 +1,5 @@
 //! The server sessions: packets and the answers of workers.
-ghost use Rattle.std.specs.Prelude.{◌≡◌, ◌<◌, ◌≤◌, ◌+◌, ◌*◌, ◌++◌, [], ◌∷◌, length, slice_get};
+ghost use Rattle.std.specs.Prelude.{◌≡◌, ◌<◌, ◌≤◌, ◌+◌, ◌*◌, ◌++◌, [], ◌∷◌, None, length, slice_get};
 ghost use Rattle.std.specs.Prelude.{IfSome, OnErr, OnOk};
 ghost use Rattle.std.specs.List.{AllByRecursion, position};
 ghost use Rattle.message_buffer.specs.Buffer.{bytes_of};
@@ -8,7 +8,8 @@ ghost use Rattle.rpc_laws.specs.Requests.{is_server, server_end};
 ghost use Rattle.session_store.specs.Changes.{FinishesAt};
 ghost use Rattle.server_core.specs.Steps.{IsAsking, UnlessRan};
 ghost use Rattle.session_store.specs.Serving.{AreServedAt, HandlesAt};
-ghost use Rattle.session_store.specs.Sides.{HasRoom, listed_queued};
+ghost use Rattle.session_store.specs.Joined.{put_listed};
+ghost use Rattle.session_store.specs.Sides.{HasRoom};
 
 use super::Store;
 use crate::server::{asked_at, finished_at, place_of, reply_of};
@@ -136,7 +137,7 @@ impl Store {
         ensures servers { FinishesAt i parcel.request (bytes_of parcel.out) result self.old.servers
             self.new.servers }
         ensures clients { self.new.clients ≡ self.old.clients }
-        ensures queued { self.new.queued ≡ self.old.queued ++ listed_queued result }
+        ensures queued { self.new.queued ≡ put_listed None result self.old.queued }
         ensures size { self.new.size ≡ self.old.size }
         ensures places { self.new.places ≡ self.old.places }
     {

@@ -1,20 +1,23 @@
+use Rattle.session_store.specs.Joined.{joined, undue}
 use Rattle.session_store.proofs.StoreLemmas.{clients-begin, connected-at, kept-begin, servers-begin}
 use Rattle.session_store.proofs.StoreLemmas.{size-begin, two-spare}
+use Rattle.session_store.proofs.UndueLemmas.{flat}
 use Rattle.session_store.proofs.store.Store.begin.Goals as goal
 
 pub begin_at-requires-clause-spare : goal.begin_at-requires-clause-spare
 begin_at-requires-clause-spare c =
     two-spare c.self.inside.pool c.self.inside.sides.items c.self.inside.servers.items
-    c.self.inside.tx c.args.self.now c.self.invariant c.self.view_is c.requires.room
+    (joined c.self.inside.tx c.self.inside.pacer) (undue c.args.self.now) c.self.invariant.0 (flat c.self.inside.pool c.self.inside.sides.items c.self.inside.servers.items c.self.inside.tx c.self.inside.pacer c.args.self.now c.self.view_is) c.requires.room
 
 pub invariant_of-self : goal.invariant_of-self
 invariant_of-self c =
     let h = c.begin_at.ensures in
     let connected = connected-at c.self.inside.sides.items c.args.i c.index.result.now h.side
     c.index.ensures h.at c.if-index.false in
-    kept-begin c.self.inside.pool c.begin_at.new.pool c.self.inside.sides.items
-    c.begin_at.new.sides.items c.self.inside.servers.items c.self.inside.tx c.args.i
-    c.self.invariant c.begin_at.result h connected
+    (kept-begin c.self.inside.pool c.begin_at.new.pool c.self.inside.sides.items
+    c.begin_at.new.sides.items c.self.inside.servers.items (joined c.self.inside.tx c.self.inside.pacer) c.args.i
+    c.self.invariant.0 c.begin_at.result h connected,
+    c.self.invariant.1)
 
 pub returns-clause-clients : goal.returns-clause-clients
 returns-clause-clients c =
@@ -23,7 +26,7 @@ returns-clause-clients c =
     c.index.ensures h.at c.if-index.false in
     rw (← c.self.view_is) (clients-begin c.self.inside.pool c.begin_at.new.pool
     c.self.inside.sides.items c.begin_at.new.sides.items c.self.inside.servers.items
-    c.self.inside.tx c.args.i c.self.invariant c.begin_at.result h connected)
+    (joined c.self.inside.tx c.self.inside.pacer) c.args.i c.self.invariant.0 c.begin_at.result h connected)
 
 pub returns-clause-servers : goal.returns-clause-servers
 returns-clause-servers c =
@@ -32,7 +35,7 @@ returns-clause-servers c =
     c.index.ensures h.at c.if-index.false in
     rw (← c.self.view_is) (servers-begin c.self.inside.pool c.begin_at.new.pool
     c.self.inside.sides.items c.begin_at.new.sides.items c.self.inside.servers.items
-    c.self.inside.tx c.args.i c.self.invariant c.begin_at.result h connected)
+    (joined c.self.inside.tx c.self.inside.pacer) c.args.i c.self.invariant.0 c.begin_at.result h connected)
 
 pub returns-clause-places : goal.returns-clause-places
 returns-clause-places c =
@@ -41,4 +44,4 @@ returns-clause-places c =
     c.index.ensures h.at c.if-index.false in
     rw (← c.self.view_is) (size-begin c.self.inside.pool c.begin_at.new.pool
     c.self.inside.sides.items c.begin_at.new.sides.items c.self.inside.servers.items
-    c.self.inside.tx c.args.i c.self.invariant c.begin_at.result h connected)
+    (joined c.self.inside.tx c.self.inside.pacer) c.args.i c.self.invariant.0 c.begin_at.result h connected)

@@ -1,92 +1,100 @@
-use Rattle.std.proofs.Common.{sym, ap, ◌∙◌}
+use Rattle.std.proofs.Common.{subst, sym, ap, ◌∙◌}
+use Rattle.packet_rings.specs.Rings.{ring}
+use Rattle.session_store.specs.Sides.{Kept}
 use Rattle.std.specs.Prelude.{map, option_map}
 use Rattle.rpc_base.specs.Least.{without_least}
 use Rattle.rpc_base.specs.declared.owner.Owner.TheVariants.{Reply}
 use Rattle.packet_rings.specs.Entries.{is_entry, is_of, number_of}
 use Rattle.session_store.specs.Sides.{queued_of}
-use Rattle.session_store.proofs.FlushLemmas.{least-reply, least-seen, without-seen}
+use Rattle.session_store.specs.Joined.{joined}
+use Rattle.session_store.specs.Joined.{queue_of, without_due}
+use Rattle.session_store.proofs.FlushLemmas.{taken-seen, least-reply}
 use Rattle.session_store.proofs.ReplyGoneLemmas.{reply-clients, reply-held, reply-kept}
 use Rattle.session_store.proofs.ReplyGoneLemmas.{reply-places, reply-servers, reply-there}
 use Rattle.session_store.proofs.store.Store.flush_reply.Goals as goal
 
 pub returns-in_default-clause-taken : goal.returns-in_default-clause-taken
 returns-in_default-clause-taken c =
-    let h = rw c.in_default.is at c.flush-flushed.ensures in
+    let s = c.self.inside in
+    let h = rw c.in_default.is at c.flush_in-flushed.ensures in
     rw (← c.self.view_is) (ap (option_map queued_of) h.taken
-    ∙ sym (least-seen (Reply c.args.session c.args.request) c.self.inside.tx.items))
+    ∙ taken-seen (Reply c.args.session c.args.request) s.tx s.pacer)
 
 pub returns-in_default-clause-queued : goal.returns-in_default-clause-queued
-returns-in_default-clause-queued c =
-    rw (← c.self.view_is) (ap (λ r. map queued_of r.items) c.flush-flushed.ensures.left
-    ∙ sym (without-seen (Reply c.args.session c.args.request) c.self.inside.tx.items))
+returns-in_default-clause-queued c = rw (← c.self.view_is) c.flush_in-flushed.ensures.queue
 
 pub reply_flushed_at-requires-clause-stands : goal.reply_flushed_at-requires-clause-stands
 reply_flushed_at-requires-clause-stands c =
     let s = c.self.inside in
-    let h = rw c.in-Some.is at c.flush-flushed.ensures in
-    let own = least-reply c.args.session c.args.request c.in-Some.entry h.listed.1 in
-    reply-there s.pool s.pool s.sides.items s.servers.items s.servers.items s.tx c.args.session
+    let h = rw c.in-Some.is at c.flush_in-flushed.ensures in
+    let own = least-reply c.args.session c.args.request c.in-Some.entry h.own in
+    reply-there s.pool s.pool s.sides.items s.servers.items s.servers.items (joined s.tx s.pacer) c.args.session
     c.args.request c.in-Some.entry (is_entry (Reply c.args.session c.args.request)
-    c.in-Some.entry.number) c.flush-flushed.new.self.items c.self.invariant h.nearest own
+    c.in-Some.entry.number) (joined c.flush_in-flushed.new.tx c.flush_in-flushed.new.pacer).items c.self.invariant.0 h.nearest own
 
 pub reply_flushed_at-requires-clause-held : goal.reply_flushed_at-requires-clause-held
 reply_flushed_at-requires-clause-held c =
     let s = c.self.inside in
-    let h = rw c.in-Some.is at c.flush-flushed.ensures in
-    let own = least-reply c.args.session c.args.request c.in-Some.entry h.listed.1 in
-    reply-held s.pool s.pool s.sides.items s.servers.items s.servers.items s.tx c.args.session
+    let h = rw c.in-Some.is at c.flush_in-flushed.ensures in
+    let own = least-reply c.args.session c.args.request c.in-Some.entry h.own in
+    reply-held s.pool s.pool s.sides.items s.servers.items s.servers.items (joined s.tx s.pacer) c.args.session
     c.args.request c.in-Some.entry (is_entry (Reply c.args.session c.args.request)
-    c.in-Some.entry.number) c.flush-flushed.new.self.items c.self.invariant h.nearest own
+    c.in-Some.entry.number) (joined c.flush_in-flushed.new.tx c.flush_in-flushed.new.pacer).items c.self.invariant.0 h.nearest own
 
 pub invariant_of-self-2 : goal.invariant_of-self-2
 invariant_of-self-2 c =
     let s = c.self.inside in
-    let h = rw c.in-Some.is at c.flush-flushed.ensures in
-    let own = least-reply c.args.session c.args.request c.in-Some.entry h.listed.1 in
-    let out = rw h.left at h.nearest in
-    rw h.left (reply-kept s.pool c.reply_flushed_at.new.pool s.sides.items s.servers.items
-    c.reply_flushed_at.new.servers.items s.tx c.args.session c.args.request c.in-Some.entry
+    let h = rw c.in-Some.is at c.flush_in-flushed.ensures in
+    let own = least-reply c.args.session c.args.request c.in-Some.entry h.own in
+    (subst (λ n. Kept c.reply_flushed_at.new.pool s.sides.items c.reply_flushed_at.new.servers.items (ring (joined c.flush_in-flushed.new.tx
+    c.flush_in-flushed.new.pacer).items n)) (sym (ap (λ r. r.size) h.left)) (reply-kept s.pool c.reply_flushed_at.new.pool s.sides.items s.servers.items
+    c.reply_flushed_at.new.servers.items (joined s.tx s.pacer) c.args.session c.args.request c.in-Some.entry
     (is_entry (Reply c.args.session c.args.request) c.in-Some.entry.number)
-    (without_least (is_of (Reply c.args.session c.args.request)) number_of s.tx.items)
-    c.self.invariant out own c.reply_flushed_at.ensures)
+    (joined c.flush_in-flushed.new.tx c.flush_in-flushed.new.pacer).items
+    c.self.invariant.0 h.nearest own c.reply_flushed_at.ensures),
+    h.paces)
 
 pub returns-clause-taken : goal.returns-clause-taken
 returns-clause-taken c =
-    let h = rw c.in-Some.is at c.flush-flushed.ensures in
+    let s = c.self.inside in
+    let h = rw c.in-Some.is at c.flush_in-flushed.ensures in
     rw (← c.self.view_is) (ap (option_map queued_of) h.taken
-    ∙ sym (least-seen (Reply c.args.session c.args.request) c.self.inside.tx.items))
+    ∙ taken-seen (Reply c.args.session c.args.request) s.tx s.pacer)
 
 pub returns-clause-queued : goal.returns-clause-queued
-returns-clause-queued c =
-    rw (← c.self.view_is) (ap (λ r. map queued_of r.items) c.flush-flushed.ensures.left
-    ∙ sym (without-seen (Reply c.args.session c.args.request) c.self.inside.tx.items))
+returns-clause-queued c = rw (← c.self.view_is) c.flush_in-flushed.ensures.queue
 
 pub returns-clause-clients : goal.returns-clause-clients
 returns-clause-clients c =
     let s = c.self.inside in
-    let h = rw c.in-Some.is at c.flush-flushed.ensures in
-    let own = least-reply c.args.session c.args.request c.in-Some.entry h.listed.1 in
+    let h = rw c.in-Some.is at c.flush_in-flushed.ensures in
+    let own = least-reply c.args.session c.args.request c.in-Some.entry h.own in
     rw (← c.self.view_is) (reply-clients s.pool c.reply_flushed_at.new.pool s.sides.items
-    s.servers.items c.reply_flushed_at.new.servers.items s.tx c.args.session c.args.request
+    s.servers.items c.reply_flushed_at.new.servers.items (joined s.tx s.pacer) c.args.session c.args.request
     c.in-Some.entry (is_entry (Reply c.args.session c.args.request) c.in-Some.entry.number)
-    c.flush-flushed.new.self.items c.self.invariant h.nearest own c.reply_flushed_at.ensures)
+    (joined c.flush_in-flushed.new.tx c.flush_in-flushed.new.pacer).items c.self.invariant.0 h.nearest own c.reply_flushed_at.ensures)
 
 pub returns-clause-servers : goal.returns-clause-servers
 returns-clause-servers c =
     let s = c.self.inside in
-    let h = rw c.in-Some.is at c.flush-flushed.ensures in
-    let own = least-reply c.args.session c.args.request c.in-Some.entry h.listed.1 in
+    let h = rw c.in-Some.is at c.flush_in-flushed.ensures in
+    let own = least-reply c.args.session c.args.request c.in-Some.entry h.own in
     rw (← c.self.view_is) (reply-servers s.pool c.reply_flushed_at.new.pool s.sides.items
-    s.servers.items c.reply_flushed_at.new.servers.items s.tx c.args.session c.args.request
+    s.servers.items c.reply_flushed_at.new.servers.items (joined s.tx s.pacer) c.args.session c.args.request
     c.in-Some.entry (is_entry (Reply c.args.session c.args.request) c.in-Some.entry.number)
-    c.flush-flushed.new.self.items c.self.invariant h.nearest own c.reply_flushed_at.ensures)
+    (joined c.flush_in-flushed.new.tx c.flush_in-flushed.new.pacer).items c.self.invariant.0 h.nearest own c.reply_flushed_at.ensures)
 
 pub returns-clause-places : goal.returns-clause-places
 returns-clause-places c =
     let s = c.self.inside in
-    let h = rw c.in-Some.is at c.flush-flushed.ensures in
-    let own = least-reply c.args.session c.args.request c.in-Some.entry h.listed.1 in
+    let h = rw c.in-Some.is at c.flush_in-flushed.ensures in
+    let own = least-reply c.args.session c.args.request c.in-Some.entry h.own in
     rw (← c.self.view_is) (reply-places s.pool c.reply_flushed_at.new.pool s.sides.items
-    s.servers.items c.reply_flushed_at.new.servers.items s.tx c.args.session c.args.request
+    s.servers.items c.reply_flushed_at.new.servers.items (joined s.tx s.pacer) c.args.session c.args.request
     c.in-Some.entry (is_entry (Reply c.args.session c.args.request) c.in-Some.entry.number)
-    c.flush-flushed.new.self.items c.self.invariant h.nearest own c.reply_flushed_at.ensures)
+    (joined c.flush_in-flushed.new.tx c.flush_in-flushed.new.pacer).items c.self.invariant.0 h.nearest own c.reply_flushed_at.ensures)
+
+pub invariant_of-self : goal.invariant_of-self
+invariant_of-self c =
+    let u = rw c.in_default.is at c.flush_in-flushed.ensures.unchanged in
+    rw (u.0, u.1) c.self.invariant

@@ -1,15 +1,11 @@
-use Rattle.std.proofs.Common.{◌∙◌}
-use Rattle.session_store.proofs.FrontLemmas.{fronts, no-front}
+use Rattle.session_store.proofs.FrontLemmas.{fronts}
 use Rattle.session_store.proofs.store.Store.front.Goals as goal
 
 pub returns-clause-front : goal.returns-clause-front
 returns-clause-front c =
-    fronts c.self.inside.pool c.self.inside.sides.items c.self.inside.servers.items c.self.inside.tx
-    c.self.invariant c.args.self.now c.self.view_is c.copied.result
-    (c.copied.ensures ∙ c.front.ensures)
+    let s = c.self.inside in
+    fronts s.pool s.sides.items s.servers.items s.tx s.pacer c.self.invariant.0 c.args.self.now
+    c.self.view_is c.args.now c.front_at.result c.front_at.ensures.front c.front_at.ensures.due
 
 pub returns-clause-none : goal.returns-clause-none
-returns-clause-none c =
-    no-front c.self.inside.pool c.self.inside.sides.items c.self.inside.servers.items
-    c.self.inside.tx c.self.invariant c.args.self.now c.self.view_is c.copied.result
-    (c.copied.ensures ∙ c.front.ensures)
+returns-clause-none c = rw (← c.self.view_is) c.front_at.ensures.none

@@ -3,19 +3,20 @@ use Rattle.std.specs.Option.{option_copied}
 use Rattle.rpc_laws.specs.Calls.{asking}
 use Rattle.rpc_laws.specs.declared.tables.Asking.{Asking}
 use Rattle.rpc_laws.specs.declared.tables.Call.{Call}
+use Rattle.session_store.specs.Joined.{joined, undue}
 use Rattle.session_store.proofs.EndLemmas.{calls-end}
 use Rattle.session_store.proofs.FlushLemmas.{there-at}
 use Rattle.session_store.proofs.NewestLemmas.{newest-bytes, newest-none}
 use Rattle.session_store.proofs.ReadLemmas.{read-at}
+use Rattle.session_store.proofs.UndueLemmas.{flat}
 use Rattle.session_store.proofs.store.Store.newest_ask.Goals as goal
 
 pub returns-in-Some : goal.returns-in-Some
 returns-in-Some c =
     let s = c.self.inside in
     let x = c.index.result.now in
-    let at = there-at s.pool s.sides.items s.servers.items s.tx c.self.invariant c.args.self.now
-    c.self.view_is c.args.i x c.requires.known c.index.ensures in
-    read-at s.pool s.sides.items s.servers.items s.tx c.args.self.now c.self.view_is c.args.i x at
+    let at = there-at s.pool s.sides.items s.servers.items (joined s.tx s.pacer) c.self.invariant.0 (undue c.args.self.now) (flat c.self.inside.pool c.self.inside.sides.items c.self.inside.servers.items c.self.inside.tx c.self.inside.pacer c.args.self.now c.self.view_is) c.args.i x c.requires.known c.index.ensures in
+    read-at s.pool s.sides.items s.servers.items (joined s.tx s.pacer) (undue c.args.self.now) (flat c.self.inside.pool c.self.inside.sides.items c.self.inside.servers.items c.self.inside.tx c.self.inside.pacer c.args.self.now c.self.view_is) c.args.i x at
     (λ y. (calls : List Call) → (what : Asking) → y.calls ≡ asking what calls
     → c.bytes.result.now ≡ what.ask)
     (λ calls what e. c.bytes.ensures.message
@@ -27,9 +28,8 @@ pub returns-in-None : goal.returns-in-None
 returns-in-None c =
     let s = c.self.inside in
     let x = c.index.result.now in
-    let at = there-at s.pool s.sides.items s.servers.items s.tx c.self.invariant c.args.self.now
-    c.self.view_is c.args.i x c.requires.known c.index.ensures in
-    read-at s.pool s.sides.items s.servers.items s.tx c.args.self.now c.self.view_is c.args.i x at
+    let at = there-at s.pool s.sides.items s.servers.items (joined s.tx s.pacer) c.self.invariant.0 (undue c.args.self.now) (flat c.self.inside.pool c.self.inside.sides.items c.self.inside.servers.items c.self.inside.tx c.self.inside.pacer c.args.self.now c.self.view_is) c.args.i x c.requires.known c.index.ensures in
+    read-at s.pool s.sides.items s.servers.items (joined s.tx s.pacer) (undue c.args.self.now) (flat c.self.inside.pool c.self.inside.sides.items c.self.inside.servers.items c.self.inside.tx c.self.inside.pacer c.args.self.now c.self.view_is) c.args.i x at
     (λ y. (calls : List Call) → (what : Asking) → y.calls ≡ asking what calls
     → [] ≡ what.ask)
     (λ calls what e. newest-none s.pool x.session.active x.session.slots.waiting

@@ -1,71 +1,93 @@
-use Rattle.std.proofs.Common.{arith}
+use Rattle.std.proofs.Common.{[], ◌∷◌, ◌++◌, refl, arith}
+use Rattle.packet_rings.specs.Rings.{ring}
+use Rattle.session_store.specs.Joined.{joined, undue}
 use Rattle.session_store.proofs.FinishLemmas.{finish-at, finish-clients, finish-kept, finish-places}
 use Rattle.session_store.proofs.FinishLemmas.{left-at, left-kept, left-places}
 use Rattle.session_store.proofs.StoreLemmas.{ring-room, two-spare}
+use Rattle.session_store.proofs.JoinLemmas.{put-behind, queue-behind}
+use Rattle.session_store.proofs.PutLemmas.{kept-put}
+use Rattle.session_store.proofs.UndueLemmas.{joined-length, less-undue, flat}
 use Rattle.session_store.proofs.store.Store.on_finished.Goals as goal
 
 pub finished_at-reply-requires-clause-spare : goal.finished_at-reply-requires-clause-spare
 finished_at-reply-requires-clause-spare c =
     let s = c.self.inside in
-    let two = two-spare s.pool s.sides.items s.servers.items s.tx c.args.self.now c.self.invariant
-    c.self.view_is c.requires.room in
+    let two = two-spare s.pool s.sides.items s.servers.items (joined s.tx s.pacer) (undue c.args.self.now) c.self.invariant.0 (flat c.self.inside.pool c.self.inside.sides.items c.self.inside.servers.items c.self.inside.tx c.self.inside.pacer c.args.self.now c.self.view_is) c.requires.room in
     omega (arith, two)
 
 pub invariant_of-self : goal.invariant_of-self
 invariant_of-self c =
     let s = c.self.inside in
     let h = rw c.in_default.is at c.finished_at-reply.ensures in
-    left-kept s.pool c.finished_at-reply.new.pool s.sides.items s.servers.items
-    c.finished_at-reply.new.servers.items s.tx c.args.i c.args.parcel.request _ h
-    c.self.invariant
+    (left-kept s.pool c.finished_at-reply.new.pool s.sides.items s.servers.items
+    c.finished_at-reply.new.servers.items (joined s.tx s.pacer) c.args.i c.args.parcel.request _ h
+    c.self.invariant.0,
+    c.self.invariant.1)
 
 pub returns-in_default-clause-servers : goal.returns-in_default-clause-servers
 returns-in_default-clause-servers c =
     let s = c.self.inside in
     let h = rw c.in_default.is at c.finished_at-reply.ensures in
     rw (← c.self.view_is) (left-at s.pool c.finished_at-reply.new.pool s.sides.items s.servers.items
-    c.finished_at-reply.new.servers.items s.tx c.args.i c.args.parcel.request _ h)
+    c.finished_at-reply.new.servers.items (joined s.tx s.pacer) c.args.i c.args.parcel.request _ h)
 
 pub returns-in_default-clause-places : goal.returns-in_default-clause-places
 returns-in_default-clause-places c =
     let s = c.self.inside in
     let h = rw c.in_default.is at c.finished_at-reply.ensures in
     rw (← c.self.view_is) (left-places s.pool c.finished_at-reply.new.pool s.sides.items
-    s.servers.items c.finished_at-reply.new.servers.items s.tx c.args.i c.args.parcel.request _
+    s.servers.items c.finished_at-reply.new.servers.items (joined s.tx s.pacer) c.args.i c.args.parcel.request _
     h)
 
 pub invariant_of-self-2 : goal.invariant_of-self-2
 invariant_of-self-2 c =
     let s = c.self.inside in
     let h = rw c.in-Some.is at c.finished_at-reply.ensures in
-    let room = ring-room s.pool s.sides.items s.servers.items s.tx c.args.self.now c.self.view_is c.requires.ring in
-    rw c.push.ensures (finish-kept s.pool c.finished_at-reply.new.pool s.sides.items s.servers.items
-    c.finished_at-reply.new.servers.items s.tx c.args.i c.args.parcel.request _ c.in-Some.entry
-    c.self.invariant h room)
+    let room = ring-room s.pool s.sides.items s.servers.items (joined s.tx s.pacer) (undue c.args.self.now) (flat c.self.inside.pool c.self.inside.sides.items c.self.inside.servers.items c.self.inside.tx c.self.inside.pacer c.args.self.now c.self.view_is) (less-undue c.args.self.now c.requires.ring) in
+    rw c.push.ensures (kept-put c.finished_at-reply.new.pool s.sides.items
+    c.finished_at-reply.new.servers.items c.in-Some.entry (joined s.tx s.pacer)
+    (joined (ring (s.tx.items ++ c.in-Some.entry ∷ []) s.tx.size) s.pacer)
+    (put-behind s.tx.items s.pacer.items c.in-Some.entry) refl
+    (finish-kept s.pool c.finished_at-reply.new.pool s.sides.items s.servers.items
+    c.finished_at-reply.new.servers.items (joined s.tx s.pacer) c.args.i c.args.parcel.request _ c.in-Some.entry
+    c.self.invariant.0 h room), record { calls = c.self.invariant.1.calls; half = c.self.invariant.1.half })
 
 pub returns-clause-servers : goal.returns-clause-servers
 returns-clause-servers c =
     let s = c.self.inside in
     let h = rw c.in-Some.is at c.finished_at-reply.ensures in
-    let room = ring-room s.pool s.sides.items s.servers.items s.tx c.args.self.now c.self.view_is c.requires.ring in
+    let room = ring-room s.pool s.sides.items s.servers.items (joined s.tx s.pacer) (undue c.args.self.now) (flat c.self.inside.pool c.self.inside.sides.items c.self.inside.servers.items c.self.inside.tx c.self.inside.pacer c.args.self.now c.self.view_is) (less-undue c.args.self.now c.requires.ring) in
     rw (← c.self.view_is) (finish-at s.pool c.finished_at-reply.new.pool s.sides.items
-    s.servers.items c.finished_at-reply.new.servers.items s.tx c.args.i c.args.parcel.request _
-    c.in-Some.entry c.self.invariant h room h.step.was_sound)
+    s.servers.items c.finished_at-reply.new.servers.items (joined s.tx s.pacer) c.args.i c.args.parcel.request _
+    c.in-Some.entry c.self.invariant.0 h room h.step.was_sound)
 
 pub returns-clause-clients : goal.returns-clause-clients
 returns-clause-clients c =
     let s = c.self.inside in
     let h = rw c.in-Some.is at c.finished_at-reply.ensures in
-    let room = ring-room s.pool s.sides.items s.servers.items s.tx c.args.self.now c.self.view_is c.requires.ring in
+    let room = ring-room s.pool s.sides.items s.servers.items (joined s.tx s.pacer) (undue c.args.self.now) (flat c.self.inside.pool c.self.inside.sides.items c.self.inside.servers.items c.self.inside.tx c.self.inside.pacer c.args.self.now c.self.view_is) (less-undue c.args.self.now c.requires.ring) in
     rw (← c.self.view_is) (finish-clients s.pool c.finished_at-reply.new.pool s.sides.items
-    s.servers.items c.finished_at-reply.new.servers.items s.tx c.args.i c.args.parcel.request _
-    c.in-Some.entry c.self.invariant h room)
+    s.servers.items c.finished_at-reply.new.servers.items (joined s.tx s.pacer) c.args.i c.args.parcel.request _
+    c.in-Some.entry c.self.invariant.0 h room)
 
 pub returns-clause-places : goal.returns-clause-places
 returns-clause-places c =
     let s = c.self.inside in
     let h = rw c.in-Some.is at c.finished_at-reply.ensures in
-    let room = ring-room s.pool s.sides.items s.servers.items s.tx c.args.self.now c.self.view_is c.requires.ring in
+    let room = ring-room s.pool s.sides.items s.servers.items (joined s.tx s.pacer) (undue c.args.self.now) (flat c.self.inside.pool c.self.inside.sides.items c.self.inside.servers.items c.self.inside.tx c.self.inside.pacer c.args.self.now c.self.view_is) (less-undue c.args.self.now c.requires.ring) in
     rw (← c.self.view_is) (finish-places s.pool c.finished_at-reply.new.pool s.sides.items
-    s.servers.items c.finished_at-reply.new.servers.items s.tx c.args.i c.args.parcel.request _
-    c.in-Some.entry c.self.invariant h room)
+    s.servers.items c.finished_at-reply.new.servers.items (joined s.tx s.pacer) c.args.i c.args.parcel.request _
+    c.in-Some.entry c.self.invariant.0 h room)
+
+pub push-requires : goal.push-requires
+push-requires c =
+    let s = c.self.inside in
+    let room = ring-room s.pool s.sides.items s.servers.items (joined s.tx s.pacer)
+    (undue c.args.self.now) (flat s.pool s.sides.items s.servers.items s.tx s.pacer
+    c.args.self.now c.self.view_is) (less-undue c.args.self.now c.requires.ring) in
+    record { room = omega (arith, room, joined-length s.tx s.pacer) }
+
+pub returns-clause-queued : goal.returns-clause-queued
+returns-clause-queued c =
+    let s = c.self.inside in
+    rw (← c.self.view_is, c.push.ensures) (queue-behind s.tx.items s.pacer.items c.in-Some.entry)

@@ -1,25 +1,58 @@
-use Rattle.std.proofs.Common.{subst, sym, ap, ◌∙◌, arith}
-use Rattle.packet_rings.specs.Rings.{Ring}
+use Rattle.std.proofs.Common.{◌≡◌, [], ◌∷◌, ◌++◌, refl, subst, sym, ap, ◌∙◌, arith}
+use Rattle.std.specs.Prelude.{map}
+use Rattle.rpc_base.specs.declared.owner.Owner.TheVariants.{Reply}
+use Rattle.rpc_base.proofs.FirstLemmas.{all-each}
+use Rattle.packet_rings.specs.Rings.{Ring, ring}
 use Rattle.packet_rings.specs.Values.{EntryValue}
+use Rattle.pacing_wheel.specs.Wheel.{entry_of}
+use Rattle.rpc_laws.specs.Queues.{numbers_of}
+use Rattle.server_core.specs.Flushing.{has_begun, replies_of}
+use Rattle.server_core.specs.Rows.{row_of}
+use Rattle.server_core.specs.Session.{newest}
+use Rattle.session_store.specs.Joined.{joined, queue_of, undue}
 use Rattle.session_store.specs.Serving.{listed_entry}
-use Rattle.session_store.specs.Sides.{Kept, shown_of}
+use Rattle.session_store.specs.Sides.{Kept}
+use Rattle.session_store.proofs.HandledLemmas.{beside-step, holds-ready, paced-calls, paced-numbers}
+use Rattle.session_store.proofs.HandledLemmas.{queue-none, queue-one, queued-ready}
+use Rattle.session_store.proofs.JoinLemmas.{put-behind}
+use Rattle.session_store.proofs.PutLemmas.{kept-put}
 use Rattle.session_store.proofs.ServeLemmas.{at-served, final-none, final-one, may-hold, new-room}
-use Rattle.session_store.proofs.ServeLemmas.{seen-own, serve-at, serve-clients, serve-kept}
-use Rattle.session_store.proofs.ServeLemmas.{serve-places, served-at}
+use Rattle.session_store.proofs.ServeLemmas.{queue-by, seen-own, serve-at, serve-clients}
+use Rattle.session_store.proofs.ServeLemmas.{serve-kept, serve-places, served-at}
 use Rattle.session_store.proofs.StoreLemmas.{ring-room, two-spare}
+use Rattle.session_store.proofs.UndueLemmas.{flat, joined-length, less-undue}
 use Rattle.session_store.proofs.store.Store.on_packet.Goals as goal
+
+pub asked_at-step-requires-clause-holds : goal.asked_at-step-requires-clause-holds
+asked_at-step-requires-clause-holds g c =
+    let s = c.self.inside in
+    let calls = paced-calls s.pacer.items c.self.invariant.1.calls in
+    all-each _ _ s.servers.items
+    (λ v h. holds-ready v s.pool s.tx.items (map entry_of s.pacer.items) calls h)
+    c.self.invariant.0.holds
+
+pub asked_at-step-requires-clause-queued : goal.asked_at-step-requires-clause-queued
+asked_at-step-requires-clause-queued g c =
+    let s = c.self.inside in
+    let calls = paced-calls s.pacer.items c.self.invariant.1.calls in
+    all-each _ _ s.servers.items
+    (λ v h. queued-ready v s.tx.items (map entry_of s.pacer.items) calls h)
+    c.self.invariant.0.replies
 
 pub asked_at-step-requires-clause-can_hold : goal.asked_at-step-requires-clause-can_hold
 asked_at-step-requires-clause-can_hold g c =
     let s = c.self.inside in
-    let room = ring-room s.pool s.sides.items s.servers.items s.tx c.args.self.now c.self.view_is c.requires.ring in
-    may-hold s.pool s.sides.items s.servers.items s.tx c.self.invariant room
+    let room = ring-room s.pool s.sides.items s.servers.items (joined s.tx s.pacer)
+    (undue c.args.self.now) (flat s.pool s.sides.items s.servers.items s.tx s.pacer
+    c.args.self.now c.self.view_is) (less-undue c.args.self.now c.requires.ring) in
+    may-hold s.pool s.sides.items s.servers.items (joined s.tx s.pacer) c.self.invariant.0 room
 
 pub asked_at-step-requires-clause-spare : goal.asked_at-step-requires-clause-spare
 asked_at-step-requires-clause-spare g c =
     let s = c.self.inside in
-    let two = two-spare s.pool s.sides.items s.servers.items s.tx c.args.self.now c.self.invariant
-    c.self.view_is c.requires.room in
+    let two = two-spare s.pool s.sides.items s.servers.items (joined s.tx s.pacer)
+    (undue c.args.self.now) c.self.invariant.0 (flat s.pool s.sides.items s.servers.items s.tx
+    s.pacer c.args.self.now c.self.view_is) c.requires.room in
     omega (arith, two)
 
 pub asked_at-step-requires-clause-all_served : goal.asked_at-step-requires-clause-all_served
@@ -30,140 +63,255 @@ asked_at-step-requires-clause-all_served g c =
 pub invariant_of-self : goal.invariant_of-self
 invariant_of-self g c =
     let s = c.self.inside in
-    let room = ring-room s.pool s.sides.items s.servers.items s.tx c.args.self.now c.self.view_is c.requires.ring in
+    let handles = c.asked_at-step.ensures.handles in
+    let calls = c.self.invariant.1.calls in
+    let room = ring-room s.pool s.sides.items s.servers.items (joined s.tx s.pacer)
+    (undue c.args.self.now) (flat s.pool s.sides.items s.servers.items s.tx s.pacer
+    c.args.self.now c.self.view_is) (less-undue c.args.self.now c.requires.ring) in
+    let step = beside-step g.R.Recorder.facts g.R.Recorder.whole
+    (g.V.Service.mode_of c.args.head.now.req_type) c.args.jobs_full c.args.me c.args.i
+    c.args.head.now c.args.body.now g.V.Service.answer
+    (g.V.Service.stands c.args.service.now)
+    (g.V.Service.stands c.asked_at-step.new.service) c.args.rec.now c.asked_at-step.new.rec
+    c.asked_at-step.result s.tx c.asked_at-step.new.tx s.pool c.asked_at-step.new.pool
+    (map entry_of s.pacer.items) (paced-calls s.pacer.items calls) s.servers.items
+    c.asked_at-step.new.servers.items handles in
     let none = c.reply_of.ensures ∙ ap listed_entry c.in_default.is in
     let same = final-none g.R.Recorder.facts g.R.Recorder.whole
     (g.V.Service.mode_of c.args.head.now.req_type) c.args.jobs_full c.args.me c.args.i
     c.args.head.now c.args.body.now g.V.Service.answer
     (g.V.Service.stands c.args.service.now)
     (g.V.Service.stands c.asked_at-step.new.service) c.args.rec.now c.asked_at-step.new.rec
-    c.asked_at-step.result s.tx c.asked_at-step.new.tx s.pool c.asked_at-step.new.pool
-    s.sides.items s.servers.items c.asked_at-step.new.servers.items c.self.invariant room
-    c.asked_at-step.ensures.handles none in
-    subst (λ (t : Ring EntryValue). Kept c.asked_at-step.new.pool s.sides.items
-    c.asked_at-step.new.servers.items t) same
-    (serve-kept g.R.Recorder.facts g.R.Recorder.whole
+    c.asked_at-step.result (joined s.tx s.pacer) (joined c.asked_at-step.new.tx s.pacer) s.pool
+    c.asked_at-step.new.pool s.sides.items s.servers.items c.asked_at-step.new.servers.items
+    c.self.invariant.0 room step none in
+    let size = ap (λ r. r.size) handles.step.ring_is in
+    (subst (λ (t : Ring EntryValue). Kept c.asked_at-step.new.pool s.sides.items
+    c.asked_at-step.new.servers.items t) same (serve-kept g.R.Recorder.facts g.R.Recorder.whole
     (g.V.Service.mode_of c.args.head.now.req_type) c.args.jobs_full c.args.me c.args.i
-    c.args.head.now c.args.body.now g.V.Service.answer (g.V.Service.stands c.args.service.now)
+    c.args.head.now c.args.body.now g.V.Service.answer
+    (g.V.Service.stands c.args.service.now)
     (g.V.Service.stands c.asked_at-step.new.service) c.args.rec.now c.asked_at-step.new.rec
-    c.asked_at-step.result s.tx c.asked_at-step.new.tx s.pool c.asked_at-step.new.pool
-    s.sides.items s.servers.items c.asked_at-step.new.servers.items c.self.invariant room
-    c.asked_at-step.ensures.handles)
+    c.asked_at-step.result (joined s.tx s.pacer) (joined c.asked_at-step.new.tx s.pacer) s.pool
+    c.asked_at-step.new.pool s.sides.items s.servers.items c.asked_at-step.new.servers.items
+    c.self.invariant.0 room step),
+    record { calls = calls; half = c.self.invariant.1.half ∙ sym size })
 
 pub push-requires : goal.push-requires
 push-requires g c =
     let s = c.self.inside in
-    let room = ring-room s.pool s.sides.items s.servers.items s.tx c.args.self.now c.self.view_is c.requires.ring in
-    record {
-      room = new-room g.R.Recorder.facts g.R.Recorder.whole
-          (g.V.Service.mode_of c.args.head.now.req_type) c.args.jobs_full c.args.me c.args.i
-          c.args.head.now c.args.body.now g.V.Service.answer (g.V.Service.stands c.args.service.now)
-          (g.V.Service.stands c.asked_at-step.new.service) c.args.rec.now c.asked_at-step.new.rec
-          c.asked_at-step.result s.tx c.asked_at-step.new.tx s.pool c.asked_at-step.new.pool
-          s.sides.items s.servers.items c.asked_at-step.new.servers.items c.self.invariant room
-          c.asked_at-step.ensures.handles;
-    }
+    let handles = c.asked_at-step.ensures.handles in
+    let calls = c.self.invariant.1.calls in
+    let room = ring-room s.pool s.sides.items s.servers.items (joined s.tx s.pacer)
+    (undue c.args.self.now) (flat s.pool s.sides.items s.servers.items s.tx s.pacer
+    c.args.self.now c.self.view_is) (less-undue c.args.self.now c.requires.ring) in
+    let step = beside-step g.R.Recorder.facts g.R.Recorder.whole
+    (g.V.Service.mode_of c.args.head.now.req_type) c.args.jobs_full c.args.me c.args.i
+    c.args.head.now c.args.body.now g.V.Service.answer
+    (g.V.Service.stands c.args.service.now)
+    (g.V.Service.stands c.asked_at-step.new.service) c.args.rec.now c.asked_at-step.new.rec
+    c.asked_at-step.result s.tx c.asked_at-step.new.tx s.pool c.asked_at-step.new.pool
+    (map entry_of s.pacer.items) (paced-calls s.pacer.items calls) s.servers.items
+    c.asked_at-step.new.servers.items handles in
+    let free = new-room g.R.Recorder.facts g.R.Recorder.whole
+    (g.V.Service.mode_of c.args.head.now.req_type) c.args.jobs_full c.args.me c.args.i
+    c.args.head.now c.args.body.now g.V.Service.answer
+    (g.V.Service.stands c.args.service.now)
+    (g.V.Service.stands c.asked_at-step.new.service) c.args.rec.now c.asked_at-step.new.rec
+    c.asked_at-step.result (joined s.tx s.pacer) (joined c.asked_at-step.new.tx s.pacer) s.pool
+    c.asked_at-step.new.pool s.sides.items s.servers.items c.asked_at-step.new.servers.items
+    c.self.invariant.0 room step in
+    record { room = omega (arith, free, joined-length c.asked_at-step.new.tx s.pacer) }
 
 pub invariant_of-self-2 : goal.invariant_of-self-2
 invariant_of-self-2 g c =
     let s = c.self.inside in
-    let room = ring-room s.pool s.sides.items s.servers.items s.tx c.args.self.now c.self.view_is c.requires.ring in
+    let handles = c.asked_at-step.ensures.handles in
+    let calls = c.self.invariant.1.calls in
+    let room = ring-room s.pool s.sides.items s.servers.items (joined s.tx s.pacer)
+    (undue c.args.self.now) (flat s.pool s.sides.items s.servers.items s.tx s.pacer
+    c.args.self.now c.self.view_is) (less-undue c.args.self.now c.requires.ring) in
+    let step = beside-step g.R.Recorder.facts g.R.Recorder.whole
+    (g.V.Service.mode_of c.args.head.now.req_type) c.args.jobs_full c.args.me c.args.i
+    c.args.head.now c.args.body.now g.V.Service.answer
+    (g.V.Service.stands c.args.service.now)
+    (g.V.Service.stands c.asked_at-step.new.service) c.args.rec.now c.asked_at-step.new.rec
+    c.asked_at-step.result s.tx c.asked_at-step.new.tx s.pool c.asked_at-step.new.pool
+    (map entry_of s.pacer.items) (paced-calls s.pacer.items calls) s.servers.items
+    c.asked_at-step.new.servers.items handles in
     let one = c.reply_of.ensures ∙ ap listed_entry c.in-Some.is in
     let same = final-one g.R.Recorder.facts g.R.Recorder.whole
     (g.V.Service.mode_of c.args.head.now.req_type) c.args.jobs_full c.args.me c.args.i
     c.args.head.now c.args.body.now g.V.Service.answer
     (g.V.Service.stands c.args.service.now)
     (g.V.Service.stands c.asked_at-step.new.service) c.args.rec.now c.asked_at-step.new.rec
-    c.asked_at-step.result s.tx c.asked_at-step.new.tx s.pool c.asked_at-step.new.pool
-    s.sides.items s.servers.items c.asked_at-step.new.servers.items c.self.invariant room
-    c.asked_at-step.ensures.handles c.in-Some.reply one in
-    rw c.push.ensures (subst (λ (t : Ring EntryValue). Kept c.asked_at-step.new.pool s.sides.items
-    c.asked_at-step.new.servers.items t) same
-    (serve-kept g.R.Recorder.facts g.R.Recorder.whole
+    c.asked_at-step.result (joined s.tx s.pacer) (joined c.asked_at-step.new.tx s.pacer) s.pool
+    c.asked_at-step.new.pool s.sides.items s.servers.items c.asked_at-step.new.servers.items
+    c.self.invariant.0 room step c.in-Some.reply one in
+    let size = ap (λ r. r.size) handles.step.ring_is in
+    let tx = c.asked_at-step.new.tx in
+    rw c.push.ensures (kept-put c.asked_at-step.new.pool s.sides.items
+    c.asked_at-step.new.servers.items c.in-Some.reply (joined tx s.pacer)
+    (joined (ring (tx.items ++ c.in-Some.reply ∷ []) tx.size) s.pacer)
+    (put-behind tx.items s.pacer.items c.in-Some.reply) refl
+    (subst (λ (t : Ring EntryValue). Kept c.asked_at-step.new.pool s.sides.items
+    c.asked_at-step.new.servers.items t) same (serve-kept g.R.Recorder.facts g.R.Recorder.whole
     (g.V.Service.mode_of c.args.head.now.req_type) c.args.jobs_full c.args.me c.args.i
-    c.args.head.now c.args.body.now g.V.Service.answer (g.V.Service.stands c.args.service.now)
+    c.args.head.now c.args.body.now g.V.Service.answer
+    (g.V.Service.stands c.args.service.now)
     (g.V.Service.stands c.asked_at-step.new.service) c.args.rec.now c.asked_at-step.new.rec
-    c.asked_at-step.result s.tx c.asked_at-step.new.tx s.pool c.asked_at-step.new.pool
-    s.sides.items s.servers.items c.asked_at-step.new.servers.items c.self.invariant room
-    c.asked_at-step.ensures.handles))
+    c.asked_at-step.result (joined s.tx s.pacer) (joined c.asked_at-step.new.tx s.pacer) s.pool
+    c.asked_at-step.new.pool s.sides.items s.servers.items c.asked_at-step.new.servers.items
+    c.self.invariant.0 room step)),
+    record { calls = calls; half = c.self.invariant.1.half ∙ sym size })
 
 pub returns-in_default-clause-handles : goal.returns-in_default-clause-handles
 returns-in_default-clause-handles g c =
     let s = c.self.inside in
-    let room = ring-room s.pool s.sides.items s.servers.items s.tx c.args.self.now c.self.view_is c.requires.ring in
-    let none = c.reply_of.ensures ∙ ap listed_entry c.in_default.is in
-    let same = final-none g.R.Recorder.facts g.R.Recorder.whole
+    let handles = c.asked_at-step.ensures.handles in
+    let calls = c.self.invariant.1.calls in
+    let room = ring-room s.pool s.sides.items s.servers.items (joined s.tx s.pacer)
+    (undue c.args.self.now) (flat s.pool s.sides.items s.servers.items s.tx s.pacer
+    c.args.self.now c.self.view_is) (less-undue c.args.self.now c.requires.ring) in
+    let step = beside-step g.R.Recorder.facts g.R.Recorder.whole
     (g.V.Service.mode_of c.args.head.now.req_type) c.args.jobs_full c.args.me c.args.i
     c.args.head.now c.args.body.now g.V.Service.answer
     (g.V.Service.stands c.args.service.now)
     (g.V.Service.stands c.asked_at-step.new.service) c.args.rec.now c.asked_at-step.new.rec
     c.asked_at-step.result s.tx c.asked_at-step.new.tx s.pool c.asked_at-step.new.pool
-    s.sides.items s.servers.items c.asked_at-step.new.servers.items c.self.invariant room
-    c.asked_at-step.ensures.handles none in
-    let at = c.asked_at-step.ensures.handles.at in
-    let own = seen-own s.pool s.sides.items s.servers.items s.tx c.args.self.now c.args.i
-    c.args.head.now.session c.asked_at-step.ensures.handles.server c.self.view_is
-    c.requires.session at in
-    serve-at g.R.Recorder.facts g.R.Recorder.whole (g.V.Service.mode_of c.args.head.now.req_type)
-    c.args.jobs_full c.args.me c.args.i c.args.head.now c.args.body.now g.V.Service.answer
+    (map entry_of s.pacer.items) (paced-calls s.pacer.items calls) s.servers.items
+    c.asked_at-step.new.servers.items handles in
+    let none = c.reply_of.ensures ∙ ap listed_entry c.in_default.is in
+    let own = seen-own s.pool s.sides.items s.servers.items (joined s.tx s.pacer)
+    (undue c.args.self.now) c.args.i c.args.head.now.session handles.server (flat s.pool
+    s.sides.items s.servers.items s.tx s.pacer c.args.self.now c.self.view_is)
+    c.requires.session handles.at in
+    let n = handles.server.number in
+    let mode = g.V.Service.mode_of c.args.head.now.req_type in
+    let row = row_of mode c.args.jobs_full c.args.head.now handles.server in
+    let begins = has_begun row c.asked_at-step.result in
+    let older = newest c.args.head.now.request handles.server in
+    let seen : queue_of s.tx s.pacer ≡ c.args.self.now.queued = ap (λ v. v.queued) c.self.view_is in
+    serve-at g.R.Recorder.facts g.R.Recorder.whole
+    (g.V.Service.mode_of c.args.head.now.req_type) c.args.jobs_full c.args.me c.args.i
+    c.args.head.now c.args.body.now g.V.Service.answer
     (g.V.Service.stands c.args.service.now)
     (g.V.Service.stands c.asked_at-step.new.service) c.args.rec.now c.asked_at-step.new.rec
-    c.asked_at-step.result s.tx c.asked_at-step.new.tx s.pool c.asked_at-step.new.pool
-    s.sides.items s.servers.items c.asked_at-step.new.servers.items c.self.invariant room
-    c.asked_at-step.ensures.handles own c.args.self.now _ c.self.view_is
-    (ap (λ (t : Ring EntryValue). shown_of c.asked_at-step.new.pool s.sides.items
-    c.asked_at-step.new.servers.items t) same)
+    c.asked_at-step.result (joined s.tx s.pacer) (joined c.asked_at-step.new.tx s.pacer) s.pool
+    c.asked_at-step.new.pool s.sides.items s.servers.items c.asked_at-step.new.servers.items
+    c.self.invariant.0 room step own c.args.self.now _ (ap (λ v. v.servers) c.self.view_is) refl
+    (λ r. paced-numbers n r s.tx.items s.pacer.items calls
+    ∙ ap (λ qs. numbers_of (Reply n r) qs) seen)
+    (queue-by g.R.Recorder.facts g.R.Recorder.whole
+    (g.V.Service.mode_of c.args.head.now.req_type) c.args.jobs_full c.args.me c.args.i
+    c.args.head.now c.args.body.now g.V.Service.answer
+    (g.V.Service.stands c.args.service.now)
+    (g.V.Service.stands c.asked_at-step.new.service) c.args.rec.now c.asked_at-step.new.rec
+    c.asked_at-step.result (joined s.tx s.pacer) (joined c.asked_at-step.new.tx s.pacer) s.pool
+    c.asked_at-step.new.pool s.sides.items s.servers.items c.asked_at-step.new.servers.items
+    c.self.invariant.0 room step c.args.self.now.queued _ (queue-none s.pool n older s.tx.items
+    c.asked_at-step.new.tx.items s.pacer.items begins calls
+    (ap (λ r. r.items) handles.step.ring_is) c.args.self.now.queued seen
+    (replies_of c.asked_at-step.result) none))
 
 pub returns-clause-handles : goal.returns-clause-handles
 returns-clause-handles g c =
     let s = c.self.inside in
-    let room = ring-room s.pool s.sides.items s.servers.items s.tx c.args.self.now c.self.view_is c.requires.ring in
-    let one = c.reply_of.ensures ∙ ap listed_entry c.in-Some.is in
-    let same = final-one g.R.Recorder.facts g.R.Recorder.whole
+    let handles = c.asked_at-step.ensures.handles in
+    let calls = c.self.invariant.1.calls in
+    let room = ring-room s.pool s.sides.items s.servers.items (joined s.tx s.pacer)
+    (undue c.args.self.now) (flat s.pool s.sides.items s.servers.items s.tx s.pacer
+    c.args.self.now c.self.view_is) (less-undue c.args.self.now c.requires.ring) in
+    let step = beside-step g.R.Recorder.facts g.R.Recorder.whole
     (g.V.Service.mode_of c.args.head.now.req_type) c.args.jobs_full c.args.me c.args.i
     c.args.head.now c.args.body.now g.V.Service.answer
     (g.V.Service.stands c.args.service.now)
     (g.V.Service.stands c.asked_at-step.new.service) c.args.rec.now c.asked_at-step.new.rec
     c.asked_at-step.result s.tx c.asked_at-step.new.tx s.pool c.asked_at-step.new.pool
-    s.sides.items s.servers.items c.asked_at-step.new.servers.items c.self.invariant room
-    c.asked_at-step.ensures.handles c.in-Some.reply one in
-    let at = c.asked_at-step.ensures.handles.at in
-    let own = seen-own s.pool s.sides.items s.servers.items s.tx c.args.self.now c.args.i
-    c.args.head.now.session c.asked_at-step.ensures.handles.server c.self.view_is
-    c.requires.session at in
-    serve-at g.R.Recorder.facts g.R.Recorder.whole (g.V.Service.mode_of c.args.head.now.req_type)
-    c.args.jobs_full c.args.me c.args.i c.args.head.now c.args.body.now g.V.Service.answer
+    (map entry_of s.pacer.items) (paced-calls s.pacer.items calls) s.servers.items
+    c.asked_at-step.new.servers.items handles in
+    let one = c.reply_of.ensures ∙ ap listed_entry c.in-Some.is in
+    let own = seen-own s.pool s.sides.items s.servers.items (joined s.tx s.pacer)
+    (undue c.args.self.now) c.args.i c.args.head.now.session handles.server (flat s.pool
+    s.sides.items s.servers.items s.tx s.pacer c.args.self.now c.self.view_is)
+    c.requires.session handles.at in
+    let n = handles.server.number in
+    let mode = g.V.Service.mode_of c.args.head.now.req_type in
+    let row = row_of mode c.args.jobs_full c.args.head.now handles.server in
+    let begins = has_begun row c.asked_at-step.result in
+    let older = newest c.args.head.now.request handles.server in
+    let seen : queue_of s.tx s.pacer ≡ c.args.self.now.queued = ap (λ v. v.queued) c.self.view_is in
+    rw c.push.ensures (serve-at g.R.Recorder.facts g.R.Recorder.whole
+    (g.V.Service.mode_of c.args.head.now.req_type) c.args.jobs_full c.args.me c.args.i
+    c.args.head.now c.args.body.now g.V.Service.answer
     (g.V.Service.stands c.args.service.now)
     (g.V.Service.stands c.asked_at-step.new.service) c.args.rec.now c.asked_at-step.new.rec
-    c.asked_at-step.result s.tx c.asked_at-step.new.tx s.pool c.asked_at-step.new.pool
-    s.sides.items s.servers.items c.asked_at-step.new.servers.items c.self.invariant room
-    c.asked_at-step.ensures.handles own c.args.self.now _ c.self.view_is
-    (ap (λ (t : Ring EntryValue). shown_of c.asked_at-step.new.pool s.sides.items
-    c.asked_at-step.new.servers.items t) (same ∙ sym c.push.ensures))
+    c.asked_at-step.result (joined s.tx s.pacer) (joined c.asked_at-step.new.tx s.pacer) s.pool
+    c.asked_at-step.new.pool s.sides.items s.servers.items c.asked_at-step.new.servers.items
+    c.self.invariant.0 room step own c.args.self.now _ (ap (λ v. v.servers) c.self.view_is) refl
+    (λ r. paced-numbers n r s.tx.items s.pacer.items calls
+    ∙ ap (λ qs. numbers_of (Reply n r) qs) seen)
+    (queue-by g.R.Recorder.facts g.R.Recorder.whole
+    (g.V.Service.mode_of c.args.head.now.req_type) c.args.jobs_full c.args.me c.args.i
+    c.args.head.now c.args.body.now g.V.Service.answer
+    (g.V.Service.stands c.args.service.now)
+    (g.V.Service.stands c.asked_at-step.new.service) c.args.rec.now c.asked_at-step.new.rec
+    c.asked_at-step.result (joined s.tx s.pacer) (joined c.asked_at-step.new.tx s.pacer) s.pool
+    c.asked_at-step.new.pool s.sides.items s.servers.items c.asked_at-step.new.servers.items
+    c.self.invariant.0 room step c.args.self.now.queued _ (queue-one s.pool n older s.tx.items
+    c.asked_at-step.new.tx.items s.pacer.items begins calls
+    (ap (λ r. r.items) handles.step.ring_is) c.args.self.now.queued seen
+    (replies_of c.asked_at-step.result) c.in-Some.reply one)))
 
 pub returns-in_default-clause-clients : goal.returns-in_default-clause-clients
 returns-in_default-clause-clients g c =
     let s = c.self.inside in
-    let room = ring-room s.pool s.sides.items s.servers.items s.tx c.args.self.now c.self.view_is c.requires.ring in
-    rw (← c.self.view_is) (serve-clients g.R.Recorder.facts g.R.Recorder.whole
+    let handles = c.asked_at-step.ensures.handles in
+    let calls = c.self.invariant.1.calls in
+    let room = ring-room s.pool s.sides.items s.servers.items (joined s.tx s.pacer)
+    (undue c.args.self.now) (flat s.pool s.sides.items s.servers.items s.tx s.pacer
+    c.args.self.now c.self.view_is) (less-undue c.args.self.now c.requires.ring) in
+    let step = beside-step g.R.Recorder.facts g.R.Recorder.whole
     (g.V.Service.mode_of c.args.head.now.req_type) c.args.jobs_full c.args.me c.args.i
-    c.args.head.now c.args.body.now g.V.Service.answer (g.V.Service.stands c.args.service.now)
+    c.args.head.now c.args.body.now g.V.Service.answer
+    (g.V.Service.stands c.args.service.now)
     (g.V.Service.stands c.asked_at-step.new.service) c.args.rec.now c.asked_at-step.new.rec
     c.asked_at-step.result s.tx c.asked_at-step.new.tx s.pool c.asked_at-step.new.pool
-    s.sides.items s.servers.items c.asked_at-step.new.servers.items c.self.invariant room
-    c.asked_at-step.ensures.handles)
+    (map entry_of s.pacer.items) (paced-calls s.pacer.items calls) s.servers.items
+    c.asked_at-step.new.servers.items handles in
+    rw (← c.self.view_is) (serve-clients g.R.Recorder.facts g.R.Recorder.whole
+    (g.V.Service.mode_of c.args.head.now.req_type) c.args.jobs_full c.args.me c.args.i
+    c.args.head.now c.args.body.now g.V.Service.answer
+    (g.V.Service.stands c.args.service.now)
+    (g.V.Service.stands c.asked_at-step.new.service) c.args.rec.now c.asked_at-step.new.rec
+    c.asked_at-step.result (joined s.tx s.pacer) (joined c.asked_at-step.new.tx s.pacer) s.pool
+    c.asked_at-step.new.pool s.sides.items s.servers.items c.asked_at-step.new.servers.items
+    c.self.invariant.0 room step)
 
 pub returns-in_default-clause-places : goal.returns-in_default-clause-places
 returns-in_default-clause-places g c =
     let s = c.self.inside in
-    let room = ring-room s.pool s.sides.items s.servers.items s.tx c.args.self.now c.self.view_is c.requires.ring in
-    rw (← c.self.view_is) (serve-places g.R.Recorder.facts g.R.Recorder.whole
+    let handles = c.asked_at-step.ensures.handles in
+    let calls = c.self.invariant.1.calls in
+    let room = ring-room s.pool s.sides.items s.servers.items (joined s.tx s.pacer)
+    (undue c.args.self.now) (flat s.pool s.sides.items s.servers.items s.tx s.pacer
+    c.args.self.now c.self.view_is) (less-undue c.args.self.now c.requires.ring) in
+    let step = beside-step g.R.Recorder.facts g.R.Recorder.whole
     (g.V.Service.mode_of c.args.head.now.req_type) c.args.jobs_full c.args.me c.args.i
-    c.args.head.now c.args.body.now g.V.Service.answer (g.V.Service.stands c.args.service.now)
+    c.args.head.now c.args.body.now g.V.Service.answer
+    (g.V.Service.stands c.args.service.now)
     (g.V.Service.stands c.asked_at-step.new.service) c.args.rec.now c.asked_at-step.new.rec
     c.asked_at-step.result s.tx c.asked_at-step.new.tx s.pool c.asked_at-step.new.pool
-    s.sides.items s.servers.items c.asked_at-step.new.servers.items c.self.invariant room
-    c.asked_at-step.ensures.handles)
+    (map entry_of s.pacer.items) (paced-calls s.pacer.items calls) s.servers.items
+    c.asked_at-step.new.servers.items handles in
+    rw (← c.self.view_is) (serve-places g.R.Recorder.facts g.R.Recorder.whole
+    (g.V.Service.mode_of c.args.head.now.req_type) c.args.jobs_full c.args.me c.args.i
+    c.args.head.now c.args.body.now g.V.Service.answer
+    (g.V.Service.stands c.args.service.now)
+    (g.V.Service.stands c.asked_at-step.new.service) c.args.rec.now c.asked_at-step.new.rec
+    c.asked_at-step.result (joined s.tx s.pacer) (joined c.asked_at-step.new.tx s.pacer) s.pool
+    c.asked_at-step.new.pool s.sides.items s.servers.items c.asked_at-step.new.servers.items
+    c.self.invariant.0 room step)
 
 pub returns-in_default-clause-all_served : goal.returns-in_default-clause-all_served
 returns-in_default-clause-all_served g c =
@@ -173,26 +321,52 @@ returns-in_default-clause-all_served g c =
 pub returns-clause-clients : goal.returns-clause-clients
 returns-clause-clients g c =
     let s = c.self.inside in
-    let room = ring-room s.pool s.sides.items s.servers.items s.tx c.args.self.now c.self.view_is c.requires.ring in
-    rw (← c.self.view_is) (serve-clients g.R.Recorder.facts g.R.Recorder.whole
+    let handles = c.asked_at-step.ensures.handles in
+    let calls = c.self.invariant.1.calls in
+    let room = ring-room s.pool s.sides.items s.servers.items (joined s.tx s.pacer)
+    (undue c.args.self.now) (flat s.pool s.sides.items s.servers.items s.tx s.pacer
+    c.args.self.now c.self.view_is) (less-undue c.args.self.now c.requires.ring) in
+    let step = beside-step g.R.Recorder.facts g.R.Recorder.whole
     (g.V.Service.mode_of c.args.head.now.req_type) c.args.jobs_full c.args.me c.args.i
-    c.args.head.now c.args.body.now g.V.Service.answer (g.V.Service.stands c.args.service.now)
+    c.args.head.now c.args.body.now g.V.Service.answer
+    (g.V.Service.stands c.args.service.now)
     (g.V.Service.stands c.asked_at-step.new.service) c.args.rec.now c.asked_at-step.new.rec
     c.asked_at-step.result s.tx c.asked_at-step.new.tx s.pool c.asked_at-step.new.pool
-    s.sides.items s.servers.items c.asked_at-step.new.servers.items c.self.invariant room
-    c.asked_at-step.ensures.handles)
+    (map entry_of s.pacer.items) (paced-calls s.pacer.items calls) s.servers.items
+    c.asked_at-step.new.servers.items handles in
+    rw (← c.self.view_is) (serve-clients g.R.Recorder.facts g.R.Recorder.whole
+    (g.V.Service.mode_of c.args.head.now.req_type) c.args.jobs_full c.args.me c.args.i
+    c.args.head.now c.args.body.now g.V.Service.answer
+    (g.V.Service.stands c.args.service.now)
+    (g.V.Service.stands c.asked_at-step.new.service) c.args.rec.now c.asked_at-step.new.rec
+    c.asked_at-step.result (joined s.tx s.pacer) (joined c.asked_at-step.new.tx s.pacer) s.pool
+    c.asked_at-step.new.pool s.sides.items s.servers.items c.asked_at-step.new.servers.items
+    c.self.invariant.0 room step)
 
 pub returns-clause-places : goal.returns-clause-places
 returns-clause-places g c =
     let s = c.self.inside in
-    let room = ring-room s.pool s.sides.items s.servers.items s.tx c.args.self.now c.self.view_is c.requires.ring in
-    rw (← c.self.view_is) (serve-places g.R.Recorder.facts g.R.Recorder.whole
+    let handles = c.asked_at-step.ensures.handles in
+    let calls = c.self.invariant.1.calls in
+    let room = ring-room s.pool s.sides.items s.servers.items (joined s.tx s.pacer)
+    (undue c.args.self.now) (flat s.pool s.sides.items s.servers.items s.tx s.pacer
+    c.args.self.now c.self.view_is) (less-undue c.args.self.now c.requires.ring) in
+    let step = beside-step g.R.Recorder.facts g.R.Recorder.whole
     (g.V.Service.mode_of c.args.head.now.req_type) c.args.jobs_full c.args.me c.args.i
-    c.args.head.now c.args.body.now g.V.Service.answer (g.V.Service.stands c.args.service.now)
+    c.args.head.now c.args.body.now g.V.Service.answer
+    (g.V.Service.stands c.args.service.now)
     (g.V.Service.stands c.asked_at-step.new.service) c.args.rec.now c.asked_at-step.new.rec
     c.asked_at-step.result s.tx c.asked_at-step.new.tx s.pool c.asked_at-step.new.pool
-    s.sides.items s.servers.items c.asked_at-step.new.servers.items c.self.invariant room
-    c.asked_at-step.ensures.handles)
+    (map entry_of s.pacer.items) (paced-calls s.pacer.items calls) s.servers.items
+    c.asked_at-step.new.servers.items handles in
+    rw (← c.self.view_is) (serve-places g.R.Recorder.facts g.R.Recorder.whole
+    (g.V.Service.mode_of c.args.head.now.req_type) c.args.jobs_full c.args.me c.args.i
+    c.args.head.now c.args.body.now g.V.Service.answer
+    (g.V.Service.stands c.args.service.now)
+    (g.V.Service.stands c.asked_at-step.new.service) c.args.rec.now c.asked_at-step.new.rec
+    c.asked_at-step.result (joined s.tx s.pacer) (joined c.asked_at-step.new.tx s.pacer) s.pool
+    c.asked_at-step.new.pool s.sides.items s.servers.items c.asked_at-step.new.servers.items
+    c.self.invariant.0 room step)
 
 pub returns-clause-all_served : goal.returns-clause-all_served
 returns-clause-all_served g c =

@@ -1,6 +1,10 @@
-use Rattle.std.proofs.Common.{◌∙◌}
+use Rattle.std.proofs.Common.{sym, ◌∙◌}
 use Rattle.session_store.proofs.CountLemmas.{replies-counted}
+use Rattle.session_store.proofs.UndueLemmas.{replies-ready}
 use Rattle.session_store.proofs.store.Store.replies.Goals as goal
 
 pub returns : goal.returns
-returns c = rw (← c.self.view_is) (c.replies.ensures ∙ replies-counted c.self.inside.tx.items)
+returns c =
+    let s = c.self.inside in
+    rw (← c.self.view_is) (c.replies.ensures ∙ replies-counted s.tx.items
+    ∙ sym (replies-ready s.tx s.pacer c.self.invariant.1))

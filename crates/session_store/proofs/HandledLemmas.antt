@@ -1,0 +1,343 @@
+-- A server session that handled a packet over the ring alone handled it over the ring with the paced
+-- packets of calls behind it.
+use Rattle.std.proofs.Common.{◌≡◌, ℕ, ◌+◌, Bool, true, false, not, ◌||◌, ◌&&◌, cond, Option, Some}
+use Rattle.std.proofs.Common.{None, List, [], ◌∷◌, ◌++◌, refl, sym, ap, subst, ◌∙◌, arith}
+use Rattle.std.proofs.Common.{append_assoc}
+use Rattle.std.specs.Prelude.{IfSome, count_by, map, option_map}
+use Rattle.std.specs.List.{AllByRecursion, filter, find}
+use Rattle.std.proofs.lemmas.List.{append-nil}
+use Rattle.std.proofs.lemmas.List.Elements.{filter-append}
+use Rattle.std.proofs.lemmas.List.Sums.{sum_by-append}
+use Rattle.rpc_base.specs.Owners.{same_owner}
+use Rattle.rpc_base.specs.declared.fact.Fact.{Fact}
+use Rattle.rpc_base.specs.declared.fact.Who.{Who}
+use Rattle.rpc_base.specs.declared.fact.Who.TheVariants.{Node}
+use Rattle.rpc_base.specs.declared.event.Event.TheVariants.{Flushed}
+use Rattle.rpc_base.specs.declared.owner.Owner.{Owner}
+use Rattle.rpc_base.specs.declared.owner.Owner.TheVariants.{Ask, Reply, Control}
+use Rattle.rpc_base.proofs.FirstLemmas.{all-each, counted-cons}
+use Rattle.buffer_pool.specs.Counting.{Counts}
+use Rattle.buffer_pool.specs.Pool.{Pool, refs_of}
+use Rattle.packet_header.specs.declared.packet.MessageHeader.{MessageHeader}
+use Rattle.packet_rings.specs.Entries.{is_not_of, is_of, is_reply, is_reply_owner}
+use Rattle.packet_rings.specs.Mentions.{is_place}
+use Rattle.packet_rings.specs.Rings.{Ring, ring}
+use Rattle.packet_rings.specs.Values.{EntryValue}
+use Rattle.pacing_wheel.specs.declared.pacer.Paced.{Paced}
+use Rattle.pacing_wheel.specs.Wheel.{Wheel, entry_of}
+use Rattle.rpc_laws.specs.Queues.{numbers_of, put_queued}
+use Rattle.rpc_laws.specs.declared.rows.ServerRow.{ServerRow}
+use Rattle.rpc_laws.specs.declared.tables.Queued.{Queued}
+use Rattle.rpc_laws.specs.declared.tables.Served.{Served as ServedRequest}
+use Rattle.rpc_laws.specs.declared.tables.Server.{Server}
+use Rattle.rpc_outside.specs.Recording.{Grew}
+use Rattle.rpc_outside.specs.Served.{Served}
+use Rattle.rpc_outside.specs.declared.service.Mode.{Mode}
+use Rattle.server_core.specs.declared.slot.SlotRequest.{SlotRequest}
+use Rattle.server_core.specs.declared.slot.Stored.{Stored}
+use Rattle.server_core.specs.declared.step.Step.{Step}
+use Rattle.server_core.specs.Counting.{CountsQueued}
+use Rattle.server_core.specs.Flushing.{HoldsAll, HoldsReplies, bare, flushed_facts, flushes, has_begun}
+use Rattle.server_core.specs.Flushing.{is_reply_of, named_by, queued_of as entries_seen, replies_of}
+use Rattle.server_core.specs.Flushing.{ring_after, without_replies}
+use Rattle.server_core.specs.Noting.{step_facts}
+use Rattle.server_core.specs.Rows.{row_of}
+use Rattle.server_core.specs.Session.{Session as Serving, answer_of, newest, owner_of}
+use Rattle.server_core.specs.Steps.{IsReply, asked_with}
+use Rattle.server_core.specs.Shown.{shown as shown_server, shown_request}
+use Rattle.session_store.specs.Effects.{ServerStep}
+use Rattle.session_store.specs.Joined.{joined, paced_of, put_ready, queue_of}
+use Rattle.session_store.specs.Queue.{is_owned}
+use Rattle.session_store.specs.Serving.{Handles, without_owned}
+use Rattle.session_store.specs.Sides.{ServerHolds, ServerQueued, queued_of}
+use Rattle.session_store.proofs.JoinLemmas.{queue-behind}
+use Rattle.session_store.proofs.ServeLemmas.{seen-after, served-same}
+
+-- a packet of a call is no reply to any request
+not-owned : (n r : ℕ) (o : Owner) → is_reply_owner o ≡ false → same_owner o (Reply n r) ≡ false
+not-owned n r (Ask s q) t = refl
+not-owned n r (Reply s q) t = cc
+not-owned n r Control t = refl
+
+not-own : (n : ℕ) (o : Owner) → is_reply_owner o ≡ false → is_reply_of n o ≡ false
+not-own n (Ask s q) t = refl
+not-own n (Reply s q) t = cc
+not-own n Control t = refl
+
+abbrev pub Calls : List EntryValue → Type 0
+Calls ps = AllByRecursion (λ e. is_reply e ≡ false) ps
+
+-- what is said of replies is so of those
+all-vacuous : (q : EntryValue → Bool) (P : EntryValue → Type 0)
+    → ((e : EntryValue) → is_reply e ≡ false → q e ≡ false) → (ps : List EntryValue) → Calls ps
+    → AllByRecursion (λ e. q e ≡ true → P e) ps
+all-vacuous q P none [] calls = tt
+all-vacuous q P none (p ∷ ps) calls =
+    (λ is. (let no = none p calls.0 in cc), all-vacuous q P none ps calls.1)
+
+count-none : (q : EntryValue → Bool) → ((e : EntryValue) → is_reply e ≡ false → q e ≡ false)
+    → (ps : List EntryValue) → Calls ps → count_by q ps ≡ 0
+count-none q none [] calls = refl
+count-none q none (p ∷ ps) calls =
+    omega (arith, counted-cons q p ps false (none p calls.0), count-none q none ps calls.1)
+
+module _ (P : EntryValue → Type 0) where
+  all-front : (xs ys : List EntryValue) → AllByRecursion P (xs ++ ys) → AllByRecursion P xs
+  all-front [] ys all = tt
+  all-front (x ∷ xs) ys all = (all.0, all-front xs ys all.1)
+
+  all-behind : (ps ys : List EntryValue) → AllByRecursion P ps → AllByRecursion P ys
+      → AllByRecursion P (ps ++ ys)
+  all-behind [] ys own all = all
+  all-behind (p ∷ ps) ys own all = (own.0, all-behind ps ys own.1 all)
+
+  all-back : (xs ys : List EntryValue) → AllByRecursion P (xs ++ ys) → AllByRecursion P ys
+  all-back [] ys all = all
+  all-back (x ∷ xs) ys all = all-back xs ys all.1
+
+  all-amid : (xs ps ys : List EntryValue) → AllByRecursion P ps → AllByRecursion P (xs ++ ys)
+      → AllByRecursion P ((xs ++ ps) ++ ys)
+  all-amid xs ps ys own all =
+      subst (λ es. AllByRecursion P es) (sym (append_assoc xs ps ys))
+      (all-behind xs (ps ++ ys) (all-front xs ys all)
+      (all-behind ps ys own (all-back xs ys all)))
+
+count-front : (q : EntryValue → Bool) → ((e : EntryValue) → is_reply e ≡ false → q e ≡ false)
+    → (xs ps : List EntryValue) → Calls ps → count_by q (xs ++ ps) ≡ count_by q xs
+count-front q none xs ps calls =
+    omega (arith, sum_by-append (λ e. cond (q e) 1 0) xs ps, count-none q none ps calls)
+
+count-amid : (q : EntryValue → Bool) → ((e : EntryValue) → is_reply e ≡ false → q e ≡ false)
+    → (xs ps ys : List EntryValue) → Calls ps
+    → count_by q ((xs ++ ps) ++ ys) ≡ count_by q (xs ++ ys)
+count-amid q none xs ps ys calls =
+    omega (
+      arith,
+      sum_by-append (λ e. cond (q e) 1 0) (xs ++ ps) ys,
+      sum_by-append (λ e. cond (q e) 1 0) xs ps,
+      sum_by-append (λ e. cond (q e) 1 0) xs ys,
+      count-none q none ps calls,
+    )
+
+named-none : (n r p : ℕ) (e : EntryValue) → is_reply e ≡ false
+    → (is_of (Reply n r) e && is_place p e.place) ≡ false
+named-none n r p e t = ap (λ b. b && is_place p e.place) (not-owned n r e.owner t)
+
+module _ (n : ℕ) (pool : Pool) (from to : List EntryValue)
+    (counts : (q : EntryValue → Bool)
+    → ((e : EntryValue) → is_reply e ≡ false → q e ≡ false) → count_by q from ≡ count_by q to)
+    (alls : (q : EntryValue → Bool) (P : EntryValue → Type 0)
+    → ((e : EntryValue) → is_reply e ≡ false → q e ≡ false)
+    → AllByRecursion (λ e. q e ≡ true → P e) from → AllByRecursion (λ e. q e ≡ true → P e) to) where
+  held-cases : (r : ℕ) (o : Option Stored)
+      → IfSome o (λ a. refs_of pool a.place ≡ named_by (Reply n r) a.place from)
+      → IfSome o (λ a. refs_of pool a.place ≡ named_by (Reply n r) a.place to)
+  held-cases r None h = tt
+  held-cases r (Some a) h =
+      h ∙ counts (λ e. is_of (Reply n r) e && is_place a.place e.place) (named-none n r a.place)
+
+  held-one : (q : SlotRequest) → HoldsReplies n pool from q → HoldsReplies n pool to q
+  held-one q h = record {
+    each = alls (is_of (owner_of n q)) _ (λ e t. not-owned n q.number e.owner t) h.each;
+    all = held-cases q.number (answer_of q.state) h.all;
+  }
+
+holds-by : (v : Serving) (pool : Pool) (from to : List EntryValue)
+    → ((q : EntryValue → Bool) → ((e : EntryValue) → is_reply e ≡ false → q e ≡ false)
+    → count_by q from ≡ count_by q to)
+    → ((q : EntryValue → Bool) (P : EntryValue → Type 0)
+    → ((e : EntryValue) → is_reply e ≡ false → q e ≡ false)
+    → AllByRecursion (λ e. q e ≡ true → P e) from → AllByRecursion (λ e. q e ≡ true → P e) to)
+    → HoldsAll v pool from → HoldsAll v pool to
+holds-by v pool from to counts alls h = record {
+  own = alls (λ e. is_reply_of v.number e.owner) _ (λ e t. not-own v.number e.owner t) h.own;
+  each = all-each _ _ v.slots (held-one v.number pool from to counts alls) h.each;
+}
+
+queued-by : (v : Serving) (from to : List EntryValue)
+    → ((q : EntryValue → Bool) → ((e : EntryValue) → is_reply e ≡ false → q e ≡ false)
+    → count_by q from ≡ count_by q to) → CountsQueued v from → CountsQueued v to
+queued-by v from to counts h = all-each _ _ v.slots
+    (λ q t. t ∙ counts (is_of (owner_of v.number q)) (λ e u. not-owned v.number q.number e.owner u)) h
+
+-- without the paced packets, and with them
+pub holds-ready : (v : Serving) (pool : Pool) (xs ps : List EntryValue) → Calls ps
+    → ServerHolds pool (xs ++ ps) v → ServerHolds pool xs v
+holds-ready v pool xs ps calls = holds-by v pool (xs ++ ps) xs (λ q none. count-front q none xs ps calls)
+    (λ q P none all. all-front _ xs ps all)
+
+holds-amid : (v : Serving) (pool : Pool) (xs ps ys : List EntryValue) → Calls ps
+    → HoldsAll v pool (xs ++ ys) → HoldsAll v pool ((xs ++ ps) ++ ys)
+holds-amid v pool xs ps ys calls = holds-by v pool (xs ++ ys) ((xs ++ ps) ++ ys)
+    (λ q none. sym (count-amid q none xs ps ys calls))
+    (λ q P none all. all-amid _ xs ps ys (all-vacuous q P none ps calls) all)
+
+pub queued-ready : (v : Serving) (xs ps : List EntryValue) → Calls ps
+    → ServerQueued (xs ++ ps) v → ServerQueued xs v
+queued-ready v xs ps calls = queued-by v (xs ++ ps) xs (λ q none. count-front q none xs ps calls)
+
+queued-amid : (v : Serving) (xs ps ys : List EntryValue) → Calls ps → CountsQueued v (xs ++ ys)
+    → CountsQueued v ((xs ++ ps) ++ ys)
+queued-amid v xs ps ys calls = queued-by v (xs ++ ys) ((xs ++ ps) ++ ys)
+    (λ q none. sym (count-amid q none xs ps ys calls))
+
+-- the replies to a request leave the ring, and these stay
+filter-calls : (n r : ℕ) (ps : List EntryValue) → Calls ps → filter (is_not_of (Reply n r)) ps ≡ ps
+filter-calls n r [] calls = refl
+filter-calls n r (p ∷ ps) calls =
+    rw (not-owned n r p.owner calls.0) (ap (λ es. p ∷ es) (filter-calls n r ps calls.1))
+
+after-calls : (n : ℕ) (o : Option SlotRequest) (xs ps : List EntryValue) (b : Bool) → Calls ps
+    → cond b (without_replies n o xs) xs ++ ps ≡ cond b (without_replies n o (xs ++ ps)) (xs ++ ps)
+after-calls n None xs ps true calls = refl
+after-calls n (Some q) xs ps true calls =
+    ap (λ es. filter (is_not_of (owner_of n q)) xs ++ es) (sym (filter-calls n q.number ps calls))
+    ∙ sym (filter-append (is_not_of (owner_of n q)) xs ps)
+after-calls n o xs ps false calls = refl
+
+numbers-calls : (n r : ℕ) (xs ps : List EntryValue) → Calls ps
+    → numbers_of (Reply n r) (map queued_of xs) ≡ numbers_of (Reply n r) (map queued_of (xs ++ ps))
+numbers-calls n r [] [] calls = refl
+numbers-calls n r [] (p ∷ ps) calls =
+    rw (not-owned n r p.owner calls.0) (numbers-calls n r [] ps calls.1)
+numbers-calls n r (x ∷ xs) ps calls = rw (numbers-calls n r xs ps calls) refl
+
+flushes-calls : (row : ServerRow) (step : Step) (who : Who) (n : ℕ) (o : Option SlotRequest)
+    (xs ps : List EntryValue) → Calls ps → flushes row step who n o xs
+    ≡ flushes row step who n o (xs ++ ps)
+flushes-calls row step who n o xs ps calls = by (has_begun row step) o
+  where
+    by : (b : Bool) (q : Option SlotRequest) → cond b (flushed_facts who n q xs) []
+        ≡ cond b (flushed_facts who n q (xs ++ ps)) []
+    by true None = refl
+    by true (Some q) = ap (map (λ k. bare who (Flushed (owner_of n q) k)))
+        (numbers-calls n q.number xs ps calls)
+    by false q = refl
+
+abbrev pub beside : List EntryValue → Ring EntryValue → Ring EntryValue
+beside ps r = ring (r.items ++ ps) r.size
+
+-- so the packet is handled over all of them
+module _ {R : Type 0} (facts : R → Option (List Fact)) (whole : R → Bool) (mode : Mode)
+    (jobs_full : Bool) (me i : ℕ) (h : MessageHeader) (body : List ℕ)
+    (answer_of : Served → ℕ → List ℕ → List ℕ) (stands then_stands : Served → Type 0)
+    (noted_before noted_now : R) (step : Step) (old new : Ring EntryValue) (pool after : Pool)
+    (ps : List EntryValue) (calls : Calls ps) where
+  pub beside-one : (v w : Serving) → Handles facts whole mode jobs_full (Node me) h body answer_of
+      stands then_stands noted_before noted_now step old new v w pool after
+      → Handles facts whole mode jobs_full (Node me) h body answer_of stands then_stands
+      noted_before noted_now step (beside ps old) (beside ps new) v w pool after
+  beside-one v w g =
+      let row = row_of mode jobs_full h v in
+      let older = newest h.request v in
+      let server = shown_server pool v in
+      record {
+        row = g.row;
+        rule = g.rule;
+        lacks = g.lacks;
+        ring_is = ap (λ (r : Ring EntryValue). beside ps r) g.ring_is
+            ∙ ap (λ es. ring es old.size)
+            (after-calls v.number older old.items ps (has_begun row step) calls);
+        handled = record {
+          answer = g.handled.answer;
+          steps = g.handled.steps;
+          by_service = g.handled.by_service;
+          grew = subst (λ fs. Grew facts whole noted_before noted_now (fs
+              ++ step_facts (Node me) v.number h (asked_with h body server) g.handled.answer step))
+              (flushes-calls row step (Node me) v.number older old.items ps calls) g.handled.grew;
+        };
+        by_rule = λ own who answer unless.
+            sym (ap (λ fs. fs ++ step_facts (Node who) v.number h (asked_with h body server) answer
+            step) (flushes-calls row step (Node who) v.number older old.items ps calls))
+            ∙ g.by_rule own who answer unless
+            ∙ served-same mode who answer (map queued_of old.items)
+            (map queued_of (old.items ++ ps)) server h body
+            (λ r. numbers-calls v.number r old.items ps calls) row;
+        reply = g.reply;
+        give = g.give;
+        sound = g.sound;
+        spare = g.spare;
+        leaves = g.leaves;
+        holds = λ all. holds-amid w after new.items ps (replies_of step) calls
+            (g.holds (holds-ready v pool old.items ps calls all));
+        queued = λ all counted. queued-amid w new.items ps (replies_of step) calls
+            (g.queued (holds-ready v pool old.items ps calls all)
+            (queued-ready v old.items ps calls counted));
+        counts = λ others counted.
+            subst (λ es. Counts after (es ++ replies_of step))
+            (sym (append_assoc new.items ps others))
+            (g.counts (ps ++ others)
+            (subst (λ es. Counts pool es) (append_assoc old.items ps others) counted));
+        keeps = g.keeps;
+      }
+
+  abbrev pub beside-step : (servers now : List Serving)
+      → ServerStep i (λ v w. Handles facts whole mode jobs_full (Node me) h body answer_of stands
+      then_stands noted_before noted_now step old new v w pool after) servers now
+      → ServerStep i (λ v w. Handles facts whole mode jobs_full (Node me) h body answer_of stands
+      then_stands noted_before noted_now step (beside ps old) (beside ps new) v w pool after) servers
+      now
+  beside-step servers now g = record {
+    server = g.server;
+    at = g.at;
+    later = g.later;
+    step = beside-one g.server g.later g.step;
+    changed = g.changed;
+  }
+
+-- what is paced, as entries and as it is seen
+pub paced-calls : (ps : List Paced) → AllByRecursion (λ p. is_reply p.entry ≡ false) ps
+    → Calls (map entry_of ps)
+paced-calls [] all = tt
+paced-calls (p ∷ ps) all = (all.0, paced-calls ps all.1)
+
+pub paced-numbers : (n r : ℕ) (xs : List EntryValue) (ps : List Paced)
+    → AllByRecursion (λ p. is_reply p.entry ≡ false) ps
+    → numbers_of (Reply n r) (map queued_of (xs ++ map entry_of ps))
+    ≡ numbers_of (Reply n r) (map queued_of xs ++ map paced_of ps)
+paced-numbers n r [] [] all = refl
+paced-numbers n r [] (p ∷ ps) all =
+    rw (not-owned n r p.entry.owner all.0) (paced-numbers n r [] ps all.1)
+paced-numbers n r (x ∷ xs) ps all = rw (paced-numbers n r xs ps all) refl
+
+filter-paced : (n r : ℕ) (ps : List Paced) → AllByRecursion (λ p. is_reply p.entry ≡ false) ps
+    → filter (λ x. not (is_owned (Reply n r) x)) (map paced_of ps) ≡ map paced_of ps
+filter-paced n r [] all = refl
+filter-paced n r (p ∷ ps) all =
+    rw (not-owned n r p.entry.owner all.0) (ap (λ qs. paced_of p ∷ qs) (filter-paced n r ps all.1))
+
+pub owned-paced : (n : ℕ) (o : Option ServedRequest) (qs : List Queued) (ps : List Paced) (b : Bool)
+    → AllByRecursion (λ p. is_reply p.entry ≡ false) ps
+    → cond b (without_owned n o qs) qs ++ map paced_of ps
+    ≡ cond b (without_owned n o (qs ++ map paced_of ps)) (qs ++ map paced_of ps)
+owned-paced n None qs ps true all = refl
+owned-paced n (Some q) qs ps true all =
+    ap (λ rs. filter (λ x. not (is_owned (Reply n q.number) x)) qs ++ rs)
+    (sym (filter-paced n q.number ps all))
+    ∙ sym (filter-append (λ x. not (is_owned (Reply n q.number) x)) qs (map paced_of ps))
+owned-paced n o qs ps false all = refl
+
+-- the queue once the replies to an older request left it, and with the reply of the packet
+module _ (pool : Pool) (n : ℕ) (o : Option SlotRequest) (xs new : List EntryValue) (ps : List Paced)
+    (b : Bool) (calls : AllByRecursion (λ p. is_reply p.entry ≡ false) ps)
+    (is : new ≡ cond b (without_replies n o xs) xs) (queued : List Queued)
+    (seen : map queued_of xs ++ map paced_of ps ≡ queued) (replies : List EntryValue) where
+  abbrev left_queue : List Queued
+  left_queue = cond b (without_owned n (option_map (shown_request pool) o) queued) queued
+
+  queue-left : map queued_of new ++ map paced_of ps ≡ left_queue
+  queue-left =
+      ap (λ es. map queued_of es ++ map paced_of ps) is
+      ∙ ap (λ qs. qs ++ map paced_of ps) (seen-after pool n o xs b)
+      ∙ owned-paced n (option_map (shown_request pool) o) (map queued_of xs) ps b calls
+      ∙ ap (λ qs. cond b (without_owned n (option_map (shown_request pool) o) qs) qs) seen
+
+  pub queue-none : replies ≡ []
+      → map queued_of new ++ map paced_of ps ≡ put_ready replies left_queue
+  queue-none none = queue-left ∙ ap (λ es. put_ready es left_queue) (sym none)
+
+  pub queue-one : (e : EntryValue) → replies ≡ e ∷ []
+      → map queued_of (new ++ e ∷ []) ++ map paced_of ps ≡ put_ready replies left_queue
+  queue-one e one =
+      queue-behind new ps e ∙ ap (λ qs. put_queued (queued_of e) qs) queue-left
+      ∙ ap (λ es. put_ready es left_queue) (sym one)
