@@ -37,7 +37,8 @@ use std::alloc::Global;
 
 // How long the datagram of part `number` of a message of `size` bytes is.
 fn datagram_size(size: u32, number: u16) -> u64
-    ensures { result ≡ 16 + part_size size number }
+    ensures size { result ≡ 16 + part_size size number }
+    ensures most { result ≤ 1040 }
 {
     let rest = size.saturating_sub(PART_BYTES * u32::from(number));
     HEAD_BYTES as u64 + u64::from(rest.min(PART_BYTES))
@@ -157,8 +158,9 @@ impl Store {
     /// How long the datagram of this packet of an active call of session `i` is, in bytes.
     pub fn packet_size(&self, i: usize, request: RequestNo, number: u16) -> u64
         requires known { i < length self.now.clients }
-        ensures { IfSome (slice_get self.now.clients i)
+        ensures size { IfSome (slice_get self.now.clients i)
             (λ x. result ≡ packet_size request number (Some x)) }
+        ensures most { result ≤ 1040 }
     {
         datagram_size(self.sides[i].session.bytes(request), number)
     }

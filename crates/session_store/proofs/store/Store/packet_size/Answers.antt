@@ -11,8 +11,8 @@ use Rattle.session_store.proofs.SizeLemmas.{size-shown}
 use Rattle.session_store.proofs.UndueLemmas.{flat}
 use Rattle.session_store.proofs.store.Store.packet_size.Goals as goal
 
-pub returns : goal.returns
-returns c =
+pub returns-clause-size : goal.returns-clause-size
+returns-clause-size c =
     let s = c.self.inside in
     let x = c.index.result.now in
     let view = flat s.pool s.sides.items s.servers.items s.tx s.pacer c.args.self.now c.self.view_is in
@@ -21,5 +21,5 @@ returns c =
     let size = size-shown s.pool x c.args.request c.args.number
     (all-at (SideKept s.pool) s.sides.items c.args.i x c.self.invariant.0.keeps at) in
     read-at s.pool s.sides.items s.servers.items (joined s.tx s.pacer) (undue c.args.self.now) view
-    c.args.i x at (λ y. _ ≡ packet_size c.args.request c.args.number (Some y)) (c.datagram_size.ensures
+    c.args.i x at (λ y. _ ≡ packet_size c.args.request c.args.number (Some y)) (c.datagram_size.ensures.size
     ∙ ap (λ n. 16 + part_size n c.args.number) c.bytes.ensures ∙ size)
