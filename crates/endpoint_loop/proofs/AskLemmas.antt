@@ -179,7 +179,7 @@ module _ (me : ℕ) (limits : Limits) (tallies : Tallies) (paces : List Pace) (j
             (all-at CallsAscend s.clients i at.client fits.ascends at.place)
             (rw numbered before))
             (λ j x e other. all-at CallsAscend s.clients j x fits.ascends e));
-        unpaced = fits.unpaced;
+        paces = fits.paces;
         settled = rw at.changed (all-set IsSettled s.clients i (asks what at.client)
             (settled-live at.client (asks what at.client)
             (all-at IsSettled s.clients i at.client fits.settled at.place)
@@ -191,8 +191,14 @@ module _ (me : ℕ) (limits : Limits) (tallies : Tallies) (paces : List Pace) (j
           length-set s.clients i (asks what at.client),
           fits.numbers,
         );
+        each = omega (
+          arith,
+          ap (λ (xs : List Client). length xs) at.changed,
+          length-set s.clients i (asks what at.client),
+          fits.each,
+        );
         credits = rw servers fits.credits;
-        ready = rw queued fits.ready;
+        sendable = rw queued fits.sendable;
         replies = rw queued fits.replies;
         packets = size ∙ fits.packets;
         jobs = fits.jobs;

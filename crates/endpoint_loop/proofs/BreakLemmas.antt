@@ -320,12 +320,18 @@ module _ (me : ℕ) (limits : Limits) (tallies : Tallies) (paces : List Pace) (j
           (may, all.allowed));
       ascends = rw changed (all-set CallsAscend s.clients i (broken_with x []) tt
           (λ j z e other. all-at CallsAscend s.clients j z fits.ascends e));
-      unpaced = fits.unpaced;
+      paces = fits.paces;
       numbers = omega (
         arith,
         ap (λ (zs : List Client). length zs) changed,
         length-set s.clients i (broken_with x []),
         fits.numbers,
+      );
+      each = omega (
+        arith,
+        ap (λ (zs : List Client). length zs) changed,
+        length-set s.clients i (broken_with x []),
+        fits.each,
       );
       settled = rw changed (all-set IsSettled s.clients i (broken_with x [])
           (record {
@@ -336,7 +342,7 @@ module _ (me : ℕ) (limits : Limits) (tallies : Tallies) (paces : List Pace) (j
           })
           (λ j z e other. all-at IsSettled s.clients j z fits.settled e));
       credits = rw servers fits.credits;
-      ready = rw queued fits.ready;
+      sendable = rw queued fits.sendable;
       replies = rw queued fits.replies;
       packets = size ∙ fits.packets;
       jobs = fits.jobs;

@@ -34,7 +34,7 @@ use Rattle.rpc_laws.specs.Facts.{plain, with_two}
 use Rattle.rpc_laws.specs.Jobs.{is_job}
 use Rattle.rpc_laws.specs.NodeLists.{after, one_more}
 use Rattle.rpc_laws.specs.PollOrder.{awaited, awaited_of, finished_facts, is_working}
-use Rattle.rpc_laws.specs.Queues.{is_reply, replies}
+use Rattle.rpc_laws.specs.Queues.{is_reply, put_queued, replies}
 use Rattle.rpc_laws.specs.Requests.{answered, is_request, is_server, request_of}
 use Rattle.rpc_outside.specs.Recording.{Grew}
 use Rattle.rpc_outside.specs.declared.service.Mode.{Mode}
@@ -47,17 +47,18 @@ use Rattle.node_laws.proofs.WorkLemmas.{job-has-worker}
 use Rattle.server_core.proofs.FlushLemmas.{grew-then}
 use Rattle.server_core.specs.Steps.{gone_on_as}
 use Rattle.session_store.specs.Changes.{is_waited}
-use Rattle.session_store.specs.Sides.{HasRoom, Shown, listed_queued}
+use Rattle.session_store.specs.Sides.{HasRoom, Shown, queued_of}
+use Rattle.endpoint_loop.proofs.QueueLemmas.{put-all, replies-more}
 use Rattle.session_store.proofs.ListLemmas.{all-at, all-set}
 use Rattle.worker_board.specs.declared.Parcel.{Parcel}
 use Rattle.endpoint_loop.specs.Finishing.{AllBackground, AnswersTo, AsksOf, is_named}
-use Rattle.endpoint_loop.specs.Fits.{Fits, HasCredit, IsReady}
+use Rattle.endpoint_loop.specs.Fits.{Fits, HasCredit, IsSendable}
 use Rattle.endpoint_loop.specs.Noting.{MakesWhere}
 use Rattle.endpoint_loop.specs.Seen.{Asks, Tallies, asking, asking_jobs, jobs_in, seen_node}
 use Rattle.endpoint_loop.specs.Seen.{unasked, with_ask}
 use Rattle.endpoint_loop.specs.Serving.{AllServed, FinishesWith, SlotsServed}
 use Rattle.endpoint_loop.specs.declared.node.JobName.{JobName}
-use Rattle.endpoint_loop.proofs.FitsLemmas.{has-places, put-behind, two-parts}
+use Rattle.endpoint_loop.proofs.FitsLemmas.{has-places, two-parts}
 
 -- the first that passes, by what is shown of the elements
 module _ {A B : Type 0} (f : A → B) (p : B → Bool) where
@@ -302,12 +303,6 @@ waited-for t r bytes e xs ys (Some i) p h = record {
   changed = h.changed;
 }
 
-replies-more : (qs : List Queued) (q : Queued) → is_reply q.owner ≡ true
-    → replies (qs ++ q ∷ []) ≡ replies qs + 1
-replies-more qs q one =
-    let last = counted-cons (λ (p : Queued). is_reply p.owner) q [] true one in
-    omega (arith, sum_by-append (λ (p : Queued). cond (is_reply p.owner) 1 0) qs (q ∷ []), last)
-
 module _ (me : ℕ) (limits : Limits) (tallies : Tallies) (paces : List Pace) (jobs : Jobs)
     (clock : ℕ) (rx : Ring DatagramValue) (s : Shown) where
   abbrev seen_with : Jobs → Timed
@@ -318,7 +313,7 @@ module _ (me : ℕ) (limits : Limits) (tallies : Tallies) (paces : List Pace) (j
     pub ring-room : replies s.queued < rx.size → length s.queued < s.size
     ring-room room =
         let total = kept-total (seen_with jobs).lists fits.kept in
-        omega (arith, two-parts s.queued fits.ready, total, room, fits.packets)
+        omega (arith, two-parts s.queued fits.sendable, total, room, fits.packets)
 
     pub pool-room : HasRoom s
     pool-room = has-places (seen_with jobs).lists s.places fits.kept fits.settled fits.credits
@@ -392,13 +387,13 @@ module _ (me : ℕ) (limits : Limits) (tallies : Tallies) (paces : List Pace) (j
 
       -- its request doesn't wait for it
       module _ (answers : AnswersTo (position (is_server session) s.servers) request bytes None
-          s.servers t.servers) (queued : t.queued ≡ s.queued ++ listed_queued None) where
+          s.servers t.servers) (queued : t.queued ≡ s.queued) where
         same-servers : t.servers ≡ s.servers
         same-servers = servers-stay request bytes s.servers t.servers (position (is_server session)
             s.servers) answers
 
         same-queue : t.queued ≡ s.queued
-        same-queue = queued ∙ append-nil s.queued
+        same-queue = queued
 
         idle : is_working waiting ≡ false
         idle = unawaited session request bytes s.servers t.servers
@@ -416,11 +411,12 @@ module _ (me : ℕ) (limits : Limits) (tallies : Tallies) (paces : List Pace) (j
           kept = rw (clients, same-servers, same-queue, left)
               (kept-fewer (seen_with jobs).lists counts (is_job session request) fits.kept);
           ascends = rw clients fits.ascends;
-          unpaced = fits.unpaced;
+          paces = fits.paces;
           settled = rw clients fits.settled;
           numbers = rw clients fits.numbers;
+          each = rw clients fits.each;
           credits = rw same-servers fits.credits;
-          ready = rw same-queue fits.ready;
+          sendable = rw same-queue fits.sendable;
           replies = rw same-queue fits.replies;
           packets = size ∙ fits.packets;
           jobs = rw left fits.jobs;
@@ -451,8 +447,7 @@ module _ (me : ℕ) (limits : Limits) (tallies : Tallies) (paces : List Pace) (j
       -- its request waits for it
       module _ (e : EntryValue) (answers : AnswersTo (position (is_server session) s.servers)
           request
-          bytes (Some e) s.servers t.servers) (queued : t.queued ≡ s.queued ++ listed_queued (Some
-          e))
+          bytes (Some e) s.servers t.servers) (queued : t.queued ≡ put_queued (queued_of e) s.queued)
         where
           w : Waited session request bytes e s.servers t.servers
           w = waited-for session request bytes e s.servers t.servers
@@ -464,10 +459,10 @@ module _ (me : ℕ) (limits : Limits) (tallies : Tallies) (paces : List Pace) (j
           abbrev entry : Queued
           entry = record { owner = Reply session request; number = e.number; due = None }
 
-          one-more : t.queued ≡ s.queued ++ entry ∷ []
+          one-more : t.queued ≡ put_queued entry s.queued
           one-more = queued
-              ∙ ap (λ (o : Owner). s.queued ++ record { owner = o; number = e.number; due = None }
-              ∷ []) w.owner
+              ∙ ap (λ (o : Owner). put_queued (record { owner = o; number = e.number; due = None })
+              s.queued) w.owner
 
           at-work : is_working (request_of session request s.servers) ≡ true
           at-work =
@@ -481,7 +476,7 @@ module _ (me : ℕ) (limits : Limits) (tallies : Tallies) (paces : List Pace) (j
                 clock = clock;
               }
           goes-posted js ask =
-              rw (clients, w.told, one-more, more, put-behind entry s.queued refl fits.ready) refl
+              rw (clients, w.told, one-more, more) refl
 
           pub fits-answered : replies s.queued < rx.size → Fits (next_with later) t.size t.places
           fits-answered room = record {
@@ -495,15 +490,16 @@ module _ (me : ℕ) (limits : Limits) (tallies : Tallies) (paces : List Pace) (j
                   ),
                 )));
             ascends = rw clients fits.ascends;
-            unpaced = fits.unpaced;
+            paces = fits.paces;
             settled = rw clients fits.settled;
             numbers = rw clients fits.numbers;
+            each = rw clients fits.each;
             credits = rw w.changed (all-set HasCredit s.servers w.place
                 (gone_on_as request (answered bytes) w.server)
                 (all-at HasCredit s.servers w.place w.server fits.credits w.at)
                 (λ j x f other. all-at HasCredit s.servers j x fits.credits f));
-            ready = rw one-more (all-push IsReady s.queued entry fits.ready (refl, refl));
-            replies = rw one-more (omega (arith, replies-more s.queued entry refl, room));
+            sendable = rw one-more (put-all entry IsSendable (refl, λ reply. refl) s.queued fits.sendable);
+            replies = rw one-more (omega (arith, replies-more entry s.queued refl, room));
             packets = size ∙ fits.packets;
             jobs = rw left fits.jobs;
             buffers = rw left (places ∙ fits.buffers);

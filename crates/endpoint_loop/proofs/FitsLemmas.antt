@@ -13,7 +13,9 @@ use Rattle.rpc_laws.specs.declared.tables.Server.{Server}
 use Rattle.rpc_laws.specs.Groups.{live_credits}
 use Rattle.session_store.specs.Sides.{are_calls, has_calls}
 use Rattle.rpc_laws.specs.declared.tables.Queued.{Queued}
-use Rattle.rpc_laws.specs.Queues.{is_reply, put_queued, replies, stands_before}
+use Rattle.rpc_laws.specs.Queues.{is_reply, replies}
+use Rattle.session_store.specs.Joined.{is_paced}
+use Rattle.endpoint_loop.proofs.QueueLemmas.{paced-asks}
 use Rattle.rpc_laws.specs.Posting.{if_connected}
 use Rattle.rpc_laws.specs.Sessions.{is_connected, is_live}
 use Rattle.rpc_base.specs.declared.event.Event.{Event}
@@ -24,7 +26,7 @@ use Rattle.node_laws.specs.QueuedPackets.{asks_in, is_ask}
 use Rattle.node_laws.proofs.KeptLemmas.{kept-total}
 use Rattle.node_laws.proofs.TotalLemmas.{table_free}
 use Rattle.session_store.proofs.ListLemmas.{all-at, sum-one}
-use Rattle.endpoint_loop.specs.Fits.{HasCredit, IsReady, IsSettled, is_of_call, is_paired}
+use Rattle.endpoint_loop.specs.Fits.{HasCredit, IsSendable, IsSettled, is_of_call, is_paired}
 
 -- what is queued are packets of calls and replies
 one-part : (o : Owner) → is_of_call o ≡ true → cond {A = ℕ} (is_ask o) 1 0 + cond (is_reply o) 1 0 ≡ 1
@@ -32,7 +34,7 @@ one-part (Ask s r) e = refl
 one-part (Reply t r) e = refl
 one-part Control e = cc
 
-pub two-parts : (qs : List Queued) → AllByRecursion IsReady qs → length qs ≡ asks_in qs + replies qs
+pub two-parts : (qs : List Queued) → AllByRecursion IsSendable qs → length qs ≡ asks_in qs + replies qs
 two-parts [] all = refl
 two-parts (q ∷ qs) all =
     let one = one-part q.owner all.0.0 in
@@ -46,7 +48,7 @@ free-of x true t settled = omega arith
 free-of x false t settled = omega (arith, settled.none_free t)
 
 pub has-room : (s : Lists) (size i : ℕ) → Kept s → AllByRecursion IsSettled s.clients
-    → AllByRecursion IsReady s.queued → replies s.queued ≤ s.room → size ≡ 2 * s.room
+    → AllByRecursion IsSendable s.queued → replies s.queued ≤ s.room → size ≡ 2 * s.room
     → IfSome (slice_get s.clients i) (λ x. length s.queued + x.free ≤ size)
 has-room s size i kept over ready few long = cases (slice_get s.clients i) refl
   where
@@ -59,21 +61,20 @@ has-room s size i kept over ready few long = cases (slice_get s.clients i) refl
         let free = free-of x (is_live x.state) refl (all-at IsSettled s.clients i x over e) in
         omega (arith, two-parts s.queued ready, total, one, free, few, long)
 
--- a packet that isn't paced goes behind those that aren't
-ready-first : (a b : Option ℕ) → a ≡ None → stands_before a b ≡ true
-ready-first None b e = refl
-ready-first (Some d) b e = cc
-
-pub put-behind : (q : Queued) (qs : List Queued) → q.due ≡ None → AllByRecursion IsReady qs
-    → put_queued q qs ≡ qs ++ q ∷ []
-put-behind q [] due all = refl
-put-behind q (p ∷ ps) due all = rw (ready-first p.due q.due all.0.1) (ap (λ xs. p ∷ xs) (put-behind q ps due all.1))
-
-pub replies-ask : (qs : List Queued) (q : Queued) → is_reply q.owner ≡ false
-    → replies (qs ++ q ∷ []) ≡ replies qs
-replies-ask qs q none =
-    let one = counted-cons (λ (p : Queued). is_reply p.owner) q [] false none in
-    omega (arith, sum_by-append (λ (p : Queued). cond (is_reply p.owner) 1 0) qs (q ∷ []), one)
+-- and among those that are paced
+pub has-paced-room : (s : Lists) (size i : ℕ) → Kept s → AllByRecursion IsSettled s.clients
+    → AllByRecursion IsSendable s.queued → size ≡ 2 * s.room
+    → IfSome (slice_get s.clients i) (λ x. 2 * (count_by is_paced s.queued + x.free) ≤ size)
+has-paced-room s size i kept over sendable long = cases (slice_get s.clients i) refl
+  where
+    cases : (o : Option Client) → slice_get s.clients i ≡ o
+        → IfSome o (λ x. 2 * (count_by is_paced s.queued + x.free) ≤ size)
+    cases None e = tt
+    cases (Some x) e =
+        let total = kept-total s kept in
+        let one = sum-one table_free s.clients i x e in
+        let free = free-of x (is_live x.state) refl (all-at IsSettled s.clients i x over e) in
+        omega (arith, paced-asks s.queued sendable, total, one, free, long)
 
 -- a session with calls is live, and has a credit
 busy-one : (x : Client) (b c : Bool) → IsSettled x → are_calls x.calls ≡ c → is_live x.state ≡ b

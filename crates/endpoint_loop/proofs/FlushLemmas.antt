@@ -2,7 +2,7 @@
 use Rattle.std.proofs.Common.{◌≡◌, ℕ, ◌≤◌, ◌<◌, Bool, true, false, cond, eqb, leb}
 use Rattle.std.proofs.Common.{Option, Some, None, List, [], ◌∷◌, ◌++◌, length, refl, sym, ap, subst}
 use Rattle.std.proofs.Common.{◌∙◌, append_assoc, append-nil, arith}
-use Rattle.std.specs.Prelude.{map}
+use Rattle.std.specs.Prelude.{map, option_map}
 use Rattle.std.specs.List.{find, list_any}
 use Rattle.std.proofs.lemmas.Bool.{and_parts, eq-eqb, eqb-true}
 use Rattle.rpc_base.specs.Least.{bearer, least, least_number, smaller, without_bearer}
@@ -31,7 +31,10 @@ use Rattle.node_laws.proofs.KeptLemmas.{kept-after}
 use Rattle.server_core.proofs.FlushLemmas.{none-cons, not-equal, put-first, put-later, some-is}
 use Rattle.session_store.specs.Queue.{is_owned, queued_number}
 use Rattle.session_store.specs.Sides.{Shown}
-use Rattle.endpoint_loop.specs.Fits.{Fits, IsReady}
+use Rattle.packet_rings.specs.Values.{EntryValue}
+use Rattle.session_store.specs.Joined.{without_due}
+use Rattle.session_store.specs.Sides.{queued_of}
+use Rattle.endpoint_loop.specs.Fits.{Fits, IsSendable}
 use Rattle.endpoint_loop.specs.Noting.{Makes}
 use Rattle.endpoint_loop.specs.Seen.{Tallies, asking, asking_jobs, seen_node}
 use Rattle.endpoint_loop.specs.Watching.{FlushesSome, Notes, flushing}
@@ -146,6 +149,43 @@ module _ (owner : Owner) where
   taken-out qs rs q h e =
       rw e (taken-as qs q (least_number (is_owned owner) queued_number qs) refl (sym h))
 
+-- what is known of it by the entry that was taken
+pub record Least (owner : Owner) (qs rs : List Queued) (e : EntryValue) : Type 0 where
+  pub entry : Queued
+  pub number : entry.number ≡ e.number
+  pub own : is_owned owner (queued_of e) ≡ true
+  pub taken : Taken owner entry qs rs
+
+pub taken-least : (owner : Owner) (qs rs : List Queued) (e : EntryValue)
+    → Some (queued_of e) ≡ option_map without_due (least (is_owned owner) queued_number qs)
+    → rs ≡ without_least (is_owned owner) queued_number qs → Least owner qs rs e
+taken-least owner qs rs e is left = by (least (is_owned owner) queued_number qs) refl is
+  where
+    some-same : (x y : Queued) → Some x ≡ Some y → x ≡ y
+    some-same x y h = cc
+
+    by : (o : Option Queued) → least (is_owned owner) queued_number qs ≡ o
+        → Some (queued_of e) ≡ option_map without_due o → Least owner qs rs e
+    by None found h = cc
+    by (Some q) found h =
+        let same = some-same (queued_of e) (without_due q) h in
+        let taken = taken-out owner qs rs q (sym found) left in
+        record {
+          entry = q;
+          number = ap (λ (p : Queued). p.number) (sym same);
+          own = ap (is_owned owner) same ∙ taken.own;
+          taken = taken;
+        }
+
+pub least-none-by : (owner : Owner) (qs : List Queued)
+    → None ≡ option_map without_due (least (is_owned owner) queued_number qs)
+    → None ≡ least (is_owned owner) queued_number qs
+least-none-by owner qs is = by (least (is_owned owner) queued_number qs) is
+  where
+    by : (o : Option Queued) → None ≡ option_map without_due o → None ≡ o
+    by None h = refl
+    by (Some q) h = cc
+
 -- where none is, the queue stays
 module _ (i r : ℕ) (qs : List Queued) where
   pub none-owned : None ≡ least (is_owned (Ask i r)) queued_number qs
@@ -186,11 +226,12 @@ module _ (me : ℕ) (limits : Limits) (tallies : Tallies) (paces : List Pace) (j
       kept = rw (ap (λ (u : Timed). u.lists) (goes jobs))
           (kept-after clock (seen s).lists flushed fits.kept tt);
       ascends = rw clients fits.ascends;
-      unpaced = fits.unpaced;
+      paces = fits.paces;
       numbers = rw clients fits.numbers;
+      each = rw clients fits.each;
       settled = rw clients fits.settled;
       credits = rw servers fits.credits;
-      ready = rw taken.left (all-left (is_queued (Ask i r) q.number) IsReady s.queued fits.ready);
+      sendable = rw taken.left (all-left (is_queued (Ask i r) q.number) IsSendable s.queued fits.sendable);
       replies = omega (arith, few-left, fits.replies);
       packets = size ∙ fits.packets;
       jobs = fits.jobs;

@@ -25,7 +25,7 @@ use Rattle.node_laws.proofs.FlushLemmas.{flush-after, no-more-same}
 use Rattle.node_laws.proofs.QueueLemmas.{flushed-none, taken_out}
 use Rattle.session_store.specs.Queue.{is_owned}
 use Rattle.session_store.specs.Serving.{without_owned}
-use Rattle.endpoint_loop.specs.Fits.{IsReady}
+use Rattle.endpoint_loop.specs.Fits.{IsSendable}
 
 -- the packets of an owner, taken out by their numbers, are those that a filter leaves out
 module _ (owner : Owner) where
@@ -76,14 +76,14 @@ module _ (owner : Owner) where
 
 -- a filter keeps what holds of all, and leaves no more replies
 module _ (p : Queued → Bool) where
-  ready-cons : (q : Queued) (qs : List Queued) (b : Bool) → IsReady q
-      → AllByRecursion IsReady (filter p qs)
-      → AllByRecursion IsReady (cond b (q ∷ filter p qs) (filter p qs))
+  ready-cons : (q : Queued) (qs : List Queued) (b : Bool) → IsSendable q
+      → AllByRecursion IsSendable (filter p qs)
+      → AllByRecursion IsSendable (cond b (q ∷ filter p qs) (filter p qs))
   ready-cons q qs true one all = (one, all)
   ready-cons q qs false one all = all
 
-  ready-filter : (qs : List Queued) → AllByRecursion IsReady qs
-      → AllByRecursion IsReady (filter p qs)
+  ready-filter : (qs : List Queued) → AllByRecursion IsSendable qs
+      → AllByRecursion IsSendable (filter p qs)
   ready-filter [] all = tt
   ready-filter (q ∷ qs) all = ready-cons q qs (p q) all.0 (ready-filter qs all.1)
 
@@ -122,8 +122,8 @@ module _ (n : ℕ) where
       }) e
       ∙ ap (λ xs. record s { queued = xs }) (taken-left (Reply n q.number) qs)
 
-  pub ready-left : (o : Option ServedRequest) (qs : List Queued) → AllByRecursion IsReady qs
-      → AllByRecursion IsReady (without_owned n o qs)
+  pub ready-left : (o : Option ServedRequest) (qs : List Queued) → AllByRecursion IsSendable qs
+      → AllByRecursion IsSendable (without_owned n o qs)
   ready-left None qs all = all
   ready-left (Some q) qs all = ready-filter (left (Reply n q.number)) qs all
 
@@ -145,18 +145,3 @@ module _ (n : ℕ) where
   flushes-serve me v served None qs fs = refl
   flushes-serve me v served (Some q) qs fs =
       quiet-after (Reply n q.number) me v served (numbers_of (Reply n q.number) qs) fs
-
--- one reply more
-pub one-reply : (qs : List Queued) (q : Queued) → replies (qs ++ q ∷ []) ≤ replies qs + 1
-one-reply [] q = more (is_reply q.owner) refl
-  where
-    more : (b : Bool) → is_reply q.owner ≡ b → replies (q ∷ []) ≤ replies [] + 1
-    more true t = omega (arith, counted-cons (λ (x : Queued). is_reply x.owner) q [] true t)
-    more false t = omega (arith, counted-cons (λ (x : Queued). is_reply x.owner) q [] false t)
-one-reply (p ∷ ps) q =
-    omega (
-      arith,
-      one-reply ps q,
-      counted-cons (λ (x : Queued). is_reply x.owner) p ps (is_reply p.owner) refl,
-      counted-cons (λ (x : Queued). is_reply x.owner) p (ps ++ q ∷ []) (is_reply p.owner) refl,
-    )

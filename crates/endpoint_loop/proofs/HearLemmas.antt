@@ -326,19 +326,25 @@ module _ (me : ℕ) (limits : Limits) (tallies : Tallies) (paces : List Pace) (j
               kept = rw (ap (λ (u : Timed). u.lists) goes) (kept-all clock old x fits.kept (all-allowed x is));
               ascends = rw p.changed (all-set CallsAscend s.clients i p.later up
                   (λ j y e other. all-at CallsAscend s.clients j y fits.ascends e));
-              unpaced = fits.unpaced;
+              paces = fits.paces;
               numbers = omega (
                 arith,
                 ap (λ (zs : List Client). length zs) p.changed,
                 length-set s.clients i p.later,
                 fits.numbers,
               );
+              each = omega (
+                arith,
+                ap (λ (zs : List Client). length zs) p.changed,
+                length-set s.clients i p.later,
+                fits.each,
+              );
               settled = rw p.changed (all-set IsSettled s.clients i p.later
                   (settled-live p.client p.later
                   (all-at IsSettled s.clients i p.client fits.settled p.at) live state limit)
                   (λ j y e other. all-at IsSettled s.clients j y fits.settled e));
               credits = rw servers fits.credits;
-              ready = rw queued fits.ready;
+              sendable = rw queued fits.sendable;
               replies = rw (queued, same-size) fits.replies;
               packets = rw same-size (size ∙ fits.packets);
               jobs = fits.jobs;

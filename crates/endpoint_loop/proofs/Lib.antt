@@ -20,6 +20,9 @@ mod NotingLemmas
 mod PairLemmas
 mod PlaceLemmas
 mod PostLemmas
+mod QueueLemmas
+mod PaceLemmas
+mod RateLemmas
 mod RollLemmas
 mod SentLemmas
 mod ServeLemmas

@@ -1,7 +1,7 @@
 -- What a step of the store is for the node, once its fact is noted.
 use Rattle.std.proofs.Common.{◌≡◌, ℕ, ◌≤◌, Bool, Option, Some, None, List, [], ◌∷◌, ◌++◌, length}
 use Rattle.std.proofs.Common.{refl, sym, ap, ◌∙◌, arith}
-use Rattle.std.specs.Prelude.{option_and_then, slice_set}
+use Rattle.std.specs.Prelude.{option_and_then, option_map, slice_set}
 use Rattle.std.proofs.lemmas.List.{length-set}
 use Rattle.rpc_base.specs.Tables.{at_first}
 use Rattle.rpc_base.specs.declared.event.Event.{Event}
@@ -29,15 +29,21 @@ use Rattle.node_laws.proofs.KeptLemmas.{kept-after}
 use Rattle.node_laws.proofs.PostLemmas.{begun-allowed, posted-allowed}
 use Rattle.session_store.specs.Changes.{BeginsAt, PostsAt}
 use Rattle.session_store.specs.Effects.{packet_of_entry, request_in}
-use Rattle.session_store.specs.Sides.{Shown, queued_of}
+use Rattle.session_store.specs.Joined.{queued_at}
+use Rattle.session_store.specs.Sides.{Shown}
 use Rattle.session_store.proofs.ListLemmas.{all-at, all-set}
-use Rattle.endpoint_loop.specs.Fits.{Fits, IsReady, IsSettled}
+use Rattle.endpoint_loop.specs.Fits.{Fits, IsSendable, IsSettled, pace_no}
+use Rattle.client_core.proofs.CallsLemmas.{length-at_first}
+use Rattle.node_laws.proofs.NumberLemmas.{numbered-kept}
+use Rattle.rpc_laws.specs.Pacing.{delayed, due_at, is_paced, packet_size}
+use Rattle.rpc_laws.specs.Queues.{put_queued}
+use Rattle.std.specs.List.{find}
 use Rattle.endpoint_loop.specs.Noting.{Makes}
 use Rattle.endpoint_loop.specs.Seen.{Tallies, asking_jobs, seen_node}
-use Rattle.endpoint_loop.proofs.FitsLemmas.{next-live, put-behind, replies-ask, settled-live}
+use Rattle.endpoint_loop.proofs.FitsLemmas.{next-live, settled-live}
+use Rattle.endpoint_loop.proofs.QueueLemmas.{put-all, replies-ask}
 use Rattle.session_store.specs.Ends.{begun_event, posted_event}
-use Rattle.endpoint_loop.proofs.PostLemmas.{ascends-begun, ascends-posted, begins-told, none-paced}
-use Rattle.endpoint_loop.proofs.PostLemmas.{paces-stay, posts-told}
+use Rattle.endpoint_loop.proofs.PostLemmas.{ascends-begun, ascends-posted, begins-told, posts-told}
 
 module _ {R : Type 0} (facts : R → Option (List Fact)) (whole : R → Bool) (i me : ℕ)
     (limits : Limits) (tallies : Tallies) (paces : List Pace) (jobs : Jobs) (clock : ℕ)
@@ -54,9 +60,13 @@ module _ {R : Type 0} (facts : R → Option (List Fact)) (whole : R → Bool) (i
     same-length : (xs ys : List Client) (x : Client) → ys ≡ slice_set xs i x → length ys ≡ length xs
     same-length xs ys x e = ap (λ (zs : List Client). length zs) e ∙ length-set xs i x
 
-    module _ (e : EntryValue) (at : PostsAt i (Some (packet_of_entry e)) s.clients t.clients)
-        (queued : t.queued ≡ s.queued ++ queued_of e ∷ [])
-        (owner : e.owner ≡ Ask i (request_in e.owner)) where
+    module _ (e : EntryValue) (due : Option ℕ) (later : List Pace)
+        (at : PostsAt i (Some (packet_of_entry e)) s.clients t.clients)
+        (queued : t.queued ≡ put_queued (queued_at due e) s.queued)
+        (owner : e.owner ≡ Ask i (request_in e.owner))
+        (due_is : due ≡ option_map (due_at clock) (find (is_paced i) paces))
+        (later_is : later ≡ at_first (is_paced i) (delayed clock
+        (packet_size (request_in e.owner) e.number (find (is_client i) s.clients))) paces) where
       abbrev r : ℕ
       r = request_in e.owner
 
@@ -64,7 +74,11 @@ module _ {R : Type 0} (facts : R → Option (List Fact)) (whole : R → Bool) (i
       event = Posted (Ask i r) e.number
 
       abbrev entry : Queued
-      entry = record { owner = Ask i r; number = e.number; due = None }
+      entry = record { owner = Ask i r; number = e.number; due = due }
+
+      -- with what the packet makes of the paces
+      abbrev seen_later : Jobs → Timed
+      seen_later js = seen_node me limits tallies later js clock rx t
 
       told : (t.clients ≡ at_first (is_client i) (posts r e.number) s.clients) × (at.client.way.number ≡ i)
       told = posts-told i (packet_of_entry e) s.clients t.clients fits.kept.valid.numbered at
@@ -74,41 +88,42 @@ module _ {R : Type 0} (facts : R → Option (List Fact)) (whole : R → Bool) (i
           ap (λ (o : Option Client). option_and_then (if_connected posting) o) at.place ∙ at.next
           ∙ ap (λ m. Some (Posted (Ask m r) e.number)) told.1
 
-      same-entry : queued_of e ≡ entry
-      same-entry = ap (λ (o : Owner). record { owner = o; number = e.number; due = None }) owner
+      queue : t.queued ≡ put_queued entry s.queued
+      queue = queued ∙ ap (λ (o : Owner). put_queued (record {
+        owner = o;
+        number = e.number;
+        due = due;
+      }) s.queued) owner
 
-      queue : t.queued ≡ s.queued ++ entry ∷ []
-      queue = queued ∙ ap (λ (q : Queued). s.queued ++ q ∷ []) same-entry
-
-      goes : (js : Jobs) → seen_with js t
+      goes : (js : Jobs) → seen_later js
           ≡ record { lists = after clock (seen_with js s).lists (plain me event); clock = clock }
-      goes js =
-          rw (
-            told.0,
-            queue,
-            servers,
-            none-paced i paces fits.unpaced,
-            paces-stay i _ paces fits.unpaced,
-            put-behind entry s.queued refl fits.ready,
-          ) refl
+      goes js = rw (told.0, queue, servers, due_is, later_is) refl
 
       pub node-posted : (o : Owner) (k : ℕ) → o ≡ e.owner → k ≡ e.number
           → Grew facts whole before now (plain me (Posted o k) ∷ [])
-          → Makes facts whole (NotesNext (next_posted i)) (seen s) (seen t) before now
+          → Makes facts whole (NotesNext (next_posted i)) (seen s) (seen_later jobs) before now
       node-posted o k is number grew = record {
         noted = plain me event ∷ [];
         grew = rw (← owner, ← is, ← number) grew;
         step = λ asks. record { event = event; is_next = is-next; facts = refl; goes = goes (asking_jobs asks jobs) };
       }
 
-      pub fits-posted : Fits (seen t) t.size t.places
+      pub fits-posted : Fits (seen_later jobs) t.size t.places
       fits-posted = record {
         kept = rw (ap (λ (u : Timed). u.lists) (goes jobs))
             (kept-after clock (seen s).lists (plain me event) fits.kept
             (posted-allowed i (seen s).lists event fits.kept.valid is-next));
         ascends = ascends-posted i (packet_of_entry e) s.clients t.clients at fits.ascends;
-        unpaced = fits.unpaced;
+        paces = rw later_is (numbered-kept pace_no (is_paced i) _ (λ p. refl) 0 paces fits.paces);
         numbers = omega (arith, same-length s.clients t.clients _ at.changed, fits.numbers);
+        each = omega (
+          arith,
+          ap (λ (ps : List Pace). length ps) later_is,
+          length-at_first (is_paced i) (delayed clock
+              (packet_size r e.number (find (is_client i) s.clients))) paces,
+          same-length s.clients t.clients _ at.changed,
+          fits.each,
+        );
         settled = rw at.changed (all-set IsSettled s.clients i (posts r e.number at.client)
             (settled-live at.client (posts r e.number at.client)
             (all-at IsSettled s.clients i at.client fits.settled at.place)
@@ -116,8 +131,8 @@ module _ {R : Type 0} (facts : R → Option (List Fact)) (whole : R → Bool) (i
             (posted_event at.client.way.number (packet_of_entry e)) at.next)
             refl refl) (λ j x e other. all-at IsSettled s.clients j x fits.settled e));
         credits = rw servers fits.credits;
-        ready = rw queue (all-push IsReady s.queued entry fits.ready (refl, refl));
-        replies = rw queue (omega (arith, replies-ask s.queued entry refl, fits.replies));
+        sendable = rw queue (put-all entry IsSendable (refl, λ reply. cc) s.queued fits.sendable);
+        replies = rw queue (omega (arith, replies-ask entry s.queued refl, fits.replies));
         packets = size ∙ fits.packets;
         jobs = fits.jobs;
         buffers = places ∙ fits.buffers;
@@ -157,8 +172,9 @@ module _ {R : Type 0} (facts : R → Option (List Fact)) (whole : R → Bool) (i
                 (kept-after clock (seen s).lists (plain me began) fits.kept
                 (begun-allowed i (seen s).lists began fits.kept.valid at.0));
             ascends = ascends-begun i p s.clients t.clients at fits.ascends;
-            unpaced = fits.unpaced;
+            paces = fits.paces;
             numbers = omega (arith, same-length s.clients t.clients _ change.changed, fits.numbers);
+            each = omega (arith, same-length s.clients t.clients _ change.changed, fits.each);
             settled = rw change.changed (all-set IsSettled s.clients i (begins p.0 p.1 change.client)
                 (settled-live change.client (begins p.0 p.1 change.client)
                 (all-at IsSettled s.clients i change.client fits.settled change.place)
@@ -167,7 +183,7 @@ module _ {R : Type 0} (facts : R → Option (List Fact)) (whole : R → Bool) (i
                 (sym change.place) ∙ at.0)) refl refl)
                 (λ j x e other. all-at IsSettled s.clients j x fits.settled e));
             credits = rw servers fits.credits;
-            ready = rw queued fits.ready;
+            sendable = rw queued fits.sendable;
             replies = rw queued fits.replies;
             packets = size ∙ fits.packets;
             jobs = fits.jobs;

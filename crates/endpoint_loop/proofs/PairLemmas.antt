@@ -25,7 +25,8 @@ use Rattle.node_laws.specs.Valid.{to_come}
 use Rattle.node_laws.proofs.KeptLemmas.{kept-after}
 use Rattle.node_laws.proofs.RunLaws.{pair-fits}
 use Rattle.session_store.specs.Sides.{Shown}
-use Rattle.endpoint_loop.specs.Fits.{CallsAscend, Fits, HasCredit, IsSettled, IsUnpaced}
+use Rattle.node_laws.proofs.NumberLemmas.{numbered-push}
+use Rattle.endpoint_loop.specs.Fits.{CallsAscend, Fits, HasCredit, IsSettled, pace_no}
 use Rattle.endpoint_loop.specs.Seen.{Tallies, seen_node}
 use Rattle.endpoint_loop.specs.Serving.{AllServed, SlotsServed}
 
@@ -58,8 +59,15 @@ module _ (me : ℕ) (limits : Limits) (tallies : Tallies) (paces : List Pace) (j
               }));
           ascends = rw clients (all-push CallsAscend s.clients
               (client_end (length s.clients) peer other credits) fits.ascends tt);
-          unpaced = rw paced (all-push IsUnpaced paces
-              (record { session = length s.clients; rate = 0; next = 0 }) fits.unpaced refl);
+          paces = rw paced (numbered-push pace_no 0 paces
+              (record { session = length s.clients; rate = 0; next = 0 }) fits.paces
+              (omega (arith, fits.each)));
+          each = rw (paced, clients) (omega (
+            arith,
+            length-append paces (record { session = length s.clients; rate = 0; next = 0 } ∷ []),
+            length-append s.clients (client_end (length s.clients) peer other credits ∷ []),
+            fits.each,
+          ));
           settled = rw clients (all-push IsSettled s.clients
               (client_end (length s.clients) peer other credits) fits.settled
               (record {
@@ -74,7 +82,7 @@ module _ (me : ℕ) (limits : Limits) (tallies : Tallies) (paces : List Pace) (j
             few-paired (clients_spent old.lists) old.lists credits refl taken,
           ));
           credits = rw servers fits.credits;
-          ready = rw queued fits.ready;
+          sendable = rw queued fits.sendable;
           replies = rw queued fits.replies;
           packets = size ∙ fits.packets;
           jobs = fits.jobs;
@@ -95,12 +103,13 @@ module _ (me : ℕ) (limits : Limits) (tallies : Tallies) (paces : List Pace) (j
                 room = pair-fits (servers_spent old.lists) credits old.lists taken;
               }));
           ascends = rw clients fits.ascends;
-          unpaced = fits.unpaced;
+          paces = fits.paces;
           settled = rw clients fits.settled;
           numbers = rw clients fits.numbers;
+          each = rw clients fits.each;
           credits = rw servers (all-push HasCredit s.servers
               (server_end tallies.server_numbers peer other credits) fits.credits some);
-          ready = rw queued fits.ready;
+          sendable = rw queued fits.sendable;
           replies = rw queued fits.replies;
           packets = size ∙ fits.packets;
           jobs = fits.jobs;

@@ -189,11 +189,11 @@ gave-then given j k l a b one two = two ∙ ap (option_map (λ ds. ds ++ b)) one
 
 -- sending to the end, or until the link stops it
 sends-until : (stopped : Bool) (s : Timed) (x : List Fact) (t : Timed) → SendsSome s x t
-    → (stopped ≡ false → t.lists.queued ≡ []) → SendsUntil stopped s x t
+    → (stopped ≡ false → line t.clock t.lists.queued ≡ []) → SendsUntil stopped s x t
 sends-until true s x t steps all = steps
 sends-until false s x t steps all = record {
   steps = steps;
-  over = ap (line t.clock) (all refl);
+  over = all refl;
 }
 
 module _ {R K L V W : Type 0} (facts : R → Option (List Fact)) (whole : R → Bool)
@@ -218,7 +218,7 @@ module _ {R K L V W : Type 0} (facts : R → Option (List Fact)) (whole : R → 
     (post : Makes facts whole PostsAll n4 n5 r3 r4)
     (send : MakesSent facts whole sent SendsSome n5 n6 r4 r5 l0 l1)
     (close : Makes facts whole Closes n6 n7 r5 r6) (stopped : Bool)
-    (all : stopped ≡ false → n6.lists.queued ≡ []) (jobs : n7.lists.jobs ≡ n3.lists.jobs)
+    (all : stopped ≡ false → line n6.clock n6.lists.queued ≡ []) (jobs : n7.lists.jobs ≡ n3.lists.jobs)
     (kept : Kept n7.lists) where
   -- what is noted after the handling
   abbrev last : List Fact

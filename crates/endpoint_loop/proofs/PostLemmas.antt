@@ -24,28 +24,9 @@ use Rattle.session_store.specs.Changes.{BeginsAt, PostsAt, PostsNext}
 use Rattle.session_store.specs.Ends.{Ascends}
 use Rattle.session_store.proofs.AscendsLemmas.{ascends-changed}
 use Rattle.session_store.proofs.ListLemmas.{all-at, all-set, get-own, sum-one}
-use Rattle.endpoint_loop.specs.Fits.{CallsAscend, IsUnpaced}
+use Rattle.endpoint_loop.specs.Fits.{CallsAscend}
 use Rattle.endpoint_loop.specs.Measures.{free_at, waiting_at, waiting_in}
 use Rattle.rpc_base.proofs.BasicLemmas.{some-of}
-
--- no packet is paced where no session has a rate
-unpaced-one : (s : ℕ) (p : Pace) → p.rate ≡ 0 → is_paced s p ≡ false
-unpaced-one s p none = by (is_pace_of s p) (ltb 0 p.rate) refl
-  where
-    by : (a b : Bool) → ltb 0 p.rate ≡ b → (a && b) ≡ false
-    by true true t = let some = ltb-true 0 p.rate t in absurd (omega (arith, some, none))
-    by true false t = refl
-    by false b t = refl
-
-pub none-paced : (s : ℕ) (ps : List Pace) → AllByRecursion IsUnpaced ps
-    → find (is_paced s) ps ≡ None
-none-paced s [] all = refl
-none-paced s (p ∷ ps) all = rw (unpaced-one s p all.0) (none-paced s ps all.1)
-
-pub paces-stay : (s : ℕ) (f : Pace → Pace) (ps : List Pace) → AllByRecursion IsUnpaced ps
-    → at_first (is_paced s) f ps ≡ ps
-paces-stay s f [] all = refl
-paces-stay s f (p ∷ ps) all = rw (unpaced-one s p all.0) (ap (λ qs. p ∷ qs) (paces-stay s f ps all.1))
 
 -- a session stands in the place of its number
 numbered-cons : (f : Client → Client) (k : ℕ) (y : Client) (ys zs : List Client) (b : Bool)

@@ -212,18 +212,24 @@ module _ (me : ℕ) (limits : Limits) (tallies : Tallies) (paces : List Pace) (j
             (ascends-changed (is_call a.call) (moved (rolled_back p.got)) (λ d. refl) x.calls
             (all-at CallsAscend s.clients i x fits.ascends active.place))
             (λ j z e other. all-at CallsAscend s.clients j z fits.ascends e));
-        unpaced = fits.unpaced;
+        paces = fits.paces;
         numbers = omega (
           arith,
           ap (λ (zs : List Client). length zs) changed,
           length-set s.clients i y,
           fits.numbers,
         );
+        each = omega (
+          arith,
+          ap (λ (zs : List Client). length zs) changed,
+          length-set s.clients i y,
+          fits.each,
+        );
         settled =
             rw changed (all-set IsSettled s.clients i y (settled-live x y settled live refl refl)
             (λ j z e other. all-at IsSettled s.clients j z fits.settled e));
         credits = rw servers fits.credits;
-        ready = rw queued fits.ready;
+        sendable = rw queued fits.sendable;
         replies = rw queued fits.replies;
         packets = size ∙ fits.packets;
         jobs = fits.jobs;

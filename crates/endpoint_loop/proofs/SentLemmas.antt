@@ -43,7 +43,10 @@ use Rattle.session_store.specs.Queue.{IsFront, SendsFront, SpellsFront, clients_
 use Rattle.session_store.specs.Queue.{peer_in}
 use Rattle.session_store.specs.Sides.{Shown, queued_of}
 use Rattle.session_store.proofs.AscendsLemmas.{ascends-changed}
-use Rattle.endpoint_loop.specs.Fits.{CallsAscend, Fits, IsReady, IsSettled, is_of_call}
+use Rattle.rpc_laws.specs.Pacing.{line}
+use Rattle.session_store.specs.Joined.{is_some_due, without_due}
+use Rattle.endpoint_loop.proofs.QueueLemmas.{replies-made, sendable-made}
+use Rattle.endpoint_loop.specs.Fits.{CallsAscend, Fits, IsSendable, IsSettled, is_of_call}
 use Rattle.endpoint_loop.specs.Noting.{Makes, MakesSent}
 use Rattle.endpoint_loop.specs.Seen.{Tallies, asking_jobs, seen_node}
 use Rattle.rpc_laws.proofs.QueuesLemmas.{same-owner}
@@ -131,12 +134,12 @@ front-out q (p ∷ ps) e =
     let here : is_queued q.owner q.number p ≡ true = ap (is_queued q.owner q.number) same ∙ own-queued q in
     rw here refl
 
-front-ready : (q : Queued) (qs : List Queued) → slice_get qs 0 ≡ Some q → AllByRecursion IsReady qs
-    → IsReady q
+front-ready : (q : Queued) (qs : List Queued) → slice_get qs 0 ≡ Some q → AllByRecursion IsSendable qs
+    → IsSendable q
 front-ready q [] e all = cc
-front-ready q (p ∷ ps) e all = let same : p ≡ q = cc in subst IsReady same all.0
+front-ready q (p ∷ ps) e all = let same : p ≡ q = cc in subst IsSendable same all.0
 
-rest-ready : (qs : List Queued) → AllByRecursion IsReady qs → AllByRecursion IsReady (drop 1 qs)
+rest-ready : (qs : List Queued) → AllByRecursion IsSendable qs → AllByRecursion IsSendable (drop 1 qs)
 rest-ready [] all = tt
 rest-ready (q ∷ qs) all = all.1
 
@@ -146,6 +149,31 @@ fewer-replies (q ∷ qs) = more (is_reply q.owner) refl
   where
     more : (b : Bool) → is_reply q.owner ≡ b → replies qs ≤ replies (q ∷ qs)
     more b t = omega (arith, counted-cons (λ (p : Queued). is_reply p.owner) q qs b t)
+
+-- the packet in front, which may be sent
+record First (clock : ℕ) (qs : List Queued) (e : EntryValue) : Type 0 where
+  entry : Queued
+  at : slice_get qs 0 ≡ Some entry
+  owner : entry.owner ≡ e.owner
+  number : entry.number ≡ e.number
+  due : is_due clock entry.due ≡ true
+
+front-first : (clock : ℕ) (qs : List Queued) (e : EntryValue)
+    → option_map without_due (slice_get qs 0) ≡ Some (queued_of e)
+    → is_some_due clock (slice_get qs 0) ≡ true → First clock qs e
+front-first clock [] e is due = cc
+front-first clock (q ∷ qs) e is due =
+    let same = some-same (without_due q) (queued_of e) is in
+    record {
+      entry = q;
+      at = refl;
+      owner = ap (λ (p : Queued). p.owner) same;
+      number = ap (λ (p : Queued). p.number) same;
+      due = due;
+    }
+  where
+    some-same : (x y : Queued) → Some x ≡ Some y → x ≡ y
+    some-same x y h = cc
 
 front-clients : (clock : ℕ) (q : Queued) (qs : List Queued) (xs ys : List Client)
     → slice_get qs 0 ≡ Some q → SendsFront clock qs xs ys
@@ -193,17 +221,27 @@ module _ (me : ℕ) (limits : Limits) (tallies : Tallies) (paces : List Pace) (j
   sent-long (Reply i r) k xs = refl
   sent-long Control k xs = refl
 
-  module _ (fits : Fits (seen s) s.size s.places) (e : EntryValue) (front : IsFront s e)
+  module _ (fits : Fits (seen s) s.size s.places) (e : EntryValue) (front : IsFront clock s e)
       (went : SendsFront clock s.queued s.clients t.clients) (servers : t.servers ≡ s.servers)
       (queued : t.queued ≡ drop 1 s.queued) where
-    abbrev q : Queued
-    q = queued_of e
+    first : First clock s.queued e
+    first = front-first clock s.queued e front.front front.due
 
-    ready : IsReady q
-    ready = front-ready q s.queued front.front fits.ready
+    abbrev q : Queued
+    q = first.entry
+
+    ready : IsSendable q
+    ready = front-ready q s.queued first.at fits.sendable
 
     changed : t.clients ≡ clients_sent clock e.owner e.number s.clients
-    changed = front-clients clock q s.queued s.clients t.clients front.front went
+    changed = front-clients clock q s.queued s.clients t.clients first.at went
+        ∙ ap (λ o. clients_sent clock o q.number s.clients) first.owner
+        ∙ ap (λ k. clients_sent clock e.owner k s.clients) first.number
+
+    out : without_first (is_queued e.owner e.number) s.queued ≡ drop 1 s.queued
+    out = ap (λ o. without_first (is_queued o e.number) s.queued) (sym first.owner)
+        ∙ ap (λ k. without_first (is_queued q.owner k) s.queued) (sym first.number)
+        ∙ front-out q s.queued first.at
 
     goes : (js : Jobs) (p : ℕ) (head body : List ℕ)
         → seen_with js t ≡ record {
@@ -212,20 +250,27 @@ module _ (me : ℕ) (limits : Limits) (tallies : Tallies) (paces : List Pace) (j
           clock = clock;
         }
     goes js p head body =
-        goes-by js e.owner e.number p head body ready.0 changed servers
-        (front-out q s.queued front.front ∙ sym queued)
+        goes-by js e.owner e.number p head body (ap is_of_call (sym first.owner) ∙ ready.0) changed
+        servers (out ∙ sym queued)
 
     module _ (head body : List ℕ) (long : length head ≡ 16) (bytes : AreBytes head)
         (spells : SpellsFront s head body) where
       spelled : Spelled (packet_in s e.owner e.number) head body
       spelled = spelled-out (packet_in s e.owner e.number) head body
-          (front-spells s q s.queued head body front.front spells)
+          (subst (λ k. IsSpelled (packet_in s e.owner k) head body) first.number
+          (subst (λ o. IsSpelled (packet_in s o q.number) head body) first.owner
+          (front-spells s q s.queued head body first.at spells)))
 
-      packet-is : (js : Jobs) (o : Owner) (k : ℕ) → packet_in s o k
-          ≡ outgoing (seen_with js s).lists (record { owner = o; number = k; due = None })
-      packet-is js (Ask i r) k = refl
-      packet-is js (Reply i r) k = refl
-      packet-is js Control k = refl
+      packet-is : (js : Jobs) (o : Owner) (k : ℕ) (due : Option ℕ) → packet_in s o k
+          ≡ outgoing (seen_with js s).lists (record { owner = o; number = k; due = due })
+      packet-is js (Ask i r) k due = refl
+      packet-is js (Reply i r) k due = refl
+      packet-is js Control k due = refl
+
+      packet-of : (js : Jobs) → packet_in s e.owner e.number ≡ outgoing (seen_with js s).lists q
+      packet-of js = ap (λ o. packet_in s o e.number) (sym first.owner)
+          ∙ ap (λ k. packet_in s q.owner k) (sym first.number)
+          ∙ packet-is js q.owner q.number q.due
 
       pub node-sent : {R L : Type 0} (facts : R → Option (List Fact)) (whole : R → Bool)
           (sent : L → Option (List Carried)) (before now : R) (from to : L) (p : ℕ) (o : Owner)
@@ -243,10 +288,10 @@ module _ (me : ℕ) (limits : Limits) (tallies : Tallies) (paces : List Pace) (j
               grew = grew;
               step = λ asks. record {
                 entry = q;
-                is_front = front.front;
-                ready = refl;
+                is_front = first.at;
+                ready = first.due;
                 out = spelled.out;
-                packet = sym (packet-is (asking_jobs asks jobs) e.owner e.number) ∙ spelled.is;
+                packet = sym (packet-of (asking_jobs asks jobs)) ∙ spelled.is;
                 head = head;
                 in_range = spelled.in_range;
                 has_head = spelled.has_head;
@@ -255,9 +300,9 @@ module _ (me : ℕ) (limits : Limits) (tallies : Tallies) (paces : List Pace) (j
                 facts = ap (λ (b : List ℕ). with_two me (Sent p o k) head b ∷ []) spelled.same
                     ∙ ap (λ (z : ℕ). with_two me (Sent z o k) head spelled.out.body ∷ []) (sym peer)
                     ∙ ap (λ (z : Owner). with_two me (Sent spelled.out.peer z k) head
-                    spelled.out.body ∷ []) owner-is
-                    ∙ ap (λ (z : ℕ). with_two me (Sent spelled.out.peer e.owner z) head
-                    spelled.out.body ∷ []) number-is;
+                    spelled.out.body ∷ []) (owner-is ∙ sym first.owner)
+                    ∙ ap (λ (z : ℕ). with_two me (Sent spelled.out.peer q.owner z) head
+                    spelled.out.body ∷ []) (number-is ∙ sym first.number);
                 goes =
                     let js = asking_jobs asks jobs in
                     subst (λ (z : Owner). seen_with js t
@@ -295,16 +340,22 @@ module _ (me : ℕ) (limits : Limits) (tallies : Tallies) (paces : List Pace) (j
       ascends = rw changed (sent-kept CallsAscend
           (λ r k x up. ascends-changed (is_active r) (moved (sent_packet clock k))
           (λ d. refl) x.calls up) e.owner e.number s.clients fits.ascends);
-      unpaced = fits.unpaced;
+      paces = fits.paces;
       numbers = omega (
         arith,
         ap (λ (xs : List Client). length xs) changed,
         sent-long e.owner e.number s.clients,
         fits.numbers,
       );
+      each = omega (
+        arith,
+        ap (λ (xs : List Client). length xs) changed,
+        sent-long e.owner e.number s.clients,
+        fits.each,
+      );
       settled = rw changed (sent-kept IsSettled settled-sent e.owner e.number s.clients fits.settled);
       credits = rw servers fits.credits;
-      ready = rw queued (rest-ready s.queued fits.ready);
+      sendable = rw queued (rest-ready s.queued fits.sendable);
       replies = rw queued (omega (arith, fewer-replies s.queued, fits.replies));
       packets = size ∙ fits.packets;
       jobs = fits.jobs;
@@ -312,42 +363,62 @@ module _ (me : ℕ) (limits : Limits) (tallies : Tallies) (paces : List Pace) (j
     }
 
 -- one packet less is queued
-pub front-fewer : (q : Queued) (qs rs : List Queued) → slice_get qs 0 ≡ Some q → rs ≡ drop 1 qs
+pub front-fewer : (clock : ℕ) (e : EntryValue) (qs rs : List Queued)
+    → option_map without_due (slice_get qs 0) ≡ Some (queued_of e) → rs ≡ drop 1 qs
     → length rs < length qs
-front-fewer q [] rs e is = cc
-front-fewer q (p ∷ ps) rs e is = omega (arith, ap (λ (xs : List Queued). length xs) is)
+front-fewer clock e [] rs is left = cc
+front-fewer clock e (p ∷ ps) rs is left = omega (arith, ap (λ (xs : List Queued). length xs) left)
 
-pub none-queued : (o : Option EntryValue) (s : Shown) → IfSome o (IsFront s)
-    → IfNone o (s.queued ≡ []) → IsTrue (not (is_some o)) ↔ (s.queued ≡ [])
-none-queued None s front none = ((λ _. none), λ _. refl)
-none-queued (Some e) s front none = ((λ h. cc), λ empty. never s.queued empty front.front)
+-- where the store has a front, it may be sent
+pub some-due : (clock : ℕ) (e : EntryValue) (s : Shown) → IsFront clock s e
+    → line clock s.queued ≡ [] → IsTrue false
+some-due clock e s front empty = never s.queued empty front.due
   where
-    never : (qs : List Queued) → qs ≡ [] → slice_get qs 0 ≡ Some (queued_of e) → IsTrue false
-    never [] e h = cc
-    never (q ∷ qs) e h = cc
-
--- what is ready stays ready at the end of a poll
-pub still-ready : (now : ℕ) (qs : List Queued) → AllByRecursion IsReady qs
-    → map (made_ready now) qs ≡ qs
-still-ready now [] all = refl
-still-ready now (q ∷ qs) all = rw (still-one q all.0.1) (ap (λ ps. q ∷ ps) (still-ready now qs all.1))
-  where
-    still-one : (p : Queued) → p.due ≡ None → made_ready now p ≡ p
-    still-one p none = by p.due refl
+    never : (qs : List Queued) → line clock qs ≡ [] → is_some_due clock (slice_get qs 0) ≡ true
+        → IsTrue false
+    never [] h e = cc
+    never (q ∷ qs) h e = by (is_due clock q.due) e h
       where
-        by : (d : Option ℕ) → p.due ≡ d → cond (is_due now d) (record p { due = None }) p ≡ p
-        by None e = ap (λ (x : Option ℕ). record p { due = x }) (sym e)
-        by (Some n) e = cc
+        by : (b : Bool) → b ≡ true → cond b (q ∷ line clock qs) (line clock qs) ≡ [] → IsTrue false
+        by true t f = cc
+        by false t f = cc
 
-module _ {R : Type 0} (facts : R → Option (List Fact)) (whole : R → Bool) (me : ℕ) (limits : Limits)
-    (tallies : Tallies) (paces : List Pace) (jobs : Jobs) (clock : ℕ) (rx : Ring DatagramValue)
-    (s : Shown) (before now : R)
-    (fits : Fits (seen_node me limits tallies paces jobs clock rx s) s.size s.places) where
-  pub node-closed : Grew facts whole before now (plain me (Polled clock) ∷ [])
-      → Makes facts whole Closes (seen_node me limits tallies paces jobs clock rx s)
-      (seen_node me limits tallies paces jobs clock rx s) before now
-  node-closed grew = record {
+-- the end of a poll: what was due is ready
+module _ (me : ℕ) (limits : Limits) (tallies : Tallies) (paces : List Pace) (jobs : Jobs)
+    (clock : ℕ) (rx : Ring DatagramValue) (s t : Shown)
+    (fits : Fits (seen_node me limits tallies paces jobs clock rx s) s.size s.places)
+    (queued : t.queued ≡ map (made_ready clock) s.queued) (clients : t.clients ≡ s.clients)
+    (servers : t.servers ≡ s.servers) where
+  abbrev closed_with : Jobs → Shown → Timed
+  closed_with js u = seen_node me limits tallies paces js clock rx u
+
+  closes : (js : Jobs) → closed_with js t
+      ≡ record { lists = after clock (closed_with js s).lists (plain me (Polled clock)); clock = clock }
+  closes js = rw (queued, clients, servers) refl
+
+  pub node-closed : {R : Type 0} (facts : R → Option (List Fact)) (whole : R → Bool) (before now : R)
+      → Grew facts whole before now (plain me (Polled clock) ∷ [])
+      → Makes facts whole Closes (closed_with jobs s) (closed_with jobs t) before now
+  node-closed facts whole before now grew = record {
     noted = plain me (Polled clock) ∷ [];
     grew = grew;
-    step = λ asks. record { facts = refl; goes = rw (still-ready clock s.queued fits.ready) refl };
+    step = λ asks. record { facts = refl; goes = closes (asking_jobs asks jobs) };
+  }
+
+  pub fits-closed : t.size ≡ s.size → t.places ≡ s.places
+      → Fits (closed_with jobs t) t.size t.places
+  fits-closed size places = record {
+    kept = rw (ap (λ (u : Timed). u.lists) (closes jobs))
+        (kept-after clock (closed_with jobs s).lists (plain me (Polled clock)) fits.kept tt);
+    ascends = rw clients fits.ascends;
+    paces = fits.paces;
+    each = rw clients fits.each;
+    numbers = rw clients fits.numbers;
+    settled = rw clients fits.settled;
+    credits = rw servers fits.credits;
+    sendable = rw queued (sendable-made clock s.queued fits.sendable);
+    replies = rw queued (omega (arith, replies-made clock s.queued, fits.replies));
+    packets = size ∙ fits.packets;
+    jobs = fits.jobs;
+    buffers = places ∙ fits.buffers;
   }

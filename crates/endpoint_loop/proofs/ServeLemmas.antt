@@ -39,7 +39,7 @@ use Rattle.rpc_laws.specs.declared.tables.Job.{Job}
 use Rattle.message_buffer.specs.Buffer.{bytes_of}
 use Rattle.rpc_laws.specs.NodeLists.{after_all, one_more}
 use Rattle.rpc_laws.specs.PollOrder.{asks_facts}
-use Rattle.rpc_laws.specs.Queues.{replies}
+use Rattle.rpc_laws.specs.Queues.{put_queued, replies}
 use Rattle.rpc_laws.specs.Requests.{in_slot_of, is_server}
 use Rattle.rpc_laws.specs.Requests.{took_packet}
 use Rattle.rpc_laws.specs.ServerTable.{is_last, makes_job, served_facts}
@@ -61,16 +61,16 @@ use Rattle.server_core.specs.declared.step.Step.TheVariants.{Took, Again, Ran, G
 use Rattle.worker_board.specs.declared.Parcel.{Parcel}
 use Rattle.session_store.specs.Serving.{HandlesAt, handled_facts, queue_handled, row_at}
 use Rattle.session_store.specs.Serving.{without_owned}
+use Rattle.session_store.specs.Joined.{put_ready}
 use Rattle.session_store.specs.Sides.{Shown, queued_of}
 use Rattle.session_store.proofs.ListLemmas.{all-at, all-set, set-own}
-use Rattle.endpoint_loop.specs.Fits.{Fits, HasCredit, IsReady}
+use Rattle.endpoint_loop.specs.Fits.{Fits, HasCredit, IsSendable}
 use Rattle.endpoint_loop.specs.Noting.{Makes}
 use Rattle.endpoint_loop.specs.Seen.{Asks, Tallies, arrival_of, asking_jobs, seen_node}
 use Rattle.endpoint_loop.specs.Serving.{AllServed, AsksAs, IsGiven, MakesServed, ServesRequest}
 use Rattle.endpoint_loop.specs.Serving.{SlotsServed, job_named, with_given}
 use Rattle.endpoint_loop.proofs.AskedLemmas.{background-of, inline-of, unfilled}
-use Rattle.endpoint_loop.proofs.FitsLemmas.{put-behind}
-use Rattle.endpoint_loop.proofs.FlushedLemmas.{one-reply}
+use Rattle.endpoint_loop.proofs.QueueLemmas.{one-reply, put-all}
 use Rattle.endpoint_loop.proofs.HearLemmas.{body-there, front-there}
 use Rattle.endpoint_loop.proofs.JobLemmas.{kept-jobs, no-jobs, none-bare, none-out, same-named}
 use Rattle.endpoint_loop.proofs.JobLemmas.{the-job}
@@ -225,18 +225,19 @@ module _ (me : ℕ) (limits : Limits) (tallies : Tallies) (paces : List Pace) (j
 
       fits-served : (ta : Tallies) (js : Jobs) (v w : Server) → Kept (seen ta js q t).lists
           → slice_get s.servers i ≡ Some v → t.servers ≡ slice_set s.servers i w
-          → w.credits ≡ v.credits → AllByRecursion IsReady t.queued → replies t.queued ≤ rx.size
+          → w.credits ≡ v.credits → AllByRecursion IsSendable t.queued → replies t.queued ≤ rx.size
           → js.limit ≡ jobs.limit → Fits (seen ta js q t) t.size t.places
       fits-served ta js v w kept at changed credits ready few limit = record {
         kept = kept;
         ascends = rw clients fits.ascends;
-        unpaced = fits.unpaced;
+        paces = fits.paces;
         settled = rw clients fits.settled;
         numbers = rw clients fits.numbers;
+        each = rw clients fits.each;
         credits = rw changed (all-set HasCredit s.servers i w
             (omega (arith, credits, all-at HasCredit s.servers i v fits.credits at))
             (λ j y e other. all-at HasCredit s.servers j y fits.credits e));
-        ready = ready;
+        sendable = ready;
         replies = omega (arith, few, same-size);
         packets = rw same-size (size ∙ fits.packets);
         jobs = omega (arith, limit, fits.jobs);
@@ -347,13 +348,13 @@ module _ (me : ℕ) (limits : Limits) (tallies : Tallies) (paces : List Pace) (j
         abbrev took : Fact
         took = plain me (TookEvent (Reply h.session h.request) h.number)
 
-        pushed-ready : (qs us : List Queued) → us ≡ qs ++ entry ∷ [] → AllByRecursion IsReady qs
-            → AllByRecursion IsReady us
-        pushed-ready qs us is all = rw is (all-push IsReady qs entry all (refl, refl))
+        pushed-ready : (qs us : List Queued) → us ≡ put_queued entry qs → AllByRecursion IsSendable qs
+            → AllByRecursion IsSendable us
+        pushed-ready qs us is all = rw is (put-all entry IsSendable (refl, λ reply. refl) qs all)
 
-        pushed-few : (qs us : List Queued) → us ≡ qs ++ entry ∷ [] → replies qs ≤ replies s.queued
+        pushed-few : (qs us : List Queued) → us ≡ put_queued entry qs → replies qs ≤ replies s.queued
             → replies us ≤ rx.size
-        pushed-few qs us is fewer = rw is (omega (arith, one-reply qs entry, fewer, few))
+        pushed-few qs us is fewer = rw is (omega (arith, one-reply entry qs, fewer, few))
 
         -- a packet that was taken before
         module _ (e : EntryValue) (p : At (Again e))
@@ -378,10 +379,10 @@ module _ (me : ℕ) (limits : Limits) (tallies : Tallies) (paces : List Pace) (j
             servers-again = p.changed ∙ ap (λ (z : Server). slice_set s.servers i z) p.handled.steps
                 ∙ set-own s.servers i p.server p.place
 
-            queue-again : t.queued ≡ s.queued ++ entry ∷ []
+            queue-again : t.queued ≡ put_queued entry s.queued
             queue-again = p.queue
                 ∙ ap (λ (r : ServerRow). queue_handled r (Again e) p.server h s.queued) repeats
-                ∙ ap (λ (z : Queued). s.queued ++ z ∷ []) (own-entry (Again e) p e owner numbered)
+                ∙ ap (λ (z : Queued). put_queued z s.queued) (own-entry (Again e) p e owner numbered)
 
             goes-again : (js : Jobs) → seen tallies js q t
                 ≡ record {
@@ -393,7 +394,6 @@ module _ (me : ℕ) (limits : Limits) (tallies : Tallies) (paces : List Pace) (j
                   clients,
                   servers-again,
                   queue-again,
-                  put-behind entry s.queued refl fits.ready,
                   left,
                   same-size,
                 ) refl
@@ -405,7 +405,7 @@ module _ (me : ℕ) (limits : Limits) (tallies : Tallies) (paces : List Pace) (j
                 (all-allowed false p.handled.answer jobs (again ∷ posted ∷ []) fits.kept
                 (facts-again jobs refl)))) p.place
                 (servers-again ∙ sym (set-own s.servers i p.server p.place)) refl
-                (pushed-ready s.queued t.queued queue-again fits.ready)
+                (pushed-ready s.queued t.queued queue-again fits.sendable)
                 (pushed-few s.queued t.queued queue-again (omega arith)) refl
 
             pub node-again : ((old_served : Served) → stands old_served → then_stands old_served)
@@ -450,7 +450,7 @@ module _ (me : ℕ) (limits : Limits) (tallies : Tallies) (paces : List Pace) (j
               ∙ set-own s.servers i p.server p.place
 
           queue-dropped : t.queued ≡ s.queued
-          queue-dropped = p.queue ∙ append-nil _
+          queue-dropped = p.queue
               ∙ ap (λ (b : Bool). cond b (without_owned p.server.way.number
               (find (in_slot_of h.request) p.server.slots) s.queued) s.queued)
               (begun-none (row (Dropped why) p) why)
@@ -467,7 +467,7 @@ module _ (me : ℕ) (limits : Limits) (tallies : Tallies) (paces : List Pace) (j
               (all-allowed lacks-and.0 p.handled.answer jobs (dropped ∷ []) fits.kept
               (facts-drop jobs refl)))) p.place
               (servers-dropped ∙ sym (set-own s.servers i p.server p.place)) refl
-              (rw queue-dropped fits.ready) (rw queue-dropped (omega (arith, few))) refl
+              (rw queue-dropped fits.sendable) (rw queue-dropped (omega (arith, few))) refl
 
           pub node-drop : ((old_served : Served) → stands old_served → then_stands old_served)
               → Ends None dropped_tallies jobs
@@ -494,8 +494,8 @@ module _ (me : ℕ) (limits : Limits) (tallies : Tallies) (paces : List Pace) (j
               after_all-append clock (old js) taken.older fs
               ∙ ap (λ (x : Lists). after_all clock x fs) (taken.flushed clock (old js) refl)
 
-          taken-queue : t.queued ≡ taken.queue ++ map queued_of (replies_of step)
-          taken-queue = p.queue ∙ ap (λ (qs : List Queued). qs ++ map queued_of (replies_of step))
+          taken-queue : t.queued ≡ put_ready (replies_of step) taken.queue
+          taken-queue = p.queue ∙ ap (λ (qs : List Queued). put_ready (replies_of step) qs)
               taken.begun
 
         -- and has its reply
@@ -529,13 +529,13 @@ module _ (me : ℕ) (limits : Limits) (tallies : Tallies) (paces : List Pace) (j
             servers-took : t.servers ≡ mid (Took (Some e)) p
             servers-took = servers-set ∙ sym (mid-set (Took (Some e)) p)
 
-            queue-took : t.queued ≡ tk.queue ++ entry ∷ []
+            queue-took : t.queued ≡ put_queued entry tk.queue
             queue-took = taken-queue (Took (Some e)) p refl
-                ∙ ap (λ (z : Queued). tk.queue ++ z ∷ [])
+                ∙ ap (λ (z : Queued). put_queued z tk.queue)
                 (own-entry (Took (Some e)) p e owner numbered)
 
-            rest-took : (qs : List Queued) (js : Jobs) → t.queued ≡ qs ++ entry ∷ []
-                → AllByRecursion IsReady qs → seen tallies js q t
+            rest-took : (qs : List Queued) (js : Jobs) → t.queued ≡ put_queued entry qs
+                → AllByRecursion IsSendable qs → seen tallies js q t
                 ≡ record {
                   lists = after_all clock (record (old js) { queued = qs }) (took ∷ posted ∷ []);
                   clock = clock;
@@ -545,14 +545,13 @@ module _ (me : ℕ) (limits : Limits) (tallies : Tallies) (paces : List Pace) (j
                   clients,
                   servers-took,
                   queue,
-                  put-behind entry qs refl ready,
                   left,
                   same-size,
                 ) refl
 
             goes-took : (js : Jobs) → seen tallies js q t
                 ≡ record { lists = after_all clock (old js) noted-took; clock = clock }
-            goes-took js = rest-took tk.queue js queue-took (tk.ready fits.ready)
+            goes-took js = rest-took tk.queue js queue-took (tk.ready fits.sendable)
                 ∙ ap (λ (x : Lists). record { lists = x; clock = clock })
                 (sym (taken-after (Took (Some e)) p refl js (took ∷ posted ∷ [])))
 
@@ -562,7 +561,7 @@ module _ (me : ℕ) (limits : Limits) (tallies : Tallies) (paces : List Pace) (j
                 (kept-all clock (old jobs) noted-took fits.kept
                 (all-allowed false p.handled.answer jobs noted-took fits.kept
                 (facts-taken jobs refl)))) p.place servers-set refl
-                (pushed-ready tk.queue t.queued queue-took (tk.ready fits.ready))
+                (pushed-ready tk.queue t.queued queue-took (tk.ready fits.sendable))
                 (pushed-few tk.queue t.queued queue-took tk.fewer) refl
 
             pub node-took : ((old_served : Served) → stands old_served → then_stands old_served)
@@ -638,12 +637,12 @@ module _ (me : ℕ) (limits : Limits) (tallies : Tallies) (paces : List Pace) (j
           servers-ran = set-ran
               ∙ sym (mid-then (Ran e) p (runs h body p.handled.answer) (λ v. refl))
 
-          queue-ran : t.queued ≡ tr.queue ++ entry ∷ []
+          queue-ran : t.queued ≡ put_queued entry tr.queue
           queue-ran = taken-queue (Ran e) p refl
-              ∙ ap (λ (z : Queued). tr.queue ++ z ∷ []) (own-entry (Ran e) p e owner numbered)
+              ∙ ap (λ (z : Queued). put_queued z tr.queue) (own-entry (Ran e) p e owner numbered)
 
-          rest-ran : (qs : List Queued) (js ks : Jobs) → t.queued ≡ qs ++ entry ∷ []
-              → AllByRecursion IsReady qs
+          rest-ran : (qs : List Queued) (js ks : Jobs) → t.queued ≡ put_queued entry qs
+              → AllByRecursion IsSendable qs
               → ks ≡ record js { out = without_first (is_job h.session h.request) js.out }
               → seen ran_tallies ks q t
               ≡ record {
@@ -656,7 +655,6 @@ module _ (me : ℕ) (limits : Limits) (tallies : Tallies) (paces : List Pace) (j
                 clients,
                 servers-ran,
                 queue,
-                put-behind entry qs refl ready,
                 left,
                 same-size,
                 same,
@@ -667,7 +665,7 @@ module _ (me : ℕ) (limits : Limits) (tallies : Tallies) (paces : List Pace) (j
               → ks ≡ record js { out = without_first (is_job h.session h.request) js.out }
               → seen ran_tallies ks q t
               ≡ record { lists = after_all clock (old js) noted-ran; clock = clock }
-          goes-ran js ks same = rest-ran tr.queue js ks queue-ran (tr.ready fits.ready) same
+          goes-ran js ks same = rest-ran tr.queue js ks queue-ran (tr.ready fits.sendable) same
               ∙ ap (λ (x : Lists). record { lists = x; clock = clock })
               (sym (taken-after (Ran e) p refl js (took ∷ ran_fact ∷ posted ∷ [])))
 
@@ -684,7 +682,7 @@ module _ (me : ℕ) (limits : Limits) (tallies : Tallies) (paces : List Pace) (j
               (kept-all clock (old jobs) noted-ran fits.kept
               (all-allowed false p.handled.answer jobs noted-ran fits.kept
               (facts-run jobs refl)))) p.place set-ran refl
-              (pushed-ready tr.queue t.queued queue-ran (tr.ready fits.ready))
+              (pushed-ready tr.queue t.queued queue-ran (tr.ready fits.sendable))
               (pushed-few tr.queue t.queued queue-ran tr.fewer) refl
 
           inline : runs_inline mode_of h.req_type ≡ true
@@ -779,7 +777,7 @@ module _ (me : ℕ) (limits : Limits) (tallies : Tallies) (paces : List Pace) (j
           servers-give = set-give ∙ sym (mid-then (Give parcel) p (gives h body) (λ v. refl))
 
           queue-give : t.queued ≡ tg.queue
-          queue-give = taken-queue (Give parcel) p refl ∙ append-nil tg.queue
+          queue-give = taken-queue (Give parcel) p refl
 
           -- its job is the parcel's
           mid-found : find (is_server h.session) (mid (Give parcel) p)
@@ -861,7 +859,7 @@ module _ (me : ℕ) (limits : Limits) (tallies : Tallies) (paces : List Pace) (j
           fits-give = fits-served given_tallies js_now p.server
               (gives h body (takes h body p.server))
               (kept-jobs (seen given_tallies told q t).lists js_now as-many kept-told) p.place
-              set-give refl (rw queue-give (tg.ready fits.ready))
+              set-give refl (rw queue-give (tg.ready fits.sendable))
               (rw queue-give (omega (arith, tg.fewer, few))) limit
 
           is-given : IsGiven serving stands parcel

@@ -30,7 +30,7 @@ use Rattle.server_core.specs.declared.step.Step.{Step}
 use Rattle.session_store.specs.Serving.{HandlesAt}
 use Rattle.session_store.specs.Sides.{Shown}
 use Rattle.session_store.proofs.ListLemmas.{all-at, all-set, get-own}
-use Rattle.endpoint_loop.specs.Fits.{IsReady}
+use Rattle.endpoint_loop.specs.Fits.{IsSendable}
 use Rattle.endpoint_loop.specs.Seen.{Asks, arrival_of, asking_jobs}
 use Rattle.endpoint_loop.specs.Serving.{AllServed}
 use Rattle.endpoint_loop.specs.Serving.{SlotsServed}
@@ -148,7 +148,7 @@ as-asked facts whole mode full me i h answer_of stands then_stands before now st
     before now step s t) e p
 
 -- there is room for a reply
-pub has-reply-room : (s : Lists) (size : ℕ) → Kept s → AllByRecursion IsReady s.queued
+pub has-reply-room : (s : Lists) (size : ℕ) → Kept s → AllByRecursion IsSendable s.queued
     → replies s.queued < s.room → size ≡ 2 * s.room → length s.queued < size
 has-reply-room s size kept ready few long =
     omega (arith, two-parts s.queued ready, kept-total s kept, few, long)

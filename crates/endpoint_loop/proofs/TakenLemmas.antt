@@ -33,7 +33,7 @@ use Rattle.server_core.specs.declared.step.Step.TheVariants.{Took, Again, Ran, G
 use Rattle.packet_rings.specs.Values.{EntryValue}
 use Rattle.worker_board.specs.declared.Parcel.{Parcel}
 use Rattle.session_store.specs.Serving.{handled_facts, row_at, without_owned}
-use Rattle.endpoint_loop.specs.Fits.{IsReady}
+use Rattle.endpoint_loop.specs.Fits.{IsSendable}
 use Rattle.endpoint_loop.proofs.AskedLemmas.{HasTaken, has-begun, has-gone-on, left-begun}
 use Rattle.endpoint_loop.proofs.AskedLemmas.{left-next}
 use Rattle.endpoint_loop.proofs.AskedLemmas.{served-next, taken-first, taken-next, whole-first}
@@ -56,7 +56,7 @@ pub record TakenBy (mode_of : ℕ → Mode) (full : Bool) (me : ℕ) (answer : L
   pub queue : List Queued
   pub flushed : (clock : ℕ) (s : Lists) → s.queued ≡ queued
       → after_all clock s older ≡ record s { queued = queue }
-  pub ready : AllByRecursion IsReady queued → AllByRecursion IsReady queue
+  pub ready : AllByRecursion IsSendable queued → AllByRecursion IsSendable queue
   pub fewer : replies queue ≤ replies queued
   pub quiet : (p : Serving) (served : Served) (fs : List Fact) → Answers p served fs
       → Answers p served (older ++ fs)

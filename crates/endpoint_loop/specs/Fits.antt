@@ -11,9 +11,10 @@ use Rattle.rpc_laws.specs.declared.tables.Pace.{Pace}
 use Rattle.rpc_laws.specs.declared.tables.Queued.{Queued}
 use Rattle.rpc_laws.specs.declared.tables.Server.{Server}
 use Rattle.rpc_laws.specs.declared.tables.Timed.{Timed}
-use Rattle.rpc_laws.specs.Queues.{replies}
+use Rattle.rpc_laws.specs.Queues.{is_reply, replies}
 use Rattle.rpc_laws.specs.Sessions.{is_live}
 use Rattle.node_laws.specs.Kept.{Kept}
+use Rattle.node_laws.specs.Valid.{NumberedFrom}
 use Rattle.session_store.specs.Ends.{Ascends}
 
 -- a packet of a call or a reply to one; control packets are never queued
@@ -22,12 +23,12 @@ is_of_call (Ask s r) = true
 is_of_call (Reply t r) = true
 is_of_call Control = false
 
--- such a packet, which isn't paced
-abbrev pub IsReady : Queued → Type 0
-IsReady q = (is_of_call q.owner ≡ true) × (q.due ≡ None)
+-- such a packet; no reply is paced
+abbrev pub IsSendable : Queued → Type 0
+IsSendable q = (is_of_call q.owner ≡ true) × (is_reply q.owner ≡ true → q.due ≡ None)
 
-abbrev pub IsUnpaced : Pace → Type 0
-IsUnpaced p = p.rate ≡ 0
+abbrev pub pace_no : Pace → ℕ
+pace_no p = p.session
 
 abbrev pub CallsAscend : Client → Type 0
 CallsAscend x = Ascends x.calls
@@ -49,18 +50,20 @@ pub record IsSettled (x : Client) : Type 0 where
 abbrev pub HasCredit : Server → Type 0
 HasCredit v = 1 ≤ v.credits
 
--- the lists are kept, the calls of each session stand in the order of their numbers, no session has
--- a rate, and there are no more client sessions than numbers. The transmit ring has room for as many
--- packets of calls as the receive ring is long, and for as many replies. The pool has sixteen places
--- for each credit that the sessions may have, and two for each job
+-- the lists are kept, the calls of each session stand in the order of their numbers, the pace of each
+-- client session stands in the place of its number, and there are no more client sessions than
+-- numbers. There is room for as many packets of calls as the receive ring is long, and for as many
+-- replies. The pool has sixteen places for each credit that the sessions may have, and two for each
+-- job
 pub record Fits (s : Timed) (size places : ℕ) : Type 0 where
   pub kept : Kept s.lists
   pub ascends : AllByRecursion CallsAscend s.lists.clients
-  pub unpaced : AllByRecursion IsUnpaced s.lists.paces
+  pub paces : NumberedFrom pace_no 0 s.lists.paces
+  pub each : length s.lists.paces ≡ length s.lists.clients
   pub numbers : length s.lists.clients ≤ SESSION_NUMBERS
   pub settled : AllByRecursion IsSettled s.lists.clients
   pub credits : AllByRecursion HasCredit s.lists.servers
-  pub ready : AllByRecursion IsReady s.lists.queued
+  pub sendable : AllByRecursion IsSendable s.lists.queued
   pub replies : replies s.lists.queued ≤ s.lists.room
   pub packets : size ≡ 2 * s.lists.room
   pub jobs : 1 ≤ s.lists.jobs.limit

@@ -8,6 +8,7 @@ pub mod Lending
 pub mod Measures
 pub mod Noting
 pub mod Polling
+pub mod Rating
 pub mod Running
 pub mod Seen
 pub mod Serving

@@ -7,14 +7,15 @@ ghost use Rattle.endpoint_loop.specs.Noting.{Makes};
 ghost use Rattle.message_buffer.specs.Buffer.{bytes_of, capacity_of};
 ghost use Rattle.rpc_base.specs.declared.event.Event.TheVariants.{PairedClient, PairedServer};
 ghost use Rattle.rpc_laws.specs.Deliveries.{Delivers};
-ghost use Rattle.rpc_laws.specs.Groups.{Asks, client_refusal, server_refusal, state_of};
+ghost use Rattle.endpoint_loop.specs.Rating.{RatedAs};
+ghost use Rattle.rpc_laws.specs.Groups.{Asks, SetsRate, client_refusal, server_refusal, state_of};
 ghost use Rattle.rpc_laws.specs.Sessions.{is_client};
 ghost use Rattle.rpc_laws.specs.Steps.{NotesNext};
 
 use crate::asking::Refused;
 use crate::endpoint::Endpoint;
 use message_buffer::MsgBuf;
-use rpc_base::{CallNo, MOST_CREDITS, NoMemory, Peer, SESSION_NUMBERS, SessionNo};
+use rpc_base::{CallNo, MOST_CREDITS, NoMemory, Peer, SESSION_NUMBERS, SessionNo, SessionState};
 use rpc_outside::{Recorder, Service};
 use worker_crew::Workers;
 
@@ -87,6 +88,24 @@ impl<V: Service, W: Workers> Endpoint<V, W> {
         ensures wanting { IfWanting result (rec.new ≡ rec.old) }
     {
         self.node.ask(session, req_type, req, resp, tag, rec)
+    }
+
+    /// Sets the rate of a client session, in bytes per millisecond: its packets are paced from now
+    /// on, or not where it is 0. Those that are queued keep their times. Err comes exactly where the
+    /// session isn't live, with its state, and then nothing changed.
+    pub fn set_rate<R: Recorder>(
+        &mut self,
+        session: SessionNo,
+        rate: u32,
+        rec: &mut R,
+    ) -> Result<(), SessionState>
+        ensures makes { Makes R.facts R.whole (SetsRate session rate) self.old.timed self.new.timed
+            rec.old rec.new }
+        ensures rated { RatedAs (state_of (find (is_client session)
+            self.old.timed.lists.clients)) result }
+        ensures leaves { Leaves self.old self.new }
+    {
+        self.node.set_rate(session, rate, rec)
     }
 
     /// Takes a datagram from a peer: it is copied into the receive ring where it is a packet of a

@@ -8,7 +8,7 @@ use rpc_base::{Event, Who};
 use rpc_outside::Recorder;
 
 impl Node {
-    /// Step 7 of a poll: it ends with a Polled.
+    /// Step 7 of a poll: it ends with a Polled, from which on what was due is ready.
     pub fn close<R: Recorder>(&mut self, rec: &mut R)
         ensures makes { Makes R.facts R.whole Closes self.old self.new rec.old rec.new }
         ensures jobs { self.new.lists.jobs ≡ self.old.lists.jobs }
@@ -16,5 +16,6 @@ impl Node {
     {
         let event = Event::Polled { now: self.clock };
         rec.note(Who::Node(self.me), event, &[], &[]);
+        self.store.make_ready(self.clock);
     }
 }

@@ -15,7 +15,8 @@ ghost use Rattle.rpc_laws.specs.Jobs.{is_job};
 ghost use Rattle.rpc_laws.specs.Queues.{replies};
 ghost use Rattle.rpc_laws.specs.Requests.{is_server};
 ghost use Rattle.rpc_outside.specs.declared.service.Mode.{Mode};
-ghost use Rattle.session_store.specs.Sides.{HasRoom, listed_queued};
+ghost use Rattle.session_store.specs.Joined.{put_listed};
+ghost use Rattle.session_store.specs.Sides.{HasRoom};
 
 use crate::node::{JobName, Node};
 use packet_rings::Entry;
@@ -65,8 +66,8 @@ fn take_job(jobs: &mut VecDeque<JobName>, session: SessionNo, request: RequestNo
     take_at(jobs, place)
 }
 
-// The answer of a job goes to its session, and the reply behind the queue where its request waits
-// for it.
+// The answer of a job goes to its session, and the reply behind what is ready where its request
+// waits for it.
 fn post_answer(store: &mut Store, parcel: Parcel) -> Option<Entry>
     requires answer { IsMessage parcel.out.len }
     requires ring { length store.old.queued < store.old.size }
@@ -74,7 +75,7 @@ fn post_answer(store: &mut Store, parcel: Parcel) -> Option<Entry>
     ensures servers { AnswersTo (position (is_server parcel.session) store.old.servers)
         parcel.request (bytes_of parcel.out) result store.old.servers store.new.servers }
     ensures clients { store.new.clients ≡ store.old.clients }
-    ensures queued { store.new.queued ≡ store.old.queued ++ listed_queued result }
+    ensures queued { store.new.queued ≡ put_listed None result store.old.queued }
     ensures size { store.new.size ≡ store.old.size }
     ensures places { store.new.places ≡ store.old.places }
 {

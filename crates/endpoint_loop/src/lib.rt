@@ -16,6 +16,7 @@ mod node;
 mod pairing;
 mod polling;
 mod posting;
+mod rating;
 mod rolling;
 mod sending;
 mod serving;

@@ -97,7 +97,7 @@ impl Node {
             jobs: VecDeque::with_capacity(alloc, limits.jobs as usize)?,
             clock: 0,
             rx: RxRing::new(alloc, limits.ring)?,
-            store: Store::new(alloc, 2 * limits.ring, places)?,
+            store: Store::new(alloc, limits.ring, places)?,
         })
     }
 

@@ -1,14 +1,65 @@
 //! What the client sessions begin and post.
-ghost use Rattle.std.specs.Prelude.{◌≡◌, ◌<◌, true};
+ghost use Rattle.std.specs.Prelude.{◌≡◌, ◌<◌, ◌≤◌, length, option_map, true};
+ghost use Rattle.std.specs.List.{find};
+ghost use Rattle.rpc_base.specs.Tables.{at_first};
+ghost use Rattle.node_laws.specs.Valid.{NumberedFrom};
+ghost use Rattle.endpoint_loop.specs.Fits.{pace_no};
 ghost use Rattle.endpoint_loop.specs.Measures.{free_at, waiting_at};
 ghost use Rattle.endpoint_loop.specs.Noting.{Makes, NotesOne};
+ghost use Rattle.rpc_laws.specs.Pacing.{delayed, due_at, is_paced};
 ghost use Rattle.rpc_laws.specs.PollOrder.{PostsAll, Serves};
+ghost use Rattle.session_store.specs.Effects.{request_in};
 ghost use Rattle.rpc_laws.specs.Posting.{next_begun, next_posted};
 ghost use Rattle.rpc_laws.specs.Steps.{NotesAll};
 
 use crate::node::Node;
-use rpc_base::{Event, Who};
+use rpc_base::{Event, Owner, RequestNo, Who};
+use rpc_laws::Pace;
 use rpc_outside::Recorder;
+
+// A rate is in bytes per millisecond, and times are in microseconds.
+const MICROSECONDS: u64 = 1000;
+
+// The request of a packet of a call, or of a reply.
+fn request_of(owner: &Owner) -> RequestNo
+    ensures { result ≡ request_in owner.now }
+{
+    match owner {
+        Owner::Ask { request, .. } => *request,
+        Owner::Reply { request, .. } => *request,
+        Owner::Control => RequestNo::of(0, 0),
+    }
+}
+
+// When the next packet of session `i` is due at this clock, in microseconds, where the session has a
+// rate.
+fn due_of(paces: &Vec<Pace>, i: usize, clock: u64) -> Option<u64>
+    requires known { i < length paces.now.items }
+    requires numbered { NumberedFrom pace_no 0 paces.now.items }
+    ensures { result ≡ option_map (due_at clock) (find (is_paced i) paces.now.items) }
+{
+    let pace = &paces[i];
+    if pace.rate == 0 {
+        return None;
+    }
+    Some(clock.max(pace.next))
+}
+
+// A packet of session `i` was posted, in a datagram of `size` bytes: where the session has a rate, its
+// next packet is due so much later.
+fn delay(paces: &mut Vec<Pace>, i: usize, clock: u64, size: u64)
+    requires known { i < length paces.old.items }
+    requires numbered { NumberedFrom pace_no 0 paces.old.items }
+    requires size { size ≤ 1040 }
+    ensures { paces.new.items ≡ at_first (is_paced i) (delayed clock size) paces.old.items }
+{
+    let pace = &mut paces[i];
+    if pace.rate == 0 {
+        return;
+    }
+    let due = clock.max(pace.next);
+    pace.next = due.saturating_add((size * MICROSECONDS).div_ceil(u64::from(pace.rate)));
+}
 
 impl Node {
     // Session `i` posts its next packet. The result tells whether it had one.
@@ -23,9 +74,13 @@ impl Node {
         if i >= self.store.clients() {
             return false;
         }
-        let Some(entry) = self.store.post(i) else {
+        let due = due_of(&self.paces, i, self.clock);
+        let Some(entry) = self.store.post(i, due) else {
             return false;
         };
+        let request = request_of(&entry.owner);
+        let size = self.store.packet_size(i, request, entry.number);
+        delay(&mut self.paces, i, self.clock, size);
         let event = Event::Posted {
             owner: entry.owner,
             number: entry.number,

@@ -1,7 +1,8 @@
-//! Step 6 of a poll: what is queued is sent.
+//! Step 6 of a poll: what is ready or due is sent.
 ghost use Rattle.std.specs.Prelude.{◌≡◌, ◌≢◌, ◌<◌, ◌↔◌, [], true, false, length, IfOk, IsTrue};
 ghost use Rattle.std.specs.Prelude.{OnErr};
 ghost use Rattle.endpoint_loop.specs.Noting.{MakesSent, SendsNone};
+ghost use Rattle.rpc_laws.specs.Pacing.{line};
 ghost use Rattle.rpc_laws.specs.PollOrder.{Sends, SendsSome};
 ghost use Rattle.rpc_outside.specs.Faults.{HasCause, HasRisen};
 ghost use Rattle.rpc_outside.specs.Linking.{NoneComes};
@@ -12,14 +13,14 @@ use rpc_base::{Event, Who};
 use rpc_outside::{Failed, Link, Recorder, Taken};
 
 impl Node {
-    // Sends the front of the queue, where it lies. The result tells whether the link took it; where
+    // Sends the front of the queue, which may be sent by now, where it lies. The result tells whether the link took it; where
     // it was busy, or failed, the packet stays in front.
     fn send_front<L: Link, R: Recorder>(
         &mut self,
         link: &mut L,
         rec: &mut R,
     ) -> Result<bool, Failed>
-        requires some { self.old.lists.queued ≢ [] }
+        requires some { line self.old.clock self.old.lists.queued ≢ [] }
         ensures sent { IfOk result (λ went. went ≡ true →
             MakesSent R.facts R.whole L.sent Sends self.old self.new rec.old rec.new link.old
             link.new × (L.busies link.new ≡ L.busies link.old)) }
@@ -35,7 +36,7 @@ impl Node {
         ensures lists { NoneComes L.waiting L.received link.old link.new }
         ensures cause { HasCause (L.faults link.old) (L.faults link.new) result }
     {
-        let Some(entry) = self.store.front() else {
+        let Some(entry) = self.store.front(self.clock) else {
             unreachable!()
         };
         let mut head = [0u8; HEAD_BYTES];
@@ -55,19 +56,19 @@ impl Node {
         }
     }
 
-    // Whether nothing is queued.
+    // Whether nothing that is queued may be sent yet.
     fn is_all_sent(&self) -> bool
-        ensures { IsTrue result ↔ (self.now.lists.queued ≡ []) }
+        ensures { IsTrue result ↔ (line self.now.clock self.now.lists.queued ≡ []) }
     {
-        match self.store.front() {
+        match self.store.front(self.clock) {
             Some(_entry) => false,
             None => true,
         }
     }
 
-    /// Step 6 of a poll: what is queued is sent, the oldest first, until nothing is queued or the
-    /// link is busy or fails. The result tells whether the link was busy. What wasn't sent stays
-    /// queued in its order.
+    /// Step 6 of a poll: what is ready is sent, the oldest first, and then what is due by now, until
+    /// none of it is left or the link is busy or fails. The result tells whether the link was busy.
+    /// What wasn't sent stays queued in its order.
     pub fn send_all<L: Link, R: Recorder>(
         &mut self,
         link: &mut L,
@@ -75,7 +76,8 @@ impl Node {
     ) -> Result<bool, Failed>
         ensures sent { MakesSent R.facts R.whole L.sent SendsSome self.old self.new rec.old rec.new
             link.old link.new }
-        ensures all { IfOk result (λ busy. busy ≡ false → (self.new.lists.queued ≡ [])
+        ensures all { IfOk result (λ busy. busy ≡ false → (line self.new.clock
+            self.new.lists.queued ≡ [])
             × (L.busies link.new ≡ L.busies link.old)) }
         ensures busy { IfOk result (λ busy. busy ≡ true →
             HasRisen (L.busies link.old) (L.busies link.new)) }

@@ -1,6 +1,7 @@
 use Rattle.std.proofs.Common.{◌≡◌, false, true, [], sym, ap, ◌∙◌}
 use Rattle.endpoint_loop.specs.Polling.{is_stopped}
 use Rattle.endpoint_loop.proofs.PollLemmas.{makes-poll, still-serving}
+use Rattle.rpc_laws.specs.Pacing.{line}
 use Rattle.endpoint_loop.proofs.endpoint.Endpoint.poll.Goals as goal
 use Rattle.endpoint_loop.proofs.endpoint.Endpoint.poll.Goals.{in-Ok, in-Err}
 
@@ -51,7 +52,8 @@ returns-clause-polls g c =
     (c.close.ensures.jobs ∙ c.send_all-sent.ensures.jobs ∙ c.serve_sessions.ensures.jobs
     ∙ c.watch.ensures.jobs) c.sound-2.ensures.kept)
   where
-    all : is_stopped c.match-sent.result ≡ false → c.send_all-sent.new.self.lists.queued ≡ []
+    all : is_stopped c.match-sent.result ≡ false → line c.send_all-sent.new.self.clock
+        c.send_all-sent.new.self.lists.queued ≡ []
     all = elim c.match-sent.branch [
       | in-Ok w ↦ λ e. (w.in-Ok.ensures.all (ap is_stopped (sym w.result-is) ∙ e)).0
       | in-Err w ↦ λ e. let no : true ≡ false = ap is_stopped (sym w.result-is) ∙ e in cc

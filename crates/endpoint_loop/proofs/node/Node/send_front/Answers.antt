@@ -43,5 +43,5 @@ returns-in-Whole-clause-sent g c = λ went.
 pub returns-in-Whole-clause-fewer : goal.returns-in-Whole-clause-fewer
 returns-in-Whole-clause-fewer g c = λ went.
     let front = rw c.in-Some.is at c.front.ensures.front in
-    rw (← c.self.view_is) (front-fewer _ c.self.inside.store.queued c.sent.new.self.queued
+    rw (← c.self.view_is) (front-fewer c.self.inside.clock c.in-Some.entry c.self.inside.store.queued c.sent.new.self.queued
     front.front c.sent.ensures.queued)

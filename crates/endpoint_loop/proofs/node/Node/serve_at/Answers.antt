@@ -41,7 +41,7 @@ pub on_packet-step-requires-clause-ring : goal.on_packet-step-requires-clause-ri
 on_packet-step-requires-clause-ring g c =
     let fits = c.self.invariant.0 in
     let few = rw (← c.self.view_is) at c.requires.room in
-    has-reply-room _ _ fits.kept fits.ready few fits.packets
+    has-reply-room _ _ fits.kept fits.sendable few fits.packets
 
 pub on_packet-step-requires-clause-room : goal.on_packet-step-requires-clause-room
 on_packet-step-requires-clause-room g c =
