@@ -29,8 +29,7 @@ fn is_sim(words: &[String]) -> bool
 
 /// Runs the program on the words after its name. `sim` reads a script from the source and writes
 /// the report of its history to the sink; every other line of words is `Usage`. A script with a
-/// `connect`, a `disconnect` or a `rate` is refused as `Later`, with the number of its first such
-/// line.
+/// `connect` or a `disconnect` is refused as `Later`, with the number of its first such line.
 pub fn run<S: Source, K: Sink>(
     alloc: Global,
     words: &[String],

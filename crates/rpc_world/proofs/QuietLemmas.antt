@@ -1,16 +1,18 @@
--- Steps of an endpoint that change no job: a call that is asked, and a datagram that is delivered.
+-- Steps of an endpoint that change no job: a call that is asked, a rate that is set, and a datagram
+-- that is delivered.
 use Rattle.std.proofs.Common.{◌≡◌, ℕ, Bool, true, false, cond, List, [], ◌∷◌, length, nat_lt, refl, sym, subst, ◌∙◌}
 use Rattle.std.proofs.Common.{◌≢◌, Result, Ok, Err}
 use Rattle.std.specs.Prelude.{IfErr}
 use Rattle.std.specs.List.{find}
-use Rattle.end_laws.proofs.OwnFacts.{asks-own, delivers-own}
+use Rattle.end_laws.proofs.OwnFacts.{asks-own, delivers-own, rates-own}
 use Rattle.endpoint_loop.specs.Applying.{Leaves}
 use Rattle.endpoint_loop.specs.Asking.{UnlessWanting}
 use Rattle.endpoint_loop.specs.declared.asking.AskError.TheVariants.{NoMemory}
 use Rattle.endpoint_loop.specs.declared.asking.Refused.{Refused}
 use Rattle.endpoint_loop.specs.Running.{IsStaffed, asks_of}
 use Rattle.endpoint_loop.specs.Seen.{Asks as AsksBytes, asking}
-use Rattle.rpc_base.specs.declared.event.Event.TheVariants.{Arrived, Bad, NcallTooLarge, Overflowed}
+use Rattle.rpc_base.specs.declared.event.Event.TheVariants.{Arrived, Bad, NcallTooLarge, Nrate}
+use Rattle.rpc_base.specs.declared.event.Event.TheVariants.{Overflowed, Rated}
 use Rattle.rpc_base.specs.declared.fact.Fact.{Fact}
 use Rattle.rpc_base.specs.declared.state.SessionState.{SessionState}
 use Rattle.rpc_base.specs.declared.state.SessionState.TheVariants.{Connected}
@@ -20,8 +22,8 @@ use Rattle.rpc_laws.specs.declared.tables.WorkedJob.{WorkedJob}
 use Rattle.rpc_laws.specs.Deliveries.{Delivers, inbox_room}
 use Rattle.rpc_laws.specs.Facts.{plain}
 use Rattle.rpc_laws.specs.Front.{is_control, is_message}
-use Rattle.rpc_laws.specs.Groups.{Asks, ask_by_state, state_of}
-use Rattle.rpc_laws.specs.Sessions.{is_client}
+use Rattle.rpc_laws.specs.Groups.{Asks, SetsRate, ask_by_state, state_of}
+use Rattle.rpc_laws.specs.Sessions.{is_client, is_live}
 use Rattle.rpc_laws.specs.Steps.{Rel}
 use Rattle.rpc_laws.specs.Working.{worked_after_all}
 use Rattle.rpc_outside.specs.PlainAnswer.{background_answer}
@@ -31,7 +33,7 @@ use Rattle.rpc_world.specs.Before.{IsPlaying, staff_of}
 use Rattle.rpc_world.proofs.EndLemmas.{staffed-stays}
 use Rattle.rpc_world.proofs.PlainLemmas.{AllOf, all-owned, idle-quiet}
 use Rattle.rpc_world.proofs.StepLemmas.{NodeStep, quiet-plain}
-use Rattle.work_laws.proofs.StayLaws.{Stays, asks-stays, delivers-stays, stays-knows}
+use Rattle.work_laws.proofs.StayLaws.{Stays, asks-stays, delivers-stays, rates-stays, stays-knows}
 use Rattle.work_laws.specs.Known.{KnowsWork}
 use Rattle.worker_crew.specs.Local.{Local, out_of}
 
@@ -91,6 +93,23 @@ asks-still session req_type ask room s x t p = record {
   whole = subst (λ (y : List Fact). Whole y) (sym p.facts) (ask-whole _ session req_type room ask s.lists
       (state_of (find (is_client session) s.lists.clients)));
 }
+
+-- a rate
+rate-whole : (b : Bool) (me session rate : ℕ) (state : SessionState)
+    → Whole (plain me (cond b (Rated session rate) (Nrate session state)) ∷ [])
+rate-whole true me session rate state = refl
+rate-whole false me session rate state = refl
+
+pub rates-still : (session rate : ℕ) (s : Timed) (x : List Fact) (t : Timed)
+    → SetsRate session rate s x t → IsStill (SetsRate session rate) s x t
+rates-still session rate s x t p =
+    let state = state_of (find (is_client session) s.lists.clients) in
+    record {
+      stays = rates-stays session rate s x t p;
+      own = all-owned s.lists.me x (rates-own false session rate s x t (λ e. cc) p).facts;
+      whole = subst (λ (y : List Fact). Whole y) (sym p.facts)
+          (rate-whole (is_live state) s.lists.me session rate state);
+    }
 
 -- a delivery
 delivery-whole : (me peer : ℕ) (bytes : List ℕ) (a b c d : Bool)

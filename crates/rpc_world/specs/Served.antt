@@ -6,13 +6,13 @@ use Rattle.script_grammar.specs.declared.line.Command.TheVariants.{Rate, Call, P
 use Rattle.script_grammar.specs.declared.line.Command.TheVariants.{Repeat, Tick, Work, Settle}
 use Rattle.script_grammar.specs.declared.line.Line.{Line}
 
--- each but connect, disconnect and rate
+-- each but connect and disconnect
 abbrev pub is_served : Command → Bool
 is_served (Node ring) = true
 is_served (Pair a b credits) = true
 is_served (Connect a b credits) = false
 is_served (Disconnect n session) = false
-is_served (Rate n session rate) = false
+is_served (Rate n session rate) = true
 is_served (Call n session req_type ask room) = true
 is_served (Poll n) = true
 is_served (Arrive i) = true

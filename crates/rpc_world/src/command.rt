@@ -11,6 +11,7 @@ use crate::calling::call_on;
 use crate::making::make_node;
 use crate::network::{note_of_net, perform_net};
 use crate::pairing::pair;
+use crate::rating::rate_on;
 use crate::running::Running;
 use crate::settling::settle;
 use crate::stepping::{arrive, poll_node};
@@ -73,6 +74,11 @@ pub fn execute(
     match command {
         Command::Node { ring } => make_node(alloc, stage, rec, *ring),
         Command::Pair { a, b, credits } => pair(stage, rec, *a, *b, *credits),
+        Command::Rate {
+            node,
+            session,
+            rate,
+        } => rate_on(stage, rec, *node, *session, *rate),
         Command::Call {
             node,
             session,
@@ -89,6 +95,5 @@ pub fn execute(
         Command::Settle { rounds } => settle(alloc, stage, rec, *rounds),
         Command::Connect { .. } => unreachable!(),
         Command::Disconnect { .. } => unreachable!(),
-        Command::Rate { .. } => unreachable!(),
     }
 }

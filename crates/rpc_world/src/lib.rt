@@ -9,6 +9,7 @@ mod landing;
 mod making;
 mod network;
 mod pairing;
+mod rating;
 mod running;
 mod serving;
 mod settling;

@@ -4,16 +4,16 @@ ghost use Rattle.rpc_world.specs.Served.{is_served};
 
 use sim_script::Command;
 
-/// Whether a command is served: each but `connect`, `disconnect` and `rate`.
+/// Whether a command is served: each but `connect` and `disconnect`.
 pub fn is_served(command: &Command) -> bool
     ensures { result ≡ is_served command.now }
 {
     match command {
         Command::Connect { .. } => false,
         Command::Disconnect { .. } => false,
-        Command::Rate { .. } => false,
         Command::Node { .. } => true,
         Command::Pair { .. } => true,
+        Command::Rate { .. } => true,
         Command::Call { .. } => true,
         Command::Poll { .. } => true,
         Command::Arrive { .. } => true,
