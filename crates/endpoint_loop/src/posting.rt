@@ -31,8 +31,8 @@ fn request_of(owner: &Owner) -> RequestNo
     }
 }
 
-// When the next packet of session `i` is due at this clock, in microseconds, where the session has a
-// rate.
+// When the next packet of session `i` is due at this clock, in microseconds, where the session has
+// a rate.
 fn due_of(paces: &Vec<Pace>, i: usize, clock: u64) -> Option<u64>
     requires known { i < length paces.now.items }
     requires numbered { NumberedFrom pace_no 0 paces.now.items }
@@ -45,8 +45,8 @@ fn due_of(paces: &Vec<Pace>, i: usize, clock: u64) -> Option<u64>
     Some(clock.max(pace.next))
 }
 
-// A packet of session `i` was posted, in a datagram of `size` bytes: where the session has a rate, its
-// next packet is due so much later.
+// A packet of session `i` was posted, in a datagram of `size` bytes: where the session has a rate,
+// its next packet is due so much later.
 fn delay(paces: &mut Vec<Pace>, i: usize, clock: u64, size: u64)
     requires known { i < length paces.old.items }
     requires numbered { NumberedFrom pace_no 0 paces.old.items }

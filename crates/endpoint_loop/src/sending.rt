@@ -13,8 +13,8 @@ use rpc_base::{Event, Who};
 use rpc_outside::{Failed, Link, Recorder, Taken};
 
 impl Node {
-    // Sends the front of the queue, which may be sent by now, where it lies. The result tells whether the link took it; where
-    // it was busy, or failed, the packet stays in front.
+    // Sends the front of the queue, which may be sent by now, where it lies. The result tells
+    // whether the link took it; where it was busy, or failed, the packet stays in front.
     fn send_front<L: Link, R: Recorder>(
         &mut self,
         link: &mut L,
@@ -66,9 +66,9 @@ impl Node {
         }
     }
 
-    /// Step 6 of a poll: what is ready is sent, the oldest first, and then what is due by now, until
-    /// none of it is left or the link is busy or fails. The result tells whether the link was busy.
-    /// What wasn't sent stays queued in its order.
+    /// Step 6 of a poll: what is ready is sent, the oldest first, and then what is due by now,
+    /// until none of it is left or the link is busy or fails. The result tells whether the link was
+    /// busy. What wasn't sent stays queued in its order.
     pub fn send_all<L: Link, R: Recorder>(
         &mut self,
         link: &mut L,

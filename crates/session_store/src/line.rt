@@ -14,8 +14,8 @@ ghost use Rattle.session_store.specs.Joined.{Paces, is_some_due, joined, queue_o
 ghost use Rattle.session_store.specs.Joined.{ready_first};
 ghost use Rattle.session_store.specs.Queue.{is_owned, queued_number};
 
-use packet_rings::{Entry, TxRing};
 use pacing_wheel::Pacer;
+use packet_rings::{Entry, TxRing};
 use rpc_base::Owner;
 
 /// The first entry: the oldest one of the ring or, where that is empty, the one of the pacer that

@@ -5,14 +5,14 @@ use Rattle.endpoint_loop.proofs.node.Node.close.Goals as goal
 pub invariant_of-self : goal.invariant_of-self
 invariant_of-self g c = (
   fits-closed c.self.inside.me c.self.inside.limits (record {
-      asked = c.self.inside.asked;
-      server_numbers = c.self.inside.server_numbers;
-      counts = c.self.inside.counts;
-    }) c.self.inside.paces.items (jobs_in c.self.inside.limits.jobs c.self.inside.given
-    c.self.inside.jobs.items) c.self.inside.clock c.self.inside.rx c.self.inside.store
-    c.make_ready.new.self c.self.invariant.0 c.make_ready.ensures.queued
-    c.make_ready.ensures.clients c.make_ready.ensures.servers
-    c.make_ready.ensures.size c.make_ready.ensures.places,
+    asked = c.self.inside.asked;
+    server_numbers = c.self.inside.server_numbers;
+    counts = c.self.inside.counts;
+  }) c.self.inside.paces.items (jobs_in c.self.inside.limits.jobs c.self.inside.given
+      c.self.inside.jobs.items) c.self.inside.clock c.self.inside.rx c.self.inside.store
+      c.make_ready.new.self c.self.invariant.0 c.make_ready.ensures.queued
+      c.make_ready.ensures.clients c.make_ready.ensures.servers
+      c.make_ready.ensures.size c.make_ready.ensures.places,
   c.self.invariant.1,
 )
 

@@ -58,17 +58,19 @@ invariant_of-self-2 g c =
     c.post.new.self.clients h.clients c.self.invariant.0.kept.valid.numbered told in
     let later = c.delay.ensures
     ∙ ap (λ n. at_first (is_paced c.args.i) (delayed c.self.inside.clock n)
-    c.self.inside.paces.items) size in
-    (fits-posted g.R.Recorder.facts g.R.Recorder.whole c.args.i c.self.inside.me c.self.inside.limits
-    (record {
-      asked = c.self.inside.asked;
-      server_numbers = c.self.inside.server_numbers;
-      counts = c.self.inside.counts;
-    }) c.self.inside.paces.items (jobs_in c.self.inside.limits.jobs c.self.inside.given
-    c.self.inside.jobs.items)
-    c.self.inside.clock c.self.inside.rx c.self.inside.store c.post.new.self c.args.rec.now
-    c.note.new.self c.self.invariant.0 h.servers h.size h.places c.in-Some.entry c.due_of-due.result
-    c.delay.new.paces.items h.clients h.queued h.owner c.due_of-due.ensures later, c.self.invariant.1)
+    c.self.inside.paces.items) size in (
+      fits-posted g.R.Recorder.facts g.R.Recorder.whole c.args.i c.self.inside.me c.self.inside.limits
+          (record {
+            asked = c.self.inside.asked;
+            server_numbers = c.self.inside.server_numbers;
+            counts = c.self.inside.counts;
+          }) c.self.inside.paces.items (jobs_in c.self.inside.limits.jobs c.self.inside.given
+          c.self.inside.jobs.items)
+          c.self.inside.clock c.self.inside.rx c.self.inside.store c.post.new.self c.args.rec.now
+          c.note.new.self c.self.invariant.0 h.servers h.size h.places c.in-Some.entry c.due_of-due.result
+          c.delay.new.paces.items h.clients h.queued h.owner c.due_of-due.ensures later,
+      c.self.invariant.1,
+    )
 
 pub returns-clause-notes : goal.returns-clause-notes
 returns-clause-notes g c =

@@ -30,18 +30,20 @@ set_rate_at-requires g c =
 pub invariant_of-self : goal.invariant_of-self
 invariant_of-self g c =
     let seen = rw (← c.self.view_is) at c.state-state.ensures in
-    let set = rw (c.from.ensures ∙ c.session.view_is) at c.set_rate_at.ensures in
-    (fits-rated c.self.inside.me c.self.inside.limits
-    (record {
-      asked = c.self.inside.asked;
-      server_numbers = c.self.inside.server_numbers;
-      counts = c.self.inside.counts;
-    }) c.self.inside.paces.items (jobs_in c.self.inside.limits.jobs c.self.inside.given
-    c.self.inside.jobs.items)
-    c.self.inside.clock c.self.inside.rx c.self.inside.store c.args.session c.args.rate
-    c.state-state.result seen
-    (sym c.lives.ensures ∙ c.if-not-lives.false) c.set_rate_at.new.paces.items
-    set c.self.invariant.0, c.self.invariant.1)
+    let set = rw (c.from.ensures ∙ c.session.view_is) at c.set_rate_at.ensures in (
+      fits-rated c.self.inside.me c.self.inside.limits
+          (record {
+            asked = c.self.inside.asked;
+            server_numbers = c.self.inside.server_numbers;
+            counts = c.self.inside.counts;
+          }) c.self.inside.paces.items (jobs_in c.self.inside.limits.jobs c.self.inside.given
+          c.self.inside.jobs.items)
+          c.self.inside.clock c.self.inside.rx c.self.inside.store c.args.session c.args.rate
+          c.state-state.result seen
+          (sym c.lives.ensures ∙ c.if-not-lives.false) c.set_rate_at.new.paces.items
+          set c.self.invariant.0,
+      c.self.invariant.1,
+    )
 
 pub returns-clause-makes : goal.returns-clause-makes
 returns-clause-makes g c =

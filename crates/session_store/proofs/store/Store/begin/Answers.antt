@@ -13,11 +13,12 @@ pub invariant_of-self : goal.invariant_of-self
 invariant_of-self c =
     let h = c.begin_at.ensures in
     let connected = connected-at c.self.inside.sides.items c.args.i c.index.result.now h.side
-    c.index.ensures h.at c.if-index.false in
-    (kept-begin c.self.inside.pool c.begin_at.new.pool c.self.inside.sides.items
-    c.begin_at.new.sides.items c.self.inside.servers.items (joined c.self.inside.tx c.self.inside.pacer) c.args.i
-    c.self.invariant.0 c.begin_at.result h connected,
-    c.self.invariant.1)
+    c.index.ensures h.at c.if-index.false in (
+      kept-begin c.self.inside.pool c.begin_at.new.pool c.self.inside.sides.items
+          c.begin_at.new.sides.items c.self.inside.servers.items (joined c.self.inside.tx c.self.inside.pacer) c.args.i
+          c.self.invariant.0 c.begin_at.result h connected,
+      c.self.invariant.1,
+    )
 
 pub returns-clause-clients : goal.returns-clause-clients
 returns-clause-clients c =

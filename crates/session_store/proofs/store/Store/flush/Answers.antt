@@ -60,14 +60,15 @@ invariant_of-self-2 c =
     c.requires.known c.index.ensures in
     let h = rw c.in-Some.is at c.flush_in-flushed.ensures in
     let own = least-own c.session.result c.args.request c.in-Some.entry h.own
-    ∙ ap (λ n. Ask n c.args.request) number in
-    (subst (λ n. Kept c.flushed_at.new.pool c.flushed_at.new.sides.items s.servers.items (ring (joined c.flush_in-flushed.new.tx
-    c.flush_in-flushed.new.pacer).items n)) (sym (ap (λ r. r.size) h.left)) (flushed-kept s.pool c.flushed_at.new.pool s.sides.items c.flushed_at.new.sides.items
-    s.servers.items (joined s.tx s.pacer) c.args.i c.args.request c.in-Some.entry
-    (is_entry (Ask c.session.result c.args.request) c.in-Some.entry.number)
-    (joined c.flush_in-flushed.new.tx c.flush_in-flushed.new.pacer).items
-    c.self.invariant.0 h.nearest own c.flushed_at.ensures),
-    h.paces)
+    ∙ ap (λ n. Ask n c.args.request) number in (
+      subst (λ n. Kept c.flushed_at.new.pool c.flushed_at.new.sides.items s.servers.items (ring (joined c.flush_in-flushed.new.tx
+          c.flush_in-flushed.new.pacer).items n)) (sym (ap (λ r. r.size) h.left)) (flushed-kept s.pool c.flushed_at.new.pool s.sides.items c.flushed_at.new.sides.items
+          s.servers.items (joined s.tx s.pacer) c.args.i c.args.request c.in-Some.entry
+          (is_entry (Ask c.session.result c.args.request) c.in-Some.entry.number)
+          (joined c.flush_in-flushed.new.tx c.flush_in-flushed.new.pacer).items
+          c.self.invariant.0 h.nearest own c.flushed_at.ensures),
+      h.paces,
+    )
 
 pub returns-clause-taken : goal.returns-clause-taken
 returns-clause-taken c =

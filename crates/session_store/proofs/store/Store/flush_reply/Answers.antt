@@ -45,14 +45,15 @@ pub invariant_of-self-2 : goal.invariant_of-self-2
 invariant_of-self-2 c =
     let s = c.self.inside in
     let h = rw c.in-Some.is at c.flush_in-flushed.ensures in
-    let own = least-reply c.args.session c.args.request c.in-Some.entry h.own in
-    (subst (λ n. Kept c.reply_flushed_at.new.pool s.sides.items c.reply_flushed_at.new.servers.items (ring (joined c.flush_in-flushed.new.tx
-    c.flush_in-flushed.new.pacer).items n)) (sym (ap (λ r. r.size) h.left)) (reply-kept s.pool c.reply_flushed_at.new.pool s.sides.items s.servers.items
-    c.reply_flushed_at.new.servers.items (joined s.tx s.pacer) c.args.session c.args.request c.in-Some.entry
-    (is_entry (Reply c.args.session c.args.request) c.in-Some.entry.number)
-    (joined c.flush_in-flushed.new.tx c.flush_in-flushed.new.pacer).items
-    c.self.invariant.0 h.nearest own c.reply_flushed_at.ensures),
-    h.paces)
+    let own = least-reply c.args.session c.args.request c.in-Some.entry h.own in (
+      subst (λ n. Kept c.reply_flushed_at.new.pool s.sides.items c.reply_flushed_at.new.servers.items (ring (joined c.flush_in-flushed.new.tx
+          c.flush_in-flushed.new.pacer).items n)) (sym (ap (λ r. r.size) h.left)) (reply-kept s.pool c.reply_flushed_at.new.pool s.sides.items s.servers.items
+          c.reply_flushed_at.new.servers.items (joined s.tx s.pacer) c.args.session c.args.request c.in-Some.entry
+          (is_entry (Reply c.args.session c.args.request) c.in-Some.entry.number)
+          (joined c.flush_in-flushed.new.tx c.flush_in-flushed.new.pacer).items
+          c.self.invariant.0 h.nearest own c.reply_flushed_at.ensures),
+      h.paces,
+    )
 
 pub returns-clause-taken : goal.returns-clause-taken
 returns-clause-taken c =

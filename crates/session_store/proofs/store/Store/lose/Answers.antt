@@ -14,11 +14,12 @@ invariant_of-self c =
     let s = c.self.inside in
     let h = c.lose_at.ensures in
     let broken = lost-broken s.pool s.sides.items s.servers.items (joined s.tx s.pacer) c.self.invariant.0
-    (undue c.args.self.now) (flat c.self.inside.pool c.self.inside.sides.items c.self.inside.servers.items c.self.inside.tx c.self.inside.pacer c.args.self.now c.self.view_is) c.args.i c.requires.lost h.side h.at in
-    (lose-kept s.pool c.lose_at.new.pool s.sides.items c.lose_at.new.sides.items s.servers.items (joined s.tx s.pacer)
-    c.self.invariant.0 (undue c.args.self.now) (flat c.self.inside.pool c.self.inside.sides.items c.self.inside.servers.items c.self.inside.tx c.self.inside.pacer c.args.self.now c.self.view_is) c.args.i (idle-undue c.args.i c.args.self.now.queued c.requires.idle) c.lose_at.result h
-    broken,
-    c.self.invariant.1)
+    (undue c.args.self.now) (flat c.self.inside.pool c.self.inside.sides.items c.self.inside.servers.items c.self.inside.tx c.self.inside.pacer c.args.self.now c.self.view_is) c.args.i c.requires.lost h.side h.at in (
+      lose-kept s.pool c.lose_at.new.pool s.sides.items c.lose_at.new.sides.items s.servers.items (joined s.tx s.pacer)
+          c.self.invariant.0 (undue c.args.self.now) (flat c.self.inside.pool c.self.inside.sides.items c.self.inside.servers.items c.self.inside.tx c.self.inside.pacer c.args.self.now c.self.view_is) c.args.i (idle-undue c.args.i c.args.self.now.queued c.requires.idle) c.lose_at.result h
+          broken,
+      c.self.invariant.1,
+    )
 
 pub returns-clause-clients : goal.returns-clause-clients
 returns-clause-clients c =

@@ -18,11 +18,12 @@ finished_at-reply-requires-clause-spare c =
 pub invariant_of-self : goal.invariant_of-self
 invariant_of-self c =
     let s = c.self.inside in
-    let h = rw c.in_default.is at c.finished_at-reply.ensures in
-    (left-kept s.pool c.finished_at-reply.new.pool s.sides.items s.servers.items
-    c.finished_at-reply.new.servers.items (joined s.tx s.pacer) c.args.i c.args.parcel.request _ h
-    c.self.invariant.0,
-    c.self.invariant.1)
+    let h = rw c.in_default.is at c.finished_at-reply.ensures in (
+      left-kept s.pool c.finished_at-reply.new.pool s.sides.items s.servers.items
+          c.finished_at-reply.new.servers.items (joined s.tx s.pacer) c.args.i c.args.parcel.request _ h
+          c.self.invariant.0,
+      c.self.invariant.1,
+    )
 
 pub returns-in_default-clause-servers : goal.returns-in_default-clause-servers
 returns-in_default-clause-servers c =
@@ -44,13 +45,16 @@ invariant_of-self-2 c =
     let s = c.self.inside in
     let h = rw c.in-Some.is at c.finished_at-reply.ensures in
     let room = ring-room s.pool s.sides.items s.servers.items (joined s.tx s.pacer) (undue c.args.self.now) (flat c.self.inside.pool c.self.inside.sides.items c.self.inside.servers.items c.self.inside.tx c.self.inside.pacer c.args.self.now c.self.view_is) (less-undue c.args.self.now c.requires.ring) in
-    rw c.push.ensures (kept-put c.finished_at-reply.new.pool s.sides.items
-    c.finished_at-reply.new.servers.items c.in-Some.entry (joined s.tx s.pacer)
-    (joined (ring (s.tx.items ++ c.in-Some.entry ∷ []) s.tx.size) s.pacer)
-    (put-behind s.tx.items s.pacer.items c.in-Some.entry) refl
-    (finish-kept s.pool c.finished_at-reply.new.pool s.sides.items s.servers.items
-    c.finished_at-reply.new.servers.items (joined s.tx s.pacer) c.args.i c.args.parcel.request _ c.in-Some.entry
-    c.self.invariant.0 h room), record { calls = c.self.invariant.1.calls; half = c.self.invariant.1.half })
+    rw c.push.ensures (
+      kept-put c.finished_at-reply.new.pool s.sides.items
+          c.finished_at-reply.new.servers.items c.in-Some.entry (joined s.tx s.pacer)
+          (joined (ring (s.tx.items ++ c.in-Some.entry ∷ []) s.tx.size) s.pacer)
+          (put-behind s.tx.items s.pacer.items c.in-Some.entry) refl
+          (finish-kept s.pool c.finished_at-reply.new.pool s.sides.items s.servers.items
+          c.finished_at-reply.new.servers.items (joined s.tx s.pacer) c.args.i c.args.parcel.request _ c.in-Some.entry
+          c.self.invariant.0 h room),
+      record { calls = c.self.invariant.1.calls; half = c.self.invariant.1.half },
+    )
 
 pub returns-clause-servers : goal.returns-clause-servers
 returns-clause-servers c =

@@ -85,17 +85,18 @@ invariant_of-self g c =
     c.asked_at-step.result (joined s.tx s.pacer) (joined c.asked_at-step.new.tx s.pacer) s.pool
     c.asked_at-step.new.pool s.sides.items s.servers.items c.asked_at-step.new.servers.items
     c.self.invariant.0 room step none in
-    let size = ap (λ r. r.size) handles.step.ring_is in
-    (subst (λ (t : Ring EntryValue). Kept c.asked_at-step.new.pool s.sides.items
-    c.asked_at-step.new.servers.items t) same (serve-kept g.R.Recorder.facts g.R.Recorder.whole
-    (g.V.Service.mode_of c.args.head.now.req_type) c.args.jobs_full c.args.me c.args.i
-    c.args.head.now c.args.body.now g.V.Service.answer
-    (g.V.Service.stands c.args.service.now)
-    (g.V.Service.stands c.asked_at-step.new.service) c.args.rec.now c.asked_at-step.new.rec
-    c.asked_at-step.result (joined s.tx s.pacer) (joined c.asked_at-step.new.tx s.pacer) s.pool
-    c.asked_at-step.new.pool s.sides.items s.servers.items c.asked_at-step.new.servers.items
-    c.self.invariant.0 room step),
-    record { calls = calls; half = c.self.invariant.1.half ∙ sym size })
+    let size = ap (λ r. r.size) handles.step.ring_is in (
+      subst (λ (t : Ring EntryValue). Kept c.asked_at-step.new.pool s.sides.items
+          c.asked_at-step.new.servers.items t) same (serve-kept g.R.Recorder.facts g.R.Recorder.whole
+          (g.V.Service.mode_of c.args.head.now.req_type) c.args.jobs_full c.args.me c.args.i
+          c.args.head.now c.args.body.now g.V.Service.answer
+          (g.V.Service.stands c.args.service.now)
+          (g.V.Service.stands c.asked_at-step.new.service) c.args.rec.now c.asked_at-step.new.rec
+          c.asked_at-step.result (joined s.tx s.pacer) (joined c.asked_at-step.new.tx s.pacer) s.pool
+          c.asked_at-step.new.pool s.sides.items s.servers.items c.asked_at-step.new.servers.items
+          c.self.invariant.0 room step),
+      record { calls = calls; half = c.self.invariant.1.half ∙ sym size },
+    )
 
 pub push-requires : goal.push-requires
 push-requires g c =
@@ -150,20 +151,22 @@ invariant_of-self-2 g c =
     c.self.invariant.0 room step c.in-Some.reply one in
     let size = ap (λ r. r.size) handles.step.ring_is in
     let tx = c.asked_at-step.new.tx in
-    rw c.push.ensures (kept-put c.asked_at-step.new.pool s.sides.items
-    c.asked_at-step.new.servers.items c.in-Some.reply (joined tx s.pacer)
-    (joined (ring (tx.items ++ c.in-Some.reply ∷ []) tx.size) s.pacer)
-    (put-behind tx.items s.pacer.items c.in-Some.reply) refl
-    (subst (λ (t : Ring EntryValue). Kept c.asked_at-step.new.pool s.sides.items
-    c.asked_at-step.new.servers.items t) same (serve-kept g.R.Recorder.facts g.R.Recorder.whole
-    (g.V.Service.mode_of c.args.head.now.req_type) c.args.jobs_full c.args.me c.args.i
-    c.args.head.now c.args.body.now g.V.Service.answer
-    (g.V.Service.stands c.args.service.now)
-    (g.V.Service.stands c.asked_at-step.new.service) c.args.rec.now c.asked_at-step.new.rec
-    c.asked_at-step.result (joined s.tx s.pacer) (joined c.asked_at-step.new.tx s.pacer) s.pool
-    c.asked_at-step.new.pool s.sides.items s.servers.items c.asked_at-step.new.servers.items
-    c.self.invariant.0 room step)),
-    record { calls = calls; half = c.self.invariant.1.half ∙ sym size })
+    rw c.push.ensures (
+      kept-put c.asked_at-step.new.pool s.sides.items
+          c.asked_at-step.new.servers.items c.in-Some.reply (joined tx s.pacer)
+          (joined (ring (tx.items ++ c.in-Some.reply ∷ []) tx.size) s.pacer)
+          (put-behind tx.items s.pacer.items c.in-Some.reply) refl
+          (subst (λ (t : Ring EntryValue). Kept c.asked_at-step.new.pool s.sides.items
+          c.asked_at-step.new.servers.items t) same (serve-kept g.R.Recorder.facts g.R.Recorder.whole
+          (g.V.Service.mode_of c.args.head.now.req_type) c.args.jobs_full c.args.me c.args.i
+          c.args.head.now c.args.body.now g.V.Service.answer
+          (g.V.Service.stands c.args.service.now)
+          (g.V.Service.stands c.asked_at-step.new.service) c.args.rec.now c.asked_at-step.new.rec
+          c.asked_at-step.result (joined s.tx s.pacer) (joined c.asked_at-step.new.tx s.pacer) s.pool
+          c.asked_at-step.new.pool s.sides.items s.servers.items c.asked_at-step.new.servers.items
+          c.self.invariant.0 room step)),
+      record { calls = calls; half = c.self.invariant.1.half ∙ sym size },
+    )
 
 pub returns-in_default-clause-handles : goal.returns-in_default-clause-handles
 returns-in_default-clause-handles g c =

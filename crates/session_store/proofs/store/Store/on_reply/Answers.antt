@@ -47,11 +47,12 @@ invariant_of-self c =
     h.at c.if-index.false in
     let windows = seen-windows s.pool s.sides.items s.servers.items (joined s.tx s.pacer) (undue c.args.self.now) (flat c.self.inside.pool c.self.inside.sides.items c.self.inside.servers.items c.self.inside.tx c.self.inside.pacer c.args.self.now c.self.view_is) c.args.i (windows-undue c.args.self.now.clients c.args.self.now.queued c.requires.windows) in
     let waits = c.is_waiting-is_waiting.ensures ∙ sym (queued-undue (Ask c.args.i c.args.head.now.request) c.args.head.now.number c.args.self.now.queued) ∙ seen-waits s.pool s.sides.items s.servers.items (joined s.tx s.pacer) (undue c.args.self.now) (flat c.self.inside.pool c.self.inside.sides.items c.self.inside.servers.items c.self.inside.tx c.self.inside.pacer c.args.self.now c.self.view_is)
-    c.args.i c.args.head.now.request c.args.head.now.number in
-    (heard-kept s.pool c.heard_at.new.pool s.sides.items c.heard_at.new.sides.items s.servers.items
-    (joined s.tx s.pacer) c.args.i c.args.now c.args.head.now c.args.body.now c.is_waiting-is_waiting.result
-    c.heard_at.result c.self.invariant.0 h connected c.requires.session windows waits,
-    c.self.invariant.1)
+    c.args.i c.args.head.now.request c.args.head.now.number in (
+      heard-kept s.pool c.heard_at.new.pool s.sides.items c.heard_at.new.sides.items s.servers.items
+          (joined s.tx s.pacer) c.args.i c.args.now c.args.head.now c.args.body.now c.is_waiting-is_waiting.result
+          c.heard_at.result c.self.invariant.0 h connected c.requires.session windows waits,
+      c.self.invariant.1,
+    )
 
 pub returns-clause-servers : goal.returns-clause-servers
 returns-clause-servers c =

@@ -14,11 +14,12 @@ post_at-posted-requires-clause-keeps c =
     (joined c.self.inside.tx c.self.inside.pacer) c.self.invariant.0
 
 pub invariant_of-self : goal.invariant_of-self
-invariant_of-self c =
-    (unposted-kept c.self.inside.pool c.post_at-posted.new.pool c.self.inside.sides.items
-    c.post_at-posted.new.sides.items c.self.inside.servers.items (joined c.self.inside.tx c.self.inside.pacer) c.args.i
-    (rw c.in_default.is at c.post_at-posted.ensures) c.self.invariant.0,
-    c.self.invariant.1)
+invariant_of-self c = (
+  unposted-kept c.self.inside.pool c.post_at-posted.new.pool c.self.inside.sides.items
+      c.post_at-posted.new.sides.items c.self.inside.servers.items (joined c.self.inside.tx c.self.inside.pacer) c.args.i
+      (rw c.in_default.is at c.post_at-posted.ensures) c.self.invariant.0,
+  c.self.invariant.1,
+)
 
 pub returns-in_default-clause-clients : goal.returns-in_default-clause-clients
 returns-in_default-clause-clients c =
@@ -37,17 +38,22 @@ put_in-requires c =
     h.at c.if-index.false in
     record {
       room = room-there s.pool c.post_at-posted.new.pool s.sides.items
-    c.post_at-posted.new.sides.items s.servers.items (joined s.tx s.pacer) c.args.i
-    c.in-Some.entry c.self.invariant.0 h connected (undue c.args.self.now) (flat s.pool
-    s.sides.items s.servers.items s.tx s.pacer c.args.self.now c.self.view_is)
-    (room-undue c.args.i c.args.self.now c.requires.room);
+          c.post_at-posted.new.sides.items s.servers.items (joined s.tx s.pacer) c.args.i
+          c.in-Some.entry c.self.invariant.0 h connected (undue c.args.self.now) (flat s.pool
+          s.sides.items s.servers.items s.tx s.pacer c.args.self.now c.self.view_is)
+          (room-undue c.args.i c.args.self.now c.requires.room);
       paced = λ some. (let free = paced-there s.pool c.post_at-posted.new.pool s.sides.items
           c.post_at-posted.new.sides.items s.servers.items (joined s.tx s.pacer) c.args.i
           c.in-Some.entry c.self.invariant.0 h connected (undue c.args.self.now) (flat s.pool
           s.sides.items s.servers.items s.tx s.pacer c.args.self.now c.self.view_is)
           (count_by is_paced c.args.self.now.queued) (c.requires.paced some) in
-          omega (arith, free, c.self.invariant.1.half, paced-counted s.tx s.pacer,
-          ap (λ v. count_by is_paced v.queued) c.self.view_is));
+          omega (
+            arith,
+            free,
+            c.self.invariant.1.half,
+            paced-counted s.tx s.pacer,
+            ap (λ v. count_by is_paced v.queued) c.self.view_is,
+          ));
       call = λ some. posted-call s.pool c.post_at-posted.new.pool s.sides.items
           c.post_at-posted.new.sides.items s.servers.items (joined s.tx s.pacer) c.args.i
           c.in-Some.entry c.self.invariant.0 h connected;
@@ -64,13 +70,15 @@ invariant_of-self-2 c =
     c.post_at-posted.new.sides.items s.servers.items (joined s.tx s.pacer) c.args.i
     c.in-Some.entry c.self.invariant.0 h connected (undue c.args.self.now) (flat s.pool
     s.sides.items s.servers.items s.tx s.pacer c.args.self.now c.self.view_is)
-    (room-undue c.args.i c.args.self.now c.requires.room) in
-    (kept-put c.post_at-posted.new.pool c.post_at-posted.new.sides.items s.servers.items
-    c.in-Some.entry (joined s.tx s.pacer) (joined c.put_in.new.tx c.put_in.new.pacer)
-    c.put_in.ensures.put c.put_in.ensures.size
-    (kept-posted s.pool c.post_at-posted.new.pool s.sides.items c.post_at-posted.new.sides.items
-    s.servers.items (joined s.tx s.pacer) c.args.i c.in-Some.entry c.self.invariant.0 h connected
-    room), c.put_in.ensures.paces)
+    (room-undue c.args.i c.args.self.now c.requires.room) in (
+      kept-put c.post_at-posted.new.pool c.post_at-posted.new.sides.items s.servers.items
+          c.in-Some.entry (joined s.tx s.pacer) (joined c.put_in.new.tx c.put_in.new.pacer)
+          c.put_in.ensures.put c.put_in.ensures.size
+          (kept-posted s.pool c.post_at-posted.new.pool s.sides.items c.post_at-posted.new.sides.items
+          s.servers.items (joined s.tx s.pacer) c.args.i c.in-Some.entry c.self.invariant.0 h connected
+          room),
+      c.put_in.ensures.paces,
+    )
 
 pub returns-clause-clients : goal.returns-clause-clients
 returns-clause-clients c =

@@ -21,11 +21,12 @@ roll_at-requires-clause-idle c =
     c.self.invariant.0
 
 pub invariant_of-self : goal.invariant_of-self
-invariant_of-self c =
-    (kept-roll c.self.inside.pool c.self.inside.sides.items c.self.inside.servers.items
-    (joined c.self.inside.tx c.self.inside.pacer) c.args.i c.args.call (undue c.args.self.now) (flat c.self.inside.pool c.self.inside.sides.items c.self.inside.servers.items c.self.inside.tx c.self.inside.pacer c.args.self.now c.self.view_is) (may-undue c.args.i c.args.call c.args.self.now c.requires.may)
-    c.roll_at.new.sides.items c.self.invariant.0 c.roll_at.ensures,
-    c.self.invariant.1)
+invariant_of-self c = (
+  kept-roll c.self.inside.pool c.self.inside.sides.items c.self.inside.servers.items
+      (joined c.self.inside.tx c.self.inside.pacer) c.args.i c.args.call (undue c.args.self.now) (flat c.self.inside.pool c.self.inside.sides.items c.self.inside.servers.items c.self.inside.tx c.self.inside.pacer c.args.self.now c.self.view_is) (may-undue c.args.i c.args.call c.args.self.now c.requires.may)
+      c.roll_at.new.sides.items c.self.invariant.0 c.roll_at.ensures,
+  c.self.invariant.1,
+)
 
 pub returns-clause-clients : goal.returns-clause-clients
 returns-clause-clients c =

@@ -19,12 +19,13 @@ invariant_of-self c =
     let front = sym c.pop_in.ensures.front ∙ c.in-Some.is in
     let own : c.in-Some.entry.owner ≡ Ask c.from.result c.in-Ask.request =
     sym (ap (λ (e : EntryValue). e.owner) c.entry.view_is) ∙ c.in-Ask.is
-    ∙ ap (λ n. Ask n c.in-Ask.request) (sym (c.from.ensures ∙ c.session.view_is)) in
-    (rw c.pop_in.ensures.rest (sent-kept s.pool c.sent_at.new.pool s.sides.items
-    c.sent_at.new.sides.items s.servers.items (joined s.tx s.pacer) c.from.result c.in-Ask.request
-    c.in-Some.entry (λ d. false) (drop 1 (joined s.tx s.pacer).items) c.self.invariant.0
-    (front-taken (joined s.tx s.pacer).items c.in-Some.entry front) own c.args.now c.sent_at.ensures),
-    c.pop_in.ensures.paces)
+    ∙ ap (λ n. Ask n c.in-Ask.request) (sym (c.from.ensures ∙ c.session.view_is)) in (
+      rw c.pop_in.ensures.rest (sent-kept s.pool c.sent_at.new.pool s.sides.items
+          c.sent_at.new.sides.items s.servers.items (joined s.tx s.pacer) c.from.result c.in-Ask.request
+          c.in-Some.entry (λ d. false) (drop 1 (joined s.tx s.pacer).items) c.self.invariant.0
+          (front-taken (joined s.tx s.pacer).items c.in-Some.entry front) own c.args.now c.sent_at.ensures),
+      c.pop_in.ensures.paces,
+    )
 
 pub reply_sent_at-requires-clause-stands : goal.reply_sent_at-requires-clause-stands
 reply_sent_at-requires-clause-stands c =
@@ -40,12 +41,13 @@ invariant_of-self-in-Reply c =
     let s = c.self.inside in
     let front = sym c.pop_in.ensures.front ∙ c.in-Some.is in
     let own : c.in-Some.entry.owner ≡ Reply c.in-Reply.session c.in-Reply.request =
-    sym (ap (λ (e : EntryValue). e.owner) c.entry.view_is) ∙ c.in-Reply.is in
-    (rw c.pop_in.ensures.rest (reply-kept s.pool c.reply_sent_at.new.pool s.sides.items s.servers.items
-    c.reply_sent_at.new.servers.items (joined s.tx s.pacer) c.in-Reply.session c.in-Reply.request c.in-Some.entry
-    (λ d. false) (drop 1 (joined s.tx s.pacer).items) c.self.invariant.0
-    (front-taken (joined s.tx s.pacer).items c.in-Some.entry front) own c.reply_sent_at.ensures),
-    c.pop_in.ensures.paces)
+    sym (ap (λ (e : EntryValue). e.owner) c.entry.view_is) ∙ c.in-Reply.is in (
+      rw c.pop_in.ensures.rest (reply-kept s.pool c.reply_sent_at.new.pool s.sides.items s.servers.items
+          c.reply_sent_at.new.servers.items (joined s.tx s.pacer) c.in-Reply.session c.in-Reply.request c.in-Some.entry
+          (λ d. false) (drop 1 (joined s.tx s.pacer).items) c.self.invariant.0
+          (front-taken (joined s.tx s.pacer).items c.in-Some.entry front) own c.reply_sent_at.ensures),
+      c.pop_in.ensures.paces,
+    )
 
 pub returns-in-Ask-clause-clients : goal.returns-in-Ask-clause-clients
 returns-in-Ask-clause-clients c =
