@@ -13,7 +13,7 @@ use std::{fs, io};
 const WHOLE: [&str; 4] = ["one_echo", "every_served_command", "late_copy", "refusals"];
 
 /// The cases with lines of a report.
-const LINES: [&str; 16] = [
+const LINES: [&str; 18] = [
     "repeated_packets",
     "older_reply_flushed",
     "empty_message",
@@ -30,6 +30,8 @@ const LINES: [&str; 16] = [
     "unserved_type",
     "repeated_job",
     "plain_service",
+    "resent_packet_waits",
+    "refused_rate",
 ];
 
 /// The cases with counts of lines: a number, how the lines begin, and what each has in it.
