@@ -74,7 +74,7 @@ impl Store {
 
     /// The server session at place `i` handles a Request or RFR as the node `me`, by the server
     /// table, and its facts are noted. Where a request begins, the queued replies to the older one
-    /// of its slot are flushed. The reply is put behind the queue. A parcel is to be given to a
+    /// of its slot are flushed. The reply is put behind what is ready. A parcel is to be given to a
     /// worker; `jobs_full` tells whether the node's jobs are full. Want of memory is a drop, after
     /// which the packet may come again.
     pub fn on_packet<V: Service, R: Recorder>(
@@ -125,8 +125,8 @@ impl Store {
     }
 
     /// A job of the server session at place `i` is finished, and its parcel has the answer, of at
-    /// most 1,048,576 bytes. The reply to the request's last packet is put behind the queue. None
-    /// comes exactly where the request doesn't wait for the answer any more.
+    /// most 1,048,576 bytes. The reply to the request's last packet is put behind what is ready.
+    /// None comes exactly where the request doesn't wait for the answer any more.
     pub fn on_finished(&mut self, i: usize, parcel: Parcel) -> Option<Entry>
         requires known { i < length self.old.servers }
         requires session { IfSome (slice_get self.old.servers i)
