@@ -1,2 +1,10 @@
+pub mod Crews
+pub mod Dispatching
+pub mod Hands
 pub mod Jobs
+pub mod Leaving
 pub mod Local
+pub mod Places
+pub mod Queues
+pub mod Spawning
+pub mod Starting

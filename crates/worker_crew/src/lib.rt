@@ -1,10 +1,22 @@
-//! Who works background jobs. So far that is one thread, which works a job when it is told to.
+//! Who works background jobs: one thread, which works a job when it is told to, or a crew of hands.
 #![tactic(auto)]
 
+mod crew;
+mod dispatcher;
+mod hand;
+mod leftover;
 mod local;
+mod manner;
+mod place_queue;
+mod spawner;
 #[cfg(test)]
 mod tests;
+mod tickets;
 mod workers;
 
+pub use crew::Crew;
+pub use hand::Hand;
+pub use leftover::Leftover;
 pub use local::LocalWorkers;
+pub use spawner::{Named, SerialSpawner, Spawner};
 pub use workers::{Finished, Workers};

@@ -118,7 +118,7 @@ fn take_first(queue: &mut VecDeque<Parcel>) -> Option<Parcel>
 }
 
 /// The job with its answer in its buffer.
-fn answer_job<D: Duty>(duty: &D, job: Parcel) -> Parcel
+pub(crate) fn answer_job<D: Duty>(duty: &D, job: Parcel) -> Parcel
     requires { HasRoom D.answer job }
     ensures answered { result ≡ answered D.answer job }
     ensures answer { IsAnswered D.answer result }

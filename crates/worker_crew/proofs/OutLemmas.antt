@@ -1,0 +1,182 @@
+-- Hands go out and come back.
+use Rattle.std.proofs.Common.{◌≡◌, ℕ, ◌+◌, ◌<◌, ◌≤◌, List, [], ◌∷◌, ◌++◌, min, sym, refl}
+use Rattle.std.proofs.Common.{ap, ◌∙◌, subst, arith, length-append, append_assoc}
+use Rattle.std.proofs.lemmas.List.{append-nil}
+use Rattle.atomic_table.specs.Seated.{TableId}
+use Rattle.rpc_outside.specs.Faults.{HasRisen, end_of_count}
+use Rattle.worker_board.specs.declared.view.View.{View}
+use Rattle.worker_board.specs.Counts.{only, times, removed}
+use Rattle.worker_board.specs.Moves.{taken_in}
+use Rattle.worker_board.specs.Seats.{with_hand}
+use Rattle.worker_board.proofs.CountsLemmas.{total-append, only-same, only-other, times-removed}
+use Rattle.worker_crew.specs.Hands.{HandName}
+use Rattle.worker_crew.specs.Crews.{AllOn, numbered, AreOut, HasRisenBy}
+use Rattle.worker_crew.specs.Dispatching.{Dispatching}
+use Rattle.worker_crew.specs.Starting.{SameJobs, HaveGoneOut, Shared}
+
+all-on : (z : TableId) (xs ys : List HandName) → AllOn z xs → AllOn z ys → AllOn z (xs ++ ys)
+all-on z [] ys a b = b
+all-on z (x ∷ xs) ys a b = (a.0, all-on z xs ys a.1 b)
+
+all-parts : (z : TableId) (xs ys : List HandName) → AllOn z (xs ++ ys) → AllOn z xs × AllOn z ys
+all-parts z [] ys a = (tt, a)
+all-parts z (x ∷ xs) ys a = let r = all-parts z xs ys a.1 in ((a.0, r.0), r.1)
+
+both-numbered : (n : ℕ) (xs ys : List HandName)
+    → numbered n (xs ++ ys) ≡ numbered n xs + numbered n ys
+both-numbered n xs ys = total-append (λ (x : HandName). only n x.number) xs ys
+
+one-out : {z : TableId} {out : List ℕ} {hands : List HandName} (n : ℕ) → AreOut z out hands
+    → AreOut z (n ∷ out) (hands ++ record { board = z; number = n } ∷ [])
+one-out {z} {out} {hands} n o = record {
+  ours = all-on z hands (record { board = z; number = n } ∷ []) o.ours (refl, tt);
+  counts = λ m. omega (arith, both-numbered m hands (record { board = z; number = n } ∷ []), o.counts m);
+}
+
+pub one-more-out : {count : ℕ} {hands hands' : List HandName} {old now new : Dispatching}
+    → HaveGoneOut count hands old now → new ≡ record now { view = with_hand count now.view }
+    → hands' ≡ hands ++ record { board = now.board; number = count } ∷ []
+    → HaveGoneOut (count + 1) hands' old new
+one-more-out {count} {hands} {hands'} {old} {now} {new} h e f =
+    subst (λ (x : Dispatching × List HandName). HaveGoneOut (count + 1) x.1 old x.0)
+    (λ i. (sym e i, sym f i)) (record {
+      jobs = record {
+        board = h.jobs.board;
+        places = h.jobs.places;
+        given = h.jobs.given;
+        busy = h.jobs.busy;
+        ledger = h.jobs.ledger;
+        lost = h.jobs.lost;
+      };
+      out = one-out count h.out;
+      many = omega (arith, length-append hands (record { board = now.board; number = count } ∷ []), h.many);
+      used = omega (arith, h.used);
+      free = λ n above. omega (arith, h.free n, only-other n count (λ same. absurd (omega arith)));
+    })
+
+-- the first of those that are left is out
+pub one-shared : {made out out' : List HandName} (kept : List HandName) (x : HandName)
+    (rest : List HandName) → Shared made out (kept ++ x ∷ rest) → out' ≡ out ++ x ∷ []
+    → Shared made out' (kept ++ rest)
+one-shared {made} {out} {out'} kept x rest s e =
+    subst (λ (o : List HandName). Shared made o (kept ++ rest)) (sym e) (record {
+      many = omega (
+        arith,
+        s.many,
+        length-append out (x ∷ []),
+        length-append kept (x ∷ rest),
+        length-append kept rest,
+      );
+      hands = λ z numbers o. moved z numbers (s.hands z numbers o);
+    })
+  where
+    moved : (z : TableId) (numbers : List ℕ) → AreOut z numbers (out ++ (kept ++ x ∷ rest))
+        → AreOut z numbers ((out ++ x ∷ []) ++ (kept ++ rest))
+    moved z numbers o =
+        let a = all-parts z out (kept ++ x ∷ rest) o.ours in
+        let b = all-parts z kept (x ∷ rest) a.1 in
+        record {
+          ours = all-on z (out ++ x ∷ []) (kept ++ rest)
+              (all-on z out (x ∷ []) a.0 (b.1.0, tt)) (all-on z kept rest b.0 b.1.1);
+          counts = λ n. omega (
+            arith,
+            o.counts n,
+            both-numbered n out (kept ++ x ∷ rest),
+            both-numbered n kept (x ∷ rest),
+            both-numbered n (out ++ x ∷ []) (kept ++ rest),
+            both-numbered n out (x ∷ []),
+            both-numbered n kept rest,
+          );
+        }
+
+-- the first of those that are left is kept
+pub one-kept : {made out kept' : List HandName} (kept : List HandName) (x : HandName)
+    (rest : List HandName) → Shared made out (kept ++ x ∷ rest) → kept' ≡ kept ++ x ∷ []
+    → Shared made out (kept' ++ rest)
+one-kept {made} {out} {kept'} kept x rest s e =
+    subst (λ (l : List HandName). Shared made out l)
+    (sym (append_assoc kept (x ∷ []) rest) ∙ ap (λ (l : List HandName). l ++ rest) (sym e)) s
+
+pub risen-once-more : {count old now new : ℕ} → HasRisenBy count old now → HasRisen now new
+    → HasRisenBy (count + 1) old new
+risen-once-more {count} {old} {now} {new} a b = record {
+  no_less = omega (arith, a.no_less, b.no_less);
+  rose = further count old now new end_of_count a.rose b.rose;
+}
+  where
+    further : (k a b c e : ℕ) → min (a + k) e ≤ b → min (b + 1) e ≤ c → min (a + (k + 1)) e ≤ c
+    further k a b c e h i = omega arith
+
+-- one hand fewer is out
+pub one-back : {z : TableId} {out : List ℕ} (front : List HandName) (x : HandName)
+    (back : List HandName) → AreOut z out (front ++ x ∷ back)
+    → AreOut z (removed x.number out) (front ++ back)
+one-back {z} {out} front x back o =
+    let sum : (n : ℕ) → numbered n front + numbered n back + only n x.number ≡ times n out =
+    λ n. omega (arith, both-numbered n front (x ∷ back), o.counts n) in
+    let there : 0 < times x.number out =
+    omega (arith, sum x.number, only-same x.number x.number refl) in
+    let a = all-parts z front (x ∷ back) o.ours in
+    record {
+      ours = all-on z front back a.0 a.1.1;
+      counts = λ n. omega (
+        arith,
+        sum n,
+        both-numbered n front back,
+        times-removed x.number n out there,
+      );
+    }
+
+pub is-ours : {z : TableId} {out : List ℕ} (front : List HandName) (x : HandName)
+    (back : List HandName) → AreOut z out (front ++ x ∷ back) → x.board ≡ z
+is-ours {z} front x back o = (all-parts z front (x ∷ back) o.ours).1.0
+
+pub none-out : {z : TableId} {out : List ℕ} → AreOut z out [] → out ≡ []
+none-out {z} {out} o = go out (λ n. sym (o.counts n))
+  where
+    go : (ns : List ℕ) → ((n : ℕ) → times n ns ≡ 0) → ns ≡ []
+    go [] h = refl
+    go (n ∷ ns) h = absurd (omega (arith, h n, only-same n n refl))
+
+-- the last of them is back
+pub last-back : {z z' : TableId} {out out' : List ℕ} {hands : List HandName}
+    (front : List HandName) (x : HandName) → AreOut z out hands → hands ≡ front ++ x ∷ []
+    → z' ≡ z → out' ≡ removed x.number out → AreOut z' out' front
+last-back {z} {z'} {out} {out'} {hands} front x o e same gone =
+    subst (λ (t : TableId × List ℕ × List HandName). AreOut t.0 t.1 t.2)
+    (λ i. (sym same i, sym gone i, append-nil front i))
+    (one-back front x [] (subst (λ (l : List HandName). AreOut z out l) e o))
+
+pub same-jobs-back : {old now new : Dispatching} (w : View) → SameJobs old now
+    → new ≡ record now { view = taken_in now.view w } → SameJobs old new
+same-jobs-back {old} {now} {new} w s e = subst (λ (x : Dispatching). SameJobs old x) (sym e)
+    (record {
+      board = s.board;
+      places = s.places;
+      given = s.given;
+      busy = s.busy;
+      ledger = s.ledger;
+      lost = s.lost;
+    })
+
+-- one of those that are out with a spawner is back, of whom others are kept
+module _ {z : TableId} {out : List ℕ} {hands later : List HandName} (kept : List HandName)
+    (x : HandName) (o : AreOut z out (hands ++ kept)) (front back : List HandName)
+    (was : hands ≡ front ++ x ∷ back) (is : later ≡ front ++ back) where
+  with-kept : AreOut z out (front ++ x ∷ (back ++ kept))
+  with-kept = subst (λ (l : List HandName). AreOut z out l)
+      (ap (λ (l : List HandName). l ++ kept) was ∙ append_assoc front (x ∷ back) kept) o
+
+  pub came-ours : x.board ≡ z
+  came-ours = is-ours front x (back ++ kept) with-kept
+
+  pub came-back : {z' : TableId} {out' : List ℕ} → z' ≡ z → out' ≡ removed x.number out
+      → AreOut z' out' (later ++ kept)
+  came-back {z'} {out'} same gone =
+      subst (λ (t : TableId × List ℕ × List HandName). AreOut t.0 t.1 t.2)
+      (λ i. (
+        sym same i,
+        sym gone i,
+        (sym (append_assoc front back kept) ∙ ap (λ (l : List HandName). l ++ kept) (sym is)) i,
+      ))
+      (one-back front x (back ++ kept) with-kept)

@@ -1,0 +1,71 @@
+-- A crew: its dispatcher, and its hands.
+use Rattle.std.specs.Prelude.{◌≡◌, ◌+◌, ◌≤◌, ℕ, Bool, true, false, List, [], ◌∷◌, ◌++◌, map, min}
+use Rattle.std.specs.Prelude.{Option, None}
+use Rattle.atomic_table.specs.Seated.{TableId}
+use Rattle.rpc_outside.specs.Faults.{end_of_count}
+use Rattle.worker_board.specs.declared.Parcel.{Parcel}
+use Rattle.worker_board.specs.Counts.{total, only, times}
+use Rattle.worker_crew.specs.Hands.{HandName, name_of}
+use Rattle.worker_crew.specs.Places.{TookNoneBack}
+use Rattle.worker_crew.specs.Dispatching.{Dispatching}
+use Rattle.worker_crew.specs.declared.hand.Hand.{Hand}
+use Rattle.worker_crew.specs.declared.manner.Manner.{Manner}
+use Rattle.worker_crew.specs.declared.manner.Manner.TheVariants.{Alone, ByHands}
+
+pub record CrewState : Type 0 where
+  pub dispatching : Dispatching
+  -- whether hands were started
+  pub by_hands : Bool
+  -- the hands that were handed back and stay with the crew
+  pub kept : List HandName
+
+module _ {D : Type 0} where
+  abbrev pub names : List (Hand D) → List HandName
+  names hands = map (λ (h : Hand D). name_of h) hands
+
+  abbrev pub has_hands : Manner D → Bool
+  has_hands (Alone duty) = false
+  has_hands (ByHands kept) = true
+
+  abbrev pub kept_by : Manner D → List HandName
+  kept_by (Alone duty) = []
+  kept_by (ByHands kept) = names kept.items
+
+-- the hands are all of this board
+abbrev pub AllOn : TableId → List HandName → Type 0
+AllOn board [] = Unit {0}
+AllOn board (x ∷ xs) = (x.board ≡ board) × AllOn board xs
+
+-- how many of the hands have the number
+abbrev pub numbered : ℕ → List HandName → ℕ
+numbered n hands = total (λ (x : HandName). only n x.number) hands
+
+-- these are the hands of a board that are out by its dispatcher's view, and no others
+pub record AreOut (board : TableId) (out : List ℕ) (hands : List HandName) : Type 0 where
+  pub ours : AllOn board hands
+  pub counts : (n : ℕ) → numbered n hands ≡ times n out
+
+-- these are the hands of a crew that were started
+abbrev pub AreStarted : CrewState → List HandName → Type 0
+AreStarted c hands = AreOut c.dispatching.board c.dispatching.view.out (hands ++ c.kept)
+
+-- what a crew keeps to: by itself it has no hand out; beside hands it takes no job back
+pub record KeepsTo (c : CrewState) : Type 0 where
+  pub alone : c.by_hands ≡ false → c.dispatching.view.out ≡ []
+  pub beside : c.by_hands ≡ true → TookNoneBack c.dispatching.view
+
+-- a count rose by so many, or stands at its end
+pub record HasRisenBy (count old new : ℕ) : Type 0 where
+  pub no_less : old ≤ new
+  pub rose : min (old + count) end_of_count ≤ new
+
+-- a crew doesn't tell which of its jobs wait, nor which are worked
+abbrev pub untold : CrewState → Option (List Parcel)
+untold c = None
+
+-- the same hands, of the same crew
+pub record SameHands (old new : CrewState) : Type 0 where
+  pub board : new.dispatching.board ≡ old.dispatching.board
+  pub out : new.dispatching.view.out ≡ old.dispatching.view.out
+  pub by_hands : new.by_hands ≡ old.by_hands
+  pub kept : new.kept ≡ old.kept

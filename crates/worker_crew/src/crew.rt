@@ -1,0 +1,46 @@
+//! A crew: workers on threads of their own, or on the caller's.
+
+mod starting;
+mod stopping;
+mod working;
+
+use crate::dispatcher::Dispatcher;
+use crate::manner::Manner;
+use crate::tickets::Tickets;
+use crate::workers::Finished;
+use rpc_outside::Duty;
+use std::collections::VecDeque;
+use std::marker::Model;
+use std::sync::Wait;
+
+/// Workers over a board whose jobs are worked by hands. Where no hand was started the crew works by
+/// itself. Its calls may wait for the lock of its queue, by the handle that it was given.
+#[derive(Drop)]
+pub struct Crew<D: Duty, R: Wait> {
+    rt: R,
+    dispatcher: Dispatcher<D>,
+    tickets: Tickets,
+    manner: Manner<D>,
+    // Room for the jobs that are left when the crew is stopped.
+    left: VecDeque<Finished>,
+}
+
+impl<D: Duty, R: Wait> Model for Crew<D, R> {
+    ghost use Rattle.std.specs.Prelude.{◌≡◌, ◌≤◌, []};
+    ghost use Rattle.std.specs.VecDeque.{deque_capacity};
+    ghost use Rattle.worker_crew.specs.Crews.{CrewState, KeepsTo, has_hands, kept_by};
+
+    ghost Value = { CrewState };
+
+    ghost view = { λ c. record {
+      dispatching = c.dispatcher;
+      by_hands = has_hands c.manner;
+      kept = kept_by c.manner;
+    } };
+
+    ghost invariant = { λ c. KeepsTo (record {
+      dispatching = c.dispatcher;
+      by_hands = has_hands c.manner;
+      kept = kept_by c.manner;
+    }) × (c.left.items ≡ []) × (c.dispatcher.places ≤ deque_capacity c.left) };
+}

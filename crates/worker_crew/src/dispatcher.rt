@@ -1,0 +1,47 @@
+//! A crew's side of its board.
+
+mod looking;
+mod making;
+mod moving;
+
+use rpc_outside::Duty;
+use std::alloc::Global;
+use std::marker::Model;
+use std::sync::Arc;
+use worker_board::{Board, DispatchSeat};
+
+/// The dispatcher of a board, and which places have a job: those that are busy, in the order of
+/// giving, and those that are free.
+#[derive(Drop)]
+pub struct Dispatcher<D: Duty> {
+    board: Arc<Board<D>, Global>,
+    seat: DispatchSeat,
+    free: Vec<u32>,
+    busy: Vec<u32>,
+    given: u64,
+}
+
+impl<D: Duty> Model for Dispatcher<D> {
+    ghost use Rattle.std.specs.Prelude.{vec_capacity};
+    ghost use Rattle.std.specs.Arc.{arc_value};
+    ghost use Rattle.worker_board.specs.Seats.{IsSeatOf, places_of, seat_board, view_of};
+    ghost use Rattle.worker_crew.specs.Dispatching.{Dispatching, IsSound};
+
+    ghost Value = { Dispatching };
+
+    ghost view = { λ d. record {
+      board = seat_board d.seat;
+      places = places_of (arc_value d.board);
+      given = d.given;
+      busy = d.busy.items;
+      view = view_of d.seat;
+    } };
+
+    ghost invariant = { λ d. IsSeatOf (arc_value d.board) d.seat × IsSound D.answer (record {
+      board = seat_board d.seat;
+      places = places_of (arc_value d.board);
+      given = d.given;
+      busy = d.busy.items;
+      view = view_of d.seat;
+    }) d.free.items (vec_capacity d.free) (vec_capacity d.busy) };
+}
