@@ -1,6 +1,6 @@
 -- The jobs of a crew that stops come back.
 use Rattle.std.proofs.Common.{◌≡◌, ◌≢◌, ℕ, zero, suc, ◌+◌, ◌<◌, ◌≤◌, true, false, List, [], ◌∷◌, ◌++◌}
-use Rattle.std.proofs.Common.{length, map, take, drop, get_or, set, sym, refl, ap, ap₂, ◌∙◌, subst, arith}
+use Rattle.std.proofs.Common.{length, take, drop, get_or, set, sym, refl, ap, ◌∙◌, subst, arith}
 use Rattle.std.proofs.Common.{IsPermutation, append_assoc, add-one, inl, inr}
 use mathlib.Core.List.{map-append}
 use mathlib.Core.Option.{some}
@@ -15,7 +15,7 @@ use Rattle.worker_board.specs.declared.view.Offer.{Offer}
 use Rattle.worker_board.specs.declared.view.End.{End}
 use Rattle.worker_board.specs.declared.view.End.TheVariants.{Open, Collected, TakenBack}
 use Rattle.worker_board.specs.declared.view.View.{View}
-use Rattle.worker_board.specs.Moves.{LostBefore, Has, ended_as, lost_at}
+use Rattle.worker_board.specs.Moves.{LostBefore, ended_as, lost_at}
 use Rattle.worker_board.specs.Tickets.{OfferNo, offer_no}
 use Rattle.worker_board.specs.Word.{IsOpen, IsNewest, ended, newest, offer_of, offers_at}
 use Rattle.worker_crew.specs.declared.workers.Finished.{Finished}

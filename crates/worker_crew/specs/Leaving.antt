@@ -1,5 +1,5 @@
 -- What is left of a crew that stopped.
-use Rattle.std.specs.Prelude.{◌≡◌, ◌⊎◌, ℕ, true, false, List, [], ◌∷◌, map}
+use Rattle.std.specs.Prelude.{◌≡◌, ◌⊎◌, ℕ, true, false, List, ◌∷◌, map}
 use Rattle.worker_board.specs.declared.view.End.TheVariants.{Collected, TakenBack}
 use Rattle.worker_board.specs.declared.view.Offer.{Offer}
 use Rattle.worker_board.specs.declared.view.View.{View}

@@ -2,6 +2,7 @@ pub mod Crews
 pub mod Dispatching
 pub mod Hands
 pub mod Jobs
+pub mod Launching
 pub mod Leaving
 pub mod Local
 pub mod Places

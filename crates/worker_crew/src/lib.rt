@@ -11,6 +11,7 @@ mod place_queue;
 mod spawner;
 #[cfg(test)]
 mod tests;
+mod thread_spawner;
 mod tickets;
 mod workers;
 
@@ -19,4 +20,5 @@ pub use hand::Hand;
 pub use leftover::Leftover;
 pub use local::LocalWorkers;
 pub use spawner::{Named, SerialSpawner, Spawner};
+pub use thread_spawner::{Child, Launcher, SameHand, ThreadSpawner, launch};
 pub use workers::{Finished, Workers};

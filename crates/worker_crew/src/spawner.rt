@@ -47,6 +47,13 @@ impl SerialSpawner {
     {
         SerialSpawner { refused: 0 }
     }
+
+    /// How many hands were handed back.
+    pub fn refused(&self) -> u64
+        ensures { result ≡ self.now.refused }
+    {
+        self.refused
+    }
 }
 
 impl<D: Duty> Spawner<Hand<D>> for SerialSpawner {

@@ -3,6 +3,9 @@ ghost use Rattle.std.specs.Prelude.{IfOk};
 ghost use Rattle.rpc_outside.specs.PlainAnswer.{background_answer};
 ghost use Rattle.worker_crew.specs.Jobs.{HasRoom};
 
+mod crew;
+mod gate;
+
 use crate::{Finished, LocalWorkers, Workers};
 use message_buffer::MsgBuf;
 use rpc_base::{RequestNo, SessionNo};

@@ -1,6 +1,5 @@
 use Rattle.std.proofs.Common.{rules, false, sym, ap, ◌∙◌, ◌++◌, ◌∷◌, [], ◌<◌, length, subst, List, IsPermutation, arith}
 use Rattle.std.proofs.lemmas.List.{length-append}
-use Rattle.worker_board.specs.declared.view.View.{View}
 use Rattle.worker_crew.specs.Dispatching.{Dispatching, jobs_in}
 use Rattle.worker_crew.specs.Jobs.{Job, job_of}
 use Rattle.worker_crew.specs.Leaving.{jobs_of}

@@ -1,0 +1,171 @@
+//! Two hands at once: one job waits in its handler until another was answered.
+ghost use Rattle.std.specs.Prelude.{◌≡◌, [], map, IfOk, length};
+ghost use Rattle.worker_crew.specs.Hands.{name_of};
+ghost use Rattle.worker_crew.specs.Jobs.{HasRoom};
+ghost use Rattle.worker_crew.specs.Spawning.{Started, CameBack};
+
+use super::crew::take_one;
+use crate::{Crew, Finished, Hand, Spawner, Workers};
+use message_buffer::MsgBuf;
+use rpc_base::{RequestNo, SessionNo};
+use rpc_outside::Duty;
+use std::alloc::Global;
+use std::sync::atomic::{AtomicBool, Ordering};
+use std::sync::{Arc, Wait};
+use std::test::Fail;
+use std::thread;
+use std::thread::Threads;
+use worker_board::Parcel;
+
+/// A handler looks so often for the other's end.
+const TURNS: u32 = 50_000_000;
+
+/// An echo. A request of type 1 waits until one of another type was answered.
+#[derive(Drop)]
+struct Gate {
+    is_open: AtomicBool,
+    was_late: AtomicBool,
+}
+
+impl Gate {
+    fn pass(&self) {
+        for _ in 0..TURNS {
+            if self.is_open.load(Ordering::SeqCst) {
+                return;
+            }
+            thread::yield_now();
+        }
+        self.was_late.store(true, Ordering::SeqCst);
+    }
+}
+
+impl Duty for Gate {
+    ghost answer = { λ _ ask. ask };
+
+    fn handle(&self, req_type: u8, ask: &[u8], out: &mut [u8])
+        requires room { length ask.now ≡ length out.old }
+        ensures answer { out.new ≡ ask.now }
+    {
+        if req_type == 1 {
+            self.pass();
+        }
+        out.copy_from_slice(ask);
+        self.is_open.store(true, Ordering::SeqCst);
+    }
+}
+
+/// An echo of one byte.
+fn echo_of(alloc: Global, req_type: u8) -> Result<Parcel, Fail>
+    ensures { IfOk result (HasRoom (λ _ ask. ask)) }
+{
+    let mut ask = MsgBuf::new(alloc, 1)?;
+    ask.set_len(1);
+    let mut out = MsgBuf::new(alloc, 1)?;
+    out.set_len(1);
+    Ok(Parcel {
+        session: SessionNo(0),
+        request: RequestNo::of(0, 0),
+        req_type,
+        ask,
+        out,
+    })
+}
+
+/// Keeps each hand as started, and runs it nowhere.
+#[derive(Drop)]
+struct Shelf {
+    hands: Vec<Hand<Gate>>,
+    refused: u64,
+}
+
+impl Spawner<Hand<Gate>> for Shelf {
+    ghost refused = { λ s. s.refused };
+
+    ghost hands_out = { λ s. map (λ (h : _). name_of h) s.hands.items };
+
+    fn start(&mut self, hand: Hand<Gate>) -> Result<(), Hand<Gate>>
+        ensures { Started name_of (name_of hand) self.old.refused self.new.refused
+            (map (λ (h : _). name_of h) self.old.hands.items)
+            (map (λ (h : _). name_of h) self.new.hands.items) result }
+    {
+        if self.hands.try_reserve(1).is_err() {
+            self.refused = self.refused.saturating_add(1);
+            return Err(hand);
+        }
+        self.hands.push_reserved(hand);
+        Ok(())
+    }
+
+    fn finish(&mut self) -> Option<Hand<Gate>>
+        ensures { CameBack name_of self.old.refused self.new.refused
+            (map (λ (h : _). name_of h) self.old.hands.items)
+            (map (λ (h : _). name_of h) self.new.hands.items) result }
+    {
+        let hand = self.hands.pop()?;
+        Some(hand)
+    }
+}
+
+/// Works one job; false where none came.
+fn work_one<D: Duty + Drop, R: Wait>(rt: &R, hand: Hand<D>) -> bool {
+    let mut hand = hand;
+    for _ in 0..TURNS {
+        if hand.step(rt) {
+            return true;
+        }
+        thread::yield_now();
+    }
+    false
+}
+
+/// Takes two jobs, each once it is done, and tells their types.
+fn take_two<D: Duty + Drop, R: Wait + Drop>(crew: Crew<D, R>) -> (Option<u8>, Option<u8>) {
+    let mut crew = crew;
+    let first = take_one(&mut crew).map(|finished| finished.parcel.req_type);
+    let second = take_one(&mut crew).map(|finished| finished.parcel.req_type);
+    (first, second)
+}
+
+/// Two hands work on threads of their own, while the crew's jobs are taken.
+fn work_two<D: Duty + Drop + Send + Sync + 'static, R: Threads + Wait + Sync + Drop>(
+    rt: &R,
+    one: Hand<D>,
+    two: Hand<D>,
+    crew: Crew<D, R>,
+) -> (Option<u8>, Option<u8>) {
+    let (_, (_, taken)) = thread::join(
+        rt,
+        || work_one(rt, one),
+        || thread::join(rt, || work_one(rt, two), || take_two(crew)),
+    );
+    taken
+}
+
+#[test]
+fn a_gate_opens(rt: HostRuntime) -> Result<(), Fail> {
+    let alloc = rt.alloc();
+    let mut shelf = Shelf {
+        hands: Vec::new(alloc),
+        refused: 0,
+    };
+    let gate = Arc::new(
+        alloc,
+        Gate {
+            is_open: AtomicBool::new(false),
+            was_late: AtomicBool::new(false),
+        },
+    )?;
+    let seen = Arc::try_clone(&gate)?;
+    let mut crew = Crew::start(rt, alloc, gate, 2, 2, &mut shelf)?;
+    assert!(rt; crew.give(echo_of(alloc, 1)?).is_ok());
+    assert!(rt; crew.give(echo_of(alloc, 2)?).is_ok());
+    let (one, two) = (
+        shelf.finish().ok_or("no hand")?,
+        shelf.finish().ok_or("one hand")?,
+    );
+    let (first, second) = work_two(&rt, one, two, crew);
+    assert_eq!(rt; first.max(second), Some(2));
+    assert_eq!(rt; first.min(second), Some(1));
+    assert!(rt; !seen.was_late.load(Ordering::SeqCst));
+    Ok(())
+}
