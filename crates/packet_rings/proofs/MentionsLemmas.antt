@@ -6,11 +6,13 @@ use Rattle.std.proofs.lemmas.Bool.{eq-eqb, ne_eqb}
 use Rattle.std.specs.List.{remove, slice_get}
 use Rattle.std.proofs.lemmas.Option.{slice_get_within, unwrap_or-slice_get}
 use Rattle.std.proofs.lemmas.List.Sums.{sum_by-append, sum_by-remove, sum_by-cons, count_by-le-length}
-use Rattle.std.specs.Prelude.{◌==◌, IfSome}
+use Rattle.std.specs.Prelude.{◌==◌, IfSome, count_by}
 use Rattle.rpc_base.specs.Taking.{TakenOut}
-use Rattle.rpc_base.proofs.LeastLemmas.{LeastOut}
+use Rattle.rpc_base.specs.Least.{least, without_least}
+use Rattle.rpc_base.proofs.LeastLemmas.{LeastOut, least-out, least-same}
 use Rattle.rpc_base.proofs.TakingLemmas.{taken-sum}
 use Rattle.packet_rings.specs.Values.{EntryValue}
+use Rattle.packet_rings.specs.Entries.{is_reply, listed_entry}
 use Rattle.packet_rings.specs.Mentions.{is_place, mentions}
 
 pub mentions-append : (p : ℕ) (xs ys : List EntryValue) → mentions p (xs ++ ys) ≡ mentions p xs + mentions p ys
@@ -46,6 +48,25 @@ pub mentions-out : (passes : EntryValue → Bool) (number : EntryValue → ℕ)
 mentions-out passes number old new None h = tt
 mentions-out passes number old new (Some e) h =
     λ p. mentions-taken p (λ x. passes x && number x == number e) e old new h.taken
+
+-- so are its replies
+replies-taken : (passes : EntryValue → Bool) (e : EntryValue) (old new : List EntryValue)
+    → TakenOut passes e old new
+    → count_by is_reply old ≡ count_by is_reply (e ∷ []) + count_by is_reply new
+replies-taken passes e old new t =
+    omega (arith, taken-sum passes (λ x. cond (is_reply x) 1 0) e old new t)
+
+pub replies-out : (passes : EntryValue → Bool) (number : EntryValue → ℕ) (old : List EntryValue)
+    (r : Option EntryValue) → r ≡ least passes number old
+    → count_by is_reply old
+    ≡ count_by is_reply (listed_entry r) + count_by is_reply (without_least passes number old)
+replies-out passes number old None h =
+    let same : without_least passes number old ≡ old = least-same passes number old None h in
+    rw same (omega arith)
+replies-out passes number old (Some e) h =
+    let out = least-out passes number old (Some e) h in
+    replies-taken (λ x. passes x && number x == number e) e old (without_least passes number old)
+    out.taken
 
 -- the entry in front is taken out
 pub mentions-front : (p : ℕ) (xs : List EntryValue) (e : EntryValue) → slice_get xs 0 ≡ Some e

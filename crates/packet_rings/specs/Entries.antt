@@ -1,5 +1,5 @@
 -- Which entries are an owner's, and which of them has a number.
-use Rattle.std.specs.Prelude.{ℕ, Bool, true, false, not, ◌&&◌, ◌==◌, ◌≤◌, IsTrue, List, Option}
+use Rattle.std.specs.Prelude.{ℕ, Bool, true, false, not, ◌&&◌, ◌==◌, ◌≤◌, IsTrue, List, [], ◌∷◌, Option}
 use Rattle.std.specs.Prelude.{Some, None}
 use Rattle.std.specs.List.{AllByRecursion}
 use Rattle.rpc_base.specs.declared.owner.Owner.{Owner}
@@ -38,3 +38,8 @@ NoneLower owner n entries = AllByRecursion (λ e. IsTrue (is_of owner e) → n �
 abbrev pub option_is : {A : Type 0} → (A → Bool) → Option A → Bool
 option_is passes None = false
 option_is passes (Some e) = passes e
+
+-- the value, where there is one
+abbrev pub listed_entry : Option EntryValue → List EntryValue
+listed_entry None = []
+listed_entry (Some e) = e ∷ []

@@ -4,8 +4,8 @@ ghost use Rattle.std.specs.Prelude.{count_by, slice_get, option_copied, IfOk, If
 ghost use Rattle.std.specs.Prelude.{IsNone, IsTrue};
 ghost use Rattle.std.specs.List.{list_any, filter, Contains};
 ghost use Rattle.rpc_base.specs.Least.{least_number, least, without_least};
-ghost use Rattle.packet_rings.specs.Entries.{is_of, is_not_of, is_entry, is_reply};
-ghost use Rattle.packet_rings.specs.Entries.{is_reply_owner, number_of, NoneLower};
+ghost use Rattle.packet_rings.specs.Entries.{is_of, is_not_of, is_entry, is_reply, listed_entry};
+ghost use Rattle.packet_rings.specs.Entries.{number_of, NoneLower};
 ghost use Rattle.packet_rings.specs.Mentions.{mentions};
 ghost use Rattle.rpc_base.specs.Taking.{TakenOut};
 ghost use Rattle.packet_rings.specs.Rings.{ring};
@@ -22,10 +22,13 @@ use std::marker::Model;
 #[derive(Drop)]
 pub struct TxRing {
     entries: HeapCircularBuffer<Entry>,
+    /// How many of them are replies.
+    replies: u32,
 }
 
 impl Model for TxRing {
-    ghost use Rattle.std.specs.Prelude.{◌^◌, ◌<◌, ◌≤◌, length};
+    ghost use Rattle.std.specs.Prelude.{◌≡◌, ◌^◌, ◌<◌, ◌≤◌, count_by, length};
+    ghost use Rattle.packet_rings.specs.Entries.{is_reply};
     ghost use Rattle.packet_rings.specs.Values.{EntryValue};
     ghost use Rattle.packet_rings.specs.Rings.{Ring, ring};
 
@@ -34,15 +37,27 @@ impl Model for TxRing {
     ghost view = { λ r. ring r.entries.items r.entries.capacity };
 
     ghost invariant = { λ r. (length r.entries.items ≤ r.entries.capacity)
-        × (r.entries.capacity < 2 ^ 32) };
+        × (r.entries.capacity < 2 ^ 32)
+        × (r.replies ≡ count_by is_reply r.entries.items) };
 }
 
-fn is_reply(owner: Owner) -> bool
-    ensures { result ≡ is_reply_owner owner }
+// How many replies an entry is.
+fn count_of(entry: &Entry) -> u32
+    ensures { result ≡ count_by is_reply (entry.now ∷ []) }
 {
-    match owner {
-        Owner::Reply { .. } => true,
-        _ => false,
+    match entry.owner {
+        Owner::Reply { .. } => 1,
+        Owner::Ask { .. } | Owner::Control => 0,
+    }
+}
+
+// How many replies stand in that place.
+fn count_in(entry: &Option<Entry>) -> u32
+    ensures { result ≡ count_by is_reply (listed_entry entry.now) }
+{
+    match entry {
+        Some(entry) => count_of(entry),
+        None => 0,
     }
 }
 
@@ -53,7 +68,10 @@ impl TxRing {
         ensures { IfOk result (λ r. r ≡ ring [] size) }
     {
         let entries = HeapCircularBuffer::with_capacity(alloc, size as usize)?;
-        Ok(TxRing { entries })
+        Ok(TxRing {
+            entries,
+            replies: 0,
+        })
     }
 
     /// How many entries wait.
@@ -83,12 +101,7 @@ impl TxRing {
     pub fn replies(&self) -> u32
         ensures { result ≡ count_by is_reply self.now.items }
     {
-        let count = self
-            .entries
-            .iter()
-            .filter(|entry| is_reply(entry.owner))
-            .count();
-        count as u32
+        self.replies
     }
 
     /// Puts an entry at the back of a ring that isn't full.
@@ -96,6 +109,7 @@ impl TxRing {
         requires room { length self.old.items < self.old.size }
         ensures { self.new ≡ ring (self.old.items ++ entry ∷ []) self.old.size }
     {
+        self.replies += count_of(&entry);
         // There is room, so the ring gives up nothing.
         let _none = self.entries.push_back(entry);
     }
@@ -112,7 +126,9 @@ impl TxRing {
         ensures front { result ≡ slice_get self.old.items 0 }
         ensures rest { self.new ≡ ring (drop 1 self.old.items) self.old.size }
     {
-        self.entries.pop_front()
+        let entry = self.entries.pop_front();
+        self.replies -= count_in(&entry);
+        entry
     }
 
     /// The least number among that owner's entries. None exactly where it has no entry.
@@ -153,6 +169,8 @@ impl TxRing {
         ensures places { IfSome result (λ e. (p : ℕ) →
             mentions p self.old.items ≡ mentions p (e ∷ []) + mentions p self.new.items) }
     {
-        take_least(&mut self.entries, &owner)
+        let flushed = take_least(&mut self.entries, &owner);
+        self.replies -= count_in(&flushed);
+        flushed
     }
 }
