@@ -1,0 +1,13 @@
+-- Numbers that rise, and the next of them.
+use Rattle.std.specs.Prelude.{ℕ, ◌<◌, ◌≤◌, Option, Some, None, List, length, slice_index}
+use Rattle.std.specs.List.{Contains}
+
+-- each is above the ones before it
+abbrev pub Rises : List ℕ → Type 0
+Rises xs = (i j : ℕ) → i < j → j < length xs → slice_index xs i < slice_index xs j
+
+-- the least number of the list that isn't below a number, or there is none
+abbrev pub IsNext : (from : ℕ) → List ℕ → Option ℕ → Type 0
+IsNext from xs None = (n : ℕ) → Contains xs n → n < from
+IsNext from xs (Some m) =
+    Contains xs m × (from ≤ m) × ((n : ℕ) → Contains xs n → from ≤ n → m ≤ n)

@@ -1,0 +1,10 @@
+//! Which client sessions of an endpoint have calls, so that a poll visits no other. It knows
+//! nothing of sessions but their numbers.
+#![tactic(auto)]
+
+mod callers;
+
+pub use callers::CallingSessions;
+
+#[cfg(test)]
+mod tests;
