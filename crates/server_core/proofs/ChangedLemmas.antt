@@ -1,6 +1,6 @@
 -- Lists in which the element that a test finds is changed or taken out, and what is shown of them.
 use Rattle.std.proofs.Common.{◌≡◌, ◌≤◌, Bool, true, false, ◌||◌, cond, Some, None, List, [], ◌∷◌}
-use Rattle.std.proofs.Common.{◌++◌, refl, ap, ◌∙◌, arith}
+use Rattle.std.proofs.Common.{◌++◌, refl, ap, arith}
 use Rattle.std.specs.Prelude.{count_by, map}
 use Rattle.std.specs.List.{find, list_any}
 use Rattle.rpc_base.specs.Tables.{at_first, without_first}

@@ -1,20 +1,15 @@
 -- The places have as many references as entries name them, before and after a call of a session.
 use Rattle.server_core.specs.Session.{ask_of, answer_of}
-use Rattle.std.proofs.Common.{◌≡◌, ℕ, ◌+◌, Bool, Option, Some, None, List, [], ◌∷◌, ◌++◌, get_or}
-use Rattle.std.proofs.Common.{refl, sym, ap, ◌∙◌, append_assoc, inl, inr, arith}
+use Rattle.std.proofs.Common.{◌≡◌, ℕ, Bool, Option, Some, None, List, [], ◌∷◌, ◌++◌}
+use Rattle.std.proofs.Common.{refl, ap, ◌∙◌, append_assoc}
 use Rattle.std.specs.Prelude.{IfSome}
 use Rattle.std.specs.List.{AllByRecursion, find}
-use Rattle.std.proofs.lemmas.Bool.{cases_eq}
 use Rattle.buffer_pool.specs.Pool.{Pool, IsFull, refs_of}
-use Rattle.packet_rings.specs.Mentions.{mentions}
 use Rattle.packet_rings.specs.Values.{EntryValue}
-use Rattle.packet_rings.proofs.MentionsLemmas.{mentions-append, mentions-none, mentions-other}
-use Rattle.packet_rings.proofs.MentionsLemmas.{mentions-own, mentions-taken}
 use Rattle.rpc_base.specs.Taking.{TakenOut}
 use Rattle.server_core.specs.declared.slot.SlotRequest.{SlotRequest}
 use Rattle.server_core.specs.declared.slot.Stored.{Stored}
 use Rattle.server_core.specs.KeepsPool.{KeepsPool}
-use Rattle.server_core.specs.Replies.{IsHeld, MayHold, held_at, released_at}
 use Rattle.server_core.specs.Serving.{IsUnheld, all_given_up, given_up, without_answer, without_ask, without_buffers}
 use Rattle.server_core.proofs.GivenLemmas.{answer-full, answer-unheld, ask-full, front-beside, unheld-rest}
 use Rattle.server_core.proofs.PlaceLemmas.{IsBeside, gone-keeps, taken-out}

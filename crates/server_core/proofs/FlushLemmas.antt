@@ -3,15 +3,14 @@
 use Rattle.std.proofs.Common.{◌≡◌, ℕ, ◌+◌, ◌-◌, ◌%◌, ◌<◌, ◌≤◌, Bool, true, false, not, ◌&&◌, ◌||◌}
 use Rattle.std.proofs.Common.{cond, eqb, leb, Option, Some, None, List, [], ◌∷◌, ◌++◌, length}
 use Rattle.std.proofs.Common.{filter, refl, sym, subst, ap, ◌∙◌, arith, append_assoc, append-nil}
-use Rattle.std.specs.Prelude.{IfSome, IsSome, option_map, ◌==◌}
+use Rattle.std.specs.Prelude.{IfSome, option_map, ◌==◌}
 use Rattle.std.specs.List.{AllByRecursion, find, list_any}
-use Rattle.std.proofs.lemmas.Bool.{and_parts, eq-eqb, eqb-true, le-ltb, leb-false, ne_eqb}
+use Rattle.std.proofs.lemmas.Bool.{and_parts, eq-eqb, eqb-true, leb-false, ne_eqb}
 use Rattle.std.proofs.lemmas.List.Sums.{count_by-le-length, length-filter, sum_by-cons, sum_by-set}
 use Rattle.buffer_pool.specs.Pool.{Pool, IsFull, refs_of, released, spare_of, use_at}
 use Rattle.buffer_pool.specs.Uses.{is_empty, refs_in}
 use Rattle.buffer_pool.specs.declared.usage.Use.TheVariants.{Empty, Full}
 use Rattle.buffer_pool.proofs.PoolLemmas.{changed_other, changed_own, full_within}
-use Rattle.packet_header.specs.Parts.{packet_count}
 use Rattle.packet_rings.specs.Entries.{is_of, is_not_of, number_of}
 use Rattle.packet_rings.specs.Mentions.{is_place}
 use Rattle.packet_rings.specs.Rings.{Ring, ring}
@@ -30,7 +29,7 @@ use Rattle.server_core.specs.Flushing.{ring_after, without_replies}
 use Rattle.server_core.specs.declared.step.Step.{Step}
 use Rattle.rpc_laws.specs.declared.rows.ServerRow.{ServerRow}
 use Rattle.server_core.specs.KeepsPool.{IsKept, LeavesOthers, names}
-use Rattle.server_core.specs.Replies.{IsHeld, IsReplyIn, place_of, released_at}
+use Rattle.server_core.specs.Replies.{IsHeld, IsReplyIn, released_at}
 use Rattle.server_core.specs.Serving.{IsUnheld}
 use Rattle.server_core.specs.Session.{Session, answer_of, is_in_slot, newest, owner_of}
 use Rattle.server_core.specs.Shown.{shown}

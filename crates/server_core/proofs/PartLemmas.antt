@@ -1,9 +1,7 @@
 -- The bytes of a request, once one more of its parts is written.
-use Rattle.std.proofs.Common.{◌≡◌, ℕ, ◌+◌, ◌-◌, ◌*◌, ◌<◌, ◌≤◌, List, ◌++◌, length, take, drop, sym}
-use Rattle.std.proofs.Common.{ap, ◌∙◌, inl, inr, arith, append_assoc}
-use Rattle.std.specs.Prelude.{◌⊎◌}
-use Rattle.std.proofs.lemmas.Bool.{cases_lt}
-use Rattle.std.proofs.lemmas.List.{length-take, length-take-le, take-take, take_all, take_at, length-append}
+use Rattle.std.proofs.Common.{◌≡◌, ℕ, ◌+◌, ◌*◌, ◌<◌, ◌≤◌, List, ◌++◌, length, take, drop, sym}
+use Rattle.std.proofs.Common.{◌∙◌, arith}
+use Rattle.std.proofs.lemmas.List.{length-take-le, take-take, take_at}
 use Rattle.packet_header.specs.Parts.{packet_count, part_size}
 use Rattle.message_buffer.specs.Buffer.{Buffer, bytes_of, capacity_of, overwritten, written}
 use Rattle.message_buffer.proofs.MessageLemmas.{next-part, part-next}

@@ -1,14 +1,14 @@
 -- A request beside the others of its session: what becomes of its places.
 use Rattle.rpc_base.proofs.FirstLemmas.{all-left, all-push, found-holds}
 use Rattle.server_core.specs.Session.{ask_of, answer_of}
-use Rattle.std.proofs.Common.{◌≡◌, ◌≢◌, ℕ, ◌+◌, ◌<◌, ◌≤◌, Bool, true, false, cond, ltb, ltb-true}
-use Rattle.std.proofs.Common.{Option, Some, None, List, [], ◌∷◌, ◌++◌, length, take, drop, get_or}
+use Rattle.std.proofs.Common.{◌≡◌, ◌≢◌, ℕ, ◌+◌, ◌<◌, ◌≤◌, Bool, true, false, cond}
+use Rattle.std.proofs.Common.{Option, Some, None, List, [], ◌∷◌, ◌++◌, length, take, drop}
 use Rattle.std.proofs.Common.{refl, sym, ap, ◌∙◌, inl, inr, arith}
-use Rattle.std.specs.Prelude.{IfSome, map, position}
-use Rattle.std.specs.List.{AllByRecursion, find, position_or_len}
-use Rattle.std.proofs.lemmas.Bool.{cases_eq, cases_lt}
-use Rattle.std.proofs.lemmas.List.{get_or_past, length-append, length-take-le, length-drop}
-use Rattle.std.proofs.lemmas.List.Sums.{passes_at_first, sum_by-append, sum_by-set}
+use Rattle.std.specs.Prelude.{IfSome, map}
+use Rattle.std.specs.List.{AllByRecursion, find}
+use Rattle.std.proofs.lemmas.Bool.{cases_eq}
+use Rattle.std.proofs.lemmas.List.{length-append, length-take-le, length-drop}
+use Rattle.std.proofs.lemmas.List.Sums.{sum_by-append}
 use Rattle.message_buffer.specs.Buffer.{Buffer, overwritten, written}
 use Rattle.buffer_pool.specs.declared.usage.Use.TheVariants.{Empty, Full}
 use Rattle.buffer_pool.specs.Uses.{is_empty, is_full, refs_in}

@@ -1,8 +1,7 @@
 -- The server table reads the same of a slot's request as of what is shown of it.
-use Rattle.std.proofs.Common.{◌≡◌, ℕ, ◌%◌, Bool, false, Option, Some, None, length, refl, ap, ◌∙◌, arith}
+use Rattle.std.proofs.Common.{◌≡◌, ℕ, ◌%◌, Bool, false, Option, Some, None, length, refl, ap}
 use Rattle.std.specs.Prelude.{IfSome, option_map}
 use Rattle.std.proofs.lemmas.Bool.{eq-eqb}
-use Rattle.std.proofs.lemmas.List.{length-take-le}
 use Rattle.buffer_pool.specs.Pool.{Pool, buf_at}
 use Rattle.packet_header.specs.declared.packet.MessageHeader.{MessageHeader}
 use Rattle.rpc_laws.specs.Requests.{in_slot_of}

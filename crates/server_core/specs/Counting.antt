@@ -1,9 +1,7 @@
 -- The references to places of the pool, and the queued replies to requests, by the entries.
 use Rattle.std.specs.Prelude.{◌≡◌, ℕ, ◌%◌, List, count_by}
 use Rattle.std.specs.List.{AllByRecursion}
-use Rattle.buffer_pool.specs.Pool.{Pool, refs_of}
 use Rattle.packet_rings.specs.Entries.{is_of}
-use Rattle.packet_rings.specs.Mentions.{mentions}
 use Rattle.packet_rings.specs.Values.{EntryValue}
 use Rattle.rpc_base.specs.Tables.{at_first}
 use Rattle.server_core.specs.declared.slot.SlotRequest.{SlotRequest}

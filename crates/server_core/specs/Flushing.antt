@@ -1,10 +1,9 @@
 -- The replies to an older request, which are taken out of the transmit ring before a newer one
 -- begins.
 use Rattle.std.specs.Prelude.{◌≡◌, ℕ, ◌%◌, ◌&&◌, ◌==◌, Bool, true, false, List, [], ◌∷◌, map}
-use Rattle.std.specs.Prelude.{count_by, Option, Some, None, IfSome, IsSome, IsTrue, if◌then◌else◌}
+use Rattle.std.specs.Prelude.{count_by, Option, Some, None, IfSome, IsTrue, if◌then◌else◌}
 use Rattle.std.specs.List.{AllByRecursion, filter, list_any}
 use Rattle.buffer_pool.specs.Pool.{Pool, refs_of}
-use Rattle.packet_header.specs.Parts.{packet_count}
 use Rattle.packet_rings.specs.Entries.{is_of, is_not_of}
 use Rattle.packet_rings.specs.Mentions.{is_place}
 use Rattle.packet_rings.specs.Values.{EntryValue}

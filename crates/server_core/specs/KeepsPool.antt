@@ -2,8 +2,6 @@
 use Rattle.server_core.specs.Session.{ask_of, answer_of}
 use Rattle.std.specs.Prelude.{◌≡◌, ℕ, ◌+◌, ◌==◌, if◌then◌else◌, List, sum_by, Option}
 use Rattle.std.specs.Prelude.{Some, None, IfSome}
-use Rattle.std.specs.List.{AllByRecursion}
-use Rattle.message_buffer.specs.Buffer.{Buffer, capacity_of}
 use Rattle.buffer_pool.specs.Places.{KeepsAll, LeavesUnnamed}
 use Rattle.buffer_pool.specs.Pool.{Pool, IsFull, buf_at, refs_of, spare_of}
 use Rattle.server_core.specs.declared.slot.Stored.{Stored}

@@ -21,7 +21,7 @@ use Rattle.rpc_outside.specs.declared.service.Mode.{Mode}
 use Rattle.server_core.specs.declared.step.Step.{Step}
 use Rattle.server_core.specs.declared.step.Step.TheVariants.{Took, Again, Ran, Give, Dropped}
 use Rattle.server_core.specs.Flushing.{bare, flushes, queued_of}
-use Rattle.server_core.specs.Session.{Session, answer_of, newest}
+use Rattle.server_core.specs.Session.{Session, newest}
 use Rattle.server_core.specs.Steps.{IfRan, IsAnswer, Steps, asked_with, gone_on_as}
 
 -- the facts of a handler that ran after the packet. session is the session's number, ask all that

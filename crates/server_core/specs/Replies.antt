@@ -1,12 +1,11 @@
 -- The replies to the packets of a request: their entries, their headers and what is sent.
-use Rattle.std.specs.Prelude.{◌≡◌, ℕ, ◌+◌, ◌<◌, ◌==◌, ◌&&◌, nat_lt, Bool, false, not, List, Option}
+use Rattle.std.specs.Prelude.{◌≡◌, ℕ, ◌+◌, ◌<◌, ◌==◌, ◌&&◌, nat_lt, Bool, false, not, Option}
 use Rattle.std.specs.Prelude.{Some, None, option_and_then, option_map, IfSome, if◌then◌else◌}
 use Rattle.std.specs.List.{find}
 use Rattle.rpc_base.specs.declared.owner.Owner.{Owner}
 use Rattle.rpc_base.specs.declared.owner.Owner.TheVariants.{Ask, Reply, Control}
 use Rattle.rpc_base.specs.Owners.{same_owner}
 use Rattle.packet_header.specs.Parts.{packet_count}
-use Rattle.packet_header.specs.Header.{HasHead, InRange}
 use Rattle.packet_header.specs.declared.packet.Kind.TheVariants.{Cr, Response}
 use Rattle.packet_header.specs.declared.packet.MessageHeader.{MessageHeader}
 pub use Rattle.buffer_pool.specs.Places.{IsHeld, MayHold, held_at, released_at}

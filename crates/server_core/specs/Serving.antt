@@ -1,5 +1,5 @@
 -- What a packet that is taken makes of its request, of the session and of the pool.
-use Rattle.std.specs.Prelude.{◌≡◌, ℕ, ◌+◌, ◌-◌, ◌%◌, ◌≤◌, true, false, List, [], ◌∷◌, ◌++◌, length}
+use Rattle.std.specs.Prelude.{◌≡◌, ℕ, ◌+◌, ◌-◌, ◌%◌, ◌≤◌, List, [], ◌∷◌, ◌++◌, length}
 use Rattle.std.specs.Prelude.{take, Option, Some, None, IfSome}
 use Rattle.rpc_base.specs.Tables.{at_first, without_first}
 use Rattle.packet_header.specs.declared.packet.MessageHeader.{MessageHeader}

@@ -1,6 +1,6 @@
 -- The newest requests of one server session as its callers see them, and what always holds of them.
 use Rattle.std.specs.Prelude.{◌≡◌, ℕ, ◌+◌, ◌%◌, ◌<◌, ◌≤◌, ◌==◌, Bool, true, false, List, []}
-use Rattle.std.specs.Prelude.{count_by, Option, Some, None, IsSome, option_map}
+use Rattle.std.specs.Prelude.{count_by, Option, Some, None, option_map}
 use Rattle.std.specs.List.{AllByRecursion, find}
 use Rattle.rpc_base.specs.declared.owner.Owner.{Owner}
 use Rattle.rpc_base.specs.declared.owner.Owner.TheVariants.{Reply}

@@ -1,7 +1,6 @@
 -- A session as the definitions over histories have it: with the bytes that its places hold.
 use Rattle.std.specs.Prelude.{ℕ, ◌*◌, List, [], map, take, Option, Some, None, option_map}
 use Rattle.rpc_base.specs.declared.event.Event.TheVariants.{PairedServer}
-use Rattle.message_buffer.specs.Buffer.{Buffer, bytes_of}
 use Rattle.buffer_pool.specs.Pool.{Pool, buf_at}
 use Rattle.rpc_laws.specs.declared.tables.Served.{Served}
 use Rattle.rpc_laws.specs.declared.tables.Server.{Server}

@@ -1,4 +1,4 @@
-use Rattle.std.proofs.Common.{◌≡◌, ◌≢◌, Some, None, sym, ◌∙◌, rules}
+use Rattle.std.proofs.Common.{◌≡◌, ◌≢◌, Some, None, sym, ◌∙◌}
 use Rattle.server_core.specs.contracts.session.ServerSession.{the_view}
 use Rattle.server_core.specs.KeepsPool.{IsAsked, IsKept}
 use Rattle.server_core.specs.Session.{is_in_slot, newest}

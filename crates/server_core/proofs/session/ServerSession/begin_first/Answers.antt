@@ -1,6 +1,6 @@
 use Rattle.server_core.specs.Counting.{CountsQueued}
 use Rattle.server_core.proofs.QueuedLemmas.{first-counted}
-use Rattle.std.proofs.Common.{◌≡◌, ◌%◌, Some, None, refl, ap, ◌∙◌, arith}
+use Rattle.std.proofs.Common.{◌≡◌, ◌%◌, Some, refl, ap, ◌∙◌, arith}
 use Rattle.std.proofs.lemmas.Bool.{lt-ltb}
 use Rattle.server_core.specs.Serving.{begun, first_taken, with_slots}
 use Rattle.server_core.specs.Session.{newest}

@@ -17,7 +17,7 @@ use Rattle.server_core.specs.KeepsPool.{IsKept}
 use Rattle.server_core.specs.Replies.{released_at}
 use Rattle.server_core.specs.Session.{IsSession, is_in_slot, newest, owner_of}
 use Rattle.server_core.proofs.FlushLemmas.{filter-none, flush-held, flush-holds, flush-others}
-use Rattle.server_core.proofs.FlushLemmas.{flush-spare, flush-unheld, grew-none, grew-then}
+use Rattle.server_core.proofs.FlushLemmas.{flush-spare, flush-unheld, grew-then}
 use Rattle.server_core.proofs.FlushLemmas.{leaves-then, numbers-flushed, numbers-none}
 use Rattle.server_core.proofs.FlushLemmas.{shown-released}
 use Rattle.server_core.proofs.HoldBeginLemmas.{none-gone, older-gone, reply-is, sent-of}

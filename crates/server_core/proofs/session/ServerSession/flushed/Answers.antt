@@ -1,4 +1,4 @@
-use Rattle.std.proofs.Common.{◌-◌, ap, refl, ◌∙◌}
+use Rattle.std.proofs.Common.{◌-◌, ap, ◌∙◌}
 use Rattle.packet_rings.specs.contracts.entry.Entry.{the_view as entry_view}
 use Rattle.server_core.specs.contracts.session.ServerSession.{the_view}
 use Rattle.server_core.specs.Replies.{is_owner, released_at}

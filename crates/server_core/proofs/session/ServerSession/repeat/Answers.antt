@@ -2,9 +2,8 @@ use Rattle.std.proofs.Common.{◌≡◌, ◌+◌, ◌%◌, Some, refl, sym, ap, 
 use Rattle.rpc_base.specs.Tables.{at_first}
 use Rattle.server_core.specs.Counting.{CountsQueued, repeated}
 use Rattle.server_core.specs.KeepsPool.{IsKept, KeepsPool, KeepsSpare, LeavesOthers}
-use Rattle.server_core.specs.Flushing.{HoldsAll}
 use Rattle.server_core.specs.Replies.{IsReplyIn, entry_at, held_at, place_of}
-use Rattle.server_core.specs.Serving.{gone_on, one_queued, with_slots}
+use Rattle.server_core.specs.Serving.{gone_on, one_queued}
 use Rattle.server_core.specs.Session.{IsSession, is_in_slot, newest}
 use Rattle.server_core.specs.Shown.{shown}
 use Rattle.server_core.specs.Steps.{AreServed, IsReply}

@@ -1,4 +1,4 @@
-use Rattle.std.proofs.Common.{◌≡◌, ◌≢◌, ◌+◌, ◌%◌, ◌≤◌, true, Some, None, ◌∷◌, [], refl, sym, ap, ◌∙◌, arith, rules}
+use Rattle.std.proofs.Common.{◌≡◌, ◌≢◌, ◌+◌, ◌%◌, ◌≤◌, true, Some, None, ◌∷◌, [], refl, sym, ap, ◌∙◌, arith}
 use Rattle.rpc_laws.specs.Requests.{answered, given}
 use Rattle.rpc_laws.specs.ServerTable.{is_rfr}
 use Rattle.rpc_outside.specs.declared.service.Mode.TheVariants.{Unserved}

@@ -1,4 +1,4 @@
-use Rattle.server_core.specs.Session.{answer_of, ask_of}
+use Rattle.server_core.specs.Session.{ask_of}
 use Rattle.std.proofs.Common.{ap, refl}
 use Rattle.server_core.specs.KeepsPool.{IsAsked}
 use Rattle.server_core.proofs.TakeLemmas.{own-beside, part-bytes, part-fits, part-keeps, part-shows}
