@@ -1,11 +1,9 @@
 -- What is seen of the entry of least number of an owner, and of the ring without it.
-use Rattle.std.proofs.Common.{◌≡◌, ℕ, ◌<◌, ◌&&◌, Bool, true, false, cond, eqb, Option, Some, None}
-use Rattle.std.proofs.Common.{List, [], ◌∷◌, length, get_or, refl, sym, ap, ◌∙◌, arith}
-use Rattle.std.specs.Prelude.{IsTrue, map, option_map, slice_get, ◌==◌}
+use Rattle.std.proofs.Common.{◌≡◌, ℕ, ◌<◌, true, eqb, Some}
+use Rattle.std.proofs.Common.{List, length, get_or, sym, ap, ◌∙◌, arith}
+use Rattle.std.specs.Prelude.{IsTrue, map, option_map, slice_get}
 use Rattle.std.proofs.lemmas.List.{length-map}
-use Rattle.std.specs.List.{find}
-use Rattle.rpc_base.specs.Least.{bearer, least, least_number, without_bearer, without_least}
-use Rattle.rpc_base.specs.Tables.{without_first}
+use Rattle.rpc_base.specs.Least.{least}
 use Rattle.rpc_base.specs.declared.owner.Owner.{Owner}
 use Rattle.packet_rings.specs.Entries.{is_of, number_of}
 use Rattle.packet_rings.specs.Values.{EntryValue}

@@ -1,11 +1,10 @@
 -- A server session that handled a packet over the ring alone handled it over the ring with the paced
 -- packets of calls behind it.
-use Rattle.std.proofs.Common.{◌≡◌, ℕ, ◌+◌, Bool, true, false, not, ◌||◌, ◌&&◌, cond, Option, Some}
+use Rattle.std.proofs.Common.{◌≡◌, ℕ, Bool, true, false, not, ◌&&◌, cond, Option, Some}
 use Rattle.std.proofs.Common.{None, List, [], ◌∷◌, ◌++◌, refl, sym, ap, subst, ◌∙◌, arith}
 use Rattle.std.proofs.Common.{append_assoc}
 use Rattle.std.specs.Prelude.{IfSome, count_by, map, option_map}
-use Rattle.std.specs.List.{AllByRecursion, filter, find}
-use Rattle.std.proofs.lemmas.List.{append-nil}
+use Rattle.std.specs.List.{AllByRecursion, filter}
 use Rattle.std.proofs.lemmas.List.Elements.{filter-append}
 use Rattle.std.proofs.lemmas.List.Sums.{sum_by-append}
 use Rattle.rpc_base.specs.Owners.{same_owner}
@@ -24,12 +23,11 @@ use Rattle.packet_rings.specs.Mentions.{is_place}
 use Rattle.packet_rings.specs.Rings.{Ring, ring}
 use Rattle.packet_rings.specs.Values.{EntryValue}
 use Rattle.pacing_wheel.specs.declared.pacer.Paced.{Paced}
-use Rattle.pacing_wheel.specs.Wheel.{Wheel, entry_of}
+use Rattle.pacing_wheel.specs.Wheel.{entry_of}
 use Rattle.rpc_laws.specs.Queues.{numbers_of, put_queued}
 use Rattle.rpc_laws.specs.declared.rows.ServerRow.{ServerRow}
 use Rattle.rpc_laws.specs.declared.tables.Queued.{Queued}
 use Rattle.rpc_laws.specs.declared.tables.Served.{Served as ServedRequest}
-use Rattle.rpc_laws.specs.declared.tables.Server.{Server}
 use Rattle.rpc_outside.specs.Recording.{Grew}
 use Rattle.rpc_outside.specs.Served.{Served}
 use Rattle.rpc_outside.specs.declared.service.Mode.{Mode}
@@ -38,15 +36,15 @@ use Rattle.server_core.specs.declared.slot.Stored.{Stored}
 use Rattle.server_core.specs.declared.step.Step.{Step}
 use Rattle.server_core.specs.Counting.{CountsQueued}
 use Rattle.server_core.specs.Flushing.{HoldsAll, HoldsReplies, bare, flushed_facts, flushes, has_begun}
-use Rattle.server_core.specs.Flushing.{is_reply_of, named_by, queued_of as entries_seen, replies_of}
-use Rattle.server_core.specs.Flushing.{ring_after, without_replies}
+use Rattle.server_core.specs.Flushing.{is_reply_of, named_by, replies_of}
+use Rattle.server_core.specs.Flushing.{without_replies}
 use Rattle.server_core.specs.Noting.{step_facts}
 use Rattle.server_core.specs.Rows.{row_of}
 use Rattle.server_core.specs.Session.{Session as Serving, answer_of, newest, owner_of}
-use Rattle.server_core.specs.Steps.{IsReply, asked_with}
+use Rattle.server_core.specs.Steps.{asked_with}
 use Rattle.server_core.specs.Shown.{shown as shown_server, shown_request}
 use Rattle.session_store.specs.Effects.{ServerStep}
-use Rattle.session_store.specs.Joined.{joined, paced_of, put_ready, queue_of}
+use Rattle.session_store.specs.Joined.{paced_of, put_ready}
 use Rattle.session_store.specs.Queue.{is_owned}
 use Rattle.session_store.specs.Serving.{Handles, without_owned}
 use Rattle.session_store.specs.Sides.{ServerHolds, ServerQueued, queued_of}

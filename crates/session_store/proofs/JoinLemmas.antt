@@ -13,7 +13,7 @@ use Rattle.rpc_base.specs.Least.{least, least_number, without_bearer, without_le
 use Rattle.rpc_base.specs.Taking.{TakenOut}
 use Rattle.rpc_base.specs.declared.owner.Owner.{Owner}
 use Rattle.rpc_base.proofs.FirstLemmas.{all-left}
-use Rattle.packet_rings.specs.Entries.{is_entry, is_of, is_reply, number_of, option_is}
+use Rattle.packet_rings.specs.Entries.{is_entry, is_of, number_of, option_is}
 use Rattle.packet_rings.specs.Values.{EntryValue}
 use Rattle.pacing_wheel.specs.declared.pacer.Paced.{Paced}
 use Rattle.pacing_wheel.specs.Wheel.{Wheel, added, entry_of, is_due, is_entry_of, is_of as is_paced_of, wheel}

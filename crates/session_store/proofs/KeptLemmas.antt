@@ -61,7 +61,7 @@ servers-empty pool p (v ∷ vs) keeps empty = elim (cases_lt 0 (slot_names p v.s
 ]
 
 -- numbers that rise differ
-rises-later : (n : ℕ) (ns : List ℕ) (j m : ℕ) → AllByRecursion (λ x. n < x) ns
+pub rises-later : (n : ℕ) (ns : List ℕ) (j m : ℕ) → AllByRecursion (λ x. n < x) ns
     → slice_get ns j ≡ Some m → n < m
 rises-later n ns j m all e = all-at (λ x. n < x) ns j m all e
 

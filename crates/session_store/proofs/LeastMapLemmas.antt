@@ -1,14 +1,12 @@
 -- The element of least number of a list that was mapped, and of two lists in a row.
-use Rattle.std.proofs.Common.{◌≡◌, ℕ, ◌≤◌, ◌<◌, Bool, true, false, ◌&&◌, cond, eqb, leb, Option}
+use Rattle.std.proofs.Common.{◌≡◌, ℕ, ◌≤◌, ◌<◌, Bool, true, false, ◌&&◌, cond, leb, Option}
 use Rattle.std.proofs.Common.{Some, None, List, [], ◌∷◌, ◌++◌, refl, sym, ap, ◌∙◌, arith}
-use Rattle.std.proofs.Common.{append-nil}
 use Rattle.std.specs.Prelude.{◌==◌, is_some, map, option_map}
 use Rattle.std.specs.List.{find}
-use Rattle.std.proofs.lemmas.Bool.{and_parts, eqb-true, leb-true, leb-false}
+use Rattle.std.proofs.lemmas.Bool.{eqb-true, leb-true, leb-false}
 use Rattle.rpc_base.specs.Least.{bearer, least, least_number, smaller, without_bearer, without_least}
 use Rattle.rpc_base.specs.Tables.{without_first}
 use Rattle.rpc_base.proofs.LeastLemmas.{least-found, lesser}
-use Rattle.rpc_base.proofs.TakingLemmas.{find-passes}
 
 -- of a list that was mapped
 module _ {A B : Type 0} (f : A → B) (passes : B → Bool) (number : B → ℕ) where

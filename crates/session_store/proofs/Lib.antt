@@ -26,6 +26,7 @@ mod ReplyLemmas
 mod RollLemmas
 mod LoseLemmas
 mod FinishLemmas
+mod SearchLemmas
 pub mod ServeLemmas
 mod ReadLemmas
 mod NewestLemmas

@@ -1,6 +1,6 @@
 -- What always holds of a store doesn't depend on where in its queue an entry stands.
-use Rattle.std.proofs.Common.{◌≡◌, ℕ, ◌+◌, ◌≤◌, Bool, false, ◌&&◌, cond, Option, Some, None, List, []}
-use Rattle.std.proofs.Common.{◌∷◌, ◌++◌, length, refl, sym, ap, subst, ◌∙◌, arith}
+use Rattle.std.proofs.Common.{◌≡◌, ℕ, Bool, false, ◌&&◌, cond, Option, Some, None, List, []}
+use Rattle.std.proofs.Common.{◌∷◌, ◌++◌, length, sym, subst, ◌∙◌, arith}
 use Rattle.std.specs.Prelude.{IfSome, count_by}
 use Rattle.std.specs.List.{AllByRecursion}
 use Rattle.std.proofs.lemmas.List.{length-append}
@@ -14,12 +14,12 @@ use Rattle.packet_rings.specs.Mentions.{is_place}
 use Rattle.packet_rings.specs.Rings.{Ring, ring}
 use Rattle.packet_rings.specs.Values.{EntryValue}
 use Rattle.rpc_base.specs.declared.owner.Owner.TheVariants.{Ask}
-use Rattle.server_core.specs.Flushing.{HoldsReplies, is_reply_of, named_by}
+use Rattle.server_core.specs.Flushing.{HoldsReplies, named_by}
 use Rattle.server_core.specs.declared.slot.SlotRequest.{SlotRequest}
 use Rattle.server_core.specs.declared.slot.Stored.{Stored}
 use Rattle.server_core.specs.Session.{Session as Serving, answer_of, owner_of}
 use Rattle.session_store.specs.declared.side.Side.{Side}
-use Rattle.session_store.specs.Sides.{IsOf, Kept, ServerHolds, ServerQueued, SideQueued}
+use Rattle.session_store.specs.Sides.{IsOf, Kept, ServerHolds}
 
 module _ (e : EntryValue) (old new : List EntryValue)
     (out : TakenOut {A = EntryValue} (λ d. false) e new old) where

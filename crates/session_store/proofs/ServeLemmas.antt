@@ -5,7 +5,7 @@ use Rattle.std.proofs.Common.{length-append, refl, sym, ap, subst, ◌∙◌, ar
 use Rattle.std.specs.Prelude.{IfSome, count_by, map, option_map, slice_get, slice_set}
 use Rattle.std.specs.List.{AllByRecursion, filter, find}
 use Rattle.std.proofs.lemmas.Bool.{and_parts, eq-eqb, eqb-true}
-use Rattle.std.proofs.lemmas.List.{append-nil, map-append}
+use Rattle.std.proofs.lemmas.List.{append-nil}
 use Rattle.std.proofs.lemmas.List.Sums.{count_by-le-length}
 use Rattle.rpc_base.specs.Owners.{same_owner}
 use Rattle.rpc_base.specs.declared.fact.Fact.{Fact}

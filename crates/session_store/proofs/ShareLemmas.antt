@@ -3,11 +3,9 @@ use Rattle.std.proofs.Common.{◌≡◌, ℕ, ◌+◌, Bool, true, false, List, 
 use Rattle.std.specs.Prelude.{map, sum_by}
 use Rattle.std.proofs.lemmas.List.Sums.{sum_by-cons}
 use Rattle.buffer_pool.specs.Pool.{Pool}
-use Rattle.client_core.specs.Session.{Session}
 use Rattle.rpc_laws.specs.Groups.{live_credits}
 use Rattle.server_core.specs.Session.{Session as Serving}
 use Rattle.server_core.specs.Shown.{shown as shown_server}
-use Rattle.session_store.specs.Ends.{shown_end}
 use Rattle.packet_rings.specs.Rings.{Ring}
 use Rattle.packet_rings.specs.Values.{EntryValue}
 use Rattle.session_store.specs.Sides.{Shown, shown_of, shown_side, side_credits}

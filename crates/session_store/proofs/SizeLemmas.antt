@@ -1,6 +1,6 @@
 -- How long the packets of a session's calls are.
-use Rattle.std.proofs.Common.{◌≡◌, ℕ, ◌+◌, ◌-◌, ◌*◌, false, Option, Some, None, refl, sym, ap, ◌∙◌, length, arith}
-use Rattle.std.specs.Prelude.{min, option_map}
+use Rattle.std.proofs.Common.{◌≡◌, ℕ, ◌+◌, false, Option, Some, None, refl, sym, ap, ◌∙◌, length, arith}
+use Rattle.std.specs.Prelude.{option_map}
 use Rattle.std.specs.List.{find}
 use Rattle.rpc_base.proofs.FirstLemmas.{found-holds}
 use Rattle.buffer_pool.specs.Pool.{Pool, buf_at}
@@ -16,7 +16,6 @@ use Rattle.client_core.specs.Session.{Session, bytes_in}
 use Rattle.client_core.specs.Shown.{shown_active}
 use Rattle.client_core.proofs.OutcomeLemmas.{active-found}
 use Rattle.session_store.specs.declared.side.Side.{Side}
-use Rattle.session_store.specs.Ends.{shown_end}
 use Rattle.session_store.specs.Sides.{SideKept, shown_side}
 use Rattle.session_store.proofs.EndLemmas.{calls-end}
 

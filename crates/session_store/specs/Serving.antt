@@ -39,10 +39,6 @@ use Rattle.session_store.specs.Queue.{is_owned}
 use Rattle.session_store.specs.Joined.{put_ready}
 use Rattle.session_store.specs.Sides.{Shown}
 
-abbrev pub listed_entry : Option EntryValue → List EntryValue
-listed_entry None = []
-listed_entry (Some e) = e ∷ []
-
 -- one reply more to each request can be counted
 abbrev pub ServerCanHold : Pool → Serving → Type 0
 ServerCanHold pool v = AllByRecursion (CanHold pool) v.slots

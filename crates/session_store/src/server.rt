@@ -7,9 +7,10 @@ ghost use Rattle.message_buffer.specs.Buffer.{bytes_of};
 ghost use Rattle.packet_header.specs.Header.{AreBytes};
 ghost use Rattle.packet_header.specs.Parts.{IsMessage};
 ghost use Rattle.session_store.specs.Effects.{ServerFinishes, ServerGone, ServerSpells, ServerStep};
-ghost use Rattle.session_store.specs.Serving.{Handles, ServerCanHold, ServerServed, listed_entry};
+ghost use Rattle.packet_rings.specs.Entries.{listed_entry, option_is};
+ghost use Rattle.session_store.specs.Serving.{Handles, ServerCanHold, ServerServed};
 ghost use Rattle.session_store.specs.Sides.{HasReply, ServerHolds, ServerKept, ServerQueued};
-ghost use Rattle.session_store.specs.Sides.{has_number};
+ghost use Rattle.session_store.specs.Sides.{Rises, has_number, numbers_in};
 ghost use Rattle.server_core.specs.Flushing.{replies_of};
 ghost use Rattle.server_core.specs.Steps.{IsAsking, UnlessRan};
 
@@ -22,13 +23,31 @@ use server_core::{ServerSession, Step};
 use std::alloc::Global;
 use worker_board::Parcel;
 
-/// Where the server session with this number stands.
+/// Where the server session with this number stands. Numbers rise, and as long as no session is
+/// over each stands at the place of its number.
 pub fn place_of(servers: &Vec<ServerSession>, session: SessionNo) -> Option<usize>
+    requires rises { Rises (numbers_in servers.now.items) }
     ensures { result ≡ position (has_number session) servers.now.items }
 {
-    servers
-        .iter()
-        .position(|server| server.session().0 == session.0)
+    let own = usize::from(session.0);
+    if is_at(servers, own, session) {
+        return Some(own);
+    }
+    let place = servers.partition_point(|server| server.session().0 < session.0);
+    if is_at(servers, place, session) {
+        return Some(place);
+    }
+    None
+}
+
+// Whether the server session at a place has this number.
+fn is_at(servers: &Vec<ServerSession>, place: usize, session: SessionNo) -> bool
+    ensures { result ≡ option_is (has_number session) (slice_get servers.now.items place) }
+{
+    if place >= servers.len() {
+        return false;
+    }
+    servers[place].session().0 == session.0
 }
 
 /// Writes the header of a reply, and lends its body.
@@ -39,6 +58,7 @@ pub fn reply_at<'a>(
     entry: &Entry,
     head: &mut [u8; HEAD_BYTES],
 ) -> &'a [u8]
+    requires rises { Rises (numbers_in servers.now.items) }
     requires keeps { AllByRecursion (ServerKept pool.now) servers.now.items }
     requires stands { HasReply session entry.now servers.now.items }
     ensures spells { ServerSpells session pool.now entry.now head.new result.now
@@ -58,6 +78,7 @@ pub fn reply_sent_at(
     pool: &mut BufferPool,
     entry: &Entry,
 )
+    requires rises { Rises (numbers_in servers.old.items) }
     requires keeps { AllByRecursion (ServerKept pool.old) servers.old.items }
     requires stands { HasReply session entry.now servers.old.items }
     requires held { IsHeld pool.old entry.now.place }
@@ -76,6 +97,7 @@ pub fn reply_flushed_at(
     pool: &mut BufferPool,
     entry: &Entry,
 )
+    requires rises { Rises (numbers_in servers.old.items) }
     requires keeps { AllByRecursion (ServerKept pool.old) servers.old.items }
     requires stands { HasReply session entry.now servers.old.items }
     requires held { IsHeld pool.old entry.now.place }

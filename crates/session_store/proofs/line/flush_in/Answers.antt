@@ -1,5 +1,4 @@
 use Rattle.std.proofs.Common.{sym, ap, ◌∙◌}
-use Rattle.packet_rings.specs.Entries.{is_of, number_of}
 use Rattle.packet_rings.specs.Rings.{ring}
 use Rattle.session_store.specs.Joined.{joined}
 use Rattle.session_store.proofs.JoinLemmas.{leaves-paced, leaves-ready, left-calls, nearest-of}

@@ -1,10 +1,10 @@
 use Rattle.std.proofs.Common.{subst, sym, ap, ◌∙◌}
 use Rattle.packet_rings.specs.Rings.{ring}
 use Rattle.session_store.specs.Sides.{Kept}
-use Rattle.std.specs.Prelude.{map, option_map}
+use Rattle.std.specs.Prelude.{option_map}
 use Rattle.rpc_base.specs.Least.{least, without_least}
 use Rattle.rpc_base.specs.declared.owner.Owner.TheVariants.{Ask}
-use Rattle.packet_rings.specs.Entries.{is_entry, is_of, number_of}
+use Rattle.packet_rings.specs.Entries.{is_entry}
 use Rattle.session_store.specs.Queue.{is_owned, queued_number}
 use Rattle.session_store.specs.Sides.{queued_of}
 use Rattle.session_store.specs.Joined.{joined, undue}

@@ -1,13 +1,11 @@
 use Rattle.std.proofs.Common.{subst, sym, ap, ◌∙◌}
 use Rattle.packet_rings.specs.Rings.{ring}
 use Rattle.session_store.specs.Sides.{Kept}
-use Rattle.std.specs.Prelude.{map, option_map}
-use Rattle.rpc_base.specs.Least.{without_least}
+use Rattle.std.specs.Prelude.{option_map}
 use Rattle.rpc_base.specs.declared.owner.Owner.TheVariants.{Reply}
-use Rattle.packet_rings.specs.Entries.{is_entry, is_of, number_of}
+use Rattle.packet_rings.specs.Entries.{is_entry}
 use Rattle.session_store.specs.Sides.{queued_of}
 use Rattle.session_store.specs.Joined.{joined}
-use Rattle.session_store.specs.Joined.{queue_of, without_due}
 use Rattle.session_store.proofs.FlushLemmas.{taken-seen, least-reply}
 use Rattle.session_store.proofs.ReplyGoneLemmas.{reply-clients, reply-held, reply-kept}
 use Rattle.session_store.proofs.ReplyGoneLemmas.{reply-places, reply-servers, reply-there}

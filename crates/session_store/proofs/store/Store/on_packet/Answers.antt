@@ -4,13 +4,13 @@ use Rattle.rpc_base.specs.declared.owner.Owner.TheVariants.{Reply}
 use Rattle.rpc_base.proofs.FirstLemmas.{all-each}
 use Rattle.packet_rings.specs.Rings.{Ring, ring}
 use Rattle.packet_rings.specs.Values.{EntryValue}
+use Rattle.packet_rings.specs.Entries.{listed_entry}
 use Rattle.pacing_wheel.specs.Wheel.{entry_of}
 use Rattle.rpc_laws.specs.Queues.{numbers_of}
 use Rattle.server_core.specs.Flushing.{has_begun, replies_of}
 use Rattle.server_core.specs.Rows.{row_of}
 use Rattle.server_core.specs.Session.{newest}
 use Rattle.session_store.specs.Joined.{joined, queue_of, undue}
-use Rattle.session_store.specs.Serving.{listed_entry}
 use Rattle.session_store.specs.Sides.{Kept}
 use Rattle.session_store.proofs.HandledLemmas.{beside-step, holds-ready, paced-calls, paced-numbers}
 use Rattle.session_store.proofs.HandledLemmas.{queue-none, queue-one, queued-ready}

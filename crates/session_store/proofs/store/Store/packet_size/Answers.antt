@@ -1,4 +1,4 @@
-use Rattle.std.proofs.Common.{◌≡◌, ap, ◌∙◌, arith}
+use Rattle.std.proofs.Common.{◌≡◌, ap, ◌∙◌}
 use Rattle.rpc_laws.specs.Pacing.{packet_size}
 use Rattle.std.proofs.Common.{Some, ◌+◌}
 use Rattle.packet_header.specs.Parts.{part_size}

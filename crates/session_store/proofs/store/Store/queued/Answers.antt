@@ -1,4 +1,4 @@
-use Rattle.std.proofs.Common.{sym, ap, ◌∙◌, length, arith}
+use Rattle.std.proofs.Common.{arith}
 use Rattle.session_store.proofs.UndueLemmas.{joined-length, queue-length}
 use Rattle.session_store.proofs.store.Store.queued.Goals as goal
 

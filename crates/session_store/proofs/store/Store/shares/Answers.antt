@@ -1,4 +1,4 @@
-use Rattle.std.proofs.Common.{arith, sym, ap, ◌∙◌, sum_by}
+use Rattle.std.proofs.Common.{arith, ap, ◌∙◌, sum_by}
 use Rattle.session_store.specs.Sides.{side_credits}
 use Rattle.session_store.specs.Joined.{joined, undue}
 use Rattle.session_store.proofs.UndueLemmas.{flat}
