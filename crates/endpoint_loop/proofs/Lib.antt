@@ -1,6 +1,7 @@
 mod AskLemmas
 mod AskedLemmas
 mod BreakLemmas
+mod CallerLemmas
 mod CrewLemmas
 mod FinishLemmas
 mod FitsLemmas
@@ -23,6 +24,7 @@ mod PostLemmas
 mod QueueLemmas
 mod PaceLemmas
 mod RateLemmas
+mod ReadingLemmas
 mod RollLemmas
 mod SentLemmas
 mod ServeLemmas

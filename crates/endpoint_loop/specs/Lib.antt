@@ -1,5 +1,6 @@
 pub mod Applying
 pub mod Asking
+pub mod Calling
 pub mod Finishing
 pub mod Fits
 pub mod Handling
@@ -9,6 +10,7 @@ pub mod Measures
 pub mod Noting
 pub mod Polling
 pub mod Rating
+pub mod Reading
 pub mod Running
 pub mod Seen
 pub mod Serving

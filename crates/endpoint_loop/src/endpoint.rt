@@ -1,10 +1,10 @@
 //! The endpoint: a node with a service and workers.
-ghost use Rattle.std.specs.Prelude.{◌≡◌, ◌≤◌, [], length, IfOk, IfErr};
+ghost use Rattle.std.specs.Prelude.{◌≡◌, [], length, IfOk, IfErr};
 ghost use Rattle.std.specs.Borrow.{sem};
 ghost use Rattle.std.specs.List.{find};
 ghost use Rattle.node_laws.specs.Kept.{Kept};
 ghost use Rattle.rpc_base.specs.Limits.{Fits as InRange};
-ghost use Rattle.rpc_laws.specs.Groups.{shares, state_of};
+ghost use Rattle.rpc_laws.specs.Groups.{state_of};
 ghost use Rattle.rpc_laws.specs.NodeLists.{new_node};
 ghost use Rattle.rpc_laws.specs.Sessions.{is_client};
 ghost use Rattle.endpoint_loop.specs.Handling.{WorksFor};
@@ -86,13 +86,6 @@ impl<V: Service, W: Workers> Endpoint<V, W> {
         self.node.me
     }
 
-    /// The length of its receive ring, in packets.
-    pub fn ring(&self) -> u32
-        ensures { result ≡ self.now.timed.lists.room }
-    {
-        self.node.rx.size()
-    }
-
     /// How many numbers of client sessions were used: the number of the next one.
     pub fn next_client(&self) -> u32
         ensures { result ≡ length self.now.timed.lists.clients }
@@ -105,14 +98,6 @@ impl<V: Service, W: Workers> Endpoint<V, W> {
         ensures { result ≡ self.now.timed.lists.server_numbers }
     {
         self.node.server_numbers
-    }
-
-    /// The credits of its live sessions, which never exceed the length of its receive ring.
-    pub fn shares(&self) -> u32
-        ensures shares { result ≡ shares self.now.timed.lists }
-        ensures within { result ≤ self.now.timed.lists.room }
-    {
-        self.node.shares()
     }
 
     /// What always holds of its lists.

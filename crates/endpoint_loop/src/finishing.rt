@@ -87,8 +87,8 @@ fn post_answer(store: &mut Store, parcel: Parcel) -> Option<Entry>
 
 impl Node {
     /// A job of the node is finished, and its parcel has the answer, of at most 1,048,576 bytes.
-    /// That its handler ran is noted, and its reply goes behind the queue where its request waits
-    /// for it. A parcel whose job isn't out is dropped, which is told by false.
+    /// That its handler ran is noted, and its reply goes behind what is ready where its request
+    /// waits for it. A parcel whose job isn't out is dropped, which is told by false.
     pub fn finish<R: Recorder>(&mut self, parcel: Parcel, rec: &mut R) -> bool
         requires room { replies self.old.lists.queued < self.old.lists.room }
         requires answer { IsMessage parcel.out.len }
@@ -176,7 +176,7 @@ impl Node {
         ensures less { result ≡ true → replies self.now.lists.queued < self.now.lists.room }
         ensures full { result ≡ false → self.now.lists.room ≤ replies self.now.lists.queued }
     {
-        self.store.queued() < self.rx.size() || self.store.replies() < self.rx.size()
+        self.store.replies() < self.rx.size()
     }
 
     /// Step 1 of a poll: takes the jobs that the workers finished, while fewer replies are queued

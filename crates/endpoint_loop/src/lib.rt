@@ -5,6 +5,7 @@
 
 mod applying;
 mod asking;
+mod calling;
 mod closing;
 mod continuation;
 mod delivering;
@@ -17,6 +18,7 @@ mod pairing;
 mod polling;
 mod posting;
 mod rating;
+mod reading;
 mod rolling;
 mod sending;
 mod serving;

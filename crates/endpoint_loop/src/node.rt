@@ -4,6 +4,7 @@ ghost use Rattle.rpc_base.specs.Limits.{Fits as InRange};
 ghost use Rattle.rpc_laws.specs.Groups.{shares};
 ghost use Rattle.rpc_laws.specs.NodeLists.{new_node};
 
+use calling_sessions::CallingSessions;
 use packet_rings::RxRing;
 use rpc_base::{Limits, NoMemory, NodeId, RequestNo, SessionNo};
 use rpc_laws::{Counted, Pace};
@@ -46,10 +47,13 @@ pub struct Node {
     pub(crate) clock: u64,
     pub(crate) rx: RxRing,
     pub(crate) store: Store,
+    /// Among them is each client session that has calls, so that a poll looks at no other.
+    pub(crate) callers: CallingSessions,
 }
 
 impl Model for Node {
     ghost use Rattle.rpc_laws.specs.declared.tables.Timed.{Timed};
+    ghost use Rattle.endpoint_loop.specs.Calling.{Covers};
     ghost use Rattle.endpoint_loop.specs.Fits.{Fits};
     ghost use Rattle.endpoint_loop.specs.Seen.{jobs_in, seen_node};
     ghost use Rattle.std.specs.Prelude.{◌≤◌};
@@ -70,7 +74,8 @@ impl Model for Node {
       counts = n.counts;
     }) n.paces.items (jobs_in n.limits.jobs n.given n.jobs.items) n.clock n.rx
         n.store) n.store.size n.store.places
-        × (n.limits.jobs ≤ deque_capacity n.jobs) };
+        × (n.limits.jobs ≤ deque_capacity n.jobs)
+        × Covers n.callers n.store.clients };
 }
 
 impl Node {
@@ -98,6 +103,7 @@ impl Node {
             clock: 0,
             rx: RxRing::new(alloc, limits.ring)?,
             store: Store::new(alloc, limits.ring, places)?,
+            callers: CallingSessions::new(alloc),
         })
     }
 

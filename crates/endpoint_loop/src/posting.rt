@@ -143,15 +143,19 @@ impl Node {
     }
 
     /// Step 5 of a poll: the client sessions are visited in the order of their numbers. Each begins
-    /// its waiting calls, and then posts its packets.
+    /// its waiting calls, and then posts its packets. One without calls has nothing to do, and is
+    /// passed over.
     pub fn serve_sessions<R: Recorder>(&mut self, rec: &mut R)
         ensures makes { Makes R.facts R.whole PostsAll self.old self.new rec.old rec.new }
         ensures jobs { self.new.lists.jobs ≡ self.old.lists.jobs }
         ensures servers { self.new.lists.servers ≡ self.old.lists.servers }
     {
         let count = self.store.clients();
-        'sessions: for i in 0..count {
+        let mut from = 0;
+        'sessions: while let Some(i) = self.next_caller(from, count) {
             self.serve_session(i, rec);
+            self.forget_idle(i);
+            from = i + 1;
         }
     }
 }

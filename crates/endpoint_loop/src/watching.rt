@@ -92,7 +92,7 @@ impl Node {
 
     /// Step 4 of a poll: the calls of all client sessions are looked at in the order of their
     /// numbers, at the node's clock. A call that timed out is rolled back, and one that timed out
-    /// once too often breaks its session, whose calls end.
+    /// once too often breaks its session, whose calls end. A session without calls is passed over.
     pub fn watch<K: Continuation, R: Recorder>(&mut self, k: &mut K, rec: &mut R)
         ensures ended { MakesEnds R.facts R.whole K.given TimesAll self.old self.new rec.old rec.new
             k.old k.new }
@@ -101,8 +101,10 @@ impl Node {
     {
         let timeout = self.limits.timeout;
         let count = self.store.clients();
-        'sessions: for i in 0..count {
+        let mut from = 0;
+        'sessions: while let Some(i) = self.next_caller(from, count) {
             self.watch_session(timeout, i, k, rec);
+            from = i + 1;
         }
     }
 }

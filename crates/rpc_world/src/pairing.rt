@@ -11,6 +11,7 @@ use crate::running::Running;
 use endpoint_loop::Endpoint;
 use rpc_base::{Event, MOST_CREDITS, NoMemory, NodeId, Peer, SESSION_NUMBERS, SessionNo, Who};
 use rpc_outside::{MemRecorder, PlainDuty, PlainService, Recorder};
+use session_mgmt::ConnectError;
 use worker_crew::LocalWorkers;
 
 fn note_refusal(rec: &mut MemRecorder, me: NodeId, event: &Event) -> Result<(), NoMemory>
@@ -26,27 +27,35 @@ fn refuse(
     node: &Endpoint<PlainService, LocalWorkers<PlainDuty>>,
     credits: u16,
 ) -> Result<bool, NoMemory>
+    requires some { 1 ≤ credits }
+    requires most { credits ≤ MOST_CREDITS }
     ensures { IfOk result
         (λ refuses. NotesRefusal refuses (pair_refusal credits node.now.timed.lists)
         node.now.timed.lists.me rec.old.facts.items rec.new.facts.items) }
 {
-    let spent = u64::from(SESSION_NUMBERS);
-    if u64::from(node.next_client()) >= spent || node.next_server() >= spent {
-        note_refusal(rec, node.me(), &Event::NconnectNumbers)?;
-        return Ok(true);
+    match node.pair_room(credits) {
+        Ok(()) => Ok(false),
+        Err(ConnectError::NumbersSpent) => {
+            note_refusal(rec, node.me(), &Event::NconnectNumbers)?;
+            Ok(true)
+        }
+        Err(
+            ConnectError::RingFull {
+                shares,
+                credits,
+                ring,
+            },
+        ) => {
+            let refusal = Event::NconnectRing {
+                shares,
+                credits,
+                ring,
+            };
+            note_refusal(rec, node.me(), &refusal)?;
+            Ok(true)
+        }
+        Err(ConnectError::NoMemory) => unreachable!(),
     }
-    let shares = node.shares();
-    let ring = node.ring();
-    if u64::from(shares) + u64::from(credits) > u64::from(ring) {
-        let refusal = Event::NconnectRing {
-            shares,
-            credits: u32::from(credits),
-            ring,
-        };
-        note_refusal(rec, node.me(), &refusal)?;
-        return Ok(true);
-    }
-    Ok(false)
 }
 
 // The number of the next session of a table, whose numbers aren't spent.

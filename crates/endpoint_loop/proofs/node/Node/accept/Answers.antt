@@ -1,4 +1,5 @@
 use Rattle.std.proofs.Common.{◌≡◌, ◌≤◌, ℕ, ◌+◌, List, length, refl, sym, ap, subst, ◌∙◌, arith}
+use Rattle.std.specs.List.{Contains}
 use Rattle.std.proofs.lemmas.List.{length-set, length-take}
 use Rattle.rpc_base.specs.declared.state.SessionState.TheVariants.{Connected}
 use Rattle.rpc_laws.specs.Groups.{state_of}
@@ -10,6 +11,7 @@ use Rattle.endpoint_loop.proofs.AskLemmas.{calls-before, connected-at, connected
 use Rattle.message_buffer.specs.Buffer.{bytes_of}
 use Rattle.rpc_base.specs.declared.limits.TheConstants.{MOST_MESSAGE_BYTES}
 use Rattle.endpoint_loop.proofs.AskLemmas.{newest-is, node-asked}
+use Rattle.endpoint_loop.proofs.CallerLemmas.{covers-asked}
 use Rattle.endpoint_loop.proofs.node.Node.accept.Goals as goal
 
 pub ask-requires-clause-connected : goal.ask-requires-clause-connected
@@ -65,6 +67,11 @@ invariant_of-self-2 g c =
           asked.clients asked.servers asked.queued asked.size asked.places next
           (c.next.inside.0 + 1) number,
       c.self.invariant.1,
+      covers-asked c.self.inside.callers c.enter.new.self c.from-i.result _ _ _ asked.clients
+          (subst (λ n. Contains c.enter.new.self n)
+          (c.session-2.view_is ∙ sym c.session.view_is ∙ sym c.from-i.ensures)
+          c.in-Ok.ensures.entered)
+          c.enter.ensures.others c.self.invariant.2,
     )
 
 pub returns-clause-makes : goal.returns-clause-makes

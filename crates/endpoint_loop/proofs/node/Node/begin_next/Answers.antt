@@ -2,6 +2,7 @@ use Rattle.endpoint_loop.proofs.FitsLemmas.{has-places}
 use Rattle.endpoint_loop.proofs.NodeLemmas.{fits-begun, node-begun}
 use Rattle.endpoint_loop.proofs.PostLemmas.{begun-fewer}
 use Rattle.endpoint_loop.specs.Seen.{jobs_in}
+use Rattle.endpoint_loop.proofs.CallerLemmas.{covers-begun}
 use Rattle.endpoint_loop.proofs.node.Node.begin_next.Goals as goal
 
 pub begin-requires-clause-room : goal.begin-requires-clause-room
@@ -22,6 +23,7 @@ invariant_of-self-2 g c =
           c.self.inside.clock c.self.inside.rx c.self.inside.store c.begin.new.self c.args.rec.now
           c.note.new.self c.self.invariant.0 h.servers h.size h.places _ h.clients h.queued,
       c.self.invariant.1,
+      covers-begun c.self.inside.callers c.args.i _ _ _ h.clients c.self.invariant.2,
     )
 
 pub returns-clause-notes : goal.returns-clause-notes

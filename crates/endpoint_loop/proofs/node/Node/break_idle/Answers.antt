@@ -1,5 +1,6 @@
 use Rattle.endpoint_loop.proofs.BreakLemmas.{fits-lost, node-lost}
 use Rattle.endpoint_loop.specs.Seen.{jobs_in}
+use Rattle.endpoint_loop.proofs.CallerLemmas.{covers-lost}
 use Rattle.endpoint_loop.proofs.node.Node.break_idle.Goals as goal
 
 pub invariant_of-self : goal.invariant_of-self
@@ -17,6 +18,8 @@ invariant_of-self g c =
           c.lose_session.new.rec c.args.k.now c.lose_session.new.k c.self.invariant.0 c.args.i
           (rw (← c.self.view_is) at c.requires.idle) h.lost h.servers h.queued h.size h.places,
       c.self.invariant.1,
+      covers-lost c.self.inside.callers c.args.i h.lost.client _ _ h.lost.place h.lost.changed
+          c.self.invariant.2,
     )
 
 pub returns-clause-ended : goal.returns-clause-ended

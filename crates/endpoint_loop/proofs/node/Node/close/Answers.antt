@@ -14,6 +14,7 @@ invariant_of-self g c = (
       c.make_ready.ensures.clients c.make_ready.ensures.servers
       c.make_ready.ensures.size c.make_ready.ensures.places,
   c.self.invariant.1,
+  rw c.make_ready.ensures.clients c.self.invariant.2,
 )
 
 pub returns-clause-makes : goal.returns-clause-makes

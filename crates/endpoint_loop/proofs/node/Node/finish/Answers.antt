@@ -11,8 +11,11 @@ pub invariant_of-self : goal.invariant_of-self
 invariant_of-self g c =
     let same = c.take_job.ensures.left ∙ same-left (is_named c.args.parcel.session
     c.args.parcel.request) c.self.inside.jobs.items (sym c.take_job.ensures.found ∙
-    c.in_default.is) in
-    (rw same c.self.invariant.0, omega (arith, c.take_job.ensures.capacity, c.self.invariant.1))
+    c.in_default.is) in (
+      rw same c.self.invariant.0,
+      omega (arith, c.take_job.ensures.capacity, c.self.invariant.1),
+      c.self.invariant.2,
+    )
 
 pub returns-in_default-clause-none : goal.returns-in_default-clause-none
 returns-in_default-clause-none g c = λ none.
@@ -67,6 +70,7 @@ invariant_of-self-in_default-post_answer g c = (
       (rw c.in_default-post_answer.is at c.post_answer.ensures.servers)
       (rw c.in_default-post_answer.is at c.post_answer.ensures.queued),
   omega (arith, c.take_job.ensures.capacity, c.self.invariant.1),
+  rw c.post_answer.ensures.clients c.self.invariant.2,
 )
 
 pub returns-in_default-post_answer-clause-done : goal.returns-in_default-post_answer-clause-done
@@ -116,6 +120,7 @@ invariant_of-self-2 g c = (
       (rw c.in-Some-post_answer.is at c.post_answer.ensures.queued) (rw (← c.self.view_is) at
       c.requires.room),
   omega (arith, c.take_job.ensures.capacity, c.self.invariant.1),
+  rw c.post_answer.ensures.clients c.self.invariant.2,
 )
 
 pub returns-clause-done : goal.returns-clause-done

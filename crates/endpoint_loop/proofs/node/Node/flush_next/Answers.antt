@@ -11,8 +11,11 @@ invariant_of-self g c =
     let h = rw c.in_default.is at c.flush.ensures in
     let same =
     none-taken c.args.i c.args.request c.self.inside.store.queued c.flush.new.self.queued
-    (least-none-by (Ask c.args.i c.args.request) c.self.inside.store.queued h.taken) h.queued in
-    (rw (same, h.clients, h.servers, h.size, h.places) c.self.invariant.0, c.self.invariant.1)
+    (least-none-by (Ask c.args.i c.args.request) c.self.inside.store.queued h.taken) h.queued in (
+      rw (same, h.clients, h.servers, h.size, h.places) c.self.invariant.0,
+      c.self.invariant.1,
+      rw h.clients c.self.invariant.2,
+    )
 
 pub returns-in_default-clause-none : goal.returns-in_default-clause-none
 returns-in_default-clause-none g c = λ _.
@@ -43,6 +46,7 @@ invariant_of-self-2 g c =
           c.self.inside.clock c.self.inside.rx c.self.inside.store c.flush.new.self
           c.self.invariant.0 c.args.i c.args.request out.entry out.taken h.clients h.servers h.size h.places,
       c.self.invariant.1,
+      rw h.clients c.self.invariant.2,
     )
 
 pub returns-clause-makes : goal.returns-clause-makes

@@ -6,6 +6,7 @@ use Rattle.endpoint_loop.proofs.HearLemmas.{as-told, fits-dropped, fits-ended, f
 use Rattle.endpoint_loop.proofs.HearLemmas.{node-dropped, node-ended, node-took, node-unheard}
 use Rattle.endpoint_loop.proofs.HearLemmas.{ring-left, some-front}
 use Rattle.endpoint_loop.specs.Seen.{jobs_in}
+use Rattle.endpoint_loop.proofs.CallerLemmas.{covers-replied}
 use Rattle.endpoint_loop.proofs.node.Node.hear_reply.Goals as goal
 
 pub unreachable-requires : goal.unreachable-requires
@@ -49,6 +50,7 @@ invariant_of-self g c =
           c.on_reply-reply.ensures.servers c.on_reply-reply.ensures.queued
           c.on_reply-reply.ensures.size c.on_reply-reply.ensures.places c.in-Dropped.reason p,
       c.self.invariant.1,
+      covers-replied c.self.inside.callers c.from-i.result _ _ _ _ _ _ _ _ p c.self.invariant.2,
     )
 
 pub returns-in-Dropped-clause-hears : goal.returns-in-Dropped-clause-hears
@@ -91,6 +93,7 @@ invariant_of-self-in-Took g c =
           c.on_reply-reply.ensures.size c.on_reply-reply.ensures.places c.drop_front-in-Took.new.self
           c.drop_front-in-Took.ensures p,
       c.self.invariant.1,
+      covers-replied c.self.inside.callers c.from-i.result _ _ _ _ _ _ _ _ p c.self.invariant.2,
     )
 
 pub returns-in-Took-clause-hears : goal.returns-in-Took-clause-hears
@@ -134,6 +137,7 @@ invariant_of-self-in-Ended g c =
           c.on_reply-reply.ensures.size c.on_reply-reply.ensures.places c.drop_front-in-Ended.new.self
           c.drop_front-in-Ended.ensures c.in-Ended.done p,
       c.self.invariant.1,
+      covers-replied c.self.inside.callers c.from-i.result _ _ _ _ _ _ _ _ p c.self.invariant.2,
     )
 
 pub returns-in-Ended-clause-hears : goal.returns-in-Ended-clause-hears

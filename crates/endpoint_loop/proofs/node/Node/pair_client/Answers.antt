@@ -1,6 +1,7 @@
 use Rattle.std.proofs.Common.{◌≡◌, ℕ, ◌++◌, [], ◌∷◌, length, ap, ◌∙◌}
 use Rattle.endpoint_loop.specs.Seen.{jobs_in}
 use Rattle.endpoint_loop.proofs.PairLemmas.{fits-paired-client}
+use Rattle.endpoint_loop.proofs.CallerLemmas.{covers-paired}
 use Rattle.endpoint_loop.proofs.node.Node.pair_client.Goals as goal
 
 pub invariant_of-self-2 : goal.invariant_of-self-2
@@ -26,4 +27,5 @@ invariant_of-self-2 g c =
           } ∷ []) same) taken
           made.clients made.servers,
       c.self.invariant.1,
+      covers-paired c.self.inside.callers _ _ _ _ _ _ made.clients c.self.invariant.2,
     )

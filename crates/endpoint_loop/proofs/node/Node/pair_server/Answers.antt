@@ -24,6 +24,7 @@ invariant_of-self-2 g c =
           c.requires.some made.queued made.size made.places (c.self.inside.server_numbers + 1) refl taken
           made.clients made.servers,
       c.self.invariant.1,
+      rw made.clients c.self.invariant.2,
     )
 
 pub returns-clause-served : goal.returns-clause-served

@@ -9,6 +9,7 @@ use Rattle.endpoint_loop.proofs.NodeLemmas.{fits-posted, node-posted}
 use Rattle.endpoint_loop.proofs.PaceLemmas.{size-told}
 use Rattle.endpoint_loop.proofs.PostLemmas.{posted-fewer}
 use Rattle.endpoint_loop.specs.Seen.{jobs_in}
+use Rattle.endpoint_loop.proofs.CallerLemmas.{covers-posted}
 use Rattle.endpoint_loop.proofs.node.Node.post_next.Goals as goal
 
 pub due_of-due-requires : goal.due_of-due-requires
@@ -70,6 +71,7 @@ invariant_of-self-2 g c =
           c.note.new.self c.self.invariant.0 h.servers h.size h.places c.in-Some.entry c.due_of-due.result
           c.delay.new.paces.items h.clients h.queued h.owner c.due_of-due.ensures later,
       c.self.invariant.1,
+      covers-posted c.self.inside.callers c.args.i _ _ _ h.clients c.self.invariant.2,
     )
 
 pub returns-clause-notes : goal.returns-clause-notes

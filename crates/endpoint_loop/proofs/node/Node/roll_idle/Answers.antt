@@ -1,6 +1,7 @@
 use Rattle.std.proofs.Common.{refl}
 use Rattle.endpoint_loop.proofs.RollLemmas.{fits-rolled, may-roll, node-rolled}
 use Rattle.endpoint_loop.specs.Seen.{jobs_in}
+use Rattle.endpoint_loop.proofs.CallerLemmas.{covers-rolled}
 use Rattle.endpoint_loop.proofs.node.Node.roll_idle.Goals as goal
 
 pub roll-requires-clause-may : goal.roll-requires-clause-may
@@ -31,6 +32,7 @@ invariant_of-self g c =
           (rw (← c.self.view_is) at c.requires.idle) c.roll.new.self h.clients h.servers h.queued
           h.size h.places,
       c.self.invariant.1,
+      covers-rolled c.self.inside.callers c.args.i _ _ _ h.clients c.self.invariant.2,
     )
 
 pub returns-clause-makes : goal.returns-clause-makes

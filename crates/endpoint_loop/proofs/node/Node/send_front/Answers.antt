@@ -1,6 +1,7 @@
 use Rattle.std.proofs.Common.{ap}
 use Rattle.endpoint_loop.proofs.SentLemmas.{fits-sent, front-fewer, node-sent}
 use Rattle.endpoint_loop.specs.Seen.{jobs_in}
+use Rattle.endpoint_loop.proofs.CallerLemmas.{covers-sent}
 use Rattle.endpoint_loop.proofs.node.Node.send_front.Goals as goal
 
 pub invariant_of-self : goal.invariant_of-self
@@ -17,6 +18,8 @@ invariant_of-self g c =
           c.in-Some.entry front c.sent.ensures.clients c.sent.ensures.servers c.sent.ensures.queued
           c.sent.ensures.size c.sent.ensures.places,
       c.self.invariant.1,
+      covers-sent c.self.inside.callers _ _ _ _ _ front.front c.sent.ensures.clients
+          c.self.invariant.2,
     )
 
 pub returns-in-Whole-clause-sent : goal.returns-in-Whole-clause-sent

@@ -78,6 +78,7 @@ invariant_of-self g c =
           (g.V.Service.stands c.args.service.now) (g.V.Service.stands c.on_packet-step.new.service)
           c.in-Took.reply p p.reply,
       c.self.invariant.1,
+      rw c.on_packet-step.ensures.clients c.self.invariant.2,
     )
 
 pub returns-in-Took-clause-serves : goal.returns-in-Took-clause-serves
@@ -131,6 +132,7 @@ invariant_of-self-in-Again g c =
           (g.V.Service.stands c.args.service.now) (g.V.Service.stands c.on_packet-step.new.service)
           c.in-Again.reply p p.reply.0 p.reply.1,
       c.self.invariant.1,
+      rw c.on_packet-step.ensures.clients c.self.invariant.2,
     )
 
 pub returns-in-Again-clause-serves : goal.returns-in-Again-clause-serves
@@ -185,6 +187,7 @@ invariant_of-self-in-Ran g c =
           c.in-Ran.reply p p.reply.0 p.reply.1 c.saturating_add-self-inside.result
           c.saturating_add-self-inside.ensures,
       c.self.invariant.1,
+      rw c.on_packet-step.ensures.clients c.self.invariant.2,
     )
 
 pub returns-in-Ran-clause-serves : goal.returns-in-Ran-clause-serves
@@ -239,6 +242,7 @@ invariant_of-self-in-Dropped g c =
           c.in-Dropped.field-0 p c.saturating_add-self-inside-in-Dropped.result
           c.saturating_add-self-inside-in-Dropped.ensures,
       c.self.invariant.1,
+      rw c.on_packet-step.ensures.clients c.self.invariant.2,
     )
 
 pub returns-in-Dropped-clause-serves : goal.returns-in-Dropped-clause-serves
@@ -300,6 +304,7 @@ invariant_of-self-in-Give g c =
           refl refl refl asks _ c.push_back_reserved.ensures.items own),
       rw
           c.push_back_reserved.ensures.capacity c.self.invariant.1,
+      rw c.on_packet-step.ensures.clients c.self.invariant.2,
     )
 
 pub returns-in-Give-clause-serves : goal.returns-in-Give-clause-serves

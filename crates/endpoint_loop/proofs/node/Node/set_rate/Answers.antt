@@ -43,6 +43,7 @@ invariant_of-self g c =
           (sym c.lives.ensures ∙ c.if-not-lives.false) c.set_rate_at.new.paces.items
           set c.self.invariant.0,
       c.self.invariant.1,
+      c.self.invariant.2,
     )
 
 pub returns-clause-makes : goal.returns-clause-makes

@@ -1,4 +1,4 @@
-use Rattle.std.proofs.Common.{◌≡◌}
+use Rattle.std.proofs.Common.{◌≡◌, ◌≤◌, ◌-◌}
 use Rattle.rpc_laws.specs.ControlSteps.{TimesSession}
 use Rattle.rpc_laws.specs.Steps.{Visits}
 use Rattle.endpoint_loop.specs.Noting.{MakesEnds}
@@ -7,7 +7,11 @@ use Rattle.endpoint_loop.proofs.node.Node.watch.Given as goal
 abbrev pub invariant-sessions : goal.invariant-sessions
 invariant-sessions g l =
     MakesEnds g.R.Recorder.facts g.R.Recorder.whole g.K.Continuation.given
-    (Visits (TimesSession l.timeout) l.i) l.initial.self l.self l.initial.rec l.rec l.initial.k l.k
+    (Visits (TimesSession l.timeout) l.from) l.initial.self l.self l.initial.rec l.rec l.initial.k l.k
     × (l.self.lists.servers ≡ l.initial.self.lists.servers)
     × (l.self.lists.me ≡ l.initial.self.lists.me)
     × (l.self.lists.jobs ≡ l.initial.self.lists.jobs)
+    × (l.from ≤ l.count)
+
+abbrev pub decreases-sessions : goal.decreases-sessions
+decreases-sessions g l = l.count - l.from

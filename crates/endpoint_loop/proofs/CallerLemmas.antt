@@ -1,0 +1,337 @@
+-- Only an asking gives a session a call: what else happens leaves the sessions with calls among
+-- those that had some.
+use Rattle.std.proofs.Common.{◌≡◌, ◌≢◌, ℕ, zero, suc, ◌+◌, ◌<◌, ◌≤◌, ◌⊎◌, inl, inr, Bool, true, false}
+use Rattle.std.proofs.Common.{cond, Option, Some, None, List, [], ◌∷◌, ◌++◌, length, refl, sym, ap}
+use Rattle.std.proofs.Common.{subst, ◌∙◌, add-zero, append-nil, arith}
+use Rattle.std.specs.Prelude.{◌==◌, ◌-◌, IfSome, map, option_and_then, option_map, slice_get, slice_set}
+use Rattle.std.specs.List.{AllByRecursion, Contains, find}
+use Rattle.std.proofs.lemmas.Bool.{cases_eq, false≢true}
+use Rattle.rpc_base.specs.Tables.{at_first, without_first}
+use Rattle.rpc_base.specs.declared.owner.Owner.{Owner}
+use Rattle.rpc_base.specs.declared.owner.Owner.TheVariants.{Ask, Reply, Control}
+use Rattle.packet_header.specs.declared.packet.MessageHeader.{MessageHeader}
+use Rattle.rpc_laws.specs.declared.tables.Call.{Call}
+use Rattle.rpc_laws.specs.declared.tables.Client.{Client}
+use Rattle.rpc_laws.specs.declared.tables.Asking.{Asking}
+use Rattle.rpc_laws.specs.declared.tables.Queued.{Queued}
+use Rattle.rpc_laws.specs.declared.tables.Timed.{Timed}
+use Rattle.rpc_base.specs.declared.fact.Fact.{Fact}
+use Rattle.rpc_laws.specs.ControlSteps.{TimesSession}
+use Rattle.rpc_laws.specs.GoBackN.{Each, Watches, WatchesSession}
+use Rattle.rpc_laws.specs.PollOrder.{PostsAll, Serves}
+use Rattle.rpc_laws.specs.Posting.{beginning, can_post, if_connected, next_packet, posting}
+use Rattle.rpc_laws.specs.Steps.{Rel, Visits, none}
+use Rattle.rpc_laws.specs.Calls.{is_active, is_call}
+use Rattle.rpc_laws.specs.Sessions.{asks, begins, client_end, ends, is_client, posts, rolls, sends}
+use Rattle.rpc_laws.specs.Sessions.{clients_after, has_call, is_connected, takes}
+use Rattle.client_core.specs.Shown.{after_outcome, end_event, took}
+use Rattle.client_core.specs.declared.outcome.Done.{Done}
+use Rattle.client_core.specs.declared.outcome.Outcome.{Outcome}
+use Rattle.client_core.specs.declared.outcome.Outcome.TheVariants.{Ok, TooSmall, PeerLost}
+use Rattle.client_core.specs.declared.outcome.Reply.{Reply as Handled}
+use Rattle.client_core.specs.declared.outcome.Reply.TheVariants.{Took as TookReply, Ended, Dropped}
+use Rattle.session_store.specs.Changes.{BeginsAt, ChangesAt, PostsAt, RollsAt}
+use Rattle.session_store.specs.Hearing.{RepliesAt}
+use Rattle.session_store.specs.Joined.{without_due}
+use Rattle.session_store.specs.Queue.{SendsFront, clients_sent}
+use Rattle.session_store.specs.Sides.{are_calls, has_calls}
+use Rattle.session_store.proofs.ListLemmas.{get-other, get-own}
+use Rattle.endpoint_loop.specs.Calling.{Covers, NoneCalls}
+use Rattle.endpoint_loop.specs.Fits.{IsSettled}
+use Rattle.endpoint_loop.specs.Noting.{Makes, MakesEnds}
+use Rattle.endpoint_loop.specs.Seen.{asking}
+use Rattle.endpoint_loop.proofs.NotesLemmas.{ends-as, makes-as}
+use Rattle.endpoint_loop.proofs.WatchLemmas.{none-retried}
+use Rattle.endpoint_loop.specs.Watching.{broken_with}
+
+-- what has calls now had some, at the same place
+abbrev pub CallsWere : List Client → List Client → Type 0
+CallsWere old new = (i : ℕ) → (y : Client) → slice_get new i ≡ Some y → has_calls y ≡ true
+    → (x : Client) × (slice_get old i ≡ Some x) × (has_calls x ≡ true)
+
+pub covers-were : (callers : List ℕ) (old new : List Client) → CallsWere old new
+    → Covers callers old → Covers callers new
+covers-were callers old new were covers =
+    λ i y at has. let h = were i y at has in covers i h.0 h.1 h.2
+
+-- a change of the first session that passes
+were-first : (p : Client → Bool) (f : Client → Client)
+    → ((x : Client) → has_calls (f x) ≡ true → has_calls x ≡ true) → (xs : List Client)
+    → CallsWere xs (at_first p f xs)
+were-first p f kept xs = walk xs
+  where
+    here : (b : Bool) (x : Client) (xs ys : List Client) (i : ℕ) (y : Client)
+        → ((j : ℕ) → (z : Client) → slice_get ys j ≡ Some z → has_calls z ≡ true
+        → (w : Client) × (slice_get xs j ≡ Some w) × (has_calls w ≡ true))
+        → slice_get (cond b (f x ∷ xs) (x ∷ ys)) i ≡ Some y → has_calls y ≡ true
+        → (w : Client) × (slice_get (x ∷ xs) i ≡ Some w) × (has_calls w ≡ true)
+    here true x xs ys zero y ih at has =
+        let same : f x ≡ y = cc in (x, refl, kept x (ap has_calls same ∙ has))
+    here true x xs ys (suc i) y ih at has = (y, at, has)
+    here false x xs ys zero y ih at has = let same : x ≡ y = cc in (x, refl, ap has_calls same ∙ has)
+    here false x xs ys (suc i) y ih at has = ih i y at has
+
+    walk : (xs : List Client) (i : ℕ) (y : Client) → slice_get (at_first p f xs) i ≡ Some y
+        → has_calls y ≡ true → (w : Client) × (slice_get xs i ≡ Some w) × (has_calls w ≡ true)
+    walk [] i y at has = cc
+    walk (x ∷ xs) i y at has = here (p x) x xs (at_first p f xs) i y (walk xs) at has
+
+-- a change of the session at a place
+were-set : (xs : List Client) (i : ℕ) (x y : Client) → slice_get xs i ≡ Some x
+    → (has_calls y ≡ true → has_calls x ≡ true) → CallsWere xs (slice_set xs i y)
+were-set xs i x y there kept = λ j z at has. elim (cases_eq j i) [
+  | inl here ↦ (
+      let own : slice_get (slice_set xs i y) j ≡ Some y =
+      ap (λ k. slice_get (slice_set xs i y) k) here ∙ get-own xs i x y there in
+      let same : y ≡ z = cc in
+      (x, ap (λ k. slice_get xs k) here ∙ there, kept (ap has_calls same ∙ has)))
+  | inr other ↦ (z, sym (get-other xs i j y other) ∙ at, has)
+]
+
+-- calls that change stay, and one that is over is no new one
+calls-first : (p : Call → Bool) (f : Call → Call) (cs : List Call)
+    → are_calls (at_first p f cs) ≡ true → are_calls cs ≡ true
+calls-first p f [] has = has
+calls-first p f (c ∷ cs) has = refl
+
+calls-without : (p : Call → Bool) (cs : List Call) → are_calls (without_first p cs) ≡ true
+    → are_calls cs ≡ true
+calls-without p [] has = has
+calls-without p (c ∷ cs) has = refl
+
+pub covers-begun : (callers : List ℕ) (i : ℕ) (b : ℕ × ℕ) (xs ys : List Client)
+    → BeginsAt i (Some b) xs ys → Covers callers xs → Covers callers ys
+covers-begun callers i b xs ys h covers =
+    let change = h.1 in
+    rw change.changed (covers-were callers xs (slice_set xs i (begins b.0 b.1 change.client))
+    (were-set xs i change.client (begins b.0 b.1 change.client) change.place
+    (λ has. calls-first (is_call b.0) _ change.client.calls has)) covers)
+
+pub covers-posted : (callers : List ℕ) (i : ℕ) (p : ℕ × ℕ) (xs ys : List Client)
+    → PostsAt i (Some p) xs ys → Covers callers xs → Covers callers ys
+covers-posted callers i p xs ys h covers =
+    rw h.changed (covers-were callers xs (slice_set xs i (posts p.0 p.1 h.client))
+    (were-set xs i h.client (posts p.0 p.1 h.client) h.place
+    (λ has. calls-first (is_active p.0) _ h.client.calls has)) covers)
+
+pub covers-rolled : (callers : List ℕ) (i number : ℕ) (xs ys : List Client)
+    → RollsAt i number xs ys → Covers callers xs → Covers callers ys
+covers-rolled callers i number xs ys h covers =
+    let later = rolls number h.progress.posted h.progress.got h.client in
+    rw h.changed (covers-were callers xs (slice_set xs i later)
+    (were-set xs i h.client later h.place
+    (λ has. calls-first (is_call number) _ h.client.calls has)) covers)
+
+sent-were : (now : ℕ) (o : Owner) (k : ℕ) (xs : List Client) → CallsWere xs (clients_sent now o k xs)
+sent-were now (Ask i r) k xs =
+    were-first (is_client i) (sends now r k) (λ x has. calls-first (is_active r) _ x.calls has) xs
+sent-were now (Reply t r) k xs = λ i y at has. (y, at, has)
+sent-were now Control k xs = λ i y at has. (y, at, has)
+
+pub covers-sent : (callers : List ℕ) (now : ℕ) (e : Queued) (queued : List Queued)
+    (xs ys : List Client) → option_map without_due (slice_get queued 0) ≡ Some e
+    → SendsFront now queued xs ys → Covers callers xs → Covers callers ys
+covers-sent callers now e queued xs ys front h covers = by-front (slice_get queued 0) front h
+  where
+    by-front : (o : Option Queued) → option_map without_due o ≡ Some e
+        → IfSome o (λ q. ys ≡ clients_sent now q.owner q.number xs) → Covers callers ys
+    by-front None absent sent = cc
+    by-front (Some q) some sent =
+        rw sent (covers-were callers xs (clients_sent now q.owner q.number xs)
+        (sent-were now q.owner q.number xs) covers)
+
+-- session i, which is among them, was asked a call
+pub covers-asked : (callers later : List ℕ) (i : ℕ) (a : Asking) (xs ys : List Client)
+    → ChangesAt i (asks a) xs ys → Contains later i
+    → ((n : ℕ) → Contains callers n → Contains later n) → Covers callers xs → Covers later ys
+covers-asked callers later i a xs ys h entered others covers =
+    rw h.changed (λ j y at has. elim (cases_eq j i) [
+      | inl here ↦ subst (λ k. Contains later k) (sym here) entered
+      | inr other ↦ others j (covers j y (sym (get-other xs i j (asks a h.client) other) ∙ at) has)
+    ])
+
+-- a session that is new has none
+were-pushed : (y : Client) → has_calls y ≡ false → (xs : List Client) → CallsWere xs (xs ++ y ∷ [])
+were-pushed y idle xs = walk xs
+  where
+    walk : (xs : List Client) (i : ℕ) (z : Client) → slice_get (xs ++ y ∷ []) i ≡ Some z
+        → has_calls z ≡ true → (w : Client) × (slice_get xs i ≡ Some w) × (has_calls w ≡ true)
+    walk [] zero z at has = let same : y ≡ z = cc in absurd (false≢true (sym idle ∙ ap has_calls same ∙ has))
+    walk [] (suc i) z at has = cc
+    walk (x ∷ xs) zero z at has = let same : x ≡ z = cc in (x, refl, ap has_calls same ∙ has)
+    walk (x ∷ xs) (suc i) z at has = walk xs i z at has
+
+pub covers-paired : (callers : List ℕ) (xs ys : List Client) (number peer server credits : ℕ)
+    → ys ≡ xs ++ client_end number peer server credits ∷ [] → Covers callers xs → Covers callers ys
+covers-paired callers xs ys number peer server credits is covers =
+    rw is (covers-were callers xs (xs ++ client_end number peer server credits ∷ [])
+    (were-pushed (client_end number peer server credits) refl xs) covers)
+
+-- a reply that is handled
+were-both : (a b c : List Client) → CallsWere a b → CallsWere b c → CallsWere a c
+were-both a b c p q = λ i y at has. let h = q i y at has in p i h.0 h.1 h.2
+
+were-ended : (clock call : ℕ) (o : Outcome) (xs : List Client)
+    → CallsWere xs (clients_after clock (end_event call o) [] None [] xs)
+were-ended clock call Ok xs = were-first (has_call call) (ends call) (λ x has. calls-without (is_call call) x.calls has) xs
+were-ended clock call (TooSmall size) xs =
+    were-first (has_call call) (ends call) (λ x has. calls-without (is_call call) x.calls has) xs
+were-ended clock call PeerLost xs =
+    were-first (has_call call) (ends call) (λ x has. calls-without (is_call call) x.calls has) xs
+
+were-took : (clock : ℕ) (h : MessageHeader) (body : List ℕ) (x : Client)
+    → CallsWere (x ∷ []) (took clock h body x)
+were-took clock h body x =
+    were-first (is_client x.way.number) (takes clock h.request (Some h) body)
+    (λ y has. calls-first (is_active h.request) _ y.calls has) (x ∷ [])
+
+were-handled : (clock : ℕ) (r : Handled) (h : MessageHeader) (body : List ℕ) (x : Client)
+    → CallsWere (x ∷ []) (after_outcome clock r h body x)
+were-handled clock TookReply h body x = were-took clock h body x
+were-handled clock (Ended d) h body x =
+    were-both (x ∷ []) (took clock h body x) _ (were-took clock h body x)
+    (were-ended clock d.call d.outcome (took clock h body x))
+were-handled clock (Dropped why) h body x = λ i y at has. (y, at, has)
+
+pub covers-replied : (callers : List ℕ) (i clock peer : ℕ) (h : MessageHeader) (body : List ℕ)
+    (waiting : Bool) (r : Handled) (xs ys : List Client)
+    → RepliesAt i clock peer h body waiting r xs ys → Covers callers xs → Covers callers ys
+covers-replied callers i clock peer h body waiting r xs ys p covers =
+    rw p.changed (covers-were callers xs (slice_set xs i p.later)
+    (were-set xs i p.client p.later p.at (λ has.
+    let first = were-handled clock r h body p.client 0 p.later
+    (ap (λ (zs : List Client). slice_get zs 0) p.step) has in
+    let same : p.client ≡ first.0 = cc in
+    ap has_calls same ∙ first.2)) covers)
+
+-- a session that lost its peer, and its calls with it
+pub covers-lost : (callers : List ℕ) (i : ℕ) (x : Client) (xs ys : List Client)
+    → slice_get xs i ≡ Some x → ys ≡ slice_set xs i (broken_with x []) → Covers callers xs
+    → Covers callers ys
+covers-lost callers i x xs ys there is covers =
+    rw is (covers-were callers xs (slice_set xs i (broken_with x []))
+    (were-set xs i x (broken_with x []) there (λ has. absurd (false≢true has))) covers)
+
+-- a session that isn't among them has no call
+pub none-called : (callers : List ℕ) (clients : List Client) (i : ℕ) → Covers callers clients
+    → (Contains callers i → ⊥) → IfSome (slice_get clients i) (λ x. has_calls x ≡ false)
+none-called callers clients i covers other = by-place (slice_get clients i) refl
+  where
+    by-calls : (x : Client) (b : Bool) → slice_get clients i ≡ Some x → has_calls x ≡ b
+        → has_calls x ≡ false
+    by-calls x true at has = absurd (other (covers i x at has))
+    by-calls x false at has = has
+
+    by-place : (o : Option Client) → slice_get clients i ≡ o
+        → IfSome o (λ x. has_calls x ≡ false)
+    by-place None at = tt
+    by-place (Some x) at = by-calls x (has_calls x) at refl
+
+-- sessions without calls begin and post nothing
+begins-none : (o : Option Client) → IfSome o (λ x. has_calls x ≡ false)
+    → option_and_then (if_connected beginning) o ≡ None
+begins-none None idle = refl
+begins-none (Some x) idle = by x.calls (is_connected x.state) refl idle
+  where
+    by : (cs : List Call) (b : Bool) → x.calls ≡ cs → are_calls cs ≡ false
+        → cond b (beginning x) None ≡ None
+    by [] true is h = rw is refl
+    by [] false is h = refl
+    by (c ∷ cs) b is h = absurd (false≢true (sym h))
+
+posts-none : (o : Option Client) → IfSome o (λ x. has_calls x ≡ false)
+    → option_and_then (if_connected posting) o ≡ None
+posts-none None idle = refl
+posts-none (Some x) idle = by x.calls (is_connected x.state) (x.free == 0) refl idle
+  where
+    by : (cs : List Call) (b free : Bool) → x.calls ≡ cs → are_calls cs ≡ false
+        → cond b (cond free None (option_and_then (λ (c : Call). next_packet x.way.number c.progress)
+        (find can_post x.calls))) None ≡ None
+    by [] true true is h = refl
+    by [] true false is h = rw is refl
+    by [] false free is h = refl
+    by (c ∷ cs) b free is h = absurd (false≢true (sym h))
+
+pub serves-none : (i : ℕ) (s : Timed) → IfSome (slice_get s.lists.clients i) (λ x. has_calls x ≡ false)
+    → Serves i s [] s
+serves-none i s quiet = record {
+  between = s;
+  front = [];
+  back = [];
+  joined = refl;
+  first = record { steps = none; over = begins-none (slice_get s.lists.clients i) quiet };
+  second = record { steps = none; over = posts-none (slice_get s.lists.clients i) quiet };
+}
+
+-- those whose turn leaves all as it was may be passed over
+visits-on : (P : ℕ → Rel) (n d : ℕ) (s u : Timed) (x : List Fact) → Visits P n s x u
+    → ((i : ℕ) → n ≤ i → i < n + d → P i u [] u) → Visits P (n + d) s x u
+visits-on P n zero s u x visited each = rw (add-zero n) visited
+visits-on P n (suc d) s u x visited each =
+    let before = visits-on P n d s u x visited (λ i low high. each i low (omega (arith, high))) in
+    let one : n + suc d ≡ suc (n + d) = omega arith in
+    rw one (record {
+      between = u;
+      front = x;
+      back = [];
+      joined = sym (append-nil x);
+      first = before;
+      second = each (n + d) (omega arith) (omega arith);
+    })
+
+visits-up : (P : ℕ → Rel) (n m : ℕ) (s u : Timed) (x : List Fact) → n ≤ m → Visits P n s x u
+    → ((i : ℕ) → n ≤ i → i < m → P i u [] u) → Visits P m s x u
+visits-up P n m s u x up visited each =
+    let long : n + (m - n) ≡ m = omega (arith, up) in
+    subst (λ k. Visits P k s x u) long
+    (visits-on P n (m - n) s u x visited (λ i low high. each i low (omega (arith, high, long))))
+
+module _ {R : Type 0} (facts : R → Option (List Fact)) (whole : R → Bool) where
+  pub serves-up : (n m : ℕ) (a b : Timed) (f g : R) → n ≤ m → NoneCalls n m b.lists.clients
+      → Makes facts whole (Visits Serves n) a b f g → Makes facts whole (Visits Serves m) a b f g
+  serves-up n m a b f g up quiet made =
+      makes-as facts whole (Visits Serves n) (Visits Serves m) a b f g
+      (λ asks x visited. visits-up Serves n m (asking asks a) (asking asks b) x up visited
+      (λ i low high. serves-none i (asking asks b) (quiet i low high))) made
+
+  pub all-served : (n : ℕ) (a b : Timed) (f g : R) → n ≡ length a.lists.clients
+      → Makes facts whole (Visits Serves n) a b f g → Makes facts whole PostsAll a b f g
+  all-served n a b f g is made =
+      makes-as facts whole (Visits Serves n) PostsAll a b f g
+      (λ asks x visited. subst (λ k. Visits Serves k (asking asks a) x (asking asks b)) is visited)
+      made
+
+-- and no call of theirs is looked at
+pub session-quiet : (timeout i : ℕ) (s : Timed) → AllByRecursion IsSettled s.lists.clients
+    → IfSome (slice_get s.lists.clients i) (λ x. has_calls x ≡ false) → TimesSession timeout i s [] s
+session-quiet timeout i s settled quiet = record {
+  between = s;
+  front = [];
+  back = [];
+  joined = refl;
+  first = record { facts = none-retried s.clock timeout s.lists.me i s.lists.clients settled; goes = refl };
+  second = watched (slice_get s.lists.clients i) refl quiet;
+}
+  where
+    looks-none : (cs : List Call) → are_calls cs ≡ false
+        → Each (Watches timeout i) (map (λ (c : Call). c.what.number) cs) s [] s
+    looks-none [] h = (refl, refl)
+    looks-none (c ∷ cs) h = absurd (false≢true (sym h))
+
+    watched : (o : Option Client) → slice_get s.lists.clients i ≡ o
+        → IfSome o (λ x. has_calls x ≡ false) → WatchesSession timeout i s [] s
+    watched None at h = rw at (refl, refl)
+    watched (Some x) at h = rw at (looks-none x.calls h)
+
+module _ {R K : Type 0} (facts : R → Option (List Fact)) (whole : R → Bool)
+    (given : K → Option (List Done)) where
+  pub times-up : (timeout n m : ℕ) (a b : Timed) (f g : R) (j k : K) → n ≤ m
+      → AllByRecursion IsSettled b.lists.clients → NoneCalls n m b.lists.clients
+      → MakesEnds facts whole given (Visits (TimesSession timeout) n) a b f g j k
+      → MakesEnds facts whole given (Visits (TimesSession timeout) m) a b f g j k
+  times-up timeout n m a b f g j k up settled quiet made =
+      ends-as facts whole given (Visits (TimesSession timeout) n) (Visits (TimesSession timeout) m)
+      a b f g j k
+      (λ asks x visited. visits-up (TimesSession timeout) n m (asking asks a) (asking asks b) x up
+      visited (λ i low high. session-quiet timeout i (asking asks b) settled (quiet i low high)))
+      made

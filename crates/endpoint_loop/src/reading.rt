@@ -1,0 +1,123 @@
+//! What an endpoint tells of itself.
+ghost use Rattle.std.specs.Prelude.{◌≡◌, ◌≤◌, ◌↔◌, None, IfErr, IsSome, IsTrue, OnOk};
+ghost use Rattle.std.specs.List.{find};
+ghost use Rattle.endpoint_loop.specs.Reading.{IsQuiet, free_told, pending_told};
+ghost use Rattle.rpc_laws.specs.Groups.{pair_refusal};
+ghost use Rattle.rpc_laws.specs.Sessions.{is_client};
+ghost use Rattle.session_mgmt.specs.Table.{refused};
+
+use crate::endpoint::Endpoint;
+use crate::node::Node;
+use rpc_base::{MOST_CREDITS, SESSION_NUMBERS, SessionNo, SessionState};
+use rpc_laws::Counted;
+use rpc_outside::Service;
+use session_mgmt::ConnectError;
+use worker_crew::Workers;
+
+impl Node {
+    /// Whether there are a number of either kind and room for a session with so many credits, 1 to
+    /// 256. `NumbersSpent` comes exactly where 65,535 numbers of a kind were used, and then
+    /// `RingFull` exactly where the credits of the live sessions and these are more than the ring
+    /// is long. It is never `NoMemory`.
+    pub fn pair_room(&self, credits: u16) -> Result<(), ConnectError>
+        requires some { 1 ≤ credits }
+        requires most { credits ≤ MOST_CREDITS }
+        ensures accepted { OnOk result (pair_refusal credits self.now.lists ≡ None) }
+        ensures refused { IfErr result (λ why. refused why ≡ pair_refusal credits self.now.lists) }
+        ensures never_memory { IfErr result (λ why. IsSome (refused why)) }
+    {
+        let numbers = usize::from(SESSION_NUMBERS);
+        if numbers <= self.store.clients() || u64::from(SESSION_NUMBERS) <= self.server_numbers {
+            return Err(ConnectError::NumbersSpent);
+        }
+        let (shares, ring) = (self.shares(), self.rx.size());
+        if u64::from(ring) < u64::from(shares) + u64::from(credits) {
+            return Err(ConnectError::RingFull {
+                shares,
+                credits: u32::from(credits),
+                ring,
+            });
+        }
+        Ok(())
+    }
+
+    /// The free credits of a client session. `None` comes exactly where it is neither Connected,
+    /// Spent nor Closing.
+    pub fn free_credits(&self, session: SessionNo) -> Option<u16>
+        ensures { result ≡ free_told (find (is_client session) self.now.lists.clients) }
+    {
+        let i = usize::from(session.0);
+        if i >= self.store.clients() {
+            return None;
+        }
+        match self.store.state(i) {
+            SessionState::Connected | SessionState::Spent => Some(self.store.free(i)),
+            _ => None,
+        }
+    }
+
+    /// How many calls of a client session are active or wait: none where its number was never used.
+    pub fn pending(&self, session: SessionNo) -> u64
+        ensures { result ≡ pending_told (find (is_client session) self.now.lists.clients) }
+    {
+        let i = usize::from(session.0);
+        if i >= self.store.clients() {
+            return 0;
+        }
+        self.store.pending(i)
+    }
+
+    /// Whether its rings and its inbox are empty, no packet is queued, and no job is out.
+    pub fn quiet(&self) -> bool
+        ensures { IsTrue result ↔ IsQuiet self.now.lists }
+    {
+        self.rx.is_empty() && self.store.queued() == 0 && self.jobs.is_empty()
+    }
+}
+
+impl<V: Service, W: Workers> Endpoint<V, W> {
+    /// Whether there are a number of either kind and room for a session with so many credits, 1 to
+    /// 256. `NumbersSpent` comes exactly where 65,535 numbers of a kind were used, and then
+    /// `RingFull` exactly where the credits of the live sessions and these are more than the ring
+    /// is long. It is never `NoMemory`.
+    pub fn pair_room(&self, credits: u16) -> Result<(), ConnectError>
+        requires some { 1 ≤ credits }
+        requires most { credits ≤ MOST_CREDITS }
+        ensures accepted { OnOk result (pair_refusal credits self.now.timed.lists ≡ None) }
+        ensures refused { IfErr result
+            (λ why. refused why ≡ pair_refusal credits self.now.timed.lists) }
+        ensures never_memory { IfErr result (λ why. IsSome (refused why)) }
+    {
+        self.node.pair_room(credits)
+    }
+
+    /// The free credits of a client session. `None` comes exactly where it is neither Connected,
+    /// Spent nor Closing.
+    pub fn free_credits(&self, session: SessionNo) -> Option<u16>
+        ensures { result ≡ free_told (find (is_client session) self.now.timed.lists.clients) }
+    {
+        self.node.free_credits(session)
+    }
+
+    /// How many calls of a client session are active or wait: none where its number was never used.
+    pub fn pending(&self, session: SessionNo) -> u64
+        ensures { result ≡ pending_told (find (is_client session) self.now.timed.lists.clients) }
+    {
+        self.node.pending(session)
+    }
+
+    /// How many handlers ran, how many jobs were given, and how many datagrams were dropped and
+    /// overflowed, since it was made. Each count stops at 2^64 - 1.
+    pub fn counts(&self) -> Counted
+        ensures { result ≡ self.now.timed.lists.counts }
+    {
+        self.node.counts
+    }
+
+    /// Whether its rings and its inbox are empty, no packet is queued, and no job is out.
+    pub fn quiet(&self) -> bool
+        ensures { IsTrue result ↔ IsQuiet self.now.timed.lists }
+    {
+        self.node.quiet()
+    }
+}
