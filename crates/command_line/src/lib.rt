@@ -1,0 +1,16 @@
+//! The grammar of the command line: the subcommands, each declared once, and what their words ask
+//! for. It knows nothing of what a subcommand does.
+#![tactic(auto)]
+
+mod number;
+mod row;
+mod task;
+mod telling;
+mod words;
+
+pub use task::{Task, WordsError};
+pub use telling::{complaint, usage};
+pub use words::read_words;
+
+#[cfg(test)]
+mod tests;

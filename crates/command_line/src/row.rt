@@ -1,0 +1,78 @@
+//! The simple commands of the subcommands, by the kit's `clap`.
+ghost use Rattle.std.specs.Prelude.{◌≡◌, ◌≢◌, IfOk, codes, map, true, false};
+ghost use Rattle.std.specs.String.{string_bytes};
+ghost use Rattle.clap.specs.Words.{app_of, is_simple_and_free, rule_of};
+ghost use Rattle.clap.specs.declared.error.kind.ErrorKind.TheVariants.{OutOfMemory};
+ghost use Rattle.command_line.specs.Answers.{Takes};
+ghost use Rattle.command_line.specs.Rows.{drill_row, positional, row, sim_row};
+
+use crate::task::WordsError;
+use clap::error::ErrorKind;
+use clap::{Arg, ArgAction, ArgMatches, Command};
+use std::alloc::{AllocError, Global};
+
+/// An argument without a name, that has to be given.
+fn positional<'a>(alloc: Global, id: &'a str) -> Arg<'a>
+    ensures rule { rule_of result ≡ positional id.entry.now }
+    ensures local { result.global ≡ false }
+{
+    Arg::new(alloc, id).action(ArgAction::Set).required(true)
+}
+
+/// A command that reads all of its words, with how it is called and what it does.
+fn row<'a>(alloc: Global, name: &'a str, call: &'a str, does: &'a str) -> Command<'a>
+    ensures { app_of result ≡ row name.entry.now }
+{
+    Command::new(alloc, name)
+        .no_binary_name(true)
+        .override_usage(call)
+        .about(does)
+}
+
+/// `sim`.
+pub fn sim<'a>(alloc: Global) -> Command<'a>
+    ensures { app_of result ≡ sim_row }
+{
+    row(
+        alloc,
+        "sim",
+        "erpc sim < SCRIPT > REPORT",
+        "runs the script on standard input and writes the report of what happened",
+    )
+}
+
+/// `drill SEED CALLS`.
+pub fn drill<'a>(alloc: Global) -> Result<Command<'a>, AllocError>
+    ensures { IfOk result (λ command. app_of command ≡ drill_row) }
+{
+    let command = row(
+        alloc,
+        "drill",
+        "erpc drill SEED CALLS",
+        "runs a script that the number SEED makes, with CALLS calls, and counts what happened",
+    )
+    .arg(positional(alloc, "SEED"))?
+    .arg(positional(alloc, "CALLS"))?;
+    Ok(command)
+}
+
+/// What words that a command doesn't take are, by the kind of its error.
+fn refusal(kind: ErrorKind) -> WordsError
+    ensures { result ≡ WordsError.Usage → kind ≢ OutOfMemory }
+{
+    match kind {
+        ErrorKind::OutOfMemory => WordsError::NoMemory,
+        _ => WordsError::Usage,
+    }
+}
+
+/// What a command makes of the words.
+pub fn take<'a>(command: Command<'a>, words: &'a [String]) -> Result<ArgMatches<'a>, WordsError>
+    requires { is_simple_and_free (app_of command) ≡ true }
+    ensures { Takes result (app_of command.entry) (map string_bytes words.entry.now) }
+{
+    match command.try_get_matches_from(words) {
+        Ok(matches) => Ok(matches),
+        Err(error) => Err(refusal(error.kind())),
+    }
+}
