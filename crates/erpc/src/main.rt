@@ -1,6 +1,7 @@
 //! The program: it makes the real ends, calls the top call, and tells how that ended.
 #![tactic(auto)]
 
+use command_line::complaint;
 use rpc_outside::{IoSink, IoSource, Kept, Source};
 use rpc_tools::{Status, run};
 use script_help::Explanation;
@@ -43,16 +44,28 @@ fn complain(rt: &HostRuntime, status: Status, script: Option<&[u8]>) {
     };
 }
 
+// One line on standard error that names the wrong word, or how each subcommand is called.
+fn refuse(rt: &HostRuntime, words: &[String]) {
+    let _ = match complaint(rt.alloc(), words) {
+        Ok(text) => eprintln!(rt; "erpc: {text}"),
+        Err(_) => eprintln!(rt; "erpc: {}", Status::Usage),
+    };
+}
+
 fn main(rt: HostRuntime) -> ExitCode {
     let mut source = Kept::new(rt.alloc(), IoSource::new(rt.stdin()));
-    let status = match words_of(&rt) {
+    let words = words_of(&rt);
+    let status = match &words {
         Ok(words) => run_words(&rt, words.as_slice(), &mut source),
         Err(error) if error.kind() == io::ErrorKind::OutOfMemory => Status::NoMemory,
         // A word that is no text is in no line of the grammar.
         Err(_) => Status::Usage,
     };
-    if status != Status::Done {
-        complain(&rt, status, source.bytes());
+    match (status, words) {
+        (Status::Done, _) => {}
+        (Status::Usage, Ok(words)) => refuse(&rt, words.as_slice()),
+        (Status::Usage, Err(_)) => refuse(&rt, &[]),
+        _ => complain(&rt, status, source.bytes()),
     }
     ExitCode::from(status.code())
 }

@@ -1,2 +1,3 @@
+pub mod DrillLemmas
 pub mod Headline
 pub mod ReadingLemmas

@@ -1,6 +1,7 @@
 //! The tools of the program: words, a source and a sink in, a status out.
 #![tactic(auto)]
 
+mod drill;
 mod reading;
 mod simulation;
 mod status;

@@ -17,7 +17,7 @@ pub enum Status {
     BadScript(BadScript),
     /// The source failed.
     ReadFault,
-    /// The sink failed; a front of the report was written.
+    /// The sink failed; a front of what was to be written was.
     WriteFault,
     /// There was no memory.
     NoMemory,
@@ -44,7 +44,7 @@ impl fmt::Display for Status {
     fn fmt<W: fmt::Write>(&self, f: &mut fmt::Formatter<W>) -> fmt::Result {
         match self {
             Status::Done => f.write_str("done"),
-            Status::Usage => f.write_str("usage: erpc sim < SCRIPT > REPORT"),
+            Status::Usage => f.write_str("the words are not in the grammar; erpc help tells it"),
             Status::BadScript(bad) => write!(f, "bad script: {bad}"),
             Status::ReadFault => f.write_str("the script could not be read to its end"),
             Status::WriteFault => f.write_str("the report could not be written"),

@@ -1,5 +1,5 @@
-//! Faults of the outside: the source's second read, the sink's second write, and words that are no
-//! tool.
+//! Faults of the outside: the source's second read and the sink's second write; and words that are
+//! no tool, and those of a drill.
 use crate::status::Status;
 use crate::tools::run;
 use rpc_outside::{FirmSink, FirmSource, MemSink, MemSource};
@@ -59,12 +59,17 @@ fn each_fault_has_its_status_and_leaves_a_front(rt: HostRuntime) -> Result<(), F
 }
 
 #[test]
-fn the_words_are_sim_alone(rt: HostRuntime) -> Result<(), Fail> {
+fn other_words_are_usage(rt: HostRuntime) -> Result<(), Fail> {
     let alloc = rt.alloc();
     let bytes = Vec::from_slice(alloc, SCRIPT.as_bytes())?;
     let mut source = FirmSource::new(bytes);
     let mut sink = FirmSink::new();
-    for list in [&["sim", "x"][..], &["Sim"][..], &[][..]] {
+    for list in [
+        &["sim", "x"][..],
+        &["Sim"][..],
+        &["drill", "7"][..],
+        &[][..],
+    ] {
         let words = words(alloc, list)?;
         assert_eq!(rt;
             run(alloc, words.as_slice(), &mut source, &mut sink),

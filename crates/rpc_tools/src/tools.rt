@@ -1,61 +1,69 @@
 //! The top call.
-ghost use Rattle.std.specs.Prelude.{◌≡◌, ◌≢◌, ◌↔◌, ℕ, List, [], ◌∷◌, map, codes, IsTrue, Some, None, Ok};
+ghost use Rattle.std.specs.Prelude.{◌≡◌, ◌≢◌, ℕ, List, map, Some, None, Ok};
 ghost use Rattle.std.specs.String.{string_bytes};
+ghost use Rattle.command_line.specs.Tasks.{task_of};
 ghost use Rattle.rpc_outside.specs.Faults.{IsQuiet};
-ghost use Rattle.rpc_tools.specs.Outcomes.{NothingDone, Simulates, Succeeds};
+ghost use Rattle.rpc_tools.specs.Drills.{Drills, Succeeds as DrillSucceeds};
+ghost use Rattle.rpc_tools.specs.Outcomes.{NothingDone, Simulates, Succeeds, Untouched};
 ghost use Rattle.rpc_world.specs.Served.{later_of};
 ghost use Rattle.script_grammar.specs.declared.line.Line.{Line};
 ghost use Rattle.script_grammar.specs.Script.{script_of};
 
+use crate::drill::drill;
 use crate::simulation::sim;
 use crate::status::Status;
+use command_line::{Task, WordsError, read_words};
 use rpc_outside::{Sink, Source};
 use std::alloc::Global;
 
-fn is_the_word_sim(word: &String) -> bool
-    ensures { IsTrue result ↔ (string_bytes word.now ≡ codes "sim") }
-{
-    word.as_str() == "sim"
-}
-
-fn is_sim(words: &[String]) -> bool
-    ensures { IsTrue result ↔ (map string_bytes words.now ≡ codes "sim" ∷ []) }
-{
-    match words {
-        [word] => is_the_word_sim(word),
-        _ => false,
-    }
-}
-
 /// Runs the program on the words after its name. `sim` reads a script from the source and writes
-/// the report of its history to the sink; every other line of words is `Usage`. A script with a
-/// `connect` or a `disconnect` is refused as `Later`, with the number of its first such line.
+/// the report of its history to the sink; a script with a `connect` or a `disconnect` is refused as
+/// `Later`, with the number of its first such line. `drill SEED CALLS` runs a script that it makes,
+/// and writes a line that counts what happened. Words that are in no row of the command line are
+/// `Usage`.
 pub fn run<S: Source, K: Sink>(
     alloc: Global,
     words: &[String],
     source: &mut S,
     sink: &mut K,
 ) -> Status
-    ensures usage { (result ≡ Status.Usage) ↔ (map string_bytes words.now ≢ codes "sim" ∷ []) }
+    ensures usage { result ≡ Status.Usage → task_of (map string_bytes words.now) ≡ None }
+    ensures no_task { task_of (map string_bytes words.now) ≡ None → result ≢ Status.NoMemory
+        → result ≡ Status.Usage }
     ensures refuses { result ≡ Status.Usage
         → NothingDone (S.left source.old) (S.left source.new) (S.faults source.old)
         (S.faults source.new) (K.written sink.old) (K.written sink.new) (K.faults sink.old)
         (K.faults sink.new) }
-    ensures simulates { map string_bytes words.now ≡ codes "sim" ∷ []
+    ensures simulates { task_of (map string_bytes words.now) ≡ Some Task.Sim
         → Simulates result (S.left source.old) (S.left source.new) (S.faults source.old)
         (S.faults source.new) (K.written sink.old) (K.written sink.new) (K.faults sink.old)
         (K.faults sink.new) }
     ensures headline { (bytes : List ℕ) (script : List Line)
-        → map string_bytes words.now ≡ codes "sim" ∷ []
+        → task_of (map string_bytes words.now) ≡ Some Task.Sim
         → S.left source.old ≡ Some bytes → script_of bytes ≡ Ok script → later_of script ≡ None
         → IsQuiet (S.faults source.old) (S.faults source.new)
         → IsQuiet (K.faults sink.old) (K.faults sink.new)
         → result ≢ Status.NoMemory
         → Succeeds script result (S.left source.new) (K.written sink.old) (K.written sink.new)
         (K.faults sink.old) (K.faults sink.new) }
+    ensures drills { (seed calls : ℕ)
+        → task_of (map string_bytes words.now) ≡ Some (Task.Drill seed calls)
+        → Drills result seed calls (K.written sink.old) (K.written sink.new) (K.faults sink.old)
+        (K.faults sink.new) }
+    ensures reads_nothing { (seed calls : ℕ)
+        → task_of (map string_bytes words.now) ≡ Some (Task.Drill seed calls)
+        → Untouched (S.left source.old) (S.left source.new) (S.faults source.old)
+        (S.faults source.new) }
+    ensures drilled { (seed calls : ℕ)
+        → task_of (map string_bytes words.now) ≡ Some (Task.Drill seed calls)
+        → IsQuiet (K.faults sink.old) (K.faults sink.new) → result ≢ Status.NoMemory
+        → DrillSucceeds result seed calls (K.written sink.old) (K.written sink.new)
+        (K.faults sink.old) (K.faults sink.new) }
 {
-    if !is_sim(words) {
-        return Status::Usage;
+    match read_words(alloc, words) {
+        Ok(Task::Sim) => sim(alloc, source, sink),
+        Ok(Task::Drill { seed, calls }) => drill(alloc, seed, calls, sink),
+        Err(WordsError::Usage) => Status::Usage,
+        Err(WordsError::NoMemory) => Status::NoMemory,
     }
-    sim(alloc, source, sink)
 }
