@@ -1,6 +1,6 @@
 //! The worked rows: each script of the folder is run in memory, and its report compared with what
 //! stands beside it, a whole report, lines that come in this order, each as often as it stands
-//! there, or counts of lines.
+//! there, or counts of lines. Drills write the line that is expected, twice the same.
 #![tactic(auto)]
 
 use rpc_outside::{MemSink, MemSource};
@@ -37,14 +37,28 @@ const LINES: [&str; 18] = [
 /// The cases with counts of lines: a number, how the lines begin, and what each has in it.
 const COUNTS: [&str; 2] = ["largest_message", "full_jobs"];
 
+/// The drills, and how the one line begins that each writes at every run.
+const DRILLS: [(&str, &str); 2] = [
+    (
+        "drill 7 100",
+        "drill seed 7 calls 100 ran 100 ok 100 facts ",
+    ),
+    (
+        "drill 7 1000",
+        "drill seed 7 calls 1000 ran 1000 ok 1000 facts ",
+    ),
+];
+
 /// More bytes than the report of a case has.
 const ROOM: u32 = 1 << 25;
 
-// The report of a script; an error where the run did not end well.
-fn report_of(alloc: Global, script: Vec<u8>) -> io::Result<String> {
+// What the program writes on a line of words; an error where the run did not end well.
+fn written_by(alloc: Global, line: &str, source: Vec<u8>) -> io::Result<String> {
     let mut words = Vec::new(alloc);
-    words.push(String::from_str(alloc, "sim")?)?;
-    let mut source = MemSource::new(script, Vec::new(alloc));
+    for word in line.split_whitespace() {
+        words.push(String::from_str(alloc, word)?)?;
+    }
+    let mut source = MemSource::new(source, Vec::new(alloc));
     let Ok(mut sink) = MemSink::new(alloc, ROOM, Vec::new(alloc)) else {
         return Err(io::Error::from(io::ErrorKind::OutOfMemory));
     };
@@ -99,7 +113,7 @@ fn has_count(report: &str, wanted: &str) -> bool {
 
 fn run_case(rt: &(impl Files + AllocGlobal), name: &str) -> io::Result<String> {
     let script = format!(in rt.alloc(); "{name}.script")?;
-    report_of(rt.alloc(), fs::read(rt, script.as_str())?)
+    written_by(rt.alloc(), "sim", fs::read(rt, script.as_str())?)
 }
 
 fn is_whole(rt: &(impl Files + AllocGlobal), name: &str) -> io::Result<bool> {
@@ -128,6 +142,15 @@ fn is_counted(rt: &(impl Files + AllocGlobal), name: &str) -> io::Result<bool> {
     )
 }
 
+// Whether a drill writes one line that begins so, and the same one again.
+fn is_drilled(alloc: Global, words: &str, front: &str) -> io::Result<bool> {
+    let first = written_by(alloc, words, Vec::new(alloc))?;
+    let second = written_by(alloc, words, Vec::new(alloc))?;
+    let line = first.as_str();
+    let is_one = line.starts_with(front) && line.lines().count() == 1;
+    Ok(is_one && line == second.as_str())
+}
+
 fn tell(rt: &impl Print, name: &str, outcome: io::Result<bool>) -> io::Result<()> {
     match outcome {
         Ok(true) => println!(rt; "{name}: as expected"),
@@ -146,5 +169,11 @@ fn main(rt: HostRuntime) -> io::Result<()> {
     for name in COUNTS {
         tell(&rt, name, is_counted(&rt, name))?;
     }
-    println!(rt; "{} cases", WHOLE.len() + LINES.len() + COUNTS.len())
+    for (words, front) in DRILLS {
+        tell(&rt, words, is_drilled(rt.alloc(), words, front))?;
+    }
+    println!(rt;
+        "{} cases",
+        WHOLE.len() + LINES.len() + COUNTS.len() + DRILLS.len()
+    )
 }
