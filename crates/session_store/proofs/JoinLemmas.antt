@@ -4,6 +4,7 @@ use Rattle.std.proofs.Common.{None, List, [], ◌∷◌, ◌++◌, length, refl,
 use Rattle.std.proofs.Common.{append_assoc}
 use Rattle.std.specs.Prelude.{IfNone, IfSome, drop, map, option_map, slice_get}
 use Rattle.std.specs.List.{AllByRecursion, Contains, list_any}
+use Rattle.rpc_base.proofs.BasicLemmas.{or-false}
 use Rattle.rpc_base.proofs.LeastLemmas.{least-out, least-same, out-listed, out-taken}
 use Rattle.packet_rings.specs.Rings.{Ring}
 use Rattle.std.proofs.lemmas.Bool.{leb-true}
@@ -68,15 +69,11 @@ first-is-due now xs ps h due = rw (none-first xs h) (by ps due)
     by (q ∷ qs) t = t
 
 -- where none is due, none may be sent, and none is made ready
-or-parts : (a b : Bool) → (a || b) ≡ false → (a ≡ false) × (b ≡ false)
-or-parts true b t = cc
-or-parts false b t = (refl, t)
-
 none-line : (now : ℕ) (ps : List Paced) → list_any (is_due now) ps ≡ false
     → line now (map paced_of ps) ≡ []
 none-line now [] none = refl
 none-line now (p ∷ ps) none =
-    let parts = or-parts (is_due now p) (list_any (is_due now) ps) none in
+    let parts = or-false (is_due now p) (list_any (is_due now) ps) none in
     rw parts.0 (none-line now ps parts.1)
 
 pub line-none : (now : ℕ) (xs : List EntryValue) (ps : List Paced) → slice_get xs 0 ≡ None
@@ -87,7 +84,7 @@ still-paced : (now : ℕ) (ps : List Paced) → list_any (is_due now) ps ≡ fal
     → map (made_ready now) (map paced_of ps) ≡ map paced_of ps
 still-paced now [] none = refl
 still-paced now (p ∷ ps) none =
-    let parts = or-parts (is_due now p) (list_any (is_due now) ps) none in
+    let parts = or-false (is_due now p) (list_any (is_due now) ps) none in
     rw parts.0 (ap (λ qs. paced_of p ∷ qs) (still-paced now ps parts.1))
 
 still-ready : (now : ℕ) (xs : List EntryValue)

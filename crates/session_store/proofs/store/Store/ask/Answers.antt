@@ -6,12 +6,17 @@ use Rattle.session_store.proofs.store.Store.ask.Goals as goal
 pub enqueue_at-requires-clause-turns : goal.enqueue_at-requires-clause-turns
 enqueue_at-requires-clause-turns c =
     has-turns c.self.inside.pool c.self.inside.sides.items c.self.inside.servers.items
-    (joined c.self.inside.tx c.self.inside.pacer) c.args.i (undue c.args.self.now) (flat c.self.inside.pool c.self.inside.sides.items c.self.inside.servers.items c.self.inside.tx c.self.inside.pacer c.args.self.now c.self.view_is) c.requires.connected
+    (joined c.self.inside.tx c.self.inside.pacer) c.args.i (undue c.args.self.now)
+    (flat c.self.inside.pool c.self.inside.sides.items c.self.inside.servers.items
+    c.self.inside.tx c.self.inside.pacer c.args.self.now c.self.view_is) c.requires.connected
 
 pub invariant_of-self : goal.invariant_of-self
 invariant_of-self c = (
   kept-ask c.self.inside.pool c.self.inside.sides.items c.self.inside.servers.items
-      (joined c.self.inside.tx c.self.inside.pacer) c.args.i (undue c.args.self.now) (flat c.self.inside.pool c.self.inside.sides.items c.self.inside.servers.items c.self.inside.tx c.self.inside.pacer c.args.self.now c.self.view_is) c.requires.connected c.args.waiting
+      (joined c.self.inside.tx c.self.inside.pacer) c.args.i (undue c.args.self.now)
+      (flat c.self.inside.pool c.self.inside.sides.items c.self.inside.servers.items
+      c.self.inside.tx c.self.inside.pacer c.args.self.now c.self.view_is) c.requires.connected
+      c.args.waiting
       c.enqueue_at.new.sides.items c.enqueue_at.result c.self.invariant.0 c.requires.above
       c.enqueue_at.ensures.waits c.enqueue_at.ensures.unchanged,
   c.self.invariant.1,
@@ -20,7 +25,10 @@ invariant_of-self c = (
 pub returns-clause-clients : goal.returns-clause-clients
 returns-clause-clients c =
     clients-ask c.self.inside.pool c.self.inside.sides.items c.self.inside.servers.items
-    (joined c.self.inside.tx c.self.inside.pacer) c.args.i (undue c.args.self.now) (flat c.self.inside.pool c.self.inside.sides.items c.self.inside.servers.items c.self.inside.tx c.self.inside.pacer c.args.self.now c.self.view_is) c.requires.connected c.args.waiting
+    (joined c.self.inside.tx c.self.inside.pacer) c.args.i (undue c.args.self.now)
+    (flat c.self.inside.pool c.self.inside.sides.items c.self.inside.servers.items
+    c.self.inside.tx c.self.inside.pacer c.args.self.now c.self.view_is) c.requires.connected
+    c.args.waiting
     c.enqueue_at.new.sides.items c.enqueue_at.result c.self.invariant.0 c.requires.above
     c.enqueue_at.ensures.waits
 

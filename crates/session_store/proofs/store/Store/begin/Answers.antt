@@ -7,7 +7,9 @@ use Rattle.session_store.proofs.store.Store.begin.Goals as goal
 pub begin_at-requires-clause-spare : goal.begin_at-requires-clause-spare
 begin_at-requires-clause-spare c =
     two-spare c.self.inside.pool c.self.inside.sides.items c.self.inside.servers.items
-    (joined c.self.inside.tx c.self.inside.pacer) (undue c.args.self.now) c.self.invariant.0 (flat c.self.inside.pool c.self.inside.sides.items c.self.inside.servers.items c.self.inside.tx c.self.inside.pacer c.args.self.now c.self.view_is) c.requires.room
+    (joined c.self.inside.tx c.self.inside.pacer) (undue c.args.self.now) c.self.invariant.0
+    (flat c.self.inside.pool c.self.inside.sides.items c.self.inside.servers.items
+    c.self.inside.tx c.self.inside.pacer c.args.self.now c.self.view_is) c.requires.room
 
 pub invariant_of-self : goal.invariant_of-self
 invariant_of-self c =

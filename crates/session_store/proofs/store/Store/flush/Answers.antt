@@ -43,7 +43,9 @@ pub flushed_at-requires-clause-held : goal.flushed_at-requires-clause-held
 flushed_at-requires-clause-held c =
     let s = c.self.inside in
     let number = c.session.ensures ∙ number-at s.pool s.sides.items s.servers.items (joined s.tx s.pacer)
-    c.self.invariant.0 (undue c.args.self.now) (flat c.self.inside.pool c.self.inside.sides.items c.self.inside.servers.items c.self.inside.tx c.self.inside.pacer c.args.self.now c.self.view_is) c.args.i c.index.result.now
+    c.self.invariant.0 (undue c.args.self.now) (flat c.self.inside.pool c.self.inside.sides.items
+    c.self.inside.servers.items c.self.inside.tx c.self.inside.pacer c.args.self.now c.self.view_is)
+    c.args.i c.index.result.now
     c.requires.known c.index.ensures in
     let h = rw c.in-Some.is at c.flush_in-flushed.ensures in
     let own = least-own c.session.result c.args.request c.in-Some.entry h.own
@@ -56,13 +58,17 @@ pub invariant_of-self-2 : goal.invariant_of-self-2
 invariant_of-self-2 c =
     let s = c.self.inside in
     let number = c.session.ensures ∙ number-at s.pool s.sides.items s.servers.items (joined s.tx s.pacer)
-    c.self.invariant.0 (undue c.args.self.now) (flat c.self.inside.pool c.self.inside.sides.items c.self.inside.servers.items c.self.inside.tx c.self.inside.pacer c.args.self.now c.self.view_is) c.args.i c.index.result.now
+    c.self.invariant.0 (undue c.args.self.now) (flat c.self.inside.pool c.self.inside.sides.items
+    c.self.inside.servers.items c.self.inside.tx c.self.inside.pacer c.args.self.now c.self.view_is)
+    c.args.i c.index.result.now
     c.requires.known c.index.ensures in
     let h = rw c.in-Some.is at c.flush_in-flushed.ensures in
     let own = least-own c.session.result c.args.request c.in-Some.entry h.own
     ∙ ap (λ n. Ask n c.args.request) number in (
-      subst (λ n. Kept c.flushed_at.new.pool c.flushed_at.new.sides.items s.servers.items (ring (joined c.flush_in-flushed.new.tx
-          c.flush_in-flushed.new.pacer).items n)) (sym (ap (λ r. r.size) h.left)) (flushed-kept s.pool c.flushed_at.new.pool s.sides.items c.flushed_at.new.sides.items
+      subst (λ n. Kept c.flushed_at.new.pool c.flushed_at.new.sides.items s.servers.items
+          (ring (joined c.flush_in-flushed.new.tx
+          c.flush_in-flushed.new.pacer).items n)) (sym (ap (λ r. r.size) h.left))
+          (flushed-kept s.pool c.flushed_at.new.pool s.sides.items c.flushed_at.new.sides.items
           s.servers.items (joined s.tx s.pacer) c.args.i c.args.request c.in-Some.entry
           (is_entry (Ask c.session.result c.args.request) c.in-Some.entry.number)
           (joined c.flush_in-flushed.new.tx c.flush_in-flushed.new.pacer).items
@@ -98,7 +104,9 @@ pub returns-clause-clients : goal.returns-clause-clients
 returns-clause-clients c =
     let s = c.self.inside in
     let number = c.session.ensures ∙ number-at s.pool s.sides.items s.servers.items (joined s.tx s.pacer)
-    c.self.invariant.0 (undue c.args.self.now) (flat c.self.inside.pool c.self.inside.sides.items c.self.inside.servers.items c.self.inside.tx c.self.inside.pacer c.args.self.now c.self.view_is) c.args.i c.index.result.now
+    c.self.invariant.0 (undue c.args.self.now) (flat c.self.inside.pool c.self.inside.sides.items
+    c.self.inside.servers.items c.self.inside.tx c.self.inside.pacer c.args.self.now c.self.view_is)
+    c.args.i c.index.result.now
     c.requires.known c.index.ensures in
     let h = rw c.in-Some.is at c.flush_in-flushed.ensures in
     let own = least-own c.session.result c.args.request c.in-Some.entry h.own
@@ -106,13 +114,16 @@ returns-clause-clients c =
     rw (← c.self.view_is) (flushed-clients s.pool c.flushed_at.new.pool s.sides.items
     c.flushed_at.new.sides.items s.servers.items (joined s.tx s.pacer) c.args.i c.args.request c.in-Some.entry
     (is_entry (Ask c.session.result c.args.request) c.in-Some.entry.number)
-    (joined c.flush_in-flushed.new.tx c.flush_in-flushed.new.pacer).items c.self.invariant.0 h.nearest own c.flushed_at.ensures)
+    (joined c.flush_in-flushed.new.tx c.flush_in-flushed.new.pacer).items c.self.invariant.0
+    h.nearest own c.flushed_at.ensures)
 
 pub returns-clause-places : goal.returns-clause-places
 returns-clause-places c =
     let s = c.self.inside in
     let number = c.session.ensures ∙ number-at s.pool s.sides.items s.servers.items (joined s.tx s.pacer)
-    c.self.invariant.0 (undue c.args.self.now) (flat c.self.inside.pool c.self.inside.sides.items c.self.inside.servers.items c.self.inside.tx c.self.inside.pacer c.args.self.now c.self.view_is) c.args.i c.index.result.now
+    c.self.invariant.0 (undue c.args.self.now) (flat c.self.inside.pool c.self.inside.sides.items
+    c.self.inside.servers.items c.self.inside.tx c.self.inside.pacer c.args.self.now c.self.view_is)
+    c.args.i c.index.result.now
     c.requires.known c.index.ensures in
     let h = rw c.in-Some.is at c.flush_in-flushed.ensures in
     let own = least-own c.session.result c.args.request c.in-Some.entry h.own
@@ -120,7 +131,8 @@ returns-clause-places c =
     rw (← c.self.view_is) (flushed-places s.pool c.flushed_at.new.pool s.sides.items
     c.flushed_at.new.sides.items s.servers.items (joined s.tx s.pacer) c.args.i c.args.request c.in-Some.entry
     (is_entry (Ask c.session.result c.args.request) c.in-Some.entry.number)
-    (joined c.flush_in-flushed.new.tx c.flush_in-flushed.new.pacer).items c.self.invariant.0 h.nearest own c.flushed_at.ensures)
+    (joined c.flush_in-flushed.new.tx c.flush_in-flushed.new.pacer).items c.self.invariant.0
+    h.nearest own c.flushed_at.ensures)
 
 pub invariant_of-self : goal.invariant_of-self
 invariant_of-self c =

@@ -28,7 +28,8 @@ reply_flushed_at-requires-clause-stands c =
     let own = least-reply c.args.session c.args.request c.in-Some.entry h.own in
     reply-there s.pool s.pool s.sides.items s.servers.items s.servers.items (joined s.tx s.pacer) c.args.session
     c.args.request c.in-Some.entry (is_entry (Reply c.args.session c.args.request)
-    c.in-Some.entry.number) (joined c.flush_in-flushed.new.tx c.flush_in-flushed.new.pacer).items c.self.invariant.0 h.nearest own
+    c.in-Some.entry.number) (joined c.flush_in-flushed.new.tx c.flush_in-flushed.new.pacer).items
+    c.self.invariant.0 h.nearest own
 
 pub reply_flushed_at-requires-clause-held : goal.reply_flushed_at-requires-clause-held
 reply_flushed_at-requires-clause-held c =
@@ -37,15 +38,18 @@ reply_flushed_at-requires-clause-held c =
     let own = least-reply c.args.session c.args.request c.in-Some.entry h.own in
     reply-held s.pool s.pool s.sides.items s.servers.items s.servers.items (joined s.tx s.pacer) c.args.session
     c.args.request c.in-Some.entry (is_entry (Reply c.args.session c.args.request)
-    c.in-Some.entry.number) (joined c.flush_in-flushed.new.tx c.flush_in-flushed.new.pacer).items c.self.invariant.0 h.nearest own
+    c.in-Some.entry.number) (joined c.flush_in-flushed.new.tx c.flush_in-flushed.new.pacer).items
+    c.self.invariant.0 h.nearest own
 
 pub invariant_of-self-2 : goal.invariant_of-self-2
 invariant_of-self-2 c =
     let s = c.self.inside in
     let h = rw c.in-Some.is at c.flush_in-flushed.ensures in
     let own = least-reply c.args.session c.args.request c.in-Some.entry h.own in (
-      subst (λ n. Kept c.reply_flushed_at.new.pool s.sides.items c.reply_flushed_at.new.servers.items (ring (joined c.flush_in-flushed.new.tx
-          c.flush_in-flushed.new.pacer).items n)) (sym (ap (λ r. r.size) h.left)) (reply-kept s.pool c.reply_flushed_at.new.pool s.sides.items s.servers.items
+      subst (λ n. Kept c.reply_flushed_at.new.pool s.sides.items
+          c.reply_flushed_at.new.servers.items (ring (joined c.flush_in-flushed.new.tx
+          c.flush_in-flushed.new.pacer).items n)) (sym (ap (λ r. r.size) h.left))
+          (reply-kept s.pool c.reply_flushed_at.new.pool s.sides.items s.servers.items
           c.reply_flushed_at.new.servers.items (joined s.tx s.pacer) c.args.session c.args.request c.in-Some.entry
           (is_entry (Reply c.args.session c.args.request) c.in-Some.entry.number)
           (joined c.flush_in-flushed.new.tx c.flush_in-flushed.new.pacer).items
@@ -71,7 +75,8 @@ returns-clause-clients c =
     rw (← c.self.view_is) (reply-clients s.pool c.reply_flushed_at.new.pool s.sides.items
     s.servers.items c.reply_flushed_at.new.servers.items (joined s.tx s.pacer) c.args.session c.args.request
     c.in-Some.entry (is_entry (Reply c.args.session c.args.request) c.in-Some.entry.number)
-    (joined c.flush_in-flushed.new.tx c.flush_in-flushed.new.pacer).items c.self.invariant.0 h.nearest own c.reply_flushed_at.ensures)
+    (joined c.flush_in-flushed.new.tx c.flush_in-flushed.new.pacer).items c.self.invariant.0
+    h.nearest own c.reply_flushed_at.ensures)
 
 pub returns-clause-servers : goal.returns-clause-servers
 returns-clause-servers c =
@@ -81,7 +86,8 @@ returns-clause-servers c =
     rw (← c.self.view_is) (reply-servers s.pool c.reply_flushed_at.new.pool s.sides.items
     s.servers.items c.reply_flushed_at.new.servers.items (joined s.tx s.pacer) c.args.session c.args.request
     c.in-Some.entry (is_entry (Reply c.args.session c.args.request) c.in-Some.entry.number)
-    (joined c.flush_in-flushed.new.tx c.flush_in-flushed.new.pacer).items c.self.invariant.0 h.nearest own c.reply_flushed_at.ensures)
+    (joined c.flush_in-flushed.new.tx c.flush_in-flushed.new.pacer).items c.self.invariant.0
+    h.nearest own c.reply_flushed_at.ensures)
 
 pub returns-clause-places : goal.returns-clause-places
 returns-clause-places c =
@@ -91,7 +97,8 @@ returns-clause-places c =
     rw (← c.self.view_is) (reply-places s.pool c.reply_flushed_at.new.pool s.sides.items
     s.servers.items c.reply_flushed_at.new.servers.items (joined s.tx s.pacer) c.args.session c.args.request
     c.in-Some.entry (is_entry (Reply c.args.session c.args.request) c.in-Some.entry.number)
-    (joined c.flush_in-flushed.new.tx c.flush_in-flushed.new.pacer).items c.self.invariant.0 h.nearest own c.reply_flushed_at.ensures)
+    (joined c.flush_in-flushed.new.tx c.flush_in-flushed.new.pacer).items c.self.invariant.0
+    h.nearest own c.reply_flushed_at.ensures)
 
 pub invariant_of-self : goal.invariant_of-self
 invariant_of-self c =

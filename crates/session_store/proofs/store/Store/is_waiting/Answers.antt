@@ -12,7 +12,9 @@ pub returns : goal.returns
 returns c =
     let s = c.self.inside in
     let number = c.session.ensures ∙ number-at s.pool s.sides.items s.servers.items (joined s.tx s.pacer)
-    c.self.invariant.0 (undue c.args.self.now) (flat c.self.inside.pool c.self.inside.sides.items c.self.inside.servers.items c.self.inside.tx c.self.inside.pacer c.args.self.now c.self.view_is) c.args.i c.index-2.result.now
+    c.self.invariant.0 (undue c.args.self.now) (flat c.self.inside.pool c.self.inside.sides.items
+    c.self.inside.servers.items c.self.inside.tx c.self.inside.pacer c.args.self.now c.self.view_is)
+    c.args.i c.index-2.result.now
     c.requires.known c.index-2.ensures in
     rw (← c.self.view_is) (c.holds_in.ensures ∙ ap
     (λ n. list_any (is_entry (Ask n c.args.request) c.args.number) (joined s.tx s.pacer).items) number
@@ -21,7 +23,10 @@ returns c =
 pub returns-then-queued-eq0 : goal.returns-then-queued-eq0
 returns-then-queued-eq0 c =
     let s = c.self.inside in
-    let at = there-at s.pool s.sides.items s.servers.items (joined s.tx s.pacer) c.self.invariant.0 (undue c.args.self.now) (flat c.self.inside.pool c.self.inside.sides.items c.self.inside.servers.items c.self.inside.tx c.self.inside.pacer c.args.self.now c.self.view_is) c.args.i c.index.result.now c.requires.known c.index.ensures in
+    let at = there-at s.pool s.sides.items s.servers.items (joined s.tx s.pacer) c.self.invariant.0
+    (undue c.args.self.now) (flat c.self.inside.pool c.self.inside.sides.items
+    c.self.inside.servers.items c.self.inside.tx c.self.inside.pacer c.args.self.now
+    c.self.view_is) c.args.i c.index.result.now c.requires.known c.index.ensures in
     let none = idle-packet s.pool s.sides.items s.servers.items (joined s.tx s.pacer) c.self.invariant.0 c.args.i
     c.args.request c.index.result.now at c.args.number
     (sym c.queued.ensures ∙ c.if-queued-eq0.true) in

@@ -7,16 +7,24 @@ use Rattle.session_store.proofs.store.Store.lose.Goals as goal
 pub lose_at-requires-clause-unheld : goal.lose_at-requires-clause-unheld
 lose_at-requires-clause-unheld c =
     let s = c.self.inside in
-    unheld-at s.pool s.sides.items s.servers.items (joined s.tx s.pacer) c.self.invariant.0 (undue c.args.self.now) (flat c.self.inside.pool c.self.inside.sides.items c.self.inside.servers.items c.self.inside.tx c.self.inside.pacer c.args.self.now c.self.view_is) c.args.i (idle-undue c.args.i c.args.self.now.queued c.requires.idle)
+    unheld-at s.pool s.sides.items s.servers.items (joined s.tx s.pacer) c.self.invariant.0
+    (undue c.args.self.now) (flat c.self.inside.pool c.self.inside.sides.items
+    c.self.inside.servers.items c.self.inside.tx c.self.inside.pacer c.args.self.now c.self.view_is)
+    c.args.i (idle-undue c.args.i c.args.self.now.queued c.requires.idle)
 
 pub invariant_of-self : goal.invariant_of-self
 invariant_of-self c =
     let s = c.self.inside in
     let h = c.lose_at.ensures in
     let broken = lost-broken s.pool s.sides.items s.servers.items (joined s.tx s.pacer) c.self.invariant.0
-    (undue c.args.self.now) (flat c.self.inside.pool c.self.inside.sides.items c.self.inside.servers.items c.self.inside.tx c.self.inside.pacer c.args.self.now c.self.view_is) c.args.i c.requires.lost h.side h.at in (
+    (undue c.args.self.now) (flat c.self.inside.pool c.self.inside.sides.items
+    c.self.inside.servers.items c.self.inside.tx c.self.inside.pacer c.args.self.now
+    c.self.view_is) c.args.i c.requires.lost h.side h.at in (
       lose-kept s.pool c.lose_at.new.pool s.sides.items c.lose_at.new.sides.items s.servers.items (joined s.tx s.pacer)
-          c.self.invariant.0 (undue c.args.self.now) (flat c.self.inside.pool c.self.inside.sides.items c.self.inside.servers.items c.self.inside.tx c.self.inside.pacer c.args.self.now c.self.view_is) c.args.i (idle-undue c.args.i c.args.self.now.queued c.requires.idle) c.lose_at.result h
+          c.self.invariant.0 (undue c.args.self.now)
+          (flat c.self.inside.pool c.self.inside.sides.items c.self.inside.servers.items
+          c.self.inside.tx c.self.inside.pacer c.args.self.now c.self.view_is) c.args.i
+          (idle-undue c.args.i c.args.self.now.queued c.requires.idle) c.lose_at.result h
           broken,
       c.self.invariant.1,
     )
@@ -26,9 +34,14 @@ returns-clause-clients c =
     let s = c.self.inside in
     let h = c.lose_at.ensures in
     let broken = lost-broken s.pool s.sides.items s.servers.items (joined s.tx s.pacer) c.self.invariant.0
-    (undue c.args.self.now) (flat c.self.inside.pool c.self.inside.sides.items c.self.inside.servers.items c.self.inside.tx c.self.inside.pacer c.args.self.now c.self.view_is) c.args.i c.requires.lost h.side h.at in
+    (undue c.args.self.now) (flat c.self.inside.pool c.self.inside.sides.items
+    c.self.inside.servers.items c.self.inside.tx c.self.inside.pacer c.args.self.now
+    c.self.view_is) c.args.i c.requires.lost h.side h.at in
     lose-clients s.pool c.lose_at.new.pool s.sides.items c.lose_at.new.sides.items s.servers.items
-    (joined s.tx s.pacer) c.self.invariant.0 (undue c.args.self.now) (flat c.self.inside.pool c.self.inside.sides.items c.self.inside.servers.items c.self.inside.tx c.self.inside.pacer c.args.self.now c.self.view_is) c.args.i (idle-undue c.args.i c.args.self.now.queued c.requires.idle)
+    (joined s.tx s.pacer) c.self.invariant.0 (undue c.args.self.now)
+    (flat c.self.inside.pool c.self.inside.sides.items c.self.inside.servers.items
+    c.self.inside.tx c.self.inside.pacer c.args.self.now c.self.view_is) c.args.i
+    (idle-undue c.args.i c.args.self.now.queued c.requires.idle)
     c.lose_at.result h broken
 
 pub returns-clause-servers : goal.returns-clause-servers
@@ -36,18 +49,28 @@ returns-clause-servers c =
     let s = c.self.inside in
     let h = c.lose_at.ensures in
     let broken = lost-broken s.pool s.sides.items s.servers.items (joined s.tx s.pacer) c.self.invariant.0
-    (undue c.args.self.now) (flat c.self.inside.pool c.self.inside.sides.items c.self.inside.servers.items c.self.inside.tx c.self.inside.pacer c.args.self.now c.self.view_is) c.args.i c.requires.lost h.side h.at in
+    (undue c.args.self.now) (flat c.self.inside.pool c.self.inside.sides.items
+    c.self.inside.servers.items c.self.inside.tx c.self.inside.pacer c.args.self.now
+    c.self.view_is) c.args.i c.requires.lost h.side h.at in
     rw (← c.self.view_is) (lose-servers s.pool c.lose_at.new.pool s.sides.items
-    c.lose_at.new.sides.items s.servers.items (joined s.tx s.pacer) c.self.invariant.0 (undue c.args.self.now) (flat c.self.inside.pool c.self.inside.sides.items c.self.inside.servers.items c.self.inside.tx c.self.inside.pacer c.args.self.now c.self.view_is) c.args.i (idle-undue c.args.i c.args.self.now.queued c.requires.idle) c.lose_at.result h broken)
+    c.lose_at.new.sides.items s.servers.items (joined s.tx s.pacer) c.self.invariant.0
+    (undue c.args.self.now) (flat c.self.inside.pool c.self.inside.sides.items
+    c.self.inside.servers.items c.self.inside.tx c.self.inside.pacer c.args.self.now c.self.view_is)
+    c.args.i (idle-undue c.args.i c.args.self.now.queued c.requires.idle) c.lose_at.result h broken)
 
 pub returns-clause-places : goal.returns-clause-places
 returns-clause-places c =
     let s = c.self.inside in
     let h = c.lose_at.ensures in
     let broken = lost-broken s.pool s.sides.items s.servers.items (joined s.tx s.pacer) c.self.invariant.0
-    (undue c.args.self.now) (flat c.self.inside.pool c.self.inside.sides.items c.self.inside.servers.items c.self.inside.tx c.self.inside.pacer c.args.self.now c.self.view_is) c.args.i c.requires.lost h.side h.at in
+    (undue c.args.self.now) (flat c.self.inside.pool c.self.inside.sides.items
+    c.self.inside.servers.items c.self.inside.tx c.self.inside.pacer c.args.self.now
+    c.self.view_is) c.args.i c.requires.lost h.side h.at in
     rw (← c.self.view_is) (lose-places s.pool c.lose_at.new.pool s.sides.items
-    c.lose_at.new.sides.items s.servers.items (joined s.tx s.pacer) c.self.invariant.0 (undue c.args.self.now) (flat c.self.inside.pool c.self.inside.sides.items c.self.inside.servers.items c.self.inside.tx c.self.inside.pacer c.args.self.now c.self.view_is) c.args.i (idle-undue c.args.i c.args.self.now.queued c.requires.idle) c.lose_at.result h broken)
+    c.lose_at.new.sides.items s.servers.items (joined s.tx s.pacer) c.self.invariant.0
+    (undue c.args.self.now) (flat c.self.inside.pool c.self.inside.sides.items
+    c.self.inside.servers.items c.self.inside.tx c.self.inside.pacer c.args.self.now c.self.view_is)
+    c.args.i (idle-undue c.args.i c.args.self.now.queued c.requires.idle) c.lose_at.result h broken)
 
 pub returns-clause-ended_as : goal.returns-clause-ended_as
 returns-clause-ended_as c =

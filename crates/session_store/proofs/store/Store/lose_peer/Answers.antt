@@ -7,15 +7,29 @@ use Rattle.session_store.proofs.store.Store.lose_peer.Goals as goal
 pub invariant_of-self : goal.invariant_of-self
 invariant_of-self c =
     let s = c.self.inside in
-    let at = there-at s.pool s.sides.items s.servers.items (joined s.tx s.pacer) c.self.invariant.0 (undue c.args.self.now) (flat c.self.inside.pool c.self.inside.sides.items c.self.inside.servers.items c.self.inside.tx c.self.inside.pacer c.args.self.now c.self.view_is) c.args.i c.index_mut-side.result.now c.requires.known
+    let at = there-at s.pool s.sides.items s.servers.items (joined s.tx s.pacer) c.self.invariant.0
+    (undue c.args.self.now) (flat c.self.inside.pool c.self.inside.sides.items
+    c.self.inside.servers.items c.self.inside.tx c.self.inside.pacer c.args.self.now
+    c.self.view_is) c.args.i c.index_mut-side.result.now c.requires.known
     c.index_mut-side.ensures.value in (
-      breaks-kept s.pool s.sides.items s.servers.items (joined s.tx s.pacer) c.self.invariant.0 (undue c.args.self.now) (flat c.self.inside.pool c.self.inside.sides.items c.self.inside.servers.items c.self.inside.tx c.self.inside.pacer c.args.self.now c.self.view_is) c.args.i c.index_mut-side.result.now at (idle-undue c.args.i c.args.self.now.queued c.requires.idle),
+      breaks-kept s.pool s.sides.items s.servers.items (joined s.tx s.pacer) c.self.invariant.0
+          (undue c.args.self.now) (flat c.self.inside.pool c.self.inside.sides.items
+          c.self.inside.servers.items c.self.inside.tx c.self.inside.pacer c.args.self.now
+          c.self.view_is) c.args.i c.index_mut-side.result.now at
+          (idle-undue c.args.i c.args.self.now.queued c.requires.idle),
       c.self.invariant.1,
     )
 
 pub returns-clause-clients : goal.returns-clause-clients
 returns-clause-clients c =
     let s = c.self.inside in
-    let at = there-at s.pool s.sides.items s.servers.items (joined s.tx s.pacer) c.self.invariant.0 (undue c.args.self.now) (flat c.self.inside.pool c.self.inside.sides.items c.self.inside.servers.items c.self.inside.tx c.self.inside.pacer c.args.self.now c.self.view_is) c.args.i c.index_mut-side.result.now c.requires.known
+    let at = there-at s.pool s.sides.items s.servers.items (joined s.tx s.pacer) c.self.invariant.0
+    (undue c.args.self.now) (flat c.self.inside.pool c.self.inside.sides.items
+    c.self.inside.servers.items c.self.inside.tx c.self.inside.pacer c.args.self.now
+    c.self.view_is) c.args.i c.index_mut-side.result.now c.requires.known
     c.index_mut-side.ensures.value in
-    breaks-clients s.pool s.sides.items s.servers.items (joined s.tx s.pacer) c.self.invariant.0 (undue c.args.self.now) (flat c.self.inside.pool c.self.inside.sides.items c.self.inside.servers.items c.self.inside.tx c.self.inside.pacer c.args.self.now c.self.view_is) c.args.i c.index_mut-side.result.now at (idle-undue c.args.i c.args.self.now.queued c.requires.idle)
+    breaks-clients s.pool s.sides.items s.servers.items (joined s.tx s.pacer) c.self.invariant.0
+    (undue c.args.self.now) (flat c.self.inside.pool c.self.inside.sides.items
+    c.self.inside.servers.items c.self.inside.tx c.self.inside.pacer c.args.self.now c.self.view_is)
+    c.args.i c.index_mut-side.result.now at (idle-undue c.args.i c.args.self.now.queued
+    c.requires.idle)

@@ -12,7 +12,10 @@ use Rattle.session_store.proofs.store.Store.on_finished.Goals as goal
 pub finished_at-reply-requires-clause-spare : goal.finished_at-reply-requires-clause-spare
 finished_at-reply-requires-clause-spare c =
     let s = c.self.inside in
-    let two = two-spare s.pool s.sides.items s.servers.items (joined s.tx s.pacer) (undue c.args.self.now) c.self.invariant.0 (flat c.self.inside.pool c.self.inside.sides.items c.self.inside.servers.items c.self.inside.tx c.self.inside.pacer c.args.self.now c.self.view_is) c.requires.room in
+    let two = two-spare s.pool s.sides.items s.servers.items (joined s.tx s.pacer)
+    (undue c.args.self.now) c.self.invariant.0
+    (flat c.self.inside.pool c.self.inside.sides.items c.self.inside.servers.items
+    c.self.inside.tx c.self.inside.pacer c.args.self.now c.self.view_is) c.requires.room in
     omega (arith, two)
 
 pub invariant_of-self : goal.invariant_of-self
@@ -44,7 +47,10 @@ pub invariant_of-self-2 : goal.invariant_of-self-2
 invariant_of-self-2 c =
     let s = c.self.inside in
     let h = rw c.in-Some.is at c.finished_at-reply.ensures in
-    let room = ring-room s.pool s.sides.items s.servers.items (joined s.tx s.pacer) (undue c.args.self.now) (flat c.self.inside.pool c.self.inside.sides.items c.self.inside.servers.items c.self.inside.tx c.self.inside.pacer c.args.self.now c.self.view_is) (less-undue c.args.self.now c.requires.ring) in
+    let room = ring-room s.pool s.sides.items s.servers.items (joined s.tx s.pacer)
+    (undue c.args.self.now) (flat c.self.inside.pool c.self.inside.sides.items
+    c.self.inside.servers.items c.self.inside.tx c.self.inside.pacer c.args.self.now
+    c.self.view_is) (less-undue c.args.self.now c.requires.ring) in
     rw c.push.ensures (
       kept-put c.finished_at-reply.new.pool s.sides.items
           c.finished_at-reply.new.servers.items c.in-Some.entry (joined s.tx s.pacer)
@@ -60,7 +66,10 @@ pub returns-clause-servers : goal.returns-clause-servers
 returns-clause-servers c =
     let s = c.self.inside in
     let h = rw c.in-Some.is at c.finished_at-reply.ensures in
-    let room = ring-room s.pool s.sides.items s.servers.items (joined s.tx s.pacer) (undue c.args.self.now) (flat c.self.inside.pool c.self.inside.sides.items c.self.inside.servers.items c.self.inside.tx c.self.inside.pacer c.args.self.now c.self.view_is) (less-undue c.args.self.now c.requires.ring) in
+    let room = ring-room s.pool s.sides.items s.servers.items (joined s.tx s.pacer)
+    (undue c.args.self.now) (flat c.self.inside.pool c.self.inside.sides.items
+    c.self.inside.servers.items c.self.inside.tx c.self.inside.pacer c.args.self.now
+    c.self.view_is) (less-undue c.args.self.now c.requires.ring) in
     rw (← c.self.view_is) (finish-at s.pool c.finished_at-reply.new.pool s.sides.items
     s.servers.items c.finished_at-reply.new.servers.items (joined s.tx s.pacer) c.args.i c.args.parcel.request _
     c.in-Some.entry c.self.invariant.0 h room h.step.was_sound)
@@ -69,7 +78,10 @@ pub returns-clause-clients : goal.returns-clause-clients
 returns-clause-clients c =
     let s = c.self.inside in
     let h = rw c.in-Some.is at c.finished_at-reply.ensures in
-    let room = ring-room s.pool s.sides.items s.servers.items (joined s.tx s.pacer) (undue c.args.self.now) (flat c.self.inside.pool c.self.inside.sides.items c.self.inside.servers.items c.self.inside.tx c.self.inside.pacer c.args.self.now c.self.view_is) (less-undue c.args.self.now c.requires.ring) in
+    let room = ring-room s.pool s.sides.items s.servers.items (joined s.tx s.pacer)
+    (undue c.args.self.now) (flat c.self.inside.pool c.self.inside.sides.items
+    c.self.inside.servers.items c.self.inside.tx c.self.inside.pacer c.args.self.now
+    c.self.view_is) (less-undue c.args.self.now c.requires.ring) in
     rw (← c.self.view_is) (finish-clients s.pool c.finished_at-reply.new.pool s.sides.items
     s.servers.items c.finished_at-reply.new.servers.items (joined s.tx s.pacer) c.args.i c.args.parcel.request _
     c.in-Some.entry c.self.invariant.0 h room)
@@ -78,7 +90,10 @@ pub returns-clause-places : goal.returns-clause-places
 returns-clause-places c =
     let s = c.self.inside in
     let h = rw c.in-Some.is at c.finished_at-reply.ensures in
-    let room = ring-room s.pool s.sides.items s.servers.items (joined s.tx s.pacer) (undue c.args.self.now) (flat c.self.inside.pool c.self.inside.sides.items c.self.inside.servers.items c.self.inside.tx c.self.inside.pacer c.args.self.now c.self.view_is) (less-undue c.args.self.now c.requires.ring) in
+    let room = ring-room s.pool s.sides.items s.servers.items (joined s.tx s.pacer)
+    (undue c.args.self.now) (flat c.self.inside.pool c.self.inside.sides.items
+    c.self.inside.servers.items c.self.inside.tx c.self.inside.pacer c.args.self.now
+    c.self.view_is) (less-undue c.args.self.now c.requires.ring) in
     rw (← c.self.view_is) (finish-places s.pool c.finished_at-reply.new.pool s.sides.items
     s.servers.items c.finished_at-reply.new.servers.items (joined s.tx s.pacer) c.args.i c.args.parcel.request _
     c.in-Some.entry c.self.invariant.0 h room)

@@ -17,14 +17,22 @@ use Rattle.session_store.proofs.store.Store.on_reply.Goals as goal
 pub returns-then-index-clause-clients : goal.returns-then-index-clause-clients
 returns-then-index-clause-clients c =
     let s = c.self.inside in
-    let there = there-at s.pool s.sides.items s.servers.items (joined s.tx s.pacer) c.self.invariant.0 (undue c.args.self.now) (flat c.self.inside.pool c.self.inside.sides.items c.self.inside.servers.items c.self.inside.tx c.self.inside.pacer c.args.self.now c.self.view_is) c.args.i c.index.result.now c.requires.known c.index.ensures in
+    let there = there-at s.pool s.sides.items s.servers.items (joined s.tx s.pacer)
+    c.self.invariant.0 (undue c.args.self.now)
+    (flat c.self.inside.pool c.self.inside.sides.items c.self.inside.servers.items
+    c.self.inside.tx c.self.inside.pacer c.args.self.now c.self.view_is) c.args.i
+    c.index.result.now c.requires.known c.index.ensures in
     rw (← c.self.view_is) (broken-clients s.pool s.sides.items c.args.i c.args.now c.args.peer
     c.args.head.now c.args.body.now _ c.index.result.now there c.if-index.true)
 
 pub returns-then-ne-clause-clients : goal.returns-then-ne-clause-clients
 returns-then-ne-clause-clients c =
     let s = c.self.inside in
-    let there = there-at s.pool s.sides.items s.servers.items (joined s.tx s.pacer) c.self.invariant.0 (undue c.args.self.now) (flat c.self.inside.pool c.self.inside.sides.items c.self.inside.servers.items c.self.inside.tx c.self.inside.pacer c.args.self.now c.self.view_is) c.args.i c.index.result.now c.requires.known c.index.ensures in
+    let there = there-at s.pool s.sides.items s.servers.items (joined s.tx s.pacer)
+    c.self.invariant.0 (undue c.args.self.now)
+    (flat c.self.inside.pool c.self.inside.sides.items c.self.inside.servers.items
+    c.self.inside.tx c.self.inside.pacer c.args.self.now c.self.view_is) c.args.i
+    c.index.result.now c.requires.known c.index.ensures in
     let differs = peer-differs c.args.peer c.index-2.result.now.peer (sym c.if-ne.true ∙ c.ne.ensures) in
     let same = c.index-2.ensures ∙ got-same s.sides.items c.args.i c.index.result.now c.index-2.result.now there in
     rw (← c.self.view_is) (other-clients s.pool s.sides.items c.args.i c.args.now c.args.peer
@@ -34,10 +42,17 @@ returns-then-ne-clause-clients c =
 pub heard_at-requires-clause-unheld : goal.heard_at-requires-clause-unheld
 heard_at-requires-clause-unheld c =
     let s = c.self.inside in
-    seen-unheld s.pool s.sides.items s.servers.items (joined s.tx s.pacer) (undue c.args.self.now) (flat c.self.inside.pool c.self.inside.sides.items c.self.inside.servers.items c.self.inside.tx c.self.inside.pacer c.args.self.now c.self.view_is) c.args.i
-    c.args.head.now c.is_waiting-is_waiting.result c.self.invariant.0 (windows-undue c.args.self.now.clients c.args.self.now.queued c.requires.windows)
-    (c.is_waiting-is_waiting.ensures ∙ sym (queued-undue (Ask c.args.i c.args.head.now.request) c.args.head.now.number c.args.self.now.queued) ∙ seen-waits s.pool s.sides.items s.servers.items (joined s.tx s.pacer)
-    (undue c.args.self.now) (flat c.self.inside.pool c.self.inside.sides.items c.self.inside.servers.items c.self.inside.tx c.self.inside.pacer c.args.self.now c.self.view_is) c.args.i c.args.head.now.request c.args.head.now.number)
+    seen-unheld s.pool s.sides.items s.servers.items (joined s.tx s.pacer) (undue c.args.self.now)
+    (flat c.self.inside.pool c.self.inside.sides.items c.self.inside.servers.items c.self.inside.tx
+    c.self.inside.pacer c.args.self.now c.self.view_is) c.args.i
+    c.args.head.now c.is_waiting-is_waiting.result c.self.invariant.0
+    (windows-undue c.args.self.now.clients c.args.self.now.queued c.requires.windows)
+    (c.is_waiting-is_waiting.ensures ∙ sym (queued-undue (Ask c.args.i c.args.head.now.request)
+    c.args.head.now.number c.args.self.now.queued) ∙ seen-waits s.pool s.sides.items
+    s.servers.items (joined s.tx s.pacer)
+    (undue c.args.self.now) (flat c.self.inside.pool c.self.inside.sides.items
+    c.self.inside.servers.items c.self.inside.tx c.self.inside.pacer c.args.self.now
+    c.self.view_is) c.args.i c.args.head.now.request c.args.head.now.number)
 
 pub invariant_of-self : goal.invariant_of-self
 invariant_of-self c =
@@ -45,8 +60,17 @@ invariant_of-self c =
     let h = c.heard_at.ensures in
     let connected = connected-at s.sides.items c.args.i c.index.result.now h.side c.index.ensures
     h.at c.if-index.false in
-    let windows = seen-windows s.pool s.sides.items s.servers.items (joined s.tx s.pacer) (undue c.args.self.now) (flat c.self.inside.pool c.self.inside.sides.items c.self.inside.servers.items c.self.inside.tx c.self.inside.pacer c.args.self.now c.self.view_is) c.args.i (windows-undue c.args.self.now.clients c.args.self.now.queued c.requires.windows) in
-    let waits = c.is_waiting-is_waiting.ensures ∙ sym (queued-undue (Ask c.args.i c.args.head.now.request) c.args.head.now.number c.args.self.now.queued) ∙ seen-waits s.pool s.sides.items s.servers.items (joined s.tx s.pacer) (undue c.args.self.now) (flat c.self.inside.pool c.self.inside.sides.items c.self.inside.servers.items c.self.inside.tx c.self.inside.pacer c.args.self.now c.self.view_is)
+    let windows = seen-windows s.pool s.sides.items s.servers.items (joined s.tx s.pacer)
+    (undue c.args.self.now) (flat c.self.inside.pool c.self.inside.sides.items
+    c.self.inside.servers.items c.self.inside.tx c.self.inside.pacer c.args.self.now
+    c.self.view_is) c.args.i (windows-undue c.args.self.now.clients c.args.self.now.queued
+    c.requires.windows) in
+    let waits = c.is_waiting-is_waiting.ensures ∙ sym
+    (queued-undue (Ask c.args.i c.args.head.now.request) c.args.head.now.number
+    c.args.self.now.queued) ∙ seen-waits s.pool s.sides.items s.servers.items
+    (joined s.tx s.pacer) (undue c.args.self.now)
+    (flat c.self.inside.pool c.self.inside.sides.items c.self.inside.servers.items
+    c.self.inside.tx c.self.inside.pacer c.args.self.now c.self.view_is)
     c.args.i c.args.head.now.request c.args.head.now.number in (
       heard-kept s.pool c.heard_at.new.pool s.sides.items c.heard_at.new.sides.items s.servers.items
           (joined s.tx s.pacer) c.args.i c.args.now c.args.head.now c.args.body.now c.is_waiting-is_waiting.result
@@ -60,8 +84,17 @@ returns-clause-servers c =
     let h = c.heard_at.ensures in
     let connected = connected-at s.sides.items c.args.i c.index.result.now h.side c.index.ensures
     h.at c.if-index.false in
-    let windows = seen-windows s.pool s.sides.items s.servers.items (joined s.tx s.pacer) (undue c.args.self.now) (flat c.self.inside.pool c.self.inside.sides.items c.self.inside.servers.items c.self.inside.tx c.self.inside.pacer c.args.self.now c.self.view_is) c.args.i (windows-undue c.args.self.now.clients c.args.self.now.queued c.requires.windows) in
-    let waits = c.is_waiting-is_waiting.ensures ∙ sym (queued-undue (Ask c.args.i c.args.head.now.request) c.args.head.now.number c.args.self.now.queued) ∙ seen-waits s.pool s.sides.items s.servers.items (joined s.tx s.pacer) (undue c.args.self.now) (flat c.self.inside.pool c.self.inside.sides.items c.self.inside.servers.items c.self.inside.tx c.self.inside.pacer c.args.self.now c.self.view_is)
+    let windows = seen-windows s.pool s.sides.items s.servers.items (joined s.tx s.pacer)
+    (undue c.args.self.now) (flat c.self.inside.pool c.self.inside.sides.items
+    c.self.inside.servers.items c.self.inside.tx c.self.inside.pacer c.args.self.now
+    c.self.view_is) c.args.i (windows-undue c.args.self.now.clients c.args.self.now.queued
+    c.requires.windows) in
+    let waits = c.is_waiting-is_waiting.ensures ∙ sym
+    (queued-undue (Ask c.args.i c.args.head.now.request) c.args.head.now.number
+    c.args.self.now.queued) ∙ seen-waits s.pool s.sides.items s.servers.items
+    (joined s.tx s.pacer) (undue c.args.self.now)
+    (flat c.self.inside.pool c.self.inside.sides.items c.self.inside.servers.items
+    c.self.inside.tx c.self.inside.pacer c.args.self.now c.self.view_is)
     c.args.i c.args.head.now.request c.args.head.now.number in
     rw (← c.self.view_is) (heard-servers s.pool c.heard_at.new.pool s.sides.items
     c.heard_at.new.sides.items s.servers.items (joined s.tx s.pacer) c.args.i c.args.now c.args.head.now
@@ -74,8 +107,17 @@ returns-clause-places c =
     let h = c.heard_at.ensures in
     let connected = connected-at s.sides.items c.args.i c.index.result.now h.side c.index.ensures
     h.at c.if-index.false in
-    let windows = seen-windows s.pool s.sides.items s.servers.items (joined s.tx s.pacer) (undue c.args.self.now) (flat c.self.inside.pool c.self.inside.sides.items c.self.inside.servers.items c.self.inside.tx c.self.inside.pacer c.args.self.now c.self.view_is) c.args.i (windows-undue c.args.self.now.clients c.args.self.now.queued c.requires.windows) in
-    let waits = c.is_waiting-is_waiting.ensures ∙ sym (queued-undue (Ask c.args.i c.args.head.now.request) c.args.head.now.number c.args.self.now.queued) ∙ seen-waits s.pool s.sides.items s.servers.items (joined s.tx s.pacer) (undue c.args.self.now) (flat c.self.inside.pool c.self.inside.sides.items c.self.inside.servers.items c.self.inside.tx c.self.inside.pacer c.args.self.now c.self.view_is)
+    let windows = seen-windows s.pool s.sides.items s.servers.items (joined s.tx s.pacer)
+    (undue c.args.self.now) (flat c.self.inside.pool c.self.inside.sides.items
+    c.self.inside.servers.items c.self.inside.tx c.self.inside.pacer c.args.self.now
+    c.self.view_is) c.args.i (windows-undue c.args.self.now.clients c.args.self.now.queued
+    c.requires.windows) in
+    let waits = c.is_waiting-is_waiting.ensures ∙ sym
+    (queued-undue (Ask c.args.i c.args.head.now.request) c.args.head.now.number
+    c.args.self.now.queued) ∙ seen-waits s.pool s.sides.items s.servers.items
+    (joined s.tx s.pacer) (undue c.args.self.now)
+    (flat c.self.inside.pool c.self.inside.sides.items c.self.inside.servers.items
+    c.self.inside.tx c.self.inside.pacer c.args.self.now c.self.view_is)
     c.args.i c.args.head.now.request c.args.head.now.number in
     rw (← c.self.view_is) (heard-places s.pool c.heard_at.new.pool s.sides.items
     c.heard_at.new.sides.items s.servers.items (joined s.tx s.pacer) c.args.i c.args.now c.args.head.now
@@ -88,12 +130,21 @@ returns-clause-clients c =
     let h = c.heard_at.ensures in
     let connected = connected-at s.sides.items c.args.i c.index.result.now h.side c.index.ensures
     h.at c.if-index.false in
-    let windows = seen-windows s.pool s.sides.items s.servers.items (joined s.tx s.pacer) (undue c.args.self.now) (flat c.self.inside.pool c.self.inside.sides.items c.self.inside.servers.items c.self.inside.tx c.self.inside.pacer c.args.self.now c.self.view_is) c.args.i (windows-undue c.args.self.now.clients c.args.self.now.queued c.requires.windows) in
+    let windows = seen-windows s.pool s.sides.items s.servers.items (joined s.tx s.pacer)
+    (undue c.args.self.now) (flat c.self.inside.pool c.self.inside.sides.items
+    c.self.inside.servers.items c.self.inside.tx c.self.inside.pacer c.args.self.now
+    c.self.view_is) c.args.i (windows-undue c.args.self.now.clients c.args.self.now.queued
+    c.requires.windows) in
     let same = c.index-2.ensures ∙ got-same s.sides.items c.args.i h.side c.index-2.result.now h.at in
     let peer : c.args.peer ≡ h.side.peer =
     peer-same c.args.peer c.index-2.result.now.peer (sym c.if-ne.false ∙ c.ne.ensures)
     ∙ ap (λ (x : Side). x.peer) same in
-    let waits = c.is_waiting-is_waiting.ensures ∙ sym (queued-undue (Ask c.args.i c.args.head.now.request) c.args.head.now.number c.args.self.now.queued) ∙ seen-waits s.pool s.sides.items s.servers.items (joined s.tx s.pacer) (undue c.args.self.now) (flat c.self.inside.pool c.self.inside.sides.items c.self.inside.servers.items c.self.inside.tx c.self.inside.pacer c.args.self.now c.self.view_is)
+    let waits = c.is_waiting-is_waiting.ensures ∙ sym
+    (queued-undue (Ask c.args.i c.args.head.now.request) c.args.head.now.number
+    c.args.self.now.queued) ∙ seen-waits s.pool s.sides.items s.servers.items
+    (joined s.tx s.pacer) (undue c.args.self.now)
+    (flat c.self.inside.pool c.self.inside.sides.items c.self.inside.servers.items
+    c.self.inside.tx c.self.inside.pacer c.args.self.now c.self.view_is)
     c.args.i c.args.head.now.request c.args.head.now.number in
     let seen : c.is_waiting-is_waiting.result
     ≡ list_any (is_queued (Ask c.args.head.now.session c.args.head.now.request)

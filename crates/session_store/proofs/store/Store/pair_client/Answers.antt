@@ -9,7 +9,8 @@ pub invariant_of-self-2 : goal.invariant_of-self-2
 invariant_of-self-2 c =
     let long : vec_len c.self.inside.sides ≡ length c.self.inside.sides.items = omega arith in (
       rw c.in_ok-push.ensures.items (kept-paired c.self.inside.pool c.self.inside.sides.items
-          c.self.inside.servers.items (joined c.self.inside.tx c.self.inside.pacer) _ c.args.server c.args.credits c.self.invariant.0
+          c.self.inside.servers.items (joined c.self.inside.tx c.self.inside.pacer) _ c.args.server
+          c.args.credits c.self.invariant.0
           (c.new-session.ensures.session ∙ ap (λ n. new_session n c.args.server c.args.credits)
           (c.len.ensures ∙ long)) refl),
       c.self.invariant.1,

@@ -1,7 +1,8 @@
 use Rattle.std.proofs.Common.{ap, arith}
 use Rattle.std.specs.Prelude.{count_by}
 use Rattle.session_store.specs.Joined.{is_paced, joined, undue}
-use Rattle.session_store.proofs.StoreLemmas.{connected-at, kept-posted, may-post, paced-there, posted-call, posted-clients}
+use Rattle.session_store.proofs.StoreLemmas.{connected-at, kept-posted, may-post}
+use Rattle.session_store.proofs.StoreLemmas.{paced-there, posted-call, posted-clients}
 use Rattle.session_store.proofs.StoreLemmas.{posted-sum, room-there, unposted-clients}
 use Rattle.session_store.proofs.StoreLemmas.{unposted-kept, unposted-sum}
 use Rattle.session_store.proofs.PutLemmas.{kept-put}
@@ -16,7 +17,8 @@ post_at-posted-requires-clause-keeps c =
 pub invariant_of-self : goal.invariant_of-self
 invariant_of-self c = (
   unposted-kept c.self.inside.pool c.post_at-posted.new.pool c.self.inside.sides.items
-      c.post_at-posted.new.sides.items c.self.inside.servers.items (joined c.self.inside.tx c.self.inside.pacer) c.args.i
+      c.post_at-posted.new.sides.items c.self.inside.servers.items
+      (joined c.self.inside.tx c.self.inside.pacer) c.args.i
       (rw c.in_default.is at c.post_at-posted.ensures) c.self.invariant.0,
   c.self.invariant.1,
 )
@@ -87,7 +89,9 @@ returns-clause-clients c =
     c.index.ensures h.at c.if-index.false in
     let room = room-there c.self.inside.pool c.post_at-posted.new.pool c.self.inside.sides.items
     c.post_at-posted.new.sides.items c.self.inside.servers.items (joined c.self.inside.tx c.self.inside.pacer) c.args.i
-    c.in-Some.entry c.self.invariant.0 h connected (undue c.args.self.now) (flat c.self.inside.pool c.self.inside.sides.items c.self.inside.servers.items c.self.inside.tx c.self.inside.pacer c.args.self.now c.self.view_is)
+    c.in-Some.entry c.self.invariant.0 h connected (undue c.args.self.now)
+    (flat c.self.inside.pool c.self.inside.sides.items c.self.inside.servers.items c.self.inside.tx
+    c.self.inside.pacer c.args.self.now c.self.view_is)
     (room-undue c.args.i c.args.self.now c.requires.room) in
     rw (← c.self.view_is) (posted-clients c.self.inside.pool c.post_at-posted.new.pool
     c.self.inside.sides.items c.post_at-posted.new.sides.items c.self.inside.servers.items
@@ -107,7 +111,9 @@ returns-clause-places c =
     c.index.ensures h.at c.if-index.false in
     let room = room-there c.self.inside.pool c.post_at-posted.new.pool c.self.inside.sides.items
     c.post_at-posted.new.sides.items c.self.inside.servers.items (joined c.self.inside.tx c.self.inside.pacer) c.args.i
-    c.in-Some.entry c.self.invariant.0 h connected (undue c.args.self.now) (flat c.self.inside.pool c.self.inside.sides.items c.self.inside.servers.items c.self.inside.tx c.self.inside.pacer c.args.self.now c.self.view_is)
+    c.in-Some.entry c.self.invariant.0 h connected (undue c.args.self.now)
+    (flat c.self.inside.pool c.self.inside.sides.items c.self.inside.servers.items c.self.inside.tx
+    c.self.inside.pacer c.args.self.now c.self.view_is)
     (room-undue c.args.i c.args.self.now c.requires.room) in
     rw (← c.self.view_is) (posted-sum c.self.inside.pool c.post_at-posted.new.pool
     c.self.inside.sides.items c.post_at-posted.new.sides.items c.self.inside.servers.items

@@ -7,23 +7,35 @@ use Rattle.session_store.proofs.store.Store.roll.Goals as goal
 pub roll_at-requires-clause-active : goal.roll_at-requires-clause-active
 roll_at-requires-clause-active c =
     roll-active-at c.self.inside.pool c.self.inside.sides.items c.self.inside.servers.items
-    (joined c.self.inside.tx c.self.inside.pacer) c.args.i c.args.call (undue c.args.self.now) (flat c.self.inside.pool c.self.inside.sides.items c.self.inside.servers.items c.self.inside.tx c.self.inside.pacer c.args.self.now c.self.view_is) (may-undue c.args.i c.args.call c.args.self.now c.requires.may)
+    (joined c.self.inside.tx c.self.inside.pacer) c.args.i c.args.call (undue c.args.self.now)
+    (flat c.self.inside.pool c.self.inside.sides.items c.self.inside.servers.items
+    c.self.inside.tx c.self.inside.pacer c.args.self.now c.self.view_is)
+    (may-undue c.args.i c.args.call c.args.self.now c.requires.may)
 
 pub roll_at-requires-clause-few : goal.roll_at-requires-clause-few
 roll_at-requires-clause-few c =
     roll-few-at c.self.inside.pool c.self.inside.sides.items c.self.inside.servers.items
-    (joined c.self.inside.tx c.self.inside.pacer) c.args.i c.args.call (undue c.args.self.now) (flat c.self.inside.pool c.self.inside.sides.items c.self.inside.servers.items c.self.inside.tx c.self.inside.pacer c.args.self.now c.self.view_is) (may-undue c.args.i c.args.call c.args.self.now c.requires.may)
+    (joined c.self.inside.tx c.self.inside.pacer) c.args.i c.args.call (undue c.args.self.now)
+    (flat c.self.inside.pool c.self.inside.sides.items c.self.inside.servers.items
+    c.self.inside.tx c.self.inside.pacer c.args.self.now c.self.view_is)
+    (may-undue c.args.i c.args.call c.args.self.now c.requires.may)
 
 pub roll_at-requires-clause-idle : goal.roll_at-requires-clause-idle
 roll_at-requires-clause-idle c =
     roll-idle-at c.self.inside.pool c.self.inside.sides.items c.self.inside.servers.items
-    (joined c.self.inside.tx c.self.inside.pacer) c.args.i c.args.call (undue c.args.self.now) (flat c.self.inside.pool c.self.inside.sides.items c.self.inside.servers.items c.self.inside.tx c.self.inside.pacer c.args.self.now c.self.view_is) (may-undue c.args.i c.args.call c.args.self.now c.requires.may)
+    (joined c.self.inside.tx c.self.inside.pacer) c.args.i c.args.call (undue c.args.self.now)
+    (flat c.self.inside.pool c.self.inside.sides.items c.self.inside.servers.items
+    c.self.inside.tx c.self.inside.pacer c.args.self.now c.self.view_is)
+    (may-undue c.args.i c.args.call c.args.self.now c.requires.may)
     c.self.invariant.0
 
 pub invariant_of-self : goal.invariant_of-self
 invariant_of-self c = (
   kept-roll c.self.inside.pool c.self.inside.sides.items c.self.inside.servers.items
-      (joined c.self.inside.tx c.self.inside.pacer) c.args.i c.args.call (undue c.args.self.now) (flat c.self.inside.pool c.self.inside.sides.items c.self.inside.servers.items c.self.inside.tx c.self.inside.pacer c.args.self.now c.self.view_is) (may-undue c.args.i c.args.call c.args.self.now c.requires.may)
+      (joined c.self.inside.tx c.self.inside.pacer) c.args.i c.args.call (undue c.args.self.now)
+      (flat c.self.inside.pool c.self.inside.sides.items c.self.inside.servers.items
+      c.self.inside.tx c.self.inside.pacer c.args.self.now c.self.view_is)
+      (may-undue c.args.i c.args.call c.args.self.now c.requires.may)
       c.roll_at.new.sides.items c.self.invariant.0 c.roll_at.ensures,
   c.self.invariant.1,
 )
@@ -31,11 +43,17 @@ invariant_of-self c = (
 pub returns-clause-clients : goal.returns-clause-clients
 returns-clause-clients c =
     rolled-clients c.self.inside.pool c.self.inside.sides.items c.self.inside.servers.items
-    (joined c.self.inside.tx c.self.inside.pacer) c.args.i c.args.call (undue c.args.self.now) (flat c.self.inside.pool c.self.inside.sides.items c.self.inside.servers.items c.self.inside.tx c.self.inside.pacer c.args.self.now c.self.view_is) (may-undue c.args.i c.args.call c.args.self.now c.requires.may)
+    (joined c.self.inside.tx c.self.inside.pacer) c.args.i c.args.call (undue c.args.self.now)
+    (flat c.self.inside.pool c.self.inside.sides.items c.self.inside.servers.items
+    c.self.inside.tx c.self.inside.pacer c.args.self.now c.self.view_is)
+    (may-undue c.args.i c.args.call c.args.self.now c.requires.may)
     c.roll_at.new.sides.items c.self.invariant.0 c.roll_at.ensures
 
 pub returns-clause-places : goal.returns-clause-places
 returns-clause-places c =
     rw (← c.self.view_is) (places-roll c.self.inside.pool c.self.inside.sides.items
-    c.self.inside.servers.items (joined c.self.inside.tx c.self.inside.pacer) c.args.i c.args.call (undue c.args.self.now) (flat c.self.inside.pool c.self.inside.sides.items c.self.inside.servers.items c.self.inside.tx c.self.inside.pacer c.args.self.now c.self.view_is)
-    (may-undue c.args.i c.args.call c.args.self.now c.requires.may) c.roll_at.new.sides.items c.self.invariant.0 c.roll_at.ensures)
+    c.self.inside.servers.items (joined c.self.inside.tx c.self.inside.pacer) c.args.i c.args.call
+    (undue c.args.self.now) (flat c.self.inside.pool c.self.inside.sides.items
+    c.self.inside.servers.items c.self.inside.tx c.self.inside.pacer c.args.self.now c.self.view_is)
+    (may-undue c.args.i c.args.call c.args.self.now c.requires.may) c.roll_at.new.sides.items
+    c.self.invariant.0 c.roll_at.ensures)

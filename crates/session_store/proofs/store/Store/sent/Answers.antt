@@ -58,9 +58,14 @@ returns-in-Ask-clause-clients c =
     ∙ ap (λ n. Ask n c.in-Ask.request) (sym (c.from.ensures ∙ c.session.view_is)) in
     let e = sent-clients s.pool c.sent_at.new.pool s.sides.items c.sent_at.new.sides.items
     s.servers.items (joined s.tx s.pacer) c.from.result c.in-Ask.request c.in-Some.entry (λ d. false)
-    (drop 1 (joined s.tx s.pacer).items) c.self.invariant.0 (front-taken (joined s.tx s.pacer).items c.in-Some.entry front) own
+    (drop 1 (joined s.tx s.pacer).items) c.self.invariant.0
+    (front-taken (joined s.tx s.pacer).items c.in-Some.entry front) own
     c.args.now c.sent_at.ensures in
-    sends-undue c.args.now c.args.self.now.queued _ _ (sends-seen s.pool s.sides.items s.servers.items (joined s.tx s.pacer) c.self.invariant.0 (undue c.args.self.now) (flat c.self.inside.pool c.self.inside.sides.items c.self.inside.servers.items c.self.inside.tx c.self.inside.pacer c.args.self.now c.self.view_is) c.in-Some.entry c.args.now _ front
+    sends-undue c.args.now c.args.self.now.queued _ _
+    (sends-seen s.pool s.sides.items s.servers.items (joined s.tx s.pacer) c.self.invariant.0
+    (undue c.args.self.now) (flat c.self.inside.pool c.self.inside.sides.items
+    c.self.inside.servers.items c.self.inside.tx c.self.inside.pacer c.args.self.now c.self.view_is)
+    c.in-Some.entry c.args.now _ front
     (e ∙ ap (λ o. clients_sent c.args.now o c.in-Some.entry.number
     (map (shown_side s.pool) s.sides.items)) (sym own)))
 
@@ -74,7 +79,11 @@ returns-in-Reply-clause-clients c =
     c.reply_sent_at.new.servers.items (joined s.tx s.pacer) c.in-Reply.session c.in-Reply.request
     c.in-Some.entry (λ d. false) (drop 1 (joined s.tx s.pacer).items) c.self.invariant.0
     (front-taken (joined s.tx s.pacer).items c.in-Some.entry front) own c.reply_sent_at.ensures in
-    sends-undue c.args.now c.args.self.now.queued _ _ (sends-seen s.pool s.sides.items s.servers.items (joined s.tx s.pacer) c.self.invariant.0 (undue c.args.self.now) (flat c.self.inside.pool c.self.inside.sides.items c.self.inside.servers.items c.self.inside.tx c.self.inside.pacer c.args.self.now c.self.view_is) c.in-Some.entry c.args.now _ front
+    sends-undue c.args.now c.args.self.now.queued _ _
+    (sends-seen s.pool s.sides.items s.servers.items (joined s.tx s.pacer) c.self.invariant.0
+    (undue c.args.self.now) (flat c.self.inside.pool c.self.inside.sides.items
+    c.self.inside.servers.items c.self.inside.tx c.self.inside.pacer c.args.self.now c.self.view_is)
+    c.in-Some.entry c.args.now _ front
     (e ∙ ap (λ o. clients_sent c.args.now o c.in-Some.entry.number
     (map (shown_side s.pool) s.sides.items)) (sym own)))
 

@@ -11,7 +11,8 @@ overflow_add-result c =
     omega (
       arith,
       c.requires.few,
-      all-share s.pool s.sides.items s.servers.items (joined s.tx s.pacer) (undue c.args.self.now) _ _ (flat s.pool s.sides.items s.servers.items s.tx s.pacer c.args.self.now c.self.view_is)
+      all-share s.pool s.sides.items s.servers.items (joined s.tx s.pacer) (undue c.args.self.now) _
+          _ (flat s.pool s.sides.items s.servers.items s.tx s.pacer c.args.self.now c.self.view_is)
           (c.of_clients.ensures ∙ ap (sum_by side_credits) c.deref.ensures.value)
           (c.of_servers.ensures ∙ ap (sum_by (λ v. v.credits)) c.deref-2.ensures.value),
     )
@@ -19,6 +20,7 @@ overflow_add-result c =
 pub returns : goal.returns
 returns c =
     let s = c.self.inside in
-    all-share s.pool s.sides.items s.servers.items (joined s.tx s.pacer) (undue c.args.self.now) _ _ (flat s.pool s.sides.items s.servers.items s.tx s.pacer c.args.self.now c.self.view_is)
+    all-share s.pool s.sides.items s.servers.items (joined s.tx s.pacer) (undue c.args.self.now) _ _
+    (flat s.pool s.sides.items s.servers.items s.tx s.pacer c.args.self.now c.self.view_is)
     (c.of_clients.ensures ∙ ap (sum_by side_credits) c.deref.ensures.value)
     (c.of_servers.ensures ∙ ap (sum_by (λ v. v.credits)) c.deref-2.ensures.value)
