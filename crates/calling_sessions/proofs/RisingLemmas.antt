@@ -55,7 +55,14 @@ module _ (xs : List ℕ) (p x : ℕ) (within : p ≤ length xs) where
           | inl b ↦ omega (arith, a.1, b.1, up i j less (omega (arith, b.0, within)))
           | inr c ↦ elim c [
             | inl b ↦ omega (arith, a.1, b.1, below i a.0)
-            | inr b ↦ omega (arith, a.1, b.1, below i a.0, above (j - 1) (omega (arith, b.0)) (omega (arith, long, inside, b.0)))
+            | inr b ↦ omega (
+              arith,
+              a.1,
+              b.1,
+              below i a.0,
+              above (j - 1) (omega (arith, b.0))
+                  (omega (arith, long, inside, b.0)),
+            )
           ]
         ]
         | inr d ↦ elim d [
@@ -70,7 +77,13 @@ module _ (xs : List ℕ) (p x : ℕ) (within : p ≤ length xs) where
             | inl b ↦ absurd (omega (arith, a.0, b.0, less))
             | inr c ↦ elim c [
               | inl b ↦ absurd (omega (arith, a.0, b.0, less))
-              | inr b ↦ omega (arith, a.1, b.1, up (i - 1) (j - 1) (omega (arith, a.0, less)) (omega (arith, long, inside, b.0)))
+              | inr b ↦ omega (
+                arith,
+                a.1,
+                b.1,
+                up (i - 1) (j - 1) (omega (arith, a.0, less))
+                    (omega (arith, long, inside, b.0)),
+              )
             ]
           ]
         ]

@@ -37,7 +37,8 @@ loop-call-preserved c =
           ∙ added,
       c.in_ok-add_noises.ensures.next ∙ ap (λ (r : Lcg). (drawn_noises 6 r).1) next ∙ rw calls_next refl,
       λ less. lines_more calls n (length c.loop-call.draft) (length c.add_noises.new.draft)
-          (length c.add_rest_after.new.draft) (before.2 (omega arith)) (omega (arith, c.in_ok-add_call.ensures.length, c.in_ok-add_noises.ensures.length))
+          (length c.add_rest_after.new.draft) (before.2 (omega arith))
+          (omega (arith, c.in_ok-add_call.ensures.length, c.in_ok-add_noises.ensures.length))
           c.in_ok-add_rest_after.ensures.length c.in_ok-add_rest_after.ensures.none less,
     )
 

@@ -11,4 +11,9 @@ invariant_of-self-2 c =
     let lines = c.self.inside.lines.items in
     subst (λ (ls : List Line). IsDraft ls) (sym c.in_ok-push.ensures.items)
     (draft_added lines c.args.command (c.len.result + 2) c.self.invariant (omega arith)
-    (omega (arith, length-map lines (λ line. line.command), ap (λ (cs : List Command). length cs) c.self.view_is)) c.requires.drilled)
+    (omega (
+      arith,
+      length-map lines (λ line. line.command),
+      ap (λ (cs : List Command). length cs)
+          c.self.view_is,
+    )) c.requires.drilled)
