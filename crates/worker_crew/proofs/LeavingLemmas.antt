@@ -157,7 +157,8 @@ pub one-comes : {all now later : List Job} (fs fs' : List Finished) (f : Finishe
 one-comes {all} {now} {later} fs fs' f h one e =
     subst (λ (l : List Job). IsPermutation all l)
     (sym (append_assoc (jobs_of fs) (job_of f.parcel ∷ []) later)
-    ∙ ap (λ (l : List Job). l ++ later) (sym (map-append (λ (x : Finished). job_of x.parcel) fs (f ∷ [])) ∙ sym (ap jobs_of e)))
+    ∙ ap (λ (l : List Job). l ++ later) (sym (map-append (λ (x : Finished). job_of x.parcel) fs (f ∷
+    [])) ∙ sym (ap jobs_of e)))
     (IsPermutation-trans all (jobs_of fs ++ now) (jobs_of fs ++ job_of f.parcel ∷ later) h
     (IsPermutation-append_right (jobs_of fs) now (job_of f.parcel ∷ later) one))
 
@@ -176,7 +177,8 @@ module _ (answer : ℕ → List ℕ → List ℕ) (s s' : Dispatching) (i : ℕ)
       subst (λ (l : List Finished). AllByRecursion (IsLeft answer s'.view) l) (sym f)
       (all-push (IsLeft answer s'.view) fs (record { parcel = x; worked = false })
       (all-each (IsLeft answer s.view) (IsLeft answer s'.view) fs
-      (λ g. left-still answer s.view s'.view (place_at i s) (ended TakenBack (offers_at s.view.ledger (place_at i s))) g live ledger)
+      (λ g. left-still answer s.view s'.view (place_at i s)
+      (ended TakenBack (offers_at s.view.ledger (place_at i s))) g live ledger)
       left)
       (left-back answer s.view s'.view (place_at i s) x live is ledger))
 
@@ -193,7 +195,8 @@ module _ (answer : ℕ → List ℕ → List ℕ) (s s' : Dispatching) (i : ℕ)
       subst (λ (l : List Finished). AllByRecursion (IsLeft answer s'.view) l) (sym f)
       (all-push (IsLeft answer s'.view) fs (record { parcel = x; worked = true })
       (all-each (IsLeft answer s.view) (IsLeft answer s'.view) fs
-      (λ g. left-still answer s.view s'.view (place_at i s) (ended Collected (offers_at s.view.ledger (place_at i s))) g live ledger)
+      (λ g. left-still answer s.view s'.view (place_at i s)
+      (ended Collected (offers_at s.view.ledger (place_at i s))) g live ledger)
       left)
       (left-done answer s.view s'.view (place_at i s) x live is done ledger))
 

@@ -98,7 +98,16 @@ module _ (places given p : ℕ) (lg : List (List Offer)) (free busy : List ℕ)
         opened = λ q h. at-set (λ _ x. is_open x ≡ true) lg p q l wide (λ _. ap is_open_end live)
             (λ ne. k.opened q (omega (arith, b q, only-other q p (λ e. ne (sym e)))));
         closed = λ q h. at-set (λ _ x. is_open x ≡ false) lg p q l wide
-            (λ e. absurd (omega (arith, ap (λ (i : ℕ). times i free) e, ap (λ (i : ℕ). times i busy) e, not-busy, k.once p, last, h)))
+            (λ e. absurd (omega (
+              arith,
+              ap (λ (i : ℕ). times i free) e,
+              ap (λ (i : ℕ). times i busy)
+                  e,
+              not-busy,
+              k.once p,
+              last,
+              h,
+            )))
             (λ ne. k.closed q (omega (arith, f q)));
         few = λ q. at-set (λ _ x. length x ≤ given + 1) lg p q l wide
             (λ _. omega (arith, k.few p)) (λ _. omega (arith, k.few q));

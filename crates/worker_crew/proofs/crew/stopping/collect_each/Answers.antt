@@ -12,7 +12,8 @@ loop-dispatcher-preserved g c = let now = c.in-Some.ensures.collected in record 
       (left-one 0 (job_of c.in-Some.parcel) c.in-Some.ensures.jobs)
       c.push_back_reserved.ensures.items;
   left = all-left-done g.D.Duty.answer c.loop-dispatcher.dispatcher c.collect_at.new.self 0 c.in-Some.parcel
-      c.in-Some.ensures.offered c.loop-dispatcher.left.items c.push_back_reserved.new.self.items c.in-Some.ensures.job c.in-Some.ensures.answered (ap (λ (s : Dispatching). s.view) now)
+      c.in-Some.ensures.offered c.loop-dispatcher.left.items c.push_back_reserved.new.self.items
+      c.in-Some.ensures.job c.in-Some.ensures.answered (ap (λ (s : Dispatching). s.view) now)
       c.push_back_reserved.ensures.items c.loop-dispatcher.invariant.left;
   lost = all-lost-done c.loop-dispatcher.dispatcher c.collect_at.new.self now c.loop-dispatcher.invariant.lost;
   room = search rules;

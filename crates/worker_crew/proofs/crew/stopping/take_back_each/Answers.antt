@@ -4,7 +4,8 @@ use Rattle.worker_crew.specs.Dispatching.{Dispatching, jobs_in}
 use Rattle.worker_crew.specs.Jobs.{Job, job_of}
 use Rattle.worker_crew.specs.Leaving.{jobs_of}
 use Rattle.worker_crew.proofs.PlacesLemmas.{left-one}
-use Rattle.worker_crew.proofs.LeavingLemmas.{one-comes, all-left-back, all-left-same, all-lost-back, all-lost-more, one-fewer}
+use Rattle.worker_crew.proofs.LeavingLemmas.{one-comes, all-left-back, all-left-same}
+use Rattle.worker_crew.proofs.LeavingLemmas.{all-lost-back, all-lost-more, one-fewer}
 use Rattle.worker_crew.proofs.crew.stopping.take_back_each.Goals as goal
 
 pub loop-i-preserved-in-Some : goal.loop-i-preserved-in-Some
@@ -19,9 +20,12 @@ loop-i-preserved-in-Some g c =
           (left-one c.loop-i.i (job_of c.in-Some.parcel) c.in-Some.ensures.jobs)
           c.push_back_reserved.ensures.items;
       left = all-left-back g.D.Duty.answer c.loop-i.dispatcher c.take_back_at.new.self c.loop-i.i c.in-Some.parcel
-          c.in-Some.ensures.offered c.loop-i.left.items c.push_back_reserved.new.self.items c.in-Some.ensures.unworked (ap (λ (s : Dispatching). s.view) now) c.push_back_reserved.ensures.items
+          c.in-Some.ensures.offered c.loop-i.left.items c.push_back_reserved.new.self.items
+          c.in-Some.ensures.unworked (ap (λ (s : Dispatching). s.view) now)
+          c.push_back_reserved.ensures.items
           c.loop-i.invariant.left;
-      lost = all-lost-back c.loop-i.dispatcher c.take_back_at.new.self c.loop-i.i c.loop-i.invariant.inside now c.loop-i.invariant.lost;
+      lost = all-lost-back c.loop-i.dispatcher c.take_back_at.new.self c.loop-i.i
+          c.loop-i.invariant.inside now c.loop-i.invariant.lost;
       inside = omega (arith, fewer, c.loop-i.invariant.inside, below);
       room = omega (
         arith,
@@ -39,8 +43,10 @@ pub loop-i-preserved : goal.loop-i-preserved
 loop-i-preserved g c = let now = c.in-None.ensures.lost in record {
   out = subst (λ (l : List Job). IsPermutation (jobs_in c.args.dispatcher.now) (jobs_of c.loop-i.left.items ++ l))
       (sym (ap jobs_in now)) c.loop-i.invariant.out;
-  left = all-left-same g.D.Duty.answer c.loop-i.dispatcher.view c.take_back_at.new.self.view c.loop-i.left.items (ap (λ (s : Dispatching). s.view.ledger) now) c.loop-i.invariant.left;
-  lost = all-lost-more c.loop-i.dispatcher c.take_back_at.new.self c.loop-i.i (search rules) now c.loop-i.invariant.lost;
+  left = all-left-same g.D.Duty.answer c.loop-i.dispatcher.view c.take_back_at.new.self.view
+      c.loop-i.left.items (ap (λ (s : Dispatching). s.view.ledger) now) c.loop-i.invariant.left;
+  lost = all-lost-more c.loop-i.dispatcher c.take_back_at.new.self c.loop-i.i (search rules) now
+      c.loop-i.invariant.lost;
   inside = search rules;
   room = search rules;
   board = ap (λ (s : Dispatching). s.board) now ∙ c.loop-i.invariant.board;

@@ -53,5 +53,6 @@ returns-clause-offered g c = subst (λ (s : Dispatching). IsOpen (offers_at s.vi
     c.self.view_is (offered-at c.args.i c.self.invariant.1.kept (search rules))
 
 pub returns-in_err-job-clause-offered : goal.returns-in_err-job-clause-offered
-returns-in_err-job-clause-offered g c = subst (λ (s : Dispatching). IsOpen (offers_at s.view.ledger (place_at c.args.i s)))
+returns-in_err-job-clause-offered g c = subst (λ (s : Dispatching). IsOpen
+    (offers_at s.view.ledger (place_at c.args.i s)))
     c.self.view_is (offered-at c.args.i c.self.invariant.1.kept (search rules))
