@@ -6,3 +6,4 @@ pub mod Joined
 pub mod Queue
 pub mod Serving
 pub mod Sides
+pub mod Stages

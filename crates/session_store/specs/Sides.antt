@@ -2,7 +2,6 @@
 -- ring has here all that is queued, also what is paced.
 use Rattle.std.specs.Prelude.{◌≡◌, ℕ, ◌+◌, ◌*◌, ◌<◌, ◌≤◌, ◌==◌, ◌&&◌, Bool, true, false, Option}
 use Rattle.std.specs.Prelude.{Some, None, List, [], ◌∷◌, count_by, length, map, sum_by, slice_get}
-use Rattle.std.specs.Prelude.{if◌then◌else◌}
 use Rattle.credit_book.specs.Credits.{limit_of}
 use Rattle.std.specs.List.{AllByRecursion, find, list_any}
 use Rattle.rpc_base.specs.declared.owner.Owner.{Owner}
@@ -18,6 +17,7 @@ use Rattle.rpc_laws.specs.declared.tables.Server.{Server}
 use Rattle.client_core.specs.Counting.{CountsQueued}
 use Rattle.client_core.specs.KeepsPool.{CanHold, KeepsPool, names}
 use Rattle.client_core.specs.Posting.{IsPacketOf, call_of}
+use Rattle.client_core.specs.Session.{Session}
 use Rattle.server_core.specs.Counting.{CountsQueued as CountsReplies}
 use Rattle.server_core.specs.Flushing.{HoldsAll}
 use Rattle.server_core.specs.KeepsPool.{KeepsPool as KeepsAnswers, names as slot_names}
@@ -27,14 +27,25 @@ use Rattle.server_core.specs.Session.{Session as Serving}
 use Rattle.server_core.specs.Shown.{shown as shown_server}
 use Rattle.session_store.specs.Ends.{Ascends, shown_end}
 use Rattle.session_store.specs.declared.side.Side.{Side}
+use Rattle.session_store.specs.declared.stage.Stage.{Stage}
+use Rattle.session_store.specs.declared.stage.Stage.TheVariants.{Connecting, Connected, Closing}
+use Rattle.session_store.specs.declared.stage.Stage.TheVariants.{Closed, Failed, Broken}
 
 -- a client session as the definitions over histories have it
 abbrev pub shown_side : Pool → Side → Client
-shown_side pool s = shown_end s.is_broken pool s.peer s.session
+shown_side pool s = shown_end s.stage pool s.peer s.session
 
--- the credits of a client session, none where it lost its peer
+-- the credits of a client session that is live: it neither closed nor failed, and has its peer
+abbrev pub credits_at : Stage → Session → ℕ
+credits_at (Connecting sends sent_at) s = limit_of s.credits
+credits_at Connected s = limit_of s.credits
+credits_at (Closing sends sent_at) s = limit_of s.credits
+credits_at Closed s = 0
+credits_at Failed s = 0
+credits_at Broken s = 0
+
 abbrev pub side_credits : Side → ℕ
-side_credits s = if s.is_broken then 0 else limit_of s.session.credits
+side_credits s = credits_at s.stage s.session
 
 abbrev pub queued_of : EntryValue → Queued
 queued_of e = record { owner = e.owner; number = e.number; due = None }
@@ -93,7 +104,7 @@ no_sessions size places =
 abbrev pub IsOfSide : EntryValue → Option Side → Type 0
 IsOfSide e None = ⊥
 IsOfSide e (Some s) =
-    (e.peer ≡ s.peer) × (s.is_broken ≡ false) × IsPacketOf (call_of s.session e) e
+    (e.peer ≡ s.peer) × (s.stage ≡ Connected) × IsPacketOf (call_of s.session e) e
 
 -- whether a server session has this number and this peer
 abbrev pub is_end : (number peer : ℕ) → Serving → Bool

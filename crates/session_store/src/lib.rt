@@ -5,7 +5,9 @@
 mod line;
 mod server;
 mod side;
+mod stage;
 mod store;
 
 pub use side::Side;
+pub use stage::Stage;
 pub use store::Store;

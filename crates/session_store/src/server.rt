@@ -6,12 +6,14 @@ ghost use Rattle.client_core.specs.KeepsPool.{IsHeld};
 ghost use Rattle.message_buffer.specs.Buffer.{bytes_of};
 ghost use Rattle.packet_header.specs.Header.{AreBytes};
 ghost use Rattle.packet_header.specs.Parts.{IsMessage};
-ghost use Rattle.session_store.specs.Effects.{ServerFinishes, ServerGone, ServerSpells, ServerStep};
+ghost use Rattle.session_store.specs.Effects.{ServerEnds, ServerFinishes, ServerGone};
+ghost use Rattle.session_store.specs.Effects.{ServerSpells, ServerStep};
 ghost use Rattle.packet_rings.specs.Entries.{listed_entry, option_is};
 ghost use Rattle.session_store.specs.Serving.{Handles, ServerCanHold, ServerServed};
 ghost use Rattle.session_store.specs.Sides.{HasReply, ServerHolds, ServerKept, ServerQueued};
 ghost use Rattle.session_store.specs.Sides.{Rises, has_number, numbers_in};
 ghost use Rattle.server_core.specs.Flushing.{replies_of};
+ghost use Rattle.server_core.specs.Serving.{IsUnheld};
 ghost use Rattle.server_core.specs.Steps.{IsAsking, UnlessRan};
 
 use buffer_pool::BufferPool;
@@ -128,6 +130,18 @@ pub fn finished_at(
     let reply = server.on_finished(pool, parcel);
     server.sound();
     reply
+}
+
+/// The server session at place `i` ends, of which no reply is queued: its buffers leave the pool.
+pub fn end_at(servers: &mut Vec<ServerSession>, i: usize, pool: &mut BufferPool)
+    requires known { i < length servers.old.items }
+    requires keeps { AllByRecursion (ServerKept pool.old) servers.old.items }
+    requires unheld { IfSome (slice_get servers.old.items i)
+        (λ v. AllByRecursion (IsUnheld pool.old) v.slots) }
+    ensures { ServerEnds i servers.old.items servers.new.items pool.old pool.new }
+{
+    let server = servers.remove(i);
+    server.finish(pool);
 }
 
 /// The server session at place `i` handles a Request or RFR. Its reply is to be put into the ring.

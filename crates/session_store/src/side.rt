@@ -13,6 +13,7 @@ ghost use Rattle.session_store.specs.Effects.{SideReplies, SideRolls, SideSends,
 ghost use Rattle.session_store.specs.Effects.{SpellsIn};
 ghost use Rattle.session_store.specs.Sides.{IsOfSide, MayPost, SideKept};
 
+use crate::stage::Stage;
 use buffer_pool::BufferPool;
 use client_core::{ClientSession, Done, Reply, Timer};
 use packet_header::{HEAD_BYTES, MessageHeader};
@@ -21,11 +22,11 @@ use rpc_base::{CallNo, MOST_CALLS, MOST_MESSAGE_BYTES, Peer, RequestNo};
 use rpc_laws::TimerRow;
 use session_slots::Waiting;
 
-/// A client session, its peer, and whether it lost that peer.
+/// A client session, its peer, and how far it has come.
 #[derive(Drop)]
 pub struct Side {
     pub peer: Peer,
-    pub is_broken: bool,
+    pub stage: Stage,
     pub session: ClientSession,
 }
 
