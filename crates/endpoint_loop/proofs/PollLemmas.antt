@@ -2,11 +2,10 @@
 use Rattle.std.proofs.Common.{◌≡◌, ℕ, ◌+◌, ◌≤◌, ◌⊎◌, inl, inr, Bool, true, false, cond, Option, Some, None}
 use Rattle.std.proofs.Common.{List, [], ◌∷◌, ◌++◌, length, refl, sym, ap, ap₂, ◌∙◌, subst, arith}
 use Rattle.std.proofs.Common.{append-nil, append_assoc, suc}
-use Rattle.std.specs.Prelude.{count_by, map, option_map, sum_by}
-use Rattle.std.specs.List.{AllByRecursion, filter, find}
+use Rattle.std.specs.Prelude.{count_by, map, option_map}
+use Rattle.std.specs.List.{AllByRecursion, filter}
 use Rattle.std.proofs.lemmas.List.{map-append}
 use Rattle.std.proofs.lemmas.List.Elements.{filter-append}
-use Rattle.std.proofs.lemmas.List.Sums.{sum_by-cons}
 use Rattle.client_core.specs.Shown.{done_fact}
 use Rattle.client_core.specs.declared.outcome.Done.{Done}
 use Rattle.rpc_base.specs.Tables.{without_first}
@@ -20,20 +19,19 @@ use Rattle.rpc_laws.specs.declared.tables.Job.{Job}
 use Rattle.rpc_laws.specs.declared.tables.Jobs.{Jobs}
 use Rattle.rpc_laws.specs.declared.tables.Lists.{Lists}
 use Rattle.rpc_laws.specs.declared.tables.Timed.{Timed}
-use Rattle.rpc_laws.specs.ControlSteps.{Hears, HearsAll, TimesAll}
+use Rattle.rpc_laws.specs.ControlSteps.{TimesAll}
 use Rattle.rpc_laws.specs.Facts.{with_two}
 use Rattle.rpc_laws.specs.Jobs.{is_job}
 use Rattle.rpc_laws.specs.NodeLists.{after_all}
 use Rattle.rpc_laws.specs.PollOrder.{answer_posted, awaited, Closes, finished_facts, HandlesAll, PollBy}
 use Rattle.rpc_laws.specs.Pacing.{line}
-use Rattle.rpc_laws.specs.PollOrder.{PostsAll, raised, Sends, SendsAll, SendsSome}
+use Rattle.rpc_laws.specs.PollOrder.{PostsAll, raised, SendsSome}
 use Rattle.rpc_laws.specs.Queues.{replies}
 use Rattle.rpc_laws.specs.Service.{Answers, is_mode_inline, Serving, served_after, served_after_all}
-use Rattle.rpc_laws.specs.Steps.{Chain, Then, Until, none}
+use Rattle.rpc_laws.specs.Steps.{none}
 use Rattle.rpc_laws.proofs.AnswerLemmas.{answers-append, served-append}
 use Rattle.rpc_laws.proofs.RunLemmas.{me-after_all}
 use Rattle.rpc_outside.specs.Linking.{Carried}
-use Rattle.rpc_outside.specs.Recording.{Grew}
 use Rattle.rpc_outside.specs.Served.{Served}
 use Rattle.rpc_outside.specs.declared.service.Mode.{Mode}
 use Rattle.rpc_outside.specs.declared.service.Mode.TheVariants.{Background}
@@ -42,13 +40,13 @@ use Rattle.server_core.proofs.FlushLemmas.{grew-then}
 use Rattle.worker_board.specs.declared.Parcel.{Parcel}
 use Rattle.worker_crew.specs.Jobs.{Job as CrewJob}
 use Rattle.endpoint_loop.specs.Finishing.{Agree, AllBackground, AreStaffed, FinishesThese, FinishesTaken}
-use Rattle.endpoint_loop.specs.Finishing.{jobs_left, MakesFinished, NoneBack, Staff, asked_job}
+use Rattle.endpoint_loop.specs.Finishing.{MakesFinished, NoneBack, Staff}
 use Rattle.endpoint_loop.specs.Handling.{HandlesWith, MakesAllHandled, StandsForSome, WorksFor}
 use Rattle.endpoint_loop.specs.Handling.{with_all_given}
-use Rattle.endpoint_loop.specs.Noting.{is_end, is_end_event, Makes, MakesEnds, MakesSent, sent_of}
-use Rattle.endpoint_loop.specs.Polling.{FinishesBack, is_stopped, MakesPoll, PollsWith, SendsOver}
+use Rattle.endpoint_loop.specs.Noting.{is_end, is_end_event, Makes, MakesEnds, MakesSent}
+use Rattle.endpoint_loop.specs.Polling.{FinishesBack, MakesPoll, PollsWith, SendsOver}
 use Rattle.endpoint_loop.specs.Polling.{SendsUntil, TellsOfPoll}
-use Rattle.endpoint_loop.specs.Running.{asks_of, Crew, IsServing, IsStaffed, Running, told}
+use Rattle.endpoint_loop.specs.Running.{asks_of, Crew, IsServing, IsStaffed, told}
 use Rattle.endpoint_loop.specs.Seen.{Asks, asking, with_ask}
 use Rattle.endpoint_loop.specs.Serving.{AllServed, job_named}
 use Rattle.endpoint_loop.proofs.GivingLemmas.{ones, staffed-still}

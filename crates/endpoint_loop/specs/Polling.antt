@@ -1,7 +1,7 @@
 -- A poll of an endpoint.
-use Rattle.std.specs.Prelude.{◌≡◌, ℕ, ◌≤◌, ◌⊎◌, Bool, true, false, Option, option_map, List, [], ◌∷◌}
+use Rattle.std.specs.Prelude.{◌≡◌, ℕ, ◌≤◌, ◌⊎◌, Bool, true, false, Option, option_map, List}
 use Rattle.std.specs.Prelude.{◌++◌, length, map, Result, Ok, Err}
-use Rattle.std.specs.List.{AllByRecursion, filter}
+use Rattle.std.specs.List.{filter}
 use Rattle.client_core.specs.Shown.{done_fact}
 use Rattle.client_core.specs.declared.outcome.Done.{Done}
 use Rattle.rpc_base.specs.declared.fact.Fact.{Fact}
@@ -14,7 +14,6 @@ use Rattle.rpc_outside.specs.Linking.{Carried}
 use Rattle.rpc_outside.specs.Recording.{Grew}
 use Rattle.rpc_outside.specs.Served.{Served}
 use Rattle.worker_board.specs.declared.Parcel.{Parcel}
-use Rattle.worker_crew.specs.Jobs.{IsAnswered}
 use Rattle.endpoint_loop.specs.Finishing.{FinishesThese, NoneBack, jobs_left}
 use Rattle.endpoint_loop.specs.Noting.{is_end, sent_of}
 use Rattle.endpoint_loop.specs.Running.{Crew, IsStaffed, Running, told}
