@@ -3,7 +3,7 @@ use Rattle.std.proofs.Common.{◌≡◌, ℕ, zero, suc, ◌+◌, ◌%◌, ◌�
 use Rattle.std.proofs.Common.{Option, Some, None, List, [], ◌∷◌, length, refl, sym, ap, subst, ◌∙◌}
 use Rattle.std.proofs.Common.{inl, inr, arith, get_or}
 use Rattle.std.specs.Prelude.{IfSome, IsTrue, map, option_map, position, slice_get, slice_set, sum_by}
-use Rattle.std.specs.List.{AllByRecursion, find, list_any, remove}
+use Rattle.std.specs.List.{AllByRecursion, find, list_any, position_or_len, remove}
 use Rattle.std.proofs.lemmas.List.{length-map}
 use Rattle.std.proofs.lemmas.Bool.{cases_eq, eq-eqb, ne_eqb}
 use Rattle.std.proofs.lemmas.List.Sums.{sum_by-cons}
@@ -18,6 +18,7 @@ use Rattle.packet_rings.specs.Rings.{Ring}
 use Rattle.packet_rings.specs.Values.{EntryValue}
 use Rattle.pacing_wheel.specs.Wheel.{Wheel}
 use Rattle.node_laws.specs.EndedSessions.{is_reply_of as replies_for}
+use Rattle.rpc_laws.specs.ControlTable.{is_end_of}
 use Rattle.rpc_laws.specs.Requests.{in_slot_of, is_server}
 use Rattle.rpc_laws.specs.declared.tables.Queued.{Queued}
 use Rattle.rpc_laws.specs.declared.tables.Served.{Served}
@@ -37,7 +38,7 @@ use Rattle.session_store.specs.Joined.{joined, queue_of, shown_with}
 use Rattle.session_store.specs.Sides.{HasPlaces, IsOf, IsOfOwner, Kept, Rises, ServerHolds}
 use Rattle.session_store.specs.Sides.{ServerKept, ServerQueued, Shown, is_end}
 use Rattle.session_store.specs.Sides.{numbers_in, places_in, queued_of, served_places}
-use Rattle.session_store.specs.Sides.{shown_side}
+use Rattle.session_store.specs.Sides.{ends_at, shown_side}
 use Rattle.session_store.proofs.KeptLemmas.{ServerActs, clients-same, server-acted, server-places}
 use Rattle.session_store.proofs.KeptLemmas.{servers-set}
 use Rattle.session_store.proofs.ListLemmas.{all-at, get-map, get-own, get-there}
@@ -366,3 +367,16 @@ module _ (pool : Pool) (slot : ℕ) (small : slot < 8) where
       ap (λ (s : Shown). length s.servers) (sym view) ∙ length-map servers (shown_server pool) in
       let at = get-there servers i v (omega (arith, known, long)) looked in
       rw (← view, get-map (shown_server pool) servers i v at) (is ∙ sym (owner-shown v))
+
+-- where a server session stands that is the other end of a client session
+end-place : (pool : Pool) (peer client : ℕ) (servers : List Serving)
+    → position_or_len (is_end_of peer client) (map (shown_server pool) servers)
+    ≡ position_or_len (ends_at peer client) servers
+end-place pool peer client [] = refl
+end-place pool peer client (v ∷ vs) = rw (end-place pool peer client vs) refl
+
+pub end-seen : (pool : Pool) (peer client : ℕ) (servers : List Serving)
+    → position (is_end_of peer client) (map (shown_server pool) servers)
+    ≡ position (ends_at peer client) servers
+end-seen pool peer client servers =
+    rw (end-place pool peer client servers, length-map servers (shown_server pool)) refl

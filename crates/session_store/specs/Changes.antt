@@ -25,6 +25,8 @@ use Rattle.rpc_laws.specs.Requests.{answered, is_request}
 use Rattle.server_core.specs.Steps.{gone_on_as}
 use Rattle.node_laws.specs.EndedSessions.{is_reply_of}
 use Rattle.node_laws.specs.QueuedPackets.{is_ask_of}
+use Rattle.session_store.specs.declared.server.ServerEnd.{ServerEnd}
+use Rattle.session_store.specs.declared.side.ClientEnd.{ClientEnd}
 use Rattle.session_store.specs.Ends.{begun_event, posted_event, progress_of, told_of}
 use Rattle.session_store.specs.Joined.{is_paced}
 use Rattle.session_store.specs.Queue.{is_owned}
@@ -88,6 +90,19 @@ pub record RollsAt (i number : ℕ) (old new : List Client) : Type 0 where
 -- no packet of session i is queued
 abbrev pub IsIdle : ℕ → List Queued → Type 0
 IsIdle i queued = list_any (λ q. is_ask_of i q.owner) queued ≡ false
+
+-- what is known of a client session's other end
+pub record IsClientEnd (e : ClientEnd) (x : Client) : Type 0 where
+  pub peer : e.peer ≡ x.way.peer
+  pub credits : e.credits ≡ x.limit
+  pub server : e.server ≡ x.way.other
+
+-- what never changes of a server session
+pub record IsEnd (e : ServerEnd) (v : Server) : Type 0 where
+  pub number : e.session ≡ v.way.number
+  pub peer : e.peer ≡ v.way.peer
+  pub client : e.client ≡ v.way.other
+  pub credits : e.credits ≡ v.credits
 
 -- no reply of server session t is queued
 abbrev pub HasNoReplies : ℕ → List Queued → Type 0

@@ -10,6 +10,7 @@ use Rattle.buffer_pool.specs.Counting.{Counts}
 use Rattle.buffer_pool.specs.Pool.{Pool, spare_of}
 use Rattle.packet_rings.specs.Rings.{Ring}
 use Rattle.packet_rings.specs.Values.{EntryValue}
+use Rattle.rpc_laws.specs.Sessions.{no_session}
 use Rattle.rpc_laws.specs.declared.tables.Call.{Call}
 use Rattle.rpc_laws.specs.declared.tables.Client.{Client}
 use Rattle.rpc_laws.specs.declared.tables.Queued.{Queued}
@@ -43,6 +44,15 @@ credits_at (Closing sends sent_at) s = limit_of s.credits
 credits_at Closed s = 0
 credits_at Failed s = 0
 credits_at Broken s = 0
+
+-- the number of its server session, none before it is connected
+abbrev pub server_at : Stage → Session → ℕ
+server_at (Connecting sends sent_at) s = no_session
+server_at Connected s = s.server
+server_at (Closing sends sent_at) s = s.server
+server_at Closed s = s.server
+server_at Failed s = no_session
+server_at Broken s = s.server
 
 abbrev pub side_credits : Side → ℕ
 side_credits s = credits_at s.stage s.session
@@ -109,6 +119,10 @@ IsOfSide e (Some s) =
 -- whether a server session has this number and this peer
 abbrev pub is_end : (number peer : ℕ) → Serving → Bool
 is_end number peer v = v.number == number && v.peer == peer
+
+-- whether a server session is the other end of a peer's client session
+abbrev pub ends_at : (peer client : ℕ) → Serving → Bool
+ends_at peer client v = v.peer == peer && v.client == client
 
 -- the session of an entry is there and its peer is the entry's: that of a call's packet posted it.
 -- That a reply is one of its session's is what HoldsAll says

@@ -28,6 +28,12 @@ sends_at (Connecting sends sent_at) = sends
 sends_at (Closing sends sent_at) = sends
 sends_at stage = 0
 
+-- and the clock of the last one
+abbrev pub sent_at : Stage → ℕ
+sent_at (Connecting sends clock) = clock
+sent_at (Closing sends clock) = clock
+sent_at stage = 0
+
 -- one more was sent, at this clock
 abbrev pub asked : (clock : ℕ) → Stage → Stage
 asked clock (Connecting sends sent_at) = Connecting (sends + 1) clock

@@ -8,6 +8,7 @@ mod side;
 mod stage;
 mod store;
 
-pub use side::Side;
+pub use server::ServerEnd;
+pub use side::{ClientEnd, Side};
 pub use stage::Stage;
 pub use store::Store;

@@ -1,6 +1,7 @@
 //! How far a client session has come.
 ghost use Rattle.std.specs.Prelude.{◌≡◌, ◌<◌, ◌+◌, ◌^◌};
 ghost use Rattle.session_store.specs.Stages.{asked, is_broken, is_connected, sends_at};
+ghost use Rattle.session_store.specs.Stages.{sent_at};
 
 /// The stage of a client session. One that is opened and one that closes send requests of their
 /// own: each counts those that it sent, and has the clock, in microseconds, of the last of them.
@@ -67,6 +68,17 @@ impl Stage {
                 sent_at: now,
             },
             stage => stage,
+        }
+    }
+
+    /// How many of its own requests the session sent, and the clock, in microseconds, of the last.
+    pub fn sent(&self) -> (u64, u64)
+        ensures { result ≡ (sends_at self.now, sent_at self.now) }
+    {
+        match *self {
+            Stage::Connecting { sends, sent_at } => (sends, sent_at),
+            Stage::Closing { sends, sent_at } => (sends, sent_at),
+            Stage::Connected | Stage::Closed | Stage::Failed | Stage::Broken => (0, 0),
         }
     }
 }

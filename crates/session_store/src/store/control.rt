@@ -3,16 +3,22 @@ ghost use Rattle.std.specs.Prelude.{◌≡◌, ◌<◌, ◌≤◌, ◌+◌, ◌^
 ghost use Rattle.std.specs.Prelude.{IfSome, OnErr, OnOk};
 ghost use Rattle.rpc_base.specs.declared.state.SessionState.TheVariants.{Closed, Closing};
 ghost use Rattle.rpc_base.specs.declared.state.SessionState.TheVariants.{Connecting, Failed};
+ghost use Rattle.rpc_laws.specs.ControlSteps.{own_request, retry_row};
 ghost use Rattle.rpc_laws.specs.Sessions.{comes_to, connects, opened_end};
 ghost use Rattle.session_store.specs.Changes.{ChangesAt, HasNoCalls, HasRequest, IsConnected};
-ghost use Rattle.session_store.specs.Changes.{IsInState, sent_again};
+ghost use Rattle.session_store.specs.Changes.{IsClientEnd, IsInState, sent_again};
 
 use super::Store;
-use crate::side::Side;
+use crate::side::{ClientEnd, Side};
 use crate::stage::Stage;
 use client_core::ClientSession;
+use packet_header::{ACCEPTED, ControlHeader, ControlKind};
 use rpc_base::{MOST_CREDITS, NoMemory, Peer, SESSION_NUMBERS, SessionNo};
+use rpc_laws::RetryRow;
 use std::alloc::Global;
+
+/// A session sends its own request so many times.
+const MOST_SENDS: u64 = 9;
 
 impl Store {
     /// A client session is opened to a peer, with 1 to 256 credits: it is Connecting, and its
@@ -105,6 +111,63 @@ impl Store {
     {
         let side = &mut self.sides[i];
         side.stage = Stage::Closed;
+    }
+
+    /// The peer, the credits and the server session of session `i`, which is 65,535 before it is
+    /// connected.
+    pub fn end_of_client(&self, i: usize) -> ClientEnd
+        requires known { i < length self.now.clients }
+        ensures { IfSome (slice_get self.now.clients i) (IsClientEnd result) }
+    {
+        let side = &self.sides[i];
+        ClientEnd {
+            peer: side.peer,
+            credits: side.session.limit(),
+            server: side.server(),
+        }
+    }
+
+    /// The request of its own that session `i` sends: to connect while it is Connecting, and to
+    /// disconnect while it is Closing. None comes exactly in every other state.
+    pub fn own_request(&self, i: usize) -> Option<ControlHeader>
+        requires known { i < length self.now.clients }
+        ensures { IfSome (slice_get self.now.clients i) (λ x. result ≡ own_request x) }
+    {
+        let side = &self.sides[i];
+        match &side.stage {
+            Stage::Connecting { .. } => Some(ControlHeader {
+                kind: ControlKind::ConnectRequest,
+                client: side.session.session(),
+                server: None,
+                credits: side.session.limit(),
+                status: ACCEPTED,
+            }),
+            Stage::Closing { .. } => Some(ControlHeader {
+                kind: ControlKind::DisconnectRequest,
+                client: side.session.session(),
+                server: Some(side.session.server()),
+                credits: 0,
+                status: ACCEPTED,
+            }),
+            Stage::Connected | Stage::Closed | Stage::Failed | Stage::Broken => None,
+        }
+    }
+
+    /// What session `i` does about that request at `now`, with this timeout, both in microseconds.
+    pub fn retry_row(&self, i: usize, now: u64, timeout: u64) -> RetryRow
+        requires known { i < length self.now.clients }
+        ensures { IfSome (slice_get self.now.clients i)
+            (λ x. result ≡ retry_row now timeout x.sends x.sent_at) }
+    {
+        let (sends, sent_at) = self.sides[i].stage.sent();
+        if sends != 0 && now.saturating_sub(sent_at) < timeout {
+            return RetryRow::Rests;
+        }
+        if sends < MOST_SENDS {
+            RetryRow::Asks
+        } else {
+            RetryRow::GivesUp
+        }
     }
 
     /// Session `i` sent its own request once more, at `now`, in microseconds: it is Connecting or
