@@ -1,5 +1,5 @@
 -- A server session ends, of which no reply is queued: what always holds of a store holds then.
-use Rattle.std.proofs.Common.{◌≡◌, ℕ, zero, suc, ◌+◌, ◌%◌, ◌≤◌, ◌<◌, Bool, false, ◌||◌, eqb}
+use Rattle.std.proofs.Common.{◌≡◌, ℕ, zero, suc, ◌+◌, ◌%◌, ◌≤◌, ◌<◌, Bool, true, false, ◌||◌, eqb}
 use Rattle.std.proofs.Common.{Option, Some, None, List, [], ◌∷◌, length, refl, sym, ap, subst, ◌∙◌}
 use Rattle.std.proofs.Common.{inl, inr, arith, get_or}
 use Rattle.std.specs.Prelude.{IfSome, IsTrue, map, option_map, position, slice_get, slice_set, sum_by}
@@ -14,13 +14,12 @@ use Rattle.rpc_base.proofs.TablesLemmas.{without_first-found}
 use Rattle.rpc_base.specs.declared.owner.Owner.{Owner}
 use Rattle.rpc_base.specs.declared.owner.Owner.TheVariants.{Ask, Reply, Control}
 use Rattle.buffer_pool.specs.Pool.{Pool, refs_of, spare_of}
+use Rattle.packet_rings.specs.Entries.{is_of}
 use Rattle.packet_rings.specs.Rings.{Ring}
 use Rattle.packet_rings.specs.Values.{EntryValue}
 use Rattle.pacing_wheel.specs.Wheel.{Wheel}
-use Rattle.node_laws.specs.EndedSessions.{is_reply_of as replies_for}
 use Rattle.rpc_laws.specs.ControlTable.{is_end_of}
 use Rattle.rpc_laws.specs.Requests.{in_slot_of, is_server}
-use Rattle.rpc_laws.specs.declared.tables.Queued.{Queued}
 use Rattle.rpc_laws.specs.declared.tables.Served.{Served}
 use Rattle.client_core.proofs.ShownLemmas.{found-shown}
 use Rattle.server_core.specs.Flushing.{HoldsReplies, is_reply_of, named_by}
@@ -32,7 +31,9 @@ use Rattle.server_core.specs.Shown.{shown as shown_server, shown_request}
 use Rattle.server_core.specs.declared.slot.SlotRequest.{SlotRequest}
 use Rattle.server_core.specs.declared.slot.Stored.{Stored}
 use Rattle.session_store.specs.declared.side.Side.{Side}
-use Rattle.session_store.specs.Changes.{HasNoReplies}
+use Rattle.session_store.specs.Changes.{IsDrained}
+use Rattle.session_store.specs.Queue.{is_owned}
+use Rattle.server_core.specs.Replies.{is_owner}
 use Rattle.session_store.specs.Effects.{ServerEnds}
 use Rattle.session_store.specs.Joined.{joined, queue_of, shown_with}
 use Rattle.session_store.specs.Sides.{HasPlaces, IsOf, IsOfOwner, Kept, Rises, ServerHolds}
@@ -272,19 +273,74 @@ module _ (pool : Pool) (number : ℕ) (es : List EntryValue)
   unheld-all (q ∷ qs) held =
       (unheld-one q (answer_of q.state) held.0.all, unheld-all qs held.1)
 
--- as it is looked at
-reply-seen : (n : ℕ) (o : Owner) → is_reply_of n o ≡ replies_for n o
-reply-seen n (Ask s r) = refl
-reply-seen n (Reply t r) = eqb-turned n t
-reply-seen n Control = refl
+-- a reply of a session is one to a request of it
+same-turned : (a b : Owner) → same_owner a b ≡ same_owner b a
+same-turned (Ask s r) (Ask t q) = rw (eqb-turned s t, eqb-turned r q) refl
+same-turned (Ask s r) (Reply t q) = refl
+same-turned (Ask s r) Control = refl
+same-turned (Reply s r) (Ask t q) = refl
+same-turned (Reply s r) (Reply t q) = rw (eqb-turned s t, eqb-turned r q) refl
+same-turned (Reply s r) Control = refl
+same-turned Control (Ask t q) = refl
+same-turned Control (Reply t q) = refl
+same-turned Control Control = refl
 
-pub none-queued : (n : ℕ) (es : List EntryValue) → HasNoReplies n (map queued_of es)
-    → list_any (λ e. is_reply_of n e.owner) es ≡ false
-none-queued n [] idle = refl
-none-queued n (e ∷ es) idle =
-    let parts = or-false (replies_for n e.owner)
-    (list_any (λ (q : Queued). replies_for n q.owner) (map queued_of es)) idle in
-    rw (reply-seen n e.owner, parts.0, none-queued n es parts.1) refl
+module _ (n : ℕ) (slots : List SlotRequest) where
+  -- an entry that is no reply to one of its requests
+  none-owns : (e : EntryValue) (qs : List SlotRequest)
+      → AllByRecursion (λ q. is_of (Reply n q.number) e ≡ false) qs
+      → list_any (is_owner n e.owner) qs ≡ false
+  none-owns e [] all = refl
+  none-owns e (q ∷ qs) all =
+      rw (same-turned (owner_of n q) e.owner, all.0, none-owns e qs all.1) refl
+
+  firsts : (e : EntryValue) (es : List EntryValue) (qs : List SlotRequest)
+      → AllByRecursion (λ q. list_any (is_of (Reply n q.number)) (e ∷ es) ≡ false) qs
+      → AllByRecursion (λ q. is_of (Reply n q.number) e ≡ false) qs
+      × AllByRecursion (λ q. list_any (is_of (Reply n q.number)) es ≡ false) qs
+  firsts e es [] all = (tt, tt)
+  firsts e es (q ∷ qs) all =
+      let parts = or-false (is_of (Reply n q.number) e) (list_any (is_of (Reply n q.number)) es) all.0 in
+      let rest = firsts e es qs all.1 in
+      ((parts.0, rest.0), (parts.1, rest.1))
+
+  not-reply : (e : EntryValue) (b : Bool) → is_reply_of n e.owner ≡ b
+      → (IsTrue (is_reply_of n e.owner) → IsTrue (list_any (is_owner n e.owner) slots))
+      → list_any (is_owner n e.owner) slots ≡ false → b ≡ false
+  not-reply e true is own none = let clash : true ≡ false = sym (own is) ∙ none in cc
+  not-reply e false is own none = refl
+
+  drained-entries : (es : List EntryValue)
+      → AllByRecursion (λ e. IsTrue (is_reply_of n e.owner)
+      → IsTrue (list_any (is_owner n e.owner) slots)) es
+      → AllByRecursion (λ q. list_any (is_of (Reply n q.number)) es ≡ false) slots
+      → list_any (λ e. is_reply_of n e.owner) es ≡ false
+  drained-entries [] own all = refl
+  drained-entries (e ∷ es) own all =
+      let parts = firsts e es slots all in
+      let one = not-reply e (is_reply_of n e.owner) refl own.0 (none-owns e slots parts.0) in
+      rw (one, drained-entries es own.1 parts.1) refl
+
+-- as it is looked at
+module _ (pool : Pool) (n : ℕ) (tx : Ring EntryValue) (paced : Wheel) where
+  owned-seen : (o : Owner) (es : List EntryValue)
+      → list_any (is_owned o) (map queued_of es) ≡ list_any (is_of o) es
+  owned-seen o [] = refl
+  owned-seen o (e ∷ es) = rw (owned-seen o es) refl
+
+  one-drained : (o : Owner) → list_any (is_owned o) (queue_of tx paced) ≡ false
+      → list_any (is_of o) (joined tx paced).items ≡ false
+  one-drained o none = sym (owned-seen o (joined tx paced).items)
+      ∙ ap (λ qs. list_any (is_owned o) qs) (sym (queue-undue tx paced))
+      ∙ any-undue (is_owned o) (λ q. refl) (queue_of tx paced) ∙ none
+
+  all-drained : (slots : List SlotRequest)
+      → AllByRecursion (λ (q : Served). list_any (is_owned (Reply n q.number)) (queue_of tx paced)
+      ≡ false) (map (shown_request pool) slots)
+      → AllByRecursion (λ q. list_any (is_of (Reply n q.number)) (joined tx paced).items ≡ false)
+      slots
+  all-drained [] all = tt
+  all-drained (q ∷ qs) all = (one-drained (Reply n q.number) all.0, all-drained qs all.1)
 
 pub record Ended (pool after : Pool) (sides : List Side) (servers now : List Serving)
     (tx : Ring EntryValue) (paced : Wheel) (i : ℕ) (seen : Shown) : Type 0 where
@@ -298,18 +354,17 @@ pub record Ended (pool after : Pool) (sides : List Side) (servers now : List Ser
 module _ (pool : Pool) (sides : List Side) (servers : List Serving) (tx : Ring EntryValue)
     (paced : Wheel) (kept : Kept pool sides servers (joined tx paced)) (seen : Shown)
     (view : shown_with pool sides servers tx paced ≡ seen) (i : ℕ)
-    (idle : IfSome (slice_get seen.servers i) (λ v. HasNoReplies v.way.number seen.queued)) where
+    (drained : IfSome (slice_get seen.servers i) (IsDrained seen.queued)) where
   none-at : (v : Serving) → slice_get servers i ≡ Some v
       → list_any (λ e. is_reply_of v.number e.owner) (joined tx paced).items ≡ false
   none-at v at =
       let here : IfSome (slice_get (map (shown_server pool) servers) i)
-      (λ w. HasNoReplies w.way.number (queue_of tx paced)) = rw (← view) at idle in
-      let own : HasNoReplies v.number (queue_of tx paced) =
+      (IsDrained (queue_of tx paced)) = rw (← view) at drained in
+      let own : IsDrained (queue_of tx paced) (shown_server pool v) =
       rw (get-map (shown_server pool) servers i v at) at here in
-      none-queued v.number (joined tx paced).items
-      (sym (ap (λ qs. list_any (λ (q : Queued). replies_for v.number q.owner) qs)
-      (queue-undue tx paced)) ∙ any-undue (λ (q : Queued). replies_for v.number q.owner)
-      (λ q. refl) (queue_of tx paced) ∙ own)
+      drained-entries v.number v.slots (joined tx paced).items
+      (all-at (ServerHolds pool (joined tx paced).items) servers i v kept.holds at).own
+      (all-drained pool v.number tx paced v.slots own)
 
   pub unheld-at : IfSome (slice_get servers i) (λ v. AllByRecursion (IsUnheld pool) v.slots)
   unheld-at = cases (slice_get servers i) refl

@@ -3,7 +3,7 @@
 use Rattle.std.specs.Prelude.{ℕ, ◌≡◌, ◌<◌, ◌≤◌, ◌+◌, ◌*◌, Bool, true, false, Option, Some, None}
 use Rattle.std.specs.Prelude.{IfSome, IsSome, List, [], count_by, length, slice_get, slice_set}
 use Rattle.std.specs.Prelude.{option_and_then, option_map}
-use Rattle.std.specs.List.{find, list_any}
+use Rattle.std.specs.List.{AllByRecursion, find, list_any}
 use Rattle.rpc_base.specs.declared.owner.Owner.TheVariants.{Ask, Reply}
 use Rattle.rpc_base.specs.declared.state.SessionState.TheVariants.{Broken}
 use Rattle.rpc_base.specs.declared.state.SessionState.{SessionState}
@@ -23,7 +23,6 @@ use Rattle.rpc_laws.specs.declared.tables.Server.{Server}
 use Rattle.rpc_laws.specs.PollOrder.{is_working}
 use Rattle.rpc_laws.specs.Requests.{answered, is_request}
 use Rattle.server_core.specs.Steps.{gone_on_as}
-use Rattle.node_laws.specs.EndedSessions.{is_reply_of}
 use Rattle.node_laws.specs.QueuedPackets.{is_ask_of}
 use Rattle.session_store.specs.declared.server.ServerEnd.{ServerEnd}
 use Rattle.session_store.specs.declared.side.ClientEnd.{ClientEnd}
@@ -104,9 +103,10 @@ pub record IsEnd (e : ServerEnd) (v : Server) : Type 0 where
   pub client : e.client ≡ v.way.other
   pub credits : e.credits ≡ v.credits
 
--- no reply of server session t is queued
-abbrev pub HasNoReplies : ℕ → List Queued → Type 0
-HasNoReplies t queued = list_any (λ q. is_reply_of t q.owner) queued ≡ false
+-- no reply to a request of a server session is queued
+abbrev pub IsDrained : List Queued → Server → Type 0
+IsDrained queued v = AllByRecursion
+    (λ q. list_any (is_owned (Reply v.way.number q.number)) queued ≡ false) v.slots
 
 -- what the timer rule says of an active call of session i, at this clock and with this timeout
 abbrev pub RowAt : (now timeout i number : ℕ) → TimerRow → Shown → Type 0

@@ -4,7 +4,7 @@ ghost use Rattle.std.specs.List.{find};
 ghost use Rattle.rpc_base.specs.Tables.{without_first};
 ghost use Rattle.rpc_base.specs.declared.owner.Owner.TheVariants.{Reply};
 ghost use Rattle.rpc_laws.specs.Requests.{in_slot_of, is_server};
-ghost use Rattle.session_store.specs.Changes.{HasNoReplies};
+ghost use Rattle.session_store.specs.Changes.{IsDrained};
 
 use super::Store;
 use crate::server::end_at;
@@ -22,12 +22,11 @@ impl Store {
         self.servers[i].owner(slot)
     }
 
-    /// The server session at place `i` ends, of which no reply is queued: its buffers leave the
-    /// pool.
+    /// The server session at place `i` ends, to none of whose requests a reply is queued: its
+    /// buffers leave the pool.
     pub fn end_server(&mut self, i: usize)
         requires known { i < length self.old.servers }
-        requires idle { IfSome (slice_get self.old.servers i)
-            (λ v. HasNoReplies v.way.number self.old.queued) }
+        requires drained { IfSome (slice_get self.old.servers i) (IsDrained self.old.queued) }
         ensures servers { IfSome (slice_get self.old.servers i)
             (λ v. self.new.servers ≡ without_first (is_server v.way.number) self.old.servers) }
         ensures clients { self.new.clients ≡ self.old.clients }

@@ -5,13 +5,13 @@ pub end_at-requires-clause-unheld : goal.end_at-requires-clause-unheld
 end_at-requires-clause-unheld c =
     let s = c.self.inside in
     unheld-at s.pool s.sides.items s.servers.items s.tx s.pacer c.self.invariant.0 c.args.self.now
-    c.self.view_is c.args.i c.requires.idle
+    c.self.view_is c.args.i c.requires.drained
 
 pub invariant_of-self : goal.invariant_of-self
 invariant_of-self c =
     let s = c.self.inside in
     let h = ended s.pool s.sides.items s.servers.items s.tx s.pacer c.self.invariant.0 c.args.self.now
-    c.self.view_is c.args.i c.requires.idle c.end_at.new.pool c.end_at.new.servers.items
+    c.self.view_is c.args.i c.requires.drained c.end_at.new.pool c.end_at.new.servers.items
     c.end_at.ensures in
     (h.kept, c.self.invariant.1)
 
@@ -19,7 +19,7 @@ pub returns-clause-servers : goal.returns-clause-servers
 returns-clause-servers c =
     let s = c.self.inside in
     let h = ended s.pool s.sides.items s.servers.items s.tx s.pacer c.self.invariant.0 c.args.self.now
-    c.self.view_is c.args.i c.requires.idle c.end_at.new.pool c.end_at.new.servers.items
+    c.self.view_is c.args.i c.requires.drained c.end_at.new.pool c.end_at.new.servers.items
     c.end_at.ensures in
     h.left
 
@@ -27,7 +27,7 @@ pub returns-clause-clients : goal.returns-clause-clients
 returns-clause-clients c =
     let s = c.self.inside in
     let h = ended s.pool s.sides.items s.servers.items s.tx s.pacer c.self.invariant.0 c.args.self.now
-    c.self.view_is c.args.i c.requires.idle c.end_at.new.pool c.end_at.new.servers.items
+    c.self.view_is c.args.i c.requires.drained c.end_at.new.pool c.end_at.new.servers.items
     c.end_at.ensures in
     rw (← c.self.view_is) h.clients
 
@@ -35,6 +35,6 @@ pub returns-clause-places : goal.returns-clause-places
 returns-clause-places c =
     let s = c.self.inside in
     let h = ended s.pool s.sides.items s.servers.items s.tx s.pacer c.self.invariant.0 c.args.self.now
-    c.self.view_is c.args.i c.requires.idle c.end_at.new.pool c.end_at.new.servers.items
+    c.self.view_is c.args.i c.requires.drained c.end_at.new.pool c.end_at.new.servers.items
     c.end_at.ensures in
     rw (← c.self.view_is) h.places
