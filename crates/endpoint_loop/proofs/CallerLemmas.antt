@@ -150,6 +150,15 @@ covers-asked callers later i a xs ys h entered others covers =
       | inr other ↦ others j (covers j y (sym (get-other xs i j (asks a h.client) other) ∙ at) has)
     ])
 
+-- a session whose calls stay
+pub covers-stay : (callers : List ℕ) (i : ℕ) (f : Client → Client) (xs ys : List Client)
+    → ((x : Client) → (f x).calls ≡ x.calls) → ChangesAt i f xs ys → Covers callers xs
+    → Covers callers ys
+covers-stay callers i f xs ys stay h covers =
+    rw h.changed (covers-were callers xs (slice_set xs i (f h.client))
+    (were-set xs i h.client (f h.client) h.place
+    (λ has. ap are_calls (sym (stay h.client)) ∙ has)) covers)
+
 -- a session that is new has none
 were-pushed : (y : Client) → has_calls y ≡ false → (xs : List Client) → CallsWere xs (xs ++ y ∷ [])
 were-pushed y idle xs = walk xs

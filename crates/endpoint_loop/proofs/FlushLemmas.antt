@@ -13,7 +13,6 @@ use Rattle.rpc_base.specs.declared.event.Event.TheVariants.{Flushed}
 use Rattle.rpc_base.specs.declared.fact.Fact.{Fact}
 use Rattle.rpc_base.specs.declared.limits.Limits.{Limits}
 use Rattle.rpc_base.specs.declared.owner.Owner.{Owner}
-use Rattle.rpc_base.specs.declared.owner.Owner.TheVariants.{Ask}
 use Rattle.rpc_base.proofs.FirstLemmas.{all-left, sum-fewer}
 use Rattle.rpc_base.proofs.LeastLemmas.{least-none, least-same, none-passes}
 use Rattle.rpc_base.proofs.TakingLemmas.{find-passes}
@@ -187,14 +186,14 @@ least-none-by owner qs is = by (least (is_owned owner) queued_number qs) is
     by (Some q) h = cc
 
 -- where none is, the queue stays
-module _ (i r : ℕ) (qs : List Queued) where
-  pub none-owned : None ≡ least (is_owned (Ask i r)) queued_number qs
-      → list_any (is_owned (Ask i r)) qs ≡ false
-  none-owned e = (least-none (is_owned (Ask i r)) queued_number qs).0 (rw (← e) refl)
+module _ (owner : Owner) (qs : List Queued) where
+  pub none-owned : None ≡ least (is_owned owner) queued_number qs
+      → list_any (is_owned owner) qs ≡ false
+  none-owned e = (least-none (is_owned owner) queued_number qs).0 (rw (← e) refl)
 
-  pub none-taken : (rs : List Queued) → None ≡ least (is_owned (Ask i r)) queued_number qs
-      → rs ≡ without_least (is_owned (Ask i r)) queued_number qs → rs ≡ qs
-  none-taken rs e is = is ∙ least-same (is_owned (Ask i r)) queued_number qs None e
+  pub none-taken : (rs : List Queued) → None ≡ least (is_owned owner) queued_number qs
+      → rs ≡ without_least (is_owned owner) queued_number qs → rs ≡ qs
+  none-taken rs e is = is ∙ least-same (is_owned owner) queued_number qs None e
 
 -- the node of which one was taken out
 module _ (me : ℕ) (limits : Limits) (tallies : Tallies) (paces : List Pace) (jobs : Jobs)
@@ -206,11 +205,11 @@ module _ (me : ℕ) (limits : Limits) (tallies : Tallies) (paces : List Pace) (j
   abbrev seen_with : Jobs → Shown → Timed
   seen_with js u = seen_node me limits tallies paces js clock rx u
 
-  module _ (fits : Fits (seen s) s.size s.places) (i r : ℕ) (q : Queued)
-      (taken : Taken (Ask i r) q s.queued t.queued) (clients : t.clients ≡ s.clients)
+  module _ (fits : Fits (seen s) s.size s.places) (owner : Owner) (q : Queued)
+      (taken : Taken owner q s.queued t.queued) (clients : t.clients ≡ s.clients)
       (servers : t.servers ≡ s.servers) where
     abbrev flushed : Fact
-    flushed = plain me (Flushed (Ask i r) q.number)
+    flushed = plain me (Flushed owner q.number)
 
     goes : (js : Jobs) → seen_with js t
         ≡ record { lists = after clock (seen_with js s).lists flushed; clock = clock }
@@ -218,7 +217,7 @@ module _ (me : ℕ) (limits : Limits) (tallies : Tallies) (paces : List Pace) (j
 
     few-left : replies t.queued ≤ replies s.queued
     few-left =
-        rw taken.left (sum-fewer (is_queued (Ask i r) q.number)
+        rw taken.left (sum-fewer (is_queued owner q.number)
         (λ (p : Queued). cond {A = ℕ} (is_reply p.owner) 1 0) s.queued)
 
     pub fits-flushed : t.size ≡ s.size → t.places ≡ s.places → Fits (seen t) t.size t.places
@@ -231,7 +230,7 @@ module _ (me : ℕ) (limits : Limits) (tallies : Tallies) (paces : List Pace) (j
       each = rw clients fits.each;
       settled = rw clients fits.settled;
       credits = rw servers fits.credits;
-      sendable = rw taken.left (all-left (is_queued (Ask i r) q.number) IsSendable s.queued fits.sendable);
+      sendable = rw taken.left (all-left (is_queued owner q.number) IsSendable s.queued fits.sendable);
       replies = omega (arith, few-left, fits.replies);
       packets = size ∙ fits.packets;
       jobs = fits.jobs;
@@ -239,15 +238,15 @@ module _ (me : ℕ) (limits : Limits) (tallies : Tallies) (paces : List Pace) (j
     }
 
     pub node-flushed : {R : Type 0} (facts : R → Option (List Fact)) (whole : R → Bool)
-        (before now : R) (o : Owner) (k : ℕ) → o ≡ Ask i r → k ≡ q.number
+        (before now : R) (o : Owner) (k : ℕ) → o ≡ owner → k ≡ q.number
         → Grew facts whole before now (plain me (Flushed o k) ∷ [])
-        → Makes facts whole (FlushesSome (Ask i r)) (seen s) (seen t) before now
-    node-flushed facts whole before now o k owner number grew = record {
+        → Makes facts whole (FlushesSome owner) (seen s) (seen t) before now
+    node-flushed facts whole before now o k same number grew = record {
       noted = flushed ∷ [];
-      grew = rw (← owner, ← number) grew;
+      grew = rw (← same, ← number) grew;
       step = λ asks. record {
         facts =
-            ap (λ (ks : List ℕ). map (λ k. plain me (Flushed (Ask i r) k)) ks) (sym taken.numbers);
+            ap (λ (ks : List ℕ). map (λ k. plain me (Flushed owner k)) ks) (sym taken.numbers);
         goes = goes (asking_jobs asks jobs);
       };
     }

@@ -2,6 +2,7 @@ mod AskLemmas
 mod AskedLemmas
 mod BreakLemmas
 mod CallerLemmas
+mod ControlLemmas
 mod CrewLemmas
 mod FinishLemmas
 mod FitsLemmas
@@ -13,6 +14,8 @@ mod HandleLemmas
 mod HearLemmas
 mod IdleLemmas
 mod JobLemmas
+mod JoinLemmas
+mod JoinRows
 mod LoseLemmas
 mod NextLemmas
 mod NodeLemmas

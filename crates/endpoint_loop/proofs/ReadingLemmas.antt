@@ -14,7 +14,7 @@ use Rattle.rpc_laws.specs.declared.tables.Client.{Client}
 use Rattle.endpoint_loop.specs.Reading.{free_told, has_credits, pending_told}
 use Rattle.endpoint_loop.specs.Seen.{arrival_of}
 
-there : (xs : List Client) (i : ℕ) → i < length xs → (x : Client) × (slice_get xs i ≡ Some x)
+pub there : (xs : List Client) (i : ℕ) → i < length xs → (x : Client) × (slice_get xs i ≡ Some x)
 there xs i within = elim ((slice_get_cases xs i).1) [
   | inl h ↦ (h.0, h.2)
   | inr h ↦ absurd (omega (arith, within, h.0))
@@ -28,7 +28,7 @@ pending-there xs i n within h =
     rw at.1 own
 
 -- the free credits of a session are told where it is connected, Spent or not, or closing
-told-credits : (state : SessionState) (asked : ℕ)
+pub told-credits : (state : SessionState) (asked : ℕ)
     → has_credits (told_state state asked) ≡ has_credits state
 told-credits Connected asked = by (ltb asked MOST_CALLS)
   where

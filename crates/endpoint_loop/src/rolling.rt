@@ -176,7 +176,8 @@ impl Node {
         }
     }
 
-    // Session `i`, which is connected, loses its peer, and its calls end. No packet of it is queued.
+    // Session `i`, which is connected, loses its peer, and its calls end. No packet of it is
+    // queued.
     fn break_idle<K: Continuation, R: Recorder>(&mut self, i: usize, k: &mut K, rec: &mut R)
         requires known { i < length self.old.lists.clients }
         requires connected { IsConnected (slice_get self.old.lists.clients i) }

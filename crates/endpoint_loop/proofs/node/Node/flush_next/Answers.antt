@@ -10,7 +10,7 @@ pub invariant_of-self : goal.invariant_of-self
 invariant_of-self g c =
     let h = rw c.in_default.is at c.flush.ensures in
     let same =
-    none-taken c.args.i c.args.request c.self.inside.store.queued c.flush.new.self.queued
+    none-taken (Ask c.args.i c.args.request) c.self.inside.store.queued c.flush.new.self.queued
     (least-none-by (Ask c.args.i c.args.request) c.self.inside.store.queued h.taken) h.queued in (
       rw (same, h.clients, h.servers, h.size, h.places) c.self.invariant.0,
       c.self.invariant.1,
@@ -20,14 +20,14 @@ invariant_of-self g c =
 pub returns-in_default-clause-none : goal.returns-in_default-clause-none
 returns-in_default-clause-none g c = λ _.
     let h = rw c.in_default.is at c.flush.ensures in
-    rw (← c.self.view_is) (none-owned c.args.i c.args.request c.self.inside.store.queued
+    rw (← c.self.view_is) (none-owned (Ask c.args.i c.args.request) c.self.inside.store.queued
     (least-none-by (Ask c.args.i c.args.request) c.self.inside.store.queued h.taken))
 
 pub returns-in_default-clause-unchanged : goal.returns-in_default-clause-unchanged
 returns-in_default-clause-unchanged g c = λ _.
     let h = rw c.in_default.is at c.flush.ensures in
     let same =
-    none-taken c.args.i c.args.request c.self.inside.store.queued c.flush.new.self.queued
+    none-taken (Ask c.args.i c.args.request) c.self.inside.store.queued c.flush.new.self.queued
     (least-none-by (Ask c.args.i c.args.request) c.self.inside.store.queued h.taken) h.queued in
     rw (same, h.clients, h.servers) c.self.view_is
 
@@ -44,7 +44,7 @@ invariant_of-self-2 g c =
           }) c.self.inside.paces.items (jobs_in c.self.inside.limits.jobs c.self.inside.given
           c.self.inside.jobs.items)
           c.self.inside.clock c.self.inside.rx c.self.inside.store c.flush.new.self
-          c.self.invariant.0 c.args.i c.args.request out.entry out.taken h.clients h.servers h.size h.places,
+          c.self.invariant.0 (Ask c.args.i c.args.request) out.entry out.taken h.clients h.servers h.size h.places,
       c.self.invariant.1,
       rw h.clients c.self.invariant.2,
     )
@@ -62,7 +62,7 @@ returns-clause-makes g c = λ _.
     }) c.self.inside.paces.items (jobs_in c.self.inside.limits.jobs c.self.inside.given
     c.self.inside.jobs.items)
     c.self.inside.clock c.self.inside.rx c.self.inside.store c.flush.new.self
-    c.self.invariant.0 c.args.i c.args.request out.entry out.taken h.clients
+    c.self.invariant.0 (Ask c.args.i c.args.request) out.entry out.taken h.clients
     h.servers g.R.Recorder.facts g.R.Recorder.whole c.args.rec.now c.note.new.self _ _
     (ap (λ e. e.owner) c.entry.view_is ∙ owner-is _ _ _ out.own)
     (ap (λ e. e.number) c.entry.view_is ∙ sym out.number) c.note.ensures)

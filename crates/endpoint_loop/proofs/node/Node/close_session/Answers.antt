@@ -1,0 +1,41 @@
+use Rattle.std.proofs.Common.{refl, ◌∙◌}
+use Rattle.rpc_laws.specs.Sessions.{comes_to}
+use Rattle.rpc_base.specs.declared.state.SessionState.TheVariants.{Closed}
+use Rattle.endpoint_loop.specs.Seen.{jobs_in}
+use Rattle.endpoint_loop.proofs.CallerLemmas.{covers-stay}
+use Rattle.endpoint_loop.proofs.JoinLemmas.{fits-closed, node-closed}
+use Rattle.endpoint_loop.proofs.node.Node.close_session.Goals as goal
+
+pub invariant_of-self : goal.invariant_of-self
+invariant_of-self g c =
+    let h = c.closed.ensures in
+    let at = rw (c.from.ensures ∙ c.session.view_is) at h.clients in (
+      fits-closed c.self.inside.me c.self.inside.limits
+          (record {
+            asked = c.self.inside.asked;
+            server_numbers = c.self.inside.server_numbers;
+            counts = c.self.inside.counts;
+          }) c.self.inside.paces.items (jobs_in c.self.inside.limits.jobs c.self.inside.given
+          c.self.inside.jobs.items) c.self.inside.clock c.self.inside.rx c.self.inside.store
+          c.closed.new.self g.R.Recorder.facts g.R.Recorder.whole c.args.rec.now c.note.new.self
+          c.self.invariant.0 c.args.session h.servers h.queued at
+          (rw (← c.self.view_is) at c.requires.closing) h.size h.places,
+      c.self.invariant.1,
+      covers-stay c.self.inside.callers c.args.session (comes_to Closed) _ _ (λ x. refl) at
+          c.self.invariant.2,
+    )
+
+pub returns-clause-makes : goal.returns-clause-makes
+returns-clause-makes g c =
+    let h = c.closed.ensures in
+    let at = rw (c.from.ensures ∙ c.session.view_is) at h.clients in
+    rw (← c.self.view_is) (node-closed c.self.inside.me c.self.inside.limits
+    (record {
+      asked = c.self.inside.asked;
+      server_numbers = c.self.inside.server_numbers;
+      counts = c.self.inside.counts;
+    }) c.self.inside.paces.items (jobs_in c.self.inside.limits.jobs c.self.inside.given
+    c.self.inside.jobs.items) c.self.inside.clock c.self.inside.rx c.self.inside.store
+    c.closed.new.self g.R.Recorder.facts g.R.Recorder.whole c.args.rec.now c.note.new.self
+    c.self.invariant.0 c.args.session h.servers h.queued at
+    (rw (← c.self.view_is) at c.requires.closing) c.note.ensures)

@@ -1,0 +1,27 @@
+use Rattle.std.proofs.Common.{◌∙◌}
+use Rattle.endpoint_loop.proofs.FlushLemmas.{flushed-all, flushed-more}
+use Rattle.endpoint_loop.proofs.NotingLemmas.{as-same}
+use Rattle.endpoint_loop.proofs.node.Node.flush_replies.Goals as goal
+
+pub packets-preserved : goal.packets-preserved
+packets-preserved g c =
+    let i = c.packets.invariant in
+    let h = c.flush_reply.ensures in (
+      flushed-more g.R.Recorder.facts g.R.Recorder.whole c.args.owner.now _ _ _ _ _ _
+          i.0 (h.makes c.packets-test.true),
+      h.clients ∙ i.1,
+      h.servers ∙ i.2,
+      h.inbox ∙ i.3,
+      h.me ∙ i.4,
+      h.jobs ∙ i.5,
+    )
+
+pub returns-clause-makes : goal.returns-clause-makes
+returns-clause-makes g c =
+    let h = c.flush_reply.ensures in
+    let none = h.none c.packets-test.false in
+    let same = h.unchanged c.packets-test.false in
+    let silent = h.silent c.packets-test.false in
+    as-same g.R.Recorder.facts g.R.Recorder.whole _ _ _ _ _ _ _ same silent
+    (flushed-all g.R.Recorder.facts g.R.Recorder.whole c.args.owner.now _ _ _ _ none
+    c.packets.invariant.0)

@@ -1,0 +1,74 @@
+use Rattle.std.proofs.Common.{ap, sym, ◌∙◌}
+use Rattle.endpoint_loop.proofs.FlushLemmas.{fits-flushed, least-none-by, node-flushed, none-owned}
+use Rattle.endpoint_loop.proofs.FlushLemmas.{none-taken, taken-least}
+use Rattle.node_laws.proofs.PutLemmas.{owner-is}
+use Rattle.endpoint_loop.specs.Seen.{jobs_in}
+use Rattle.endpoint_loop.proofs.node.Node.flush_reply.Goals as goal
+
+pub invariant_of-self : goal.invariant_of-self
+invariant_of-self g c =
+    let h = rw (c.in_default-flush_reply.is, ← c.in-Reply.is) at c.flush_reply.ensures in
+    let same =
+    none-taken c.args.owner.now c.self.inside.store.queued c.flush_reply.new.self.queued
+    (least-none-by c.args.owner.now c.self.inside.store.queued h.taken) h.queued in (
+      rw (same, h.clients, h.servers, h.size, h.places) c.self.invariant.0,
+      c.self.invariant.1,
+      rw h.clients c.self.invariant.2,
+    )
+
+pub returns-in_default-flush_reply-clause-none : goal.returns-in_default-flush_reply-clause-none
+returns-in_default-flush_reply-clause-none g c = λ _.
+    let h = rw (c.in_default-flush_reply.is, ← c.in-Reply.is) at c.flush_reply.ensures in
+    rw (← c.self.view_is) (none-owned c.args.owner.now c.self.inside.store.queued
+    (least-none-by c.args.owner.now c.self.inside.store.queued h.taken))
+
+pub returns-in_default-flush_reply-clause-unchanged : goal.returns-in_default-flush_reply-clause-unchanged
+returns-in_default-flush_reply-clause-unchanged g c = λ _.
+    let h = rw (c.in_default-flush_reply.is, ← c.in-Reply.is) at c.flush_reply.ensures in
+    let same =
+    none-taken c.args.owner.now c.self.inside.store.queued c.flush_reply.new.self.queued
+    (least-none-by c.args.owner.now c.self.inside.store.queued h.taken) h.queued in
+    rw (same, h.clients, h.servers) c.self.view_is
+
+pub invariant_of-self-2 : goal.invariant_of-self-2
+invariant_of-self-2 g c =
+    let h = rw (c.in-Some.is, ← c.in-Reply.is) at c.flush_reply.ensures in
+    let out = taken-least c.args.owner.now c.self.inside.store.queued c.flush_reply.new.self.queued
+    c.in-Some.entry h.taken h.queued in (
+      fits-flushed c.self.inside.me c.self.inside.limits
+          (record {
+            asked = c.self.inside.asked;
+            server_numbers = c.self.inside.server_numbers;
+            counts = c.self.inside.counts;
+          }) c.self.inside.paces.items (jobs_in c.self.inside.limits.jobs c.self.inside.given
+          c.self.inside.jobs.items)
+          c.self.inside.clock c.self.inside.rx c.self.inside.store c.flush_reply.new.self
+          c.self.invariant.0 c.args.owner.now out.entry out.taken h.clients h.servers h.size h.places,
+      c.self.invariant.1,
+      rw h.clients c.self.invariant.2,
+    )
+
+pub returns-clause-makes : goal.returns-clause-makes
+returns-clause-makes g c = λ _.
+    let h = rw (c.in-Some.is, ← c.in-Reply.is) at c.flush_reply.ensures in
+    let out = taken-least c.args.owner.now c.self.inside.store.queued c.flush_reply.new.self.queued
+    c.in-Some.entry h.taken h.queued in
+    rw (← c.self.view_is) (node-flushed c.self.inside.me c.self.inside.limits
+    (record {
+      asked = c.self.inside.asked;
+      server_numbers = c.self.inside.server_numbers;
+      counts = c.self.inside.counts;
+    }) c.self.inside.paces.items (jobs_in c.self.inside.limits.jobs c.self.inside.given
+    c.self.inside.jobs.items)
+    c.self.inside.clock c.self.inside.rx c.self.inside.store c.flush_reply.new.self
+    c.self.invariant.0 c.args.owner.now out.entry out.taken h.clients
+    h.servers g.R.Recorder.facts g.R.Recorder.whole c.args.rec.now c.note.new.self _ _
+    (ap (λ e. e.owner) c.entry.view_is ∙ owner-is _ _ out.own)
+    (ap (λ e. e.number) c.entry.view_is ∙ sym out.number) c.note.ensures)
+
+pub returns-clause-fewer : goal.returns-clause-fewer
+returns-clause-fewer g c = λ _.
+    let h = rw (c.in-Some.is, ← c.in-Reply.is) at c.flush_reply.ensures in
+    let out = taken-least c.args.owner.now c.self.inside.store.queued c.flush_reply.new.self.queued
+    c.in-Some.entry h.taken h.queued in
+    rw (← c.self.view_is) out.taken.fewer

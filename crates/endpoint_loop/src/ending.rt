@@ -1,0 +1,61 @@
+//! The end of a server session: the queued replies to its requests are taken out, slot by slot, and
+//! then its buffers leave the pool.
+ghost use Rattle.std.specs.Prelude.{◌≡◌, ◌<◌, false, length, slice_get, true, IfSome};
+ghost use Rattle.std.specs.List.{list_any};
+ghost use Rattle.endpoint_loop.specs.Noting.{Makes};
+ghost use Rattle.endpoint_loop.specs.Watching.{FlushesSome, Notes, flushing};
+ghost use Rattle.rpc_laws.specs.Queues.{is_reply};
+ghost use Rattle.session_store.specs.Queue.{is_owned};
+
+use crate::node::Node;
+use rpc_base::{Event, Owner, Who};
+use rpc_outside::Recorder;
+
+impl Node {
+    // The queued reply of least number of an owner is taken out. The result tells whether there was
+    // one.
+    fn flush_reply<R: Recorder>(&mut self, owner: &Owner, rec: &mut R) -> bool
+        requires reply { is_reply owner.now ≡ true }
+        ensures makes { result ≡ true → Makes R.facts R.whole (FlushesSome owner.now) self.old
+            self.new rec.old rec.new }
+        ensures fewer { result ≡ true →
+            length self.new.lists.queued < length self.old.lists.queued }
+        ensures none { result ≡ false →
+            list_any (is_owned owner.now) self.old.lists.queued ≡ false }
+        ensures unchanged { result ≡ false → self.new ≡ self.old }
+        ensures silent { result ≡ false → rec.new ≡ rec.old }
+        ensures clients { self.new.lists.clients ≡ self.old.lists.clients }
+        ensures servers { self.new.lists.servers ≡ self.old.lists.servers }
+        ensures inbox { self.new.lists.inbox ≡ self.old.lists.inbox }
+        ensures me { self.new.lists.me ≡ self.old.lists.me }
+        ensures jobs { self.new.lists.jobs ≡ self.old.lists.jobs }
+    {
+        let Owner::Reply { session, request } = owner else {
+            unreachable!()
+        };
+        let Some(entry) = self.store.flush_reply(*session, *request) else {
+            return false;
+        };
+        let event = Event::Flushed {
+            owner: entry.owner,
+            number: entry.number,
+        };
+        rec.note(Who::Node(self.me), event, &[], &[]);
+        true
+    }
+
+    // The queued replies of an owner are taken out, in ascending number.
+    fn flush_replies<R: Recorder>(&mut self, owner: &Owner, rec: &mut R)
+        requires reply { is_reply owner.now ≡ true }
+        ensures makes { Makes R.facts R.whole (Notes (flushing owner.now)) self.old self.new rec.old
+            rec.new }
+        ensures idle { list_any (is_owned owner.now) self.new.lists.queued ≡ false }
+        ensures clients { self.new.lists.clients ≡ self.old.lists.clients }
+        ensures servers { self.new.lists.servers ≡ self.old.lists.servers }
+        ensures inbox { self.new.lists.inbox ≡ self.old.lists.inbox }
+        ensures me { self.new.lists.me ≡ self.old.lists.me }
+        ensures jobs { self.new.lists.jobs ≡ self.old.lists.jobs }
+    {
+        'packets: while self.flush_reply(owner, rec) {}
+    }
+}
