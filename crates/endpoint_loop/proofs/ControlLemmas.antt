@@ -7,16 +7,15 @@ use Rattle.std.proofs.lemmas.List.Quantifiers.{position-Some}
 use Rattle.std.proofs.lemmas.Option.{slice_get-get_or}
 use Rattle.rpc_base.proofs.TablesLemmas.{find-found, find-missing}
 use Rattle.rpc_base.specs.declared.event.Event.{Event}
-use Rattle.rpc_base.specs.declared.event.Event.TheVariants.{Accepted, Declined, Starved}
+use Rattle.rpc_base.specs.declared.event.Event.TheVariants.{Accepted}
 use Rattle.rpc_base.specs.declared.fact.Fact.{Fact}
 use Rattle.packet_header.specs.declared.packet.ControlHeader.{ControlHeader}
 use Rattle.packet_header.specs.declared.packet.ControlKind.TheVariants.{ConnectRequest}
 use Rattle.rpc_laws.specs.declared.rows.ControlRow.{ControlRow}
 use Rattle.rpc_laws.specs.declared.rows.ControlRow.TheVariants.{Accepts, Confirms, Declines, Starves}
-use Rattle.rpc_laws.specs.declared.tables.Lists.{Lists}
 use Rattle.rpc_laws.specs.declared.tables.Server.{Server}
 use Rattle.rpc_laws.specs.declared.tables.Timed.{Timed}
-use Rattle.rpc_laws.specs.ControlTable.{confirm_row, connect_row, control_facts, control_reply}
+use Rattle.rpc_laws.specs.ControlTable.{connect_row, control_facts, control_reply}
 use Rattle.rpc_laws.specs.ControlTable.{control_row, is_end_of}
 use Rattle.rpc_laws.specs.Facts.{plain}
 use Rattle.rpc_laws.specs.Groups.{has_no_room, servers_spent}
@@ -26,7 +25,7 @@ use Rattle.rpc_outside.specs.Recording.{Grew}
 use Rattle.server_core.proofs.FlushLemmas.{grew-none}
 use Rattle.session_store.specs.declared.server.ServerEnd.{ServerEnd}
 use Rattle.session_store.specs.Changes.{IsEnd}
-use Rattle.endpoint_loop.specs.Controlling.{Controls, ControlsBy, takes_server}
+use Rattle.endpoint_loop.specs.Controlling.{Controls, takes_server}
 use Rattle.endpoint_loop.specs.Noting.{Makes}
 use Rattle.endpoint_loop.specs.Seen.{Asks, asking}
 
@@ -67,7 +66,7 @@ controls-none facts whole r peer h reply s lacks row is answer none =
     controls-by facts whole r r peer h reply s s lacks row is answer [] (grew-none facts whole r)
     (λ asks. sym (none asks)) (λ asks. refl)
 
-abbrev no-server : Server
+abbrev pub no-server : Server
 no-server = server_end 0 0 0 0
 
 module _ (peer : ℕ) (h : ControlHeader) (kind : h.kind ≡ ConnectRequest) (s : Timed) where

@@ -1,6 +1,6 @@
 -- What a connect or disconnect reply does at a node, row by row of the control table.
-use Rattle.std.proofs.Common.{◌≡◌, ◌≢◌, ℕ, ◌+◌, ◌<◌, Bool, true, false, cond, eqb, ltb, Option, Some, None}
-use Rattle.std.proofs.Common.{List, [], ◌∷◌, length, refl, sym, ap, subst, ◌∙◌, arith}
+use Rattle.std.proofs.Common.{◌≡◌, ◌≢◌, ℕ, ◌<◌, Bool, true, false, cond, eqb, ltb, Option, Some, None}
+use Rattle.std.proofs.Common.{List, [], ◌∷◌, length, refl, sym, ap, ◌∙◌}
 use Rattle.std.specs.Prelude.{IfSome, slice_get}
 use Rattle.std.specs.List.{find}
 use Rattle.std.proofs.lemmas.Bool.{eq-eqb, ne_eqb}
@@ -18,9 +18,8 @@ use Rattle.rpc_laws.specs.declared.rows.ControlRow.{ControlRow}
 use Rattle.rpc_laws.specs.declared.rows.ControlRow.TheVariants.{Closes, Connects, Disowns, Fails}
 use Rattle.rpc_laws.specs.declared.rows.ControlRow.TheVariants.{Ignores}
 use Rattle.rpc_laws.specs.declared.tables.Client.{Client}
-use Rattle.rpc_laws.specs.declared.tables.Lists.{Lists}
 use Rattle.rpc_laws.specs.declared.tables.Timed.{Timed}
-use Rattle.rpc_laws.specs.ControlTable.{closed_row, control_facts, control_reply, control_row}
+use Rattle.rpc_laws.specs.ControlTable.{control_facts, control_reply, control_row}
 use Rattle.rpc_laws.specs.ControlTable.{joined_row, over_row, refused_row, reply_row}
 use Rattle.rpc_laws.specs.Facts.{plain}
 use Rattle.rpc_laws.specs.Groups.{state_of, told_state}

@@ -4,6 +4,7 @@ mod BreakLemmas
 mod CallerLemmas
 mod ControlLemmas
 mod CrewLemmas
+mod EndingLemmas
 mod FinishLemmas
 mod FitsLemmas
 mod FlushLemmas
@@ -17,6 +18,7 @@ mod JobLemmas
 mod JoinLemmas
 mod JoinRows
 mod LoseLemmas
+mod NamedLemmas
 mod NextLemmas
 mod NodeLemmas
 mod NotesLemmas

@@ -2,6 +2,7 @@ pub mod Applying
 pub mod Asking
 pub mod Calling
 pub mod Controlling
+pub mod Ending
 pub mod Finishing
 pub mod Fits
 pub mod Handling

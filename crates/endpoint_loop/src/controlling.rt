@@ -80,7 +80,7 @@ impl Node {
 
     // A connect request: the session is confirmed where it is there, and otherwise made where there
     // is room.
-    fn on_connect_request<R: Recorder>(
+    pub(crate) fn on_connect_request<R: Recorder>(
         &mut self,
         peer: Peer,
         head: &ControlHeader,

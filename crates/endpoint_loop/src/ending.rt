@@ -2,9 +2,11 @@
 //! then its buffers leave the pool.
 ghost use Rattle.std.specs.Prelude.{◌≡◌, ◌<◌, false, length, slice_get, true, IfSome};
 ghost use Rattle.std.specs.List.{list_any};
+ghost use Rattle.endpoint_loop.specs.Ending.{ending, flushing_slot, flushing_slots, leaving};
 ghost use Rattle.endpoint_loop.specs.Noting.{Makes};
 ghost use Rattle.endpoint_loop.specs.Watching.{FlushesSome, Notes, flushing};
 ghost use Rattle.rpc_laws.specs.Queues.{is_reply};
+ghost use Rattle.session_store.specs.Changes.{IsDrained};
 ghost use Rattle.session_store.specs.Queue.{is_owned};
 
 use crate::node::Node;
@@ -57,5 +59,78 @@ impl Node {
         ensures jobs { self.new.lists.jobs ≡ self.old.lists.jobs }
     {
         'packets: while self.flush_reply(owner, rec) {}
+    }
+
+    // The queued replies to the newest request of a slot of the server session at place `i` are
+    // taken out.
+    fn flush_slot<R: Recorder>(&mut self, i: usize, slot: u8, rec: &mut R)
+        requires known { i < length self.old.lists.servers }
+        requires slot { slot < 8 }
+        ensures makes { Makes R.facts R.whole (Notes (flushing_slot i slot)) self.old self.new
+            rec.old rec.new }
+        ensures clients { self.new.lists.clients ≡ self.old.lists.clients }
+        ensures servers { self.new.lists.servers ≡ self.old.lists.servers }
+        ensures inbox { self.new.lists.inbox ≡ self.old.lists.inbox }
+        ensures me { self.new.lists.me ≡ self.old.lists.me }
+        ensures jobs { self.new.lists.jobs ≡ self.old.lists.jobs }
+    {
+        let Some(owner) = self.store.owner_in_slot(i, slot) else {
+            return;
+        };
+        self.flush_replies(&owner, rec);
+    }
+
+    // Those of all its slots are, slot by slot.
+    fn flush_slots<R: Recorder>(&mut self, i: usize, rec: &mut R)
+        requires known { i < length self.old.lists.servers }
+        ensures makes { Makes R.facts R.whole (Notes (flushing_slots i 8)) self.old self.new rec.old
+            rec.new }
+        ensures drained { IfSome (slice_get self.new.lists.servers i)
+            (IsDrained self.new.lists.queued) }
+        ensures clients { self.new.lists.clients ≡ self.old.lists.clients }
+        ensures servers { self.new.lists.servers ≡ self.old.lists.servers }
+        ensures inbox { self.new.lists.inbox ≡ self.old.lists.inbox }
+        ensures me { self.new.lists.me ≡ self.old.lists.me }
+        ensures jobs { self.new.lists.jobs ≡ self.old.lists.jobs }
+    {
+        let _ = &self.me;
+        let mut slot = 0;
+        'slots: while slot < 8 {
+            self.flush_slot(i, slot, rec);
+            slot += 1;
+        }
+    }
+
+    // The server session at place `i` leaves, to none of whose requests a reply is queued.
+    fn remove_session<R: Recorder>(&mut self, i: usize, rec: &mut R)
+        requires known { i < length self.old.lists.servers }
+        requires drained { IfSome (slice_get self.old.lists.servers i)
+            (IsDrained self.old.lists.queued) }
+        ensures makes { Makes R.facts R.whole (Notes (leaving i)) self.old self.new rec.old
+            rec.new }
+        ensures clients { self.new.lists.clients ≡ self.old.lists.clients }
+        ensures inbox { self.new.lists.inbox ≡ self.old.lists.inbox }
+        ensures me { self.new.lists.me ≡ self.old.lists.me }
+        ensures jobs { self.new.lists.jobs ≡ self.old.lists.jobs }
+    {
+        let end = self.store.end_of_server(i);
+        self.store.end_server(i);
+        let event = Event::Ended {
+            session: end.session,
+        };
+        rec.note(Who::Node(self.me), event, &[], &[]);
+    }
+
+    // The server session at place `i` ends: first the queued replies to its requests are taken out.
+    pub(crate) fn end_session<R: Recorder>(&mut self, i: usize, rec: &mut R)
+        requires known { i < length self.old.lists.servers }
+        ensures makes { Makes R.facts R.whole (Notes (ending i)) self.old self.new rec.old rec.new }
+        ensures clients { self.new.lists.clients ≡ self.old.lists.clients }
+        ensures inbox { self.new.lists.inbox ≡ self.old.lists.inbox }
+        ensures me { self.new.lists.me ≡ self.old.lists.me }
+        ensures jobs { self.new.lists.jobs ≡ self.old.lists.jobs }
+    {
+        self.flush_slots(i, rec);
+        self.remove_session(i, rec);
     }
 }

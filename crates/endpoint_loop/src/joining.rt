@@ -80,7 +80,7 @@ impl Node {
 
     // A connect reply names server session `server` to session `i`, whose other end is known, and
     // which was opened to the packet's sender.
-    fn join_session<R: Recorder>(
+    pub(crate) fn join_session<R: Recorder>(
         &mut self,
         i: usize,
         head: &ControlHeader,
@@ -118,7 +118,7 @@ impl Node {
     }
 
     // A connect reply names no server session to session `i`.
-    fn refuse_session<R: Recorder>(
+    pub(crate) fn refuse_session<R: Recorder>(
         &mut self,
         i: usize,
         head: &ControlHeader,
@@ -143,7 +143,7 @@ impl Node {
     }
 
     // A disconnect reply names server session `server` to session `i`.
-    fn finish_session<R: Recorder>(
+    pub(crate) fn finish_session<R: Recorder>(
         &mut self,
         i: usize,
         head: &ControlHeader,

@@ -3,6 +3,7 @@
 //! posts calls, and sends packets; the program runs the nodes of the simulation.
 #![tactic(auto)]
 
+mod answering;
 mod applying;
 mod asking;
 mod calling;
