@@ -1,6 +1,8 @@
 pub mod Applying
 pub mod Asking
 pub mod Calling
+pub mod Counting
+pub mod Delivering
 pub mod Finishing
 pub mod Fits
 pub mod Handling
@@ -14,4 +16,5 @@ pub mod Reading
 pub mod Running
 pub mod Seen
 pub mod Serving
+pub mod Standing
 pub mod Watching

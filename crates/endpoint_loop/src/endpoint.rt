@@ -8,6 +8,7 @@ ghost use Rattle.rpc_laws.specs.Groups.{state_of};
 ghost use Rattle.rpc_laws.specs.NodeLists.{new_node};
 ghost use Rattle.rpc_laws.specs.Sessions.{is_client};
 ghost use Rattle.endpoint_loop.specs.Handling.{WorksFor};
+ghost use Rattle.endpoint_loop.specs.Standing.{StandsFor};
 
 use crate::node::Node;
 use rpc_base::{Limits, NodeId, SessionNo, SessionState};
@@ -62,6 +63,16 @@ impl<V: Service, W: Workers> Endpoint<V, W> {
           service = service;
           workers = workers;
         }) }
+        // It stands for no facts.
+        ensures stands { IfOk result (λ e. StandsFor (record {
+          mode = V.mode_of;
+          answer = V.answer;
+        }) V.stands W.answer (λ w. record {
+          limit = W.limit w;
+          given = W.given w;
+          out = W.out w;
+          waiting = W.waiting w;
+        }) limits [] e) }
         ensures wanting { IfErr result (λ back. back ≡ workers) }
     {
         let Ok(node) = Node::new(alloc, me, limits) else {

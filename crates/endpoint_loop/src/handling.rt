@@ -1,5 +1,5 @@
 //! Step 3 of a poll: the packets of the receive ring are handled.
-ghost use Rattle.std.specs.Prelude.{◌≡◌, ◌≢◌, ◌<◌, [], true, false, drop, length};
+ghost use Rattle.std.specs.Prelude.{◌≡◌, ◌≢◌, ◌<◌, ◌+◌, [], true, false, drop, length};
 ghost use Rattle.endpoint_loop.specs.Handling.{MakesAllHandled, MakesHandled, StandsForSome};
 ghost use Rattle.endpoint_loop.specs.Handling.{WorksFor};
 ghost use Rattle.endpoint_loop.specs.Serving.{AllServed};
@@ -100,7 +100,8 @@ impl Node {
 
     /// Step 3 of a poll: the packets of the receive ring are handled in the order of their arrival,
     /// while fewer replies are queued than the ring is long. Calls that end go to the continuation,
-    /// and jobs to the workers, which answer background requests as the service does.
+    /// and jobs to the workers, which answer background requests as the service does. The result
+    /// tells how many packets were handled.
     pub fn handle_all<V: Service, W: Workers, K: Continuation, R: Recorder>(
         &mut self,
         alloc: Global,
@@ -108,7 +109,7 @@ impl Node {
         workers: &mut W,
         k: &mut K,
         rec: &mut R,
-    )
+    ) -> u32
         requires served { AllServed V.mode_of self.old.lists.servers }
         requires founded { StandsForSome (V.stands service.old) }
         requires works { WorksFor W.answer (record { mode = V.mode_of; answer = V.answer }) }
@@ -125,9 +126,12 @@ impl Node {
         ensures founded { StandsForSome (V.stands service.new) }
         ensures worked { W.worked workers.new ≡ W.worked workers.old }
         ensures looks { W.looks workers.new ≡ W.looks workers.old }
+        ensures count { result + length self.new.lists.ring ≡ length self.old.lists.ring }
     {
+        let before = self.rx.len();
         'packets: while self.can_handle() {
             self.handle_next(alloc, service, workers, k, rec);
         }
+        before - self.rx.len()
     }
 }

@@ -1,6 +1,6 @@
 //! Step 6 of a poll: what is ready or due is sent.
-ghost use Rattle.std.specs.Prelude.{◌≡◌, ◌≢◌, ◌<◌, ◌↔◌, [], true, false, length, IfOk, IsTrue};
-ghost use Rattle.std.specs.Prelude.{OnErr};
+ghost use Rattle.std.specs.Prelude.{◌≡◌, ◌≢◌, ◌<◌, ◌+◌, ◌↔◌, [], true, false, length, IfOk};
+ghost use Rattle.std.specs.Prelude.{IsTrue, OnErr};
 ghost use Rattle.endpoint_loop.specs.Noting.{MakesSent, SendsNone};
 ghost use Rattle.rpc_laws.specs.Pacing.{line};
 ghost use Rattle.rpc_laws.specs.PollOrder.{Sends, SendsSome};
@@ -11,6 +11,15 @@ use crate::node::Node;
 use packet_header::HEAD_BYTES;
 use rpc_base::{Event, Who};
 use rpc_outside::{Failed, Link, Recorder, Taken};
+
+/// What was sent.
+#[derive(Clone, Copy, Debug, PartialEq, Eq)]
+pub struct Sending {
+    /// How many packets.
+    pub sent: u32,
+    /// Whether the link was busy, which left packets that may be sent.
+    pub busy: bool,
+}
 
 impl Node {
     // Sends the front of the queue, which may be sent by now, where it lies. The result tells
@@ -67,30 +76,35 @@ impl Node {
     }
 
     /// Step 6 of a poll: what is ready is sent, the oldest first, and then what is due by now,
-    /// until none of it is left or the link is busy or fails. The result tells whether the link was
-    /// busy. What wasn't sent stays queued in its order.
+    /// until none of it is left or the link is busy or fails. What wasn't sent stays queued in its
+    /// order.
     pub fn send_all<L: Link, R: Recorder>(
         &mut self,
         link: &mut L,
         rec: &mut R,
-    ) -> Result<bool, Failed>
+    ) -> Result<Sending, Failed>
         ensures sent { MakesSent R.facts R.whole L.sent SendsSome self.old self.new rec.old rec.new
             link.old link.new }
-        ensures all { IfOk result (λ busy. busy ≡ false → (line self.new.clock
+        ensures all { IfOk result (λ s. s.busy ≡ false → (line self.new.clock
             self.new.lists.queued ≡ [])
             × (L.busies link.new ≡ L.busies link.old)) }
-        ensures busy { IfOk result (λ busy. busy ≡ true →
+        ensures busy { IfOk result (λ s. s.busy ≡ true →
             HasRisen (L.busies link.old) (L.busies link.new)) }
+        ensures count { IfOk result (λ s.
+            s.sent + length self.new.lists.queued ≡ length self.old.lists.queued) }
         ensures jobs { self.new.lists.jobs ≡ self.old.lists.jobs }
         ensures servers { self.new.lists.servers ≡ self.old.lists.servers }
         ensures lists { NoneComes L.waiting L.received link.old link.new }
         ensures cause { HasCause (L.faults link.old) (L.faults link.new) result }
     {
+        let before = self.store.queued();
         'packets: while !self.is_all_sent() {
             if !self.send_front(link, rec)? {
-                return Ok(true);
+                let sent = before - self.store.queued();
+                return Ok(Sending { sent, busy: true });
             }
         }
-        Ok(false)
+        let sent = before - self.store.queued();
+        Ok(Sending { sent, busy: false })
     }
 }

@@ -1,6 +1,8 @@
 //! Step 4 of a poll: the timers. A call that timed out is rolled back, and one that timed out once
 //! too often breaks its session.
 ghost use Rattle.std.specs.Prelude.{◌≡◌, ◌<◌, length};
+ghost use Rattle.std.specs.List.{AllByRecursion};
+ghost use Rattle.endpoint_loop.specs.Fits.{IsSettled};
 ghost use Rattle.endpoint_loop.specs.Noting.{MakesEnds};
 ghost use Rattle.endpoint_loop.specs.Watching.{LooksAt, calls_at};
 ghost use Rattle.rpc_laws.specs.ControlSteps.{TimesAll, TimesSession};
@@ -96,6 +98,7 @@ impl Node {
     pub fn watch<K: Continuation, R: Recorder>(&mut self, k: &mut K, rec: &mut R)
         ensures ended { MakesEnds R.facts R.whole K.given TimesAll self.old self.new rec.old rec.new
             k.old k.new }
+        ensures settled { AllByRecursion IsSettled self.old.lists.clients }
         ensures servers { self.new.lists.servers ≡ self.old.lists.servers }
         ensures jobs { self.new.lists.jobs ≡ self.old.lists.jobs }
     {

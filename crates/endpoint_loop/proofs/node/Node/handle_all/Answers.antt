@@ -1,4 +1,4 @@
-use Rattle.std.proofs.Common.{refl, ◌∙◌}
+use Rattle.std.proofs.Common.{refl, ◌∙◌, arith}
 use Rattle.endpoint_loop.proofs.GivingLemmas.{all-handled-more, all-handled-none, all-handled-over}
 use Rattle.endpoint_loop.proofs.node.Node.handle_all.Goals as goal
 
@@ -17,6 +17,7 @@ packets-init g c = (
   refl,
   refl,
   refl,
+  omega arith,
 )
 
 pub packets-preserved : goal.packets-preserved
@@ -36,6 +37,7 @@ packets-preserved g c =
       h.me ∙ i.3,
       h.worked ∙ i.4,
       h.looks ∙ i.5,
+      omega (arith, h.fewer, i.6),
     )
 
 pub returns-clause-handles : goal.returns-clause-handles

@@ -1,4 +1,4 @@
-use Rattle.std.proofs.Common.{◌≡◌, length}
+use Rattle.std.proofs.Common.{◌≡◌, ◌≤◌, length}
 use Rattle.rpc_laws.specs.PollOrder.{Handles}
 use Rattle.rpc_laws.specs.Steps.{Chain}
 use Rattle.endpoint_loop.specs.Handling.{MakesAllHandled, StandsForSome}
@@ -21,6 +21,7 @@ invariant-packets g l =
     × (l.self.lists.me ≡ l.initial.self.lists.me)
     × (g.W.Workers.worked l.workers ≡ g.W.Workers.worked l.initial.workers)
     × (g.W.Workers.looks l.workers ≡ g.W.Workers.looks l.initial.workers)
+    × (length l.self.lists.ring ≤ length l.initial.self.lists.ring)
 
 abbrev pub decreases-packets : goal.decreases-packets
 decreases-packets g l = length l.self.lists.ring

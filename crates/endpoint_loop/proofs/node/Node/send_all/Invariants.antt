@@ -1,4 +1,4 @@
-use Rattle.std.proofs.Common.{◌≡◌, length}
+use Rattle.std.proofs.Common.{◌≡◌, ◌≤◌, length}
 use Rattle.endpoint_loop.specs.Noting.{MakesSent}
 use Rattle.rpc_laws.specs.PollOrder.{SendsSome}
 use Rattle.rpc_outside.specs.Linking.{NoneComes}
@@ -13,6 +13,7 @@ invariant-packets g l =
     × NoneComes g.L.Link.waiting g.L.Link.received l.initial.link l.link
     × (l.self.lists.jobs ≡ l.initial.self.lists.jobs)
     × (l.self.lists.servers ≡ l.initial.self.lists.servers)
+    × (length l.self.lists.queued ≤ length l.initial.self.lists.queued)
 
 abbrev pub decreases-packets : goal.decreases-packets
 decreases-packets g l = length l.self.lists.queued
