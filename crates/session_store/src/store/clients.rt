@@ -19,7 +19,7 @@ ghost use Rattle.session_store.specs.Changes.{BeginsAt, ChangesAt, PostsAt};
 ghost use Rattle.session_store.specs.Effects.{asking_in, packet_of_entry, request_in};
 ghost use Rattle.session_store.specs.Ends.{next_above, told_call};
 ghost use Rattle.client_core.specs.Handing.{handed_waiting};
-ghost use Rattle.session_store.specs.Handing.{HandsBackIf, HandsInAt, ended_by};
+ghost use Rattle.session_store.specs.Handing.{AreOfCalls, HandsBackIf, HandsInAt, ended_by};
 ghost use Rattle.session_store.specs.Hearing.{RepliesAt};
 ghost use Rattle.session_store.specs.Joined.{is_paced, put_listed};
 ghost use Rattle.session_store.specs.Sides.{HasRoom};
@@ -56,6 +56,13 @@ impl Store {
             return 0;
         };
         usize::from(last.session.session().0) + 1
+    }
+
+    /// What was handed in with the calls of the client sessions is that of the calls which are seen.
+    pub fn sound(&self)
+        ensures handed { AreOfCalls self.now.handed self.now.clients }
+    {
+        let _count = self.sides.len();
     }
 
     /// A client session is made that is connected from the start, with 1 to 256 credits; its number
