@@ -93,8 +93,8 @@ impl ClientSession {
             ≡ shown_broken pool.new peer self.new ∷ []) }
         ensures loses { IfSome result (λ d. Loses (next_lost self.old) d self.old self.new pool.old
             pool.new) }
-        ensures handed { IfSome result (λ d. HandsBack self.old.number d (handed_of pool.old self.old)
-            (handed_of pool.new self.new)) }
+        ensures handed { IfSome result (λ d. HandsBack self.old.number d
+            (handed_of pool.old self.old) (handed_of pool.new self.new)) }
         ensures others { LeavesOthers self.old.active self.new.active pool.old pool.new }
         ensures entries { LossKeeps (next_lost self.old) self.old self.new }
         ensures counts { Still (Counts pool.old) (Counts pool.new) }

@@ -58,7 +58,7 @@ impl Store {
         usize::from(last.session.session().0) + 1
     }
 
-    /// What was handed in with the calls of the client sessions is that of the calls which are seen.
+    /// What was handed in, as it is seen, is that of the calls which are seen.
     pub fn sound(&self)
         ensures handed { AreOfCalls self.now.handed self.now.clients }
     {
