@@ -10,6 +10,7 @@ mod FlushedLemmas
 mod GatherLemmas
 mod GivingLemmas
 mod HandleLemmas
+mod HandingLemmas
 mod HearLemmas
 mod IdleLemmas
 mod JobLemmas

@@ -3,6 +3,7 @@ pub mod Asking
 pub mod Calling
 pub mod Finishing
 pub mod Fits
+pub mod Handing
 pub mod Handling
 pub mod Hearing
 pub mod Lending

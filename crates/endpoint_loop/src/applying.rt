@@ -1,5 +1,7 @@
 //! What an application and its network do with an endpoint, between two polls.
-ghost use Rattle.std.specs.Prelude.{◌≡◌, ◌<◌, ◌≤◌, None, Some, length, OnErr, OnOk};
+ghost use Rattle.session_store.specs.Handing.{HandsInAt};
+ghost use Rattle.std.specs.Prelude.{◌≡◌, ◌<◌, ◌≤◌, ◌++◌, [], ◌∷◌, None, Some, length, OnErr, OnOk};
+ghost use Rattle.std.specs.Prelude.{IfOk};
 ghost use Rattle.std.specs.List.{find};
 ghost use Rattle.endpoint_loop.specs.Applying.{Leaves};
 ghost use Rattle.endpoint_loop.specs.Asking.{IfWanting, IsAskedAs, UnlessWanting, refusal_of};
@@ -39,6 +41,7 @@ impl<V: Service, W: Workers> Endpoint<V, W> {
             rec.old rec.new) }
         ensures leaves { Leaves self.old self.new }
         ensures unchanged { OnErr result ((self.new ≡ self.old) × (rec.new ≡ rec.old)) }
+        ensures handed { OnOk result (self.new.handed ≡ self.old.handed ++ [] ∷ []) }
     {
         self.node
             .pair_client(self.alloc, peer, server, credits, rec)
@@ -63,6 +66,7 @@ impl<V: Service, W: Workers> Endpoint<V, W> {
             rec.old rec.new) }
         ensures leaves { Leaves self.old self.new }
         ensures unchanged { OnErr result ((self.new ≡ self.old) × (rec.new ≡ rec.old)) }
+        ensures handed { self.new.handed ≡ self.old.handed }
     {
         self.node.pair_server(peer, client, credits, rec)
     }
@@ -86,6 +90,12 @@ impl<V: Service, W: Workers> Endpoint<V, W> {
         ensures leaves { Leaves self.old self.new }
         ensures unchanged { OnErr result (self.new ≡ self.old) }
         ensures wanting { IfWanting result (rec.new ≡ rec.old) }
+        ensures handed { IfOk result (λ call. HandsInAt session (record {
+          call = call;
+          tag = tag;
+          req = Some req;
+          room = capacity_of resp;
+        }) self.old.handed self.new.handed) }
     {
         self.node.ask(session, req_type, req, resp, tag, rec)
     }
@@ -104,6 +114,7 @@ impl<V: Service, W: Workers> Endpoint<V, W> {
         ensures rated { RatedAs (state_of (find (is_client session)
             self.old.timed.lists.clients)) result }
         ensures leaves { Leaves self.old self.new }
+        ensures handed { self.new.handed ≡ self.old.handed }
     {
         self.node.set_rate(session, rate, rec)
     }
@@ -114,6 +125,7 @@ impl<V: Service, W: Workers> Endpoint<V, W> {
         ensures makes { Makes R.facts R.whole (Delivers peer bytes.now) self.old.timed
             self.new.timed rec.old rec.new }
         ensures leaves { Leaves self.old self.new }
+        ensures handed { self.new.handed ≡ self.old.handed }
     {
         self.node.deliver(peer, bytes, rec);
     }

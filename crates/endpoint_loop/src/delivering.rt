@@ -1,4 +1,5 @@
 //! A datagram comes in.
+ghost use Rattle.endpoint_loop.specs.Handing.{timed_of};
 ghost use Rattle.std.specs.Prelude.{◌≡◌};
 ghost use Rattle.endpoint_loop.specs.Noting.{Makes};
 ghost use Rattle.rpc_laws.specs.Deliveries.{Delivers};
@@ -13,10 +14,11 @@ impl Node {
     /// Takes a datagram from a peer: it is copied into the receive ring where it is a packet of a
     /// call and there is room.
     pub fn deliver<R: Recorder>(&mut self, peer: Peer, bytes: &[u8], rec: &mut R)
-        ensures makes { Makes R.facts R.whole (Delivers peer bytes.now) self.old self.new rec.old
-            rec.new }
+        ensures makes { Makes R.facts R.whole (Delivers peer bytes.now) (timed_of self.old)
+            (timed_of self.new) rec.old rec.new }
         ensures jobs { self.new.lists.jobs ≡ self.old.lists.jobs }
         ensures servers { self.new.lists.servers ≡ self.old.lists.servers }
+        ensures handed { self.new.handed ≡ self.old.handed }
     {
         if read(bytes).is_none() {
             rec.note(Who::Node(self.me), Event::Bad { peer }, bytes, &[]);

@@ -1,5 +1,7 @@
 //! Sessions that are connected from the start.
-ghost use Rattle.std.specs.Prelude.{◌≡◌, ◌<◌, ◌≤◌, ℕ, None, Some, length, OnErr, OnOk};
+ghost use Rattle.endpoint_loop.specs.Handing.{timed_of};
+ghost use Rattle.std.specs.Prelude.{◌≡◌, ◌<◌, ◌≤◌, ◌++◌, [], ◌∷◌, ℕ, None, Some, length, OnErr};
+ghost use Rattle.std.specs.Prelude.{OnOk};
 ghost use Rattle.endpoint_loop.specs.Noting.{Makes};
 ghost use Rattle.endpoint_loop.specs.Serving.{AllServed};
 ghost use Rattle.rpc_base.specs.declared.event.Event.TheVariants.{PairedClient, PairedServer};
@@ -37,12 +39,13 @@ impl Node {
         requires server { server < SESSION_NUMBERS }
         requires some { 1 ≤ credits }
         requires most { credits ≤ MOST_CREDITS }
-        ensures makes { OnOk result (Makes R.facts R.whole (NotesNext (λ s. Some
-            (PairedClient (length s.clients) peer server credits))) self.old self.new rec.old
-            rec.new) }
+        ensures makes { OnOk result (Makes R.facts R.whole (NotesNext (λ s. Some (PairedClient
+            (length s.clients) peer server credits))) (timed_of self.old) (timed_of self.new)
+            rec.old rec.new) }
         ensures jobs { self.new.lists.jobs ≡ self.old.lists.jobs }
         ensures servers { self.new.lists.servers ≡ self.old.lists.servers }
         ensures unchanged { OnErr result ((self.new ≡ self.old) × (rec.new ≡ rec.old)) }
+        ensures handed { OnOk result (self.new.handed ≡ self.old.handed ++ [] ∷ []) }
     {
         let session = self.next_client();
         let pace = Pace {
@@ -79,14 +82,15 @@ impl Node {
         requires client { client < SESSION_NUMBERS }
         requires some { 1 ≤ credits }
         requires most { credits ≤ MOST_CREDITS }
-        ensures makes { OnOk result (Makes R.facts R.whole (NotesNext (λ s. Some
-            (PairedServer s.server_numbers peer client credits))) self.old self.new rec.old
+        ensures makes { OnOk result (Makes R.facts R.whole (NotesNext (λ s. Some (PairedServer
+            s.server_numbers peer client credits))) (timed_of self.old) (timed_of self.new) rec.old
             rec.new) }
         ensures clients { self.new.lists.clients ≡ self.old.lists.clients }
         ensures jobs { self.new.lists.jobs ≡ self.old.lists.jobs }
         ensures served { (mode : ℕ → Mode) → AllServed mode self.old.lists.servers
             → AllServed mode self.new.lists.servers }
         ensures unchanged { OnErr result ((self.new ≡ self.old) × (rec.new ≡ rec.old)) }
+        ensures handed { self.new.handed ≡ self.old.handed }
     {
         let session = SessionNo(self.server_numbers as u16);
         self.store.pair_server(session, client, peer, credits)?;

@@ -2,6 +2,9 @@ use Rattle.std.proofs.Common.{◌≡◌, false, true, [], sym, ap, ◌∙◌}
 use Rattle.endpoint_loop.specs.Polling.{is_stopped}
 use Rattle.endpoint_loop.proofs.PollLemmas.{makes-poll, still-serving}
 use Rattle.rpc_laws.specs.Pacing.{line}
+use Rattle.endpoint_loop.specs.Handing.{timed_of}
+use Rattle.endpoint_loop.proofs.HandingLemmas.{gives-more, gives-same}
+use Rattle.std.proofs.Common.{refl}
 use Rattle.endpoint_loop.proofs.endpoint.Endpoint.poll.Goals as goal
 use Rattle.endpoint_loop.proofs.endpoint.Endpoint.poll.Goals.{in-Ok, in-Err}
 
@@ -13,7 +16,8 @@ handle_all-requires-clause-served g c =
 pub invariant_of-self : goal.invariant_of-self
 invariant_of-self g c =
     let h = c.handle_all.ensures.handles in
-    still-serving _ _ _ c.finish_all.new.self c.handle_all.new.self c.close.new.self h.gave
+    still-serving _ _ _ (timed_of c.finish_all.new.self) (timed_of c.handle_all.new.self)
+    (timed_of c.close.new.self) h.gave
     c.handle_all.ensures.founded c.self.invariant.works c.handle_all.ensures.served
     (c.close.ensures.servers ∙ c.send_all-sent.ensures.servers ∙ c.serve_sessions.ensures.servers
     ∙ c.watch.ensures.servers)
@@ -36,9 +40,10 @@ returns-clause-polls g c =
       worked = g.W.Workers.worked w;
       looks = g.W.Workers.looks w;
     }) (record { mode = g.V.Service.mode_of; answer = g.V.Service.answer }) g.V.Service.stands
-    g.W.Workers.answer c.self.invariant.works c.args.now c.self.inside.node c.finish_all.new.self
-    c.handle_all.new.self c.watch.new.self c.serve_sessions.new.self c.send_all-sent.new.self
-    c.close.new.self c.self.inside.workers c.finish_all.new.workers c.handle_all.new.workers
+    g.W.Workers.answer c.self.invariant.works c.args.now (timed_of c.self.inside.node)
+    (timed_of c.finish_all.new.self) (timed_of c.handle_all.new.self) (timed_of c.watch.new.self)
+    (timed_of c.serve_sessions.new.self) (timed_of c.send_all-sent.new.self)
+    (timed_of c.close.new.self) c.self.inside.workers c.finish_all.new.workers c.handle_all.new.workers
     c.self.inside.service c.handle_all.new.service c.args.rec.now c.finish_all.new.rec
     c.handle_all.new.rec c.watch.new.rec c.serve_sessions.new.rec c.send_all-sent.new.rec
     c.close.new.rec c.args.k.now c.handle_all.new.k c.watch.new.k c.args.link.now
@@ -50,7 +55,8 @@ returns-clause-polls g c =
     c.serve_sessions.ensures.makes c.send_all-sent.ensures.sent c.close.ensures.makes
     (is_stopped c.match-sent.result) all
     (c.close.ensures.jobs ∙ c.send_all-sent.ensures.jobs ∙ c.serve_sessions.ensures.jobs
-    ∙ c.watch.ensures.jobs) c.sound-2.ensures.kept)
+    ∙ c.watch.ensures.jobs) c.sound-2.ensures.kept c.self.inside.node.handed
+    c.close.new.self.handed)
   where
     all : is_stopped c.match-sent.result ≡ false → line c.send_all-sent.new.self.clock
         c.send_all-sent.new.self.lists.queued ≡ []
@@ -58,3 +64,17 @@ returns-clause-polls g c =
       | in-Ok w ↦ λ e. (w.in-Ok.ensures.all (ap is_stopped (sym w.result-is) ∙ e)).0
       | in-Err w ↦ λ e. let no : true ≡ false = ap is_stopped (sym w.result-is) ∙ e in cc
     ]
+
+pub returns-clause-handed : goal.returns-clause-handed
+returns-clause-handed g c =
+    let raised = ap (λ v. v.handed) c.raise_clock.ensures in
+    let before = gives-same g.K.Continuation.given c.self.inside.node.handed
+    c.finish_all.new.self.handed c.args.k.now c.args.k.now
+    (c.finish_all.ensures.handed ∙ raised) refl in
+    let after = gives-same g.K.Continuation.given c.watch.new.self.handed
+    c.close.new.self.handed c.watch.new.k c.watch.new.k
+    (c.close.ensures.handed ∙ c.send_all-sent.ensures.handed ∙ c.serve_sessions.ensures.handed)
+    refl in
+    rw (← c.self.view_is) (gives-more g.K.Continuation.given _ _ _ _ _ _ before
+    (gives-more g.K.Continuation.given _ _ _ _ _ _ c.handle_all.ensures.handed
+    (gives-more g.K.Continuation.given _ _ _ _ _ _ c.watch.ensures.handed after)))

@@ -11,6 +11,7 @@ packets-init g c = (
   record { waits = refl; stays = refl },
   refl,
   refl,
+  refl,
 )
 
 pub packets-preserved : goal.packets-preserved
@@ -25,6 +26,7 @@ packets-preserved g c =
       none-comes g.L.Link.waiting g.L.Link.received _ _ _ i.3 c.send_front.ensures.lists,
       c.send_front.ensures.jobs ∙ i.4,
       c.send_front.ensures.servers ∙ i.5,
+      c.send_front.ensures.handed ∙ i.6,
     )
 
 pub returns-in_err-send_front-clause-sent : goal.returns-in_err-send_front-clause-sent
