@@ -7,6 +7,7 @@ use Rattle.std.specs.List.{AllByRecursion, filter, find}
 use Rattle.std.proofs.lemmas.List.{map-append}
 use Rattle.std.proofs.lemmas.List.Elements.{filter-append}
 use Rattle.std.proofs.lemmas.List.Sums.{sum_by-cons}
+use Rattle.client_core.specs.Handing.{Handed}
 use Rattle.client_core.specs.Shown.{done_fact}
 use Rattle.client_core.specs.declared.outcome.Done.{Done}
 use Rattle.rpc_base.specs.Tables.{without_first}
@@ -528,10 +529,11 @@ module _ {R K L V W : Type 0} (facts : R → Option (List Fact)) (whole : R → 
       took = send.took ∙ ap (λ ds. option_map (λ es. es ++ ds) (sent l0)) (sym sent-once);
     }
 
-  pub makes-poll : MakesPoll facts whole given crew v stands answer turn now (sent l0) (sent l1)
-      (record { timed = n0; service = s0; workers = w0 })
-      (record { timed = n7; service = s1; workers = w2 }) r0 r6 k0 k2
-  makes-poll = record {
+  pub makes-poll : (h0 h7 : List (List Handed))
+      → MakesPoll facts whole given crew v stands answer turn now (sent l0) (sent l1)
+      (record { timed = n0; handed = h0; service = s0; workers = w0 })
+      (record { timed = n7; handed = h7; service = s1; workers = w2 }) r0 r6 k0 k2
+  makes-poll h0 h7 = record {
     noted = noted;
     grew = grew-then facts whole r0 r1 r6 finish.noted (handle.noted ++ last) finish.grew
         (grew-then facts whole r1 r2 r6 handle.noted last handle.grew

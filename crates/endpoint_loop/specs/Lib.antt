@@ -5,6 +5,7 @@ pub mod Counting
 pub mod Delivering
 pub mod Finishing
 pub mod Fits
+pub mod Handing
 pub mod Handling
 pub mod Hearing
 pub mod Lending

@@ -1,5 +1,7 @@
 //! What an application and its network do with an endpoint, between two polls.
-ghost use Rattle.std.specs.Prelude.{◌≡◌, ◌<◌, ◌≤◌, None, length, IfErr, IfOk, OnErr, OnOk};
+ghost use Rattle.session_store.specs.Handing.{HandsInAt};
+ghost use Rattle.std.specs.Prelude.{◌≡◌, ◌<◌, ◌≤◌, ◌++◌, [], ◌∷◌, None, Some, length, IfErr, IfOk};
+ghost use Rattle.std.specs.Prelude.{OnErr, OnOk};
 ghost use Rattle.std.specs.List.{find};
 ghost use Rattle.endpoint_loop.specs.Applying.{IfNoMemory, Leaves, PairsClient, PairsServer};
 ghost use Rattle.endpoint_loop.specs.Applying.{UnlessNoMemory};
@@ -55,6 +57,7 @@ impl<V: Service, W: Workers> Endpoint<V, W> {
             }) self.old self.new rec.old rec.new }
         ensures unchanged { OnErr result (self.new ≡ self.old) }
         ensures wanting { IfNoMemory result (rec.new ≡ rec.old) }
+        ensures handed { OnOk result (self.new.handed ≡ self.old.handed ++ [] ∷ []) }
     {
         self.node
             .pair_client(self.alloc, peer, server, credits, rec)
@@ -91,6 +94,7 @@ impl<V: Service, W: Workers> Endpoint<V, W> {
             }) self.old self.new rec.old rec.new }
         ensures unchanged { OnErr result (self.new ≡ self.old) }
         ensures wanting { IfNoMemory result (rec.new ≡ rec.old) }
+        ensures handed { self.new.handed ≡ self.old.handed }
     {
         self.node.pair_server(peer, client, credits, rec)
     }
@@ -121,6 +125,12 @@ impl<V: Service, W: Workers> Endpoint<V, W> {
             }) self.old self.new rec.old rec.new }
         ensures unchanged { OnErr result (self.new ≡ self.old) }
         ensures wanting { IfWanting result (rec.new ≡ rec.old) }
+        ensures handed { IfOk result (λ call. HandsInAt session (record {
+          call = call;
+          tag = tag;
+          req = Some req;
+          room = capacity_of resp;
+        }) self.old.handed self.new.handed) }
     {
         self.node.ask(session, req_type, req, resp, tag, rec)
     }
@@ -146,6 +156,7 @@ impl<V: Service, W: Workers> Endpoint<V, W> {
               out = W.out w;
               waiting = W.waiting w;
             }) self.old self.new rec.old rec.new }
+        ensures handed { self.new.handed ≡ self.old.handed }
     {
         self.node.set_rate(session, rate, rec)
     }
@@ -165,6 +176,7 @@ impl<V: Service, W: Workers> Endpoint<V, W> {
               out = W.out w;
               waiting = W.waiting w;
             }) self.old self.new rec.old rec.new }
+        ensures handed { self.new.handed ≡ self.old.handed }
     {
         self.node.deliver(peer, bytes, rec)
     }

@@ -1,4 +1,5 @@
 //! A datagram comes in.
+ghost use Rattle.endpoint_loop.specs.Handing.{timed_of};
 ghost use Rattle.std.specs.Prelude.{◌≡◌, None};
 ghost use Rattle.endpoint_loop.specs.Delivering.{bad_by, delivered_as};
 ghost use Rattle.endpoint_loop.specs.Noting.{Makes};
@@ -44,10 +45,11 @@ impl Node {
     /// Takes a datagram from a peer: it is copied into the receive ring where it is a packet of a
     /// call and there is room.
     pub fn deliver<R: Recorder>(&mut self, peer: Peer, bytes: &[u8], rec: &mut R) -> Delivery
-        ensures makes { Makes R.facts R.whole (Delivers peer bytes.now) self.old self.new rec.old
-            rec.new }
+        ensures makes { Makes R.facts R.whole (Delivers peer bytes.now) (timed_of self.old)
+            (timed_of self.new) rec.old rec.new }
         ensures jobs { self.new.lists.jobs ≡ self.old.lists.jobs }
         ensures servers { self.new.lists.servers ≡ self.old.lists.servers }
+        ensures handed { self.new.handed ≡ self.old.handed }
         ensures answered { result ≡ delivered_as self.old.lists bytes.now }
     {
         if read(bytes).is_none() {

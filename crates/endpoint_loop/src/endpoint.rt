@@ -9,6 +9,7 @@ ghost use Rattle.rpc_laws.specs.NodeLists.{new_node};
 ghost use Rattle.rpc_laws.specs.Sessions.{is_client};
 ghost use Rattle.endpoint_loop.specs.Handling.{WorksFor};
 ghost use Rattle.endpoint_loop.specs.Standing.{StandsFor};
+ghost use Rattle.session_store.specs.Handing.{AreOfCalls};
 
 use crate::node::Node;
 use rpc_base::{Limits, NodeId, SessionNo, SessionState};
@@ -29,11 +30,17 @@ pub struct Endpoint<V: Service, W: Workers> {
 }
 
 impl<V: Service, W: Workers> Model for Endpoint<V, W> {
+    ghost use Rattle.endpoint_loop.specs.Handing.{timed_of};
     ghost use Rattle.endpoint_loop.specs.Running.{IsServing, Running};
 
     ghost Value = { Running V W };
 
-    ghost view = { λ e. record { timed = e.node; service = e.service; workers = e.workers } };
+    ghost view = { λ e. record {
+      timed = timed_of e.node;
+      handed = e.node.handed;
+      service = e.service;
+      workers = e.workers;
+    } };
 
     ghost invariant = { λ e. IsServing (record { mode = V.mode_of; answer = V.answer })
         (V.stands e.service) W.answer e.node.lists };
@@ -60,6 +67,7 @@ impl<V: Service, W: Workers> Endpoint<V, W> {
         requires service { V.stands service [] }
         ensures made { IfOk result (λ e. e ≡ record {
           timed = new_node me limits;
+          handed = [];
           service = service;
           workers = workers;
         }) }
@@ -111,9 +119,10 @@ impl<V: Service, W: Workers> Endpoint<V, W> {
         self.node.server_numbers
     }
 
-    /// What always holds of its lists.
+    /// What always holds of its lists, and that what was handed in is of the calls in them.
     pub fn sound(&self)
-        ensures { Kept self.now.timed.lists }
+        ensures kept { Kept self.now.timed.lists }
+        ensures handed { AreOfCalls self.now.handed self.now.timed.lists.clients }
     {
         self.node.sound();
     }

@@ -1,6 +1,7 @@
 //! Sessions that are connected from the start.
-ghost use Rattle.std.specs.Prelude.{◌≡◌, ◌<◌, ◌≤◌, ℕ, Bool, None, Some, length, IfErr, IfOk, IfSome};
-ghost use Rattle.std.specs.Prelude.{IsSome, OnErr, OnOk};
+ghost use Rattle.endpoint_loop.specs.Handing.{timed_of};
+ghost use Rattle.std.specs.Prelude.{◌≡◌, ◌<◌, ◌≤◌, ◌++◌, [], ◌∷◌, ℕ, Bool, None, Some, length, IfErr};
+ghost use Rattle.std.specs.Prelude.{IfOk, IfSome, IsSome, OnErr, OnOk};
 ghost use Rattle.endpoint_loop.specs.Applying.{IfNoMemory, PairsClient, PairsServer, Refuses};
 ghost use Rattle.endpoint_loop.specs.Applying.{UnlessNoMemory};
 ghost use Rattle.endpoint_loop.specs.Noting.{Makes};
@@ -46,7 +47,8 @@ impl Node {
     fn refuse<R: Recorder>(&self, why: &ConnectError, rec: &mut R)
         requires told { IsSome (refused why.now) }
         ensures { IfSome (refused why.now)
-            (λ event. Makes R.facts R.whole (Refuses event) self.now self.now rec.old rec.new) }
+            (λ event. Makes R.facts R.whole (Refuses event) (timed_of self.now) (timed_of self.now)
+            rec.old rec.new) }
     {
         let event = match why {
             ConnectError::NumbersSpent => Event::NconnectNumbers,
@@ -87,12 +89,13 @@ impl Node {
         requires server { server < SESSION_NUMBERS }
         requires some { 1 ≤ credits }
         requires most { credits ≤ MOST_CREDITS }
-        ensures makes { OnOk result (Makes R.facts R.whole (NotesNext (λ s. Some
-            (PairedClient (length s.clients) peer server credits))) self.old self.new rec.old
-            rec.new) }
+        ensures makes { OnOk result (Makes R.facts R.whole (NotesNext (λ s. Some (PairedClient
+            (length s.clients) peer server credits))) (timed_of self.old) (timed_of self.new)
+            rec.old rec.new) }
         ensures jobs { self.new.lists.jobs ≡ self.old.lists.jobs }
         ensures servers { self.new.lists.servers ≡ self.old.lists.servers }
         ensures unchanged { OnErr result ((self.new ≡ self.old) × (rec.new ≡ rec.old)) }
+        ensures handed { OnOk result (self.new.handed ≡ self.old.handed ++ [] ∷ []) }
     {
         let session = self.next_client();
         let pace = Pace {
@@ -127,14 +130,15 @@ impl Node {
         requires client { client < SESSION_NUMBERS }
         requires some { 1 ≤ credits }
         requires most { credits ≤ MOST_CREDITS }
-        ensures makes { OnOk result (Makes R.facts R.whole (NotesNext (λ s. Some
-            (PairedServer s.server_numbers peer client credits))) self.old self.new rec.old
+        ensures makes { OnOk result (Makes R.facts R.whole (NotesNext (λ s. Some (PairedServer
+            s.server_numbers peer client credits))) (timed_of self.old) (timed_of self.new) rec.old
             rec.new) }
         ensures clients { self.new.lists.clients ≡ self.old.lists.clients }
         ensures jobs { self.new.lists.jobs ≡ self.old.lists.jobs }
         ensures served { (mode : ℕ → Mode) → AllServed mode self.old.lists.servers
             → AllServed mode self.new.lists.servers }
         ensures unchanged { OnErr result ((self.new ≡ self.old) × (rec.new ≡ rec.old)) }
+        ensures handed { self.new.handed ≡ self.old.handed }
     {
         let session = SessionNo(self.server_numbers as u16);
         self.store.pair_server(session, client, peer, credits)?;
@@ -167,12 +171,13 @@ impl Node {
         requires most { credits ≤ MOST_CREDITS }
         ensures number { IfOk result (λ s. s ≡ length self.old.lists.clients) }
         ensures makes { UnlessNoMemory result (Makes R.facts R.whole (PairsClient peer server
-            credits) self.old self.new rec.old rec.new) }
+            credits) (timed_of self.old) (timed_of self.new) rec.old rec.new) }
         ensures accepted { OnOk result (client_refusal credits self.old.lists ≡ None) }
         ensures refused { IfErr result
             (λ why. refused why ≡ client_refusal credits self.old.lists) }
         ensures jobs { self.new.lists.jobs ≡ self.old.lists.jobs }
         ensures servers { self.new.lists.servers ≡ self.old.lists.servers }
+        ensures handed { OnOk result (self.new.handed ≡ self.old.handed ++ [] ∷ []) }
         ensures unchanged { OnErr result (self.new ≡ self.old) }
         ensures wanting { IfNoMemory result (rec.new ≡ rec.old) }
     {
@@ -205,7 +210,7 @@ impl Node {
         requires most { credits ≤ MOST_CREDITS }
         ensures number { IfOk result (λ t. t ≡ self.old.lists.server_numbers) }
         ensures makes { UnlessNoMemory result (Makes R.facts R.whole (PairsServer peer client
-            credits) self.old self.new rec.old rec.new) }
+            credits) (timed_of self.old) (timed_of self.new) rec.old rec.new) }
         ensures accepted { OnOk result (server_refusal credits self.old.lists ≡ None) }
         ensures refused { IfErr result
             (λ why. refused why ≡ server_refusal credits self.old.lists) }
@@ -213,6 +218,7 @@ impl Node {
         ensures jobs { self.new.lists.jobs ≡ self.old.lists.jobs }
         ensures served { (mode : ℕ → Mode) → AllServed mode self.old.lists.servers
             → AllServed mode self.new.lists.servers }
+        ensures handed { self.new.handed ≡ self.old.handed }
         ensures unchanged { OnErr result (self.new ≡ self.old) }
         ensures wanting { IfNoMemory result (rec.new ≡ rec.old) }
     {

@@ -1,4 +1,5 @@
 //! A poll, step by step.
+ghost use Rattle.endpoint_loop.specs.Handing.{GivesBackTo, holding, timed_of};
 ghost use Rattle.std.specs.Prelude.{◌≡◌, ◌≤◌, max, true, false, IfOk, IsOk};
 ghost use Rattle.endpoint_loop.specs.Polling.{MakesPoll, turn_of};
 ghost use Rattle.endpoint_loop.specs.Standing.{GoesOn};
@@ -30,7 +31,7 @@ pub struct Turn {
 impl Node {
     // A clock doesn't fall.
     fn raise_clock(&mut self, now: u64)
-        ensures { self.new ≡ raised now self.old }
+        ensures { self.new ≡ holding self.old.handed (raised now (timed_of self.old)) }
     {
         self.clock = self.clock.max(now);
     }
@@ -71,6 +72,7 @@ impl<V: Service, W: Workers> Endpoint<V, W> {
             HasRisen (L.busies link.old) (L.busies link.new)) }
         ensures lists { NoneComes L.waiting L.received link.old link.new }
         ensures cause { HasCause (L.faults link.old) (L.faults link.new) result }
+        ensures handed { GivesBackTo K.given self.old.handed self.new.handed k.old k.new }
     {
         self.node.raise_clock(now);
         self.node.finish_all(&mut self.workers, rec);

@@ -1,4 +1,5 @@
 //! Step 6 of a poll: what is ready or due is sent.
+ghost use Rattle.endpoint_loop.specs.Handing.{timed_of};
 ghost use Rattle.std.specs.Prelude.{◌≡◌, ◌≢◌, ◌<◌, ◌+◌, ◌↔◌, [], true, false, length, IfOk};
 ghost use Rattle.std.specs.Prelude.{IsTrue, OnErr};
 ghost use Rattle.endpoint_loop.specs.Noting.{MakesSent, SendsNone};
@@ -30,20 +31,21 @@ impl Node {
         rec: &mut R,
     ) -> Result<bool, Failed>
         requires some { line self.old.clock self.old.lists.queued ≢ [] }
-        ensures sent { IfOk result (λ went. went ≡ true →
-            MakesSent R.facts R.whole L.sent Sends self.old self.new rec.old rec.new link.old
-            link.new × (L.busies link.new ≡ L.busies link.old)) }
-        ensures busy { IfOk result (λ went. went ≡ false →
-            SendsNone L.sent self.old self.new rec.old rec.new link.old link.new
-            × HasRisen (L.busies link.old) (L.busies link.new)) }
-        ensures fault { OnErr result
-            (SendsNone L.sent self.old self.new rec.old rec.new link.old link.new) }
+        ensures sent { IfOk result (λ went. went ≡ true → MakesSent R.facts R.whole L.sent Sends
+            (timed_of self.old) (timed_of self.new) rec.old rec.new link.old link.new ×
+            (L.busies link.new ≡ L.busies link.old)) }
+        ensures busy { IfOk result (λ went. went ≡ false → SendsNone L.sent (timed_of self.old)
+            (timed_of self.new) rec.old rec.new link.old link.new × HasRisen (L.busies link.old)
+            (L.busies link.new)) }
+        ensures fault { OnErr result (SendsNone L.sent (timed_of self.old) (timed_of self.new)
+            rec.old rec.new link.old link.new) }
         ensures fewer { IfOk result (λ went. went ≡ true →
             length self.new.lists.queued < length self.old.lists.queued) }
         ensures jobs { self.new.lists.jobs ≡ self.old.lists.jobs }
         ensures servers { self.new.lists.servers ≡ self.old.lists.servers }
         ensures lists { NoneComes L.waiting L.received link.old link.new }
         ensures cause { HasCause (L.faults link.old) (L.faults link.new) result }
+        ensures handed { self.new.handed ≡ self.old.handed }
     {
         let Some(entry) = self.store.front(self.clock) else {
             unreachable!()
@@ -83,8 +85,8 @@ impl Node {
         link: &mut L,
         rec: &mut R,
     ) -> Result<Sending, Failed>
-        ensures sent { MakesSent R.facts R.whole L.sent SendsSome self.old self.new rec.old rec.new
-            link.old link.new }
+        ensures sent { MakesSent R.facts R.whole L.sent SendsSome (timed_of self.old)
+            (timed_of self.new) rec.old rec.new link.old link.new }
         ensures all { IfOk result (λ s. s.busy ≡ false → (line self.new.clock
             self.new.lists.queued ≡ [])
             × (L.busies link.new ≡ L.busies link.old)) }
@@ -96,6 +98,7 @@ impl Node {
         ensures servers { self.new.lists.servers ≡ self.old.lists.servers }
         ensures lists { NoneComes L.waiting L.received link.old link.new }
         ensures cause { HasCause (L.faults link.old) (L.faults link.new) result }
+        ensures handed { self.new.handed ≡ self.old.handed }
     {
         let before = self.store.queued();
         'packets: while !self.is_all_sent() {

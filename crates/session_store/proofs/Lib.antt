@@ -4,6 +4,7 @@ mod BesideLemmas
 mod EndLemmas
 mod GoneLemmas
 mod KeptLemmas
+mod HandingLemmas
 pub mod CountLemmas
 pub mod ListLemmas
 mod LeastMapLemmas

@@ -2,6 +2,7 @@ use Rattle.std.proofs.Common.{refl, ap}
 use Rattle.message_buffer.specs.Buffer.{bytes_of, capacity_of}
 use Rattle.node_laws.specs.NodeRun.{asks}
 use Rattle.rpc_laws.specs.Groups.{Asks}
+use Rattle.endpoint_loop.specs.Handing.{timed_of}
 use Rattle.endpoint_loop.proofs.StandingLemmas.{ask-still, asked-or, goes-nowhere, goes-on}
 use Rattle.endpoint_loop.proofs.endpoint.Endpoint.ask.Goals as goal
 
@@ -28,8 +29,9 @@ returns-clause-goes_on g c =
       given = g.W.Workers.given w;
       out = g.W.Workers.out w;
       waiting = g.W.Workers.waiting w;
-    }) _ _ _ _ (ap (λ t. record {
-      timed = t;
+    }) _ _ _ _ (ap (λ n. record {
+      timed = timed_of n;
+      handed = n.handed;
       service = c.self.inside.service;
       workers = c.self.inside.workers;
     }) same) still)

@@ -1,5 +1,6 @@
 use Rattle.std.proofs.Common.{refl, ap}
 use Rattle.endpoint_loop.specs.Applying.{PairsClient}
+use Rattle.endpoint_loop.specs.Handing.{timed_of}
 use Rattle.endpoint_loop.proofs.StandingLemmas.{client-group, client-still, goes-nowhere, goes-on}
 use Rattle.endpoint_loop.proofs.StandingLemmas.{paired-or}
 use Rattle.endpoint_loop.proofs.endpoint.Endpoint.pair_client.Goals as goal
@@ -26,8 +27,9 @@ returns-clause-goes_on g c =
       given = g.W.Workers.given w;
       out = g.W.Workers.out w;
       waiting = g.W.Workers.waiting w;
-    }) _ _ _ _ (ap (λ t. record {
-      timed = t;
+    }) _ _ _ _ (ap (λ n. record {
+      timed = timed_of n;
+      handed = n.handed;
       service = c.self.inside.service;
       workers = c.self.inside.workers;
     }) same) still)

@@ -3,6 +3,9 @@ use Rattle.endpoint_loop.specs.Polling.{is_stopped, turn_of}
 use Rattle.endpoint_loop.proofs.PollLemmas.{makes-poll, still-serving}
 use Rattle.endpoint_loop.proofs.StandingLemmas.{goes-polled}
 use Rattle.rpc_laws.specs.Pacing.{line}
+use Rattle.endpoint_loop.specs.Handing.{timed_of}
+use Rattle.endpoint_loop.proofs.HandingLemmas.{gives-more, gives-same}
+use Rattle.std.proofs.Common.{refl}
 use Rattle.endpoint_loop.proofs.endpoint.Endpoint.poll.Goals as goal
 use Rattle.endpoint_loop.proofs.endpoint.Endpoint.poll.Goals.{in-Ok, in-Err}
 
@@ -14,7 +17,8 @@ handle_all-handled-requires-clause-served g c =
 pub invariant_of-self : goal.invariant_of-self
 invariant_of-self g c =
     let h = c.handle_all-handled.ensures.handles in
-    still-serving _ _ _ c.finish_all.new.self c.handle_all-handled.new.self c.close.new.self h.gave
+    still-serving _ _ _ (timed_of c.finish_all.new.self) (timed_of c.handle_all-handled.new.self)
+    (timed_of c.close.new.self) h.gave
     c.handle_all-handled.ensures.founded c.self.invariant.works c.handle_all-handled.ensures.served
     (c.close.ensures.servers ∙ c.send_all-sent.ensures.servers ∙ c.serve_sessions.ensures.servers
     ∙ c.watch.ensures.servers)
@@ -37,9 +41,10 @@ returns-clause-polls g c =
       worked = g.W.Workers.worked w;
       looks = g.W.Workers.looks w;
     }) (record { mode = g.V.Service.mode_of; answer = g.V.Service.answer }) g.V.Service.stands
-    g.W.Workers.answer c.self.invariant.works c.args.now c.self.inside.node c.finish_all.new.self
-    c.handle_all-handled.new.self c.watch.new.self c.serve_sessions.new.self c.send_all-sent.new.self
-    c.close.new.self c.self.inside.workers c.finish_all.new.workers c.handle_all-handled.new.workers
+    g.W.Workers.answer c.self.invariant.works c.args.now (timed_of c.self.inside.node)
+    (timed_of c.finish_all.new.self) (timed_of c.handle_all-handled.new.self) (timed_of c.watch.new.self)
+    (timed_of c.serve_sessions.new.self) (timed_of c.send_all-sent.new.self)
+    (timed_of c.close.new.self) c.self.inside.workers c.finish_all.new.workers c.handle_all-handled.new.workers
     c.self.inside.service c.handle_all-handled.new.service c.args.rec.now c.finish_all.new.rec
     c.handle_all-handled.new.rec c.watch.new.rec c.serve_sessions.new.rec c.send_all-sent.new.rec
     c.close.new.rec c.args.k.now c.handle_all-handled.new.k c.watch.new.k c.args.link.now
@@ -51,7 +56,8 @@ returns-clause-polls g c =
     c.serve_sessions.ensures.makes c.send_all-sent.ensures.sent c.close.ensures.makes
     (turn_of c.match-sent.result) all
     (c.close.ensures.jobs ∙ c.send_all-sent.ensures.jobs ∙ c.serve_sessions.ensures.jobs
-    ∙ c.watch.ensures.jobs) c.sound-2.ensures.kept c.watch.ensures.settled counted)
+    ∙ c.watch.ensures.jobs) c.sound-2.ensures.kept c.watch.ensures.settled counted
+    c.self.inside.node.handed c.close.new.self.handed)
   where
     all : is_stopped (turn_of c.match-sent.result) ≡ false → line c.send_all-sent.new.self.clock
         c.send_all-sent.new.self.lists.queued ≡ []
@@ -85,3 +91,17 @@ returns-clause-goes_on g c =
       looks = g.W.Workers.looks w;
     }) (record { mode = g.V.Service.mode_of; answer = g.V.Service.answer }) g.V.Service.stands
     g.W.Workers.answer _ _ _ _ _ _ _ _ _ _ (returns-clause-polls g c)
+
+pub returns-clause-handed : goal.returns-clause-handed
+returns-clause-handed g c =
+    let raised = ap (λ v. v.handed) c.raise_clock.ensures in
+    let before = gives-same g.K.Continuation.given c.self.inside.node.handed
+    c.finish_all.new.self.handed c.args.k.now c.args.k.now
+    (c.finish_all.ensures.handed ∙ raised) refl in
+    let after = gives-same g.K.Continuation.given c.watch.new.self.handed
+    c.close.new.self.handed c.watch.new.k c.watch.new.k
+    (c.close.ensures.handed ∙ c.send_all-sent.ensures.handed ∙ c.serve_sessions.ensures.handed)
+    refl in
+    rw (← c.self.view_is) (gives-more g.K.Continuation.given _ _ _ _ _ _ before
+    (gives-more g.K.Continuation.given _ _ _ _ _ _ c.handle_all-handled.ensures.handed
+    (gives-more g.K.Continuation.given _ _ _ _ _ _ c.watch.ensures.handed after)))

@@ -1,5 +1,6 @@
 use Rattle.std.proofs.Common.{◌≡◌, length, sym, ap, ◌∙◌}
 use Rattle.session_mgmt.specs.Table.{refused}
+use Rattle.endpoint_loop.specs.Handing.{timed_of}
 use Rattle.endpoint_loop.proofs.EndsLemmas.{server-made, server-refused}
 use Rattle.endpoint_loop.proofs.node.Node.pair_server.Goals as goal
 
@@ -7,7 +8,7 @@ pub returns-in-Err-clause-makes : goal.returns-in-Err-clause-makes
 returns-in-Err-clause-makes g c = λ w.
     let count : c.self.inside.server_numbers ≡ c.args.self.now.lists.server_numbers =
     ap (λ t. t.lists.server_numbers) c.self.view_is in
-    server-refused g.R.Recorder.facts g.R.Recorder.whole c.args.self.now c.args.self.now _ _ c.args.peer c.args.client
+    server-refused g.R.Recorder.facts g.R.Recorder.whole (timed_of c.args.self.now) (timed_of c.args.self.now) _ _ c.args.peer c.args.client
     c.args.credits (refused c.in-Err.why)
     (sym (rw (c.from.ensures, count) at c.in-Err.ensures.refused)) c.in-Err.ensures.never_memory c.refuse.ensures
 

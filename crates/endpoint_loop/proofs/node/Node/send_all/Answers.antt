@@ -12,6 +12,7 @@ packets-init g c = (
   refl,
   refl,
   omega arith,
+  refl,
 )
 
 pub packets-preserved : goal.packets-preserved
@@ -27,6 +28,7 @@ packets-preserved g c =
       c.send_front.ensures.jobs ∙ i.4,
       c.send_front.ensures.servers ∙ i.5,
       omega (arith, c.in_ok-send_front.ensures.fewer c.if-not-branch.false, i.6),
+      c.send_front.ensures.handed ∙ i.7,
     )
 
 pub returns-in_err-send_front-clause-sent : goal.returns-in_err-send_front-clause-sent
