@@ -30,5 +30,5 @@ returns c =
     c.args.stage.now _ c.at_mut-polled.result.now _ polls.noted _ _ _ _ c.stage.view_is
     c.requires.numbered.playing (rw is_n at c.at_mut-polled.ensures.value)
     (λ p. poll-step c.args.node now c.args.stage.now.worked c.at_mut-polled.result.now _ polls.noted _
-    c.sound.ensures goes_on (polls.does p.staffed).0 p (polls.does p.staffed).1.answers whole)
+    c.sound.ensures.kept goes_on (polls.does p.staffed).0 p (polls.does p.staffed).1.answers whole)
     grew from (rw is_n at land.stage))
