@@ -10,7 +10,7 @@ mod FlushedLemmas
 mod GatherLemmas
 mod GivingLemmas
 mod HandleLemmas
-mod HandingLemmas
+pub mod HandingLemmas
 mod HearLemmas
 mod IdleLemmas
 mod JobLemmas
