@@ -2,6 +2,7 @@
 use Rattle.std.proofs.Common.{◌≡◌, ℕ, Option, Some, None, List, [], ◌∷◌, ◌++◌, refl, sym, ap, subst}
 use Rattle.std.proofs.Common.{◌∙◌, append_assoc, append-nil}
 use Rattle.std.specs.Prelude.{option_map}
+use Rattle.std.proofs.lemmas.List.{append_cancel_left}
 use Rattle.client_core.specs.Handing.{Handed}
 use Rattle.client_core.specs.declared.outcome.Done.{Done}
 use Rattle.session_store.specs.Handing.{HandsBackAt}
@@ -63,3 +64,13 @@ module _ {K : Type 0} (given : K → Option (List Done)) where
     gave = k.gave ∙ ap (option_map (λ ds. ds ++ k.dones)) h.gave
         ∙ both-given h.dones k.dones (given from);
   }
+
+  -- where the continuation tells what it was given, those are the calls that it was given now
+  pub gives-those : (old new : List (List Handed)) (from to : K) (before dones : List Done)
+      → GivesBackTo given old new from to → given from ≡ Some before
+      → given to ≡ Some (before ++ dones) → HandBack dones old new
+  gives-those old new from to before dones h told now =
+      let all : Some (before ++ h.dones) ≡ Some (before ++ dones) =
+      sym (h.gave ∙ ap (option_map (λ ds. ds ++ h.dones)) told) ∙ now in
+      let both : before ++ h.dones ≡ before ++ dones = cc in
+      subst (λ ds. HandBack ds old new) (append_cancel_left before h.dones dones both) h.back

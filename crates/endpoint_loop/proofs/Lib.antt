@@ -11,7 +11,7 @@ mod FlushedLemmas
 mod GatherLemmas
 mod GivingLemmas
 mod HandleLemmas
-mod HandingLemmas
+pub mod HandingLemmas
 mod HearLemmas
 mod IdleLemmas
 mod JobLemmas
