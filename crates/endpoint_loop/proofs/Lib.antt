@@ -5,6 +5,7 @@ mod CallerLemmas
 mod ControlLemmas
 mod CrewLemmas
 mod EndingLemmas
+mod EndsLemmas
 mod FinishLemmas
 mod FitsLemmas
 mod FlushLemmas
@@ -12,6 +13,7 @@ mod FlushedLemmas
 mod GatherLemmas
 mod GivingLemmas
 mod HandleLemmas
+pub mod HandingLemmas
 mod HearLemmas
 mod IdleLemmas
 mod JobLemmas
@@ -35,8 +37,10 @@ mod SentLemmas
 mod ServeLemmas
 mod ServerLemmas
 mod TakenLemmas
+mod TurnLemmas
 mod WalkLemmas
 mod WatchLemmas
+mod StandingLemmas
 mod StillLemmas
 mod ToldLemmas
 mod PollLemmas

@@ -126,7 +126,7 @@ spelled-out (Some out) head body h = record { out = out; is = refl; has_head = h
 own-queued : (q : Queued) → is_queued q.owner q.number q ≡ true
 own-queued q = rw (same-owner q.owner, eq-eqb q.number q.number refl) refl
 
-front-out : (q : Queued) (qs : List Queued) → slice_get qs 0 ≡ Some q
+pub front-out : (q : Queued) (qs : List Queued) → slice_get qs 0 ≡ Some q
     → without_first (is_queued q.owner q.number) qs ≡ drop 1 qs
 front-out q [] e = cc
 front-out q (p ∷ ps) e =

@@ -3,8 +3,11 @@ pub mod Asking
 pub mod Calling
 pub mod Controlling
 pub mod Ending
+pub mod Counting
+pub mod Delivering
 pub mod Finishing
 pub mod Fits
+pub mod Handing
 pub mod Handling
 pub mod Hearing
 pub mod Lending
@@ -16,4 +19,5 @@ pub mod Reading
 pub mod Running
 pub mod Seen
 pub mod Serving
+pub mod Standing
 pub mod Watching

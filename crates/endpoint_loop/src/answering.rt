@@ -1,5 +1,6 @@
 //! What each kind of control packet does at a node.
 ghost use Rattle.std.specs.Prelude.{◌≡◌, ◌<◌, length, slice_get, IfSome, None, Some};
+ghost use Rattle.endpoint_loop.specs.Handing.{timed_of};
 ghost use Rattle.endpoint_loop.specs.Controlling.{Controls};
 ghost use Rattle.endpoint_loop.specs.Noting.{Makes};
 ghost use Rattle.packet_header.specs.Header.{ControlInRange};
@@ -57,10 +58,11 @@ impl Node {
     ) -> Option<ControlHeader>
         requires kind { head.now.kind ≡ DisconnectRequest }
         requires named { head.now.server ≡ Some server }
-        ensures controls { Makes R.facts R.whole (Controls peer head.now result) self.old self.new
-            rec.old rec.new }
+        ensures controls { Makes R.facts R.whole (Controls peer head.now result) (timed_of self.old)
+            (timed_of self.new) rec.old rec.new }
         ensures inbox { self.new.lists.inbox ≡ self.old.lists.inbox }
         ensures jobs { self.new.lists.jobs ≡ self.old.lists.jobs }
+        ensures handed { self.new.handed ≡ self.old.handed }
     {
         let Some(i) = self.place_of_named(peer, head.client, server) else {
             return Some(disconnect_reply(head, GONE));
@@ -77,10 +79,11 @@ impl Node {
         rec: &mut R,
     ) -> Option<ControlHeader>
         requires kind { head.now.kind ≡ DisconnectRequest }
-        ensures controls { Makes R.facts R.whole (Controls peer head.now result) self.old self.new
-            rec.old rec.new }
+        ensures controls { Makes R.facts R.whole (Controls peer head.now result) (timed_of self.old)
+            (timed_of self.new) rec.old rec.new }
         ensures inbox { self.new.lists.inbox ≡ self.old.lists.inbox }
         ensures jobs { self.new.lists.jobs ≡ self.old.lists.jobs }
+        ensures handed { self.new.handed ≡ self.old.handed }
     {
         match head.server {
             None => Some(disconnect_reply(head, GONE)),
@@ -98,10 +101,11 @@ impl Node {
     ) -> Option<ControlHeader>
         requires kind { head.now.kind ≡ ConnectReply }
         requires in_range { ControlInRange head.now }
-        ensures controls { Makes R.facts R.whole (Controls peer head.now result) self.old self.new
-            rec.old rec.new }
+        ensures controls { Makes R.facts R.whole (Controls peer head.now result) (timed_of self.old)
+            (timed_of self.new) rec.old rec.new }
         ensures inbox { self.new.lists.inbox ≡ self.old.lists.inbox }
         ensures jobs { self.new.lists.jobs ≡ self.old.lists.jobs }
+        ensures handed { self.new.handed ≡ self.old.handed }
     {
         let i = usize::from(head.client.0);
         if self.store.clients() <= i {
@@ -125,10 +129,11 @@ impl Node {
         rec: &mut R,
     ) -> Option<ControlHeader>
         requires kind { head.now.kind ≡ DisconnectReply }
-        ensures controls { Makes R.facts R.whole (Controls peer head.now result) self.old self.new
-            rec.old rec.new }
+        ensures controls { Makes R.facts R.whole (Controls peer head.now result) (timed_of self.old)
+            (timed_of self.new) rec.old rec.new }
         ensures inbox { self.new.lists.inbox ≡ self.old.lists.inbox }
         ensures jobs { self.new.lists.jobs ≡ self.old.lists.jobs }
+        ensures handed { self.new.handed ≡ self.old.handed }
     {
         let i = usize::from(head.client.0);
         if self.store.clients() <= i {
@@ -153,10 +158,11 @@ impl Node {
         rec: &mut R,
     ) -> Option<ControlHeader>
         requires in_range { ControlInRange head.now }
-        ensures controls { Makes R.facts R.whole (Controls peer head.now result) self.old self.new
-            rec.old rec.new }
+        ensures controls { Makes R.facts R.whole (Controls peer head.now result) (timed_of self.old)
+            (timed_of self.new) rec.old rec.new }
         ensures inbox { self.new.lists.inbox ≡ self.old.lists.inbox }
         ensures jobs { self.new.lists.jobs ≡ self.old.lists.jobs }
+        ensures handed { self.new.handed ≡ self.old.handed }
     {
         match head.kind {
             ControlKind::ConnectRequest => self.on_connect_request(peer, head, rec),

@@ -1,5 +1,6 @@
 //! What a control packet does at a node: the control table. A packet that answers it is given out.
 ghost use Rattle.std.specs.Prelude.{◌≡◌, ◌<◌, ◌≤◌, IfOk, OnErr, OnOk, None, Some};
+ghost use Rattle.endpoint_loop.specs.Handing.{timed_of};
 ghost use Rattle.endpoint_loop.specs.Controlling.{Controls, takes_server};
 ghost use Rattle.endpoint_loop.specs.Noting.{Makes};
 ghost use Rattle.packet_header.specs.Header.{ControlInRange};
@@ -58,11 +59,13 @@ impl Node {
         requires some { 1 ≤ credits }
         requires most { credits ≤ MOST_CREDITS }
         ensures number { IfOk result (λ t. t ≡ self.old.lists.server_numbers) }
-        ensures makes { OnOk result (Makes R.facts R.whole (NotesNext (λ s. Some
-            (Accepted s.server_numbers peer client credits))) self.old self.new rec.old rec.new) }
+        ensures makes { OnOk result (Makes R.facts R.whole (NotesNext (λ s. Some (Accepted
+            s.server_numbers peer client credits))) (timed_of self.old) (timed_of self.new) rec.old
+            rec.new) }
         ensures clients { self.new.lists.clients ≡ self.old.lists.clients }
         ensures inbox { self.new.lists.inbox ≡ self.old.lists.inbox }
         ensures jobs { self.new.lists.jobs ≡ self.old.lists.jobs }
+        ensures handed { self.new.handed ≡ self.old.handed }
         ensures unchanged { OnErr result ((self.new ≡ self.old) × (rec.new ≡ rec.old)) }
     {
         let session = SessionNo(self.server_numbers as u16);
@@ -88,10 +91,11 @@ impl Node {
     ) -> Option<ControlHeader>
         requires kind { head.now.kind ≡ ConnectRequest }
         requires in_range { ControlInRange head.now }
-        ensures controls { Makes R.facts R.whole (Controls peer head.now result) self.old self.new
-            rec.old rec.new }
+        ensures controls { Makes R.facts R.whole (Controls peer head.now result) (timed_of self.old)
+            (timed_of self.new) rec.old rec.new }
         ensures inbox { self.new.lists.inbox ≡ self.old.lists.inbox }
         ensures jobs { self.new.lists.jobs ≡ self.old.lists.jobs }
+        ensures handed { self.new.handed ≡ self.old.handed }
     {
         if let Some(i) = self.store.place_of_end(peer, head.client) {
             let end = self.store.end_of_server(i);

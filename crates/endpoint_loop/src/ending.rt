@@ -2,6 +2,7 @@
 //! then its buffers leave the pool.
 ghost use Rattle.std.specs.Prelude.{◌≡◌, ◌<◌, false, length, slice_get, true, IfSome};
 ghost use Rattle.std.specs.List.{list_any};
+ghost use Rattle.endpoint_loop.specs.Handing.{timed_of};
 ghost use Rattle.endpoint_loop.specs.Ending.{ending, flushing_slot, flushing_slots, leaving};
 ghost use Rattle.endpoint_loop.specs.Noting.{Makes};
 ghost use Rattle.endpoint_loop.specs.Watching.{FlushesSome, Notes, flushing};
@@ -18,8 +19,8 @@ impl Node {
     // one.
     fn flush_reply<R: Recorder>(&mut self, owner: &Owner, rec: &mut R) -> bool
         requires reply { is_reply owner.now ≡ true }
-        ensures makes { result ≡ true → Makes R.facts R.whole (FlushesSome owner.now) self.old
-            self.new rec.old rec.new }
+        ensures makes { result ≡ true → Makes R.facts R.whole (FlushesSome owner.now)
+            (timed_of self.old) (timed_of self.new) rec.old rec.new }
         ensures fewer { result ≡ true →
             length self.new.lists.queued < length self.old.lists.queued }
         ensures none { result ≡ false →
@@ -31,6 +32,7 @@ impl Node {
         ensures inbox { self.new.lists.inbox ≡ self.old.lists.inbox }
         ensures me { self.new.lists.me ≡ self.old.lists.me }
         ensures jobs { self.new.lists.jobs ≡ self.old.lists.jobs }
+        ensures handed { self.new.handed ≡ self.old.handed }
     {
         let Owner::Reply { session, request } = owner else {
             unreachable!()
@@ -49,14 +51,15 @@ impl Node {
     // The queued replies of an owner are taken out, in ascending number.
     fn flush_replies<R: Recorder>(&mut self, owner: &Owner, rec: &mut R)
         requires reply { is_reply owner.now ≡ true }
-        ensures makes { Makes R.facts R.whole (Notes (flushing owner.now)) self.old self.new rec.old
-            rec.new }
+        ensures makes { Makes R.facts R.whole (Notes (flushing owner.now)) (timed_of self.old)
+            (timed_of self.new) rec.old rec.new }
         ensures idle { list_any (is_owned owner.now) self.new.lists.queued ≡ false }
         ensures clients { self.new.lists.clients ≡ self.old.lists.clients }
         ensures servers { self.new.lists.servers ≡ self.old.lists.servers }
         ensures inbox { self.new.lists.inbox ≡ self.old.lists.inbox }
         ensures me { self.new.lists.me ≡ self.old.lists.me }
         ensures jobs { self.new.lists.jobs ≡ self.old.lists.jobs }
+        ensures handed { self.new.handed ≡ self.old.handed }
     {
         'packets: while self.flush_reply(owner, rec) {}
     }
@@ -66,13 +69,14 @@ impl Node {
     fn flush_slot<R: Recorder>(&mut self, i: usize, slot: u8, rec: &mut R)
         requires known { i < length self.old.lists.servers }
         requires slot { slot < 8 }
-        ensures makes { Makes R.facts R.whole (Notes (flushing_slot i slot)) self.old self.new
-            rec.old rec.new }
+        ensures makes { Makes R.facts R.whole (Notes (flushing_slot i slot)) (timed_of self.old)
+            (timed_of self.new) rec.old rec.new }
         ensures clients { self.new.lists.clients ≡ self.old.lists.clients }
         ensures servers { self.new.lists.servers ≡ self.old.lists.servers }
         ensures inbox { self.new.lists.inbox ≡ self.old.lists.inbox }
         ensures me { self.new.lists.me ≡ self.old.lists.me }
         ensures jobs { self.new.lists.jobs ≡ self.old.lists.jobs }
+        ensures handed { self.new.handed ≡ self.old.handed }
     {
         let Some(owner) = self.store.owner_in_slot(i, slot) else {
             return;
@@ -83,8 +87,8 @@ impl Node {
     // Those of all its slots are, slot by slot.
     fn flush_slots<R: Recorder>(&mut self, i: usize, rec: &mut R)
         requires known { i < length self.old.lists.servers }
-        ensures makes { Makes R.facts R.whole (Notes (flushing_slots i 8)) self.old self.new rec.old
-            rec.new }
+        ensures makes { Makes R.facts R.whole (Notes (flushing_slots i 8)) (timed_of self.old)
+            (timed_of self.new) rec.old rec.new }
         ensures drained { IfSome (slice_get self.new.lists.servers i)
             (IsDrained self.new.lists.queued) }
         ensures clients { self.new.lists.clients ≡ self.old.lists.clients }
@@ -92,6 +96,7 @@ impl Node {
         ensures inbox { self.new.lists.inbox ≡ self.old.lists.inbox }
         ensures me { self.new.lists.me ≡ self.old.lists.me }
         ensures jobs { self.new.lists.jobs ≡ self.old.lists.jobs }
+        ensures handed { self.new.handed ≡ self.old.handed }
     {
         let _ = &self.me;
         let mut slot = 0;
@@ -106,12 +111,13 @@ impl Node {
         requires known { i < length self.old.lists.servers }
         requires drained { IfSome (slice_get self.old.lists.servers i)
             (IsDrained self.old.lists.queued) }
-        ensures makes { Makes R.facts R.whole (Notes (leaving i)) self.old self.new rec.old
-            rec.new }
+        ensures makes { Makes R.facts R.whole (Notes (leaving i)) (timed_of self.old)
+            (timed_of self.new) rec.old rec.new }
         ensures clients { self.new.lists.clients ≡ self.old.lists.clients }
         ensures inbox { self.new.lists.inbox ≡ self.old.lists.inbox }
         ensures me { self.new.lists.me ≡ self.old.lists.me }
         ensures jobs { self.new.lists.jobs ≡ self.old.lists.jobs }
+        ensures handed { self.new.handed ≡ self.old.handed }
     {
         let end = self.store.end_of_server(i);
         self.store.end_server(i);
@@ -124,11 +130,13 @@ impl Node {
     // The server session at place `i` ends: first the queued replies to its requests are taken out.
     pub(crate) fn end_session<R: Recorder>(&mut self, i: usize, rec: &mut R)
         requires known { i < length self.old.lists.servers }
-        ensures makes { Makes R.facts R.whole (Notes (ending i)) self.old self.new rec.old rec.new }
+        ensures makes { Makes R.facts R.whole (Notes (ending i)) (timed_of self.old)
+            (timed_of self.new) rec.old rec.new }
         ensures clients { self.new.lists.clients ≡ self.old.lists.clients }
         ensures inbox { self.new.lists.inbox ≡ self.old.lists.inbox }
         ensures me { self.new.lists.me ≡ self.old.lists.me }
         ensures jobs { self.new.lists.jobs ≡ self.old.lists.jobs }
+        ensures handed { self.new.handed ≡ self.old.handed }
     {
         self.flush_slots(i, rec);
         self.remove_session(i, rec);

@@ -1,5 +1,6 @@
 //! What a reply to a client session's own request does at a node.
 ghost use Rattle.std.specs.Prelude.{◌≡◌, ◌<◌, length, slice_get, IfSome, None, Some};
+ghost use Rattle.endpoint_loop.specs.Handing.{timed_of};
 ghost use Rattle.endpoint_loop.specs.Controlling.{Controls};
 ghost use Rattle.endpoint_loop.specs.Noting.{Makes};
 ghost use Rattle.packet_header.specs.declared.packet.ControlKind.TheVariants.{ConnectReply};
@@ -38,10 +39,11 @@ impl Node {
         requires connecting { IsInState Connecting (slice_get self.old.lists.clients session) }
         requires server { server < SESSION_NUMBERS }
         ensures makes { Makes R.facts R.whole (NotesNext (λ s. Some (IsConnected session server)))
-            self.old self.new rec.old rec.new }
+            (timed_of self.old) (timed_of self.new) rec.old rec.new }
         ensures inbox { self.new.lists.inbox ≡ self.old.lists.inbox }
         ensures servers { self.new.lists.servers ≡ self.old.lists.servers }
         ensures jobs { self.new.lists.jobs ≡ self.old.lists.jobs }
+        ensures handed { self.new.handed ≡ self.old.handed }
     {
         self.store.connected(usize::from(session.0), server);
         let event = Event::Connected { session, server };
@@ -53,10 +55,11 @@ impl Node {
         requires known { session < length self.old.lists.clients }
         requires connecting { IsInState Connecting (slice_get self.old.lists.clients session) }
         ensures makes { Makes R.facts R.whole (NotesNext (λ s. Some (FailedNoRoom session)))
-            self.old self.new rec.old rec.new }
+            (timed_of self.old) (timed_of self.new) rec.old rec.new }
         ensures inbox { self.new.lists.inbox ≡ self.old.lists.inbox }
         ensures servers { self.new.lists.servers ≡ self.old.lists.servers }
         ensures jobs { self.new.lists.jobs ≡ self.old.lists.jobs }
+        ensures handed { self.new.handed ≡ self.old.handed }
     {
         self.store.failed(usize::from(session.0));
         let event = Event::FailedNoRoom { session };
@@ -68,10 +71,11 @@ impl Node {
         requires known { session < length self.old.lists.clients }
         requires closing { IsInState Closing (slice_get self.old.lists.clients session) }
         ensures makes { Makes R.facts R.whole (NotesNext (λ s. Some (ClosedHeard session)))
-            self.old self.new rec.old rec.new }
+            (timed_of self.old) (timed_of self.new) rec.old rec.new }
         ensures inbox { self.new.lists.inbox ≡ self.old.lists.inbox }
         ensures servers { self.new.lists.servers ≡ self.old.lists.servers }
         ensures jobs { self.new.lists.jobs ≡ self.old.lists.jobs }
+        ensures handed { self.new.handed ≡ self.old.handed }
     {
         self.store.closed(usize::from(session.0));
         let event = Event::ClosedHeard { session };
@@ -94,11 +98,12 @@ impl Node {
         requires kind { head.now.kind ≡ ConnectReply }
         requires named { head.now.server ≡ Some server }
         requires server { server < SESSION_NUMBERS }
-        ensures controls { Makes R.facts R.whole (Controls end.now.peer head.now result) self.old
-            self.new rec.old rec.new }
+        ensures controls { Makes R.facts R.whole (Controls end.now.peer head.now result)
+            (timed_of self.old) (timed_of self.new) rec.old rec.new }
         ensures inbox { self.new.lists.inbox ≡ self.old.lists.inbox }
         ensures servers { self.new.lists.servers ≡ self.old.lists.servers }
         ensures jobs { self.new.lists.jobs ≡ self.old.lists.jobs }
+        ensures handed { self.new.handed ≡ self.old.handed }
     {
         match self.store.state(i) {
             SessionState::Connecting => {
@@ -130,11 +135,12 @@ impl Node {
         requires end { IfSome (slice_get self.old.lists.clients i) (IsClientEnd end.now) }
         requires kind { head.now.kind ≡ ConnectReply }
         requires named { head.now.server ≡ None }
-        ensures controls { Makes R.facts R.whole (Controls end.now.peer head.now result) self.old
-            self.new rec.old rec.new }
+        ensures controls { Makes R.facts R.whole (Controls end.now.peer head.now result)
+            (timed_of self.old) (timed_of self.new) rec.old rec.new }
         ensures inbox { self.new.lists.inbox ≡ self.old.lists.inbox }
         ensures servers { self.new.lists.servers ≡ self.old.lists.servers }
         ensures jobs { self.new.lists.jobs ≡ self.old.lists.jobs }
+        ensures handed { self.new.handed ≡ self.old.handed }
     {
         if let SessionState::Connecting = self.store.state(i) {
             self.fail_session(head.client, rec);
@@ -156,11 +162,12 @@ impl Node {
         requires end { IfSome (slice_get self.old.lists.clients i) (IsClientEnd end.now) }
         requires kind { head.now.kind ≡ DisconnectReply }
         requires named { head.now.server ≡ Some server }
-        ensures controls { Makes R.facts R.whole (Controls end.now.peer head.now result) self.old
-            self.new rec.old rec.new }
+        ensures controls { Makes R.facts R.whole (Controls end.now.peer head.now result)
+            (timed_of self.old) (timed_of self.new) rec.old rec.new }
         ensures inbox { self.new.lists.inbox ≡ self.old.lists.inbox }
         ensures servers { self.new.lists.servers ≡ self.old.lists.servers }
         ensures jobs { self.new.lists.jobs ≡ self.old.lists.jobs }
+        ensures handed { self.new.handed ≡ self.old.handed }
     {
         if let SessionState::Closing = self.store.state(i) {
             if end.server.0 == server.0 {

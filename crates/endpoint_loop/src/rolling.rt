@@ -1,5 +1,6 @@
 //! A call is rolled back, and a session breaks: queued packets are taken out, the session changes,
 //! and what happened is noted.
+ghost use Rattle.endpoint_loop.specs.Handing.{GivesBackTo, timed_of};
 ghost use Rattle.std.specs.Prelude.{◌≡◌, ◌<◌, [], true, false, length, slice_get};
 ghost use Rattle.std.specs.List.{list_any};
 ghost use Rattle.endpoint_loop.specs.Noting.{Makes, MakesEnds};
@@ -39,6 +40,7 @@ fn lose_next<K: Continuation, R: Recorder>(
     ensures queued { store.new.queued ≡ store.old.queued }
     ensures size { store.new.size ≡ store.old.size }
     ensures places { store.new.places ≡ store.old.places }
+    ensures handed { GivesBackTo K.given store.old.handed store.new.handed k.old k.new }
 {
     let Some(done) = store.lose(i) else {
         return false;
@@ -68,6 +70,7 @@ fn lose_session<K: Continuation, R: Recorder>(
     ensures queued { store.new.queued ≡ store.old.queued }
     ensures size { store.new.size ≡ store.old.size }
     ensures places { store.new.places ≡ store.old.places }
+    ensures handed { GivesBackTo K.given store.old.handed store.new.handed k.old k.new }
 {
     store.lose_peer(i);
     let event = Event::Broken {
@@ -82,8 +85,8 @@ impl Node {
     // whether there was one.
     fn flush_next<R: Recorder>(&mut self, i: usize, request: RequestNo, rec: &mut R) -> bool
         requires known { i < length self.old.lists.clients }
-        ensures makes { result ≡ true → Makes R.facts R.whole (FlushesSome (Ask i request)) self.old
-            self.new rec.old rec.new }
+        ensures makes { result ≡ true → Makes R.facts R.whole (FlushesSome (Ask i request))
+            (timed_of self.old) (timed_of self.new) rec.old rec.new }
         ensures fewer { result ≡ true →
             length self.new.lists.queued < length self.old.lists.queued }
         ensures none { result ≡ false →
@@ -94,6 +97,7 @@ impl Node {
         ensures servers { self.new.lists.servers ≡ self.old.lists.servers }
         ensures me { self.new.lists.me ≡ self.old.lists.me }
         ensures jobs { self.new.lists.jobs ≡ self.old.lists.jobs }
+        ensures handed { self.new.handed ≡ self.old.handed }
     {
         let Some(entry) = self.store.flush(i, request) else {
             return false;
@@ -109,13 +113,14 @@ impl Node {
     // The queued packets of a request of session `i` are taken out, in ascending number.
     fn flush_call<R: Recorder>(&mut self, i: usize, request: RequestNo, rec: &mut R)
         requires known { i < length self.old.lists.clients }
-        ensures makes { Makes R.facts R.whole (Notes (flushing (Ask i request))) self.old self.new
-            rec.old rec.new }
+        ensures makes { Makes R.facts R.whole (Notes (flushing (Ask i request))) (timed_of self.old)
+            (timed_of self.new) rec.old rec.new }
         ensures idle { list_any (is_owned (Ask i request)) self.new.lists.queued ≡ false }
         ensures clients { self.new.lists.clients ≡ self.old.lists.clients }
         ensures servers { self.new.lists.servers ≡ self.old.lists.servers }
         ensures me { self.new.lists.me ≡ self.old.lists.me }
         ensures jobs { self.new.lists.jobs ≡ self.old.lists.jobs }
+        ensures handed { self.new.handed ≡ self.old.handed }
     {
         'packets: while self.flush_next(i, request, rec) {}
     }
@@ -127,11 +132,12 @@ impl Node {
         requires few { HasFewRolls i active.now.call self.old.lists.clients }
         requires idle { list_any (is_owned (Ask i active.now.request)) self.old.lists.queued
             ≡ false }
-        ensures makes { Makes R.facts R.whole (Notes (rolling active.now)) self.old self.new rec.old
-            rec.new }
+        ensures makes { Makes R.facts R.whole (Notes (rolling active.now)) (timed_of self.old)
+            (timed_of self.new) rec.old rec.new }
         ensures servers { self.new.lists.servers ≡ self.old.lists.servers }
         ensures me { self.new.lists.me ≡ self.old.lists.me }
         ensures jobs { self.new.lists.jobs ≡ self.old.lists.jobs }
+        ensures handed { self.new.handed ≡ self.old.handed }
     {
         self.store.roll(i, active.call);
         let event = Event::Rolled {
@@ -148,11 +154,12 @@ impl Node {
         requires known { i < length self.old.lists.clients }
         requires active { ActiveAt i active.now self.old.lists.clients }
         requires few { HasFewRolls i active.now.call self.old.lists.clients }
-        ensures makes { Makes R.facts R.whole (Notes (rolling_back i active.now)) self.old self.new
-            rec.old rec.new }
+        ensures makes { Makes R.facts R.whole (Notes (rolling_back i active.now))
+            (timed_of self.old) (timed_of self.new) rec.old rec.new }
         ensures servers { self.new.lists.servers ≡ self.old.lists.servers }
         ensures me { self.new.lists.me ≡ self.old.lists.me }
         ensures jobs { self.new.lists.jobs ≡ self.old.lists.jobs }
+        ensures handed { self.new.handed ≡ self.old.handed }
     {
         self.flush_call(i, active.request, rec);
         self.roll_idle(i, active, rec);
@@ -161,13 +168,14 @@ impl Node {
     // The queued packets of all calls of session `i` are taken out, call by call.
     fn flush_session<R: Recorder>(&mut self, i: usize, rec: &mut R)
         requires known { i < length self.old.lists.clients }
-        ensures makes { Makes R.facts R.whole (Notes (flushing_all i)) self.old self.new rec.old
-            rec.new }
+        ensures makes { Makes R.facts R.whole (Notes (flushing_all i)) (timed_of self.old)
+            (timed_of self.new) rec.old rec.new }
         ensures idle { IsIdle i self.new.lists.queued }
         ensures clients { self.new.lists.clients ≡ self.old.lists.clients }
         ensures servers { self.new.lists.servers ≡ self.old.lists.servers }
         ensures me { self.new.lists.me ≡ self.old.lists.me }
         ensures jobs { self.new.lists.jobs ≡ self.old.lists.jobs }
+        ensures handed { self.new.handed ≡ self.old.handed }
     {
         let mut after = None;
         'calls: while let Some(active) = self.store.active(i, after) {
@@ -182,11 +190,12 @@ impl Node {
         requires known { i < length self.old.lists.clients }
         requires connected { IsConnected (slice_get self.old.lists.clients i) }
         requires idle { IsIdle i self.old.lists.queued }
-        ensures ended { MakesEnds R.facts R.whole K.given (Notes (breaking i)) self.old self.new
-            rec.old rec.new k.old k.new }
+        ensures ended { MakesEnds R.facts R.whole K.given (Notes (breaking i)) (timed_of self.old)
+            (timed_of self.new) rec.old rec.new k.old k.new }
         ensures servers { self.new.lists.servers ≡ self.old.lists.servers }
         ensures me { self.new.lists.me ≡ self.old.lists.me }
         ensures jobs { self.new.lists.jobs ≡ self.old.lists.jobs }
+        ensures handed { GivesBackTo K.given self.old.handed self.new.handed k.old k.new }
     {
         lose_session(&mut self.store, self.me, i, k, rec);
     }
@@ -201,11 +210,12 @@ impl Node {
     )
         requires known { i < length self.old.lists.clients }
         requires connected { IsConnected (slice_get self.old.lists.clients i) }
-        ensures ended { MakesEnds R.facts R.whole K.given (Notes (breaking_off i)) self.old self.new
-            rec.old rec.new k.old k.new }
+        ensures ended { MakesEnds R.facts R.whole K.given (Notes (breaking_off i))
+            (timed_of self.old) (timed_of self.new) rec.old rec.new k.old k.new }
         ensures servers { self.new.lists.servers ≡ self.old.lists.servers }
         ensures me { self.new.lists.me ≡ self.old.lists.me }
         ensures jobs { self.new.lists.jobs ≡ self.old.lists.jobs }
+        ensures handed { GivesBackTo K.given self.old.handed self.new.handed k.old k.new }
     {
         self.flush_session(i, rec);
         self.break_idle(i, k, rec);

@@ -27,9 +27,9 @@ use Rattle.session_store.specs.declared.stage.Stage.TheVariants.{Connecting, Con
 use Rattle.session_store.specs.declared.stage.Stage.TheVariants.{Failed, Broken}
 use Rattle.session_store.specs.Ends.{shown_end}
 use Rattle.session_store.specs.Sides.{ServerHolds, ServerKept, ServerQueued, SideKept, SideQueued}
-use Rattle.session_store.specs.Sides.{shown_side}
+use Rattle.session_store.specs.Sides.{shown_side, side_handed}
 use Rattle.session_store.proofs.BesideLemmas.{rest, rest-all, rest-count}
-use Rattle.session_store.proofs.PlaceLemmas.{IsSame, calls-kept, calls-shown, named-full}
+use Rattle.session_store.proofs.PlaceLemmas.{IsSame, calls-handed, calls-kept, calls-shown, named-full}
 use Rattle.session_store.proofs.PlaceLemmas.{names-own, names-rest, served-full, slots-kept}
 use Rattle.session_store.proofs.PlaceLemmas.{slots-shown}
 use Rattle.buffer_pool.proofs.PlacesLemmas.{named-one}
@@ -117,6 +117,9 @@ module _ (mine : EntryValue → Bool) (before now : ℕ → ℕ) (pool after : P
 
     pub side-shown : shown_side after s ≡ shown_side pool s
     side-shown = side-shown-by pool after s (calls-shown pool after s.session.active side-places)
+
+    pub side-handed : side_handed after s ≡ side_handed pool s
+    side-handed = rw (calls-handed pool after s.session.active side-places) refl
 
   pub side-queued : (s : Side)
       → ((e : EntryValue) (r : ℕ) → mine e ≡ true → is_of (Ask s.session.number r) e ≡ false)

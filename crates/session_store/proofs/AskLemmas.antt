@@ -29,8 +29,11 @@ use Rattle.session_store.specs.Ends.{shown_end}
 use Rattle.session_store.specs.Sides.{HasSlots, IsOf, IsOfOwner, IsOfSide, Kept, Shown, SideAscends}
 use Rattle.session_store.specs.Sides.{places_in, served_places, SideKept, SideQueued, shown_of}
 use Rattle.session_store.specs.Sides.{shown_side}
+use Rattle.client_core.specs.Handing.{handed_of, handed_waiting}
+use Rattle.session_store.specs.Handing.{HandsInAt}
+use Rattle.session_store.specs.Sides.{side_handed}
 use Rattle.session_store.proofs.EndLemmas.{Steps, ask-steps, calls-end}
-use Rattle.session_store.proofs.KeptLemmas.{ClientActs, client-kept, clients-set}
+use Rattle.session_store.proofs.KeptLemmas.{ClientActs, client-kept, clients-set, handed-set}
 use Rattle.session_store.proofs.ListLemmas.{all-at, get-map, sum-set}
 use Rattle.session_store.proofs.StandLemmas.{stands-all}
 
@@ -130,6 +133,16 @@ module _ (pool : Pool) (sides : List Side) (servers : List Serving) (tx : Ring E
           ∙ ap (slice_set (map (shown_side pool) sides) i) asked-steps.view;
     })
 
+    asked-handed : HandsInAt i (handed_waiting w) (map (side_handed pool) sides)
+        (map (side_handed pool) now)
+    asked-handed = record {
+      before = side_handed pool h.side;
+      place = get-map (side_handed pool) sides i h.side h.at;
+      changed = ap (map (side_handed pool)) h.changed
+          ∙ handed-set pool pool sides servers i h.side asked_side tx tx h.at kept ask-acts
+          ∙ ap (slice_set (map (side_handed pool) sides) i) (h.step.handed pool);
+    }
+
   pub kept-ask : {E : Type 0} (w : Waiting) (now : List Side) (r : Result (Unit {0}) E)
       → Kept pool sides servers tx → IfSome (slice_get seen.clients i)
       (λ x. AllByRecursion (λ c. c.what.number < w.call) x.calls) → OnOk r (SideWaits i w sides now)
@@ -144,21 +157,31 @@ module _ (pool : Pool) (sides : List Side) (servers : List Serving) (tx : Ring E
   clients-ask w now (Ok u) kept above h = asked-clients w now kept above h
   clients-ask w now (Err e) kept above h = tt
 
+  pub handed-ask : {E : Type 0} (w : Waiting) (now : List Side) (r : Result (Unit {0}) E)
+      → Kept pool sides servers tx → IfSome (slice_get seen.clients i)
+      (λ x. AllByRecursion (λ c. c.what.number < w.call) x.calls) → OnOk r (SideWaits i w sides now)
+      → OnOk r (HandsInAt i (handed_waiting w) (map (side_handed pool) sides)
+      (map (side_handed pool) now))
+  handed-ask w now (Ok u) kept above h = asked-handed w now kept above h
+  handed-ask w now (Err e) kept above h = tt
+
 pub side-waits : {E : Type 0} (i : ℕ) (w : Waiting) (sides : List Side) (side : Side)
     (later : Session) → slice_get sides i ≡ Some side → (r : Result (Unit {0}) E)
     → OnOk r (later ≡ enqueued w side.session)
     → OnOk r ((pool : Pool) → (clock peer : ℕ)
     → asked clock w (shown pool peer side.session) ≡ shown pool peer later ∷ [])
+    → OnOk r ((pool : Pool)
+    → handed_of pool later ≡ handed_of pool side.session ++ handed_waiting w ∷ [])
     → OnOk r (SideWaits i w sides (slice_set sides i (record side { session = later })))
-side-waits i w sides side later at (Ok u) waits step =
+side-waits i w sides side later at (Ok u) waits step handed =
     record {
       side = side;
       at = at;
       later = later;
-      step = record { waits = waits; step = step };
+      step = record { waits = waits; step = step; handed = handed };
       changed = refl;
     }
-side-waits i w sides side later at (Err e) waits step = tt
+side-waits i w sides side later at (Err e) waits step handed = tt
 
 -- one session more
 get-front : {A : Type 0} (xs : List A) (y x : A) (j : ℕ) → slice_get xs j ≡ Some x

@@ -36,11 +36,12 @@ use Rattle.session_store.specs.Queue.{is_owned}
 use Rattle.server_core.specs.Replies.{is_owner}
 use Rattle.session_store.specs.Effects.{ServerEnds}
 use Rattle.session_store.specs.Joined.{joined, queue_of, shown_with}
+use Rattle.session_store.specs.Sides.{side_handed}
 use Rattle.session_store.specs.Sides.{HasPlaces, IsOf, IsOfOwner, Kept, Rises, ServerHolds}
 use Rattle.session_store.specs.Sides.{ServerKept, ServerQueued, Shown, is_end}
 use Rattle.session_store.specs.Sides.{numbers_in, places_in, queued_of, served_places}
 use Rattle.session_store.specs.Sides.{ends_at, shown_side}
-use Rattle.session_store.proofs.KeptLemmas.{ServerActs, clients-same, server-acted, server-places}
+use Rattle.session_store.proofs.KeptLemmas.{ServerActs, clients-same, handed-same, server-acted, server-places}
 use Rattle.session_store.proofs.KeptLemmas.{servers-set}
 use Rattle.session_store.proofs.ListLemmas.{all-at, get-map, get-own, get-there}
 use Rattle.session_store.proofs.ReplyGoneLemmas.{position-seen}
@@ -214,6 +215,9 @@ module _ (pool after : Pool) (sides : List Side) (servers now : List Serving) (t
   pub end-clients : map (shown_side after) sides ≡ map (shown_side pool) sides
   end-clients = clients-same pool after sides servers i h.server bare tx tx h.at kept end-acts
 
+  pub end-handed : map (side_handed after) sides ≡ map (side_handed pool) sides
+  end-handed = handed-same pool after sides servers i h.server bare tx tx h.at kept end-acts
+
   pub end-places : spare_of after + places_in sides + served_places now
       ≡ spare_of pool + places_in sides + served_places servers
   end-places =
@@ -348,6 +352,7 @@ pub record Ended (pool after : Pool) (sides : List Side) (servers now : List Ser
   pub left : IfSome (slice_get seen.servers i)
       (λ v. map (shown_server after) now ≡ without_first (is_server v.way.number) seen.servers)
   pub clients : map (shown_side after) sides ≡ map (shown_side pool) sides
+  pub handed : map (side_handed after) sides ≡ map (side_handed pool) sides
   pub places : spare_of after + places_in sides + served_places now
       ≡ spare_of pool + places_in sides + served_places servers
 
@@ -384,6 +389,7 @@ module _ (pool : Pool) (sides : List Side) (servers : List Serving) (tx : Ring E
         left = rw (← view, get-map (shown_server pool) servers i h.server h.at)
             (end-servers pool after sides servers now (joined tx paced) i kept h none);
         clients = end-clients pool after sides servers now (joined tx paced) i kept h none;
+        handed = end-handed pool after sides servers now (joined tx paced) i kept h none;
         places = end-places pool after sides servers now (joined tx paced) i kept h none;
       }
 

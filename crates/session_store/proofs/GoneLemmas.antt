@@ -35,9 +35,11 @@ use Rattle.session_store.specs.Ends.{shown_end}
 use Rattle.session_store.specs.Queue.{clients_sent, packet_in, peer_in}
 use Rattle.session_store.specs.Sides.{HasSlots, IsOf, IsOfSide, Kept, SideAscends, SideQueued}
 use Rattle.session_store.specs.Sides.{places_in, served_places, shown_of, shown_side}
+use Rattle.session_store.specs.Sides.{side_handed}
 use Rattle.session_store.proofs.BesideLemmas.{rest-taken}
 use Rattle.session_store.proofs.EndLemmas.{Steps, ask-end, same-owners, sends-one}
 use Rattle.session_store.proofs.KeptLemmas.{ClientActs, client-kept, client-places, clients-set}
+use Rattle.session_store.proofs.KeptLemmas.{handed-kept}
 use Rattle.session_store.proofs.ListLemmas.{all-at, get-map, set-own}
 use Rattle.session_store.proofs.PostedLemmas.{spare-released}
 use Rattle.session_store.proofs.StandLemmas.{OfSide, all-taken, of-side, stands-all}
@@ -203,6 +205,11 @@ module _ (pool after : Pool) (sides now : List Side) (servers : List Serving) (t
       ∙ client-places pool after sides servers i h.side (record h.side { session = h.later }) tx
       (ring left tx.size) h.at kept sent-acts
 
+  pub sent-handed : map (side_handed after) now ≡ map (side_handed pool) sides
+  sent-handed = ap (map (side_handed after)) h.changed
+      ∙ handed-kept pool after sides servers i h.side (record h.side { session = h.later }) tx
+      (ring left tx.size) h.at kept sent-acts h.step.gone.handed
+
 -- it was taken out unsent
 module _ (pool after : Pool) (sides now : List Side) (servers : List Serving) (tx : Ring EntryValue)
     (i r : ℕ) (e : EntryValue) (passes : EntryValue → Bool) (left : List EntryValue)
@@ -238,6 +245,11 @@ module _ (pool after : Pool) (sides now : List Side) (servers : List Serving) (t
   flushed-places = ap (λ xs. spare_of after + places_in xs + served_places servers) h.changed
       ∙ client-places pool after sides servers i h.side (record h.side { session = h.later }) tx
       (ring left tx.size) h.at kept flushed-acts
+
+  pub flushed-handed : map (side_handed after) now ≡ map (side_handed pool) sides
+  flushed-handed = ap (map (side_handed after)) h.changed
+      ∙ handed-kept pool after sides servers i h.side (record h.side { session = h.later }) tx
+      (ring left tx.size) h.at kept flushed-acts h.step.gone.handed
 
 -- its packet is that of what is shown
 packet-cases : (stage : Stage) (pool : Pool) (peer r : ℕ) (s : Session) (e : EntryValue)

@@ -5,6 +5,7 @@ mod EndLemmas
 mod EndingLemmas
 mod GoneLemmas
 mod KeptLemmas
+mod HandingLemmas
 pub mod CountLemmas
 pub mod ListLemmas
 mod LeastMapLemmas

@@ -51,8 +51,12 @@ use Rattle.session_store.specs.Ends.{progress_of, shown_end}
 use Rattle.session_store.specs.Sides.{HasSlots, IsOf, IsOfOwner, IsOfSide, Kept, ServerHolds, Shown}
 use Rattle.session_store.specs.Sides.{SideAscends, SideKept, SideQueued, places_in, queued_of}
 use Rattle.session_store.specs.Sides.{served_places, shown_of, shown_side}
+use Rattle.client_core.specs.Handing.{HandsBack}
+use Rattle.session_store.specs.Handing.{HandsBackIf}
+use Rattle.session_store.specs.Sides.{side_handed}
 use Rattle.session_store.proofs.EndLemmas.{calls-end}
 use Rattle.session_store.proofs.KeptLemmas.{ClientActs, client-kept, client-places, clients-set}
+use Rattle.session_store.proofs.KeptLemmas.{handed-kept, handed-set}
 use Rattle.session_store.proofs.KeptLemmas.{servers-same}
 use Rattle.session_store.proofs.ListLemmas.{all-at, get-map, get-other, set-own, sum-one, sum-two}
 use Rattle.session_store.proofs.PlaceLemmas.{names-ask, names-later}
@@ -216,6 +220,9 @@ module _ (pool : Pool) (sides : List Side) (servers : List Serving) (tx : Ring E
     pub breaks-kept : Kept pool (slice_set sides i broken) servers tx
     breaks-kept = client-kept pool pool sides servers i side broken tx tx at kept breaks-acts
 
+    pub breaks-handed : map (side_handed pool) (slice_set sides i broken) ≡ map (side_handed pool) sides
+    breaks-handed = handed-kept pool pool sides servers i side broken tx tx at kept breaks-acts refl
+
     pub breaks-clients : ChangesAt i breaks seen-as.clients (map (shown_side pool) (slice_set sides i broken))
     breaks-clients = rw (← view) (record {
       client = shown_side pool side;
@@ -319,6 +326,25 @@ module _ (pool after : Pool) (sides now : List Side) (servers : List Serving) (t
       ≡ spare_of pool + places_in sides + served_places servers
   lose-places = ap (λ xs. spare_of after + places_in xs + served_places servers) h.changed
       ∙ client-places pool after sides servers i h.side less tx tx h.at kept lose-acts
+
+  back-cases : (d : Option Done) → LosesNext d h.side.session h.later pool after
+      → HandsBackIf i d (map (side_handed pool) sides) (map (side_handed after) now)
+  back-cases None g =
+      ap (map (side_handed after)) h.changed
+      ∙ handed-kept pool after sides servers i h.side less tx tx h.at kept lose-acts
+      (rw (g.unchanged.0, g.unchanged.1) refl)
+  back-cases (Some d) g = record {
+    before = side_handed pool h.side;
+    place = get-map (side_handed pool) sides i h.side h.at;
+    later = side_handed after less;
+    back = subst (λ n. HandsBack n d (side_handed pool h.side) (side_handed after less))
+        (kept.numbered i h.side h.at) g.handed;
+    changed = ap (map (side_handed after)) h.changed
+        ∙ handed-set pool after sides servers i h.side less tx tx h.at kept lose-acts;
+  }
+
+  pub lose-handed : HandsBackIf i o (map (side_handed pool) sides) (map (side_handed after) now)
+  lose-handed = back-cases o h.step
 
   lose-set : map (shown_side after) now ≡ slice_set (map (shown_side pool) sides) i (shown_side after less)
   lose-set = ap (map (shown_side after)) h.changed

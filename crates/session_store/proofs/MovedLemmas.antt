@@ -27,10 +27,11 @@ use Rattle.session_store.specs.Changes.{IsInState, sent_again}
 use Rattle.session_store.specs.Ends.{shown_end}
 use Rattle.session_store.specs.Sides.{HasSlots, IsOf, IsOfOwner, IsOfSide, Kept, Shown, SideAscends}
 use Rattle.session_store.specs.Sides.{SideKept, SideQueued, places_in, served_places, shown_of}
-use Rattle.session_store.specs.Sides.{shown_side}
+use Rattle.session_store.specs.Sides.{shown_side, side_handed}
 use Rattle.session_store.specs.Stages.{asked, sends_at}
 use Rattle.session_store.proofs.EndLemmas.{calls-end}
 use Rattle.session_store.proofs.KeptLemmas.{ClientActs, client-kept, client-places, clients-set}
+use Rattle.session_store.proofs.KeptLemmas.{handed-kept}
 use Rattle.session_store.proofs.ListLemmas.{all-at, get-map}
 use Rattle.session_store.proofs.LoseLemmas.{stands-idle}
 use Rattle.session_store.proofs.RollLemmas.{at-connected}
@@ -100,6 +101,11 @@ module _ (pool : Pool) (sides : List Side) (servers : List Serving) (tx : Ring E
   pub move-places : spare_of pool + places_in (slice_set sides i later) + served_places servers
       ≡ spare_of pool + places_in sides + served_places servers
   move-places = client-places pool pool sides servers i side later tx tx at kept move-acts
+
+  pub move-handed : map (side_handed pool) (slice_set sides i later) ≡ map (side_handed pool) sides
+  move-handed =
+      handed-kept pool pool sides servers i side later tx tx at kept move-acts
+      (rw (active, slots) refl)
 
   pub move-clients : (f : Client → Client) → shown_side pool later ≡ f (shown_side pool side)
       → ChangesAt i f (map (shown_side pool) sides) (map (shown_side pool) (slice_set sides i later))
@@ -197,6 +203,7 @@ pub record Moved (pool : Pool) (sides : List Side) (servers : List Serving) (tx 
   pub clients : ChangesAt i f seen.clients (map (shown_side pool) now)
   pub places : spare_of pool + places_in now + served_places servers
       ≡ spare_of pool + places_in sides + served_places servers
+  pub handed : map (side_handed pool) now ≡ map (side_handed pool) sides
 
 module _ (pool : Pool) (sides : List Side) (servers : List Serving) (tx : Ring EntryValue)
     (kept : Kept pool sides servers tx) (seen : Shown) (view : shown_of pool sides servers tx ≡ seen)
@@ -217,6 +224,7 @@ module _ (pool : Pool) (sides : List Side) (servers : List Serving) (tx : Ring E
     clients = rw (← view) (move-clients pool sides servers tx kept i side later at idle number
         active slots f is);
     places = move-places pool sides servers tx kept i side later at idle number active slots;
+    handed = move-handed pool sides servers tx kept i side later at idle number active slots;
   }
 
   -- none of its packets is queued where it isn't connected, and where it has no calls

@@ -49,8 +49,12 @@ use Rattle.session_store.specs.declared.stage.Stage.TheVariants.{Connected}
 use Rattle.session_store.specs.Sides.{HasSlots, IsOf, Kept, Shown, SideAscends, SideKept}
 use Rattle.session_store.specs.Sides.{SideQueued, places_in, queued_of, served_places, shown_of}
 use Rattle.session_store.specs.Sides.{shown_side}
+use Rattle.client_core.specs.Handing.{HandsBack, HandsBackBy}
+use Rattle.session_store.specs.Handing.{HandsBackIf, ended_by}
+use Rattle.session_store.specs.Sides.{side_handed}
 use Rattle.session_store.proofs.EndLemmas.{Replied, facts-end, reply-steps}
 use Rattle.session_store.proofs.KeptLemmas.{ClientActs, client-kept, client-places, clients-set}
+use Rattle.session_store.proofs.KeptLemmas.{handed-kept, handed-set}
 use Rattle.session_store.proofs.KeptLemmas.{servers-same}
 use Rattle.session_store.proofs.ListLemmas.{all-at, get-map, set-own}
 use Rattle.session_store.proofs.StageLemmas.{stage-state}
@@ -223,6 +227,29 @@ module _ (pool after : Pool) (sides now : List Side) (servers : List Serving) (t
       ≡ spare_of pool + places_in sides + served_places servers
   heard-places = ap (λ xs. spare_of after + places_in xs + served_places servers) g.changed
       ∙ client-places pool after sides servers i g.side heard tx tx g.at kept heard-acts
+
+  back-cases : (q : Reply)
+      → HandsBackBy q g.side.session.number (side_handed pool g.side) (side_handed after heard)
+      → HandsBackIf i (ended_by q) (map (side_handed pool) sides) (map (side_handed after) now)
+  back-cases Took same =
+      ap (map (side_handed after)) g.changed
+      ∙ handed-kept pool after sides servers i g.side heard tx tx g.at kept heard-acts same
+  back-cases (Dropped why) same =
+      ap (map (side_handed after)) g.changed
+      ∙ handed-kept pool after sides servers i g.side heard tx tx g.at kept heard-acts same
+  back-cases (Ended d) back = record {
+    before = side_handed pool g.side;
+    place = get-map (side_handed pool) sides i g.side g.at;
+    later = side_handed after heard;
+    back = subst (λ n. HandsBack n d (side_handed pool g.side) (side_handed after heard))
+        (kept.numbered i g.side g.at) back;
+    changed = ap (map (side_handed after)) g.changed
+        ∙ handed-set pool after sides servers i g.side heard tx tx g.at kept heard-acts;
+  }
+
+  pub heard-handed : HandsBackIf i (ended_by r) (map (side_handed pool) sides)
+      (map (side_handed after) now)
+  heard-handed = back-cases r g.step.handed
 
 -- a reply to a session that takes none
 module _ (pool : Pool) (sides : List Side) (i clock peer : ℕ) (h : MessageHeader) (body : List ℕ)

@@ -21,6 +21,7 @@ use Rattle.rpc_laws.specs.declared.tables.Progress.{Progress}
 use Rattle.session_slots.specs.declared.waiting.Waiting.{Waiting}
 use Rattle.client_core.specs.declared.call.ActiveCall.{ActiveCall}
 use Rattle.client_core.specs.Counting.{CountsQueued}
+use Rattle.client_core.specs.Handing.{handed_of}
 use Rattle.client_core.specs.KeepsEntries.{KeepsOthers}
 use Rattle.client_core.specs.KeepsPool.{KeepsPool, LeavesOthers}
 use Rattle.client_core.specs.Replies.{is_request}
@@ -41,8 +42,10 @@ use Rattle.session_store.specs.Ends.{progress_of, shown_end}
 use Rattle.session_store.specs.Queue.{is_owned}
 use Rattle.session_store.specs.Sides.{HasSlots, Kept, Shown, SideAscends, SideKept, SideQueued}
 use Rattle.session_store.specs.Sides.{places_in, queued_of, served_places, shown_of, shown_side}
+use Rattle.session_store.specs.Sides.{side_handed}
 use Rattle.session_store.proofs.EndLemmas.{calls-end}
 use Rattle.session_store.proofs.KeptLemmas.{ClientActs, client-kept, client-places, clients-set}
+use Rattle.session_store.proofs.KeptLemmas.{handed-kept}
 use Rattle.session_store.proofs.ListLemmas.{all-at, get-map}
 use Rattle.session_store.proofs.StandLemmas.{stands-but}
 use Rattle.session_store.proofs.TimerLemmas.{RollsEnd, numbered-same, progress-found, roll-end}
@@ -52,18 +55,20 @@ rolls-by : (number : ℕ) (old new : Session) (o : Option ActiveCall) → call_n
     → IsSome o → IfSome o (λ c. new ≡ after_roll c old)
     → IfSome o (λ c. (pool : Pool) → (clock peer : ℕ)
     → stepped clock (rolled_event c) (shown pool peer old) ≡ shown pool peer new ∷ [])
+    → ((pool : Pool) → handed_of pool new ≡ handed_of pool old)
     → ((pool : Pool) → LeavesOthers old.active new.active pool pool)
     → IfSome o (λ c. KeepsOthers c.request old new)
     → ((es : List EntryValue) → CountsQueued old es → CountsQueued new es)
     → ((pool : Pool) → KeepsPool pool old.active → KeepsPool pool new.active)
     → RollsBack number old new
-rolls-by number old new None e some session step leaves entries queued keeps = cc
-rolls-by number old new (Some c) e some session step leaves entries queued keeps =
+rolls-by number old new None e some session step handed leaves entries queued keeps = cc
+rolls-by number old new (Some c) e some session step handed leaves entries queued keeps =
     record {
       call = c;
       found = e;
       session = session;
       step = step;
+      handed = handed;
       leaves = leaves;
       entries = entries;
       queued = queued;
@@ -75,13 +80,14 @@ pub rolls-back : (number : ℕ) (old new : Session) → IsSome (call_numbered nu
     → IfSome (call_numbered number old)
     (λ c. (pool : Pool) → (clock peer : ℕ)
     → stepped clock (rolled_event c) (shown pool peer old) ≡ shown pool peer new ∷ [])
+    → ((pool : Pool) → handed_of pool new ≡ handed_of pool old)
     → ((pool : Pool) → LeavesOthers old.active new.active pool pool)
     → IfSome (call_numbered number old) (λ c. KeepsOthers c.request old new)
     → ((es : List EntryValue) → CountsQueued old es → CountsQueued new es)
     → ((pool : Pool) → KeepsPool pool old.active → KeepsPool pool new.active)
     → RollsBack number old new
-rolls-back number old new some session step leaves entries queued keeps =
-    rolls-by number old new (call_numbered number old) refl some session step leaves entries queued
+rolls-back number old new some session step handed leaves entries queued keeps =
+    rolls-by number old new (call_numbered number old) refl some session step handed leaves entries queued
     keeps
 
 module _ (pool : Pool) (sides now : List Side) (servers : List Serving) (tx : Ring EntryValue)
@@ -127,6 +133,11 @@ module _ (pool : Pool) (sides now : List Side) (servers : List Serving) (tx : Ri
       ≡ spare_of pool + places_in sides + served_places servers
   rolled-places = ap (λ xs. spare_of pool + places_in xs + served_places servers) h.changed
       ∙ client-places pool pool sides servers i h.side rolled_side tx tx h.at kept roll-acts
+
+  pub rolled-handed : map (side_handed pool) now ≡ map (side_handed pool) sides
+  rolled-handed = ap (map (side_handed pool)) h.changed
+      ∙ handed-kept pool pool sides servers i h.side rolled_side tx tx h.at kept roll-acts
+      (h.step.handed pool)
 
   pub rolled-set : map (shown_side pool) now ≡ slice_set (map (shown_side pool) sides) i (shown_side pool rolled_side)
   rolled-set = ap (map (shown_side pool)) h.changed
@@ -283,6 +294,9 @@ module _ (pool : Pool) (sides : List Side) (servers : List Serving) (tx : Ring E
     pub places-roll : spare_of pool + places_in now + served_places servers
         ≡ spare_of pool + places_in sides + served_places servers
     places-roll = rolled-places pool sides now servers tx i number kept h ends.calls idle
+
+    pub handed-roll : map (side_handed pool) now ≡ map (side_handed pool) sides
+    handed-roll = rolled-handed pool sides now servers tx i number kept h ends.calls idle
 
     pub rolled-clients : RollsAt i number view.clients (map (shown_side pool) now)
     rolled-clients =

@@ -41,11 +41,13 @@ use Rattle.session_store.specs.Stages.{is_connected}
 use Rattle.session_store.specs.Sides.{HasPlaces, HasRoom, HasSlots, are_calls, has_calls, IsOf}
 use Rattle.session_store.specs.Sides.{Kept, MayPost, Shown, SideAscends, SideKept, SideQueued}
 use Rattle.session_store.specs.Sides.{places_in, queued_of, served_places, shown_of, shown_side}
+use Rattle.session_store.specs.Sides.{side_handed}
 use Rattle.session_store.proofs.BesideLemmas.{rest-push}
 use Rattle.session_store.proofs.EndLemmas.{Steps, ask-owner, begun-next, calls-end, next-owner}
 use Rattle.session_store.proofs.EndLemmas.{none-posted, none-same, post-next, post-steps}
 use Rattle.session_store.proofs.EndLemmas.{some-steps}
 use Rattle.session_store.proofs.KeptLemmas.{ClientActs, client-kept, client-places, clients-set}
+use Rattle.session_store.proofs.KeptLemmas.{handed-kept}
 use Rattle.session_store.proofs.KeptLemmas.{servers-same}
 use Rattle.session_store.proofs.ListLemmas.{all-at, all-from, get-map, got-same, set-own}
 use Rattle.session_store.proofs.PostedLemmas.{begun-length, begun-spare, free-slot, posted-free}
@@ -195,6 +197,12 @@ module _ (pool after : Pool) (sides now : List Side) (servers : List Serving) (t
       ∙ client-places pool after sides servers i h.side later tx (ring (tx.items ++ e ∷ []) tx.size)
       h.at kept (post-acts has-room)
 
+  pub posted-handed : length tx.items < tx.size
+      → map (side_handed after) now ≡ map (side_handed pool) sides
+  posted-handed has-room = ap (map (side_handed after)) h.changed
+      ∙ handed-kept pool after sides servers i h.side later tx (ring (tx.items ++ e ∷ []) tx.size)
+      h.at kept (post-acts has-room) h.step.handed
+
 -- session i had nothing to post
 module _ (pool after : Pool) (sides now : List Side) (servers : List Serving) (tx : Ring EntryValue)
     (i : ℕ) (h : SidePosts i None sides now pool after) where
@@ -210,6 +218,9 @@ module _ (pool after : Pool) (sides now : List Side) (servers : List Serving) (t
   pub unposted-sum : spare_of after + places_in now + served_places servers
       ≡ spare_of pool + places_in sides + served_places servers
   unposted-sum = rw (unposted-sides, h.step.pool) refl
+
+  pub unposted-handed : map (side_handed after) now ≡ map (side_handed pool) sides
+  unposted-handed = rw (unposted-sides, h.step.pool) refl
 
   pub unposted-clients : h.side.stage ≡ Connected → PostsAt i None (map (shown_side pool) sides)
       (map (shown_side after) now)
@@ -366,6 +377,11 @@ module _ (pool after : Pool) (sides now : List Side) (servers : List Serving) (t
   begun-size = ap (λ xs. spare_of after + places_in xs + served_places servers) h.changed
       ∙ client-places pool after sides servers i h.side started_side tx tx h.at kept begin-acts
 
+  begun-handed : map (side_handed after) now ≡ map (side_handed pool) sides
+  begun-handed = ap (map (side_handed after)) h.changed
+      ∙ handed-kept pool after sides servers i h.side started_side tx tx h.at kept begin-acts
+      h.step.handed
+
 module _ (pool after : Pool) (sides now : List Side) (servers : List Serving) (tx : Ring EntryValue)
     (i : ℕ) (h : SideBegins i None sides now pool after) where
   unbegun-sides : now ≡ sides
@@ -411,6 +427,13 @@ module _ (pool after : Pool) (sides now : List Side) (servers : List Serving) (t
       ≡ spare_of pool + places_in sides + served_places servers
   size-begin None h connected = rw (unbegun-sides pool after sides now servers tx i h, h.step.unchanged.1) refl
   size-begin (Some b) h connected = begun-size pool after sides now servers tx i b kept h connected
+
+  pub handed-begin : (o : Option (ℕ × ℕ)) (h : SideBegins i o sides now pool after)
+      → h.side.stage ≡ Connected → map (side_handed after) now ≡ map (side_handed pool) sides
+  handed-begin None h connected =
+      rw (unbegun-sides pool after sides now servers tx i h, h.step.unchanged.1) refl
+  handed-begin (Some b) h connected =
+      begun-handed pool after sides now servers tx i b kept h connected
 
 -- two places are spare for a call
 active-most : (pool : Pool) (cs : List ActiveCall) (ws : List Call) → length cs ≤ 8

@@ -1,6 +1,7 @@
 pub mod Changes
 pub mod Effects
 pub mod Ends
+pub mod Handing
 pub mod Hearing
 pub mod Joined
 pub mod Queue

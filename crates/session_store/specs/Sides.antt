@@ -16,6 +16,7 @@ use Rattle.rpc_laws.specs.declared.tables.Client.{Client}
 use Rattle.rpc_laws.specs.declared.tables.Queued.{Queued}
 use Rattle.rpc_laws.specs.declared.tables.Server.{Server}
 use Rattle.client_core.specs.Counting.{CountsQueued}
+use Rattle.client_core.specs.Handing.{Handed, handed_of}
 use Rattle.client_core.specs.KeepsPool.{CanHold, KeepsPool, names}
 use Rattle.client_core.specs.Posting.{IsPacketOf, call_of}
 use Rattle.client_core.specs.Session.{Session}
@@ -35,6 +36,10 @@ use Rattle.session_store.specs.declared.stage.Stage.TheVariants.{Closed, Failed,
 -- a client session as the definitions over histories have it
 abbrev pub shown_side : Pool → Side → Client
 shown_side pool s = shown_end s.stage pool s.peer s.session
+
+-- and what was handed in with its calls
+abbrev pub side_handed : Pool → Side → List Handed
+side_handed pool s = handed_of pool s.session
 
 -- the credits of a client session that is live: it neither closed nor failed, and has its peer
 abbrev pub credits_at : Stage → Session → ℕ
@@ -77,6 +82,8 @@ served_places servers = sum_by (λ v. slot_places v.slots) servers
 -- what contracts see of all sessions and of what is queued
 pub record Shown : Type 0 where
   pub clients : List Client
+  -- what was handed in with the calls of each client session
+  pub handed : List (List Handed)
   pub servers : List Server
   pub queued : List Queued
   -- how long the ring may be, and how many places the pool has: those that are empty, and those
@@ -87,6 +94,7 @@ pub record Shown : Type 0 where
 abbrev pub shown_of : Pool → List Side → List Serving → Ring EntryValue → Shown
 shown_of pool sides servers tx = record {
   clients = map (shown_side pool) sides;
+  handed = map (side_handed pool) sides;
   servers = map (shown_server pool) servers;
   queued = map queued_of tx.items;
   size = tx.size;
@@ -107,8 +115,14 @@ HasRoom s = 16 * (count_by has_calls s.clients + length s.servers) + 2 ≤ s.pla
 
 -- no session, and nothing queued
 abbrev pub no_sessions : (size places : ℕ) → Shown
-no_sessions size places =
-    record { clients = []; servers = []; queued = []; size = size; places = places }
+no_sessions size places = record {
+  clients = [];
+  handed = [];
+  servers = [];
+  queued = [];
+  size = size;
+  places = places;
+}
 
 -- the entry is a packet that a call of the connected session posted
 abbrev pub IsOfSide : EntryValue → Option Side → Type 0

@@ -18,6 +18,8 @@ ghost use Rattle.rpc_laws.specs.declared.tables.Call.{Call};
 ghost use Rattle.session_store.specs.Changes.{BeginsAt, ChangesAt, MayPace, MayQueue, PostsAt};
 ghost use Rattle.session_store.specs.Effects.{asking_in, packet_of_entry, request_in};
 ghost use Rattle.session_store.specs.Ends.{next_above, told_call};
+ghost use Rattle.client_core.specs.Handing.{handed_waiting};
+ghost use Rattle.session_store.specs.Handing.{AreOfCalls, HandsBackIf, HandsInAt, ended_by};
 ghost use Rattle.session_store.specs.Hearing.{RepliesAt};
 ghost use Rattle.session_store.specs.Joined.{put_listed};
 ghost use Rattle.session_store.specs.Sides.{HasRoom};
@@ -78,6 +80,13 @@ impl Store {
         usize::from(last.session.session().0) + 1
     }
 
+    /// What was handed in, as it is seen, is that of the calls which are seen.
+    pub fn sound(&self)
+        ensures handed { AreOfCalls self.now.handed self.now.clients }
+    {
+        let _count = self.sides.len();
+    }
+
     /// A client session is made that is connected from the start, with 1 to 256 credits; its number
     /// is its place, and the server's is below 65,535. `NoMemory` comes where there is no memory
     /// for it.
@@ -97,6 +106,7 @@ impl Store {
         ensures servers { self.new.servers ≡ self.old.servers }
         ensures queued { self.new.queued ≡ self.old.queued }
         ensures size { self.new.size ≡ self.old.size }
+        ensures handed { OnOk result (self.new.handed ≡ self.old.handed ++ [] ∷ []) }
         ensures places { self.new.places ≡ self.old.places }
         ensures unchanged { OnErr result (self.new ≡ self.old) }
     {
@@ -165,6 +175,8 @@ impl Store {
         ensures servers { self.new.servers ≡ self.old.servers }
         ensures queued { self.new.queued ≡ self.old.queued }
         ensures size { self.new.size ≡ self.old.size }
+        ensures handed { OnOk result (HandsInAt i (handed_waiting waiting) self.old.handed
+            self.new.handed) }
         ensures places { self.new.places ≡ self.old.places }
         ensures unchanged { OnErr result (self.new ≡ self.old) }
         ensures handed_back { IfErr result (λ back. back ≡ waiting) }
@@ -203,6 +215,7 @@ impl Store {
         ensures servers { self.new.servers ≡ self.old.servers }
         ensures queued { self.new.queued ≡ self.old.queued }
         ensures size { self.new.size ≡ self.old.size }
+        ensures handed { self.new.handed ≡ self.old.handed }
         ensures places { self.new.places ≡ self.old.places }
     {
         if !self.sides[i].stage.is_connected() {
@@ -223,6 +236,7 @@ impl Store {
         ensures servers { self.new.servers ≡ self.old.servers }
         ensures queued { self.new.queued ≡ put_listed due result self.old.queued }
         ensures size { self.new.size ≡ self.old.size }
+        ensures handed { self.new.handed ≡ self.old.handed }
         ensures places { self.new.places ≡ self.old.places }
         ensures owner { IfSome result (λ e. e.owner ≡ Ask i (request_in e.owner)) }
     {
@@ -257,6 +271,7 @@ impl Store {
         ensures servers { self.new.servers ≡ self.old.servers }
         ensures queued { self.new.queued ≡ self.old.queued }
         ensures size { self.new.size ≡ self.old.size }
+        ensures handed { HandsBackIf i (ended_by result) self.old.handed self.new.handed }
         ensures places { self.new.places ≡ self.old.places }
     {
         if !self.sides[i].stage.is_connected() {

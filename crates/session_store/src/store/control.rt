@@ -32,6 +32,7 @@ impl Store {
         ensures servers { self.new.servers ≡ self.old.servers }
         ensures queued { self.new.queued ≡ self.old.queued }
         ensures size { self.new.size ≡ self.old.size }
+        ensures handed { OnOk result (self.new.handed ≡ self.old.handed ++ [] ∷ []) }
         ensures places { self.new.places ≡ self.old.places }
         ensures unchanged { OnErr result (self.new ≡ self.old) }
     {
@@ -60,6 +61,7 @@ impl Store {
         ensures servers { self.new.servers ≡ self.old.servers }
         ensures queued { self.new.queued ≡ self.old.queued }
         ensures size { self.new.size ≡ self.old.size }
+        ensures handed { self.new.handed ≡ self.old.handed }
         ensures places { self.new.places ≡ self.old.places }
     {
         let side = &mut self.sides[i];
@@ -75,6 +77,7 @@ impl Store {
         ensures servers { self.new.servers ≡ self.old.servers }
         ensures queued { self.new.queued ≡ self.old.queued }
         ensures size { self.new.size ≡ self.old.size }
+        ensures handed { self.new.handed ≡ self.old.handed }
         ensures places { self.new.places ≡ self.old.places }
     {
         let side = &mut self.sides[i];
@@ -90,6 +93,7 @@ impl Store {
         ensures servers { self.new.servers ≡ self.old.servers }
         ensures queued { self.new.queued ≡ self.old.queued }
         ensures size { self.new.size ≡ self.old.size }
+        ensures handed { self.new.handed ≡ self.old.handed }
         ensures places { self.new.places ≡ self.old.places }
     {
         let side = &mut self.sides[i];
@@ -107,6 +111,7 @@ impl Store {
         ensures servers { self.new.servers ≡ self.old.servers }
         ensures queued { self.new.queued ≡ self.old.queued }
         ensures size { self.new.size ≡ self.old.size }
+        ensures handed { self.new.handed ≡ self.old.handed }
         ensures places { self.new.places ≡ self.old.places }
     {
         let side = &mut self.sides[i];
@@ -180,6 +185,7 @@ impl Store {
         ensures servers { self.new.servers ≡ self.old.servers }
         ensures queued { self.new.queued ≡ self.old.queued }
         ensures size { self.new.size ≡ self.old.size }
+        ensures handed { self.new.handed ≡ self.old.handed }
         ensures places { self.new.places ≡ self.old.places }
     {
         let side = &mut self.sides[i];

@@ -32,6 +32,7 @@ impl Store {
         ensures clients { self.new.clients ≡ self.old.clients }
         ensures queued { self.new.queued ≡ self.old.queued }
         ensures size { self.new.size ≡ self.old.size }
+        ensures handed { self.new.handed ≡ self.old.handed }
         ensures places { self.new.places ≡ self.old.places }
     {
         end_at(&mut self.servers, i, &mut self.pool);

@@ -88,6 +88,7 @@ impl Store {
         ensures clients { self.new.clients ≡ self.old.clients }
         ensures queued { self.new.queued ≡ self.old.queued }
         ensures size { self.new.size ≡ self.old.size }
+        ensures handed { self.new.handed ≡ self.old.handed }
         ensures places { self.new.places ≡ self.old.places }
         ensures unchanged { OnErr result (self.new ≡ self.old) }
     {
@@ -124,6 +125,7 @@ impl Store {
             result self.old self.new }
         ensures clients { self.new.clients ≡ self.old.clients }
         ensures size { self.new.size ≡ self.old.size }
+        ensures handed { self.new.handed ≡ self.old.handed }
         ensures places { self.new.places ≡ self.old.places }
         ensures service { UnlessRan result (service.new ≡ service.old) }
         ensures all_served { AreServedAt V.mode_of i self.new.servers }
@@ -163,6 +165,7 @@ impl Store {
         ensures clients { self.new.clients ≡ self.old.clients }
         ensures queued { self.new.queued ≡ put_listed None result self.old.queued }
         ensures size { self.new.size ≡ self.old.size }
+        ensures handed { self.new.handed ≡ self.old.handed }
         ensures places { self.new.places ≡ self.old.places }
     {
         let reply = finished_at(&mut self.servers, i, &mut self.pool, parcel);

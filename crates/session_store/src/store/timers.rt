@@ -4,6 +4,7 @@ ghost use Rattle.client_core.specs.declared.outcome.Outcome.TheVariants.{PeerLos
 ghost use Rattle.rpc_laws.specs.Sessions.{breaks};
 ghost use Rattle.session_store.specs.Changes.{ActiveAt, ChangesAt, IsConnected, IsIdle, IsLost};
 ghost use Rattle.session_store.specs.Changes.{LosesAt, MayRoll, RollsAt, RowAt};
+ghost use Rattle.session_store.specs.Handing.{HandsBackIf};
 
 use super::Store;
 use crate::side::{lose_at, roll_at, told_row};
@@ -50,6 +51,7 @@ impl Store {
         ensures servers { self.new.servers ≡ self.old.servers }
         ensures queued { self.new.queued ≡ self.old.queued }
         ensures size { self.new.size ≡ self.old.size }
+        ensures handed { self.new.handed ≡ self.old.handed }
         ensures places { self.new.places ≡ self.old.places }
     {
         roll_at(&mut self.sides, i, call);
@@ -64,6 +66,7 @@ impl Store {
         ensures servers { self.new.servers ≡ self.old.servers }
         ensures queued { self.new.queued ≡ self.old.queued }
         ensures size { self.new.size ≡ self.old.size }
+        ensures handed { self.new.handed ≡ self.old.handed }
         ensures places { self.new.places ≡ self.old.places }
     {
         let side = &mut self.sides[i];
@@ -82,6 +85,7 @@ impl Store {
         ensures servers { self.new.servers ≡ self.old.servers }
         ensures queued { self.new.queued ≡ self.old.queued }
         ensures size { self.new.size ≡ self.old.size }
+        ensures handed { HandsBackIf i result self.old.handed self.new.handed }
         ensures places { self.new.places ≡ self.old.places }
     {
         lose_at(&mut self.sides, i, &mut self.pool)

@@ -2,6 +2,7 @@ use Rattle.std.proofs.Common.{false, None, sym, ap, refl, ◌∙◌}
 use Rattle.session_store.specs.declared.side.ClientEnd.{ClientEnd}
 use Rattle.rpc_base.specs.declared.event.Event.TheVariants.{ClosedHeard}
 use Rattle.rpc_laws.specs.declared.rows.ControlRow.TheVariants.{Closes, Ignores}
+use Rattle.endpoint_loop.specs.Handing.{timed_of}
 use Rattle.endpoint_loop.specs.contracts.node.Node.{the_view}
 use Rattle.endpoint_loop.proofs.ControlLemmas.{controls-none}
 use Rattle.endpoint_loop.proofs.JoinRows.{noted-as, row-closes, row-open, row-other-closes}
@@ -18,9 +19,9 @@ returns-clause-controls g c =
       | in-Closing+then-end-server w ↦ rw (w.self-is, w.rec-is) (
           let made = rw (← c.self.view_is) at w.close_session.ensures.makes in
           rw (← c.self.view_is) (noted-as g.R.Recorder.facts g.R.Recorder.whole c.args.rec.now
-          w.close_session.new.rec c.args.end.now.peer c.args.head.now (the_view c.self.inside)
-          w.close_session.new.self Closes (ClosedHeard c.args.head.now.client)
-          (λ asks. row-closes c.args.head.now (the_view c.self.inside) c.args.i known
+          w.close_session.new.rec c.args.end.now.peer c.args.head.now (timed_of (the_view c.self.inside))
+          (timed_of w.close_session.new.self) Closes (ClosedHeard c.args.head.now.client)
+          (λ asks. row-closes c.args.head.now (timed_of (the_view c.self.inside)) c.args.i known
           c.requires.number c.self.invariant.0.kept.valid.numbered c.args.end.now ends
           c.state.result c.state.ensures c.requires.kind c.args.server c.requires.named false asks
           w.in-Closing.is (ap (λ (e : ClientEnd). e.server) (sym c.end.view_is)
@@ -28,8 +29,8 @@ returns-clause-controls g c =
           refl (λ asks. refl) made))
       | in-Closing+else-end-server w ↦ rw (w.self-is, w.rec-is, ← c.self.view_is) (
           controls-none g.R.Recorder.facts g.R.Recorder.whole c.args.rec.now
-          c.args.end.now.peer c.args.head.now None (the_view c.self.inside) false Ignores
-          (λ asks. row-other-closes c.args.head.now (the_view c.self.inside) c.args.i known
+          c.args.end.now.peer c.args.head.now None (timed_of (the_view c.self.inside)) false Ignores
+          (λ asks. row-other-closes c.args.head.now (timed_of (the_view c.self.inside)) c.args.i known
           c.requires.number c.self.invariant.0.kept.valid.numbered c.args.end.now ends
           c.state.result c.state.ensures c.requires.kind c.args.server c.requires.named false asks
           w.in-Closing.is (λ same. w.if-end-server.false (ap (λ (e : ClientEnd). e.server)
@@ -37,8 +38,8 @@ returns-clause-controls g c =
           refl (λ asks. refl))
       | in_default w ↦ rw (w.self-is, w.rec-is, ← c.self.view_is) (
           controls-none g.R.Recorder.facts g.R.Recorder.whole c.args.rec.now
-          c.args.end.now.peer c.args.head.now None (the_view c.self.inside) false Ignores
-          (λ asks. row-open c.args.head.now (the_view c.self.inside) c.args.i known
+          c.args.end.now.peer c.args.head.now None (timed_of (the_view c.self.inside)) false Ignores
+          (λ asks. row-open c.args.head.now (timed_of (the_view c.self.inside)) c.args.i known
           c.requires.number c.self.invariant.0.kept.valid.numbered c.args.end.now ends
           c.state.result c.state.ensures c.requires.kind c.args.server c.requires.named false asks
           w.in_default.not-Closing)

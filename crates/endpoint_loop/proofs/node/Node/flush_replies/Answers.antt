@@ -1,4 +1,5 @@
-use Rattle.std.proofs.Common.{◌∙◌}
+use Rattle.std.proofs.Common.{ap, ◌∙◌}
+use Rattle.endpoint_loop.specs.Handing.{timed_of}
 use Rattle.endpoint_loop.proofs.FlushLemmas.{flushed-all, flushed-more}
 use Rattle.endpoint_loop.proofs.NotingLemmas.{as-same}
 use Rattle.endpoint_loop.proofs.node.Node.flush_replies.Goals as goal
@@ -14,13 +15,14 @@ packets-preserved g c =
       h.inbox ∙ i.3,
       h.me ∙ i.4,
       h.jobs ∙ i.5,
+      h.handed ∙ i.6,
     )
 
 pub returns-clause-makes : goal.returns-clause-makes
 returns-clause-makes g c =
     let h = c.flush_reply.ensures in
     let none = h.none c.packets-test.false in
-    let same = h.unchanged c.packets-test.false in
+    let same = ap timed_of (h.unchanged c.packets-test.false) in
     let silent = h.silent c.packets-test.false in
     as-same g.R.Recorder.facts g.R.Recorder.whole _ _ _ _ _ _ _ same silent
     (flushed-all g.R.Recorder.facts g.R.Recorder.whole c.args.owner.now _ _ _ _ none

@@ -28,7 +28,7 @@ returns-in_default-flush_reply-clause-unchanged g c = λ _.
     let same =
     none-taken c.args.owner.now c.self.inside.store.queued c.flush_reply.new.self.queued
     (least-none-by c.args.owner.now c.self.inside.store.queued h.taken) h.queued in
-    rw (same, h.clients, h.servers) c.self.view_is
+    rw (same, h.clients, h.servers, h.handed) c.self.view_is
 
 pub invariant_of-self-2 : goal.invariant_of-self-2
 invariant_of-self-2 g c =

@@ -1,7 +1,7 @@
 use Rattle.std.proofs.Common.{◌≡◌, subst, ◌∙◌, arith}
 use Rattle.std.specs.List.{AllByRecursion}
-use Rattle.rpc_laws.specs.declared.tables.Timed.{Timed}
 use Rattle.node_laws.specs.Valid.{SoundServer}
+use Rattle.endpoint_loop.specs.Handing.{Holding}
 use Rattle.endpoint_loop.specs.contracts.node.Node.{the_view}
 use Rattle.endpoint_loop.proofs.EndingLemmas.{all-flushed, drained-whole, flushes-more}
 use Rattle.endpoint_loop.proofs.node.Node.flush_slots.Goals as goal
@@ -18,6 +18,7 @@ slots-preserved g c =
       h.inbox ∙ i.4,
       h.me ∙ i.5,
       h.jobs ∙ i.6,
+      h.handed ∙ i.7,
     )
 
 pub returns-clause-makes : goal.returns-clause-makes
@@ -32,5 +33,5 @@ returns-clause-drained g c =
     let served : AllByRecursion SoundServer (the_view c.self.inside).lists.servers =
     c.self.invariant.0.kept.valid.served in
     drained-whole g.R.Recorder.facts g.R.Recorder.whole c.args.i c.slots.slot _ _ _ _ last
-    (subst (λ (n : Timed). AllByRecursion SoundServer n.lists.servers) c.self.view_is served) c.slots.invariant.3
+    (subst (λ (n : Holding). AllByRecursion SoundServer n.lists.servers) c.self.view_is served) c.slots.invariant.3
     c.slots.invariant.0

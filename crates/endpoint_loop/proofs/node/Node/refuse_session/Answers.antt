@@ -1,6 +1,7 @@
 use Rattle.std.proofs.Common.{false, None, refl}
 use Rattle.rpc_base.specs.declared.event.Event.TheVariants.{FailedNoRoom}
 use Rattle.rpc_laws.specs.declared.rows.ControlRow.TheVariants.{Fails, Ignores}
+use Rattle.endpoint_loop.specs.Handing.{timed_of}
 use Rattle.endpoint_loop.specs.contracts.node.Node.{the_view}
 use Rattle.endpoint_loop.proofs.ControlLemmas.{controls-none}
 use Rattle.endpoint_loop.proofs.JoinRows.{noted-as, row-fails, row-settled}
@@ -15,17 +16,17 @@ returns-clause-controls g c =
       | in-Connecting w ↦ rw (w.self-is, w.rec-is) (
           let made = rw (← c.self.view_is) at w.fail_session.ensures.makes in
           rw (← c.self.view_is) (noted-as g.R.Recorder.facts g.R.Recorder.whole c.args.rec.now
-          w.fail_session.new.rec c.args.end.now.peer c.args.head.now (the_view c.self.inside)
-          w.fail_session.new.self Fails (FailedNoRoom c.args.head.now.client)
-          (λ asks. row-fails c.args.head.now (the_view c.self.inside) c.args.i known
+          w.fail_session.new.rec c.args.end.now.peer c.args.head.now (timed_of (the_view c.self.inside))
+          (timed_of w.fail_session.new.self) Fails (FailedNoRoom c.args.head.now.client)
+          (λ asks. row-fails c.args.head.now (timed_of (the_view c.self.inside)) c.args.i known
           c.requires.number c.self.invariant.0.kept.valid.numbered c.args.end.now ends
           c.state.result c.state.ensures c.requires.kind c.requires.named false asks
           w.in-Connecting.is)
           refl (λ asks. refl) made))
       | in_default w ↦ rw (w.self-is, w.rec-is, ← c.self.view_is) (
           controls-none g.R.Recorder.facts g.R.Recorder.whole c.args.rec.now
-          c.args.end.now.peer c.args.head.now None (the_view c.self.inside) false Ignores
-          (λ asks. row-settled c.args.head.now (the_view c.self.inside) c.args.i known
+          c.args.end.now.peer c.args.head.now None (timed_of (the_view c.self.inside)) false Ignores
+          (λ asks. row-settled c.args.head.now (timed_of (the_view c.self.inside)) c.args.i known
           c.requires.number c.self.invariant.0.kept.valid.numbered c.args.end.now ends
           c.state.result c.state.ensures c.requires.kind c.requires.named false asks
           w.in_default.not-Connecting)

@@ -38,3 +38,11 @@ returns-clause-places c =
     c.self.view_is c.args.i c.requires.drained c.end_at.new.pool c.end_at.new.servers.items
     c.end_at.ensures in
     rw (← c.self.view_is) h.places
+
+pub returns-clause-handed : goal.returns-clause-handed
+returns-clause-handed c =
+    let s = c.self.inside in
+    let h = ended s.pool s.sides.items s.servers.items s.tx s.pacer c.self.invariant.0 c.args.self.now
+    c.self.view_is c.args.i c.requires.drained c.end_at.new.pool c.end_at.new.servers.items
+    c.end_at.ensures in
+    rw (← c.self.view_is) h.handed

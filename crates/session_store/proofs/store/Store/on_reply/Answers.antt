@@ -13,6 +13,7 @@ use Rattle.session_store.proofs.ReplyLemmas.{seen-windows}
 use Rattle.session_store.proofs.StageLemmas.{connected-stage}
 use Rattle.session_store.proofs.StoreLemmas.{connected-at}
 use Rattle.session_store.proofs.UndueLemmas.{flat, queued-undue, windows-undue}
+use Rattle.session_store.proofs.ReplyLemmas.{heard-handed}
 use Rattle.session_store.proofs.store.Store.on_reply.Goals as goal
 
 pub returns-then-not-is_connected-clause-clients : goal.returns-then-not-is_connected-clause-clients
@@ -159,3 +160,26 @@ returns-clause-clients c =
     c.args.body.now c.is_waiting-is_waiting.result c.heard_at.result c.self.invariant.0 h
     connected c.requires.session windows waits c.args.peer peer) in
     rw (ap (λ v. v.clients) (sym c.self.view_is)) told
+
+pub returns-clause-handed : goal.returns-clause-handed
+returns-clause-handed c =
+    let s = c.self.inside in
+    let h = c.heard_at.ensures in
+    let connected = connected-at s.sides.items c.args.i c.index.result.now h.side c.index.ensures
+    h.at (sym c.is_connected.ensures ∙ c.if-not-is_connected.false) in
+    let windows = seen-windows s.pool s.sides.items s.servers.items (joined s.tx s.pacer)
+    (undue c.args.self.now) (flat c.self.inside.pool c.self.inside.sides.items
+    c.self.inside.servers.items c.self.inside.tx c.self.inside.pacer c.args.self.now
+    c.self.view_is) c.args.i (windows-undue c.args.self.now.clients c.args.self.now.queued
+    c.requires.windows) in
+    let waits = c.is_waiting-is_waiting.ensures ∙ sym
+    (queued-undue (Ask c.args.i c.args.head.now.request) c.args.head.now.number
+    c.args.self.now.queued) ∙ seen-waits s.pool s.sides.items s.servers.items
+    (joined s.tx s.pacer) (undue c.args.self.now)
+    (flat c.self.inside.pool c.self.inside.sides.items c.self.inside.servers.items
+    c.self.inside.tx c.self.inside.pacer c.args.self.now c.self.view_is)
+    c.args.i c.args.head.now.request c.args.head.now.number in
+    rw (← c.self.view_is) (heard-handed s.pool c.heard_at.new.pool s.sides.items
+    c.heard_at.new.sides.items s.servers.items (joined s.tx s.pacer) c.args.i c.args.now c.args.head.now
+    c.args.body.now c.is_waiting-is_waiting.result c.heard_at.result c.self.invariant.0 h
+    connected c.requires.session windows waits)

@@ -8,6 +8,8 @@ use Rattle.session_store.proofs.StoreLemmas.{posted-sum, room-there, unposted-cl
 use Rattle.session_store.proofs.StoreLemmas.{unposted-kept, unposted-sum}
 use Rattle.session_store.proofs.PutLemmas.{kept-put}
 use Rattle.session_store.proofs.UndueLemmas.{paced-counted, room-undue, flat}
+use Rattle.session_store.proofs.StoreLemmas.{unposted-handed}
+use Rattle.session_store.proofs.StoreLemmas.{posted-handed}
 use Rattle.session_store.proofs.store.Store.post.Goals as goal
 
 pub post_at-posted-requires-clause-keeps : goal.post_at-posted-requires-clause-keeps
@@ -130,3 +132,27 @@ returns-clause-places c =
 
 pub returns-clause-queued : goal.returns-clause-queued
 returns-clause-queued c = rw (← c.self.view_is) c.put_in.ensures.queue
+
+pub returns-in_default-clause-handed : goal.returns-in_default-clause-handed
+returns-in_default-clause-handed c =
+    let h = rw c.in_default.is at c.post_at-posted.ensures in
+    rw (← c.self.view_is) (unposted-handed c.self.inside.pool c.post_at-posted.new.pool
+    c.self.inside.sides.items c.post_at-posted.new.sides.items c.self.inside.servers.items
+    (joined c.self.inside.tx c.self.inside.pacer) c.args.i h)
+
+pub returns-clause-handed : goal.returns-clause-handed
+returns-clause-handed c =
+    let s = c.self.inside in
+    let h = rw c.in-Some.is at c.post_at-posted.ensures in
+    let connected = connected-at c.self.inside.sides.items c.args.i c.index.result.now h.side
+    c.index.ensures h.at (sym c.is_connected.ensures ∙ c.if-not-is_connected.false) in
+    let room = room-there c.self.inside.pool c.post_at-posted.new.pool c.self.inside.sides.items
+    c.post_at-posted.new.sides.items c.self.inside.servers.items (joined c.self.inside.tx c.self.inside.pacer) c.args.i
+    c.in-Some.entry c.self.invariant.0 h connected (undue c.args.self.now)
+    (flat c.self.inside.pool c.self.inside.sides.items c.self.inside.servers.items c.self.inside.tx
+    c.self.inside.pacer c.args.self.now c.self.view_is)
+    (room-undue c.args.i c.args.self.now (queue-room s.pool s.sides.items s.servers.items s.tx
+    s.pacer c.args.self.now c.self.view_is c.args.i h.side h.at connected c.requires.room)) in
+    rw (← c.self.view_is) (posted-handed c.self.inside.pool c.post_at-posted.new.pool
+    c.self.inside.sides.items c.post_at-posted.new.sides.items c.self.inside.servers.items
+    (joined c.self.inside.tx c.self.inside.pacer) c.args.i c.in-Some.entry c.self.invariant.0 h connected room)

@@ -49,3 +49,15 @@ returns-clause-places c =
     (undue c.args.self.now) seen c.args.i c.index_mut-side.result.now at
     c.args.now c.asked-side.result c.asked-side.ensures c.requires.asking in
     rw (← c.self.view_is) moved.places
+
+pub returns-clause-handed : goal.returns-clause-handed
+returns-clause-handed c =
+    let s = c.self.inside in
+    let seen = flat s.pool s.sides.items s.servers.items s.tx s.pacer c.args.self.now c.self.view_is in
+    let at = there-at s.pool s.sides.items s.servers.items (joined s.tx s.pacer) c.self.invariant.0
+    (undue c.args.self.now) seen c.args.i c.index_mut-side.result.now c.requires.known
+    c.index_mut-side.ensures.value in
+    let moved = moved-asked s.pool s.sides.items s.servers.items (joined s.tx s.pacer) c.self.invariant.0
+    (undue c.args.self.now) seen c.args.i c.index_mut-side.result.now at
+    c.args.now c.asked-side.result c.asked-side.ensures c.requires.asking in
+    rw (← c.self.view_is) moved.handed
