@@ -29,6 +29,7 @@ ghost use Rattle.client_core.specs.Watching.{is_after, next_told};
 ghost use Rattle.rpc_laws.specs.Packets.{IsSpelled};
 
 mod conditions;
+mod connecting;
 mod reply;
 mod timeout;
 

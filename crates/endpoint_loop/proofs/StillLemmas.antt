@@ -1,13 +1,13 @@
 -- What the steps of a poll never note: events for which a test is false.
 use Rattle.std.proofs.Common.{◌≡◌, ℕ, zero, suc, Bool, true, false, cond, Option, Some, None, List, []}
-use Rattle.std.proofs.Common.{◌∷◌, ◌++◌, length, eqb, refl, sym, ap, ◌∙◌, subst}
+use Rattle.std.proofs.Common.{◌∷◌, ◌++◌, length, eqb, refl, sym, ap, ◌∙◌}
 use Rattle.std.specs.Prelude.{flat_map, map, option_and_then, option_map, slice_get}
 use Rattle.std.specs.List.{AllByRecursion, filter, find}
 use Rattle.packet_header.specs.declared.packet.ControlHeader.{ControlHeader}
 use Rattle.rpc_base.specs.declared.event.Event.{Event}
 use Rattle.rpc_base.specs.declared.event.Event.TheVariants.{Begun, Broken, ClosedUnheard, DonePeerLost}
 use Rattle.rpc_base.specs.declared.event.Event.TheVariants.{FailedNoAnswer, Flushed, Polled, Posted}
-use Rattle.rpc_base.specs.declared.event.Event.TheVariants.{Ran, Rolled, Sent, Unsent}
+use Rattle.rpc_base.specs.declared.event.Event.TheVariants.{Rolled, Sent, Unsent}
 use Rattle.rpc_base.specs.declared.fact.Fact.{Fact}
 use Rattle.rpc_base.specs.declared.owner.Owner.{Owner}
 use Rattle.rpc_base.specs.declared.owner.Owner.TheVariants.{Ask, Control}
@@ -34,7 +34,7 @@ use Rattle.rpc_laws.specs.Posting.{beginning, can_post, if_connected, lowest_fre
 use Rattle.rpc_laws.specs.Posting.{next_packet, next_posted, next_turn, posting}
 use Rattle.rpc_laws.specs.Queues.{flush_facts, numbers_of}
 use Rattle.rpc_laws.specs.Sessions.{is_connected}
-use Rattle.rpc_laws.specs.Steps.{Chain, NotesAll, NotesNext, Rel, Then, Until, Visits, more, none}
+use Rattle.rpc_laws.specs.Steps.{Chain, NotesAll, NotesNext, Rel, Then, Visits, more, none}
 
 -- none of these facts is of such an event
 abbrev pub AllStill : (Event → Bool) → List Fact → Type 0

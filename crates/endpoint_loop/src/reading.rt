@@ -41,7 +41,9 @@ impl Node {
             return None;
         }
         match self.store.state(i) {
-            SessionState::Connected | SessionState::Spent => Some(self.store.free(i)),
+            SessionState::Connected | SessionState::Spent | SessionState::Closing => {
+                Some(self.store.free(i))
+            }
             _ => None,
         }
     }

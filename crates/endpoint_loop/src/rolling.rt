@@ -8,7 +8,7 @@ ghost use Rattle.endpoint_loop.specs.Watching.{EndsOne, FlushesSome, HasFewRolls
 ghost use Rattle.endpoint_loop.specs.Watching.{breaking, breaking_off, flushing, flushing_all};
 ghost use Rattle.endpoint_loop.specs.Watching.{rolling, rolling_back};
 ghost use Rattle.rpc_base.specs.declared.owner.Owner.TheVariants.{Ask};
-ghost use Rattle.session_store.specs.Changes.{ActiveAt, IsIdle, IsLost, calls_in};
+ghost use Rattle.session_store.specs.Changes.{ActiveAt, IsConnected, IsIdle, IsLost, calls_in};
 ghost use Rattle.session_store.specs.Queue.{is_owned};
 
 use crate::continuation::Continuation;
@@ -51,8 +51,8 @@ fn lose_next<K: Continuation, R: Recorder>(
     true
 }
 
-// Session `i` loses its peer, of which no packet is queued, and its calls end, in the order of
-// their numbers.
+// Session `i`, which is connected, loses its peer, and its calls end, in the order of their
+// numbers. No packet of it is queued.
 fn lose_session<K: Continuation, R: Recorder>(
     store: &mut Store,
     me: NodeId,
@@ -62,6 +62,7 @@ fn lose_session<K: Continuation, R: Recorder>(
 )
     requires known { i < length store.old.clients }
     requires numbered { i < SESSION_NUMBERS }
+    requires connected { IsConnected (slice_get store.old.clients i) }
     requires idle { IsIdle i store.old.queued }
     ensures lost { HasLost R.facts R.whole K.given me i [] store.old.clients store.new.clients
         rec.old rec.new k.old k.new }
@@ -183,9 +184,10 @@ impl Node {
         }
     }
 
-    // Session `i` loses its peer, of which no packet is queued, and its calls end.
+    // Session `i`, which is connected, loses its peer, and its calls end. No packet of it is queued.
     fn break_idle<K: Continuation, R: Recorder>(&mut self, i: usize, k: &mut K, rec: &mut R)
         requires known { i < length self.old.lists.clients }
+        requires connected { IsConnected (slice_get self.old.lists.clients i) }
         requires idle { IsIdle i self.old.lists.queued }
         ensures ended { MakesEnds R.facts R.whole K.given (Notes (breaking i)) (timed_of self.old)
             (timed_of self.new) rec.old rec.new k.old k.new }
@@ -197,8 +199,8 @@ impl Node {
         lose_session(&mut self.store, self.me, i, k, rec);
     }
 
-    /// Session `i` breaks: the queued packets of all its calls are taken out, and then its calls
-    /// end, in the order of their numbers.
+    /// Session `i`, which is connected, breaks: the queued packets of all its calls are taken out,
+    /// and then its calls end, in the order of their numbers.
     pub(crate) fn break_session<K: Continuation, R: Recorder>(
         &mut self,
         i: usize,
@@ -206,6 +208,7 @@ impl Node {
         rec: &mut R,
     )
         requires known { i < length self.old.lists.clients }
+        requires connected { IsConnected (slice_get self.old.lists.clients i) }
         ensures ended { MakesEnds R.facts R.whole K.given (Notes (breaking_off i))
             (timed_of self.old) (timed_of self.new) rec.old rec.new k.old k.new }
         ensures servers { self.new.lists.servers ≡ self.old.lists.servers }

@@ -22,6 +22,9 @@ use Rattle.server_core.specs.KeepsPool.{answer_names, names as slot_names}
 use Rattle.server_core.specs.Session.{Session as Serving, answer_of}
 use Rattle.server_core.specs.Shown.{shown as shown_server}
 use Rattle.session_store.specs.declared.side.Side.{Side}
+use Rattle.session_store.specs.declared.stage.Stage.{Stage}
+use Rattle.session_store.specs.declared.stage.Stage.TheVariants.{Connecting, Connected, Closing, Closed}
+use Rattle.session_store.specs.declared.stage.Stage.TheVariants.{Failed, Broken}
 use Rattle.session_store.specs.Ends.{shown_end}
 use Rattle.session_store.specs.Sides.{ServerHolds, ServerKept, ServerQueued, SideKept, SideQueued}
 use Rattle.session_store.specs.Sides.{shown_side, side_handed}
@@ -48,11 +51,16 @@ pub record Acts (mine : EntryValue → Bool) (before now : ℕ → ℕ) (pool af
 side-shown-by : (pool after : Pool) (s : Side)
     → map (shown_active after) s.session.active ≡ map (shown_active pool) s.session.active
     → shown_side after s ≡ shown_side pool s
-side-shown-by pool after s same = cases s.is_broken
+side-shown-by pool after s same = cases s.stage
   where
-    cases : (b : Bool) → shown_end b after s.peer s.session ≡ shown_end b pool s.peer s.session
-    cases true = rw same refl
-    cases false = rw same refl
+    cases : (stage : Stage)
+        → shown_end stage after s.peer s.session ≡ shown_end stage pool s.peer s.session
+    cases (Connecting n t) = rw same refl
+    cases Connected = rw same refl
+    cases (Closing n t) = rw same refl
+    cases Closed = rw same refl
+    cases Failed = rw same refl
+    cases Broken = rw same refl
 
 -- the replies to requests whose places are as they were
 module _ (mine : EntryValue → Bool) (pool after : Pool) (n : ℕ) (old new : List EntryValue)

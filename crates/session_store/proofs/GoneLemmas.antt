@@ -28,6 +28,9 @@ use Rattle.client_core.proofs.OutcomeLemmas.{active-found}
 use Rattle.server_core.specs.Session.{Session as Serving}
 use Rattle.session_store.specs.declared.side.Side.{Side}
 use Rattle.session_store.specs.Effects.{Leaves, SideFlushes, SideSends, SpellsIn}
+use Rattle.session_store.specs.declared.stage.Stage.{Stage}
+use Rattle.session_store.specs.declared.stage.Stage.TheVariants.{Connecting, Connected, Closing, Closed}
+use Rattle.session_store.specs.declared.stage.Stage.TheVariants.{Failed, Broken}
 use Rattle.session_store.specs.Ends.{shown_end}
 use Rattle.session_store.specs.Queue.{clients_sent, packet_in, peer_in}
 use Rattle.session_store.specs.Sides.{HasSlots, IsOf, IsOfSide, Kept, SideAscends, SideQueued}
@@ -78,13 +81,17 @@ module _ {A B : Type 0} (f : A → B) (p : B → Bool) where
 -- a client session by its number
 pub side-way : (pool : Pool) (s : Side)
     → ((shown_side pool s).way.peer ≡ s.peer) × ((shown_side pool s).way.number ≡ s.session.number)
-side-way pool s = cases s.is_broken
+side-way pool s = cases s.stage
   where
-    cases : (b : Bool)
-        → ((shown_end b pool s.peer s.session).way.peer ≡ s.peer)
-        × ((shown_end b pool s.peer s.session).way.number ≡ s.session.number)
-    cases true = (refl, refl)
-    cases false = (refl, refl)
+    cases : (stage : Stage)
+        → ((shown_end stage pool s.peer s.session).way.peer ≡ s.peer)
+        × ((shown_end stage pool s.peer s.session).way.number ≡ s.session.number)
+    cases (Connecting n t) = (refl, refl)
+    cases Connected = (refl, refl)
+    cases (Closing n t) = (refl, refl)
+    cases Closed = (refl, refl)
+    cases Failed = (refl, refl)
+    cases Broken = (refl, refl)
 
 module _ (pool : Pool) (sides : List Side)
     (numbered : (j : ℕ) → (s : Side) → slice_get sides j ≡ Some s → s.session.number ≡ j) (i : ℕ)
@@ -170,8 +177,8 @@ module _ (pool after : Pool) (sides now : List Side) (servers : List Serving) (t
   sent-of : IsOfSide e (Some h.side)
   sent-of = subst (IsOfSide e) h.at (gone-stands pool after sides servers tx i r e passes left kept out own)
 
-  sent-steps : Steps (sends clock r e.number) h.side.is_broken pool after h.side.peer h.side.session h.later
-  sent-steps = sends-one h.side.is_broken pool after h.side.peer h.side.session h.later sent-of.1
+  sent-steps : Steps (sends clock r e.number) h.side.stage pool after h.side.peer h.side.session h.later
+  sent-steps = sends-one h.side.stage pool after h.side.peer h.side.session h.later sent-of.1
       (all-at (SideAscends pool) sides i h.side kept.ascends h.at) clock e r
       (own ∙ ap (λ n. Ask n r) (sym (kept.numbered i h.side h.at))) (h.step.step h.side.peer)
 
@@ -245,19 +252,20 @@ module _ (pool after : Pool) (sides now : List Side) (servers : List Serving) (t
       (ring left tx.size) h.at kept flushed-acts h.step.gone.handed
 
 -- its packet is that of what is shown
-packet-cases : (b : Bool) (pool : Pool) (peer r : ℕ) (s : Session) (e : EntryValue)
-    (o : Option ActiveCall) → e.owner ≡ Ask s.number r → e.peer ≡ peer → call_as r s ≡ o
+packet-cases : (stage : Stage) (pool : Pool) (peer r : ℕ) (s : Session) (e : EntryValue)
+    (o : Option ActiveCall) → stage ≡ Connected → e.owner ≡ Ask s.number r → e.peer ≡ peer
+    → call_as r s ≡ o
     → IsPacketOf (call_of s e) e
-    → packet_of pool s e ≡ ask_packet r e.number (Some (shown_end b pool peer s))
-packet-cases b pool peer r s e None own to found h =
+    → packet_of pool s e ≡ ask_packet r e.number (Some (shown_end stage pool peer s))
+packet-cases stage pool peer r s e None connected own to found h =
     let none : call_of s e ≡ None =
     ap (λ o. find (is_owner s.number o) s.active) own ∙ same-owners s.number r s.active
     ∙ found in
     absurd (subst (λ o. IsPacketOf o e) none h)
-packet-cases b pool peer r s e (Some c) own to found h =
+packet-cases stage pool peer r s e (Some c) connected own to found h =
     let request = eqb-true c.request r (find-passes (is_request r) s.active c found) in
     rw (
-      ask-end b pool peer r e.number s,
+      ask-end stage pool peer r e.number s connected,
       active-found pool r s,
       found,
       own,
@@ -271,7 +279,7 @@ pub packet-shown : (pool : Pool) (side : Side) (r : ℕ) (e : EntryValue)
     → e.owner ≡ Ask side.session.number r → IsOfSide e (Some side)
     → packet_of pool side.session e ≡ ask_packet r e.number (Some (shown_side pool side))
 packet-shown pool side r e own is =
-    packet-cases side.is_broken pool side.peer r side.session e (call_as r side.session) own is.0
+    packet-cases side.stage pool side.peer r side.session e (call_as r side.session) is.1 own is.0
     refl is.2
 
 -- the front of the ring

@@ -28,7 +28,7 @@ of-side pool s =
     let active = s.session.active in
     let waiting = s.session.slots.waiting in
     map-append asked_by (map (handed_active pool) active) (map handed_waiting waiting)
-    ∙ rw (of-active pool active, of-waiting waiting, calls-end s.is_broken pool s.peer s.session)
+    ∙ rw (of-active pool active, of-waiting waiting, calls-end s.stage pool s.peer s.session)
     (sym (map-append asked_in (map (shown_active pool) active) (map shown_waiting waiting)))
 
 pub of-calls : (pool : Pool) (sides : List Side)

@@ -33,6 +33,9 @@ use Rattle.client_core.proofs.CallsLemmas.{length-at_first}
 use Rattle.client_core.proofs.ShownLemmas.{found-shown}
 use Rattle.server_core.specs.Session.{Session as Serving}
 use Rattle.session_store.specs.declared.side.Side.{Side}
+use Rattle.session_store.specs.declared.stage.Stage.{Stage}
+use Rattle.session_store.specs.declared.stage.Stage.TheVariants.{Connecting, Connected, Closing, Closed}
+use Rattle.session_store.specs.declared.stage.Stage.TheVariants.{Failed, Broken}
 use Rattle.session_store.specs.Changes.{MayRoll, RollsAt}
 use Rattle.session_store.specs.Effects.{RollsBack, SideRolls}
 use Rattle.session_store.specs.Ends.{progress_of, shown_end}
@@ -182,11 +185,11 @@ some-seen pool n s p c e t =
       request_is = ap (λ (x : Progress). x.request) one;
     }
 
-seen-cases : (b : Bool) (pool : Pool) (peer n : ℕ) (s : Session) (p : Progress)
+seen-cases : (stage : Stage) (pool : Pool) (peer n : ℕ) (s : Session) (p : Progress)
     (o : Option ActiveCall) → call_numbered n s ≡ o
-    → progress_of n (shown_end b pool peer s) ≡ Some p → Seen pool n s p
-seen-cases b pool peer n s p (Some c) e h = some-seen pool n s p c e (sym h ∙ progress-found b pool peer n s c e)
-seen-cases b pool peer n s p None e h =
+    → progress_of n (shown_end stage pool peer s) ≡ Some p → Seen pool n s p
+seen-cases stage pool peer n s p (Some c) e h = some-seen pool n s p c e (sym h ∙ progress-found stage pool peer n s c e)
+seen-cases stage pool peer n s p None e h =
     let active : find (is_call n) (map (shown_active pool) s.active) ≡ None =
     found-shown (shown_active pool) (is_call n)
     (is_numbered n) s.active (numbered-same pool n s.active)
@@ -196,29 +199,34 @@ seen-cases b pool peer n s p None e h =
     find-append (is_call n) (map (shown_active pool) s.active)
     (map shown_waiting s.slots.waiting)
     ∙ ap (λ o. option_or o (find (is_call n) (map shown_waiting s.slots.waiting))) active in
-    let gone : progress_of n (shown_end b pool peer s) ≡ None =
+    let gone : progress_of n (shown_end stage pool peer s) ≡ None =
     ap (λ (cs : List Call). option_and_then (λ (c : Call). c.progress)
-    (find (is_call n) cs)) (calls-end b pool peer s)
+    (find (is_call n) cs)) (calls-end stage pool peer s)
     ∙ ap (option_and_then (λ (c : Call). c.progress)) all
     ∙ progress-waits n s.slots.waiting in
     let differ : None ≡ Some p = sym gone ∙ h in cc
 
-pub seen : (b : Bool) (pool : Pool) (peer n : ℕ) (s : Session) (p : Progress)
-    → progress_of n (shown_end b pool peer s) ≡ Some p → Seen pool n s p
-seen b pool peer n s p h = seen-cases b pool peer n s p (call_numbered n s) refl h
+pub seen : (stage : Stage) (pool : Pool) (peer n : ℕ) (s : Session) (p : Progress)
+    → progress_of n (shown_end stage pool peer s) ≡ Some p → Seen pool n s p
+seen stage pool peer n s p h = seen-cases stage pool peer n s p (call_numbered n s) refl h
 
 entries-seen : (owner : Owner) (ds : List EntryValue) → list_any (is_owned owner)
     (map queued_of ds) ≡ list_any (is_of owner) ds
 entries-seen owner [] = refl
 entries-seen owner (d ∷ ds) = rw (entries-seen owner ds) refl
 
-not-broken : (pool : Pool) (s : Side) → is_connected (shown_side pool s).state ≡ true
-    → s.is_broken ≡ false
-not-broken pool s h = by s.is_broken h
+pub at-connected : (pool : Pool) (s : Side) → is_connected (shown_side pool s).state ≡ true
+    → s.stage ≡ Connected
+at-connected pool s h = by s.stage h
   where
-    by : (b : Bool) → is_connected (shown_end b pool s.peer s.session).state ≡ true → b ≡ false
-    by true h = cc
-    by false h = refl
+    by : (stage : Stage) → is_connected (shown_end stage pool s.peer s.session).state ≡ true
+        → stage ≡ Connected
+    by (Connecting n t) h = cc
+    by Connected h = refl
+    by (Closing n t) h = cc
+    by Closed h = cc
+    by Failed h = cc
+    by Broken h = cc
 
 module _ (pool : Pool) (sides : List Side) (servers : List Serving) (tx : Ring EntryValue)
     (i number : ℕ) (view : Shown) (is : shown_of pool sides servers tx ≡ view)
@@ -233,7 +241,7 @@ module _ (pool : Pool) (sides : List Side) (servers : List Serving) (tx : Ring E
       some-same x y t = cc
 
   side-seen : (s : Side) → slice_get sides i ≡ Some s → Seen pool number s.session may.progress
-  side-seen s e = seen s.is_broken pool s.peer number s.session may.progress
+  side-seen s e = seen s.stage pool s.peer number s.session may.progress
       (ap (progress_of number) (sym (side-client s e)) ∙ may.active)
 
   active-cases : (o : Option Side) → slice_get sides i ≡ o
@@ -254,12 +262,12 @@ module _ (pool : Pool) (sides : List Side) (servers : List Serving) (tx : Ring E
 
   module _ (now : List Side) (kept : Kept pool sides servers tx)
       (h : SideRolls i number sides now) where
-    connected : h.side.is_broken ≡ false
-    connected = not-broken pool h.side (ap (λ (x : Client). is_connected x.state)
+    connected : h.side.stage ≡ Connected
+    connected = at-connected pool h.side (ap (λ (x : Client). is_connected x.state)
         (sym (side-client h.side h.at)) ∙ may.connected)
 
-    ends : RollsEnd number h.side.is_broken pool h.side.peer h.side.session h.later
-    ends = roll-end number h.side.is_broken pool h.side.peer h.side.session h.later connected
+    ends : RollsEnd number h.side.stage pool h.side.peer h.side.session h.later
+    ends = roll-end number h.side.stage pool h.side.peer h.side.session h.later connected
         (all-at (SideAscends pool) sides i h.side kept.ascends h.at)
         (all-at (SideKept pool) sides i h.side kept.keeps h.at) (rw h.step.found refl)
         (rw h.step.found h.step.session) (rw h.step.found h.step.step)

@@ -2,7 +2,7 @@
 use Rattle.std.specs.Prelude.{◌≡◌, ℕ, ◌∷◌, [], ◌++◌, Bool, false, length, count_by}
 use Rattle.std.specs.Prelude.{Option, Some, None, IfNone, IfSome, IsNone, ◌↔◌, List, option_map}
 use Rattle.std.specs.Prelude.{slice_get, slice_set}
-use Rattle.std.specs.List.{find, list_any, position}
+use Rattle.std.specs.List.{find, list_any, position, remove}
 use Rattle.rpc_base.specs.declared.owner.Owner.{Owner}
 use Rattle.rpc_base.specs.declared.owner.Owner.TheVariants.{Ask, Reply as OfReply, Control}
 use Rattle.buffer_pool.specs.Counting.{Counts}
@@ -39,7 +39,7 @@ use Rattle.client_core.specs.Timeouts.{after_roll, call_numbered, is_numbered}
 use Rattle.server_core.specs.Counting.{CountsQueued as CountsReplies, left_at}
 use Rattle.server_core.specs.Finishing.{IsFinished, IsLeft}
 use Rattle.server_core.specs.Flushing.{HoldsAll}
-use Rattle.server_core.specs.Keeping.{LeftCounts, LeftHolds, LeftQueued}
+use Rattle.server_core.specs.Keeping.{LeftCounts, LeftHolds, LeftQueued, StillCounts}
 use Rattle.server_core.specs.KeepsPool.{KeepsPool as KeepsAnswers, KeepsSpare}
 use Rattle.server_core.specs.KeepsPool.{LeavesOthers as LeavesAnswers}
 use Rattle.server_core.specs.Replies.{packet_of as reply_of}
@@ -284,6 +284,19 @@ pub record ServerStep (i : ℕ) (Step : Serving → Serving → Type 0) (old new
   pub later : Serving
   pub step : Step server later
   pub changed : new ≡ slice_set old i later
+
+-- a server session ended: its buffers left the pool
+pub record Ends (v : Serving) (before after : Pool) : Type 0 where
+  pub spare : KeepsSpare v.slots [] before after
+  pub leaves : LeavesAnswers v.slots [] before after
+  pub counts : StillCounts before after
+
+-- that at a place did
+pub record ServerEnds (i : ℕ) (old new : List Serving) (before after : Pool) : Type 0 where
+  pub server : Serving
+  pub at : slice_get old i ≡ Some server
+  pub ends : Ends server before after
+  pub changed : new ≡ remove old i
 
 abbrev pub ServerFinishes : (i r : ℕ) → List ℕ → Option EntryValue → List Serving → List Serving
     → Pool → Pool → Type 0

@@ -7,3 +7,4 @@ pub mod Joined
 pub mod Queue
 pub mod Serving
 pub mod Sides
+pub mod Stages

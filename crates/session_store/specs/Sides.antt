@@ -2,7 +2,6 @@
 -- ring has here all that is queued, also what is paced.
 use Rattle.std.specs.Prelude.{◌≡◌, ℕ, ◌+◌, ◌*◌, ◌<◌, ◌≤◌, ◌==◌, ◌&&◌, Bool, true, false, Option}
 use Rattle.std.specs.Prelude.{Some, None, List, [], ◌∷◌, count_by, length, map, sum_by, slice_get}
-use Rattle.std.specs.Prelude.{if◌then◌else◌}
 use Rattle.credit_book.specs.Credits.{limit_of}
 use Rattle.std.specs.List.{AllByRecursion, find, list_any}
 use Rattle.rpc_base.specs.declared.owner.Owner.{Owner}
@@ -11,6 +10,7 @@ use Rattle.buffer_pool.specs.Counting.{Counts}
 use Rattle.buffer_pool.specs.Pool.{Pool, spare_of}
 use Rattle.packet_rings.specs.Rings.{Ring}
 use Rattle.packet_rings.specs.Values.{EntryValue}
+use Rattle.rpc_laws.specs.Sessions.{no_session}
 use Rattle.rpc_laws.specs.declared.tables.Call.{Call}
 use Rattle.rpc_laws.specs.declared.tables.Client.{Client}
 use Rattle.rpc_laws.specs.declared.tables.Queued.{Queued}
@@ -19,6 +19,7 @@ use Rattle.client_core.specs.Counting.{CountsQueued}
 use Rattle.client_core.specs.Handing.{Handed, handed_of}
 use Rattle.client_core.specs.KeepsPool.{CanHold, KeepsPool, names}
 use Rattle.client_core.specs.Posting.{IsPacketOf, call_of}
+use Rattle.client_core.specs.Session.{Session}
 use Rattle.server_core.specs.Counting.{CountsQueued as CountsReplies}
 use Rattle.server_core.specs.Flushing.{HoldsAll}
 use Rattle.server_core.specs.KeepsPool.{KeepsPool as KeepsAnswers, names as slot_names}
@@ -28,18 +29,38 @@ use Rattle.server_core.specs.Session.{Session as Serving}
 use Rattle.server_core.specs.Shown.{shown as shown_server}
 use Rattle.session_store.specs.Ends.{Ascends, shown_end}
 use Rattle.session_store.specs.declared.side.Side.{Side}
+use Rattle.session_store.specs.declared.stage.Stage.{Stage}
+use Rattle.session_store.specs.declared.stage.Stage.TheVariants.{Connecting, Connected, Closing}
+use Rattle.session_store.specs.declared.stage.Stage.TheVariants.{Closed, Failed, Broken}
 
 -- a client session as the definitions over histories have it
 abbrev pub shown_side : Pool → Side → Client
-shown_side pool s = shown_end s.is_broken pool s.peer s.session
+shown_side pool s = shown_end s.stage pool s.peer s.session
+
+-- the credits of a client session that is live: it neither closed nor failed, and has its peer
+abbrev pub credits_at : Stage → Session → ℕ
+credits_at (Connecting sends sent_at) s = limit_of s.credits
+credits_at Connected s = limit_of s.credits
+credits_at (Closing sends sent_at) s = limit_of s.credits
+credits_at Closed s = 0
+credits_at Failed s = 0
+credits_at Broken s = 0
+
+-- the number of its server session, none before it is connected
+abbrev pub server_at : Stage → Session → ℕ
+server_at (Connecting sends sent_at) s = no_session
+server_at Connected s = s.server
+server_at (Closing sends sent_at) s = s.server
+server_at Closed s = s.server
+server_at Failed s = no_session
+server_at Broken s = s.server
 
 -- and what was handed in with its calls
 abbrev pub side_handed : Pool → Side → List Handed
 side_handed pool s = handed_of pool s.session
 
--- the credits of a client session, none where it lost its peer
 abbrev pub side_credits : Side → ℕ
-side_credits s = if s.is_broken then 0 else limit_of s.session.credits
+side_credits s = credits_at s.stage s.session
 
 abbrev pub queued_of : EntryValue → Queued
 queued_of e = record { owner = e.owner; number = e.number; due = None }
@@ -107,11 +128,15 @@ no_sessions size places = record {
 abbrev pub IsOfSide : EntryValue → Option Side → Type 0
 IsOfSide e None = ⊥
 IsOfSide e (Some s) =
-    (e.peer ≡ s.peer) × (s.is_broken ≡ false) × IsPacketOf (call_of s.session e) e
+    (e.peer ≡ s.peer) × (s.stage ≡ Connected) × IsPacketOf (call_of s.session e) e
 
 -- whether a server session has this number and this peer
 abbrev pub is_end : (number peer : ℕ) → Serving → Bool
 is_end number peer v = v.number == number && v.peer == peer
+
+-- whether a server session is the other end of a peer's client session
+abbrev pub ends_at : (peer client : ℕ) → Serving → Bool
+ends_at peer client v = v.peer == peer && v.client == client
 
 -- the session of an entry is there and its peer is the entry's: that of a call's packet posted it.
 -- That a reply is one of its session's is what HoldsAll says

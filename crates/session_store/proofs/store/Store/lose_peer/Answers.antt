@@ -16,7 +16,7 @@ invariant_of-self c =
           (undue c.args.self.now) (flat c.self.inside.pool c.self.inside.sides.items
           c.self.inside.servers.items c.self.inside.tx c.self.inside.pacer c.args.self.now
           c.self.view_is) c.args.i c.index_mut-side.result.now at
-          (idle-undue c.args.i c.args.self.now.queued c.requires.idle),
+          (idle-undue c.args.i c.args.self.now.queued c.requires.idle) c.requires.connected,
       c.self.invariant.1,
     )
 
@@ -32,7 +32,7 @@ returns-clause-clients c =
     (undue c.args.self.now) (flat c.self.inside.pool c.self.inside.sides.items
     c.self.inside.servers.items c.self.inside.tx c.self.inside.pacer c.args.self.now c.self.view_is)
     c.args.i c.index_mut-side.result.now at (idle-undue c.args.i c.args.self.now.queued
-    c.requires.idle)
+    c.requires.idle) c.requires.connected
 
 pub returns-clause-handed : goal.returns-clause-handed
 returns-clause-handed c =
@@ -46,4 +46,4 @@ returns-clause-handed c =
     (undue c.args.self.now) (flat c.self.inside.pool c.self.inside.sides.items
     c.self.inside.servers.items c.self.inside.tx c.self.inside.pacer c.args.self.now c.self.view_is)
     c.args.i c.index_mut-side.result.now at (idle-undue c.args.i c.args.self.now.queued
-    c.requires.idle))
+    c.requires.idle) c.requires.connected)
