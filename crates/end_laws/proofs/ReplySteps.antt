@@ -294,7 +294,7 @@ front-is [] front h = cc
 front-is (d ∷ ds) front h = let same : d ≡ front = cc in ap (λ (a : Arrival). a.bytes) same
 
 module _ (hand : Option InFlight) where
-  handles-fine : Fine RightNode hand (Handles plain_mode)
+  pub handles-fine : Fine RightNode hand (Handles plain_mode)
   handles-fine s x t o i h =
       let bytes = front-is s.lists.ring h.front h.is_front in
       let reads : front_header s.lists.ring ≡ Some h.header = ap message_of bytes ∙ h.reads in

@@ -91,7 +91,7 @@ posts-walk (Some k) hand clock l job answer e i h =
     )
 
 module _ (hand : Option InFlight) where
-  finishes-fine : (session request : ℕ) → Fine RightNode hand (Finishes session request)
+  pub finishes-fine : (session request : ℕ) → Fine RightNode hand (Finishes session request)
   finishes-fine session request s x t o i h =
       let l = s.lists in
       let job = h.job in
