@@ -5,6 +5,7 @@ use Rattle.std.proofs.Common.{slice_get, refl, sym, ap, ◌∙◌, eq-eqb, arith
 use Rattle.std.specs.Prelude.{count_by, sum_by}
 use Rattle.std.specs.List.{find, list_any, slice_set}
 use Rattle.std.proofs.lemmas.Bool.{eqb-true}
+use Rattle.rpc_base.proofs.BasicLemmas.{or-right}
 use Rattle.rpc_base.proofs.FirstLemmas.{count-fewer}
 use Rattle.rpc_base.specs.Tables.{at_first}
 use Rattle.rpc_laws.specs.declared.tables.Call.{Call}
@@ -26,10 +27,6 @@ pub found-number : (p : Call → Bool) (cs : List Call) (c : Call) → find p cs
 found-number p [] c e = cc
 found-number p (b ∷ cs) c e = step (p b) e (found-number p cs c)
   where
-    or-right : (t u : Bool) → u ≡ true → (t || u) ≡ true
-    or-right true u k = refl
-    or-right false u k = k
-
     step : (t : Bool) → cond t (Some b) (find p cs) ≡ Some c
         → (find p cs ≡ Some c → list_any (is_call c.what.number) cs ≡ true)
         → (b.what.number == c.what.number || list_any (is_call c.what.number) cs) ≡ true

@@ -9,7 +9,7 @@ use Rattle.std.proofs.lemmas.Bool.{eqb-true, and_parts, and_from}
 use Rattle.packet_header.specs.Parts.{packet_count}
 use Rattle.packet_header.specs.Reading.{decoded, message_of}
 use Rattle.packet_header.specs.declared.packet.MessageHeader.{MessageHeader}
-use Rattle.rpc_base.proofs.BasicLemmas.{false-true}
+use Rattle.rpc_base.proofs.BasicLemmas.{false-true, or-right}
 use Rattle.rpc_base.specs.declared.event.Event.{Event}
 use Rattle.rpc_base.specs.declared.event.Event.TheVariants.{Flushed, Sent, Took, Dropped, Rolled}
 use Rattle.rpc_base.specs.declared.event.Event.TheVariants.{Broken, Arrived, Overflowed}
@@ -321,10 +321,6 @@ module _ (w : Moment) (n : ℕ) (l : Lists) (e : Event) (first second : List ℕ
 
 or-left : (a b : Bool) → a ≡ true → (a || b) ≡ true
 or-left a b h = rw h refl
-
-or-right : (a b : Bool) → b ≡ true → (a || b) ≡ true
-or-right true b h = refl
-or-right false b h = h
 
 -- the front of a ring is lost where it is dropped
 dropped-front : (w : Moment) (n : ℕ) (l : Lists) (x : Pairing) (r k : ℕ) (why : DropReason)

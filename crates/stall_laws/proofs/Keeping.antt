@@ -21,7 +21,6 @@ use Rattle.rpc_laws.specs.declared.rows.ServerRow.{ServerRow}
 use Rattle.rpc_laws.specs.declared.rows.ServerRow.TheVariants.{Drops, Begins, Takes, Repeats}
 use Rattle.rpc_laws.specs.declared.rows.TimerRow.{TimerRow}
 use Rattle.rpc_laws.specs.declared.rows.TimerRow.TheVariants.{Waits, RollsBack, Breaks}
-use Rattle.rpc_laws.specs.declared.tables.Arrival.{Arrival}
 use Rattle.rpc_laws.specs.declared.tables.Call.{Call}
 use Rattle.rpc_laws.specs.declared.tables.Client.{Client}
 use Rattle.rpc_laws.specs.declared.tables.Job.{Job}
@@ -35,7 +34,7 @@ use Rattle.rpc_laws.specs.Calls.{is_call, is_waiting}
 use Rattle.rpc_laws.specs.ClientTable.{client_row, reply_facts}
 use Rattle.rpc_laws.specs.ControlSteps.{Hears, HearsAll, Retries, TimesSession, TimesAll}
 use Rattle.rpc_laws.specs.Facts.{plain, with_two}
-use Rattle.rpc_laws.specs.Front.{front_bytes, front_header, front_body}
+use Rattle.rpc_laws.specs.Front.{front_header, front_body}
 use Rattle.rpc_laws.specs.GoBackN.{Watches, WatchesSession, Each, flushes_of, row_facts, row_of}
 use Rattle.rpc_laws.specs.GoBackN.{progress_facts, call_facts, client_facts, numbers_in}
 use Rattle.rpc_laws.specs.Jobs.{are_full}
@@ -68,6 +67,8 @@ use Rattle.end_laws.specs.OnlyPairs.{OnlyPairs}
 use Rattle.end_laws.proofs.ControlSteps.{retries-of}
 use Rattle.end_laws.proofs.ListLemmas.{all-append}
 use Rattle.end_laws.proofs.Walks.{only-front, only-back}
+use Rattle.end_laws.proofs.ReplySteps.{front-is}
+use Rattle.stall_laws.proofs.OrderSteps.{IsFlush, calls-all}
 use Rattle.stall_laws.proofs.Endings.{taken-ongoing, breaks-ongoing}
 use Rattle.stall_laws.proofs.Ongoing.{OngoingNode, AllMild, is_mild, ongoing-all}
 
@@ -197,10 +198,6 @@ kind-keeps mode lacks answer clock l peer h Response v on reads a o =
     reply-keeps clock l h (find (is_client h.session) l.clients)
     (client_row l.queued (find (is_client h.session) l.clients) peer h (length (front_body l.ring))) v on reads refl a o
 
-front-is : (ring : List Arrival) (front : Arrival) → slice_get ring 0 ≡ Some front → front_bytes ring ≡ front.bytes
-front-is [] front h = cc
-front-is (d ∷ ds) front h = let same : d ≡ front = cc in ap (λ (a : Arrival). a.bytes) same
-
 handles-keeps : (mode : ℕ → Mode) → Keeps (Handles mode)
 handles-keeps mode s x t o v on h =
     let bytes = front-is s.lists.ring h.front h.is_front in
@@ -225,37 +222,17 @@ hears-keeps s x t o v on h = hears-none s x t o on h.steps
         let heard = subst OnlyPairs h.facts (only-back front y o) in false-true (sym heard.0)
 
 -- the timers
-record IsFlush (f : Fact) : Type 0 where
-  owner : Owner
-  number : ℕ
-  event : f.event ≡ Flushed owner number
+all-mild : (me s : ℕ) (x : List Fact) → AllByRecursion (IsFlush me s) x → AllMild x
+all-mild me s [] h = tt
+all-mild me s (f ∷ x) h = (ap is_mild h.0.event, all-mild me s x h.1)
 
-flush-all : (me : ℕ) (owner : Owner) (ks : List ℕ) → AllByRecursion IsFlush (map (λ k. plain me (Flushed owner k)) ks)
-flush-all me owner [] = tt
-flush-all me owner (k ∷ ks) = (record { owner = owner; number = k; event = refl }, flush-all me owner ks)
-
-flushes-all : (me s : ℕ) (queued : List Queued) (p : Option Progress) → AllByRecursion IsFlush
-    (flushes_of me s queued p)
-flushes-all me s queued None = tt
-flushes-all me s queued (Some p) = flush-all me (Ask s p.request) (numbers_of (Ask s p.request) queued)
-
-calls-all : (me s : ℕ) (queued : List Queued) (calls : List Call)
-    → AllByRecursion IsFlush (flat_map (λ c. flushes_of me s queued c.progress) calls)
-calls-all me s queued [] = tt
-calls-all me s queued (c ∷ calls) =
-    all-append IsFlush (flushes_of me s queued c.progress) _ (flushes-all me s queued c.progress)
-    (calls-all me s queued calls)
-
-all-mild : (x : List Fact) → AllByRecursion IsFlush x → AllMild x
-all-mild [] h = tt
-all-mild (f ∷ x) h = (ap is_mild h.0.event, all-mild x h.1)
-
-flush-clients : (clock : ℕ) (l : Lists) (x : List Fact) → AllByRecursion IsFlush x
+flush-clients : (clock me s : ℕ) (l : Lists) (x : List Fact) → AllByRecursion (IsFlush me s) x
     → (after_all clock l x).clients ≡ l.clients
-flush-clients clock l [] h = refl
-flush-clients clock l (f ∷ x) h =
-    flush-clients clock (after clock l f) x h.1
-    ∙ ap (λ (e : Event). clients_after clock e f.first (front_header l.ring) (front_body l.ring) l.clients) h.0.event
+flush-clients clock me s l [] h = refl
+flush-clients clock me s l (f ∷ x) h =
+    flush-clients clock me s (after clock l f) x h.1
+    ∙ ap (λ (e : Event). clients_after clock e f.first (front_header l.ring) (front_body l.ring) l.clients)
+    h.0.event
 
 split-allowed : (clock : ℕ) (l : Lists) (x y : List Fact) → AllAllowed clock l (x ++ y)
     → AllAllowed clock l x × AllAllowed clock (after_all clock l x) y
@@ -283,8 +260,9 @@ row-keeps clock l x number p Breaks v on found a o =
     let are = calls-all l.me x.way.number l.queued x.calls in
     let both = split-allowed clock l flushing losing a in
     let l1 = after_all clock l flushing in
-    let on1 = ongoing-all clock l flushing both.0 (only-front flushing losing o) (all-mild flushing are) on in
-    let same = flush-clients clock l flushing are in
+    let mild = all-mild l.me x.way.number flushing are in
+    let on1 = ongoing-all clock l flushing both.0 (only-front flushing losing o) mild on in
+    let same = flush-clients clock l.me x.way.number l flushing are in
     rw (after-append clock l flushing losing)
     (breaks-ongoing clock l1 l.me x x.calls (valid_after_all clock l flushing v both.0) on1 both.1
     (ap (find (is_client x.way.number)) same ∙ found) refl)

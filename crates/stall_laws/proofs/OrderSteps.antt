@@ -47,7 +47,7 @@ use Rattle.rpc_laws.specs.ClientTable.{client_ending, call_ending, progress_endi
 use Rattle.rpc_laws.specs.ClientTable.{reply_facts}
 use Rattle.rpc_laws.specs.ControlSteps.{Hears, HearsAll, Retries, TimesSession, TimesAll}
 use Rattle.rpc_laws.specs.Facts.{plain, with_two}
-use Rattle.rpc_laws.specs.Front.{front_bytes, front_header, front_body}
+use Rattle.rpc_laws.specs.Front.{front_header, front_body}
 use Rattle.rpc_laws.specs.GoBackN.{Watches, WatchesSession, Each, flushes_of, row_facts, row_of}
 use Rattle.rpc_laws.specs.GoBackN.{progress_facts, call_facts, client_facts, numbers_in}
 use Rattle.rpc_laws.specs.Jobs.{are_full, is_job}
@@ -83,8 +83,8 @@ use Rattle.end_laws.proofs.ControlSteps.{hears-fine, hears-all, retries-of, retr
 use Rattle.end_laws.proofs.ControlSteps.{times-session, times-all}
 use Rattle.end_laws.proofs.PollSteps.{begun-fine, posted-fine, serves-fine, sends-fine, posts-all}
 use Rattle.end_laws.proofs.PollSteps.{sends-all}
-use Rattle.end_laws.proofs.ReplySteps.{handles-fine}
-use Rattle.end_laws.proofs.WorkSteps.{finishes-fine, finishes-worked as finishes-worked-fine}
+use Rattle.end_laws.proofs.ReplySteps.{front-is, handles-fine}
+use Rattle.end_laws.proofs.WorkSteps.{number-is, finishes-fine, finishes-worked as finishes-worked-fine}
 use Rattle.ring_laws.proofs.ServerReach.{NoneOut}
 use Rattle.stall_laws.proofs.Dues.{Due, nothing, reply, flushed, Step, older, takes, repeats}
 use Rattle.stall_laws.proofs.Dues.{posts, gives, serves, finishes, flushes as flushes_step, rolls}
@@ -130,13 +130,6 @@ module _ (hand : Option InFlight) where
       orderly-then (P n) (Each P ns) (fine n) (p n) (orderly-each P fine p ns) s x t o i h
 
 -- a job is finished: its answer is awaited, and posted
-number-is : (q : Served) (size k : ℕ) → q.working ≡ true → size ≡ q.size
-    → awaited_of (Some q) ≡ Some k → packet_count size - 1 ≡ k
-number-is q size k working sized e =
-    let there : Some (packet_count q.size - 1) ≡ Some k = rw working at e in
-    let same : packet_count q.size - 1 ≡ k = cc in
-    ap (λ (n : ℕ). packet_count n - 1) sized ∙ same
-
 awaits-some : (q : Served) → q.working ≡ true → awaited_of (Some q) ≡ None → ⊥
 awaits-some q working e = let there : Some (packet_count q.size - 1) ≡ None = rw working at e in cc
 
@@ -431,10 +424,6 @@ kind-steps hand clock l front h lacks answer Cr e f i =
 kind-steps hand clock l front h lacks answer Response e f i =
     steps-alone hand clock l _ (reply-alone l.me (find (is_client h.session) l.clients) h (front_body l.ring) _)
 
-front-is : (ring : List Arrival) (front : Arrival) → slice_get ring 0 ≡ Some front → front_bytes ring ≡ front.bytes
-front-is [] front h = cc
-front-is (d ∷ ds) front h = let same : d ≡ front = cc in ap (λ (a : Arrival). a.bytes) same
-
 module _ (hand : Option InFlight) where
   handles-orders : Orderly hand (Handles plain_mode)
   handles-orders s x t o i h =
@@ -478,11 +467,11 @@ rolls-steps hand clock l d s r c posted got (k ∷ ks) go call = (
 )
 
 -- a session breaks
-record IsFlush (me s : ℕ) (f : Fact) : Type 0 where
-  who : f.who ≡ Node me
-  request : ℕ
-  number : ℕ
-  event : f.event ≡ Flushed (Ask s request) number
+pub record IsFlush (me s : ℕ) (f : Fact) : Type 0 where
+  pub who : f.who ≡ Node me
+  pub request : ℕ
+  pub number : ℕ
+  pub event : f.event ≡ Flushed (Ask s request) number
 
 flush-all : (me s r : ℕ) (ks : List ℕ)
     → AllByRecursion (IsFlush me s) (map (λ k. plain me (Flushed (Ask s r) k)) ks)
@@ -494,7 +483,7 @@ flushes-all : (me s : ℕ) (queued : List Queued) (p : Option Progress)
 flushes-all me s queued None = tt
 flushes-all me s queued (Some p) = flush-all me s p.request (numbers_of (Ask s p.request) queued)
 
-calls-all : (me s : ℕ) (queued : List Queued) (calls : List Call)
+pub calls-all : (me s : ℕ) (queued : List Queued) (calls : List Call)
     → AllByRecursion (IsFlush me s) (flat_map (λ c. flushes_of me s queued c.progress) calls)
 calls-all me s queued [] = tt
 calls-all me s queued (c ∷ calls) =

@@ -7,6 +7,7 @@ use Rattle.std.proofs.Common.{◌∙◌, subst, ltb-true, ltb-false, ◌+◌, ar
 use Rattle.std.specs.Prelude.{option_and_then, option_map, count_by, is_some, is_none}
 use Rattle.std.specs.List.{find, slice_set, AllByRecursion}
 use Rattle.std.proofs.lemmas.Bool.{eqb-true, eqb-false}
+use Rattle.std.proofs.lemmas.Option.{slice_get_within}
 use Rattle.rpc_base.proofs.FirstLemmas.{all-kept, counted-cons}
 use Rattle.rpc_base.proofs.TakingLemmas.{find-passes}
 use Rattle.rpc_base.specs.Tables.{at_first}
@@ -314,11 +315,6 @@ visits (suc n) s x t v h =
         let ne = eqb-false j n e in
         λ y is. before.rests j (omega arith) y (sym (now.others j ne) ∙ is)
 
-within : {A : Type 0} (xs : List A) (j : ℕ) (x : A) → slice_get xs j ≡ Some x → j < length xs
-within [] j x h = cc
-within (y ∷ ys) zero x h = omega arith
-within (y ∷ ys) (suc j) x h = let le = within ys j x h in omega arith
-
 posts-rest : (s : Timed) (x : List Fact) (t : Timed) → Valid s.lists → PostsAll s x t → RestsNode t.lists
 posts-rest s x t v h =
     let all = visits (length s.lists.clients) s x t v h in
@@ -330,7 +326,7 @@ posts-rest s x t v h =
     by all j y is true e = ltb-true j (length s.lists.clients) e
     by all j y is false e =
         let le = ltb-false j (length s.lists.clients) e in
-        within s.lists.clients j y (sym (all.later j le) ∙ is)
+        slice_get_within s.lists.clients j y (sym (all.later j le) ∙ is)
 
 -- sending changes none of it
 sends-call : (clock k : ℕ) (c : Call) → can_post c ≡ false → can_post (moved (sent_packet clock k) c) ≡ false

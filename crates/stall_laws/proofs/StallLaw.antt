@@ -6,6 +6,7 @@ use Rattle.std.proofs.Common.{arith, ltb-true, ltb-false}
 use Rattle.std.specs.Prelude.{is_some}
 use Rattle.std.specs.Bool.{MatchBool}
 use Rattle.std.specs.List.{filter, AllByRecursion}
+use Rattle.std.proofs.lemmas.Option.{slice_get_within}
 use Rattle.rpc_base.proofs.BasicLemmas.{false-true}
 use Rattle.rpc_base.specs.declared.fact.Fact.{Fact}
 use Rattle.rpc_laws.specs.declared.tables.Call.{Call}
@@ -96,11 +97,6 @@ node-rests n facts t o e r =
     let rest = run-rests plain_serving.mode n (with_ring r.ring) r.later t only r.run.steps in
     (rest.ongoing, rest.rests (sym (ap (awaits_poll false) r.made) ∙ e))
 
-within : {A : Type 0} (xs : List A) (j : ℕ) (x : A) → slice_get xs j ≡ Some x → j < length xs
-within [] j x h = cc
-within (y ∷ ys) zero x h = omega arith
-within (y ∷ ys) (suc j) x h = let le = within ys j x h in omega arith
-
 past : {A : Type 0} (xs : List A) (j : ℕ) → slice_get xs j ≡ None → length xs ≤ j
 past [] j h = omega arith
 past (y ∷ ys) zero h = cc
@@ -183,7 +179,7 @@ script-caused lines h two few o f settled n l is =
         → OnlyPairs (facts_of n h) → HeldNode h (moment_of h) nothing n l
         → AllByRecursion (λ x. AllByRecursion (λ c. CauseBy h n x c.what.number c.progress) x.calls) l.clients
     by None none run nodes size there nodes_are only reach =
-        let low = within nodes n l there in
+        let low = slice_get_within nodes n l there in
         let high = past f.0.nodes n none in
         absurd (omega arith)
     by (Some t) found run nodes size there nodes_are only reach =
