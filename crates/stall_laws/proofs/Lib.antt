@@ -1,6 +1,7 @@
 pub mod CallPlaces
 pub mod Dues
 pub mod Endings
+pub mod Ends
 pub mod Fates
 pub mod Held
 pub mod IdleLaw

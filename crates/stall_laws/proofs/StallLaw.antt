@@ -38,6 +38,7 @@ use Rattle.stall_laws.specs.Caused.{CauseBy, Caused, WasLost, active_calls}
 use Rattle.stall_laws.specs.NoStall.{NoStall}
 use Rattle.stall_laws.specs.Settled.{IsSettled, IsEmpty, awaits_poll, moment_of}
 use Rattle.stall_laws.proofs.Dues.{nothing}
+use Rattle.stall_laws.proofs.Ends.{end-of}
 use Rattle.stall_laws.proofs.Held.{pair_of, Held}
 use Rattle.stall_laws.proofs.IdleLaw.{run-rests}
 use Rattle.stall_laws.proofs.Moves.{follows-moves, course-end}
@@ -197,9 +198,17 @@ script-caused lines h two few o f settled n l is =
 -- at each end of a command
 pub no-stall : (script : List Line) (h : List Fact) → PairsTwoNodes script → PairsFewCredits script
     → OnlyPairs h → Follows script h → NoStall script h
-no-stall script h two few o f x end settled =
-    script-caused end.done x
-    (all-front (λ line. PairsTwo line.command) end.done end.left (subst PairsTwoNodes end.lines two))
-    (all-front (λ line. PairsFew line.command) end.done end.left (subst PairsFewCredits end.lines few))
-    (all-front (λ f. is_of_control f.event ≡ false) x end.later (subst OnlyPairs end.facts o))
-    end.follows settled
+no-stall script h two few o f done left lines =
+    let end = end-of done left h (subst (λ (s : List Line). Follows s h) lines f) in
+    record {
+      facts = end.facts;
+      later = end.later;
+      parted = end.parted;
+      follows = end.follows;
+      caused =
+          script-caused done end.facts
+          (all-front (λ line. PairsTwo line.command) done left (subst PairsTwoNodes lines two))
+          (all-front (λ line. PairsFew line.command) done left (subst PairsFewCredits lines few))
+          (all-front (λ f. is_of_control f.event ≡ false) end.facts end.later (subst OnlyPairs end.parted o))
+          end.follows;
+    }

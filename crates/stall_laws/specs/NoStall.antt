@@ -7,14 +7,14 @@ use Rattle.sim_script.specs.FollowsScript.{Follows}
 use Rattle.stall_laws.specs.Caused.{Caused}
 use Rattle.stall_laws.specs.Settled.{IsSettled}
 
--- x is what happened of h by the end of a command of the script
-pub record IsEnd (script : List Line) (h x : List Fact) : Type 0 where
-  pub done : List Line
-  pub left : List Line
-  pub lines : script ≡ done ++ left
+-- the facts of h by the end of the commands done, which have their causes where they are settled
+pub record NoStallBy (done : List Line) (h : List Fact) : Type 0 where
+  pub facts : List Fact
   pub later : List Fact
-  pub facts : h ≡ x ++ later
-  pub follows : Follows done x
+  pub parted : h ≡ facts ++ later
+  pub follows : Follows done facts
+  pub caused : IsSettled facts → Caused facts
 
+-- so it is at the end of each command of the script
 abbrev pub NoStall : List Line → List Fact → Type 0
-NoStall script h = (x : List Fact) → IsEnd script h x → IsSettled x → Caused x
+NoStall script h = (done left : List Line) → script ≡ done ++ left → NoStallBy done h
