@@ -13,6 +13,7 @@ ghost use Rattle.ring_laws.specs.PairsOnce.{PairsOnce};
 ghost use Rattle.rpc_world.specs.Served.{later_of};
 ghost use Rattle.script_grammar.specs.Conditions.{IsScript};
 ghost use Rattle.sim_script.specs.FollowsScript.{Follows};
+ghost use Rattle.stall_laws.specs.NoStall.{NoStall};
 ghost use Rattle.world_laws.specs.Laws.{EachNode, EndTells, KeepsRing};
 
 use crate::command::execute;
@@ -65,6 +66,8 @@ impl World {
         // Before a datagram was repeated, or a call was rolled back.
         ensures fits { IfOk result (λ w. MessagesFit w) }
         ensures stands_once { IfOk result (λ w. PairsOnce w) }
+        // At each end of a command at which the history is settled.
+        ensures no_stall { IfOk result (λ w. NoStall script.now w) }
         // At every moment of each node.
         ensures credit { IfOk result (λ w. EachNode Credit w) }
         ensures ends_clean { IfOk result (λ w. EachNode (EndsClean []) w) }
