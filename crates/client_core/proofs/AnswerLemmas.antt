@@ -209,7 +209,7 @@ self-cons : (test : ActiveCall → Bool) (c y : ActiveCall) (ys : List ActiveCal
 self-cons test c y ys true ih e = let same : y ≡ c = cc in rw same refl
 self-cons test c y ys false ih e = ap (λ zs. y ∷ zs) (ih e)
 
-self-first : (test : ActiveCall → Bool) (c : ActiveCall) (ys : List ActiveCall)
+pub self-first : (test : ActiveCall → Bool) (c : ActiveCall) (ys : List ActiveCall)
     → find test ys ≡ Some c → at_first test (λ x. c) ys ≡ ys
 self-first test c [] e = cc
 self-first test c (y ∷ ys) e = self-cons test c y ys (test y) (self-first test c ys) e

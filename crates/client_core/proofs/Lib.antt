@@ -5,6 +5,7 @@ pub mod CountLemmas
 mod CreditLemmas
 pub mod EndedLemmas
 pub mod EntryLemmas
+pub mod HandingLemmas
 mod LostLemmas
 pub mod OneCallLemmas
 pub mod OthersLemmas

@@ -300,7 +300,7 @@ end-others c s = λ e other was. found-left (is_request c.request) (is_owner s.n
 
 -- a part of an answer changes its own buffer alone
 module _ (c : ActiveCall) (h : MessageHeader) (body : List ℕ) (pool : Pool) where
-  written-cases : (p : ℕ) (k : Bool) (o : Option Buffer) → p ≢ c.answer
+  pub written-cases : (p : ℕ) (k : Bool) (o : Option Buffer) → p ≢ c.answer
       → buf_at (cond k (rewritten_at c.answer (with_part c h body) o pool) pool) p ≡ buf_at pool p
   written-cases p true None other = refl
   written-cases p true (Some b) other = changed_other pool.bufs c.answer p (Some (with_part c h body b)) None other

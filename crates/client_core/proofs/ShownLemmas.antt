@@ -66,7 +66,7 @@ module _ {A B : Type 0} (g : A → B) where
   unchanged-cons p f x xs true same ih = ap (λ y. y ∷ map g xs) same
   unchanged-cons p f x xs false same ih = ap (λ ys. g x ∷ ys) ih
 
-  unchanged-shown : (p : A → Bool) (f : A → A) (xs : List A) → ((x : A) → g (f x) ≡ g x)
+  pub unchanged-shown : (p : A → Bool) (f : A → A) (xs : List A) → ((x : A) → g (f x) ≡ g x)
       → map g (at_first p f xs) ≡ map g xs
   unchanged-shown p f [] same = refl
   unchanged-shown p f (x ∷ xs) same = unchanged-cons p f x xs (p x) (same x) (unchanged-shown p f xs same)

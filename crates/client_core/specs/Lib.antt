@@ -1,4 +1,5 @@
 pub mod Counting
+pub mod Handing
 pub mod KeepsEntries
 pub mod KeepsPool
 pub mod Losing

@@ -15,6 +15,7 @@ ghost use Rattle.packet_rings.specs.Entries.{is_of};
 ghost use Rattle.packet_rings.specs.Still.{Still, StillWith, StillWithout};
 ghost use Rattle.packet_rings.specs.Values.{EntryValue};
 ghost use Rattle.client_core.specs.Counting.{Counts, CountsQueued};
+ghost use Rattle.client_core.specs.Handing.{handed_of, handed_waiting};
 ghost use Rattle.client_core.specs.KeepsEntries.{KeepsEntries};
 ghost use Rattle.client_core.specs.KeepsPool.{CanHold, IsHeld, KeepsPool, LeavesOthers, held_for, released_at};
 ghost use Rattle.client_core.specs.Posting.{IsPacketOf, Starts, call_of, flushed_at, next_entry, posted, sent_at};
@@ -28,6 +29,7 @@ ghost use Rattle.client_core.specs.Watching.{is_after, next_told};
 ghost use Rattle.rpc_laws.specs.Packets.{IsSpelled};
 
 mod conditions;
+mod connecting;
 mod reply;
 mod timeout;
 
@@ -166,6 +168,8 @@ impl ClientSession {
         ensures waits { OnOk result (self.new ≡ enqueued w self.old) }
         ensures step { OnOk result ((pool : Pool) → (clock peer : ℕ)
             → asked clock w (shown pool peer self.old) ≡ shown pool peer self.new ∷ []) }
+        ensures handed { OnOk result ((pool : Pool)
+            → handed_of pool self.new ≡ handed_of pool self.old ++ handed_waiting w ∷ []) }
         ensures unchanged { OnErr result (self.new ≡ self.old) }
         ensures handed_back { IfErr result (λ back. back ≡ w) }
     {
@@ -200,6 +204,7 @@ impl ClientSession {
             stepped clock (begun_event b) (shown pool.old peer self.old)
             ≡ shown pool.new peer self.new ∷ []) }
         ensures starts { IfSome result (λ b. Starts b.0 b.1 self.old self.new pool.old pool.new) }
+        ensures handed { handed_of pool.new self.new ≡ handed_of pool.old self.old }
         ensures others { LeavesOthers self.old.active self.new.active pool.old pool.new }
         ensures entries { KeepsEntries self.old self.new }
         ensures counts { Still (Counts pool.old) (Counts pool.new) }
@@ -244,6 +249,7 @@ impl ClientSession {
         ensures pool { pool.new ≡ held_for result pool.old }
         ensures stands { IfSome result (λ e. IsPacketOf (call_of self.new e) e) }
         ensures held { IfSome result (λ e. IsHeld pool.new e.place) }
+        ensures handed { handed_of pool.new self.new ≡ handed_of pool.old self.old }
         ensures others { LeavesOthers self.old.active self.new.active pool.old pool.new }
         ensures entries { KeepsEntries self.old self.new }
         ensures counts { IfSome result
@@ -285,6 +291,7 @@ impl ClientSession {
         ensures step { (peer : ℕ) → stepped now (sent_event entry.now)
             (shown pool.old peer self.old) ≡ shown pool.new peer self.new ∷ [] }
         ensures pool { pool.new ≡ released_at entry.now.place pool.old }
+        ensures handed { handed_of pool.new self.new ≡ handed_of pool.old self.old }
         ensures others { IsPacketOf (call_of self.old entry.now) entry.now
             → LeavesOthers self.old.active self.new.active pool.old pool.new }
         ensures entries { KeepsEntries self.old self.new }
@@ -304,6 +311,7 @@ impl ClientSession {
         ensures session { self.new ≡ flushed_at entry.now self.old }
         ensures shown { (peer : ℕ) → shown pool.new peer self.new ≡ shown pool.old peer self.old }
         ensures pool { pool.new ≡ released_at entry.now.place pool.old }
+        ensures handed { handed_of pool.new self.new ≡ handed_of pool.old self.old }
         ensures others { IsPacketOf (call_of self.old entry.now) entry.now
             → LeavesOthers self.old.active self.new.active pool.old pool.new }
         ensures entries { KeepsEntries self.old self.new }

@@ -1,9 +1,9 @@
 -- A call that is asked: what its session is, and what holds of the node once it waits.
 use Rattle.std.proofs.Common.{◌≡◌, ℕ, ◌+◌, ◌*◌, ◌≤◌, ◌<◌, Bool, true, false, cond, Option, Some, None}
-use Rattle.std.proofs.Common.{List, [], ◌∷◌, ◌++◌, length, refl, sym, ap, subst, ◌∙◌, arith, eq-eqb}
+use Rattle.std.proofs.Common.{List, [], ◌∷◌, length, refl, sym, ap, subst, ◌∙◌, arith, eq-eqb}
 use Rattle.std.proofs.Common.{ltb-true}
 use Rattle.rpc_base.specs.Tables.{at_first}
-use Rattle.std.specs.Prelude.{count_by, nat_le, nat_lt, slice_get, slice_set, sum_by, All, IfSome}
+use Rattle.std.specs.Prelude.{count_by, nat_le, nat_lt, slice_get, slice_set, sum_by, IfSome}
 use Rattle.std.specs.List.{AllByRecursion, find}
 use Rattle.std.proofs.lemmas.List.{length-set}
 use Rattle.std.proofs.lemmas.List.Sums.{sum_by-cons}
@@ -21,7 +21,6 @@ use Rattle.rpc_laws.specs.declared.tables.Call.{Call}
 use Rattle.rpc_laws.specs.declared.tables.Client.{Client}
 use Rattle.rpc_laws.specs.declared.tables.Jobs.{Jobs}
 use Rattle.rpc_laws.specs.declared.tables.Pace.{Pace}
-use Rattle.rpc_laws.specs.declared.tables.Server.{Server}
 use Rattle.rpc_laws.specs.declared.tables.Timed.{Timed}
 use Rattle.rpc_laws.specs.Calls.{asking, is_call}
 use Rattle.rpc_laws.specs.Facts.{with_bytes}
@@ -33,7 +32,7 @@ use Rattle.node_laws.specs.Kept.{AsksFew, Kept, asked_on}
 use Rattle.node_laws.specs.Valid.{NumberedFrom, client_no, holders, to_come}
 use Rattle.node_laws.proofs.KeptLemmas.{kept-after}
 use Rattle.node_laws.proofs.NumberLemmas.{numbered-get}
-use Rattle.node_laws.proofs.StateLemmas.{connected-live, told-connected, told-few}
+use Rattle.node_laws.proofs.StateLemmas.{told-connected, told-few}
 use Rattle.session_store.specs.Changes.{ChangesAt}
 use Rattle.session_store.specs.Sides.{Shown}
 use Rattle.session_store.proofs.AscendsLemmas.{ascends-end}
@@ -41,7 +40,7 @@ use Rattle.session_store.proofs.ListLemmas.{all-at, all-set, get-own, sum-one}
 use Rattle.endpoint_loop.specs.Fits.{CallsAscend, Fits, IsSettled}
 use Rattle.endpoint_loop.specs.Noting.{Makes}
 use Rattle.endpoint_loop.specs.Seen.{Tallies, asking_jobs, seen_node}
-use Rattle.endpoint_loop.proofs.FitsLemmas.{settled-live}
+use Rattle.endpoint_loop.proofs.FitsLemmas.{settled-connected}
 use Rattle.endpoint_loop.proofs.PairLemmas.{below-used}
 use Rattle.endpoint_loop.proofs.PostLemmas.{first-at}
 
@@ -181,9 +180,9 @@ module _ (me : ℕ) (limits : Limits) (tallies : Tallies) (paces : List Pace) (j
             (λ j x e other. all-at CallsAscend s.clients j x fits.ascends e));
         paces = fits.paces;
         settled = rw at.changed (all-set IsSettled s.clients i (asks what at.client)
-            (settled-live at.client (asks what at.client)
+            (settled-connected at.client (asks what at.client)
             (all-at IsSettled s.clients i at.client fits.settled at.place)
-            (connected-live at.client.state up) refl refl)
+            up refl refl)
             (λ j x e other. all-at IsSettled s.clients j x fits.settled e));
         numbers = omega (
           arith,

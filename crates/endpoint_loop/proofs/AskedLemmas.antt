@@ -19,7 +19,7 @@ use Rattle.rpc_base.proofs.FindLemmas.{missing-none, none-found, push-found}
 use Rattle.rpc_base.proofs.FirstLemmas.{found-any, found-changed, found-holds, found-own}
 use Rattle.rpc_base.proofs.FirstLemmas.{none-counted, sum-fewer}
 use Rattle.rpc_base.proofs.TakingLemmas.{find-passes}
-use Rattle.rpc_laws.specs.declared.rows.ServerRow.TheVariants.{Drops, Begins, Takes, Repeats}
+use Rattle.rpc_laws.specs.declared.rows.ServerRow.TheVariants.{Drops, Begins, Takes}
 use Rattle.rpc_laws.specs.declared.tables.Served.{Served}
 use Rattle.rpc_laws.specs.declared.tables.Server.{Server}
 use Rattle.rpc_laws.specs.Requests.{first_packet, in_slot_of, is_request, next_packet, took_packet}

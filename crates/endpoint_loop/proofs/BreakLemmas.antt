@@ -337,7 +337,6 @@ module _ (me : ℕ) (limits : Limits) (tallies : Tallies) (paces : List Pace) (j
           (record {
             paired = refl;
             some = (all-at IsSettled s.clients i x fits.settled place).some;
-            none_free = λ _. refl;
             none_left = λ _. refl;
           })
           (λ j z e other. all-at IsSettled s.clients j z fits.settled e));

@@ -1,6 +1,6 @@
 -- Only an asking gives a session a call: what else happens leaves the sessions with calls among
 -- those that had some.
-use Rattle.std.proofs.Common.{◌≡◌, ◌≢◌, ℕ, zero, suc, ◌+◌, ◌<◌, ◌≤◌, ◌⊎◌, inl, inr, Bool, true, false}
+use Rattle.std.proofs.Common.{◌≡◌, ℕ, zero, suc, ◌+◌, ◌<◌, ◌≤◌, inl, inr, Bool, true, false}
 use Rattle.std.proofs.Common.{cond, Option, Some, None, List, [], ◌∷◌, ◌++◌, length, refl, sym, ap}
 use Rattle.std.proofs.Common.{subst, ◌∙◌, add-zero, append-nil, arith}
 use Rattle.std.specs.Prelude.{◌==◌, ◌-◌, IfSome, map, option_and_then, option_map, slice_get, slice_set}

@@ -1,12 +1,11 @@
 -- A job that is finished, from what the store did to what the node notes.
 use Rattle.std.proofs.Common.{◌≡◌, ◌≢◌, ℕ, ◌+◌, ◌-◌, ◌<◌, Bool, true, false, cond, Option, Some}
 use Rattle.std.proofs.Common.{None}
-use Rattle.std.proofs.Common.{List, [], ◌∷◌, ◌++◌, length, refl, sym, ap, subst, ◌∙◌, append-nil}
+use Rattle.std.proofs.Common.{List, [], ◌∷◌, length, refl, sym, ap, subst, ◌∙◌}
 use Rattle.std.proofs.Common.{inr, arith}
 use Rattle.std.specs.Prelude.{◌==◌, IfSome, map, option_and_then, option_map, slice_get, slice_set}
 use Rattle.std.specs.List.{find, position}
 use Rattle.std.proofs.lemmas.Bool.{and_parts, eqb-true}
-use Rattle.std.proofs.lemmas.List.Sums.{sum_by-append}
 use Rattle.message_buffer.specs.Buffer.{bytes_of}
 use Rattle.packet_header.specs.Parts.{packet_count}
 use Rattle.packet_rings.specs.Rings.{Ring}
@@ -17,7 +16,7 @@ use Rattle.rpc_base.specs.declared.fact.Fact.{Fact}
 use Rattle.rpc_base.specs.declared.limits.Limits.{Limits}
 use Rattle.rpc_base.specs.declared.owner.Owner.{Owner}
 use Rattle.rpc_base.specs.declared.owner.Owner.TheVariants.{Reply}
-use Rattle.rpc_base.proofs.FirstLemmas.{all-kept, all-push, counted-cons, missing-same}
+use Rattle.rpc_base.proofs.FirstLemmas.{all-kept, missing-same}
 use Rattle.rpc_base.proofs.FirstLemmas.{all-left, some-counted, sum-fewer}
 use Rattle.rpc_base.proofs.TablesLemmas.{at_first-found, find-found, find-missing}
 use Rattle.rpc_base.proofs.TakingLemmas.{find-passes}
@@ -34,7 +33,7 @@ use Rattle.rpc_laws.specs.Facts.{plain, with_two}
 use Rattle.rpc_laws.specs.Jobs.{is_job}
 use Rattle.rpc_laws.specs.NodeLists.{after, one_more}
 use Rattle.rpc_laws.specs.PollOrder.{awaited, awaited_of, finished_facts, is_working}
-use Rattle.rpc_laws.specs.Queues.{is_reply, put_queued, replies}
+use Rattle.rpc_laws.specs.Queues.{put_queued, replies}
 use Rattle.rpc_laws.specs.Requests.{answered, is_request, is_server, request_of}
 use Rattle.rpc_outside.specs.Recording.{Grew}
 use Rattle.rpc_outside.specs.declared.service.Mode.{Mode}

@@ -1,9 +1,9 @@
 -- What always holds of a node, after a session began or posted.
 use Rattle.std.proofs.Common.{◌≡◌, ℕ, ◌+◌, ◌*◌, ◌≤◌, Bool, true, false, cond, Option, Some, None}
-use Rattle.std.proofs.Common.{List, [], ◌∷◌, ◌++◌, length, refl, sym, ap, ◌∙◌, arith}
+use Rattle.std.proofs.Common.{List, [], ◌∷◌, length, refl, sym, ap, ◌∙◌, arith}
 use Rattle.std.specs.Prelude.{slice_get, IfSome, count_by, sum_by}
 use Rattle.std.specs.List.{AllByRecursion}
-use Rattle.std.proofs.lemmas.List.Sums.{sum_by-append, sum_by-cons}
+use Rattle.std.proofs.lemmas.List.Sums.{sum_by-cons}
 use Rattle.rpc_base.specs.declared.owner.Owner.{Owner}
 use Rattle.rpc_base.specs.declared.owner.Owner.TheVariants.{Ask, Reply, Control}
 use Rattle.rpc_base.proofs.FirstLemmas.{counted-cons}
@@ -17,7 +17,7 @@ use Rattle.rpc_laws.specs.Queues.{is_reply, replies}
 use Rattle.session_store.specs.Joined.{is_paced}
 use Rattle.endpoint_loop.proofs.QueueLemmas.{paced-asks}
 use Rattle.rpc_laws.specs.Posting.{if_connected}
-use Rattle.rpc_laws.specs.Sessions.{is_connected, is_live}
+use Rattle.rpc_laws.specs.Sessions.{is_connected}
 use Rattle.rpc_base.specs.declared.event.Event.{Event}
 use Rattle.rpc_base.specs.declared.state.SessionState.{SessionState}
 use Rattle.node_laws.proofs.StateLemmas.{connected-live}
@@ -25,7 +25,7 @@ use Rattle.node_laws.specs.Kept.{Kept}
 use Rattle.node_laws.specs.QueuedPackets.{asks_in, is_ask}
 use Rattle.node_laws.proofs.KeptLemmas.{kept-total}
 use Rattle.node_laws.proofs.TotalLemmas.{table_free}
-use Rattle.session_store.proofs.ListLemmas.{all-at, sum-one}
+use Rattle.session_store.proofs.ListLemmas.{sum-one}
 use Rattle.endpoint_loop.specs.Fits.{HasCredit, IsSendable, IsSettled, is_of_call, is_paired}
 
 -- what is queued are packets of calls and replies
@@ -42,56 +42,61 @@ two-parts (q ∷ qs) all =
     let answers = counted-cons (λ (p : Queued). is_reply p.owner) q qs (is_reply q.owner) refl in
     omega (arith, one, asks, answers, two-parts qs all.1)
 
--- there is room for the packets of a session's free credits
-free-of : (x : Client) (b : Bool) → is_live x.state ≡ b → IsSettled x → x.free ≤ cond b x.free 0
-free-of x true t settled = omega arith
-free-of x false t settled = omega (arith, settled.none_free t)
+-- where a session is connected, there is room for the packets of its free credits
+free-of : (x : Client) → is_connected x.state ≡ true → x.free ≤ table_free x
+free-of x connected = rw (connected-live x.state connected) (omega arith)
 
-pub has-room : (s : Lists) (size i : ℕ) → Kept s → AllByRecursion IsSettled s.clients
-    → AllByRecursion IsSendable s.queued → replies s.queued ≤ s.room → size ≡ 2 * s.room
-    → IfSome (slice_get s.clients i) (λ x. length s.queued + x.free ≤ size)
-has-room s size i kept over ready few long = cases (slice_get s.clients i) refl
+pub has-room : (s : Lists) (size i : ℕ) → Kept s → AllByRecursion IsSendable s.queued
+    → replies s.queued ≤ s.room → size ≡ 2 * s.room
+    → IfSome (slice_get s.clients i)
+    (λ x. is_connected x.state ≡ true → length s.queued + x.free ≤ size)
+has-room s size i kept ready few long = cases (slice_get s.clients i) refl
   where
     cases : (o : Option Client) → slice_get s.clients i ≡ o
-        → IfSome o (λ x. length s.queued + x.free ≤ size)
+        → IfSome o (λ x. is_connected x.state ≡ true → length s.queued + x.free ≤ size)
     cases None e = tt
-    cases (Some x) e =
+    cases (Some x) e = λ connected.
         let total = kept-total s kept in
         let one = sum-one table_free s.clients i x e in
-        let free = free-of x (is_live x.state) refl (all-at IsSettled s.clients i x over e) in
+        let free = free-of x connected in
         omega (arith, two-parts s.queued ready, total, one, free, few, long)
 
 -- and among those that are paced
-pub has-paced-room : (s : Lists) (size i : ℕ) → Kept s → AllByRecursion IsSettled s.clients
-    → AllByRecursion IsSendable s.queued → size ≡ 2 * s.room
-    → IfSome (slice_get s.clients i) (λ x. 2 * (count_by is_paced s.queued + x.free) ≤ size)
-has-paced-room s size i kept over sendable long = cases (slice_get s.clients i) refl
+pub has-paced-room : (s : Lists) (size i : ℕ) → Kept s → AllByRecursion IsSendable s.queued
+    → size ≡ 2 * s.room → IfSome (slice_get s.clients i)
+    (λ x. is_connected x.state ≡ true → 2 * (count_by is_paced s.queued + x.free) ≤ size)
+has-paced-room s size i kept sendable long = cases (slice_get s.clients i) refl
   where
-    cases : (o : Option Client) → slice_get s.clients i ≡ o
-        → IfSome o (λ x. 2 * (count_by is_paced s.queued + x.free) ≤ size)
+    cases : (o : Option Client) → slice_get s.clients i ≡ o → IfSome o
+        (λ x. is_connected x.state ≡ true → 2 * (count_by is_paced s.queued + x.free) ≤ size)
     cases None e = tt
-    cases (Some x) e =
+    cases (Some x) e = λ connected.
         let total = kept-total s kept in
         let one = sum-one table_free s.clients i x e in
-        let free = free-of x (is_live x.state) refl (all-at IsSettled s.clients i x over e) in
+        let free = free-of x connected in
         omega (arith, paced-asks s.queued sendable, total, one, free, long)
 
--- a session with calls is live, and has a credit
-busy-one : (x : Client) (b c : Bool) → IsSettled x → are_calls x.calls ≡ c → is_live x.state ≡ b
-    → cond {A = ℕ} c 1 0 ≤ cond b x.limit 0
-busy-one x true true settled busy live = settled.some
-busy-one x true false settled busy live = omega arith
-busy-one x false false settled busy live = omega arith
-busy-one x false true settled busy live = let none = settled.none_left live in absurd-calls none busy
+-- a session with calls is connected
+pub busy-connected : (x : Client) → IsSettled x → are_calls x.calls ≡ true
+    → is_connected x.state ≡ true
+busy-connected x settled busy = by (is_connected x.state) refl
   where
-    absurd-calls : x.calls ≡ [] → are_calls x.calls ≡ true → 1 ≤ 0
-    absurd-calls none some = let clash : false ≡ true = ap are_calls (sym none) ∙ some in cc
+    by : (b : Bool) → is_connected x.state ≡ b → b ≡ true
+    by true t = refl
+    by false t = ap are_calls (sym (settled.none_left t)) ∙ busy
+
+-- so it is live, and has a credit
+busy-one : (x : Client) (c : Bool) → IsSettled x → are_calls x.calls ≡ c
+    → cond {A = ℕ} c 1 0 ≤ live_credits x
+busy-one x true settled busy =
+    rw (connected-live x.state (busy-connected x settled busy)) settled.some
+busy-one x false settled busy = omega arith
 
 busy-clients : (xs : List Client) → AllByRecursion IsSettled xs
     → count_by has_calls xs ≤ sum_by live_credits xs
 busy-clients [] all = omega arith
 busy-clients (x ∷ xs) all =
-    let one = busy-one x (is_live x.state) (has_calls x) all.0 refl refl in
+    let one = busy-one x (has_calls x) all.0 refl in
     omega (
       arith,
       one,
@@ -121,24 +126,23 @@ has-places s places kept settled credits jobs long =
       long,
     )
 
--- a live session that keeps its state and its limit stays so
-pub settled-live : (x y : Client) → IsSettled x → is_live x.state ≡ true → y.state ≡ x.state
-    → y.limit ≡ x.limit → IsSettled y
-settled-live x y settled live state limit =
-    let up : is_live y.state ≡ true = ap is_live state ∙ live in
+-- a connected session that keeps its state and its limit stays so
+pub settled-connected : (x y : Client) → IsSettled x → is_connected x.state ≡ true
+    → y.state ≡ x.state → y.limit ≡ x.limit → IsSettled y
+settled-connected x y settled connected state limit =
+    let up : is_connected y.state ≡ true = ap is_connected state ∙ connected in
     record {
       paired = ap is_paired state ∙ settled.paired;
       some = omega (arith, limit, settled.some);
-      none_free = λ closed. let clash : true ≡ false = sym up ∙ closed in cc;
-      none_left = λ closed. let clash : true ≡ false = sym up ∙ closed in cc;
+      none_left = λ other. let clash : true ≡ false = sym up ∙ other in cc;
     }
 
--- a session that has a next event is live
+-- a session that has a next event is connected
 next-of : (b : Bool) (state : SessionState) (o : Option Event) (e : Event)
-    → is_connected state ≡ b → cond b o None ≡ Some e → is_live state ≡ true
-next-of true state o e connected next = connected-live state connected
+    → is_connected state ≡ b → cond b o None ≡ Some e → is_connected state ≡ true
+next-of true state o e connected next = connected
 next-of false state o e connected next = cc
 
-pub next-live : (next : Client → Option Event) (x : Client) (e : Event)
-    → if_connected next x ≡ Some e → is_live x.state ≡ true
-next-live next x e is = next-of (is_connected x.state) x.state (next x) e refl is
+pub next-connected : (next : Client → Option Event) (x : Client) (e : Event)
+    → if_connected next x ≡ Some e → is_connected x.state ≡ true
+next-connected next x e is = next-of (is_connected x.state) x.state (next x) e refl is

@@ -49,7 +49,7 @@ use Rattle.rpc_laws.specs.Front.{front_header, front_body}
 use Rattle.rpc_laws.specs.NodeLists.{after, after_all}
 use Rattle.rpc_laws.specs.PollOrder.{replies_facts}
 use Rattle.rpc_laws.specs.Queues.{is_queued}
-use Rattle.rpc_laws.specs.Sessions.{is_client, is_connected, is_live, has_call, ends, takes}
+use Rattle.rpc_laws.specs.Sessions.{is_client, is_connected, has_call, ends, takes}
 use Rattle.rpc_laws.specs.Sessions.{clients_after}
 use Rattle.rpc_outside.specs.Recording.{Grew}
 use Rattle.node_laws.specs.Kept.{Kept}
@@ -58,7 +58,6 @@ use Rattle.node_laws.proofs.Allowed.{AllAllowed, allowed-of}
 use Rattle.node_laws.proofs.KeptLemmas.{kept-after, kept-all}
 use Rattle.node_laws.proofs.NumberLemmas.{numbered-get}
 use Rattle.node_laws.proofs.ReplyLemmas.{replies-allowed}
-use Rattle.node_laws.proofs.StateLemmas.{connected-live}
 use Rattle.session_store.specs.Hearing.{RepliesAt}
 use Rattle.session_store.specs.Sides.{Shown}
 use Rattle.session_store.proofs.AscendsLemmas.{ascends-changed, ascends-without}
@@ -68,7 +67,7 @@ use Rattle.endpoint_loop.specs.Hearing.{Drops, HearsReply}
 use Rattle.endpoint_loop.specs.Noting.{Makes}
 use Rattle.endpoint_loop.specs.Seen.{Tallies, arrival_of, asking_jobs, seen_node}
 use Rattle.server_core.proofs.FlushLemmas.{grew-then}
-use Rattle.endpoint_loop.proofs.FitsLemmas.{settled-live}
+use Rattle.endpoint_loop.proofs.FitsLemmas.{settled-connected}
 use Rattle.endpoint_loop.proofs.PostLemmas.{first-at, only-at}
 use Rattle.rpc_base.proofs.BasicLemmas.{or-true}
 
@@ -139,9 +138,9 @@ row-connected : (b : Bool) (why : DropReason) (r : ClientRow) → cond (not b)
 row-connected true why r e = refl
 row-connected false why r e = cc
 
-took-live : (queue : List Queued) (x : Client) (peer : ℕ) (h : MessageHeader) (len : ℕ)
-    → client_row queue (Some x) peer h len ≡ Takes → is_live x.state ≡ true
-took-live queue x peer h len e = connected-live x.state (row-connected (is_connected x.state) NoSession _ e)
+took-connected : (queue : List Queued) (x : Client) (peer : ℕ) (h : MessageHeader) (len : ℕ)
+    → client_row queue (Some x) peer h len ≡ Takes → is_connected x.state ≡ true
+took-connected queue x peer h len e = row-connected (is_connected x.state) NoSession _ e
 
 -- lists of one session
 one-same : (x y : Client) → x ∷ [] ≡ y ∷ [] → x ≡ y
@@ -320,7 +319,7 @@ module _ (me : ℕ) (limits : Limits) (tallies : Tallies) (paces : List Pace) (j
             → CallsAscend p.later → p.later.state ≡ p.client.state
             → p.later.limit ≡ p.client.limit → Fits (seen q t) t.size t.places
         fits-taken x r p takes-row is goes up state limit =
-            let live = took-live s.queued p.client d.peer h (length (body_of d.bytes))
+            let connected = took-connected s.queued p.client d.peer h (length (body_of d.bytes))
             (p.row s.queued refl ∙ takes-row) in
             record {
               kept = rw (ap (λ (u : Timed). u.lists) goes) (kept-all clock old x fits.kept (all-allowed x is));
@@ -340,8 +339,8 @@ module _ (me : ℕ) (limits : Limits) (tallies : Tallies) (paces : List Pace) (j
                 fits.each,
               );
               settled = rw p.changed (all-set IsSettled s.clients i p.later
-                  (settled-live p.client p.later
-                  (all-at IsSettled s.clients i p.client fits.settled p.at) live state limit)
+                  (settled-connected p.client p.later
+                  (all-at IsSettled s.clients i p.client fits.settled p.at) connected state limit)
                   (λ j y e other. all-at IsSettled s.clients j y fits.settled e));
               credits = rw servers fits.credits;
               sendable = rw queued fits.sendable;

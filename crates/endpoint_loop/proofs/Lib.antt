@@ -3,6 +3,7 @@ mod AskedLemmas
 mod BreakLemmas
 mod CallerLemmas
 mod CrewLemmas
+mod EndsLemmas
 mod FinishLemmas
 mod FitsLemmas
 mod FlushLemmas
@@ -10,6 +11,7 @@ mod FlushedLemmas
 mod GatherLemmas
 mod GivingLemmas
 mod HandleLemmas
+pub mod HandingLemmas
 mod HearLemmas
 mod IdleLemmas
 mod JobLemmas
@@ -30,8 +32,10 @@ mod SentLemmas
 mod ServeLemmas
 mod ServerLemmas
 mod TakenLemmas
+mod TurnLemmas
 mod WalkLemmas
 mod WatchLemmas
+mod StandingLemmas
 mod StillLemmas
 mod ToldLemmas
 mod PollLemmas

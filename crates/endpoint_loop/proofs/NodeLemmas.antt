@@ -1,5 +1,5 @@
 -- What a step of the store is for the node, once its fact is noted.
-use Rattle.std.proofs.Common.{◌≡◌, ℕ, ◌≤◌, Bool, Option, Some, None, List, [], ◌∷◌, ◌++◌, length}
+use Rattle.std.proofs.Common.{◌≡◌, ℕ, ◌≤◌, Bool, Option, Some, List, [], ◌∷◌, length}
 use Rattle.std.proofs.Common.{refl, sym, ap, ◌∙◌, arith}
 use Rattle.std.specs.Prelude.{option_and_then, option_map, slice_set}
 use Rattle.std.proofs.lemmas.List.{length-set}
@@ -10,7 +10,6 @@ use Rattle.rpc_base.specs.declared.fact.Fact.{Fact}
 use Rattle.rpc_base.specs.declared.limits.Limits.{Limits}
 use Rattle.rpc_base.specs.declared.owner.Owner.{Owner}
 use Rattle.rpc_base.specs.declared.owner.Owner.TheVariants.{Ask}
-use Rattle.rpc_base.proofs.FirstLemmas.{all-push}
 use Rattle.packet_rings.specs.Rings.{Ring}
 use Rattle.packet_rings.specs.Values.{DatagramValue, EntryValue}
 use Rattle.rpc_outside.specs.Recording.{Grew}
@@ -40,7 +39,7 @@ use Rattle.rpc_laws.specs.Queues.{put_queued}
 use Rattle.std.specs.List.{find}
 use Rattle.endpoint_loop.specs.Noting.{Makes}
 use Rattle.endpoint_loop.specs.Seen.{Tallies, asking_jobs, seen_node}
-use Rattle.endpoint_loop.proofs.FitsLemmas.{next-live, settled-live}
+use Rattle.endpoint_loop.proofs.FitsLemmas.{next-connected, settled-connected}
 use Rattle.endpoint_loop.proofs.QueueLemmas.{put-all, replies-ask}
 use Rattle.session_store.specs.Ends.{begun_event, posted_event}
 use Rattle.endpoint_loop.proofs.PostLemmas.{ascends-begun, ascends-posted, begins-told, posts-told}
@@ -125,9 +124,9 @@ module _ {R : Type 0} (facts : R → Option (List Fact)) (whole : R → Bool) (i
           fits.each,
         );
         settled = rw at.changed (all-set IsSettled s.clients i (posts r e.number at.client)
-            (settled-live at.client (posts r e.number at.client)
+            (settled-connected at.client (posts r e.number at.client)
             (all-at IsSettled s.clients i at.client fits.settled at.place)
-            (next-live posting at.client
+            (next-connected posting at.client
             (posted_event at.client.way.number (packet_of_entry e)) at.next)
             refl refl) (λ j x e other. all-at IsSettled s.clients j x fits.settled e));
         credits = rw servers fits.credits;
@@ -176,9 +175,9 @@ module _ {R : Type 0} (facts : R → Option (List Fact)) (whole : R → Bool) (i
             numbers = omega (arith, same-length s.clients t.clients _ change.changed, fits.numbers);
             each = omega (arith, same-length s.clients t.clients _ change.changed, fits.each);
             settled = rw change.changed (all-set IsSettled s.clients i (begins p.0 p.1 change.client)
-                (settled-live change.client (begins p.0 p.1 change.client)
+                (settled-connected change.client (begins p.0 p.1 change.client)
                 (all-at IsSettled s.clients i change.client fits.settled change.place)
-                (next-live beginning change.client (begun_event p)
+                (next-connected beginning change.client (begun_event p)
                 (ap (λ (o : Option Client). option_and_then (if_connected beginning) o)
                 (sym change.place) ∙ at.0)) refl refl)
                 (λ j x e other. all-at IsSettled s.clients j x fits.settled e));

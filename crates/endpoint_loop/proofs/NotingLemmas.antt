@@ -69,7 +69,7 @@ module _ {R : Type 0} (facts : R → Option (List Fact)) (whole : R → Bool) wh
   notes-one next false a b f g e p = cc
 
 -- sending, one packet after another
-sent-append : (x y : List Fact) → sent_of (x ++ y) ≡ sent_of x ++ sent_of y
+pub sent-append : (x y : List Fact) → sent_of (x ++ y) ≡ sent_of x ++ sent_of y
 sent-append [] y = refl
 sent-append (f ∷ fs) y =
     ap (λ ds. sent_by f.event f.first f.second ++ ds) (sent-append fs y)

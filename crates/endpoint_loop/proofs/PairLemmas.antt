@@ -73,7 +73,6 @@ module _ (me : ℕ) (limits : Limits) (tallies : Tallies) (paces : List Pace) (j
               (record {
                 paired = refl;
                 some = some;
-                none_free = λ closed. cc;
                 none_left = λ closed. refl;
               }));
           numbers = rw clients (omega (

@@ -2,11 +2,12 @@
 use Rattle.std.proofs.Common.{◌≡◌, ℕ, ◌+◌, ◌≤◌, ◌⊎◌, inl, inr, Bool, true, false, cond, Option, Some, None}
 use Rattle.std.proofs.Common.{List, [], ◌∷◌, ◌++◌, length, refl, sym, ap, ap₂, ◌∙◌, subst, arith}
 use Rattle.std.proofs.Common.{append-nil, append_assoc, suc}
-use Rattle.std.specs.Prelude.{count_by, map, option_map, sum_by}
+use Rattle.std.specs.Prelude.{count_by, map, option_map, sum_by, IfSome}
 use Rattle.std.specs.List.{AllByRecursion, filter, find}
 use Rattle.std.proofs.lemmas.List.{map-append}
 use Rattle.std.proofs.lemmas.List.Elements.{filter-append}
 use Rattle.std.proofs.lemmas.List.Sums.{sum_by-cons}
+use Rattle.client_core.specs.Handing.{Handed}
 use Rattle.client_core.specs.Shown.{done_fact}
 use Rattle.client_core.specs.declared.outcome.Done.{Done}
 use Rattle.rpc_base.specs.Tables.{without_first}
@@ -20,20 +21,19 @@ use Rattle.rpc_laws.specs.declared.tables.Job.{Job}
 use Rattle.rpc_laws.specs.declared.tables.Jobs.{Jobs}
 use Rattle.rpc_laws.specs.declared.tables.Lists.{Lists}
 use Rattle.rpc_laws.specs.declared.tables.Timed.{Timed}
-use Rattle.rpc_laws.specs.ControlSteps.{Hears, HearsAll, TimesAll}
+use Rattle.rpc_laws.specs.ControlSteps.{TimesAll}
 use Rattle.rpc_laws.specs.Facts.{with_two}
 use Rattle.rpc_laws.specs.Jobs.{is_job}
 use Rattle.rpc_laws.specs.NodeLists.{after_all}
 use Rattle.rpc_laws.specs.PollOrder.{answer_posted, awaited, Closes, finished_facts, HandlesAll, PollBy}
 use Rattle.rpc_laws.specs.Pacing.{line}
-use Rattle.rpc_laws.specs.PollOrder.{PostsAll, raised, Sends, SendsAll, SendsSome}
+use Rattle.rpc_laws.specs.PollOrder.{PostsAll, raised, SendsSome}
 use Rattle.rpc_laws.specs.Queues.{replies}
 use Rattle.rpc_laws.specs.Service.{Answers, is_mode_inline, Serving, served_after, served_after_all}
-use Rattle.rpc_laws.specs.Steps.{Chain, Then, Until, none}
+use Rattle.rpc_laws.specs.Steps.{none}
 use Rattle.rpc_laws.proofs.AnswerLemmas.{answers-append, served-append}
 use Rattle.rpc_laws.proofs.RunLemmas.{me-after_all}
 use Rattle.rpc_outside.specs.Linking.{Carried}
-use Rattle.rpc_outside.specs.Recording.{Grew}
 use Rattle.rpc_outside.specs.Served.{Served}
 use Rattle.rpc_outside.specs.declared.service.Mode.{Mode}
 use Rattle.rpc_outside.specs.declared.service.Mode.TheVariants.{Background}
@@ -41,28 +41,41 @@ use Rattle.node_laws.specs.Kept.{Kept}
 use Rattle.server_core.proofs.FlushLemmas.{grew-then}
 use Rattle.worker_board.specs.declared.Parcel.{Parcel}
 use Rattle.worker_crew.specs.Jobs.{Job as CrewJob}
+use Rattle.endpoint_loop.specs.Counting.{CountsTurn, is_handled, is_sent}
+use Rattle.endpoint_loop.specs.declared.polling.Turn.{Turn}
 use Rattle.endpoint_loop.specs.Finishing.{Agree, AllBackground, AreStaffed, FinishesThese, FinishesTaken}
 use Rattle.endpoint_loop.specs.Finishing.{jobs_left, MakesFinished, NoneBack, Staff, asked_job}
+use Rattle.endpoint_loop.specs.Fits.{IsSettled}
 use Rattle.endpoint_loop.specs.Handling.{HandlesWith, MakesAllHandled, StandsForSome, WorksFor}
 use Rattle.endpoint_loop.specs.Handling.{with_all_given}
 use Rattle.endpoint_loop.specs.Noting.{is_end, is_end_event, Makes, MakesEnds, MakesSent, sent_of}
 use Rattle.endpoint_loop.specs.Polling.{FinishesBack, is_stopped, MakesPoll, PollsWith, SendsOver}
 use Rattle.endpoint_loop.specs.Polling.{SendsUntil, TellsOfPoll}
-use Rattle.endpoint_loop.specs.Running.{asks_of, Crew, IsServing, IsStaffed, Running, told}
+use Rattle.endpoint_loop.specs.Running.{asks_of, Crew, IsServing, IsStaffed, told}
 use Rattle.endpoint_loop.specs.Seen.{Asks, asking, with_ask}
 use Rattle.endpoint_loop.specs.Serving.{AllServed, job_named}
 use Rattle.endpoint_loop.proofs.GivingLemmas.{ones, staffed-still}
 use Rattle.endpoint_loop.proofs.StillLemmas.{AllStill, closes-still, posts-still, sends-still}
 use Rattle.endpoint_loop.proofs.StillLemmas.{still-append, still-none, times-still}
 use Rattle.endpoint_loop.proofs.ToldLemmas.{same-told, staffed-told}
+use Rattle.endpoint_loop.proofs.TurnLemmas.{are-paired, handled-count, handled-elsewhere}
+use Rattle.endpoint_loop.proofs.TurnLemmas.{handled-unsent, many}
+use Rattle.endpoint_loop.proofs.TurnLemmas.{many-append, many-none, sent-after, sent-before}
+use Rattle.endpoint_loop.proofs.TurnLemmas.{sent-count, times-silent}
 
 -- whether a handler ran
-abbrev is_ran : Event → Bool
+abbrev pub is_ran : Event → Bool
 is_ran (Ran t r y) = true
 is_ran _ = false
 
+-- the posting of an answer
+answer-still : (q : Event → Bool) → ((o : Owner) (k : ℕ) → q (Posted o k) ≡ false) → (me : ℕ)
+    (job : Job) (k : Option ℕ) → AllStill q (answer_posted me job k)
+answer-still q posted me job None = tt
+answer-still q posted me job (Some k) = (posted (Reply job.session job.request) k, tt)
+
 -- facts among which no handler ran have the answers, and serve nothing
-still-answers : (v : Serving) (served : Served) (x : List Fact) → AllStill is_ran x
+pub still-answers : (v : Serving) (served : Served) (x : List Fact) → AllStill is_ran x
     → Answers v served x × (served_after_all v.mode served x ≡ served)
 still-answers v served [] a = (tt, refl)
 still-answers v served (f ∷ x) a = one f.event refl (still-answers v served x a.1)
@@ -83,18 +96,13 @@ all-given-out (p ∷ ps) jobs =
 
 -- jobs that are finished have the answers of the service
 module _ (v : Serving) (answer : ℕ → List ℕ → List ℕ) (works : WorksFor answer v) where
-  posted-still : (q : Event → Bool) → ((o : Owner) (k : ℕ) → q (Posted o k) ≡ false) → (me : ℕ)
-      (job : Job) (k : Option ℕ) → AllStill q (answer_posted me job k)
-  posted-still q each me job None = tt
-  posted-still q each me job (Some k) = (each (Reply job.session job.request) k, tt)
-
   finish-answers : (served : Served) (s : Lists) (job : Job) → v.mode job.req_type ≡ Background
       → Answers v served (finished_facts (answer job.req_type job.ask) s job)
       × (served_after_all v.mode served (finished_facts (answer job.req_type job.ask) s job)
       ≡ served)
   finish-answers served s job type =
       let posted = answer_posted s.me job (awaited job s.servers) in
-      let still = posted-still is_ran (λ o k. refl) s.me job (awaited job s.servers) in
+      let still = answer-still is_ran (λ o k. refl) s.me job (awaited job s.servers) in
       let rest = still-answers v served posted still in
       let one = still-answers v (served_after v.mode (Ran job.session job.request job.req_type)
       job.ask served) posted still in (
@@ -135,21 +143,21 @@ module _ (v : Serving) (answer : ℕ → List ℕ → List ℕ) (works : WorksFo
             served_after_all v.mode z h.back) first.1 ∙ rest.1,
       )
 
--- finishing jobs ends no call
-these-still : (answer : ℕ → List ℕ → List ℕ) (ps : List Parcel) (s : Timed) (x : List Fact)
-    (t : Timed) → FinishesThese answer ps s x t → AllStill is_end_event x
-these-still answer [] s x t h = rw (h.0) tt
-these-still answer (p ∷ ps) s x t h =
-    let one = h.first in
-    let first : AllStill is_end_event h.front =
-    rw one.facts (refl, ends-posted s.lists.me one.job (awaited one.job s.lists.servers)) in
-    rw h.joined (still-append is_end_event h.front h.back first
-    (these-still answer ps h.between h.back t h.second))
-  where
-    ends-posted : (me : ℕ) (job : Job) (k : Option ℕ)
-        → AllStill is_end_event (answer_posted me job k)
-    ends-posted me job None = tt
-    ends-posted me job (Some k) = (refl, tt)
+-- finishing jobs notes runs and postings alone
+module _ (q : Event → Bool) (ran : (t r y : ℕ) → q (Ran t r y) ≡ false)
+    (posted : (o : Owner) (k : ℕ) → q (Posted o k) ≡ false) where
+  pub these-still : (answer : ℕ → List ℕ → List ℕ) (ps : List Parcel) (s : Timed) (x : List Fact)
+      (t : Timed) → FinishesThese answer ps s x t → AllStill q x
+  these-still answer [] s x t h = rw (h.0) tt
+  these-still answer (p ∷ ps) s x t h =
+      let one = h.first in
+      let first : AllStill q h.front =
+      rw one.facts (
+        ran one.job.session one.job.request one.job.req_type,
+        answer-still q posted s.lists.me one.job (awaited one.job s.lists.servers),
+      ) in
+      rw h.joined (still-append q h.front h.back first
+      (these-still answer ps h.between h.back t h.second))
 
 -- types stay where jobs are asked
 asked-background : (mode : ℕ → Mode) (asks : Asks) (jobs : List Job) → AllBackground mode jobs
@@ -217,9 +225,15 @@ module _ {R K L V W : Type 0} (facts : R → Option (List Fact)) (whole : R → 
     (watch : MakesEnds facts whole given TimesAll n3 n4 r2 r3 k1 k2)
     (post : Makes facts whole PostsAll n4 n5 r3 r4)
     (send : MakesSent facts whole sent SendsSome n5 n6 r4 r5 l0 l1)
-    (close : Makes facts whole Closes n6 n7 r5 r6) (stopped : Bool)
-    (all : stopped ≡ false → line n6.clock n6.lists.queued ≡ []) (jobs : n7.lists.jobs ≡ n3.lists.jobs)
-    (kept : Kept n7.lists) where
+    (close : Makes facts whole Closes n6 n7 r5 r6) (turn : Option Turn)
+    (all : is_stopped turn ≡ false → line n6.clock n6.lists.queued ≡ [])
+    (jobs : n7.lists.jobs ≡ n3.lists.jobs) (kept : Kept n7.lists)
+    (settled : AllByRecursion IsSettled n3.lists.clients)
+    (counted : IfSome turn (λ w. (w.handled + length n3.lists.ring ≡ length n2.lists.ring)
+    × (w.sent + length n6.lists.queued ≡ length n5.lists.queued))) where
+  abbrev stopped : Bool
+  stopped = is_stopped turn
+
   -- what is noted after the handling
   abbrev last : List Fact
   last = watch.makes.noted ++ (post.noted ++ (send.makes.noted ++ close.noted))
@@ -394,7 +408,7 @@ module _ {R K L V W : Type 0} (facts : R → Option (List Fact)) (whole : R → 
     all-ends =
         filter-append is_end finish.noted (handle.noted ++ last)
         ∙ ap (λ z. z ++ filter is_end (handle.noted ++ last)) (still-none is_end_event finish.noted
-        (these-still answer f.parcels (asking asks (raised now n0)) finish.noted (asking asks n2)
+        (these-still is_end_event (λ t r y. refl) (λ o k. refl) answer f.parcels (asking asks (raised now n0)) finish.noted (asking asks n2)
         f.finishes))
         ∙ filter-append is_end handle.noted last
         ∙ ap₂ (λ (a b : List Fact). a ++ b) (handle.ends ∙ ap (λ m. map (done_fact m) handle.dones)
@@ -405,18 +419,120 @@ module _ {R K L V W : Type 0} (facts : R → Option (List Fact)) (whole : R → 
         (still-none is_end_event _ tail-still) ∙ append-nil (map (done_fact me0) watch.dones))
         ∙ sym (map-append (done_fact me0) handle.dones watch.dones)
 
-    tells : TellsOfPoll given v (stands s0) (stands s1) me0 noted k0 k2
+    -- what is counted comes of two steps alone
+    finish-none : (q : Event → Bool) → ((t r y : ℕ) → q (Ran t r y) ≡ false)
+        → ((o : Owner) (k : ℕ) → q (Posted o k) ≡ false) → many q finish.noted ≡ 0
+    finish-none q ran posted = many-none q finish.noted (these-still q ran posted answer f.parcels
+        (asking asks (raised now n0)) finish.noted (asking asks n2) f.finishes)
+
+    parts : (q : Event → Bool) → many q noted
+        ≡ many q finish.noted + (many q handle.noted + (many q watch.makes.noted
+        + (many q post.noted + (many q send.makes.noted + many q close.noted))))
+    parts q =
+        let one = many-append q finish.noted (handle.noted ++ last) in
+        let two = many-append q handle.noted last in
+        let three = many-append q watch.makes.noted
+        (post.noted ++ (send.makes.noted ++ close.noted)) in
+        let four = many-append q post.noted (send.makes.noted ++ close.noted) in
+        let five = many-append q send.makes.noted close.noted in
+        omega (arith, one, two, three, four, five)
+
+    handled-in : many is_handled noted + length n3.lists.ring ≡ length n2.lists.ring
+    handled-in =
+        let watched = many-none is_handled watch.makes.noted (times-still is_handled (λ o k. refl)
+        (λ c a b. refl) (λ i. refl) (λ c. refl) (λ p o k. refl) (λ p. refl) (λ i. refl) (λ i. refl)
+        (asking asks n3) watch.makes.noted (asking asks n4) (watch.makes.step asks)) in
+        let posts = many-none is_handled post.noted (posts-still is_handled (λ c r. refl)
+        (λ o k. refl) (asking asks n4) post.noted (asking asks n5) (post.step asks)) in
+        let sends = many-none is_handled send.makes.noted (sends-still is_handled (λ p o k. refl)
+        (asking asks n5) send.makes.noted (asking asks n6) (send.makes.step asks)) in
+        let closes = many-none is_handled close.noted (closes-still is_handled (λ n. refl)
+        (asking asks n6) close.noted (asking asks n7) (close.step asks)) in
+        let handles = handled-count v.mode (asking asks n2) handle.noted (asking then_asks n3)
+        h.handles.steps in
+        omega (
+          arith,
+          parts is_handled,
+          finish-none is_handled (λ t r y. refl) (λ o k. refl),
+          watched,
+          posts,
+          sends,
+          closes,
+          handles,
+        )
+
+    sent-in : many is_sent noted + length n6.lists.queued ≡ length n5.lists.queued
+    sent-in =
+        let handles = many-none is_sent handle.noted (handled-unsent handle.noted
+        (handled-elsewhere v.mode (asking asks n2) handle.noted (asking then_asks n3)
+        h.handles.steps)) in
+        let watched = many-none is_sent watch.makes.noted (times-silent (asking asks n3)
+        watch.makes.noted (asking asks n4) (watch.makes.step asks)
+        (are-paired n3.lists settled)) in
+        let posts = many-none is_sent post.noted (posts-still is_sent (λ c r. refl)
+        (λ o k. refl) (asking asks n4) post.noted (asking asks n5) (post.step asks)) in
+        let closes = many-none is_sent close.noted (closes-still is_sent (λ n. refl)
+        (asking asks n6) close.noted (asking asks n7) (close.step asks)) in
+        let sends = sent-count (asking asks n5) send.makes.noted (asking asks n6)
+        (send.makes.step asks) in
+        omega (
+          arith,
+          parts is_sent,
+          finish-none is_sent (λ t r y. refl) (λ o k. refl),
+          handles,
+          watched,
+          posts,
+          closes,
+          sends,
+        )
+
+    counts : IfSome turn (CountsTurn noted)
+    counts = by turn counted
+      where
+        by : (o : Option Turn)
+            → IfSome o (λ w. (w.handled + length n3.lists.ring ≡ length n2.lists.ring)
+            × (w.sent + length n6.lists.queued ≡ length n5.lists.queued))
+            → IfSome o (CountsTurn noted)
+        by None c = tt
+        by (Some w) c = record {
+          handled = omega (arith, handled-in, c.0);
+          sent = omega (arith, sent-in, c.1);
+        }
+
+    -- all that is sent is sent in one step
+    sent-once : sent_of noted ≡ sent_of send.makes.noted
+    sent-once =
+        let finished = these-still is_sent (λ t r y. refl) (λ o k. refl) answer f.parcels
+        (asking asks (raised now n0)) finish.noted (asking asks n2) f.finishes in
+        let handles = handled-unsent handle.noted (handled-elsewhere v.mode (asking asks n2)
+        handle.noted (asking then_asks n3) h.handles.steps) in
+        let watched = times-silent (asking asks n3) watch.makes.noted (asking asks n4)
+        (watch.makes.step asks) (are-paired n3.lists settled) in
+        let posts = posts-still is_sent (λ c r. refl) (λ o k. refl) (asking asks n4) post.noted
+        (asking asks n5) (post.step asks) in
+        let closes = closes-still is_sent (λ n. refl) (asking asks n6) close.noted (asking asks n7)
+        (close.step asks) in
+        sent-after finish.noted (handle.noted ++ last) finished
+        ∙ sent-after handle.noted last handles
+        ∙ sent-after watch.makes.noted (post.noted ++ (send.makes.noted ++ close.noted)) watched
+        ∙ sent-after post.noted (send.makes.noted ++ close.noted) posts
+        ∙ sent-before send.makes.noted close.noted closes
+
+    tells : TellsOfPoll given v (stands s0) (stands s1) turn (sent l0) (sent l1) me0 noted k0 k2
     tells = record {
       answers = answers;
       dones = handle.dones ++ watch.dones;
       ends = all-ends;
       gave = gave-then given k0 k1 k2 handle.dones watch.dones handle.told watch.gave;
+      counts = counts;
+      took = send.took ∙ ap (λ ds. option_map (λ es. es ++ ds) (sent l0)) (sym sent-once);
     }
 
-  pub makes-poll : MakesPoll facts whole given crew v stands answer stopped now (sent l0) (sent l1)
-      (record { timed = n0; service = s0; workers = w0 })
-      (record { timed = n7; service = s1; workers = w2 }) r0 r6 k0 k2
-  makes-poll = record {
+  pub makes-poll : (h0 h7 : List (List Handed))
+      → MakesPoll facts whole given crew v stands answer turn now (sent l0) (sent l1)
+      (record { timed = n0; handed = h0; service = s0; workers = w0 })
+      (record { timed = n7; handed = h7; service = s1; workers = w2 }) r0 r6 k0 k2
+  makes-poll h0 h7 = record {
     noted = noted;
     grew = grew-then facts whole r0 r1 r6 finish.noted (handle.noted ++ last) finish.grew
         (grew-then facts whole r1 r2 r6 handle.noted last handle.grew

@@ -1,6 +1,6 @@
 -- What a session begins and posts, once its fact is noted.
-use Rattle.std.proofs.Common.{◌≡◌, ◌≢◌, ℕ, zero, suc, ◌+◌, ◌≤◌, ◌<◌, ◌&&◌, ◌||◌, Bool, true, false}
-use Rattle.std.proofs.Common.{cond, ltb, ltb-true, Option, Some, None, List, [], ◌∷◌, refl, sym, ap}
+use Rattle.std.proofs.Common.{◌≡◌, ◌≢◌, ℕ, zero, suc, ◌+◌, ◌≤◌, ◌<◌, ◌||◌, Bool, true, false}
+use Rattle.std.proofs.Common.{cond, Option, Some, None, List, [], ◌∷◌, refl, sym, ap}
 use Rattle.std.proofs.Common.{subst, ◌∙◌, arith}
 use Rattle.std.specs.Prelude.{◌==◌, count_by, slice_get, slice_set, option_and_then, option_map}
 use Rattle.std.specs.List.{AllByRecursion, find, list_any}
@@ -12,9 +12,7 @@ use Rattle.rpc_base.specs.declared.event.Event.TheVariants.{Begun}
 use Rattle.rpc_base.proofs.FirstLemmas.{any-counted, counted-cons, found-holds}
 use Rattle.rpc_laws.specs.declared.tables.Call.{Call}
 use Rattle.rpc_laws.specs.declared.tables.Client.{Client}
-use Rattle.rpc_laws.specs.declared.tables.Pace.{Pace}
 use Rattle.rpc_laws.specs.Calls.{is_call, is_active, is_waiting, begun, moved, posted_up_to}
-use Rattle.rpc_laws.specs.Pacing.{is_pace_of, is_paced}
 use Rattle.rpc_laws.specs.Posting.{can_post, next_packet, lowest_free, next_turn, beginning}
 use Rattle.rpc_laws.specs.Posting.{posting, if_connected}
 use Rattle.rpc_laws.specs.Sessions.{is_client, is_connected, has_call, begins, posts}

@@ -10,10 +10,6 @@ use Rattle.rpc_base.specs.declared.event.Event.TheVariants.{Rolled}
 use Rattle.rpc_base.specs.declared.fact.Fact.{Fact}
 use Rattle.rpc_base.specs.declared.limits.Limits.{Limits}
 use Rattle.rpc_base.specs.declared.owner.Owner.TheVariants.{Ask}
-use Rattle.rpc_base.specs.declared.state.SessionState.{SessionState}
-use Rattle.rpc_base.specs.declared.state.SessionState.TheVariants.{Unknown, Connecting, Connected}
-use Rattle.rpc_base.specs.declared.state.SessionState.TheVariants.{Closing, Closed, Failed, Spent}
-use Rattle.rpc_base.specs.declared.state.SessionState.TheVariants.{Broken as IsBroken}
 use Rattle.rpc_base.proofs.FirstLemmas.{found-any}
 use Rattle.rpc_base.proofs.TakingLemmas.{find-passes}
 use Rattle.packet_rings.specs.Rings.{Ring}
@@ -29,7 +25,7 @@ use Rattle.rpc_laws.specs.declared.tables.Timed.{Timed}
 use Rattle.rpc_laws.specs.Calls.{is_call, moved, rolled_back}
 use Rattle.rpc_laws.specs.Facts.{plain}
 use Rattle.rpc_laws.specs.NodeLists.{after}
-use Rattle.rpc_laws.specs.Sessions.{has_call, is_client, is_connected, is_live, rolls}
+use Rattle.rpc_laws.specs.Sessions.{has_call, is_client, is_connected, rolls}
 use Rattle.node_laws.specs.Valid.{client_no, holders}
 use Rattle.node_laws.proofs.Allowed.{MayRoll as MayRollIn}
 use Rattle.node_laws.proofs.KeptLemmas.{kept-after}
@@ -40,11 +36,11 @@ use Rattle.session_store.specs.Queue.{is_owned}
 use Rattle.session_store.specs.Sides.{Shown}
 use Rattle.session_store.proofs.AscendsLemmas.{ascends-changed}
 use Rattle.session_store.proofs.ListLemmas.{all-at, all-set}
-use Rattle.endpoint_loop.specs.Fits.{CallsAscend, Fits, IsSettled, is_paired}
+use Rattle.endpoint_loop.specs.Fits.{CallsAscend, Fits, IsSettled}
 use Rattle.endpoint_loop.specs.Noting.{Makes}
 use Rattle.endpoint_loop.specs.Seen.{Tallies, asking, asking_jobs, seen_node}
 use Rattle.endpoint_loop.specs.Watching.{HasFewRolls, Notes, flushing, rolling, rolling_back}
-use Rattle.endpoint_loop.proofs.FitsLemmas.{settled-live}
+use Rattle.endpoint_loop.proofs.FitsLemmas.{settled-connected}
 use Rattle.endpoint_loop.proofs.NotesLemmas.{makes-notes}
 use Rattle.endpoint_loop.proofs.PostLemmas.{only-at}
 
@@ -66,30 +62,19 @@ found-of n p cs e = by (find (is_call n) cs) refl e
     by None f h = cc
     by (Some c) f h = record { call = c; found = f; active = h }
 
--- its session is live, and connected where it was paired
-pub live-busy : (n : ℕ) (p : Progress) (x : Client) → IsSettled x → progress_of n x ≡ Some p
-    → is_live x.state ≡ true
-live-busy n p x settled e = by (is_live x.state) refl
+-- its session is connected
+pub connected-busy : (n : ℕ) (p : Progress) (x : Client) → IsSettled x → progress_of n x ≡ Some p
+    → is_connected x.state ≡ true
+connected-busy n p x settled e = by (is_connected x.state) refl
   where
     none-in : (cs : List Call) → cs ≡ []
         → option_and_then (λ c. c.progress) (find (is_call n) cs) ≡ Some p → false ≡ true
     none-in [] none h = cc
     none-in (c ∷ cs) none h = cc
 
-    by : (b : Bool) → is_live x.state ≡ b → b ≡ true
+    by : (b : Bool) → is_connected x.state ≡ b → b ≡ true
     by true t = refl
     by false t = none-in x.calls (settled.none_left t) e
-
-paired-connected : (state : SessionState) → is_paired state ≡ true → is_live state ≡ true
-    → is_connected state ≡ true
-paired-connected Unknown paired live = cc
-paired-connected Connecting paired live = cc
-paired-connected Connected paired live = refl
-paired-connected Closing paired live = cc
-paired-connected Closed paired live = cc
-paired-connected Failed paired live = cc
-paired-connected IsBroken paired live = cc
-paired-connected Spent paired live = refl
 
 pub few-of : (number : ℕ) (p : Progress) (o : Option Client) (x : Client) → o ≡ Some x
     → progress_of number x ≡ Some p
@@ -123,8 +108,8 @@ module _ (me : ℕ) (limits : Limits) (tallies : Tallies) (paces : List Pace) (j
     settled : IsSettled x
     settled = all-at IsSettled s.clients i x fits.settled active.place
 
-    live : is_live x.state ≡ true
-    live = live-busy a.call p x settled active.active
+    connected : is_connected x.state ≡ true
+    connected = connected-busy a.call p x settled active.active
 
     none-queued : list_any (is_owned (Ask i p.request)) s.queued ≡ false
     none-queued =
@@ -135,7 +120,7 @@ module _ (me : ℕ) (limits : Limits) (tallies : Tallies) (paces : List Pace) (j
     may-roll few = record {
       client = x;
       place = active.place;
-      connected = paired-connected x.state settled.paired live;
+      connected = connected;
       progress = p;
       active = active.active;
       few = few-of a.call p (slice_get s.clients i) x active.place active.active few;
@@ -226,7 +211,7 @@ module _ (me : ℕ) (limits : Limits) (tallies : Tallies) (paces : List Pace) (j
           fits.each,
         );
         settled =
-            rw changed (all-set IsSettled s.clients i y (settled-live x y settled live refl refl)
+            rw changed (all-set IsSettled s.clients i y (settled-connected x y settled connected refl refl)
             (λ j z e other. all-at IsSettled s.clients j z fits.settled e));
         credits = rw servers fits.credits;
         sendable = rw queued fits.sendable;

@@ -2,7 +2,7 @@
 use Rattle.std.proofs.Common.{◌≡◌, ℕ, ◌+◌, ◌≤◌, ◌<◌, Bool, true, false, cond, ltb, Option, Some}
 use Rattle.std.proofs.Common.{None, List, [], ◌∷◌, ◌++◌, length, drop, refl, sym, ap, subst, ◌∙◌}
 use Rattle.std.proofs.Common.{arith}
-use Rattle.std.specs.Prelude.{◌↔◌, is_some, map, not, option_map, slice_get, IfNone, IfSome, IsTrue}
+use Rattle.std.specs.Prelude.{map, option_map, slice_get, IfSome, IsTrue}
 use Rattle.std.specs.List.{AllByRecursion, find}
 use Rattle.std.proofs.lemmas.Bool.{eq-eqb}
 use Rattle.rpc_base.specs.Tables.{at_first, without_first}
@@ -126,7 +126,7 @@ spelled-out (Some out) head body h = record { out = out; is = refl; has_head = h
 own-queued : (q : Queued) → is_queued q.owner q.number q ≡ true
 own-queued q = rw (same-owner q.owner, eq-eqb q.number q.number refl) refl
 
-front-out : (q : Queued) (qs : List Queued) → slice_get qs 0 ≡ Some q
+pub front-out : (q : Queued) (qs : List Queued) → slice_get qs 0 ≡ Some q
     → without_first (is_queued q.owner q.number) qs ≡ drop 1 qs
 front-out q [] e = cc
 front-out q (p ∷ ps) e =
@@ -327,7 +327,6 @@ module _ (me : ℕ) (limits : Limits) (tallies : Tallies) (paces : List Pace) (j
     settled-sent r k x settled = record {
       paired = settled.paired;
       some = settled.some;
-      none_free = settled.none_free;
       none_left = λ closed. ap (at_first (is_active r) (moved (sent_packet clock k)))
           (settled.none_left closed);
     }

@@ -1,7 +1,6 @@
 -- A packet that asks, from its session to what the node notes.
 use Rattle.std.proofs.Common.{◌≡◌, ℕ, ◌+◌, ◌<◌, ◌≤◌, Bool, true, false, cond, Option, Some, None}
 use Rattle.std.proofs.Common.{List, [], ◌∷◌, ◌++◌, length, drop, refl, sym, ap, subst, ◌∙◌, arith}
-use Rattle.std.proofs.Common.{append-nil}
 use Rattle.endpoint_loop.specs.Hearing.{Drops as DropsFront}
 use Rattle.std.specs.Prelude.{◌==◌, IfSome, map, slice_get, slice_set}
 use Rattle.std.specs.List.{AllByRecursion, find, position}
@@ -21,7 +20,7 @@ use Rattle.rpc_base.specs.declared.owner.Owner.{Owner}
 use Rattle.rpc_base.specs.declared.owner.Owner.TheVariants.{Reply}
 use Rattle.rpc_base.specs.declared.state.DropReason.{DropReason}
 use Rattle.rpc_base.specs.declared.state.DropReason.TheVariants.{NoSession, WrongPeer}
-use Rattle.rpc_base.proofs.FirstLemmas.{all-push, found-changed, found-holds}
+use Rattle.rpc_base.proofs.FirstLemmas.{found-changed, found-holds}
 use Rattle.rpc_base.proofs.TablesLemmas.{at_first-found, find-found, find-missing}
 use Rattle.rpc_base.proofs.TakingLemmas.{find-passes}
 use Rattle.rpc_laws.specs.declared.rows.ServerRow.{ServerRow}

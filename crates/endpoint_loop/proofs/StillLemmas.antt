@@ -1,13 +1,13 @@
 -- What the steps of a poll never note: events for which a test is false.
 use Rattle.std.proofs.Common.{◌≡◌, ℕ, zero, suc, Bool, true, false, cond, Option, Some, None, List, []}
-use Rattle.std.proofs.Common.{◌∷◌, ◌++◌, length, eqb, refl, sym, ap, ◌∙◌, subst}
+use Rattle.std.proofs.Common.{◌∷◌, ◌++◌, length, eqb, refl, sym, ap, ◌∙◌}
 use Rattle.std.specs.Prelude.{flat_map, map, option_and_then, option_map, slice_get}
 use Rattle.std.specs.List.{AllByRecursion, filter, find}
 use Rattle.packet_header.specs.declared.packet.ControlHeader.{ControlHeader}
 use Rattle.rpc_base.specs.declared.event.Event.{Event}
 use Rattle.rpc_base.specs.declared.event.Event.TheVariants.{Begun, Broken, ClosedUnheard, DonePeerLost}
 use Rattle.rpc_base.specs.declared.event.Event.TheVariants.{FailedNoAnswer, Flushed, Polled, Posted}
-use Rattle.rpc_base.specs.declared.event.Event.TheVariants.{Ran, Rolled, Sent, Unsent}
+use Rattle.rpc_base.specs.declared.event.Event.TheVariants.{Rolled, Sent, Unsent}
 use Rattle.rpc_base.specs.declared.fact.Fact.{Fact}
 use Rattle.rpc_base.specs.declared.owner.Owner.{Owner}
 use Rattle.rpc_base.specs.declared.owner.Owner.TheVariants.{Ask, Control}
@@ -34,7 +34,7 @@ use Rattle.rpc_laws.specs.Posting.{beginning, can_post, if_connected, lowest_fre
 use Rattle.rpc_laws.specs.Posting.{next_packet, next_posted, next_turn, posting}
 use Rattle.rpc_laws.specs.Queues.{flush_facts, numbers_of}
 use Rattle.rpc_laws.specs.Sessions.{is_connected}
-use Rattle.rpc_laws.specs.Steps.{Chain, NotesAll, NotesNext, Rel, Then, Until, Visits, more, none}
+use Rattle.rpc_laws.specs.Steps.{Chain, NotesAll, NotesNext, Rel, Then, Visits, more, none}
 
 -- none of these facts is of such an event
 abbrev pub AllStill : (Event → Bool) → List Fact → Type 0
@@ -136,15 +136,11 @@ module _ (q : Event → Bool) where
   pub closes-still : ((now : ℕ) → q (Polled now) ≡ false) → Stills q Closes
   closes-still polled s x t h = rw h.facts (polled s.clock, tt)
 
-  -- the timers
+  -- the timers of calls
   module _ (flushed : (o : Owner) (k : ℕ) → q (Flushed o k) ≡ false)
       (rolled : (c a b : ℕ) → q (Rolled c a b) ≡ false)
       (broken : (i : ℕ) → q (Broken i) ≡ false)
-      (lost : (c : ℕ) → q (DonePeerLost c) ≡ false)
-      (sent : (peer : ℕ) (o : Owner) (k : ℕ) → q (Sent peer o k) ≡ false)
-      (unsent : (peer : ℕ) → q (Unsent peer) ≡ false)
-      (failed : (i : ℕ) → q (FailedNoAnswer i) ≡ false)
-      (closed : (i : ℕ) → q (ClosedUnheard i) ≡ false) where
+      (lost : (c : ℕ) → q (DonePeerLost c) ≡ false) where
     still-map : {A : Type 0} (f : A → Fact) → ((a : A) → q (f a).event ≡ false) → (xs : List A)
         → AllStill q (map f xs)
     still-map f each [] = tt
@@ -159,35 +155,6 @@ module _ (q : Event → Bool) where
         → AllStill q (flush_facts me queued owner)
     flush-still me queued owner = still-map (λ k. plain me (Flushed owner k)) (λ k. flushed owner k)
         (numbers_of owner queued)
-
-    said-still : (me : ℕ) (taken : Bool) (peer : ℕ) (head : List ℕ)
-        → AllStill q (control_fact taken me peer head ∷ [])
-    said-still me true peer head = (sent peer Control 0, tt)
-    said-still me false peer head = (unsent peer, tt)
-
-    given-still : (me : ℕ) (state : SessionState) (number : ℕ)
-        → AllStill q (map (plain me) (given_up state number))
-    given-still me Connecting number = (failed number, tt)
-    given-still me Closing number = (closed number, tt)
-    given-still me _ number = tt
-
-    retries-by : (me : ℕ) (row : RetryRow) (x : Client) (h : ControlHeader) (facts : List Fact)
-        → RetriesBy row me x h facts → AllStill q facts
-    retries-by me Rests x h facts r = rw r tt
-    retries-by me RetryAsks x h facts r = rw r.facts (said-still me r.taken x.way.peer r.head)
-    retries-by me GivesUp x h facts r = rw r (given-still me x.state x.way.number)
-
-    retries-as : (own : Option ControlHeader) (clock timeout me : ℕ) (x : Client) (facts : List Fact)
-        → RetriesAs own clock timeout me x facts → AllStill q facts
-    retries-as None clock timeout me x facts r = rw r tt
-    retries-as (Some h) clock timeout me x facts r =
-        retries-by me (retry_row clock timeout x.sends x.sent_at) x h facts r
-
-    retries-of : (clock timeout me : ℕ) (x : Option Client) (facts : List Fact)
-        → RetriesOf clock timeout me x facts → AllStill q facts
-    retries-of clock timeout me None facts r = rw r tt
-    retries-of clock timeout me (Some x) facts r =
-        retries-as (own_request x) clock timeout me x facts r
 
     flushes-still : (me session : ℕ) (queued : List Queued) (p : Option Progress)
         → AllStill q (flushes_of me session queued p)
@@ -226,15 +193,57 @@ module _ (q : Event → Bool) where
     client-still clock timeout me queued number (Some x) =
         call-still clock timeout me queued x (find (is_call number) x.calls)
 
-    session-still : (timeout i : ℕ) → Stills q (TimesSession timeout i)
-    session-still timeout i =
-        still-then (Retries timeout i) (WatchesSession timeout i)
-        (λ s x t h. retries-of s.clock timeout s.lists.me (slice_get s.lists.clients i) x h.facts)
-        (λ s x t h. still-each (Watches timeout i)
-        (λ number s x t h. rw h.facts (client-still s.clock timeout s.lists.me s.lists.queued number
-        (slice_get s.lists.clients i))) (numbers_in (slice_get s.lists.clients i)) s x t h)
+    pub call-watched : (timeout i number : ℕ) → Stills q (Watches timeout i number)
+    call-watched timeout i number s x t h =
+        rw h.facts (client-still s.clock timeout s.lists.me s.lists.queued number
+        (slice_get s.lists.clients i))
 
-    pub times-still : Stills q TimesAll
-    times-still s x t h =
-        still-visits (TimesSession s.lists.timeout) (session-still s.lists.timeout)
-        (length s.lists.clients) s x t h
+    pub calls-still : (timeout i : ℕ) → Stills q (WatchesSession timeout i)
+    calls-still timeout i s x t h =
+        still-each (Watches timeout i) (call-watched timeout i)
+        (numbers_in (slice_get s.lists.clients i)) s x t h
+
+    -- the requests of sessions
+    module _ (sent : (peer : ℕ) (o : Owner) (k : ℕ) → q (Sent peer o k) ≡ false)
+        (unsent : (peer : ℕ) → q (Unsent peer) ≡ false)
+        (failed : (i : ℕ) → q (FailedNoAnswer i) ≡ false)
+        (closed : (i : ℕ) → q (ClosedUnheard i) ≡ false) where
+      said-still : (me : ℕ) (taken : Bool) (peer : ℕ) (head : List ℕ)
+          → AllStill q (control_fact taken me peer head ∷ [])
+      said-still me true peer head = (sent peer Control 0, tt)
+      said-still me false peer head = (unsent peer, tt)
+
+      given-still : (me : ℕ) (state : SessionState) (number : ℕ)
+          → AllStill q (map (plain me) (given_up state number))
+      given-still me Connecting number = (failed number, tt)
+      given-still me Closing number = (closed number, tt)
+      given-still me _ number = tt
+
+      retries-by : (me : ℕ) (row : RetryRow) (x : Client) (h : ControlHeader) (facts : List Fact)
+          → RetriesBy row me x h facts → AllStill q facts
+      retries-by me Rests x h facts r = rw r tt
+      retries-by me RetryAsks x h facts r = rw r.facts (said-still me r.taken x.way.peer r.head)
+      retries-by me GivesUp x h facts r = rw r (given-still me x.state x.way.number)
+
+      retries-as : (own : Option ControlHeader) (clock timeout me : ℕ) (x : Client)
+          (facts : List Fact) → RetriesAs own clock timeout me x facts → AllStill q facts
+      retries-as None clock timeout me x facts r = rw r tt
+      retries-as (Some h) clock timeout me x facts r =
+          retries-by me (retry_row clock timeout x.sends x.sent_at) x h facts r
+
+      retries-of : (clock timeout me : ℕ) (x : Option Client) (facts : List Fact)
+          → RetriesOf clock timeout me x facts → AllStill q facts
+      retries-of clock timeout me None facts r = rw r tt
+      retries-of clock timeout me (Some x) facts r =
+          retries-as (own_request x) clock timeout me x facts r
+
+      session-still : (timeout i : ℕ) → Stills q (TimesSession timeout i)
+      session-still timeout i =
+          still-then (Retries timeout i) (WatchesSession timeout i)
+          (λ s x t h. retries-of s.clock timeout s.lists.me (slice_get s.lists.clients i) x h.facts)
+          (calls-still timeout i)
+
+      pub times-still : Stills q TimesAll
+      times-still s x t h =
+          still-visits (TimesSession s.lists.timeout) (session-still s.lists.timeout)
+          (length s.lists.clients) s x t h

@@ -1,7 +1,7 @@
 -- What the workers have of a node's jobs tells what these ask.
 use Rattle.std.proofs.Common.{◌≡◌, ℕ, ◌+◌, ◌≤◌, Bool, true, false, cond, Option, Some, None, List, []}
-use Rattle.std.proofs.Common.{◌∷◌, refl, sym, ap, ap₂, ◌∙◌, subst, arith}
-use Rattle.std.specs.Prelude.{◌==◌, ◌&&◌, count_by, map, sum_by}
+use Rattle.std.proofs.Common.{◌∷◌, refl, sym, ap, ap₂, ◌∙◌, arith}
+use Rattle.std.specs.Prelude.{count_by, map, sum_by}
 use Rattle.std.specs.List.{AllByRecursion, find, list_any}
 use Rattle.std.proofs.lemmas.Bool.{eq-eqb}
 use Rattle.std.proofs.lemmas.List.Sums.{sum_by-cons}
@@ -12,7 +12,7 @@ use Rattle.rpc_laws.specs.declared.tables.Job.{Job}
 use Rattle.rpc_laws.specs.declared.tables.Timed.{Timed}
 use Rattle.rpc_laws.specs.Jobs.{is_job}
 use Rattle.worker_crew.specs.Jobs.{Job as CrewJob}
-use Rattle.endpoint_loop.specs.Finishing.{Agree, AreStaffed, asked_job, CanFinish, Staff}
+use Rattle.endpoint_loop.specs.Finishing.{AreStaffed, asked_job, CanFinish, Staff}
 use Rattle.endpoint_loop.specs.Running.{asks_of, asked_in, is_job_of, IsStaffed, told}
 use Rattle.endpoint_loop.specs.Seen.{Asks, asking, with_ask}
 use Rattle.endpoint_loop.proofs.CrewLemmas.{by-counts, none-any, none-sum}

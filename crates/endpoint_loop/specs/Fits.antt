@@ -12,7 +12,7 @@ use Rattle.rpc_laws.specs.declared.tables.Queued.{Queued}
 use Rattle.rpc_laws.specs.declared.tables.Server.{Server}
 use Rattle.rpc_laws.specs.declared.tables.Timed.{Timed}
 use Rattle.rpc_laws.specs.Queues.{is_reply, replies}
-use Rattle.rpc_laws.specs.Sessions.{is_live}
+use Rattle.rpc_laws.specs.Sessions.{is_connected}
 use Rattle.node_laws.specs.Kept.{Kept}
 use Rattle.node_laws.specs.Valid.{NumberedFrom}
 use Rattle.session_store.specs.Ends.{Ascends}
@@ -40,12 +40,11 @@ is_paired Spent = true
 is_paired Broken = true
 is_paired _ = false
 
--- a client session was paired, and has a credit. One that isn't live has none free, and no call
+-- a client session was paired, and has a credit. One that isn't connected has no call
 pub record IsSettled (x : Client) : Type 0 where
   pub paired : is_paired x.state ≡ true
   pub some : 1 ≤ x.limit
-  pub none_free : is_live x.state ≡ false → x.free ≡ 0
-  pub none_left : is_live x.state ≡ false → x.calls ≡ []
+  pub none_left : is_connected x.state ≡ false → x.calls ≡ []
 
 abbrev pub HasCredit : Server → Type 0
 HasCredit v = 1 ≤ v.credits

@@ -1,8 +1,11 @@
 pub mod Applying
 pub mod Asking
 pub mod Calling
+pub mod Counting
+pub mod Delivering
 pub mod Finishing
 pub mod Fits
+pub mod Handing
 pub mod Handling
 pub mod Hearing
 pub mod Lending
@@ -14,4 +17,5 @@ pub mod Reading
 pub mod Running
 pub mod Seen
 pub mod Serving
+pub mod Standing
 pub mod Watching

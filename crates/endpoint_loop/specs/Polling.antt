@@ -1,6 +1,6 @@
 -- A poll of an endpoint.
-use Rattle.std.specs.Prelude.{◌≡◌, ℕ, ◌≤◌, ◌⊎◌, Bool, true, false, Option, option_map, List, [], ◌∷◌}
-use Rattle.std.specs.Prelude.{◌++◌, length, map, Result, Ok, Err}
+use Rattle.std.specs.Prelude.{◌≡◌, ℕ, ◌≤◌, ◌⊎◌, Bool, true, false, Option, Some, None, option_map}
+use Rattle.std.specs.Prelude.{IfSome, List, [], ◌∷◌, ◌++◌, length, map, Result, Ok, Err}
 use Rattle.std.specs.List.{AllByRecursion, filter}
 use Rattle.client_core.specs.Shown.{done_fact}
 use Rattle.client_core.specs.declared.outcome.Done.{Done}
@@ -15,6 +15,8 @@ use Rattle.rpc_outside.specs.Recording.{Grew}
 use Rattle.rpc_outside.specs.Served.{Served}
 use Rattle.worker_board.specs.declared.Parcel.{Parcel}
 use Rattle.worker_crew.specs.Jobs.{IsAnswered}
+use Rattle.endpoint_loop.specs.Counting.{CountsTurn}
+use Rattle.endpoint_loop.specs.declared.polling.Turn.{Turn}
 use Rattle.endpoint_loop.specs.Finishing.{FinishesThese, NoneBack, jobs_left}
 use Rattle.endpoint_loop.specs.Noting.{is_end, sent_of}
 use Rattle.endpoint_loop.specs.Running.{Crew, IsStaffed, Running, told}
@@ -28,10 +30,15 @@ pub record FinishesBack (answer : ℕ → List ℕ → List ℕ) (parcels : List
   pub over : (t.lists.room ≤ replies t.lists.queued)
       ⊎ NoneBack now.worked (length t.lists.jobs.out) before.looks now.looks
 
+-- what a poll told, where the link didn't fail
+abbrev pub turn_of : {E : Type 0} → Result Turn E → Option Turn
+turn_of (Ok turn) = Some turn
+turn_of (Err fault) = None
+
 -- whether the link stopped the sending: it was busy, or failed
-abbrev pub is_stopped : {E : Type 0} → Result Bool E → Bool
-is_stopped (Ok busy) = busy
-is_stopped (Err fault) = true
+abbrev pub is_stopped : Option Turn → Bool
+is_stopped (Some turn) = turn.busy
+is_stopped None = true
 
 -- packets are sent until none is ready, unless the link stopped it
 abbrev pub SendsUntil : (stopped : Bool) → Rel
@@ -58,26 +65,30 @@ pub record PollsWith (v : Serving) (answer : ℕ → List ℕ → List ℕ) (sto
   pub polls : PollBy (FinishesBack answer parcels before later) (SendsOver stopped sent then_sent)
       v.mode now (told before.staff.out s) x (told later.staff.out t)
 
--- what it tells besides: each handler that ran has its answer, and the calls that the continuation
--- was given are those whose ends were noted, in order
+-- what it tells besides: each handler that ran has its answer, the calls that the continuation was
+-- given are those whose ends were noted, in order, the turn counts its facts, and the link, where it
+-- tells what it sent, sent exactly the datagrams of its Sent facts
 pub record TellsOfPoll {K : Type 0} (given : K → Option (List Done)) (v : Serving)
-    (stands then_stands : Served → Type 0) (me : ℕ) (x : List Fact) (from to : K) : Type 0 where
+    (stands then_stands : Served → Type 0) (told : Option Turn)
+    (sent then_sent : Option (List Carried)) (me : ℕ) (x : List Fact) (from to : K) : Type 0 where
   pub answers : (served : Served) → stands served
       → Answers v served x × then_stands (served_after_all v.mode served x)
   pub dones : List Done
   pub ends : filter is_end x ≡ map (done_fact me) dones
   pub gave : given to ≡ option_map (λ ds. ds ++ dones) (given from)
+  pub counts : IfSome told (CountsTurn x)
+  pub took : then_sent ≡ option_map (λ ds. ds ++ sent_of x) sent
 
 -- the recorder grew by the facts of a poll
 pub record MakesPoll {R K V W : Type 0} (facts : R → Option (List Fact)) (whole : R → Bool)
     (given : K → Option (List Done)) (crew : W → Crew) (v : Serving)
-    (stands : V → Served → Type 0) (answer : ℕ → List ℕ → List ℕ) (stopped : Bool) (now : ℕ)
+    (stands : V → Served → Type 0) (answer : ℕ → List ℕ → List ℕ) (told : Option Turn) (now : ℕ)
     (sent then_sent : Option (List Carried)) (old new : Running V W) (before later : R)
     (from to : K) : Type 0 where
   pub noted : List Fact
   pub grew : Grew facts whole before later noted
   pub does : IsStaffed answer (crew old.workers).staff old.timed
-      → PollsWith v answer stopped now sent then_sent (crew old.workers) (crew new.workers)
-      old.timed noted new.timed
-      × TellsOfPoll given v (stands old.service) (stands new.service) old.timed.lists.me noted from
-      to
+      → PollsWith v answer (is_stopped told) now sent then_sent (crew old.workers)
+      (crew new.workers) old.timed noted new.timed
+      × TellsOfPoll given v (stands old.service) (stands new.service) told sent then_sent
+      old.timed.lists.me noted from to

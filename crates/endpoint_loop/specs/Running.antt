@@ -1,6 +1,7 @@
 -- An endpoint as contracts see it.
-use Rattle.std.specs.Prelude.{◌≡◌, ℕ, ◌==◌, ◌&&◌, Bool, Option, Some, None, List, []}
+use Rattle.std.specs.Prelude.{ℕ, ◌==◌, ◌&&◌, Bool, Option, Some, None, List, []}
 use Rattle.std.specs.List.{find}
+use Rattle.client_core.specs.Handing.{Handed}
 use Rattle.rpc_laws.specs.declared.tables.Lists.{Lists}
 use Rattle.rpc_laws.specs.declared.tables.Timed.{Timed}
 use Rattle.rpc_laws.specs.Service.{Serving}
@@ -12,9 +13,11 @@ use Rattle.endpoint_loop.specs.Handling.{StandsForSome, WorksFor}
 use Rattle.endpoint_loop.specs.Seen.{Asks, asking}
 use Rattle.endpoint_loop.specs.Serving.{AllServed}
 
--- its lists with its clock, its service and its workers
+-- its lists with its clock, what was handed in with the calls of each client session, its service
+-- and its workers
 pub record Running (V W : Type 0) : Type 0 where
   pub timed : Timed
+  pub handed : List (List Handed)
   pub service : V
   pub workers : W
 

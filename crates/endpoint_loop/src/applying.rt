@@ -1,68 +1,100 @@
 //! What an application and its network do with an endpoint, between two polls.
-ghost use Rattle.std.specs.Prelude.{◌≡◌, ◌<◌, ◌≤◌, None, Some, length, OnErr, OnOk};
+ghost use Rattle.session_store.specs.Handing.{HandsInAt};
+ghost use Rattle.std.specs.Prelude.{◌≡◌, ◌<◌, ◌≤◌, ◌++◌, [], ◌∷◌, None, Some, length, IfErr, IfOk};
+ghost use Rattle.std.specs.Prelude.{OnErr, OnOk};
 ghost use Rattle.std.specs.List.{find};
-ghost use Rattle.endpoint_loop.specs.Applying.{Leaves};
+ghost use Rattle.endpoint_loop.specs.Applying.{IfNoMemory, Leaves, PairsClient, PairsServer};
+ghost use Rattle.endpoint_loop.specs.Applying.{UnlessNoMemory};
 ghost use Rattle.endpoint_loop.specs.Asking.{IfWanting, IsAskedAs, UnlessWanting, refusal_of};
+ghost use Rattle.endpoint_loop.specs.Delivering.{delivered_as};
 ghost use Rattle.endpoint_loop.specs.Noting.{Makes};
 ghost use Rattle.message_buffer.specs.Buffer.{bytes_of, capacity_of};
-ghost use Rattle.rpc_base.specs.declared.event.Event.TheVariants.{PairedClient, PairedServer};
 ghost use Rattle.rpc_laws.specs.Deliveries.{Delivers};
 ghost use Rattle.endpoint_loop.specs.Rating.{RatedAs};
 ghost use Rattle.rpc_laws.specs.Groups.{Asks, SetsRate, client_refusal, server_refusal, state_of};
 ghost use Rattle.rpc_laws.specs.Sessions.{is_client};
-ghost use Rattle.rpc_laws.specs.Steps.{NotesNext};
+ghost use Rattle.endpoint_loop.specs.Standing.{GoesOn};
+ghost use Rattle.session_mgmt.specs.Table.{refused};
 
 use crate::asking::Refused;
+use crate::delivering::Delivery;
 use crate::endpoint::Endpoint;
 use message_buffer::MsgBuf;
-use rpc_base::{CallNo, MOST_CREDITS, NoMemory, Peer, SESSION_NUMBERS, SessionNo, SessionState};
+use rpc_base::{CallNo, MOST_CREDITS, Peer, SESSION_NUMBERS, SessionNo, SessionState};
 use rpc_outside::{Recorder, Service};
+use session_mgmt::ConnectError;
 use worker_crew::Workers;
 
 impl<V: Service, W: Workers> Endpoint<V, W> {
     /// Makes the client end of a session with a peer that is connected from the start, with the
-    /// next number and 1 to 256 credits, for which there is room. The other end has the number
-    /// `server`. `NoMemory` comes where there is no memory for it, and then nothing changed.
+    /// next number and 1 to 256 credits. The other end has the number `server`. `NumbersSpent`
+    /// comes exactly where 65,535 numbers of client sessions were used, then `RingFull` exactly
+    /// where the credits of the live sessions and these are more than the ring is long; both are
+    /// noted. `NoMemory` is noted nowhere. A refusal makes no session.
     pub fn pair_client<R: Recorder>(
         &mut self,
         peer: Peer,
         server: SessionNo,
         credits: u16,
         rec: &mut R,
-    ) -> Result<(), NoMemory>
-        requires fits { client_refusal credits self.old.timed.lists ≡ None }
+    ) -> Result<SessionNo, ConnectError>
         requires server { server < SESSION_NUMBERS }
         requires some { 1 ≤ credits }
         requires most { credits ≤ MOST_CREDITS }
-        ensures makes { OnOk result (Makes R.facts R.whole (NotesNext (λ s. Some
-            (PairedClient (length s.clients) peer server credits))) self.old.timed self.new.timed
-            rec.old rec.new) }
+        ensures number { IfOk result (λ s. s ≡ length self.old.timed.lists.clients) }
+        ensures makes { UnlessNoMemory result (Makes R.facts R.whole (PairsClient peer server
+            credits) self.old.timed self.new.timed rec.old rec.new) }
+        ensures accepted { OnOk result (client_refusal credits self.old.timed.lists ≡ None) }
+        ensures refused { IfErr result
+            (λ why. refused why ≡ client_refusal credits self.old.timed.lists) }
         ensures leaves { Leaves self.old self.new }
-        ensures unchanged { OnErr result ((self.new ≡ self.old) × (rec.new ≡ rec.old)) }
+        ensures goes_on { GoesOn R.facts R.whole (record { mode = V.mode_of; answer = V.answer })
+            V.stands W.answer (λ w. record {
+              limit = W.limit w;
+              given = W.given w;
+              out = W.out w;
+              waiting = W.waiting w;
+            }) self.old self.new rec.old rec.new }
+        ensures unchanged { OnErr result (self.new ≡ self.old) }
+        ensures wanting { IfNoMemory result (rec.new ≡ rec.old) }
+        ensures handed { OnOk result (self.new.handed ≡ self.old.handed ++ [] ∷ []) }
     {
         self.node
             .pair_client(self.alloc, peer, server, credits, rec)
     }
 
     /// Makes the server end of a session with a peer that is connected from the start, with the
-    /// next number and 1 to 256 credits, for which there is room. The other end has the number
-    /// `client`. `NoMemory` comes where there is no memory for it, and then nothing changed.
+    /// next number and 1 to 256 credits. The other end has the number `client`. `NumbersSpent`
+    /// comes exactly where 65,535 numbers of server sessions were used, then `RingFull` exactly
+    /// where the credits of the live sessions and these are more than the ring is long; both are
+    /// noted. `NoMemory` is noted nowhere. A refusal makes no session.
     pub fn pair_server<R: Recorder>(
         &mut self,
         peer: Peer,
         client: SessionNo,
         credits: u16,
         rec: &mut R,
-    ) -> Result<(), NoMemory>
-        requires fits { server_refusal credits self.old.timed.lists ≡ None }
+    ) -> Result<SessionNo, ConnectError>
         requires client { client < SESSION_NUMBERS }
         requires some { 1 ≤ credits }
         requires most { credits ≤ MOST_CREDITS }
-        ensures makes { OnOk result (Makes R.facts R.whole (NotesNext (λ s. Some
-            (PairedServer s.server_numbers peer client credits))) self.old.timed self.new.timed
-            rec.old rec.new) }
+        ensures number { IfOk result (λ t. t ≡ self.old.timed.lists.server_numbers) }
+        ensures makes { UnlessNoMemory result (Makes R.facts R.whole (PairsServer peer client
+            credits) self.old.timed self.new.timed rec.old rec.new) }
+        ensures accepted { OnOk result (server_refusal credits self.old.timed.lists ≡ None) }
+        ensures refused { IfErr result
+            (λ why. refused why ≡ server_refusal credits self.old.timed.lists) }
         ensures leaves { Leaves self.old self.new }
-        ensures unchanged { OnErr result ((self.new ≡ self.old) × (rec.new ≡ rec.old)) }
+        ensures goes_on { GoesOn R.facts R.whole (record { mode = V.mode_of; answer = V.answer })
+            V.stands W.answer (λ w. record {
+              limit = W.limit w;
+              given = W.given w;
+              out = W.out w;
+              waiting = W.waiting w;
+            }) self.old self.new rec.old rec.new }
+        ensures unchanged { OnErr result (self.new ≡ self.old) }
+        ensures wanting { IfNoMemory result (rec.new ≡ rec.old) }
+        ensures handed { self.new.handed ≡ self.old.handed }
     {
         self.node.pair_server(peer, client, credits, rec)
     }
@@ -84,8 +116,21 @@ impl<V: Service, W: Workers> Endpoint<V, W> {
         ensures asked { IsAskedAs (refusal_of req.len (state_of (find (is_client session)
             self.old.timed.lists.clients))) self.old.timed.lists.asked req resp result }
         ensures leaves { Leaves self.old self.new }
+        ensures goes_on { GoesOn R.facts R.whole (record { mode = V.mode_of; answer = V.answer })
+            V.stands W.answer (λ w. record {
+              limit = W.limit w;
+              given = W.given w;
+              out = W.out w;
+              waiting = W.waiting w;
+            }) self.old self.new rec.old rec.new }
         ensures unchanged { OnErr result (self.new ≡ self.old) }
         ensures wanting { IfWanting result (rec.new ≡ rec.old) }
+        ensures handed { IfOk result (λ call. HandsInAt session (record {
+          call = call;
+          tag = tag;
+          req = Some req;
+          room = capacity_of resp;
+        }) self.old.handed self.new.handed) }
     {
         self.node.ask(session, req_type, req, resp, tag, rec)
     }
@@ -104,17 +149,35 @@ impl<V: Service, W: Workers> Endpoint<V, W> {
         ensures rated { RatedAs (state_of (find (is_client session)
             self.old.timed.lists.clients)) result }
         ensures leaves { Leaves self.old self.new }
+        ensures goes_on { GoesOn R.facts R.whole (record { mode = V.mode_of; answer = V.answer })
+            V.stands W.answer (λ w. record {
+              limit = W.limit w;
+              given = W.given w;
+              out = W.out w;
+              waiting = W.waiting w;
+            }) self.old self.new rec.old rec.new }
+        ensures handed { self.new.handed ≡ self.old.handed }
     {
         self.node.set_rate(session, rate, rec)
     }
 
     /// Takes a datagram from a peer: it is copied into the receive ring where it is a packet of a
-    /// call and there is room.
-    pub fn deliver<R: Recorder>(&mut self, peer: Peer, bytes: &[u8], rec: &mut R)
+    /// call and there is room. Bad comes exactly where it is no such packet, and then Full exactly
+    /// where the ring is full.
+    pub fn deliver<R: Recorder>(&mut self, peer: Peer, bytes: &[u8], rec: &mut R) -> Delivery
         ensures makes { Makes R.facts R.whole (Delivers peer bytes.now) self.old.timed
             self.new.timed rec.old rec.new }
+        ensures answered { result ≡ delivered_as self.old.timed.lists bytes.now }
         ensures leaves { Leaves self.old self.new }
+        ensures goes_on { GoesOn R.facts R.whole (record { mode = V.mode_of; answer = V.answer })
+            V.stands W.answer (λ w. record {
+              limit = W.limit w;
+              given = W.given w;
+              out = W.out w;
+              waiting = W.waiting w;
+            }) self.old self.new rec.old rec.new }
+        ensures handed { self.new.handed ≡ self.old.handed }
     {
-        self.node.deliver(peer, bytes, rec);
+        self.node.deliver(peer, bytes, rec)
     }
 }

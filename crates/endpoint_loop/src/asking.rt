@@ -1,4 +1,8 @@
 //! Calls are asked.
+ghost use Rattle.client_core.specs.Handing.{handed_waiting};
+ghost use Rattle.endpoint_loop.specs.Handing.{timed_of};
+ghost use Rattle.session_store.specs.Handing.{HandsInAt};
+ghost use Rattle.std.specs.Prelude.{IfOk};
 ghost use Rattle.std.specs.Prelude.{◌≡◌, ◌≤◌, ◌+◌, ◌*◌, [], ◌∷◌, Some, length, IfErr, OnErr, OnOk};
 ghost use Rattle.std.specs.List.{find};
 ghost use Rattle.endpoint_loop.specs.Asking.{IfWanting, IsAskedAs, UnlessWanting, refusal_of};
@@ -63,11 +67,14 @@ impl Node {
         requires call { waiting.call ≡ self.old.lists.asked }
         requires message { waiting.req.len ≤ MOST_MESSAGE_BYTES }
         ensures makes { OnOk result (Makes R.facts R.whole (Asks session waiting.req_type
-            (bytes_of waiting.req) (capacity_of waiting.resp)) self.old self.new rec.old rec.new) }
+            (bytes_of waiting.req) (capacity_of waiting.resp)) (timed_of self.old)
+            (timed_of self.new) rec.old rec.new) }
         ensures jobs { self.new.lists.jobs ≡ self.old.lists.jobs }
         ensures servers { self.new.lists.servers ≡ self.old.lists.servers }
         ensures unchanged { OnErr result ((self.new ≡ self.old) × (rec.new ≡ rec.old)) }
         ensures handed_back { IfErr result (λ back. back ≡ waiting) }
+        ensures handed { OnOk result (HandsInAt session (handed_waiting waiting) self.old.handed
+            self.new.handed) }
     {
         let i = usize::from(session.0);
         let event = Event::Asked {
@@ -99,13 +106,20 @@ impl Node {
         rec: &mut R,
     ) -> Result<CallNo, Refused>
         ensures asks { UnlessWanting result (Makes R.facts R.whole (Asks session req_type
-            (bytes_of req) (capacity_of resp)) self.old self.new rec.old rec.new) }
+            (bytes_of req) (capacity_of resp)) (timed_of self.old) (timed_of self.new) rec.old
+            rec.new) }
         ensures asked { IsAskedAs (refusal_of req.len (state_of (find (is_client session)
             self.old.lists.clients))) self.old.lists.asked req resp result }
         ensures jobs { self.new.lists.jobs ≡ self.old.lists.jobs }
         ensures servers { self.new.lists.servers ≡ self.old.lists.servers }
         ensures unchanged { OnErr result (self.new ≡ self.old) }
         ensures wanting { IfWanting result (rec.new ≡ rec.old) }
+        ensures handed { IfOk result (λ call. HandsInAt session (record {
+          call = call;
+          tag = tag;
+          req = Some req;
+          room = capacity_of resp;
+        }) self.old.handed self.new.handed) }
     {
         let len = req.len();
         if MOST_MESSAGE_BYTES < len {

@@ -1,4 +1,5 @@
 //! The end of a poll.
+ghost use Rattle.endpoint_loop.specs.Handing.{timed_of};
 ghost use Rattle.std.specs.Prelude.{◌≡◌};
 ghost use Rattle.endpoint_loop.specs.Noting.{Makes};
 ghost use Rattle.rpc_laws.specs.PollOrder.{Closes};
@@ -10,9 +11,11 @@ use rpc_outside::Recorder;
 impl Node {
     /// Step 7 of a poll: it ends with a Polled, from which on what was due is ready.
     pub fn close<R: Recorder>(&mut self, rec: &mut R)
-        ensures makes { Makes R.facts R.whole Closes self.old self.new rec.old rec.new }
+        ensures makes { Makes R.facts R.whole Closes (timed_of self.old) (timed_of self.new) rec.old
+            rec.new }
         ensures jobs { self.new.lists.jobs ≡ self.old.lists.jobs }
         ensures servers { self.new.lists.servers ≡ self.old.lists.servers }
+        ensures handed { self.new.handed ≡ self.old.handed }
     {
         let event = Event::Polled { now: self.clock };
         rec.note(Who::Node(self.me), event, &[], &[]);

@@ -8,6 +8,8 @@ ghost use Rattle.rpc_laws.specs.Groups.{state_of};
 ghost use Rattle.rpc_laws.specs.NodeLists.{new_node};
 ghost use Rattle.rpc_laws.specs.Sessions.{is_client};
 ghost use Rattle.endpoint_loop.specs.Handling.{WorksFor};
+ghost use Rattle.endpoint_loop.specs.Standing.{StandsFor};
+ghost use Rattle.session_store.specs.Handing.{AreOfCalls};
 
 use crate::node::Node;
 use rpc_base::{Limits, NodeId, SessionNo, SessionState};
@@ -28,11 +30,17 @@ pub struct Endpoint<V: Service, W: Workers> {
 }
 
 impl<V: Service, W: Workers> Model for Endpoint<V, W> {
+    ghost use Rattle.endpoint_loop.specs.Handing.{timed_of};
     ghost use Rattle.endpoint_loop.specs.Running.{IsServing, Running};
 
     ghost Value = { Running V W };
 
-    ghost view = { λ e. record { timed = e.node; service = e.service; workers = e.workers } };
+    ghost view = { λ e. record {
+      timed = timed_of e.node;
+      handed = e.node.handed;
+      service = e.service;
+      workers = e.workers;
+    } };
 
     ghost invariant = { λ e. IsServing (record { mode = V.mode_of; answer = V.answer })
         (V.stands e.service) W.answer e.node.lists };
@@ -59,9 +67,20 @@ impl<V: Service, W: Workers> Endpoint<V, W> {
         requires service { V.stands service [] }
         ensures made { IfOk result (λ e. e ≡ record {
           timed = new_node me limits;
+          handed = [];
           service = service;
           workers = workers;
         }) }
+        // It stands for no facts.
+        ensures stands { IfOk result (λ e. StandsFor (record {
+          mode = V.mode_of;
+          answer = V.answer;
+        }) V.stands W.answer (λ w. record {
+          limit = W.limit w;
+          given = W.given w;
+          out = W.out w;
+          waiting = W.waiting w;
+        }) limits [] e) }
         ensures wanting { IfErr result (λ back. back ≡ workers) }
     {
         let Ok(node) = Node::new(alloc, me, limits) else {
@@ -100,9 +119,10 @@ impl<V: Service, W: Workers> Endpoint<V, W> {
         self.node.server_numbers
     }
 
-    /// What always holds of its lists.
+    /// What always holds of its lists, and that what was handed in is of the calls in them.
     pub fn sound(&self)
-        ensures { Kept self.now.timed.lists }
+        ensures kept { Kept self.now.timed.lists }
+        ensures handed { AreOfCalls self.now.handed self.now.timed.lists.clients }
     {
         self.node.sound();
     }

@@ -1,4 +1,5 @@
 //! Step 1 of a poll: jobs are finished.
+ghost use Rattle.endpoint_loop.specs.Handing.{timed_of};
 ghost use Rattle.std.specs.Prelude.{◌≡◌, ◌++◌, ◌<◌, ◌≤◌, ◌⊎◌, ℕ, true, false, None, length};
 ghost use Rattle.std.specs.Prelude.{[], slice_get};
 ghost use Rattle.std.specs.List.{find, position, remove};
@@ -15,6 +16,7 @@ ghost use Rattle.rpc_laws.specs.Jobs.{is_job};
 ghost use Rattle.rpc_laws.specs.Queues.{replies};
 ghost use Rattle.rpc_laws.specs.Requests.{is_server};
 ghost use Rattle.rpc_outside.specs.declared.service.Mode.{Mode};
+ghost use Rattle.session_store.specs.Handing.{AreOfCalls};
 ghost use Rattle.session_store.specs.Joined.{put_listed};
 ghost use Rattle.session_store.specs.Sides.{HasRoom};
 
@@ -78,6 +80,7 @@ fn post_answer(store: &mut Store, parcel: Parcel) -> Option<Entry>
     ensures queued { store.new.queued ≡ put_listed None result store.old.queued }
     ensures size { store.new.size ≡ store.old.size }
     ensures places { store.new.places ≡ store.old.places }
+    ensures handed { store.new.handed ≡ store.old.handed }
 {
     let Some(place) = store.place_of_server(parcel.session) else {
         return None;
@@ -92,9 +95,9 @@ impl Node {
     pub fn finish<R: Recorder>(&mut self, parcel: Parcel, rec: &mut R) -> bool
         requires room { replies self.old.lists.queued < self.old.lists.room }
         requires answer { IsMessage parcel.out.len }
-        ensures done { result ≡ true → MakesWhere R.facts R.whole (AsksOf parcel)
-            (FinishesWith parcel.session parcel.request (bytes_of parcel.out)) self.old self.new
-            rec.old rec.new }
+        ensures done { result ≡ true → MakesWhere R.facts R.whole (AsksOf parcel) (FinishesWith
+            parcel.session parcel.request (bytes_of parcel.out)) (timed_of self.old)
+            (timed_of self.new) rec.old rec.new }
         ensures jobs { result ≡ true → self.new.lists.jobs ≡ record self.old.lists.jobs {
           out = without_first (is_job parcel.session parcel.request) self.old.lists.jobs.out;
         } }
@@ -105,6 +108,7 @@ impl Node {
             → AllServed mode self.new.lists.servers }
         ensures background { (mode : ℕ → Mode) → AllBackground mode self.old.lists.jobs.out
             → AllBackground mode self.new.lists.jobs.out }
+        ensures handed { self.new.handed ≡ self.old.handed }
     {
         let (session, request) = (parcel.session, parcel.request);
         let Some(job) = take_job(&mut self.jobs, session, request) else {
@@ -133,8 +137,9 @@ impl Node {
     pub(crate) fn sound(&self)
         ensures kept { Kept self.now.lists }
         ensures inbox { self.now.lists.inbox ≡ [] }
+        ensures handed { AreOfCalls self.now.handed self.now.lists.clients }
     {
-        let _me = self.me;
+        self.store.sound();
     }
 
     // A turn of step 1 of a poll: takes a job that a worker finished, while fewer replies are
@@ -143,8 +148,8 @@ impl Node {
     fn finish_next<W: Workers, R: Recorder>(&mut self, workers: &mut W, rec: &mut R) -> bool
         requires room { replies self.old.lists.queued < self.old.lists.room }
         ensures makes { MakesFinished R.facts R.whole W.answer (W.out workers.old)
-            (W.out workers.new) (W.worked workers.old) (W.worked workers.new) self.old self.new
-            rec.old rec.new }
+            (W.out workers.new) (W.worked workers.old) (W.worked workers.new) (timed_of self.old)
+            (timed_of self.new) rec.old rec.new }
         ensures fewer { result ≡ true →
             length (W.out workers.new) < length (W.out workers.old) }
         ensures none { result ≡ false → NoneBack (W.worked workers.new)
@@ -158,6 +163,7 @@ impl Node {
         ensures given { W.given workers.new ≡ W.given workers.old }
         ensures limit { W.limit workers.new ≡ W.limit workers.old }
         ensures looks { W.looks workers.old ≤ W.looks workers.new }
+        ensures handed { self.new.handed ≡ self.old.handed }
     {
         self.sound();
         let Some(finished) = workers.take() else {
@@ -184,8 +190,8 @@ impl Node {
     /// is dropped.
     pub fn finish_all<W: Workers, R: Recorder>(&mut self, workers: &mut W, rec: &mut R)
         ensures makes { MakesFinished R.facts R.whole W.answer (W.out workers.old)
-            (W.out workers.new) (W.worked workers.old) (W.worked workers.new) self.old self.new
-            rec.old rec.new }
+            (W.out workers.new) (W.worked workers.old) (W.worked workers.new) (timed_of self.old)
+            (timed_of self.new) rec.old rec.new }
         ensures over { (self.new.lists.room ≤ replies self.new.lists.queued)
             ⊎ NoneBack (W.worked workers.new) (length (W.out workers.new)) (W.looks workers.old)
             (W.looks workers.new) }
@@ -198,6 +204,7 @@ impl Node {
         ensures given { W.given workers.new ≡ W.given workers.old }
         ensures limit { W.limit workers.new ≡ W.limit workers.old }
         ensures looks { W.looks workers.old ≤ W.looks workers.new }
+        ensures handed { self.new.handed ≡ self.old.handed }
     {
         'jobs: while self.has_room() {
             if !self.finish_next(workers, rec) {

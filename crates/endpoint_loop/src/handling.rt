@@ -1,5 +1,6 @@
 //! Step 3 of a poll: the packets of the receive ring are handled.
-ghost use Rattle.std.specs.Prelude.{◌≡◌, ◌≢◌, ◌<◌, [], true, false, drop, length};
+ghost use Rattle.endpoint_loop.specs.Handing.{GivesBackTo, timed_of};
+ghost use Rattle.std.specs.Prelude.{◌≡◌, ◌≢◌, ◌<◌, ◌+◌, [], true, false, drop, length};
 ghost use Rattle.endpoint_loop.specs.Handling.{MakesAllHandled, MakesHandled, StandsForSome};
 ghost use Rattle.endpoint_loop.specs.Handling.{WorksFor};
 ghost use Rattle.endpoint_loop.specs.Serving.{AllServed};
@@ -31,10 +32,11 @@ impl Node {
         ensures handles { MakesHandled R.facts R.whole K.given (record {
           mode = V.mode_of;
           answer = V.answer;
-        }) (V.stands service.old) (V.stands service.new) (Handles V.mode_of) result self.old
-            self.new rec.old rec.new k.old k.new }
+        }) (V.stands service.old) (V.stands service.new) (Handles V.mode_of) result
+            (timed_of self.old) (timed_of self.new) rec.old rec.new k.old k.new }
         ensures ring { self.new.lists.ring ≡ drop 1 self.old.lists.ring }
         ensures served { AllServed V.mode_of self.new.lists.servers }
+        ensures handed { GivesBackTo K.given self.old.handed self.new.handed k.old k.new }
     {
         let Some(head) = self.front_head() else {
             unreachable!()
@@ -56,7 +58,7 @@ impl Node {
     fn can_handle(&self) -> bool
         ensures some { result ≡ true → self.now.lists.ring ≢ [] }
         ensures room { result ≡ true → replies self.now.lists.queued < self.now.lists.room }
-        ensures over { result ≡ false → NoMoreToHandle self.now }
+        ensures over { result ≡ false → NoMoreToHandle (timed_of self.now) }
     {
         !self.rx.is_empty() && self.has_room()
     }
@@ -81,7 +83,8 @@ impl Node {
           out = W.out w;
           waiting = W.waiting w;
         }) (record { mode = V.mode_of; answer = V.answer }) (V.stands service.old)
-            (V.stands service.new) W.answer (Handles V.mode_of) self.old self.new rec.old rec.new
+            (V.stands service.new) W.answer (Handles V.mode_of) (timed_of self.old)
+            (timed_of self.new) rec.old rec.new
             k.old k.new workers.old workers.new }
         ensures fewer { length self.new.lists.ring < length self.old.lists.ring }
         ensures served { AllServed V.mode_of self.new.lists.servers }
@@ -89,6 +92,7 @@ impl Node {
         ensures founded { StandsForSome (V.stands service.new) }
         ensures worked { W.worked workers.new ≡ W.worked workers.old }
         ensures looks { W.looks workers.new ≡ W.looks workers.old }
+        ensures handed { GivesBackTo K.given self.old.handed self.new.handed k.old k.new }
     {
         let Some(parcel) = self.handle_front(alloc, service, k, rec) else {
             return;
@@ -100,7 +104,8 @@ impl Node {
 
     /// Step 3 of a poll: the packets of the receive ring are handled in the order of their arrival,
     /// while fewer replies are queued than the ring is long. Calls that end go to the continuation,
-    /// and jobs to the workers, which answer background requests as the service does.
+    /// and jobs to the workers, which answer background requests as the service does. The result
+    /// tells how many packets were handled.
     pub fn handle_all<V: Service, W: Workers, K: Continuation, R: Recorder>(
         &mut self,
         alloc: Global,
@@ -108,7 +113,7 @@ impl Node {
         workers: &mut W,
         k: &mut K,
         rec: &mut R,
-    )
+    ) -> u32
         requires served { AllServed V.mode_of self.old.lists.servers }
         requires founded { StandsForSome (V.stands service.old) }
         requires works { WorksFor W.answer (record { mode = V.mode_of; answer = V.answer }) }
@@ -118,16 +123,21 @@ impl Node {
           out = W.out w;
           waiting = W.waiting w;
         }) (record { mode = V.mode_of; answer = V.answer }) (V.stands service.old)
-            (V.stands service.new) W.answer (HandlesAll V.mode_of) self.old self.new rec.old rec.new
+            (V.stands service.new) W.answer (HandlesAll V.mode_of) (timed_of self.old)
+            (timed_of self.new) rec.old rec.new
             k.old k.new workers.old workers.new }
         ensures served { AllServed V.mode_of self.new.lists.servers }
         ensures me { self.new.lists.me ≡ self.old.lists.me }
         ensures founded { StandsForSome (V.stands service.new) }
         ensures worked { W.worked workers.new ≡ W.worked workers.old }
         ensures looks { W.looks workers.new ≡ W.looks workers.old }
+        ensures count { result + length self.new.lists.ring ≡ length self.old.lists.ring }
+        ensures handed { GivesBackTo K.given self.old.handed self.new.handed k.old k.new }
     {
+        let before = self.rx.len();
         'packets: while self.can_handle() {
             self.handle_next(alloc, service, workers, k, rec);
         }
+        before - self.rx.len()
     }
 }

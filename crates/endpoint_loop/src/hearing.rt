@@ -1,4 +1,6 @@
 //! Step 3 of a poll, for replies: a CR or Response in front of the receive ring is handled.
+ghost use Rattle.endpoint_loop.specs.Handing.{timed_of};
+ghost use Rattle.session_store.specs.Handing.{HandsBackIf};
 ghost use Rattle.std.specs.Prelude.{◌≡◌, ◌≢◌, ◌+◌, [], None, Some, IfSome, drop, length};
 ghost use Rattle.client_core.specs.Shown.{done_event, end_bytes};
 ghost use Rattle.endpoint_loop.specs.Hearing.{Drops, HearsReply};
@@ -60,11 +62,13 @@ fn answer_of(done: &Done) -> &[u8]
 impl Node {
     /// The front of the receive ring is dropped for this reason.
     pub(crate) fn drop_front<R: Recorder>(&mut self, reason: DropReason, rec: &mut R)
-        ensures drops { Makes R.facts R.whole (Drops reason) self.old self.new rec.old rec.new }
+        ensures drops { Makes R.facts R.whole (Drops reason) (timed_of self.old) (timed_of self.new)
+            rec.old rec.new }
         ensures ring { self.new.lists.ring ≡ drop 1 self.old.lists.ring }
         ensures jobs { self.new.lists.jobs ≡ self.old.lists.jobs }
         ensures clients { self.new.lists.clients ≡ self.old.lists.clients }
         ensures servers { self.new.lists.servers ≡ self.old.lists.servers }
+        ensures handed { self.new.handed ≡ self.old.handed }
     {
         let event = Event::Dropped { reason };
         rec.note(Who::Node(self.me), event, &[], &[]);
@@ -77,11 +81,12 @@ impl Node {
     pub fn hear_reply<R: Recorder>(&mut self, head: &MessageHeader, rec: &mut R) -> Option<Done>
         requires in_range { MessageInRange head.now }
         requires front { front_header self.old.lists.ring ≡ Some head.now }
-        ensures hears { Makes R.facts R.whole (HearsReply head.now result) self.old self.new rec.old
-            rec.new }
+        ensures hears { Makes R.facts R.whole (HearsReply head.now result) (timed_of self.old)
+            (timed_of self.new) rec.old rec.new }
         ensures ring { self.new.lists.ring ≡ drop 1 self.old.lists.ring }
         ensures jobs { self.new.lists.jobs ≡ self.old.lists.jobs }
         ensures servers { self.new.lists.servers ≡ self.old.lists.servers }
+        ensures handed { HandsBackIf head.now.session result self.old.handed self.new.handed }
     {
         let Some(front) = self.rx.front() else {
             unreachable!()

@@ -26,9 +26,11 @@ mod watching;
 
 pub use asking::{AskError, Refused};
 pub use continuation::Continuation;
+pub use delivering::Delivery;
 pub use endpoint::Endpoint;
 pub use node::{JobName, Node};
-pub use polling::LinkFault;
+pub use polling::{LinkFault, Turn};
+pub use sending::Sending;
 
 #[cfg(test)]
 mod tests;

@@ -1,5 +1,6 @@
 //! What an endpoint has, beside its service and its workers.
-ghost use Rattle.std.specs.Prelude.{◌≡◌, ◌≤◌, IfOk};
+ghost use Rattle.std.specs.Prelude.{◌≡◌, ◌≤◌, [], IfOk};
+ghost use Rattle.endpoint_loop.specs.Handing.{holding};
 ghost use Rattle.rpc_base.specs.Limits.{Fits as InRange};
 ghost use Rattle.rpc_laws.specs.Groups.{shares};
 ghost use Rattle.rpc_laws.specs.NodeLists.{new_node};
@@ -52,21 +53,21 @@ pub struct Node {
 }
 
 impl Model for Node {
-    ghost use Rattle.rpc_laws.specs.declared.tables.Timed.{Timed};
     ghost use Rattle.endpoint_loop.specs.Calling.{Covers};
     ghost use Rattle.endpoint_loop.specs.Fits.{Fits};
+    ghost use Rattle.endpoint_loop.specs.Handing.{Holding, holding};
     ghost use Rattle.endpoint_loop.specs.Seen.{jobs_in, seen_node};
     ghost use Rattle.std.specs.Prelude.{◌≤◌};
     ghost use Rattle.std.specs.VecDeque.{deque_capacity};
 
-    ghost Value = { Timed };
+    ghost Value = { Holding };
 
-    ghost view = { λ n. seen_node n.me n.limits (record {
+    ghost view = { λ n. holding n.store.handed (seen_node n.me n.limits (record {
       asked = n.asked;
       server_numbers = n.server_numbers;
       counts = n.counts;
     }) n.paces.items (jobs_in n.limits.jobs n.given n.jobs.items) n.clock n.rx
-        n.store };
+        n.store) };
 
     ghost invariant = { λ n. Fits (seen_node n.me n.limits (record {
       asked = n.asked;
@@ -83,7 +84,7 @@ impl Node {
     /// comes where there is no memory for its rings and its pool.
     pub fn new(alloc: Global, me: NodeId, limits: Limits) -> Result<Node, NoMemory>
         requires limits { InRange limits }
-        ensures { IfOk result (λ n. n ≡ new_node me limits) }
+        ensures { IfOk result (λ n. n ≡ holding [] (new_node me limits)) }
     {
         let places = PLACES_OF_SESSION * limits.ring + PLACES_OF_JOB * limits.jobs;
         Ok(Node {

@@ -1,4 +1,5 @@
 //! What the client sessions begin and post.
+ghost use Rattle.endpoint_loop.specs.Handing.{timed_of};
 ghost use Rattle.std.specs.Prelude.{◌≡◌, ◌<◌, ◌≤◌, length, option_map, true};
 ghost use Rattle.std.specs.List.{find};
 ghost use Rattle.rpc_base.specs.Tables.{at_first};
@@ -64,12 +65,13 @@ fn delay(paces: &mut Vec<Pace>, i: usize, clock: u64, size: u64)
 impl Node {
     // Session `i` posts its next packet. The result tells whether it had one.
     fn post_next<R: Recorder>(&mut self, i: usize, rec: &mut R) -> bool
-        ensures notes { NotesOne R.facts R.whole (next_posted i) result self.old self.new rec.old
-            rec.new }
+        ensures notes { NotesOne R.facts R.whole (next_posted i) result (timed_of self.old)
+            (timed_of self.new) rec.old rec.new }
         ensures fewer { result ≡ true →
             free_at i self.new.lists.clients < free_at i self.old.lists.clients }
         ensures jobs { self.new.lists.jobs ≡ self.old.lists.jobs }
         ensures servers { self.new.lists.servers ≡ self.old.lists.servers }
+        ensures handed { self.new.handed ≡ self.old.handed }
     {
         if i >= self.store.clients() {
             return false;
@@ -91,12 +93,13 @@ impl Node {
 
     // The next call of session `i` begins. The result tells whether it had one.
     fn begin_next<R: Recorder>(&mut self, i: usize, rec: &mut R) -> bool
-        ensures notes { NotesOne R.facts R.whole (next_begun i) result self.old self.new rec.old
-            rec.new }
+        ensures notes { NotesOne R.facts R.whole (next_begun i) result (timed_of self.old)
+            (timed_of self.new) rec.old rec.new }
         ensures fewer { result ≡ true →
             waiting_at i self.new.lists.clients < waiting_at i self.old.lists.clients }
         ensures jobs { self.new.lists.jobs ≡ self.old.lists.jobs }
         ensures servers { self.new.lists.servers ≡ self.old.lists.servers }
+        ensures handed { self.new.handed ≡ self.old.handed }
     {
         if i >= self.store.clients() {
             return false;
@@ -114,29 +117,33 @@ impl Node {
 
     // Session `i` posts until it has nothing to post.
     fn post_all<R: Recorder>(&mut self, i: usize, rec: &mut R)
-        ensures makes { Makes R.facts R.whole (NotesAll (next_posted i)) self.old self.new rec.old
-            rec.new }
+        ensures makes { Makes R.facts R.whole (NotesAll (next_posted i)) (timed_of self.old)
+            (timed_of self.new) rec.old rec.new }
         ensures jobs { self.new.lists.jobs ≡ self.old.lists.jobs }
         ensures servers { self.new.lists.servers ≡ self.old.lists.servers }
+        ensures handed { self.new.handed ≡ self.old.handed }
     {
         'packets: while self.post_next(i, rec) {}
     }
 
     // The waiting calls of session `i` begin, as long as a slot is free.
     fn begin_all<R: Recorder>(&mut self, i: usize, rec: &mut R)
-        ensures makes { Makes R.facts R.whole (NotesAll (next_begun i)) self.old self.new rec.old
-            rec.new }
+        ensures makes { Makes R.facts R.whole (NotesAll (next_begun i)) (timed_of self.old)
+            (timed_of self.new) rec.old rec.new }
         ensures jobs { self.new.lists.jobs ≡ self.old.lists.jobs }
         ensures servers { self.new.lists.servers ≡ self.old.lists.servers }
+        ensures handed { self.new.handed ≡ self.old.handed }
     {
         'calls: while self.begin_next(i, rec) {}
     }
 
     // Session `i` begins its waiting calls, and then posts its packets.
     fn serve_session<R: Recorder>(&mut self, i: usize, rec: &mut R)
-        ensures makes { Makes R.facts R.whole (Serves i) self.old self.new rec.old rec.new }
+        ensures makes { Makes R.facts R.whole (Serves i) (timed_of self.old) (timed_of self.new)
+            rec.old rec.new }
         ensures jobs { self.new.lists.jobs ≡ self.old.lists.jobs }
         ensures servers { self.new.lists.servers ≡ self.old.lists.servers }
+        ensures handed { self.new.handed ≡ self.old.handed }
     {
         self.begin_all(i, rec);
         self.post_all(i, rec);
@@ -146,9 +153,11 @@ impl Node {
     /// its waiting calls, and then posts its packets. One without calls has nothing to do, and is
     /// passed over.
     pub fn serve_sessions<R: Recorder>(&mut self, rec: &mut R)
-        ensures makes { Makes R.facts R.whole PostsAll self.old self.new rec.old rec.new }
+        ensures makes { Makes R.facts R.whole PostsAll (timed_of self.old) (timed_of self.new)
+            rec.old rec.new }
         ensures jobs { self.new.lists.jobs ≡ self.old.lists.jobs }
         ensures servers { self.new.lists.servers ≡ self.old.lists.servers }
+        ensures handed { self.new.handed ≡ self.old.handed }
     {
         let count = self.store.clients();
         let mut from = 0;

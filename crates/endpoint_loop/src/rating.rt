@@ -1,4 +1,5 @@
 //! Client sessions get their rates.
+ghost use Rattle.endpoint_loop.specs.Handing.{timed_of};
 ghost use Rattle.std.specs.Prelude.{◌≡◌, ◌<◌, false, length, true, MatchResult};
 ghost use Rattle.std.specs.List.{find};
 ghost use Rattle.endpoint_loop.specs.Fits.{pace_no};
@@ -49,11 +50,12 @@ impl Node {
         rate: u32,
         rec: &mut R,
     ) -> Result<(), SessionState>
-        ensures makes { Makes R.facts R.whole (SetsRate session rate) self.old self.new rec.old
-            rec.new }
+        ensures makes { Makes R.facts R.whole (SetsRate session rate) (timed_of self.old)
+            (timed_of self.new) rec.old rec.new }
         ensures rated { RatedAs (state_of (find (is_client session) self.old.lists.clients)) result }
         ensures jobs { self.new.lists.jobs ≡ self.old.lists.jobs }
         ensures servers { self.new.lists.servers ≡ self.old.lists.servers }
+        ensures handed { self.new.handed ≡ self.old.handed }
     {
         let state = self.state(session);
         if !lives(state) {

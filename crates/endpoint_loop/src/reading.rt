@@ -26,19 +26,9 @@ impl Node {
         ensures refused { IfErr result (λ why. refused why ≡ pair_refusal credits self.now.lists) }
         ensures never_memory { IfErr result (λ why. IsSome (refused why)) }
     {
-        let numbers = usize::from(SESSION_NUMBERS);
-        if numbers <= self.store.clients() || u64::from(SESSION_NUMBERS) <= self.server_numbers {
-            return Err(ConnectError::NumbersSpent);
-        }
-        let (shares, ring) = (self.shares(), self.rx.size());
-        if u64::from(ring) < u64::from(shares) + u64::from(credits) {
-            return Err(ConnectError::RingFull {
-                shares,
-                credits: u32::from(credits),
-                ring,
-            });
-        }
-        Ok(())
+        let clients_spent = usize::from(SESSION_NUMBERS) <= self.store.clients();
+        let servers_spent = u64::from(SESSION_NUMBERS) <= self.server_numbers;
+        self.room_for(clients_spent || servers_spent, credits)
     }
 
     /// The free credits of a client session. `None` comes exactly where it is neither Connected,
@@ -51,7 +41,9 @@ impl Node {
             return None;
         }
         match self.store.state(i) {
-            SessionState::Connected | SessionState::Spent => Some(self.store.free(i)),
+            SessionState::Connected | SessionState::Spent | SessionState::Closing => {
+                Some(self.store.free(i))
+            }
             _ => None,
         }
     }

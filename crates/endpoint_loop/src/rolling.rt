@@ -1,5 +1,6 @@
 //! A call is rolled back, and a session breaks: queued packets are taken out, the session changes,
 //! and what happened is noted.
+ghost use Rattle.endpoint_loop.specs.Handing.{GivesBackTo, timed_of};
 ghost use Rattle.std.specs.Prelude.{◌≡◌, ◌<◌, [], true, false, length, slice_get};
 ghost use Rattle.std.specs.List.{list_any};
 ghost use Rattle.endpoint_loop.specs.Noting.{Makes, MakesEnds};
@@ -7,7 +8,7 @@ ghost use Rattle.endpoint_loop.specs.Watching.{EndsOne, FlushesSome, HasFewRolls
 ghost use Rattle.endpoint_loop.specs.Watching.{breaking, breaking_off, flushing, flushing_all};
 ghost use Rattle.endpoint_loop.specs.Watching.{rolling, rolling_back};
 ghost use Rattle.rpc_base.specs.declared.owner.Owner.TheVariants.{Ask};
-ghost use Rattle.session_store.specs.Changes.{ActiveAt, IsIdle, IsLost, calls_in};
+ghost use Rattle.session_store.specs.Changes.{ActiveAt, IsConnected, IsIdle, IsLost, calls_in};
 ghost use Rattle.session_store.specs.Queue.{is_owned};
 
 use crate::continuation::Continuation;
@@ -39,6 +40,7 @@ fn lose_next<K: Continuation, R: Recorder>(
     ensures queued { store.new.queued ≡ store.old.queued }
     ensures size { store.new.size ≡ store.old.size }
     ensures places { store.new.places ≡ store.old.places }
+    ensures handed { GivesBackTo K.given store.old.handed store.new.handed k.old k.new }
 {
     let Some(done) = store.lose(i) else {
         return false;
@@ -49,8 +51,8 @@ fn lose_next<K: Continuation, R: Recorder>(
     true
 }
 
-// Session `i` loses its peer, of which no packet is queued, and its calls end, in the order of
-// their numbers.
+// Session `i`, which is connected, loses its peer, and its calls end, in the order of their
+// numbers. No packet of it is queued.
 fn lose_session<K: Continuation, R: Recorder>(
     store: &mut Store,
     me: NodeId,
@@ -60,6 +62,7 @@ fn lose_session<K: Continuation, R: Recorder>(
 )
     requires known { i < length store.old.clients }
     requires numbered { i < SESSION_NUMBERS }
+    requires connected { IsConnected (slice_get store.old.clients i) }
     requires idle { IsIdle i store.old.queued }
     ensures lost { HasLost R.facts R.whole K.given me i [] store.old.clients store.new.clients
         rec.old rec.new k.old k.new }
@@ -67,6 +70,7 @@ fn lose_session<K: Continuation, R: Recorder>(
     ensures queued { store.new.queued ≡ store.old.queued }
     ensures size { store.new.size ≡ store.old.size }
     ensures places { store.new.places ≡ store.old.places }
+    ensures handed { GivesBackTo K.given store.old.handed store.new.handed k.old k.new }
 {
     store.lose_peer(i);
     let event = Event::Broken {
@@ -81,8 +85,8 @@ impl Node {
     // whether there was one.
     fn flush_next<R: Recorder>(&mut self, i: usize, request: RequestNo, rec: &mut R) -> bool
         requires known { i < length self.old.lists.clients }
-        ensures makes { result ≡ true → Makes R.facts R.whole (FlushesSome (Ask i request)) self.old
-            self.new rec.old rec.new }
+        ensures makes { result ≡ true → Makes R.facts R.whole (FlushesSome (Ask i request))
+            (timed_of self.old) (timed_of self.new) rec.old rec.new }
         ensures fewer { result ≡ true →
             length self.new.lists.queued < length self.old.lists.queued }
         ensures none { result ≡ false →
@@ -93,6 +97,7 @@ impl Node {
         ensures servers { self.new.lists.servers ≡ self.old.lists.servers }
         ensures me { self.new.lists.me ≡ self.old.lists.me }
         ensures jobs { self.new.lists.jobs ≡ self.old.lists.jobs }
+        ensures handed { self.new.handed ≡ self.old.handed }
     {
         let Some(entry) = self.store.flush(i, request) else {
             return false;
@@ -108,13 +113,14 @@ impl Node {
     // The queued packets of a request of session `i` are taken out, in ascending number.
     fn flush_call<R: Recorder>(&mut self, i: usize, request: RequestNo, rec: &mut R)
         requires known { i < length self.old.lists.clients }
-        ensures makes { Makes R.facts R.whole (Notes (flushing (Ask i request))) self.old self.new
-            rec.old rec.new }
+        ensures makes { Makes R.facts R.whole (Notes (flushing (Ask i request))) (timed_of self.old)
+            (timed_of self.new) rec.old rec.new }
         ensures idle { list_any (is_owned (Ask i request)) self.new.lists.queued ≡ false }
         ensures clients { self.new.lists.clients ≡ self.old.lists.clients }
         ensures servers { self.new.lists.servers ≡ self.old.lists.servers }
         ensures me { self.new.lists.me ≡ self.old.lists.me }
         ensures jobs { self.new.lists.jobs ≡ self.old.lists.jobs }
+        ensures handed { self.new.handed ≡ self.old.handed }
     {
         'packets: while self.flush_next(i, request, rec) {}
     }
@@ -126,11 +132,12 @@ impl Node {
         requires few { HasFewRolls i active.now.call self.old.lists.clients }
         requires idle { list_any (is_owned (Ask i active.now.request)) self.old.lists.queued
             ≡ false }
-        ensures makes { Makes R.facts R.whole (Notes (rolling active.now)) self.old self.new rec.old
-            rec.new }
+        ensures makes { Makes R.facts R.whole (Notes (rolling active.now)) (timed_of self.old)
+            (timed_of self.new) rec.old rec.new }
         ensures servers { self.new.lists.servers ≡ self.old.lists.servers }
         ensures me { self.new.lists.me ≡ self.old.lists.me }
         ensures jobs { self.new.lists.jobs ≡ self.old.lists.jobs }
+        ensures handed { self.new.handed ≡ self.old.handed }
     {
         self.store.roll(i, active.call);
         let event = Event::Rolled {
@@ -147,11 +154,12 @@ impl Node {
         requires known { i < length self.old.lists.clients }
         requires active { ActiveAt i active.now self.old.lists.clients }
         requires few { HasFewRolls i active.now.call self.old.lists.clients }
-        ensures makes { Makes R.facts R.whole (Notes (rolling_back i active.now)) self.old self.new
-            rec.old rec.new }
+        ensures makes { Makes R.facts R.whole (Notes (rolling_back i active.now))
+            (timed_of self.old) (timed_of self.new) rec.old rec.new }
         ensures servers { self.new.lists.servers ≡ self.old.lists.servers }
         ensures me { self.new.lists.me ≡ self.old.lists.me }
         ensures jobs { self.new.lists.jobs ≡ self.old.lists.jobs }
+        ensures handed { self.new.handed ≡ self.old.handed }
     {
         self.flush_call(i, active.request, rec);
         self.roll_idle(i, active, rec);
@@ -160,13 +168,14 @@ impl Node {
     // The queued packets of all calls of session `i` are taken out, call by call.
     fn flush_session<R: Recorder>(&mut self, i: usize, rec: &mut R)
         requires known { i < length self.old.lists.clients }
-        ensures makes { Makes R.facts R.whole (Notes (flushing_all i)) self.old self.new rec.old
-            rec.new }
+        ensures makes { Makes R.facts R.whole (Notes (flushing_all i)) (timed_of self.old)
+            (timed_of self.new) rec.old rec.new }
         ensures idle { IsIdle i self.new.lists.queued }
         ensures clients { self.new.lists.clients ≡ self.old.lists.clients }
         ensures servers { self.new.lists.servers ≡ self.old.lists.servers }
         ensures me { self.new.lists.me ≡ self.old.lists.me }
         ensures jobs { self.new.lists.jobs ≡ self.old.lists.jobs }
+        ensures handed { self.new.handed ≡ self.old.handed }
     {
         let mut after = None;
         'calls: while let Some(active) = self.store.active(i, after) {
@@ -175,21 +184,23 @@ impl Node {
         }
     }
 
-    // Session `i` loses its peer, of which no packet is queued, and its calls end.
+    // Session `i`, which is connected, loses its peer, and its calls end. No packet of it is queued.
     fn break_idle<K: Continuation, R: Recorder>(&mut self, i: usize, k: &mut K, rec: &mut R)
         requires known { i < length self.old.lists.clients }
+        requires connected { IsConnected (slice_get self.old.lists.clients i) }
         requires idle { IsIdle i self.old.lists.queued }
-        ensures ended { MakesEnds R.facts R.whole K.given (Notes (breaking i)) self.old self.new
-            rec.old rec.new k.old k.new }
+        ensures ended { MakesEnds R.facts R.whole K.given (Notes (breaking i)) (timed_of self.old)
+            (timed_of self.new) rec.old rec.new k.old k.new }
         ensures servers { self.new.lists.servers ≡ self.old.lists.servers }
         ensures me { self.new.lists.me ≡ self.old.lists.me }
         ensures jobs { self.new.lists.jobs ≡ self.old.lists.jobs }
+        ensures handed { GivesBackTo K.given self.old.handed self.new.handed k.old k.new }
     {
         lose_session(&mut self.store, self.me, i, k, rec);
     }
 
-    /// Session `i` breaks: the queued packets of all its calls are taken out, and then its calls
-    /// end, in the order of their numbers.
+    /// Session `i`, which is connected, breaks: the queued packets of all its calls are taken out,
+    /// and then its calls end, in the order of their numbers.
     pub(crate) fn break_session<K: Continuation, R: Recorder>(
         &mut self,
         i: usize,
@@ -197,11 +208,13 @@ impl Node {
         rec: &mut R,
     )
         requires known { i < length self.old.lists.clients }
-        ensures ended { MakesEnds R.facts R.whole K.given (Notes (breaking_off i)) self.old self.new
-            rec.old rec.new k.old k.new }
+        requires connected { IsConnected (slice_get self.old.lists.clients i) }
+        ensures ended { MakesEnds R.facts R.whole K.given (Notes (breaking_off i))
+            (timed_of self.old) (timed_of self.new) rec.old rec.new k.old k.new }
         ensures servers { self.new.lists.servers ≡ self.old.lists.servers }
         ensures me { self.new.lists.me ≡ self.old.lists.me }
         ensures jobs { self.new.lists.jobs ≡ self.old.lists.jobs }
+        ensures handed { GivesBackTo K.given self.old.handed self.new.handed k.old k.new }
     {
         self.flush_session(i, rec);
         self.break_idle(i, k, rec);

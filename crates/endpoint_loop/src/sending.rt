@@ -1,6 +1,7 @@
 //! Step 6 of a poll: what is ready or due is sent.
-ghost use Rattle.std.specs.Prelude.{◌≡◌, ◌≢◌, ◌<◌, ◌↔◌, [], true, false, length, IfOk, IsTrue};
-ghost use Rattle.std.specs.Prelude.{OnErr};
+ghost use Rattle.endpoint_loop.specs.Handing.{timed_of};
+ghost use Rattle.std.specs.Prelude.{◌≡◌, ◌≢◌, ◌<◌, ◌+◌, ◌↔◌, [], true, false, length, IfOk};
+ghost use Rattle.std.specs.Prelude.{IsTrue, OnErr};
 ghost use Rattle.endpoint_loop.specs.Noting.{MakesSent, SendsNone};
 ghost use Rattle.rpc_laws.specs.Pacing.{line};
 ghost use Rattle.rpc_laws.specs.PollOrder.{Sends, SendsSome};
@@ -12,6 +13,15 @@ use packet_header::HEAD_BYTES;
 use rpc_base::{Event, Who};
 use rpc_outside::{Failed, Link, Recorder, Taken};
 
+/// What was sent.
+#[derive(Clone, Copy, Debug, PartialEq, Eq)]
+pub struct Sending {
+    /// How many packets.
+    pub sent: u32,
+    /// Whether the link was busy, which left packets that may be sent.
+    pub busy: bool,
+}
+
 impl Node {
     // Sends the front of the queue, which may be sent by now, where it lies. The result tells
     // whether the link took it; where it was busy, or failed, the packet stays in front.
@@ -21,20 +31,21 @@ impl Node {
         rec: &mut R,
     ) -> Result<bool, Failed>
         requires some { line self.old.clock self.old.lists.queued ≢ [] }
-        ensures sent { IfOk result (λ went. went ≡ true →
-            MakesSent R.facts R.whole L.sent Sends self.old self.new rec.old rec.new link.old
-            link.new × (L.busies link.new ≡ L.busies link.old)) }
-        ensures busy { IfOk result (λ went. went ≡ false →
-            SendsNone L.sent self.old self.new rec.old rec.new link.old link.new
-            × HasRisen (L.busies link.old) (L.busies link.new)) }
-        ensures fault { OnErr result
-            (SendsNone L.sent self.old self.new rec.old rec.new link.old link.new) }
+        ensures sent { IfOk result (λ went. went ≡ true → MakesSent R.facts R.whole L.sent Sends
+            (timed_of self.old) (timed_of self.new) rec.old rec.new link.old link.new ×
+            (L.busies link.new ≡ L.busies link.old)) }
+        ensures busy { IfOk result (λ went. went ≡ false → SendsNone L.sent (timed_of self.old)
+            (timed_of self.new) rec.old rec.new link.old link.new × HasRisen (L.busies link.old)
+            (L.busies link.new)) }
+        ensures fault { OnErr result (SendsNone L.sent (timed_of self.old) (timed_of self.new)
+            rec.old rec.new link.old link.new) }
         ensures fewer { IfOk result (λ went. went ≡ true →
             length self.new.lists.queued < length self.old.lists.queued) }
         ensures jobs { self.new.lists.jobs ≡ self.old.lists.jobs }
         ensures servers { self.new.lists.servers ≡ self.old.lists.servers }
         ensures lists { NoneComes L.waiting L.received link.old link.new }
         ensures cause { HasCause (L.faults link.old) (L.faults link.new) result }
+        ensures handed { self.new.handed ≡ self.old.handed }
     {
         let Some(entry) = self.store.front(self.clock) else {
             unreachable!()
@@ -67,30 +78,36 @@ impl Node {
     }
 
     /// Step 6 of a poll: what is ready is sent, the oldest first, and then what is due by now,
-    /// until none of it is left or the link is busy or fails. The result tells whether the link was
-    /// busy. What wasn't sent stays queued in its order.
+    /// until none of it is left or the link is busy or fails. What wasn't sent stays queued in its
+    /// order.
     pub fn send_all<L: Link, R: Recorder>(
         &mut self,
         link: &mut L,
         rec: &mut R,
-    ) -> Result<bool, Failed>
-        ensures sent { MakesSent R.facts R.whole L.sent SendsSome self.old self.new rec.old rec.new
-            link.old link.new }
-        ensures all { IfOk result (λ busy. busy ≡ false → (line self.new.clock
+    ) -> Result<Sending, Failed>
+        ensures sent { MakesSent R.facts R.whole L.sent SendsSome (timed_of self.old)
+            (timed_of self.new) rec.old rec.new link.old link.new }
+        ensures all { IfOk result (λ s. s.busy ≡ false → (line self.new.clock
             self.new.lists.queued ≡ [])
             × (L.busies link.new ≡ L.busies link.old)) }
-        ensures busy { IfOk result (λ busy. busy ≡ true →
+        ensures busy { IfOk result (λ s. s.busy ≡ true →
             HasRisen (L.busies link.old) (L.busies link.new)) }
+        ensures count { IfOk result (λ s.
+            s.sent + length self.new.lists.queued ≡ length self.old.lists.queued) }
         ensures jobs { self.new.lists.jobs ≡ self.old.lists.jobs }
         ensures servers { self.new.lists.servers ≡ self.old.lists.servers }
         ensures lists { NoneComes L.waiting L.received link.old link.new }
         ensures cause { HasCause (L.faults link.old) (L.faults link.new) result }
+        ensures handed { self.new.handed ≡ self.old.handed }
     {
+        let before = self.store.queued();
         'packets: while !self.is_all_sent() {
             if !self.send_front(link, rec)? {
-                return Ok(true);
+                let sent = before - self.store.queued();
+                return Ok(Sending { sent, busy: true });
             }
         }
-        Ok(false)
+        let sent = before - self.store.queued();
+        Ok(Sending { sent, busy: false })
     }
 }

@@ -1,4 +1,5 @@
 //! Step 3 of a poll, for requests: a Request or RFR in front of the receive ring is handled.
+ghost use Rattle.endpoint_loop.specs.Handing.{timed_of};
 ghost use Rattle.std.specs.Prelude.{◌≡◌, ◌<◌, ◌+◌, true, Some, IfSome, drop, length, slice_get};
 ghost use Rattle.std.specs.List.{position};
 ghost use Rattle.endpoint_loop.specs.Serving.{AllServed, MakesServed, ServesRequest};
@@ -50,10 +51,11 @@ impl Node {
           mode = V.mode_of;
           answer = V.answer;
         }) (V.stands service.old) (V.stands service.new) (ServesRequest V.mode_of head.now) result
-            self.old self.new rec.old rec.new }
+            (timed_of self.old) (timed_of self.new) rec.old rec.new }
         ensures served { AllServed V.mode_of self.new.lists.servers }
         ensures ring { self.new.lists.ring ≡ drop 1 self.old.lists.ring }
         ensures clients { self.new.lists.clients ≡ self.old.lists.clients }
+        ensures handed { self.new.handed ≡ self.old.handed }
     {
         let full = self.jobs_full();
         let Some(front) = self.rx.front() else {
@@ -108,10 +110,11 @@ impl Node {
           mode = V.mode_of;
           answer = V.answer;
         }) (V.stands service.old) (V.stands service.new) (ServesRequest V.mode_of head.now) result
-            self.old self.new rec.old rec.new }
+            (timed_of self.old) (timed_of self.new) rec.old rec.new }
         ensures served { AllServed V.mode_of self.new.lists.servers }
         ensures ring { self.new.lists.ring ≡ drop 1 self.old.lists.ring }
         ensures clients { self.new.lists.clients ≡ self.old.lists.clients }
+        ensures handed { self.new.handed ≡ self.old.handed }
     {
         let Some(front) = self.rx.front() else {
             unreachable!()

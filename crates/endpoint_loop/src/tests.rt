@@ -1,5 +1,5 @@
 //! A node by itself: one that has nothing to do, one whose link fails, and calls that are refused.
-use crate::{AskError, Node};
+use crate::{AskError, Node, Sending};
 use message_buffer::MsgBuf;
 use rpc_base::{Event, Limits, NoMemory, NodeId, Peer, SessionNo, SessionState};
 use rpc_outside::{MemLink, MemRecorder, PlainDuty};
@@ -18,7 +18,11 @@ fn an_idle_node_polls_and_sends_nothing(rt: HostRuntime) -> Result<(), Fail> {
     node.finish_all(&mut workers, &mut rec);
     node.deliver(Peer(1), b"no packet", &mut rec);
     node.serve_sessions(&mut rec);
-    assert_eq!(rt; node.send_all(&mut link, &mut rec), Ok(false));
+    let sending = Sending {
+        sent: 0,
+        busy: false,
+    };
+    assert_eq!(rt; node.send_all(&mut link, &mut rec), Ok(sending));
     node.close(&mut rec);
     assert!(rt; link.sent(0).is_none());
     assert!(rt; rec.whole());
@@ -49,7 +53,8 @@ fn a_packet_that_met_a_fault_is_sent_in_the_next_poll(rt: HostRuntime) -> Result
     let mut node = Node::new(alloc, NodeId(0), Limits::usual())?;
     let mut link = failing_link(alloc)?;
     let mut rec = MemRecorder::new(alloc);
-    node.pair_client(alloc, Peer(1), SessionNo(0), 1, &mut rec)?;
+    let paired = node.pair_client(alloc, Peer(1), SessionNo(0), 1, &mut rec);
+    assert!(rt; paired == Ok(SessionNo(0)));
     let req = hello(alloc)?;
     let resp = MsgBuf::new(alloc, 64)?;
     assert!(rt; node.ask(SessionNo(0), 1, req, resp, 7, &mut rec).is_ok());
@@ -59,7 +64,11 @@ fn a_packet_that_met_a_fault_is_sent_in_the_next_poll(rt: HostRuntime) -> Result
     assert!(rt; link.sent(0).is_none());
     assert_eq!(rt; rec.facts().len(), 5);
     node.serve_sessions(&mut rec);
-    assert_eq!(rt; node.send_all(&mut link, &mut rec), Ok(false));
+    let sending = Sending {
+        sent: 1,
+        busy: false,
+    };
+    assert_eq!(rt; node.send_all(&mut link, &mut rec), Ok(sending));
     assert_eq!(rt; rec.facts().len(), 6);
     let bytes: &[u8] = b"\xe1\x00\x01\x00\x00\x05\x00\x00\x00\x00\x00\x00\x00\x00\x00\x00hello";
     assert!(rt; link.sent(0) == Some((Peer(1), bytes)));

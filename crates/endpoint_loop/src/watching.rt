@@ -1,6 +1,9 @@
 //! Step 4 of a poll: the timers. A call that timed out is rolled back, and one that timed out once
 //! too often breaks its session.
+ghost use Rattle.endpoint_loop.specs.Handing.{GivesBackTo, timed_of};
 ghost use Rattle.std.specs.Prelude.{◌≡◌, ◌<◌, length};
+ghost use Rattle.std.specs.List.{AllByRecursion};
+ghost use Rattle.endpoint_loop.specs.Fits.{IsSettled};
 ghost use Rattle.endpoint_loop.specs.Noting.{MakesEnds};
 ghost use Rattle.endpoint_loop.specs.Watching.{LooksAt, calls_at};
 ghost use Rattle.rpc_laws.specs.ControlSteps.{TimesAll, TimesSession};
@@ -28,10 +31,11 @@ impl Node {
         requires known { i < length self.old.lists.clients }
         requires active { ActiveAt i active.now self.old.lists.clients }
         ensures ended { MakesEnds R.facts R.whole K.given (Watches timeout i active.now.call)
-            self.old self.new rec.old rec.new k.old k.new }
+            (timed_of self.old) (timed_of self.new) rec.old rec.new k.old k.new }
         ensures servers { self.new.lists.servers ≡ self.old.lists.servers }
         ensures me { self.new.lists.me ≡ self.old.lists.me }
         ensures jobs { self.new.lists.jobs ≡ self.old.lists.jobs }
+        ensures handed { GivesBackTo K.given self.old.handed self.new.handed k.old k.new }
     {
         match self.store.timer(i, active, self.clock, timeout) {
             TimerRow::Waits => {}
@@ -49,12 +53,13 @@ impl Node {
         k: &mut K,
         rec: &mut R,
     ) -> Option<CallNo>
-        ensures looks { LooksAt R.facts R.whole K.given timeout i after result self.old self.new
-            rec.old rec.new k.old k.new }
-        ensures order { Ascends (calls_at i self.old) }
+        ensures looks { LooksAt R.facts R.whole K.given timeout i after result (timed_of self.old)
+            (timed_of self.new) rec.old rec.new k.old k.new }
+        ensures order { Ascends (calls_at i (timed_of self.old)) }
         ensures servers { self.new.lists.servers ≡ self.old.lists.servers }
         ensures me { self.new.lists.me ≡ self.old.lists.me }
         ensures jobs { self.new.lists.jobs ≡ self.old.lists.jobs }
+        ensures handed { GivesBackTo K.given self.old.handed self.new.handed k.old k.new }
     {
         if i >= self.store.clients() {
             return None;
@@ -75,11 +80,12 @@ impl Node {
         k: &mut K,
         rec: &mut R,
     )
-        ensures ended { MakesEnds R.facts R.whole K.given (TimesSession timeout i) self.old self.new
-            rec.old rec.new k.old k.new }
+        ensures ended { MakesEnds R.facts R.whole K.given (TimesSession timeout i)
+            (timed_of self.old) (timed_of self.new) rec.old rec.new k.old k.new }
         ensures servers { self.new.lists.servers ≡ self.old.lists.servers }
         ensures me { self.new.lists.me ≡ self.old.lists.me }
         ensures jobs { self.new.lists.jobs ≡ self.old.lists.jobs }
+        ensures handed { GivesBackTo K.given self.old.handed self.new.handed k.old k.new }
     {
         if i >= self.store.clients() {
             return;
@@ -94,10 +100,12 @@ impl Node {
     /// numbers, at the node's clock. A call that timed out is rolled back, and one that timed out
     /// once too often breaks its session, whose calls end. A session without calls is passed over.
     pub fn watch<K: Continuation, R: Recorder>(&mut self, k: &mut K, rec: &mut R)
-        ensures ended { MakesEnds R.facts R.whole K.given TimesAll self.old self.new rec.old rec.new
-            k.old k.new }
+        ensures ended { MakesEnds R.facts R.whole K.given TimesAll (timed_of self.old)
+            (timed_of self.new) rec.old rec.new k.old k.new }
+        ensures settled { AllByRecursion IsSettled self.old.lists.clients }
         ensures servers { self.new.lists.servers ≡ self.old.lists.servers }
         ensures jobs { self.new.lists.jobs ≡ self.old.lists.jobs }
+        ensures handed { GivesBackTo K.given self.old.handed self.new.handed k.old k.new }
     {
         let timeout = self.limits.timeout;
         let count = self.store.clients();

@@ -3,9 +3,8 @@ use Rattle.std.specs.Prelude.{ℕ, List}
 use Rattle.rpc_laws.specs.declared.tables.InFlight.{InFlight}
 use Rattle.rpc_outside.specs.Linking.{Carried}
 
--- the node, what it sent, each with the node that it goes to, and how often memory was wanting
+-- what a node sent, each with the node that it goes to, and how often memory was wanting
 pub record Sending : Type 0 where
-  pub me : ℕ
   pub sent : List Carried
   pub faults : ℕ
 

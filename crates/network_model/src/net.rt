@@ -61,7 +61,8 @@ impl Net {
         Ok(())
     }
 
-    fn put(&mut self, copy: InFlight) -> Result<(), NoMemory>
+    // Puts a copy at the end.
+    pub(crate) fn put(&mut self, copy: InFlight) -> Result<(), NoMemory>
         ensures put { OnOk result (self.new ≡ self.old ++ copy ∷ []) }
         ensures unchanged { OnErr result (self.new ≡ self.old) }
     {

@@ -7,6 +7,7 @@ ghost use Rattle.rpc_outside.specs.declared.link.Taken.TheVariants.{Whole};
 
 use crate::net::Net;
 use rpc_base::{NoMemory, NodeId, Octets, Peer};
+use rpc_laws::InFlight;
 use rpc_outside::{Failed, Got, Link, MOST_LINK_BYTES, Taken};
 use std::alloc::Global;
 use std::marker::Model;
@@ -16,7 +17,6 @@ use std::marker::Model;
 /// arrives. Contracts see what was sent, and how often it failed.
 #[derive(Debug, Drop)]
 pub struct NodeLink {
-    me: NodeId,
     sent: Vec<(Peer, Octets)>,
     faults: u64,
 }
@@ -26,28 +26,31 @@ impl Model for NodeLink {
 
     ghost Value = { Sending };
 
-    ghost view = { λ l. record { me = l.me; sent = l.sent.items; faults = l.faults } };
+    ghost view = { λ l. record { sent = l.sent.items; faults = l.faults } };
 }
 
 impl NodeLink {
-    /// The link of node `me`, by which nothing was sent. Takes no memory yet.
-    pub fn new(alloc: Global, me: NodeId) -> NodeLink
-        ensures { result ≡ record { me = me; sent = []; faults = 0 } }
+    /// A link by which nothing was sent. Takes no memory yet.
+    pub fn new(alloc: Global) -> NodeLink
+        ensures { result ≡ record { sent = []; faults = 0 } }
     {
         NodeLink {
-            me,
             sent: Vec::new(alloc),
             faults: 0,
         }
     }
 
-    /// Puts what was sent into the network, in order, behind what is in flight. `NoMemory` comes
-    /// only where there is no memory for it.
-    pub fn send_into(&self, net: &mut Net) -> Result<(), NoMemory>
-        ensures { OnOk result (net.new ≡ net.old ++ map (copy_from self.now.me) self.now.sent) }
+    /// Puts what was sent into the network as of node `me`, in order, behind what is in flight.
+    /// Nothing is copied. `NoMemory` comes only where there is no memory for the places.
+    pub fn send_into(self, me: NodeId, net: &mut Net) -> Result<(), NoMemory>
+        ensures { OnOk result (net.new ≡ net.old ++ map (copy_from me) self.sent) }
     {
-        'datagrams: for datagram in &self.sent {
-            net.send(self.me, NodeId(datagram.0.0), &[], datagram.1.bytes())?;
+        'datagrams: for (to, bytes) in self.sent {
+            net.put(InFlight {
+                from: me,
+                to: NodeId(to.0),
+                bytes,
+            })?;
         }
         Ok(())
     }
@@ -88,7 +91,6 @@ impl Link for NodeLink {
         ensures kept { OnOk result
             (self.new.sent ≡ self.old.sent ++ (to, head.now ++ body.now) ∷ []) }
         ensures unsent { OnErr result (self.new.sent ≡ self.old.sent) }
-        ensures me { self.new.me ≡ self.old.me }
         ensures cause { HasCause self.old.faults self.new.faults result }
     {
         if keep(&mut self.sent, to, head, body).is_err() {

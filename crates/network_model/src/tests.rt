@@ -38,9 +38,9 @@ fn what_a_node_sent_stands_behind_what_is_in_flight(rt: HostRuntime) -> Result<(
     let alloc = rt.alloc();
     let mut net = Net::new(alloc);
     net.send(ZERO, ONE, b"head", b"a")?;
-    let mut link = NodeLink::new(alloc, ONE);
+    let mut link = NodeLink::new(alloc);
     assert_eq!(rt; link.send(Peer(0), b"head", b"b"), Ok(Taken::Whole));
-    link.send_into(&mut net)?;
+    link.send_into(ONE, &mut net)?;
     assert_eq!(rt; net.len(), 2);
     assert_eq!(rt; shown(net.carry(0)), Some((0, b'a')));
     assert_eq!(rt; shown(net.carry(0)), Some((1, b'b')));

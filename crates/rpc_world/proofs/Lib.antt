@@ -10,6 +10,7 @@ pub mod PollingLemmas
 pub mod QuietLemmas
 pub mod ServedLaws
 pub mod StageLemmas
+pub mod StandLemmas
 pub mod StaysLemmas
 pub mod StepLemmas
 pub mod WorkingLemmas

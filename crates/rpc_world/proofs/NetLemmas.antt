@@ -96,6 +96,7 @@ none-of n (w ∷ worked) all =
 module _ (ring : ℕ) (z : Play) (e : End)
     (made : e ≡ record {
       timed = new_node (length z.ends) (with_ring ring);
+      handed = [];
       service = 0;
       workers = record { limit = 64; given = 0; waiting = []; worked = [] };
     }) where

@@ -6,7 +6,7 @@ use Rattle.std.specs.Prelude.{option_map}
 use Rattle.std.specs.List.{slice_get, slice_set}
 use Rattle.std.proofs.lemmas.Option.{slice_get-map}
 use Rattle.end_laws.proofs.ListLemmas.{set-other}
-use Rattle.endpoint_loop.specs.Applying.{Leaves}
+use Rattle.endpoint_loop.specs.Applying.{Leaves, PairsClient, PairsServer, or_refused}
 use Rattle.endpoint_loop.specs.Running.{asks_of}
 use Rattle.endpoint_loop.specs.Seen.{Asks, asking}
 use Rattle.ring_laws.proofs.Frames.{map-set, set-same}
@@ -18,7 +18,8 @@ use Rattle.rpc_laws.specs.declared.tables.Lists.{Lists}
 use Rattle.rpc_laws.specs.declared.tables.Timed.{Timed}
 use Rattle.rpc_laws.specs.declared.tables.WorkedJob.{WorkedJob}
 use Rattle.rpc_laws.specs.Facts.{plain}
-use Rattle.rpc_laws.specs.Groups.{clients_spent, has_no_room, pair_refusal, server_refusal, servers_spent, shares}
+use Rattle.rpc_laws.specs.Groups.{client_refusal, clients_spent, has_no_room, pair_refusal}
+use Rattle.rpc_laws.specs.Groups.{server_refusal, servers_spent, shares}
 use Rattle.rpc_laws.specs.Steps.{NotesNext}
 use Rattle.sim_script.specs.FollowsScript.{Pairs, PairsEnds, is_wanting, noted}
 use Rattle.rpc_world.specs.Answered.{End, Plainly, Play, stage_of, told_end, totals_of}
@@ -49,6 +50,54 @@ pub takes-server : (credits : ℕ) (l : Lists) → pair_refusal credits l ≡ No
 takes-server credits l h =
     server-free (clients_spent l) (servers_spent l) (has_no_room credits l) NconnectNumbers
     (NconnectRing (shares l) credits l.room) h
+
+client-free : (a b c : Bool) (e f : Event)
+    → cond (a || b) (Some e) (cond c (Some f) None) ≡ None → cond a (Some e) (cond c (Some f) None) ≡ None
+client-free true b c e f h = cc
+client-free false true c e f h = cc
+client-free false false c e f h = h
+
+pub takes-client : (credits : ℕ) (l : Lists) → pair_refusal credits l ≡ None → client_refusal credits l ≡ None
+takes-client credits l h =
+    client-free (clients_spent l) (servers_spent l) (has_no_room credits l) NconnectNumbers
+    (NconnectRing (shares l) credits l.room) h
+
+pub fits-own : (a credits : ℕ) (z s : Play) (client : End) → z ≡ s → TakesEnd a credits s
+    → slice_get z.ends a ≡ Some client → client_refusal credits client.timed.lists ≡ None
+fits-own a credits z s client view fits at =
+    takes-client credits client.timed.lists
+    (fits client (ap (λ (y : Play). slice_get y.ends a) (sym view) ∙ at))
+
+-- an end that nothing refuses is made
+pub client-made : (peer other credits : ℕ) (e new : End) (x : List Fact)
+    → client_refusal credits e.timed.lists ≡ None
+    → ((asks : Asks) → PairsClient peer other credits (asking asks e.timed) x (asking asks new.timed))
+    → (asks : Asks) → NotesNext (λ l. Some (PairedClient (length l.clients) peer other credits))
+    (asking asks e.timed) x (asking asks new.timed)
+client-made peer other credits e new x none step asks =
+    let made = PairedClient (length e.timed.lists.clients) peer other credits in
+    let h = step asks in
+    record {
+      event = made;
+      is_next = refl;
+      facts = h.facts ∙ ap (λ o. plain e.timed.lists.me (or_refused o made) ∷ []) none;
+      goes = h.goes;
+    }
+
+pub server-made : (peer other credits : ℕ) (e new : End) (x : List Fact)
+    → server_refusal credits e.timed.lists ≡ None
+    → ((asks : Asks) → PairsServer peer other credits (asking asks e.timed) x (asking asks new.timed))
+    → (asks : Asks) → NotesNext (λ l. Some (PairedServer l.server_numbers peer other credits))
+    (asking asks e.timed) x (asking asks new.timed)
+server-made peer other credits e new x none step asks =
+    let made = PairedServer e.timed.lists.server_numbers peer other credits in
+    let h = step asks in
+    record {
+      event = made;
+      is_next = refl;
+      facts = h.facts ∙ ap (λ o. plain e.timed.lists.me (or_refused o made) ∷ []) none;
+      goes = h.goes;
+    }
 
 pub fits-other : (a b credits : ℕ) (z s : Play) (client2 server : End) → z ≡ s → b ≢ a → TakesEnd b credits s
     → slice_get (slice_set z.ends a client2) b ≡ Some server → server_refusal credits server.timed.lists ≡ None

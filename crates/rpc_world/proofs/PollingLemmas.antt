@@ -1,19 +1,26 @@
 -- A poll of an endpoint, as what a script did.
-use Rattle.std.proofs.Common.{◌≡◌, ℕ, ◌≤◌, ◌⊎◌, inl, inr, Bool, true, false, Some, None, Result, Ok, Err}
+use Rattle.std.proofs.Common.{◌≡◌, ℕ, ◌≤◌, ◌⊎◌, inl, inr, Bool, true, false, Option, Some}
 use Rattle.std.proofs.Common.{List, [], ◌∷◌, ◌++◌, map, length, refl, sym, ap, ap₂, subst, ◌∙◌, arith}
-use Rattle.std.specs.Prelude.{IfOk}
+use Rattle.std.proofs.Common.{append-nil, append_assoc}
+use Rattle.std.specs.Prelude.{option_map, slice_set}
 use Rattle.std.proofs.lemmas.List.{map-append}
 use Rattle.std.proofs.lemmas.Simd.{map-map}
 use Rattle.end_laws.proofs.OwnFacts.{poll-own}
 use Rattle.endpoint_loop.specs.Finishing.{FinishesThese, NoneBack, jobs_left}
-use Rattle.endpoint_loop.specs.Polling.{FinishesBack, PollsWith as EndPolls, SendsOver, is_stopped}
+use Rattle.endpoint_loop.specs.Noting.{sent_by, sent_of}
+use Rattle.endpoint_loop.specs.Polling.{FinishesBack, PollsWith as EndPolls, SendsOver}
 use Rattle.endpoint_loop.specs.Running.{Crew}
 use Rattle.endpoint_loop.specs.Seen.{Asks, with_ask}
 use Rattle.endpoint_loop.specs.Serving.{job_named}
 use Rattle.node_laws.specs.Kept.{Kept}
+use Rattle.network_model.specs.Sending.{copy_from}
+use Rattle.rpc_base.specs.declared.event.Event.{Event}
+use Rattle.rpc_base.specs.declared.event.Event.TheVariants.{Sent}
 use Rattle.rpc_base.specs.declared.fact.Fact.{Fact}
 use Rattle.rpc_laws.proofs.PollLemmas.{poll-within}
+use Rattle.rpc_laws.specs.declared.tables.InFlight.{InFlight}
 use Rattle.rpc_laws.specs.declared.tables.Job.{Job}
+use Rattle.rpc_laws.specs.InFlight.{flight_after, flight_after_all, flight_after_node}
 use Rattle.rpc_laws.specs.declared.tables.Timed.{Timed}
 use Rattle.rpc_laws.specs.declared.tables.WorkedJob.{WorkedJob}
 use Rattle.rpc_base.specs.Tables.{without_first}
@@ -24,8 +31,9 @@ use Rattle.rpc_laws.specs.PollOrder.{Closes, HandlesAll, PollBy, PostsAll, Sends
 use Rattle.rpc_laws.specs.Queues.{replies}
 use Rattle.rpc_laws.specs.Service.{plain_serving}
 use Rattle.rpc_laws.specs.Steps.{Rel, Then}
-use Rattle.rpc_laws.specs.Working.{FinishesEach, FinishesWorked}
-use Rattle.rpc_outside.specs.Faults.{HasCause, HasRisen}
+use Rattle.rpc_laws.specs.Working.{FinishesEach, FinishesWorked, worked_after_all}
+use Rattle.rpc_outside.specs.Faults.{HasRisen}
+use Rattle.rpc_outside.specs.Linking.{Carried}
 use Rattle.rpc_outside.specs.PlainAnswer.{background_answer, plain_mode}
 use Rattle.sim_script.specs.FollowsScript.{AtNode, PollsNode}
 use Rattle.rpc_world.specs.Answered.{End, Play, ServesAll, Whole, stage_of, told_end}
@@ -33,7 +41,7 @@ use Rattle.rpc_world.specs.Before.{IsPlaying, staff_of}
 use Rattle.rpc_world.specs.Performed.{Performed}
 use Rattle.rpc_world.proofs.EndLemmas.{staffed-has, valid-told}
 use Rattle.rpc_world.proofs.PlainLemmas.{AllOf, all-owned, plainly-served}
-use Rattle.rpc_world.proofs.StepLemmas.{NodeStep, performed-as}
+use Rattle.rpc_world.proofs.StepLemmas.{NodeStep, performed-as, stepped_play}
 use Rattle.work_laws.proofs.NameLemmas.{out-names}
 use Rattle.work_laws.proofs.PollLaws.{polls-known}
 use Rattle.work_laws.specs.Known.{FinishesFirst, job_name, left_names, worked_as}
@@ -41,18 +49,35 @@ use Rattle.work_laws.specs.Laws.{PollsKnown, PollsWith}
 use Rattle.worker_board.specs.declared.Parcel.{Parcel}
 use Rattle.worker_crew.specs.Local.{Local}
 
--- a link that is never busy and never fails doesn't stop the sending
-not-risen : HasRisen 0 0 → ⊥
-not-risen h = absurd (omega (arith, h.rose))
-
-never-busy : (b : Bool) → (b ≡ true → HasRisen 0 0) → b ≡ false
-never-busy true h = absurd (not-risen (h refl))
+-- a link that is never busy doesn't stop the sending, where it doesn't fail
+pub never-busy : (b : Bool) → (b ≡ true → HasRisen 0 0) → b ≡ false
+never-busy true h = let risen = h refl in absurd (omega (arith, risen.rose))
 never-busy false h = refl
 
-pub never-stopped : {E : Type 0} (o : Result Bool E) → IfOk o (λ busy. busy ≡ true → HasRisen 0 0)
-    → HasCause 0 0 o → is_stopped o ≡ false
-never-stopped (Ok busy) h c = never-busy busy h
-never-stopped (Err e) h c = absurd (not-risen c)
+-- a link by which nothing was sent before
+pub sent-all : (a b x : List Carried) → Some b ≡ option_map (λ ds. ds ++ x) (Some a) → a ≡ []
+    → b ≡ x
+sent-all a b x h none =
+    let same : b ≡ a ++ x = cc in same ∙ ap (λ ds. ds ++ x) none
+
+-- what a node sends stands behind what was in flight
+sent-one : (n : ℕ) (e : Event) (first second : List ℕ) (f : List InFlight)
+    → flight_after_node n e first second f ≡ f ++ map (copy_from n) (sent_by e first second)
+sent-one n (Sent peer owner k) first second f = refl
+sent-one n _ first second f = sym (append-nil f)
+
+pub sent-flight : (n : ℕ) (x : List Fact) (f : List InFlight) → AllOf n x
+    → flight_after_all f x ≡ f ++ map (copy_from n) (sent_of x)
+sent-flight n [] f own = sym (append-nil f)
+sent-flight n (g ∷ x) f own =
+    let one : flight_after f g
+    ≡ f ++ map (copy_from n) (sent_by g.event g.first g.second) =
+    ap (λ who. flight_after f (record g { who = who })) own.0 ∙ sent-one n g.event g.first g.second f in
+    sent-flight n x (flight_after f g) own.1
+    ∙ ap (λ c. c ++ map (copy_from n) (sent_of x)) one
+    ∙ append_assoc f (map (copy_from n) (sent_by g.event g.first g.second))
+    (map (copy_from n) (sent_of x))
+    ∙ ap (λ c. f ++ c) (sym (map-append (copy_from n) (sent_by g.event g.first g.second) (sent_of x)))
 
 -- what an endpoint is to its workers
 abbrev pub crew_of : Local → Crew
@@ -118,14 +143,14 @@ poll-as P Q R S mode now s x t f g h =
     (λ a y b k. then-as PostsAll PostsAll _ _ a y b (same PostsAll)
     (λ a y b k. then-as R S Closes Closes a y b g (same Closes) k) k) k) k) k) h
 
-sends-as : (b : Bool) (s : Timed) (x : List Fact) (t : Timed) → b ≡ false → SendsOver b None None s x t
-    → SendsAll s x t
-sends-as true s x t e h = cc
-sends-as false s x t e h = h.sends
+sends-as : (b : Bool) (sent then_sent : Option (List Carried)) (s : Timed) (x : List Fact) (t : Timed)
+    → b ≡ false → SendsOver b sent then_sent s x t → SendsAll s x t
+sends-as true sent then_sent s x t e h = cc
+sends-as false sent then_sent s x t e h = h.sends
 
 module _ (n now : ℕ) (worked : List WorkedJob) (e new : End) (x : List Fact) (stopped : Bool)
-    (k : Kept e.timed.lists) (goes_on : stopped ≡ false)
-    (p : EndPolls plain_serving background_answer stopped now None None (crew_of e.workers)
+    (sent then_sent : Option (List Carried)) (k : Kept e.timed.lists) (goes_on : stopped ≡ false)
+    (p : EndPolls plain_serving background_answer stopped now sent then_sent (crew_of e.workers)
     (crew_of new.workers) e.timed x new.timed)
     (plays : IsPlaying worked n e) where
   with-parcels : PollsWith plain_mode now p.parcels p.gave e.workers new.workers (told_end e) x (told_end new)
@@ -134,12 +159,12 @@ module _ (n now : ℕ) (worked : List WorkedJob) (e new : End) (x : List Fact) (
     given = cc (p.waits);
     polls = poll-as (FinishesBack background_answer p.parcels (crew_of e.workers) (crew_of new.workers))
         (FinishesFirst (map (worked_as (told_end e).lists.me) p.parcels) (new.workers.worked ≡ []))
-        (SendsOver stopped None None) SendsAll plain_mode now (told_end e) x (told_end new)
+        (SendsOver stopped sent then_sent) SendsAll plain_mode now (told_end e) x (told_end new)
         (λ s y t h. record {
           finishes = finishes-each background_answer (told_end e).lists.me p.parcels s y t h.finishes;
           over = over-as new.workers.worked (length t.lists.jobs.out) 0 0
               (t.lists.room ≤ replies t.lists.queued) h.over;
-        }) (λ s y t h. sends-as stopped s y t goes_on h) p.polls;
+        }) (λ s y t h. sends-as stopped sent then_sent s y t goes_on h) p.polls;
     names = asked-names _ new.timed.lists.jobs.out
         ∙ (ap (map job_name) p.jobs
         ∙ (map-append job_name (jobs_left p.parcels e.timed.lists.jobs.out) (map job_named p.gave)
@@ -154,7 +179,7 @@ module _ (n now : ℕ) (worked : List WorkedJob) (e new : End) (x : List Fact) (
       polls-known plain_mode now worked e.workers new.workers p.parcels p.gave (told_end e) x (told_end new)
       (valid-told e k) plays.knows (staffed-has e plays.staffed) with-parcels
 
-  mine : AllOf n x
+  pub mine : AllOf n x
   mine =
       let o = poll-own false plain_mode now (told_end e) x (told_end new) (λ e. cc)
       (poll-within worked plain_mode now (told_end e) x (told_end new) known.polls) in
@@ -173,6 +198,22 @@ module _ (n now : ℕ) (worked : List WorkedJob) (e new : End) (x : List Fact) (
     plain = λ a at. plainly-served n e.service new.service x a at mine serves whole;
     plays = record { me = still-me ∙ plays.me; staffed = p.staffed; knows = known.knows };
   }
+
+-- what was sent is in flight, as the facts tell
+pub landed : (z t : Play) (n : ℕ) (new : End) (f : List InFlight) (x : List Fact)
+    → t ≡ record {
+      ends = slice_set z.ends n new;
+      flight = f;
+      worked = worked_after_all z.worked x;
+      clock = z.clock;
+    } → f ≡ flight_after_all z.flight x → t ≡ stepped_play z n new x
+landed z t n new f x is same =
+    is ∙ ap (λ (g : List InFlight). record {
+      ends = slice_set z.ends n new;
+      flight = g;
+      worked = worked_after_all z.worked x;
+      clock = z.clock;
+    }) same
 
 -- the poll that the world asks for
 pub at-polls : (n now : ℕ) (s t : Play) (f g : List Fact) → now ≡ s.clock

@@ -1,7 +1,9 @@
 //! `pair A B`: both nodes are asked for room and a number, and get their ends of a session.
-ghost use Rattle.std.specs.Prelude.{◌≡◌, ◌≢◌, ◌<◌, ◌≤◌, ◌++◌, ◌∷◌, [], length, IfOk, OnOk};
+ghost use Rattle.std.specs.Prelude.{◌≡◌, ◌≢◌, ◌<◌, ◌≤◌, ◌++◌, ◌∷◌, [], length, None, Ok, IfErr, IfOk};
+ghost use Rattle.std.specs.Prelude.{OnOk};
 ghost use Rattle.rpc_laws.specs.Facts.{plain};
 ghost use Rattle.rpc_laws.specs.Groups.{pair_refusal};
+ghost use Rattle.session_mgmt.specs.Table.{refused};
 ghost use Rattle.sim_script.specs.FollowsScript.{Pairs};
 ghost use Rattle.rpc_world.specs.Performed.{Performed, AsksServer, NotesRefusal};
 ghost use Rattle.rpc_world.specs.Performed.{TakesEnd, TakesEnds};
@@ -67,6 +69,19 @@ fn next_number(count: u64) -> SessionNo
     SessionNo(count as u16)
 }
 
+// An end that nothing refuses is made, unless memory was wanting.
+fn made(end: Result<SessionNo, ConnectError>) -> Result<SessionNo, NoMemory>
+    requires fits { IfErr end (λ why. refused why ≡ None) }
+    ensures { IfOk result (λ session. end ≡ Ok session) }
+{
+    match end {
+        Ok(session) => Ok(session),
+        Err(ConnectError::NoMemory) => Err(NoMemory),
+        Err(ConnectError::NumbersSpent) => unreachable!(),
+        Err(ConnectError::RingFull { .. }) => unreachable!(),
+    }
+}
+
 // Both ends are made.
 fn make_ends(
     stage: &mut Running,
@@ -90,9 +105,9 @@ fn make_ends(
     let of_client = next_number(u64::from(stage.nodes.at(client).next_client()));
     let of_server = next_number(stage.nodes.at(server).next_server());
     let asking = stage.nodes.at_mut(client);
-    asking.pair_client(Peer(b.0), of_server, credits, rec)?;
+    made(asking.pair_client(Peer(b.0), of_server, credits, rec))?;
     let serving = stage.nodes.at_mut(server);
-    serving.pair_server(Peer(a.0), of_client, credits, rec)?;
+    made(serving.pair_server(Peer(a.0), of_client, credits, rec))?;
     check_whole(rec)?;
     Ok(())
 }

@@ -6,12 +6,12 @@ ghost use Rattle.rpc_world.specs.Performed.{Performed};
 ghost use Rattle.rpc_world.specs.Before.{IsNumbered};
 
 use crate::dropping::Dropping;
-use crate::landing::{check_wants, land};
+use crate::landing::{check_wants, land, land_sent};
 use crate::network::{note_of_net, perform_net};
 use crate::running::Running;
-use network_model::Copy;
+use network_model::{Copy, NodeLink};
 use rpc_base::{Event, NoMemory, NodeId, Peer};
-use rpc_outside::{FirmLink, MemRecorder};
+use rpc_outside::MemRecorder;
 use std::alloc::Global;
 
 /// `poll A`: polls the node at the world's clock.
@@ -29,12 +29,15 @@ pub fn poll_node(
 {
     let before = rec.facts().len();
     let now = stage.clock;
-    let mut link = FirmLink::new(Vec::new(alloc));
+    let mut link = NodeLink::new(alloc);
     let polled = stage.nodes.at_mut(usize::from(node.0));
     polled.sound();
-    let _answer = polled.poll(now, &mut link, &mut Dropping, rec);
+    // The link fails only where memory is wanting.
+    let Ok(_turn) = polled.poll(now, &mut link, &mut Dropping, rec) else {
+        return Err(NoMemory);
+    };
     check_wants(rec, before)?;
-    land(stage, rec, before)?;
+    land_sent(stage, rec, before, node, link)?;
     Ok(())
 }
 

@@ -1,5 +1,5 @@
 //! The world that runs a script.
-ghost use Rattle.std.specs.Prelude.{◌≡◌, List, [], None, IfOk};
+ghost use Rattle.std.specs.Prelude.{◌≡◌, ◌≢◌, List, [], None, IfOk};
 ghost use Rattle.node_laws.specs.CreditBalance.{Credit};
 ghost use Rattle.node_laws.specs.EndedCalls.{EndsClean};
 ghost use Rattle.node_laws.specs.OlderRequests.{BeginsClean};
@@ -11,36 +11,48 @@ ghost use Rattle.rpc_laws.specs.OwnAnswer.{Own};
 ghost use Rattle.ring_laws.specs.CalmRing.{MessagesFit};
 ghost use Rattle.ring_laws.specs.PairsOnce.{PairsOnce};
 ghost use Rattle.rpc_world.specs.Served.{later_of};
+ghost use Rattle.rpc_world.specs.Standing.{AllStand, StandsAt};
 ghost use Rattle.script_grammar.specs.Conditions.{IsScript};
 ghost use Rattle.sim_script.specs.FollowsScript.{Follows};
 ghost use Rattle.stall_laws.specs.NoStall.{NoStall};
 ghost use Rattle.world_laws.specs.Laws.{EachNode, EndTells, KeepsRing};
+ghost use Rattle.world_laws.specs.NodeFacts.{facts_of};
 
 use crate::command::execute;
 use crate::running::Running;
 use crate::serving::is_served;
-use rpc_base::NoMemory;
+use endpoint_loop::Endpoint;
+use rpc_base::{Listed, NoMemory, NodeId};
 use rpc_laws::History;
-use rpc_outside::MemRecorder;
+use rpc_outside::{MemRecorder, PlainDuty, PlainService};
 use sim_script::Script;
 use std::alloc::Global;
 use std::marker::Model;
+use worker_crew::LocalWorkers;
 
-/// A script that was run. Contracts see its history.
-#[derive(Debug, Drop)]
+/// A script that was run: its history, and its endpoints as it left them. Contracts see the
+/// history.
+#[derive(Drop)]
 pub struct World {
     history: History,
+    nodes: Listed<Endpoint<PlainService, LocalWorkers<PlainDuty>>>,
 }
 
 impl Model for World {
+    ghost use Rattle.rpc_base.specs.declared.fact.Fact.{Fact};
+    ghost use Rattle.rpc_world.specs.Standing.{AllStand};
+    ghost use Rattle.std.specs.Prelude.{List};
+
     ghost Value = { List Fact };
 
     ghost view = { λ w. w.history };
+
+    ghost invariant = { λ w. AllStand w.history w.nodes };
 }
 
 impl World {
-    /// The number of the first line that is a `connect`, a `disconnect` or a `rate`, which aren't
-    /// served yet; `None` exactly where there is none.
+    /// The number of the first line that is a `connect` or a `disconnect`, which aren't served yet;
+    /// `None` exactly where there is none.
     pub fn later(script: &Script) -> Option<u32>
         ensures { result ≡ later_of script.now }
     {
@@ -91,8 +103,10 @@ impl World {
         for line in script.lines() {
             execute(alloc, &mut stage, &mut rec, &line.command)?;
         }
+        let Running { nodes, .. } = stage;
         Ok(World {
             history: History::of(rec.into_facts()),
+            nodes,
         })
     }
 
@@ -101,5 +115,14 @@ impl World {
         ensures { result.now ≡ self.now }
     {
         &self.history
+    }
+
+    /// The endpoint of node `n` as the script left it. It stands for the facts of that node, of
+    /// which a node that the script declares has some.
+    pub fn node(&self, n: NodeId) -> &Endpoint<PlainService, LocalWorkers<PlainDuty>>
+        requires declared { facts_of n self.now ≢ [] }
+        ensures stands { StandsAt n self.now result.now }
+    {
+        self.nodes.at(usize::from(n.0))
     }
 }

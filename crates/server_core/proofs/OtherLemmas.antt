@@ -13,8 +13,9 @@ use Rattle.server_core.specs.declared.slot.SlotRequest.{SlotRequest}
 use Rattle.server_core.specs.declared.slot.Stored.{Stored}
 use Rattle.server_core.specs.KeepsPool.{LeavesOthers, answer_names, ask_names, names, own_names}
 use Rattle.server_core.specs.Replies.{held_at, place_of}
-use Rattle.server_core.specs.Serving.{begun, first_given, first_taken, given_up, gone_on}
-use Rattle.server_core.specs.Serving.{last_given, next_taken, without_answer, without_ask}
+use Rattle.server_core.specs.Serving.{all_given_up, begun, first_given, first_taken, given_up}
+use Rattle.server_core.specs.Serving.{gone_on, last_given, next_taken, without_answer, without_ask}
+use Rattle.server_core.specs.Serving.{without_buffers}
 use Rattle.server_core.specs.Session.{Session, answer_of, ask_of, is_in_slot, newest}
 use Rattle.server_core.proofs.PoolLemmas.{ChangesOne, ask-away as away-ask, names-cons, one-changed}
 use Rattle.server_core.proofs.PoolLemmas.{one-emptied, one-filled, one-held}
@@ -88,14 +89,31 @@ module _ (p : ℕ) (pool : Pool) where
       same-one p a.place new (emptied a.place new) (one-emptied a.place new)
       (answer-away p q a e is)
 
+  one-same : (q : SlotRequest) → own_names p q ≡ 0 → IsSame p pool (without_buffers q pool)
+  one-same q own = same-then p pool (without_ask (ask_of q.state) pool) (without_buffers q pool)
+      (ask-same q (ask_of q.state) own refl)
+      (answer-same (without_ask (ask_of q.state) pool) q (answer_of q.state) own refl)
+
   pub given-cases : (test : SlotRequest → Bool) (slots : List SlotRequest) (o : Option SlotRequest)
       → find test slots ≡ o → names p slots ≡ 0 → IsSame p pool (given_up o pool)
   given-cases test slots None e none = same-kept p pool
   given-cases test slots (Some q) e none =
-      let own = found-names p test slots q e none in
-      same-then p pool (without_ask (ask_of q.state) pool) (given_up (Some q) pool)
-      (ask-same q (ask_of q.state) own refl)
-      (answer-same (without_ask (ask_of q.state) pool) q (answer_of q.state) own refl)
+      one-same q (found-names p test slots q e none)
+
+-- all requests of a session are
+all-same : (p : ℕ) (pool : Pool) (slots : List SlotRequest) → names p slots ≡ 0
+    → IsSame p pool (all_given_up slots pool)
+all-same p pool [] none = same-kept p pool
+all-same p pool (q ∷ qs) none =
+    let parts = names-cons p q qs in
+    same-then p pool (without_buffers q pool) (all_given_up qs (without_buffers q pool))
+    (one-same p pool q (omega (arith, parts, none)))
+    (all-same p (without_buffers q pool) qs (omega (arith, parts, none)))
+
+pub all-others : (pool : Pool) (slots : List SlotRequest)
+    → LeavesOthers slots [] pool (all_given_up slots pool)
+all-others pool slots = λ p none used.
+    let same = all-same p pool slots none in (refl, same.use_is, same.buf_is)
 
 -- a request begins
 begun-names : (p : ℕ) (slots : List SlotRequest) (d : SlotRequest) → names p slots ≡ 0

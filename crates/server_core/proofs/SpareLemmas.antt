@@ -2,7 +2,7 @@
 use Rattle.std.proofs.Common.{◌≡◌, ℕ, ◌+◌, ◌*◌, ◌%◌, ◌≤◌, Bool, true, false, cond, Option, Some}
 use Rattle.std.proofs.Common.{None, List, [], ◌∷◌, length, refl, ap, ◌∙◌, arith}
 use Rattle.std.specs.Prelude.{IfSome, option_map}
-use Rattle.std.specs.List.{find}
+use Rattle.std.specs.List.{AllByRecursion, find}
 use Rattle.std.proofs.lemmas.List.Sums.{sum_by-append, sum_by-cons, sum_by-set}
 use Rattle.message_buffer.specs.Buffer.{Buffer}
 use Rattle.buffer_pool.specs.declared.usage.Use.TheVariants.{Empty, Full}
@@ -17,11 +17,12 @@ use Rattle.server_core.specs.KeepsPool.{IsKept, IsStored, KeepsPool, KeepsSpare,
 use Rattle.server_core.specs.KeepsPool.{ask_places, own_places, places}
 use Rattle.server_core.specs.Replies.{held_at, place_of}
 use Rattle.server_core.specs.Serving.{begun, first_given, first_taken, given_up, gone_on}
-use Rattle.server_core.specs.Serving.{last_given, next_taken, without_answer, without_ask}
+use Rattle.server_core.specs.Serving.{IsUnheld, all_given_up, last_given, next_taken}
+use Rattle.server_core.specs.Serving.{without_answer, without_ask, without_buffers}
 use Rattle.server_core.specs.Session.{IsSession, Session, answer_of, ask_of, is_in_slot, newest}
 use Rattle.server_core.proofs.ChangedLemmas.{without-none}
-use Rattle.server_core.proofs.GivenLemmas.{answer-full, ask-full}
-use Rattle.server_core.proofs.PlaceLemmas.{lowest-within, taken-out}
+use Rattle.server_core.proofs.GivenLemmas.{answer-full, ask-full, front-beside, unheld-rest}
+use Rattle.server_core.proofs.PlaceLemmas.{gone-keeps, lowest-within, taken-out}
 use Rattle.server_core.proofs.SlotLemmas.{most-slots}
 use Rattle.rpc_base.proofs.FirstLemmas.{found-holds}
 use Rattle.buffer_pool.proofs.CountLemmas.{spare_filled, full_used}
@@ -67,6 +68,24 @@ given-cases test pool slots (Some q) keeps e =
     let answer = spare-answer (without_ask (ask_of q.state) pool) (answer_of q.state)
     (answer-full pool q (without_first test slots) beside) in
     omega (arith, asked, answer, sum-without test q own_places slots e)
+
+-- all requests of a session are
+pub all-spare : (pool : Pool) (slots : List SlotRequest) → KeepsPool pool slots
+    → AllByRecursion (IsUnheld pool) slots → KeepsSpare slots [] pool (all_given_up slots pool)
+all-spare pool [] keeps unheld = refl
+all-spare pool (q ∷ qs) keeps unheld =
+    let beside = front-beside pool q qs keeps in
+    let asked = spare-ask pool (ask_of q.state) (ask-full pool q.size (ask_of q.state) beside.own.ask).0 in
+    let answer = spare-answer (without_ask (ask_of q.state) pool) (answer_of q.state)
+    (answer-full pool q qs beside) in
+    omega (
+      arith,
+      asked,
+      answer,
+      sum_by-cons own_places q qs,
+      all-spare (without_buffers q pool) qs (gone-keeps pool q qs beside)
+          (unheld-rest pool q qs beside unheld.1),
+    )
 
 -- a request begins
 begun-places : (slots : List SlotRequest) (d : SlotRequest)

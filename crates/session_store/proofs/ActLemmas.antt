@@ -22,11 +22,14 @@ use Rattle.server_core.specs.KeepsPool.{answer_names, names as slot_names}
 use Rattle.server_core.specs.Session.{Session as Serving, answer_of}
 use Rattle.server_core.specs.Shown.{shown as shown_server}
 use Rattle.session_store.specs.declared.side.Side.{Side}
+use Rattle.session_store.specs.declared.stage.Stage.{Stage}
+use Rattle.session_store.specs.declared.stage.Stage.TheVariants.{Connecting, Connected, Closing, Closed}
+use Rattle.session_store.specs.declared.stage.Stage.TheVariants.{Failed, Broken}
 use Rattle.session_store.specs.Ends.{shown_end}
 use Rattle.session_store.specs.Sides.{ServerHolds, ServerKept, ServerQueued, SideKept, SideQueued}
-use Rattle.session_store.specs.Sides.{shown_side}
+use Rattle.session_store.specs.Sides.{shown_side, side_handed}
 use Rattle.session_store.proofs.BesideLemmas.{rest, rest-all, rest-count}
-use Rattle.session_store.proofs.PlaceLemmas.{IsSame, calls-kept, calls-shown, named-full}
+use Rattle.session_store.proofs.PlaceLemmas.{IsSame, calls-handed, calls-kept, calls-shown, named-full}
 use Rattle.session_store.proofs.PlaceLemmas.{names-own, names-rest, served-full, slots-kept}
 use Rattle.session_store.proofs.PlaceLemmas.{slots-shown}
 use Rattle.buffer_pool.proofs.PlacesLemmas.{named-one}
@@ -48,11 +51,16 @@ pub record Acts (mine : EntryValue → Bool) (before now : ℕ → ℕ) (pool af
 side-shown-by : (pool after : Pool) (s : Side)
     → map (shown_active after) s.session.active ≡ map (shown_active pool) s.session.active
     → shown_side after s ≡ shown_side pool s
-side-shown-by pool after s same = cases s.is_broken
+side-shown-by pool after s same = cases s.stage
   where
-    cases : (b : Bool) → shown_end b after s.peer s.session ≡ shown_end b pool s.peer s.session
-    cases true = rw same refl
-    cases false = rw same refl
+    cases : (stage : Stage)
+        → shown_end stage after s.peer s.session ≡ shown_end stage pool s.peer s.session
+    cases (Connecting n t) = rw same refl
+    cases Connected = rw same refl
+    cases (Closing n t) = rw same refl
+    cases Closed = rw same refl
+    cases Failed = rw same refl
+    cases Broken = rw same refl
 
 -- the replies to requests whose places are as they were
 module _ (mine : EntryValue → Bool) (pool after : Pool) (n : ℕ) (old new : List EntryValue)
@@ -109,6 +117,9 @@ module _ (mine : EntryValue → Bool) (before now : ℕ → ℕ) (pool after : P
 
     pub side-shown : shown_side after s ≡ shown_side pool s
     side-shown = side-shown-by pool after s (calls-shown pool after s.session.active side-places)
+
+    pub side-handed : side_handed after s ≡ side_handed pool s
+    side-handed = rw (calls-handed pool after s.session.active side-places) refl
 
   pub side-queued : (s : Side)
       → ((e : EntryValue) (r : ℕ) → mine e ≡ true → is_of (Ask s.session.number r) e ≡ false)

@@ -7,7 +7,7 @@ use Rattle.std.specs.List.{AllByRecursion}
 use Rattle.std.proofs.lemmas.List.Sums.{sum_by-append, sum_by-cons}
 use Rattle.rpc_base.specs.declared.owner.Owner.{Owner}
 use Rattle.rpc_base.specs.declared.owner.Owner.TheVariants.{Ask, Reply, Control}
-use Rattle.rpc_base.specs.declared.state.SessionState.TheVariants.{Connected, Spent}
+use Rattle.rpc_base.specs.declared.state.SessionState.{SessionState}
 use Rattle.rpc_base.proofs.FirstLemmas.{all-push}
 use Rattle.buffer_pool.specs.Pool.{Pool, spare_of}
 use Rattle.packet_rings.specs.Rings.{Ring}
@@ -20,42 +20,54 @@ use Rattle.client_core.specs.Session.{Session, enqueued, new_session}
 use Rattle.client_core.specs.Shown.{asked, shown}
 use Rattle.server_core.specs.Session.{Session as Serving}
 use Rattle.session_store.specs.declared.side.Side.{Side}
+use Rattle.session_store.specs.declared.stage.Stage.{Stage}
+use Rattle.session_store.specs.declared.stage.Stage.TheVariants.{Connecting, Connected, Closing, Closed}
+use Rattle.session_store.specs.declared.stage.Stage.TheVariants.{Failed, Broken}
 use Rattle.session_store.specs.Changes.{ChangesAt}
 use Rattle.session_store.specs.Effects.{SideWaits, asking_in}
 use Rattle.session_store.specs.Ends.{shown_end}
 use Rattle.session_store.specs.Sides.{HasSlots, IsOf, IsOfOwner, IsOfSide, Kept, Shown, SideAscends}
 use Rattle.session_store.specs.Sides.{places_in, served_places, SideKept, SideQueued, shown_of}
 use Rattle.session_store.specs.Sides.{shown_side}
-use Rattle.session_store.proofs.EndLemmas.{Steps, ask-steps}
-use Rattle.session_store.proofs.KeptLemmas.{ClientActs, client-kept, clients-set}
+use Rattle.client_core.specs.Handing.{handed_of, handed_waiting}
+use Rattle.session_store.specs.Handing.{HandsInAt}
+use Rattle.session_store.specs.Sides.{side_handed}
+use Rattle.session_store.proofs.EndLemmas.{Steps, ask-steps, calls-end}
+use Rattle.session_store.proofs.KeptLemmas.{ClientActs, client-kept, clients-set, handed-set}
 use Rattle.session_store.proofs.ListLemmas.{all-at, get-map, sum-set}
 use Rattle.session_store.proofs.StandLemmas.{stands-all}
 
 -- a session that is connected is there, not broken, and has turns left
 module _ (pool : Pool) (s : Side) where
-  told-turns : (b : Bool)
-      → told_state (shown_end b pool s.peer s.session).state (shown_end b pool s.peer s.session).asked ≡ Connected
-      → (b ≡ false) × (s.session.slots.taken < 2 ^ 45)
-  told-turns true e = cc
-  told-turns false e = (refl, few (ltb s.session.slots.taken (2 ^ 45)) refl e)
-    where
-      few : (t : Bool) → ltb s.session.slots.taken (2 ^ 45) ≡ t → cond t Connected Spent ≡ Connected
-          → s.session.slots.taken < 2 ^ 45
-      few true t e = ltb-true s.session.slots.taken (2 ^ 45) t
-      few false t e = cc
+  few-turns : (t : Bool) → ltb s.session.slots.taken (2 ^ 45) ≡ t
+      → cond t SessionState.Connected SessionState.Spent ≡ SessionState.Connected
+      → s.session.slots.taken < 2 ^ 45
+  few-turns true t e = ltb-true s.session.slots.taken (2 ^ 45) t
+  few-turns false t e = cc
 
-  connected-turns : state_of (Some (shown_side pool s)) ≡ Connected
-      → (s.is_broken ≡ false) × (s.session.slots.taken < 2 ^ 45)
-  connected-turns e = told-turns s.is_broken e
+  told-turns : (stage : Stage)
+      → told_state (shown_end stage pool s.peer s.session).state
+      (shown_end stage pool s.peer s.session).asked ≡ SessionState.Connected
+      → (stage ≡ Connected) × (s.session.slots.taken < 2 ^ 45)
+  told-turns (Connecting n t) e = cc
+  told-turns Connected e = (refl, few-turns (ltb s.session.slots.taken (2 ^ 45)) refl e)
+  told-turns (Closing n t) e = cc
+  told-turns Closed e = cc
+  told-turns Failed e = cc
+  told-turns Broken e = cc
+
+  connected-turns : state_of (Some (shown_side pool s)) ≡ SessionState.Connected
+      → (s.stage ≡ Connected) × (s.session.slots.taken < 2 ^ 45)
+  connected-turns e = told-turns s.stage e
 
 module _ (pool : Pool) (sides : List Side) (servers : List Serving) (tx : Ring EntryValue) (i : ℕ)
     (seen : Shown) (view : shown_of pool sides servers tx ≡ seen)
-    (connected : state_of (slice_get seen.clients i) ≡ Connected) where
+    (connected : state_of (slice_get seen.clients i) ≡ SessionState.Connected) where
   side-connected : (s : Side) → slice_get sides i ≡ Some s
-      → (s.is_broken ≡ false) × (s.session.slots.taken < 2 ^ 45)
+      → (s.stage ≡ Connected) × (s.session.slots.taken < 2 ^ 45)
   side-connected s e =
-      let here : state_of (slice_get (map (shown_side pool) sides) i) ≡ Connected = rw (← view) at connected in
-      let own : state_of (Some (shown_side pool s)) ≡ Connected =
+      let here : state_of (slice_get (map (shown_side pool) sides) i) ≡ SessionState.Connected = rw (← view) at connected in
+      let own : state_of (Some (shown_side pool s)) ≡ SessionState.Connected =
       rw (get-map (shown_side pool) sides i s e) at here in
       connected-turns pool s own
 
@@ -80,8 +92,8 @@ module _ (pool : Pool) (sides : List Side) (servers : List Serving) (tx : Ring E
         rw (← view) at above in
         rw (get-map (shown_side pool) sides i h.side h.at) at here
 
-    asked-steps : Steps (asks (asking_in w)) h.side.is_broken pool pool h.side.peer h.side.session h.later
-    asked-steps = ask-steps h.side.is_broken pool h.side.peer w h.side.session h.later
+    asked-steps : Steps (asks (asking_in w)) h.side.stage pool pool h.side.peer h.side.session h.later
+    asked-steps = ask-steps h.side.stage pool h.side.peer w h.side.session h.later
         (side-connected h.side h.at).0 ask-above
         (all-at (SideAscends pool) sides i h.side kept.ascends h.at) h.step.step
 
@@ -121,6 +133,16 @@ module _ (pool : Pool) (sides : List Side) (servers : List Serving) (tx : Ring E
           ∙ ap (slice_set (map (shown_side pool) sides) i) asked-steps.view;
     })
 
+    asked-handed : HandsInAt i (handed_waiting w) (map (side_handed pool) sides)
+        (map (side_handed pool) now)
+    asked-handed = record {
+      before = side_handed pool h.side;
+      place = get-map (side_handed pool) sides i h.side h.at;
+      changed = ap (map (side_handed pool)) h.changed
+          ∙ handed-set pool pool sides servers i h.side asked_side tx tx h.at kept ask-acts
+          ∙ ap (slice_set (map (side_handed pool) sides) i) (h.step.handed pool);
+    }
+
   pub kept-ask : {E : Type 0} (w : Waiting) (now : List Side) (r : Result (Unit {0}) E)
       → Kept pool sides servers tx → IfSome (slice_get seen.clients i)
       (λ x. AllByRecursion (λ c. c.what.number < w.call) x.calls) → OnOk r (SideWaits i w sides now)
@@ -135,21 +157,31 @@ module _ (pool : Pool) (sides : List Side) (servers : List Serving) (tx : Ring E
   clients-ask w now (Ok u) kept above h = asked-clients w now kept above h
   clients-ask w now (Err e) kept above h = tt
 
+  pub handed-ask : {E : Type 0} (w : Waiting) (now : List Side) (r : Result (Unit {0}) E)
+      → Kept pool sides servers tx → IfSome (slice_get seen.clients i)
+      (λ x. AllByRecursion (λ c. c.what.number < w.call) x.calls) → OnOk r (SideWaits i w sides now)
+      → OnOk r (HandsInAt i (handed_waiting w) (map (side_handed pool) sides)
+      (map (side_handed pool) now))
+  handed-ask w now (Ok u) kept above h = asked-handed w now kept above h
+  handed-ask w now (Err e) kept above h = tt
+
 pub side-waits : {E : Type 0} (i : ℕ) (w : Waiting) (sides : List Side) (side : Side)
     (later : Session) → slice_get sides i ≡ Some side → (r : Result (Unit {0}) E)
     → OnOk r (later ≡ enqueued w side.session)
     → OnOk r ((pool : Pool) → (clock peer : ℕ)
     → asked clock w (shown pool peer side.session) ≡ shown pool peer later ∷ [])
+    → OnOk r ((pool : Pool)
+    → handed_of pool later ≡ handed_of pool side.session ++ handed_waiting w ∷ [])
     → OnOk r (SideWaits i w sides (slice_set sides i (record side { session = later })))
-side-waits i w sides side later at (Ok u) waits step =
+side-waits i w sides side later at (Ok u) waits step handed =
     record {
       side = side;
       at = at;
       later = later;
-      step = record { waits = waits; step = step };
+      step = record { waits = waits; step = step; handed = handed };
       changed = refl;
     }
-side-waits i w sides side later at (Err e) waits step = tt
+side-waits i w sides side later at (Err e) waits step handed = tt
 
 -- one session more
 get-front : {A : Type 0} (xs : List A) (y x : A) (j : ℕ) → slice_get xs j ≡ Some x
@@ -190,9 +222,9 @@ module _ (sides : List Side) (servers : List Serving) (s : Side) where
 
 pub kept-paired : (pool : Pool) (sides : List Side) (servers : List Serving) (tx : Ring EntryValue)
     (s : Side) (server credits : ℕ) → Kept pool sides servers tx
-    → s.session ≡ new_session (length sides) server credits → s.is_broken ≡ false
+    → s.session ≡ new_session (length sides) server credits
     → Kept pool (sides ++ s ∷ []) servers tx
-kept-paired pool sides servers tx s server credits kept session connected =
+kept-paired pool sides servers tx s server credits kept session =
     let number : s.session.number ≡ length sides = ap (λ (x : Session). x.number) session in
     let none : s.session.active ≡ [] = ap (λ (x : Session). x.active) session in
     record {
@@ -216,7 +248,7 @@ kept-paired pool sides servers tx s server credits kept session connected =
       holds = kept.holds;
       queued = all-push (SideQueued tx.items) sides s kept.queued (rw none tt);
       replies = kept.replies;
-      ascends = all-push (SideAscends pool) sides s kept.ascends (rw (connected, session) tt);
+      ascends = all-push (SideAscends pool) sides s kept.ascends (rw (calls-end s.stage pool s.peer s.session, session) tt);
       within = kept.within;
       few = kept.few;
       slots = all-push HasSlots sides s kept.slots (rw none (omega arith));

@@ -39,6 +39,9 @@ use Rattle.client_core.specs.Shown.{end_event, ending_facts, posted_event as eve
 use Rattle.client_core.specs.Shown.{sent_event, shown, shown_active, shown_waiting, stepped, took}
 use Rattle.client_core.specs.Timeouts.{is_numbered}
 use Rattle.client_core.proofs.ShownLemmas.{found-shown, none-shown}
+use Rattle.session_store.specs.declared.stage.Stage.{Stage}
+use Rattle.session_store.specs.declared.stage.Stage.TheVariants.{Connecting, Connected, Closing, Closed}
+use Rattle.session_store.specs.declared.stage.Stage.TheVariants.{Failed, Broken}
 use Rattle.session_store.specs.Ends.{Ascends, begun_event, is_above, next_above, posted_event}
 use Rattle.session_store.specs.Ends.{shown_end, told_call}
 use Rattle.session_store.proofs.AscendsLemmas.{ascends-before, ascends-changed, ascends-end}
@@ -49,18 +52,22 @@ use Rattle.rpc_base.proofs.FirstLemmas.{all-kept}
 use Rattle.rpc_base.proofs.BasicLemmas.{or-true}
 use Rattle.client_core.proofs.ShownLemmas.{front-shown}
 
--- a lost peer changes no call
-pub calls-end : (b : Bool) (pool : Pool) (peer : ℕ) (s : Session)
-    → (shown_end b pool peer s).calls ≡ (shown pool peer s).calls
-calls-end true pool peer s = refl
-calls-end false pool peer s = refl
+-- no stage changes a call
+pub calls-end : (stage : Stage) (pool : Pool) (peer : ℕ) (s : Session)
+    → (shown_end stage pool peer s).calls ≡ (shown pool peer s).calls
+calls-end (Connecting n t) pool peer s = refl
+calls-end Connected pool peer s = refl
+calls-end (Closing n t) pool peer s = refl
+calls-end Closed pool peer s = refl
+calls-end Failed pool peer s = refl
+calls-end Broken pool peer s = refl
 
 -- the active calls of an end stand in the order of their numbers
-pub active-ascends : (b : Bool) (pool : Pool) (peer : ℕ) (s : Session)
-    → Ascends (shown_end b pool peer s).calls → Ascends (map (shown_active pool) s.active)
-active-ascends b pool peer s up =
+pub active-ascends : (stage : Stage) (pool : Pool) (peer : ℕ) (s : Session)
+    → Ascends (shown_end stage pool peer s).calls → Ascends (map (shown_active pool) s.active)
+active-ascends stage pool peer s up =
     ascends-front (map (shown_active pool) s.active) (map shown_waiting s.slots.waiting)
-    (rw (calls-end b pool peer s) at up)
+    (rw (calls-end stage pool peer s) at up)
 
 -- one client, which the event is of
 module _ (x y z : Client) where
@@ -69,20 +76,20 @@ module _ (x y z : Client) where
   chosen false t e = cc
 
 -- an end once it took a step
-pub record Steps (f : Client → Client) (b : Bool) (pool after : Pool) (peer : ℕ) (s new : Session) : Type 0 where
-  pub view : shown_end b after peer new ≡ f (shown_end b pool peer s)
-  pub calls : Ascends (shown_end b after peer new).calls
+pub record Steps (f : Client → Client) (stage : Stage) (pool after : Pool) (peer : ℕ) (s new : Session) : Type 0 where
+  pub view : shown_end stage after peer new ≡ f (shown_end stage pool peer s)
+  pub calls : Ascends (shown_end stage after peer new).calls
 
-steps-of : (f : Client → Client) (b : Bool) (pool after : Pool) (peer : ℕ) (s new : Session)
-    → b ≡ false → shown after peer new ≡ f (shown pool peer s)
-    → Ascends (f (shown pool peer s)).calls → Steps f b pool after peer s new
-steps-of f b pool after peer s new connected e up =
+steps-of : (f : Client → Client) (stage : Stage) (pool after : Pool) (peer : ℕ) (s new : Session)
+    → stage ≡ Connected → shown after peer new ≡ f (shown pool peer s)
+    → Ascends (f (shown pool peer s)).calls → Steps f stage pool after peer s new
+steps-of f stage pool after peer s new connected e up =
     rw connected (record { view = e; calls = subst (λ (x : Client). Ascends x.calls) (sym e) up })
 
 -- a call is asked
-pub ask-steps : (b : Bool) (pool : Pool) (peer : ℕ) (w : Waiting) (s new : Session) → b ≡ false
-    → AllByRecursion (λ c. c.what.number < w.call) (shown_end b pool peer s).calls
-    → Ascends (shown_end b pool peer s).calls
+pub ask-steps : (stage : Stage) (pool : Pool) (peer : ℕ) (w : Waiting) (s new : Session) → stage ≡ Connected
+    → AllByRecursion (λ c. c.what.number < w.call) (shown_end stage pool peer s).calls
+    → Ascends (shown_end stage pool peer s).calls
     → ((pool : Pool) → (clock peer : ℕ)
     → asked clock w (shown pool peer s) ≡ shown pool peer new ∷ [])
     → Steps (asks (record {
@@ -90,8 +97,8 @@ pub ask-steps : (b : Bool) (pool : Pool) (peer : ℕ) (w : Waiting) (s new : Ses
       req_type = w.req_type;
       room = capacity_of w.resp;
       ask = bytes_of w.req;
-    })) b pool pool peer s new
-ask-steps b pool peer w s new connected above up step =
+    })) stage pool pool peer s new
+ask-steps stage pool peer w s new connected above up step =
     let a : Asking = record {
       number = w.call;
       req_type = w.req_type;
@@ -100,7 +107,7 @@ ask-steps b pool peer w s new connected above up step =
     } in
     let e = chosen (shown pool peer s) (shown pool peer new) (asks a (shown pool peer s))
     (eqb s.number s.number) (eq-eqb s.number s.number refl) (step pool 0 peer) in
-    steps-of (asks a) b pool pool peer s new connected e
+    steps-of (asks a) stage pool pool peer s new connected e
     (ascends-end (shown pool peer s).calls (record { what = a; progress = None })
     (rw connected at up) (rw connected at above))
 
@@ -110,15 +117,15 @@ any-later : {A : Type 0} (p : A → Bool) (xs ys : List A) → list_any p ys ≡
 any-later p [] ys t = t
 any-later p (x ∷ xs) ys t = rw (any-later p xs ys t) (or-true (p x))
 
-module _ (b : Bool) (pool after : Pool) (peer : ℕ) (s new : Session) (connected : b ≡ false)
-    (up : Ascends (shown_end b pool peer s).calls) where
+module _ (stage : Stage) (pool after : Pool) (peer : ℕ) (s new : Session) (connected : stage ≡ Connected)
+    (up : Ascends (shown_end stage pool peer s).calls) where
   ascending : Ascends (shown pool peer s).calls
-  ascending = rw (calls-end b pool peer s) at up
+  ascending = rw (calls-end stage pool peer s) at up
 
   begins-one : (o : ℕ × ℕ) → Starts o.0 o.1 s new pool after
       → (list_any (is_numbered o.0) s.active ≡ false
       → stepped 0 (event_begun o) (shown pool peer s) ≡ shown after peer new ∷ [])
-      → Steps (begins o.0 o.1) b pool after peer s new
+      → Steps (begins o.0 o.1) stage pool after peer s new
   begins-one o starts step =
       let front = front-shown s.slots.waiting starts.waiting starts.begins.oldest in
       let lower = ascends-before (map (shown_active pool) s.active) (shown_waiting starts.waiting)
@@ -130,47 +137,47 @@ module _ (b : Bool) (pool after : Pool) (peer : ℕ) (s new : Session) (connecte
       (map shown_waiting s.slots.waiting) here in
       let e = chosen (shown pool peer s) (shown after peer new) (begins o.0 o.1 (shown pool peer s))
       (has_call o.0 (shown pool peer s)) there (step fresh) in
-      steps-of (begins o.0 o.1) b pool after peer s new connected e
+      steps-of (begins o.0 o.1) stage pool after peer s new connected e
       (ascends-changed (is_call o.0) (begun o.1) (λ c. refl)
       (shown pool peer s).calls ascending)
 
   -- a packet is posted
   posts-one : (e : EntryValue) (r : ℕ) → e.owner ≡ Ask s.number r → stepped 0 (event_posted e)
       (shown pool peer s) ≡ shown after peer new ∷ []
-      → Steps (posts r e.number) b pool after peer s new
+      → Steps (posts r e.number) stage pool after peer s new
   posts-one e r own step =
       let is = chosen (shown pool peer s) (shown after peer new)
       (posts r e.number (shown pool peer s)) (eqb s.number s.number)
       (eq-eqb s.number s.number refl) (rw own at step) in
-      steps-of (posts r e.number) b pool after peer s new connected is
+      steps-of (posts r e.number) stage pool after peer s new connected is
       (ascends-changed (is_active r) (moved _) (λ c. refl) (shown pool peer s).calls ascending)
 
   -- and sent
   pub sends-one : (now : ℕ) (e : EntryValue) (r : ℕ) → e.owner ≡ Ask s.number r
       → stepped now (sent_event e) (shown pool peer s) ≡ shown after peer new ∷ []
-      → Steps (sends now r e.number) b pool after peer s new
+      → Steps (sends now r e.number) stage pool after peer s new
   sends-one now e r own step =
       let is = chosen (shown pool peer s) (shown after peer new)
       (sends now r e.number (shown pool peer s)) (eqb s.number s.number)
       (eq-eqb s.number s.number refl) (rw own at step) in
-      steps-of (sends now r e.number) b pool after peer s new connected is
+      steps-of (sends now r e.number) stage pool after peer s new connected is
       (ascends-changed (is_active r) (moved _) (λ c. refl) (shown pool peer s).calls ascending)
 
-pub some-steps : (b : Bool) (pool after : Pool) (peer : ℕ) (s new : Session) → b ≡ false
-    → Ascends (shown_end b pool peer s).calls → (o : Option (ℕ × ℕ))
+pub some-steps : (stage : Stage) (pool after : Pool) (peer : ℕ) (s new : Session) → stage ≡ Connected
+    → Ascends (shown_end stage pool peer s).calls → (o : Option (ℕ × ℕ))
     → IfSome o (λ d. (clock peer : ℕ) → list_any (is_numbered d.0) s.active ≡ false
     → stepped clock (event_begun d) (shown pool peer s) ≡ shown after peer new ∷ [])
     → IfSome o (λ d. Starts d.0 d.1 s new pool after)
-    → IfSome o (λ d. Steps (begins d.0 d.1) b pool after peer s new)
-some-steps b pool after peer s new connected up None step starts = tt
-some-steps b pool after peer s new connected up (Some d) step starts =
-    begins-one b pool after peer s new connected up d starts (step 0 peer)
+    → IfSome o (λ d. Steps (begins d.0 d.1) stage pool after peer s new)
+some-steps stage pool after peer s new connected up None step starts = tt
+some-steps stage pool after peer s new connected up (Some d) step starts =
+    begins-one stage pool after peer s new connected up d starts (step 0 peer)
 
-pub begun-next : (b : Bool) (pool : Pool) (peer : ℕ) (s : Session) (o : Option (ℕ × ℕ)) → b ≡ false
+pub begun-next : (stage : Stage) (pool : Pool) (peer : ℕ) (s : Session) (o : Option (ℕ × ℕ)) → stage ≡ Connected
     → beginning (shown pool peer s) ≡ option_map event_begun o
-    → option_map begun_event o ≡ if_connected beginning (shown_end b pool peer s)
-begun-next b pool peer s None connected e = rw connected (sym e)
-begun-next b pool peer s (Some d) connected e = rw connected (sym e)
+    → option_map begun_event o ≡ if_connected beginning (shown_end stage pool peer s)
+begun-next stage pool peer s None connected e = rw connected (sym e)
+begun-next stage pool peer s (Some d) connected e = rw connected (sym e)
 
 -- an end without a call begins none
 -- the owner of the next packet
@@ -182,27 +189,27 @@ next-owner peer s e t r (Some c) is own =
     let asks : Ask s.number c.request ≡ Ask t r = sym (ap (λ x. x.owner) same) ∙ own in
     cc
 
-pub post-steps : (b : Bool) (pool after : Pool) (peer : ℕ) (s new : Session) (e : EntryValue)
-    (t r : ℕ) → b ≡ false → Ascends (shown_end b pool peer s).calls → Some e ≡ next_entry peer s
+pub post-steps : (stage : Stage) (pool after : Pool) (peer : ℕ) (s new : Session) (e : EntryValue)
+    (t r : ℕ) → stage ≡ Connected → Ascends (shown_end stage pool peer s).calls → Some e ≡ next_entry peer s
     → e.owner ≡ Ask t r
     → ((clock : ℕ) → stepped clock (event_posted e) (shown pool peer s) ≡ shown after peer new ∷ [])
-    → Steps (posts r e.number) b pool after peer s new
-post-steps b pool after peer s new e t r connected up is own step =
-    posts-one b pool after peer s new connected up e r (next-owner peer s e t r (next_call s) is own) (step 0)
+    → Steps (posts r e.number) stage pool after peer s new
+post-steps stage pool after peer s new e t r connected up is own step =
+    posts-one stage pool after peer s new connected up e r (next-owner peer s e t r (next_call s) is own) (step 0)
 
-pub post-next : (b : Bool) (pool : Pool) (peer : ℕ) (s : Session) (e : EntryValue) (t r : ℕ)
-    → b ≡ false → Some e ≡ next_entry peer s → e.owner ≡ Ask t r
+pub post-next : (stage : Stage) (pool : Pool) (peer : ℕ) (s : Session) (e : EntryValue) (t r : ℕ)
+    → stage ≡ Connected → Some e ≡ next_entry peer s → e.owner ≡ Ask t r
     → posting (shown pool peer s) ≡ Some (event_posted e)
-    → Some (posted_event (shown_end b pool peer s).way.number (r, e.number))
-    ≡ if_connected posting (shown_end b pool peer s)
-post-next b pool peer s e t r connected is own turn =
+    → Some (posted_event (shown_end stage pool peer s).way.number (r, e.number))
+    ≡ if_connected posting (shown_end stage pool peer s)
+post-next stage pool peer s e t r connected is own turn =
     let mine = next-owner peer s e t r (next_call s) is own in
     rw (connected, turn, mine) refl
 
 -- nothing is posted
-pub none-posted : (b : Bool) (pool : Pool) (peer : ℕ) (s : Session) → b ≡ false
-    → posting (shown pool peer s) ≡ None → None ≡ if_connected posting (shown_end b pool peer s)
-none-posted b pool peer s connected turn = rw (connected, turn) refl
+pub none-posted : (stage : Stage) (pool : Pool) (peer : ℕ) (s : Session) → stage ≡ Connected
+    → posting (shown pool peer s) ≡ None → None ≡ if_connected posting (shown_end stage pool peer s)
+none-posted stage pool peer s connected turn = rw (connected, turn) refl
 
 same-session : (peer : ℕ) (s : Session) (o : Option ActiveCall)
     → None ≡ option_map (entry_of s.number peer) o → after_posting o s ≡ s
@@ -235,16 +242,16 @@ pub entry-is : (peer r k : ℕ) (s : Session) (e : EntryValue) → Some e ≡ po
     → IsEntry peer r k s e
 entry-is peer r k s e is = is-entry peer r k s e (call_as r s) refl is
 
-pub sent-steps : (b : Bool) (pool after : Pool) (peer : ℕ) (s new : Session) (now r k : ℕ)
-    (e : EntryValue) → b ≡ false → Ascends (shown_end b pool peer s).calls
+pub sent-steps : (stage : Stage) (pool after : Pool) (peer : ℕ) (s new : Session) (now r k : ℕ)
+    (e : EntryValue) → stage ≡ Connected → Ascends (shown_end stage pool peer s).calls
     → Some e ≡ posted_entry peer r k s
     → ((peer : ℕ) → stepped now (sent_event e) (shown pool peer s) ≡ shown after peer new ∷ [])
-    → Steps (sends now r k) b pool after peer s new
-sent-steps b pool after peer s new now r k e connected up is step =
+    → Steps (sends now r k) stage pool after peer s new
+sent-steps stage pool after peer s new now r k e connected up is step =
     let entry = entry-is peer r k s e is in
     let own : e.owner ≡ Ask s.number r = ap (λ x. x.owner) entry.same ∙ ap (λ n. Ask s.number n) entry.request in
     let number : e.number ≡ k = ap (λ x. x.number) entry.same in
-    rw number at (sends-one b pool after peer s new connected up now e r own (step peer))
+    rw number at (sends-one stage pool after peer s new connected up now e r own (step peer))
 
 -- a posted packet is that of what is shown
 pub same-owners : (n r : ℕ) (xs : List ActiveCall)
@@ -252,10 +259,9 @@ pub same-owners : (n r : ℕ) (xs : List ActiveCall)
 same-owners n r [] = refl
 same-owners n r (x ∷ xs) = rw (eq-eqb n n refl, same-owners n r xs) refl
 
-pub ask-end : (b : Bool) (pool : Pool) (peer r k : ℕ) (s : Session)
-    → ask_packet r k (Some (shown_end b pool peer s)) ≡ ask_packet r k (Some (shown pool peer s))
-ask-end true pool peer r k s = refl
-ask-end false pool peer r k s = refl
+pub ask-end : (stage : Stage) (pool : Pool) (peer r k : ℕ) (s : Session) → stage ≡ Connected
+    → ask_packet r k (Some (shown_end stage pool peer s)) ≡ ask_packet r k (Some (shown pool peer s))
+ask-end stage pool peer r k s connected = rw connected refl
 
 -- the next packet is one of a call
 ask-cases : (peer : ℕ) (s : Session) (e : EntryValue) (o : Option ActiveCall)
@@ -307,27 +313,27 @@ alone-after pool (Ended d) s up = few-numbered pool s.active up d.call
 alone-after pool (Dropped why) s up = tt
 
 -- a reply was handled
-pub record Replied (clock : ℕ) (r : Reply) (h : MessageHeader) (body : List ℕ) (b : Bool)
+pub record Replied (clock : ℕ) (r : Reply) (h : MessageHeader) (body : List ℕ) (stage : Stage)
     (pool after : Pool) (peer : ℕ) (s new : Session) : Type 0 where
-  pub step : after_outcome clock r h body (shown_end b pool peer s) ≡ shown_end b after peer new ∷ []
-  pub calls : Ascends (shown_end b after peer new).calls
+  pub step : after_outcome clock r h body (shown_end stage pool peer s) ≡ shown_end stage after peer new ∷ []
+  pub calls : Ascends (shown_end stage after peer new).calls
 
-pub reply-steps : (clock : ℕ) (r : Reply) (h : MessageHeader) (body : List ℕ) (b : Bool)
-    (pool after : Pool) (peer : ℕ) (s new : Session) → b ≡ false
-    → Ascends (shown_end b pool peer s).calls
+pub reply-steps : (clock : ℕ) (r : Reply) (h : MessageHeader) (body : List ℕ) (stage : Stage)
+    (pool after : Pool) (peer : ℕ) (s new : Session) → stage ≡ Connected
+    → Ascends (shown_end stage pool peer s).calls
     → (IsAloneAfter r s → (peer : ℕ) → after_outcome clock r h body (shown pool peer s) ≡ shown after peer new ∷ [])
-    → Replied clock r h body b pool after peer s new
-reply-steps clock r h body b pool after peer s new connected up step =
-    let e = step (alone-after pool r s (active-ascends b pool peer s up)) peer in
+    → Replied clock r h body stage pool after peer s new
+reply-steps clock r h body stage pool after peer s new connected up step =
+    let e = step (alone-after pool r s (active-ascends stage pool peer s up)) peer in
     let all = reply-all clock r h body (shown pool peer s) (rw connected at up) in
     let left : AllByRecursion up_of (shown after peer new ∷ []) = rw e at all in
     rw connected (record { step = e; calls = left.0 })
 
-pub facts-end : (h : MessageHeader) (body : List ℕ) (r : Reply) (b : Bool) (pool : Pool) (peer : ℕ)
-    (s : Session) → b ≡ false
+pub facts-end : (h : MessageHeader) (body : List ℕ) (r : Reply) (stage : Stage) (pool : Pool) (peer : ℕ)
+    (s : Session) → stage ≡ Connected
     → ((me peer : ℕ) → client_ending me h body (Some (shown pool peer s)) ≡ ending_facts me r)
-    → (me : ℕ) → client_ending me h body (Some (shown_end b pool peer s)) ≡ ending_facts me r
-facts-end h body r b pool peer s connected facts = λ me. rw connected (facts me peer)
+    → (me : ℕ) → client_ending me h body (Some (shown_end stage pool peer s)) ≡ ending_facts me r
+facts-end h body r stage pool peer s connected facts = λ me. rw connected (facts me peer)
 
 pub differ : (a b m n : ℕ) → a ≡ m → b ≡ n → IsTrue (not (eqb a (b + 1))) → m ≢ n + 1
 differ a b m n left right t e =
@@ -350,10 +356,10 @@ told-shown : (pool : Pool) (o : Option ActiveCall)
 told-shown pool None = refl
 told-shown pool (Some c) = refl
 
-pub next-end : (b : Bool) (pool : Pool) (peer : ℕ) (s : Session) (after : Option ℕ)
-    → Ascends (shown_end b pool peer s).calls
-    → next_told after s ≡ option_and_then told_call (next_above after (shown_end b pool peer s))
-next-end b pool peer s after up =
+pub next-end : (stage : Stage) (pool : Pool) (peer : ℕ) (s : Session) (after : Option ℕ)
+    → Ascends (shown_end stage pool peer s).calls
+    → next_told after s ≡ option_and_then told_call (next_above after (shown_end stage pool peer s))
+next-end stage pool peer s after up =
     let passes = λ (c : Call). is_some c.progress && is_above after c in
     let active = found-shown (shown_active pool) passes (is_after after) s.active (above-same pool after s.active) in
     let waiting = none-shown shown_waiting passes s.slots.waiting (λ w. refl) in
@@ -364,8 +370,8 @@ next-end b pool peer s after up =
     ∙ ap (λ o. option_or (find passes (map (shown_active pool) s.active)) o) waiting
     ∙ or-none _ ∙ active in
     rw (
-      calls-end b pool peer s,
+      calls-end stage pool peer s,
       found,
       least-first pool (is_after after) s.active
-          (active-ascends b pool peer s up),
+          (active-ascends stage pool peer s up),
     ) (told-shown pool (find (is_after after) s.active))

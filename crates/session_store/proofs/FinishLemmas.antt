@@ -29,8 +29,9 @@ use Rattle.session_store.specs.Effects.{ServerFinishes}
 use Rattle.session_store.specs.Sides.{HasPlaces, IsOf, IsOfOwner, Kept, Rises, ServerHolds}
 use Rattle.session_store.specs.Sides.{ServerKept, ServerQueued, is_end, numbers_in, places_in}
 use Rattle.session_store.specs.Sides.{served_places, shown_side}
+use Rattle.session_store.specs.Sides.{side_handed}
 use Rattle.session_store.proofs.BesideLemmas.{rest-push}
-use Rattle.session_store.proofs.KeptLemmas.{ServerActs, clients-same, server-acted, server-places}
+use Rattle.session_store.proofs.KeptLemmas.{ServerActs, clients-same, handed-same, server-acted, server-places}
 use Rattle.session_store.proofs.KeptLemmas.{servers-set}
 use Rattle.session_store.proofs.ListLemmas.{all-at, get-map, set-own}
 use Rattle.session_store.proofs.ReplyGoneLemmas.{end-at}
@@ -112,6 +113,10 @@ module _ (pool after : Pool) (sides : List Side) (servers now : List Serving) (t
   finish-clients = clients-same pool after sides servers i h.server h.later tx
       (ring (tx.items ++ e ∷ []) tx.size) h.at kept finish-acts
 
+  pub finish-handed : map (side_handed after) sides ≡ map (side_handed pool) sides
+  finish-handed = handed-same pool after sides servers i h.server h.later tx
+      (ring (tx.items ++ e ∷ []) tx.size) h.at kept finish-acts
+
   pub finish-places : spare_of after + places_in sides + served_places now
       ≡ spare_of pool + places_in sides + served_places servers
   finish-places = ap (λ vs. spare_of after + places_in sides + served_places vs) h.changed
@@ -130,6 +135,9 @@ module _ (pool after : Pool) (sides : List Side) (servers now : List Serving) (t
   pub left-places : spare_of after + places_in sides + served_places now
       ≡ spare_of pool + places_in sides + served_places servers
   left-places = rw (left-servers, h.step.left.pool) refl
+
+  pub left-handed : map (side_handed after) sides ≡ map (side_handed pool) sides
+  left-handed = rw h.step.left.pool refl
 
   pub left-shown : map (shown_server after) now ≡ map (shown_server pool) servers
   left-shown = rw (left-servers, h.step.left.pool) refl

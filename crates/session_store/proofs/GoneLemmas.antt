@@ -28,13 +28,18 @@ use Rattle.client_core.proofs.OutcomeLemmas.{active-found}
 use Rattle.server_core.specs.Session.{Session as Serving}
 use Rattle.session_store.specs.declared.side.Side.{Side}
 use Rattle.session_store.specs.Effects.{Leaves, SideFlushes, SideSends, SpellsIn}
+use Rattle.session_store.specs.declared.stage.Stage.{Stage}
+use Rattle.session_store.specs.declared.stage.Stage.TheVariants.{Connecting, Connected, Closing, Closed}
+use Rattle.session_store.specs.declared.stage.Stage.TheVariants.{Failed, Broken}
 use Rattle.session_store.specs.Ends.{shown_end}
 use Rattle.session_store.specs.Queue.{clients_sent, packet_in, peer_in}
 use Rattle.session_store.specs.Sides.{HasSlots, IsOf, IsOfSide, Kept, SideAscends, SideQueued}
 use Rattle.session_store.specs.Sides.{places_in, served_places, shown_of, shown_side}
+use Rattle.session_store.specs.Sides.{side_handed}
 use Rattle.session_store.proofs.BesideLemmas.{rest-taken}
 use Rattle.session_store.proofs.EndLemmas.{Steps, ask-end, same-owners, sends-one}
 use Rattle.session_store.proofs.KeptLemmas.{ClientActs, client-kept, client-places, clients-set}
+use Rattle.session_store.proofs.KeptLemmas.{handed-kept}
 use Rattle.session_store.proofs.ListLemmas.{all-at, get-map, set-own}
 use Rattle.session_store.proofs.PostedLemmas.{spare-released}
 use Rattle.session_store.proofs.StandLemmas.{OfSide, all-taken, of-side, stands-all}
@@ -76,13 +81,17 @@ module _ {A B : Type 0} (f : A → B) (p : B → Bool) where
 -- a client session by its number
 pub side-way : (pool : Pool) (s : Side)
     → ((shown_side pool s).way.peer ≡ s.peer) × ((shown_side pool s).way.number ≡ s.session.number)
-side-way pool s = cases s.is_broken
+side-way pool s = cases s.stage
   where
-    cases : (b : Bool)
-        → ((shown_end b pool s.peer s.session).way.peer ≡ s.peer)
-        × ((shown_end b pool s.peer s.session).way.number ≡ s.session.number)
-    cases true = (refl, refl)
-    cases false = (refl, refl)
+    cases : (stage : Stage)
+        → ((shown_end stage pool s.peer s.session).way.peer ≡ s.peer)
+        × ((shown_end stage pool s.peer s.session).way.number ≡ s.session.number)
+    cases (Connecting n t) = (refl, refl)
+    cases Connected = (refl, refl)
+    cases (Closing n t) = (refl, refl)
+    cases Closed = (refl, refl)
+    cases Failed = (refl, refl)
+    cases Broken = (refl, refl)
 
 module _ (pool : Pool) (sides : List Side)
     (numbered : (j : ℕ) → (s : Side) → slice_get sides j ≡ Some s → s.session.number ≡ j) (i : ℕ)
@@ -168,8 +177,8 @@ module _ (pool after : Pool) (sides now : List Side) (servers : List Serving) (t
   sent-of : IsOfSide e (Some h.side)
   sent-of = subst (IsOfSide e) h.at (gone-stands pool after sides servers tx i r e passes left kept out own)
 
-  sent-steps : Steps (sends clock r e.number) h.side.is_broken pool after h.side.peer h.side.session h.later
-  sent-steps = sends-one h.side.is_broken pool after h.side.peer h.side.session h.later sent-of.1
+  sent-steps : Steps (sends clock r e.number) h.side.stage pool after h.side.peer h.side.session h.later
+  sent-steps = sends-one h.side.stage pool after h.side.peer h.side.session h.later sent-of.1
       (all-at (SideAscends pool) sides i h.side kept.ascends h.at) clock e r
       (own ∙ ap (λ n. Ask n r) (sym (kept.numbered i h.side h.at))) (h.step.step h.side.peer)
 
@@ -195,6 +204,11 @@ module _ (pool after : Pool) (sides now : List Side) (servers : List Serving) (t
   sent-places = ap (λ xs. spare_of after + places_in xs + served_places servers) h.changed
       ∙ client-places pool after sides servers i h.side (record h.side { session = h.later }) tx
       (ring left tx.size) h.at kept sent-acts
+
+  pub sent-handed : map (side_handed after) now ≡ map (side_handed pool) sides
+  sent-handed = ap (map (side_handed after)) h.changed
+      ∙ handed-kept pool after sides servers i h.side (record h.side { session = h.later }) tx
+      (ring left tx.size) h.at kept sent-acts h.step.gone.handed
 
 -- it was taken out unsent
 module _ (pool after : Pool) (sides now : List Side) (servers : List Serving) (tx : Ring EntryValue)
@@ -232,20 +246,26 @@ module _ (pool after : Pool) (sides now : List Side) (servers : List Serving) (t
       ∙ client-places pool after sides servers i h.side (record h.side { session = h.later }) tx
       (ring left tx.size) h.at kept flushed-acts
 
+  pub flushed-handed : map (side_handed after) now ≡ map (side_handed pool) sides
+  flushed-handed = ap (map (side_handed after)) h.changed
+      ∙ handed-kept pool after sides servers i h.side (record h.side { session = h.later }) tx
+      (ring left tx.size) h.at kept flushed-acts h.step.gone.handed
+
 -- its packet is that of what is shown
-packet-cases : (b : Bool) (pool : Pool) (peer r : ℕ) (s : Session) (e : EntryValue)
-    (o : Option ActiveCall) → e.owner ≡ Ask s.number r → e.peer ≡ peer → call_as r s ≡ o
+packet-cases : (stage : Stage) (pool : Pool) (peer r : ℕ) (s : Session) (e : EntryValue)
+    (o : Option ActiveCall) → stage ≡ Connected → e.owner ≡ Ask s.number r → e.peer ≡ peer
+    → call_as r s ≡ o
     → IsPacketOf (call_of s e) e
-    → packet_of pool s e ≡ ask_packet r e.number (Some (shown_end b pool peer s))
-packet-cases b pool peer r s e None own to found h =
+    → packet_of pool s e ≡ ask_packet r e.number (Some (shown_end stage pool peer s))
+packet-cases stage pool peer r s e None connected own to found h =
     let none : call_of s e ≡ None =
     ap (λ o. find (is_owner s.number o) s.active) own ∙ same-owners s.number r s.active
     ∙ found in
     absurd (subst (λ o. IsPacketOf o e) none h)
-packet-cases b pool peer r s e (Some c) own to found h =
+packet-cases stage pool peer r s e (Some c) connected own to found h =
     let request = eqb-true c.request r (find-passes (is_request r) s.active c found) in
     rw (
-      ask-end b pool peer r e.number s,
+      ask-end stage pool peer r e.number s connected,
       active-found pool r s,
       found,
       own,
@@ -259,7 +279,7 @@ pub packet-shown : (pool : Pool) (side : Side) (r : ℕ) (e : EntryValue)
     → e.owner ≡ Ask side.session.number r → IsOfSide e (Some side)
     → packet_of pool side.session e ≡ ask_packet r e.number (Some (shown_side pool side))
 packet-shown pool side r e own is =
-    packet-cases side.is_broken pool side.peer r side.session e (call_as r side.session) own is.0
+    packet-cases side.stage pool side.peer r side.session e (call_as r side.session) is.1 own is.0
     refl is.2
 
 -- the front of the ring

@@ -21,14 +21,14 @@ use Rattle.session_store.specs.Ends.{Ascends}
 use Rattle.session_store.specs.Sides.{HasPlaces, HasSlots, IsOf, Kept, Rises, ServerHolds}
 use Rattle.session_store.specs.Sides.{ServerKept, ServerQueued, SideAscends, SideKept, SideQueued}
 use Rattle.session_store.specs.Sides.{names_in, numbers_in, places_in, served_names, served_places}
-use Rattle.session_store.specs.Sides.{shown_side}
+use Rattle.session_store.specs.Sides.{shown_side, side_handed}
 use Rattle.session_store.proofs.ActLemmas.{Acts, apart-then, server-holds, server-kept}
 use Rattle.session_store.proofs.ActLemmas.{server-queued, server-shown, side-kept, side-queued}
-use Rattle.session_store.proofs.ActLemmas.{side-shown}
+use Rattle.session_store.proofs.ActLemmas.{side-handed, side-shown}
 use Rattle.session_store.proofs.BesideLemmas.{ask-no-reply, ask-other, ask-replies, reply-asks}
 use Rattle.session_store.proofs.BesideLemmas.{reply-no-reply, reply-other}
 use Rattle.session_store.proofs.ListLemmas.{all-at, all-from, all-set, get-map, get-other, get-own}
-use Rattle.session_store.proofs.ListLemmas.{map-kept, map-same, map-set, sum-one, sum-set, sum-two}
+use Rattle.session_store.proofs.ListLemmas.{map-kept, map-same, map-set, set-own, sum-one, sum-set, sum-two}
 use Rattle.session_store.proofs.PlaceLemmas.{named-full, served-full}
 use Rattle.server_core.proofs.HoldLemmas.{full-not-empty}
 
@@ -144,6 +144,12 @@ module _ (pool after : Pool) (sides : List Side) (servers : List Serving) (i : �
       side-shown mine before now pool after old new h.acts s
       (all-at (SideKept pool) sides j s kept.keeps at) (other-apart j s at other)
 
+  other-handed : (j : ℕ) (s : Side) → slice_get sides j ≡ Some s → j ≢ i
+      → side_handed after s ≡ side_handed pool s
+  other-handed j s at other =
+      side-handed mine before now pool after old new h.acts s
+      (all-at (SideKept pool) sides j s kept.keeps at) (other-apart j s at other)
+
   any-server : (j : ℕ) (v : Serving) → slice_get servers j ≡ Some v
       → shown_server after v ≡ shown_server pool v
   any-server j v at = server-shown mine before now pool after old new h.acts v
@@ -152,6 +158,17 @@ module _ (pool after : Pool) (sides : List Side) (servers : List Serving) (i : �
   pub clients-set : map (shown_side after) (slice_set sides i later)
       ≡ slice_set (map (shown_side pool) sides) i (shown_side after later)
   clients-set = map-set (shown_side pool) (shown_side after) sides i later other-side
+
+  pub handed-set : map (side_handed after) (slice_set sides i later)
+      ≡ slice_set (map (side_handed pool) sides) i (side_handed after later)
+  handed-set = map-set (side_handed pool) (side_handed after) sides i later other-handed
+
+  pub handed-kept : side_handed after later ≡ side_handed pool side
+      → map (side_handed after) (slice_set sides i later) ≡ map (side_handed pool) sides
+  handed-kept same =
+      handed-set ∙ ap (slice_set (map (side_handed pool) sides) i) same
+      ∙ set-own (map (side_handed pool) sides) i (side_handed pool side)
+      (get-map (side_handed pool) sides i side there)
 
   pub servers-same : map (shown_server after) servers ≡ map (shown_server pool) servers
   servers-same = map-same (shown_server pool) (shown_server after) servers any-server
@@ -278,6 +295,11 @@ module _ (pool after : Pool) (sides : List Side) (servers : List Serving) (i : �
 
   pub clients-same : map (shown_side after) sides ≡ map (shown_side pool) sides
   clients-same = map-same (shown_side pool) (shown_side after) sides any-side
+
+  pub handed-same : map (side_handed after) sides ≡ map (side_handed pool) sides
+  handed-same = map-same (side_handed pool) (side_handed after) sides
+      (λ j s at. side-handed its named names-then pool after old new h.acts s
+      (all-at (SideKept pool) sides j s kept.keeps at) (client-apart j s at))
 
   then-apart : (p : ℕ) → names_in p sides + served_names p (slice_set servers i w) ≤ 1
   then-apart p =

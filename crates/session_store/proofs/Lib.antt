@@ -2,8 +2,10 @@ mod ActLemmas
 pub mod AscendsLemmas
 mod BesideLemmas
 mod EndLemmas
+mod EndingLemmas
 mod GoneLemmas
 mod KeptLemmas
+mod HandingLemmas
 pub mod CountLemmas
 pub mod ListLemmas
 mod LeastMapLemmas
@@ -14,6 +16,7 @@ mod HandledLemmas
 mod SizeLemmas
 mod PlaceLemmas
 mod PostedLemmas
+pub mod StageLemmas
 pub mod StandLemmas
 mod StoreLemmas
 mod TimerLemmas
@@ -25,6 +28,7 @@ mod UnheldLemmas
 mod ReplyLemmas
 mod RollLemmas
 mod LoseLemmas
+mod MovedLemmas
 mod FinishLemmas
 mod SearchLemmas
 pub mod ServeLemmas

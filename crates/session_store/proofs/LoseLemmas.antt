@@ -6,6 +6,7 @@ use Rattle.std.specs.List.{AllByRecursion, list_any}
 use Rattle.std.proofs.lemmas.Bool.{cases_eq, eq-eqb}
 use Rattle.rpc_base.specs.declared.owner.Owner.{Owner}
 use Rattle.rpc_base.specs.declared.owner.Owner.TheVariants.{Ask, Reply, Control}
+use Rattle.rpc_base.specs.declared.state.SessionState.{SessionState}
 use Rattle.rpc_base.proofs.BasicLemmas.{or-false}
 use Rattle.buffer_pool.specs.Pool.{Pool, refs_of, spare_of}
 use Rattle.packet_rings.specs.Rings.{Ring}
@@ -15,7 +16,7 @@ use Rattle.packet_rings.proofs.MentionsLemmas.{mentions-none, mentions-other}
 use Rattle.node_laws.specs.QueuedPackets.{is_ask_of}
 use Rattle.rpc_laws.specs.GoBackN.{row_of}
 use Rattle.rpc_laws.specs.Queues.{is_queued}
-use Rattle.rpc_laws.specs.Sessions.{breaks, is_connected}
+use Rattle.rpc_laws.specs.Sessions.{breaks}
 use Rattle.rpc_laws.specs.declared.rows.TimerRow.{TimerRow}
 use Rattle.rpc_laws.specs.declared.rows.TimerRow.TheVariants.{Waits}
 use Rattle.rpc_laws.specs.declared.tables.Client.{Client}
@@ -39,21 +40,29 @@ use Rattle.server_core.specs.Replies.{request_of}
 use Rattle.server_core.specs.Session.{Session as Serving}
 use Rattle.server_core.specs.Shown.{shown as shown_server}
 use Rattle.session_store.specs.declared.side.Side.{Side}
-use Rattle.session_store.specs.Changes.{ActiveAt, ChangesAt, IsIdle, IsLost, LosesAt, RowAt}
+use Rattle.session_store.specs.declared.stage.Stage.{Stage}
+use Rattle.session_store.specs.declared.stage.Stage.TheVariants.{Connecting, Connected, Closing, Closed}
+use Rattle.session_store.specs.declared.stage.Stage.TheVariants.{Failed, Broken}
+use Rattle.session_store.specs.Changes.{ActiveAt, ChangesAt, IsConnected, IsIdle, IsLost, LosesAt}
+use Rattle.session_store.specs.Changes.{RowAt}
 use Rattle.session_store.specs.Changes.{calls_in, first_number}
 use Rattle.session_store.specs.Effects.{LosesNext, SideLoses}
 use Rattle.session_store.specs.Ends.{progress_of, shown_end}
 use Rattle.session_store.specs.Sides.{HasSlots, IsOf, IsOfOwner, IsOfSide, Kept, ServerHolds, Shown}
 use Rattle.session_store.specs.Sides.{SideAscends, SideKept, SideQueued, places_in, queued_of}
 use Rattle.session_store.specs.Sides.{served_places, shown_of, shown_side}
+use Rattle.client_core.specs.Handing.{HandsBack}
+use Rattle.session_store.specs.Handing.{HandsBackIf}
+use Rattle.session_store.specs.Sides.{side_handed}
 use Rattle.session_store.proofs.EndLemmas.{calls-end}
 use Rattle.session_store.proofs.KeptLemmas.{ClientActs, client-kept, client-places, clients-set}
+use Rattle.session_store.proofs.KeptLemmas.{handed-kept, handed-set}
 use Rattle.session_store.proofs.KeptLemmas.{servers-same}
 use Rattle.session_store.proofs.ListLemmas.{all-at, get-map, get-other, set-own, sum-one, sum-two}
 use Rattle.session_store.proofs.PlaceLemmas.{names-ask, names-later}
 use Rattle.session_store.proofs.ReplyGoneLemmas.{end-at, named-cases, reply-stands}
 use Rattle.session_store.proofs.ReplyLemmas.{Spends, ended-spends}
-use Rattle.session_store.proofs.RollLemmas.{seen}
+use Rattle.session_store.proofs.RollLemmas.{at-connected, seen}
 use Rattle.session_store.proofs.StandLemmas.{of-side}
 use Rattle.session_store.proofs.TimerLemmas.{breaks-end, lose-end, none-left, progress-found}
 use Rattle.session_store.proofs.UnheldLemmas.{named-found, none-at, none-named, of-call}
@@ -175,9 +184,10 @@ module _ (pool : Pool) (sides : List Side) (servers : List Serving) (tx : Ring E
   unheld-at idle = unheld-cases idle (slice_get sides i) refl
 
   -- the peer is lost
-  module _ (side : Side) (at : slice_get sides i ≡ Some side) (idle : IsIdle i seen-as.queued) where
+  module _ (side : Side) (at : slice_get sides i ≡ Some side) (idle : IsIdle i seen-as.queued)
+      (connected : IsConnected (slice_get seen-as.clients i)) where
     abbrev broken : Side
-    broken = record side { is_broken = true }
+    broken = record side { stage = Broken }
 
     breaks-acts : ClientActs pool pool sides servers i side broken tx tx
     breaks-acts =
@@ -193,7 +203,7 @@ module _ (pool : Pool) (sides : List Side) (servers : List Serving) (tx : Ring E
           };
           keeps = own;
           number = refl;
-          ascends = rw (calls-end side.is_broken pool side.peer side.session)
+          ascends = rw (calls-end side.stage pool side.peer side.session)
               at (all-at (SideAscends pool) sides i side kept.ascends at);
           stands = stands-idle sides servers i broken tx.items (idle-entries idle) kept.stands;
           queued = all-at (SideQueued tx.items) sides i side kept.queued at;
@@ -201,8 +211,17 @@ module _ (pool : Pool) (sides : List Side) (servers : List Serving) (tx : Ring E
           spare = refl;
         }
 
+    its-stage : side.stage ≡ Connected
+    its-stage =
+        let here : IsConnected (slice_get (map (shown_side pool) sides) i) =
+        rw (← view) at connected in
+        at-connected pool side (rw (get-map (shown_side pool) sides i side at) at here)
+
     pub breaks-kept : Kept pool (slice_set sides i broken) servers tx
     breaks-kept = client-kept pool pool sides servers i side broken tx tx at kept breaks-acts
+
+    pub breaks-handed : map (side_handed pool) (slice_set sides i broken) ≡ map (side_handed pool) sides
+    breaks-handed = handed-kept pool pool sides servers i side broken tx tx at kept breaks-acts refl
 
     pub breaks-clients : ChangesAt i breaks seen-as.clients (map (shown_side pool) (slice_set sides i broken))
     breaks-clients = rw (← view) (record {
@@ -210,22 +229,27 @@ module _ (pool : Pool) (sides : List Side) (servers : List Serving) (tx : Ring E
       place = get-map (shown_side pool) sides i side at;
       changed = clients-set pool pool sides servers i side broken tx tx at kept breaks-acts
           ∙ ap (slice_set (map (shown_side pool) sides) i)
-          (breaks-end side.is_broken pool side.peer side.session);
+          (breaks-end side.stage pool side.peer side.session its-stage);
     })
 
   -- its calls end
   pub lost-broken : IsLost (slice_get seen-as.clients i) → (side : Side)
-      → slice_get sides i ≡ Some side → side.is_broken ≡ true
+      → slice_get sides i ≡ Some side → side.stage ≡ Broken
   lost-broken lost side at =
       let here : IsLost (slice_get (map (shown_side pool) sides) i) = rw (← view) at lost in
-      let own : is_connected (shown_side pool side).state ≡ false =
+      let own : (shown_side pool side).state ≡ SessionState.Broken =
       rw (get-map (shown_side pool) sides i side at) at here in
-      by side.is_broken own
+      by side.stage own
     where
-      by : (b : Bool) → is_connected (shown_end b pool side.peer side.session).state ≡ false
-          → b ≡ true
-      by true h = refl
-      by false h = cc
+      by : (stage : Stage)
+          → (shown_end stage pool side.peer side.session).state ≡ SessionState.Broken
+          → stage ≡ Broken
+      by (Connecting n t) h = cc
+      by Connected h = cc
+      by (Closing n t) h = cc
+      by Closed h = cc
+      by Failed h = cc
+      by Broken h = refl
 
 -- a waiting call that is given up takes no place
 lost-cases : (pool after : Pool) (old new : Session) (d : Done) (o : Option ActiveCall)
@@ -256,7 +280,7 @@ module _ (pool after : Pool) (sides now : List Side) (servers : List Serving) (t
     (kept : Kept pool sides servers tx) (seen-as : Shown)
     (view : shown_of pool sides servers tx ≡ seen-as) (i : ℕ) (idle : IsIdle i seen-as.queued)
     (o : Option Done) (h : SideLoses i o sides now pool after)
-    (broken : h.side.is_broken ≡ true) where
+    (broken : h.side.stage ≡ Broken) where
   abbrev less : Side
   less = record h.side { session = h.later }
 
@@ -264,7 +288,7 @@ module _ (pool after : Pool) (sides now : List Side) (servers : List Serving) (t
       → SideAscends after less
   up-cases None g = rw (g.unchanged.0, g.unchanged.1) (all-at (SideAscends pool) sides i h.side kept.ascends h.at)
   up-cases (Some d) g =
-      (lose-end h.side.is_broken pool after h.side.peer d h.side.session h.later broken
+      (lose-end h.side.stage pool after h.side.peer d h.side.session h.later broken
       (all-at (SideAscends pool) sides i h.side kept.ascends h.at) g.loses g.step).calls
 
   lose-acts : ClientActs pool after sides servers i h.side less tx tx
@@ -303,6 +327,25 @@ module _ (pool after : Pool) (sides now : List Side) (servers : List Serving) (t
   lose-places = ap (λ xs. spare_of after + places_in xs + served_places servers) h.changed
       ∙ client-places pool after sides servers i h.side less tx tx h.at kept lose-acts
 
+  back-cases : (d : Option Done) → LosesNext d h.side.session h.later pool after
+      → HandsBackIf i d (map (side_handed pool) sides) (map (side_handed after) now)
+  back-cases None g =
+      ap (map (side_handed after)) h.changed
+      ∙ handed-kept pool after sides servers i h.side less tx tx h.at kept lose-acts
+      (rw (g.unchanged.0, g.unchanged.1) refl)
+  back-cases (Some d) g = record {
+    before = side_handed pool h.side;
+    place = get-map (side_handed pool) sides i h.side h.at;
+    later = side_handed after less;
+    back = subst (λ n. HandsBack n d (side_handed pool h.side) (side_handed after less))
+        (kept.numbered i h.side h.at) g.handed;
+    changed = ap (map (side_handed after)) h.changed
+        ∙ handed-set pool after sides servers i h.side less tx tx h.at kept lose-acts;
+  }
+
+  pub lose-handed : HandsBackIf i o (map (side_handed pool) sides) (map (side_handed after) now)
+  lose-handed = back-cases o h.step
+
   lose-set : map (shown_side after) now ≡ slice_set (map (shown_side pool) sides) i (shown_side after less)
   lose-set = ap (map (shown_side after)) h.changed
       ∙ clients-set pool after sides servers i h.side less tx tx h.at kept lose-acts
@@ -314,7 +357,7 @@ module _ (pool after : Pool) (sides now : List Side) (servers : List Serving) (t
       → LosesAt i (option_map (λ (x : Done). x.call) d) (map (shown_side pool) sides)
       (map (shown_side after) now)
   loses-cases None g =
-      let none = sym (none-left h.side.is_broken pool h.side.peer h.side.session (g.none.0 refl)) in
+      let none = sym (none-left h.side.stage pool h.side.peer h.side.session (g.none.0 refl)) in
       let same : shown_side after less ≡ shown_side pool h.side = rw (g.unchanged.0, g.unchanged.1) refl in (
         ap (λ x. first_number (calls_in x)) place ∙ none,
         lose-set
@@ -322,7 +365,7 @@ module _ (pool after : Pool) (sides now : List Side) (servers : List Serving) (t
             ∙ set-own (map (shown_side pool) sides) i (shown_side pool h.side) place,
       )
   loses-cases (Some d) g =
-      let ended = lose-end h.side.is_broken pool after h.side.peer d h.side.session h.later broken
+      let ended = lose-end h.side.stage pool after h.side.peer d h.side.session h.later broken
       (all-at (SideAscends pool) sides i h.side kept.ascends h.at) g.loses g.step in (
         ap (λ x. first_number (calls_in x)) place ∙ sym ended.next,
         record {
@@ -359,12 +402,12 @@ module _ (pool : Pool) (sides : List Side) (servers : List Serving) (tx : Ring E
 
   pub watched : Watched
   watched =
-      let s = seen side.is_broken pool side.peer a.call side.session is.progress told-call in
+      let s = seen side.stage pool side.peer a.call side.session is.progress told-call in
       record {
         call = s.call;
         found = s.found;
         progress = sym told-call
-            ∙ progress-found side.is_broken pool side.peer a.call side.session s.call s.found;
+            ∙ progress-found side.stage pool side.peer a.call side.session s.call s.found;
       }
 
   pub watched-active : IsSome (call_numbered a.call side.session)

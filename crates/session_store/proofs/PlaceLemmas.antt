@@ -9,6 +9,7 @@ use Rattle.buffer_pool.specs.Uses.{is_full, refs_in}
 use Rattle.buffer_pool.specs.Pool.{Pool, IsFull, buf_at, use_at}
 use Rattle.buffer_pool.proofs.PlacesLemmas.{named-one}
 use Rattle.client_core.specs.declared.call.ActiveCall.{ActiveCall}
+use Rattle.client_core.specs.Handing.{handed_active}
 use Rattle.client_core.specs.KeepsPool.{IsKept, names}
 use Rattle.client_core.specs.Shown.{shown_active}
 use Rattle.client_core.proofs.PoolLemmas.{names-cons}
@@ -121,6 +122,15 @@ module _ (pool after : Pool) where
         (same c.ask (names-ask c cs)).buf_is,
         (same c.answer (names-answer c cs)).buf_is,
         calls-shown cs (λ p n. same p (names-later p c cs n)),
+      ) refl
+
+  pub calls-handed : (cs : List ActiveCall) → ((p : ℕ) → 1 ≤ names p cs → IsSame pool after p)
+      → map (handed_active after) cs ≡ map (handed_active pool) cs
+  calls-handed [] same = refl
+  calls-handed (c ∷ cs) same =
+      rw (
+        (same c.ask (names-ask c cs)).buf_is,
+        calls-handed cs (λ p n. same p (names-later p c cs n)),
       ) refl
 
   -- a request

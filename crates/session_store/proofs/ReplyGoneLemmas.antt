@@ -45,9 +45,10 @@ use Rattle.session_store.specs.Queue.{packet_in, peer_in}
 use Rattle.session_store.specs.Sides.{HasPlaces, HasReply, IsOf, IsOfOwner, IsOfServer, Kept}
 use Rattle.session_store.specs.Sides.{ServerHolds, ServerQueued, has_number, is_end, numbers_in}
 use Rattle.session_store.specs.Sides.{places_in, served_places, shown_of, shown_side}
+use Rattle.session_store.specs.Sides.{side_handed}
 use Rattle.session_store.proofs.BesideLemmas.{rest-taken}
 use Rattle.session_store.proofs.GoneLemmas.{find-map}
-use Rattle.session_store.proofs.KeptLemmas.{ServerActs, clients-same, rises-apart, server-acted}
+use Rattle.session_store.proofs.KeptLemmas.{ServerActs, clients-same, handed-same, rises-apart, server-acted}
 use Rattle.session_store.proofs.KeptLemmas.{server-places, servers-set}
 use Rattle.session_store.proofs.ListLemmas.{all-at, find-there, get-map, get-there, set-own}
 use Rattle.session_store.proofs.PostedLemmas.{spare-released}
@@ -344,6 +345,10 @@ module _ (pool after : Pool) (sides : List Side) (servers now : List Serving) (t
 
   pub reply-clients : map (shown_side after) sides ≡ map (shown_side pool) sides
   reply-clients = clients-same pool after sides servers h.place h.server h.later tx
+      (ring left tx.size) h.at kept reply-acts
+
+  pub reply-handed : map (side_handed after) sides ≡ map (side_handed pool) sides
+  reply-handed = handed-same pool after sides servers h.place h.server h.later tx
       (ring left tx.size) h.at kept reply-acts
 
   pub reply-servers : map (shown_server after) now ≡ map (shown_server pool) servers

@@ -44,13 +44,20 @@ use Rattle.server_core.specs.Shown.{shown as shown_server}
 use Rattle.session_store.specs.declared.side.Side.{Side}
 use Rattle.session_store.specs.Effects.{SideReplies}
 use Rattle.session_store.specs.Hearing.{RepliesAt}
+use Rattle.session_store.specs.Stages.{is_connected}
+use Rattle.session_store.specs.declared.stage.Stage.TheVariants.{Connected}
 use Rattle.session_store.specs.Sides.{HasSlots, IsOf, Kept, Shown, SideAscends, SideKept}
 use Rattle.session_store.specs.Sides.{SideQueued, places_in, queued_of, served_places, shown_of}
 use Rattle.session_store.specs.Sides.{shown_side}
+use Rattle.client_core.specs.Handing.{HandsBack, HandsBackBy}
+use Rattle.session_store.specs.Handing.{HandsBackIf, ended_by}
+use Rattle.session_store.specs.Sides.{side_handed}
 use Rattle.session_store.proofs.EndLemmas.{Replied, facts-end, reply-steps}
 use Rattle.session_store.proofs.KeptLemmas.{ClientActs, client-kept, client-places, clients-set}
+use Rattle.session_store.proofs.KeptLemmas.{handed-kept, handed-set}
 use Rattle.session_store.proofs.KeptLemmas.{servers-same}
 use Rattle.session_store.proofs.ListLemmas.{all-at, get-map, set-own}
+use Rattle.session_store.proofs.StageLemmas.{stage-state}
 use Rattle.session_store.proofs.StandLemmas.{stands-all, stands-but}
 use Rattle.session_store.proofs.UnheldLemmas.{entry-queued, next-unheld, none-queued}
 
@@ -141,14 +148,14 @@ module _ (pool after : Pool) (sides now : List Side) (servers : List Serving) (t
     (i clock : ℕ) (h : MessageHeader) (body : List ℕ) (is_waiting : Bool) (r : Reply)
     (kept : Kept pool sides servers tx)
     (g : SideReplies i clock h body is_waiting r sides now pool after)
-    (connected : g.side.is_broken ≡ false) (session : h.session ≡ i)
+    (connected : g.side.stage ≡ Connected) (session : h.session ≡ i)
     (windows : Windows (map (shown_side pool) sides) (map queued_of tx.items))
     (waits : is_waiting ≡ list_any (is_entry (Ask i h.request) h.number) tx.items) where
   abbrev heard : Side
   heard = record g.side { session = g.later }
 
-  steps : Replied clock r h body g.side.is_broken pool after g.side.peer g.side.session g.later
-  steps = reply-steps clock r h body g.side.is_broken pool after g.side.peer g.side.session g.later
+  steps : Replied clock r h body g.side.stage pool after g.side.peer g.side.session g.later
+  steps = reply-steps clock r h body g.side.stage pool after g.side.peer g.side.session g.later
       connected (all-at (SideAscends pool) sides i g.side kept.ascends g.at) g.step.step
 
   stands-cases : (q : Reply) → row_told q ≡ reply_row is_waiting h (length body)
@@ -205,7 +212,7 @@ module _ (pool after : Pool) (sides now : List Side) (servers : List Serving) (t
     client = shown_side pool g.side;
     at = get-map (shown_side pool) sides i g.side g.at;
     row = λ queue queued. rw (connected, same) (g.step.rule queue queued g.side.peer);
-    facts = λ takes me. facts-end h body r g.side.is_broken pool g.side.peer g.side.session
+    facts = λ takes me. facts-end h body r g.side.stage pool g.side.peer g.side.session
         connected (g.step.facts takes) me;
     later = shown_side after heard;
     step = steps.step;
@@ -220,6 +227,29 @@ module _ (pool after : Pool) (sides now : List Side) (servers : List Serving) (t
       ≡ spare_of pool + places_in sides + served_places servers
   heard-places = ap (λ xs. spare_of after + places_in xs + served_places servers) g.changed
       ∙ client-places pool after sides servers i g.side heard tx tx g.at kept heard-acts
+
+  back-cases : (q : Reply)
+      → HandsBackBy q g.side.session.number (side_handed pool g.side) (side_handed after heard)
+      → HandsBackIf i (ended_by q) (map (side_handed pool) sides) (map (side_handed after) now)
+  back-cases Took same =
+      ap (map (side_handed after)) g.changed
+      ∙ handed-kept pool after sides servers i g.side heard tx tx g.at kept heard-acts same
+  back-cases (Dropped why) same =
+      ap (map (side_handed after)) g.changed
+      ∙ handed-kept pool after sides servers i g.side heard tx tx g.at kept heard-acts same
+  back-cases (Ended d) back = record {
+    before = side_handed pool g.side;
+    place = get-map (side_handed pool) sides i g.side g.at;
+    later = side_handed after heard;
+    back = subst (λ n. HandsBack n d (side_handed pool g.side) (side_handed after heard))
+        (kept.numbered i g.side g.at) back;
+    changed = ap (map (side_handed after)) g.changed
+        ∙ handed-set pool after sides servers i g.side heard tx tx g.at kept heard-acts;
+  }
+
+  pub heard-handed : HandsBackIf i (ended_by r) (map (side_handed pool) sides)
+      (map (side_handed after) now)
+  heard-handed = back-cases r g.step.handed
 
 -- a reply to a session that takes none
 module _ (pool : Pool) (sides : List Side) (i clock peer : ℕ) (h : MessageHeader) (body : List ℕ)
@@ -240,12 +270,14 @@ module _ (pool : Pool) (sides : List Side) (i clock peer : ℕ) (h : MessageHead
         changed = sym (set-own (map (shown_side pool) sides) i (shown_side pool side) place);
       }
 
-  pub broken-clients : side.is_broken ≡ true
+  pub unconnected-clients : is_connected side.stage ≡ false
       → RepliesAt i clock peer h body is_waiting (Dropped NoSession) (map (shown_side pool) sides)
       (map (shown_side pool) sides)
-  broken-clients broken = dropped-clients NoSession (λ queue. rw broken refl)
+  unconnected-clients other =
+      dropped-clients NoSession
+      (λ queue. rw (stage-state pool side.peer side.session side.stage, other) refl)
 
-  pub other-clients : side.is_broken ≡ false → (peer ≡ side.peer → ⊥)
+  pub other-clients : side.stage ≡ Connected → (peer ≡ side.peer → ⊥)
       → RepliesAt i clock peer h body is_waiting (Dropped WrongPeer) (map (shown_side pool) sides)
       (map (shown_side pool) sides)
   other-clients connected other =

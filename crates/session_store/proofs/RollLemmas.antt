@@ -21,6 +21,7 @@ use Rattle.rpc_laws.specs.declared.tables.Progress.{Progress}
 use Rattle.session_slots.specs.declared.waiting.Waiting.{Waiting}
 use Rattle.client_core.specs.declared.call.ActiveCall.{ActiveCall}
 use Rattle.client_core.specs.Counting.{CountsQueued}
+use Rattle.client_core.specs.Handing.{handed_of}
 use Rattle.client_core.specs.KeepsEntries.{KeepsOthers}
 use Rattle.client_core.specs.KeepsPool.{KeepsPool, LeavesOthers}
 use Rattle.client_core.specs.Replies.{is_request}
@@ -32,14 +33,19 @@ use Rattle.client_core.proofs.CallsLemmas.{length-at_first}
 use Rattle.client_core.proofs.ShownLemmas.{found-shown}
 use Rattle.server_core.specs.Session.{Session as Serving}
 use Rattle.session_store.specs.declared.side.Side.{Side}
+use Rattle.session_store.specs.declared.stage.Stage.{Stage}
+use Rattle.session_store.specs.declared.stage.Stage.TheVariants.{Connecting, Connected, Closing, Closed}
+use Rattle.session_store.specs.declared.stage.Stage.TheVariants.{Failed, Broken}
 use Rattle.session_store.specs.Changes.{MayRoll, RollsAt}
 use Rattle.session_store.specs.Effects.{RollsBack, SideRolls}
 use Rattle.session_store.specs.Ends.{progress_of, shown_end}
 use Rattle.session_store.specs.Queue.{is_owned}
 use Rattle.session_store.specs.Sides.{HasSlots, Kept, Shown, SideAscends, SideKept, SideQueued}
 use Rattle.session_store.specs.Sides.{places_in, queued_of, served_places, shown_of, shown_side}
+use Rattle.session_store.specs.Sides.{side_handed}
 use Rattle.session_store.proofs.EndLemmas.{calls-end}
 use Rattle.session_store.proofs.KeptLemmas.{ClientActs, client-kept, client-places, clients-set}
+use Rattle.session_store.proofs.KeptLemmas.{handed-kept}
 use Rattle.session_store.proofs.ListLemmas.{all-at, get-map}
 use Rattle.session_store.proofs.StandLemmas.{stands-but}
 use Rattle.session_store.proofs.TimerLemmas.{RollsEnd, numbered-same, progress-found, roll-end}
@@ -49,18 +55,20 @@ rolls-by : (number : ℕ) (old new : Session) (o : Option ActiveCall) → call_n
     → IsSome o → IfSome o (λ c. new ≡ after_roll c old)
     → IfSome o (λ c. (pool : Pool) → (clock peer : ℕ)
     → stepped clock (rolled_event c) (shown pool peer old) ≡ shown pool peer new ∷ [])
+    → ((pool : Pool) → handed_of pool new ≡ handed_of pool old)
     → ((pool : Pool) → LeavesOthers old.active new.active pool pool)
     → IfSome o (λ c. KeepsOthers c.request old new)
     → ((es : List EntryValue) → CountsQueued old es → CountsQueued new es)
     → ((pool : Pool) → KeepsPool pool old.active → KeepsPool pool new.active)
     → RollsBack number old new
-rolls-by number old new None e some session step leaves entries queued keeps = cc
-rolls-by number old new (Some c) e some session step leaves entries queued keeps =
+rolls-by number old new None e some session step handed leaves entries queued keeps = cc
+rolls-by number old new (Some c) e some session step handed leaves entries queued keeps =
     record {
       call = c;
       found = e;
       session = session;
       step = step;
+      handed = handed;
       leaves = leaves;
       entries = entries;
       queued = queued;
@@ -72,13 +80,14 @@ pub rolls-back : (number : ℕ) (old new : Session) → IsSome (call_numbered nu
     → IfSome (call_numbered number old)
     (λ c. (pool : Pool) → (clock peer : ℕ)
     → stepped clock (rolled_event c) (shown pool peer old) ≡ shown pool peer new ∷ [])
+    → ((pool : Pool) → handed_of pool new ≡ handed_of pool old)
     → ((pool : Pool) → LeavesOthers old.active new.active pool pool)
     → IfSome (call_numbered number old) (λ c. KeepsOthers c.request old new)
     → ((es : List EntryValue) → CountsQueued old es → CountsQueued new es)
     → ((pool : Pool) → KeepsPool pool old.active → KeepsPool pool new.active)
     → RollsBack number old new
-rolls-back number old new some session step leaves entries queued keeps =
-    rolls-by number old new (call_numbered number old) refl some session step leaves entries queued
+rolls-back number old new some session step handed leaves entries queued keeps =
+    rolls-by number old new (call_numbered number old) refl some session step handed leaves entries queued
     keeps
 
 module _ (pool : Pool) (sides now : List Side) (servers : List Serving) (tx : Ring EntryValue)
@@ -124,6 +133,11 @@ module _ (pool : Pool) (sides now : List Side) (servers : List Serving) (tx : Ri
       ≡ spare_of pool + places_in sides + served_places servers
   rolled-places = ap (λ xs. spare_of pool + places_in xs + served_places servers) h.changed
       ∙ client-places pool pool sides servers i h.side rolled_side tx tx h.at kept roll-acts
+
+  pub rolled-handed : map (side_handed pool) now ≡ map (side_handed pool) sides
+  rolled-handed = ap (map (side_handed pool)) h.changed
+      ∙ handed-kept pool pool sides servers i h.side rolled_side tx tx h.at kept roll-acts
+      (h.step.handed pool)
 
   pub rolled-set : map (shown_side pool) now ≡ slice_set (map (shown_side pool) sides) i (shown_side pool rolled_side)
   rolled-set = ap (map (shown_side pool)) h.changed
@@ -171,11 +185,11 @@ some-seen pool n s p c e t =
       request_is = ap (λ (x : Progress). x.request) one;
     }
 
-seen-cases : (b : Bool) (pool : Pool) (peer n : ℕ) (s : Session) (p : Progress)
+seen-cases : (stage : Stage) (pool : Pool) (peer n : ℕ) (s : Session) (p : Progress)
     (o : Option ActiveCall) → call_numbered n s ≡ o
-    → progress_of n (shown_end b pool peer s) ≡ Some p → Seen pool n s p
-seen-cases b pool peer n s p (Some c) e h = some-seen pool n s p c e (sym h ∙ progress-found b pool peer n s c e)
-seen-cases b pool peer n s p None e h =
+    → progress_of n (shown_end stage pool peer s) ≡ Some p → Seen pool n s p
+seen-cases stage pool peer n s p (Some c) e h = some-seen pool n s p c e (sym h ∙ progress-found stage pool peer n s c e)
+seen-cases stage pool peer n s p None e h =
     let active : find (is_call n) (map (shown_active pool) s.active) ≡ None =
     found-shown (shown_active pool) (is_call n)
     (is_numbered n) s.active (numbered-same pool n s.active)
@@ -185,29 +199,34 @@ seen-cases b pool peer n s p None e h =
     find-append (is_call n) (map (shown_active pool) s.active)
     (map shown_waiting s.slots.waiting)
     ∙ ap (λ o. option_or o (find (is_call n) (map shown_waiting s.slots.waiting))) active in
-    let gone : progress_of n (shown_end b pool peer s) ≡ None =
+    let gone : progress_of n (shown_end stage pool peer s) ≡ None =
     ap (λ (cs : List Call). option_and_then (λ (c : Call). c.progress)
-    (find (is_call n) cs)) (calls-end b pool peer s)
+    (find (is_call n) cs)) (calls-end stage pool peer s)
     ∙ ap (option_and_then (λ (c : Call). c.progress)) all
     ∙ progress-waits n s.slots.waiting in
     let differ : None ≡ Some p = sym gone ∙ h in cc
 
-pub seen : (b : Bool) (pool : Pool) (peer n : ℕ) (s : Session) (p : Progress)
-    → progress_of n (shown_end b pool peer s) ≡ Some p → Seen pool n s p
-seen b pool peer n s p h = seen-cases b pool peer n s p (call_numbered n s) refl h
+pub seen : (stage : Stage) (pool : Pool) (peer n : ℕ) (s : Session) (p : Progress)
+    → progress_of n (shown_end stage pool peer s) ≡ Some p → Seen pool n s p
+seen stage pool peer n s p h = seen-cases stage pool peer n s p (call_numbered n s) refl h
 
 entries-seen : (owner : Owner) (ds : List EntryValue) → list_any (is_owned owner)
     (map queued_of ds) ≡ list_any (is_of owner) ds
 entries-seen owner [] = refl
 entries-seen owner (d ∷ ds) = rw (entries-seen owner ds) refl
 
-not-broken : (pool : Pool) (s : Side) → is_connected (shown_side pool s).state ≡ true
-    → s.is_broken ≡ false
-not-broken pool s h = by s.is_broken h
+pub at-connected : (pool : Pool) (s : Side) → is_connected (shown_side pool s).state ≡ true
+    → s.stage ≡ Connected
+at-connected pool s h = by s.stage h
   where
-    by : (b : Bool) → is_connected (shown_end b pool s.peer s.session).state ≡ true → b ≡ false
-    by true h = cc
-    by false h = refl
+    by : (stage : Stage) → is_connected (shown_end stage pool s.peer s.session).state ≡ true
+        → stage ≡ Connected
+    by (Connecting n t) h = cc
+    by Connected h = refl
+    by (Closing n t) h = cc
+    by Closed h = cc
+    by Failed h = cc
+    by Broken h = cc
 
 module _ (pool : Pool) (sides : List Side) (servers : List Serving) (tx : Ring EntryValue)
     (i number : ℕ) (view : Shown) (is : shown_of pool sides servers tx ≡ view)
@@ -222,7 +241,7 @@ module _ (pool : Pool) (sides : List Side) (servers : List Serving) (tx : Ring E
       some-same x y t = cc
 
   side-seen : (s : Side) → slice_get sides i ≡ Some s → Seen pool number s.session may.progress
-  side-seen s e = seen s.is_broken pool s.peer number s.session may.progress
+  side-seen s e = seen s.stage pool s.peer number s.session may.progress
       (ap (progress_of number) (sym (side-client s e)) ∙ may.active)
 
   active-cases : (o : Option Side) → slice_get sides i ≡ o
@@ -243,12 +262,12 @@ module _ (pool : Pool) (sides : List Side) (servers : List Serving) (tx : Ring E
 
   module _ (now : List Side) (kept : Kept pool sides servers tx)
       (h : SideRolls i number sides now) where
-    connected : h.side.is_broken ≡ false
-    connected = not-broken pool h.side (ap (λ (x : Client). is_connected x.state)
+    connected : h.side.stage ≡ Connected
+    connected = at-connected pool h.side (ap (λ (x : Client). is_connected x.state)
         (sym (side-client h.side h.at)) ∙ may.connected)
 
-    ends : RollsEnd number h.side.is_broken pool h.side.peer h.side.session h.later
-    ends = roll-end number h.side.is_broken pool h.side.peer h.side.session h.later connected
+    ends : RollsEnd number h.side.stage pool h.side.peer h.side.session h.later
+    ends = roll-end number h.side.stage pool h.side.peer h.side.session h.later connected
         (all-at (SideAscends pool) sides i h.side kept.ascends h.at)
         (all-at (SideKept pool) sides i h.side kept.keeps h.at) (rw h.step.found refl)
         (rw h.step.found h.step.session) (rw h.step.found h.step.step)
@@ -275,6 +294,9 @@ module _ (pool : Pool) (sides : List Side) (servers : List Serving) (tx : Ring E
     pub places-roll : spare_of pool + places_in now + served_places servers
         ≡ spare_of pool + places_in sides + served_places servers
     places-roll = rolled-places pool sides now servers tx i number kept h ends.calls idle
+
+    pub handed-roll : map (side_handed pool) now ≡ map (side_handed pool) sides
+    handed-roll = rolled-handed pool sides now servers tx i number kept h ends.calls idle
 
     pub rolled-clients : RollsAt i number view.clients (map (shown_side pool) now)
     rolled-clients =

@@ -59,9 +59,10 @@ use Rattle.session_store.specs.Serving.{IsReplyOf, ServerServed, handled_facts, 
 use Rattle.session_store.specs.Serving.{row_at, without_owned}
 use Rattle.session_store.specs.Sides.{IsOf, Kept, ServerHolds, ServerQueued, Shown, places_in}
 use Rattle.session_store.specs.Sides.{queued_of, served_places, shown_of, shown_side}
+use Rattle.session_store.specs.Sides.{side_handed}
 use Rattle.session_store.proofs.BesideLemmas.{rest, rest-push}
 use Rattle.session_store.proofs.FinishLemmas.{new-stands, own-reply}
-use Rattle.session_store.proofs.KeptLemmas.{ServerActs, clients-same, server-acted, server-places}
+use Rattle.session_store.proofs.KeptLemmas.{ServerActs, clients-same, handed-same, server-acted, server-places}
 use Rattle.session_store.proofs.KeptLemmas.{servers-set}
 use Rattle.session_store.proofs.ListLemmas.{all-at, all-from, get-map}
 use Rattle.session_store.proofs.StandLemmas.{ends-all}
@@ -356,6 +357,9 @@ module _ {R : Type 0} (facts : R → Option (List Fact)) (whole : R → Bool) (m
 
   pub serve-clients : map (shown_side after) sides ≡ map (shown_side pool) sides
   serve-clients = clients-same pool after sides servers i g.server g.later old final g.at kept serve-acts
+
+  pub serve-handed : map (side_handed after) sides ≡ map (side_handed pool) sides
+  serve-handed = handed-same pool after sides servers i g.server g.later old final g.at kept serve-acts
 
   pub serve-places : spare_of after + places_in sides + served_places now
       ≡ spare_of pool + places_in sides + served_places servers

@@ -1,5 +1,5 @@
 -- The credits of the live sessions, by side and as they are seen.
-use Rattle.std.proofs.Common.{◌≡◌, ℕ, ◌+◌, Bool, true, false, List, [], ◌∷◌, refl, ap, ap₂, ◌∙◌, sym}
+use Rattle.std.proofs.Common.{◌≡◌, ℕ, ◌+◌, List, [], ◌∷◌, refl, ap, ap₂, ◌∙◌, sym}
 use Rattle.std.specs.Prelude.{map, sum_by}
 use Rattle.std.proofs.lemmas.List.Sums.{sum_by-cons}
 use Rattle.buffer_pool.specs.Pool.{Pool}
@@ -8,20 +8,27 @@ use Rattle.server_core.specs.Session.{Session as Serving}
 use Rattle.server_core.specs.Shown.{shown as shown_server}
 use Rattle.packet_rings.specs.Rings.{Ring}
 use Rattle.packet_rings.specs.Values.{EntryValue}
+use Rattle.session_store.specs.declared.stage.Stage.{Stage}
+use Rattle.session_store.specs.declared.stage.Stage.TheVariants.{Connecting, Connected, Closing, Closed}
+use Rattle.session_store.specs.declared.stage.Stage.TheVariants.{Failed, Broken}
 use Rattle.session_store.specs.Sides.{Shown, shown_of, shown_side, side_credits}
 use Rattle.session_store.specs.declared.side.Side.{Side}
 
-side-same : (b : Bool) (pool : Pool) (s : Side) → s.is_broken ≡ b
+side-same : (stage : Stage) (pool : Pool) (s : Side) → s.stage ≡ stage
     → live_credits (shown_side pool s) ≡ side_credits s
-side-same true pool s e = rw e refl
-side-same false pool s e = rw e refl
+side-same (Connecting n t) pool s e = rw e refl
+side-same Connected pool s e = rw e refl
+side-same (Closing n t) pool s e = rw e refl
+side-same Closed pool s e = rw e refl
+side-same Failed pool s e = rw e refl
+side-same Broken pool s e = rw e refl
 
 pub clients-share : (pool : Pool) (sides : List Side)
     → sum_by live_credits (map (shown_side pool) sides) ≡ sum_by side_credits sides
 clients-share pool [] = refl
 clients-share pool (s ∷ sides) =
     sum_by-cons live_credits (shown_side pool s) (map (shown_side pool) sides)
-    ∙ ap₂ (λ (a b : ℕ). a + b) (side-same s.is_broken pool s refl) (clients-share pool sides)
+    ∙ ap₂ (λ (a b : ℕ). a + b) (side-same s.stage pool s refl) (clients-share pool sides)
     ∙ sym (sum_by-cons side_credits s sides)
 
 pub servers-share : (pool : Pool) (servers : List Serving)

@@ -1,5 +1,5 @@
 -- How long the packets of a session's calls are.
-use Rattle.std.proofs.Common.{◌≡◌, ℕ, ◌+◌, false, Option, Some, None, refl, sym, ap, ◌∙◌, length, arith}
+use Rattle.std.proofs.Common.{◌≡◌, ℕ, ◌+◌, Option, Some, None, refl, sym, ap, ◌∙◌, length, arith}
 use Rattle.std.specs.Prelude.{option_map}
 use Rattle.std.specs.List.{find}
 use Rattle.rpc_base.proofs.FirstLemmas.{found-holds}
@@ -15,12 +15,13 @@ use Rattle.client_core.specs.Replies.{call_as, is_request}
 use Rattle.client_core.specs.Session.{Session, bytes_in}
 use Rattle.client_core.specs.Shown.{shown_active}
 use Rattle.client_core.proofs.OutcomeLemmas.{active-found}
+use Rattle.session_store.specs.declared.stage.Stage.TheVariants.{Connected}
 use Rattle.session_store.specs.declared.side.Side.{Side}
 use Rattle.session_store.specs.Sides.{SideKept, shown_side}
 use Rattle.session_store.proofs.EndLemmas.{calls-end}
 
 size-cases : (pool : Pool) (s : Session) (r k : ℕ) (o : Option ActiveCall) → call_as r s ≡ o
-    → SideKept pool (record { peer = 0; is_broken = false; session = s })
+    → SideKept pool (record { peer = 0; stage = Connected; session = s })
     → 16 + part_size (bytes_in o) k ≡ call_size k (option_map (shown_active pool) o)
 size-cases pool s r k None found kept = omega arith
 size-cases pool s r k (Some c) found kept =
@@ -33,5 +34,5 @@ pub size-shown : (pool : Pool) (s : Side) (r k : ℕ) → SideKept pool s
     → 16 + part_size (bytes_in (call_as r s.session)) k ≡ packet_size r k (Some (shown_side pool s))
 size-shown pool s r k kept =
     size-cases pool s.session r k (call_as r s.session) refl kept
-    ∙ ap (call_size k) (sym (ap (find (is_active r)) (calls-end s.is_broken pool s.peer s.session)
+    ∙ ap (call_size k) (sym (ap (find (is_active r)) (calls-end s.stage pool s.peer s.session)
     ∙ active-found pool r s.session))

@@ -19,7 +19,7 @@ use Rattle.session_store.proofs.ListLemmas.{any-kept, get-other, get-own}
 -- a client session changed, and its peer and its state didn't
 module _ (sides : List Side) (servers : List Serving) (i : ℕ) (side later : Side)
     (there : slice_get sides i ≡ Some side) (peer : later.peer ≡ side.peer)
-    (state : later.is_broken ≡ side.is_broken) where
+    (state : later.stage ≡ side.stage) where
   of-one : (e : EntryValue) (o : Owner)
       → (IsPacketOf (call_of side.session e) e → IsPacketOf (call_of later.session e) e)
       → IsOfOwner sides servers e o → IsOfOwner (slice_set sides i later) servers e o

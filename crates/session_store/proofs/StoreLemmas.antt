@@ -19,7 +19,8 @@ use Rattle.packet_rings.specs.Values.{EntryValue}
 use Rattle.packet_rings.proofs.MentionsLemmas.{mentions-le-length}
 use Rattle.node_laws.specs.QueuedPackets.{is_ask_of}
 use Rattle.rpc_laws.specs.Posting.{beginning, if_connected, posting}
-use Rattle.rpc_laws.specs.Sessions.{begins, posts}
+use Rattle.pacing_wheel.specs.Wheel.{Wheel}
+use Rattle.rpc_laws.specs.Sessions.{begins, is_connected as takes_calls, posts}
 use Rattle.rpc_laws.specs.declared.tables.Call.{Call}
 use Rattle.rpc_laws.specs.declared.tables.Client.{Client}
 use Rattle.client_core.specs.declared.call.ActiveCall.{ActiveCall}
@@ -31,22 +32,28 @@ use Rattle.client_core.specs.Shown.{shown_active, shown_waiting}
 use Rattle.server_core.specs.KeepsPool.{places as slot_places}
 use Rattle.server_core.specs.Session.{Session as Serving}
 use Rattle.server_core.specs.Shown.{shown as shown_server}
-use Rattle.session_store.specs.Changes.{BeginsAt, PostsAt}
+use Rattle.session_store.specs.Changes.{BeginsAt, MayPace, MayQueue, PostsAt}
+use Rattle.session_store.specs.declared.stage.Stage.TheVariants.{Connected}
 use Rattle.session_store.specs.declared.side.Side.{Side}
 use Rattle.session_store.specs.Effects.{SideBegins, SidePosts, packet_of_entry, request_in}
+use Rattle.session_store.specs.Joined.{is_paced as is_queued_paced, shown_with}
+use Rattle.session_store.specs.Stages.{is_connected}
 use Rattle.session_store.specs.Sides.{HasPlaces, HasRoom, HasSlots, are_calls, has_calls, IsOf}
 use Rattle.session_store.specs.Sides.{Kept, MayPost, Shown, SideAscends, SideKept, SideQueued}
 use Rattle.session_store.specs.Sides.{places_in, queued_of, served_places, shown_of, shown_side}
+use Rattle.session_store.specs.Sides.{side_handed}
 use Rattle.session_store.proofs.BesideLemmas.{rest-push}
 use Rattle.session_store.proofs.EndLemmas.{Steps, ask-owner, begun-next, calls-end, next-owner}
 use Rattle.session_store.proofs.EndLemmas.{none-posted, none-same, post-next, post-steps}
 use Rattle.session_store.proofs.EndLemmas.{some-steps}
 use Rattle.session_store.proofs.KeptLemmas.{ClientActs, client-kept, client-places, clients-set}
+use Rattle.session_store.proofs.KeptLemmas.{handed-kept}
 use Rattle.session_store.proofs.KeptLemmas.{servers-same}
 use Rattle.session_store.proofs.ListLemmas.{all-at, all-from, get-map, got-same, set-own}
 use Rattle.session_store.proofs.PostedLemmas.{begun-length, begun-spare, free-slot, posted-free}
 use Rattle.session_store.proofs.PostedLemmas.{posted-length, posted-number, posted-spare}
 use Rattle.session_store.proofs.PostedLemmas.{slot-empty}
+use Rattle.session_store.proofs.StageLemmas.{connected-stage}
 use Rattle.session_store.proofs.StandLemmas.{of-side, owner-is, stands-all, stands-own}
 
 -- an entry goes to its session's peer
@@ -81,7 +88,7 @@ own-ask i r o own = rw own (eq-eqb i i refl)
 -- session i posted an entry
 module _ (pool after : Pool) (sides now : List Side) (servers : List Serving) (tx : Ring EntryValue)
     (i : ℕ) (e : EntryValue) (kept : Kept pool sides servers tx)
-    (h : SidePosts i (Some e) sides now pool after) (connected : h.side.is_broken ≡ false) where
+    (h : SidePosts i (Some e) sides now pool after) (connected : h.side.stage ≡ Connected) where
   abbrev own : KeepsPool pool h.side.session.active
   own = all-at (SideKept pool) sides i h.side kept.keeps h.at
 
@@ -91,8 +98,8 @@ module _ (pool after : Pool) (sides now : List Side) (servers : List Serving) (t
   asks : (t : ℕ) × (r : ℕ) × (e.owner ≡ Ask t r)
   asks = ask-owner h.side.peer h.side.session e h.step.entry
 
-  steps : Steps (posts asks.1 e.number) h.side.is_broken pool after h.side.peer h.side.session h.later
-  steps = post-steps h.side.is_broken pool after h.side.peer h.side.session h.later e asks.0 asks.1
+  steps : Steps (posts asks.1 e.number) h.side.stage pool after h.side.peer h.side.session h.later
+  steps = post-steps h.side.stage pool after h.side.peer h.side.session h.later e asks.0 asks.1
       connected (all-at (SideAscends pool) sides i h.side kept.ascends h.at) h.step.entry asks.2
       h.step.step
 
@@ -175,7 +182,7 @@ module _ (pool after : Pool) (sides now : List Side) (servers : List Serving) (t
   posted-clients has-room = rw posted-pair (record {
     client = shown_side pool h.side;
     place = get-map (shown_side pool) sides i h.side h.at;
-    next = sym (post-next h.side.is_broken pool h.side.peer h.side.session e asks.0 asks.1 connected
+    next = sym (post-next h.side.stage pool h.side.peer h.side.session e asks.0 asks.1 connected
         h.step.entry asks.2 h.step.turn);
     changed = ap (map (shown_side after)) h.changed
         ∙ clients-set pool after sides servers i h.side later tx (ring (tx.items ++ e ∷ []) tx.size)
@@ -189,6 +196,12 @@ module _ (pool after : Pool) (sides now : List Side) (servers : List Serving) (t
       ap (λ xs. spare_of after + places_in xs + served_places servers) h.changed
       ∙ client-places pool after sides servers i h.side later tx (ring (tx.items ++ e ∷ []) tx.size)
       h.at kept (post-acts has-room)
+
+  pub posted-handed : length tx.items < tx.size
+      → map (side_handed after) now ≡ map (side_handed pool) sides
+  posted-handed has-room = ap (map (side_handed after)) h.changed
+      ∙ handed-kept pool after sides servers i h.side later tx (ring (tx.items ++ e ∷ []) tx.size)
+      h.at kept (post-acts has-room) h.step.handed
 
 -- session i had nothing to post
 module _ (pool after : Pool) (sides now : List Side) (servers : List Serving) (tx : Ring EntryValue)
@@ -206,21 +219,46 @@ module _ (pool after : Pool) (sides now : List Side) (servers : List Serving) (t
       ≡ spare_of pool + places_in sides + served_places servers
   unposted-sum = rw (unposted-sides, h.step.pool) refl
 
-  pub unposted-clients : h.side.is_broken ≡ false → PostsAt i None (map (shown_side pool) sides)
+  pub unposted-handed : map (side_handed after) now ≡ map (side_handed pool) sides
+  unposted-handed = rw (unposted-sides, h.step.pool) refl
+
+  pub unposted-clients : h.side.stage ≡ Connected → PostsAt i None (map (shown_side pool) sides)
       (map (shown_side after) now)
   unposted-clients connected = (
     ap (λ (o : Option Client). option_and_then (if_connected posting) o)
         (get-map (shown_side pool) sides i h.side h.at)
-        ∙ sym (none-posted h.side.is_broken pool h.side.peer h.side.session connected
+        ∙ sym (none-posted h.side.stage pool h.side.peer h.side.session connected
         h.step.turn),
     rw (unposted-sides, h.step.pool) refl,
   )
 
 -- a session that was looked at is the one there
 pub connected-at : (sides : List Side) (i : ℕ) (x side : Side) → x ≡ get_or sides i x
-    → slice_get sides i ≡ Some side → x.is_broken ≡ false → side.is_broken ≡ false
+    → slice_get sides i ≡ Some side → is_connected x.stage ≡ true → side.stage ≡ Connected
 connected-at sides i x side looked there t =
-    ap (λ (s : Side). s.is_broken) (sym (looked ∙ got-same sides i side x there)) ∙ t
+    ap (λ (s : Side). s.stage) (sym (looked ∙ got-same sides i side x there))
+    ∙ connected-stage x.stage t
+
+-- what is known of a session where it is connected
+module _ (pool : Pool) (sides : List Side) (servers : List Serving) (tx : Ring EntryValue)
+    (paced : Wheel) (seen : Shown) (view : shown_with pool sides servers tx paced ≡ seen) (i : ℕ)
+    (side : Side) (at : slice_get sides i ≡ Some side) (connected : side.stage ≡ Connected) where
+  if-connected : (P : Client → Type 0)
+      → IfSome (slice_get seen.clients i) (λ x. takes_calls x.state ≡ true → P x)
+      → IfSome (slice_get seen.clients i) P
+  if-connected P h =
+      let e : slice_get seen.clients i ≡ Some (shown_side pool side) =
+      ap (λ (v : Shown). slice_get v.clients i) (sym view)
+      ∙ get-map (shown_side pool) sides i side at in
+      rw e ((rw e at h) (rw connected refl))
+
+  pub queue-room : MayQueue i seen
+      → IfSome (slice_get seen.clients i) (λ x. length seen.queued + x.free ≤ seen.size)
+  queue-room = if-connected (λ x. length seen.queued + x.free ≤ seen.size)
+
+  pub pace-room : MayPace i seen → IfSome (slice_get seen.clients i)
+      (λ x. 2 * (count_by is_queued_paced seen.queued + x.free) ≤ seen.size)
+  pace-room = if-connected (λ x. 2 * (count_by is_queued_paced seen.queued + x.free) ≤ seen.size)
 
 -- no entry is of a request that is to begin
 module _ (s : Session) (i : ℕ) (empty : call_in i s.active ≡ None) where
@@ -275,12 +313,12 @@ module _ (sides : List Side) (servers : List Serving) (i r : ℕ) (side : Side)
 -- a call of session i began
 module _ (pool after : Pool) (sides now : List Side) (servers : List Serving) (tx : Ring EntryValue)
     (i : ℕ) (b : ℕ × ℕ) (kept : Kept pool sides servers tx)
-    (h : SideBegins i (Some b) sides now pool after) (connected : h.side.is_broken ≡ false) where
+    (h : SideBegins i (Some b) sides now pool after) (connected : h.side.stage ≡ Connected) where
   abbrev started_side : Side
   started_side = record h.side { session = h.later }
 
-  begin-steps : Steps (begins b.0 b.1) h.side.is_broken pool after h.side.peer h.side.session h.later
-  begin-steps = some-steps h.side.is_broken pool after h.side.peer h.side.session h.later connected
+  begin-steps : Steps (begins b.0 b.1) h.side.stage pool after h.side.peer h.side.session h.later
+  begin-steps = some-steps h.side.stage pool after h.side.peer h.side.session h.later connected
       (all-at (SideAscends pool) sides i h.side kept.ascends h.at)
       (Some b) h.step.step h.step.starts
 
@@ -320,7 +358,7 @@ module _ (pool after : Pool) (sides now : List Side) (servers : List Serving) (t
   begun-clients = (
     ap (λ (o : Option Client). option_and_then (if_connected beginning) o)
         (get-map (shown_side pool) sides i h.side h.at)
-        ∙ sym (begun-next h.side.is_broken pool h.side.peer h.side.session (Some b) connected
+        ∙ sym (begun-next h.side.stage pool h.side.peer h.side.session (Some b) connected
         (h.step.turn h.side.peer)),
     record {
       client = shown_side pool h.side;
@@ -339,6 +377,11 @@ module _ (pool after : Pool) (sides now : List Side) (servers : List Serving) (t
   begun-size = ap (λ xs. spare_of after + places_in xs + served_places servers) h.changed
       ∙ client-places pool after sides servers i h.side started_side tx tx h.at kept begin-acts
 
+  begun-handed : map (side_handed after) now ≡ map (side_handed pool) sides
+  begun-handed = ap (map (side_handed after)) h.changed
+      ∙ handed-kept pool after sides servers i h.side started_side tx tx h.at kept begin-acts
+      h.step.handed
+
 module _ (pool after : Pool) (sides now : List Side) (servers : List Serving) (tx : Ring EntryValue)
     (i : ℕ) (h : SideBegins i None sides now pool after) where
   unbegun-sides : now ≡ sides
@@ -348,12 +391,12 @@ module _ (pool after : Pool) (sides now : List Side) (servers : List Serving) (t
   unbegun-kept : Kept pool sides servers tx → Kept after now servers tx
   unbegun-kept kept = rw (unbegun-sides, h.step.unchanged.1) kept
 
-  unbegun-clients : h.side.is_broken ≡ false → BeginsAt i None (map (shown_side pool) sides)
+  unbegun-clients : h.side.stage ≡ Connected → BeginsAt i None (map (shown_side pool) sides)
       (map (shown_side after) now)
   unbegun-clients connected = (
     ap (λ (o : Option Client). option_and_then (if_connected beginning) o)
         (get-map (shown_side pool) sides i h.side h.at)
-        ∙ sym (begun-next h.side.is_broken pool h.side.peer h.side.session None connected
+        ∙ sym (begun-next h.side.stage pool h.side.peer h.side.session None connected
         (h.step.turn h.side.peer)),
     rw (unbegun-sides, h.step.unchanged.1) refl,
   )
@@ -362,28 +405,35 @@ module _ (pool after : Pool) (sides now : List Side) (servers : List Serving) (t
 module _ (pool after : Pool) (sides now : List Side) (servers : List Serving) (tx : Ring EntryValue)
     (i : ℕ) (kept : Kept pool sides servers tx) where
   pub kept-begin : (o : Option (ℕ × ℕ)) (h : SideBegins i o sides now pool after)
-      → h.side.is_broken ≡ false → Kept after now servers tx
+      → h.side.stage ≡ Connected → Kept after now servers tx
   kept-begin None h connected = unbegun-kept pool after sides now servers tx i h kept
   kept-begin (Some b) h connected = kept-begun pool after sides now servers tx i b kept h connected
 
   pub clients-begin : (o : Option (ℕ × ℕ)) (h : SideBegins i o sides now pool after)
-      → h.side.is_broken ≡ false → BeginsAt i o (map (shown_side pool) sides)
+      → h.side.stage ≡ Connected → BeginsAt i o (map (shown_side pool) sides)
       (map (shown_side after) now)
   clients-begin None h connected = unbegun-clients pool after sides now servers tx i h connected
   clients-begin (Some b) h connected = begun-clients pool after sides now servers tx i b kept h connected
 
   pub servers-begin : (o : Option (ℕ × ℕ)) (h : SideBegins i o sides now pool after)
-      → h.side.is_broken ≡ false
+      → h.side.stage ≡ Connected
       → map (shown_server after) servers ≡ map (shown_server pool) servers
   servers-begin None h connected = rw h.step.unchanged.1 refl
   servers-begin (Some b) h connected = begun-servers pool after sides now servers tx i b kept h connected
 
   pub size-begin : (o : Option (ℕ × ℕ)) (h : SideBegins i o sides now pool after)
-      → h.side.is_broken ≡ false
+      → h.side.stage ≡ Connected
       → spare_of after + places_in now + served_places servers
       ≡ spare_of pool + places_in sides + served_places servers
   size-begin None h connected = rw (unbegun-sides pool after sides now servers tx i h, h.step.unchanged.1) refl
   size-begin (Some b) h connected = begun-size pool after sides now servers tx i b kept h connected
+
+  pub handed-begin : (o : Option (ℕ × ℕ)) (h : SideBegins i o sides now pool after)
+      → h.side.stage ≡ Connected → map (side_handed after) now ≡ map (side_handed pool) sides
+  handed-begin None h connected =
+      rw (unbegun-sides pool after sides now servers tx i h, h.step.unchanged.1) refl
+  handed-begin (Some b) h connected =
+      begun-handed pool after sides now servers tx i b kept h connected
 
 -- two places are spare for a call
 active-most : (pool : Pool) (cs : List ActiveCall) (ws : List Call) → length cs ≤ 8
@@ -394,7 +444,7 @@ active-most pool (c ∷ cs) ws few = omega (arith, few)
 side-most : (pool : Pool) (s : Side) → HasSlots s
     → 2 * length s.session.active ≤ 16 * cond (has_calls (shown_side pool s)) 1 0
 side-most pool s few =
-    rw (calls-end s.is_broken pool s.peer s.session)
+    rw (calls-end s.stage pool s.peer s.session)
     (active-most pool s.session.active (map shown_waiting s.session.slots.waiting) few)
 
 places-most : (pool : Pool) (sides : List Side) → AllByRecursion HasSlots sides

@@ -29,6 +29,8 @@ use Rattle.client_core.specs.Watching.{call_number, is_after}
 use Rattle.client_core.proofs.EndedLemmas.{any-found}
 use Rattle.client_core.proofs.OneCallLemmas.{least-none-of}
 use Rattle.client_core.proofs.ShownLemmas.{found-shown}
+use Rattle.session_store.specs.declared.stage.Stage.{Stage}
+use Rattle.session_store.specs.declared.stage.Stage.TheVariants.{Connected, Broken}
 use Rattle.session_store.specs.Ends.{Ascends, progress_of, shown_end}
 use Rattle.session_store.proofs.AscendsLemmas.{ascends-changed, ascends-without, few-numbered}
 use Rattle.session_store.proofs.AscendsLemmas.{least-first}
@@ -66,30 +68,30 @@ numbered-shown pool peer n s c e =
     find-append (is_call n) (map (shown_active pool) s.active) (map shown_waiting s.slots.waiting)
     ∙ ap (λ o. option_or o (find (is_call n) (map shown_waiting s.slots.waiting))) active
 
-pub progress-found : (b : Bool) (pool : Pool) (peer n : ℕ) (s : Session) (c : ActiveCall)
+pub progress-found : (stage : Stage) (pool : Pool) (peer n : ℕ) (s : Session) (c : ActiveCall)
     → call_numbered n s ≡ Some c
-    → progress_of n (shown_end b pool peer s) ≡ (shown_active pool c).progress
-progress-found b pool peer n s c e = rw (calls-end b pool peer s, numbered-shown pool peer n s c e) refl
+    → progress_of n (shown_end stage pool peer s) ≡ (shown_active pool c).progress
+progress-found stage pool peer n s c e = rw (calls-end stage pool peer s, numbered-shown pool peer n s c e) refl
 
 -- a rollback
-pub record RollsEnd (n : ℕ) (b : Bool) (pool : Pool) (peer : ℕ) (s new : Session) : Type 0 where
-  pub view : IfSome (progress_of n (shown_end b pool peer s))
-      (λ p. shown_end b pool peer new ≡ rolls n p.posted p.got (shown_end b pool peer s))
-  pub calls : Ascends (shown_end b pool peer new).calls
+pub record RollsEnd (n : ℕ) (stage : Stage) (pool : Pool) (peer : ℕ) (s new : Session) : Type 0 where
+  pub view : IfSome (progress_of n (shown_end stage pool peer s))
+      (λ p. shown_end stage pool peer new ≡ rolls n p.posted p.got (shown_end stage pool peer s))
+  pub calls : Ascends (shown_end stage pool peer new).calls
   pub keeps : KeepsPool pool new.active
 
 chosen : (x y z : Client) (b : Bool) → b ≡ true → cond b (z ∷ []) (x ∷ []) ≡ y ∷ [] → y ≡ z
 chosen x y z true t e = cc
 chosen x y z false t e = cc
 
-roll-cases : (n : ℕ) (b : Bool) (pool : Pool) (peer : ℕ) (s new : Session) → b ≡ false
+roll-cases : (n : ℕ) (stage : Stage) (pool : Pool) (peer : ℕ) (s new : Session) → stage ≡ Connected
     → Ascends (shown pool peer s).calls → KeepsPool pool s.active → (o : Option ActiveCall)
     → call_numbered n s ≡ o → IsSome o → IfSome o (λ c. new ≡ after_roll c s)
     → IfSome o (λ c. (pool : Pool) → (clock peer : ℕ)
     → stepped clock (rolled_event c) (shown pool peer s) ≡ shown pool peer new ∷ [])
-    → RollsEnd n b pool peer s new
-roll-cases n b pool peer s new connected up keeps None e some session step = cc
-roll-cases n b pool peer s new connected up keeps (Some c) e some session step =
+    → RollsEnd n stage pool peer s new
+roll-cases n stage pool peer s new connected up keeps None e some session step = cc
+roll-cases n stage pool peer s new connected up keeps (Some c) e some session step =
     let own : c.call ≡ n = eqb-true c.call n (find-passes (is_numbered n) s.active c e) in
     let there : has_call n (shown pool peer s) ≡ true =
     any-found (is_call n) (shown_active pool c)
@@ -102,26 +104,25 @@ roll-cases n b pool peer s new connected up keeps (Some c) e some session step =
     ascends-changed (is_call n) (moved (rolled_back c.got)) (λ d. refl)
     (shown pool peer s).calls up in
     record {
-      view = rw (progress-found b pool peer n s c e, connected) is;
+      view = rw (progress-found stage pool peer n s c e, connected) is;
       calls = rw connected (subst (λ (x : Client). Ascends x.calls) (sym is) calls);
       keeps = rw session (keeps-rolled pool (is_request c.request) s.active keeps);
     }
 
-pub roll-end : (n : ℕ) (b : Bool) (pool : Pool) (peer : ℕ) (s new : Session) → b ≡ false
-    → Ascends (shown_end b pool peer s).calls → KeepsPool pool s.active → IsSome (call_numbered n s)
+pub roll-end : (n : ℕ) (stage : Stage) (pool : Pool) (peer : ℕ) (s new : Session) → stage ≡ Connected
+    → Ascends (shown_end stage pool peer s).calls → KeepsPool pool s.active → IsSome (call_numbered n s)
     → IfSome (call_numbered n s) (λ c. new ≡ after_roll c s) → IfSome (call_numbered n s)
     (λ c. (pool : Pool) → (clock peer : ℕ)
     → stepped clock (rolled_event c) (shown pool peer s) ≡ shown pool peer new ∷ [])
-    → RollsEnd n b pool peer s new
-roll-end n b pool peer s new connected up keeps some session step =
-    roll-cases n b pool peer s new connected (rw (calls-end b pool peer s) at up) keeps
+    → RollsEnd n stage pool peer s new
+roll-end n stage pool peer s new connected up keeps some session step =
+    roll-cases n stage pool peer s new connected (rw (calls-end stage pool peer s) at up) keeps
     (call_numbered n s) refl some session step
 
 -- the peer is lost
-pub breaks-end : (b : Bool) (pool : Pool) (peer : ℕ) (s : Session)
-    → shown_end true pool peer s ≡ breaks (shown_end b pool peer s)
-breaks-end true pool peer s = refl
-breaks-end false pool peer s = refl
+pub breaks-end : (stage : Stage) (pool : Pool) (peer : ℕ) (s : Session) → stage ≡ Connected
+    → shown_end Broken pool peer s ≡ breaks (shown_end stage pool peer s)
+breaks-end stage pool peer s connected = rw connected refl
 
 -- the call that ends is the first
 first-active : (pool : Pool) (xs : List ActiveCall) (ys : List Call) (c : ActiveCall)
@@ -160,18 +161,18 @@ first-any n (c ∷ cs) e =
     let same : c.what.number ≡ n = cc in
     rw (eq-eqb c.what.number n same) refl
 
-pub record Ends (n : ℕ) (b : Bool) (pool after : Pool) (peer : ℕ) (s new : Session) : Type 0 where
-  pub next : Some n ≡ first_number (shown_end b pool peer s).calls
-  pub view : shown_end b after peer new ≡ ends n (shown_end b pool peer s)
-  pub calls : Ascends (shown_end b after peer new).calls
+pub record Ends (n : ℕ) (stage : Stage) (pool after : Pool) (peer : ℕ) (s new : Session) : Type 0 where
+  pub next : Some n ≡ first_number (shown_end stage pool peer s).calls
+  pub view : shown_end stage after peer new ≡ ends n (shown_end stage pool peer s)
+  pub calls : Ascends (shown_end stage after peer new).calls
 
-pub lose-end : (b : Bool) (pool after : Pool) (peer : ℕ) (d : Done) (s new : Session) → b ≡ true
-    → Ascends (shown_end b pool peer s).calls → Loses (next_lost s) d s new pool after
+pub lose-end : (stage : Stage) (pool after : Pool) (peer : ℕ) (d : Done) (s new : Session) → stage ≡ Broken
+    → Ascends (shown_end stage pool peer s).calls → Loses (next_lost s) d s new pool after
     → (IsAlone d.call s → (clock peer : ℕ)
     → stepped clock (done_event d) (shown_broken pool peer s) ≡ shown_broken after peer new ∷ [])
-    → Ends d.call b pool after peer s new
-lose-end b pool after peer d s new broken up lost step =
-    let active = active-ascends b pool peer s up in
+    → Ends d.call stage pool after peer s new
+lose-end stage pool after peer d s new broken up lost step =
+    let active = active-ascends stage pool peer s up in
     let (next, outcome) = lost-first pool after peer d s new active (next_lost s) refl lost in
     let there = first-any d.call (shown pool peer s).calls next in
     let is : shown_broken after peer new ≡ ends d.call (shown_broken pool peer s) =
@@ -184,6 +185,6 @@ lose-end b pool after peer d s new broken up lost step =
     rw broken (record { next = next; view = is; calls = subst (λ (x : Client). Ascends x.calls) (sym is) calls })
 
 -- none is left
-pub none-left : (b : Bool) (pool : Pool) (peer : ℕ) (s : Session)
-    → (s.active ≡ []) × (s.slots.waiting ≡ []) → None ≡ first_number (shown_end b pool peer s).calls
-none-left b pool peer s empty = rw (calls-end b pool peer s, empty.0, empty.1) refl
+pub none-left : (stage : Stage) (pool : Pool) (peer : ℕ) (s : Session)
+    → (s.active ≡ []) × (s.slots.waiting ≡ []) → None ≡ first_number (shown_end stage pool peer s).calls
+none-left stage pool peer s empty = rw (calls-end stage pool peer s, empty.0, empty.1) refl

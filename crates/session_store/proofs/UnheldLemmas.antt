@@ -221,7 +221,7 @@ module _ (pool : Pool) (sides : List Side) (servers : List Serving) (tx : Ring E
   -- what is queued of the call is within its window
   window-call : (k : ℕ) → Stands k r (Some (shown_side pool side)) → (c.got ≤ k) × (k < c.posted)
   window-call k h =
-      let calls = calls-end side.is_broken pool side.peer side.session in
+      let calls = calls-end side.stage pool side.peer side.session in
       let there : find (is_active r) (shown_side pool side).calls ≡ Some (shown_active pool c) =
       ap (find (is_active r)) calls ∙ active-found pool r side.session
       ∙ ap (option_map (shown_active pool)) found in

@@ -1,15 +1,19 @@
 -- What the client sessions of a store begin, post and become, as the definitions over histories
 -- have them.
-use Rattle.std.specs.Prelude.{ℕ, ◌≡◌, ◌<◌, ◌+◌, Bool, true, false, Option, Some, None, IfSome, List}
-use Rattle.std.specs.Prelude.{[], slice_get, slice_set, option_and_then, option_map}
-use Rattle.std.specs.List.{find, list_any}
+use Rattle.std.specs.Prelude.{ℕ, ◌≡◌, ◌<◌, ◌≤◌, ◌+◌, ◌*◌, Bool, true, false, Option, Some, None}
+use Rattle.std.specs.Prelude.{IfSome, IsSome, List, [], count_by, length, slice_get, slice_set}
+use Rattle.std.specs.Prelude.{option_and_then, option_map}
+use Rattle.std.specs.List.{AllByRecursion, find, list_any}
 use Rattle.rpc_base.specs.declared.owner.Owner.TheVariants.{Ask, Reply}
+use Rattle.rpc_base.specs.declared.state.SessionState.TheVariants.{Broken}
+use Rattle.rpc_base.specs.declared.state.SessionState.{SessionState}
 use Rattle.packet_header.specs.Parts.{packet_count}
 use Rattle.packet_rings.specs.Values.{EntryValue}
 use Rattle.client_core.specs.declared.active.Active.{Active}
 use Rattle.rpc_laws.specs.declared.tables.Call.{Call}
 use Rattle.rpc_laws.specs.declared.tables.Client.{Client}
 use Rattle.rpc_laws.specs.Posting.{beginning, if_connected, posting}
+use Rattle.rpc_laws.specs.ControlSteps.{own_request}
 use Rattle.rpc_laws.specs.GoBackN.{row_of}
 use Rattle.rpc_laws.specs.Sessions.{begins, ends, is_connected, posts, rolls}
 use Rattle.rpc_laws.specs.declared.rows.TimerRow.{TimerRow}
@@ -20,7 +24,10 @@ use Rattle.rpc_laws.specs.PollOrder.{is_working}
 use Rattle.rpc_laws.specs.Requests.{answered, is_request}
 use Rattle.server_core.specs.Steps.{gone_on_as}
 use Rattle.node_laws.specs.QueuedPackets.{is_ask_of}
+use Rattle.session_store.specs.declared.server.ServerEnd.{ServerEnd}
+use Rattle.session_store.specs.declared.side.ClientEnd.{ClientEnd}
 use Rattle.session_store.specs.Ends.{begun_event, posted_event, progress_of, told_of}
+use Rattle.session_store.specs.Joined.{is_paced}
 use Rattle.session_store.specs.Queue.{is_owned}
 use Rattle.session_store.specs.Sides.{Shown}
 
@@ -37,6 +44,16 @@ BeginsAt i None old new =
 BeginsAt i (Some b) old new =
     (option_and_then (if_connected beginning) (slice_get old i) ≡ Some (begun_event b))
     × ChangesAt i (begins b.0 b.1) old new
+
+-- where session i is Connected, there is room in the ring for the packets of its free credits
+abbrev pub MayQueue : ℕ → Shown → Type 0
+MayQueue i s = IfSome (slice_get s.clients i)
+    (λ x. is_connected x.state ≡ true → length s.queued + x.free ≤ s.size)
+
+-- and in the pacer
+abbrev pub MayPace : ℕ → Shown → Type 0
+MayPace i s = IfSome (slice_get s.clients i)
+    (λ x. is_connected x.state ≡ true → 2 * (count_by is_paced s.queued + x.free) ≤ s.size)
 
 -- session i posted this packet next
 pub record PostsNext (i : ℕ) (p : ℕ × ℕ) (old new : List Client) : Type 0 where
@@ -73,6 +90,24 @@ pub record RollsAt (i number : ℕ) (old new : List Client) : Type 0 where
 abbrev pub IsIdle : ℕ → List Queued → Type 0
 IsIdle i queued = list_any (λ q. is_ask_of i q.owner) queued ≡ false
 
+-- what is known of a client session's other end
+pub record IsClientEnd (e : ClientEnd) (x : Client) : Type 0 where
+  pub peer : e.peer ≡ x.way.peer
+  pub credits : e.credits ≡ x.limit
+  pub server : e.server ≡ x.way.other
+
+-- what never changes of a server session
+pub record IsEnd (e : ServerEnd) (v : Server) : Type 0 where
+  pub number : e.session ≡ v.way.number
+  pub peer : e.peer ≡ v.way.peer
+  pub client : e.client ≡ v.way.other
+  pub credits : e.credits ≡ v.credits
+
+-- no reply to a request of a server session is queued
+abbrev pub IsDrained : List Queued → Server → Type 0
+IsDrained queued v = AllByRecursion
+    (λ q. list_any (is_owned (Reply v.way.number q.number)) queued ≡ false) v.slots
+
 -- what the timer rule says of an active call of session i, at this clock and with this timeout
 abbrev pub RowAt : (now timeout i number : ℕ) → TimerRow → Shown → Type 0
 RowAt now timeout i number row s =
@@ -87,9 +122,29 @@ pub record ActiveAt (i : ℕ) (a : Active) (clients : List Client) : Type 0 wher
   pub active : progress_of a.call client ≡ Some progress
   pub told : a ≡ told_of a.call progress
 
+-- a session that is Connected
+abbrev pub IsConnected : Option Client → Type 0
+IsConnected o = IfSome o (λ x. is_connected x.state ≡ true)
+
+-- a session that is in this state
+abbrev pub IsInState : SessionState → Option Client → Type 0
+IsInState state o = IfSome o (λ x. x.state ≡ state)
+
+-- a session that has a request of its own: it is Connecting or Closing
+abbrev pub HasRequest : Option Client → Type 0
+HasRequest o = IfSome o (λ x. IsSome (own_request x))
+
+-- one more of these was sent, at this clock
+abbrev pub sent_again : (clock : ℕ) → Client → Client
+sent_again clock x = record x { sends = x.sends + 1; sent_at = clock }
+
+-- a session that has no calls
+abbrev pub HasNoCalls : Option Client → Type 0
+HasNoCalls o = IfSome o (λ x. x.calls ≡ [])
+
 -- a session that has lost its peer
 abbrev pub IsLost : Option Client → Type 0
-IsLost o = IfSome o (λ x. is_connected x.state ≡ false)
+IsLost o = IfSome o (λ x. x.state ≡ Broken)
 
 -- the calls of session i
 abbrev pub calls_in : Option Client → List Call

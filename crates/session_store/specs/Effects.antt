@@ -2,7 +2,7 @@
 use Rattle.std.specs.Prelude.{◌≡◌, ℕ, ◌∷◌, [], ◌++◌, Bool, false, length, count_by}
 use Rattle.std.specs.Prelude.{Option, Some, None, IfNone, IfSome, IsNone, ◌↔◌, List, option_map}
 use Rattle.std.specs.Prelude.{slice_get, slice_set}
-use Rattle.std.specs.List.{find, list_any, position}
+use Rattle.std.specs.List.{find, list_any, position, remove}
 use Rattle.rpc_base.specs.declared.owner.Owner.{Owner}
 use Rattle.rpc_base.specs.declared.owner.Owner.TheVariants.{Ask, Reply as OfReply, Control}
 use Rattle.buffer_pool.specs.Counting.{Counts}
@@ -25,6 +25,7 @@ use Rattle.rpc_laws.specs.declared.tables.Queued.{Queued}
 use Rattle.client_core.specs.declared.call.ActiveCall.{ActiveCall}
 use Rattle.client_core.specs.declared.outcome.Done.{Done}
 use Rattle.client_core.specs.declared.outcome.Reply.{Reply}
+use Rattle.client_core.specs.Handing.{HandsBack, HandsBackBy, handed_of, handed_waiting}
 use Rattle.client_core.specs.KeepsEntries.{KeepsEntries, KeepsOthers, RepliesKeep}
 use Rattle.client_core.specs.Losing.{Loses, next_lost}
 use Rattle.client_core.specs.Replies.{Replies, call_as, reply_row, row_told}
@@ -38,7 +39,7 @@ use Rattle.client_core.specs.Timeouts.{after_roll, call_numbered, is_numbered}
 use Rattle.server_core.specs.Counting.{CountsQueued as CountsReplies, left_at}
 use Rattle.server_core.specs.Finishing.{IsFinished, IsLeft}
 use Rattle.server_core.specs.Flushing.{HoldsAll}
-use Rattle.server_core.specs.Keeping.{LeftCounts, LeftHolds, LeftQueued}
+use Rattle.server_core.specs.Keeping.{LeftCounts, LeftHolds, LeftQueued, StillCounts}
 use Rattle.server_core.specs.KeepsPool.{KeepsPool as KeepsAnswers, KeepsSpare}
 use Rattle.server_core.specs.KeepsPool.{LeavesOthers as LeavesAnswers}
 use Rattle.server_core.specs.Replies.{packet_of as reply_of}
@@ -74,6 +75,7 @@ pub record Posts (peer : ℕ) (o : Option EntryValue) (old new : Session) (befor
       ≡ shown after peer new ∷ [])
   pub pool : after ≡ held_for o before
   pub stands : IfSome o (λ e. IsPacketOf (call_of new e) e)
+  pub handed : handed_of after new ≡ handed_of before old
   pub leaves : LeavesOthers old.active new.active before after
   pub entries : KeepsEntries old new
   pub counts : IfSome o (λ e. StillWith (e ∷ []) (Counts before) (Counts after))
@@ -93,6 +95,7 @@ pub record BeginsNext (o : Option (ℕ × ℕ)) (old new : Session) (before afte
   pub step : IfSome o (λ b. (clock peer : ℕ) → list_any (is_numbered b.0) old.active ≡ false
       → stepped clock (begun_event b) (shown before peer old) ≡ shown after peer new ∷ [])
   pub starts : IfSome o (λ b. Starts b.0 b.1 old new before after)
+  pub handed : handed_of after new ≡ handed_of before old
   pub leaves : LeavesOthers old.active new.active before after
   pub entries : KeepsEntries old new
   pub counts : Still (Counts before) (Counts after)
@@ -110,6 +113,7 @@ pub record Leaves (e : EntryValue) (old new : Session) (before after : Pool) : T
   pub number : new.number ≡ old.number
   pub long : length new.active ≡ length old.active
   pub pool : after ≡ released_at e.place before
+  pub handed : handed_of after new ≡ handed_of before old
   pub leaves : IsPacketOf (call_of old e) e → LeavesOthers old.active new.active before after
   pub entries : KeepsEntries old new
   pub counts : StillWithout e (Counts before) (Counts after)
@@ -180,6 +184,7 @@ pub record Waits (w : Waiting) (old new : Session) : Type 0 where
   pub waits : new ≡ enqueued w old
   pub step : (pool : Pool) → (clock peer : ℕ) → asked clock w (shown pool peer old)
       ≡ shown pool peer new ∷ []
+  pub handed : (pool : Pool) → handed_of pool new ≡ handed_of pool old ++ handed_waiting w ∷ []
 
 abbrev pub SideWaits : ℕ → Waiting → List Side → List Side → Type 0
 SideWaits i w old new = SideChanges i (λ s later. Waits w s.session later) old new
@@ -205,6 +210,7 @@ pub record RepliesTo (now : ℕ) (h : MessageHeader) (body : List ℕ) (is_waiti
   pub step : IsAloneAfter r old → (peer : ℕ)
       → after_outcome now r h body (shown before peer old) ≡ shown after peer new ∷ []
   pub replies : Replies r now h body old new before after
+  pub handed : HandsBackBy r old.number (handed_of before old) (handed_of after new)
   pub leaves : LeavesOthers old.active new.active before after
   pub entries : RepliesKeep r h.request old new
   pub counts : Still (Counts before) (Counts after)
@@ -224,6 +230,7 @@ pub record RollsBack (number : ℕ) (old new : Session) : Type 0 where
   pub session : new ≡ after_roll call old
   pub step : (pool : Pool) → (clock peer : ℕ) → stepped clock (rolled_event call)
       (shown pool peer old) ≡ shown pool peer new ∷ []
+  pub handed : (pool : Pool) → handed_of pool new ≡ handed_of pool old
   pub leaves : (pool : Pool) → LeavesOthers old.active new.active pool pool
   pub entries : KeepsOthers call.request old new
   pub queued : Still (CountsQueued old) (CountsQueued new)
@@ -240,6 +247,7 @@ pub record LosesNext (o : Option Done) (old new : Session) (before after : Pool)
   pub step : IfSome o (λ d. IsAlone d.call old → (clock peer : ℕ) → stepped clock (done_event d)
       (shown_broken before peer old) ≡ shown_broken after peer new ∷ [])
   pub loses : IfSome o (λ d. Loses (next_lost old) d old new before after)
+  pub handed : IfSome o (λ d. HandsBack old.number d (handed_of before old) (handed_of after new))
   pub leaves : LeavesOthers old.active new.active before after
   pub counts : Still (Counts before) (Counts after)
   pub queued : Still (CountsQueued old) (CountsQueued new)
@@ -276,6 +284,19 @@ pub record ServerStep (i : ℕ) (Step : Serving → Serving → Type 0) (old new
   pub later : Serving
   pub step : Step server later
   pub changed : new ≡ slice_set old i later
+
+-- a server session ended: its buffers left the pool
+pub record Ends (v : Serving) (before after : Pool) : Type 0 where
+  pub spare : KeepsSpare v.slots [] before after
+  pub leaves : LeavesAnswers v.slots [] before after
+  pub counts : StillCounts before after
+
+-- that at a place did
+pub record ServerEnds (i : ℕ) (old new : List Serving) (before after : Pool) : Type 0 where
+  pub server : Serving
+  pub at : slice_get old i ≡ Some server
+  pub ends : Ends server before after
+  pub changed : new ≡ remove old i
 
 abbrev pub ServerFinishes : (i r : ℕ) → List ℕ → Option EntryValue → List Serving → List Serving
     → Pool → Pool → Type 0

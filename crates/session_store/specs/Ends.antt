@@ -1,23 +1,42 @@
 -- What a client end shows of its session, and the conditions of its calls.
-use Rattle.std.specs.Prelude.{ℕ, ◌<◌, nat_lt, ◌&&◌, Bool, true, false, Option, Some, None, is_some}
+use Rattle.std.specs.Prelude.{ℕ, ◌<◌, nat_lt, ◌&&◌, Bool, true, Option, Some, None, is_some}
 use Rattle.std.specs.Prelude.{option_and_then, option_map, List, [], ◌∷◌}
 use Rattle.std.specs.List.{AllByRecursion, find}
 use Rattle.rpc_base.specs.declared.event.Event.{Event}
 use Rattle.rpc_base.specs.declared.event.Event.TheVariants.{Begun, Posted}
 use Rattle.rpc_base.specs.declared.owner.Owner.TheVariants.{Ask}
+use Rattle.rpc_base.specs.declared.state.SessionState.{SessionState}
 use Rattle.buffer_pool.specs.Pool.{Pool}
 use Rattle.client_core.specs.declared.active.Active.{Active}
 use Rattle.client_core.specs.Session.{Session}
 use Rattle.client_core.specs.Shown.{shown, shown_broken}
 use Rattle.rpc_laws.specs.Calls.{is_call}
+use Rattle.rpc_laws.specs.Sessions.{comes_to, no_session}
 use Rattle.rpc_laws.specs.declared.tables.Call.{Call}
 use Rattle.rpc_laws.specs.declared.tables.Client.{Client}
 use Rattle.rpc_laws.specs.declared.tables.Progress.{Progress}
+use Rattle.session_store.specs.declared.stage.Stage.{Stage}
+use Rattle.session_store.specs.declared.stage.Stage.TheVariants.{Connecting, Connected, Closing}
+use Rattle.session_store.specs.declared.stage.Stage.TheVariants.{Closed, Failed, Broken}
 
--- a session as the definitions over histories have it, connected or broken
-abbrev pub shown_end : Bool → Pool → ℕ → Session → Client
-shown_end true pool peer s = shown_broken pool peer s
-shown_end false pool peer s = shown pool peer s
+-- a session that sends requests of its own, and how many it sent
+abbrev pub asking_in : SessionState → (sends sent_at : ℕ) → Client → Client
+asking_in state sends sent_at x = record x { state = state; sends = sends; sent_at = sent_at }
+
+-- one that was never connected: the server's number isn't known
+abbrev pub unconnected : Client → Client
+unconnected x = record x { way = record x.way { other = no_session } }
+
+-- a session as the definitions over histories have it, at its stage
+abbrev pub shown_end : Stage → Pool → ℕ → Session → Client
+shown_end (Connecting sends sent_at) pool peer s =
+    unconnected (asking_in SessionState.Connecting sends sent_at (shown pool peer s))
+shown_end Connected pool peer s = shown pool peer s
+shown_end (Closing sends sent_at) pool peer s =
+    asking_in SessionState.Closing sends sent_at (shown pool peer s)
+shown_end Closed pool peer s = comes_to SessionState.Closed (shown pool peer s)
+shown_end Failed pool peer s = unconnected (comes_to SessionState.Failed (shown pool peer s))
+shown_end Broken pool peer s = shown_broken pool peer s
 
 -- the calls stand in the order of their numbers
 abbrev pub Ascends : List Call → Type 0

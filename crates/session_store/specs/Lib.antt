@@ -1,8 +1,10 @@
 pub mod Changes
 pub mod Effects
 pub mod Ends
+pub mod Handing
 pub mod Hearing
 pub mod Joined
 pub mod Queue
 pub mod Serving
 pub mod Sides
+pub mod Stages

@@ -2,7 +2,6 @@
 -- ring has here all that is queued, also what is paced.
 use Rattle.std.specs.Prelude.{◌≡◌, ℕ, ◌+◌, ◌*◌, ◌<◌, ◌≤◌, ◌==◌, ◌&&◌, Bool, true, false, Option}
 use Rattle.std.specs.Prelude.{Some, None, List, [], ◌∷◌, count_by, length, map, sum_by, slice_get}
-use Rattle.std.specs.Prelude.{if◌then◌else◌}
 use Rattle.credit_book.specs.Credits.{limit_of}
 use Rattle.std.specs.List.{AllByRecursion, find, list_any}
 use Rattle.rpc_base.specs.declared.owner.Owner.{Owner}
@@ -11,13 +10,16 @@ use Rattle.buffer_pool.specs.Counting.{Counts}
 use Rattle.buffer_pool.specs.Pool.{Pool, spare_of}
 use Rattle.packet_rings.specs.Rings.{Ring}
 use Rattle.packet_rings.specs.Values.{EntryValue}
+use Rattle.rpc_laws.specs.Sessions.{no_session}
 use Rattle.rpc_laws.specs.declared.tables.Call.{Call}
 use Rattle.rpc_laws.specs.declared.tables.Client.{Client}
 use Rattle.rpc_laws.specs.declared.tables.Queued.{Queued}
 use Rattle.rpc_laws.specs.declared.tables.Server.{Server}
 use Rattle.client_core.specs.Counting.{CountsQueued}
+use Rattle.client_core.specs.Handing.{Handed, handed_of}
 use Rattle.client_core.specs.KeepsPool.{CanHold, KeepsPool, names}
 use Rattle.client_core.specs.Posting.{IsPacketOf, call_of}
+use Rattle.client_core.specs.Session.{Session}
 use Rattle.server_core.specs.Counting.{CountsQueued as CountsReplies}
 use Rattle.server_core.specs.Flushing.{HoldsAll}
 use Rattle.server_core.specs.KeepsPool.{KeepsPool as KeepsAnswers, names as slot_names}
@@ -27,14 +29,38 @@ use Rattle.server_core.specs.Session.{Session as Serving}
 use Rattle.server_core.specs.Shown.{shown as shown_server}
 use Rattle.session_store.specs.Ends.{Ascends, shown_end}
 use Rattle.session_store.specs.declared.side.Side.{Side}
+use Rattle.session_store.specs.declared.stage.Stage.{Stage}
+use Rattle.session_store.specs.declared.stage.Stage.TheVariants.{Connecting, Connected, Closing}
+use Rattle.session_store.specs.declared.stage.Stage.TheVariants.{Closed, Failed, Broken}
 
 -- a client session as the definitions over histories have it
 abbrev pub shown_side : Pool → Side → Client
-shown_side pool s = shown_end s.is_broken pool s.peer s.session
+shown_side pool s = shown_end s.stage pool s.peer s.session
 
--- the credits of a client session, none where it lost its peer
+-- the credits of a client session that is live: it neither closed nor failed, and has its peer
+abbrev pub credits_at : Stage → Session → ℕ
+credits_at (Connecting sends sent_at) s = limit_of s.credits
+credits_at Connected s = limit_of s.credits
+credits_at (Closing sends sent_at) s = limit_of s.credits
+credits_at Closed s = 0
+credits_at Failed s = 0
+credits_at Broken s = 0
+
+-- the number of its server session, none before it is connected
+abbrev pub server_at : Stage → Session → ℕ
+server_at (Connecting sends sent_at) s = no_session
+server_at Connected s = s.server
+server_at (Closing sends sent_at) s = s.server
+server_at Closed s = s.server
+server_at Failed s = no_session
+server_at Broken s = s.server
+
+-- and what was handed in with its calls
+abbrev pub side_handed : Pool → Side → List Handed
+side_handed pool s = handed_of pool s.session
+
 abbrev pub side_credits : Side → ℕ
-side_credits s = if s.is_broken then 0 else limit_of s.session.credits
+side_credits s = credits_at s.stage s.session
 
 abbrev pub queued_of : EntryValue → Queued
 queued_of e = record { owner = e.owner; number = e.number; due = None }
@@ -56,6 +82,8 @@ served_places servers = sum_by (λ v. slot_places v.slots) servers
 -- what contracts see of all sessions and of what is queued
 pub record Shown : Type 0 where
   pub clients : List Client
+  -- what was handed in with the calls of each client session
+  pub handed : List (List Handed)
   pub servers : List Server
   pub queued : List Queued
   -- how long the ring may be, and how many places the pool has: those that are empty, and those
@@ -66,6 +94,7 @@ pub record Shown : Type 0 where
 abbrev pub shown_of : Pool → List Side → List Serving → Ring EntryValue → Shown
 shown_of pool sides servers tx = record {
   clients = map (shown_side pool) sides;
+  handed = map (side_handed pool) sides;
   servers = map (shown_server pool) servers;
   queued = map queued_of tx.items;
   size = tx.size;
@@ -86,18 +115,28 @@ HasRoom s = 16 * (count_by has_calls s.clients + length s.servers) + 2 ≤ s.pla
 
 -- no session, and nothing queued
 abbrev pub no_sessions : (size places : ℕ) → Shown
-no_sessions size places =
-    record { clients = []; servers = []; queued = []; size = size; places = places }
+no_sessions size places = record {
+  clients = [];
+  handed = [];
+  servers = [];
+  queued = [];
+  size = size;
+  places = places;
+}
 
 -- the entry is a packet that a call of the connected session posted
 abbrev pub IsOfSide : EntryValue → Option Side → Type 0
 IsOfSide e None = ⊥
 IsOfSide e (Some s) =
-    (e.peer ≡ s.peer) × (s.is_broken ≡ false) × IsPacketOf (call_of s.session e) e
+    (e.peer ≡ s.peer) × (s.stage ≡ Connected) × IsPacketOf (call_of s.session e) e
 
 -- whether a server session has this number and this peer
 abbrev pub is_end : (number peer : ℕ) → Serving → Bool
 is_end number peer v = v.number == number && v.peer == peer
+
+-- whether a server session is the other end of a peer's client session
+abbrev pub ends_at : (peer client : ℕ) → Serving → Bool
+ends_at peer client v = v.peer == peer && v.client == client
 
 -- the session of an entry is there and its peer is the entry's: that of a call's packet posted it.
 -- That a reply is one of its session's is what HoldsAll says

@@ -5,7 +5,10 @@
 mod line;
 mod server;
 mod side;
+mod stage;
 mod store;
 
-pub use side::Side;
+pub use server::ServerEnd;
+pub use side::{ClientEnd, Side};
+pub use stage::Stage;
 pub use store::Store;

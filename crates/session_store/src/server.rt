@@ -6,22 +6,42 @@ ghost use Rattle.client_core.specs.KeepsPool.{IsHeld};
 ghost use Rattle.message_buffer.specs.Buffer.{bytes_of};
 ghost use Rattle.packet_header.specs.Header.{AreBytes};
 ghost use Rattle.packet_header.specs.Parts.{IsMessage};
-ghost use Rattle.session_store.specs.Effects.{ServerFinishes, ServerGone, ServerSpells, ServerStep};
+ghost use Rattle.session_store.specs.Effects.{ServerEnds, ServerFinishes, ServerGone};
+ghost use Rattle.session_store.specs.Effects.{ServerSpells, ServerStep};
 ghost use Rattle.packet_rings.specs.Entries.{listed_entry, option_is};
 ghost use Rattle.session_store.specs.Serving.{Handles, ServerCanHold, ServerServed};
+ghost use Rattle.session_store.specs.Sides.{ends_at};
 ghost use Rattle.session_store.specs.Sides.{HasReply, ServerHolds, ServerKept, ServerQueued};
 ghost use Rattle.session_store.specs.Sides.{Rises, has_number, numbers_in};
 ghost use Rattle.server_core.specs.Flushing.{replies_of};
+ghost use Rattle.server_core.specs.Serving.{IsUnheld};
 ghost use Rattle.server_core.specs.Steps.{IsAsking, UnlessRan};
 
 use buffer_pool::BufferPool;
 use packet_header::{HEAD_BYTES, MessageHeader};
 use packet_rings::{Entry, TxRing};
-use rpc_base::{SessionNo, Who};
+use rpc_base::{Peer, SessionNo, Who};
 use rpc_outside::{Recorder, Service};
 use server_core::{ServerSession, Step};
 use std::alloc::Global;
 use worker_board::Parcel;
+
+/// What never changes of a server session.
+#[derive(Clone, Copy, Debug)]
+pub struct ServerEnd {
+    pub session: SessionNo,
+    pub peer: Peer,
+    /// Its number at the client.
+    pub client: SessionNo,
+    pub credits: u16,
+}
+
+/// Where the first of these sessions stands that is the other end of a peer's client session.
+pub fn end_in(servers: &Vec<ServerSession>, peer: Peer, client: SessionNo) -> Option<usize>
+    ensures { result ≡ position (ends_at peer client) servers.now.items }
+{
+    servers.iter().position(|server| server.peer().0 == peer.0 && server.client().0 == client.0)
+}
 
 /// Where the server session with this number stands. Numbers rise, and as long as no session is
 /// over each stands at the place of its number.
@@ -128,6 +148,18 @@ pub fn finished_at(
     let reply = server.on_finished(pool, parcel);
     server.sound();
     reply
+}
+
+/// The server session at place `i` ends, of which no reply is queued: its buffers leave the pool.
+pub fn end_at(servers: &mut Vec<ServerSession>, i: usize, pool: &mut BufferPool)
+    requires known { i < length servers.old.items }
+    requires keeps { AllByRecursion (ServerKept pool.old) servers.old.items }
+    requires unheld { IfSome (slice_get servers.old.items i)
+        (λ v. AllByRecursion (IsUnheld pool.old) v.slots) }
+    ensures { ServerEnds i servers.old.items servers.new.items pool.old pool.new }
+{
+    let server = servers.remove(i);
+    server.finish(pool);
 }
 
 /// The server session at place `i` handles a Request or RFR. Its reply is to be put into the ring.

@@ -11,22 +11,48 @@ ghost use Rattle.packet_header.specs.Header.{AreBytes, MessageInRange};
 ghost use Rattle.session_store.specs.Effects.{SideBegins, SideFlushes, SideLoses, SidePosts};
 ghost use Rattle.session_store.specs.Effects.{SideReplies, SideRolls, SideSends, SideWaits};
 ghost use Rattle.session_store.specs.Effects.{SpellsIn};
-ghost use Rattle.session_store.specs.Sides.{IsOfSide, MayPost, SideKept};
+ghost use Rattle.session_store.specs.Sides.{IsOfSide, MayPost, SideKept, server_at};
 
+use crate::stage::Stage;
 use buffer_pool::BufferPool;
 use client_core::{ClientSession, Done, Reply, Timer};
 use packet_header::{HEAD_BYTES, MessageHeader};
 use packet_rings::Entry;
-use rpc_base::{CallNo, MOST_CALLS, MOST_MESSAGE_BYTES, Peer, RequestNo};
+use rpc_base::{
+    CallNo, MOST_CALLS, MOST_MESSAGE_BYTES, Peer, RequestNo, SESSION_NUMBERS, SessionNo,
+};
 use rpc_laws::TimerRow;
 use session_slots::Waiting;
 
-/// A client session, its peer, and whether it lost that peer.
+/// A client session, its peer, and how far it has come.
 #[derive(Drop)]
 pub struct Side {
     pub peer: Peer,
-    pub is_broken: bool,
+    pub stage: Stage,
     pub session: ClientSession,
+}
+
+/// What is known of a client session's other end.
+#[derive(Clone, Copy, Debug)]
+pub struct ClientEnd {
+    pub peer: Peer,
+    pub credits: u16,
+    /// The session's number at the server, 65,535 before it is connected.
+    pub server: SessionNo,
+}
+
+impl Side {
+    /// The session's number at the server, 65,535 before it is connected.
+    pub fn server(&self) -> SessionNo
+        ensures { result ≡ server_at self.now.stage self.now.session }
+    {
+        match &self.stage {
+            Stage::Connecting { .. } | Stage::Failed => SessionNo(SESSION_NUMBERS),
+            Stage::Connected | Stage::Closing { .. } | Stage::Closed | Stage::Broken => {
+                self.session.server()
+            }
+        }
+    }
 }
 
 /// Session `i` posts its next packet.

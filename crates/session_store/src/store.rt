@@ -3,6 +3,8 @@ ghost use Rattle.std.specs.Prelude.{◌≡◌, ◌<◌, ◌*◌, IfOk};
 ghost use Rattle.session_store.specs.Sides.{no_sessions};
 
 mod clients;
+mod control;
+mod ending;
 mod queue;
 mod servers;
 mod shares;

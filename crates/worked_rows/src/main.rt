@@ -42,7 +42,7 @@ const LINES: [&str; 19] = [
 ];
 
 /// The cases with counts of lines: a number, how the lines begin, and what each has in it.
-const COUNTS: [&str; 2] = ["largest_message", "full_jobs"];
+const COUNTS: [&str; 3] = ["largest_message", "full_jobs", "full_ring"];
 
 /// The drills, and how the one line begins that each writes at every run.
 const DRILLS: [(&str, &str); 2] = [

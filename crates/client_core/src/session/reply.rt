@@ -14,6 +14,7 @@ ghost use Rattle.packet_header.specs.Header.{MessageInRange};
 ghost use Rattle.rpc_laws.specs.Calls.{is_response};
 ghost use Rattle.packet_rings.specs.Still.{Still};
 ghost use Rattle.client_core.specs.Counting.{Counts, CountsQueued};
+ghost use Rattle.client_core.specs.Handing.{HandsBackBy, handed_of};
 ghost use Rattle.client_core.specs.KeepsEntries.{RepliesKeep};
 ghost use Rattle.client_core.specs.KeepsPool.{IsKept, KeepsPool, LeavesOthers};
 ghost use Rattle.client_core.specs.Session.{IsInTurn};
@@ -66,6 +67,8 @@ impl ClientSession {
             after_outcome now result head.now body.now (shown pool.old peer self.old)
             ≡ shown pool.new peer self.new ∷ [] }
         ensures replies { Replies result now head.now body.now self.old self.new pool.old pool.new }
+        ensures handed { HandsBackBy result self.old.number (handed_of pool.old self.old)
+            (handed_of pool.new self.new) }
         ensures others { LeavesOthers self.old.active self.new.active pool.old pool.new }
         ensures entries { RepliesKeep result head.now.request self.old self.new }
         ensures counts { Still (Counts pool.old) (Counts pool.new) }

@@ -10,6 +10,7 @@ ghost use Rattle.rpc_laws.specs.Queues.{is_queued};
 ghost use Rattle.client_core.specs.declared.outcome.Timer.TheVariants.{Quiet};
 ghost use Rattle.packet_rings.specs.Still.{Still};
 ghost use Rattle.client_core.specs.Counting.{Counts, CountsQueued};
+ghost use Rattle.client_core.specs.Handing.{HandsBack, handed_of};
 ghost use Rattle.client_core.specs.KeepsEntries.{KeepsOthers, LossKeeps};
 ghost use Rattle.client_core.specs.KeepsPool.{KeepsPool, LeavesOthers};
 ghost use Rattle.rpc_laws.specs.declared.rows.TimerRow.TheVariants.{Waits};
@@ -63,6 +64,7 @@ impl ClientSession {
         ensures step { IfSome (call_numbered call self.old) (λ c. (pool : Pool) → (clock peer : ℕ) →
             stepped clock (rolled_event c) (shown pool peer self.old)
             ≡ shown pool peer self.new ∷ []) }
+        ensures handed { (pool : Pool) → handed_of pool self.new ≡ handed_of pool self.old }
         ensures others { (pool : Pool) → LeavesOthers self.old.active self.new.active pool pool }
         ensures entries { IfSome (call_numbered call self.old)
             (λ c. KeepsOthers c.request self.old self.new) }
@@ -91,6 +93,8 @@ impl ClientSession {
             ≡ shown_broken pool.new peer self.new ∷ []) }
         ensures loses { IfSome result (λ d. Loses (next_lost self.old) d self.old self.new pool.old
             pool.new) }
+        ensures handed { IfSome result (λ d. HandsBack self.old.number d
+            (handed_of pool.old self.old) (handed_of pool.new self.new)) }
         ensures others { LeavesOthers self.old.active self.new.active pool.old pool.new }
         ensures entries { LossKeeps (next_lost self.old) self.old self.new }
         ensures counts { Still (Counts pool.old) (Counts pool.new) }

@@ -3,7 +3,7 @@ ghost use Rattle.std.specs.Prelude.{◌≡◌, List, []};
 ghost use Rattle.std.specs.List.{AllByRecursion};
 ghost use Rattle.packet_rings.specs.Values.{EntryValue};
 ghost use Rattle.server_core.specs.Keeping.{StillCounts};
-ghost use Rattle.server_core.specs.KeepsPool.{KeepsPool};
+ghost use Rattle.server_core.specs.KeepsPool.{KeepsPool, KeepsSpare, LeavesOthers};
 ghost use Rattle.server_core.specs.Serving.{IsUnheld, all_given_up};
 ghost use Rattle.buffer_pool.specs.Counting.{Counts};
 
@@ -17,6 +17,8 @@ impl ServerSession {
         requires keeps_pool { KeepsPool pool.old self.slots }
         requires unheld { AllByRecursion (IsUnheld pool.old) self.slots }
         ensures pool { pool.new ≡ all_given_up self.slots pool.old }
+        ensures spare { KeepsSpare self.slots [] pool.old pool.new }
+        ensures others { LeavesOthers self.slots [] pool.old pool.new }
         ensures counts { StillCounts pool.old pool.new }
     {
         for request in self.slots.as_slice() {

@@ -1,11 +1,11 @@
 //! The client sessions: calls are asked, begin and are answered.
 ghost use Rattle.std.specs.Prelude.{◌≡◌, ◌<◌, ◌≤◌, ◌+◌, ◌*◌, ◌++◌, [], ◌∷◌, length};
 ghost use Rattle.std.specs.Prelude.{option_and_then, option_map, slice_get, IfErr, IfSome, OnErr};
-ghost use Rattle.std.specs.Prelude.{count_by, IsSome, List, OnOk};
+ghost use Rattle.std.specs.Prelude.{IsSome, List, OnOk};
 ghost use Rattle.std.specs.List.{AllByRecursion, list_any};
 ghost use Rattle.rpc_base.specs.declared.owner.Owner.TheVariants.{Ask};
 ghost use Rattle.rpc_base.specs.declared.state.SessionState.TheVariants.{Connected};
-ghost use Rattle.rpc_laws.specs.Groups.{state_of};
+ghost use Rattle.rpc_laws.specs.Groups.{state_of, told_state};
 ghost use Rattle.node_laws.specs.Windows.{Windows};
 ghost use Rattle.packet_header.specs.Header.{MessageInRange};
 ghost use Rattle.packet_header.specs.Parts.{part_size};
@@ -15,16 +15,20 @@ ghost use Rattle.rpc_laws.specs.Pacing.{packet_size};
 ghost use Rattle.rpc_laws.specs.Sessions.{asks, client_end};
 ghost use Rattle.rpc_laws.specs.declared.tables.Asking.{Asking};
 ghost use Rattle.rpc_laws.specs.declared.tables.Call.{Call};
-ghost use Rattle.session_store.specs.Changes.{BeginsAt, ChangesAt, PostsAt};
+ghost use Rattle.session_store.specs.Changes.{BeginsAt, ChangesAt, MayPace, MayQueue, PostsAt};
 ghost use Rattle.session_store.specs.Effects.{asking_in, packet_of_entry, request_in};
 ghost use Rattle.session_store.specs.Ends.{next_above, told_call};
+ghost use Rattle.client_core.specs.Handing.{handed_waiting};
+ghost use Rattle.session_store.specs.Handing.{AreOfCalls, HandsBackIf, HandsInAt, ended_by};
 ghost use Rattle.session_store.specs.Hearing.{RepliesAt};
-ghost use Rattle.session_store.specs.Joined.{is_paced, put_listed};
+ghost use Rattle.session_store.specs.Joined.{put_listed};
 ghost use Rattle.session_store.specs.Sides.{HasRoom};
+ghost use Rattle.session_store.specs.Stages.{named};
 
 use super::Store;
 use crate::line::{holds_in, put_in};
 use crate::side::{Side, begin_at, enqueue_at, heard_at, post_at};
+use crate::stage::Stage;
 use client_core::{Active, ClientSession, Reply};
 use packet_header::{HEAD_BYTES, MessageHeader, PART_BYTES};
 use packet_rings::Entry;
@@ -34,6 +38,26 @@ use rpc_base::{
 };
 use session_slots::Waiting;
 use std::alloc::Global;
+
+// The state of a session at this stage, on which so many calls were asked.
+fn state_at(stage: &Stage, asked: u64) -> SessionState
+    requires most { asked ≤ MOST_CALLS }
+    ensures { result ≡ told_state (named stage.now) asked }
+{
+    match stage {
+        Stage::Connecting { .. } => SessionState::Connecting,
+        Stage::Connected => {
+            if asked == MOST_CALLS {
+                return SessionState::Spent;
+            }
+            SessionState::Connected
+        }
+        Stage::Closing { .. } => SessionState::Closing,
+        Stage::Closed => SessionState::Closed,
+        Stage::Failed => SessionState::Failed,
+        Stage::Broken => SessionState::Broken,
+    }
+}
 
 // How long the datagram of part `number` of a message of `size` bytes is.
 fn datagram_size(size: u32, number: u16) -> u64
@@ -56,6 +80,13 @@ impl Store {
         usize::from(last.session.session().0) + 1
     }
 
+    /// What was handed in, as it is seen, is that of the calls which are seen.
+    pub fn sound(&self)
+        ensures handed { AreOfCalls self.now.handed self.now.clients }
+    {
+        let _count = self.sides.len();
+    }
+
     /// A client session is made that is connected from the start, with 1 to 256 credits; its number
     /// is its place, and the server's is below 65,535. `NoMemory` comes where there is no memory
     /// for it.
@@ -75,6 +106,7 @@ impl Store {
         ensures servers { self.new.servers ≡ self.old.servers }
         ensures queued { self.new.queued ≡ self.old.queued }
         ensures size { self.new.size ≡ self.old.size }
+        ensures handed { OnOk result (self.new.handed ≡ self.old.handed ++ [] ∷ []) }
         ensures places { self.new.places ≡ self.old.places }
         ensures unchanged { OnErr result (self.new ≡ self.old) }
     {
@@ -82,26 +114,21 @@ impl Store {
         let session = ClientSession::new(alloc, number, server, credits);
         let side = Side {
             peer,
-            is_broken: false,
+            stage: Stage::Connected,
             session,
         };
         self.sides.push(side)?;
         Ok(())
     }
 
-    /// The state of session `i`: Connected, Spent where 2^45 calls were asked on it, or Broken.
+    /// The state of session `i`: that of its stage, but Spent where it is Connected and 2^45 calls
+    /// were asked on it.
     pub fn state(&self, i: usize) -> SessionState
         requires known { i < length self.now.clients }
         ensures { result ≡ state_of (slice_get self.now.clients i) }
     {
         let side = &self.sides[i];
-        if side.is_broken {
-            return SessionState::Broken;
-        }
-        if side.session.asked() == MOST_CALLS {
-            return SessionState::Spent;
-        }
-        SessionState::Connected
+        state_at(&side.stage, side.session.asked())
     }
 
     /// How many credits of session `i` are free, none where it lost its peer.
@@ -110,7 +137,7 @@ impl Store {
         ensures { IfSome (slice_get self.now.clients i) (λ x. result ≡ x.free) }
     {
         let side = &self.sides[i];
-        if side.is_broken {
+        if side.stage.is_broken() {
             return 0;
         }
         side.session.free()
@@ -148,6 +175,8 @@ impl Store {
         ensures servers { self.new.servers ≡ self.old.servers }
         ensures queued { self.new.queued ≡ self.old.queued }
         ensures size { self.new.size ≡ self.old.size }
+        ensures handed { OnOk result (HandsInAt i (handed_waiting waiting) self.old.handed
+            self.new.handed) }
         ensures places { self.new.places ≡ self.old.places }
         ensures unchanged { OnErr result (self.new ≡ self.old) }
         ensures handed_back { IfErr result (λ back. back ≡ waiting) }
@@ -178,7 +207,7 @@ impl Store {
     }
 
     /// The call of session `i` that waited longest begins, where a slot is free. A session that
-    /// lost its peer begins none.
+    /// isn't Connected begins none.
     pub fn begin(&mut self, i: usize) -> Option<(CallNo, RequestNo)>
         requires known { i < length self.old.clients }
         requires room { HasRoom self.old }
@@ -186,31 +215,32 @@ impl Store {
         ensures servers { self.new.servers ≡ self.old.servers }
         ensures queued { self.new.queued ≡ self.old.queued }
         ensures size { self.new.size ≡ self.old.size }
+        ensures handed { self.new.handed ≡ self.old.handed }
         ensures places { self.new.places ≡ self.old.places }
     {
-        if self.sides[i].is_broken {
+        if !self.sides[i].stage.is_connected() {
             return None;
         }
         begin_at(&mut self.sides, i, &mut self.pool)
     }
 
     /// Session `i` posts its next packet: it is put behind what is ready or, with a time in
-    /// microseconds when it is due, behind what is due no later.
+    /// microseconds when it is due, behind what is due no later. A session that isn't Connected
+    /// posts none.
     pub fn post(&mut self, i: usize, due: Option<u64>) -> Option<Entry>
         requires known { i < length self.old.clients }
-        requires room { IfSome (slice_get self.old.clients i)
-            (λ x. length self.old.queued + x.free ≤ self.old.size) }
-        requires paced { IsSome due → IfSome (slice_get self.old.clients i)
-            (λ x. 2 * (count_by is_paced self.old.queued + x.free) ≤ self.old.size) }
+        requires room { MayQueue i self.old }
+        requires paced { IsSome due → MayPace i self.old }
         ensures clients { PostsAt i (option_map packet_of_entry result) self.old.clients
             self.new.clients }
         ensures servers { self.new.servers ≡ self.old.servers }
         ensures queued { self.new.queued ≡ put_listed due result self.old.queued }
         ensures size { self.new.size ≡ self.old.size }
+        ensures handed { self.new.handed ≡ self.old.handed }
         ensures places { self.new.places ≡ self.old.places }
         ensures owner { IfSome result (λ e. e.owner ≡ Ask i (request_in e.owner)) }
     {
-        if self.sides[i].is_broken {
+        if !self.sides[i].stage.is_connected() {
             return None;
         }
         let posted = post_at(&mut self.sides, i, &mut self.pool);
@@ -241,9 +271,10 @@ impl Store {
         ensures servers { self.new.servers ≡ self.old.servers }
         ensures queued { self.new.queued ≡ self.old.queued }
         ensures size { self.new.size ≡ self.old.size }
+        ensures handed { HandsBackIf i (ended_by result) self.old.handed self.new.handed }
         ensures places { self.new.places ≡ self.old.places }
     {
-        if self.sides[i].is_broken {
+        if !self.sides[i].stage.is_connected() {
             return Reply::Dropped(DropReason::NoSession);
         }
         if peer != self.sides[i].peer {

@@ -81,6 +81,7 @@ impl Store {
         ensures servers { self.new.servers ≡ self.old.servers }
         ensures queued { self.new.queued ≡ drop 1 self.old.queued }
         ensures size { self.new.size ≡ self.old.size }
+        ensures handed { self.new.handed ≡ self.old.handed }
         ensures places { self.new.places ≡ self.old.places }
     {
         let Some(entry) = pop_in(&mut self.tx, &mut self.pacer) else {
@@ -114,6 +115,7 @@ impl Store {
         ensures clients { self.new.clients ≡ self.old.clients }
         ensures servers { self.new.servers ≡ self.old.servers }
         ensures size { self.new.size ≡ self.old.size }
+        ensures handed { self.new.handed ≡ self.old.handed }
         ensures places { self.new.places ≡ self.old.places }
     {
         let owner = Owner::Ask {
@@ -138,6 +140,7 @@ impl Store {
         ensures clients { self.new.clients ≡ self.old.clients }
         ensures servers { self.new.servers ≡ self.old.servers }
         ensures size { self.new.size ≡ self.old.size }
+        ensures handed { self.new.handed ≡ self.old.handed }
         ensures places { self.new.places ≡ self.old.places }
     {
         let owner = Owner::Reply { session, request };
@@ -155,6 +158,7 @@ impl Store {
         ensures clients { self.new.clients ≡ self.old.clients }
         ensures servers { self.new.servers ≡ self.old.servers }
         ensures size { self.new.size ≡ self.old.size }
+        ensures handed { self.new.handed ≡ self.old.handed }
         ensures places { self.new.places ≡ self.old.places }
     {
         make_ready_in(&mut self.tx, &mut self.pacer, now);

@@ -4,15 +4,17 @@ ghost use Rattle.std.specs.Prelude.{IfSome, OnErr, OnOk};
 ghost use Rattle.std.specs.List.{AllByRecursion, position};
 ghost use Rattle.message_buffer.specs.Buffer.{bytes_of};
 ghost use Rattle.packet_header.specs.Parts.{IsMessage};
+ghost use Rattle.rpc_laws.specs.ControlTable.{is_end_of};
 ghost use Rattle.rpc_laws.specs.Requests.{is_server, server_end};
 ghost use Rattle.session_store.specs.Changes.{FinishesAt};
 ghost use Rattle.server_core.specs.Steps.{IsAsking, UnlessRan};
 ghost use Rattle.session_store.specs.Serving.{AreServedAt, HandlesAt};
+ghost use Rattle.session_store.specs.Changes.{IsEnd};
 ghost use Rattle.session_store.specs.Joined.{put_listed};
 ghost use Rattle.session_store.specs.Sides.{HasRoom};
 
 use super::Store;
-use crate::server::{asked_at, finished_at, place_of, reply_of};
+use crate::server::{ServerEnd, asked_at, end_in, finished_at, place_of, reply_of};
 use packet_header::MessageHeader;
 use packet_rings::Entry;
 use rpc_base::{MOST_CREDITS, NoMemory, NodeId, Peer, SESSION_NUMBERS, SessionNo, Who};
@@ -34,6 +36,28 @@ impl Store {
         ensures { result ≡ position (is_server number) self.now.servers }
     {
         place_of(&self.servers, number)
+    }
+
+    /// Where the first server session stands that is the other end of a peer's client session. None
+    /// comes exactly where there is none.
+    pub fn place_of_end(&self, peer: Peer, client: SessionNo) -> Option<usize>
+        ensures { result ≡ position (is_end_of peer client) self.now.servers }
+    {
+        end_in(&self.servers, peer, client)
+    }
+
+    /// The number, the credits and the client's number of the server session at place `i`.
+    pub fn end_of_server(&self, i: usize) -> ServerEnd
+        requires known { i < length self.now.servers }
+        ensures { IfSome (slice_get self.now.servers i) (IsEnd result) }
+    {
+        let server = &self.servers[i];
+        ServerEnd {
+            session: server.session(),
+            peer: server.peer(),
+            client: server.client(),
+            credits: server.credits(),
+        }
     }
 
     /// The peer of the server session at place `i`.
@@ -64,6 +88,7 @@ impl Store {
         ensures clients { self.new.clients ≡ self.old.clients }
         ensures queued { self.new.queued ≡ self.old.queued }
         ensures size { self.new.size ≡ self.old.size }
+        ensures handed { self.new.handed ≡ self.old.handed }
         ensures places { self.new.places ≡ self.old.places }
         ensures unchanged { OnErr result (self.new ≡ self.old) }
     {
@@ -100,6 +125,7 @@ impl Store {
             result self.old self.new }
         ensures clients { self.new.clients ≡ self.old.clients }
         ensures size { self.new.size ≡ self.old.size }
+        ensures handed { self.new.handed ≡ self.old.handed }
         ensures places { self.new.places ≡ self.old.places }
         ensures service { UnlessRan result (service.new ≡ service.old) }
         ensures all_served { AreServedAt V.mode_of i self.new.servers }
@@ -139,6 +165,7 @@ impl Store {
         ensures clients { self.new.clients ≡ self.old.clients }
         ensures queued { self.new.queued ≡ put_listed None result self.old.queued }
         ensures size { self.new.size ≡ self.old.size }
+        ensures handed { self.new.handed ≡ self.old.handed }
         ensures places { self.new.places ≡ self.old.places }
     {
         let reply = finished_at(&mut self.servers, i, &mut self.pool, parcel);

@@ -5,16 +5,19 @@ ghost use Rattle.session_store.specs.Sides.{side_credits};
 
 use super::Store;
 use crate::side::Side;
+use crate::stage::Stage;
 use server_core::ServerSession;
 
-// The credits of a client session, none where it lost its peer.
+// The credits of a client session, none where it isn't live.
 fn credits_of(side: &Side) -> u32
     ensures { result ≡ side_credits side.now }
 {
-    if side.is_broken {
-        return 0;
+    match &side.stage {
+        Stage::Connecting { .. } | Stage::Connected | Stage::Closing { .. } => {
+            u32::from(side.session.limit())
+        }
+        Stage::Closed | Stage::Failed | Stage::Broken => 0,
     }
-    u32::from(side.session.limit())
 }
 
 fn of_clients(sides: &[Side]) -> u32

@@ -2,11 +2,13 @@
 ghost use Rattle.std.specs.Prelude.{◌≡◌, ◌<◌, length, option_map, slice_get, IfSome};
 ghost use Rattle.client_core.specs.declared.outcome.Outcome.TheVariants.{PeerLost};
 ghost use Rattle.rpc_laws.specs.Sessions.{breaks};
-ghost use Rattle.session_store.specs.Changes.{ActiveAt, ChangesAt, IsIdle, IsLost, LosesAt};
-ghost use Rattle.session_store.specs.Changes.{MayRoll, RollsAt, RowAt};
+ghost use Rattle.session_store.specs.Changes.{ActiveAt, ChangesAt, IsConnected, IsIdle, IsLost};
+ghost use Rattle.session_store.specs.Changes.{LosesAt, MayRoll, RollsAt, RowAt};
+ghost use Rattle.session_store.specs.Handing.{HandsBackIf};
 
 use super::Store;
 use crate::side::{lose_at, roll_at, told_row};
+use crate::stage::Stage;
 use client_core::{Active, Done, Timer};
 use rpc_base::CallNo;
 use rpc_laws::TimerRow;
@@ -49,23 +51,26 @@ impl Store {
         ensures servers { self.new.servers ≡ self.old.servers }
         ensures queued { self.new.queued ≡ self.old.queued }
         ensures size { self.new.size ≡ self.old.size }
+        ensures handed { self.new.handed ≡ self.old.handed }
         ensures places { self.new.places ≡ self.old.places }
     {
         roll_at(&mut self.sides, i, call);
     }
 
-    /// Session `i` loses its peer; no packet of it is queued.
+    /// Session `i`, which is Connected, loses its peer; no packet of it is queued.
     pub fn lose_peer(&mut self, i: usize)
         requires known { i < length self.old.clients }
+        requires connected { IsConnected (slice_get self.old.clients i) }
         requires idle { IsIdle i self.old.queued }
         ensures clients { ChangesAt i breaks self.old.clients self.new.clients }
         ensures servers { self.new.servers ≡ self.old.servers }
         ensures queued { self.new.queued ≡ self.old.queued }
         ensures size { self.new.size ≡ self.old.size }
+        ensures handed { self.new.handed ≡ self.old.handed }
         ensures places { self.new.places ≡ self.old.places }
     {
         let side = &mut self.sides[i];
-        side.is_broken = true;
+        side.stage = Stage::Broken;
     }
 
     /// The first call of session `i` ends, which lost its peer and has no packet queued. None comes
@@ -80,6 +85,7 @@ impl Store {
         ensures servers { self.new.servers ≡ self.old.servers }
         ensures queued { self.new.queued ≡ self.old.queued }
         ensures size { self.new.size ≡ self.old.size }
+        ensures handed { HandsBackIf i result self.old.handed self.new.handed }
         ensures places { self.new.places ≡ self.old.places }
     {
         lose_at(&mut self.sides, i, &mut self.pool)

@@ -1,6 +1,7 @@
-use Rattle.std.proofs.Common.{ap}
+use Rattle.std.proofs.Common.{ap, refl}
 use Rattle.std.specs.Prelude.{option_map}
 use Rattle.endpoint_loop.proofs.LoseLemmas.{none-lost, one-lost}
+use Rattle.endpoint_loop.proofs.HandingLemmas.{gives-one, gives-same}
 use Rattle.endpoint_loop.proofs.rolling.lose_next.Goals as goal
 
 pub returns-in_default-clause-none : goal.returns-in_default-clause-none
@@ -16,3 +17,12 @@ returns-clause-ends g c = λ _.
     c.in-Some.done c.args.store.now.clients c.lose.new.self.clients c.args.rec.now
     c.note.new.self c.args.k.now c.done.new.self h.clients h.ended_as c.note.ensures
     c.done.ensures
+
+pub returns-in_default-clause-handed : goal.returns-in_default-clause-handed
+returns-in_default-clause-handed g c =
+    gives-same g.K.Continuation.given _ _ _ _ (rw c.in_default.is at c.lose.ensures.handed) refl
+
+pub returns-clause-handed : goal.returns-clause-handed
+returns-clause-handed g c =
+    let h = rw c.in-Some.is at c.lose.ensures in
+    gives-one g.K.Continuation.given c.args.i c.in-Some.done _ _ _ _ h.handed c.done.ensures

@@ -1,6 +1,7 @@
-use Rattle.std.proofs.Common.{◌∙◌}
+use Rattle.std.proofs.Common.{refl, ◌∙◌}
 use Rattle.endpoint_loop.proofs.LoseLemmas.{fewer-left, is-lost, lost-more, lost-over, lost-same}
 use Rattle.endpoint_loop.proofs.LoseLemmas.{lost-start}
+use Rattle.endpoint_loop.proofs.HandingLemmas.{gives-more, gives-same}
 use Rattle.endpoint_loop.proofs.rolling.lose_session.Goals as goal
 
 pub calls-init : goal.calls-init
@@ -13,6 +14,7 @@ calls-init g c =
       h.queued,
       h.size,
       h.places,
+      gives-same g.K.Continuation.given _ _ _ _ h.handed refl,
     )
 
 pub lose_next-requires-clause-lost : goal.lose_next-requires-clause-lost
@@ -41,6 +43,7 @@ calls-preserved g c =
       h.queued ∙ i.2,
       h.size ∙ i.3,
       h.places ∙ i.4,
+      gives-more g.K.Continuation.given _ _ _ _ _ _ i.5 h.handed,
     )
 
 pub returns-clause-lost : goal.returns-clause-lost
@@ -53,3 +56,7 @@ returns-clause-lost g c =
     (lost-over g.R.Recorder.facts g.R.Recorder.whole g.K.Continuation.given c.args.me c.args.i
     i.0.0 c.args.store.now.clients c.calls.store.clients c.args.rec.now c.calls.rec
     c.args.k.now c.calls.k i.0.1 (h.none c.calls-test.false))
+
+pub returns-clause-handed : goal.returns-clause-handed
+returns-clause-handed g c =
+    gives-more g.K.Continuation.given _ _ _ _ _ _ c.calls.invariant.5 c.lose_next.ensures.handed

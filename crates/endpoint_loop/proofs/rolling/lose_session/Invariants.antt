@@ -3,6 +3,7 @@ use Rattle.std.specs.Prelude.{slice_get}
 use Rattle.rpc_laws.specs.declared.tables.Call.{Call}
 use Rattle.session_store.specs.Changes.{calls_in}
 use Rattle.endpoint_loop.specs.Watching.{HasLost}
+use Rattle.endpoint_loop.specs.Handing.{GivesBackTo}
 use Rattle.endpoint_loop.proofs.rolling.lose_session.Given as goal
 
 abbrev pub invariant-calls : goal.invariant-calls
@@ -13,6 +14,7 @@ invariant-calls g l =
     × (l.store.queued ≡ l.fn.store.queued)
     × (l.store.size ≡ l.fn.store.size)
     × (l.store.places ≡ l.fn.store.places)
+    × GivesBackTo g.K.Continuation.given l.fn.store.handed l.store.handed l.fn.k l.k
 
 abbrev pub decreases-calls : goal.decreases-calls
 decreases-calls g l = length (calls_in (slice_get l.store.clients l.i))

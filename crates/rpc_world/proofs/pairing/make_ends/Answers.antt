@@ -1,7 +1,9 @@
-use Rattle.std.proofs.Common.{◌≡◌, ◌∙◌, ap, length, arith, refl}
+use Rattle.std.proofs.Common.{◌≡◌, ◌∙◌, ap, length, arith, refl, subst, IfErr}
 use Rattle.rpc_base.specs.declared.event.Event.TheVariants.{PairedClient, PairedServer}
 use Rattle.rpc_world.specs.Answered.{End}
-use Rattle.rpc_world.proofs.PairLemmas.{ends-by, fits-other, fits-unspent, notes-end, same-end, still-end}
+use Rattle.rpc_world.proofs.PairLemmas.{client-made, ends-by, fits-other, fits-own, fits-unspent}
+use Rattle.rpc_world.proofs.PairLemmas.{notes-end, same-end, server-made, still-end}
+use Rattle.session_mgmt.specs.Table.{refused}
 use Rattle.rpc_world.proofs.StepLemmas.{grew-facts}
 use Rattle.rpc_world.proofs.pairing.make_ends.Goals as goal
 
@@ -21,23 +23,46 @@ returns c =
     let is_q = c.next_number-of_server.ensures.number ∙ (c.next_server.ensures
     ∙ ap (λ (e : End). e.timed.lists.server_numbers)
     (still-end _ c.args.a c.args.b _ _ serving c.requires.two (rw is_b at c.at-2.ensures) at_b)) in
-    let first = rw c.b.view_is at c.in_ok-pair_client.ensures.makes in
-    let second = rw c.a.view_is at c.in_ok-pair_server.ensures.makes in
+    let client_fits = fits-own c.args.a c.args.credits _ _ asking c.stage.view_is c.requires.client_fits
+    at_a in
+    let server_fits = fits-other c.args.a c.args.b c.args.credits _ _ _ serving c.stage.view_is
+    c.requires.two c.requires.server_fits at_b in
+    let first = rw (c.b.view_is, c.in_ok-made.ensures) at c.pair_client.ensures.makes in
+    let second = rw (c.a.view_is, c.in_ok-made-2.ensures) at c.pair_server.ensures.makes in
     let m = notes-end c.args.a (λ l. PairedClient (length l.clients) c.args.b of_server c.args.credits) z.worked
-    asking c.pair_client.new.self first.noted (λ l. refl) (λ l. refl) c.pair_client.ensures.leaves first.step in
+    asking c.pair_client.new.self first.noted (λ l. refl) (λ l. refl) c.pair_client.ensures.leaves
+    (client-made c.args.b of_server c.args.credits asking c.pair_client.new.self first.noted client_fits
+    first.step) in
     let n = notes-end c.args.b (λ l. PairedServer l.server_numbers c.args.a of_client c.args.credits) z.worked
-    serving c.pair_server.new.self second.noted (λ l. refl) (λ l. refl) c.pair_server.ensures.leaves second.step in
+    serving c.pair_server.new.self second.noted (λ l. refl) (λ l. refl) c.pair_server.ensures.leaves
+    (server-made c.args.a of_client c.args.credits serving c.pair_server.new.self second.noted
+    server_fits second.step) in
     let whole = c.in_ok-check_whole.ensures in
     rw (is_a, is_b) (ends-by c.args.a c.args.b c.args.credits of_client of_server _ asking _ serving _ _ _
     c.requires.two at_a at_b is_p is_q m n _ _ _ _ c.stage.view_is
     (grew-facts _ _ _ first.grew (second.grew.since whole)) (grew-facts _ _ _ second.grew whole))
 
-pub pair_server-requires-clause-fits : goal.pair_server-requires-clause-fits
-pair_server-requires-clause-fits c =
+pub made-requires : goal.made-requires
+made-requires c =
+    let is_a : c.from-client.result ≡ c.args.a = c.from-client.ensures ∙ c.a.view_is in
+    let fits = fits-own c.args.a c.args.credits _ _ c.at_mut-asking.result.now c.stage.view_is
+    c.requires.client_fits (rw is_a at c.at_mut-asking.ensures.value) in
+    record {
+      fits = subst (λ o. IfErr c.pair_client.result (λ why. refused why ≡ o)) fits
+          c.pair_client.ensures.refused;
+    }
+
+pub made-requires-2 : goal.made-requires-2
+made-requires-2 c =
     let is_a : c.from-client.result ≡ c.args.a = c.from-client.ensures ∙ c.a.view_is in
     let is_b : c.from-server.result ≡ c.args.b = c.from-server.ensures ∙ c.b.view_is in
-    fits-other c.args.a c.args.b c.args.credits _ _ _ _ c.stage.view_is c.requires.two c.requires.server_fits
-    (rw (is_a, is_b) at c.at_mut-serving.ensures.value)
+    let fits = fits-other c.args.a c.args.b c.args.credits _ _ _ c.at_mut-serving.result.now
+    c.stage.view_is c.requires.two c.requires.server_fits
+    (rw (is_a, is_b) at c.at_mut-serving.ensures.value) in
+    record {
+      fits = subst (λ o. IfErr c.pair_server.result (λ why. refused why ≡ o)) fits
+          c.pair_server.ensures.refused;
+    }
 
 pub next_number-of_server-requires : goal.next_number-of_server-requires
 next_number-of_server-requires c =

@@ -13,7 +13,7 @@ returns c =
     c.at_mut-working.result.now _ _ _ _ _ _ c.stage.view_is c.requires.numbered.playing
     (rw is_n at c.at_mut-working.ensures.value)
     (λ p. one-worked c.args.node c.args.job c.args.stage.now.worked c.at_mut-working.result.now
-    c.work-named.new.self c.work-named.result c.sound.ensures (rw c.workers.ensures.value at named.none)
+    c.work-named.new.self c.work-named.result c.sound.ensures.kept (rw c.workers.ensures.value at named.none)
     (rw c.workers.ensures.value at named.unchanged) (rw c.workers.ensures.value at named.worked) p)
     (grew-facts _ _ _ c.note_work.ensures land.whole)
     (ap length c.facts-before.ensures) (rw is_n at land.stage)

@@ -16,6 +16,7 @@ returns c =
         turn = e.turn;
         step = e.step;
         starts = e.starts;
+        handed = e.handed;
         leaves = e.others;
         entries = e.entries;
         counts =

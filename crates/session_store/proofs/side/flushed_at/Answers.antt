@@ -18,6 +18,7 @@ returns c =
           long = flushed-long c.args.entry.now side.session c.flushed.new.self e.session;
           pool =
               e.pool;
+          handed = e.handed;
           leaves = e.others;
           entries = e.entries;
           counts = e.counts;

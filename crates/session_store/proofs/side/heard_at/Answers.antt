@@ -16,6 +16,7 @@ returns c =
         facts = e.facts;
         step = e.step;
         replies = e.replies;
+        handed = e.handed;
         leaves = e.others;
         entries = e.entries;
         counts = e.counts;

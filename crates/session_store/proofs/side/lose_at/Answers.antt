@@ -16,6 +16,7 @@ returns c =
         unchanged = e.unchanged;
         step = e.step;
         loses = e.loses;
+        handed = e.handed;
         leaves = e.others;
         counts = e.counts;
         queued =

@@ -17,6 +17,7 @@ returns c =
         step = e.step;
         pool = e.pool;
         stands = e.stands;
+        handed = e.handed;
         leaves = e.others;
         entries = e.entries;
         counts =

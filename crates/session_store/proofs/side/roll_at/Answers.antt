@@ -14,6 +14,6 @@ returns c =
       at = there;
       later = c.roll.new.self;
       step = rolls-back c.args.call c.index_mut-side.result.now.session c.roll.new.self some
-          e.session e.step e.others e.entries e.queued e.keeps_pool;
+          e.session e.step e.handed e.others e.entries e.queued e.keeps_pool;
       changed = refl;
     }

@@ -17,6 +17,7 @@ returns c =
           number = ap (λ (x : Session). x.number) e.session;
           long = sent-long c.args.entry.now c.args.now side.session c.sent.new.self e.session;
           pool = e.pool;
+          handed = e.handed;
           leaves = e.others;
           entries = e.entries;
           counts = e.counts;

@@ -12,6 +12,7 @@ use Rattle.rpc_base.specs.declared.owner.Owner.TheVariants.{Ask}
 use Rattle.packet_rings.specs.Entries.{is_of}
 use Rattle.std.proofs.Common.{◌≡◌}
 use Rattle.std.specs.Prelude.{count_by}
+use Rattle.client_core.proofs.HandingLemmas.{handed-begun}
 use Rattle.client_core.proofs.session.ClientSession.begin.Goals as goal
 use Rattle.rpc_base.proofs.FirstLemmas.{all-push}
 use Rattle.buffer_pool.proofs.CountingLemmas.{counts-filled}
@@ -95,3 +96,14 @@ returns-clause-queued c = λ entries all none.
     rw c.push.ensures (all-push (λ x. x.queued
     ≡ count_by (is_of (Ask c.self.inside.number x.request)) entries) c.self.inside.calls
     c.start-call.result before own)
+
+pub returns-clause-handed : goal.returns-clause-handed
+returns-clause-handed c =
+    let is = c.start-call.ensures.call in
+    let begins = c.in-Some.ensures.begins in
+    let keeps = rw (← c.self.view_is) at c.requires.keeps_pool in
+    let kept = rw c.start-call.ensures.pool at c.start-call.ensures.kept in
+    let size = rw (ap (λ x. x.len) is) at kept.size in
+    rw (← c.self.view_is, c.push.ensures, c.start-call.ensures.pool, begins.table, is)
+    (handed-begun c.args.pool.now _ _ _ c.start-call.ensures.ask c.start-call.ensures.answer
+    (the_view c.self.inside) _ _ keeps begins size)

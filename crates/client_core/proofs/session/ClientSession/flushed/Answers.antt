@@ -8,6 +8,7 @@ use Rattle.client_core.proofs.PoolLemmas.{keeps-left, keeps-released}
 use Rattle.client_core.proofs.SentLemmas.{left-shown}
 use Rattle.client_core.proofs.SessionLemmas.{left-session}
 use Rattle.client_core.proofs.QueuedLemmas.{left-queued}
+use Rattle.client_core.proofs.HandingLemmas.{handed-released}
 use Rattle.client_core.proofs.session.ClientSession.flushed.Goals as goal
 use Rattle.buffer_pool.proofs.CountingLemmas.{counts-released}
 
@@ -56,3 +57,8 @@ returns-clause-queued c = λ posted passes old new out all.
     rw c.leave.ensures (left-queued (the_view c.self.inside)
     (entry_view c.entry.inside) one_left passes old new c.self.invariant.1 taken (λ x. refl)
     (λ x. refl) stands before)
+
+pub returns-clause-handed : goal.returns-clause-handed
+returns-clause-handed c = rw (← c.self.view_is, c.release_at.ensures, c.leave.ensures)
+    (handed-released c.args.pool.now (is_owner c.self.inside.number c.entry.inside.owner)
+    one_left (λ x. refl) c.self.inside.calls c.self.inside.slots.waiting c.entry.inside.place)

@@ -11,6 +11,8 @@ use Rattle.client_core.specs.Replies.{is_request}
 use Rattle.rpc_base.specs.declared.owner.Owner.TheVariants.{Ask}
 use Rattle.packet_rings.specs.Entries.{is_of}
 use Rattle.std.specs.Prelude.{count_by}
+use Rattle.client_core.specs.Handing.{HandsBack, handed_of}
+use Rattle.client_core.proofs.HandingLemmas.{lose-handed}
 use Rattle.client_core.proofs.session.ClientSession.lose.Goals as goal
 use Rattle.rpc_base.proofs.FirstLemmas.{found-holds, all-left}
 use Rattle.rpc_base.proofs.BasicLemmas.{if-map}
@@ -84,3 +86,32 @@ returns-in-Some-clause-queued c = λ entries all.
     (all-left (is_request c.in-Some.call.request)
     (λ x. x.queued ≡ count_by (is_of (Ask c.self.inside.number x.request)) entries)
     c.self.inside.calls before)
+
+pub returns-in-Some-clause-handed : goal.returns-in-Some-clause-handed
+returns-in-Some-clause-handed c =
+    let keeps = rw (← c.self.view_is) at c.requires.keeps_pool in
+    let done = rw (← c.self.view_is) at c.end.ensures.done in
+    let session = rw (← c.self.view_is) at c.end.ensures.session in
+    let lost : Loses (next_lost (the_view c.self.inside)) c.end.result (the_view c.self.inside)
+    c.end.new.self c.args.pool.now c.end.new.pool =
+    rw (← c.in-Some.ensures) (record {
+      done = done;
+      session = session;
+      pool = c.end.ensures.pool;
+    }) in
+    rw (← c.self.view_is) (lose-handed c.args.pool.now c.end.new.pool c.end.result
+    (the_view c.self.inside) c.end.new.self c.self.invariant.1 keeps lost)
+
+pub returns-clause-handed : goal.returns-clause-handed
+returns-clause-handed c =
+    let keeps = rw (← c.self.view_is) at c.requires.keeps_pool in
+    let given = rw (← c.self.view_is) at c.give_up.ensures.given_up in
+    rw (← c.self.view_is) (if-map (λ d. GivesUp d (the_view c.self.inside) c.give_up.new.self)
+    (λ d. HandsBack c.self.inside.number d (handed_of c.args.pool.now (the_view c.self.inside))
+    (handed_of c.args.pool.now c.give_up.new.self)) c.give_up.result
+    (λ d gives.
+    let lost : Loses (next_lost (the_view c.self.inside)) d (the_view c.self.inside)
+    c.give_up.new.self c.args.pool.now c.args.pool.now =
+    rw (← c.in_default.ensures) (gives, refl) in
+    lose-handed c.args.pool.now c.args.pool.now d (the_view c.self.inside)
+    c.give_up.new.self c.self.invariant.1 keeps lost) given)

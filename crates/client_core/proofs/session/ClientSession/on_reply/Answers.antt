@@ -6,6 +6,7 @@ use Rattle.client_core.proofs.OneCallLemmas.{by-request, own-request, own-turn}
 use Rattle.client_core.proofs.OutcomeLemmas.{facts-shown, row-shown}
 use Rattle.client_core.proofs.OthersLemmas.{reply-entries, reply-leaves}
 use Rattle.client_core.proofs.QueuedLemmas.{reply-queued}
+use Rattle.client_core.proofs.HandingLemmas.{reply-handed}
 use Rattle.client_core.proofs.session.ClientSession.on_reply.Goals as goal
 
 pub take-requires-clause-active : goal.take-requires-clause-active
@@ -78,3 +79,14 @@ pub returns-in-Takes-clause-queued : goal.returns-in-Takes-clause-queued
 returns-in-Takes-clause-queued c = λ entries all.
     reply-queued c.args.now c.args.head.now c.args.body.now c.args.self.now c.take.new.self
     c.args.pool.now c.take.new.pool entries c.take.result c.take.ensures.replies all
+
+pub returns-in-Takes-clause-handed : goal.returns-in-Takes-clause-handed
+returns-in-Takes-clause-handed c =
+    let keeps = rw (← c.self.view_is) at c.requires.keeps_pool in
+    let replies = rw (← c.self.view_is) at c.take.ensures.replies in
+    let row : row_told c.take.result ≡ reply_row c.args.queued c.args.head.now
+    (length c.args.body.now) (call_as c.args.head.now.request (the_view c.self.inside)) =
+    rw (← c.in-Some.ensures) (c.take.ensures.took ∙ c.in-Takes.ensures) in
+    rw (← c.self.view_is) (reply-handed c.args.queued c.args.now c.args.pool.now
+    c.take.new.pool c.args.head.now c.args.body.now (the_view c.self.inside) c.take.new.self
+    c.self.invariant.1 keeps c.take.result row replies)

@@ -12,6 +12,7 @@ use Rattle.client_core.specs.Posting.{one_posted}
 use Rattle.client_core.specs.Posting.{place_of}
 use Rattle.client_core.proofs.QueuedLemmas.{post-queued}
 use Rattle.client_core.proofs.SessionLemmas.{request-call}
+use Rattle.client_core.proofs.HandingLemmas.{handed-held}
 use Rattle.client_core.proofs.session.ClientSession.post.Goals as goal
 use Rattle.rpc_base.proofs.TakingLemmas.{find-passes}
 use Rattle.buffer_pool.proofs.CountingLemmas.{counts-held}
@@ -133,3 +134,15 @@ returns-clause-queued c = λ entries all.
     rw (c.next_entry-entry.ensures, c.post_next.ensures.calls)
     (post-queued _ c.in-Some.call _ entries c.self.invariant.1 found
     (request-call _ c.in-Some.call c.self.invariant.1 found) refl before)
+
+pub returns-clause-handed : goal.returns-clause-handed
+returns-clause-handed c =
+    rw (
+      ← c.self.view_is,
+      c.hold_at.ensures,
+      ap (λ e. held_at e.place c.args.pool.now)
+          (c.entry.view_is ∙ c.next_entry-entry.ensures),
+      c.post_next.ensures.calls,
+    )
+    (handed-held c.args.pool.now can_post one_posted (λ x. refl) c.self.inside.calls
+    c.self.inside.slots.waiting _)

@@ -13,6 +13,7 @@ use Rattle.client_core.proofs.RollLemmas.{keeps-rolled}
 use Rattle.rpc_base.specs.declared.owner.Owner.TheVariants.{Ask}
 use Rattle.packet_rings.specs.Entries.{is_of}
 use Rattle.std.specs.Prelude.{count_by}
+use Rattle.client_core.proofs.HandingLemmas.{handed-changed}
 use Rattle.client_core.proofs.session.ClientSession.roll.Goals as goal
 use Rattle.rpc_base.proofs.TakingLemmas.{find-passes}
 use Rattle.rpc_base.proofs.FirstLemmas.{all-kept}
@@ -116,3 +117,16 @@ returns-clause-queued c = λ entries all.
     (all-kept (is_request c.in-Some.call.request) rolled_call
     (λ x. x.queued ≡ count_by (is_of (Ask c.self.inside.number x.request)) entries)
     c.self.inside.calls (λ x here passes. here) before)
+
+pub returns-clause-handed : goal.returns-clause-handed
+returns-clause-handed c = λ pool.
+    let found = by-request _ (is_numbered c.args.call) c.in-Some.call c.self.invariant.1 (sym c.in-Some.ensures) in
+    rw (
+      ← c.self.view_is,
+      c.replace.ensures,
+      c.rolled.ensures,
+      same-change (is_request c.in-Some.call.request) c.in-Some.call rolled_call
+          c.self.inside.calls found,
+    )
+    (handed-changed pool (is_request c.in-Some.call.request) rolled_call (λ x. refl)
+    c.self.inside.calls c.self.inside.slots.waiting)

@@ -9,6 +9,7 @@ use Rattle.client_core.proofs.SentLemmas.{sent-step}
 use Rattle.client_core.proofs.OthersLemmas.{gone-leaves, marked-own, marking-keeps, stays}
 use Rattle.client_core.specs.Posting.{marked}
 use Rattle.client_core.proofs.QueuedLemmas.{left-queued, marked-less, marked-request}
+use Rattle.client_core.proofs.HandingLemmas.{handed-released, marked-handed}
 use Rattle.client_core.proofs.session.ClientSession.sent.Goals as goal
 use Rattle.buffer_pool.proofs.CountingLemmas.{counts-released}
 
@@ -56,3 +57,10 @@ returns-clause-queued c = λ posted passes old new out all.
     rw c.mark.ensures (left-queued (the_view c.self.inside) (entry_view c.entry.inside)
     (marked number c.args.now) passes old new c.self.invariant.1 taken
     (marked-request number c.args.now) (marked-less number c.args.now) stands before)
+
+pub returns-clause-handed : goal.returns-clause-handed
+returns-clause-handed c = rw (← c.self.view_is, c.release_at.ensures, c.mark.ensures)
+    (handed-released c.args.pool.now (is_owner c.self.inside.number c.entry.inside.owner)
+    (marked c.entry.inside.number c.args.now)
+    (λ x. marked-handed c.args.pool.now c.entry.inside.number c.args.now x)
+    c.self.inside.calls c.self.inside.slots.waiting c.entry.inside.place)

@@ -1,3 +1,8 @@
+use Rattle.std.proofs.Common.{refl, ap}
+use Rattle.endpoint_loop.specs.Applying.{PairsServer}
+use Rattle.endpoint_loop.specs.Handing.{timed_of}
+use Rattle.endpoint_loop.proofs.StandingLemmas.{server-group, server-still, goes-nowhere, goes-on}
+use Rattle.endpoint_loop.proofs.StandingLemmas.{paired-or}
 use Rattle.endpoint_loop.proofs.endpoint.Endpoint.pair_server.Goals as goal
 
 pub invariant_of-self : goal.invariant_of-self
@@ -7,3 +12,33 @@ invariant_of-self g c = record {
   served = c.pair_server.ensures.served g.V.Service.mode_of c.self.invariant.served;
   background = rw (c.pair_server.ensures.jobs) c.self.invariant.background;
 }
+
+pub returns-clause-goes_on : goal.returns-clause-goes_on
+returns-clause-goes_on g c =
+    rw (← c.self.view_is) (paired-or _ _ _ _
+    (λ makes. goes-on g.R.Recorder.facts g.R.Recorder.whole
+    (record { mode = g.V.Service.mode_of; answer = g.V.Service.answer }) g.V.Service.stands
+    g.W.Workers.answer (λ w. record {
+      limit = g.W.Workers.limit w;
+      given = g.W.Workers.given w;
+      out = g.W.Workers.out w;
+      waiting = g.W.Workers.waiting w;
+    }) (PairsServer c.args.peer c.args.client c.args.credits) _ _ _ _ makes
+    (server-group g.V.Service.mode_of c.args.peer c.args.client c.args.credits
+    (record { some = c.requires.some; few = c.requires.most }) c.requires.client)
+    (server-still c.args.peer c.args.client c.args.credits)
+    (record { service = refl; workers = refl; jobs = c.pair_server.ensures.jobs }))
+    (λ still same. goes-nowhere g.R.Recorder.facts g.R.Recorder.whole
+    (record { mode = g.V.Service.mode_of; answer = g.V.Service.answer }) g.V.Service.stands
+    g.W.Workers.answer (λ w. record {
+      limit = g.W.Workers.limit w;
+      given = g.W.Workers.given w;
+      out = g.W.Workers.out w;
+      waiting = g.W.Workers.waiting w;
+    }) _ _ _ _ (ap (λ n. record {
+      timed = timed_of n;
+      handed = n.handed;
+      service = c.self.inside.service;
+      workers = c.self.inside.workers;
+    }) same) still)
+    c.pair_server.result c.pair_server.ensures.makes c.pair_server.ensures.wanting c.pair_server.ensures.unchanged)

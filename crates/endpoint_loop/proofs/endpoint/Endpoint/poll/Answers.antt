@@ -1,20 +1,25 @@
-use Rattle.std.proofs.Common.{◌≡◌, false, true, [], sym, ap, ◌∙◌}
-use Rattle.endpoint_loop.specs.Polling.{is_stopped}
+use Rattle.std.proofs.Common.{◌≡◌, ◌+◌, false, true, [], length, sym, ap, ◌∙◌, IfSome}
+use Rattle.endpoint_loop.specs.Polling.{is_stopped, turn_of}
 use Rattle.endpoint_loop.proofs.PollLemmas.{makes-poll, still-serving}
+use Rattle.endpoint_loop.proofs.StandingLemmas.{goes-polled}
 use Rattle.rpc_laws.specs.Pacing.{line}
+use Rattle.endpoint_loop.specs.Handing.{timed_of}
+use Rattle.endpoint_loop.proofs.HandingLemmas.{gives-more, gives-same}
+use Rattle.std.proofs.Common.{refl}
 use Rattle.endpoint_loop.proofs.endpoint.Endpoint.poll.Goals as goal
 use Rattle.endpoint_loop.proofs.endpoint.Endpoint.poll.Goals.{in-Ok, in-Err}
 
-pub handle_all-requires-clause-served : goal.handle_all-requires-clause-served
-handle_all-requires-clause-served g c =
+pub handle_all-handled-requires-clause-served : goal.handle_all-handled-requires-clause-served
+handle_all-handled-requires-clause-served g c =
     c.finish_all.ensures.served g.V.Service.mode_of
     (rw (c.raise_clock.ensures) c.self.invariant.served)
 
 pub invariant_of-self : goal.invariant_of-self
 invariant_of-self g c =
-    let h = c.handle_all.ensures.handles in
-    still-serving _ _ _ c.finish_all.new.self c.handle_all.new.self c.close.new.self h.gave
-    c.handle_all.ensures.founded c.self.invariant.works c.handle_all.ensures.served
+    let h = c.handle_all-handled.ensures.handles in
+    still-serving _ _ _ (timed_of c.finish_all.new.self) (timed_of c.handle_all-handled.new.self)
+    (timed_of c.close.new.self) h.gave
+    c.handle_all-handled.ensures.founded c.self.invariant.works c.handle_all-handled.ensures.served
     (c.close.ensures.servers ∙ c.send_all-sent.ensures.servers ∙ c.serve_sessions.ensures.servers
     ∙ c.watch.ensures.servers)
     (c.finish_all.ensures.background g.V.Service.mode_of (rw (c.raise_clock.ensures)
@@ -36,25 +41,67 @@ returns-clause-polls g c =
       worked = g.W.Workers.worked w;
       looks = g.W.Workers.looks w;
     }) (record { mode = g.V.Service.mode_of; answer = g.V.Service.answer }) g.V.Service.stands
-    g.W.Workers.answer c.self.invariant.works c.args.now c.self.inside.node c.finish_all.new.self
-    c.handle_all.new.self c.watch.new.self c.serve_sessions.new.self c.send_all-sent.new.self
-    c.close.new.self c.self.inside.workers c.finish_all.new.workers c.handle_all.new.workers
-    c.self.inside.service c.handle_all.new.service c.args.rec.now c.finish_all.new.rec
-    c.handle_all.new.rec c.watch.new.rec c.serve_sessions.new.rec c.send_all-sent.new.rec
-    c.close.new.rec c.args.k.now c.handle_all.new.k c.watch.new.k c.args.link.now
+    g.W.Workers.answer c.self.invariant.works c.args.now (timed_of c.self.inside.node)
+    (timed_of c.finish_all.new.self) (timed_of c.handle_all-handled.new.self) (timed_of c.watch.new.self)
+    (timed_of c.serve_sessions.new.self) (timed_of c.send_all-sent.new.self)
+    (timed_of c.close.new.self) c.self.inside.workers c.finish_all.new.workers c.handle_all-handled.new.workers
+    c.self.inside.service c.handle_all-handled.new.service c.args.rec.now c.finish_all.new.rec
+    c.handle_all-handled.new.rec c.watch.new.rec c.serve_sessions.new.rec c.send_all-sent.new.rec
+    c.close.new.rec c.args.k.now c.handle_all-handled.new.k c.watch.new.k c.args.link.now
     c.send_all-sent.new.link c.self.invariant.background
     (rw (c.raise_clock.ensures) at c.finish_all.ensures.makes) c.finish_all.ensures.over
     c.finish_all.ensures.limit c.finish_all.ensures.given c.finish_all.ensures.waiting
-    c.sound.ensures.inbox c.handle_all.ensures.handles c.handle_all.ensures.worked
-    c.handle_all.ensures.looks c.handle_all.ensures.me c.watch.ensures.ended
+    c.sound.ensures.inbox c.handle_all-handled.ensures.handles c.handle_all-handled.ensures.worked
+    c.handle_all-handled.ensures.looks c.handle_all-handled.ensures.me c.watch.ensures.ended
     c.serve_sessions.ensures.makes c.send_all-sent.ensures.sent c.close.ensures.makes
-    (is_stopped c.match-sent.result) all
+    (turn_of c.match-sent.result) all
     (c.close.ensures.jobs ∙ c.send_all-sent.ensures.jobs ∙ c.serve_sessions.ensures.jobs
-    ∙ c.watch.ensures.jobs) c.sound-2.ensures.kept)
+    ∙ c.watch.ensures.jobs) c.sound-2.ensures.kept c.watch.ensures.settled counted
+    c.self.inside.node.handed c.close.new.self.handed)
   where
-    all : is_stopped c.match-sent.result ≡ false → line c.send_all-sent.new.self.clock
+    all : is_stopped (turn_of c.match-sent.result) ≡ false → line c.send_all-sent.new.self.clock
         c.send_all-sent.new.self.lists.queued ≡ []
     all = elim c.match-sent.branch [
-      | in-Ok w ↦ λ e. (w.in-Ok.ensures.all (ap is_stopped (sym w.result-is) ∙ e)).0
-      | in-Err w ↦ λ e. let no : true ≡ false = ap is_stopped (sym w.result-is) ∙ e in cc
+      | in-Ok w ↦ λ e. (w.in-Ok.ensures.all
+          (ap (λ r. is_stopped (turn_of r)) (sym w.result-is) ∙ e)).0
+      | in-Err w ↦ λ e.
+          let no : true ≡ false = ap (λ r. is_stopped (turn_of r)) (sym w.result-is) ∙ e in cc
     ]
+
+    counted : IfSome (turn_of c.match-sent.result) (λ turn.
+        (turn.handled + length c.handle_all-handled.new.self.lists.ring
+        ≡ length c.finish_all.new.self.lists.ring)
+        × (turn.sent + length c.send_all-sent.new.self.lists.queued
+        ≡ length c.serve_sessions.new.self.lists.queued))
+    counted = elim c.match-sent.branch [
+      | in-Ok w ↦ rw (w.result-is) (c.handle_all-handled.ensures.count, w.in-Ok.ensures.count)
+      | in-Err w ↦ rw (w.result-is) tt
+    ]
+
+pub returns-clause-goes_on : goal.returns-clause-goes_on
+returns-clause-goes_on g c =
+    goes-polled g.R.Recorder.facts g.R.Recorder.whole g.K.Continuation.given (λ w. record {
+      staff = record {
+        limit = g.W.Workers.limit w;
+        given = g.W.Workers.given w;
+        out = g.W.Workers.out w;
+        waiting = g.W.Workers.waiting w;
+      };
+      worked = g.W.Workers.worked w;
+      looks = g.W.Workers.looks w;
+    }) (record { mode = g.V.Service.mode_of; answer = g.V.Service.answer }) g.V.Service.stands
+    g.W.Workers.answer _ _ _ _ _ _ _ _ _ _ (returns-clause-polls g c)
+
+pub returns-clause-handed : goal.returns-clause-handed
+returns-clause-handed g c =
+    let raised = ap (λ v. v.handed) c.raise_clock.ensures in
+    let before = gives-same g.K.Continuation.given c.self.inside.node.handed
+    c.finish_all.new.self.handed c.args.k.now c.args.k.now
+    (c.finish_all.ensures.handed ∙ raised) refl in
+    let after = gives-same g.K.Continuation.given c.watch.new.self.handed
+    c.close.new.self.handed c.watch.new.k c.watch.new.k
+    (c.close.ensures.handed ∙ c.send_all-sent.ensures.handed ∙ c.serve_sessions.ensures.handed)
+    refl in
+    rw (← c.self.view_is) (gives-more g.K.Continuation.given _ _ _ _ _ _ before
+    (gives-more g.K.Continuation.given _ _ _ _ _ _ c.handle_all-handled.ensures.handed
+    (gives-more g.K.Continuation.given _ _ _ _ _ _ c.watch.ensures.handed after)))

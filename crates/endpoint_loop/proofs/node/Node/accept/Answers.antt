@@ -1,8 +1,6 @@
-use Rattle.std.proofs.Common.{◌≡◌, ◌≤◌, ℕ, ◌+◌, List, length, refl, sym, ap, subst, ◌∙◌, arith}
+use Rattle.std.proofs.Common.{◌≡◌, ◌≤◌, ℕ, ◌+◌, List, length, sym, ap, subst, ◌∙◌, arith}
 use Rattle.std.specs.List.{Contains}
 use Rattle.std.proofs.lemmas.List.{length-set, length-take}
-use Rattle.rpc_base.specs.declared.state.SessionState.TheVariants.{Connected}
-use Rattle.rpc_laws.specs.Groups.{state_of}
 use Rattle.rpc_laws.specs.declared.tables.Client.{Client}
 use Rattle.rpc_laws.specs.Sessions.{asks}
 use Rattle.session_store.specs.Effects.{asking_in}
@@ -12,6 +10,8 @@ use Rattle.message_buffer.specs.Buffer.{bytes_of}
 use Rattle.rpc_base.specs.declared.limits.TheConstants.{MOST_MESSAGE_BYTES}
 use Rattle.endpoint_loop.proofs.AskLemmas.{newest-is, node-asked}
 use Rattle.endpoint_loop.proofs.CallerLemmas.{covers-asked}
+use Rattle.client_core.specs.Handing.{handed_waiting}
+use Rattle.session_store.specs.Handing.{HandsInAt}
 use Rattle.endpoint_loop.proofs.node.Node.accept.Goals as goal
 
 pub ask-requires-clause-connected : goal.ask-requires-clause-connected
@@ -108,3 +108,9 @@ returns-clause-makes g c =
     c.ask.new.self (asking_in c.args.waiting) c.from-i.result c.self.invariant.0 place
     asked.clients asked.servers asked.queued asked.size asked.places next
     (c.next.inside.0 + 1) number c.newest_ask.result.now c.newest_ask.ensures) few c.note.ensures)
+
+pub returns-clause-handed : goal.returns-clause-handed
+returns-clause-handed g c =
+    rw (← c.self.view_is) (subst (λ n. HandsInAt n (handed_waiting c.args.waiting)
+    c.self.inside.store.handed c.ask.new.self.handed) (c.from-i.ensures ∙ c.session.view_is)
+    c.in_ok-ask.ensures.handed)

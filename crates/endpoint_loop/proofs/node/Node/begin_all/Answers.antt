@@ -3,7 +3,7 @@ use Rattle.endpoint_loop.proofs.NotingLemmas.{makes-more, makes-none, notes-one}
 use Rattle.endpoint_loop.proofs.node.Node.begin_all.Goals as goal
 
 pub calls-init : goal.calls-init
-calls-init g c = (makes-none g.R.Recorder.facts g.R.Recorder.whole _ _ _, refl, refl)
+calls-init g c = (makes-none g.R.Recorder.facts g.R.Recorder.whole _ _ _, refl, refl, refl)
 
 pub calls-preserved : goal.calls-preserved
 calls-preserved g c =
@@ -13,4 +13,5 @@ calls-preserved g c =
           (notes-one g.R.Recorder.facts g.R.Recorder.whole _ _ _ _ _ _ c.calls-test.true h.notes),
       h.jobs ∙ i.1,
       h.servers ∙ i.2,
+      h.handed ∙ i.3,
     )

@@ -36,3 +36,6 @@ returns-clause-ended g c =
     c.lose_session.new.store g.R.Recorder.facts g.R.Recorder.whole g.K.Continuation.given
     c.args.rec.now c.lose_session.new.rec c.args.k.now c.lose_session.new.k c.self.invariant.0
     c.args.i (rw (← c.self.view_is) at c.requires.idle) h.lost h.servers h.queued)
+
+pub returns-clause-handed : goal.returns-clause-handed
+returns-clause-handed g c = rw (← c.self.view_is) c.lose_session.ensures.handed

@@ -12,6 +12,7 @@ jobs-init g c = (
   refl,
   refl,
   omega arith,
+  refl,
 )
 
 pub jobs-preserved : goal.jobs-preserved
@@ -26,6 +27,7 @@ jobs-preserved g c =
       c.finish_next.ensures.given ∙ i.5,
       c.finish_next.ensures.limit ∙ i.6,
       omega (arith, i.7, c.finish_next.ensures.looks),
+      c.finish_next.ensures.handed ∙ i.8,
     )
 
 pub returns-then-not-finish_next-clause-makes : goal.returns-then-not-finish_next-clause-makes

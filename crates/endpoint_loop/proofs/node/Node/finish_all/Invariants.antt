@@ -2,13 +2,14 @@ use Rattle.std.proofs.Common.{◌≡◌, ◌≤◌, ℕ, length}
 use Rattle.endpoint_loop.specs.Finishing.{AllBackground, MakesFinished}
 use Rattle.endpoint_loop.specs.Serving.{AllServed}
 use Rattle.rpc_outside.specs.declared.service.Mode.{Mode}
+use Rattle.endpoint_loop.specs.Handing.{timed_of}
 use Rattle.endpoint_loop.proofs.node.Node.finish_all.Given as goal
 
 abbrev pub invariant-jobs : goal.invariant-jobs
 invariant-jobs g l =
     MakesFinished g.R.Recorder.facts g.R.Recorder.whole g.W.Workers.answer
     (g.W.Workers.out l.initial.workers) (g.W.Workers.out l.workers)
-    (g.W.Workers.worked l.initial.workers) (g.W.Workers.worked l.workers) l.initial.self l.self
+    (g.W.Workers.worked l.initial.workers) (g.W.Workers.worked l.workers) (timed_of l.initial.self) (timed_of l.self)
     l.initial.rec l.rec
     × (l.self.lists.clients ≡ l.initial.self.lists.clients)
     × ((mode : ℕ → Mode) → AllServed mode l.initial.self.lists.servers
@@ -19,6 +20,7 @@ invariant-jobs g l =
     × (g.W.Workers.given l.workers ≡ g.W.Workers.given l.initial.workers)
     × (g.W.Workers.limit l.workers ≡ g.W.Workers.limit l.initial.workers)
     × (g.W.Workers.looks l.initial.workers ≤ g.W.Workers.looks l.workers)
+    × (l.self.handed ≡ l.initial.self.handed)
 
 abbrev pub decreases-jobs : goal.decreases-jobs
 decreases-jobs g l = length (g.W.Workers.out l.workers)

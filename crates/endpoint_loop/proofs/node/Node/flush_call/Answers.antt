@@ -1,7 +1,8 @@
-use Rattle.std.proofs.Common.{◌∙◌}
+use Rattle.std.proofs.Common.{ap, ◌∙◌}
 use Rattle.rpc_base.specs.declared.owner.Owner.TheVariants.{Ask}
 use Rattle.endpoint_loop.proofs.FlushLemmas.{flushed-all, flushed-more}
 use Rattle.endpoint_loop.proofs.NotingLemmas.{as-same}
+use Rattle.endpoint_loop.specs.Handing.{timed_of}
 use Rattle.endpoint_loop.proofs.node.Node.flush_call.Goals as goal
 
 pub packets-preserved : goal.packets-preserved
@@ -14,13 +15,14 @@ packets-preserved g c =
       h.servers ∙ i.2,
       h.me ∙ i.3,
       h.jobs ∙ i.4,
+      h.handed ∙ i.5,
     )
 
 pub returns-clause-makes : goal.returns-clause-makes
 returns-clause-makes g c =
     let h = c.flush_next.ensures in
     let none = h.none c.packets-test.false in
-    let same = h.unchanged c.packets-test.false in
+    let same = ap timed_of (h.unchanged c.packets-test.false) in
     let silent = h.silent c.packets-test.false in
     as-same g.R.Recorder.facts g.R.Recorder.whole _ _ _ _ _ _ _ same silent
     (flushed-all g.R.Recorder.facts g.R.Recorder.whole (Ask c.args.i c.args.request) _ _ _ _ none

@@ -29,7 +29,7 @@ returns-in_default-clause-unchanged g c = λ _.
     let same =
     none-taken c.args.i c.args.request c.self.inside.store.queued c.flush.new.self.queued
     (least-none-by (Ask c.args.i c.args.request) c.self.inside.store.queued h.taken) h.queued in
-    rw (same, h.clients, h.servers) c.self.view_is
+    rw (same, h.clients, h.servers, h.handed) c.self.view_is
 
 pub invariant_of-self-2 : goal.invariant_of-self-2
 invariant_of-self-2 g c =

@@ -9,7 +9,7 @@ use Rattle.endpoint_loop.proofs.node.Node.flush_session.Goals as goal
 
 pub calls-init : goal.calls-init
 calls-init g c =
-    (gather-start g.R.Recorder.facts g.R.Recorder.whole c.args.i _ _, refl, refl, refl, refl)
+    (gather-start g.R.Recorder.facts g.R.Recorder.whole c.args.i _ _, refl, refl, refl, refl, refl)
 
 pub calls-smaller : goal.calls-smaller
 calls-smaller g c =
@@ -37,6 +37,7 @@ calls-preserved g c =
       h.servers ∙ i.2,
       h.me ∙ i.3,
       h.jobs ∙ i.4,
+      h.handed ∙ i.5,
     )
 
 pub returns-clause-makes : goal.returns-clause-makes

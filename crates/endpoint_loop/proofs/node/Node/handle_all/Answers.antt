@@ -1,5 +1,6 @@
-use Rattle.std.proofs.Common.{refl, ◌∙◌}
+use Rattle.std.proofs.Common.{refl, ◌∙◌, arith}
 use Rattle.endpoint_loop.proofs.GivingLemmas.{all-handled-more, all-handled-none, all-handled-over}
+use Rattle.endpoint_loop.proofs.HandingLemmas.{gives-more, gives-none}
 use Rattle.endpoint_loop.proofs.node.Node.handle_all.Goals as goal
 
 pub packets-init : goal.packets-init
@@ -17,6 +18,8 @@ packets-init g c = (
   refl,
   refl,
   refl,
+  omega arith,
+  gives-none g.K.Continuation.given _ _,
 )
 
 pub packets-preserved : goal.packets-preserved
@@ -36,6 +39,8 @@ packets-preserved g c =
       h.me ∙ i.3,
       h.worked ∙ i.4,
       h.looks ∙ i.5,
+      omega (arith, h.fewer, i.6),
+      gives-more g.K.Continuation.given _ _ _ _ _ _ i.7 h.handed,
     )
 
 pub returns-clause-handles : goal.returns-clause-handles

@@ -1,8 +1,10 @@
-use Rattle.std.proofs.Common.{◌≡◌, length}
+use Rattle.std.proofs.Common.{◌≡◌, ◌≤◌, length}
 use Rattle.rpc_laws.specs.PollOrder.{Handles}
 use Rattle.rpc_laws.specs.Steps.{Chain}
 use Rattle.endpoint_loop.specs.Handling.{MakesAllHandled, StandsForSome}
 use Rattle.endpoint_loop.specs.Serving.{AllServed}
+use Rattle.endpoint_loop.specs.Handing.{timed_of}
+use Rattle.endpoint_loop.specs.Handing.{GivesBackTo}
 use Rattle.endpoint_loop.proofs.node.Node.handle_all.Given as goal
 
 abbrev pub invariant-packets : goal.invariant-packets
@@ -15,12 +17,14 @@ invariant-packets g l =
       waiting = g.W.Workers.waiting w;
     }) (record { mode = g.V.Service.mode_of; answer = g.V.Service.answer }) (g.V.Service.stands l.initial.service)
     (g.V.Service.stands l.service) g.W.Workers.answer (Chain (Handles g.V.Service.mode_of))
-    l.initial.self l.self l.initial.rec l.rec l.initial.k l.k l.initial.workers l.workers
+    (timed_of l.initial.self) (timed_of l.self) l.initial.rec l.rec l.initial.k l.k l.initial.workers l.workers
     × AllServed g.V.Service.mode_of l.self.lists.servers
     × StandsForSome (g.V.Service.stands l.service)
     × (l.self.lists.me ≡ l.initial.self.lists.me)
     × (g.W.Workers.worked l.workers ≡ g.W.Workers.worked l.initial.workers)
     × (g.W.Workers.looks l.workers ≡ g.W.Workers.looks l.initial.workers)
+    × (length l.self.lists.ring ≤ length l.initial.self.lists.ring)
+    × GivesBackTo g.K.Continuation.given l.initial.self.handed l.self.handed l.initial.k l.k
 
 abbrev pub decreases-packets : goal.decreases-packets
 decreases-packets g l = length l.self.lists.ring

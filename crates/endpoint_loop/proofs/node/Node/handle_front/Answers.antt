@@ -1,6 +1,7 @@
 use Rattle.std.proofs.Common.{refl, sym, ◌∙◌}
 use Rattle.endpoint_loop.proofs.HandleLemmas.{asks-kind, gave-none, gave-one, node-replies, node-requests}
 use Rattle.endpoint_loop.proofs.HandleLemmas.{replies-kind}
+use Rattle.endpoint_loop.proofs.HandingLemmas.{gives-one, gives-same}
 use Rattle.endpoint_loop.proofs.node.Node.handle_front.Goals as goal
 
 pub unreachable-requires : goal.unreachable-requires
@@ -36,3 +37,17 @@ returns-in-Some-hear_reply-clause-handles g c =
     c.hear_reply.ensures.hears c.hear_reply.ensures.jobs
     (gave-one c.hear_reply.result c.in-Some-hear_reply.done (g.K.Continuation.given c.args.k.now)
     (g.K.Continuation.given c.done.new.self) c.in-Some-hear_reply.is c.done.ensures)
+
+pub returns-in-Request-clause-handed : goal.returns-in-Request-clause-handed
+returns-in-Request-clause-handed g c =
+    gives-same g.K.Continuation.given _ _ _ _ c.serve_request.ensures.handed refl
+
+pub returns-in-None-clause-handed : goal.returns-in-None-clause-handed
+returns-in-None-clause-handed g c =
+    gives-same g.K.Continuation.given _ _ _ _ (rw c.in-None.is at c.hear_reply.ensures.handed) refl
+
+pub returns-in-Some-hear_reply-clause-handed : goal.returns-in-Some-hear_reply-clause-handed
+returns-in-Some-hear_reply-clause-handed g c =
+    let h = rw c.in-Some-hear_reply.is at c.hear_reply.ensures.handed in
+    gives-one g.K.Continuation.given c.in-Some.head.session c.in-Some-hear_reply.done _ _ _ _ h
+    c.done.ensures

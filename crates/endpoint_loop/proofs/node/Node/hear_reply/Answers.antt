@@ -7,6 +7,9 @@ use Rattle.endpoint_loop.proofs.HearLemmas.{node-dropped, node-ended, node-took,
 use Rattle.endpoint_loop.proofs.HearLemmas.{ring-left, some-front}
 use Rattle.endpoint_loop.specs.Seen.{jobs_in}
 use Rattle.endpoint_loop.proofs.CallerLemmas.{covers-replied}
+use Rattle.endpoint_loop.specs.Handing.{timed_of}
+use Rattle.session_store.specs.Handing.{HandsBackAt}
+use Rattle.std.proofs.Common.{subst}
 use Rattle.endpoint_loop.proofs.node.Node.hear_reply.Goals as goal
 
 pub unreachable-requires : goal.unreachable-requires
@@ -28,7 +31,7 @@ returns-then-i-clients-clause-hears g c =
     }) c.self.inside.paces.items (jobs_in c.self.inside.limits.jobs c.self.inside.given c.self.inside.jobs.items)
     c.self.inside.clock c.self.inside.rx c.self.inside.store c.self.invariant.0 c.args.head.now
     c.in-Some.front.now front here g.R.Recorder.facts g.R.Recorder.whole c.args.rec.now
-    c.drop_front.new.rec c.drop_front.new.self
+    c.drop_front.new.rec (timed_of c.drop_front.new.self)
     (omega (arith, c.if-i-clients.true, c.clients.ensures.count, number)) made)
 
 pub invariant_of-self : goal.invariant_of-self
@@ -71,7 +74,7 @@ returns-in-Dropped-clause-hears g c =
     c.on_reply-reply.ensures.servers c.on_reply-reply.ensures.queued
     c.on_reply-reply.ensures.size c.on_reply-reply.ensures.places c.in-Dropped.reason p
     g.R.Recorder.facts g.R.Recorder.whole c.args.rec.now c.drop_front-in-Dropped.new.rec
-    c.drop_front-in-Dropped.new.self c.drop_front-in-Dropped.ensures.drops)
+    (timed_of c.drop_front-in-Dropped.new.self) c.drop_front-in-Dropped.ensures.drops)
 
 pub invariant_of-self-in-Took : goal.invariant_of-self-in-Took
 invariant_of-self-in-Took g c =
@@ -170,3 +173,9 @@ returns-in-Took-clause-ring g c =
 pub returns-in-Ended-clause-ring : goal.returns-in-Ended-clause-ring
 returns-in-Ended-clause-ring g c =
     rw (← c.self.view_is) (ring-left c.self.inside.rx c.drop_front-in-Ended.new.self c.drop_front-in-Ended.ensures)
+
+pub returns-in-Ended-clause-handed : goal.returns-in-Ended-clause-handed
+returns-in-Ended-clause-handed g c =
+    let number = ap (λ (v : MessageHeader). v.session) (sym c.head.view_is) ∙ sym c.from-i.ensures in
+    rw (← c.self.view_is) (subst (λ n. HandsBackAt n c.in-Ended.done c.self.inside.store.handed
+    c.on_reply-reply.new.self.handed) (sym number) c.in-Ended.ensures.handed)

@@ -1,4 +1,4 @@
-use Rattle.std.proofs.Common.{◌≡◌, ◌≤◌, arith}
+use Rattle.std.proofs.Common.{arith}
 use Rattle.endpoint_loop.proofs.CallerLemmas.{none-called}
 use Rattle.endpoint_loop.proofs.node.Node.next_caller.Goals as goal
 

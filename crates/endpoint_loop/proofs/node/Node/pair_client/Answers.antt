@@ -1,31 +1,21 @@
-use Rattle.std.proofs.Common.{◌≡◌, ℕ, ◌++◌, [], ◌∷◌, length, ap, ◌∙◌}
-use Rattle.endpoint_loop.specs.Seen.{jobs_in}
-use Rattle.endpoint_loop.proofs.PairLemmas.{fits-paired-client}
-use Rattle.endpoint_loop.proofs.CallerLemmas.{covers-paired}
+use Rattle.std.proofs.Common.{◌≡◌, length, sym, ap, ◌∙◌}
+use Rattle.session_mgmt.specs.Table.{refused}
+use Rattle.endpoint_loop.specs.Handing.{timed_of}
+use Rattle.endpoint_loop.proofs.EndsLemmas.{client-made, client-refused}
 use Rattle.endpoint_loop.proofs.node.Node.pair_client.Goals as goal
 
-pub invariant_of-self-2 : goal.invariant_of-self-2
-invariant_of-self-2 g c =
-    let same : c.next_client-session.result ≡ length c.self.inside.store.clients =
-    rw (← c.self.view_is) at c.next_client-session.ensures in
-    let made = c.in_default.ensures in
-    let taken = rw (← c.self.view_is) at c.requires.fits in (
-      fits-paired-client c.self.inside.me c.self.inside.limits
-          (record {
-            asked = c.self.inside.asked;
-            server_numbers = c.self.inside.server_numbers;
-            counts = c.self.inside.counts;
-          }) c.self.inside.paces.items
-          (jobs_in c.self.inside.limits.jobs c.self.inside.given c.self.inside.jobs.items)
-          c.self.inside.clock c.self.inside.rx c.self.inside.store
-          c.pair_client.new.self c.self.invariant.0 c.args.credits c.args.peer c.args.server
-          c.requires.some made.queued made.size made.places c.push.new.self.items
-          (c.in_ok-push.ensures.items ∙ ap (λ (n : ℕ). c.self.inside.paces.items ++ record {
-            session = n;
-            rate = 0;
-            next = 0;
-          } ∷ []) same) taken
-          made.clients made.servers,
-      c.self.invariant.1,
-      covers-paired c.self.inside.callers _ _ _ _ _ _ made.clients c.self.invariant.2,
-    )
+pub returns-in-Err-clause-makes : goal.returns-in-Err-clause-makes
+returns-in-Err-clause-makes g c = λ w.
+    let count : c.clients.result ≡ length c.args.self.now.lists.clients =
+    c.clients.ensures.count ∙ ap (λ t. length t.lists.clients) c.self.view_is in
+    client-refused g.R.Recorder.facts g.R.Recorder.whole (timed_of c.args.self.now) (timed_of c.args.self.now) _ _ c.args.peer c.args.server
+    c.args.credits (refused c.in-Err.why)
+    (sym (rw (c.from.ensures, count) at c.in-Err.ensures.refused)) c.in-Err.ensures.never_memory c.refuse.ensures
+
+pub returns-in-Ok-clause-makes : goal.returns-in-Ok-clause-makes
+returns-in-Ok-clause-makes g c =
+    let count : c.clients.result ≡ length c.args.self.now.lists.clients =
+    c.clients.ensures.count ∙ ap (λ t. length t.lists.clients) c.self.view_is in
+    client-made g.R.Recorder.facts g.R.Recorder.whole _ _ _ _ c.args.peer c.args.server
+    c.args.credits (rw (c.from.ensures, count) at c.in_default.ensures.accepted)
+    c.in-Ok.ensures.makes

@@ -1,33 +1,21 @@
-use Rattle.std.proofs.Common.{◌+◌, refl}
-use Rattle.endpoint_loop.specs.Seen.{jobs_in}
-use Rattle.endpoint_loop.proofs.PairLemmas.{fits-paired-server, numbers-below, served-more}
+use Rattle.std.proofs.Common.{◌≡◌, length, sym, ap, ◌∙◌}
+use Rattle.session_mgmt.specs.Table.{refused}
+use Rattle.endpoint_loop.specs.Handing.{timed_of}
+use Rattle.endpoint_loop.proofs.EndsLemmas.{server-made, server-refused}
 use Rattle.endpoint_loop.proofs.node.Node.pair_server.Goals as goal
 
-pub pair_server-requires-clause-above : goal.pair_server-requires-clause-above
-pair_server-requires-clause-above g c =
-    numbers-below c.self.inside.server_numbers c.self.inside.store.servers
-    c.self.invariant.0.kept.valid.alone
+pub returns-in-Err-clause-makes : goal.returns-in-Err-clause-makes
+returns-in-Err-clause-makes g c = λ w.
+    let count : c.self.inside.server_numbers ≡ c.args.self.now.lists.server_numbers =
+    ap (λ t. t.lists.server_numbers) c.self.view_is in
+    server-refused g.R.Recorder.facts g.R.Recorder.whole (timed_of c.args.self.now) (timed_of c.args.self.now) _ _ c.args.peer c.args.client
+    c.args.credits (refused c.in-Err.why)
+    (sym (rw (c.from.ensures, count) at c.in-Err.ensures.refused)) c.in-Err.ensures.never_memory c.refuse.ensures
 
-pub invariant_of-self-2 : goal.invariant_of-self-2
-invariant_of-self-2 g c =
-    let made = c.in_ok-pair_server.ensures in
-    let taken = rw (← c.self.view_is) at c.requires.fits in (
-      fits-paired-server c.self.inside.me c.self.inside.limits
-          (record {
-            asked = c.self.inside.asked;
-            server_numbers = c.self.inside.server_numbers;
-            counts = c.self.inside.counts;
-          }) c.self.inside.paces.items
-          (jobs_in c.self.inside.limits.jobs c.self.inside.given c.self.inside.jobs.items)
-          c.self.inside.clock c.self.inside.rx c.self.inside.store
-          c.pair_server.new.self c.self.invariant.0 c.args.credits c.args.peer c.args.client
-          c.requires.some made.queued made.size made.places (c.self.inside.server_numbers + 1) refl taken
-          made.clients made.servers,
-      c.self.invariant.1,
-      rw made.clients c.self.invariant.2,
-    )
-
-pub returns-clause-served : goal.returns-clause-served
-returns-clause-served g c = λ mode served.
-    served-more mode _ _ _ _ _ _ c.in_ok-pair_server.ensures.servers
-    (rw (← c.self.view_is) at served)
+pub returns-in-Ok-clause-makes : goal.returns-in-Ok-clause-makes
+returns-in-Ok-clause-makes g c =
+    let count : c.self.inside.server_numbers ≡ c.args.self.now.lists.server_numbers =
+    ap (λ t. t.lists.server_numbers) c.self.view_is in
+    server-made g.R.Recorder.facts g.R.Recorder.whole _ _ _ _ c.args.peer c.args.client
+    c.args.credits (rw (c.from.ensures, count) at c.in_default.ensures.accepted)
+    c.in-Ok.ensures.makes

@@ -21,12 +21,12 @@ due_of-due-requires g c = record {
 pub post-requires-clause-room : goal.post-requires-clause-room
 post-requires-clause-room g c =
     let fits = c.self.invariant.0 in
-    has-room _ _ c.args.i fits.kept fits.settled fits.sendable fits.replies fits.packets
+    has-room _ _ c.args.i fits.kept fits.sendable fits.replies fits.packets
 
 pub post-requires-clause-paced : goal.post-requires-clause-paced
 post-requires-clause-paced g c = λ some.
     let fits = c.self.invariant.0 in
-    has-paced-room _ _ c.args.i fits.kept fits.settled fits.sendable fits.packets
+    has-paced-room _ _ c.args.i fits.kept fits.sendable fits.packets
 
 pub packet_size-size-requires : goal.packet_size-size-requires
 packet_size-size-requires g c =

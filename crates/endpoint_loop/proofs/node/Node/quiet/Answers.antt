@@ -1,4 +1,4 @@
-use Rattle.std.proofs.Common.{◌≡◌, ℕ, [], List, length, sym, ap, ◌∙◌, eq-eqb}
+use Rattle.std.proofs.Common.{◌≡◌, List, length, sym, ap, ◌∙◌, eq-eqb}
 use Rattle.std.proofs.lemmas.Bool.{false≢true}
 use Rattle.endpoint_loop.proofs.ReadingLemmas.{no-arrivals}
 use Rattle.endpoint_loop.proofs.node.Node.quiet.Goals as goal

@@ -1,4 +1,4 @@
-use Rattle.std.proofs.Common.{◌∙◌, refl}
+use Rattle.std.proofs.Common.{◌∙◌, refl, arith}
 use Rattle.rpc_laws.specs.PollOrder.{Sends}
 use Rattle.endpoint_loop.proofs.NotingLemmas.{none-comes, sent-more, sent-none, sent-still}
 use Rattle.endpoint_loop.proofs.node.Node.send_all.Goals as goal
@@ -10,6 +10,8 @@ packets-init g c = (
   refl,
   record { waits = refl; stays = refl },
   refl,
+  refl,
+  omega arith,
   refl,
 )
 
@@ -25,6 +27,8 @@ packets-preserved g c =
       none-comes g.L.Link.waiting g.L.Link.received _ _ _ i.3 c.send_front.ensures.lists,
       c.send_front.ensures.jobs ∙ i.4,
       c.send_front.ensures.servers ∙ i.5,
+      omega (arith, c.in_ok-send_front.ensures.fewer c.if-not-branch.false, i.6),
+      c.send_front.ensures.handed ∙ i.7,
     )
 
 pub returns-in_err-send_front-clause-sent : goal.returns-in_err-send_front-clause-sent

@@ -1,18 +1,21 @@
-use Rattle.std.proofs.Common.{◌≡◌, length}
+use Rattle.std.proofs.Common.{◌≡◌, ◌≤◌, length}
 use Rattle.endpoint_loop.specs.Noting.{MakesSent}
 use Rattle.rpc_laws.specs.PollOrder.{SendsSome}
 use Rattle.rpc_outside.specs.Linking.{NoneComes}
+use Rattle.endpoint_loop.specs.Handing.{timed_of}
 use Rattle.endpoint_loop.proofs.node.Node.send_all.Given as goal
 
 abbrev pub invariant-packets : goal.invariant-packets
 invariant-packets g l =
-    MakesSent g.R.Recorder.facts g.R.Recorder.whole g.L.Link.sent SendsSome l.initial.self l.self
+    MakesSent g.R.Recorder.facts g.R.Recorder.whole g.L.Link.sent SendsSome (timed_of l.initial.self) (timed_of l.self)
     l.initial.rec l.rec l.initial.link l.link
     × (g.L.Link.busies l.link ≡ g.L.Link.busies l.initial.link)
     × (g.L.Link.faults l.link ≡ g.L.Link.faults l.initial.link)
     × NoneComes g.L.Link.waiting g.L.Link.received l.initial.link l.link
     × (l.self.lists.jobs ≡ l.initial.self.lists.jobs)
     × (l.self.lists.servers ≡ l.initial.self.lists.servers)
+    × (length l.self.lists.queued ≤ length l.initial.self.lists.queued)
+    × (l.self.handed ≡ l.initial.self.handed)
 
 abbrev pub decreases-packets : goal.decreases-packets
 decreases-packets g l = length l.self.lists.queued

@@ -4,6 +4,7 @@ use Rattle.endpoint_loop.proofs.HearLemmas.{some-front}
 use Rattle.endpoint_loop.proofs.ServeLemmas.{node-stranger, node-unknown}
 use Rattle.endpoint_loop.proofs.ServerLemmas.{alike, differ, number-there, peer-there}
 use Rattle.endpoint_loop.specs.Seen.{jobs_in}
+use Rattle.endpoint_loop.specs.Handing.{timed_of}
 use Rattle.endpoint_loop.proofs.node.Node.serve_request.Goals as goal
 
 pub unreachable-requires : goal.unreachable-requires
@@ -28,7 +29,7 @@ returns-in_default-place_of_server-clause-serves g c =
     c.self.invariant.0 c.args.head.now c.in-Some.front.now front here g.V.Service.mode_of
     g.R.Recorder.facts g.R.Recorder.whole c.args.rec.now c.drop_front.new.rec g.V.Service.answer
     (g.V.Service.stands c.args.service.now) (g.V.Service.stands c.args.service.now)
-    c.drop_front.new.self (sym c.place_of_server.ensures ∙ c.in_default-place_of_server.is) same
+    (timed_of c.drop_front.new.self) (sym c.place_of_server.ensures ∙ c.in_default-place_of_server.is) same
     (λ was st. st) made)
 
 pub returns-then-ne-clause-serves : goal.returns-then-ne-clause-serves
@@ -49,7 +50,7 @@ returns-then-ne-clause-serves g c =
     c.self.invariant.0 c.args.head.now c.in-Some.front.now front here g.V.Service.mode_of
     g.R.Recorder.facts g.R.Recorder.whole c.args.rec.now c.drop_front-then-ne.new.rec
     g.V.Service.answer (g.V.Service.stands c.args.service.now) (g.V.Service.stands
-    c.args.service.now) c.drop_front-then-ne.new.self c.in-Some-place_of_server.i
+    c.args.service.now) (timed_of c.drop_front-then-ne.new.self) c.in-Some-place_of_server.i
     c.peer_of_server.result place c.peer_of_server.ensures there.0 (differ
     c.peer_of_server.result c.peer.result c.in-Some.front.now.peer c.ne.result c.ne.ensures
     c.if-ne.true c.peer.ensures) same (λ was st. st) made)

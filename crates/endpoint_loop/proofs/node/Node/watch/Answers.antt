@@ -4,6 +4,7 @@ use Rattle.rpc_laws.specs.Steps.{Visits}
 use Rattle.endpoint_loop.proofs.CallerLemmas.{times-up}
 use Rattle.endpoint_loop.proofs.NotesLemmas.{ends-none, ends-visit}
 use Rattle.endpoint_loop.proofs.WatchLemmas.{all-timed}
+use Rattle.endpoint_loop.proofs.HandingLemmas.{gives-more, gives-none}
 use Rattle.endpoint_loop.proofs.node.Node.watch.Goals as goal
 
 pub sessions-init : goal.sessions-init
@@ -15,6 +16,7 @@ sessions-init g c = (
   refl,
   refl,
   omega arith,
+  gives-none g.K.Continuation.given _ _,
 )
 
 pub sessions-preserved : goal.sessions-preserved
@@ -32,6 +34,7 @@ sessions-preserved g c =
       h.me ∙ i.2,
       h.jobs ∙ i.3,
       omega (arith, next.1),
+      gives-more g.K.Continuation.given _ _ _ _ _ _ i.5 h.handed,
     )
 
 pub returns-clause-ended : goal.returns-clause-ended

@@ -1,11 +1,14 @@
 use Rattle.std.proofs.Common.{ap, subst}
 use Rattle.node_laws.specs.Valid.{NumberedFrom, client_no}
 use Rattle.endpoint_loop.proofs.WatchLemmas.{watch-breaks, watch-rolls, watch-waits}
+use Rattle.endpoint_loop.specs.Handing.{timed_of}
+use Rattle.endpoint_loop.proofs.HandingLemmas.{gives-none, gives-same}
+use Rattle.std.proofs.Common.{refl}
 use Rattle.endpoint_loop.proofs.node.Node.watch_call.Goals as goal
 
 pub returns-in-Waits-clause-ended : goal.returns-in-Waits-clause-ended
 returns-in-Waits-clause-ended g c =
-    watch-waits c.args.timeout c.args.i c.args.active.now c.args.self.now c.self.inside.clock
+    watch-waits c.args.timeout c.args.i c.args.active.now (timed_of c.args.self.now) c.self.inside.clock
     c.self.inside.store (ap (λ t. t.lists.clients) c.self.view_is)
     (ap (λ t. t.lists.queued) c.self.view_is) (ap (λ t. t.clock) c.self.view_is)
     c.requires.active
@@ -15,7 +18,7 @@ returns-in-Waits-clause-ended g c =
 
 pub returns-in-RollsBack-clause-ended : goal.returns-in-RollsBack-clause-ended
 returns-in-RollsBack-clause-ended g c =
-    watch-rolls c.args.timeout c.args.i c.args.active.now c.args.self.now c.self.inside.clock
+    watch-rolls c.args.timeout c.args.i c.args.active.now (timed_of c.args.self.now) c.self.inside.clock
     c.self.inside.store (ap (λ t. t.lists.clients) c.self.view_is)
     (ap (λ t. t.lists.queued) c.self.view_is) (ap (λ t. t.clock) c.self.view_is)
     c.requires.active
@@ -26,7 +29,7 @@ returns-in-RollsBack-clause-ended g c =
 
 pub returns-in-Breaks-clause-ended : goal.returns-in-Breaks-clause-ended
 returns-in-Breaks-clause-ended g c =
-    watch-breaks c.args.timeout c.args.i c.args.active.now c.args.self.now c.self.inside.clock
+    watch-breaks c.args.timeout c.args.i c.args.active.now (timed_of c.args.self.now) c.self.inside.clock
     c.self.inside.store (ap (λ t. t.lists.clients) c.self.view_is)
     (ap (λ t. t.lists.queued) c.self.view_is) (ap (λ t. t.clock) c.self.view_is)
     c.requires.active
@@ -34,3 +37,10 @@ returns-in-Breaks-clause-ended g c =
     c.self.invariant.0.kept.valid.numbered) g.R.Recorder.facts g.R.Recorder.whole
     g.K.Continuation.given _ _ _ _ _ (rw c.in-Breaks.is at c.timer.ensures)
     c.break_session.ensures.ended
+
+pub returns-in-Waits-clause-handed : goal.returns-in-Waits-clause-handed
+returns-in-Waits-clause-handed g c = gives-none g.K.Continuation.given _ _
+
+pub returns-in-RollsBack-clause-handed : goal.returns-in-RollsBack-clause-handed
+returns-in-RollsBack-clause-handed g c =
+    gives-same g.K.Continuation.given _ _ _ _ c.roll.ensures.handed refl

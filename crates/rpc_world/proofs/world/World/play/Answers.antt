@@ -1,12 +1,16 @@
-use Rattle.std.proofs.Common.{◌≡◌, ◌<◌, ◌≤◌, ◌∙◌, List, [], subst, length, refl, rules, arith}
+use Rattle.std.proofs.Common.{◌≡◌, ◌<◌, ◌≤◌, ◌∙◌, List, [], ap, subst, length, refl, rules, arith}
 use Rattle.std.proofs.lemmas.List.{take_all, take_more}
 use Rattle.script_grammar.specs.declared.line.Line.{Line}
 use Rattle.sim_script.specs.FollowsScript.{FollowsFrom, empty_stage}
 use Rattle.sim_script.proofs.FollowsLemmas.{follows-more}
-use Rattle.rpc_world.specs.Answered.{stage_of}
+use Rattle.end_laws.proofs.ScriptLemmas.{script-two}
+use Rattle.world_laws.proofs.FewLemmas.{script-few}
+use Rattle.world_laws.proofs.ScriptLaws.{script-runs}
+use Rattle.rpc_world.specs.Answered.{Play, stage_of}
 use Rattle.rpc_world.proofs.LineLemmas.{ready, stands-after, stands-first}
 use Rattle.rpc_world.proofs.PlainLemmas.{plainly-append, plainly-none}
 use Rattle.rpc_world.proofs.FollowLemmas.{follows-by}
+use Rattle.rpc_world.proofs.StandLemmas.{all-stand}
 use Rattle.rpc_world.proofs.world.World.play.Goals as goal
 
 pub loop-line-init : goal.loop-line-init
@@ -65,3 +69,21 @@ execute-requires-clause-clock c =
 
 pub execute-requires-clause-numbered : goal.execute-requires-clause-numbered
 execute-requires-clause-numbered c = c.loop-line.invariant.2.numbered
+
+pub invariant_of-result : goal.invariant_of-result
+invariant_of-result c =
+    let same : c.of.result ≡ c.loop-line.rec.facts.items = search rules in
+    let long : length c.lines-line-items.result.now ≤ c.loop-line.line-index = omega arith in
+    let whole = take_all c.loop-line.line-index c.lines-line-items.result.now long in
+    let all : FollowsFrom c.args.script.now empty_stage c.loop-line.rec.facts.items
+    (stage_of c.loop-line.stage) =
+    subst (λ (ls : List Line). FollowsFrom ls empty_stage c.loop-line.rec.facts.items
+    (stage_of c.loop-line.stage)) (whole ∙ c.lines-line-items.ensures.lines)
+    c.loop-line.invariant.0 in
+    let is = c.lines-line-items.ensures.script in
+    let plain = c.loop-line.invariant.1 in
+    let ran = script-runs c.args.script.now c.loop-line.rec.facts.items (stage_of c.loop-line.stage)
+    (script-two _ is) (script-few _ is)
+    (record { commands = all; answers = λ n. (plain.serves n [] refl).0; whole = plain.whole }) in
+    rw (same, ap (λ (z : Play). z.ends) c.stage-2.view_is) (all-stand _ c.loop-line.stage
+    plain c.loop-line.invariant.2.numbered.playing ran)

@@ -3,6 +3,8 @@ use Rattle.std.proofs.Math.ListN.{drop_of_length-le}
 use Rattle.server_core.proofs.GivenLemmas.{front-beside, next-front, unheld-rest}
 use Rattle.server_core.proofs.PlaceLemmas.{gone-keeps}
 use Rattle.server_core.proofs.CountLemmas.{counts-all}
+use Rattle.server_core.proofs.OtherLemmas.{all-others}
+use Rattle.server_core.proofs.SpareLemmas.{all-spare}
 use Rattle.server_core.proofs.session.ServerSession.finish.Goals as goal
 
 pub empty_buffers-requires-clause-apart : goal.empty_buffers-requires-clause-apart
@@ -37,3 +39,12 @@ pub returns-clause-counts : goal.returns-clause-counts
 returns-clause-counts c = λ entries counts.
     rw (returns-clause-pool c) (counts-all c.args.pool.now c.args.self.slots entries
     c.requires.keeps_pool c.requires.unheld counts)
+
+pub returns-clause-spare : goal.returns-clause-spare
+returns-clause-spare c =
+    rw (returns-clause-pool c) (all-spare c.args.pool.now c.args.self.slots c.requires.keeps_pool
+    c.requires.unheld)
+
+pub returns-clause-others : goal.returns-clause-others
+returns-clause-others c =
+    rw (returns-clause-pool c) (all-others c.args.pool.now c.args.self.slots)

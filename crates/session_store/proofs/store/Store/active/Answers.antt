@@ -18,7 +18,7 @@ returns c =
     (undue c.args.self.now) (flat c.self.inside.pool c.self.inside.sides.items
     c.self.inside.servers.items c.self.inside.tx c.self.inside.pacer c.args.self.now
     c.self.view_is) c.args.i x c.requires.known c.index.ensures in
-    let told = next-end x.is_broken s.pool x.peer x.session c.args.after
+    let told = next-end x.stage s.pool x.peer x.session c.args.after
     (all-at (SideAscends s.pool) s.sides.items c.args.i x c.self.invariant.0.ascends at) in
     read-at s.pool s.sides.items s.servers.items (joined s.tx s.pacer) (undue c.args.self.now)
     (flat c.self.inside.pool c.self.inside.sides.items c.self.inside.servers.items c.self.inside.tx

@@ -1,7 +1,9 @@
+use Rattle.std.proofs.Common.{sym, ◌∙◌}
 use Rattle.session_store.specs.Joined.{joined, undue}
 use Rattle.session_store.proofs.StoreLemmas.{clients-begin, connected-at, kept-begin, servers-begin}
 use Rattle.session_store.proofs.StoreLemmas.{size-begin, two-spare}
 use Rattle.session_store.proofs.UndueLemmas.{flat}
+use Rattle.session_store.proofs.StoreLemmas.{handed-begin}
 use Rattle.session_store.proofs.store.Store.begin.Goals as goal
 
 pub begin_at-requires-clause-spare : goal.begin_at-requires-clause-spare
@@ -15,7 +17,7 @@ pub invariant_of-self : goal.invariant_of-self
 invariant_of-self c =
     let h = c.begin_at.ensures in
     let connected = connected-at c.self.inside.sides.items c.args.i c.index.result.now h.side
-    c.index.ensures h.at c.if-index.false in (
+    c.index.ensures h.at (sym c.is_connected.ensures ∙ c.if-not-is_connected.false) in (
       kept-begin c.self.inside.pool c.begin_at.new.pool c.self.inside.sides.items
           c.begin_at.new.sides.items c.self.inside.servers.items (joined c.self.inside.tx c.self.inside.pacer) c.args.i
           c.self.invariant.0 c.begin_at.result h connected,
@@ -26,7 +28,7 @@ pub returns-clause-clients : goal.returns-clause-clients
 returns-clause-clients c =
     let h = c.begin_at.ensures in
     let connected = connected-at c.self.inside.sides.items c.args.i c.index.result.now h.side
-    c.index.ensures h.at c.if-index.false in
+    c.index.ensures h.at (sym c.is_connected.ensures ∙ c.if-not-is_connected.false) in
     rw (← c.self.view_is) (clients-begin c.self.inside.pool c.begin_at.new.pool
     c.self.inside.sides.items c.begin_at.new.sides.items c.self.inside.servers.items
     (joined c.self.inside.tx c.self.inside.pacer) c.args.i c.self.invariant.0 c.begin_at.result h connected)
@@ -35,7 +37,7 @@ pub returns-clause-servers : goal.returns-clause-servers
 returns-clause-servers c =
     let h = c.begin_at.ensures in
     let connected = connected-at c.self.inside.sides.items c.args.i c.index.result.now h.side
-    c.index.ensures h.at c.if-index.false in
+    c.index.ensures h.at (sym c.is_connected.ensures ∙ c.if-not-is_connected.false) in
     rw (← c.self.view_is) (servers-begin c.self.inside.pool c.begin_at.new.pool
     c.self.inside.sides.items c.begin_at.new.sides.items c.self.inside.servers.items
     (joined c.self.inside.tx c.self.inside.pacer) c.args.i c.self.invariant.0 c.begin_at.result h connected)
@@ -44,7 +46,16 @@ pub returns-clause-places : goal.returns-clause-places
 returns-clause-places c =
     let h = c.begin_at.ensures in
     let connected = connected-at c.self.inside.sides.items c.args.i c.index.result.now h.side
-    c.index.ensures h.at c.if-index.false in
+    c.index.ensures h.at (sym c.is_connected.ensures ∙ c.if-not-is_connected.false) in
     rw (← c.self.view_is) (size-begin c.self.inside.pool c.begin_at.new.pool
+    c.self.inside.sides.items c.begin_at.new.sides.items c.self.inside.servers.items
+    (joined c.self.inside.tx c.self.inside.pacer) c.args.i c.self.invariant.0 c.begin_at.result h connected)
+
+pub returns-clause-handed : goal.returns-clause-handed
+returns-clause-handed c =
+    let h = c.begin_at.ensures in
+    let connected = connected-at c.self.inside.sides.items c.args.i c.index.result.now h.side
+    c.index.ensures h.at (sym c.is_connected.ensures ∙ c.if-not-is_connected.false) in
+    rw (← c.self.view_is) (handed-begin c.self.inside.pool c.begin_at.new.pool
     c.self.inside.sides.items c.begin_at.new.sides.items c.self.inside.servers.items
     (joined c.self.inside.tx c.self.inside.pacer) c.args.i c.self.invariant.0 c.begin_at.result h connected)

@@ -13,6 +13,7 @@ use Rattle.session_store.proofs.FlushLemmas.{taken-seen, least-own, number-at}
 use Rattle.session_store.proofs.GoneLemmas.{flushed-clients, flushed-kept, flushed-places}
 use Rattle.session_store.proofs.GoneLemmas.{gone-held}
 use Rattle.session_store.proofs.UndueLemmas.{flat}
+use Rattle.session_store.proofs.GoneLemmas.{flushed-handed}
 use Rattle.session_store.proofs.store.Store.flush.Goals as goal
 
 pub returns-in_default-clause-taken : goal.returns-in_default-clause-taken
@@ -138,3 +139,20 @@ pub invariant_of-self : goal.invariant_of-self
 invariant_of-self c =
     let u = rw c.in_default.is at c.flush_in-flushed.ensures.unchanged in
     rw (u.0, u.1) c.self.invariant
+
+pub returns-clause-handed : goal.returns-clause-handed
+returns-clause-handed c =
+    let s = c.self.inside in
+    let number = c.session.ensures ∙ number-at s.pool s.sides.items s.servers.items (joined s.tx s.pacer)
+    c.self.invariant.0 (undue c.args.self.now) (flat c.self.inside.pool c.self.inside.sides.items
+    c.self.inside.servers.items c.self.inside.tx c.self.inside.pacer c.args.self.now c.self.view_is)
+    c.args.i c.index.result.now
+    c.requires.known c.index.ensures in
+    let h = rw c.in-Some.is at c.flush_in-flushed.ensures in
+    let own = least-own c.session.result c.args.request c.in-Some.entry h.own
+    ∙ ap (λ n. Ask n c.args.request) number in
+    rw (← c.self.view_is) (flushed-handed s.pool c.flushed_at.new.pool s.sides.items
+    c.flushed_at.new.sides.items s.servers.items (joined s.tx s.pacer) c.args.i c.args.request c.in-Some.entry
+    (is_entry (Ask c.session.result c.args.request) c.in-Some.entry.number)
+    (joined c.flush_in-flushed.new.tx c.flush_in-flushed.new.pacer).items c.self.invariant.0
+    h.nearest own c.flushed_at.ensures)

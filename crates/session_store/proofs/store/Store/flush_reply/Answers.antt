@@ -9,6 +9,7 @@ use Rattle.session_store.specs.Joined.{joined}
 use Rattle.session_store.proofs.FlushLemmas.{taken-seen, least-reply}
 use Rattle.session_store.proofs.ReplyGoneLemmas.{reply-clients, reply-held, reply-kept}
 use Rattle.session_store.proofs.ReplyGoneLemmas.{reply-places, reply-servers, reply-there}
+use Rattle.session_store.proofs.ReplyGoneLemmas.{reply-handed}
 use Rattle.session_store.proofs.store.Store.flush_reply.Goals as goal
 
 pub returns-in_default-clause-taken : goal.returns-in_default-clause-taken
@@ -104,3 +105,14 @@ pub invariant_of-self : goal.invariant_of-self
 invariant_of-self c =
     let u = rw c.in_default.is at c.flush_in-flushed.ensures.unchanged in
     rw (u.0, u.1) c.self.invariant
+
+pub returns-clause-handed : goal.returns-clause-handed
+returns-clause-handed c =
+    let s = c.self.inside in
+    let h = rw c.in-Some.is at c.flush_in-flushed.ensures in
+    let own = least-reply c.args.session c.args.request c.in-Some.entry h.own in
+    rw (← c.self.view_is) (reply-handed s.pool c.reply_flushed_at.new.pool s.sides.items
+    s.servers.items c.reply_flushed_at.new.servers.items (joined s.tx s.pacer) c.args.session c.args.request
+    c.in-Some.entry (is_entry (Reply c.args.session c.args.request) c.in-Some.entry.number)
+    (joined c.flush_in-flushed.new.tx c.flush_in-flushed.new.pacer).items c.self.invariant.0
+    h.nearest own c.reply_flushed_at.ensures)

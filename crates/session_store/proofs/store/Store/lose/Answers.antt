@@ -2,6 +2,7 @@ use Rattle.session_store.specs.Joined.{joined, undue}
 use Rattle.session_store.proofs.LoseLemmas.{lose-clients, lose-kept, lose-places, lose-servers}
 use Rattle.session_store.proofs.LoseLemmas.{lost-as, lost-broken, unheld-at}
 use Rattle.session_store.proofs.UndueLemmas.{flat, idle-undue}
+use Rattle.session_store.proofs.LoseLemmas.{lose-handed}
 use Rattle.session_store.proofs.store.Store.lose.Goals as goal
 
 pub lose_at-requires-clause-unheld : goal.lose_at-requires-clause-unheld
@@ -76,3 +77,17 @@ pub returns-clause-ended_as : goal.returns-clause-ended_as
 returns-clause-ended_as c =
     let h = c.lose_at.ensures in
     lost-as h.side.session h.later c.self.inside.pool c.lose_at.new.pool c.lose_at.result h.step
+
+pub returns-clause-handed : goal.returns-clause-handed
+returns-clause-handed c =
+    let s = c.self.inside in
+    let h = c.lose_at.ensures in
+    let broken = lost-broken s.pool s.sides.items s.servers.items (joined s.tx s.pacer) c.self.invariant.0
+    (undue c.args.self.now) (flat c.self.inside.pool c.self.inside.sides.items
+    c.self.inside.servers.items c.self.inside.tx c.self.inside.pacer c.args.self.now
+    c.self.view_is) c.args.i c.requires.lost h.side h.at in
+    rw (← c.self.view_is) (lose-handed s.pool c.lose_at.new.pool s.sides.items
+    c.lose_at.new.sides.items s.servers.items (joined s.tx s.pacer) c.self.invariant.0
+    (undue c.args.self.now) (flat c.self.inside.pool c.self.inside.sides.items
+    c.self.inside.servers.items c.self.inside.tx c.self.inside.pacer c.args.self.now c.self.view_is)
+    c.args.i (idle-undue c.args.i c.args.self.now.queued c.requires.idle) c.lose_at.result h broken)

@@ -1,6 +1,6 @@
 use Rattle.session_store.specs.Joined.{joined, undue}
 use Rattle.session_store.proofs.FlushLemmas.{there-at}
-use Rattle.session_store.proofs.LoseLemmas.{breaks-clients, breaks-kept}
+use Rattle.session_store.proofs.LoseLemmas.{breaks-clients, breaks-handed, breaks-kept}
 use Rattle.session_store.proofs.UndueLemmas.{flat, idle-undue}
 use Rattle.session_store.proofs.store.Store.lose_peer.Goals as goal
 
@@ -16,7 +16,7 @@ invariant_of-self c =
           (undue c.args.self.now) (flat c.self.inside.pool c.self.inside.sides.items
           c.self.inside.servers.items c.self.inside.tx c.self.inside.pacer c.args.self.now
           c.self.view_is) c.args.i c.index_mut-side.result.now at
-          (idle-undue c.args.i c.args.self.now.queued c.requires.idle),
+          (idle-undue c.args.i c.args.self.now.queued c.requires.idle) c.requires.connected,
       c.self.invariant.1,
     )
 
@@ -32,4 +32,18 @@ returns-clause-clients c =
     (undue c.args.self.now) (flat c.self.inside.pool c.self.inside.sides.items
     c.self.inside.servers.items c.self.inside.tx c.self.inside.pacer c.args.self.now c.self.view_is)
     c.args.i c.index_mut-side.result.now at (idle-undue c.args.i c.args.self.now.queued
-    c.requires.idle)
+    c.requires.idle) c.requires.connected
+
+pub returns-clause-handed : goal.returns-clause-handed
+returns-clause-handed c =
+    let s = c.self.inside in
+    let at = there-at s.pool s.sides.items s.servers.items (joined s.tx s.pacer) c.self.invariant.0
+    (undue c.args.self.now) (flat c.self.inside.pool c.self.inside.sides.items
+    c.self.inside.servers.items c.self.inside.tx c.self.inside.pacer c.args.self.now
+    c.self.view_is) c.args.i c.index_mut-side.result.now c.requires.known
+    c.index_mut-side.ensures.value in
+    rw (← c.self.view_is) (breaks-handed s.pool s.sides.items s.servers.items (joined s.tx s.pacer) c.self.invariant.0
+    (undue c.args.self.now) (flat c.self.inside.pool c.self.inside.sides.items
+    c.self.inside.servers.items c.self.inside.tx c.self.inside.pacer c.args.self.now c.self.view_is)
+    c.args.i c.index_mut-side.result.now at (idle-undue c.args.i c.args.self.now.queued
+    c.requires.idle) c.requires.connected)

@@ -26,7 +26,7 @@ returns-in-Some c =
     → c.bytes.result.now ≡ what.ask)
     (λ calls what e. c.bytes.ensures.message
     ∙ newest-bytes s.pool x.session.active x.session.slots.waiting (option_copied c.newest.result)
-    c.newest.ensures calls what (sym (calls-end x.is_broken s.pool x.peer x.session) ∙ e)
+    c.newest.ensures calls what (sym (calls-end x.stage s.pool x.peer x.session) ∙ e)
     c.in-Some.waiting.now (ap option_copied c.in-Some.is))
 
 pub returns-in-None : goal.returns-in-None
@@ -44,5 +44,5 @@ returns-in-None c =
     → [] ≡ what.ask)
     (λ calls what e. newest-none s.pool x.session.active x.session.slots.waiting
     (option_copied c.newest.result) c.newest.ensures calls what
-    (sym (calls-end x.is_broken s.pool x.peer x.session) ∙ e) []
+    (sym (calls-end x.stage s.pool x.peer x.session) ∙ e) []
     (ap option_copied c.in-None.is))

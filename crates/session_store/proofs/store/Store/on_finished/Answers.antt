@@ -7,6 +7,8 @@ use Rattle.session_store.proofs.StoreLemmas.{ring-room, two-spare}
 use Rattle.session_store.proofs.JoinLemmas.{put-behind, queue-behind}
 use Rattle.session_store.proofs.PutLemmas.{kept-put}
 use Rattle.session_store.proofs.UndueLemmas.{joined-length, less-undue, flat}
+use Rattle.session_store.proofs.FinishLemmas.{left-handed}
+use Rattle.session_store.proofs.FinishLemmas.{finish-handed}
 use Rattle.session_store.proofs.store.Store.on_finished.Goals as goal
 
 pub finished_at-reply-requires-clause-spare : goal.finished_at-reply-requires-clause-spare
@@ -110,3 +112,23 @@ pub returns-clause-queued : goal.returns-clause-queued
 returns-clause-queued c =
     let s = c.self.inside in
     rw (← c.self.view_is, c.push.ensures) (queue-behind s.tx.items s.pacer.items c.in-Some.entry)
+
+pub returns-in_default-clause-handed : goal.returns-in_default-clause-handed
+returns-in_default-clause-handed c =
+    let s = c.self.inside in
+    let h = rw c.in_default.is at c.finished_at-reply.ensures in
+    rw (← c.self.view_is) (left-handed s.pool c.finished_at-reply.new.pool s.sides.items
+    s.servers.items c.finished_at-reply.new.servers.items (joined s.tx s.pacer) c.args.i c.args.parcel.request _
+    h)
+
+pub returns-clause-handed : goal.returns-clause-handed
+returns-clause-handed c =
+    let s = c.self.inside in
+    let h = rw c.in-Some.is at c.finished_at-reply.ensures in
+    let room = ring-room s.pool s.sides.items s.servers.items (joined s.tx s.pacer)
+    (undue c.args.self.now) (flat c.self.inside.pool c.self.inside.sides.items
+    c.self.inside.servers.items c.self.inside.tx c.self.inside.pacer c.args.self.now
+    c.self.view_is) (less-undue c.args.self.now c.requires.ring) in
+    rw (← c.self.view_is) (finish-handed s.pool c.finished_at-reply.new.pool s.sides.items
+    s.servers.items c.finished_at-reply.new.servers.items (joined s.tx s.pacer) c.args.i c.args.parcel.request _
+    c.in-Some.entry c.self.invariant.0 h room)

@@ -21,6 +21,7 @@ use Rattle.session_store.proofs.ServeLemmas.{queue-by, seen-own, serve-at, serve
 use Rattle.session_store.proofs.ServeLemmas.{serve-kept, serve-places, served-at}
 use Rattle.session_store.proofs.StoreLemmas.{ring-room, two-spare}
 use Rattle.session_store.proofs.UndueLemmas.{flat, joined-length, less-undue}
+use Rattle.session_store.proofs.ServeLemmas.{serve-handed}
 use Rattle.session_store.proofs.store.Store.on_packet.Goals as goal
 
 pub asked_at-step-requires-clause-holds : goal.asked_at-step-requires-clause-holds
@@ -375,3 +376,53 @@ pub returns-clause-all_served : goal.returns-clause-all_served
 returns-clause-all_served g c =
     at-served c.asked_at-step.new.pool c.asked_at-step.new.servers.items c.args.i
     g.V.Service.mode_of c.asked_at-step.ensures.all_served
+
+pub returns-in_default-clause-handed : goal.returns-in_default-clause-handed
+returns-in_default-clause-handed g c =
+    let s = c.self.inside in
+    let handles = c.asked_at-step.ensures.handles in
+    let calls = c.self.invariant.1.calls in
+    let room = ring-room s.pool s.sides.items s.servers.items (joined s.tx s.pacer)
+    (undue c.args.self.now) (flat s.pool s.sides.items s.servers.items s.tx s.pacer
+    c.args.self.now c.self.view_is) (less-undue c.args.self.now c.requires.ring) in
+    let step = beside-step g.R.Recorder.facts g.R.Recorder.whole
+    (g.V.Service.mode_of c.args.head.now.req_type) c.args.jobs_full c.args.me c.args.i
+    c.args.head.now c.args.body.now g.V.Service.answer
+    (g.V.Service.stands c.args.service.now)
+    (g.V.Service.stands c.asked_at-step.new.service) c.args.rec.now c.asked_at-step.new.rec
+    c.asked_at-step.result s.tx c.asked_at-step.new.tx s.pool c.asked_at-step.new.pool
+    (map entry_of s.pacer.items) (paced-calls s.pacer.items calls) s.servers.items
+    c.asked_at-step.new.servers.items handles in
+    rw (← c.self.view_is) (serve-handed g.R.Recorder.facts g.R.Recorder.whole
+    (g.V.Service.mode_of c.args.head.now.req_type) c.args.jobs_full c.args.me c.args.i
+    c.args.head.now c.args.body.now g.V.Service.answer
+    (g.V.Service.stands c.args.service.now)
+    (g.V.Service.stands c.asked_at-step.new.service) c.args.rec.now c.asked_at-step.new.rec
+    c.asked_at-step.result (joined s.tx s.pacer) (joined c.asked_at-step.new.tx s.pacer) s.pool
+    c.asked_at-step.new.pool s.sides.items s.servers.items c.asked_at-step.new.servers.items
+    c.self.invariant.0 room step)
+
+pub returns-clause-handed : goal.returns-clause-handed
+returns-clause-handed g c =
+    let s = c.self.inside in
+    let handles = c.asked_at-step.ensures.handles in
+    let calls = c.self.invariant.1.calls in
+    let room = ring-room s.pool s.sides.items s.servers.items (joined s.tx s.pacer)
+    (undue c.args.self.now) (flat s.pool s.sides.items s.servers.items s.tx s.pacer
+    c.args.self.now c.self.view_is) (less-undue c.args.self.now c.requires.ring) in
+    let step = beside-step g.R.Recorder.facts g.R.Recorder.whole
+    (g.V.Service.mode_of c.args.head.now.req_type) c.args.jobs_full c.args.me c.args.i
+    c.args.head.now c.args.body.now g.V.Service.answer
+    (g.V.Service.stands c.args.service.now)
+    (g.V.Service.stands c.asked_at-step.new.service) c.args.rec.now c.asked_at-step.new.rec
+    c.asked_at-step.result s.tx c.asked_at-step.new.tx s.pool c.asked_at-step.new.pool
+    (map entry_of s.pacer.items) (paced-calls s.pacer.items calls) s.servers.items
+    c.asked_at-step.new.servers.items handles in
+    rw (← c.self.view_is) (serve-handed g.R.Recorder.facts g.R.Recorder.whole
+    (g.V.Service.mode_of c.args.head.now.req_type) c.args.jobs_full c.args.me c.args.i
+    c.args.head.now c.args.body.now g.V.Service.answer
+    (g.V.Service.stands c.args.service.now)
+    (g.V.Service.stands c.asked_at-step.new.service) c.args.rec.now c.asked_at-step.new.rec
+    c.asked_at-step.result (joined s.tx s.pacer) (joined c.asked_at-step.new.tx s.pacer) s.pool
+    c.asked_at-step.new.pool s.sides.items s.servers.items c.asked_at-step.new.servers.items
+    c.self.invariant.0 room step)

@@ -6,24 +6,26 @@ use Rattle.session_store.specs.declared.side.Side.{Side}
 use Rattle.session_store.specs.Joined.{joined, undue}
 use Rattle.session_store.proofs.FlushLemmas.{there-at}
 use Rattle.session_store.proofs.ListLemmas.{got-same}
-use Rattle.session_store.proofs.ReplyLemmas.{broken-clients, heard-clients, heard-kept}
+use Rattle.session_store.proofs.ReplyLemmas.{unconnected-clients, heard-clients, heard-kept}
 use Rattle.session_store.proofs.ReplyLemmas.{heard-places, heard-servers, other-clients}
 use Rattle.session_store.proofs.ReplyLemmas.{peer-differs, peer-same, seen-unheld, seen-waits}
 use Rattle.session_store.proofs.ReplyLemmas.{seen-windows}
+use Rattle.session_store.proofs.StageLemmas.{connected-stage}
 use Rattle.session_store.proofs.StoreLemmas.{connected-at}
 use Rattle.session_store.proofs.UndueLemmas.{flat, queued-undue, windows-undue}
+use Rattle.session_store.proofs.ReplyLemmas.{heard-handed}
 use Rattle.session_store.proofs.store.Store.on_reply.Goals as goal
 
-pub returns-then-index-clause-clients : goal.returns-then-index-clause-clients
-returns-then-index-clause-clients c =
+pub returns-then-not-is_connected-clause-clients : goal.returns-then-not-is_connected-clause-clients
+returns-then-not-is_connected-clause-clients c =
     let s = c.self.inside in
     let there = there-at s.pool s.sides.items s.servers.items (joined s.tx s.pacer)
     c.self.invariant.0 (undue c.args.self.now)
     (flat c.self.inside.pool c.self.inside.sides.items c.self.inside.servers.items
     c.self.inside.tx c.self.inside.pacer c.args.self.now c.self.view_is) c.args.i
     c.index.result.now c.requires.known c.index.ensures in
-    rw (← c.self.view_is) (broken-clients s.pool s.sides.items c.args.i c.args.now c.args.peer
-    c.args.head.now c.args.body.now _ c.index.result.now there c.if-index.true)
+    rw (← c.self.view_is) (unconnected-clients s.pool s.sides.items c.args.i c.args.now c.args.peer
+    c.args.head.now c.args.body.now _ c.index.result.now there (sym c.is_connected.ensures ∙ c.if-not-is_connected.true))
 
 pub returns-then-ne-clause-clients : goal.returns-then-ne-clause-clients
 returns-then-ne-clause-clients c =
@@ -35,8 +37,10 @@ returns-then-ne-clause-clients c =
     c.index.result.now c.requires.known c.index.ensures in
     let differs = peer-differs c.args.peer c.index-2.result.now.peer (sym c.if-ne.true ∙ c.ne.ensures) in
     let same = c.index-2.ensures ∙ got-same s.sides.items c.args.i c.index.result.now c.index-2.result.now there in
+    let connected = connected-stage c.index.result.now.stage
+    (sym c.is_connected.ensures ∙ c.if-not-is_connected.false) in
     rw (← c.self.view_is) (other-clients s.pool s.sides.items c.args.i c.args.now c.args.peer
-    c.args.head.now c.args.body.now _ c.index.result.now there c.if-index.false
+    c.args.head.now c.args.body.now _ c.index.result.now there connected
     (λ t. differs (t ∙ ap (λ (x : Side). x.peer) (sym same))))
 
 pub heard_at-requires-clause-unheld : goal.heard_at-requires-clause-unheld
@@ -59,7 +63,7 @@ invariant_of-self c =
     let s = c.self.inside in
     let h = c.heard_at.ensures in
     let connected = connected-at s.sides.items c.args.i c.index.result.now h.side c.index.ensures
-    h.at c.if-index.false in
+    h.at (sym c.is_connected.ensures ∙ c.if-not-is_connected.false) in
     let windows = seen-windows s.pool s.sides.items s.servers.items (joined s.tx s.pacer)
     (undue c.args.self.now) (flat c.self.inside.pool c.self.inside.sides.items
     c.self.inside.servers.items c.self.inside.tx c.self.inside.pacer c.args.self.now
@@ -83,7 +87,7 @@ returns-clause-servers c =
     let s = c.self.inside in
     let h = c.heard_at.ensures in
     let connected = connected-at s.sides.items c.args.i c.index.result.now h.side c.index.ensures
-    h.at c.if-index.false in
+    h.at (sym c.is_connected.ensures ∙ c.if-not-is_connected.false) in
     let windows = seen-windows s.pool s.sides.items s.servers.items (joined s.tx s.pacer)
     (undue c.args.self.now) (flat c.self.inside.pool c.self.inside.sides.items
     c.self.inside.servers.items c.self.inside.tx c.self.inside.pacer c.args.self.now
@@ -106,7 +110,7 @@ returns-clause-places c =
     let s = c.self.inside in
     let h = c.heard_at.ensures in
     let connected = connected-at s.sides.items c.args.i c.index.result.now h.side c.index.ensures
-    h.at c.if-index.false in
+    h.at (sym c.is_connected.ensures ∙ c.if-not-is_connected.false) in
     let windows = seen-windows s.pool s.sides.items s.servers.items (joined s.tx s.pacer)
     (undue c.args.self.now) (flat c.self.inside.pool c.self.inside.sides.items
     c.self.inside.servers.items c.self.inside.tx c.self.inside.pacer c.args.self.now
@@ -129,7 +133,7 @@ returns-clause-clients c =
     let s = c.self.inside in
     let h = c.heard_at.ensures in
     let connected = connected-at s.sides.items c.args.i c.index.result.now h.side c.index.ensures
-    h.at c.if-index.false in
+    h.at (sym c.is_connected.ensures ∙ c.if-not-is_connected.false) in
     let windows = seen-windows s.pool s.sides.items s.servers.items (joined s.tx s.pacer)
     (undue c.args.self.now) (flat c.self.inside.pool c.self.inside.sides.items
     c.self.inside.servers.items c.self.inside.tx c.self.inside.pacer c.args.self.now
@@ -156,3 +160,26 @@ returns-clause-clients c =
     c.args.body.now c.is_waiting-is_waiting.result c.heard_at.result c.self.invariant.0 h
     connected c.requires.session windows waits c.args.peer peer) in
     rw (ap (λ v. v.clients) (sym c.self.view_is)) told
+
+pub returns-clause-handed : goal.returns-clause-handed
+returns-clause-handed c =
+    let s = c.self.inside in
+    let h = c.heard_at.ensures in
+    let connected = connected-at s.sides.items c.args.i c.index.result.now h.side c.index.ensures
+    h.at (sym c.is_connected.ensures ∙ c.if-not-is_connected.false) in
+    let windows = seen-windows s.pool s.sides.items s.servers.items (joined s.tx s.pacer)
+    (undue c.args.self.now) (flat c.self.inside.pool c.self.inside.sides.items
+    c.self.inside.servers.items c.self.inside.tx c.self.inside.pacer c.args.self.now
+    c.self.view_is) c.args.i (windows-undue c.args.self.now.clients c.args.self.now.queued
+    c.requires.windows) in
+    let waits = c.is_waiting-is_waiting.ensures ∙ sym
+    (queued-undue (Ask c.args.i c.args.head.now.request) c.args.head.now.number
+    c.args.self.now.queued) ∙ seen-waits s.pool s.sides.items s.servers.items
+    (joined s.tx s.pacer) (undue c.args.self.now)
+    (flat c.self.inside.pool c.self.inside.sides.items c.self.inside.servers.items
+    c.self.inside.tx c.self.inside.pacer c.args.self.now c.self.view_is)
+    c.args.i c.args.head.now.request c.args.head.now.number in
+    rw (← c.self.view_is) (heard-handed s.pool c.heard_at.new.pool s.sides.items
+    c.heard_at.new.sides.items s.servers.items (joined s.tx s.pacer) c.args.i c.args.now c.args.head.now
+    c.args.body.now c.is_waiting-is_waiting.result c.heard_at.result c.self.invariant.0 h
+    connected c.requires.session windows waits)

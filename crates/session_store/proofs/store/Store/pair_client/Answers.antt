@@ -1,4 +1,4 @@
-use Rattle.std.proofs.Common.{◌≡◌, length, refl, ap, ◌∙◌, arith}
+use Rattle.std.proofs.Common.{◌≡◌, length, ap, ◌∙◌, arith}
 use Rattle.std.specs.Vec.{vec_len}
 use Rattle.client_core.specs.Session.{new_session}
 use Rattle.session_store.specs.Joined.{joined}
@@ -12,6 +12,6 @@ invariant_of-self-2 c =
           c.self.inside.servers.items (joined c.self.inside.tx c.self.inside.pacer) _ c.args.server
           c.args.credits c.self.invariant.0
           (c.new-session.ensures.session ∙ ap (λ n. new_session n c.args.server c.args.credits)
-          (c.len.ensures ∙ long)) refl),
+          (c.len.ensures ∙ long))),
       c.self.invariant.1,
     )

@@ -2,6 +2,7 @@ use Rattle.session_store.specs.Joined.{joined, undue}
 use Rattle.session_store.proofs.RollLemmas.{kept-roll, places-roll, roll-active-at, roll-few-at}
 use Rattle.session_store.proofs.RollLemmas.{roll-idle-at, rolled-clients}
 use Rattle.session_store.proofs.UndueLemmas.{flat, may-undue}
+use Rattle.session_store.proofs.RollLemmas.{handed-roll}
 use Rattle.session_store.proofs.store.Store.roll.Goals as goal
 
 pub roll_at-requires-clause-active : goal.roll_at-requires-clause-active
@@ -52,6 +53,15 @@ returns-clause-clients c =
 pub returns-clause-places : goal.returns-clause-places
 returns-clause-places c =
     rw (← c.self.view_is) (places-roll c.self.inside.pool c.self.inside.sides.items
+    c.self.inside.servers.items (joined c.self.inside.tx c.self.inside.pacer) c.args.i c.args.call
+    (undue c.args.self.now) (flat c.self.inside.pool c.self.inside.sides.items
+    c.self.inside.servers.items c.self.inside.tx c.self.inside.pacer c.args.self.now c.self.view_is)
+    (may-undue c.args.i c.args.call c.args.self.now c.requires.may) c.roll_at.new.sides.items
+    c.self.invariant.0 c.roll_at.ensures)
+
+pub returns-clause-handed : goal.returns-clause-handed
+returns-clause-handed c =
+    rw (← c.self.view_is) (handed-roll c.self.inside.pool c.self.inside.sides.items
     c.self.inside.servers.items (joined c.self.inside.tx c.self.inside.pacer) c.args.i c.args.call
     (undue c.args.self.now) (flat c.self.inside.pool c.self.inside.sides.items
     c.self.inside.servers.items c.self.inside.tx c.self.inside.pacer c.args.self.now c.self.view_is)

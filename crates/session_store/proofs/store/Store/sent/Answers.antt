@@ -11,6 +11,8 @@ use Rattle.session_store.proofs.ReplyGoneLemmas.{end-reply, reply-clients, reply
 use Rattle.session_store.proofs.ReplyGoneLemmas.{reply-servers}
 use Rattle.session_store.proofs.StandLemmas.{front-taken}
 use Rattle.session_store.proofs.UndueLemmas.{flat, sends-undue}
+use Rattle.session_store.proofs.GoneLemmas.{sent-handed}
+use Rattle.session_store.proofs.ReplyGoneLemmas.{reply-handed}
 use Rattle.session_store.proofs.store.Store.sent.Goals as goal
 
 pub invariant_of-self : goal.invariant_of-self
@@ -117,6 +119,29 @@ returns-in-Reply-clause-places c =
     let own : c.in-Some.entry.owner ≡ Reply c.in-Reply.session c.in-Reply.request =
     sym (ap (λ (e : EntryValue). e.owner) c.entry.view_is) ∙ c.in-Reply.is in
     rw (← c.self.view_is) (reply-places s.pool c.reply_sent_at.new.pool s.sides.items
+    s.servers.items c.reply_sent_at.new.servers.items (joined s.tx s.pacer) c.in-Reply.session c.in-Reply.request
+    c.in-Some.entry (λ d. false) (drop 1 (joined s.tx s.pacer).items) c.self.invariant.0
+    (front-taken (joined s.tx s.pacer).items c.in-Some.entry front) own c.reply_sent_at.ensures)
+
+pub returns-in-Ask-clause-handed : goal.returns-in-Ask-clause-handed
+returns-in-Ask-clause-handed c =
+    let s = c.self.inside in
+    let front = sym c.pop_in.ensures.front ∙ c.in-Some.is in
+    let own : c.in-Some.entry.owner ≡ Ask c.from.result c.in-Ask.request =
+    sym (ap (λ (e : EntryValue). e.owner) c.entry.view_is) ∙ c.in-Ask.is
+    ∙ ap (λ n. Ask n c.in-Ask.request) (sym (c.from.ensures ∙ c.session.view_is)) in
+    rw (← c.self.view_is) (sent-handed s.pool c.sent_at.new.pool s.sides.items
+    c.sent_at.new.sides.items s.servers.items (joined s.tx s.pacer) c.from.result c.in-Ask.request
+    c.in-Some.entry (λ d. false) (drop 1 (joined s.tx s.pacer).items) c.self.invariant.0
+    (front-taken (joined s.tx s.pacer).items c.in-Some.entry front) own c.args.now c.sent_at.ensures)
+
+pub returns-in-Reply-clause-handed : goal.returns-in-Reply-clause-handed
+returns-in-Reply-clause-handed c =
+    let s = c.self.inside in
+    let front = sym c.pop_in.ensures.front ∙ c.in-Some.is in
+    let own : c.in-Some.entry.owner ≡ Reply c.in-Reply.session c.in-Reply.request =
+    sym (ap (λ (e : EntryValue). e.owner) c.entry.view_is) ∙ c.in-Reply.is in
+    rw (← c.self.view_is) (reply-handed s.pool c.reply_sent_at.new.pool s.sides.items
     s.servers.items c.reply_sent_at.new.servers.items (joined s.tx s.pacer) c.in-Reply.session c.in-Reply.request
     c.in-Some.entry (λ d. false) (drop 1 (joined s.tx s.pacer).items) c.self.invariant.0
     (front-taken (joined s.tx s.pacer).items c.in-Some.entry front) own c.reply_sent_at.ensures)

@@ -1,0 +1,437 @@
+-- An endpoint goes on by each of its calls.
+use Rattle.std.proofs.Common.{◌≡◌, ◌≢◌, ℕ, ◌≤◌, ◌<◌, ◌⊎◌, inl, inr, Bool, true, false, cond, ltb}
+use Rattle.std.proofs.Common.{Option, Some, None, List, [], ◌∷◌, ◌++◌, length, refl, sym, ap, ◌∙◌}
+use Rattle.std.proofs.Common.{subst, arith, append-nil}
+use Rattle.std.specs.Prelude.{Result, Ok, Err, OnErr, flat_map}
+use Rattle.std.specs.List.{AllByRecursion, find}
+use Rattle.client_core.specs.declared.outcome.Done.{Done}
+use Rattle.node_laws.specs.NodeRun.{Group, IsCredits, MayPair, NodeRun, asks, delivers}
+use Rattle.node_laws.specs.NodeRun.{pairs_client, pairs_server, polls, refuses, sets_rate}
+use Rattle.node_laws.proofs.RunLaws.{group-lawful, run_valid}
+use Rattle.packet_header.specs.declared.packet.ControlHeader.{ControlHeader}
+use Rattle.rpc_base.specs.declared.event.Event.{Event}
+use Rattle.rpc_base.specs.declared.event.Event.TheVariants.{Arrived, Bad, Overflowed, PairedClient}
+use Rattle.rpc_base.specs.declared.event.Event.TheVariants.{PairedServer, NconnectNumbers, NconnectRing}
+use Rattle.rpc_base.specs.declared.event.Event.TheVariants.{Nrate, Ran, Rated, Worked}
+use Rattle.rpc_base.specs.declared.fact.Fact.{Fact}
+use Rattle.rpc_base.specs.declared.limits.Limits.{Limits}
+use Rattle.rpc_base.specs.declared.limits.TheConstants.{SESSION_NUMBERS}
+use Rattle.rpc_base.specs.declared.state.SessionState.{SessionState}
+use Rattle.rpc_base.specs.declared.state.SessionState.TheVariants.{Connected}
+use Rattle.rpc_laws.specs.declared.rows.ControlRow.{ControlRow}
+use Rattle.rpc_laws.specs.declared.rows.ControlRow.TheVariants.{Accepts, Closes, Connects, Declines}
+use Rattle.rpc_laws.specs.declared.rows.ControlRow.TheVariants.{Ends, Fails, Starves}
+use Rattle.rpc_laws.specs.declared.tables.Lists.{Lists}
+use Rattle.rpc_laws.specs.declared.tables.Queued.{Queued}
+use Rattle.rpc_laws.specs.declared.tables.Server.{Server}
+use Rattle.rpc_laws.specs.declared.tables.Timed.{Timed}
+use Rattle.rpc_laws.specs.AtMostOnce.{works_request}
+use Rattle.rpc_laws.specs.ControlSteps.{control_fact, Hears, HearsAll, Speaks, SpeaksIf, TimesAll}
+use Rattle.rpc_laws.specs.ControlTable.{control_facts, control_reply, control_row, session_end}
+use Rattle.rpc_laws.specs.ControlTable.{named_end, session_flushes}
+use Rattle.rpc_laws.specs.Deliveries.{Delivers, arrival, delivery, inbox_room}
+use Rattle.rpc_laws.specs.Facts.{plain}
+use Rattle.rpc_laws.specs.Front.{is_control, is_message}
+use Rattle.rpc_laws.specs.Groups.{Asks, SetsRate, ask_by_state, client_refusal, clients_spent}
+use Rattle.rpc_laws.specs.Groups.{has_no_room, rate_by, refusal_by, server_refusal, servers_spent}
+use Rattle.rpc_laws.specs.Groups.{shares, state_of}
+use Rattle.rpc_laws.specs.NodeLists.{after_all, new_node}
+use Rattle.rpc_laws.specs.PollOrder.{Closes as EndsPoll, FinishesOne, FinishesSome, HandlesAll}
+use Rattle.rpc_laws.specs.PollOrder.{Poll, PollBy, PostsAll, raised, SendsSome}
+use Rattle.rpc_laws.specs.Requests.{in_slot_of}
+use Rattle.rpc_laws.specs.ServerTable.{flushes}
+use Rattle.rpc_laws.specs.Sessions.{is_client, is_live}
+use Rattle.rpc_laws.specs.Service.{Answers, Serving, served_after_all}
+use Rattle.rpc_laws.specs.Steps.{Chain, Goes, Rel, Then, more, none}
+use Rattle.rpc_laws.proofs.AnswerLemmas.{answers-append, served-append}
+use Rattle.rpc_laws.proofs.PollLemmas.{Within, chain-cons, within-first, within-second}
+use Rattle.rpc_laws.proofs.RunLemmas.{me-after_all}
+use Rattle.rpc_outside.specs.Linking.{Carried}
+use Rattle.rpc_outside.specs.Recording.{Grew}
+use Rattle.rpc_outside.specs.Served.{Served}
+use Rattle.rpc_outside.specs.declared.service.Mode.{Mode}
+use Rattle.server_core.proofs.FlushLemmas.{grew-none}
+use Rattle.session_mgmt.specs.declared.answers.ConnectError.{ConnectError}
+use Rattle.session_mgmt.specs.declared.answers.ConnectError.TheVariants.{NoMemory, NumbersSpent}
+use Rattle.session_mgmt.specs.declared.answers.ConnectError.TheVariants.{RingFull}
+use Rattle.worker_board.specs.declared.Parcel.{Parcel}
+use Rattle.endpoint_loop.specs.Applying.{IfNoMemory, Leaves, PairsClient, PairsServer}
+use Rattle.endpoint_loop.specs.Applying.{UnlessNoMemory, or_refused}
+use Rattle.endpoint_loop.specs.Asking.{IfWanting, UnlessWanting}
+use Rattle.endpoint_loop.specs.declared.asking.AskError.{AskError}
+use Rattle.endpoint_loop.specs.declared.asking.AskError.TheVariants.{NoMemory as AskWanting, NotConnected}
+use Rattle.endpoint_loop.specs.declared.asking.AskError.TheVariants.{TooLarge}
+use Rattle.endpoint_loop.specs.declared.asking.Refused.{Refused}
+use Rattle.endpoint_loop.specs.Finishing.{FinishesBy, FinishesThese, Staff}
+use Rattle.endpoint_loop.specs.Noting.{Makes}
+use Rattle.endpoint_loop.specs.Polling.{FinishesBack, MakesPoll, SendsOver, SendsUntil, is_stopped}
+use Rattle.endpoint_loop.specs.Running.{asks_of, Crew, IsStaffed, Running, told}
+use Rattle.endpoint_loop.specs.Seen.{asking}
+use Rattle.endpoint_loop.specs.Standing.{GoesOn, StandsFor}
+use Rattle.endpoint_loop.specs.declared.polling.Turn.{Turn}
+use Rattle.endpoint_loop.proofs.GivingLemmas.{staffed-still}
+use Rattle.endpoint_loop.proofs.PollLemmas.{is_ran, still-answers, these-still}
+use Rattle.endpoint_loop.proofs.StillLemmas.{AllStill, Stills, closes-still, posts-still, sends-still}
+use Rattle.endpoint_loop.proofs.StillLemmas.{still-append, still-chain, times-still}
+use Rattle.endpoint_loop.proofs.TurnLemmas.{flushes-none, handled-elsewhere, handled-unworked, is_work}
+use Rattle.endpoint_loop.proofs.TurnLemmas.{many, many-append, many-none}
+
+-- a handler ran, or a job was worked
+abbrev pub is_labour : Event → Bool
+is_labour (Ran session request req_type) = true
+is_labour (Worked session request) = true
+is_labour _ = false
+
+labour-ran : (e : Event) → is_labour e ≡ false → is_ran e ≡ false
+labour-ran (Ran session request req_type) h = cc
+labour-ran _ h = refl
+
+labour-work : (e : Event) → is_labour e ≡ false → is_work e ≡ false
+labour-work (Worked session request) h = cc
+labour-work _ h = refl
+
+none-ran : (x : List Fact) → AllStill is_labour x → AllStill is_ran x
+none-ran [] all = tt
+none-ran (f ∷ x) all = (labour-ran f.event all.0, none-ran x all.1)
+
+none-worked : (x : List Fact) → AllStill is_labour x → AllStill is_work x
+none-worked [] all = tt
+none-worked (f ∷ x) all = (labour-work f.event all.0, none-worked x all.1)
+
+-- where no job was worked, none of a request was
+unworked-event : (t r : ℕ) (e : Event) → is_work e ≡ false → works_request t r e ≡ false
+unworked-event t r (Worked session request) h = cc
+unworked-event t r _ h = refl
+
+unworked : (t r : ℕ) (x : List Fact) → AllStill is_work x → AllStill (works_request t r) x
+unworked t r [] all = tt
+unworked t r (f ∷ x) all = (unworked-event t r f.event all.0, unworked t r x all.1)
+
+module _ {V W : Type 0} (v : Serving) (stands : V → Served → Type 0)
+    (answer : ℕ → List ℕ → List ℕ) (staff : W → Staff) (limits : Limits) (g : List Fact)
+    (a b : Running V W) (noted : List Fact) (s : StandsFor v stands answer staff limits g a) where
+  abbrev before : Timed
+  before = told (staff a.workers).out a.timed
+
+  abbrev later : Timed
+  later = told (staff b.workers).out b.timed
+
+  -- a group that works no job, and answers as the service does
+  pub stands-more : Group v.mode before noted later → AllStill is_work noted
+      → Answers v (served_after_all v.mode [] g) noted
+      → stands b.service (served_after_all v.mode (served_after_all v.mode [] g) noted)
+      → IsStaffed answer (staff b.workers) b.timed
+      → StandsFor v stands answer staff limits (g ++ noted) b
+  stands-more group still answers serves staffed = record {
+    run = subst (λ m. NodeRun v m limits (g ++ noted) later) (sym me) (record {
+      steps = more s.run.steps noted later group;
+      worked_once = λ t r. omega (
+        arith,
+        many-append (works_request t r) g noted,
+        many-none (works_request t r) noted (unworked t r noted still),
+        s.run.worked_once t r,
+      );
+      answers = answers-append v [] g noted s.run.answers answers;
+    });
+    serves = subst (stands b.service) (sym (served-append v.mode [] g noted)) serves;
+    staffed = staffed;
+  }
+    where
+      me : b.timed.lists.me ≡ a.timed.lists.me
+      me =
+          let l = group-lawful v.mode before noted later (run_valid s.run) group in
+          ap (λ (z : Lists). z.me) l.leads.lists ∙ me-after_all l.clock before.lists noted
+
+module _ {R V W : Type 0} (facts : R → Option (List Fact)) (whole : R → Bool) (v : Serving)
+    (stands : V → Served → Type 0) (answer : ℕ → List ℕ → List ℕ) (staff : W → Staff) where
+  -- nothing happens
+  pub goes-nowhere : (a b : Running V W) (f g : R) → b ≡ a → g ≡ f
+      → GoesOn facts whole v stands answer staff a b f g
+  goes-nowhere a b f g same still = rw (same, still) (record {
+    noted = [];
+    grew = grew-none facts whole f;
+    goes_on = λ limits h s. subst (λ z. StandsFor v stands answer staff limits z a)
+        (sym (append-nil h)) s;
+  })
+
+  -- a call of the application or a delivery: no handler runs, and the service and the workers stay
+  pub goes-on : (P : Rel) (a b : Running V W) (f g : R) → Makes facts whole P a.timed b.timed f g
+      → ((s : Timed) (x : List Fact) (t : Timed) → P s x t → Group v.mode s x t)
+      → Stills is_labour P → Leaves a b → GoesOn facts whole v stands answer staff a b f g
+  goes-on P a b f g makes group still leaves = record {
+    noted = makes.noted;
+    grew = makes.grew;
+    goes_on = λ limits h s.
+        let out = (staff a.workers).out in
+        let same : (staff b.workers).out ≡ out = ap (λ w. (staff w).out) leaves.workers in
+        let step : P (told out a.timed) makes.noted (told out b.timed) =
+        makes.step (asks_of out) in
+        let all = still (told out a.timed) makes.noted (told out b.timed) step in
+        let none = still-answers v (served_after_all v.mode [] h) makes.noted
+        (none-ran makes.noted all) in
+        stands-more v stands answer staff limits h a b makes.noted s
+        (subst (λ o. Group v.mode (told out a.timed) makes.noted (told o b.timed)) (sym same)
+        (group (told out a.timed) makes.noted (told out b.timed) step))
+        (none-worked makes.noted all) none.0 (rw (leaves.service, none.1) s.serves)
+        (rw leaves.workers (staffed-still answer (asks_of out) (staff a.workers) a.timed b.timed
+        leaves.jobs s.staffed));
+  }
+
+-- nothing of session control is that a job was worked
+slots-unworked : (me : ℕ) (queued : List Queued) (v : Server) (slots : List ℕ)
+    → AllStill is_work (flat_map (λ slot. flushes me queued v.way.number
+    (find (in_slot_of slot) v.slots)) slots)
+slots-unworked me queued v [] = tt
+slots-unworked me queued v (slot ∷ slots) =
+    still-append is_work _ _ (flushes-none is_work (λ o k. refl) me queued v.way.number
+    (find (in_slot_of slot) v.slots)) (slots-unworked me queued v slots)
+
+end-unworked : (me : ℕ) (queued : List Queued) (o : Option Server)
+    → AllStill is_work (session_end me queued o)
+end-unworked me queued None = tt
+end-unworked me queued (Some v) =
+    still-append is_work (session_flushes me queued v) _ (slots-unworked me queued v
+    (0 ∷ 1 ∷ 2 ∷ 3 ∷ 4 ∷ 5 ∷ 6 ∷ 7 ∷ [])) (refl, tt)
+
+control-unworked : (s : Lists) (peer : ℕ) (h : ControlHeader) (row : ControlRow)
+    → AllStill is_work (control_facts s peer h row)
+control-unworked s peer h Declines = (refl, tt)
+control-unworked s peer h Starves = (refl, tt)
+control-unworked s peer h (Accepts t) = (refl, tt)
+control-unworked s peer h Ends =
+    end-unworked s.me s.queued (named_end peer h.client h.server s.servers)
+control-unworked s peer h (Connects t) = (refl, tt)
+control-unworked s peer h Fails = (refl, tt)
+control-unworked s peer h Closes = (refl, tt)
+control-unworked s peer h _ = tt
+
+said-unworked : (me peer : ℕ) (o : Option ControlHeader) (x : List Fact) → SpeaksIf me peer o x
+    → AllStill is_work x
+said-unworked me peer None x h = rw h tt
+said-unworked me peer (Some k) x h = rw h.facts (by h.taken)
+  where
+    by : (taken : Bool) → AllStill is_work (control_fact taken me peer h.head ∷ [])
+    by true = (refl, tt)
+    by false = (refl, tt)
+
+hears-unworked : Stills is_work Hears
+hears-unworked s x t h =
+    let row = control_row h.lacks h.front.peer h.header s.lists in
+    rw h.facts (
+      refl,
+      still-append is_work (control_facts s.lists h.front.peer h.header row) h.said
+          (control-unworked s.lists h.front.peer h.header row)
+          (said-unworked s.lists.me h.front.peer (control_reply h.header row) h.said h.speaks),
+    )
+
+-- a poll works no job
+then-unworked : (P Q : Rel) → Stills is_work P → Stills is_work Q → Stills is_work (Then P Q)
+then-unworked P Q p q s x t h =
+    rw h.joined (still-append is_work h.front h.back (p s h.front h.between h.first)
+    (q h.between h.back t h.second))
+
+poll-unworked : (F S : Rel) (mode : ℕ → Mode) (now : ℕ) → Stills is_work F → Stills is_work S
+    → Stills is_work (PollBy F S mode now)
+poll-unworked F S mode now f sending s x t h =
+    then-unworked F _ f
+    (then-unworked HearsAll _
+    (λ s x t k. still-chain is_work Hears hears-unworked s x t k.steps)
+    (then-unworked (HandlesAll mode) _
+    (λ s x t k. handled-unworked x (handled-elsewhere mode s x t k.steps))
+    (then-unworked TimesAll _
+    (times-still is_work (λ o k. refl) (λ c a b. refl) (λ i. refl) (λ c. refl) (λ p o k. refl)
+    (λ p. refl) (λ i. refl) (λ i. refl))
+    (then-unworked PostsAll _ (posts-still is_work (λ c r. refl) (λ o k. refl))
+    (then-unworked S EndsPoll sending (closes-still is_work (λ n. refl)))))))
+    (raised now s) x t h
+
+-- a poll of which more is known is a poll
+poll-as : (F S : Rel) (mode : ℕ → Mode) (now : ℕ) → Within F FinishesSome → Within S SendsSome
+    → Within (PollBy F S mode now) (Poll mode now)
+poll-as F S mode now f sending s x t h =
+    within-first F FinishesSome _ f (raised now s) x t
+    (within-second F _ _
+    (within-second HearsAll _ _
+    (within-second (HandlesAll mode) _ _
+    (within-second TimesAll _ _
+    (within-second PostsAll _ _ (within-first S SendsSome EndsPoll sending))))) (raised now s) x t h)
+
+these-some : (answer : ℕ → List ℕ → List ℕ) (ps : List Parcel)
+    → Within (FinishesThese answer ps) FinishesSome
+these-some answer [] s x t h =
+    subst (λ (u : Timed). Chain FinishesOne s x u) (sym h.1)
+    (subst (λ (y : List Fact). Chain FinishesOne s y s) (sym h.0) none)
+these-some answer (p ∷ ps) s x t h =
+    let one = h.first in
+    subst (λ (y : List Fact). Chain FinishesOne s y t) (sym h.joined)
+    (chain-cons FinishesOne s h.front h.between (record {
+      session = p.session;
+      request = p.request;
+      finishes = record {
+        room = one.room;
+        job = one.job;
+        is_out = one.is_out;
+        answer = answer one.job.req_type one.job.ask;
+        facts = one.facts;
+        goes = one.goes;
+      };
+    }) (these-some answer ps h.between h.back t h.second))
+
+sends-some : (stopped : Bool) → Within (SendsUntil stopped) SendsSome
+sends-some true s x t h = h
+sends-some false s x t h = h.steps
+
+module _ {R K V W : Type 0} (facts : R → Option (List Fact)) (whole : R → Bool)
+    (given : K → Option (List Done)) (crew : W → Crew) (v : Serving)
+    (stands : V → Served → Type 0) (answer : ℕ → List ℕ → List ℕ) (turn : Option Turn) (now : ℕ)
+    (sent then_sent : Option (List Carried)) where
+  pub goes-polled : (a b : Running V W) (f g : R) (j k : K)
+      → MakesPoll facts whole given crew v stands answer turn now sent then_sent a b f g j k
+      → GoesOn facts whole v stands answer (λ w. (crew w).staff) a b f g
+  goes-polled a b f g j k h = record {
+    noted = h.noted;
+    grew = h.grew;
+    goes_on = λ limits past s.
+        let does = h.does s.staffed in
+        let told_of = does.1.answers (served_after_all v.mode [] past) s.serves in
+        let F = FinishesBack answer does.0.parcels (crew a.workers) (crew b.workers) in
+        let S = SendsOver (is_stopped turn) sent then_sent in
+        stands-more v stands answer (λ w. (crew w).staff) limits past a b h.noted s
+        (polls now (poll-as F S v.mode now
+        (λ s x t k. these-some answer does.0.parcels s x t k.finishes)
+        (λ s x t k. sends-some (is_stopped turn) s x t k.sends) _ h.noted _ does.0.polls))
+        (poll-unworked F S v.mode now
+        (λ s x t k. these-still is_work (λ t r y. refl) (λ o k. refl) answer does.0.parcels s x t
+        k.finishes)
+        (λ s x t k. sends-still is_work (λ p o k. refl) s x t
+        (sends-some (is_stopped turn) s x t k.sends)) _ h.noted _ does.0.polls)
+        told_of.0 told_of.1 does.0.staffed;
+  }
+
+-- the groups of the other calls
+refused-still : (spent room : Bool) (n credits size : ℕ) (e : Event)
+    → cond spent (Some NconnectNumbers) (cond room (Some (NconnectRing n credits size)) None)
+    ≡ Some e → is_labour e ≡ false
+refused-still true room n credits size e h =
+    let same : NconnectNumbers ≡ e = cc in subst (λ d. is_labour d ≡ false) same refl
+refused-still false true n credits size e h =
+    let same : NconnectRing n credits size ≡ e = cc in subst (λ d. is_labour d ≡ false) same refl
+refused-still false false n credits size e h = cc
+
+or-still : (o : Option Event) (made : Event) → ((e : Event) → o ≡ Some e → is_labour e ≡ false)
+    → is_labour made ≡ false → is_labour (or_refused o made) ≡ false
+or-still None made refused own = own
+or-still (Some e) made refused own = refused e refl
+
+pub client-still : (peer server credits : ℕ) → Stills is_labour (PairsClient peer server credits)
+client-still peer server credits s x t h = rw h.facts (
+  or-still (client_refusal credits s.lists) _ (refused-still (clients_spent s.lists)
+      (has_no_room credits s.lists) (shares s.lists) credits s.lists.room) refl,
+  tt,
+)
+
+pub server-still : (peer client credits : ℕ) → Stills is_labour (PairsServer peer client credits)
+server-still peer client credits s x t h = rw h.facts (
+  or-still (server_refusal credits s.lists) _ (refused-still (servers_spent s.lists)
+      (has_no_room credits s.lists) (shares s.lists) credits s.lists.room) refl,
+  tt,
+)
+
+module _ (mode : ℕ → Mode) (peer other credits : ℕ) (own : IsCredits credits)
+    (known : other < SESSION_NUMBERS) (s : Timed) (x : List Fact) (t : Timed) where
+  pub client-group : PairsClient peer other credits s x t → Group mode s x t
+  client-group h = by (client_refusal credits s.lists) refl
+    where
+      by : (o : Option Event) → client_refusal credits s.lists ≡ o → Group mode s x t
+      by None e = pairs_client peer other credits
+          (record { credits_fit = own; other_is = known; fits = e })
+          (record {
+            facts = rw e at h.facts;
+            goes = h.goes;
+          })
+      by (Some refusal) e = refuses credits refusal (inl e) (record {
+        facts = rw e at h.facts;
+        goes = h.goes;
+      })
+
+  pub server-group : PairsServer peer other credits s x t → Group mode s x t
+  server-group h = by (server_refusal credits s.lists) refl
+    where
+      by : (o : Option Event) → server_refusal credits s.lists ≡ o → Group mode s x t
+      by None e = pairs_server peer other credits
+          (record { credits_fit = own; other_is = known; fits = e })
+          (record {
+            facts = rw e at h.facts;
+            goes = h.goes;
+          })
+      by (Some refusal) e = refuses credits refusal (inr e) (record {
+        facts = rw e at h.facts;
+        goes = h.goes;
+      })
+
+asked-by : (state : SessionState) (session req_type room : ℕ) (ask : List ℕ) (s : Lists)
+    → is_labour (ask_by_state state session req_type room ask s).event ≡ false
+asked-by Connected session req_type room ask s = refl
+asked-by _ session req_type room ask s = refl
+
+asked-if : (b : Bool) (f g : Fact) → is_labour f.event ≡ false → is_labour g.event ≡ false
+    → is_labour (cond b f g).event ≡ false
+asked-if true f g one two = one
+asked-if false f g one two = two
+
+pub ask-still : (session req_type : ℕ) (ask : List ℕ) (room : ℕ)
+    → Stills is_labour (Asks session req_type ask room)
+ask-still session req_type ask room s x t h = rw h.facts (
+  asked-if (ltb 1048576 (length ask)) _ _ refl (asked-by (state_of (find (is_client session)
+      s.lists.clients)) session req_type room ask s.lists),
+  tt,
+)
+
+pub rate-still : (session rate : ℕ) → Stills is_labour (SetsRate session rate)
+rate-still session rate s x t h = rw h.facts (
+  by (is_live (state_of (find (is_client session) s.lists.clients))),
+  tt,
+)
+  where
+    by : (b : Bool) → is_labour (cond b (Rated session rate)
+        (Nrate session (state_of (find (is_client session) s.lists.clients)))) ≡ false
+    by true = refl
+    by false = refl
+
+pub delivery-still : (peer : ℕ) (bytes : List ℕ) → Stills is_labour (Delivers peer bytes)
+delivery-still peer bytes s x t h = rw h.facts (by (is_message bytes) (is_control bytes), tt)
+  where
+    arrived : (n room : ℕ) → is_labour (arrival n room peer) ≡ false
+    arrived n room = one (ltb n room)
+      where
+        one : (b : Bool) → is_labour (cond b (Arrived peer) (Overflowed peer)) ≡ false
+        one true = refl
+        one false = refl
+
+    by : (b c : Bool) → is_labour (cond b (arrival (length s.lists.ring) s.lists.room peer)
+        (cond c (arrival (length s.lists.inbox) inbox_room peer) (Bad peer))) ≡ false
+    by true c = arrived (length s.lists.ring) s.lists.room
+    by false true = arrived (length s.lists.inbox) inbox_room
+    by false false = refl
+
+-- an answer tells of what was done, or that memory was wanting, and then nothing changed
+module _ (Claim Still Same Goal : Type 0) (done : Claim → Goal) (still : Still → Same → Goal) where
+  pub asked-or : (r : Result ℕ Refused) → UnlessWanting r Claim → IfWanting r Still → OnErr r Same
+      → Goal
+  asked-or (Ok call) claim nothing same = done claim
+  asked-or (Err r) claim nothing same = by r.why refl
+    where
+      by : (why : AskError) → r.why ≡ why → Goal
+      by AskWanting e = still (nothing e) same
+      by (TooLarge len) e = done (claim (λ w. let no : TooLarge len ≡ AskWanting = sym e ∙ w in cc))
+      by (NotConnected state) e =
+          done (claim (λ w. let no : NotConnected state ≡ AskWanting = sym e ∙ w in cc))
+
+  pub paired-or : (r : Result ℕ ConnectError) → UnlessNoMemory r Claim → IfNoMemory r Still
+      → OnErr r Same → Goal
+  paired-or (Ok session) claim nothing same = done claim
+  paired-or (Err NoMemory) claim nothing same = still (nothing refl) same
+  paired-or (Err NumbersSpent) claim nothing same =
+      done (claim (λ w. let no : NumbersSpent ≡ NoMemory = w in cc))
+  paired-or (Err (RingFull n credits room)) claim nothing same =
+      done (claim (λ w. let no : RingFull n credits room ≡ NoMemory = w in cc))

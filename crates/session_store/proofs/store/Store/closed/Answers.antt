@@ -1,0 +1,49 @@
+use Rattle.session_store.specs.Joined.{joined, undue}
+use Rattle.session_store.proofs.FlushLemmas.{there-at}
+use Rattle.session_store.proofs.MovedLemmas.{moved-closed}
+use Rattle.session_store.proofs.UndueLemmas.{flat}
+use Rattle.session_store.proofs.store.Store.closed.Goals as goal
+
+pub invariant_of-self : goal.invariant_of-self
+invariant_of-self c =
+    let s = c.self.inside in
+    let seen = flat s.pool s.sides.items s.servers.items s.tx s.pacer c.args.self.now c.self.view_is in
+    let at = there-at s.pool s.sides.items s.servers.items (joined s.tx s.pacer) c.self.invariant.0
+    (undue c.args.self.now) seen c.args.i c.index_mut-side.result.now c.requires.known
+    c.index_mut-side.ensures.value in
+    let moved = moved-closed s.pool s.sides.items s.servers.items (joined s.tx s.pacer) c.self.invariant.0
+    (undue c.args.self.now) seen c.args.i c.index_mut-side.result.now at c.requires.closing in
+    (moved.kept, c.self.invariant.1)
+
+pub returns-clause-clients : goal.returns-clause-clients
+returns-clause-clients c =
+    let s = c.self.inside in
+    let seen = flat s.pool s.sides.items s.servers.items s.tx s.pacer c.args.self.now c.self.view_is in
+    let at = there-at s.pool s.sides.items s.servers.items (joined s.tx s.pacer) c.self.invariant.0
+    (undue c.args.self.now) seen c.args.i c.index_mut-side.result.now c.requires.known
+    c.index_mut-side.ensures.value in
+    let moved = moved-closed s.pool s.sides.items s.servers.items (joined s.tx s.pacer) c.self.invariant.0
+    (undue c.args.self.now) seen c.args.i c.index_mut-side.result.now at c.requires.closing in
+    moved.clients
+
+pub returns-clause-places : goal.returns-clause-places
+returns-clause-places c =
+    let s = c.self.inside in
+    let seen = flat s.pool s.sides.items s.servers.items s.tx s.pacer c.args.self.now c.self.view_is in
+    let at = there-at s.pool s.sides.items s.servers.items (joined s.tx s.pacer) c.self.invariant.0
+    (undue c.args.self.now) seen c.args.i c.index_mut-side.result.now c.requires.known
+    c.index_mut-side.ensures.value in
+    let moved = moved-closed s.pool s.sides.items s.servers.items (joined s.tx s.pacer) c.self.invariant.0
+    (undue c.args.self.now) seen c.args.i c.index_mut-side.result.now at c.requires.closing in
+    rw (← c.self.view_is) moved.places
+
+pub returns-clause-handed : goal.returns-clause-handed
+returns-clause-handed c =
+    let s = c.self.inside in
+    let seen = flat s.pool s.sides.items s.servers.items s.tx s.pacer c.args.self.now c.self.view_is in
+    let at = there-at s.pool s.sides.items s.servers.items (joined s.tx s.pacer) c.self.invariant.0
+    (undue c.args.self.now) seen c.args.i c.index_mut-side.result.now c.requires.known
+    c.index_mut-side.ensures.value in
+    let moved = moved-closed s.pool s.sides.items s.servers.items (joined s.tx s.pacer) c.self.invariant.0
+    (undue c.args.self.now) seen c.args.i c.index_mut-side.result.now at c.requires.closing in
+    rw (← c.self.view_is) moved.handed
