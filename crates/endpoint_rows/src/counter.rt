@@ -1,5 +1,6 @@
 //! A service with a state of its own.
-ghost use Rattle.endpoint_rows.specs.Counting.{CountStands, count_answer, counting_mode, steady-count};
+ghost use Rattle.endpoint_rows.specs.Counting.{CountStands, count_answer, counting_mode};
+ghost use Rattle.endpoint_rows.specs.Counting.{steady-count};
 ghost use Rattle.std.specs.Prelude.{[]};
 
 use byteorder::{BigEndian, ByteOrder};
