@@ -159,7 +159,7 @@ posts-walk hand latest clock l h v ask owed found apart n = (
 )
 
 -- the last packet of a request whose type is Background gives a job; where it is another the handler runs
-abbrev bring_facts : (last background : Bool) → ℕ → List ℕ → MessageHeader → List ℕ → List Fact
+abbrev pub bring_facts : (last background : Bool) → ℕ → List ℕ → MessageHeader → List ℕ → List Fact
 bring_facts last background me answer h ask =
     cond (last && background) (plain me (Given h.session h.request) ∷ [])
     (cond last (with_two me (Ran h.session h.request h.req_type) ask answer ∷ []) []
@@ -185,7 +185,7 @@ pub owed-self : (me t r k : ℕ) → (me == me && (t == t && (r == r && k == k))
 owed-self me t r k = rw (eq-eqb me me refl, eq-eqb t t refl, eq-eqb r r refl, eq-eqb k k refl) refl
 
 -- the number of the last packet of a request, by its bytes
-last-number : (h : MessageHeader) (ask : List ℕ) → h.number + 1 ≡ packet_count h.size
+pub last-number : (h : MessageHeader) (ask : List ℕ) → h.number + 1 ≡ packet_count h.size
     → length ask ≡ h.size → packet_count (length ask) - 1 ≡ h.number
 last-number h ask last size = let count : packet_count (length ask) ≡ packet_count h.size = ap packet_count size in omega arith
 
@@ -271,14 +271,14 @@ last-first h Rfr e t = cc
 last-first h Cr e t = cc
 last-first h Response e t = cc
 
-taken-last : (going : Option Served) (slots : List Served) (h : MessageHeader)
+pub taken-last : (going : Option Served) (slots : List Served) (h : MessageHeader)
     → TakesOf going slots h → is_last h ≡ true → (h.kind ≡ Request)
     × (h.number + 1 ≡ packet_count h.size)
 taken-last None slots h t e = (t.0, last-first h h.kind t.0 e)
 taken-last (Some q) slots h t e = is-last h h.kind q t.2 e
 
 -- the bytes of a request whose last packet was taken are of its size
-taken-size : (h : MessageHeader) (slots : List Served) (ask : List ℕ) → OpenSlot slots h ask
+pub taken-size : (h : MessageHeader) (slots : List Served) (ask : List ℕ) → OpenSlot slots h ask
     → AllByRecursion SlotRight slots → h.kind ≡ Request → h.number + 1 ≡ packet_count h.size
     → length ask ≡ h.size
 taken-size h slots ask n right kind last =

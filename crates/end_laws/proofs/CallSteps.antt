@@ -276,7 +276,7 @@ module _ (Inv : Lists → Type 0) (stays : Stays Inv) where
       (is_control bytes) (nat_lt (length s.lists.inbox) inbox_room) latest s.clock peer bytes
       s.lists refl refl carried)) h.goes
 
-  watches-fine : (hand : Option InFlight) (timeout session number : ℕ)
+  pub watches-fine : (hand : Option InFlight) (timeout session number : ℕ)
       → Fine Inv hand (Watches timeout session number)
   watches-fine hand timeout session number s x t o i h =
       walked-goes Inv stays hand s x t i (rw h.facts

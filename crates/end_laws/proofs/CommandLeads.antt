@@ -300,7 +300,7 @@ works-lead n s w x t f o h =
     free-step (WorksAll s.worked) s w n (work-all w.hand s.worked)
     (works-all-lawful s.worked) x t f h
 
-poll-step : (s : Stage) (w : Moment) (n : ℕ) (before now : Timed) (x : List Fact)
+pub poll-step : (s : Stage) (w : Moment) (n : ℕ) (before now : Timed) (x : List Fact)
     → slice_get s.nodes n ≡ Some before → RightNode before.lists → Valid before.lists → OnlyPairs x
     → PollBy (FinishesWorked s.worked) SendsAll plain_mode s.clock before x now
     → max before.clock s.clock ≡ s.clock → NodeStep s w n before now x
@@ -329,7 +329,7 @@ poll-leads n s w x t f o h =
     fit.valid o h.step m) h.left
 
 -- a copy is carried to its node
-carry-net : (s : Stage) (w : Moment) (i : ℕ) → Fits s w
+pub carry-net : (s : Stage) (w : Moment) (i : ℕ) → Fits s w
     → Fits (record s { flight = remove s.flight i }) (moved w (of_net (Carried i)))
 carry-net s w i f = record {
   clock = f.clock;
@@ -396,24 +396,24 @@ joins-lead P Q p q s w x t f o h =
     rw h.joined (leads-append h.between w h.group h.rest t l
     (q h.between l.end h.rest t l.fits (only-back h.group h.rest both) h.follows))
 
-times-lead : (P : Stage → List Fact → Stage → Type 0) → Leading P → (n : ℕ) → Leading (Times P n)
+pub times-lead : (P : Stage → List Fact → Stage → Type 0) → Leading P → (n : ℕ) → Leading (Times P n)
 times-lead P p zero s w x t f o h = leads-none s t w x f h.0 h.1
 times-lead P p (suc n) s w x t f o h = joins-lead (Times P n) P (times-lead P p n) p s w x t f o h
 
-polls-lead : (n : ℕ) → Leading (PollsFirst n)
+pub polls-lead : (n : ℕ) → Leading (PollsFirst n)
 polls-lead zero s w x t f o h = leads-none s t w x f h.0 h.1
 polls-lead (suc n) s w x t f o h = joins-lead (PollsFirst n) (PollsNode n) (polls-lead n) (poll-leads n) s w x t f o h
 
-first-works-lead : (n : ℕ) → Leading (WorksFirst n)
+pub first-works-lead : (n : ℕ) → Leading (WorksFirst n)
 first-works-lead zero s w x t f o h = leads-none s t w x f h.0 h.1
 first-works-lead (suc n) s w x t f o h =
     joins-lead (WorksFirst n) (WorksNode n) (first-works-lead n) (works-lead n) s w x t f o h
 
-works-polls-lead : (n : ℕ) → Leading (WorksAndPolls n)
+pub works-polls-lead : (n : ℕ) → Leading (WorksAndPolls n)
 works-polls-lead n s w x t f o h =
     joins-lead (WorksFirst n) (PollsFirst n) (first-works-lead n) (polls-lead n) s w x t f o h
 
-round-leads : Leading Round
+pub round-leads : Leading Round
 round-leads s w x t f o h =
     joins-lead (Times (Carries 0) (length s.flight)) (λ u. WorksAndPolls (length u.nodes) u)
     (times-lead (Carries 0) (carry-leads 0) (length s.flight))

@@ -47,25 +47,25 @@ retries-as None clock timeout me x facts o r = r
 retries-as (Some h) clock timeout me x facts o r =
     retries-by (retry_row clock timeout x.sends x.sent_at) me x h facts o r
 
-retries-of : (clock timeout me : ℕ) (x : Option Client) (facts : List Fact) → OnlyPairs facts
+pub retries-of : (clock timeout me : ℕ) (x : Option Client) (facts : List Fact) → OnlyPairs facts
     → RetriesOf clock timeout me x facts → facts ≡ []
 retries-of clock timeout me None facts o r = r
 retries-of clock timeout me (Some x) facts o r = retries-as (own_request x) clock timeout me x facts o r
 
 module _ (Inv : Lists → Type 0) (stays : Stays Inv) (hand : Option InFlight) where
-  hears-fine : Fine Inv hand Hears
+  pub hears-fine : Fine Inv hand Hears
   hears-fine s x t o i h =
       let heard = subst OnlyPairs h.facts o in false-true (sym heard.0)
 
   pub hears-all : Fine Inv hand HearsAll
   hears-all = fine-until Inv hand Hears _ hears-fine
 
-  retries-fine : (timeout place : ℕ) → Fine Inv hand (Retries timeout place)
+  pub retries-fine : (timeout place : ℕ) → Fine Inv hand (Retries timeout place)
   retries-fine timeout place s x t o i h =
       walked-goes Inv stays hand s x t i (rw (retries-of s.clock timeout s.lists.me
       (slice_get s.lists.clients place) x o h.facts) tt) h.goes
 
-  times-session : (timeout place : ℕ) → Fine Inv hand (TimesSession timeout place)
+  pub times-session : (timeout place : ℕ) → Fine Inv hand (TimesSession timeout place)
   times-session timeout place =
       fine-then Inv hand (Retries timeout place) (WatchesSession timeout place)
       (retries-fine timeout place) (watches-session Inv stays hand timeout place)

@@ -1,6 +1,5 @@
 -- What is said of calls and requests stays so while more becomes known.
 use Rattle.std.proofs.Common.{ℕ, List, ◌∷◌, Option, Some, None}
-use Rattle.std.specs.Prelude.{IfSome}
 use Rattle.std.specs.List.{AllByRecursion}
 use Rattle.packet_header.specs.Reading.{message_of, body_of}
 use Rattle.packet_header.specs.declared.packet.Kind.{Kind}

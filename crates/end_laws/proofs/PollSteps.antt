@@ -104,7 +104,7 @@ posts-client hand l (Some x) e h =
     posts-free hand l x (eqb x.free 0) e (connected-next posting x (is_connected x.state) e refl h)
 
 module _ (Inv : Lists → Type 0) (stays : Stays Inv) (hand : Option InFlight) where
-  begun-fine : (i : ℕ) → Fine Inv hand (NotesNext (next_begun i))
+  pub begun-fine : (i : ℕ) → Fine Inv hand (NotesNext (next_begun i))
   begun-fine i s x t o inv h =
       walked-goes Inv stays hand s x t inv (rw h.facts (
         record {
@@ -117,7 +117,7 @@ module _ (Inv : Lists → Type 0) (stays : Stays Inv) (hand : Option InFlight) w
         tt,
       )) h.goes
 
-  posted-fine : (i : ℕ) → Fine Inv hand (NotesNext (next_posted i))
+  pub posted-fine : (i : ℕ) → Fine Inv hand (NotesNext (next_posted i))
   posted-fine i s x t o inv h =
       walked-goes Inv stays hand s x t inv (rw h.facts (
         record {
@@ -130,7 +130,7 @@ module _ (Inv : Lists → Type 0) (stays : Stays Inv) (hand : Option InFlight) w
         tt,
       )) h.goes
 
-  serves-fine : (i : ℕ) → Fine Inv hand (Serves i)
+  pub serves-fine : (i : ℕ) → Fine Inv hand (Serves i)
   serves-fine i = fine-then Inv hand (NotesAll (next_begun i)) (NotesAll (next_posted i))
       (fine-until Inv hand (NotesNext (next_begun i)) _ (begun-fine i))
       (fine-until Inv hand (NotesNext (next_posted i)) _ (posted-fine i))
@@ -138,7 +138,7 @@ module _ (Inv : Lists → Type 0) (stays : Stays Inv) (hand : Option InFlight) w
   pub posts-all : Fine Inv hand PostsAll
   posts-all s x t o i h = fine-visits Inv hand Serves serves-fine (length s.lists.clients) s x t o i h
 
-  sends-fine : Fine Inv hand Sends
+  pub sends-fine : Fine Inv hand Sends
   sends-fine s x t o i h =
       walked-goes Inv stays hand s x t i (rw h.facts (
         record {

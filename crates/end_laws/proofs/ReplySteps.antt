@@ -289,12 +289,12 @@ kind-walk hand clock l front h lacks answer Rfr e f s =
 kind-walk hand clock l front h lacks answer Cr e f s = client-walk hand clock l front h _ refl f
 kind-walk hand clock l front h lacks answer Response e f s = client-walk hand clock l front h _ refl f
 
-front-is : (ring : List Arrival) (front : Arrival) → slice_get ring 0 ≡ Some front → front_bytes ring ≡ front.bytes
+pub front-is : (ring : List Arrival) (front : Arrival) → slice_get ring 0 ≡ Some front → front_bytes ring ≡ front.bytes
 front-is [] front h = cc
 front-is (d ∷ ds) front h = let same : d ≡ front = cc in ap (λ (a : Arrival). a.bytes) same
 
 module _ (hand : Option InFlight) where
-  handles-fine : Fine RightNode hand (Handles plain_mode)
+  pub handles-fine : Fine RightNode hand (Handles plain_mode)
   handles-fine s x t o i h =
       let bytes = front-is s.lists.ring h.front h.is_front in
       let reads : front_header s.lists.ring ≡ Some h.header = ap message_of bytes ∙ h.reads in

@@ -1,5 +1,5 @@
 -- The pairings of a script are of two nodes.
-use Rattle.std.proofs.Common.{ℕ, suc, List, [], ◌∷◌, ◌++◌, length, arith}
+use Rattle.std.proofs.Common.{ℕ, suc, List, [], ◌∷◌, length, arith}
 use Rattle.std.specs.Prelude.{All}
 use Rattle.std.specs.List.{AllByRecursion}
 use Rattle.script_grammar.specs.Conditions.{IsNode, IsAmong, IsScript}

@@ -4,7 +4,6 @@ use Rattle.std.proofs.Common.{Option, Some, None, refl, sym, ap, ◌∙◌, eqb}
 use Rattle.std.specs.Prelude.{◌%◌}
 use Rattle.std.specs.List.{find, list_any, AllByRecursion}
 use Rattle.std.proofs.lemmas.Bool.{eqb-true, eqb-false}
-use Rattle.std.proofs.Common.{eq-eqb}
 use Rattle.packet_header.specs.declared.packet.MessageHeader.{MessageHeader}
 use Rattle.rpc_base.specs.Tables.{at_first, without_first}
 use Rattle.rpc_base.specs.declared.event.Event.{Event}

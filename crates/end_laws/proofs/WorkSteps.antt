@@ -44,7 +44,7 @@ use Rattle.end_laws.proofs.Walks.{Walked, Fine, walked-goes, walked-none, fine-t
 use Rattle.rpc_base.proofs.BasicLemmas.{false-true}
 
 -- the number of the reply is that of the last packet of the job's bytes
-number-is : (q : Served) (size k : ℕ) → q.working ≡ true → size ≡ q.size → awaited_of (Some q) ≡ Some k
+pub number-is : (q : Served) (size k : ℕ) → q.working ≡ true → size ≡ q.size → awaited_of (Some q) ≡ Some k
     → packet_count size - 1 ≡ k
 number-is q size k working sized e =
     let there : Some (packet_count q.size - 1) ≡ Some k = rw working at e in
@@ -91,7 +91,7 @@ posts-walk (Some k) hand clock l job answer e i h =
     )
 
 module _ (hand : Option InFlight) where
-  finishes-fine : (session request : ℕ) → Fine RightNode hand (Finishes session request)
+  pub finishes-fine : (session request : ℕ) → Fine RightNode hand (Finishes session request)
   finishes-fine session request s x t o i h =
       let l = s.lists in
       let job = h.job in

@@ -21,20 +21,19 @@ use Rattle.rpc_laws.specs.declared.tables.Job.{Job}
 use Rattle.rpc_laws.specs.declared.tables.Jobs.{Jobs}
 use Rattle.rpc_laws.specs.declared.tables.Lists.{Lists}
 use Rattle.rpc_laws.specs.declared.tables.Timed.{Timed}
-use Rattle.rpc_laws.specs.ControlSteps.{Hears, HearsAll, TimesAll}
+use Rattle.rpc_laws.specs.ControlSteps.{TimesAll}
 use Rattle.rpc_laws.specs.Facts.{with_two}
 use Rattle.rpc_laws.specs.Jobs.{is_job}
 use Rattle.rpc_laws.specs.NodeLists.{after_all}
 use Rattle.rpc_laws.specs.PollOrder.{answer_posted, awaited, Closes, finished_facts, HandlesAll, PollBy}
 use Rattle.rpc_laws.specs.Pacing.{line}
-use Rattle.rpc_laws.specs.PollOrder.{PostsAll, raised, Sends, SendsAll, SendsSome}
+use Rattle.rpc_laws.specs.PollOrder.{PostsAll, raised, SendsSome}
 use Rattle.rpc_laws.specs.Queues.{replies}
 use Rattle.rpc_laws.specs.Service.{Answers, is_mode_inline, Serving, served_after, served_after_all}
-use Rattle.rpc_laws.specs.Steps.{Chain, Then, Until, none}
+use Rattle.rpc_laws.specs.Steps.{none}
 use Rattle.rpc_laws.proofs.AnswerLemmas.{answers-append, served-append}
 use Rattle.rpc_laws.proofs.RunLemmas.{me-after_all}
 use Rattle.rpc_outside.specs.Linking.{Carried}
-use Rattle.rpc_outside.specs.Recording.{Grew}
 use Rattle.rpc_outside.specs.Served.{Served}
 use Rattle.rpc_outside.specs.declared.service.Mode.{Mode}
 use Rattle.rpc_outside.specs.declared.service.Mode.TheVariants.{Background}
@@ -52,7 +51,7 @@ use Rattle.endpoint_loop.specs.Handling.{with_all_given}
 use Rattle.endpoint_loop.specs.Noting.{is_end, is_end_event, Makes, MakesEnds, MakesSent, sent_of}
 use Rattle.endpoint_loop.specs.Polling.{FinishesBack, is_stopped, MakesPoll, PollsWith, SendsOver}
 use Rattle.endpoint_loop.specs.Polling.{SendsUntil, TellsOfPoll}
-use Rattle.endpoint_loop.specs.Running.{asks_of, Crew, IsServing, IsStaffed, Running, told}
+use Rattle.endpoint_loop.specs.Running.{asks_of, Crew, IsServing, IsStaffed, told}
 use Rattle.endpoint_loop.specs.Seen.{Asks, asking, with_ask}
 use Rattle.endpoint_loop.specs.Serving.{AllServed, job_named}
 use Rattle.endpoint_loop.proofs.GivingLemmas.{ones, staffed-still}

@@ -36,6 +36,3 @@ pub use endpoint::Endpoint;
 pub use node::{JobName, Node};
 pub use polling::{LinkFault, Turn};
 pub use sending::Sending;
-
-#[cfg(test)]
-mod tests;

@@ -4,7 +4,7 @@ pub mod Allowed
 mod AskedLemmas
 pub mod BeginLemmas
 pub mod ChangeLemmas
-mod ControlLemmas
+pub mod ControlLemmas
 pub mod CountLemmas
 pub mod CreditLaws
 pub mod ElsewhereLemmas

@@ -117,7 +117,7 @@ own-finish s session request job e =
     let other : job.request ≡ request = eqb-true job.request request parts.1 in
     record { job = job; found = ap₂ (λ (a b : ℕ). find (is_job a b) s.jobs.out) one other ∙ e }
 
-finishes-lawful : (session request : ℕ) → Lawful (Finishes session request)
+pub finishes-lawful : (session request : ℕ) → Lawful (Finishes session request)
 finishes-lawful session request s x t v h =
     let job = h.job in
     lawful-goes s x t h.goes (rw h.facts (finish-allowed s.clock s.lists job h.answer

@@ -110,7 +110,7 @@ sent-got clock k p = both-at (λ (q : Progress). q.got) (p.got == k) _ _ _ refl 
 pub sent-posted : (clock k : ℕ) (p : Progress) → (sent_packet clock k p).posted ≡ p.posted
 sent-posted clock k p = both-at (λ (q : Progress). q.posted) (p.got == k) _ _ _ refl refl
 
-sent-answer : (clock k : ℕ) (p : Progress) → (sent_packet clock k p).answer ≡ p.answer
+pub sent-answer : (clock k : ℕ) (p : Progress) → (sent_packet clock k p).answer ≡ p.answer
 sent-answer clock k p = both-at (λ (q : Progress). q.answer) (p.got == k) _ _ _ refl refl
 
 -- a reply that is taken

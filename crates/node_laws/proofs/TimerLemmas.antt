@@ -173,7 +173,7 @@ module _ (clock timeout : ℕ) (s : Lists) (v : Valid s) where
       call-allowed number x (numbered-found client_no 0 i s.clients x v.numbered e)
       (find (is_call number) x.calls) refl
 
-watches-lawful : (timeout i number : ℕ) → Lawful (Watches timeout i number)
+pub watches-lawful : (timeout i number : ℕ) → Lawful (Watches timeout i number)
 watches-lawful timeout i number s x t v h =
     lawful-goes s x t h.goes (rw h.facts (client-allowed s.clock timeout s.lists v i number
     (slice_get s.lists.clients i) refl))
@@ -226,7 +226,7 @@ retries-of clock timeout i s me v None at facts k = rw k tt
 retries-of clock timeout i s me v (Some x) at facts k =
     retries-as clock s me x (numbered-found client_no 0 i s.clients x v.numbered at) timeout (own_request x) facts k
 
-retries-lawful : (timeout i : ℕ) → Lawful (Retries timeout i)
+pub retries-lawful : (timeout i : ℕ) → Lawful (Retries timeout i)
 retries-lawful timeout i s x t v h =
     lawful-goes s x t h.goes (retries-of s.clock timeout i s.lists s.lists.me v
     (slice_get s.lists.clients i) refl x h.facts)

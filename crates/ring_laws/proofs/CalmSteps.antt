@@ -12,11 +12,6 @@ use Rattle.rpc_base.specs.declared.event.Event.TheVariants.{ClosedUnheard, Paire
 use Rattle.rpc_base.specs.declared.event.Event.TheVariants.{Begun, Posted, Sent, Took, Rolled}
 use Rattle.rpc_base.specs.declared.event.Event.TheVariants.{Broken, DoneOk, DoneTooSmall}
 use Rattle.rpc_base.specs.declared.event.Event.TheVariants.{DonePeerLost}
-use Rattle.rpc_base.specs.declared.state.SessionState.{SessionState}
-use Rattle.rpc_base.specs.declared.state.SessionState.TheVariants.{Unknown, Connecting}
-use Rattle.rpc_base.specs.declared.state.SessionState.TheVariants.{Connected as IsConnected, Spent}
-use Rattle.rpc_base.specs.declared.state.SessionState.TheVariants.{Closing as IsClosing, Closed}
-use Rattle.rpc_base.specs.declared.state.SessionState.TheVariants.{Failed, Broken as IsBroken}
 use Rattle.rpc_base.specs.declared.owner.Owner.TheVariants.{Ask, Reply, Control}
 use Rattle.rpc_laws.specs.declared.tables.Call.{Call}
 use Rattle.rpc_laws.specs.declared.tables.Client.{Client}
@@ -27,7 +22,7 @@ use Rattle.rpc_laws.specs.declared.tables.Server.{Server}
 use Rattle.rpc_laws.specs.Calls.{is_call, is_active, moved, posted_up_to, sent_packet, took_reply, begun}
 use Rattle.rpc_laws.specs.Front.{front_header, front_body}
 use Rattle.rpc_laws.specs.Groups.{live_credits, shares}
-use Rattle.rpc_laws.specs.Sessions.{is_client, has_call, is_connected, is_live, clients_after}
+use Rattle.rpc_laws.specs.Sessions.{is_client, has_call, is_connected, clients_after}
 use Rattle.end_laws.proofs.Allowed.{MayBreak, May}
 use Rattle.end_laws.proofs.ListLemmas.{all-first, all-add, all-without, all-at, all-found}
 use Rattle.ring_laws.proofs.ClientSteps.{no_roll}

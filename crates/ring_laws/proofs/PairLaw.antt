@@ -50,10 +50,10 @@ use Rattle.ring_laws.proofs.WithinSteps.{nodes2, is_server1, paired-nodes}
 use Rattle.rpc_base.proofs.BasicLemmas.{and-false}
 
 -- the lists of each node stay valid
-valid-net : (w : Moment) (f : Fact) → f.who ≡ Net → AllValid w → AllValid (moved w f)
+pub valid-net : (w : Moment) (f : Fact) → f.who ≡ Net → AllValid w → AllValid (moved w f)
 valid-net w f who v = subst (λ (ns : List Lists). Placed (λ n l. Valid l) ns) (sym (nodes-net w f who)) v
 
-valid-made : (w : Moment) (ring : ℕ) → AllValid w → AllValid (moved w (plain (length w.nodes) (Made ring)))
+pub valid-made : (w : Moment) (ring : ℕ) → AllValid w → AllValid (moved w (plain (length w.nodes) (Made ring)))
 valid-made w ring v =
     add-placed (λ n l. Valid l) w.nodes (new_lists (length w.nodes) (with_ring ring))
     (valid_new (length w.nodes) (with_ring ring)) v
@@ -62,7 +62,7 @@ nodes-noted : (w : Moment) (n : ℕ) (l : Lists) (f : Fact) → AtNode w n l f
     → (moved w f).nodes ≡ slice_set w.nodes n (after w.clock l f)
 nodes-noted w n l f a = ap (λ (v : Moment). v.nodes) (moved-node w n l f a)
 
-valid-node : (w : Moment) (n : ℕ) (l : Lists) (f : Fact) → AtNode w n l f → AllValid w → AllValid (moved w f)
+pub valid-node : (w : Moment) (n : ℕ) (l : Lists) (f : Fact) → AtNode w n l f → AllValid w → AllValid (moved w f)
 valid-node w n l f a v =
     subst (λ (ns : List Lists). Placed (λ n l. Valid l) ns) (sym (nodes-noted w n l f a))
     (set-placed (λ n l. Valid l) w.nodes n l (after w.clock l f) a.is_node
@@ -185,7 +185,7 @@ module _ (w : Moment) (n m credits : ℕ) (client server : Lists) (ends : Ends w
       ends.is_client (valid_after w.clock client one (v n client ends.is_client)
       (record { numbered = refl; room = ends.fits_client })) (λ j z ne is. v j z is))
 
-  valid-pair : AllRight w → AllValid w → AllValid (paired w n m credits client server)
+  pub valid-pair : AllRight w → AllValid w → AllValid (paired w n m credits client server)
   valid-pair right v =
       let first : Placed (λ n l. Valid l) (nodes1 w n m credits client server ends) =
       set-placed (λ n l. Valid l) w.nodes n client (lists1 w n m credits client server ends)

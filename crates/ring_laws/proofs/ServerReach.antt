@@ -1,96 +1,37 @@
 -- The other direction: a packet of a server session that leaves its node is sent, dropped or flushed.
-use Rattle.std.proofs.Common.{◌≡◌, ◌+◌, ◌-◌, ◌≤◌, ◌==◌, ◌&&◌, ℕ, Bool, true, false, cond, List, []}
-use Rattle.std.proofs.Common.{◌∷◌, drop, length, Option, Some, None, refl, ap, arith}
+use Rattle.std.proofs.Common.{◌≡◌, ◌+◌, ◌≤◌, ◌==◌, ◌&&◌, ℕ, Bool, true, false, cond, List, []}
+use Rattle.std.proofs.Common.{◌∷◌, drop, Option, Some, None, refl, ap, arith}
 use Rattle.std.specs.Prelude.{option_to_list}
 use Rattle.std.specs.List.{find}
 use Rattle.std.proofs.lemmas.Bool.{eqb-true, and_parts, both_ways}
-use Rattle.packet_header.specs.Parts.{packet_count}
 use Rattle.packet_header.specs.Reading.{message_of}
 use Rattle.rpc_base.specs.Owners.{same_owner}
 use Rattle.rpc_base.specs.declared.event.Event.{Event}
 use Rattle.rpc_base.specs.declared.event.Event.TheVariants.{Posted, Flushed, Sent, Arrived, Took}
 use Rattle.rpc_base.specs.declared.event.Event.TheVariants.{Again, Dropped, Given, Ran, Polled}
-use Rattle.rpc_base.specs.declared.fact.Fact.{Fact}
 use Rattle.rpc_base.specs.declared.owner.Owner.{Owner}
 use Rattle.rpc_base.specs.declared.owner.Owner.TheVariants.{Ask, Reply, Control}
 use Rattle.rpc_base.proofs.TakingLemmas.{find-passes}
 use Rattle.rpc_laws.specs.declared.tables.Arrival.{Arrival}
 use Rattle.rpc_laws.specs.declared.tables.InFlight.{InFlight}
-use Rattle.rpc_laws.specs.declared.tables.Job.{Job}
 use Rattle.rpc_laws.specs.declared.tables.Lists.{Lists}
 use Rattle.rpc_laws.specs.declared.tables.Queued.{Queued}
-use Rattle.rpc_laws.specs.AtMostOnce.{is_at}
 use Rattle.rpc_laws.specs.Front.{front_header}
-use Rattle.rpc_laws.specs.Jobs.{new_job, is_job, jobs_after}
+use Rattle.rpc_laws.specs.Jobs.{is_job, jobs_after}
 use Rattle.rpc_laws.specs.Queues.{is_queued, ring_after, queued_after}
-use Rattle.end_laws.proofs.Allowed.{owes, is_owed, is_packet, Owes, OwesWhole, IsOut, May}
+use Rattle.end_laws.proofs.Allowed.{owes, May}
 use Rattle.ring_laws.proofs.ClientSteps.{front-counts, front-queued, turn-replies}
-use Rattle.end_laws.proofs.Rights.{job-number}
-use Rattle.ring_laws.proofs.Counting.{count, count-append, count-out, count-found}
+use Rattle.ring_laws.proofs.Counting.{count, count-out, count-found}
 use Rattle.ring_laws.proofs.Loads.{count-put, count-ready, count-arrives, Filter, asks, own_reply}
 use Rattle.ring_laws.proofs.Loads.{own_job, server_packets, sent_reply, given_ask}
-use Rattle.ring_laws.proofs.ServerSteps.{new-counts, owes-moves, taken-kind}
-
--- no reply is owed by the latest fact
-abbrev pub NoneOwed : ℕ → Option Fact → Type 0
-NoneOwed me latest = (p : Filter) (t : ℕ) → is_owed p me t latest ≡ false
+use Rattle.ring_laws.proofs.ServerSteps.{taken-kind}
 
 -- no job of a request is out
 abbrev pub NoneOut : Lists → (t r : ℕ) → Type 0
 NoneOut l t r = find (is_job t r) l.jobs.out ≡ None
 
--- a fact as the rules make it, with what is owed done at once
-pub data Links (latest : Option Fact) (l : Lists) (first : List ℕ) : Event → Type 0 where
-  posts : (t r k : ℕ) → Owes latest l.me t r k → Links latest l first (Posted (Reply t r) k)
-  gives : (t r : ℕ) → OwesWhole latest l t r → Links latest l first (Given t r)
-  serves : (t r y : ℕ) → Owes latest l.me t r (packet_count (length first) - 1) → NoneOut l t r
-      → Links latest l first (Ran t r y)
-  finishes : (t r y : ℕ) → IsOut l t r first → NoneOwed l.me latest → Links latest l first (Ran t r y)
-
--- what is owed is owed by exactly this packet
-owed-same : (p : Filter) (me t r k s : ℕ) (latest : Option Fact) → Owes latest me t r k
-    → is_owed p me s latest ≡ (t == s && p r k)
-owed-same p me t r k s None o = absurd (cc)
-owed-same p me t r k s (Some f) o =
-    let parts = and_parts (is_at me f.who) (owes (is_packet r k) t f.event f.first) o in
-    let same = owes-moves p t r k s f.event f.first parts.1 in
-    rw (parts.0) same
-
 pub one-count : (a b : Bool) → a ≡ b → cond {A = ℕ} a 1 0 ≡ cond b 1 0
 one-count a b e = ap {B = ℕ} (λ (c : Bool). cond c 1 0) e
-
--- the four facts that discharge what is owed, or are of a job
-pub server-links : (p : Filter) (t : ℕ) (due : Option ℕ) (latest : Option Fact) (l : Lists)
-    (e : Event) (first : List ℕ) → Links latest l first e
-    → server_packets p t l + cond (is_owed p l.me t latest) 1 0 ≤ count
-    (λ q. own_reply p t q.owner q.number) (queued_after e due l.queued)
-    + count (own_job p t) (jobs_after e l.servers l.jobs).out
-    + count (λ a. asks p t (message_of a.bytes)) (ring_after e first l.ring)
-    + cond (owes p t e first) 1 0
-server-links p t due latest l e first (posts s r k o) =
-    let q = count-put (λ (q : Queued). own_reply p t q.owner q.number)
-    (record { owner = Reply s r; number = k; due = due }) l.queued in
-    let w = one-count _ _ (owed-same p l.me s r k t latest o) in
-    omega arith
-server-links p t due latest l e first (gives s r o) =
-    let j = count-append (own_job p t) l.jobs.out (new_job s r l.servers) in
-    let new = new-counts p l s r t o.has in
-    let w = one-count _ _ (owed-same p l.me s r (packet_count (length o.has.request.ask) - 1) t latest o.owed) in
-    omega arith
-server-links p t due latest l e first (serves s r y o none) =
-    let out = count-out (own_job p t) (is_job s r) l.jobs.out in
-    let nothing : count (own_job p t) (option_to_list (find (is_job s r) l.jobs.out)) ≡ 0 =
-    ap (λ (z : Option Job). count (own_job p t) (option_to_list z)) none in
-    let w = one-count _ _ (owed-same p l.me s r (packet_count (length first) - 1) t latest o) in
-    omega arith
-server-links p t due latest l e first (finishes s r y w none) =
-    let of = job-number s r l.jobs.out w.job w.is_out in
-    let j = count-found (own_job p t) (is_job s r) l.jobs.out w.job w.is_out in
-    let counted : cond {A = ℕ} (own_job p t w.job) 1 0
-    ≡ cond (s == t && p r (packet_count (length first) - 1)) 1 0 =
-    rw (of.0, of.1, w.own) refl in
-    let nothing = one-count _ _ (none p t) in
-    omega arith
 
 -- what a fact takes out of the ring or the queue otherwise
 abbrev pub spilt_ask : Filter → ℕ → Event → Lists → ℕ
@@ -128,7 +69,7 @@ flushed-count p t o k (Some q) queued is =
     let one = one-count _ _ (same-reply p t q.owner o q.number k parts.0 parts.1) in
     omega arith
 
--- facts that Links isn't about, and that a node notes
+-- facts that a node notes, but for those that post a reply, give a job or run a handler
 abbrev pub is_other : Event → Bool
 is_other (Posted (Reply t r) k) = false
 is_other (Given t r) = false

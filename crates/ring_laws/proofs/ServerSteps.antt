@@ -1,5 +1,5 @@
 -- A fact of a node adds nothing to what a server session has, but a packet that arrives.
-use Rattle.std.proofs.Common.{◌≡◌, ◌+◌, ◌-◌, ◌≤◌, ◌==◌, ◌&&◌, inl, inr, ℕ, true, false, cond, List}
+use Rattle.std.proofs.Common.{◌≡◌, ◌+◌, ◌-◌, ◌≤◌, ◌==◌, ◌&&◌, inl, inr, ℕ, true, cond, List}
 use Rattle.std.proofs.Common.{length, Option, Some, None, refl, ap, arith}
 use Rattle.std.proofs.lemmas.Bool.{eqb-true, and_parts}
 use Rattle.packet_header.specs.Parts.{packet_count}

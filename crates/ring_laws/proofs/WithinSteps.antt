@@ -37,17 +37,17 @@ use Rattle.ring_laws.proofs.WorldSteps.{if_at, flight-node, hand-gives}
 use Rattle.rpc_base.proofs.BasicLemmas.{and-false}
 
 -- a number of one node, where it changes
-here-now : (f : Lists → ℕ) (nodes : List Lists) (n k : ℕ) (l m : Lists) → slice_get nodes n ≡ Some l
+pub here-now : (f : Lists → ℕ) (nodes : List Lists) (n k : ℕ) (l m : Lists) → slice_get nodes n ≡ Some l
     → (n == k) ≡ true → value f (slice_get (slice_set nodes n m) k) ≡ f m
 here-now f nodes n k l m is e =
     ap (λ (i : ℕ). value f (slice_get (slice_set nodes n m) i)) (sym (eqb-true n k e))
     ∙ ap (value f) (set-here nodes n l m is)
 
-here-was : (f : Lists → ℕ) (nodes : List Lists) (n k : ℕ) (l : Lists) → slice_get nodes n ≡ Some l
+pub here-was : (f : Lists → ℕ) (nodes : List Lists) (n k : ℕ) (l : Lists) → slice_get nodes n ≡ Some l
     → (n == k) ≡ true → value f (slice_get nodes k) ≡ f l
 here-was f nodes n k l is e = ap (λ (i : ℕ). value f (slice_get nodes i)) (sym (eqb-true n k e)) ∙ ap (value f) is
 
-there-same : (f : Lists → ℕ) (nodes : List Lists) (n k : ℕ) (m : Lists) → (n == k) ≡ false
+pub there-same : (f : Lists → ℕ) (nodes : List Lists) (n k : ℕ) (m : Lists) → (n == k) ≡ false
     → value f (slice_get (slice_set nodes n m) k) ≡ value f (slice_get nodes k)
 there-same f nodes n k m e = ap (value f) (set-other nodes n k m (λ same. eqb-false n k e (sym same)))
 
@@ -194,7 +194,7 @@ within-net w f x who calm h =
     omega arith
 
 -- a node is made
-added-by : (f : Lists → ℕ) (nodes : List Lists) (l : Lists) (k : ℕ) → f l ≡ 0
+pub added-by : (f : Lists → ℕ) (nodes : List Lists) (l : Lists) (k : ℕ) → f l ≡ 0
     → value f (slice_get (nodes ++ l ∷ []) k) ≡ value f (slice_get nodes k)
 added-by f [] l zero none = none
 added-by f [] l (suc k) none = refl

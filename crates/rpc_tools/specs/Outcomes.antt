@@ -26,6 +26,7 @@ use Rattle.script_grammar.specs.declared.line.Line.{Line}
 use Rattle.script_grammar.specs.Script.{script_of}
 use Rattle.script_grammar.specs.declared.reading.TheConstants.{MOST_BYTES}
 use Rattle.sim_script.specs.FollowsScript.{Follows}
+use Rattle.stall_laws.specs.NoStall.{NoStall}
 use Rattle.world_laws.specs.Laws.{EachNode, EndTells, KeepsRing}
 
 -- nothing was written, and no fault came
@@ -42,7 +43,8 @@ pub record Untouched (old new : Option (List ℕ)) (before after : ℕ) : Type 0
 -- the unanswered packets and free credits of a live session make its limit, no packet of a call
 -- that is over is queued, no reply to an older request is queued where a packet of a newer one of
 -- its slot is taken, and the receive ring isn't longer than its room. At the end each node's table
--- of requests says what its facts tell
+-- of requests says what its facts tell. Where nothing is on its way at the end of a command, each
+-- call that isn't over has a cause: a datagram that was lost, no free credit, or no free slot
 pub record Reports (script : List Line) (old new : Option (List ℕ)) (before after : ℕ)
     : Type 0 where
   pub history : List Fact
@@ -54,6 +56,7 @@ pub record Reports (script : List Line) (old new : Option (List ℕ)) (before af
   pub sends_own : SendsItsOwn history
   pub fits : MessagesFit history
   pub stands_once : PairsOnce history
+  pub no_stall : NoStall script history
   pub credit : EachNode Credit history
   pub ends_clean : EachNode (EndsClean []) history
   pub begins_clean : EachNode (BeginsClean []) history

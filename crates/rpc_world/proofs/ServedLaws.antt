@@ -28,6 +28,8 @@ use Rattle.script_grammar.specs.declared.line.Command.TheVariants.{Connect, Disc
 use Rattle.script_grammar.specs.Conditions.{IsScript}
 use Rattle.script_grammar.specs.declared.line.Line.{Line}
 use Rattle.sim_script.specs.FollowsScript.{Follows}
+use Rattle.stall_laws.specs.NoStall.{NoStall}
+use Rattle.stall_laws.proofs.StallLaw.{no-stall}
 use Rattle.world_laws.proofs.FewLemmas.{script-few}
 use Rattle.world_laws.proofs.NodeLaws.{once-each, credit-balances, ended-clean, older-clean, ring-fits}
 use Rattle.world_laws.proofs.RequestLaws.{requests-tell}
@@ -87,6 +89,11 @@ pub follows-stands-once : (script : List Line) (h : List Fact) → IsScript scri
 follows-stands-once script h is only follows =
     let made = follows-course script h (script-two script is) only follows in
     course-pairs first_moment h made.end made.course first-right first-valid (λ calm. first-tidy first-met)
+
+-- at each end of a command at which the history is settled, each call that isn't over has its cause
+pub follows-no-stall : (script : List Line) (h : List Fact) → IsScript script → OnlyPairs h
+    → Follows script h → NoStall script h
+follows-no-stall script h is only follows = no-stall script h (script-two script is) (script-few script is) only follows
 
 -- no other history follows the script
 pub follows-one : (script : List Line) (h : List Fact) → Follows script h → (g : List Fact) → Follows script g → g ≡ h

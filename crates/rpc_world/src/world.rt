@@ -14,6 +14,7 @@ ghost use Rattle.rpc_world.specs.Served.{later_of};
 ghost use Rattle.rpc_world.specs.Standing.{AllStand, StandsAt};
 ghost use Rattle.script_grammar.specs.Conditions.{IsScript};
 ghost use Rattle.sim_script.specs.FollowsScript.{Follows};
+ghost use Rattle.stall_laws.specs.NoStall.{NoStall};
 ghost use Rattle.world_laws.specs.Laws.{EachNode, EndTells, KeepsRing};
 ghost use Rattle.world_laws.specs.NodeFacts.{facts_of};
 
@@ -77,6 +78,8 @@ impl World {
         // Before a datagram was repeated, or a call was rolled back.
         ensures fits { IfOk result (λ w. MessagesFit w) }
         ensures stands_once { IfOk result (λ w. PairsOnce w) }
+        // At each end of a command at which the history is settled.
+        ensures no_stall { IfOk result (λ w. NoStall script.now w) }
         // At every moment of each node.
         ensures credit { IfOk result (λ w. EachNode Credit w) }
         ensures ends_clean { IfOk result (λ w. EachNode (EndsClean []) w) }

@@ -36,11 +36,10 @@ use Rattle.session_store.specs.Queue.{is_owned}
 use Rattle.server_core.specs.Replies.{is_owner}
 use Rattle.session_store.specs.Effects.{ServerEnds}
 use Rattle.session_store.specs.Joined.{joined, queue_of, shown_with}
-use Rattle.session_store.specs.Sides.{side_handed}
 use Rattle.session_store.specs.Sides.{HasPlaces, IsOf, IsOfOwner, Kept, Rises, ServerHolds}
 use Rattle.session_store.specs.Sides.{ServerKept, ServerQueued, Shown, is_end}
 use Rattle.session_store.specs.Sides.{numbers_in, places_in, queued_of, served_places}
-use Rattle.session_store.specs.Sides.{ends_at, shown_side}
+use Rattle.session_store.specs.Sides.{ends_at, shown_side, side_handed}
 use Rattle.session_store.proofs.KeptLemmas.{ServerActs, clients-same, handed-same, server-acted, server-places}
 use Rattle.session_store.proofs.KeptLemmas.{servers-set}
 use Rattle.session_store.proofs.ListLemmas.{all-at, get-map, get-own, get-there}

@@ -30,8 +30,7 @@ use Rattle.session_store.specs.Sides.{SideKept, SideQueued, places_in, served_pl
 use Rattle.session_store.specs.Sides.{shown_side, side_handed}
 use Rattle.session_store.specs.Stages.{asked, sends_at}
 use Rattle.session_store.proofs.EndLemmas.{calls-end}
-use Rattle.session_store.proofs.KeptLemmas.{ClientActs, client-kept, client-places, clients-set}
-use Rattle.session_store.proofs.KeptLemmas.{handed-kept}
+use Rattle.session_store.proofs.KeptLemmas.{ClientActs, client-kept, client-places, clients-set, handed-kept}
 use Rattle.session_store.proofs.ListLemmas.{all-at, get-map}
 use Rattle.session_store.proofs.LoseLemmas.{stands-idle}
 use Rattle.session_store.proofs.RollLemmas.{at-connected}
@@ -102,11 +101,6 @@ module _ (pool : Pool) (sides : List Side) (servers : List Serving) (tx : Ring E
       ≡ spare_of pool + places_in sides + served_places servers
   move-places = client-places pool pool sides servers i side later tx tx at kept move-acts
 
-  pub move-handed : map (side_handed pool) (slice_set sides i later) ≡ map (side_handed pool) sides
-  move-handed =
-      handed-kept pool pool sides servers i side later tx tx at kept move-acts
-      (rw (active, slots) refl)
-
   pub move-clients : (f : Client → Client) → shown_side pool later ≡ f (shown_side pool side)
       → ChangesAt i f (map (shown_side pool) sides) (map (shown_side pool) (slice_set sides i later))
   move-clients f is = record {
@@ -115,6 +109,10 @@ module _ (pool : Pool) (sides : List Side) (servers : List Serving) (tx : Ring E
     changed = clients-set pool pool sides servers i side later tx tx at kept move-acts
         ∙ ap (slice_set (map (shown_side pool) sides) i) is;
   }
+
+  pub move-handed : map (side_handed pool) (slice_set sides i later) ≡ map (side_handed pool) sides
+  move-handed =
+      handed-kept pool pool sides servers i side later tx tx at kept move-acts (rw (active, slots) refl)
 
 -- what is shown of it
 module _ (pool : Pool) (peer : ℕ) (s : Session) where

@@ -37,10 +37,6 @@ use Rattle.session_store.specs.declared.stage.Stage.TheVariants.{Closed, Failed,
 abbrev pub shown_side : Pool → Side → Client
 shown_side pool s = shown_end s.stage pool s.peer s.session
 
--- and what was handed in with its calls
-abbrev pub side_handed : Pool → Side → List Handed
-side_handed pool s = handed_of pool s.session
-
 -- the credits of a client session that is live: it neither closed nor failed, and has its peer
 abbrev pub credits_at : Stage → Session → ℕ
 credits_at (Connecting sends sent_at) s = limit_of s.credits
@@ -58,6 +54,10 @@ server_at (Closing sends sent_at) s = s.server
 server_at Closed s = s.server
 server_at Failed s = no_session
 server_at Broken s = s.server
+
+-- and what was handed in with its calls
+abbrev pub side_handed : Pool → Side → List Handed
+side_handed pool s = handed_of pool s.session
 
 abbrev pub side_credits : Side → ℕ
 side_credits s = credits_at s.stage s.session

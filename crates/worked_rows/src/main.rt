@@ -10,10 +10,16 @@ use std::rt::Files;
 use std::{fs, io};
 
 /// The cases with a whole report.
-const WHOLE: [&str; 4] = ["one_echo", "every_served_command", "late_copy", "refusals"];
+const WHOLE: [&str; 5] = [
+    "one_echo",
+    "every_served_command",
+    "late_copy",
+    "refusals",
+    "settled_without_credit",
+];
 
 /// The cases with lines of a report.
-const LINES: [&str; 18] = [
+const LINES: [&str; 19] = [
     "repeated_packets",
     "older_reply_flushed",
     "empty_message",
@@ -22,6 +28,7 @@ const LINES: [&str; 18] = [
     "small_room",
     "packet_edge",
     "out_of_turn",
+    "settled_out_of_turn",
     "overflow_by_a_repeat",
     "fill",
     "repeated_tally",

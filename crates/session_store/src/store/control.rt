@@ -61,8 +61,8 @@ impl Store {
         ensures servers { self.new.servers ≡ self.old.servers }
         ensures queued { self.new.queued ≡ self.old.queued }
         ensures size { self.new.size ≡ self.old.size }
-        ensures handed { self.new.handed ≡ self.old.handed }
         ensures places { self.new.places ≡ self.old.places }
+        ensures handed { self.new.handed ≡ self.old.handed }
     {
         let side = &mut self.sides[i];
         side.session.connected(server);
@@ -77,8 +77,8 @@ impl Store {
         ensures servers { self.new.servers ≡ self.old.servers }
         ensures queued { self.new.queued ≡ self.old.queued }
         ensures size { self.new.size ≡ self.old.size }
-        ensures handed { self.new.handed ≡ self.old.handed }
         ensures places { self.new.places ≡ self.old.places }
+        ensures handed { self.new.handed ≡ self.old.handed }
     {
         let side = &mut self.sides[i];
         side.stage = Stage::Failed;
@@ -93,8 +93,8 @@ impl Store {
         ensures servers { self.new.servers ≡ self.old.servers }
         ensures queued { self.new.queued ≡ self.old.queued }
         ensures size { self.new.size ≡ self.old.size }
-        ensures handed { self.new.handed ≡ self.old.handed }
         ensures places { self.new.places ≡ self.old.places }
+        ensures handed { self.new.handed ≡ self.old.handed }
     {
         let side = &mut self.sides[i];
         side.stage = Stage::Closing {
@@ -111,8 +111,8 @@ impl Store {
         ensures servers { self.new.servers ≡ self.old.servers }
         ensures queued { self.new.queued ≡ self.old.queued }
         ensures size { self.new.size ≡ self.old.size }
-        ensures handed { self.new.handed ≡ self.old.handed }
         ensures places { self.new.places ≡ self.old.places }
+        ensures handed { self.new.handed ≡ self.old.handed }
     {
         let side = &mut self.sides[i];
         side.stage = Stage::Closed;
@@ -185,8 +185,8 @@ impl Store {
         ensures servers { self.new.servers ≡ self.old.servers }
         ensures queued { self.new.queued ≡ self.old.queued }
         ensures size { self.new.size ≡ self.old.size }
-        ensures handed { self.new.handed ≡ self.old.handed }
         ensures places { self.new.places ≡ self.old.places }
+        ensures handed { self.new.handed ≡ self.old.handed }
     {
         let side = &mut self.sides[i];
         side.stage = side.stage.asked(now);

@@ -32,8 +32,8 @@ impl Store {
         ensures clients { self.new.clients ≡ self.old.clients }
         ensures queued { self.new.queued ≡ self.old.queued }
         ensures size { self.new.size ≡ self.old.size }
-        ensures handed { self.new.handed ≡ self.old.handed }
         ensures places { self.new.places ≡ self.old.places }
+        ensures handed { self.new.handed ≡ self.old.handed }
     {
         end_at(&mut self.servers, i, &mut self.pool);
     }

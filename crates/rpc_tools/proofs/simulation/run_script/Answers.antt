@@ -15,6 +15,7 @@ returns-in-Ok-print g c =
         sends_own = r.sends_own;
         fits = r.fits;
         stands_once = r.stands_once;
+        no_stall = r.no_stall;
         credit = r.credit;
         ends_clean = r.ends_clean;
         begins_clean = r.begins_clean;

@@ -1,7 +1,7 @@
 use Rattle.rpc_world.proofs.ServedLaws.{follows-fits, follows-only, follows-sends-own, follows-own}
 use Rattle.rpc_world.proofs.ServedLaws.{follows-once, follows-credit, follows-ends-clean}
 use Rattle.rpc_world.proofs.ServedLaws.{follows-begins-clean, follows-ring, follows-requests}
-use Rattle.rpc_world.proofs.ServedLaws.{follows-one, follows-stands-once}
+use Rattle.rpc_world.proofs.ServedLaws.{follows-one, follows-stands-once, follows-no-stall}
 use Rattle.one_history.proofs.ScriptTold.{all-told}
 use Rattle.rpc_world.proofs.world.World.run.Goals as goal
 
@@ -44,6 +44,12 @@ returns-clause-fits c =
 pub returns-clause-stands_once : goal.returns-clause-stands_once
 returns-clause-stands_once c =
     follows-stands-once _ _ c.in_ok-world.ensures.script
+    (follows-only _ _ c.in_ok-world.ensures.script c.requires c.in_ok-world.ensures.follows)
+    c.in_ok-world.ensures.follows
+
+pub returns-clause-no_stall : goal.returns-clause-no_stall
+returns-clause-no_stall c =
+    follows-no-stall _ _ c.in_ok-world.ensures.script
     (follows-only _ _ c.in_ok-world.ensures.script c.requires c.in_ok-world.ensures.follows)
     c.in_ok-world.ensures.follows
 

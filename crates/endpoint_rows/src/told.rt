@@ -1,0 +1,37 @@
+//! Facts, compared as the lines of a report.
+use crate::differs::Differs;
+use report_text::print_facts;
+use rpc_outside::{MemRecorder, MemSink};
+use std::alloc::Global;
+
+/// More bytes than the report of a row has.
+const ROOM: u32 = 1 << 16;
+
+// The lines of a report between its first and its last.
+fn between(report: &str) -> Option<&str> {
+    let (_first, rest) = report.split_once('\n')?;
+    let (lines, _last) = rest.rsplit_once("end ")?;
+    Some(lines)
+}
+
+// The lines of the facts, as a report has them.
+fn lines_of(alloc: Global, recorder: &MemRecorder) -> Result<String, Differs> {
+    let mut sink = MemSink::new(alloc, ROOM, Vec::new(alloc))?;
+    if print_facts(recorder.facts(), &mut sink).is_err() || !recorder.whole() {
+        return Err(Differs::Memory);
+    }
+    let Ok(report) = str::from_utf8(sink.bytes()) else {
+        return Err(Differs::Memory);
+    };
+    let lines = between(report).unwrap_or("");
+    Ok(String::from_str(alloc, lines)?)
+}
+
+/// Goes on where the facts so far are those of these lines.
+pub fn expect_facts(alloc: Global, recorder: &MemRecorder, wanted: &str) -> Result<(), Differs> {
+    let lines = lines_of(alloc, recorder)?;
+    if lines.as_str() == wanted {
+        return Ok(());
+    }
+    Err(Differs::Facts(lines))
+}

@@ -1,0 +1,673 @@
+-- The steps of a node leave nothing to be done.
+use Rattle.std.proofs.Common.{◌≡◌, ◌+◌, ◌-◌, ◌==◌, ◌%◌, ℕ, zero, suc, Bool, true, false, not, cond}
+use Rattle.std.proofs.Common.{List, [], ◌∷◌, ◌++◌, length, map, Option, Some, None, slice_get, refl}
+use Rattle.std.proofs.Common.{sym, ap, ◌∙◌, subst, eq-eqb}
+use Rattle.std.specs.Prelude.{option_and_then, option_map, flat_map}
+use Rattle.std.specs.List.{find, AllByRecursion}
+use Rattle.std.proofs.lemmas.Bool.{eqb-true}
+use Rattle.packet_header.specs.Parts.{packet_count}
+use Rattle.packet_header.specs.Reading.{message_of, body_of}
+use Rattle.packet_header.specs.declared.packet.Kind.{Kind}
+use Rattle.packet_header.specs.declared.packet.Kind.TheVariants.{Request, Rfr, Cr, Response}
+use Rattle.packet_header.specs.declared.packet.MessageHeader.{MessageHeader}
+use Rattle.rpc_base.specs.declared.event.Event.{Event}
+use Rattle.rpc_base.specs.declared.event.Event.TheVariants.{Posted, Took, Ran, Begun, Flushed}
+use Rattle.rpc_base.specs.declared.event.Event.TheVariants.{DonePeerLost, Rolled, Broken, Sent}
+use Rattle.rpc_base.specs.declared.event.Event.TheVariants.{Polled, Dropped}
+use Rattle.rpc_base.specs.declared.fact.Fact.{Fact}
+use Rattle.rpc_base.specs.declared.fact.Who.TheVariants.{Node}
+use Rattle.rpc_base.specs.declared.state.DropReason.TheVariants.{WrongPeer, NoSession}
+use Rattle.rpc_base.specs.declared.owner.Owner.TheVariants.{Ask, Reply}
+use Rattle.rpc_base.proofs.BasicLemmas.{false-true}
+use Rattle.rpc_base.proofs.TakingLemmas.{find-passes}
+use Rattle.rpc_laws.specs.declared.rows.ClientRow.{ClientRow}
+use Rattle.rpc_laws.specs.declared.rows.ClientRow.TheVariants.{Drops as DropsReply}
+use Rattle.rpc_laws.specs.declared.rows.ClientRow.TheVariants.{Takes as TakesReply}
+use Rattle.rpc_laws.specs.declared.rows.EndRow.{EndRow}
+use Rattle.rpc_laws.specs.declared.rows.EndRow.TheVariants.{GoesOn, EndsOk, EndsTooSmall}
+use Rattle.rpc_laws.specs.declared.rows.ServerRow.{ServerRow}
+use Rattle.rpc_laws.specs.declared.rows.ServerRow.TheVariants.{Drops, Begins, Takes, Repeats}
+use Rattle.rpc_laws.specs.declared.rows.TimerRow.{TimerRow}
+use Rattle.rpc_laws.specs.declared.rows.TimerRow.TheVariants.{Waits, RollsBack, Breaks}
+use Rattle.rpc_laws.specs.declared.tables.Arrival.{Arrival}
+use Rattle.rpc_laws.specs.declared.tables.Asking.{Asking}
+use Rattle.rpc_laws.specs.declared.tables.Call.{Call}
+use Rattle.rpc_laws.specs.declared.tables.Client.{Client}
+use Rattle.rpc_laws.specs.declared.tables.InFlight.{InFlight}
+use Rattle.rpc_laws.specs.declared.tables.Job.{Job}
+use Rattle.rpc_laws.specs.declared.tables.Lists.{Lists}
+use Rattle.rpc_laws.specs.declared.tables.Progress.{Progress}
+use Rattle.rpc_laws.specs.declared.tables.Queued.{Queued}
+use Rattle.rpc_laws.specs.declared.tables.Served.{Served}
+use Rattle.rpc_laws.specs.declared.tables.Server.{Server}
+use Rattle.rpc_laws.specs.declared.tables.Timed.{Timed}
+use Rattle.rpc_laws.specs.declared.tables.WorkedJob.{WorkedJob}
+use Rattle.rpc_laws.specs.Calls.{is_active, is_call, is_waiting, with_reply}
+use Rattle.rpc_laws.specs.ClientTable.{client_ending, call_ending, progress_ending, end_facts}
+use Rattle.rpc_laws.specs.ClientTable.{reply_facts}
+use Rattle.rpc_laws.specs.ControlSteps.{Hears, HearsAll, Retries, TimesSession, TimesAll}
+use Rattle.rpc_laws.specs.Facts.{plain, with_two}
+use Rattle.rpc_laws.specs.Front.{front_header, front_body}
+use Rattle.rpc_laws.specs.GoBackN.{Watches, WatchesSession, Each, flushes_of, row_facts, row_of}
+use Rattle.rpc_laws.specs.GoBackN.{progress_facts, call_facts, client_facts, numbers_in}
+use Rattle.rpc_laws.specs.Jobs.{are_full, is_job}
+use Rattle.rpc_laws.specs.NodeLists.{after}
+use Rattle.rpc_laws.specs.PollOrder.{answer_posted, awaited, awaited_of, Finishes, Handles}
+use Rattle.rpc_laws.specs.PollOrder.{HandlesAll}
+use Rattle.rpc_laws.specs.PollOrder.{handling_by, Serves, PostsAll, Sends, SendsAll, Closes}
+use Rattle.rpc_laws.specs.Posting.{if_connected, beginning, posting, next_begun, next_posted}
+use Rattle.rpc_laws.specs.Posting.{next_packet, next_turn, lowest_free, can_post}
+use Rattle.rpc_laws.specs.Queues.{numbers_of}
+use Rattle.rpc_laws.specs.Requests.{is_server, is_request, in_slot_of, took_packet}
+use Rattle.rpc_laws.specs.ServerTable.{is_last, joined, took_facts, flushes, served_facts}
+use Rattle.rpc_laws.specs.ServerTable.{server_row, slot_row}
+use Rattle.rpc_laws.specs.Service.{is_background}
+use Rattle.rpc_laws.specs.Sessions.{is_client, is_connected}
+use Rattle.rpc_laws.specs.Steps.{Rel, Then, Chain, none, more, Until, Visits, NotesNext, NotesAll}
+use Rattle.rpc_laws.specs.Working.{FinishesEach, FinishesWorked}
+use Rattle.rpc_outside.specs.PlainAnswer.{plain_mode}
+use Rattle.end_laws.specs.OnlyPairs.{OnlyPairs}
+use Rattle.end_laws.proofs.Allowed.{Fronts, IsWhole}
+use Rattle.end_laws.proofs.AskSteps.{bring_facts, took-walk, OpenSlot, Taking, took-slot}
+use Rattle.end_laws.proofs.AskSteps.{slots-found, last-number, taken-last, taken-size}
+use Rattle.end_laws.proofs.ListLemmas.{all-found, all-append}
+use Rattle.end_laws.proofs.QueueLemmas.{RightNode}
+use Rattle.end_laws.proofs.Rights.{JobFits, JobsRight, SlotRight, front-right, took-right, out-job}
+use Rattle.end_laws.proofs.Rights.{job-number}
+use Rattle.end_laws.proofs.RowSteps.{IsAsk, row-begins, row-takes}
+use Rattle.end_laws.proofs.SendsLaw.{right-stays}
+use Rattle.end_laws.proofs.SlotLemmas.{with_slots, Apart}
+use Rattle.end_laws.proofs.Walks.{Fine, only-front, only-back, fine-chain, fine-until, fine-visits}
+use Rattle.end_laws.proofs.CallSteps.{watches-fine}
+use Rattle.end_laws.proofs.ControlSteps.{hears-fine, hears-all, retries-of, retries-fine}
+use Rattle.end_laws.proofs.ControlSteps.{times-session, times-all}
+use Rattle.end_laws.proofs.PollSteps.{begun-fine, posted-fine, serves-fine, sends-fine, posts-all}
+use Rattle.end_laws.proofs.PollSteps.{sends-all}
+use Rattle.end_laws.proofs.ReplySteps.{front-is, handles-fine}
+use Rattle.end_laws.proofs.WorkSteps.{number-is, finishes-fine, finishes-worked as finishes-worked-fine}
+use Rattle.ring_laws.proofs.ServerReach.{NoneOut}
+use Rattle.stall_laws.proofs.Dues.{Due, nothing, reply, flushed, Step, older, takes, repeats}
+use Rattle.stall_laws.proofs.Dues.{posts, gives, serves, finishes, flushes as flushes_step, rolls}
+use Rattle.stall_laws.proofs.Dues.{breaks}
+use Rattle.stall_laws.proofs.Dues.{StepsFrom, steps-alone, one-alone, IsAlone, is_alone, Orders}
+use Rattle.stall_laws.proofs.Dues.{Orderly}
+use Rattle.stall_laws.proofs.Dues.{orders-append, IsOlder, IsCallFor, Goes as MayGoOn}
+
+-- a step, and then others
+module _ (hand : Option InFlight) where
+  pub orderly-then : (P Q : Rel) → Fine RightNode hand P → Orderly hand P → Orderly hand Q → Orderly hand (Then P Q)
+  orderly-then P Q fine p q s x t o i h =
+      let both = subst OnlyPairs h.joined o in
+      let front = only-front h.front h.back both in
+      let w = fine s h.front h.between front i h.first in
+      subst (λ (y : List Fact). Orders hand s y) (sym h.joined)
+      (orders-append hand s h.between h.front h.back w (p s h.front h.between front i h.first)
+      (q h.between h.back t (only-back h.front h.back both) w.inv h.second))
+
+  pub orderly-chain : (P : Rel) → Fine RightNode hand P → Orderly hand P → Orderly hand (Chain P)
+  orderly-chain P fine p s x t o i none = refl
+  orderly-chain P fine p s x t o i (more {x = front} {t = between} c y u h) =
+      let first = only-front front y o in
+      let w = fine-chain RightNode hand P fine s front between first i c in
+      orders-append hand s between front y w (orderly-chain P fine p s front between first i c)
+      (p between y u (only-back front y o) w.inv h)
+
+  pub orderly-until : (P : Rel) (Over : Timed → Type 0) → Fine RightNode hand P → Orderly hand P
+      → Orderly hand (Until P Over)
+  orderly-until P Over fine p s x t o i h = orderly-chain P fine p s x t o i h.steps
+
+  pub orderly-visits : (P : ℕ → Rel) → ((n : ℕ) → Fine RightNode hand (P n))
+      → ((n : ℕ) → Orderly hand (P n)) → (n : ℕ) → Orderly hand (Visits P n)
+  orderly-visits P fine p zero s x t o i h = rw h.0 refl
+  orderly-visits P fine p (suc n) s x t o i h =
+      orderly-then (Visits P n) (P n) (fine-visits RightNode hand P fine n)
+      (orderly-visits P fine p n) (p n) s x t o i h
+
+  pub orderly-each : (P : ℕ → Rel) → ((n : ℕ) → Fine RightNode hand (P n))
+      → ((n : ℕ) → Orderly hand (P n)) → (ns : List ℕ) → Orderly hand (Each P ns)
+  orderly-each P fine p [] s x t o i h = rw h.0 refl
+  orderly-each P fine p (n ∷ ns) s x t o i h =
+      orderly-then (P n) (Each P ns) (fine n) (p n) (orderly-each P fine p ns) s x t o i h
+
+-- a job is finished: its answer is awaited, and posted
+awaits-some : (q : Served) → q.working ≡ true → awaited_of (Some q) ≡ None → ⊥
+awaits-some q working e = let there : Some (packet_count q.size - 1) ≡ None = rw working at e in cc
+
+posts-answer : (o : Option ℕ) (hand : Option InFlight) (clock : ℕ) (l u : Lists) (job : Job)
+    → awaited job l.servers ≡ o → JobFits l.servers job → u.me ≡ l.me
+    → StepsFrom hand (reply l.me job.session job.request (packet_count (length job.ask) - 1)) clock u
+    (answer_posted l.me job o) nothing
+posts-answer None hand clock l u job e h me =
+    let own : awaited_of (Some h.request) ≡ None = rw (h.stands.found, h.stands.is_there) at e in
+    absurd (awaits-some h.request h.working own)
+posts-answer (Some k) hand clock l u job e h me =
+    let own : awaited_of (Some h.request) ≡ Some k = rw (h.stands.found, h.stands.is_there) at e in
+    let last : packet_count (length job.ask) - 1 ≡ k = number-is h.request (length job.ask) k h.working h.sized own in
+    (nothing, ap Node (sym me), rw (last, ← me) (posts job.session job.request k), refl)
+
+module _ (hand : Option InFlight) where
+  pub finishes-orders : (session request : ℕ) → Orderly hand (Finishes session request)
+  finishes-orders session request s x t o i h =
+      let l = s.lists in
+      let job = h.job in
+      let fits = out-job l session request job i.jobs h.is_out in
+      let of = job-number session request l.jobs.out job h.is_out in
+      let is_out : find (is_job job.session job.request) l.jobs.out ≡ Some job =
+      subst (λ (b : ℕ). find (is_job job.session b) l.jobs.out ≡ Some job) (sym of.1)
+      (subst (λ (a : ℕ). find (is_job a request) l.jobs.out ≡ Some job) (sym of.0) h.is_out) in
+      let f : Fact = with_two l.me (Ran job.session job.request job.req_type) job.ask h.answer in
+      rw h.facts (
+        reply l.me job.session job.request (packet_count (length job.ask) - 1),
+        refl,
+        finishes job.session job.request job.req_type (record { job = job; is_out = is_out; own = refl }),
+        posts-answer (awaited job l.servers) hand s.clock l (after s.clock l f) job refl fits refl,
+      )
+
+  finishes-each : (worked : List WorkedJob) → Orderly hand (FinishesEach worked)
+  finishes-each [] s x t o i h = rw h.0 refl
+  finishes-each (w ∷ ws) s x t o i h =
+      orderly-then hand (Finishes w.session w.request) (FinishesEach ws)
+      (finishes-fine hand w.session w.request) (finishes-orders w.session w.request)
+      (finishes-each ws) s x t o i h
+
+  pub finishes-worked : (worked : List WorkedJob) → Orderly hand (FinishesWorked worked)
+  finishes-worked worked s x t o i h = finishes-each h.done s x t o i h.finishes
+
+-- a request whose last packet was just taken has no job
+none-out : (l : Lists) (h : MessageHeader) (v : Server) (ask : List ℕ) (o : Option Job)
+    → find (is_job h.session h.request) l.jobs.out ≡ o → JobsRight l.servers l.jobs
+    → find (is_server h.session) l.servers ≡ Some v → (n : OpenSlot v.slots h ask)
+    → h.kind ≡ Request → NoneOut l h.session h.request
+none-out l h v ask None is jobs found n kind = is
+none-out l h v ask (Some job) is jobs found n kind =
+    let fits = out-job l h.session h.request job jobs is in
+    let of = job-number h.session h.request l.jobs.out job is in
+    let server : find (is_server h.session) l.servers ≡ Some fits.stands.server =
+    subst (λ (t : ℕ). find (is_server t) l.servers ≡ Some fits.stands.server) of.0 fits.stands.found in
+    let request : find (is_request h.request) fits.stands.server.slots ≡ Some fits.request =
+    subst (λ (r : ℕ). find (is_request r) fits.stands.server.slots ≡ Some fits.request) of.1 fits.stands.is_there in
+    let same : fits.stands.server ≡ v = cc in
+    let there : find (is_request h.request) v.slots ≡ Some fits.request =
+    subst (λ (z : Server). find (is_request h.request) z.slots ≡ Some fits.request) same request in
+    let slot = n.slot.is_there in
+    let one : n.slot.request ≡ fits.request = cc in
+    let working = fits.working in
+    let idle : fits.request.working ≡ false = ap (λ (q : Served). q.working) (sym one) ∙ (n.is_open kind).1 in
+    false-true (sym idle ∙ working)
+
+bring-steps : (hand : Option InFlight) (clock : ℕ) (l : Lists) (h : MessageHeader) (v : Server)
+    (ask answer : List ℕ) (last background : Bool) → JobsRight l.servers l.jobs
+    → find (is_server h.session) l.servers ≡ Some v → OpenSlot v.slots h ask
+    → (last ≡ true → (h.kind ≡ Request) × (h.number + 1 ≡ packet_count h.size)
+    × (length ask ≡ h.size))
+    → StepsFrom hand (reply l.me h.session h.request h.number) clock l
+    (bring_facts last background l.me answer h ask) nothing
+bring-steps hand clock l h v ask answer false background jobs found n ends =
+    (nothing, refl, posts h.session h.request h.number, refl)
+bring-steps hand clock l h v ask answer true true jobs found n ends =
+    let e = ends refl in
+    let opens = n.is_open e.0 in
+    let number = last-number h ask e.1 e.2 in
+    let whole : IsWhole l h.session h.request = record {
+      server = v;
+      found = found;
+      request = n.slot.request;
+      is_there = n.slot.is_there;
+      whole = n.slot.taken ∙ (e.1 ∙ ap packet_count (sym (n.of_kind e.0).1));
+      unanswered = opens.0;
+      idle = opens.1;
+    } in (
+      nothing,
+      refl,
+      gives h.session h.request h.number whole
+          (ap (λ (x : List ℕ). packet_count (length x) - 1) n.slot.own ∙ number),
+      refl,
+    )
+bring-steps hand clock l h v ask answer true false jobs found n ends =
+    let e = ends refl in (
+      reply l.me h.session h.request h.number,
+      refl,
+      serves h.session h.request h.req_type h.number
+          (none-out l h v ask _ refl jobs found n e.0) (last-number h ask e.1 e.2),
+      (nothing, refl, posts h.session h.request h.number, refl),
+    )
+
+took-steps : (hand : Option InFlight) (clock : ℕ) (l : Lists) (front : Arrival) (h : MessageHeader)
+    (v : Server) (going : Option Served) (answer : List ℕ) → RightNode l → Taking l front h v going
+    → StepsFrom hand nothing clock l (took_facts (plain_mode h.req_type) l.me answer h
+    (joined going (front_body l.ring))) nothing
+took-steps hand clock l front h v going answer i t =
+    let f : Fact = plain l.me (Took (Reply h.session h.request) h.number) in
+    let change = took_packet h.request (front_header l.ring) (front_body l.ring) in
+    let after_it : find (is_server h.session) (after clock l f).servers
+    ≡ Some (with_slots change v) = slots-found change h.session l.servers v t.found in
+    let slot : OpenSlot (took_packet h.request (Some h) (front_body l.ring) v.slots) h
+    (joined going (front_body l.ring)) =
+    took-slot going v.slots h (front_body l.ring) t.apart t.right
+    (front-right l h t.is_front.reads) t.takes in
+    let right : AllByRecursion SlotRight (took_packet h.request (front_header l.ring)
+    (front_body l.ring) v.slots) = rw (t.is_front.reads)
+    (took-right going v.slots h (front_body l.ring)
+    (front-right l h t.is_front.reads) t.takes t.right) in
+    let new : OpenSlot (took_packet h.request (front_header l.ring) (front_body l.ring) v.slots) h
+    (joined going (front_body l.ring)) = rw (t.is_front.reads) slot in
+    let allowed = (took-walk hand None clock l front h v going answer t).0 in
+    let now = right-stays hand clock l f allowed i in (
+      reply l.me h.session h.request h.number,
+      refl,
+      takes h.session h.request h.number,
+      bring-steps hand clock (after clock l f) h (with_slots change v) (joined going (front_body l.ring)) answer
+          (is_last h) (is_background h.req_type) now.jobs after_it new (λ last. let e = taken-last going v.slots h
+          t.takes last in (
+            e.0,
+            e.1,
+            taken-size h (took_packet h.request (front_header l.ring)
+                (front_body l.ring) v.slots) (joined going (front_body l.ring)) new right e.0 e.1,
+          )),
+    )
+
+-- the older replies are flushed first
+older-then : (hand : Option InFlight) (clock : ℕ) (l : Lists) (front : Arrival) (h : MessageHeader)
+    (v : Server) (answer : List ℕ) (session r : ℕ) (ks : List ℕ) → RightNode l
+    → Taking l front h v None → IsOlder l session r
+    → StepsFrom hand nothing clock l (map (λ k. plain l.me (Flushed (Reply session r) k)) ks
+    ++ took_facts (plain_mode h.req_type) l.me answer h (joined None (front_body l.ring))) nothing
+older-then hand clock l front h v answer session r [] i t o = took-steps hand clock l front h v None answer i t
+older-then hand clock l front h v answer session r (k ∷ ks) i t o =
+    let f : Fact = plain l.me (Flushed (Reply session r) k) in
+    let now = right-stays hand clock l f (record { who = refl; may = tt }) i in (
+      nothing,
+      refl,
+      older session r k o,
+      older-then hand clock (after clock l f) front h v answer session r ks now
+          (record {
+            is_front = record { is_front = t.is_front.is_front; reads = t.is_front.reads };
+            found = t.found;
+            of_peer = t.of_peer;
+            takes = t.takes;
+            apart = t.apart;
+            right = t.right;
+          })
+          (record {
+            header = o.header;
+            reads = o.reads;
+            kind = o.kind;
+            session = o.session;
+            slot = o.slot;
+            newer = o.newer;
+          }),
+    )
+
+begins-steps : (hand : Option InFlight) (clock : ℕ) (l : Lists) (front : Arrival)
+    (h : MessageHeader) (v : Server) (answer : List ℕ) (old : Option Served) → RightNode l
+    → Taking l front h v None → find (in_slot_of h.request) v.slots ≡ old
+    → StepsFrom hand nothing clock l (flushes l.me l.queued v.way.number old
+    ++ took_facts (plain_mode h.req_type) l.me answer h (joined None (front_body l.ring))) nothing
+begins-steps hand clock l front h v answer None i t is = took-steps hand clock l front h v None answer i t
+begins-steps hand clock l front h v answer (Some q) i t is =
+    let slot = eqb-true (q.number % 8) (h.request % 8) (find-passes (in_slot_of h.request) v.slots q is) in
+    let session = eqb-true v.way.number h.session (find-passes (is_server h.session) l.servers v t.found) in
+    let takes = t.takes in
+    older-then hand clock l front h v answer v.way.number q.number
+    (numbers_of (Reply v.way.number q.number) l.queued) i t (record {
+      header = h;
+      reads = t.is_front.reads;
+      kind = takes.0;
+      session = sym session;
+      slot = slot;
+      newer = (takes.3 q is).0;
+    })
+
+row-steps : (hand : Option InFlight) (clock : ℕ) (l : Lists) (front : Arrival) (h : MessageHeader)
+    (v : Server) (full lacks : Bool) (answer : List ℕ) (row : ServerRow) → RightNode l
+    → Fronts l front h → IsAsk h.kind → find (is_server h.session) l.servers ≡ Some v
+    → front.peer ≡ v.way.peer → Apart v.slots → AllByRecursion SlotRight v.slots
+    → slot_row (plain_mode h.req_type) full lacks (find (in_slot_of h.request) v.slots) h ≡ row
+    → StepsFrom hand nothing clock l (served_facts (plain_mode h.req_type) l.me answer l.queued
+    (Some v) h (front_body l.ring) row) nothing
+row-steps hand clock l front h v full lacks answer (Drops why) i f k found peer a right e =
+    one-alone hand clock l (plain l.me (Dropped why)) refl refl
+row-steps hand clock l front h v full lacks answer Begins i f k found peer a right e =
+    let t = row-begins (plain_mode h.req_type) full lacks h v.slots _ refl k a e in
+    begins-steps hand clock l front h v answer (find (in_slot_of h.request) v.slots) i
+    (record {
+      is_front = f;
+      found = found;
+      of_peer = peer;
+      takes = t;
+      apart = a;
+      right = right;
+    }) refl
+row-steps hand clock l front h v full lacks answer Takes i f k found peer a right e =
+    let t = row-takes (plain_mode h.req_type) full lacks h v.slots _ refl k e in
+    let there : find (is_request h.request) v.slots ≡ Some t.0 = t.1.0 in
+    rw there (took-steps hand clock l front h v (Some t.0) answer i
+    (record {
+      is_front = f;
+      found = found;
+      of_peer = peer;
+      takes = t.1;
+      apart = a;
+      right = right;
+    }))
+row-steps hand clock l front h v full lacks answer Repeats i f k found peer a right e = (
+  reply l.me h.session h.request h.number,
+  refl,
+  repeats h.session h.request h.number,
+  (nothing, refl, posts h.session h.request h.number, refl),
+)
+
+peer-steps : (hand : Option InFlight) (clock : ℕ) (l : Lists) (front : Arrival) (h : MessageHeader)
+    (v : Server) (full lacks b : Bool) (answer : List ℕ) → (v.way.peer == front.peer) ≡ b
+    → RightNode l → Fronts l front h → IsAsk h.kind → find (is_server h.session) l.servers ≡ Some v
+    → Apart v.slots → AllByRecursion SlotRight v.slots
+    → StepsFrom hand nothing clock l (served_facts (plain_mode h.req_type) l.me answer l.queued
+    (Some v) h (front_body l.ring) (cond (not b) (Drops WrongPeer)
+    (slot_row (plain_mode h.req_type) full lacks (find (in_slot_of h.request) v.slots) h))) nothing
+peer-steps hand clock l front h v full lacks true answer t i f k found a right =
+    row-steps hand clock l front h v full lacks answer
+    (slot_row (plain_mode h.req_type) full lacks (find (in_slot_of h.request) v.slots) h) i f k
+    found (sym (eqb-true v.way.peer front.peer t)) a right refl
+peer-steps hand clock l front h v full lacks false answer t i f k found a right =
+    one-alone hand clock l (plain l.me (Dropped WrongPeer)) refl refl
+
+session-steps : (hand : Option InFlight) (clock : ℕ) (l : Lists) (front : Arrival)
+    (h : MessageHeader) (full lacks : Bool) (answer : List ℕ) (v : Option Server)
+    → find (is_server h.session) l.servers ≡ v → RightNode l → Fronts l front h → IsAsk h.kind
+    → StepsFrom hand nothing clock l (served_facts (plain_mode h.req_type) l.me answer l.queued v h
+    (front_body l.ring) (server_row (plain_mode h.req_type) full lacks v front.peer h)) nothing
+session-steps hand clock l front h full lacks answer None is i f k =
+    one-alone hand clock l (plain l.me (Dropped NoSession)) refl refl
+session-steps hand clock l front h full lacks answer (Some v) is i f k =
+    peer-steps hand clock l front h v full lacks _ answer refl i f k is
+    (all-found (λ v. Apart v.slots) (is_server h.session) l.servers v i.sound is)
+    (all-found (λ v. AllByRecursion SlotRight v.slots) (is_server h.session) l.servers v i.slots is)
+
+-- what a reply does is alone
+row-alone : (me number : ℕ) (parts : List ℕ) (row : EndRow)
+    → AllByRecursion (IsAlone me) (end_facts me number parts row)
+row-alone me number parts GoesOn = tt
+row-alone me number parts EndsOk = ((refl, refl), tt)
+row-alone me number parts (EndsTooSmall size) = ((refl, refl), tt)
+
+progress-alone : (me : ℕ) (a : Asking) (h : MessageHeader) (body : List ℕ) (p : Option Progress)
+    → AllByRecursion (IsAlone me) (progress_ending me a h body p)
+progress-alone me a h body None = tt
+progress-alone me a h body (Some p) = row-alone me a.number (with_reply h body p).parts _
+
+call-alone : (me : ℕ) (h : MessageHeader) (body : List ℕ) (c : Option Call)
+    → AllByRecursion (IsAlone me) (call_ending me h body c)
+call-alone me h body None = tt
+call-alone me h body (Some c) = progress-alone me c.what h body c.progress
+
+ending-alone : (me : ℕ) (h : MessageHeader) (body : List ℕ) (x : Option Client)
+    → AllByRecursion (IsAlone me) (client_ending me h body x)
+ending-alone me h body None = tt
+ending-alone me h body (Some x) = call-alone me h body (find (is_active h.request) x.calls)
+
+reply-alone : (me : ℕ) (x : Option Client) (h : MessageHeader) (body : List ℕ) (row : ClientRow)
+    → AllByRecursion (IsAlone me) (reply_facts me x h body row)
+reply-alone me x h body (DropsReply why) = ((refl, refl), tt)
+reply-alone me x h body TakesReply = ((refl, refl), ending-alone me h body x)
+
+-- the front of the ring is handled
+kind-steps : (hand : Option InFlight) (clock : ℕ) (l : Lists) (front : Arrival) (h : MessageHeader)
+    (lacks : Bool) (answer : List ℕ) (k : Kind) → h.kind ≡ k → Fronts l front h → RightNode l
+    → StepsFrom hand nothing clock l
+    (handling_by plain_mode lacks answer k l front.peer h (front_body l.ring)) nothing
+kind-steps hand clock l front h lacks answer Request e f i =
+    session-steps hand clock l front h (are_full l.jobs) lacks answer _ refl i f (rw e tt)
+kind-steps hand clock l front h lacks answer Rfr e f i =
+    session-steps hand clock l front h (are_full l.jobs) lacks answer _ refl i f (rw e tt)
+kind-steps hand clock l front h lacks answer Cr e f i =
+    steps-alone hand clock l _ (reply-alone l.me (find (is_client h.session) l.clients) h (front_body l.ring) _)
+kind-steps hand clock l front h lacks answer Response e f i =
+    steps-alone hand clock l _ (reply-alone l.me (find (is_client h.session) l.clients) h (front_body l.ring) _)
+
+module _ (hand : Option InFlight) where
+  handles-orders : Orderly hand (Handles plain_mode)
+  handles-orders s x t o i h =
+      let bytes = front-is s.lists.ring h.front h.is_front in
+      let reads : front_header s.lists.ring ≡ Some h.header = ap message_of bytes ∙ h.reads in
+      let steps = kind-steps hand s.clock s.lists h.front h.header h.lacks h.answer h.header.kind refl
+      (record { is_front = h.is_front; reads = reads }) i in
+      let same : handling_by plain_mode h.lacks h.answer h.header.kind s.lists h.front.peer h.header
+      (front_body s.lists.ring) ≡ x =
+      ap (λ (b : List ℕ). handling_by plain_mode h.lacks h.answer h.header.kind s.lists
+      h.front.peer h.header (body_of b)) bytes ∙ sym h.facts in
+      subst (λ (y : List Fact). Orders hand s y) same steps
+
+  hears-orders : Orderly hand Hears
+  hears-orders s x t o i h = let heard = subst OnlyPairs h.facts o in false-true (sym heard.0)
+
+-- a call is rolled back
+rolls-steps : (hand : Option InFlight) (clock : ℕ) (l : Lists) (d : Due) (s r c posted got : ℕ)
+    (ks : List ℕ) → MayGoOn d l.me s (Some r) → IsCallFor l s c r
+    → StepsFrom hand d clock l (map (λ k. plain l.me (Flushed (Ask s r) k)) ks
+    ++ plain l.me (Rolled c posted got) ∷ []) nothing
+rolls-steps hand clock l d s r c posted got [] go call = (nothing, refl, rolls d s r c posted got go call, refl)
+rolls-steps hand clock l d s r c posted got (k ∷ ks) go call = (
+  flushed l.me s (Some r),
+  refl,
+  flushes_step d s r k (Some r) go (eq-eqb r r refl),
+  rolls-steps hand clock (after clock l (plain l.me (Flushed (Ask s r) k))) (flushed l.me s
+      (Some r)) s r c posted got ks
+      (refl, refl, refl)
+      (record {
+        place = call.place;
+        client = call.client;
+        found = call.found;
+        number = call.number;
+        call = call.call;
+        is_there = call.is_there;
+        progress = call.progress;
+        is_progress = call.is_progress;
+        request = call.request;
+      }),
+)
+
+-- a session breaks
+pub record IsFlush (me s : ℕ) (f : Fact) : Type 0 where
+  pub who : f.who ≡ Node me
+  pub request : ℕ
+  pub number : ℕ
+  pub event : f.event ≡ Flushed (Ask s request) number
+
+flush-all : (me s r : ℕ) (ks : List ℕ)
+    → AllByRecursion (IsFlush me s) (map (λ k. plain me (Flushed (Ask s r) k)) ks)
+flush-all me s r [] = tt
+flush-all me s r (k ∷ ks) = (record { who = refl; request = r; number = k; event = refl }, flush-all me s r ks)
+
+flushes-all : (me s : ℕ) (queued : List Queued) (p : Option Progress)
+    → AllByRecursion (IsFlush me s) (flushes_of me s queued p)
+flushes-all me s queued None = tt
+flushes-all me s queued (Some p) = flush-all me s p.request (numbers_of (Ask s p.request) queued)
+
+pub calls-all : (me s : ℕ) (queued : List Queued) (calls : List Call)
+    → AllByRecursion (IsFlush me s) (flat_map (λ c. flushes_of me s queued c.progress) calls)
+calls-all me s queued [] = tt
+calls-all me s queued (c ∷ calls) =
+    all-append (IsFlush me s) (flushes_of me s queued c.progress) _
+    (flushes-all me s queued c.progress) (calls-all me s queued calls)
+
+lost-alone : (me : ℕ) (calls : List Call)
+    → AllByRecursion (IsAlone me) (map (λ c. plain me (DonePeerLost c.what.number)) calls)
+lost-alone me [] = tt
+lost-alone me (c ∷ calls) = ((refl, refl), lost-alone me calls)
+
+breaks-steps : (hand : Option InFlight) (clock : ℕ) (l : Lists) (d : Due) (s : ℕ)
+    (x dones : List Fact) → MayGoOn d l.me s None → AllByRecursion (IsFlush l.me s) x
+    → AllByRecursion (IsAlone l.me) dones
+    → StepsFrom hand d clock l (x ++ plain l.me (Broken s) ∷ dones) nothing
+breaks-steps hand clock l d s [] dones go all lost =
+    (nothing, refl, breaks d s go, steps-alone hand clock (after clock l (plain l.me (Broken s))) dones lost)
+breaks-steps hand clock l d s (f ∷ x) dones go all lost = (
+  flushed l.me s None,
+  all.0.who,
+  subst (λ (e : Event). Step hand l f.first d e (flushed l.me s None)) (sym all.0.event)
+      (flushes_step d s all.0.request all.0.number None go refl),
+  breaks-steps hand clock (after clock l f) (flushed l.me s None) s x dones (refl, refl, refl) all.1 lost,
+)
+
+timer-steps : (hand : Option InFlight) (clock : ℕ) (l : Lists) (x : Client) (c : Call)
+    (p : Progress) (row : TimerRow) (i : ℕ) → slice_get l.clients i ≡ Some x
+    → find (is_call c.what.number) x.calls ≡ Some c → c.progress ≡ Some p
+    → StepsFrom hand nothing clock l (row_facts l.me l.queued x c.what.number p row) nothing
+timer-steps hand clock l x c p Waits i found call at = refl
+timer-steps hand clock l x c p RollsBack i found call at =
+    rolls-steps hand clock l nothing x.way.number p.request c.what.number p.posted p.got
+    (numbers_of (Ask x.way.number p.request) l.queued) tt
+    (record {
+      place = i;
+      client = x;
+      found = found;
+      number = refl;
+      call = c;
+      is_there = call;
+      progress = p;
+      is_progress = at;
+      request = refl;
+    })
+timer-steps hand clock l x c p Breaks i found call at =
+    breaks-steps hand clock l nothing x.way.number
+    (flat_map (λ c. flushes_of l.me x.way.number l.queued c.progress) x.calls)
+    (map (λ c. plain l.me (DonePeerLost c.what.number)) x.calls) tt
+    (calls-all l.me x.way.number l.queued x.calls) (lost-alone l.me x.calls)
+
+watch-progress : (hand : Option InFlight) (clock timeout i : ℕ) (l : Lists) (x : Client) (c : Call)
+    (p : Option Progress) → slice_get l.clients i ≡ Some x
+    → find (is_call c.what.number) x.calls ≡ Some c → c.progress ≡ p
+    → StepsFrom hand nothing clock l
+    (progress_facts clock timeout l.me l.queued x c.what.number p) nothing
+watch-progress hand clock timeout i l x c None found call at = refl
+watch-progress hand clock timeout i l x c (Some p) found call at =
+    timer-steps hand clock l x c p (row_of clock timeout x.way.number l.queued p) i found call at
+
+watch-call : (hand : Option InFlight) (clock timeout number i : ℕ) (l : Lists) (x : Client)
+    (c : Option Call) → slice_get l.clients i ≡ Some x → find (is_call number) x.calls ≡ c
+    → StepsFrom hand nothing clock l (call_facts clock timeout l.me l.queued x c) nothing
+watch-call hand clock timeout number i l x None found call = refl
+watch-call hand clock timeout number i l x (Some c) found call =
+    let same = eqb-true c.what.number number (find-passes (is_call number) x.calls c call) in
+    watch-progress hand clock timeout i l x c c.progress found
+    (subst (λ (n : ℕ). find (is_call n) x.calls ≡ Some c) (sym same) call) refl
+
+watch-client : (hand : Option InFlight) (clock timeout number i : ℕ) (l : Lists)
+    (x : Option Client) → slice_get l.clients i ≡ x
+    → StepsFrom hand nothing clock l (client_facts clock timeout l.me l.queued number x) nothing
+watch-client hand clock timeout number i l None is = refl
+watch-client hand clock timeout number i l (Some x) is =
+    watch-call hand clock timeout number i l x (find (is_call number) x.calls) is refl
+
+-- what begins and what is posted is alone
+mapped-alone : {A : Type 0} (f : A → Event) (o : Option A) (e : Event)
+    → ((a : A) → is_alone (f a) ≡ true) → option_map f o ≡ Some e → is_alone e ≡ true
+mapped-alone f None e all h = cc
+mapped-alone f (Some a) e all h = let same : f a ≡ e = cc in ap is_alone (sym same) ∙ all a
+
+then-alone : {A : Type 0} (f : A → Option Event) (o : Option A) (e : Event)
+    → ((a : A) → f a ≡ Some e → is_alone e ≡ true) → option_and_then f o ≡ Some e
+    → is_alone e ≡ true
+then-alone f None e all h = cc
+then-alone f (Some a) e all h = all a h
+
+cond-alone : (b : Bool) (o : Option Event) (e : Event) → (o ≡ Some e → is_alone e ≡ true)
+    → cond b o None ≡ Some e → is_alone e ≡ true
+cond-alone true o e all h = all h
+cond-alone false o e all h = cc
+
+none-alone : (b : Bool) (o : Option Event) (e : Event) → (o ≡ Some e → is_alone e ≡ true)
+    → cond b None o ≡ Some e → is_alone e ≡ true
+none-alone true o e all h = cc
+none-alone false o e all h = all h
+
+begun-alone : (i : ℕ) (l : Lists) (e : Event) → next_begun i l ≡ Some e → is_alone e ≡ true
+begun-alone i l e h =
+    then-alone (if_connected beginning) (slice_get l.clients i) e
+    (λ x k. cond-alone (is_connected x.state) (beginning x) e
+    (λ b. then-alone (λ c. option_map (λ slot. Begun c.what.number (next_turn x.turns slot))
+    (lowest_free x.calls)) (find is_waiting x.calls) e
+    (λ c m. mapped-alone (λ slot. Begun c.what.number (next_turn x.turns slot))
+    (lowest_free x.calls) e (λ slot. refl) m) b) k) h
+
+posted-alone : (i : ℕ) (l : Lists) (e : Event) → next_posted i l ≡ Some e → is_alone e ≡ true
+posted-alone i l e h =
+    then-alone (if_connected posting) (slice_get l.clients i) e
+    (λ x k. cond-alone (is_connected x.state) (posting x) e
+    (λ b. none-alone (x.free == 0) (option_and_then
+    (λ c. next_packet x.way.number c.progress) (find can_post x.calls)) e
+    (λ n. then-alone (λ c. next_packet x.way.number c.progress) (find can_post x.calls) e
+    (λ c m. mapped-alone (λ p. Posted (Ask x.way.number p.request) p.posted) c.progress e
+    (λ p. refl) m) n) b) k) h
+
+module _ (hand : Option InFlight) where
+  watches-orders : (timeout i number : ℕ) → Orderly hand (Watches timeout i number)
+  watches-orders timeout i number s x t o inv h =
+      rw h.facts (watch-client hand s.clock timeout number i s.lists (slice_get s.lists.clients i) refl)
+
+  retries-orders : (timeout i : ℕ) → Orderly hand (Retries timeout i)
+  retries-orders timeout i s x t o inv h =
+      rw (retries-of s.clock timeout s.lists.me (slice_get s.lists.clients i) x o h.facts) refl
+
+  session-orders : (timeout i : ℕ) → Orderly hand (TimesSession timeout i)
+  session-orders timeout i =
+      orderly-then hand (Retries timeout i) (WatchesSession timeout i)
+      (retries-fine RightNode right-stays hand timeout i) (retries-orders timeout i)
+      (λ s x t o inv h. orderly-each hand (Watches timeout i)
+      (watches-fine RightNode right-stays hand timeout i) (watches-orders timeout i)
+      (numbers_in (slice_get s.lists.clients i)) s x t o inv h)
+
+  times-orders : Orderly hand TimesAll
+  times-orders s x t o inv h =
+      orderly-visits hand (TimesSession s.lists.timeout)
+      (times-session RightNode right-stays hand s.lists.timeout) (session-orders s.lists.timeout)
+      (length s.lists.clients) s x t o inv h
+
+  next-orders : (next : Lists → Option Event)
+      → ((l : Lists) (e : Event) → next l ≡ Some e → is_alone e ≡ true)
+      → Orderly hand (NotesNext next)
+  next-orders next all s x t o inv h =
+      rw h.facts (one-alone hand s.clock s.lists (plain s.lists.me h.event) refl (all s.lists h.event h.is_next))
+
+  serves-orders : (i : ℕ) → Orderly hand (Serves i)
+  serves-orders i =
+      orderly-then hand (NotesAll (next_begun i)) (NotesAll (next_posted i))
+      (fine-until RightNode hand (NotesNext (next_begun i)) _
+      (begun-fine RightNode right-stays hand i))
+      (orderly-until hand (NotesNext (next_begun i)) _ (begun-fine RightNode right-stays hand i)
+      (next-orders (next_begun i) (begun-alone i)))
+      (orderly-until hand (NotesNext (next_posted i)) _ (posted-fine RightNode right-stays hand i)
+      (next-orders (next_posted i) (posted-alone i)))
+
+  posts-orders : Orderly hand PostsAll
+  posts-orders s x t o inv h =
+      orderly-visits hand Serves (serves-fine RightNode right-stays hand) serves-orders
+      (length s.lists.clients) s x t o inv h
+
+  sends-orders : Orderly hand Sends
+  sends-orders s x t o inv h =
+      rw h.facts (one-alone hand s.clock s.lists (with_two s.lists.me
+      (Sent h.out.peer h.entry.owner h.entry.number) h.head h.out.body) refl refl)
+
+  closes-orders : Orderly hand Closes
+  closes-orders s x t o inv h =
+      rw h.facts (one-alone hand s.clock s.lists (plain s.lists.me (Polled s.clock)) refl refl)
+
+  -- a poll at the node's clock
+  pub poll-orders : (worked : List WorkedJob)
+      → Orderly hand (Then (FinishesWorked worked)
+      (Then HearsAll (Then (HandlesAll plain_mode)
+      (Then TimesAll (Then PostsAll (Then SendsAll Closes))))))
+  poll-orders worked =
+      orderly-then hand (FinishesWorked worked) _ (finishes-worked-fine hand worked)
+      (finishes-worked hand worked)
+      (orderly-then hand HearsAll _ (hears-all RightNode right-stays hand)
+      (orderly-until hand Hears _ (hears-fine RightNode right-stays hand) (hears-orders hand))
+      (orderly-then hand (HandlesAll plain_mode) _
+      (fine-until RightNode hand (Handles plain_mode) _ (handles-fine hand))
+      (orderly-until hand (Handles plain_mode) _ (handles-fine hand) (handles-orders hand))
+      (orderly-then hand TimesAll _ (times-all RightNode right-stays hand) times-orders
+      (orderly-then hand PostsAll _ (posts-all RightNode right-stays hand) posts-orders
+      (orderly-then hand SendsAll Closes (sends-all RightNode right-stays hand)
+      (orderly-until hand Sends _ (sends-fine RightNode right-stays hand) sends-orders)
+      closes-orders)))))

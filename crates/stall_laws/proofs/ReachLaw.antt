@@ -1,0 +1,395 @@
+-- At each moment of a course each unanswered packet of each call is held.
+use Rattle.std.proofs.Common.{◌≡◌, ◌==◌, inl, inr, ℕ, true, List, [], ◌∷◌}
+use Rattle.std.proofs.Common.{◌++◌, length, Option, Some, None, slice_get, refl, sym, ap, ◌∙◌}
+use Rattle.std.proofs.Common.{subst, arith}
+use Rattle.std.proofs.lemmas.List.{append_assoc}
+use Rattle.rpc_base.proofs.BasicLemmas.{false-true}
+use Rattle.rpc_base.specs.declared.event.Event.{Event}
+use Rattle.rpc_base.specs.declared.event.Event.TheVariants.{PairedClient, Opened, Connected}
+use Rattle.rpc_base.specs.declared.event.Event.TheVariants.{FailedNoRoom, Made}
+use Rattle.rpc_base.specs.declared.event.Event.TheVariants.{FailedNoAnswer, Closing, ClosedHeard}
+use Rattle.rpc_base.specs.declared.event.Event.TheVariants.{ClosedUnheard}
+use Rattle.rpc_base.specs.declared.event.Event.TheVariants.{Asked, Begun, Posted, Sent, Took}
+use Rattle.rpc_base.specs.declared.event.Event.TheVariants.{Rolled, Broken}
+use Rattle.rpc_base.specs.declared.event.Event.TheVariants.{DoneOk, DoneTooSmall, DonePeerLost}
+use Rattle.rpc_base.specs.declared.fact.Fact.{Fact}
+use Rattle.rpc_base.specs.declared.fact.Who.{Who}
+use Rattle.rpc_base.specs.declared.fact.Who.TheVariants.{Node, Net}
+use Rattle.rpc_base.specs.declared.owner.Owner.TheVariants.{Ask, Reply, Control}
+use Rattle.rpc_laws.specs.declared.tables.InFlight.{InFlight}
+use Rattle.rpc_laws.specs.declared.tables.Lists.{Lists}
+use Rattle.rpc_laws.specs.declared.tables.Progress.{Progress}
+use Rattle.rpc_laws.specs.declared.tables.Way.{Way}
+use Rattle.rpc_laws.specs.Calls.{is_active, is_call, sent_packet}
+use Rattle.rpc_laws.specs.Facts.{plain, with_two}
+use Rattle.rpc_laws.specs.NodeLists.{after, new_lists}
+use Rattle.rpc_laws.specs.UsualLimits.{with_ring}
+use Rattle.rpc_laws.specs.Sessions.{is_client, has_call, asks, sends, ends, client_end}
+use Rattle.node_laws.specs.Valid.{Valid}
+use Rattle.node_laws.proofs.SoundLemmas.{sent-got, sent-posted, sent-request}
+use Rattle.end_laws.specs.Moments.{Moment, moved, first_moment}
+use Rattle.end_laws.proofs.ClientLemmas.{client-at}
+use Rattle.end_laws.proofs.Courses.{AtNode, Ends, noted_at, moved-node, Course, over, in_net, made}
+use Rattle.end_laws.proofs.Courses.{at_node, pairs, client_fact, server_fact, paired}
+use Rattle.end_laws.proofs.Allowed.{is_packet}
+use Rattle.end_laws.proofs.GoodSteps.{good-net, good-made, good-node}
+use Rattle.end_laws.proofs.Known.{Good}
+use Rattle.end_laws.proofs.ListLemmas.{Placed, set-placed, add-placed, all-first, all-map, all-add}
+use Rattle.end_laws.proofs.ListLemmas.{all-without}
+use Rattle.end_laws.proofs.OwnLaw.{good-paired}
+use Rattle.end_laws.proofs.QueueLemmas.{RightNode}
+use Rattle.end_laws.proofs.SendsLaw.{AllRight, right-noted, right-net, right-made, right-paired}
+use Rattle.ring_laws.proofs.Loads.{client_packets, server_packets, client_part, server_part}
+use Rattle.ring_laws.proofs.PairLaw.{valid-net, valid-made, valid-node, valid-pair}
+use Rattle.ring_laws.proofs.PairPlaces.{AllValid}
+use Rattle.ring_laws.proofs.WithinSteps.{own-fact, nodes-net, added-by, part-same, lists1, lists2}
+use Rattle.ring_laws.proofs.WithinSteps.{nodes1, is_server1, paired-nodes}
+use Rattle.stall_laws.specs.Settled.{moment_of, moment_from}
+use Rattle.stall_laws.proofs.Dues.{Due, nothing, Step, is_alone, alone, older, takes, repeats}
+use Rattle.stall_laws.proofs.Dues.{posts, gives, serves, finishes}
+use Rattle.stall_laws.proofs.Dues.{arrives, overflows, is_bad, flushes, rolls, breaks}
+use Rattle.stall_laws.proofs.Fates.{net-fate}
+use Rattle.stall_laws.proofs.Held.{pair_of, Held, lost-since, lost-now}
+use Rattle.stall_laws.proofs.Moves.{MovesAt, MovesBy, MovesFrom, net_due}
+use Rattle.stall_laws.proofs.Newest.{NewestClient, NewestNode, newest-after}
+use Rattle.stall_laws.proofs.Reach.{HeldBy, HeldCall, HeldClient, HeldNode, at-false, all-kept}
+use Rattle.stall_laws.proofs.Reach.{first-kept, other-node}
+use Rattle.stall_laws.proofs.Reach.{took-held, begun-held, rolled-held, broken-held, posted-held}
+
+-- at the node of the fact
+module _ (h : List Fact) (w : Moment) (n : ℕ) (l : Lists) (first second : List ℕ) (d u : Due)
+    (is : w ≡ moment_of h) (g : Good w) (i : RightNode l) (v : Valid l) (newest : NewestNode l) where
+  node-held : (e : Event) → Step w.hand l first d e u → AtNode w n l (with_two n e first second)
+      → HeldNode h w d n l → HeldNode (h ++ with_two n e first second ∷ [])
+      (noted_at w n l (with_two n e first second)) u n (after w.clock l (with_two n e first second))
+  node-held (PairedClient s p t c) step a held = absurd a.allowed.may
+  node-held (Opened s p c) step a held = absurd a.allowed.may
+  node-held (Connected s t) step a held = absurd a.allowed.may
+  node-held (FailedNoRoom s) step a held = absurd a.allowed.may
+  node-held (FailedNoAnswer s) step a held = absurd a.allowed.may
+  node-held (Closing s) step a held = absurd a.allowed.may
+  node-held (ClosedHeard s) step a held = absurd a.allowed.may
+  node-held (ClosedUnheard s) step a held = absurd a.allowed.may
+  node-held (Asked c s y room) step a held =
+      first-kept h w n l (Asked c s y room) first second d u step a is g i v newest (is_client s)
+      (asks (record { number = c; req_type = y; room = room; ask = first }))
+      (λ x. (λ P keep none all. all-add P x.calls _ all (none _ refl), refl, refl))
+      (λ s r k. record { took = λ home t. cc; rolled = λ home c po gt t z. cc; broken = λ home t. cc })
+      (λ c. refl) held
+  node-held (Begun c r) step a held =
+      begun-held h w n l (Begun c r) first second d u step a is g i v newest c r refl a.lawful held
+  node-held (Posted (Ask s r) k) step a held =
+      posted-held h w n l (Posted (Ask s r) k) first second d u step a is g i v newest s r k refl a.lawful held
+  node-held (Posted (Reply t r) k) step a held =
+      all-kept h w n l (Posted (Reply t r) k) first second d u step a is g i v newest
+      (λ s r k. record { took = λ home t. cc; rolled = λ home c po gt t z. cc; broken = λ home t. cc })
+      (λ c. refl) held
+  node-held (Posted Control k) step a held = absurd a.allowed.may
+  node-held (Sent peer (Ask s r) k) step a held =
+      first-kept h w n l (Sent peer (Ask s r) k) first second d u step a is g i v newest (is_client s)
+      (sends w.clock r k)
+      (λ x. (
+        λ P keep none all. all-first P P (is_active r) _ x.calls (λ c p. p)
+            (λ c found p. keep c (sent_packet w.clock k) p
+            (λ q. (sent-request w.clock k q, sent-got w.clock k q, sent-posted w.clock k q))) all,
+        refl,
+        refl,
+      ))
+      (λ s r k. record { took = λ home t. cc; rolled = λ home c po gt t z. cc; broken = λ home t. cc })
+      (λ c. refl) held
+  node-held (Sent peer (Reply t r) k) step a held =
+      all-kept h w n l (Sent peer (Reply t r) k) first second d u step a is g i v newest
+      (λ s r k. record { took = λ home t. cc; rolled = λ home c po gt t z. cc; broken = λ home t. cc })
+      (λ c. refl) held
+  node-held (Sent peer Control k) step a held = let own = a.allowed.may.own in absurd (cc)
+  node-held (Took (Ask s r) k) step a held =
+      took-held h w n l (Took (Ask s r) k) first second d u step a is g i v newest s r k refl a.lawful held
+  node-held (Took (Reply t r) k) step a held =
+      all-kept h w n l (Took (Reply t r) k) first second d u step a is g i v newest
+      (λ s r k. record { took = λ home t. cc; rolled = λ home c po gt t z. cc; broken = λ home t. cc })
+      (λ c. refl) held
+  node-held (Took Control k) step a held = absurd a.allowed.may
+  node-held (Rolled c po got) step a held =
+      rolled-held h w n l (Rolled c po got) first second d u step a is g i v newest c po got refl a.lawful held
+  node-held (Broken s) step a held =
+      broken-held h w n l (Broken s) first second d u step a is g i v newest s refl a.lawful held
+  node-held (DoneOk c) step a held =
+      first-kept h w n l (DoneOk c) first second d u step a is g i v newest (has_call c) (ends c)
+      (λ x. (λ P keep none all. all-without P (is_call c) x.calls all, refl, refl))
+      (λ s r k. record { took = λ home t. cc; rolled = λ home c po gt t z. cc; broken = λ home t. cc })
+      (λ c. refl) held
+  node-held (DoneTooSmall c size) step a held =
+      first-kept h w n l (DoneTooSmall c size) first second d u step a is g i v newest (has_call c) (ends c)
+      (λ x. (λ P keep none all. all-without P (is_call c) x.calls all, refl, refl))
+      (λ s r k. record { took = λ home t. cc; rolled = λ home c po gt t z. cc; broken = λ home t. cc })
+      (λ c. refl) held
+  node-held (DonePeerLost c) step a held =
+      first-kept h w n l (DonePeerLost c) first second d u step a is g i v newest (has_call c) (ends c)
+      (λ x. (λ P keep none all. all-without P (is_call c) x.calls all, refl, refl))
+      (λ s r k. record { took = λ home t. cc; rolled = λ home c po gt t z. cc; broken = λ home t. cc })
+      (λ c. refl) held
+  node-held e step a held =
+      all-kept h w n l e first second d u step a is g i v newest
+      (λ s r k. record { took = λ home t. cc; rolled = λ home c po gt t z. cc; broken = λ home t. cc })
+      (λ c. refl) held
+
+-- so it is at each moment
+abbrev pub Reach : List Fact → Moment → Due → Type 0
+Reach h w d = Placed (HeldNode h w d) w.nodes
+
+abbrev pub AllNewest : Moment → Type 0
+AllNewest w = Placed (λ j z. NewestNode z) w.nodes
+
+reach-noted : (h : List Fact) (w : Moment) (n : ℕ) (l : Lists) (e : Event) (first second : List ℕ)
+    (d u : Due) → Step w.hand l first d e u → AtNode w n l (with_two n e first second)
+    → w ≡ moment_of h → Good w → AllRight w → AllValid w → AllNewest w → Reach h w d
+    → Reach (h ++ with_two n e first second ∷ []) (noted_at w n l (with_two n e first second)) u
+reach-noted h w n l e first second d u step a is g right valid newest reach =
+    let i = right n l a.is_node in
+    let v = valid n l a.is_node in
+    let k = newest n l a.is_node in
+    set-placed (HeldNode (h ++ with_two n e first second ∷ []) (noted_at w n l (with_two n e first second)) u)
+    w.nodes n l (after w.clock l (with_two n e first second)) a.is_node
+    (node-held h w n l first second d u is g i v k e step a (reach n l a.is_node))
+    (λ j z ne at. other-node h w n l e first second d u step a is g i v k j z ne at (newest j z at) (reach j z at))
+
+reach-node : (h : List Fact) (w : Moment) (n : ℕ) (l : Lists) (f : Fact) (d u : Due)
+    → Step w.hand l f.first d f.event u → AtNode w n l f → w ≡ moment_of h → Good w → AllRight w
+    → AllValid w → AllNewest w → Reach h w d → Reach (h ++ f ∷ []) (moved w f) u
+reach-node h w n l f d u step a is g right valid newest reach =
+    let e = own-fact f (Node n) (a.allowed.who ∙ ap Node a.me) in
+    let at : AtNode w n l (with_two n f.event f.first f.second) = subst (AtNode w n l) e a in
+    let k = reach-noted h w n l f.event f.first f.second d u step at is g right valid newest reach in
+    subst (λ (v : Moment). Reach (h ++ f ∷ []) v u) (sym (moved-node w n l f a))
+    (subst (λ (x : Fact). Reach (h ++ x ∷ []) (noted_at w n l x) u) (sym e) k)
+
+-- where each packet that stood does, or was lost, each one that was held is
+keeps-all : (h h2 : List Fact) (w w2 : Moment) (d u : Due)
+    → ((j : ℕ) (way : Way) (c r k : ℕ) → Held h w d j way c r k → Held h2 w2 u j way c r k)
+    → (j : ℕ) (z : Lists) → HeldNode h w d j z → HeldNode h2 w2 u j z
+keeps-all h h2 w w2 d u keep j z held s x there =
+    λ live. all-map (HeldCall h w d j x.way) (HeldCall h2 w2 u j x.way) x.calls
+    (λ c. by x.way c.what.number c.progress) (held s x there live)
+  where
+    by : (way : Way) (c : ℕ) (o : Option Progress) → HeldBy h w d j way c o → HeldBy h2 w2 u j way c o
+    by way c None k = tt
+    by way c (Some p) k = λ m low high. keep j way c p.request m (k m low high)
+
+reach-net : (h : List Fact) (w : Moment) (f : Fact) → f.who ≡ Net → w ≡ moment_of h
+    → Reach h w nothing → Reach (h ++ f ∷ []) (moved w f) (net_due f.event)
+reach-net h w f who is reach =
+    let same = nodes-net w f who in
+    subst (λ (ns : List Lists). Placed (HeldNode (h ++ f ∷ []) (moved w f) (net_due f.event)) ns) (sym same)
+    (λ j z at. keeps-all h (h ++ f ∷ []) w (moved w f) nothing (net_due f.event) keep j z (reach j z at))
+  where
+    keep : (j : ℕ) (way : Way) (c r k : ℕ) → Held h w nothing j way c r k
+        → Held (h ++ f ∷ []) (moved w f) (net_due f.event) j way c r k
+    keep j way c r k (inr v) = inr (lost-since h f j way c r v (rw who refl))
+    keep j way c r k (inl some) =
+        elim (net-fate w f (pair_of j way) r k who some) [
+          | inl more ↦ inl more
+          | inr p ↦ inr (lost-now h w f j way c r k is p)
+        ]
+
+reach-made : (h : List Fact) (w : Moment) (ring : ℕ) → Reach h w nothing
+    → Reach (h ++ plain (length w.nodes) (Made ring) ∷ [])
+    (moved w (plain (length w.nodes) (Made ring))) nothing
+reach-made h w ring reach =
+    let f = plain (length w.nodes) (Made ring) in
+    let new = new_lists (length w.nodes) (with_ring ring) in
+    add-placed (HeldNode (h ++ f ∷ []) (moved w f) nothing) w.nodes new (λ s x is. absurd (cc))
+    (λ j z at. keeps-all h (h ++ f ∷ []) w (moved w f) nothing nothing keep j z (reach j z at))
+  where
+    keep : (j : ℕ) (way : Way) (c r k : ℕ) → Held h w nothing j way c r k
+        → Held (h ++ plain (length w.nodes) (Made ring) ∷ []) (moved w (plain (length w.nodes)
+        (Made ring))) nothing j way c r k
+    keep j way c r k (inr v) =
+        inr (lost-since h (plain (length w.nodes) (Made ring)) j way c r v (at-false (length w.nodes == j) c
+        (Made ring) refl))
+    keep j way c r k (inl some) =
+        let x = pair_of j way in
+        let p = is_packet r k in
+        let new = new_lists (length w.nodes) (with_ring ring) in
+        let a = added-by (client_packets p x.client) w.nodes new x.home (omega arith) in
+        let b = added-by (server_packets p x.session) w.nodes new x.node (omega arith) in
+        inl (omega arith)
+
+-- a pairing
+module _ (h : List Fact) (w : Moment) (n m credits : ℕ) (client server : Lists)
+    (e : Ends w n m credits client server) where
+  abbrev one : Fact
+  one = client_fact n m credits client server
+
+  abbrev other : Fact
+  other = server_fact n m credits client server
+
+  abbrev w2 : Moment
+  w2 = paired w n m credits client server
+
+  pair-keep : (j : ℕ) (way : Way) (c r k : ℕ) → Held h w nothing j way c r k
+      → Held ((h ++ one ∷ []) ++ other ∷ []) w2 nothing j way c r k
+  pair-keep j way c r k (inr v) =
+      inr (lost-since (h ++ one ∷ []) other j way c r
+      (lost-since h one j way c r v (at-false (n == j) c one.event refl))
+      (at-false (m == j) c other.event refl))
+  pair-keep j way c r k (inl some) =
+      let x = pair_of j way in
+      let p = is_packet r k in
+      let a = part-same (client_packets p x.client) w.nodes n x.home client
+      (lists1 w n m credits client server e) e.is_client refl in
+      let a2 = part-same (client_packets p x.client) (nodes1 w n m credits client server e) m x.home server
+      (lists2 w n m credits client server e) (is_server1 w n m credits client server e) refl in
+      let b = part-same (server_packets p x.session) w.nodes n x.node client
+      (lists1 w n m credits client server e) e.is_client refl in
+      let b2 = part-same (server_packets p x.session) (nodes1 w n m credits client server e) m x.node server
+      (lists2 w n m credits client server e) (is_server1 w n m credits client server e) refl in
+      let u = ap (client_part p x) (paired-nodes w n m credits client server e) in
+      let v = ap (server_part p x) (paired-nodes w n m credits client server e) in
+      inl (omega arith)
+
+  reach-paired : Reach h w nothing → Reach ((h ++ one ∷ []) ++ other ∷ []) w2 nothing
+  reach-paired reach =
+      let h2 = (h ++ one ∷ []) ++ other ∷ [] in
+      let kept : Placed (HeldNode h2 w2 nothing) w.nodes =
+      λ j z at. keeps-all h h2 w w2 nothing nothing pair-keep j z (reach j z at) in
+      let first : Placed (HeldNode h2 w2 nothing) (nodes1 w n m credits client server e) =
+      set-placed (HeldNode h2 w2 nothing) w.nodes n client (lists1 w n m credits client server e) e.is_client
+      (add-placed (λ s x. HeldClient h2 w2 nothing n x) client.clients
+      (client_end (length client.clients) m (length server.servers) credits) (λ live. tt)
+      (kept n client e.is_client)) (λ j z ne at. kept j z at) in
+      subst (λ (ns : List Lists). Placed (HeldNode h2 w2 nothing) ns) (sym (paired-nodes w n m credits client server e))
+      (set-placed (HeldNode h2 w2 nothing) (nodes1 w n m credits client server e) m server
+      (lists2 w n m credits client server e) (is_server1 w n m credits client server e)
+      (kept m server e.is_server) (λ j z ne at. first j z at))
+
+  newest-paired : AllNewest w → AllNewest w2
+  newest-paired k =
+      let first : Placed (λ j z. NewestNode z) (nodes1 w n m credits client server e) =
+      set-placed (λ j z. NewestNode z) w.nodes n client (lists1 w n m credits client server e) e.is_client
+      (all-add NewestClient client.clients _ (k n client e.is_client) tt) (λ j z ne at. k j z at) in
+      subst (λ (ns : List Lists). Placed (λ j z. NewestNode z) ns) (sym (paired-nodes w n m credits client server e))
+      (set-placed (λ j z. NewestNode z) (nodes1 w n m credits client server e) m server
+      (lists2 w n m credits client server e) (is_server1 w n m credits client server e)
+      (k m server e.is_server) (λ j z ne at. first j z at))
+
+-- the requests stay the newest of their slots
+newest-node : (w : Moment) (n : ℕ) (l : Lists) (f : Fact) → AtNode w n l f → Good w → AllValid w
+    → AllNewest w → AllNewest (moved w f)
+newest-node w n l f a g v k =
+    let good = g.nodes n l a.is_node in
+    let here = newest-after w.clock w.hand l f.event f.first f.second (v n l a.is_node) a.lawful a.allowed.may
+    (λ x s found. (good.clients s x (client-at g.known n l.clients s x good.clients found).0).eight)
+    (k n l a.is_node) in
+    subst (λ (u : Moment). AllNewest u) (sym (moved-node w n l f a))
+    (set-placed (λ j z. NewestNode z) w.nodes n l (after w.clock l f) a.is_node here (λ j z ne at. k j z at))
+
+newest-net : (w : Moment) (f : Fact) → f.who ≡ Net → AllNewest w → AllNewest (moved w f)
+newest-net w f who k = subst (λ (ns : List Lists). Placed (λ j z. NewestNode z) ns) (sym (nodes-net w f who)) k
+
+newest-made : (w : Moment) (ring : ℕ) → AllNewest w → AllNewest (moved w (plain (length w.nodes) (Made ring)))
+newest-made w ring k = add-placed (λ j z. NewestNode z) w.nodes (new_lists (length w.nodes) (with_ring ring)) tt k
+
+-- a fact that is alone leaves nothing to be done
+step-alone : (hand : Option InFlight) (l : Lists) (first : List ℕ) (d : Due) (e : Event) (u : Due)
+    → Step hand l first d e u → is_alone e ≡ true → (d ≡ nothing) × (u ≡ nothing)
+step-alone hand l first d e u (alone _ h) al = (refl, refl)
+step-alone hand l first d e u (older t r k o) al = (refl, refl)
+step-alone hand l first d e u (takes t r k) al = false-true al
+step-alone hand l first d e u (repeats t r k) al = false-true al
+step-alone hand l first d e u (posts t r k) al = false-true al
+step-alone hand l first d e u (gives t r k w q) al = false-true al
+step-alone hand l first d e u (serves t r y k none q) al = false-true al
+step-alone hand l first d e u (finishes t r y w) al = false-true al
+step-alone hand l first d e u (arrives peer) al = false-true al
+step-alone hand l first d e u (overflows peer) al = false-true al
+step-alone hand l first d e u (is_bad peer copy h g) al = false-true al
+step-alone hand l first d e u (flushes _ s r k o go c) al = false-true al
+step-alone hand l first d e u (rolls _ s r c posted got go call) al = false-true al
+step-alone hand l first d e u (breaks _ s go) al = false-true al
+
+at-one : (hand : Option InFlight) (o : Option Lists) (e : Event) (first : List ℕ) (d u : Due)
+    → is_alone e ≡ true → MovesAt hand o e first d u → (d ≡ nothing) × (u ≡ nothing)
+at-one hand None e first d u al m = (m.1, m.2)
+at-one hand (Some l) e first d u al m = step-alone hand l first d e u m al
+
+-- what is known at a moment
+pub record At (h : List Fact) (w : Moment) (d : Due) : Type 0 where
+  pub moment : w ≡ moment_of h
+  pub right : AllRight w
+  pub valid : AllValid w
+  pub good : Good w
+  pub newest : AllNewest w
+  pub reach : Reach h w d
+
+moment-append : (w : Moment) (x y : List Fact) → moment_from w (x ++ y) ≡ moment_from (moment_from w x) y
+moment-append w [] y = refl
+moment-append w (f ∷ x) y = moment-append (moved w f) x y
+
+next-moment : (h : List Fact) (w : Moment) (f : Fact) → w ≡ moment_of h → moved w f ≡ moment_of (h ++ f ∷ [])
+next-moment h w f is = ap (λ (v : Moment). moved v f) is ∙ sym (moment-append first_moment h (f ∷ []))
+
+pub course-reach : (w : Moment) (x : List Fact) (v : Moment) → Course w x v → (h : List Fact)
+    (d u : Due) → MovesFrom d w x u → At h w d → At (h ++ x) v u
+course-reach _ _ _ (over w) h d u m at =
+    subst (λ (y : List Fact). At y w u) (sym (append-none h)) (subst (At h w) m at)
+  where
+    append-none : (y : List Fact) → y ++ [] ≡ y
+    append-none [] = refl
+    append-none (f ∷ y) = ap (λ (z : List Fact). f ∷ z) (append-none y)
+course-reach _ _ _ (in_net w f x v who c) h d u m at =
+    let by : (d ≡ nothing) × (m.0 ≡ net_due f.event) = subst (λ (p : Who). MovesBy w p f.event f.first d m.0) who m.1 in
+    let reach : Reach h w nothing = subst (Reach h w) by.0 at.reach in
+    subst (λ (y : List Fact). At y v u) (append_assoc h (f ∷ []) x)
+    (course-reach (moved w f) x v c (h ++ f ∷ []) m.0 u m.2 (record {
+      moment = next-moment h w f at.moment;
+      right = right-net w f who at.right;
+      valid = valid-net w f who at.valid;
+      good = good-net w f who at.good;
+      newest = newest-net w f who at.newest;
+      reach = subst (Reach (h ++ f ∷ []) (moved w f)) (sym by.1) (reach-net h w f who at.moment reach);
+    }))
+course-reach _ _ _ (made w ring x v c) h d u m at =
+    let f = plain (length w.nodes) (Made ring) in
+    let by = at-one w.hand (slice_get w.nodes (length w.nodes)) (Made ring) [] d m.0 refl m.1 in
+    let reach : Reach h w nothing = subst (Reach h w) by.0 at.reach in
+    subst (λ (y : List Fact). At y v u) (append_assoc h (f ∷ []) x)
+    (course-reach (moved w f) x v c (h ++ f ∷ []) m.0 u m.2 (record {
+      moment = next-moment h w f at.moment;
+      right = right-made w ring at.right;
+      valid = valid-made w ring at.valid;
+      good = good-made w ring at.good;
+      newest = newest-made w ring at.newest;
+      reach = subst (Reach (h ++ f ∷ []) (moved w f)) (sym by.1) (reach-made h w ring reach);
+    }))
+course-reach _ _ _ (at_node w n l f x v a c) h d u m at =
+    let who : f.who ≡ Node n = a.allowed.who ∙ ap Node a.me in
+    let by : MovesAt w.hand (slice_get w.nodes n) f.event f.first d m.0 =
+    subst (λ (p : Who). MovesBy w p f.event f.first d m.0) who m.1 in
+    let step : Step w.hand l f.first d f.event m.0 =
+    subst (λ (o : Option Lists). MovesAt w.hand o f.event f.first d m.0) a.is_node by in
+    subst (λ (y : List Fact). At y v u) (append_assoc h (f ∷ []) x)
+    (course-reach (moved w f) x v c (h ++ f ∷ []) m.0 u m.2 (record {
+      moment = next-moment h w f at.moment;
+      right = right-noted w n l f a at.right;
+      valid = valid-node w n l f a at.valid;
+      good = good-node w n l f a at.right at.good;
+      newest = newest-node w n l f a at.good at.valid at.newest;
+      reach = reach-node h w n l f d m.0 step a at.moment at.good at.right at.valid at.newest at.reach;
+    }))
+course-reach _ _ _ (pairs w n k credits client server x v e c) h d u m at =
+    let f = client_fact n k credits client server in
+    let g = server_fact n k credits client server in
+    let by = at-one w.hand (slice_get w.nodes n) f.event [] d m.0 refl m.1 in
+    let by2 = at-one w.hand (slice_get (moved w f).nodes k) g.event [] m.0 m.2.0 refl m.2.1 in
+    let reach : Reach h w nothing = subst (Reach h w) by.0 at.reach in
+    let w2 = paired w n k credits client server in
+    let more = course-reach w2 x v c ((h ++ f ∷ []) ++ g ∷ []) m.2.0 u m.2.2 (record {
+      moment = next-moment (h ++ f ∷ []) (moved w f) g (next-moment h w f at.moment);
+      right = right-paired w n k credits client server e at.right;
+      valid = valid-pair w n k credits client server e at.right at.valid;
+      good = good-paired w n k credits client server e at.good;
+      newest = newest-paired h w n k credits client server e at.newest;
+      reach = subst (Reach ((h ++ f ∷ []) ++ g ∷ []) w2) (sym by2.1) (reach-paired h w n k credits client server e
+          reach);
+    }) in
+    subst (λ (y : List Fact). At y v u) (append_assoc (h ++ f ∷ []) (g ∷ []) x ∙ append_assoc h (f ∷ []) (g ∷ x)) more

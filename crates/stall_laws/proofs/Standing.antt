@@ -1,0 +1,173 @@
+-- Where a packet of a session stands: at one of its ends, in flight, in hand, or due.
+use Rattle.std.proofs.Common.{◌≡◌, ◌+◌, ◌-◌, ◌≤◌, ◌==◌, ◌&&◌, ℕ, Bool, true, cond, List, []}
+use Rattle.std.proofs.Common.{length, Option, refl, ap, eq-eqb, arith}
+use Rattle.std.specs.Prelude.{option_to_list}
+use Rattle.std.specs.List.{find}
+use Rattle.packet_header.specs.Parts.{packet_count}
+use Rattle.packet_header.specs.Reading.{message_of}
+use Rattle.rpc_base.proofs.BasicLemmas.{false-true}
+use Rattle.rpc_base.specs.declared.event.Event.{Event}
+use Rattle.rpc_base.specs.declared.event.Event.TheVariants.{Posted, Flushed, Took, Again, Given}
+use Rattle.rpc_base.specs.declared.event.Event.TheVariants.{Ran, Arrived}
+use Rattle.rpc_base.specs.declared.event.Event.TheVariants.{Overflowed, Bad, Rolled, Broken}
+use Rattle.rpc_base.specs.declared.owner.Owner.TheVariants.{Ask, Reply, Control}
+use Rattle.rpc_laws.specs.declared.tables.InFlight.{InFlight}
+use Rattle.rpc_laws.specs.declared.tables.Job.{Job}
+use Rattle.rpc_laws.specs.declared.tables.Lists.{Lists}
+use Rattle.rpc_laws.specs.declared.tables.Queued.{Queued}
+use Rattle.rpc_laws.specs.Jobs.{is_job, new_job, jobs_after}
+use Rattle.rpc_laws.specs.Queues.{ring_after, queued_after}
+use Rattle.end_laws.specs.Moments.{Moment}
+use Rattle.end_laws.proofs.Allowed.{May, owes, is_packet}
+use Rattle.end_laws.proofs.Rights.{job-number}
+use Rattle.ring_laws.proofs.ClientReach.{is_noted}
+use Rattle.ring_laws.proofs.Counting.{count, count-append, count-out, count-found}
+use Rattle.ring_laws.proofs.Loads.{Filter, Pairing, asks, own_job, own_reply, server_packets}
+use Rattle.ring_laws.proofs.Loads.{count-put}
+use Rattle.ring_laws.proofs.Loads.{given_ask, sent_reply, client_part, server_part, on_way}
+use Rattle.ring_laws.proofs.ServerReach.{is_other, server-reach, spilt_ask}
+use Rattle.ring_laws.proofs.ServerSteps.{new-counts}
+use Rattle.stall_laws.proofs.Dues.{Due, nothing, reply, delivery, flushed, covers, is_alone, Step}
+use Rattle.stall_laws.proofs.Dues.{alone, older}
+use Rattle.stall_laws.proofs.Dues.{takes, repeats, posts, gives, serves, finishes, arrives}
+use Rattle.stall_laws.proofs.Dues.{overflows, is_bad}
+use Rattle.stall_laws.proofs.Dues.{flushes, rolls, breaks}
+
+-- a packet whose reply is due at a node, or that was flushed there
+abbrev pub owed_at : Filter → (n t : ℕ) → Due → ℕ
+owed_at p n t (reply m s r k) = cond (m == n && (s == t && p r k)) 1 0
+owed_at p n t _ = 0
+
+abbrev pub flushed_at : (r n s : ℕ) → Due → ℕ
+flushed_at r n s (flushed m t o) = cond (m == n && (t == s && covers o r)) 1 0
+flushed_at r n s _ = 0
+
+-- the copy in hand, where its delivery is due
+abbrev pub due_copy : Due → Option InFlight → List InFlight
+due_copy delivery hand = option_to_list hand
+due_copy _ hand = []
+
+-- in how many places packet k of request r stands
+abbrev pub standing : (r k : ℕ) → Pairing → Due → Moment → ℕ
+standing r k x d w =
+    client_part (is_packet r k) x w.nodes + server_part (is_packet r k) x w.nodes
+    + owed_at (is_packet r k) x.node x.session d + flushed_at r x.home x.client d
+    + on_way (is_packet r k) x w.flight + on_way (is_packet r k) x (due_copy d w.hand)
+
+-- which facts are noted, and of which the server's lemma speaks
+alone-other : (e : Event) → is_alone e ≡ true → is_other e ≡ true
+alone-other (Posted (Reply t r) k) h = false-true h
+alone-other (Given t r) h = false-true h
+alone-other (Ran t r y) h = false-true h
+alone-other (Again owner k) h = false-true h
+alone-other _ h = refl
+
+alone-noted : (e : Event) → is_alone e ≡ true → is_noted e ≡ true
+alone-noted (Again owner k) h = false-true h
+alone-noted _ h = refl
+
+alone-owes : (p : Filter) (t : ℕ) (e : Event) (first : List ℕ) → is_alone e ≡ true
+    → cond {A = ℕ} (owes p t e first) 1 0 ≡ 0
+alone-owes p t (Took (Reply s r) k) first h = false-true h
+alone-owes p t (Again owner k) first h = false-true h
+alone-owes p t (Ran s r y) first h = false-true h
+alone-owes p t (Took (Ask s r) k) first h = refl
+alone-owes p t (Took Control k) first h = refl
+alone-owes p t _ first h = refl
+
+pub step-noted : (hand : Option InFlight) (l : Lists) (first : List ℕ) (d : Due) (e : Event)
+    (u : Due) → Step hand l first d e u → is_noted e ≡ true
+step-noted hand l first d e u (alone _ h) = alone-noted e h
+step-noted hand l first d e u (older t r k o) = refl
+step-noted hand l first d e u (takes t r k) = refl
+step-noted hand l first d e u (repeats t r k) = refl
+step-noted hand l first d e u (posts t r k) = refl
+step-noted hand l first d e u (gives t r k w q) = refl
+step-noted hand l first d e u (serves t r y k none q) = refl
+step-noted hand l first d e u (finishes t r y w) = refl
+step-noted hand l first d e u (arrives peer) = refl
+step-noted hand l first d e u (overflows peer) = refl
+step-noted hand l first d e u (is_bad peer copy h g) = refl
+step-noted hand l first d e u (flushes _ s r k o go c) = refl
+step-noted hand l first d e u (rolls _ s r c posted got go call) = refl
+step-noted hand l first d e u (breaks _ s go) = refl
+
+self : (p : Filter) (n t s r k : ℕ) → cond {A = ℕ} (n == n && (s == t && p r k)) 1 0 ≡ cond (s == t && p r k) 1 0
+self p n t s r k = ap {B = ℕ} (λ (b : Bool). cond (b && (s == t && p r k)) 1 0) (eq-eqb n n refl)
+
+-- a packet of a server session stays there, or is sent, dropped or flushed
+abbrev pub ServerMoves : Filter → ℕ → Option ℕ → Due → Due → Event → List ℕ → Lists → Type 0
+ServerMoves p t due d u e first l =
+    server_packets p t l + owed_at p l.me t d + given_ask p t e first ≤ count
+    (λ q. own_reply p t q.owner q.number) (queued_after e due l.queued)
+    + count (own_job p t) (jobs_after e l.servers l.jobs).out
+    + count (λ a. asks p t (message_of a.bytes)) (ring_after e first l.ring)
+    + owed_at p l.me t u + sent_reply p t e + spilt_ask p t e l
+
+pub server-moves : (p : Filter) (t : ℕ) (due : Option ℕ) (hand : Option InFlight) (l : Lists)
+    (first second : List ℕ) (d : Due) (e : Event) (u : Due) → Step hand l first d e u
+    → May hand l e first second → ServerMoves p t due d u e first l
+server-moves p t due hand l first second d e u (alone _ h) m =
+    let k = server-reach p t due hand l e first second m (alone-other e h) in
+    let none = alone-owes p t e first h in
+    omega arith
+server-moves p t due hand l first second d e u (older s r k o) m =
+    let g = server-reach p t due hand l (Flushed (Reply s r) k) first second m refl in omega arith
+server-moves p t due hand l first second d e u (takes s r k) m =
+    let g = server-reach p t due hand l (Took (Reply s r) k) first second m refl in
+    let me = self p l.me t s r k in
+    omega arith
+server-moves p t due hand l first second d e u (repeats s r k) m =
+    let g = server-reach p t due hand l (Again (Reply s r) k) first second m refl in
+    let me = self p l.me t s r k in
+    omega arith
+server-moves p t due hand l first second d e u (posts s r k) m =
+    let q = count-put (λ (q : Queued). own_reply p t q.owner q.number)
+    (record { owner = Reply s r; number = k; due = due }) l.queued in
+    let me = self p l.me t s r k in
+    omega arith
+server-moves p t due hand l first second d e u (gives s r k w same) m =
+    let j = count-append (own_job p t) l.jobs.out (new_job s r l.servers) in
+    let new = new-counts p l s r t w in
+    let last : cond {A = ℕ} (s == t && p r (packet_count (length w.request.ask) - 1)) 1 0
+    ≡ cond (s == t && p r k) 1 0 =
+    ap {B = ℕ} (λ (i : ℕ). cond (s == t && p r i) 1 0) same in
+    let me = self p l.me t s r k in
+    omega arith
+server-moves p t due hand l first second d e u (serves s r y k none same) m =
+    let out = count-out (own_job p t) (is_job s r) l.jobs.out in
+    let nothing : count (own_job p t) (option_to_list (find (is_job s r) l.jobs.out)) ≡ 0 =
+    ap (λ (z : Option Job). count (own_job p t) (option_to_list z)) none in
+    omega arith
+server-moves p t due hand l first second d e u (finishes s r y w) m =
+    let of = job-number s r l.jobs.out w.job w.is_out in
+    let j = count-found (own_job p t) (is_job s r) l.jobs.out w.job w.is_out in
+    let counted : cond {A = ℕ} (own_job p t w.job) 1 0
+    ≡ cond (s == t && p r (packet_count (length first) - 1)) 1 0 =
+    rw (of.0, of.1, w.own) refl in
+    let me = self p l.me t s r (packet_count (length first) - 1) in
+    omega arith
+server-moves p t due hand l first second d e u (arrives peer) m =
+    let g = server-reach p t due hand l (Arrived peer) first second m refl in omega arith
+server-moves p t due hand l first second d e u (overflows peer) m =
+    let g = server-reach p t due hand l (Overflowed peer) first second m refl in omega arith
+server-moves p t due hand l first second d e u (is_bad peer copy h g) m =
+    let g = server-reach p t due hand l (Bad peer) first second m refl in omega arith
+server-moves p t due hand l first second d e u (flushes nothing s r k o go c) m =
+    let g = server-reach p t due hand l (Flushed (Ask s r) k) first second m refl in omega arith
+server-moves p t due hand l first second d e u (flushes (flushed n a b) s r k o go c) m =
+    let g = server-reach p t due hand l (Flushed (Ask s r) k) first second m refl in omega arith
+server-moves p t due hand l first second d e u (flushes (reply n a b c) s r k o go z) m = absurd go
+server-moves p t due hand l first second d e u (flushes delivery s r k o go c) m = absurd go
+server-moves p t due hand l first second d e u (rolls nothing s r c posted got go call) m =
+    let g = server-reach p t due hand l (Rolled c posted got) first second m refl in omega arith
+server-moves p t due hand l first second d e u (rolls (flushed n a b) s r c posted got go call) m =
+    let g = server-reach p t due hand l (Rolled c posted got) first second m refl in omega arith
+server-moves p t due hand l first second d e u (rolls (reply n a b k) s r c posted got go call) m = absurd go
+server-moves p t due hand l first second d e u (rolls delivery s r c posted got go call) m = absurd go
+server-moves p t due hand l first second d e u (breaks nothing s go) m =
+    let g = server-reach p t due hand l (Broken s) first second m refl in omega arith
+server-moves p t due hand l first second d e u (breaks (flushed n a b) s go) m =
+    let g = server-reach p t due hand l (Broken s) first second m refl in omega arith
+server-moves p t due hand l first second d e u (breaks (reply n a b k) s go) m = absurd go
+server-moves p t due hand l first second d e u (breaks delivery s go) m = absurd go

@@ -1,0 +1,3 @@
+pub mod Caused
+pub mod NoStall
+pub mod Settled
