@@ -9,6 +9,7 @@ mod differs;
 mod idle;
 mod kept;
 mod links;
+mod newest;
 mod pairs;
 mod refusals;
 mod serving;

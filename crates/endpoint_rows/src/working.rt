@@ -1,9 +1,14 @@
-//! Background jobs that are worked in another order than they were given.
-use crate::bench::{Plain, carry, pair, plain_bench, plain_server};
-use crate::differs::{Differs, expect};
+//! Background jobs that are finished in another order than they were given.
+use crate::bench::{Bench, LIMITS, Plain, carry, pair, plain_bench};
+use crate::differs::Differs;
 use crate::links::sound_link;
-use rpc_base::{RequestNo, SessionNo};
+use crate::newest::NewestFirst;
+use endpoint_loop::Endpoint;
+use rpc_base::{NoMemory, NodeId, USUAL_JOBS};
+use rpc_outside::{MemLink, PlainService};
 use std::alloc::Global;
+
+type Newest = Bench<PlainService, NewestFirst>;
 
 const FACTS: &str = "\
 1 paired server 0 peer 0 with 0 credits 2
@@ -23,15 +28,18 @@ const FACTS: &str = "\
 1 polled 0
 ";
 
-// The worker works waiting job `job`, which has to be this request of session 0.
-fn work(server: &mut Plain, job: u32, request: RequestNo) -> Result<(), Differs> {
-    server.endpoint.sound();
-    let named = server.endpoint.workers().work(job);
-    expect(named == Some((SessionNo(0), request)), Differs::Answer)
+// Node 1 with workers that give the newest job back first, over this link.
+fn newest_bench(alloc: Global, link: MemLink) -> Result<Newest, NoMemory> {
+    let workers = NewestFirst::new(alloc, USUAL_JOBS)?;
+    let service = PlainService::new();
+    let Ok(endpoint) = Endpoint::new(alloc, NodeId(1), LIMITS, service, workers) else {
+        return Err(NoMemory);
+    };
+    Ok(Bench::over(alloc, endpoint, link))
 }
 
 // Two calls for a worker are asked and carried over, and become jobs.
-fn give_two(client: &mut Plain, server: &mut Plain) -> Result<(), Differs> {
+fn give_two(client: &mut Plain, server: &mut Newest) -> Result<(), Differs> {
     client.expect_call(130, b"ab", 2, 0)?;
     client.expect_call(129, b"cd", 2, 1)?;
     client.expect_turn(0, 2)?;
@@ -40,16 +48,14 @@ fn give_two(client: &mut Plain, server: &mut Plain) -> Result<(), Differs> {
     server.expect_turn(2, 0)
 }
 
-// They are worked, the second one first, and their answers sent.
-fn work_two(server: &mut Plain) -> Result<(), Differs> {
-    work(server, 1, RequestNo::of(1, 0))?;
-    work(server, 0, RequestNo::of(0, 0))?;
+// The second one comes back first, and their answers are sent.
+fn finish_two(server: &mut Newest) -> Result<(), Differs> {
     server.expect_turn(0, 2)?;
     server.expect_facts(FACTS)
 }
 
 // The answers are carried back and end the calls.
-fn end_two(client: &mut Plain, server: &mut Plain) -> Result<(), Differs> {
+fn end_two(client: &mut Plain, server: &mut Newest) -> Result<(), Differs> {
     carry(server, 0, client)?;
     carry(server, 1, client)?;
     client.expect_turn(2, 0)?;
@@ -57,21 +63,21 @@ fn end_two(client: &mut Plain, server: &mut Plain) -> Result<(), Differs> {
     client.expect_done(1, 0, b"ba", 2)
 }
 
-fn drive(client: &mut Plain, server: &mut Plain) -> Result<(), Differs> {
+fn drive(client: &mut Plain, server: &mut Newest) -> Result<(), Differs> {
     pair(client, server, 2)?;
     give_two(client, server)?;
-    work_two(server)?;
+    finish_two(server)?;
     end_two(client, server)
 }
 
 fn serve_client(alloc: Global, client: &mut Plain) -> Result<(), Differs> {
-    let mut server = plain_server(alloc, sound_link(alloc)?)?;
+    let mut server = newest_bench(alloc, sound_link(alloc)?)?;
     let outcome = drive(client, &mut server);
     server.close();
     outcome
 }
 
-/// The jobs end in the order in which they were worked.
+/// The jobs end in the order in which the workers give them back.
 pub fn row(alloc: Global) -> Result<(), Differs> {
     let mut client = plain_bench(alloc, sound_link(alloc)?)?;
     let outcome = serve_client(alloc, &mut client);
