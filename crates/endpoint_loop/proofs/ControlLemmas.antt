@@ -22,20 +22,13 @@ use Rattle.rpc_laws.specs.Groups.{has_no_room, servers_spent}
 use Rattle.rpc_laws.specs.Requests.{server_end}
 use Rattle.rpc_laws.specs.Steps.{Goes, NotesNext}
 use Rattle.rpc_outside.specs.Recording.{Grew}
+use Rattle.rpc_base.proofs.BasicLemmas.{not-false, not-true}
 use Rattle.server_core.proofs.FlushLemmas.{grew-none}
 use Rattle.session_store.specs.declared.server.ServerEnd.{ServerEnd}
 use Rattle.session_store.specs.Changes.{IsEnd}
 use Rattle.endpoint_loop.specs.Controlling.{Controls, takes_server}
 use Rattle.endpoint_loop.specs.Noting.{Makes}
 use Rattle.endpoint_loop.specs.Seen.{Asks, asking}
-
-not-true : (b : Bool) → not b ≡ true → b ≡ false
-not-true true e = cc
-not-true false e = refl
-
-not-false : (b : Bool) → not b ≡ false → b ≡ true
-not-false true e = refl
-not-false false e = cc
 
 -- a row that is known, with what was noted
 module _ {R : Type 0} (facts : R → Option (List Fact)) (whole : R → Bool) (before now : R)

@@ -10,6 +10,7 @@ use Rattle.packet_header.specs.declared.packet.ControlHeader.{ControlHeader}
 use Rattle.packet_header.specs.declared.packet.ControlKind.TheVariants.{ConnectReply}
 use Rattle.packet_header.specs.declared.packet.ControlKind.TheVariants.{DisconnectReply}
 use Rattle.packet_header.specs.declared.packet.ControlKind.TheVariants.{DisconnectRequest}
+use Rattle.rpc_base.proofs.BasicLemmas.{and-false}
 use Rattle.rpc_base.proofs.FindLemmas.{at-found}
 use Rattle.rpc_base.proofs.FirstLemmas.{count-fewer, found-own}
 use Rattle.rpc_base.proofs.TablesLemmas.{find-found}
@@ -222,10 +223,6 @@ module _ (servers : List Server) (t peer client : ℕ)
             ∙ sym stands,
       )
 
-  no-second : (b : Bool) → (b && false) ≡ false
-  no-second true = refl
-  no-second false = refl
-
   pub other-peer : end.peer ≢ peer → find (wanted servers t peer client alone) servers ≡ None
   other-peer other =
       let one = ne_eqb v.way.peer peer (λ same. other (its-end.peer ∙ same)) in
@@ -235,4 +232,4 @@ module _ (servers : List Server) (t peer client : ℕ)
   other-client other =
       let two = ne_eqb v.way.other client (λ same. other (its-end.client ∙ same)) in
       named-other servers t peer client alone i v stands its-number
-      (rw two (no-second (eqb v.way.peer peer)))
+      (rw two (and-false (eqb v.way.peer peer)))

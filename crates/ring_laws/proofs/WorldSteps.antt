@@ -179,7 +179,7 @@ module _ (p : Filter) (nodes : List Lists) (n : ℕ) (l : Lists) (x : Pairing)
 abbrev pub if_at : Bool → ℕ → ℕ
 if_at b k = cond b k 0
 
-and-count : (a b : Bool) → cond {A = ℕ} (a && b) 1 0 ≡ if_at a (cond b 1 0)
+pub and-count : (a b : Bool) → cond {A = ℕ} (a && b) 1 0 ≡ if_at a (cond b 1 0)
 and-count true b = refl
 and-count false b = refl
 

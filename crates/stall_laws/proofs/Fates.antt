@@ -47,7 +47,7 @@ use Rattle.ring_laws.proofs.Loads.{on_way, ask_to, reply_to}
 use Rattle.ring_laws.proofs.SentReads.{Reads, sent-reads}
 use Rattle.ring_laws.proofs.ServerReach.{spilt_ask}
 use Rattle.ring_laws.proofs.WithinSteps.{here-now, here-was, there-same}
-use Rattle.ring_laws.proofs.WorldSteps.{if_at}
+use Rattle.ring_laws.proofs.WorldSteps.{and-count, if_at}
 use Rattle.stall_laws.specs.Caused.{lost_at_node, lost_in_net, lost_by, front_copy}
 use Rattle.stall_laws.proofs.Dues.{Due, nothing, reply, delivery, flushed, covers, is_alone, Step}
 use Rattle.stall_laws.proofs.Dues.{alone, older}
@@ -110,17 +110,13 @@ step-of hand l first d e u (flushes x s r k o go c) = (goes-of x l.me s o go, re
 step-of hand l first d e u (rolls x s r c posted got go call) = (goes-of x l.me s (Some r) go, tt)
 step-of hand l first d e u (breaks x s go) = (goes-of x l.me s None go, tt)
 
-and-at : (a b : Bool) → cond {A = ℕ} (a && b) 1 0 ≡ if_at a (cond b 1 0)
-and-at true b = refl
-and-at false b = refl
-
 none-at : (b : Bool) → if_at b 0 ≡ 0
 none-at true = refl
 none-at false = refl
 
 owed-here : (p : Filter) (me n t : ℕ) (d : Due) → OfNode me d → owed_at p n t d ≡ if_at (me == n) (owed_at p me t d)
 owed-here p me n t (reply m s r k) of =
-    rw (of, eq-eqb me me refl) (and-at (me == n) (s == t && p r k))
+    rw (of, eq-eqb me me refl) (and-count (me == n) (s == t && p r k))
 owed-here p me n t (flushed m s o) of = sym (none-at (me == n))
 owed-here p me n t nothing of = sym (none-at (me == n))
 owed-here p me n t delivery of = sym (none-at (me == n))
@@ -201,7 +197,7 @@ module _ (r k : ℕ) (n : ℕ) (l : Lists) (x : Pairing) (joins : JoinsAt n l x)
       let b = count-add (reply_to p x.home x.client) copies c in
       let goes = le-by (n == x.home && (s == x.client && p q j)) (ask_to p x.node x.session c) (ask-goes peer s q j
       (first ++ second) r0) in
-      let split = and-at (n == x.home) (s == x.client && p q j) in
+      let split = and-count (n == x.home) (s == x.client && p q j) in
       let none = none-at (n == x.node) in
       omega arith
   flight-moves hand (Sent peer (Reply t q) j) first second copies i m =
@@ -211,7 +207,7 @@ module _ (r k : ℕ) (n : ℕ) (l : Lists) (x : Pairing) (joins : JoinsAt n l x)
       let b = count-add (reply_to p x.home x.client) copies c in
       let goes = le-by (n == x.node && (t == x.session && p q j)) (reply_to p x.home x.client c)
       (reply-goes peer t q j (first ++ second) r0) in
-      let split = and-at (n == x.node) (t == x.session && p q j) in
+      let split = and-count (n == x.node) (t == x.session && p q j) in
       let none = none-at (n == x.home) in
       omega arith
   flight-moves hand (Sent peer Control j) first second copies i m = let own = m.own in absurd (cc)
@@ -465,8 +461,8 @@ node-fate w n l first second x r k d e u (arrives peer) a j i some =
     let m = base-moves w n l (Arrived peer) first second x r k a j i delivery nothing (arrives peer) in
     let h = in-hand p x n w.hand peer first (a.allowed.may.in_hand ∙ ap
     (λ (b : ℕ). Some (record { from = peer; to = b; bytes = first })) a.me) in
-    let ask = and-at (n == x.node) (asks p x.session (message_of first)) in
-    let rep = and-at (n == x.home) (replies p x.client (message_of first)) in
+    let ask = and-count (n == x.node) (asks p x.session (message_of first)) in
+    let rep = and-count (n == x.home) (replies p x.client (message_of first)) in
     let z = none-at (n == x.home) in let y = none-at (n == x.node) in inl (omega arith)
 node-fate w n l first second x r k d e u (overflows peer) a j i some =
     let p = is_packet r k in
