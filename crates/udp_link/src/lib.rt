@@ -1,0 +1,13 @@
+//! A link over a UDP socket: the edge to the network. It tells its counts of faults and of busy
+//! answers, and nothing of what a socket sent or received.
+#![tactic(auto)]
+
+mod buffers;
+mod fates;
+mod link;
+mod peers;
+
+pub use link::UdpLink;
+
+#[cfg(test)]
+mod tests;
