@@ -1,6 +1,7 @@
 -- What an entry and a leaving do to numbers that rise.
-use Rattle.std.proofs.Common.{◌≡◌, ◌≢◌, ℕ, ◌+◌, ◌-◌, ◌<◌, ◌≤◌, ◌⊎◌, inl, inr, List, length, get_or}
-use Rattle.std.proofs.Common.{refl, sym, ap, ◌∙◌, arith, subst, Bool, true, false, cond}
+use Rattle.std.proofs.Common.{◌≡◌, ◌≢◌, ℕ, zero, suc, ◌+◌, ◌-◌, ◌<◌, ◌≤◌, ◌⊎◌}
+use Rattle.std.proofs.Common.{inl, inr, List, length, get_or}
+use Rattle.std.proofs.Common.{refl, sym, ap, ◌∙◌, arith}
 use Rattle.std.specs.Prelude.{Some, None}
 use Rattle.std.specs.List.{Contains, insert, remove}
 use Rattle.std.proofs.lemmas.Bool.{cases_lt, cases_eq}
@@ -8,7 +9,7 @@ use Rattle.std.proofs.lemmas.List.{get_or_default}
 use Rattle.std.proofs.lemmas.List.Edits.{length-insert, get_or-insert_below, get_or-insert_at}
 use Rattle.std.proofs.lemmas.List.Edits.{get_or-insert_above, length-remove, get_or-remove_below}
 use Rattle.std.proofs.lemmas.List.Edits.{get_or-remove_above}
-use Rattle.calling_sessions.specs.Rising.{Rises, IsNext}
+use Rattle.calling_sessions.specs.Rising.{AreBelow, Rises, IsNext}
 
 pub stands : (xs : List ℕ) (n : ℕ) → Contains xs n → (k : ℕ) × (k < length xs) × (get_or xs k 0 ≡ n)
 stands xs n h = (h.0, h.1, get_or_default xs h.0 0 n h.1 ∙ h.2)
@@ -25,12 +26,12 @@ in-order xs up i j le within = elim (cases_lt i j) [
 
 module _ (xs : List ℕ) (p x : ℕ) (within : p ≤ length xs) where
   -- what stands at a place of the list with x at place p
-  abbrev At : ℕ → Type 0
+  abbrev pub At : ℕ → Type 0
   At k = ((k < p) × (get_or (insert xs p x) k 0 ≡ get_or xs k 0))
       ⊎ (((k ≡ p) × (get_or (insert xs p x) k 0 ≡ x))
       ⊎ ((p < k) × (get_or (insert xs p x) k 0 ≡ get_or xs (k - 1) 0)))
 
-  at-insert : (k : ℕ) → At k
+  pub at-insert : (k : ℕ) → At k
   at-insert k = elim (cases_lt k p) [
     | inl below ↦ inl (below, get_or-insert_below xs p x 0 k below within)
     | inr more ↦ elim (cases_eq k p) [
@@ -89,6 +90,17 @@ module _ (xs : List ℕ) (p x : ℕ) (within : p ≤ length xs) where
         ]
       ]
 
+  pub below-insert : (bound : ℕ) → AreBelow bound xs → x < bound → AreBelow bound (insert xs p x)
+  below-insert bound least low k inside =
+      let long = length-insert xs p x within in
+      elim (at-insert k) [
+        | inl a ↦ omega (arith, a.1, least k (omega (arith, a.0, within)))
+        | inr d ↦ elim d [
+          | inl a ↦ omega (arith, a.1, low)
+          | inr a ↦ omega (arith, a.1, least (k - 1) (omega (arith, long, inside, a.0)))
+        ]
+      ]
+
   pub insert-has : Contains (insert xs p x) x
   insert-has = contains (insert xs p x) x p (omega (arith, length-insert xs p x within, within))
       (get_or-insert_at xs p x 0 within)
@@ -138,6 +150,14 @@ module _ (xs : List ℕ) (p : ℕ) (within : p < length xs) where
         ]
       ]
 
+  pub below-remove : (bound : ℕ) → AreBelow bound xs → AreBelow bound (remove xs p)
+  below-remove bound least k inside =
+      let long = length-remove xs p within in
+      elim (left-at k) [
+        | inl a ↦ omega (arith, a.1, least k (omega (arith, a.0, within)))
+        | inr a ↦ omega (arith, a.1, least (k + 1) (omega (arith, long, inside)))
+      ]
+
   pub remove-left : Rises xs → (n : ℕ) → Contains (remove xs p) n → n ≢ get_or xs p 0
   remove-left up n h = let s = stands (remove xs p) n h in
       let long = length-remove xs p within in
@@ -171,11 +191,29 @@ module _ (xs : List ℕ) (p : ℕ) (within : p < length xs) where
         | inr a ↦ contains xs n (s.0 + 1) (omega (arith, long, s.1)) (sym a.1 ∙ s.2)
       ]
 
--- one of two lists that rise
-pub rises-either : (b : Bool) (xs ys new : List ℕ) → new ≡ cond b ys xs → Rises ys → Rises xs
-    → Rises new
-rises-either true xs ys new is up down = subst Rises (sym is) up
-rises-either false xs ys new is up down = subst Rises (sym is) down
+-- each stands at a place that is no higher than it
+pub place-below : (xs : List ℕ) → Rises xs → (k : ℕ) → k < length xs → k ≤ get_or xs k 0
+place-below xs up zero inside = omega arith
+place-below xs up (suc k) inside =
+    let before = place-below xs up k (omega (arith, inside)) in
+    let rise = up k (suc k) (omega arith) inside in omega (arith, before, rise)
+
+-- one more number among numbers below a bound: they were fewer than the bound
+pub has-room : (xs : List ℕ) (p x bound : ℕ) → Rises xs → p ≤ length xs
+    → ((k : ℕ) → k < p → get_or xs k 0 < x) → ((k : ℕ) → p ≤ k → k < length xs → x < get_or xs k 0)
+    → AreBelow bound xs → x < bound → length xs < bound
+has-room xs p x bound up within below above least low =
+    let last = place-below (insert xs p x) (rises-insert xs p x within up below above) (length xs)
+    (omega (arith, length-insert xs p x within)) in
+    elim (at-insert xs p x within (length xs)) [
+      | inl a ↦ absurd (omega (arith, a.0, within))
+      | inr d ↦ elim d [
+        | inl a ↦ omega (arith, last, a.1, low)
+        | inr a ↦ (
+            let under = least (length xs - 1) (omega (arith, a.0)) in
+            omega (arith, last, a.1, under))
+      ]
+    ]
 
 -- a number that stands somewhere has no lower one behind it
 pub found-order : (xs : List ℕ) (from p : ℕ) → Rises xs → p < length xs → get_or xs p 0 ≡ from

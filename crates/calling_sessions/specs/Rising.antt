@@ -6,6 +6,10 @@ use Rattle.std.specs.List.{Contains}
 abbrev pub Rises : List ℕ → Type 0
 Rises xs = (i j : ℕ) → i < j → j < length xs → slice_index xs i < slice_index xs j
 
+-- each is below a bound
+abbrev pub AreBelow : (bound : ℕ) → List ℕ → Type 0
+AreBelow bound xs = (k : ℕ) → k < length xs → slice_index xs k < bound
+
 -- the least number of the list that isn't below a number, or there is none
 abbrev pub IsNext : (from : ℕ) → List ℕ → Option ℕ → Type 0
 IsNext from xs None = (n : ℕ) → Contains xs n → n < from

@@ -1,5 +1,5 @@
 //! Numbers of sessions, in ascending order.
-ghost use Rattle.std.specs.Prelude.{◌≡◌, ◌≢◌, ◌<◌, ◌≤◌, ℕ, [], length, slice_index, OnErr, OnOk};
+ghost use Rattle.std.specs.Prelude.{◌≡◌, ◌≢◌, ◌<◌, ◌≤◌, ℕ, [], length, slice_index, IfOk};
 ghost use Rattle.std.specs.List.{Contains};
 ghost use Rattle.calling_sessions.specs.Rising.{IsNext};
 
@@ -7,51 +7,53 @@ use rpc_base::NoMemory;
 use std::alloc::Global;
 use std::marker::Model;
 
-/// The numbers of the sessions that have calls. Contracts see them as a list that rises.
+// How many numbers a session may have.
+const NUMBERS: usize = 65_536;
+
+/// The numbers of the sessions that a poll visits. Contracts see them as a list that rises. It has
+/// room for all of them.
 #[derive(Drop)]
 pub struct CallingSessions {
     numbers: Vec<u16>,
 }
 
 impl Model for CallingSessions {
-    ghost use Rattle.std.specs.Prelude.{ℕ, List};
-    ghost use Rattle.calling_sessions.specs.Rising.{Rises};
+    ghost use Rattle.std.specs.Prelude.{◌≤◌, ℕ, List};
+    ghost use Rattle.std.specs.Vec.{vec_capacity};
+    ghost use Rattle.calling_sessions.specs.Rising.{AreBelow, Rises};
 
     ghost Value = { List ℕ };
 
     ghost view = { λ s. s.numbers.items };
 
-    ghost invariant = { λ s. Rises s.numbers.items };
+    ghost invariant = { λ s. Rises s.numbers.items × AreBelow 65536 s.numbers.items
+        × (65536 ≤ vec_capacity s.numbers) };
 }
 
 impl CallingSessions {
-    /// No session. It takes no memory.
-    pub fn new(alloc: Global) -> CallingSessions
-        ensures { result ≡ [] }
+    /// No session. The memory for all numbers is taken here. `NoMemory` comes where there is none.
+    pub fn new(alloc: Global) -> Result<CallingSessions, NoMemory>
+        ensures { IfOk result (λ s. s ≡ []) }
     {
-        CallingSessions {
-            numbers: Vec::new(alloc),
-        }
+        let numbers = Vec::with_capacity(alloc, NUMBERS)?;
+        Ok(CallingSessions { numbers })
     }
 
-    /// A session has calls; that may be known already. `NoMemory` comes where there is no memory to
-    /// keep its number, and leaves the others.
-    pub fn enter(&mut self, session: u16) -> Result<(), NoMemory>
-        ensures entered { OnOk result (Contains self.new session) }
+    /// A session is visited from now on; that may be known already. It takes no memory.
+    pub fn enter(&mut self, session: u16)
+        ensures entered { Contains self.new session }
         ensures others { (n : ℕ) → Contains self.old n → Contains self.new n }
         ensures alone { (n : ℕ) → n ≢ session → Contains self.new n → Contains self.old n }
-        ensures unchanged { OnErr result (self.new ≡ self.old) }
     {
-        match self.numbers.binary_search(&session) {
-            Ok(_place) => Ok(()),
-            Err(place) => {
-                self.numbers.insert(place, session)?;
-                Ok(())
-            }
-        }
+        let Err(place) = self.numbers.binary_search(&session) else {
+            return;
+        };
+        let Ok(()) = self.numbers.insert(place, session) else {
+            unreachable!()
+        };
     }
 
-    /// A session has no calls any more.
+    /// A session isn't visited any more.
     pub fn leave(&mut self, session: u16)
         ensures left { (n : ℕ) → Contains self.new n → n ≢ session }
         ensures others { (n : ℕ) → n ≢ session → Contains self.old n → Contains self.new n }
@@ -76,7 +78,7 @@ impl CallingSessions {
         }
     }
 
-    /// The session of least number that has calls, from the number `from` on. None comes exactly
+    /// The session of least number that is visited, from the number `from` on. None comes exactly
     /// where there is none.
     pub fn next(&self, from: u16) -> Option<u16>
         ensures { IsNext from self.now result }

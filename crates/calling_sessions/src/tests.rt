@@ -4,10 +4,10 @@ use rpc_base::NoMemory;
 
 #[test]
 fn sessions_are_found_in_the_order_of_their_numbers(rt: HostRuntime) -> Result<(), NoMemory> {
-    let mut sessions = CallingSessions::new(rt.alloc());
+    let mut sessions = CallingSessions::new(rt.alloc())?;
     assert_eq!(rt; sessions.next(0), None);
     for session in [300, 3, 65_534, 7, 3] {
-        sessions.enter(session)?;
+        sessions.enter(session);
     }
     for (from, next) in [
         (0, Some(3)),

@@ -3,17 +3,20 @@ use Rattle.std.proofs.Common.{◌≡◌, ◌<◌, ◌≤◌, ◌⊎◌, inl, inr
 use Rattle.std.proofs.Common.{List, [], ◌∷◌, length, Option, Some, None, slice_get}
 use Rattle.std.specs.Prelude.{option_map}
 use Rattle.std.specs.List.{find, list_any}
-use Rattle.packet_header.specs.Header.{AreBytes, HasHead, InRange}
+use Rattle.packet_header.specs.Header.{AreBytes, HasHead, InRange, Spells}
 use Rattle.packet_header.specs.Parts.{packet_count}
+use Rattle.packet_header.specs.declared.packet.ControlHeader.{ControlHeader}
+use Rattle.packet_header.specs.declared.packet.ControlKind.{ControlKind}
+use Rattle.packet_header.specs.declared.packet.ControlKind.TheVariants.{ConnectReply}
+use Rattle.packet_header.specs.declared.packet.ControlKind.TheVariants.{DisconnectRequest}
 use Rattle.packet_header.specs.declared.packet.Kind.{Kind}
 use Rattle.packet_header.specs.declared.packet.Kind.TheVariants.{Request, Rfr, Cr, Response}
 use Rattle.packet_header.specs.declared.packet.MessageHeader.{MessageHeader}
+use Rattle.packet_header.specs.declared.packet.Packet.TheVariants.{Control as ControlPacket}
 use Rattle.rpc_base.specs.declared.event.Event.{Event}
 use Rattle.rpc_base.specs.declared.event.Event.TheVariants.{Made, Opened, PairedClient}
-use Rattle.rpc_base.specs.declared.event.Event.TheVariants.{PairedServer, Accepted, Declined}
-use Rattle.rpc_base.specs.declared.event.Event.TheVariants.{Starved, Connected, FailedNoRoom}
-use Rattle.rpc_base.specs.declared.event.Event.TheVariants.{FailedNoAnswer, Closing, ClosedHeard}
-use Rattle.rpc_base.specs.declared.event.Event.TheVariants.{ClosedUnheard, Ended, Heard, Unsent}
+use Rattle.rpc_base.specs.declared.event.Event.TheVariants.{PairedServer, Accepted, Connected}
+use Rattle.rpc_base.specs.declared.event.Event.TheVariants.{Ended}
 use Rattle.rpc_base.specs.declared.event.Event.TheVariants.{Asked, Begun, Posted, Sent, Arrived}
 use Rattle.rpc_base.specs.declared.event.Event.TheVariants.{Overflowed, Took, Again, Given, Ran}
 use Rattle.rpc_base.specs.declared.event.Event.TheVariants.{Broken, DoneOk, DoneTooSmall, Carried}
@@ -22,6 +25,7 @@ use Rattle.rpc_base.specs.declared.fact.Who.{Who}
 use Rattle.rpc_base.specs.declared.fact.Who.TheVariants.{Node, Net}
 use Rattle.rpc_base.specs.declared.owner.Owner.{Owner}
 use Rattle.rpc_base.specs.declared.owner.Owner.TheVariants.{Ask, Reply, Control}
+use Rattle.rpc_base.specs.declared.state.SessionState.TheVariants.{Connecting}
 use Rattle.rpc_laws.specs.declared.tables.Arrival.{Arrival}
 use Rattle.rpc_laws.specs.declared.tables.Call.{Call}
 use Rattle.rpc_laws.specs.declared.tables.Client.{Client}
@@ -35,7 +39,9 @@ use Rattle.rpc_laws.specs.declared.tables.Server.{Server}
 use Rattle.rpc_laws.specs.AtMostOnce.{is_at}
 use Rattle.rpc_laws.specs.Calls.{is_call, is_active, is_waiting, asked_packets, known_packets}
 use Rattle.rpc_laws.specs.ClientTable.{is_of_turn}
-use Rattle.rpc_laws.specs.Front.{is_message, front_header, front_body}
+use Rattle.rpc_laws.specs.BufferSafety.{OwnControl}
+use Rattle.rpc_laws.specs.ControlSteps.{own_request}
+use Rattle.rpc_laws.specs.Front.{control_of, is_message, front_header, front_body}
 use Rattle.rpc_laws.specs.Jobs.{is_job}
 use Rattle.rpc_laws.specs.NodeLists.{after}
 use Rattle.rpc_laws.specs.Packets.{owner_packet}
@@ -45,6 +51,7 @@ use Rattle.rpc_laws.specs.ServerTable.{is_past_end}
 use Rattle.rpc_laws.specs.Service.{is_background}
 use Rattle.rpc_laws.specs.Sessions.{is_client}
 use Rattle.end_laws.specs.Kinds.{is_ask}
+use Rattle.end_laws.specs.Moments.{hand_noted}
 use Rattle.rpc_base.proofs.BasicLemmas.{false-true}
 
 -- the oldest waiting call of a session begins with the next number of its slot
@@ -208,10 +215,11 @@ MayAnswer l (Reply t r) k = MayRepeat l t r k
 MayAnswer l Control k = Unit {0}
 
 -- a session breaks where a call was rolled back eight times since its last reply
-pub record MayBreak (l : Lists) : Type 0 where
+pub record MayBreak (l : Lists) (s : ℕ) : Type 0 where
   pub place : ℕ
   pub client : Client
   pub is_there : slice_get l.clients place ≡ Some client
+  pub of_session : client.way.number ≡ s
   pub number : ℕ
   pub call : Call
   pub found : find (is_call number) client.calls ≡ Some call
@@ -238,34 +246,76 @@ MayTake l (Ask s r) k = MayTakeReply l s r
 MayTake l (Reply t r) k = MayTakeAsk l t r k
 MayTake l Control k = ⊥
 
--- hand is the copy that is to be delivered. Nodes and ends of sessions are made in another way, and there is no
--- event of session control
+-- the control packet in hand was heard, and is of this kind
+pub record Hearing (hand : Option InFlight) (l : Lists) (kind : ControlKind) : Type 0 where
+  pub peer : ℕ
+  pub bytes : List ℕ
+  pub header : ControlHeader
+  pub in_hand : hand ≡ Some (record { from = peer; to = l.me; bytes = bytes })
+  pub reads : control_of bytes ≡ Some header
+  pub of_kind : header.kind ≡ kind
+
+-- a session that is Connecting is connected by a reply of its peer that names server session t,
+-- with its credits
+pub record MayConnect (hand : Option InFlight) (l : Lists) (s t : ℕ) : Type 0 where
+  pub hears : Hearing hand l ConnectReply
+  pub of_client : hears.header.client ≡ s
+  pub names : hears.header.server ≡ Some t
+  pub client : Client
+  pub found : find (is_client s) l.clients ≡ Some client
+  pub of_peer : client.way.peer ≡ hears.peer
+  pub connecting : client.state ≡ Connecting
+  pub credits : hears.header.credits ≡ client.limit
+
+-- a server session ends by a request of its peer that names it
+pub record MayLeave (hand : Option InFlight) (l : Lists) (t : ℕ) : Type 0 where
+  pub hears : Hearing hand l DisconnectRequest
+  pub names : hears.header.server ≡ Some t
+  pub server : Server
+  pub found : find (is_server t) l.servers ≡ Some server
+  pub of_peer : server.way.peer ≡ hears.peer
+  pub of_client : server.way.other ≡ hears.header.client
+
+-- a client session at some place has this request of its own, for its peer
+pub record AsksAt (l : Lists) (peer : ℕ) (h : ControlHeader) : Type 0 where
+  pub place : ℕ
+  pub client : Client
+  pub is_there : slice_get l.clients place ≡ Some client
+  pub to_peer : client.way.peer ≡ peer
+  pub own : own_request client ≡ Some h
+
+-- a control packet that is sent is the node's own
+pub record MaySay (l : Lists) (peer k : ℕ) (head body : List ℕ) : Type 0 where
+  pub header : ControlHeader
+  pub own : AsksAt l peer header ⊎ OwnControl l peer header
+  pub no_number : k ≡ 0
+  pub bytes : AreBytes head
+  pub spells : Spells (ControlPacket header) head
+  pub whole : body ≡ []
+
+-- hand is the datagram that is to be delivered or handled. Nodes and ends of pairs are made in
+-- another way
 abbrev pub May : Option InFlight → Lists → Event → List ℕ → List ℕ → Type 0
 May hand l (Made ring) first second = ⊥
 May hand l (PairedClient s peer t credits) first second = ⊥
 May hand l (PairedServer t peer s credits) first second = ⊥
-May hand l (Opened s peer credits) first second = ⊥
-May hand l (Accepted t peer s credits) first second = ⊥
-May hand l (Declined peer s credits) first second = ⊥
-May hand l (Starved peer s credits) first second = ⊥
-May hand l (Connected s t) first second = ⊥
-May hand l (FailedNoRoom s) first second = ⊥
-May hand l (FailedNoAnswer s) first second = ⊥
-May hand l (Closing s) first second = ⊥
-May hand l (ClosedHeard s) first second = ⊥
-May hand l (ClosedUnheard s) first second = ⊥
-May hand l (Ended t) first second = ⊥
-May hand l Heard first second = ⊥
-May hand l (Unsent peer) first second = ⊥
+May hand l (Opened s peer credits) first second = (s ≡ length l.clients) × (first ≡ [])
+    × (second ≡ [])
+May hand l (Accepted t peer s credits) first second = (t ≡ l.server_numbers) × (first ≡ [])
+    × (second ≡ [])
+May hand l (Connected s t) first second = MayConnect hand l s t × (first ≡ []) × (second ≡ [])
+May hand l (Ended t) first second = MayLeave hand l t
 May hand l (Asked c s req_type room) first second = (c ≡ l.asked) × (second ≡ [])
 May hand l (Begun c r) first second = MayBegin l c r × (first ≡ []) × (second ≡ [])
 May hand l (Posted owner k) first second = MayPost l owner k
-May hand l (Sent peer owner k) first second = MaySend l peer owner k first second
+May hand l (Sent peer (Ask s r) k) first second = MaySend l peer (Ask s r) k first second
+May hand l (Sent peer (Reply t r) k) first second = MaySend l peer (Reply t r) k first second
+May hand l (Sent peer Control k) first second = MaySay l peer k first second
 May hand l (Arrived peer) first second = Delivered hand l peer first
 May hand l (Overflowed peer) first second = FindsFull hand l peer first
 May hand l (Took owner k) first second = MayTake l owner k
 May hand l (Again owner k) first second = MayAnswer l owner k
-May hand l (Broken s) first second = MayBreak l
+May hand l (Broken s) first second = MayBreak l s
 May hand l (Given t r) first second = MayGive l t r
 May hand l (Ran t r req_type) first second = MayRun l t r req_type first
 May hand l (DoneOk c) first second = MayEnd l c first
@@ -336,7 +386,7 @@ Linked latest l _ first = Unit {0}
 abbrev pub WalksFrom : Option InFlight → Option Fact → ℕ → Lists → List Fact → Type 0
 WalksFrom hand latest clock l [] = Unit {0}
 WalksFrom hand latest clock l (f ∷ x) = IsAllowed hand l f × Linked latest l f.event f.first
-    × WalksFrom hand (Some f) clock (after clock l f) x
+    × WalksFrom (hand_noted l.me f.event l.inbox hand) (Some f) clock (after clock l f) x
 
 -- so it is, whatever was before
 abbrev pub Walks : Option InFlight → ℕ → Lists → List Fact → Type 0

@@ -22,12 +22,19 @@ use Rattle.rpc_laws.specs.Facts.{plain, with_bytes}
 use Rattle.rpc_laws.specs.NodeLists.{after}
 use Rattle.rpc_laws.specs.Posting.{next_turn}
 use Rattle.rpc_laws.specs.Sessions.{is_client, has_call, turned, begins, asks}
+use Rattle.node_laws.proofs.Allowed.{Allowed as Lawful, MayAsk}
+use Rattle.node_laws.specs.Valid.{Valid}
+use Rattle.rpc_laws.specs.OwnAnswer.{AreEnds}
 use Rattle.end_laws.proofs.Allowed.{MayBegin}
-use Rattle.end_laws.proofs.GoodLemmas.{SameAt, client-more}
-use Rattle.end_laws.proofs.Known.{Known, Later, Asker, Begin, GoodCall, GoodClient, GoodNode}
+use Rattle.end_laws.proofs.ClientLemmas.{connected-joined, found-same, has-joined, is-joined}
+use Rattle.end_laws.proofs.GoodLemmas.{SameAt, client-more, run-left, starts-stay}
+use Rattle.end_laws.proofs.Known.{Known, Later, Asker, Begin, is_joined, IsJoined, Tied, StartOf}
+use Rattle.end_laws.proofs.Known.{GoodCall, GoodClient, GoodNode}
 use Rattle.end_laws.proofs.Known.{TrueStart, TrueAsk, IsTrue, added, added-here, added-keeps}
 use Rattle.end_laws.proofs.Known.{added-none, added-case, contains-here, contains-more}
-use Rattle.end_laws.proofs.KnownLemmas.{call-later, server-later, jobs-later, ends-more, start-more, ask-more}
+use Rattle.end_laws.proofs.KnownLemmas.{call-later, servers-later, jobs-later, tied-later}
+use Rattle.end_laws.proofs.KnownLemmas.{server-more-end, ends-more}
+use Rattle.end_laws.proofs.KnownLemmas.{start-more, ask-more}
 use Rattle.end_laws.proofs.ListLemmas.{length-first, Placed, first-each, set-first, set-placed}
 use Rattle.end_laws.proofs.ListLemmas.{length-slice_set, all-first, all-add, all-found}
 use Rattle.end_laws.proofs.SlotLemmas.{find-any}
@@ -78,7 +85,7 @@ module _ (k : Known) (n c s y room : ℕ) (ask : List ℕ) where
 
   pub true-ask : IsTrue k → IsTrue knows
   true-ask t = record {
-    ends = λ i j m x h. ends-more asked_fact k.past x.home x.client i j (t.ends i j m x h);
+    ends = λ i j m x h. server-more-end asked_fact k.past x.home x.client i j (t.ends i j m x h);
     asks = added-case k.asks n c 0 entry (TrueAsk (asked_fact ∷ k.past))
         (record { number = refl; asked = contains-here asked_fact k.past })
         (λ i j m x h. ask-more asked_fact k.past i j m x (t.asks i j m x h));
@@ -86,9 +93,9 @@ module _ (k : Known) (n c s y room : ℕ) (ask : List ℕ) where
     runs = λ i j m x h. contains-more asked_fact _ k.past (t.runs i j m x h);
   }
 
-  ask-client : Later k knows → (i : ℕ) (x : Client) → is_client s x ≡ true → GoodClient k n i x
-      → GoodClient knows n i (asks asked_call x)
-  ask-client later i x t g =
+  ask-client : Later k knows → (i : ℕ) (x : Client) → is_client s x ≡ true
+      → is_joined x.state ≡ true → GoodClient k n i x → GoodClient knows n i (asks asked_call x)
+  ask-client later i x t joined g =
       let more = client-more k knows later n i x (λ r h. h) g in
       let session : x.way.number ≡ s = eqb-true x.way.number s t in
       let logged : knows.asks n c 0 ≡ Some (record { session = x.way.number; what = asked_call }) =
@@ -96,27 +103,39 @@ module _ (k : Known) (n c s y room : ℕ) (ask : List ℕ) where
       (sym session) (added-here k.asks n c 0 entry) in
       record {
         number = more.number;
-        end = more.end;
+        tied = subst (λ (b : Bool). Tied b knows n i (asks asked_call x)) (sym joined)
+            (record {
+              end = (is-joined knows n i x joined more).end;
+              client = (is-joined knows n i x joined more).client;
+            });
         eight = more.eight;
         fresh = more.fresh;
         calls = all-add (GoodCall knows n x.way) x.calls _ more.calls
             (record { logged = logged; progress = tt });
       }
 
-  pub ask-node : (clock : ℕ) (l : Lists) → c ≡ l.asked → GoodNode k n l → GoodNode knows n (after clock l asked_fact)
-  ask-node clock l new g =
+  pub ask-node : (clock : ℕ) (l : Lists) → c ≡ l.asked → Valid l → MayAsk l c s → GoodNode k n l
+      → GoodNode knows n (after clock l asked_fact)
+  ask-node clock l new valid may g =
       let later = later-ask (g.no_asks c (omega arith)) in
       let count = length-first (is_client s) (asks asked_call) l.clients in
       record {
-        clients = first-each (is_client s) (asks asked_call) (GoodClient k n)
-            (GoodClient knows n) l.clients (λ i x h t. ask-client later i x t h)
-            (λ i x h. client-more k knows later n i x (λ r h. h) h) g.clients;
-        servers = λ t v is. server-later k knows later n t v (g.servers t v is);
+        clients = first-each (is_client s) (asks asked_call)
+            (λ i z. GoodClient k n i z × (slice_get l.clients i ≡ Some z)) (GoodClient knows n)
+            l.clients
+            (λ i z h t.
+            let same = found-same k n l.clients s may.client g.clients may.found i z h.1 t in
+            ask-client later i z t (ap (λ (y : Client). is_joined y.state) same
+            ∙ connected-joined k n may.client.state may.connected) h.0)
+            (λ i z h. client-more k knows later n i z (λ r h. h) h.0)
+            (λ i z is. (g.clients i z is, is));
+        servers = servers-later k knows later n l.servers g.servers;
         no_asks = λ d le. added-none k.asks n c 0 entry n d 0 (λ x e z. absurd (omega arith))
             (g.no_asks d (omega arith));
         no_ends = λ t le. g.no_ends t le;
         no_starts = λ t r le. g.no_starts t r (omega arith);
-        no_runs = λ t r u. g.no_runs t r u;
+        begun = λ j r b is. starts-stay l asked_fact valid may clock j b (g.begun j r b is);
+        no_runs = λ t r some. g.no_runs t r (run-left l asked_fact valid may clock t r some);
         jobs = jobs-later k knows later n l.jobs.out g.jobs;
       }
 
@@ -164,6 +183,13 @@ module _ (k : Known) (n c r : ℕ) (l : Lists) (m : MayBegin l c r) (g : GoodNod
   good-call : GoodCall k n m.client.way m.call
   good-call = all-found (GoodCall k n m.client.way) is_waiting m.client.calls m.call good-client.calls m.waits
 
+  -- its session is joined
+  begins-joined : is_joined m.client.state ≡ true
+  begins-joined = has-joined k n m.session m.client is_waiting m.call good-client m.waits
+
+  joined-way : IsJoined k n m.session m.client
+  joined-way = is-joined k n m.session m.client begins-joined good-client
+
   -- its number is the next of its slot
   slot-is : r % 8 ≡ m.slot
   slot-is =
@@ -201,7 +227,10 @@ module _ (k : Known) (n c r : ℕ) (l : Lists) (m : MayBegin l c r) (g : GoodNod
   pub true-begin : IsTrue k → IsTrue begins_known
   true-begin t =
       let number : m.client.way.number ≡ m.session = good-client.number in
-      let ends = t.ends m.client.way.peer m.client.way.other 0 _ good-client.end in
+      let ends : AreEnds k.past n m.session m.client.way.peer m.client.way.other = record {
+        client = joined-way.client;
+        server = t.ends m.client.way.peer m.client.way.other 0 _ joined-way.end;
+      } in
       let asked = t.asks n m.call.what.number 0 _ good-call.logged in
       let there : Contains k.past (with_bytes n
       (Asked m.call.what.number m.session m.call.what.req_type m.call.what.room)
@@ -216,7 +245,8 @@ module _ (k : Known) (n c r : ℕ) (l : Lists) (m : MayBegin l c r) (g : GoodNod
         begun = subst (λ (f : Fact). Contains (begun_fact ∷ k.past) f) own (contains-here begun_fact k.past);
       } in
       record {
-        ends = λ i j d x h. ends-more begun_fact k.past x.home x.client i j (t.ends i j d x h);
+        ends = λ i j d x h. server-more-end begun_fact k.past x.home x.client i j
+            (t.ends i j d x h);
         asks = λ i j d x h. ask-more begun_fact k.past i j d x (t.asks i j d x h);
         starts = added-case k.starts n m.session r begin (TrueStart (begun_fact ∷ k.past)) new
             (λ i j d x h. start-more begun_fact k.past i j d x (t.starts i j d x h));
@@ -310,10 +340,14 @@ module _ (k : Known) (n c r : ℕ) (l : Lists) (m : MayBegin l c r) (g : GoodNod
       (sym same.1)) in
       record { logged = h.logged; progress = record { begun = mine; answer = (refl, above) } }
 
+  later-way : IsJoined begins_known n m.session m.client
+  later-way = tied-later k begins_known later-begin true n m.session m.client joined-way
+
   begun-client : GoodClient begins_known n m.session (begins c r m.client)
   begun-client = record {
     number = good-client.number;
-    end = good-client.end;
+    tied = subst (λ (b : Bool). Tied b begins_known n m.session (begins c r m.client))
+        (sym begins-joined) (record { end = later-way.end; client = later-way.client });
     eight = length-slice_set m.client.turns (r % 8) _ ∙ good-client.eight;
     fresh = λ q le. fresh-by q _ refl le;
     calls = all-first (GoodCall k n m.client.way) (GoodCall begins_known n m.client.way) (is_call c)
@@ -326,8 +360,20 @@ module _ (k : Known) (n c r : ℕ) (l : Lists) (m : MayBegin l c r) (g : GoodNod
       client-more k begins_known later-begin n j z
       (λ q none. added-none k.starts n m.session r begin n j q (λ x e y. ne e) none) h
 
-  pub begin-node : (clock : ℕ) → GoodNode begins_known n (after clock l begun_fact)
-  begin-node clock =
+  abbrev BegunAt : ℕ → ℕ → ℕ → ℕ → Begin → Type 0
+  BegunAt node i j q b = i ≡ node → StartOf l.clients j b
+
+  own-start : BegunAt n n m.session r begin
+  own-start e = record {
+    client = m.client;
+    is_there = m.is_there;
+    joined = begins-joined;
+    way = refl;
+  }
+
+  pub begin-node : (clock : ℕ) → Valid l → Lawful l (Begun c r)
+      → GoodNode begins_known n (after clock l begun_fact)
+  begin-node clock valid lawful =
       let has : has_call c m.client ≡ true = has-by m.client.calls m.call m.waits is-begun in
       let one : at_first (has_call c) (begins c r) l.clients
       ≡ slice_set l.clients m.session (begins c r m.client) =
@@ -342,11 +388,15 @@ module _ (k : Known) (n c r : ℕ) (l : Lists) (m : MayBegin l c r) (g : GoodNod
       let within = slice_get_within l.clients m.session m.client m.is_there in
       record {
         clients = subst (λ (xs : List Client). Placed (GoodClient begins_known n) xs) (sym one) placed;
-        servers = λ t v is. server-later k begins_known later-begin n t v (g.servers t v is);
+        servers = servers-later k begins_known later-begin n l.servers g.servers;
         no_asks = λ d le. g.no_asks d le;
         no_ends = λ t le. g.no_ends t le;
         no_starts = λ s q le. added-none k.starts n m.session r begin n s q
             (λ x e y. absurd (omega arith)) (g.no_starts s q (omega arith));
-        no_runs = λ t q u. g.no_runs t q u;
+        begun = λ j q b is. starts-stay l begun_fact valid lawful clock j b
+            (added-case k.starts n m.session r begin (BegunAt n) own-start
+            (λ i j q b is same. g.begun j q b (sym (ap (λ (z : ℕ). k.starts z j q) same) ∙ is))
+            n j q b is refl);
+        no_runs = λ t q some. g.no_runs t q (run-left l begun_fact valid lawful clock t q some);
         jobs = jobs-later k begins_known later-begin n l.jobs.out g.jobs;
       }

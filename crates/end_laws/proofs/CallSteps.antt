@@ -32,6 +32,7 @@ use Rattle.rpc_laws.specs.Groups.{Asks, ask_by_state, state_of}
 use Rattle.rpc_laws.specs.NodeLists.{after}
 use Rattle.rpc_laws.specs.Queues.{flush_facts, numbers_of}
 use Rattle.rpc_laws.specs.Sessions.{is_client}
+use Rattle.end_laws.specs.Moments.{hand_noted}
 use Rattle.end_laws.proofs.Allowed.{May, MayBreak, Linked, is_carried, WalksFrom, Walks, IsAllowed}
 use Rattle.end_laws.proofs.ListLemmas.{all-append}
 use Rattle.end_laws.proofs.Walks.{Stays, WalkedFrom, Fine, walked-from, walked-goes, fine-each}
@@ -52,7 +53,7 @@ free-walks hand latest clock l [] h = tt
 free-walks hand latest clock l (f ∷ x) h = (
   record { who = h.0.who; may = h.0.may hand l },
   h.0.linked latest l,
-  free-walks hand (Some f) clock (after clock l f) x h.1,
+  free-walks (hand_noted l.me f.event l.inbox hand) (Some f) clock (after clock l f) x h.1,
 )
 
 pub free-append : (me : ℕ) (x y : List Fact) → AllFree me x → AllFree me y → AllFree me (x ++ y)
@@ -105,11 +106,12 @@ all-flushes-keep me session queued (c ∷ calls) =
     all-append KeepsClients (flushes_of me session queued c.progress) _
     (flushes-keep me session queued c.progress) (all-flushes-keep me session queued calls)
 
-break-after : (l m : Lists) → m.clients ≡ l.clients → MayBreak l → MayBreak m
-break-after l m e b = record {
+break-after : (l m : Lists) (s : ℕ) → m.clients ≡ l.clients → MayBreak l s → MayBreak m s
+break-after l m s e b = record {
   place = b.place;
   client = b.client;
   is_there = ap (λ (xs : List Client). slice_get xs b.place) e ∙ b.is_there;
+  of_session = b.of_session;
   number = b.number;
   call = b.call;
   found = b.found;
@@ -120,19 +122,20 @@ break-after l m e b = record {
 
 break-walk : (hand : Option InFlight) (latest : Option Fact) (clock : ℕ) (l : Lists) (x : List Fact)
     (session : ℕ) (dones : List Fact) → AllFree l.me x → AllByRecursion KeepsClients x
-    → AllFree l.me dones → MayBreak l
+    → AllFree l.me dones → MayBreak l session
     → WalksFrom hand latest clock l (x ++ plain l.me (Broken session) ∷ dones)
 break-walk hand latest clock l [] session dones free keep lost b =
     (record { who = refl; may = b }, tt, free-walks hand _ clock _ dones lost)
 break-walk hand latest clock l (f ∷ x) session dones free keep lost b = (
   record { who = free.0.who; may = free.0.may hand l },
   free.0.linked latest l,
-  break-walk hand (Some f) clock (after clock l f) x session dones free.1 keep.1 lost
-      (break-after l (after clock l f) (keep.0 clock l) b),
+  break-walk (hand_noted l.me f.event l.inbox hand) (Some f) clock
+      (after clock l f) x session dones free.1 keep.1 lost
+      (break-after l (after clock l f) session (keep.0 clock l) b),
 )
 
 row-walk : (hand : Option InFlight) (clock : ℕ) (l : Lists) (x : Client) (number : ℕ) (p : Progress)
-    (row : TimerRow) → (row ≡ Breaks → MayBreak l)
+    (row : TimerRow) → (row ≡ Breaks → MayBreak l x.way.number)
     → Walks hand clock l (row_facts l.me l.queued x number p row)
 row-walk hand clock l x number p Waits b = tt
 row-walk hand clock l x number p RollsBack b =
@@ -167,6 +170,7 @@ progress-walk hand clock timeout l place number x c (Some p) is found at =
       place = place;
       client = x;
       is_there = is;
+      of_session = refl;
       number = number;
       call = c;
       found = found;
@@ -258,9 +262,9 @@ ask-linked false session req_type room ask l =
     state-linked (state_of (find (is_client session) l.clients)) session req_type room ask l
 
 module _ (Inv : Lists → Type 0) (stays : Stays Inv) where
-  pub asks-fine : (hand : Option InFlight) (session req_type : ℕ) (ask : List ℕ) (room : ℕ)
-      → Fine Inv hand (Asks session req_type ask room)
-  asks-fine hand session req_type ask room s x t o i h =
+  pub asks-fine : (session req_type : ℕ) (ask : List ℕ) (room : ℕ)
+      → Fine Inv (Asks session req_type ask room)
+  asks-fine session req_type ask room hand s x t i h =
       walked-goes Inv stays hand s x t i (rw h.facts (
         ask-allowed (nat_lt 1048576 (length ask)) hand session req_type room ask s.lists,
         ask-linked (nat_lt 1048576 (length ask)) session req_type room ask s.lists,
@@ -276,15 +280,13 @@ module _ (Inv : Lists → Type 0) (stays : Stays Inv) where
       (is_control bytes) (nat_lt (length s.lists.inbox) inbox_room) latest s.clock peer bytes
       s.lists refl refl carried)) h.goes
 
-  pub watches-fine : (hand : Option InFlight) (timeout session number : ℕ)
-      → Fine Inv hand (Watches timeout session number)
-  watches-fine hand timeout session number s x t o i h =
+  pub watches-fine : (timeout session number : ℕ) → Fine Inv (Watches timeout session number)
+  watches-fine timeout session number hand s x t i h =
       walked-goes Inv stays hand s x t i (rw h.facts
       (client-walk hand s.clock timeout s.lists session number
       (slice_get s.lists.clients session) refl)) h.goes
 
-  pub watches-session : (hand : Option InFlight) (timeout session : ℕ)
-      → Fine Inv hand (WatchesSession timeout session)
-  watches-session hand timeout session s x t o i h =
-      fine-each Inv hand (Watches timeout session) (watches-fine hand timeout session)
-      (numbers_in (slice_get s.lists.clients session)) s x t o i h
+  pub watches-session : (timeout session : ℕ) → Fine Inv (WatchesSession timeout session)
+  watches-session timeout session hand s x t i h =
+      fine-each Inv (Watches timeout session) (watches-fine timeout session)
+      (numbers_in (slice_get s.lists.clients session)) hand s x t i h

@@ -4,7 +4,7 @@ use Rattle.std.proofs.Common.{false, cond, List, [], ◌∷◌, ◌++◌, length
 use Rattle.std.proofs.Common.{slice_get, refl, sym, ap, ◌∙◌, subst, arith, ltb-true, ltb-false}
 use Rattle.std.specs.Prelude.{IfSome, option_map}
 use Rattle.std.specs.List.{find, AllByRecursion}
-use Rattle.std.proofs.lemmas.Bool.{eqb-true}
+use Rattle.std.proofs.lemmas.Bool.{eqb-true, eq-eqb}
 use Rattle.packet_header.specs.Parts.{part, part_size}
 use Rattle.packet_header.specs.Reading.{message_of, body_of}
 use Rattle.packet_header.specs.declared.packet.Kind.{Kind}
@@ -20,9 +20,10 @@ use Rattle.rpc_base.specs.declared.event.Event.TheVariants.{Closing as BeginsClo
 use Rattle.rpc_base.specs.declared.event.Event.TheVariants.{ClosedUnheard, PairedClient, Asked}
 use Rattle.rpc_base.specs.declared.event.Event.TheVariants.{Begun, Posted, Sent, Took, Ran, Rolled}
 use Rattle.rpc_base.specs.declared.event.Event.TheVariants.{Broken, DoneOk, DoneTooSmall}
-use Rattle.rpc_base.specs.declared.event.Event.TheVariants.{DonePeerLost}
+use Rattle.rpc_base.specs.declared.event.Event.TheVariants.{DonePeerLost, PairedServer, Accepted}
 use Rattle.rpc_base.specs.declared.state.SessionState.{SessionState}
-use Rattle.rpc_base.specs.declared.state.SessionState.TheVariants.{Closing, Closed, Failed}
+use Rattle.rpc_base.specs.declared.state.SessionState.TheVariants.{Connecting, Closing, Closed}
+use Rattle.rpc_base.specs.declared.state.SessionState.TheVariants.{Failed}
 use Rattle.packet_header.specs.declared.packet.ControlHeader.{ControlHeader}
 use Rattle.rpc_base.specs.declared.owner.Owner.TheVariants.{Ask, Reply, Control}
 use Rattle.rpc_laws.specs.declared.tables.Arrival.{Arrival}
@@ -38,17 +39,22 @@ use Rattle.rpc_laws.specs.Calls.{posted_up_to, sent_packet, rolled_back, took_re
 use Rattle.rpc_laws.specs.ClientTable.{is_cr, is_same_size, is_of_turn}
 use Rattle.rpc_laws.specs.Front.{control_of, front_bytes, front_header, front_body}
 use Rattle.rpc_laws.specs.Sessions.{comes_to, requests, is_request_of, clients_told, is_client}
-use Rattle.rpc_laws.specs.Sessions.{has_call, posts, sends, takes, rolls, breaks, ends}
+use Rattle.rpc_laws.specs.Sessions.{is_connected, has_call, posts, sends, takes, rolls, breaks}
+use Rattle.rpc_laws.specs.Sessions.{ends}
 use Rattle.rpc_laws.specs.Sessions.{clients_after}
-use Rattle.end_laws.proofs.Allowed.{Fronts, MayTakeReply, May}
+use Rattle.node_laws.proofs.Allowed.{Allowed as Lawful}
+use Rattle.end_laws.proofs.Allowed.{Fronts, MayTakeReply, MayBreak, May}
 use Rattle.end_laws.proofs.Known.{Known, HasRun, Says, Speaks, GoodAnswer, GoodProgress, GoodCall}
-use Rattle.end_laws.proofs.Known.{GoodClient, Begin, Run}
+use Rattle.end_laws.proofs.Known.{is_joined, IsJoined, Tied, GoodClient, Begin, Run}
 use Rattle.end_laws.proofs.ListLemmas.{Placed, first-each, find-at, all-first, all-at, all-without}
 
 -- facts that add nothing to the logs
 abbrev pub is_quiet : Event → Bool
 is_quiet (PairedClient s peer t credits) = false
+is_quiet (PairedServer t peer s credits) = false
 is_quiet (Opened s peer credits) = false
+is_quiet (Accepted t peer s credits) = false
+is_quiet (Connected s t) = false
 is_quiet (Asked c s y room) = false
 is_quiet (Begun c r) = false
 is_quiet (Ran t r y) = false
@@ -100,12 +106,22 @@ module _ (k : Known) (n : ℕ) where
   leaves-call change way c l h =
       record { logged = h.logged; progress = leaves-some change way c.what c.progress l h.progress }
 
+  -- a session stays tied where no call comes to it
+  tied-same : (b : Bool) (i : ℕ) (x y : Client) → y.way ≡ x.way → y.limit ≡ x.limit
+      → (x.calls ≡ [] → y.calls ≡ []) → Tied b k n i x → Tied b k n i y
+  tied-same true i x y way limit idle h =
+      record { end = rw (way, limit) (h.end); client = rw way (h.client) }
+  tied-same false i x y way limit idle h =
+      record { opened = rw (way, limit) (h.opened); idle = idle h.idle }
+
   -- other calls, and the rest as it was
-  with-calls : (i : ℕ) (x y : Client) → y.way ≡ x.way → y.turns ≡ x.turns
+  with-calls : (i : ℕ) (x y : Client) → y.way ≡ x.way → y.turns ≡ x.turns → y.limit ≡ x.limit
+      → is_joined y.state ≡ is_joined x.state → (x.calls ≡ [] → y.calls ≡ [])
       → AllByRecursion (GoodCall k n x.way) y.calls → GoodClient k n i x → GoodClient k n i y
-  with-calls i x y way turns calls h = record {
+  with-calls i x y way turns limit joined idle calls h = record {
     number = rw way (h.number);
-    end = rw way (h.end);
+    tied = subst (λ (b : Bool). Tied b k n i y) (sym joined)
+        (tied-same (is_joined x.state) i x y way limit idle h.tied);
     eight = rw turns (h.eight);
     fresh = rw turns (h.fresh);
     calls = subst (λ (w : Way). AllByRecursion (GoodCall k n w) y.calls) (sym way) calls;
@@ -120,25 +136,28 @@ module _ (k : Known) (n : ℕ) where
 
   posts-good : (r j i : ℕ) (x : Client) → GoodClient k n i x → GoodClient k n i (posts r j x)
   posts-good r j i x h =
-      with-calls i x (posts r j x) refl refl (moved-calls (posted_up_to j)
+      with-calls i x (posts r j x) refl refl refl refl (λ e. rw e refl)
+      (moved-calls (posted_up_to j)
       (is_active r) x.way x.calls (posted-leaves j) h.calls) h
 
   sends-good : (clock r j i : ℕ) (x : Client) → GoodClient k n i x → GoodClient k n i (sends clock r j x)
   sends-good clock r j i x h =
-      with-calls i x (sends clock r j x) refl refl
+      with-calls i x (sends clock r j x) refl refl refl refl (λ e. rw e refl)
       (moved-calls (sent_packet clock j) (is_active r) x.way x.calls (sent-leaves clock j) h.calls)
       h
 
   rolls-good : (c posted got i : ℕ) (x : Client) → GoodClient k n i x → GoodClient k n i (rolls c posted got x)
   rolls-good c posted got i x h =
-      with-calls i x (rolls c posted got x) refl refl
+      with-calls i x (rolls c posted got x) refl refl refl refl (λ e. rw e refl)
       (moved-calls (rolled_back got) (is_call c) x.way x.calls (rolled-leaves got) h.calls) h
 
-  breaks-good : (i : ℕ) (x : Client) → GoodClient k n i x → GoodClient k n i (breaks x)
-  breaks-good i x h = with-calls i x (breaks x) refl refl h.calls h
+  breaks-good : (i : ℕ) (x : Client) → is_joined x.state ≡ true → GoodClient k n i x
+      → GoodClient k n i (breaks x)
+  breaks-good i x joined h = with-calls i x (breaks x) refl refl refl (sym joined)
+      (λ e. e) h.calls h
 
   ends-good : (c i : ℕ) (x : Client) → GoodClient k n i x → GoodClient k n i (ends c x)
-  ends-good c i x h = with-calls i x (ends c x) refl refl
+  ends-good c i x h = with-calls i x (ends c x) refl refl refl refl (λ e. rw e refl)
       (all-without (GoodCall k n x.way) (is_call c) x.calls h.calls) h
 
   -- the client of a number is the one that is found
@@ -152,7 +171,7 @@ module _ (k : Known) (n : ℕ) where
       let same : a.0 ≡ s = sym number ∙ found in
       (ap (slice_get xs) (sym same) ∙ a.1, found)
 
-  found-same : (xs : List Client) (s : ℕ) (x : Client) → Placed (GoodClient k n) xs
+  pub found-same : (xs : List Client) (s : ℕ) (x : Client) → Placed (GoodClient k n) xs
       → find (is_client s) xs ≡ Some x → (i : ℕ) (z : Client) → slice_get xs i ≡ Some z
       → is_client s z ≡ true → z ≡ x
   found-same xs s x g f i z is t =
@@ -333,7 +352,7 @@ module _ (k : Known) (n : ℕ) where
       let speaks = all-at (λ a. Speaks k a.peer n a.bytes) l.ring 0 front ring f.is_front in
       let reads : message_of front.bytes ≡ Some h = ap message_of (sym bytes) ∙ f.reads in
       subst (λ (b : List ℕ). Says h.kind k front.peer n h (body_of b)) (sym bytes)
-      (some-says front.peer front.bytes _ h reads speaks)
+      (some-says front.peer front.bytes _ h reads speaks.0)
 
   pub if-progress : (way : Way) (a : Asking) (progress : Option Progress) (p : Progress)
       → progress ≡ Some p → IfSome progress (GoodProgress k n way a) → GoodProgress k n way a p
@@ -378,15 +397,50 @@ module _ (k : Known) (n : ℕ) where
             at m.is_front.reads t (front-says l m.front m.header m.is_front ring) turn;
       })
       h.calls in
-      with-calls i x (takes clock r (front_header l.ring) (front_body l.ring) x) refl refl calls h
+      with-calls i x (takes clock r (front_header l.ring) (front_body l.ring) x) refl refl refl refl
+      (λ e. rw e refl) calls h
 
-  comes-good : (state : SessionState) (i : ℕ) (x : Client) → GoodClient k n i x → GoodClient k n i (comes_to state x)
-  comes-good state i x g = with-calls i x (comes_to state x) refl refl g.calls g
+  comes-good : (state : SessionState) (i : ℕ) (x : Client) → is_joined state ≡ is_joined x.state
+      → GoodClient k n i x → GoodClient k n i (comes_to state x)
+  comes-good state i x same g = with-calls i x (comes_to state x) refl refl refl same
+      (λ e. e) g.calls g
+
+  -- a session comes to another state
+  comes-first : (state was : SessionState) (s : ℕ) (xs : List Client) → is_joined state
+      ≡ is_joined was
+      → (x : Client) → find (is_client s) xs ≡ Some x → x.state ≡ was → Placed (GoodClient k n) xs
+      → Placed (GoodClient k n) (at_first (is_client s) (comes_to state) xs)
+  comes-first state was s xs same x found is g =
+      found-first s (comes_to state) xs x found
+      (λ i. comes-good state i x (same ∙ sym (ap is_joined is))) g
+
+  pub connected-joined : (state : SessionState) → is_connected state ≡ true → is_joined state ≡ true
+  connected-joined Connecting e = cc
+  connected-joined Failed e = cc
+  connected-joined _ e = refl
+
+  -- a session that has a call is joined
+  joined-by : (b : Bool) (i : ℕ) (x : Client) (p : Call → Bool) (c : Call) → is_joined x.state ≡ b
+      → Tied b k n i x → find p x.calls ≡ Some c → b ≡ true
+  joined-by true i x p c e t h = refl
+  joined-by false i x p c e t h = none-some (find p []) c (sym (ap (find p) t.idle) ∙ h) refl
+    where
+      none-some : {A : Type 0} (o : Option Call) (c : Call) → o ≡ Some c → o ≡ None → A
+      none-some o c e f = cc
+
+  pub has-joined : (i : ℕ) (x : Client) (p : Call → Bool) (c : Call) → GoodClient k n i x
+      → find p x.calls ≡ Some c → is_joined x.state ≡ true
+  has-joined i x p c g h = joined-by (is_joined x.state) i x p c refl g.tied h
+
+  pub is-joined : (i : ℕ) (x : Client) → is_joined x.state ≡ true → GoodClient k n i x
+      → IsJoined k n i x
+  is-joined i x joined g = subst (λ (b : Bool). Tied b k n i x) joined g.tied
 
   requests-by : (clock : ℕ) (b : Bool) (i : ℕ) (x : Client) → GoodClient k n i x
       → GoodClient k n i (cond b (record x { sends = x.sends + 1; sent_at = clock }) x)
   requests-by clock true i x g =
-      with-calls i x (record x { sends = x.sends + 1; sent_at = clock }) refl refl g.calls g
+      with-calls i x (record x { sends = x.sends + 1; sent_at = clock }) refl refl refl refl
+      (λ e. e) g.calls g
   requests-by clock false i x g = g
 
   -- a session's own request
@@ -397,49 +451,62 @@ module _ (k : Known) (n : ℕ) where
       any-first (is_client h.client) (requests clock h) xs
       (λ i x. requests-by clock (is_request_of h.kind h.server x.state x.way.other) i x) g
 
+  -- a session that breaks has a call
+  breaks-joined : (l : Lists) (s : ℕ) → MayBreak l s → Placed (GoodClient k n) l.clients → (i : ℕ)
+      (x : Client) → find (is_client s) l.clients ≡ Some x → GoodClient k n i x
+      → is_joined x.state ≡ true
+  breaks-joined l s m all i x found g =
+      let same : m.client ≡ x =
+      found-same l.clients s x all found m.place m.client m.is_there
+      (eq-eqb m.client.way.number s m.of_session) in
+      has-joined i x (is_call m.number) m.call g
+      (subst (λ (z : Client). find (is_call m.number) z.calls ≡ Some m.call) same m.found)
+
   pub clients-quiet : (hand : Option InFlight) (clock : ℕ) (l : Lists) (e : Event)
-      (first second : List ℕ) → is_quiet e ≡ true → May hand l e first second
+      (first second : List ℕ) → is_quiet e ≡ true → May hand l e first second → Lawful l e
       → AllByRecursion (λ a. Speaks k a.peer n a.bytes) l.ring → Placed (GoodClient k n) l.clients
       → Placed (GoodClient k n) (clients_after clock e first (front_header l.ring)
       (front_body l.ring) l.clients)
-  clients-quiet hand clock l (PairedClient s peer t credits) first second q m ring g = absurd (cc)
-  clients-quiet hand clock l (Opened s peer credits) first second q m ring g = absurd (cc)
-  clients-quiet hand clock l (Connected s t) first second q m ring g = absurd m
-  clients-quiet hand clock l (FailedNoRoom s) first second q m ring g =
-      any-first (is_client s) (comes_to Failed) l.clients (comes-good Failed) g
-  clients-quiet hand clock l (FailedNoAnswer s) first second q m ring g =
-      any-first (is_client s) (comes_to Failed) l.clients (comes-good Failed) g
-  clients-quiet hand clock l (BeginsClosing s) first second q m ring g =
-      any-first (is_client s) (comes_to Closing) l.clients (comes-good Closing) g
-  clients-quiet hand clock l (ClosedHeard s) first second q m ring g =
-      any-first (is_client s) (comes_to Closed) l.clients (comes-good Closed) g
-  clients-quiet hand clock l (ClosedUnheard s) first second q m ring g =
-      any-first (is_client s) (comes_to Closed) l.clients (comes-good Closed) g
-  clients-quiet hand clock l (Asked c s y room) first second q m ring g = absurd (cc)
-  clients-quiet hand clock l (Begun c r) first second q m ring g = absurd (cc)
-  clients-quiet hand clock l (Posted (Ask s r) j) first second q m ring g =
+  clients-quiet hand clock l (PairedClient s peer t credits) first second q m v ring g = absurd (cc)
+  clients-quiet hand clock l (Opened s peer credits) first second q m v ring g = absurd (cc)
+  clients-quiet hand clock l (Connected s t) first second q m v ring g = absurd (cc)
+  clients-quiet hand clock l (FailedNoRoom s) first second q m v ring g =
+      comes-first Failed Connecting s l.clients refl v.client v.found v.stands g
+  clients-quiet hand clock l (FailedNoAnswer s) first second q m v ring g =
+      comes-first Failed Connecting s l.clients refl v.client v.found v.stands g
+  clients-quiet hand clock l (BeginsClosing s) first second q m v ring g =
+      found-first s (comes_to Closing) l.clients v.client v.found
+      (λ i. comes-good Closing i v.client (sym (connected-joined v.client.state v.connected))) g
+  clients-quiet hand clock l (ClosedHeard s) first second q m v ring g =
+      comes-first Closed Closing s l.clients refl v.client v.found v.stands g
+  clients-quiet hand clock l (ClosedUnheard s) first second q m v ring g =
+      comes-first Closed Closing s l.clients refl v.client v.found v.stands g
+  clients-quiet hand clock l (Asked c s y room) first second q m v ring g = absurd (cc)
+  clients-quiet hand clock l (Begun c r) first second q m v ring g = absurd (cc)
+  clients-quiet hand clock l (Posted (Ask s r) j) first second q m v ring g =
       any-first (is_client s) (posts r j) l.clients (posts-good r j) g
-  clients-quiet hand clock l (Posted (Reply t r) j) first second q m ring g = g
-  clients-quiet hand clock l (Posted Control j) first second q m ring g = g
-  clients-quiet hand clock l (Sent peer (Ask s r) j) first second q m ring g =
+  clients-quiet hand clock l (Posted (Reply t r) j) first second q m v ring g = g
+  clients-quiet hand clock l (Posted Control j) first second q m v ring g = g
+  clients-quiet hand clock l (Sent peer (Ask s r) j) first second q m v ring g =
       any-first (is_client s) (sends clock r j) l.clients (sends-good clock r j) g
-  clients-quiet hand clock l (Sent peer (Reply t r) j) first second q m ring g = g
-  clients-quiet hand clock l (Sent peer Control j) first second q m ring g =
+  clients-quiet hand clock l (Sent peer (Reply t r) j) first second q m v ring g = g
+  clients-quiet hand clock l (Sent peer Control j) first second q m v ring g =
       told-good clock (control_of first) l.clients g
-  clients-quiet hand clock l (Took (Ask s r) j) first second q m ring g =
+  clients-quiet hand clock l (Took (Ask s r) j) first second q m v ring g =
       found-first s (takes clock r (front_header l.ring) (front_body l.ring)) l.clients m.client
       m.found (λ i. takes-good clock l s r m i ring
       ((client-at l.clients s m.client g m.found).1)) g
-  clients-quiet hand clock l (Took (Reply t r) j) first second q m ring g = g
-  clients-quiet hand clock l (Took Control j) first second q m ring g = g
-  clients-quiet hand clock l (Rolled c posted got) first second q m ring g =
+  clients-quiet hand clock l (Took (Reply t r) j) first second q m v ring g = g
+  clients-quiet hand clock l (Took Control j) first second q m v ring g = g
+  clients-quiet hand clock l (Rolled c posted got) first second q m v ring g =
       any-first (has_call c) (rolls c posted got) l.clients (rolls-good c posted got) g
-  clients-quiet hand clock l (Broken s) first second q m ring g =
-      any-first (is_client s) breaks l.clients breaks-good g
-  clients-quiet hand clock l (DoneOk c) first second q m ring g =
+  clients-quiet hand clock l (Broken s) first second q m v ring g =
+      found-first s breaks l.clients v.client v.found
+      (λ i h. breaks-good i v.client (breaks-joined l s m g i v.client v.found h) h) g
+  clients-quiet hand clock l (DoneOk c) first second q m v ring g =
       any-first (has_call c) (ends c) l.clients (ends-good c) g
-  clients-quiet hand clock l (DoneTooSmall c size) first second q m ring g =
+  clients-quiet hand clock l (DoneTooSmall c size) first second q m v ring g =
       any-first (has_call c) (ends c) l.clients (ends-good c) g
-  clients-quiet hand clock l (DonePeerLost c) first second q m ring g =
+  clients-quiet hand clock l (DonePeerLost c) first second q m v ring g =
       any-first (has_call c) (ends c) l.clients (ends-good c) g
-  clients-quiet hand clock l _ first second q m ring g = g
+  clients-quiet hand clock l _ first second q m v ring g = g

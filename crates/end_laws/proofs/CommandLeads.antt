@@ -42,7 +42,6 @@ use Rattle.node_laws.proofs.RunLaws.{asks-lawful, poll-lawful, connects-lawful, 
 use Rattle.node_laws.proofs.RunLaws.{sets-rate-lawful, delivers-lawful}
 use Rattle.node_laws.proofs.ValidLemmas.{valid_new}
 use Rattle.end_laws.specs.Moments.{Moment, moved}
-use Rattle.end_laws.specs.OnlyPairs.{OnlyPairs}
 use Rattle.end_laws.proofs.Allowed.{WalksFrom, Walks, walks-from}
 use Rattle.end_laws.proofs.CallSteps.{free-walks, delivery_by, asks-fine, delivers-fine}
 use Rattle.end_laws.proofs.Courses.{latest, over, in_net, made}
@@ -51,9 +50,10 @@ use Rattle.end_laws.proofs.ListLemmas.{Placed, add-placed, add-keeps, add-last}
 use Rattle.end_laws.proofs.QueueLemmas.{RightNode}
 use Rattle.end_laws.proofs.ReplySteps.{poll-fine}
 use Rattle.end_laws.proofs.SendsLaw.{right-stays, right-new}
-use Rattle.end_laws.proofs.Walks.{only-front, only-back}
 use Rattle.end_laws.proofs.WorkSteps.{WorksSo, all-free, work-clock, work-any, work-all, AllWork}
-use Rattle.end_laws.proofs.WorkSteps.{connects-so, disconnects-so, rates-so}
+use Rattle.end_laws.proofs.WorkSteps.{OneFact, connects-one, connects-fine, disconnects-one}
+use Rattle.end_laws.proofs.WorkSteps.{disconnects-fine, rates-so}
+use Rattle.end_laws.proofs.Walks.{Fine}
 
 -- a fact of the network
 pub net-leads : (s : Stage) (w : Moment) (e : Event) (clock : ℕ) (flight : List InFlight) → Fits s w
@@ -89,31 +89,31 @@ or-missed-leads false s w i e x t f k h =
     (self-le s.clock))
 
 pub missed-leads : (i : ℕ) → Leading (OfNet (Missed i))
-missed-leads i s w x t f o h =
+missed-leads i s w x t f h =
     rw (h.facts, h.left) (net-leads s w (Missed i) s.clock s.flight f f.clock f.flight
     (self-le s.clock))
 
 pub lose-leads : (i : ℕ) → Leading (λ s. OfNet (or_missed s.flight i (Lost i)) s)
-lose-leads i s w x t f o h =
+lose-leads i s w x t f h =
     or-missed-leads (nat_lt i (length s.flight)) s w i (Lost i) x t f
     (λ x t k. rw (k.facts, k.left) (net-leads s w (Lost i) s.clock (remove s.flight i) f f.clock
     (ap (λ (c : List InFlight). remove c i) f.flight) (self-le s.clock))) h
 
 pub repeat-leads : (i : ℕ) → Leading (λ s. OfNet (or_missed s.flight i (Repeated i)) s)
-repeat-leads i s w x t f o h =
+repeat-leads i s w x t f h =
     or-missed-leads (nat_lt i (length s.flight)) s w i (Repeated i) x t f
     (λ x t k. rw (k.facts, k.left) (net-leads s w (Repeated i) s.clock
     (flight_after_net (Repeated i) s.flight) f f.clock
     (ap (flight_after_net (Repeated i)) f.flight) (self-le s.clock))) h
 
 pub tick-leads : (by : ℕ) → Leading (Ticks by)
-tick-leads by s w x t f o h =
+tick-leads by s w x t f h =
     let le : s.clock ≤ s.clock + by = omega arith in
     rw (h.facts, h.left) (net-leads s w (Ticked by) (s.clock + by) s.flight f (ap (λ c. c + by) f.clock) f.flight le)
 
 -- a node is made
 pub made-leads : (ring : ℕ) → Leading (Makes ring)
-made-leads ring s w x t f o h =
+made-leads ring s w x t f h =
     let u = moved w (plain (length w.nodes) (Made ring)) in
     let me = f.size in
     let facts : x ≡ plain (length w.nodes) (Made ring) ∷ [] = h.facts ∙ ap (λ n. plain n (Made ring) ∷ []) (sym me) in
@@ -189,9 +189,10 @@ one-after c d l x f e h = rw e h
 
 pub call-leads : (n session req_type : ℕ) (ask : List ℕ) (room : ℕ)
     → Leading (StageNode (Asks session req_type ask room) n)
-call-leads n session req_type ask room s w x t f o h =
+call-leads n session req_type ask room s w x t f h =
     let fit = f.nodes n h.before h.is_node in
-    let k = asks-fine RightNode right-stays w.hand session req_type ask room h.before x h.now o fit.right h.step in
+    let k = asks-fine RightNode right-stays session req_type ask room w.hand h.before x h.now
+    fit.right h.step in
     let same = one-after h.before.clock s.clock h.before.lists x
     (ask_fact session req_type room ask h.before.lists) h.step.facts
     (fact-clock (nat_lt 1048576 (length ask)) h.before.clock s.clock session req_type room
@@ -234,35 +235,41 @@ free-step P s w n works law x t f h =
       right = k.walked.inv;
     }) h.left
 
--- a session that is connected notes it, so that only refusals are left
-pub connect-leads : (n peer credits : ℕ) → Leading (StageNode (Connects peer credits 0) n)
-connect-leads n peer credits s w x t f o h =
-    free-step (λ u y v. OnlyPairs y × Connects peer credits 0 u y v) s w n
-    (λ u y v i k. connects-so w.hand peer credits u y v i k.0 k.1)
-    (λ u y v i k. connects-lawful peer credits 0 u y v i k.1) x t f
-    (record {
-      before = h.before;
-      now = h.now;
+-- a step of one fact that doesn't read the clock
+one-step : (P : Rel) (n : ℕ) → ((u : Timed) (x : List Fact) (v : Timed) → P u x v → OneFact u x)
+    → Fine RightNode P → Lawful P → Leading (StageNode P n)
+one-step P n one fine law s w x t f h =
+    let fit = f.nodes n h.before h.is_node in
+    let k = fine w.hand h.before x h.now fit.right h.step in
+    let o = one h.before x h.now h.step in
+    let same = one-after h.before.clock s.clock h.before.lists x o.fact o.is
+    (o.still h.before.clock s.clock) in
+    let late = fit.late in
+    let clock = k.clock in
+    step-leads s w n h.before h.now x t f (record {
       is_node = h.is_node;
-      step = (o, h.step);
-      left = h.left;
-    })
+      walks = walks-from w.hand (latest w.past) s.clock h.before.lists x
+          (one-walk w.hand None h.before.clock s.clock h.before.lists x o.fact o.is k.walks);
+      lawful = one-lawful h.before.clock s.clock h.before.lists x o.fact o.is
+          (law h.before x h.now fit.valid h.step).all;
+      lists = k.lists ∙ same;
+      late = omega arith;
+      right = k.inv;
+    }) h.left
+
+-- a session is opened, and begins to close
+pub connect-leads : (n peer credits : ℕ) → Leading (StageNode (Connects peer credits 0) n)
+connect-leads n peer credits =
+    one-step (Connects peer credits 0) n (connects-one peer credits) (connects-fine peer credits)
+    (connects-lawful peer credits 0)
 
 pub disconnect-leads : (n session : ℕ) → Leading (StageNode (Disconnects session) n)
-disconnect-leads n session s w x t f o h =
-    free-step (λ u y v. OnlyPairs y × Disconnects session u y v) s w n
-    (λ u y v i k. disconnects-so w.hand session u y v i k.0 k.1)
-    (λ u y v i k. disconnects-lawful session u y v i k.1) x t f
-    (record {
-      before = h.before;
-      now = h.now;
-      is_node = h.is_node;
-      step = (o, h.step);
-      left = h.left;
-    })
+disconnect-leads n session =
+    one-step (Disconnects session) n (disconnects-one session) (disconnects-fine session)
+    (disconnects-lawful session)
 
 pub rate-leads : (n session rate : ℕ) → Leading (StageNode (SetsRate session rate) n)
-rate-leads n session rate s w x t f o h =
+rate-leads n session rate s w x t f h =
     free-step (SetsRate session rate) s w n (rates-so w.hand session rate)
     (sets-rate-lawful session rate) x t f h
 
@@ -291,22 +298,22 @@ works-all-lawful worked s x t v h =
     (waiting_of worked s.lists)))
 
 pub work-leads : (n i : ℕ) → Leading (λ s. StageNode (Works s.worked i) n s)
-work-leads n i s w x t f o h =
+work-leads n i s w x t f h =
     free-step (Works s.worked i) s w n (work-any w.hand s.worked i)
     (works-lawful s.worked i) x t f h
 
 pub works-lead : (n : ℕ) → Leading (WorksNode n)
-works-lead n s w x t f o h =
+works-lead n s w x t f h =
     free-step (WorksAll s.worked) s w n (work-all w.hand s.worked)
     (works-all-lawful s.worked) x t f h
 
 pub poll-step : (s : Stage) (w : Moment) (n : ℕ) (before now : Timed) (x : List Fact)
-    → slice_get s.nodes n ≡ Some before → RightNode before.lists → Valid before.lists → OnlyPairs x
+    → slice_get s.nodes n ≡ Some before → RightNode before.lists → Valid before.lists
     → PollBy (FinishesWorked s.worked) SendsAll plain_mode s.clock before x now
     → max before.clock s.clock ≡ s.clock → NodeStep s w n before now x
-poll-step s w n before now x is sound valid o p m =
-    let k = poll-fine w.hand s.worked (record
-    { lists = before.lists; clock = max before.clock s.clock }) x now o sound p in
+poll-step s w n before now x is sound valid p m =
+    let k = poll-fine s.worked w.hand (record
+    { lists = before.lists; clock = max before.clock s.clock }) x now sound p in
     let at = k.clock in
     record {
       is_node = is;
@@ -321,12 +328,12 @@ poll-step s w n before now x is sound valid o p m =
     }
 
 pub poll-leads : (n : ℕ) → Leading (PollsNode n)
-poll-leads n s w x t f o h =
+poll-leads n s w x t f h =
     let fit = f.nodes n h.before h.is_node in
     let late = fit.late in
     let m : max h.before.clock s.clock ≡ s.clock = omega arith in
     step-leads s w n h.before h.now x t f (poll-step s w n h.before h.now x h.is_node fit.right
-    fit.valid o h.step m) h.left
+    fit.valid h.step m) h.left
 
 -- a copy is carried to its node
 pub carry-net : (s : Stage) (w : Moment) (i : ℕ) → Fits s w
@@ -339,7 +346,7 @@ carry-net s w i f = record {
 }
 
 pub carry-leads : (i : ℕ) → Leading (Carries i)
-carry-leads i s w x t f o h =
+carry-leads i s w x t f h =
     let u = moved w (of_net (Carried i)) in
     let g = carry-net s w i f in
     let a = h.arrives in
@@ -381,53 +388,52 @@ carry-leads i s w x t f o h =
     })
 
 arrive-by : (i : ℕ) (b : Bool) (s : Stage) (w : Moment) (x : List Fact) (t : Stage) → Fits s w
-    → OnlyPairs x → MatchBool b (Carries i s x t) (OfNet (Missed i) s x t) → Leads w x t
-arrive-by i true s w x t f o h = carry-leads i s w x t f o h
-arrive-by i false s w x t f o h = missed-leads i s w x t f o h
+    → MatchBool b (Carries i s x t) (OfNet (Missed i) s x t) → Leads w x t
+arrive-by i true s w x t f h = carry-leads i s w x t f h
+arrive-by i false s w x t f h = missed-leads i s w x t f h
 
 pub arrive-leads : (i : ℕ) → Leading (Arrives i)
-arrive-leads i s w x t f o h = arrive-by i (nat_lt i (length s.flight)) s w x t f o h
+arrive-leads i s w x t f h = arrive-by i (nat_lt i (length s.flight)) s w x t f h
 
 -- one group, and then others
 pub joins-lead : (P Q : Stage → List Fact → Stage → Type 0) → Leading P → Leading Q → Leading (Joins P Q)
-joins-lead P Q p q s w x t f o h =
-    let both = subst OnlyPairs h.joined o in
-    let l = p s w h.group h.between f (only-front h.group h.rest both) h.does in
+joins-lead P Q p q s w x t f h =
+    let l = p s w h.group h.between f h.does in
     rw h.joined (leads-append h.between w h.group h.rest t l
-    (q h.between l.end h.rest t l.fits (only-back h.group h.rest both) h.follows))
+    (q h.between l.end h.rest t l.fits h.follows))
 
 pub times-lead : (P : Stage → List Fact → Stage → Type 0) → Leading P → (n : ℕ) → Leading (Times P n)
-times-lead P p zero s w x t f o h = leads-none s t w x f h.0 h.1
-times-lead P p (suc n) s w x t f o h = joins-lead (Times P n) P (times-lead P p n) p s w x t f o h
+times-lead P p zero s w x t f h = leads-none s t w x f h.0 h.1
+times-lead P p (suc n) s w x t f h = joins-lead (Times P n) P (times-lead P p n) p s w x t f h
 
 pub polls-lead : (n : ℕ) → Leading (PollsFirst n)
-polls-lead zero s w x t f o h = leads-none s t w x f h.0 h.1
-polls-lead (suc n) s w x t f o h = joins-lead (PollsFirst n) (PollsNode n) (polls-lead n) (poll-leads n) s w x t f o h
+polls-lead zero s w x t f h = leads-none s t w x f h.0 h.1
+polls-lead (suc n) s w x t f h = joins-lead (PollsFirst n) (PollsNode n) (polls-lead n)
+    (poll-leads n) s w x t f h
 
 pub first-works-lead : (n : ℕ) → Leading (WorksFirst n)
-first-works-lead zero s w x t f o h = leads-none s t w x f h.0 h.1
-first-works-lead (suc n) s w x t f o h =
-    joins-lead (WorksFirst n) (WorksNode n) (first-works-lead n) (works-lead n) s w x t f o h
+first-works-lead zero s w x t f h = leads-none s t w x f h.0 h.1
+first-works-lead (suc n) s w x t f h =
+    joins-lead (WorksFirst n) (WorksNode n) (first-works-lead n) (works-lead n) s w x t f h
 
 pub works-polls-lead : (n : ℕ) → Leading (WorksAndPolls n)
-works-polls-lead n s w x t f o h =
-    joins-lead (WorksFirst n) (PollsFirst n) (first-works-lead n) (polls-lead n) s w x t f o h
+works-polls-lead n s w x t f h =
+    joins-lead (WorksFirst n) (PollsFirst n) (first-works-lead n) (polls-lead n) s w x t f h
 
 pub round-leads : Leading Round
-round-leads s w x t f o h =
+round-leads s w x t f h =
     joins-lead (Times (Carries 0) (length s.flight)) (λ u. WorksAndPolls (length u.nodes) u)
     (times-lead (Carries 0) (carry-leads 0) (length s.flight))
-    (λ u. works-polls-lead (length u.nodes) u) s w x t f o h
+    (λ u. works-polls-lead (length u.nodes) u) s w x t f h
 
 unless-leads : (b : Bool) (P : Stage → List Fact → Stage → Type 0) → Leading P → Leading (Unless b P)
-unless-leads true P p s w x t f o h = leads-none s t w x f h.0 h.1
-unless-leads false P p s w x t f o h = p s w x t f o h
+unless-leads true P p s w x t f h = leads-none s t w x f h.0 h.1
+unless-leads false P p s w x t f h = p s w x t f h
 
 pub settles-lead : (k : ℕ) → Leading (Settles k)
-settles-lead zero s w x t f o h = leads-none s t w x f h.0 h.1
-settles-lead (suc k) s w x t f o h =
-    let both = subst OnlyPairs h.joined o in
-    let l = round-leads s w h.round h.between f (only-front h.round h.rest both) h.makes in
+settles-lead zero s w x t f h = leads-none s t w x f h.0 h.1
+settles-lead (suc k) s w x t f h =
+    let l = round-leads s w h.round h.between f h.makes in
     rw h.joined (leads-append h.between w h.round h.rest t l
     (unless-leads (list_all (λ f. is_polled f.event) h.round) (Settles k)
-    (settles-lead k) h.between l.end h.rest t l.fits (only-back h.round h.rest both) h.goes_on))
+    (settles-lead k) h.between l.end h.rest t l.fits h.goes_on))

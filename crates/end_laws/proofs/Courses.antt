@@ -15,7 +15,7 @@ use Rattle.rpc_laws.specs.Groups.{shares}
 use Rattle.rpc_laws.specs.InFlight.{flight_after}
 use Rattle.rpc_laws.specs.NodeLists.{after}
 use Rattle.node_laws.proofs.Allowed.{Allowed as Lawful}
-use Rattle.end_laws.specs.Moments.{Moment, moved, hand_after}
+use Rattle.end_laws.specs.Moments.{Moment, moved, hand_after, hand_noted, inbox_of}
 use Rattle.end_laws.proofs.Allowed.{May, IsAllowed, Linked}
 
 -- the latest of the facts so far
@@ -41,11 +41,11 @@ pub record Ends (w : Moment) (n m credits : ℕ) (client server : Lists) : Type 
 
 abbrev pub client_fact : ℕ → ℕ → ℕ → Lists → Lists → Fact
 client_fact n m credits client server =
-    plain n (PairedClient (length client.clients) m (length server.servers) credits)
+    plain n (PairedClient (length client.clients) m server.server_numbers credits)
 
 abbrev pub server_fact : ℕ → ℕ → ℕ → Lists → Lists → Fact
 server_fact n m credits client server =
-    plain m (PairedServer (length server.servers) n (length client.clients) credits)
+    plain m (PairedServer server.server_numbers n (length client.clients) credits)
 
 abbrev pub paired : Moment → ℕ → ℕ → ℕ → Lists → Lists → Moment
 paired w n m credits client server =
@@ -97,26 +97,26 @@ noted_at w n l f = record {
   clock = w.clock;
   nodes = slice_set w.nodes n (after w.clock l f);
   flight = flight_after w.flight f;
-  hand = w.hand;
+  hand = hand_noted n f.event l.inbox w.hand;
   past = f ∷ w.past;
 }
 
 moved-by : (w : Moment) (f : Fact) (n : ℕ) (l : Lists) (nodes : List Lists) → f.who ≡ Node n
-    → nodes_at w.clock (Node n) w.nodes f ≡ nodes
+    → nodes_at w.clock (Node n) w.nodes f ≡ nodes → slice_get w.nodes n ≡ Some l
     → moved w f ≡ record {
       clock = w.clock;
       nodes = nodes;
       flight = flight_after w.flight f;
-      hand = w.hand;
+      hand = hand_noted n f.event l.inbox w.hand;
       past = f ∷ w.past;
     }
-moved-by w f n l nodes who e =
+moved-by w f n l nodes who e is =
     let at : moved w f ≡ record {
       clock = clock_after (Node n) f.event w.clock;
       nodes = nodes_at w.clock (Node n) w.nodes f;
       flight = flight_after w.flight f;
       hand =
-          hand_after (Node n) f.event w.flight w.hand;
+          hand_after (Node n) f.event w.nodes w.flight w.hand;
       past = f ∷ w.past;
     } = ap
     (λ (who : Who). record {
@@ -124,20 +124,26 @@ moved-by w f n l nodes who e =
       nodes = nodes_at w.clock who w.nodes f;
       flight = flight_after w.flight f;
       hand =
-          hand_after who f.event w.flight w.hand;
+          hand_after who f.event w.nodes w.flight w.hand;
       past = f ∷ w.past;
     }) who in
-    at ∙ ap (λ (ns : List Lists). record {
+    at ∙ (ap (λ (ns : List Lists). record {
       clock = w.clock;
       nodes = ns;
       flight = flight_after w.flight f;
-      hand = w.hand;
+      hand = hand_noted n f.event (inbox_of (slice_get w.nodes n)) w.hand;
       past = f ∷ w.past;
-    }) e
+    }) e ∙ ap (λ (o : Option Lists). record {
+      clock = w.clock;
+      nodes = nodes;
+      flight = flight_after w.flight f;
+      hand = hand_noted n f.event (inbox_of o) w.hand;
+      past = f ∷ w.past;
+    }) is)
 
 pub moved-node : (w : Moment) (n : ℕ) (l : Lists) (f : Fact) → AtNode w n l f → moved w f ≡ noted_at w n l f
 moved-node w n l f a =
     let unmade = may-unmade w.hand l f.event f.first f.second a.allowed.may in
     let who : f.who ≡ Node n = a.allowed.who ∙ ap Node a.me in
     moved-by w f n l _ who (node-unmade w.clock n f.event w.nodes f unmade
-    ∙ ap (λ (s : Option Lists). changed w.clock s n w.nodes f) a.is_node)
+    ∙ ap (λ (s : Option Lists). changed w.clock s n w.nodes f) a.is_node) a.is_node

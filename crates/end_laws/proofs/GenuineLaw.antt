@@ -10,6 +10,7 @@ use Rattle.rpc_laws.specs.BufferSafety.{SentRight, clock_after, nodes_after}
 use Rattle.rpc_laws.specs.Facts.{plain}
 use Rattle.end_laws.specs.Genuine.{WasSent, Travels}
 use Rattle.end_laws.specs.Moments.{Moment, moved, Always, clock_left, nodes_left}
+use Rattle.end_laws.proofs.Valids.{AllValid, valid-net, valid-made, valid-node, valid-pair}
 use Rattle.end_laws.proofs.Courses.{AtNode, Course, over, in_net, made, at_node, pairs, client_fact, paired}
 use Rattle.end_laws.proofs.SendsLaw.{AllRight, sent-right, right-noted, right-net, right-made, right-paired}
 use Rattle.end_laws.proofs.TravelLemmas.{SentGives, travels-map, travels-net, travels-node}
@@ -64,13 +65,14 @@ sent-gives w n who (Sent peer o k) first second is m s = record {
 }
 sent-gives w n who _ first second is m s = tt
 
-at-node : (w : Moment) (n : ℕ) (l : Lists) (f : Fact) → AtNode w n l f → AllRight w → Matches w
+at-node : (w : Moment) (n : ℕ) (l : Lists) (f : Fact) → AtNode w n l f → AllRight w → AllValid w
+    → Matches w
     → Travels (WasSent w.past) w → Travels (WasSent (f ∷ w.past)) (moved w f)
-at-node w n l f a i m t =
+at-node w n l f a i v m t =
     travels-node (WasSent (f ∷ w.past)) w n l f a
     (sent-gives w n f.who f.event f.first f.second (a.allowed.who ∙ ap Node a.me) m
     (sent-right w.nodes n w.hand l f.event f.first f.second a.is_node (i n l a.is_node)
-    a.allowed.may)) (more w f t)
+    (v n l a.is_node) a.allowed.may)) (more w f t)
 
 at-made : (w : Moment) (ring : ℕ) → Travels (WasSent w.past) w
     → Travels (WasSent (plain (length w.nodes) (Made ring) ∷ w.past))
@@ -85,18 +87,25 @@ at-made w ring t =
     }
 
 pub course-genuine : (w : Moment) (h : List Fact) (u : Moment) → Course w h u → AllRight w
+    → AllValid w
     → Matches w → Travels (WasSent w.past) w → Always (λ w. Travels (WasSent w.past) w) w h
-course-genuine _ _ _ (over w) i m t = t
-course-genuine _ _ _ (in_net w f h u who c) i m t = (
+course-genuine _ _ _ (over w) i v m t = t
+course-genuine _ _ _ (in_net w f h u who c) i v m t = (
   t,
-  course-genuine (moved w f) h u c (right-net w f who i) (matches-moved w f m)
+  course-genuine (moved w f) h u c (right-net w f who i) (valid-net w f who v) (matches-moved w f m)
       (travels-net (WasSent (f ∷ w.past)) w f who (more w f t)),
 )
-course-genuine _ _ _ (made w ring h u c) i m t =
-    (t, course-genuine _ h u c (right-made w ring i) (matches-moved w _ m) (at-made w ring t))
-course-genuine _ _ _ (at_node w n l f h u a c) i m t =
-    (t, course-genuine (moved w f) h u c (right-noted w n l f a i) (matches-moved w f m) (at-node w n l f a i m t))
-course-genuine _ _ _ (pairs w n m credits client server h u e c) i k t =
+course-genuine _ _ _ (made w ring h u c) i v m t = (
+  t,
+  course-genuine _ h u c (right-made w ring i) (valid-made w ring v) (matches-moved w _ m)
+      (at-made w ring t),
+)
+course-genuine _ _ _ (at_node w n l f h u a c) i v m t = (
+  t,
+  course-genuine (moved w f) h u c (right-noted w n l f a i) (valid-node w n l f a v)
+      (matches-moved w f m) (at-node w n l f a i v m t),
+)
+course-genuine _ _ _ (pairs w n m credits client server h u e c) i valid k t =
     let one : Fact = client_fact n m credits client server in
     let first : Travels (WasSent (one ∷ w.past)) (moved w one) =
     travels-client (WasSent (one ∷ w.past)) w n m credits client server e (more w one t) in
@@ -108,6 +117,7 @@ course-genuine _ _ _ (pairs w n m credits client server h u e c) i k t =
       (
         first,
         course-genuine v h u c (right-paired w n m credits client server e i)
+            (valid-pair w n m credits client server e valid)
             (matches-moved (moved w one) _ (matches-moved w one k))
             (travels-paired (WasSent v.past) w n m credits client server e both),
       ),

@@ -3,6 +3,7 @@ use Rattle.std.proofs.Common.{[], None, refl}
 use Rattle.end_laws.specs.Moments.{first_moment}
 use Rattle.end_laws.proofs.Known.{Known, Good}
 use Rattle.end_laws.proofs.SendsLaw.{AllRight}
+use Rattle.end_laws.proofs.Valids.{AllValid}
 
 abbrev nothing : Known
 nothing = record {
@@ -15,6 +16,9 @@ nothing = record {
 
 pub first-right : AllRight first_moment
 first-right = λ j z is. absurd (cc)
+
+pub first-valid : AllValid first_moment
+first-valid = λ j z is. absurd (cc)
 
 pub first-good : Good first_moment
 first-good = record {

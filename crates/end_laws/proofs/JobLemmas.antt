@@ -23,14 +23,16 @@ use Rattle.rpc_laws.specs.Front.{front_header, front_body}
 use Rattle.rpc_laws.specs.Jobs.{is_job, job_of, new_job, jobs_after}
 use Rattle.rpc_laws.specs.Requests.{is_server, is_request, in_slot_of, first_packet, next_packet}
 use Rattle.rpc_laws.specs.Requests.{took_packet, given, answered, servers_after}
+use Rattle.rpc_laws.specs.Requests.{server_end, server_numbers_after}
 use Rattle.end_laws.proofs.Allowed.{TakesOf, IsWhole, May}
 use Rattle.end_laws.proofs.AskSteps.{slots-found}
 use Rattle.rpc_base.proofs.FirstLemmas.{all-fail}
 use Rattle.end_laws.proofs.CountLemmas.{count-append, count-one, count-out, count-none}
 use Rattle.end_laws.proofs.ListLemmas.{all-both, all-map, all-add, all-without, all-found}
 use Rattle.end_laws.proofs.ListLemmas.{find-first, find-after, find-without, find-add}
-use Rattle.end_laws.proofs.QueueLemmas.{server-after, stands-same, RightNode}
-use Rattle.end_laws.proofs.Rights.{Stands, JobFits, JobsRight, stands-right}
+use Rattle.end_laws.proofs.QueueLemmas.{server-after, stands-same, is_end, found-ended, RightNode}
+use Rattle.end_laws.proofs.Rights.{Stands, JobFits, JobRight, JobsRight, stands-right}
+use Rattle.end_laws.proofs.SessionLemmas.{Alone, over-after, over-added, over-ended}
 use Rattle.end_laws.proofs.SlotLemmas.{with_slots, Apart, Sound, any-find, slot-of-request}
 use Rattle.rpc_base.proofs.BasicLemmas.{false-true}
 
@@ -106,6 +108,20 @@ pub record Kept (xs : List Server) (t r : ℕ) (q : Served) : Type 0 where
 kept-same : (xs : List Server) (t r : ℕ) (q : Served) → Stands xs t r q → q.working ≡ true → Kept xs t r q
 kept-same xs t r q s w = record { now = q; stands = s; working = w; sized = refl }
 
+kept-added : (xs : List Server) (y : Server) (t r : ℕ) (q : Served) → Stands xs t r q
+    → q.working ≡ true → Kept (xs ++ y ∷ []) t r q
+kept-added xs y t r q s w =
+    record {
+      now = q;
+      stands = record {
+        server = s.server;
+        found = find-add (is_server t) xs y s.server s.found;
+        is_there = s.is_there;
+      };
+      working = w;
+      sized = refl;
+    }
+
 -- the slots of one session change
 kept-by : (xs : List Server) (t r n : ℕ) (change : List Served → List Served) (q : Served)
     → (s : Stands xs t r q) → q.working ≡ true
@@ -143,15 +159,18 @@ answers t r (Ran n p y) = (t ≡ n) × (r ≡ p)
 answers t r _ = ⊥
 
 kept-after : (hand : Option InFlight) (l : Lists) (e : Event) (first second : List ℕ) (t r : ℕ)
-    (q : Served) → Sound l → May hand l e first second → (answers t r e → ⊥)
+    (q : Served) → is_end e ≡ false → Sound l → May hand l e first second → (answers t r e → ⊥)
     → Stands l.servers t r q → q.working ≡ true
     → Kept (servers_after e second (front_header l.ring) (front_body l.ring) l.servers) t r q
-kept-after hand l (PairedServer n peer s credits) first second t r q i m other h w = absurd m
-kept-after hand l (Accepted n peer s credits) first second t r q i m other h w = absurd m
-kept-after hand l (Ended n) first second t r q i m other h w = absurd m
-kept-after hand l (Took (Ask s n) j) first second t r q i m other h w = kept-same l.servers t r q h w
-kept-after hand l (Took Control j) first second t r q i m other h w = kept-same l.servers t r q h w
-kept-after hand l (Took (Reply n p) j) first second t r q i m other h w =
+kept-after hand l (PairedServer n peer s credits) first second t r q live i m other h w = absurd m
+kept-after hand l (Accepted n peer s credits) first second t r q live i m other h w =
+    kept-added l.servers (server_end n peer s credits) t r q h w
+kept-after hand l (Ended n) first second t r q live i m other h w = false-true (sym live)
+kept-after hand l (Took (Ask s n) j) first second t r q live i m other h w =
+    kept-same l.servers t r q h w
+kept-after hand l (Took Control j) first second t r q live i m other h w =
+    kept-same l.servers t r q h w
+kept-after hand l (Took (Reply n p) j) first second t r q live i m other h w =
     kept-by l.servers t r n (took_packet p (front_header l.ring) (front_body l.ring)) q h w
     (λ v is same mine. let found = m.found in
     let this : m.server ≡ v = cc in
@@ -161,59 +180,105 @@ kept-after hand l (Took (Reply n p) j) first second t r q i m other h w =
     let at : find (is_request r) v.slots ≡ Some q =
     subst (λ (z : Server). find (is_request r) z.slots ≡ Some q) (sym same) h.is_there in
     rw (m.is_front.reads, m.of_request) (took-kept m.going v.slots m.header (front_body l.ring) r q apart takes at w))
-kept-after hand l (Given n p) first second t r q i m other h w =
+kept-after hand l (Given n p) first second t r q live i m other h w =
     kept-by l.servers t r n (at_first (is_request p) given) q h w
     (λ v is same mine. let at : find (is_request r) v.slots ≡ Some q = subst (λ (z : Server). find (is_request r) z.slots ≡ Some q) (sym same) h.is_there in
     changed-kept v.slots p given r q (λ x. refl) (λ x. refl) (λ x k. refl) at w)
-kept-after hand l (Ran n p y) first second t r q i m other h w =
+kept-after hand l (Ran n p y) first second t r q live i m other h w =
     kept-by l.servers t r n (at_first (is_request p) (answered second)) q h w
     (λ v is same mine. let at : find (is_request r) v.slots ≡ Some q = subst (λ (z : Server). find (is_request r) z.slots ≡ Some q) (sym same) h.is_there in
     answered-kept v.slots p second r q (λ x. other (mine, x)) at w)
-kept-after hand l _ first second t r q i m other h w = kept-same l.servers t r q h w
+kept-after hand l _ first second t r q live i m other h w = kept-same l.servers t r q h w
 
 fits-after : (hand : Option InFlight) (l : Lists) (e : Event) (first second : List ℕ) (job : Job)
-    → Sound l → May hand l e first second → (answers job.session job.request e → ⊥)
-    → JobFits l.servers job
+    → is_end e ≡ false → Sound l → May hand l e first second
+    → (answers job.session job.request e → ⊥) → JobFits l.servers job
     → JobFits (servers_after e second (front_header l.ring) (front_body l.ring) l.servers) job
-fits-after hand l e first second job i m other h =
-    let k = kept-after hand l e first second job.session job.request h.request i m other h.stands h.working in
+fits-after hand l e first second job live i m other h =
+    let k = kept-after hand l e first second job.session job.request h.request live i m other
+    h.stands h.working in
     record { request = k.now; stands = k.stands; working = k.working; sized = h.sized ∙ sym k.sized }
 
+abbrev JobsNow : Lists → Event → List ℕ → Job → Type 0
+JobsNow l e second job =
+    JobRight (servers_after e second (front_header l.ring) (front_body l.ring) l.servers)
+    (server_numbers_after e l.server_numbers) job
+
+ended-fits : (n : ℕ) (b : Bool) (xs : List Server) (used : ℕ) (job : Job) → (n == job.session) ≡ b
+    → Alone used xs → JobFits xs job → JobRight (without_first (is_server n) xs) used job
+ended-fits n true xs used job e alone f =
+    let same = eqb-true n job.session e in
+    rw same (inl (over-ended job.session used xs f.stands.server alone f.stands.found))
+ended-fits n false xs used job e alone f =
+    inr (record {
+      request = f.request;
+      stands = record {
+        server = f.stands.server;
+        found = found-ended n job.session xs f.stands.server e f.stands.found;
+        is_there = f.stands.is_there;
+      };
+      working = f.working;
+      sized = f.sized;
+    })
+
+live-right : (hand : Option InFlight) (l : Lists) (e : Event) (first second : List ℕ) (job : Job)
+    → Sound l → Alone l.server_numbers l.servers → May hand l e first second
+    → (answers job.session job.request e → ⊥) → JobFits l.servers job → JobsNow l e second job
+live-right hand l (Ended n) first second job i alone m other f =
+    ended-fits n (n == job.session) l.servers l.server_numbers job refl alone f
+live-right hand l e first second job i alone m other f =
+    inr (fits-after hand l e first second job refl i m other f)
+
+job-after : (hand : Option InFlight) (l : Lists) (e : Event) (first second : List ℕ) (job : Job)
+    → Sound l → Alone l.server_numbers l.servers → May hand l e first second
+    → (answers job.session job.request e → ⊥) → JobRight l.servers l.server_numbers job
+    → JobsNow l e second job
+job-after hand l e first second job i alone m other (inl o) =
+    inl (over-after job.session hand l e first second (front_header l.ring) (front_body l.ring) m o)
+job-after hand l e first second job i alone m other (inr f) =
+    live-right hand l e first second job i alone m other f
+
 -- a job of the request that no worker has isn't there
-idle-by : (xs : List Server) (t r : ℕ) (q : Served) (job : Job) (b : Bool) → is_job t r job ≡ b
-    → Stands xs t r q → q.working ≡ false → JobFits xs job → b ≡ false
-idle-by xs t r q job true e s idle h =
+idle-by : (xs : List Server) (used t r : ℕ) (q : Served) (job : Job) (b : Bool) → is_job t r job ≡ b
+    → Stands xs t r q → q.working ≡ false → JobRight xs used job → b ≡ false
+idle-by xs used t r q job true e s idle (inl o) =
+    let parts = and_parts (job.session == t) (job.request == r) e in
+    let gone : find (is_server t) xs ≡ None =
+    subst (λ (n : ℕ). find (is_server n) xs ≡ None) (eqb-true job.session t parts.0) o.gone in
+    let found = s.found in
+    cc
+idle-by xs used t r q job true e s idle (inr h) =
     let parts = and_parts (job.session == t) (job.request == r) e in
     let mine : Stands xs t r h.request =
     rw (← eqb-true job.session t parts.0, ← eqb-true job.request r parts.1) h.stands in
     let same : h.request ≡ q = stands-same xs t r h.request mine s.server s.found q s.is_there in
     false-true (sym idle ∙ (ap (λ (z : Served). z.working) (sym same) ∙ h.working))
-idle-by xs t r q job false e s idle h = refl
+idle-by xs used t r q job false e s idle h = refl
 
-all-idle : (xs : List Server) (t r : ℕ) (q : Served) (jobs : List Job) → Stands xs t r q
-    → q.working ≡ false → AllByRecursion (JobFits xs) jobs
+all-idle : (xs : List Server) (used t r : ℕ) (q : Served) (jobs : List Job) → Stands xs t r q
+    → q.working ≡ false → AllByRecursion (JobRight xs used) jobs
     → AllByRecursion (λ j. is_job t r j ≡ false) jobs
-all-idle xs t r q jobs s idle h =
-    all-map (JobFits xs) (λ j. is_job t r j ≡ false) jobs
-    (λ j f. idle-by xs t r q j _ refl s idle f) h
+all-idle xs used t r q jobs s idle h =
+    all-map (JobRight xs used) (λ j. is_job t r j ≡ false) jobs
+    (λ j f. idle-by xs used t r q j _ refl s idle f) h
 
 not-answered : (t r : ℕ) (job : Job) → is_job t r job ≡ false → (job.session ≡ t) × (job.request ≡ r) → ⊥
 not-answered t r job e s =
     let yes : is_job t r job ≡ true = rw (eq-eqb job.session t s.0, eq-eqb job.request r s.1) refl in
     false-true (sym e ∙ yes)
 
--- each job stays fitting by a fact that answers none of them
+-- each job stays right by a fact that answers none of them
 all-fit : (hand : Option InFlight) (l : Lists) (e : Event) (first second : List ℕ) (jobs : List Job)
-    → Sound l → May hand l e first second
+    → Sound l → Alone l.server_numbers l.servers → May hand l e first second
     → AllByRecursion (λ j. answers j.session j.request e → ⊥) jobs
-    → AllByRecursion (JobFits l.servers) jobs
-    → AllByRecursion (JobFits (servers_after e second (front_header l.ring)
-    (front_body l.ring) l.servers)) jobs
-all-fit hand l e first second jobs i m other h =
-    all-map (λ j. JobFits l.servers j × (answers j.session j.request e → ⊥))
-    (JobFits (servers_after e second (front_header l.ring) (front_body l.ring) l.servers)) jobs
-    (λ j k. fits-after hand l e first second j i m k.1 k.0)
-    (all-both (JobFits l.servers) (λ j. answers j.session j.request e → ⊥) jobs h other)
+    → AllByRecursion (JobRight l.servers l.server_numbers) jobs
+    → AllByRecursion (JobsNow l e second) jobs
+all-fit hand l e first second jobs i alone m other h =
+    all-map (λ j. JobRight l.servers l.server_numbers j × (answers j.session j.request e → ⊥))
+    (JobsNow l e second) jobs
+    (λ j k. job-after hand l e first second j i alone m k.1 k.0)
+    (all-both (JobRight l.servers l.server_numbers)
+    (λ j. answers j.session j.request e → ⊥) jobs h other)
 
 none-answer : (n p y : ℕ) (jobs : List Job) → AllByRecursion (λ j. is_job n p j ≡ false) jobs
     → AllByRecursion (λ j. answers j.session j.request (Ran n p y) → ⊥) jobs
@@ -221,11 +286,12 @@ none-answer n p y jobs h = all-map _ _ jobs (λ j e. not-answered n p j e) h
 
 -- all jobs, by a fact that answers none
 fit-all : (hand : Option InFlight) (l : Lists) (e : Event) (first second : List ℕ) → Sound l
-    → May hand l e first second → ((t r : ℕ) → answers t r e → ⊥) → JobsRight l.servers l.jobs
-    → AllByRecursion (JobFits (servers_after e second (front_header l.ring)
-    (front_body l.ring) l.servers)) l.jobs.out
-fit-all hand l e first second i m other h =
-    all-map _ _ l.jobs.out (λ j k. fits-after hand l e first second j i m (other j.session j.request) k) h.out
+    → Alone l.server_numbers l.servers → May hand l e first second
+    → ((t r : ℕ) → answers t r e → ⊥) → JobsRight l.servers l.server_numbers l.jobs
+    → AllByRecursion (JobsNow l e second) l.jobs.out
+fit-all hand l e first second i alone m other h =
+    all-map _ _ l.jobs.out (λ j k. job-after hand l e first second j i alone m
+    (other j.session j.request) k) h.out
 
 -- a job is given
 given-once : (t r : ℕ) (out : List Job) (new : Job) (b : Bool) → is_job t r new ≡ b
@@ -253,7 +319,7 @@ whole-size ask size taken whole long =
 given-jobs : (hand : Option InFlight) (l : Lists) (t r : ℕ) (first second : List ℕ) → RightNode l
     → May hand l (Given t r) first second
     → JobsRight (servers_after (Given t r) second (front_header l.ring)
-    (front_body l.ring) l.servers) (jobs_after (Given t r) l.servers l.jobs)
+    (front_body l.ring) l.servers) l.server_numbers (jobs_after (Given t r) l.servers l.jobs)
 given-jobs hand l t r first second i m =
     let w = m.has in
     let q = w.request in
@@ -277,20 +343,22 @@ given-jobs hand l t r first second i m =
       working = refl;
       sized = all_there;
     } in
-    let all = fit-all hand l (Given t r) first second i.sound m (λ a b x. x) i.jobs in
+    let all = fit-all hand l (Given t r) first second i.sound i.alone m (λ a b x. x) i.jobs in
     let idle : count_by (is_job t r) l.jobs.out ≡ 0 =
-    all-fail (is_job t r) l.jobs.out (all-idle l.servers t r q l.jobs.out stands w.idle
+    all-fail (is_job t r) l.jobs.out
+    (all-idle l.servers l.server_numbers t r q l.jobs.out stands w.idle
     i.jobs.out) in
     let once : (a b : ℕ) → count_by (is_job a b) (l.jobs.out ++ new ∷ []) ≤ 1 =
     λ a b. given-once a b l.jobs.out new _ refl
     (λ e. let parts = and_parts (t == a) (q.number == b) e in
     let same : (t ≡ a) × (r ≡ b) = (eqb-true t a parts.0, sym number ∙ eqb-true q.number b parts.1) in
     rw (← same.0, ← same.1) idle) (i.jobs.once a b) in
-    let right : JobsRight (at_first (is_server t) (with_slots slots) l.servers)
+    let right : JobsRight (at_first (is_server t) (with_slots slots) l.servers) l.server_numbers
     (record l.jobs { given = l.jobs.given + 1; out = l.jobs.out ++ new ∷ [] }) =
     record {
-      out = all-add (JobFits (at_first (is_server t) (with_slots slots) l.servers))
-          l.jobs.out new all fits;
+      out = all-add (JobRight (at_first (is_server t) (with_slots slots) l.servers)
+          l.server_numbers)
+          l.jobs.out new all (inr fits);
       once = once;
     } in
     rw (new-is l t r w) right
@@ -317,13 +385,14 @@ one-none p (job ∷ rest) once =
 ran-jobs : (hand : Option InFlight) (l : Lists) (t r y : ℕ) (first second : List ℕ) → RightNode l
     → May hand l (Ran t r y) first second
     → JobsRight (servers_after (Ran t r y) second (front_header l.ring)
-    (front_body l.ring) l.servers) (jobs_after (Ran t r y) l.servers l.jobs)
+    (front_body l.ring) l.servers) l.server_numbers (jobs_after (Ran t r y) l.servers l.jobs)
 ran-jobs hand l t r y first second i m =
     let rest = without_first (is_job t r) l.jobs.out in
     let none = one-none (is_job t r) l.jobs.out (i.jobs.once t r) in
     record {
-      out = all-fit hand l (Ran t r y) first second rest i.sound m (none-answer t r y rest none)
-          (all-without (JobFits l.servers) (is_job t r) l.jobs.out i.jobs.out);
+      out = all-fit hand l (Ran t r y) first second rest i.sound i.alone m
+          (none-answer t r y rest none)
+          (all-without (JobRight l.servers l.server_numbers) (is_job t r) l.jobs.out i.jobs.out);
       once = λ a b. let out = count-out (is_job a b) (is_job t r) l.jobs.out in
           let once = i.jobs.once a b in
           omega arith;
@@ -332,31 +401,45 @@ ran-jobs hand l t r y first second i m =
 -- facts that neither give nor finish a job
 other-jobs : (hand : Option InFlight) (l : Lists) (e : Event) (first second : List ℕ) → RightNode l
     → May hand l e first second → ((t r : ℕ) → answers t r e → ⊥)
-    → JobsRight (servers_after e second (front_header l.ring) (front_body l.ring) l.servers) l.jobs
+    → JobsRight (servers_after e second (front_header l.ring) (front_body l.ring) l.servers)
+    (server_numbers_after e l.server_numbers) l.jobs
 other-jobs hand l e first second i m other =
-    record { out = fit-all hand l e first second i.sound m other i.jobs; once = i.jobs.once }
+    record {
+      out = fit-all hand l e first second i.sound i.alone m other i.jobs;
+      once = i.jobs.once;
+    }
 
 pub jobs-right : (hand : Option InFlight) (l : Lists) (e : Event) (first second : List ℕ)
     → RightNode l → May hand l e first second
     → JobsRight (servers_after e second (front_header l.ring) (front_body l.ring) l.servers)
-    (jobs_after e l.servers l.jobs)
+    (server_numbers_after e l.server_numbers) (jobs_after e l.servers l.jobs)
 jobs-right hand l (Given t r) first second i m = given-jobs hand l t r first second i m
 jobs-right hand l (Ran t r y) first second i m = ran-jobs hand l t r y first second i m
 jobs-right hand l e first second i m = other-jobs hand l e first second i m (λ t r x. x)
 
 -- a session more
-pub jobs-added : (xs : List Server) (y : Server) (jobs : Jobs) → JobsRight xs jobs → JobsRight (xs ++ y ∷ []) jobs
-jobs-added xs y jobs h =
-    let fits : (j : Job) → JobFits xs j → JobFits (xs ++ y ∷ []) j =
-    λ j k. record {
+job-added : (n peer c credits used : ℕ) (xs : List Server) (job : Job) → n ≡ used
+    → JobRight xs used job → JobRight (xs ++ server_end n peer c credits ∷ []) (used + 1) job
+job-added n peer c credits used xs job e (inl o) =
+    inl (over-added job.session n peer c credits used xs e o)
+job-added n peer c credits used xs job e (inr k) =
+    inr (record {
       request = k.request;
       stands = record {
         server = k.stands.server;
-        found = find-add (is_server j.session) xs y k.stands.server k.stands.found;
+        found = find-add (is_server job.session) xs (server_end n peer c credits) k.stands.server
+            k.stands.found;
         is_there =
             k.stands.is_there;
       };
       working = k.working;
       sized = k.sized;
-    } in
-    record { out = all-map _ _ jobs.out fits h.out; once = h.once }
+    })
+
+pub jobs-added : (n peer c credits used : ℕ) (xs : List Server) (jobs : Jobs) → n ≡ used
+    → JobsRight xs used jobs → JobsRight (xs ++ server_end n peer c credits ∷ []) (used + 1) jobs
+jobs-added n peer c credits used xs jobs e h =
+    record {
+      out = all-map _ _ jobs.out (λ j. job-added n peer c credits used xs j e) h.out;
+      once = h.once;
+    }

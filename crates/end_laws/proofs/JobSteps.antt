@@ -1,4 +1,6 @@
 -- The jobs of a node stay those of calls that began.
+use Rattle.std.proofs.Common.{Some}
+use Rattle.std.proofs.Common.{subst}
 use Rattle.std.proofs.Common.{◌≡◌, ◌≤◌, ◌*◌, ℕ, Bool, false, cond, List, [], length, take, Option}
 use Rattle.std.proofs.Common.{refl, ap, ◌∙◌, arith}
 use Rattle.std.specs.List.{AllByRecursion}
@@ -31,7 +33,8 @@ whole-ask k n l t r w g =
 
 -- what is known of a whole request
 pub record WholeGood (k : Known) (n : ℕ) (l : Lists) (t r : ℕ) (w : IsWhole l t r) : Type 0 where
-  pub server : GoodServer k n t w.server
+  pub server : GoodServer k n w.server
+  pub number : w.server.way.number ≡ t
   pub served : GoodServed k n w.server.way w.request
 
 pub whole-good : (k : Known) (n : ℕ) (l : Lists) (t r : ℕ) → (w : IsWhole l t r) → GoodNode k n l
@@ -39,9 +42,10 @@ pub whole-good : (k : Known) (n : ℕ) (l : Lists) (t r : ℕ) → (w : IsWhole 
 whole-good k n l t r w g =
     let v = w.server in
     let at = server-at k n l.servers t v g.servers w.found in
-    let server = g.servers t v at.0 in
+    let server = at.0 in
     record {
       server = server;
+      number = at.1;
       served = all-found (GoodServed k n v.way) (is_request r) v.slots
           w.request server.slots w.is_there;
     }
@@ -52,11 +56,14 @@ given-job k n l t r w g =
     let h = whole-good k n l t r w g in
     let v = w.server in
     record {
-      end = record { home = v.way.peer; client = v.way.other };
-      is_end = h.server.end;
+      end = record { home = v.way.peer; client = v.way.other; credits = v.credits };
+      is_end = subst (λ (s : ℕ). k.ends n s 0 ≡ Some
+          (record { home = v.way.peer; client = v.way.other; credits = v.credits }))
+          h.number h.server.session.end;
       start = h.served.start;
       begun = h.served.begun;
-      way_is = h.served.way_is ∙ ap (λ (s : ℕ). record { number = v.way.other; peer = n; other = s }) h.server.number;
+      way_is = h.served.way_is ∙ ap (λ (s : ℕ).
+          record { number = v.way.other; peer = n; other = s }) h.number;
       req_type = h.served.req_type;
       own = whole-ask k n l t r w h.served;
     }

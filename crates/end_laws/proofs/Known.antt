@@ -1,18 +1,24 @@
 -- What is known of both ends of each session: who is at the ends, which calls were asked, and which began.
-use Rattle.std.proofs.Common.{◌≡◌, ◌<◌, ◌≤◌, ◌+◌, ◌-◌, ◌*◌, ◌==◌, ◌&&◌, ◌⊎◌, ℕ, Bool, true, false}
+use Rattle.std.proofs.Common.{◌≡◌, ◌<◌, ◌≤◌, ◌+◌, ◌-◌, ◌*◌, ◌==◌, ◌&&◌, ℕ, Bool}
+use Rattle.std.proofs.Common.{true, false}
 use Rattle.std.proofs.Common.{cond, List, [], ◌∷◌, length, take, Option, Some, None, refl, arith}
 use Rattle.std.proofs.Common.{eq-eqb, Contains}
-use Rattle.std.specs.Prelude.{◌%◌, IfSome}
+use Rattle.std.specs.Prelude.{slice_get, ◌%◌, IfSome}
 use Rattle.std.specs.List.{find, AllByRecursion}
 use Rattle.std.proofs.lemmas.Bool.{eqb-true, and_parts}
 use Rattle.std.proofs.lemmas.List.Elements.{Contains-append_right}
 use Rattle.packet_header.specs.Parts.{part}
 use Rattle.packet_header.specs.Reading.{message_of, body_of}
+use Rattle.packet_header.specs.declared.packet.ControlHeader.{ControlHeader}
+use Rattle.packet_header.specs.declared.packet.ControlKind.{ControlKind}
+use Rattle.packet_header.specs.declared.packet.ControlKind.TheVariants.{ConnectReply}
 use Rattle.packet_header.specs.declared.packet.Kind.{Kind}
 use Rattle.packet_header.specs.declared.packet.Kind.TheVariants.{Request, Rfr, Cr, Response}
 use Rattle.packet_header.specs.declared.packet.MessageHeader.{MessageHeader}
-use Rattle.rpc_base.specs.declared.event.Event.TheVariants.{Asked, Begun, Ran}
+use Rattle.rpc_base.specs.declared.event.Event.TheVariants.{Asked, Begun, Opened, Ran}
 use Rattle.rpc_base.specs.declared.fact.Fact.{Fact}
+use Rattle.rpc_base.specs.declared.state.SessionState.{SessionState}
+use Rattle.rpc_base.specs.declared.state.SessionState.TheVariants.{Connecting, Failed}
 use Rattle.rpc_laws.specs.declared.tables.Asking.{Asking}
 use Rattle.rpc_laws.specs.declared.tables.Call.{Call}
 use Rattle.rpc_laws.specs.declared.tables.Client.{Client}
@@ -24,18 +30,22 @@ use Rattle.rpc_laws.specs.declared.tables.Server.{Server}
 use Rattle.rpc_laws.specs.declared.tables.Way.{Way}
 use Rattle.rpc_laws.specs.Calls.{asked_packets}
 use Rattle.rpc_laws.specs.Facts.{plain, with_bytes, with_two}
-use Rattle.rpc_laws.specs.OwnAnswer.{AreEnds}
+use Rattle.rpc_laws.specs.Front.{control_of}
+use Rattle.rpc_laws.specs.OwnAnswer.{AreEnds, IsClientEnd, IsServerEnd}
 use Rattle.rpc_laws.specs.Posting.{next_turn}
-use Rattle.rpc_laws.specs.Requests.{is_server, in_slot_of}
+use Rattle.rpc_laws.specs.Requests.{is_server}
+use Rattle.node_laws.specs.Valid.{to_run}
 use Rattle.end_laws.specs.Genuine.{Travels}
+use Rattle.end_laws.specs.Handshakes.{IsMade}
 use Rattle.end_laws.specs.Moments.{Moment}
 use Rattle.end_laws.specs.TwoEnds.{is_away}
 use Rattle.end_laws.proofs.ListLemmas.{Placed}
 
--- the client end of a session
+-- the client end of a session, and its credits
 pub record End : Type 0 where
   pub home : ℕ
   pub client : ℕ
+  pub credits : ℕ
 
 -- a call and its session
 pub record Asker : Type 0 where
@@ -155,7 +165,9 @@ pub record SaysRequest (k : Known) (from to : ℕ) (h : MessageHeader) (body : L
   pub start : Begin
   pub begun : k.starts from session h.request ≡ Some start
   pub way : start.way ≡ record { number = session; peer = to; other = h.session }
-  pub end : k.ends to h.session 0 ≡ Some (record { home = from; client = session })
+  pub credits : ℕ
+  pub end : k.ends to h.session 0
+      ≡ Some (record { home = from; client = session; credits = credits })
   pub req_type : h.req_type ≡ start.what.req_type
   pub size : h.size ≡ length start.what.ask
   pub piece : body ≡ part start.what.ask h.number
@@ -176,9 +188,24 @@ Says Rfr k from to h body = Unit {0}
 Says Cr k from to h body = Unit {0}
 Says Response k from to h body = SaysResponse k from to h body
 
+-- a server session was made for this end, with so many credits
+pub record IsSession (k : Known) (m t n s credits : ℕ) : Type 0 where
+  pub end : k.ends m t 0 ≡ Some (record { home = n; client = s; credits = credits })
+  pub made : IsMade k.past m t n s credits
+
+-- a connect reply names such a session, or has another status than 0
+abbrev pub RepliesBy : Option ℕ → Known → (from to client credits status : ℕ) → Type 0
+RepliesBy None k from to client credits status = status ≡ 0 → ⊥
+RepliesBy (Some t) k from to client credits status = IsSession k from t to client credits
+
+abbrev pub Tells : ControlKind → Known → (from to : ℕ) → ControlHeader → Type 0
+Tells ConnectReply k from to h = RepliesBy h.server k from to h.client h.credits h.status
+Tells _ k from to h = Unit {0}
+
 -- what a datagram says is so
 abbrev pub Speaks : Known → (from to : ℕ) → List ℕ → Type 0
 Speaks k from to bytes = IfSome (message_of bytes) (λ h. Says h.kind k from to h (body_of bytes))
+    × IfSome (control_of bytes) (λ h. Tells h.kind k from to h)
 
 -- the parts of an answer that a call has taken
 pub record HasParts (k : Known) (way : Way) (a : Asking) (request got : ℕ) (parts : List ℕ) (size : ℕ) : Type 0 where
@@ -204,9 +231,30 @@ pub record GoodCall (k : Known) (n : ℕ) (way : Way) (c : Call) : Type 0 where
 abbrev pub IsFresh : Known → ℕ → ℕ → List ℕ → Type 0
 IsFresh k n s turns = (r : ℕ) → next_turn turns (r % 8) ≤ r → k.starts n s r ≡ None
 
+-- whether a session was connected, or paired
+abbrev pub is_joined : SessionState → Bool
+is_joined Connecting = false
+is_joined Failed = false
+is_joined _ = true
+
+-- its other end is known
+pub record IsJoined (k : Known) (n i : ℕ) (x : Client) : Type 0 where
+  pub end : k.ends x.way.peer x.way.other 0
+      ≡ Some (record { home = n; client = i; credits = x.limit })
+  pub client : IsClientEnd k.past n i x.way.peer x.way.other
+
+-- it was opened, and has no calls
+pub record IsUnjoined (k : Known) (n i : ℕ) (x : Client) : Type 0 where
+  pub opened : Contains k.past (plain n (Opened i x.way.peer x.limit))
+  pub idle : x.calls ≡ []
+
+abbrev pub Tied : Bool → Known → (n i : ℕ) → Client → Type 0
+Tied true k n i x = IsJoined k n i x
+Tied false k n i x = IsUnjoined k n i x
+
 pub record GoodClient (k : Known) (n i : ℕ) (x : Client) : Type 0 where
   pub number : x.way.number ≡ i
-  pub end : k.ends x.way.peer x.way.other 0 ≡ Some (record { home = n; client = i })
+  pub tied : Tied (is_joined x.state) k n i x
   pub eight : length x.turns ≡ 8
   pub fresh : IsFresh k n i x.turns
   pub calls : AllByRecursion (GoodCall k n x.way) x.calls
@@ -221,9 +269,8 @@ pub record GoodServed (k : Known) (m : ℕ) (way : Way) (q : Served) : Type 0 wh
   pub ask : q.ask ≡ cond (is_away q) [] (take (1024 * q.taken) start.what.ask)
   pub answer : IfSome q.answer (HasRun k m way.number q.number start.what)
 
-pub record GoodServer (k : Known) (m t : ℕ) (v : Server) : Type 0 where
-  pub number : v.way.number ≡ t
-  pub end : k.ends m t 0 ≡ Some (record { home = v.way.peer; client = v.way.other })
+pub record GoodServer (k : Known) (m : ℕ) (v : Server) : Type 0 where
+  pub session : IsSession k m v.way.number v.way.peer v.way.other v.credits
   pub slots : AllByRecursion (GoodServed k m v.way) v.slots
 
 -- a job is of a call that began, and has its bytes
@@ -236,22 +283,23 @@ pub record GoodJob (k : Known) (m : ℕ) (job : Job) : Type 0 where
   pub req_type : job.req_type ≡ start.what.req_type
   pub own : job.ask ≡ start.what.ask
 
--- no request with such a number, or a later one of its slot, has run
-abbrev pub IsUnrun : List Server → ℕ → ℕ → Type 0
-IsUnrun xs t r =
-    (v : Server) (q : Served) → find (is_server t) xs ≡ Some v
-    → find (in_slot_of r) v.slots ≡ Some q → (q.number < r)
-    ⊎ ((q.number ≡ r) × (q.answer ≡ None))
+-- a call began on a session that is joined, and still has its way
+pub record StartOf (xs : List Client) (s : ℕ) (b : Begin) : Type 0 where
+  pub client : Client
+  pub is_there : slice_get xs s ≡ Some client
+  pub joined : is_joined client.state ≡ true
+  pub way : client.way ≡ b.way
 
--- of what a node has not made nothing is known
+-- of what a node has not made nothing is known, nor the run of a request that may still run
 pub record GoodNode (k : Known) (n : ℕ) (l : Lists) : Type 0 where
   pub clients : Placed (GoodClient k n) l.clients
-  pub servers : Placed (GoodServer k n) l.servers
+  pub servers : AllByRecursion (GoodServer k n) l.servers
   pub jobs : AllByRecursion (GoodJob k n) l.jobs.out
   pub no_asks : (c : ℕ) → l.asked ≤ c → k.asks n c 0 ≡ None
-  pub no_ends : (t : ℕ) → length l.servers ≤ t → k.ends n t 0 ≡ None
+  pub no_ends : (t : ℕ) → l.server_numbers ≤ t → k.ends n t 0 ≡ None
   pub no_starts : (s r : ℕ) → length l.clients ≤ s → k.starts n s r ≡ None
-  pub no_runs : (t r : ℕ) → IsUnrun l.servers t r → k.runs n t r ≡ None
+  pub begun : (s r : ℕ) (b : Begin) → k.starts n s r ≡ Some b → StartOf l.clients s b
+  pub no_runs : (t r : ℕ) → 1 ≤ to_run t r l → k.runs n t r ≡ None
 
 -- what is known was noted
 pub record TrueStart (past : List Fact) (n s r : ℕ) (b : Begin) : Type 0 where
@@ -265,7 +313,7 @@ pub record TrueAsk (past : List Fact) (n c zero : ℕ) (a : Asker) : Type 0 wher
   pub asked : Contains past (with_bytes n (Asked c a.session a.what.req_type a.what.room) a.what.ask)
 
 abbrev pub TrueEnd : List Fact → ℕ → ℕ → ℕ → End → Type 0
-TrueEnd past m t i e = AreEnds past e.home e.client m t
+TrueEnd past m t i e = IsServerEnd past e.home e.client m t
 
 abbrev pub TrueRun : List Fact → ℕ → ℕ → ℕ → Run → Type 0
 TrueRun past m t r x = Contains past (with_two m (Ran t r x.req_type) x.ask x.answer)
@@ -275,6 +323,13 @@ pub record IsTrue (k : Known) : Type 0 where
   pub asks : (a b c : ℕ) (x : Asker) → k.asks a b c ≡ Some x → TrueAsk k.past a b c x
   pub starts : (a b c : ℕ) (x : Begin) → k.starts a b c ≡ Some x → TrueStart k.past a b c x
   pub runs : (a b c : ℕ) (x : Run) → k.runs a b c ≡ Some x → TrueRun k.past a b c x
+
+-- server session t of node m is there
+pub record LiveAt (nodes : List Lists) (m t : ℕ) : Type 0 where
+  pub lists : Lists
+  pub is_node : slice_get nodes m ≡ Some lists
+  pub server : Server
+  pub found : find (is_server t) lists.servers ≡ Some server
 
 -- of nodes that aren't made nothing is known
 pub record Unmade (k : Known) (count : ℕ) : Type 0 where

@@ -1,4 +1,16 @@
 -- What is said of calls and requests stays so while more becomes known.
+use Rattle.packet_header.specs.declared.packet.ControlKind.TheVariants.{ConnectReply}
+use Rattle.std.proofs.Common.{true, false}
+use Rattle.end_laws.proofs.Known.{Tied}
+use Rattle.end_laws.proofs.Known.{Tells}
+use Rattle.packet_header.specs.declared.packet.ControlHeader.{ControlHeader}
+use Rattle.rpc_laws.specs.declared.tables.Client.{Client}
+use Rattle.end_laws.proofs.Known.{IsSession}
+use Rattle.end_laws.proofs.Known.{RepliesBy}
+use Rattle.std.proofs.Common.{Bool}
+use Rattle.packet_header.specs.declared.packet.ControlKind.{ControlKind}
+use Rattle.rpc_laws.specs.Front.{control_of}
+use Rattle.end_laws.specs.Handshakes.{IsMade}
 use Rattle.std.proofs.Common.{ℕ, List, ◌∷◌, Option, Some, None}
 use Rattle.std.specs.List.{AllByRecursion}
 use Rattle.packet_header.specs.Reading.{message_of, body_of}
@@ -28,6 +40,7 @@ module _ (j k : Known) (later : Later j k) where
     start = s.start;
     begun = later.starts from s.session h.request s.start s.begun;
     way = s.way;
+    credits = s.credits;
     end = later.ends to h.session 0 _ s.end;
     req_type = s.req_type;
     size = s.size;
@@ -53,8 +66,44 @@ module _ (j k : Known) (later : Later j k) where
   says-later Cr from to h body s = tt
   says-later Response from to h body s = says-response from to h body s
 
+  made-later : (m t n s credits : ℕ) → IsMade j.past m t n s credits → IsMade k.past m t n s credits
+  made-later m t n s credits (IsMade.paired c) = IsMade.paired (later.past _ c)
+  made-later m t n s credits (IsMade.accepted c) = IsMade.accepted (later.past _ c)
+
+  pub session-later : (m t n s credits : ℕ) → IsSession j m t n s credits
+      → IsSession k m t n s credits
+  session-later m t n s credits h =
+      record { end = later.ends m t 0 _ h.end; made = made-later m t n s credits h.made }
+
+  replies-later : (o : Option ℕ) (from to client credits status : ℕ)
+      → RepliesBy o j from to client credits status → RepliesBy o k from to client credits status
+  replies-later None from to client credits status h = h
+  replies-later (Some t) from to client credits status h = session-later from t to client credits h
+
+  tells-later : (kind : ControlKind) (from to : ℕ) (h : ControlHeader) → Tells kind j from to h
+      → Tells kind k from to h
+  tells-later ConnectReply from to h t =
+      replies-later h.server from to h.client h.credits h.status t
+  tells-later _ from to h t = tt
+
   pub speaks-later : (from to : ℕ) (bytes : List ℕ) → Speaks j from to bytes → Speaks k from to bytes
-  speaks-later from to bytes s = if-map _ _ (message_of bytes) (λ h. says-later h.kind from to h (body_of bytes)) s
+  speaks-later from to bytes s = (
+    if-map _ _ (message_of bytes) (λ h. says-later h.kind from to h (body_of bytes)) s.0,
+    if-map _ _ (control_of bytes) (λ h. tells-later h.kind from to h) s.1,
+  )
+
+  client-end-later : (n s m t : ℕ) → IsClientEnd j.past n s m t → IsClientEnd k.past n s m t
+  client-end-later n s m t (IsClientEnd.paired limit c) = IsClientEnd.paired limit (later.past _ c)
+  client-end-later n s m t (IsClientEnd.connected limit o c) =
+      IsClientEnd.connected limit (later.past _ o) (later.past _ c)
+
+  pub tied-later : (b : Bool) (n i : ℕ) (x : Client) → Tied b j n i x → Tied b k n i x
+  tied-later true n i x h =
+      record {
+        end = later.ends x.way.peer x.way.other 0 _ h.end;
+        client = client-end-later n i x.way.peer x.way.other h.client;
+      }
+  tied-later false n i x h = record { opened = later.past _ h.opened; idle = h.idle }
 
   parts-later : (way : Way) (a : Asking) (request got : ℕ) (parts : List ℕ) (answer : Option ℕ)
       → GoodAnswer j way a request got parts answer → GoodAnswer k way a request got parts answer
@@ -109,13 +158,16 @@ module _ (j k : Known) (later : Later j k) where
   pub jobs-later : (m : ℕ) (jobs : List Job) → AllByRecursion (GoodJob j m) jobs → AllByRecursion (GoodJob k m) jobs
   jobs-later m jobs h = all-map (GoodJob j m) (GoodJob k m) jobs (job-later m) h
 
-  pub server-later : (m t : ℕ) (v : Server) → GoodServer j m t v → GoodServer k m t v
-  server-later m t v h =
+  pub server-later : (m : ℕ) (v : Server) → GoodServer j m v → GoodServer k m v
+  server-later m v h =
       record {
-        number = h.number;
-        end = later.ends m t 0 _ h.end;
+        session = session-later m v.way.number v.way.peer v.way.other v.credits h.session;
         slots = all-map _ _ v.slots (served-later m v.way) h.slots;
       }
+
+  pub servers-later : (m : ℕ) (xs : List Server) → AllByRecursion (GoodServer j m) xs
+      → AllByRecursion (GoodServer k m) xs
+  servers-later m xs h = all-map (GoodServer j m) (GoodServer k m) xs (server-later m) h
 
 -- what was noted stays noted
 module _ (f : Fact) (past : List Fact) where
@@ -124,7 +176,7 @@ module _ (f : Fact) (past : List Fact) where
   client-more-end n s m t (IsClientEnd.connected limit o c) =
       IsClientEnd.connected limit (contains-more f _ past o) (contains-more f _ past c)
 
-  server-more-end : (n s m t : ℕ) → IsServerEnd past n s m t → IsServerEnd (f ∷ past) n s m t
+  pub server-more-end : (n s m t : ℕ) → IsServerEnd past n s m t → IsServerEnd (f ∷ past) n s m t
   server-more-end n s m t (IsServerEnd.paired credits c) = IsServerEnd.paired credits (contains-more f _ past c)
   server-more-end n s m t (IsServerEnd.accepted credits c) = IsServerEnd.accepted credits (contains-more f _ past c)
 
@@ -149,7 +201,7 @@ module _ (f : Fact) (past : List Fact) where
 
 pub true-noting : (k : Known) (f : Fact) → IsTrue k → IsTrue (noting k f)
 true-noting k f t = record {
-  ends = λ a b c x h. ends-more f k.past x.home x.client a b (t.ends a b c x h);
+  ends = λ a b c x h. server-more-end f k.past x.home x.client a b (t.ends a b c x h);
   asks = λ a b c x h. ask-more f k.past a b c x (t.asks a b c x h);
   starts = λ a b c x h. start-more f k.past a b c x (t.starts a b c x h);
   runs = λ a b c x h. contains-more f _ k.past (t.runs a b c x h);

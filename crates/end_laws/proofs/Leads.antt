@@ -13,7 +13,7 @@ use Rattle.node_laws.specs.Valid.{Valid}
 use Rattle.node_laws.proofs.Allowed.{AllAllowed as AllLawful, allowed-of}
 use Rattle.node_laws.proofs.LeadsLemmas.{valid_after_all}
 use Rattle.end_laws.specs.Moments.{Moment}
-use Rattle.end_laws.specs.OnlyPairs.{OnlyPairs}
+use Rattle.end_laws.specs.Moments.{hand_noted}
 use Rattle.end_laws.proofs.Allowed.{WalksFrom}
 use Rattle.end_laws.proofs.Courses.{latest, AtNode, Course, over, at_node, course-append, noted_at, moved-node}
 use Rattle.end_laws.proofs.ListLemmas.{Placed, set-here, set-other, set-placed, length-slice_set}
@@ -39,9 +39,9 @@ pub record Leads (w : Moment) (x : List Fact) (t : Stage) : Type 0 where
   pub course : Course w x end
   pub fits : Fits t end
 
--- so each such step does that notes nothing of session control
+-- so each such step does
 abbrev pub Leading : (Stage → List Fact → Stage → Type 0) → Type 0
-Leading P = (s : Stage) (w : Moment) (x : List Fact) (t : Stage) → Fits s w → OnlyPairs x → P s x t → Leads w x t
+Leading P = (s : Stage) (w : Moment) (x : List Fact) (t : Stage) → Fits s w → P s x t → Leads w x t
 
 pub leads-none : (s t : Stage) (w : Moment) (x : List Fact) → Fits s w → x ≡ [] → t ≡ s → Leads w x t
 leads-none s t w x f e g = rw (e, g) (record { end = w; course = over w; fits = f })
@@ -94,8 +94,12 @@ node-course w n l (f ∷ x) is me h v =
       linked = h.1;
     } in
     let e = moved-node w n l f a in
+    let walks : WalksFrom (hand_noted n f.event l.inbox w.hand) (Some f) w.clock
+    (after w.clock l f) x =
+    subst (λ (m : ℕ). WalksFrom (hand_noted m f.event l.inbox w.hand) (Some f) w.clock
+    (after w.clock l f) x) me h.2 in
     let rest = node-course (noted_at w n l f) n (after w.clock l f) x
-    (set-here w.nodes n l (after w.clock l f) is) me h.2 v.1 in
+    (set-here w.nodes n l (after w.clock l f) is) me walks v.1 in
     record {
       end = rest.end;
       course = at_node w n l f x rest.end a (subst (λ (v : Moment). Course v x rest.end) (sym e) rest.course);

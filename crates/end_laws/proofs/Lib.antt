@@ -1,3 +1,4 @@
+pub mod AgreeLaw
 pub mod Allowed
 pub mod AnswerLemmas
 pub mod AskSteps
@@ -5,6 +6,7 @@ pub mod BegunLemmas
 pub mod CallSteps
 pub mod ClientLemmas
 pub mod CommandLeads
+pub mod ControlKnown
 pub mod ControlSteps
 pub mod CountLemmas
 pub mod Courses
@@ -12,11 +14,13 @@ pub mod GenuineLaw
 pub mod GoodLemmas
 pub mod GoodStart
 pub mod GoodSteps
+pub mod HearsSteps
 pub mod JobLemmas
 pub mod JobSteps
 pub mod Known
 pub mod KnownLemmas
 pub mod Leads
+pub mod LetGoSteps
 pub mod ListLemmas
 pub mod OwnFacts
 pub mod OwnLaw
@@ -32,10 +36,10 @@ pub mod SaysLemmas
 pub mod ScriptLemmas
 pub mod SendsLaw
 pub mod ServerLemmas
+pub mod SessionLemmas
 pub mod SlotLemmas
-pub mod StillLeads
 pub mod TravelLemmas
 pub mod TwoEndsLaw
-pub mod UnrunLemmas
+pub mod Valids
 pub mod Walks
 pub mod WorkSteps

@@ -5,19 +5,19 @@ use Rattle.std.proofs.Common.{eqb, nat_lt}
 use Rattle.std.specs.Prelude.{flat_map, option_and_then, option_map}
 use Rattle.std.specs.List.{find, AllByRecursion}
 use Rattle.end_laws.proofs.ListLemmas.{all-add, all-append, all-at, all-first}
-use Rattle.end_laws.specs.OnlyPairs.{is_of_control}
 use Rattle.packet_header.specs.Reading.{body_of}
 use Rattle.packet_header.specs.declared.packet.ControlHeader.{ControlHeader}
 use Rattle.packet_header.specs.declared.packet.Kind.{Kind}
 use Rattle.packet_header.specs.declared.packet.Kind.TheVariants.{Request, Rfr, Cr, Response}
 use Rattle.packet_header.specs.declared.packet.MessageHeader.{MessageHeader}
 use Rattle.rpc_base.specs.declared.event.Event.{Event}
-use Rattle.rpc_base.specs.declared.event.Event.TheVariants.{Arrived, Bad, Begun}
+use Rattle.rpc_base.specs.declared.event.Event.TheVariants.{Accepted, Arrived, Bad, Begun, Declined}
 use Rattle.rpc_base.specs.declared.event.Event.TheVariants.{Closing as BeginsClosing, DonePeerLost}
 use Rattle.rpc_base.specs.declared.event.Event.TheVariants.{Ended, Flushed, Given, NcallTooLarge}
 use Rattle.rpc_base.specs.declared.event.Event.TheVariants.{NcloseBusy, NcloseState}
 use Rattle.rpc_base.specs.declared.event.Event.TheVariants.{NconnectNumbers, NconnectRing, Nrate}
-use Rattle.rpc_base.specs.declared.event.Event.TheVariants.{Overflowed, Posted, Ran, Rated, Worked}
+use Rattle.rpc_base.specs.declared.event.Event.TheVariants.{Overflowed, Posted, Ran, Rated, Starved}
+use Rattle.rpc_base.specs.declared.event.Event.TheVariants.{Unsent, Worked}
 use Rattle.rpc_base.specs.declared.event.Event.TheVariants.{PairedClient, Heard, Sent, Asked, Took}
 use Rattle.rpc_base.specs.declared.event.Event.TheVariants.{ClosedHeard, ClosedUnheard}
 use Rattle.rpc_base.specs.declared.event.Event.TheVariants.{Connected as IsConnected, DoneTooSmall}
@@ -88,6 +88,24 @@ use Rattle.rpc_base.proofs.BasicLemmas.{false-true}
 abbrev pub is_work : Event → Bool
 is_work (Worked t r) = true
 is_work _ = false
+
+-- an event of session control
+abbrev pub is_of_control : Event → Bool
+is_of_control (Opened session peer credits) = true
+is_of_control (Accepted session peer client credits) = true
+is_of_control (Declined peer client credits) = true
+is_of_control (Starved peer client credits) = true
+is_of_control (IsConnected session server) = true
+is_of_control (FailedNoRoom session) = true
+is_of_control (FailedNoAnswer session) = true
+is_of_control (BeginsClosing session) = true
+is_of_control (ClosedHeard session) = true
+is_of_control (ClosedUnheard session) = true
+is_of_control (Ended session) = true
+is_of_control Heard = true
+is_of_control (Sent peer Control number) = true
+is_of_control (Unsent peer) = true
+is_of_control _ = false
 
 -- what arrives is no control packet
 abbrev pub Brings : Event → List ℕ → Type 0

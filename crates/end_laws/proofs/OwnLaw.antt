@@ -2,6 +2,12 @@
 use Rattle.std.proofs.Common.{◌≡◌, ◌+◌, ℕ, List, [], ◌∷◌, ◌++◌, length, Option, Some, None}
 use Rattle.std.proofs.Common.{slice_get, refl, sym, ap, ◌∙◌, subst, arith}
 use Rattle.std.specs.List.{slice_set}
+use Rattle.std.proofs.Common.{◌⊎◌, inl, inr}
+use Rattle.std.proofs.lemmas.Bool.{eq-eqb}
+use Rattle.rpc_laws.specs.Requests.{is_server}
+use Rattle.end_laws.proofs.SessionLemmas.{add-new, none-made}
+use Rattle.end_laws.proofs.Known.{LiveAt}
+use Rattle.end_laws.proofs.ListLemmas.{set-here}
 use Rattle.std.proofs.lemmas.List.{length-append}
 use Rattle.std.proofs.lemmas.Option.{slice_get_within}
 use Rattle.rpc_base.specs.declared.fact.Fact.{Fact}
@@ -10,33 +16,37 @@ use Rattle.rpc_base.specs.declared.fact.Who.TheVariants.{Node}
 use Rattle.rpc_laws.specs.declared.tables.Lists.{Lists}
 use Rattle.rpc_laws.specs.BufferSafety.{changed}
 use Rattle.rpc_laws.specs.NodeLists.{after}
-use Rattle.rpc_laws.specs.OwnAnswer.{AreEnds, IsClientEnd, IsServerEnd, served_by, OwnEvent, OwnAt, AtEach}
+use Rattle.rpc_laws.specs.OwnAnswer.{IsClientEnd, IsServerEnd, served_by, OwnEvent, OwnAt, AtEach}
 use Rattle.rpc_laws.specs.Requests.{server_end}
 use Rattle.rpc_laws.specs.Sessions.{client_end}
 use Rattle.end_laws.specs.Moments.{Moment, moved}
 use Rattle.end_laws.proofs.Courses.{AtNode, Ends, Course, over, in_net, made, at_node, pairs}
 use Rattle.end_laws.proofs.Courses.{client_fact, server_fact, paired}
-use Rattle.end_laws.proofs.GoodLemmas.{SameAt, client-more, node-more}
-use Rattle.end_laws.proofs.GoodSteps.{good-net, good-made, good-node}
+use Rattle.end_laws.proofs.GoodLemmas.{SameAt, client-more, node-more, run-left, starts-stay}
+use Rattle.end_laws.proofs.GoodSteps.{GoodNext, NewEnds, good-net, good-made, good-node}
 use Rattle.end_laws.proofs.Known.{Known, Later, End, Speaks, GoodClient, GoodServer, GoodNode, Good}
 use Rattle.end_laws.proofs.Known.{TrueEnd, IsTrue, Unmade, added, added-here, added-keeps}
 use Rattle.end_laws.proofs.Known.{added-none, added-case, contains-here, contains-more}
-use Rattle.end_laws.proofs.KnownLemmas.{server-later, jobs-later, speaks-later, ends-more, start-more, ask-more}
-use Rattle.end_laws.proofs.ListLemmas.{Placed, set-other, set-placed, add-placed, length-slice_set}
+use Rattle.end_laws.proofs.KnownLemmas.{servers-later, jobs-later, speaks-later, server-more-end}
+use Rattle.end_laws.proofs.KnownLemmas.{start-more}
+use Rattle.end_laws.proofs.KnownLemmas.{ask-more}
+use Rattle.end_laws.specs.Handshakes.{IsMade}
+use Rattle.end_laws.proofs.ListLemmas.{Placed, set-other, set-placed, add-placed, all-add}
+use Rattle.end_laws.proofs.ListLemmas.{length-slice_set}
 use Rattle.end_laws.proofs.OwnLemmas.{own-event}
 use Rattle.end_laws.proofs.SendsLaw.{AllRight, right-noted, right-net, right-made, right-paired}
 use Rattle.rpc_laws.specs.Service.{plain_serving, AnswersAt}
 use Rattle.end_laws.proofs.AnswerLemmas.{AnswersFor}
 use Rattle.end_laws.proofs.TravelLemmas.{travels-map, travels-paired}
-use Rattle.end_laws.proofs.UnrunLemmas.{unrun-added}
+use Rattle.end_laws.proofs.Valids.{AllValid, valid-net, valid-made, valid-node, valid-pair}
 
 module _ (w : Moment) (n m credits : ℕ) (client server : Lists)
-    (e : Ends w n m credits client server) (g : Good w) where
+    (e : Ends w n m credits client server) (i0 : AllRight w) (v : AllValid w) (g : Good w) where
   abbrev s : ℕ
   s = length client.clients
 
   abbrev t : ℕ
-  t = length server.servers
+  t = server.server_numbers
 
   abbrev one : Fact
   one = client_fact n m credits client server
@@ -48,7 +58,7 @@ module _ (w : Moment) (n m credits : ℕ) (client server : Lists)
   j = g.known
 
   abbrev entry : End
-  entry = record { home = n; client = s }
+  entry = record { home = n; client = s; credits = credits }
 
   -- the session is known
   abbrev k : Known
@@ -89,18 +99,13 @@ module _ (w : Moment) (n m credits : ℕ) (client server : Lists)
 
   true-paired : IsTrue k
   true-paired =
-      let new : AreEnds k.past n s m t =
-      record {
-        client = IsClientEnd.paired credits
-            (contains-more other one (one ∷ j.past) (contains-here one j.past));
-        server =
-            IsServerEnd.paired credits (contains-here other (one ∷ j.past));
-      } in
+      let new : IsServerEnd k.past n s m t =
+      IsServerEnd.paired credits (contains-here other (one ∷ j.past)) in
       let is = g.is_true in
       record {
         ends = added-case j.ends m t 0 entry (TrueEnd k.past) new
-            (λ a b c x h. ends-more other (one ∷ j.past) x.home x.client a b
-            (ends-more one j.past x.home x.client a b (is.ends a b c x h)));
+            (λ a b c x h. server-more-end other (one ∷ j.past) x.home x.client a b
+            (server-more-end one j.past x.home x.client a b (is.ends a b c x h)));
         asks = λ a b c x h. ask-more other (one ∷ j.past) a b c x (ask-more one j.past a b c x (is.asks a b c x h));
         starts = λ a b c x h. start-more other (one ∷ j.past) a b c x
             (start-more one j.past a b c x (is.starts a b c x h));
@@ -111,7 +116,11 @@ module _ (w : Moment) (n m credits : ℕ) (client server : Lists)
   at-client =
       let new : GoodClient k n s (client_end s m t credits) = record {
         number = refl;
-        end = added-here j.ends m t 0 entry;
+        tied = record {
+          end = added-here j.ends m t 0 entry;
+          client = IsClientEnd.paired credits
+              (contains-more other one (one ∷ j.past) (contains-here one j.past));
+        };
         eight = refl;
         fresh = λ r le. client-good.no_starts s r (omega arith);
         calls = tt;
@@ -121,34 +130,44 @@ module _ (w : Moment) (n m credits : ℕ) (client server : Lists)
       record {
         clients = add-placed (GoodClient k n) client.clients (client_end s m t credits) new
             (λ i x is. client-more j k later n i x (λ r h. h) (client-good.clients i x is));
-        servers = λ i v is. server-later j k later n i v (client-good.servers i v is);
+        servers = servers-later j k later n client.servers client-good.servers;
         no_asks = client-good.no_asks;
         no_ends = λ d le. (others-same n e.two).ends d (client-good.no_ends d le);
         no_starts = λ i r le. client-good.no_starts i r (omega arith);
-        no_runs = client-good.no_runs;
+        begun = λ i r b is. starts-stay client one (v n client e.is_client)
+            (record { numbered = refl; room = e.fits_client }) w.clock i b
+            (client-good.begun i r b is);
+        no_runs = λ d r some. client-good.no_runs d r (run-left client one (v n client e.is_client)
+            (record { numbered = refl; room = e.fits_client }) w.clock d r some);
         jobs = jobs-later j k later n client.jobs.out client-good.jobs;
       }
 
   at-server : GoodNode k m (after w.clock server other)
   at-server =
-      let new : GoodServer k m t (server_end t n s credits) =
-      record { number = refl; end = added-here j.ends m t 0 entry; slots = tt } in
-      let more : length (server.servers ++ server_end t n s credits ∷ []) ≡ t + 1 =
-      length-append server.servers (server_end t n s credits ∷ []) in
+      let new : GoodServer k m (server_end t n s credits) = record {
+        session = record {
+          end = added-here j.ends m t 0 entry;
+          made = IsMade.paired (contains-here other (one ∷ j.past));
+        };
+        slots = tt;
+      } in
       record {
         clients = λ i x is. client-more j k later m i x (λ r h. h) (server-good.clients i x is);
-        servers = add-placed (GoodServer k m) server.servers (server_end t n s credits) new
-            (λ i v is. server-later j k later m i v (server-good.servers i v is));
+        servers = all-add (GoodServer k m) server.servers (server_end t n s credits)
+            (servers-later j k later m server.servers server-good.servers) new;
         no_asks = server-good.no_asks;
         no_ends = λ d le. added-none j.ends m t 0 entry m d 0 (λ x y z. absurd (omega arith))
             (server-good.no_ends d (omega arith));
         no_starts = server-good.no_starts;
-        no_runs = λ d r u. server-good.no_runs d r (unrun-added server.servers (server_end t n s credits) d r u);
+        begun = server-good.begun;
+        no_runs = λ d r some. server-good.no_runs d r
+            (run-left server other (v m server e.is_server)
+            (record { numbered = refl; room = e.fits_server }) w.clock d r some);
         jobs = jobs-later j k later m server.jobs.out server-good.jobs;
       }
 
-  pub good-paired : Good (paired w n m credits client server)
-  good-paired =
+  pub next-paired : GoodNext (paired w n m credits client server) j
+  next-paired =
       let nodes1 : List Lists = slice_set w.nodes n (after w.clock client one) in
       let nodes2 : List Lists = slice_set nodes1 m (after w.clock server other) in
       let at : slice_get nodes1 m ≡ Some server =
@@ -177,21 +196,42 @@ module _ (w : Moment) (n m credits : ℕ) (client server : Lists)
         starts = λ i a r le. u.starts i a r (omega arith);
         runs = λ i a r le. u.runs i a r (omega arith);
       } in
+      let there : slice_get (paired w n m credits client server).nodes m
+      ≡ Some (after w.clock server other) =
+      ap (λ (ns : List Lists). slice_get ns m) all
+      ∙ set-here nodes1 m server (after w.clock server other) at in
+      let ends-now : NewEnds (paired w n m credits client server).nodes j k =
+      λ i d x is. added-case j.ends m t 0 entry
+      (λ a b c x. (j.ends a b c ≡ Some x) ⊎ LiveAt (paired w n m credits client server).nodes a b)
+      (inr (record {
+        lists = after w.clock server other;
+        is_node = there;
+        server = server_end t n s credits;
+        found = add-new (is_server t) server.servers (server_end t n s credits) (eq-eqb t t refl)
+            (none-made t t server.servers (i0 m server e.is_server).alone (omega arith));
+      })) (λ a b c x h. inl h) i d 0 x is in
       record {
-        known = k;
-        past = ap (λ (p : List Fact). other ∷ one ∷ p) g.past;
-        nodes = subst (λ (ns : List Lists). Placed (GoodNode k) ns) (sym all) placed2;
-        travels = travels-map (Speaks j) (Speaks k) (paired w n m credits client server)
-            (speaks-later j k later) (travels-paired (Speaks j) w n m credits client server e
-            g.travels);
-        is_true = true-paired;
-        unmade = subst (λ (ns : List Lists). Unmade k (length ns)) (sym all) unmade;
+        good = record {
+          known = k;
+          past = ap (λ (p : List Fact). other ∷ one ∷ p) g.past;
+          nodes = subst (λ (ns : List Lists). Placed (GoodNode k) ns) (sym all) placed2;
+          travels = travels-map (Speaks j) (Speaks k) (paired w n m credits client server)
+              (speaks-later j k later) (travels-paired (Speaks j) w n m credits client server e
+              g.travels);
+          is_true = true-paired;
+          unmade = subst (λ (ns : List Lists). Unmade k (length ns)) (sym all) unmade;
+        };
+        later = later;
+        ends = ends-now;
       }
 
-own-at : (w : Moment) (n : ℕ) (l : Lists) (f : Fact) → AtNode w n l f → AllRight w
+  pub good-paired : Good (paired w n m credits client server)
+  good-paired = next-paired.good
+
+own-at : (w : Moment) (n : ℕ) (l : Lists) (f : Fact) → AtNode w n l f
     → AnswersFor w.past f.who f.event f.first f.second → Good w
     → OwnAt w.past f.who f.event f.first f.second
-own-at w n l f a i t g =
+own-at w n l f a t g =
     let k = g.known in
     let who : f.who ≡ Node n = a.allowed.who ∙ ap Node a.me in
     let answer : AnswersAt plain_serving (served_by n k.past) f.event f.first f.second =
@@ -199,29 +239,36 @@ own-at w n l f a i t g =
     f.second) (sym g.past) (subst (λ (p : Who). AnswersFor w.past p f.event f.first
     f.second) who t) in
     let own : OwnEvent k.past n f.event f.first f.second =
-    own-event k n l (g.nodes n l a.is_node) g.is_true (i n l a.is_node) w.hand f.event
+    own-event k n l (g.nodes n l a.is_node) g.is_true w.hand f.event
     f.first f.second answer a.allowed.may in
     let now : OwnEvent w.past n f.event f.first f.second =
     subst (λ (p : List Fact). OwnEvent p n f.event f.first f.second) g.past own in
     subst (λ (p : Who). OwnAt w.past p f.event f.first f.second) (sym (a.allowed.who ∙ ap Node a.me)) now
 
-pub course-own : (w : Moment) (h : List Fact) (u : Moment) → Course w h u → AllRight w
+pub course-own : (w : Moment) (h : List Fact) (u : Moment) → Course w h u → AllRight w → AllValid w
     → AtEach (λ past f. AnswersFor past f.who f.event f.first f.second) w.past h → Good w
     → AtEach (λ past f. OwnAt past f.who f.event f.first f.second) w.past h
-course-own _ _ _ (over w) i t g = tt
-course-own _ _ _ (in_net w f h u who c) i t g = (
+course-own _ _ _ (over w) i v t g = tt
+course-own _ _ _ (in_net w f h u who c) i v t g = (
   subst (λ (p : Who). OwnAt w.past p f.event f.first f.second) (sym who) tt,
-  course-own (moved w f) h u c (right-net w f who i) t.1 (good-net w f who g),
+  course-own (moved w f) h u c (right-net w f who i) (valid-net w f who v) t.1 (good-net w f who g),
 )
-course-own _ _ _ (made w ring h u c) i t g = (tt, course-own _ h u c (right-made w ring i) t.1 (good-made w ring g))
-course-own _ _ _ (at_node w n l f h u a c) i t g =
-    (own-at w n l f a i t.0 g, course-own (moved w f) h u c (right-noted w n l f a i) t.1 (good-node w n l f a i g))
-course-own _ _ _ (pairs w n m credits client server h u e c) i t g = (
+course-own _ _ _ (made w ring h u c) i v t g = (
+  tt,
+  course-own _ h u c (right-made w ring i) (valid-made w ring v) t.1 (good-made w ring g),
+)
+course-own _ _ _ (at_node w n l f h u a c) i v t g = (
+  own-at w n l f a t.0 g,
+  course-own (moved w f) h u c (right-noted w n l f a i) (valid-node w n l f a v) t.1
+      (good-node w n l f a i v g),
+)
+course-own _ _ _ (pairs w n m credits client server h u e c) i v t g = (
   tt,
   (
     tt,
     course-own (paired w n m credits client server) h u c
-        (right-paired w n m credits client server e i) t.1.1
-        (good-paired w n m credits client server e g),
+        (right-paired w n m credits client server e i)
+        (valid-pair w n m credits client server e v) t.1.1
+        (good-paired w n m credits client server e i v g),
   ),
 )

@@ -1,10 +1,8 @@
 -- A run is of a call's own bytes, and a call ends with the answer of its own run.
 use Rattle.std.proofs.Common.{◌≡◌, ◌≤◌, ◌+◌, ◌-◌, ℕ, List, length, Option, Some, None, refl, sym}
 use Rattle.std.proofs.Common.{ap, ◌∙◌, subst, arith, Contains}
-use Rattle.std.proofs.lemmas.Bool.{eqb-true}
 use Rattle.packet_header.specs.Parts.{packet_count}
 use Rattle.packet_header.proofs.PartsLemmas.{front-whole, packet_count_above}
-use Rattle.rpc_base.proofs.TakingLemmas.{find-passes}
 use Rattle.rpc_base.specs.declared.event.Event.{Event}
 use Rattle.rpc_base.specs.declared.event.Event.TheVariants.{Asked, Begun, Ran, DoneOk, DoneTooSmall}
 use Rattle.rpc_base.specs.declared.fact.Fact.{Fact}
@@ -19,12 +17,10 @@ use Rattle.rpc_laws.specs.declared.tables.Way.{Way}
 use Rattle.rpc_laws.specs.Calls.{is_active, asked_packets, known_packets}
 use Rattle.rpc_laws.specs.Facts.{plain, with_bytes, with_two}
 use Rattle.rpc_laws.specs.OwnAnswer.{served_by, AreEnds, IsCallOf, IsAnswerTo, OwnRun, OwnEnd, OwnSize, OwnEvent}
-use Rattle.rpc_laws.specs.Requests.{is_request}
 use Rattle.end_laws.proofs.Allowed.{HasSize, MayRun, MayEnd, MayFail, May}
 use Rattle.end_laws.proofs.ClientLemmas.{client-at, if-progress}
 use Rattle.end_laws.proofs.Known.{Known, Begin, HasParts, GoodAnswer, GoodCall, GoodNode, TrueStart, IsTrue}
 use Rattle.end_laws.proofs.ListLemmas.{all-found}
-use Rattle.end_laws.proofs.QueueLemmas.{RightNode}
 use Rattle.end_laws.proofs.RanLemmas.{run-of}
 
 module _ (past : List Fact) where
@@ -52,24 +48,20 @@ module _ (past : List Fact) where
       }
 
 module _ (k : Known) (n : ℕ) (l : Lists) (good : GoodNode k n l) (is_true : IsTrue k) where
-  own-run : RightNode l → (t r y : ℕ) (first second : List ℕ)
+  own-run : (t r y : ℕ) (first second : List ℕ)
       → second ≡ plain_answer (served_by n k.past) y first → MayRun l t r y first
       → OwnRun k.past n t r y first second
-  own-run right t r y first second answer m =
-      let o = run-of k n l t r y first good right m in
-      let g = o.good in
-      let v = o.server in
-      let q = o.request in
-      let a = g.start.what in
-      let number : q.number ≡ r = eqb-true q.number r (find-passes (is_request r) v.slots q o.is_there) in
+  own-run t r y first second answer m =
+      let o = run-of k n l t r y first good m in
+      let a = o.start.what in
       record {
-        node = v.way.peer;
+        node = o.end.home;
         call = a.number;
         room = a.room;
-        own = call-of k.past v.way.peer v.way.other q.number g.start a.number n t r y first
-            (is_true.starts v.way.peer v.way.other q.number g.start g.begun) refl
-            (ap (λ (w : Way). w.peer) g.way_is)
-            (ap (λ (w : Way). w.other) g.way_is ∙ o.number) number (sym o.of_type) (sym o.own);
+        own = call-of k.past o.end.home o.end.client r o.start a.number n t r y first
+            (is_true.starts o.end.home o.end.client r o.start o.begun) refl
+            (ap (λ (w : Way). w.peer) o.way_is) (ap (λ (w : Way). w.other) o.way_is) refl
+            (sym o.of_type) (sym o.own);
         right = answer;
       }
 
@@ -147,10 +139,10 @@ module _ (k : Known) (n : ℕ) (l : Lists) (good : GoodNode k n l) (is_true : Is
         above = m.above;
       }
 
-  pub own-event : RightNode l → (hand : Option InFlight) (e : Event) (first second : List ℕ)
+  pub own-event : (hand : Option InFlight) (e : Event) (first second : List ℕ)
       → AnswersAt plain_serving (served_by n k.past) e first second → May hand l e first second
       → OwnEvent k.past n e first second
-  own-event right hand (Ran t r y) first second answer m = own-run right t r y first second answer m
-  own-event right hand (DoneOk c) first second answer m = own-end c first m
-  own-event right hand (DoneTooSmall c size) first second answer m = own-size c size m
-  own-event right hand _ first second answer m = tt
+  own-event hand (Ran t r y) first second answer m = own-run t r y first second answer m
+  own-event hand (DoneOk c) first second answer m = own-end c first m
+  own-event hand (DoneTooSmall c size) first second answer m = own-size c size m
+  own-event hand _ first second answer m = tt

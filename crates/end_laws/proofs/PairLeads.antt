@@ -27,7 +27,6 @@ use Rattle.sim_script.specs.FollowsScript.{FollowsFrom, Follows, empty_stage}
 use Rattle.node_laws.proofs.Allowed.{AllowedBy}
 use Rattle.node_laws.proofs.ValidLemmas.{valid_after}
 use Rattle.end_laws.specs.Moments.{Moment, first_moment}
-use Rattle.end_laws.specs.OnlyPairs.{OnlyPairs}
 use Rattle.end_laws.specs.TwoNodes.{PairsTwo, PairsTwoNodes}
 use Rattle.end_laws.proofs.Allowed.{May, Linked}
 use Rattle.end_laws.proofs.CommandLeads.{connect-leads, disconnect-leads, rate-leads, lose-leads}
@@ -36,7 +35,6 @@ use Rattle.end_laws.proofs.CommandLeads.{call-leads, poll-leads, arrive-leads, s
 use Rattle.end_laws.proofs.Courses.{latest, Course, over, pairs, client_fact, server_fact, paired}
 use Rattle.end_laws.proofs.Leads.{NodeFits, Fits, Leads, Leading, leads-none, leads-append, step-stays}
 use Rattle.end_laws.proofs.ListLemmas.{Placed, set-here, set-other, set-placed, length-slice_set}
-use Rattle.end_laws.proofs.Walks.{only-front, only-back}
 use Rattle.end_laws.proofs.SendsLaw.{right-client, right-served}
 
 -- a refusal leaves all as it is
@@ -113,17 +111,14 @@ ends-lead a b credits client server s w x t f two is_client is_server fits_clien
     let sf = f.nodes b server is_server in
     let c = client.lists in
     let v = server.lists in
-    let used : v.server_numbers ≡ length v.servers = sf.right.numbers in
     let one : Fact = client_fact a b credits c v in
     let other : Fact = server_fact a b credits c v in
     let is_one : h.at_client ≡ one =
-    h.for_client ∙ (ap (λ (n : ℕ). plain n
-    (PairedClient (length c.clients) b v.server_numbers credits)) cf.me
-    ∙ ap (λ (t : ℕ). plain a (PairedClient (length c.clients) b t credits)) used) in
+    h.for_client ∙ ap (λ (n : ℕ). plain n
+    (PairedClient (length c.clients) b v.server_numbers credits)) cf.me in
     let is_other : h.at_server ≡ other =
-    h.for_server ∙ (ap (λ (n : ℕ). plain n
-    (PairedServer v.server_numbers a (length c.clients) credits)) sf.me
-    ∙ ap (λ (t : ℕ). plain b (PairedServer t a (length c.clients) credits)) used) in
+    h.for_server ∙ ap (λ (n : ℕ). plain n
+    (PairedServer v.server_numbers a (length c.clients) credits)) sf.me in
     let u = paired w a b credits c v in
     let nodes1 : List Lists = slice_set w.nodes a (after w.clock c one) in
     let nodes2 : List Lists = slice_set nodes1 b (after w.clock v other) in
@@ -160,7 +155,7 @@ ends-lead a b credits client server s w x t f two is_client is_server fits_clien
       right = right-served server.clock b a credits c v sf.right;
       valid =
           valid_after server.clock v other sf.valid
-          (record { numbered = sym used; room = has-room credits v fits_server });
+          (record { numbered = refl; room = has-room credits v fits_server });
     } in
     let placed2 : Placed (NodeFits s.clock nodes2) (slice_set stage1 b (noted server other)) =
     set-placed (NodeFits s.clock nodes2) stage1 b server (noted server other) at_stage here2
@@ -211,7 +206,7 @@ pairs-by a b credits client server None None s w x t f two c v r q h =
     ends-lead a b credits client server s w x t f two c v r q h
 
 pairs-lead : (a b credits : ℕ) → (a ≡ b → ⊥) → Leading (Pairs a b credits)
-pairs-lead a b credits two s w x t f o h =
+pairs-lead a b credits two s w x t f h =
     pairs-by a b credits h.client h.server _ _ s w x t f two h.is_client h.is_server refl refl h.pairs
 
 pub does-lead : (c : Command) → PairsTwo c → Leading (Does c)
@@ -230,13 +225,11 @@ does-lead (Work n i) p = work-leads n i
 does-lead (Settle rounds) p = settles-lead rounds
 
 pub follows-lead : (lines : List Line) → PairsTwoNodes lines → Leading (FollowsFrom lines)
-follows-lead [] p s w h t f o d = leads-none s t w h f d.0 d.1
-follows-lead (line ∷ lines) p s w h t f o d =
-    let both = subst OnlyPairs d.joined o in
-    let l = does-lead line.command p.0 s w d.group d.between f (only-front d.group d.rest both) d.does in
+follows-lead [] p s w h t f d = leads-none s t w h f d.0 d.1
+follows-lead (line ∷ lines) p s w h t f d =
+    let l = does-lead line.command p.0 s w d.group d.between f d.does in
     rw d.joined (leads-append d.between w d.group d.rest t l
-    (follows-lead lines p.1 d.between l.end d.rest t l.fits (only-back d.group d.rest both)
-    d.follows))
+    (follows-lead lines p.1 d.between l.end d.rest t l.fits d.follows))
 
 pub empty-fits : Fits empty_stage first_moment
 empty-fits = record { clock = refl; flight = refl; size = refl; nodes = λ j z h. cc }
@@ -246,8 +239,8 @@ pub record IsCourse (h : List Fact) : Type 0 where
   pub end : Moment
   pub course : Course first_moment h end
 
-pub follows-course : (lines : List Line) (h : List Fact) → PairsTwoNodes lines → OnlyPairs h
-    → Follows lines h → IsCourse h
-follows-course lines h p o d =
-    let l = follows-lead lines p empty_stage first_moment h d.0 empty-fits o d.1.commands in
+pub follows-course : (lines : List Line) (h : List Fact) → PairsTwoNodes lines → Follows lines h
+    → IsCourse h
+follows-course lines h p d =
+    let l = follows-lead lines p empty_stage first_moment h d.0 empty-fits d.1.commands in
     record { end = l.end; course = l.course }

@@ -4,8 +4,9 @@ use Rattle.std.proofs.Common.{None, slice_get, refl, eqb, ltb, ltb-true}
 use Rattle.std.specs.Prelude.{option_and_then, option_map}
 use Rattle.std.specs.List.{find}
 use Rattle.rpc_base.specs.declared.event.Event.{Event}
-use Rattle.rpc_base.specs.declared.event.Event.TheVariants.{Begun, Posted}
-use Rattle.rpc_base.specs.declared.owner.Owner.TheVariants.{Ask}
+use Rattle.rpc_base.specs.declared.event.Event.TheVariants.{Begun, Posted, Sent}
+use Rattle.rpc_base.specs.declared.owner.Owner.{Owner}
+use Rattle.rpc_base.specs.declared.owner.Owner.TheVariants.{Ask, Reply, Control}
 use Rattle.rpc_laws.specs.declared.tables.Call.{Call}
 use Rattle.rpc_laws.specs.declared.tables.Client.{Client}
 use Rattle.rpc_laws.specs.declared.tables.InFlight.{InFlight}
@@ -17,7 +18,7 @@ use Rattle.rpc_laws.specs.Posting.{lowest_free, next_turn, if_connected, beginni
 use Rattle.rpc_laws.specs.Posting.{next_packet, posting, next_begun, next_posted}
 use Rattle.rpc_laws.specs.Sessions.{is_connected}
 use Rattle.rpc_laws.specs.Steps.{NotesNext, NotesAll}
-use Rattle.end_laws.proofs.Allowed.{May, Linked}
+use Rattle.end_laws.proofs.Allowed.{May, MaySend, Linked}
 use Rattle.end_laws.proofs.Walks.{Stays, Fine, walked-goes, fine-then, fine-until, fine-visits}
 
 position-low : (n m i : ℕ) (b : Bool) → ltb n m ≡ b → cond b (Some n) None ≡ Some i → i < m
@@ -103,9 +104,16 @@ posts-client hand l None e h = cc
 posts-client hand l (Some x) e h =
     posts-free hand l x (eqb x.free 0) e (connected-next posting x (is_connected x.state) e refl h)
 
-module _ (Inv : Lists → Type 0) (stays : Stays Inv) (hand : Option InFlight) where
-  pub begun-fine : (i : ℕ) → Fine Inv hand (NotesNext (next_begun i))
-  begun-fine i s x t o inv h =
+-- no control packet is queued
+may-send : (hand : Option InFlight) (l : Lists) (peer : ℕ) (o : Owner) (k : ℕ) (head body : List ℕ)
+    → MaySend l peer o k head body → May hand l (Sent peer o k) head body
+may-send hand l peer (Ask s r) k head body m = m
+may-send hand l peer (Reply t r) k head body m = m
+may-send hand l peer Control k head body m = let own = m.own in cc
+
+module _ (Inv : Lists → Type 0) (stays : Stays Inv) where
+  pub begun-fine : (i : ℕ) → Fine Inv (NotesNext (next_begun i))
+  begun-fine i hand s x t inv h =
       walked-goes Inv stays hand s x t inv (rw h.facts (
         record {
           who = refl;
@@ -117,8 +125,8 @@ module _ (Inv : Lists → Type 0) (stays : Stays Inv) (hand : Option InFlight) w
         tt,
       )) h.goes
 
-  pub posted-fine : (i : ℕ) → Fine Inv hand (NotesNext (next_posted i))
-  posted-fine i s x t o inv h =
+  pub posted-fine : (i : ℕ) → Fine Inv (NotesNext (next_posted i))
+  posted-fine i hand s x t inv h =
       walked-goes Inv stays hand s x t inv (rw h.facts (
         record {
           who = refl;
@@ -130,41 +138,43 @@ module _ (Inv : Lists → Type 0) (stays : Stays Inv) (hand : Option InFlight) w
         tt,
       )) h.goes
 
-  pub serves-fine : (i : ℕ) → Fine Inv hand (Serves i)
-  serves-fine i = fine-then Inv hand (NotesAll (next_begun i)) (NotesAll (next_posted i))
-      (fine-until Inv hand (NotesNext (next_begun i)) _ (begun-fine i))
-      (fine-until Inv hand (NotesNext (next_posted i)) _ (posted-fine i))
+  pub serves-fine : (i : ℕ) → Fine Inv (Serves i)
+  serves-fine i = fine-then Inv (NotesAll (next_begun i)) (NotesAll (next_posted i))
+      (fine-until Inv (NotesNext (next_begun i)) _ (begun-fine i))
+      (fine-until Inv (NotesNext (next_posted i)) _ (posted-fine i))
 
-  pub posts-all : Fine Inv hand PostsAll
-  posts-all s x t o i h = fine-visits Inv hand Serves serves-fine (length s.lists.clients) s x t o i h
+  pub posts-all : Fine Inv PostsAll
+  posts-all hand s x t i h = fine-visits Inv Serves serves-fine
+      (length s.lists.clients) hand s x t i h
 
-  pub sends-fine : Fine Inv hand Sends
-  sends-fine s x t o i h =
+  pub sends-fine : Fine Inv Sends
+  sends-fine hand s x t i h =
       walked-goes Inv stays hand s x t i (rw h.facts (
         record {
           who = refl;
-          may = record {
-            due = h.entry.due;
-            is_front = h.is_front;
-            out = h.out;
-            own = h.packet;
-            to_peer = refl;
-            in_range = h.in_range;
-            has_head =
-                h.has_head;
-            long = h.long;
-            bytes = h.bytes;
-            whole = refl;
-          };
+          may = may-send hand s.lists h.out.peer h.entry.owner h.entry.number h.head h.out.body
+              (record {
+                due = h.entry.due;
+                is_front = h.is_front;
+                out = h.out;
+                own = h.packet;
+                to_peer = refl;
+                in_range = h.in_range;
+                has_head =
+                    h.has_head;
+                long = h.long;
+                bytes = h.bytes;
+                whole = refl;
+              });
         },
         tt,
         tt,
       )) h.goes
 
-  pub sends-all : Fine Inv hand SendsAll
-  sends-all = fine-until Inv hand Sends _ sends-fine
+  pub sends-all : Fine Inv SendsAll
+  sends-all = fine-until Inv Sends _ sends-fine
 
-  pub closes-fine : Fine Inv hand Closes
-  closes-fine s x t o i h =
+  pub closes-fine : Fine Inv Closes
+  closes-fine hand s x t i h =
       walked-goes Inv stays hand s x t i (rw h.facts (record { who = refl; may = tt }, tt, tt))
       h.goes

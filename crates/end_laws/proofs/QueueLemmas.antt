@@ -1,12 +1,14 @@
 -- The replies that a node has queued are packets of its requests.
 use Rattle.std.proofs.Common.{◌≡◌, ◌<◌, ◌≤◌, ◌==◌, ◌⊎◌, inl, inr, ℕ, Bool, true, false, cond, List}
-use Rattle.std.proofs.Common.{[], ◌∷◌, ◌++◌, length, Option, Some, None, refl, sym, ap, ◌∙◌, subst}
+use Rattle.std.proofs.Common.{[], ◌∷◌, ◌++◌, Option, Some, None, refl, sym, ap, ◌∙◌, subst}
 use Rattle.std.proofs.Common.{arith, eq-eqb}
 use Rattle.std.specs.Prelude.{◌%◌, map}
 use Rattle.std.specs.List.{find, list_any, AllByRecursion}
 use Rattle.std.proofs.lemmas.Bool.{eqb-true}
 use Rattle.packet_header.specs.declared.packet.MessageHeader.{MessageHeader}
 use Rattle.rpc_base.specs.Tables.{at_first, without_first}
+use Rattle.rpc_base.proofs.BasicLemmas.{false-true, unless-true}
+use Rattle.rpc_base.proofs.FirstLemmas.{missing-same}
 use Rattle.rpc_base.proofs.TakingLemmas.{find-passes}
 use Rattle.rpc_base.specs.declared.event.Event.{Event}
 use Rattle.rpc_base.specs.declared.event.Event.TheVariants.{PairedServer, Accepted, Ended, Posted}
@@ -22,12 +24,13 @@ use Rattle.rpc_laws.specs.Front.{front_header, front_body}
 use Rattle.rpc_laws.specs.Queues.{queued_after, is_queued, put_queued, stands_before, is_due, made_ready}
 use Rattle.rpc_laws.specs.Requests.{is_server, is_request, in_slot_of, first_packet, next_packet}
 use Rattle.rpc_laws.specs.Requests.{took_packet, given, answered, servers_after}
-use Rattle.rpc_laws.specs.Requests.{server_numbers_after}
+use Rattle.rpc_laws.specs.Requests.{server_end, server_numbers_after}
 use Rattle.end_laws.proofs.Allowed.{TakesOf, May}
-use Rattle.end_laws.proofs.ListLemmas.{Changed, length-first, all-first, all-without, all-found}
+use Rattle.end_laws.proofs.ListLemmas.{Changed, all-add, all-first, all-without, all-found}
 use Rattle.end_laws.proofs.ListLemmas.{find-after, find-without, find-add}
 use Rattle.end_laws.proofs.Rights.{SlotRight, SlotsRight, Stands, JobsRight, front-right}
 use Rattle.end_laws.proofs.Rights.{took-right, given-right, answered-right, run-ready}
+use Rattle.end_laws.proofs.SessionLemmas.{Alone, Over, over-after, over-ended}
 use Rattle.end_laws.proofs.SlotLemmas.{with_slots, Apart, Sound, any-find, find-added, none-without}
 
 -- the request of a queued reply stands in its slot with that packet taken, or a later one does
@@ -39,18 +42,23 @@ pub record Stood (xs : List Server) (t r k : ℕ) : Type 0 where
   pub reached : r ≤ request.number
   pub was_taken : r ≡ request.number → k < request.taken
 
-abbrev pub QueueRight : List Server → Owner → ℕ → Type 0
-QueueRight xs (Ask s r) k = Unit {0}
-QueueRight xs (Reply t r) k = Stood xs t r k
-QueueRight xs Control k = Unit {0}
+-- or its session is over
+abbrev pub QueueRight : List Server → ℕ → Owner → ℕ → Type 0
+QueueRight xs used (Ask s r) k = Unit {0}
+QueueRight xs used (Reply t r) k = Over xs used t ⊎ Stood xs t r k
+QueueRight xs used Control k = Unit {0}
 
 pub record RightNode (l : Lists) : Type 0 where
   pub sound : Sound l
   pub slots : SlotsRight l.servers
-  pub queue : AllByRecursion (λ e. QueueRight l.servers e.owner e.number) l.queued
-  pub jobs : JobsRight l.servers l.jobs
-  -- no session ended
-  pub numbers : l.server_numbers ≡ length l.servers
+  pub queue : AllByRecursion (λ e. QueueRight l.servers l.server_numbers e.owner e.number) l.queued
+  pub jobs : JobsRight l.servers l.server_numbers l.jobs
+  pub alone : Alone l.server_numbers l.servers
+
+-- a server session ends
+abbrev pub is_end : Event → Bool
+is_end (Ended t) = true
+is_end _ = false
 
 -- the request that is found is the one that stands
 pub stands-same : (xs : List Server) (t r : ℕ) (q : Served) → Stands xs t r q → (v : Server)
@@ -73,11 +81,14 @@ slot-first t r change xs q s h f =
     (λ z at g. subst (λ (y : Served). SlotRight y → SlotRight (change y)) (stands-same xs t r q s v is z at) f g) k) h
 
 pub slots-right : (hand : Option InFlight) (l : Lists) (e : Event) (first second : List ℕ)
-    → JobsRight l.servers l.jobs → May hand l e first second → SlotsRight l.servers
-    → SlotsRight (servers_after e second (front_header l.ring) (front_body l.ring) l.servers)
+    → JobsRight l.servers l.server_numbers l.jobs → May hand l e first second
+    → SlotsRight l.servers → SlotsRight (servers_after e second (front_header l.ring)
+    (front_body l.ring) l.servers)
 slots-right hand l (PairedServer t peer s credits) first second j m h = absurd m
-slots-right hand l (Accepted t peer s credits) first second j m h = absurd m
-slots-right hand l (Ended t) first second j m h = absurd m
+slots-right hand l (Accepted t peer s credits) first second j m h =
+    all-add (λ v. AllByRecursion SlotRight v.slots) l.servers (server_end t peer s credits) h tt
+slots-right hand l (Ended t) first second j m h =
+    all-without (λ v. AllByRecursion SlotRight v.slots) (is_server t) l.servers h
 slots-right hand l (Took (Ask s r) k) first second j m h = h
 slots-right hand l (Took Control k) first second j m h = h
 slots-right hand l (Took (Reply t r) k) first second j m h =
@@ -94,8 +105,12 @@ slots-right hand l (Given t r) first second j m h =
     { server = w.server; found = w.found; is_there = w.is_there }) h
     (given-right w.request w.whole w.unanswered)
 slots-right hand l (Ran t r y) first second j m h =
-    let g = run-ready l t r y first h j m in
-    slot-first t r (answered second) l.servers g.request g.stands h (answered-right second g.request g.whole)
+    elim (run-ready l t r y first h j m) [
+      | inl o ↦ rw (missing-same (is_server t) (λ (v : Server). record v
+          { slots = at_first (is_request r) (answered second) v.slots }) l.servers o.gone) h
+      | inr g ↦ slot-first t r (answered second) l.servers g.request g.stands h
+          (answered-right second g.request g.whole)
+    ]
 slots-right hand l _ first second j m h = h
 
 -- what is found of a session after the first of another number changes
@@ -208,15 +223,55 @@ stood-by xs t r k n change s after =
       | inr c ↦ (let a = after s.server c.first refl in record { server = with_slots change s.server; found = c.is; request = a.request; in_slot = a.in_slot; reached = a.reached; was_taken = a.was_taken })
     ]
 
+-- a session of another number is still found where one ends
+pub found-ended : (n t : ℕ) (xs : List Server) (v : Server) → (n == t) ≡ false
+    → find (is_server t) xs ≡ Some v → find (is_server t) (without_first (is_server n) xs) ≡ Some v
+found-ended n t xs v e is =
+    let number : v.way.number ≡ t = eqb-true v.way.number t (find-passes (is_server t) xs v is) in
+    let other : is_server n v ≡ false =
+    ap (λ (m : ℕ). m == n) number ∙ unless-true (t == n) (λ (q : (t == n) ≡ true).
+    false-true (sym e ∙ eq-eqb n t (sym (eqb-true t n q)))) in
+    find-without (is_server n) (is_server t) xs v is other
+
+ended-by : (n t : ℕ) (b : Bool) (xs : List Server) (used r k : ℕ) → (n == t) ≡ b → Alone used xs
+    → (s : Stood xs t r k)
+    → Over (without_first (is_server n) xs) used t ⊎ Stood (without_first (is_server n) xs) t r k
+ended-by n t true xs used r k e alone s =
+    let same = eqb-true n t e in
+    rw same (inl (over-ended t used xs s.server alone s.found))
+ended-by n t false xs used r k e alone s =
+    inr (record {
+      server = s.server;
+      found = found-ended n t xs s.server e s.found;
+      request = s.request;
+      in_slot = s.in_slot;
+      reached = s.reached;
+      was_taken = s.was_taken;
+    })
+
+-- a packet of a request stays as right where a session is made
+pub stood-added : (xs : List Server) (y : Server) (t r k : ℕ) → Stood xs t r k
+    → Stood (xs ++ y ∷ []) t r k
+stood-added xs y t r k h =
+    record {
+      server = h.server;
+      found = find-add (is_server t) xs y h.server h.found;
+      request = h.request;
+      in_slot = h.in_slot;
+      reached = h.reached;
+      was_taken = h.was_taken;
+    }
+
 stood-after : (hand : Option InFlight) (l : Lists) (e : Event) (first second : List ℕ) (t r k : ℕ)
-    → Sound l → May hand l e first second → Stood l.servers t r k
+    → is_end e ≡ false → Sound l → May hand l e first second → Stood l.servers t r k
     → Stood (servers_after e second (front_header l.ring) (front_body l.ring) l.servers) t r k
-stood-after hand l (PairedServer n peer s credits) first second t r k i m h = absurd m
-stood-after hand l (Accepted n peer s credits) first second t r k i m h = absurd m
-stood-after hand l (Ended n) first second t r k i m h = absurd m
-stood-after hand l (Took (Ask s n) j) first second t r k i m h = h
-stood-after hand l (Took Control j) first second t r k i m h = h
-stood-after hand l (Took (Reply n p) j) first second t r k i m h =
+stood-after hand l (PairedServer n peer s credits) first second t r k q i m h = absurd m
+stood-after hand l (Accepted n peer s credits) first second t r k q i m h =
+    stood-added l.servers (server_end n peer s credits) t r k h
+stood-after hand l (Ended n) first second t r k q i m h = false-true (sym q)
+stood-after hand l (Took (Ask s n) j) first second t r k q i m h = h
+stood-after hand l (Took Control j) first second t r k q i m h = h
+stood-after hand l (Took (Reply n p) j) first second t r k q i m h =
     stood-by l.servers t r k n (took_packet p (front_header l.ring) (front_body l.ring)) h
     (λ v is same. let this : m.server ≡ v = cc in
     let apart : Apart v.slots = all-found (λ v. Apart v.slots) (is_server n) l.servers v i is in
@@ -227,36 +282,52 @@ stood-after hand l (Took (Reply n p) j) first second t r k i m h =
     (sym same) h.in_slot in
     rw (m.is_front.reads, m.of_request) (took-after m.going v.slots m.header (front_body l.ring) r k
     h.request apart takes at h.reached h.was_taken))
-stood-after hand l (Given n p) first second t r k i m h =
+stood-after hand l (Given n p) first second t r k q i m h =
     stood-by l.servers t r k n (at_first (is_request p) given) h
     (λ v is same. let at : find (in_slot_of r) v.slots ≡ Some h.request = subst (λ (z : Server). find (in_slot_of r) z.slots ≡ Some h.request) (sym same) h.in_slot in
     changed-after v.slots p given r k h.request (λ x. refl) (λ x. refl) at h.reached h.was_taken)
-stood-after hand l (Ran n p y) first second t r k i m h =
+stood-after hand l (Ran n p y) first second t r k q i m h =
     stood-by l.servers t r k n (at_first (is_request p) (answered second)) h
     (λ v is same. let at : find (in_slot_of r) v.slots ≡ Some h.request = subst (λ (z : Server). find (in_slot_of r) z.slots ≡ Some h.request) (sym same) h.in_slot in
     changed-after v.slots p (answered second) r k h.request (λ x. refl) (λ x. refl) at h.reached h.was_taken)
-stood-after hand l _ first second t r k i m h = h
+stood-after hand l _ first second t r k q i m h = h
+
+reply-after : (hand : Option InFlight) (l : Lists) (e : Event) (first second : List ℕ) (t r k : ℕ)
+    → Sound l → Alone l.server_numbers l.servers → May hand l e first second
+    → Stood l.servers t r k
+    → Over (servers_after e second (front_header l.ring) (front_body l.ring) l.servers)
+    (server_numbers_after e l.server_numbers) t
+    ⊎ Stood (servers_after e second (front_header l.ring) (front_body l.ring) l.servers) t r k
+reply-after hand l (Ended n) first second t r k i alone m s =
+    ended-by n t (n == t) l.servers l.server_numbers r k refl alone s
+reply-after hand l e first second t r k i alone m s =
+    inr (stood-after hand l e first second t r k refl i m s)
 
 pub queue-after : (hand : Option InFlight) (l : Lists) (e : Event) (first second : List ℕ)
-    (o : Owner) (k : ℕ) → Sound l → May hand l e first second → QueueRight l.servers o k
-    → QueueRight (servers_after e second (front_header l.ring) (front_body l.ring) l.servers) o k
-queue-after hand l e first second (Ask s r) k i m h = tt
-queue-after hand l e first second (Reply t r) k i m h = stood-after hand l e first second t r k i m h
-queue-after hand l e first second Control k i m h = tt
+    (o : Owner) (k : ℕ) → Sound l → Alone l.server_numbers l.servers → May hand l e first second
+    → QueueRight l.servers l.server_numbers o k
+    → QueueRight (servers_after e second (front_header l.ring) (front_body l.ring) l.servers)
+    (server_numbers_after e l.server_numbers) o k
+queue-after hand l e first second (Ask s r) k i alone m h = tt
+queue-after hand l e first second (Reply t r) k i alone m (inl o) =
+    inl (over-after t hand l e first second (front_header l.ring) (front_body l.ring) m o)
+queue-after hand l e first second (Reply t r) k i alone m (inr s) =
+    reply-after hand l e first second t r k i alone m s
+queue-after hand l e first second Control k i alone m h = tt
 
 posted-right : (hand : Option InFlight) (l : Lists) (o : Owner) (k : ℕ) (first second : List ℕ)
-    → May hand l (Posted o k) first second → QueueRight l.servers o k
+    → May hand l (Posted o k) first second → QueueRight l.servers l.server_numbers o k
 posted-right hand l (Ask s r) k first second m = tt
 posted-right hand l (Reply t r) k first second m =
     let e = m.number in
-    record {
+    inr (record {
       server = m.server;
       found = m.found;
       request = m.request;
       in_slot = m.in_slot;
       reached = omega arith;
       was_taken = λ f. m.was_taken;
-    }
+    })
 posted-right hand l Control k first second m = tt
 
 -- a packet that is put among others
@@ -284,44 +355,19 @@ ready-all P now (q ∷ qs) h = (ready-by P q (is_due now q.due) h.0, ready-all P
 
 pub queued-right : (hand : Option InFlight) (l : Lists) (e : Event) (first second : List ℕ)
     (due : Option ℕ) → May hand l e first second
-    → AllByRecursion (λ q. QueueRight l.servers q.owner q.number) l.queued
-    → AllByRecursion (λ q. QueueRight l.servers q.owner q.number) (queued_after e due l.queued)
+    → AllByRecursion (λ q. QueueRight l.servers l.server_numbers q.owner q.number) l.queued
+    → AllByRecursion (λ q. QueueRight l.servers l.server_numbers q.owner q.number)
+    (queued_after e due l.queued)
 queued-right hand l (Posted o k) first second due m h =
-    put-all (λ q. QueueRight l.servers q.owner q.number)
+    put-all (λ q. QueueRight l.servers l.server_numbers q.owner q.number)
     (record { owner = o; number = k; due = due }) l.queued (posted-right hand l o k first second m)
     h
-queued-right hand l (Polled now) first second due m h = ready-all (QueueRight l.servers) now l.queued h
+queued-right hand l (Polled now) first second due m h =
+    ready-all (QueueRight l.servers l.server_numbers) now l.queued h
 queued-right hand l (Sent peer o k) first second due m h =
-    all-without (λ q. QueueRight l.servers q.owner q.number) (is_queued o k) l.queued h
+    all-without (λ q. QueueRight l.servers l.server_numbers q.owner q.number)
+    (is_queued o k) l.queued h
 queued-right hand l (Flushed o k) first second due m h =
-    all-without (λ q. QueueRight l.servers q.owner q.number) (is_queued o k) l.queued h
+    all-without (λ q. QueueRight l.servers l.server_numbers q.owner q.number)
+    (is_queued o k) l.queued h
 queued-right hand l _ first second due m h = h
-
--- no session is made or ends by these facts
-pub servers-length : (hand : Option InFlight) (l : Lists) (e : Event) (first second : List ℕ)
-    (head : Option MessageHeader) (body : List ℕ) → May hand l e first second
-    → length (servers_after e second head body l.servers) ≡ length l.servers
-servers-length hand l (PairedServer t peer s credits) first second head body m = absurd m
-servers-length hand l (Accepted t peer s credits) first second head body m = absurd m
-servers-length hand l (Ended t) first second head body m = absurd m
-servers-length hand l (Took (Reply t r) k) first second head body m = length-first (is_server t) _ l.servers
-servers-length hand l (Took (Ask s r) k) first second head body m = refl
-servers-length hand l (Took Control k) first second head body m = refl
-servers-length hand l (Given t r) first second head body m = length-first (is_server t) _ l.servers
-servers-length hand l (Ran t r y) first second head body m = length-first (is_server t) _ l.servers
-servers-length hand l _ first second head body m = refl
-
-same-numbers : (hand : Option InFlight) (l : Lists) (e : Event) (first second : List ℕ) (n : ℕ)
-    → May hand l e first second → server_numbers_after e n ≡ n
-same-numbers hand l (PairedServer t peer s credits) first second n m = absurd m
-same-numbers hand l (Accepted t peer s credits) first second n m = absurd m
-same-numbers hand l _ first second n m = refl
-
-pub numbers-right : (hand : Option InFlight) (l : Lists) (e : Event) (first second : List ℕ)
-    → May hand l e first second → l.server_numbers ≡ length l.servers
-    → server_numbers_after e l.server_numbers
-    ≡ length (servers_after e second (front_header l.ring) (front_body l.ring) l.servers)
-numbers-right hand l e first second m h =
-    same-numbers hand l e first second l.server_numbers m
-    ∙ (h ∙ sym (servers-length hand l e first second (front_header l.ring)
-    (front_body l.ring) m))

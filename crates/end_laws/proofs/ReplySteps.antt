@@ -41,7 +41,8 @@ use Rattle.rpc_laws.specs.Queues.{is_queued}
 use Rattle.rpc_laws.specs.Sessions.{is_client, is_connected, takes}
 use Rattle.rpc_laws.specs.Steps.{Then}
 use Rattle.end_laws.proofs.Allowed.{Fronts, HasSize, WalksFrom, Walks}
-use Rattle.end_laws.proofs.ControlSteps.{hears-all, times-all}
+use Rattle.end_laws.proofs.ControlSteps.{times-all}
+use Rattle.end_laws.proofs.HearsSteps.{hears-all}
 use Rattle.end_laws.proofs.ListLemmas.{find-first}
 use Rattle.end_laws.proofs.PollSteps.{posts-all, sends-all, closes-fine}
 use Rattle.end_laws.proofs.QueueLemmas.{RightNode}
@@ -293,31 +294,30 @@ pub front-is : (ring : List Arrival) (front : Arrival) → slice_get ring 0 ≡ 
 front-is [] front h = cc
 front-is (d ∷ ds) front h = let same : d ≡ front = cc in ap (λ (a : Arrival). a.bytes) same
 
-module _ (hand : Option InFlight) where
-  pub handles-fine : Fine RightNode hand (Handles plain_mode)
-  handles-fine s x t o i h =
-      let bytes = front-is s.lists.ring h.front h.is_front in
-      let reads : front_header s.lists.ring ≡ Some h.header = ap message_of bytes ∙ h.reads in
-      let walk = kind-walk hand s.clock s.lists h.front h.header h.lacks h.answer h.header.kind refl
-      (record { is_front = h.is_front; reads = reads }) i in
-      let same : handling_by plain_mode h.lacks h.answer h.header.kind s.lists h.front.peer h.header
-      (front_body s.lists.ring) ≡ x =
-      ap (λ (b : List ℕ). handling_by plain_mode h.lacks h.answer h.header.kind s.lists
-      h.front.peer h.header (body_of b)) bytes ∙ sym h.facts in
-      walked-goes RightNode right-stays hand s x t i
-      (subst (λ (y : List Fact). Walks hand s.clock s.lists y) same walk) h.goes
+pub handles-fine : Fine RightNode (Handles plain_mode)
+handles-fine hand s x t i h =
+    let bytes = front-is s.lists.ring h.front h.is_front in
+    let reads : front_header s.lists.ring ≡ Some h.header = ap message_of bytes ∙ h.reads in
+    let walk = kind-walk hand s.clock s.lists h.front h.header h.lacks h.answer h.header.kind refl
+    (record { is_front = h.is_front; reads = reads }) i in
+    let same : handling_by plain_mode h.lacks h.answer h.header.kind s.lists h.front.peer h.header
+    (front_body s.lists.ring) ≡ x =
+    ap (λ (b : List ℕ). handling_by plain_mode h.lacks h.answer h.header.kind s.lists
+    h.front.peer h.header (body_of b)) bytes ∙ sym h.facts in
+    walked-goes RightNode right-stays hand s x t i
+    (subst (λ (y : List Fact). Walks hand s.clock s.lists y) same walk) h.goes
 
-  -- a poll at the node's clock
-  pub poll-fine : (worked : List WorkedJob)
-      → Fine RightNode hand (Then (FinishesWorked worked)
-      (Then HearsAll (Then (HandlesAll plain_mode)
-      (Then TimesAll (Then PostsAll (Then SendsAll Closes))))))
-  poll-fine worked =
-      fine-then RightNode hand (FinishesWorked worked) _ (finishes-worked hand worked)
-      (fine-then RightNode hand HearsAll _ (hears-all RightNode right-stays hand)
-      (fine-then RightNode hand (HandlesAll plain_mode) _
-      (fine-until RightNode hand (Handles plain_mode) _ handles-fine)
-      (fine-then RightNode hand TimesAll _ (times-all RightNode right-stays hand)
-      (fine-then RightNode hand PostsAll _ (posts-all RightNode right-stays hand)
-      (fine-then RightNode hand SendsAll Closes (sends-all RightNode right-stays hand)
-      (closes-fine RightNode right-stays hand))))))
+-- a poll at the node's clock
+pub poll-fine : (worked : List WorkedJob)
+    → Fine RightNode (Then (FinishesWorked worked)
+    (Then HearsAll (Then (HandlesAll plain_mode)
+    (Then TimesAll (Then PostsAll (Then SendsAll Closes))))))
+poll-fine worked =
+    fine-then RightNode (FinishesWorked worked) _ (finishes-worked worked)
+    (fine-then RightNode HearsAll _ hears-all
+    (fine-then RightNode (HandlesAll plain_mode) _
+    (fine-until RightNode (Handles plain_mode) _ handles-fine)
+    (fine-then RightNode TimesAll _ (times-all RightNode right-stays)
+    (fine-then RightNode PostsAll _ (posts-all RightNode right-stays)
+    (fine-then RightNode SendsAll Closes (sends-all RightNode right-stays)
+    (closes-fine RightNode right-stays))))))

@@ -28,6 +28,7 @@ use Rattle.rpc_laws.specs.Requests.{took_packet, given, answered}
 use Rattle.rpc_laws.specs.ServerTable.{is_past_end}
 use Rattle.end_laws.proofs.Allowed.{GoesOn, TakesOf, IsWhole, MayServe, MayFinish}
 use Rattle.end_laws.proofs.ListLemmas.{all-first, all-add, all-without, all-found}
+use Rattle.end_laws.proofs.SessionLemmas.{Over}
 use Rattle.end_laws.proofs.SlotLemmas.{any-find}
 
 -- how many packets were taken: none above those of the request, and of the answer once it is known
@@ -61,9 +62,13 @@ pub record JobFits (xs : List Server) (job : Job) : Type 0 where
   pub working : request.working ≡ true
   pub sized : length job.ask ≡ request.size
 
+-- or its session is over
+abbrev pub JobRight : List Server → ℕ → Job → Type 0
+JobRight xs used job = Over xs used job.session ⊎ JobFits xs job
+
 -- so it is for all jobs, and no two jobs are of one request
-pub record JobsRight (xs : List Server) (jobs : Jobs) : Type 0 where
-  pub out : AllByRecursion (JobFits xs) jobs.out
+pub record JobsRight (xs : List Server) (used : ℕ) (jobs : Jobs) : Type 0 where
+  pub out : AllByRecursion (JobRight xs used) jobs.out
   pub once : (t r : ℕ) → count_by (is_job t r) jobs.out ≤ 1
 
 -- what a packet that is read tells of its number and its body
@@ -255,9 +260,10 @@ job-ready xs job s h =
     }
 
 -- the job that finishes
-pub out-job : (l : Lists) (t r : ℕ) (job : Job) → JobsRight l.servers l.jobs
-    → find (is_job t r) l.jobs.out ≡ Some job → JobFits l.servers job
-out-job l t r job j is = all-found (JobFits l.servers) (is_job t r) l.jobs.out job j.out is
+pub out-job : (l : Lists) (t r : ℕ) (job : Job) → JobsRight l.servers l.server_numbers l.jobs
+    → find (is_job t r) l.jobs.out ≡ Some job → JobRight l.servers l.server_numbers job
+out-job l t r job j is =
+    all-found (JobRight l.servers l.server_numbers) (is_job t r) l.jobs.out job j.out is
 
 -- a job that is found is of that request
 pub job-number : (t r : ℕ) (jobs : List Job) (job : Job) → find (is_job t r) jobs ≡ Some job
@@ -267,9 +273,12 @@ job-number t r jobs job is =
     (eqb-true job.session t parts.0, eqb-true job.request r parts.1)
 
 pub run-ready : (l : Lists) (t r y : ℕ) (ask : List ℕ) → SlotsRight l.servers
-    → JobsRight l.servers l.jobs → MayServe l t r y ask ⊎ MayFinish l t r y ask
-    → Ready l.servers t r
-run-ready l t r y ask s j (inl m) = whole-ready l t r m.has
+    → JobsRight l.servers l.server_numbers l.jobs → MayServe l t r y ask ⊎ MayFinish l t r y ask
+    → Over l.servers l.server_numbers t ⊎ Ready l.servers t r
+run-ready l t r y ask s j (inl m) = inr (whole-ready l t r m.has)
 run-ready l t r y ask s j (inr m) =
     let of = job-number t r l.jobs.out m.job m.is_out in
-    rw (← of.0, ← of.1) (job-ready l.servers m.job s (out-job l t r m.job j m.is_out))
+    elim (out-job l t r m.job j m.is_out) [
+      | inl o ↦ inl (subst (λ (n : ℕ). Over l.servers l.server_numbers n) of.0 o)
+      | inr f ↦ inr (rw (← of.0, ← of.1) (job-ready l.servers m.job s f))
+    ]

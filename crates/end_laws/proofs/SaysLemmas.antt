@@ -1,20 +1,29 @@
 -- What is sent says what is so.
 use Rattle.std.proofs.Common.{◌≡◌, ◌+◌, ◌-◌, ℕ, nat_lt, Bool, true, false, cond, List, [], ◌++◌}
-use Rattle.std.proofs.Common.{length, Option, Some, None, refl, sym, ap, ◌∙◌, subst}
+use Rattle.std.proofs.Common.{length, Option, Some, None, refl, sym, ap, ◌∙◌, subst, arith, true}
+use Rattle.std.proofs.Common.{◌==◌}
+use Rattle.std.proofs.Common.{◌⊎◌, inl, inr, append-nil}
+use Rattle.std.specs.Prelude.{Ok}
 use Rattle.std.specs.Prelude.{IfSome, option_map}
 use Rattle.std.specs.List.{find, AllByRecursion}
-use Rattle.std.proofs.lemmas.Bool.{eqb-true}
+use Rattle.std.proofs.lemmas.Bool.{and_parts, eqb-true}
 use Rattle.packet_header.specs.Header.{HasHead, HasLength, InRange}
 use Rattle.packet_header.specs.Parts.{packet_count, part}
-use Rattle.packet_header.specs.Reading.{message_in, message_of, body_of}
+use Rattle.packet_header.specs.Reading.{decoded, message_in, message_of, body_of}
+use Rattle.packet_header.specs.declared.packet.ControlHeader.{ControlHeader}
+use Rattle.packet_header.specs.declared.packet.ControlKind.TheVariants.{ConnectRequest}
+use Rattle.packet_header.specs.declared.packet.ControlKind.TheVariants.{DisconnectRequest}
 use Rattle.packet_header.specs.declared.packet.Kind.TheVariants.{Request, Rfr, Cr, Response}
 use Rattle.packet_header.specs.declared.packet.MessageHeader.{MessageHeader}
 use Rattle.packet_header.specs.declared.packet.Packet.{Packet}
 use Rattle.packet_header.specs.declared.packet.Packet.TheVariants.{Message, Control}
 use Rattle.packet_header.proofs.Heads.{decoded-append, body_of-append}
+use Rattle.packet_header.proofs.Readings.{spells-decoded}
 use Rattle.rpc_base.proofs.TakingLemmas.{find-passes}
 use Rattle.rpc_base.specs.declared.owner.Owner.{Owner}
 use Rattle.rpc_base.specs.declared.owner.Owner.TheVariants.{Ask, Reply, Control as OfControl}
+use Rattle.rpc_base.specs.declared.state.SessionState.{SessionState}
+use Rattle.rpc_base.specs.declared.state.SessionState.TheVariants.{Connecting, Closing}
 use Rattle.rpc_laws.specs.declared.tables.Asking.{Asking}
 use Rattle.rpc_laws.specs.declared.tables.Call.{Call}
 use Rattle.rpc_laws.specs.declared.tables.Client.{Client}
@@ -28,17 +37,21 @@ use Rattle.rpc_laws.specs.Calls.{is_active, has_request, asked_packets}
 use Rattle.rpc_laws.specs.Packets.{client_packet, call_packet, ask_packet, request_packet, reply_packet, owner_packet}
 use Rattle.rpc_laws.specs.Requests.{is_server, is_request}
 use Rattle.rpc_laws.specs.Sessions.{is_client}
-use Rattle.end_laws.proofs.Allowed.{MaySend}
-use Rattle.end_laws.proofs.ClientLemmas.{client-at}
+use Rattle.rpc_laws.specs.BufferSafety.{OwnControl}
+use Rattle.rpc_laws.specs.ControlSteps.{request_by}
+use Rattle.rpc_laws.specs.ControlTable.{is_end_of}
+use Rattle.rpc_laws.specs.Front.{control_in, control_of}
+use Rattle.end_laws.proofs.Allowed.{AsksAt, MaySay, MaySend}
+use Rattle.end_laws.proofs.ClientLemmas.{client-at, has-joined, is-joined}
 use Rattle.end_laws.proofs.Known.{Known, HasRun, SaysResponse, Says, Speaks, GoodProgress, GoodCall}
-use Rattle.end_laws.proofs.Known.{GoodClient, GoodServed, GoodNode}
+use Rattle.end_laws.proofs.Known.{IsJoined, IsSession, Tells, GoodClient, GoodServed, GoodNode}
 use Rattle.end_laws.proofs.ListLemmas.{all-found}
 use Rattle.end_laws.proofs.ServerLemmas.{server-at}
 
 -- what a packet says
 abbrev pub PacketSays : Known → (from to : ℕ) → Packet → List ℕ → Type 0
 PacketSays k from to (Message m) body = Says m.kind k from to m body
-PacketSays k from to (Control c) body = Unit {0}
+PacketSays k from to (Control c) body = Tells c.kind k from to c
 
 module _ (k : Known) (n : ℕ) where
   abbrev OutSays : Outgoing → Type 0
@@ -48,7 +61,7 @@ module _ (k : Known) (n : ℕ) where
   some-says a b e h = let same : a ≡ b = cc in subst OutSays same h
 
   client-says : (b : Bool) (i : ℕ) (x : Client) (c : Call) (r j : ℕ) → GoodClient k n i x
-      → k.starts n x.way.number r ≡ Some (record { way = x.way; what = c.what })
+      → IsJoined k n i x → k.starts n x.way.number r ≡ Some (record { way = x.way; what = c.what })
       → OutSays (cond b (record {
         peer = x.way.peer;
         packet = Message (record {
@@ -74,17 +87,19 @@ module _ (k : Known) (n : ℕ) where
             });
         body = [];
       }))
-  client-says true i x c r j g begun = record {
+  client-says true i x c r j g joined begun = record {
     session = x.way.number;
     start = record { way = x.way; what = c.what };
     begun = begun;
     way = refl;
-    end = g.end ∙ ap (λ (s : ℕ). Some (record { home = n; client = s })) (sym g.number);
+    credits = x.limit;
+    end = joined.end ∙ ap (λ (s : ℕ). Some (record { home = n; client = s; credits = x.limit }))
+        (sym g.number);
     req_type = refl;
     size = refl;
     piece = refl;
   }
-  client-says false i x c r j g begun = tt
+  client-says false i x c r j g joined begun = tt
 
   call-begun : (way : Way) (a : Asking) (p : Option Progress) (r : ℕ) → has_request r p ≡ true
       → IfSome p (GoodProgress k n way a)
@@ -101,6 +116,7 @@ module _ (k : Known) (n : ℕ) where
       let call = all-found (GoodCall k n x.way) (is_active r) x.calls c g.calls is in
       some-says (client_packet x.way c.what r j) out h
       (client-says (nat_lt j (asked_packets c.what)) i x c r j g
+      (is-joined k n i x (has-joined k n i x (is_active r) c g is) g)
       (call-begun x.way c.what c.progress r (find-passes (is_active r) x.calls c is)
       call.progress))
 
@@ -185,7 +201,7 @@ module _ (k : Known) (n : ℕ) where
       → find (is_server t) l.servers ≡ v → reply_packet r j v ≡ Some out → OutSays out
   reply-says l t r j None out g is h = cc
   reply-says l t r j (Some v) out g is h =
-      let server = g.servers t v ((server-at k n l.servers t v g.servers is).0) in
+      let server = (server-at k n l.servers t v g.servers is).0 in
       request-says v.way v.slots r j _ out server.slots refl h
 
   owner-says : (l : Lists) (o : Owner) (j : ℕ) (out : Outgoing) → GoodNode k n l
@@ -193,6 +209,15 @@ module _ (k : Known) (n : ℕ) where
   owner-says l (Ask s r) j out g h = ask-says l s r j _ out g refl h
   owner-says l (Reply t r) j out g h = reply-says l t r j _ out g refl h
   owner-says l OfControl j out g h = cc
+
+  control-speaks : (c : ControlHeader) (to : ℕ) (bytes : List ℕ) → decoded bytes ≡ Ok (Control c)
+      → Tells c.kind k n to c → Speaks k n to bytes
+  control-speaks c to bytes e s = (
+    subst (λ (o : Option MessageHeader). IfSome o
+        (λ h. Says h.kind k n to h (body_of bytes))) (sym (ap message_in e)) tt,
+    subst (λ (o : Option ControlHeader). IfSome o (λ h. Tells h.kind k n to h))
+        (sym (ap control_in e)) s,
+  )
 
   -- read back
   packet-speaks : (p : Packet) (to : ℕ) (head body : List ℕ) → InRange p → HasHead p head
@@ -204,13 +229,14 @@ module _ (k : Known) (n : ℕ) where
       let now : Says m.kind k n to m (body_of (head ++ body)) =
       subst (λ (b : List ℕ). Says m.kind k n to m b)
       (sym (body_of-append head body long)) s in
-      subst (λ (o : Option MessageHeader). IfSome o
-      (λ h. Says h.kind k n to h (body_of (head ++ body)))) (sym reads) now
+      let none : control_of (head ++ body) ≡ None =
+      ap control_in (decoded-append (Message m) head body range has long len) in (
+        subst (λ (o : Option MessageHeader). IfSome o
+            (λ h. Says h.kind k n to h (body_of (head ++ body)))) (sym reads) now,
+        subst (λ (o : Option ControlHeader). IfSome o (λ h. Tells h.kind k n to h)) (sym none) tt,
+      )
   packet-speaks (Control c) to head body range has long len s =
-      let reads : message_of (head ++ body) ≡ None =
-      ap message_in (decoded-append (Control c) head body range has long len) in
-      subst (λ (o : Option MessageHeader). IfSome o
-      (λ h. Says h.kind k n to h (body_of (head ++ body)))) (sym reads) tt
+      control-speaks c to (head ++ body) (decoded-append (Control c) head body range has long len) s
 
   pub sent-speaks : (l : Lists) (peer : ℕ) (o : Owner) (j : ℕ) (head body : List ℕ) → GoodNode k n l
       → (m : MaySend l peer o j head body) → HasLength m.out.packet (16 + length m.out.body)
@@ -220,3 +246,63 @@ module _ (k : Known) (n : ℕ) where
       let now = packet-speaks m.out.packet m.out.peer head m.out.body m.in_range m.has_head m.long len says in
       subst (λ (p : ℕ). Speaks k n p (head ++ body)) (sym m.to_peer)
       (subst (λ (b : List ℕ). Speaks k n m.out.peer (head ++ b)) (sym m.whole) now)
+
+  -- a session's own request says nothing of a session
+  request-tells : (state : SessionState) (number other credits to : ℕ) (h : ControlHeader)
+      → request_by state number other credits ≡ Some h → Tells h.kind k n to h
+  request-tells Connecting number other credits to h e =
+      let same : record {
+        kind = ConnectRequest;
+        client = number;
+        server = None;
+        credits = credits;
+        status = 0;
+      }
+      ≡ h = cc in subst (λ (c : ControlHeader). Tells c.kind k n to c) same tt
+  request-tells Closing number other credits to h e =
+      let same : record {
+        kind = DisconnectRequest;
+        client = number;
+        server = Some other;
+        credits = 0;
+        status = 0;
+      }
+      ≡ h = cc in subst (λ (c : ControlHeader). Tells c.kind k n to c) same tt
+  request-tells _ number other credits to h e = cc
+
+  confirm-tells : (l : Lists) (peer t : ℕ) (h : ControlHeader) (v : Server) → GoodNode k n l
+      → find (is_server t) l.servers ≡ Some v → is_end_of peer h.client v ≡ true
+      → IsSession k n t peer h.client v.credits
+  confirm-tells l peer t h v g found ends =
+      let at = server-at k n l.servers t v g.servers found in
+      let parts = and_parts (v.way.peer == peer) (v.way.other == h.client) ends in
+      rw (← at.1, ← eqb-true v.way.peer peer parts.0, ← eqb-true v.way.other h.client parts.1)
+      at.0.session
+
+  own-tells : (l : Lists) (peer : ℕ) (h : ControlHeader) → GoodNode k n l → OwnControl l peer h
+      → Tells h.kind k n peer h
+  own-tells l peer h g (OwnControl.asks x opened own) =
+      request-tells x.state x.way.number x.way.other x.limit peer h own
+  own-tells l peer h g (OwnControl.confirms t v e found ends) =
+      subst (λ (c : ControlHeader). Tells c.kind k n peer c) (sym e)
+      (confirm-tells l peer t h v g found ends)
+  own-tells l peer h g (OwnControl.declines e) =
+      subst (λ (c : ControlHeader). Tells c.kind k n peer c) (sym e) (λ one. absurd (omega arith))
+  own-tells l peer h g (OwnControl.disowns x opened e row) =
+      subst (λ (c : ControlHeader). Tells c.kind k n peer c) (sym e) tt
+  own-tells l peer h g (OwnControl.over status e none) =
+      subst (λ (c : ControlHeader). Tells c.kind k n peer c) (sym e) tt
+
+  says-tells : (l : Lists) (peer : ℕ) (h : ControlHeader) → GoodNode k n l
+      → AsksAt l peer h ⊎ OwnControl l peer h → Tells h.kind k n peer h
+  says-tells l peer h g (inl a) =
+      let x = a.client in request-tells x.state x.way.number x.way.other x.limit peer h a.own
+  says-tells l peer h g (inr o) = own-tells l peer h g o
+
+  -- a control packet that is sent says what is so
+  pub said-speaks : (l : Lists) (peer j : ℕ) (head body : List ℕ) → GoodNode k n l
+      → MaySay l peer j head body → Speaks k n peer (head ++ body)
+  said-speaks l peer j head body g m =
+      let whole : head ++ body ≡ head = ap (λ (b : List ℕ). head ++ b) m.whole ∙ append-nil head in
+      rw whole (control-speaks m.header peer head (spells-decoded (Control m.header) head m.spells)
+      (says-tells l peer m.header g m.own))

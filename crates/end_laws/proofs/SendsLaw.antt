@@ -1,14 +1,16 @@
 -- What is sent spells the packet of its owner.
 use Rattle.std.proofs.Common.{◌≡◌, ◌<◌, ◌+◌, ◌-◌, ℕ, nat_lt, Bool, true, false, cond, List, [], ◌∷◌}
 use Rattle.std.proofs.Common.{◌++◌, length, Option, Some, None, slice_get, refl, sym, ap, ◌∙◌}
-use Rattle.std.proofs.Common.{subst, arith}
+use Rattle.std.proofs.Common.{subst, arith, ◌≤◌, ◌⊎◌, inl, inr, leb}
 use Rattle.std.specs.Prelude.{option_map}
 use Rattle.std.specs.List.{find, slice_set, AllByRecursion}
 use Rattle.std.proofs.lemmas.Bool.{eqb-true}
-use Rattle.std.proofs.lemmas.List.{length-append}
 use Rattle.packet_header.specs.Header.{HasLength, MessageLength}
 use Rattle.packet_header.specs.Parts.{packet_count, part}
 use Rattle.packet_header.specs.declared.packet.Kind.TheVariants.{Request, Rfr, Cr, Response}
+use Rattle.packet_header.specs.declared.packet.ControlHeader.{ControlHeader}
+use Rattle.packet_header.specs.declared.packet.ControlKind.TheVariants.{ConnectRequest}
+use Rattle.packet_header.specs.declared.packet.ControlKind.TheVariants.{DisconnectRequest}
 use Rattle.packet_header.specs.declared.packet.Packet.TheVariants.{Message}
 use Rattle.packet_header.proofs.Heads.{spells-append}
 use Rattle.packet_header.proofs.PartsLemmas.{length-part, packet_count_above, response_length}
@@ -20,6 +22,8 @@ use Rattle.rpc_base.specs.declared.fact.Who.{Who}
 use Rattle.rpc_base.specs.declared.fact.Who.TheVariants.{Node, Net}
 use Rattle.rpc_base.specs.declared.owner.Owner.{Owner}
 use Rattle.rpc_base.specs.declared.owner.Owner.TheVariants.{Ask, Reply, Control}
+use Rattle.rpc_base.specs.declared.state.SessionState.{SessionState}
+use Rattle.rpc_base.specs.declared.state.SessionState.TheVariants.{Connecting, Closing}
 use Rattle.rpc_laws.specs.declared.tables.Asking.{Asking}
 use Rattle.rpc_laws.specs.declared.tables.Call.{Call}
 use Rattle.rpc_laws.specs.declared.tables.Client.{Client}
@@ -29,25 +33,32 @@ use Rattle.rpc_laws.specs.declared.tables.Outgoing.{Outgoing}
 use Rattle.rpc_laws.specs.declared.tables.Served.{Served}
 use Rattle.rpc_laws.specs.declared.tables.Server.{Server}
 use Rattle.rpc_laws.specs.declared.tables.Way.{Way}
-use Rattle.rpc_laws.specs.BufferSafety.{EachFact, SpellsOwn, SentRight, RightAt, changed, nodes_at}
+use Rattle.rpc_laws.specs.ControlSteps.{request_by}
+use Rattle.rpc_laws.specs.BufferSafety.{OwnControl, EachFact, SpellsOwn, SentRight, RightAt}
+use Rattle.rpc_laws.specs.BufferSafety.{changed, nodes_at}
 use Rattle.rpc_laws.specs.Calls.{is_active, asked_packets}
+use Rattle.rpc_laws.specs.Front.{front_header, front_body}
 use Rattle.rpc_laws.specs.NodeLists.{after, new_lists}
 use Rattle.rpc_laws.specs.Pacing.{due_of}
 use Rattle.rpc_laws.specs.UsualLimits.{with_ring}
 use Rattle.rpc_laws.specs.Packets.{client_packet, call_packet, ask_packet, request_packet, reply_packet, owner_packet}
-use Rattle.rpc_laws.specs.Requests.{is_server, is_request, in_slot_of}
+use Rattle.rpc_laws.specs.Requests.{server_end, is_server, is_request, in_slot_of}
 use Rattle.rpc_laws.specs.Sessions.{is_client}
 use Rattle.end_laws.specs.Moments.{Moment, moved}
-use Rattle.end_laws.proofs.Allowed.{May, MaySend}
+use Rattle.node_laws.specs.Valid.{Valid, client_no}
+use Rattle.node_laws.proofs.NumberLemmas.{numbered-found}
+use Rattle.end_laws.proofs.Allowed.{AsksAt, May, MaySend}
 use Rattle.end_laws.proofs.Courses.{AtNode, Ends, Course, over, in_net, made, at_node, pairs}
 use Rattle.end_laws.proofs.Courses.{client_fact, server_fact, paired, noted_at, moved-node}
 use Rattle.end_laws.proofs.JobLemmas.{jobs-right, jobs-added}
 use Rattle.end_laws.proofs.ListLemmas.{Placed, all-found, all-map, all-at, all-add, set-other}
-use Rattle.end_laws.proofs.ListLemmas.{set-placed, add-placed, find-add}
+use Rattle.end_laws.proofs.ListLemmas.{set-placed, add-placed}
 use Rattle.end_laws.proofs.QueueLemmas.{Stood, QueueRight, RightNode, slots-right, queue-after}
-use Rattle.end_laws.proofs.QueueLemmas.{queued-right, numbers-right}
+use Rattle.end_laws.proofs.QueueLemmas.{queued-right, stood-added}
 use Rattle.end_laws.proofs.Rights.{TakenRight, SlotRight}
+use Rattle.end_laws.proofs.SessionLemmas.{Over, alone-after, made-alone, over-added}
 use Rattle.end_laws.proofs.SlotLemmas.{Apart, sound-stays, slot-of-request}
+use Rattle.end_laws.proofs.Valids.{AllValid, valid-net, valid-made, valid-node, valid-pair}
 use Rattle.end_laws.proofs.Walks.{Stays}
 
 abbrev pub HasBody : Outgoing → Type 0
@@ -154,13 +165,14 @@ request-length l t r k v (Some q) out i s is at h =
     reply-length v.way q k _ q.answer out refl refl lt (all-found SlotRight (is_request r) v.slots q slots at) h
 
 server-length : (l : Lists) (t r k : ℕ) (v : Option Server) (out : Outgoing) → RightNode l
-    → Stood l.servers t r k → find (is_server t) l.servers ≡ v → reply_packet r k v ≡ Some out
-    → HasBody out
+    → Over l.servers l.server_numbers t ⊎ Stood l.servers t r k
+    → find (is_server t) l.servers ≡ v → reply_packet r k v ≡ Some out → HasBody out
 server-length l t r k None out i s is h = cc
-server-length l t r k (Some v) out i s is h = request-length l t r k v _ out i s is refl h
+server-length l t r k (Some v) out i (inl o) is h = let gone = o.gone in cc
+server-length l t r k (Some v) out i (inr s) is h = request-length l t r k v _ out i s is refl h
 
 pub owner-length : (l : Lists) (o : Owner) (k : ℕ) (out : Outgoing) → RightNode l
-    → QueueRight l.servers o k → owner_packet l o k ≡ Some out → HasBody out
+    → QueueRight l.servers l.server_numbers o k → owner_packet l o k ≡ Some out → HasBody out
 owner-length l (Ask s r) k out i q h = ask-length r k (find (is_client s) l.clients) out h
 owner-length l (Reply t r) k out i q h = server-length l t r k _ out i q refl h
 owner-length l Control k out i q h = cc
@@ -169,7 +181,8 @@ spells-own : (nodes : List Lists) (n : ℕ) (l : Lists) (peer : ℕ) (o : Owner)
     (head body : List ℕ) → slice_get nodes n ≡ Some l → RightNode l → MaySend l peer o k head body
     → SpellsOwn nodes n peer o k head body
 spells-own nodes n l peer o k head body is i m =
-    let right = all-at (λ q. QueueRight l.servers q.owner q.number) l.queued 0 _ i.queue m.is_front in
+    let right = all-at (λ q. QueueRight l.servers l.server_numbers q.owner q.number)
+    l.queued 0 _ i.queue m.is_front in
     let long = owner-length l o k m.out i right m.own in
     record {
       lists = l;
@@ -183,18 +196,60 @@ spells-own nodes n l peer o k head body is i m =
       whole = m.whole;
     }
 
-none-owns : {A : Type 0} (l : Lists) (k : ℕ) (out : Outgoing) → owner_packet l Control k ≡ Some out → A
-none-owns l k out e = cc
+-- a session's own request names it
+own-names : (state : SessionState) (number other credits : ℕ) (h : ControlHeader)
+    → request_by state number other credits ≡ Some h → h.client ≡ number
+own-names Connecting number other credits h e =
+    let same : record {
+      kind = ConnectRequest;
+      client = number;
+      server = None;
+      credits = credits;
+      status = 0;
+    }
+    ≡ h = cc in ap (λ (c : ControlHeader). c.client) (sym same)
+own-names Closing number other credits h e =
+    let same : record {
+      kind = DisconnectRequest;
+      client = number;
+      server = Some other;
+      credits = 0;
+      status = 0;
+    }
+    ≡ h = cc in ap (λ (c : ControlHeader). c.client) (sym same)
+own-names _ number other credits h e = cc
+
+-- and its session is found by that number
+pub own-control : (l : Lists) (peer : ℕ) (h : ControlHeader) → Valid l
+    → AsksAt l peer h ⊎ OwnControl l peer h → OwnControl l peer h
+own-control l peer h v (inl a) =
+    let x = a.client in
+    let number = own-names x.state x.way.number x.way.other x.limit h a.own in
+    let found = numbered-found client_no 0 a.place l.clients x v.numbered a.is_there in
+    OwnControl.asks x (record {
+      found = ap (λ (n : ℕ). find (is_client n) l.clients) number ∙ found;
+      to_peer = a.to_peer;
+    }) a.own
+own-control l peer h v (inr o) = o
 
 pub sent-right : (nodes : List Lists) (n : ℕ) (hand : Option InFlight) (l : Lists) (e : Event)
-    (first second : List ℕ) → slice_get nodes n ≡ Some l → RightNode l → May hand l e first second
-    → SentRight nodes n e first second
-sent-right nodes n hand l (Sent peer (Ask s r) k) first second is i m =
+    (first second : List ℕ) → slice_get nodes n ≡ Some l → RightNode l → Valid l
+    → May hand l e first second → SentRight nodes n e first second
+sent-right nodes n hand l (Sent peer (Ask s r) k) first second is i v m =
     spells-own nodes n l peer (Ask s r) k first second is i m
-sent-right nodes n hand l (Sent peer (Reply t r) k) first second is i m =
+sent-right nodes n hand l (Sent peer (Reply t r) k) first second is i v m =
     spells-own nodes n l peer (Reply t r) k first second is i m
-sent-right nodes n hand l (Sent peer Control k) first second is i m = none-owns l k m.out m.own
-sent-right nodes n hand l _ first second is i m = tt
+sent-right nodes n hand l (Sent peer Control k) first second is i v m = record {
+  lists = l;
+  is_node = is;
+  header = m.header;
+  own = own-control l peer m.header v m.own;
+  no_number = m.no_number;
+  bytes = m.bytes;
+  spells = m.spells;
+  whole = m.whole;
+}
+sent-right nodes n hand l _ first second is i v m = tt
 
 -- a node stays right by its own facts
 pub right-stays : Stays RightNode
@@ -202,39 +257,41 @@ right-stays hand clock l f a i = record {
   sound = sound-stays clock l f i.sound;
   slots = slots-right hand l f.event f.first f.second i.jobs a.may i.slots;
   queue = all-map _ _ _ (λ q. queue-after hand l f.event f.first f.second q.owner q.number i.sound
-      a.may) (queued-right hand l f.event f.first f.second (due_of clock f.event l.paces) a.may
+      i.alone a.may) (queued-right hand l f.event f.first f.second
+      (due_of clock f.event l.paces) a.may
       i.queue);
   jobs = jobs-right hand l f.event f.first f.second i a.may;
-  numbers = numbers-right hand l f.event f.first f.second a.may i.numbers;
+  alone = λ t. alone-after t hand l f.event f.first f.second (front_header l.ring)
+      (front_body l.ring) a.may (i.alone t);
 }
 
-server-added : (xs : List Server) (y : Server) (o : Owner) (k : ℕ) → QueueRight xs o k → QueueRight (xs ++ y ∷ []) o k
-server-added xs y (Ask s r) k h = tt
-server-added xs y Control k h = tt
-server-added xs y (Reply t r) k h =
-    record {
-      server = h.server;
-      found = find-add (is_server t) xs y h.server h.found;
-      request = h.request;
-      in_slot = h.in_slot;
-      reached = h.reached;
-      was_taken = h.was_taken;
-    }
+server-added : (n peer c credits used : ℕ) (xs : List Server) (o : Owner) (k : ℕ) → n ≡ used
+    → QueueRight xs used o k
+    → QueueRight (xs ++ server_end n peer c credits ∷ []) (used + 1) o k
+server-added n peer c credits used xs (Ask s r) k e h = tt
+server-added n peer c credits used xs Control k e h = tt
+server-added n peer c credits used xs (Reply t r) k e (inl o) =
+    inl (over-added t n peer c credits used xs e o)
+server-added n peer c credits used xs (Reply t r) k e (inr h) =
+    inr (stood-added xs (server_end n peer c credits) t r k h)
 
 -- so it does by a pairing
 pub right-client : (clock n m credits : ℕ) (client server : Lists) → RightNode client
     → RightNode (after clock client (client_fact n m credits client server))
 right-client clock n m credits client server i =
-    record { sound = i.sound; slots = i.slots; queue = i.queue; jobs = i.jobs; numbers = i.numbers }
+    record { sound = i.sound; slots = i.slots; queue = i.queue; jobs = i.jobs; alone = i.alone }
 
 pub right-served : (clock m n credits : ℕ) (client server : Lists) → RightNode server
     → RightNode (after clock server (server_fact n m credits client server))
 right-served clock m n credits client server i = record {
   sound = sound-stays clock server (server_fact n m credits client server) i.sound;
   slots = all-add (λ v. AllByRecursion SlotRight v.slots) server.servers _ i.slots tt;
-  queue = all-map _ _ _ (λ q. server-added server.servers _ q.owner q.number) i.queue;
-  jobs = jobs-added server.servers _ server.jobs i.jobs;
-  numbers = ap (λ n. n + 1) i.numbers ∙ sym (length-append server.servers _);
+  queue = all-map _ _ _ (λ q. server-added server.server_numbers n (length client.clients) credits
+      server.server_numbers server.servers q.owner q.number refl) i.queue;
+  jobs = jobs-added server.server_numbers n (length client.clients) credits server.server_numbers
+      server.servers server.jobs refl i.jobs;
+  alone = λ t. made-alone t server.server_numbers n (length client.clients) credits
+      server.server_numbers server.servers refl (i.alone t);
 }
 
 abbrev pub AllRight : Moment → Type 0
@@ -250,13 +307,17 @@ right-noted w n l f a i =
 pub right-net : (w : Moment) (f : Fact) → f.who ≡ Net → AllRight w → AllRight (moved w f)
 right-net w f who i = subst (λ (p : Who). Placed (λ n l. RightNode l) (nodes_at w.clock p w.nodes f)) (sym who) i
 
+new-alone : (b : Bool) → 0 + cond b 1 0 ≤ 1
+new-alone true = omega arith
+new-alone false = omega arith
+
 pub right-new : (me ring : ℕ) → RightNode (new_lists me (with_ring ring))
 right-new me ring = record {
   sound = tt;
   slots = tt;
   queue = tt;
   jobs = record { out = tt; once = λ t r. omega arith };
-  numbers = refl;
+  alone = λ t. new-alone (leb 0 t);
 }
 
 pub right-made : (w : Moment) (ring : ℕ) → AllRight w
@@ -288,22 +349,33 @@ right-paired w n m credits client server e i =
     ∙ ap (λ (o : Option Lists). changed w.clock o m nodes1 other) at in
     subst (λ (ns : List Lists). Placed (λ n l. RightNode l) ns) (sym all) placed2
 
-right-at : (w : Moment) (n : ℕ) (l : Lists) (f : Fact) → AtNode w n l f → AllRight w
+right-at : (w : Moment) (n : ℕ) (l : Lists) (f : Fact) → AtNode w n l f → AllRight w → AllValid w
     → RightAt w.nodes f.who f.event f.first f.second
-right-at w n l f a i =
+right-at w n l f a i v =
     subst (λ (p : Who). RightAt w.nodes p f.event f.first f.second)
     (sym (a.allowed.who ∙ ap Node a.me)) (sent-right w.nodes n w.hand l f.event f.first f.second
-    a.is_node (i n l a.is_node) a.allowed.may)
+    a.is_node (i n l a.is_node) (v n l a.is_node) a.allowed.may)
 
 pub course-sends : (w : Moment) (h : List Fact) (u : Moment) → Course w h u → AllRight w
+    → AllValid w
     → EachFact (λ nodes f. RightAt nodes f.who f.event f.first f.second) w.clock w.nodes h
-course-sends _ _ _ (over w) i = tt
-course-sends _ _ _ (in_net w f h u who c) i = (
+course-sends _ _ _ (over w) i v = tt
+course-sends _ _ _ (in_net w f h u who c) i v = (
   subst (λ (p : Who). RightAt w.nodes p f.event f.first f.second) (sym who) tt,
-  course-sends (moved w f) h u c (right-net w f who i),
+  course-sends (moved w f) h u c (right-net w f who i) (valid-net w f who v),
 )
-course-sends _ _ _ (made w ring h u c) i = (tt, course-sends _ h u c (right-made w ring i))
-course-sends _ _ _ (at_node w n l f h u a c) i =
-    (right-at w n l f a i, course-sends (moved w f) h u c (right-noted w n l f a i))
-course-sends _ _ _ (pairs w n m credits client server h u e c) i =
-    (tt, (tt, course-sends (paired w n m credits client server) h u c (right-paired w n m credits client server e i)))
+course-sends _ _ _ (made w ring h u c) i v =
+    (tt, course-sends _ h u c (right-made w ring i) (valid-made w ring v))
+course-sends _ _ _ (at_node w n l f h u a c) i v = (
+  right-at w n l f a i v,
+  course-sends (moved w f) h u c (right-noted w n l f a i)
+      (valid-node w n l f a v),
+)
+course-sends _ _ _ (pairs w n m credits client server h u e c) i v = (
+  tt,
+  (
+    tt,
+    course-sends (paired w n m credits client server) h u c
+        (right-paired w n m credits client server e i) (valid-pair w n m credits client server e v),
+  ),
+)

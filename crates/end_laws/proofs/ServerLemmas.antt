@@ -1,6 +1,6 @@
 -- The requests of a node's server sessions stay those of calls that began, by each fact but a pairing.
 use Rattle.std.proofs.Common.{◌≡◌, ◌<◌, ◌≤◌, ◌+◌, ◌*◌, ◌||◌, ℕ, Bool, true, false, not, cond, List}
-use Rattle.std.proofs.Common.{[], ◌++◌, length, take, Option, Some, None, slice_get, refl, sym, ap}
+use Rattle.std.proofs.Common.{[], ◌++◌, length, take, Option, Some, None, refl, sym, ap}
 use Rattle.std.proofs.Common.{◌∙◌, subst, arith, append-nil}
 use Rattle.std.specs.Prelude.{is_none}
 use Rattle.std.specs.List.{find, list_any, AllByRecursion}
@@ -27,8 +27,8 @@ use Rattle.end_laws.specs.TwoEnds.{is_away}
 use Rattle.end_laws.proofs.Allowed.{GoesOn, TakesOf, May}
 use Rattle.end_laws.proofs.ClientLemmas.{is_quiet, front-says}
 use Rattle.end_laws.proofs.Known.{Known, Later, Begin, End, SaysRequest, Says, Speaks, GoodServed, GoodServer}
-use Rattle.end_laws.proofs.KnownLemmas.{served-later, server-later}
-use Rattle.end_laws.proofs.ListLemmas.{Placed, first-each, find-at, all-first, all-map, all-add}
+use Rattle.end_laws.proofs.KnownLemmas.{served-later, server-later, servers-later, session-later}
+use Rattle.end_laws.proofs.ListLemmas.{all-first, all-map, all-add}
 use Rattle.end_laws.proofs.ListLemmas.{all-without, all-found}
 use Rattle.end_laws.proofs.Rights.{TakenRight, SlotRight, SlotsRight, Readable, front-right}
 use Rattle.end_laws.proofs.SlotLemmas.{any-find}
@@ -37,26 +37,13 @@ end-same : (a b : End) → Some a ≡ Some b → a.client ≡ b.client
 end-same a b e = let same : a ≡ b = cc in ap (λ (x : End). x.client) same
 
 module _ (k : Known) (n : ℕ) where
-  -- the server session of a number is the one that is found
-  pub server-at : (xs : List Server) (t : ℕ) (v : Server) → Placed (GoodServer k n) xs
-      → find (is_server t) xs ≡ Some v → (slice_get xs t ≡ Some v) × (v.way.number ≡ t)
-  server-at xs t v g f =
-      let a = find-at (is_server t) xs v f in
-      let number = (g a.0 v a.1).number in
-      let found : v.way.number ≡ t = eqb-true v.way.number t a.2 in
-      let same : a.0 ≡ t = sym number ∙ found in
-      (ap (slice_get xs) (sym same) ∙ a.1, found)
-
-  found-same : (xs : List Server) (t : ℕ) (v : Server) → Placed (GoodServer k n) xs
-      → find (is_server t) xs ≡ Some v → (i : ℕ) (z : Server) → slice_get xs i ≡ Some z
-      → is_server t z ≡ true → z ≡ v
-  found-same xs t v g f i z is p =
-      let a = server-at xs t v g f in
-      let number = (g i z is).number in
-      let same : i ≡ t = sym number ∙ eqb-true z.way.number t p in
-      let here : slice_get xs t ≡ Some z = ap (slice_get xs) (sym same) ∙ is in
-      let there = a.0 in
-      cc
+  -- the server session that is found has the number
+  pub server-at : (xs : List Server) (t : ℕ) (v : Server) → AllByRecursion (GoodServer k n) xs
+      → find (is_server t) xs ≡ Some v → GoodServer k n v × (v.way.number ≡ t)
+  server-at xs t v g f = (
+    all-found (GoodServer k n) (is_server t) xs v g f,
+    eqb-true v.way.number t (find-passes (is_server t) xs v f),
+  )
 
   -- the call of a packet that is taken
   pub record OfCall (way : Way) (h : MessageHeader) (body : List ℕ) : Type 0 where
@@ -67,18 +54,24 @@ module _ (k : Known) (n : ℕ) where
     pub size : h.size ≡ length start.what.ask
     pub piece : body ≡ part start.what.ask h.number
 
-  of-call : (way : Way) (h : MessageHeader) (from : ℕ) (body : List ℕ) → from ≡ way.peer
+  of-call : (way : Way) (credits : ℕ) (h : MessageHeader) (from : ℕ) (body : List ℕ) → from
+      ≡ way.peer
       → way.number ≡ h.session
-      → k.ends n way.number 0 ≡ Some (record { home = way.peer; client = way.other })
+      → k.ends n way.number 0 ≡ Some (record {
+        home = way.peer;
+        client = way.other;
+        credits = credits;
+      })
       → SaysRequest k from n h body → OfCall way h body
-  of-call way h from body peer number end s =
-      let mine : k.ends n h.session 0 ≡ Some (record { home = way.peer; client = way.other }) =
+  of-call way credits h from body peer number end s =
+      let mine : k.ends n h.session 0 ≡ Some
+      (record { home = way.peer; client = way.other; credits = credits }) =
       subst (λ (t : ℕ). k.ends n t 0 ≡ Some
-      (record { home = way.peer; client = way.other })) number end in
+      (record { home = way.peer; client = way.other; credits = credits })) number end in
       let told = s.end in
       let same : s.session ≡ way.other =
-      end-same (record { home = from; client = s.session })
-      (record { home = way.peer; client = way.other }) (sym told ∙ mine) in
+      end-same (record { home = from; client = s.session; credits = s.credits })
+      (record { home = way.peer; client = way.other; credits = credits }) (sym told ∙ mine) in
       record {
         start = s.start;
         begun = subst (λ (m : ℕ). k.starts m way.other h.request ≡ Some s.start) peer
@@ -170,31 +163,42 @@ module _ (k : Known) (n : ℕ) where
       }
 
   -- what is known where a packet is taken
-  pub record Taken (way : Way) (h : MessageHeader) (from : ℕ) (body : List ℕ) : Type 0 where
+  pub record Taken (way : Way) (credits : ℕ) (h : MessageHeader) (from : ℕ)
+      (body : List ℕ) : Type 0 where
     pub peer : from ≡ way.peer
     pub number : way.number ≡ h.session
-    pub end : k.ends n way.number 0 ≡ Some (record { home = way.peer; client = way.other })
+    pub end : k.ends n way.number 0 ≡ Some
+        (record { home = way.peer; client = way.other; credits = credits })
     pub says : Says h.kind k from n h body
     pub reads : Readable h body
 
-  next-good : (kind : Kind) (way : Way) (h : MessageHeader) (from : ℕ) (body : List ℕ) (q : Served)
+  next-good : (kind : Kind) (way : Way) (credits : ℕ) (h : MessageHeader) (from : ℕ) (body : List ℕ)
+      (q : Served)
       → h.kind ≡ kind → from ≡ way.peer → way.number ≡ h.session
-      → k.ends n way.number 0 ≡ Some (record { home = way.peer; client = way.other })
+      → k.ends n way.number 0 ≡ Some (record {
+        home = way.peer;
+        client = way.other;
+        credits = credits;
+      })
       → Says kind k from n h body → (h.kind ≡ Rfr → body ≡ []) → q.number ≡ h.request
       → h.number ≡ q.taken → GoesOn kind q h → (kind ≡ Request → h.number < packet_count h.size)
       → SlotRight q → GoodServed k n way q → GoodServed k n way (next_packet body q)
-  next-good Request way h from body q is peer number end s none of_request taken goes low right g =
+  next-good Request way credits h from body q is peer number end s none of_request taken goes
+      low right g =
       let lt = low refl in
       let size : packet_count h.size ≡ packet_count q.size = ap packet_count goes.1 in
       let less : q.taken < packet_count q.size = omega arith in
       next-request way h body q of_request taken (here-by q _ refl right less)
-      (of-call way h from body peer number end s) g
-  next-good Rfr way h from body q is peer number end s none of_request taken goes low right g =
+      (of-call way credits h from body peer number end s) g
+  next-good Rfr way credits h from body q is peer number end s none of_request taken goes low
+      right g =
       let low = goes.0 in
       let past : packet_count q.size ≤ q.taken = omega arith in
       next-rfr way body q (none is) past g
-  next-good Cr way h from body q is peer number end s none of_request taken goes low right g = absurd goes
-  next-good Response way h from body q is peer number end s none of_request taken goes low right g = absurd goes
+  next-good Cr way credits h from body q is peer number end s none of_request taken goes low
+      right g = absurd goes
+  next-good Response way credits h from body q is peer number end s none of_request taken goes
+      low right g = absurd goes
 
   request-says : (kind : Kind) (from : ℕ) (h : MessageHeader) (body : List ℕ) → kind ≡ Request
       → Says kind k from n h body → SaysRequest k from n h body
@@ -203,18 +207,19 @@ module _ (k : Known) (n : ℕ) where
   request-says Cr from h body e s = cc
   request-says Response from h body e s = cc
 
-  took-good : (going : Option Served) (way : Way) (slots : List Served) (h : MessageHeader)
-      (from : ℕ) (body : List ℕ) → Taken way h from body → TakesOf going slots h
+  took-good : (going : Option Served) (way : Way) (credits : ℕ) (slots : List Served)
+      (h : MessageHeader)
+      (from : ℕ) (body : List ℕ) → Taken way credits h from body → TakesOf going slots h
       → AllByRecursion SlotRight slots → AllByRecursion (GoodServed k n way) slots
       → AllByRecursion (GoodServed k n way) (took_packet h.request (Some h) body slots)
-  took-good None way slots h from body t m right g =
+  took-good None way credits slots h from body t m right g =
       let none : list_any (is_request h.request) slots ≡ false = m.2 in
-      let first = first-good way h body m.1 (of-call way h from body t.peer t.number t.end
+      let first = first-good way h body m.1 (of-call way credits h from body t.peer t.number t.end
       (request-says h.kind from h body m.0 t.says)) in
       rw none (all-add (GoodServed k n way) (without_first (in_slot_of h.request) slots)
       (first_packet h.request h body) (all-without (GoodServed k n way)
       (in_slot_of h.request) slots g) first)
-  took-good (Some q) way slots h from body t m right g =
+  took-good (Some q) way credits slots h from body t m right g =
       let any : list_any (is_request h.request) slots ≡ true = any-find (is_request h.request) slots q m.0 in
       let number = eqb-true q.number h.request (find-passes (is_request h.request) slots q m.0) in
       rw any (all-first (GoodServed k n way) (GoodServed k n way) (is_request h.request)
@@ -222,7 +227,8 @@ module _ (k : Known) (n : ℕ) where
       (λ z is z_good. let found = m.0 in
       let same : q ≡ z = cc in
       subst (λ (y : Served). GoodServed k n way y → GoodServed k n way (next_packet body y)) same
-      (next-good h.kind way h from body q refl t.peer t.number t.end t.says t.reads.none number
+      (next-good h.kind way credits h from body q refl t.peer t.number t.end t.says
+      t.reads.none number
       m.1 m.2 t.reads.low (all-found SlotRight (is_request h.request) slots q right m.0))
       z_good) g)
 
@@ -244,50 +250,54 @@ module _ (j k : Known) (n : ℕ) (later : Later j k) where
   pub slots-first : (t : ℕ) (change : List Served → List Served) (xs : List Server) (v : Server)
       → find (is_server t) xs ≡ Some v
       → (AllByRecursion (GoodServed j n v.way) v.slots
-      → AllByRecursion (GoodServed k n v.way) (change v.slots)) → Placed (GoodServer j n) xs
-      → Placed (GoodServer k n) (at_first (is_server t)
+      → AllByRecursion (GoodServed k n v.way) (change v.slots)) → AllByRecursion (GoodServer j n) xs
+      → AllByRecursion (GoodServer k n) (at_first (is_server t)
       (λ v. record v { slots = change v.slots }) xs)
   slots-first t change xs v found f g =
-      first-each (is_server t) (λ v. record v { slots = change v.slots })
-      (λ i z. GoodServer j n i z × (slice_get xs i ≡ Some z)) (GoodServer k n) xs
-      (λ i z h p. let same = found-same j n xs t v g found i z h.1 p in
+      all-first (GoodServer j n) (GoodServer k n) (is_server t)
+      (λ v. record v { slots = change v.slots }) xs (server-later j k later n)
+      (λ z is h. let same : v ≡ z = cc in
       let slots : AllByRecursion (GoodServed k n z.way) (change z.slots) =
       subst (λ (y : Server). AllByRecursion (GoodServed j n y.way) y.slots
-      → AllByRecursion (GoodServed k n y.way) (change y.slots)) (sym same) f (h.0.slots) in
-      record { number = h.0.number; end = later.ends n i 0 _ h.0.end; slots = slots })
-      (λ i z h. server-later j k later n i z h.0) (λ i z is. (g i z is, is))
+      → AllByRecursion (GoodServed k n y.way) (change y.slots)) same f h.slots in
+      record {
+        session = session-later j k later n z.way.number z.way.peer z.way.other z.credits h.session;
+        slots = slots;
+      }) g
 
   pub servers-quiet : (hand : Option InFlight) (l : Lists) (e : Event) (first second : List ℕ)
       → is_quiet e ≡ true → May hand l e first second → SlotsRight l.servers
-      → AllByRecursion (λ a. Speaks j a.peer n a.bytes) l.ring → Placed (GoodServer j n) l.servers
-      → Placed (GoodServer k n) (servers_after e second (front_header l.ring)
+      → AllByRecursion (λ a. Speaks j a.peer n a.bytes) l.ring
+      → AllByRecursion (GoodServer j n) l.servers
+      → AllByRecursion (GoodServer k n) (servers_after e second (front_header l.ring)
       (front_body l.ring) l.servers)
-  servers-quiet hand l (PairedServer t peer s credits) first second quiet m right ring g = absurd m
-  servers-quiet hand l (Accepted t peer s credits) first second quiet m right ring g = absurd m
-  servers-quiet hand l (Ended t) first second quiet m right ring g = absurd m
+  servers-quiet hand l (PairedServer t peer s credits) first second quiet m right ring g =
+      absurd (cc)
+  servers-quiet hand l (Accepted t peer s credits) first second quiet m right ring g = absurd (cc)
+  servers-quiet hand l (Ended t) first second quiet m right ring g =
+      all-without (GoodServer k n) (is_server t) l.servers (servers-later j k later n l.servers g)
   servers-quiet hand l (Took (Ask s r) i) first second quiet m right ring g =
-      λ i z is. server-later j k later n i z (g i z is)
+      servers-later j k later n l.servers g
   servers-quiet hand l (Took Control i) first second quiet m right ring g =
-      λ i z is. server-later j k later n i z (g i z is)
+      servers-later j k later n l.servers g
   servers-quiet hand l (Took (Reply t r) i) first second quiet m right ring g =
       let v = m.server in
       let at = server-at j n l.servers t v g m.found in
-      let good = g t v at.0 in
+      let good = at.0 in
       let here : AllByRecursion SlotRight v.slots =
       all-found (λ v. AllByRecursion SlotRight v.slots)
       (is_server t) l.servers v right m.found in
-      let taken : Taken j n v.way m.header m.front.peer (front_body l.ring) = record {
+      let taken : Taken j n v.way v.credits m.header m.front.peer (front_body l.ring) = record {
         peer = m.of_peer;
         number = at.1 ∙ m.of_session;
-        end = subst (λ (i : ℕ). j.ends n i 0 ≡ Some
-            (record { home = v.way.peer; client = v.way.other })) (sym at.1) good.end;
+        end = good.session.end;
         says = front-says j n l m.front m.header m.is_front ring;
         reads = front-right l m.header m.is_front.reads;
       } in
       slots-first t (took_packet r (front_header l.ring) (front_body l.ring)) l.servers v m.found
       (λ slots. rw (m.is_front.reads, m.of_request)
       (all-map _ _ _ (served-later j k later n v.way)
-      (took-good j n m.going v.way v.slots m.header m.front.peer (front_body l.ring) taken
+      (took-good j n m.going v.way v.credits v.slots m.header m.front.peer (front_body l.ring) taken
       m.takes here slots))) g
   servers-quiet hand l (Given t r) first second quiet m right ring g =
       let w = m.has in
@@ -297,4 +307,4 @@ module _ (j k : Known) (n : ℕ) (later : Later j k) where
       (is_request r) given v.slots (served-later j k later n v.way)
       (λ z is z_good. served-later j k later n v.way (given z) (given-good v.way z z_good)) slots) g
   servers-quiet hand l (Ran t r y) first second quiet m right ring g = absurd (cc)
-  servers-quiet hand l _ first second quiet m right ring g = λ i z is. server-later j k later n i z (g i z is)
+  servers-quiet hand l _ first second quiet m right ring g = servers-later j k later n l.servers g

@@ -20,7 +20,7 @@ use Rattle.rpc_laws.specs.UsualLimits.{with_ring}
 use Rattle.rpc_laws.specs.Front.{is_message, is_control}
 use Rattle.rpc_laws.specs.Queues.{ring_after, inbox_after}
 use Rattle.end_laws.specs.Genuine.{Travels}
-use Rattle.end_laws.specs.Moments.{Moment, moved, hand_of, hand_after}
+use Rattle.end_laws.specs.Moments.{Moment, moved, front_of, hand_of, hand_noted, hand_after}
 use Rattle.end_laws.proofs.Allowed.{May}
 use Rattle.end_laws.proofs.Courses.{AtNode, Ends, client_fact, server_fact, paired, noted_at, moved-node}
 use Rattle.end_laws.proofs.ListLemmas.{Placed, all-append, all-map, all-at, all-add, set-other}
@@ -91,7 +91,8 @@ module _ (P : ℕ → ℕ → List ℕ → Type 0) where
     flight = subst (λ (p : Who). AllByRecursion OfCopy
         (flight_at p f.event f.first f.second w.flight)) (sym who)
         (flight-net f.event w.flight t.flight);
-    hand = subst (λ (p : Who). IfSome (hand_after p f.event w.flight w.hand) OfCopy) (sym who)
+    hand = subst (λ (p : Who). IfSome (hand_after p f.event w.nodes w.flight w.hand) OfCopy)
+        (sym who)
         (hand-net f.event w.flight w.hand t.flight t.hand);
     rings = subst (λ (p : Who). Placed (λ n l. AllByRecursion (λ a. P a.peer n a.bytes) l.ring)
         (nodes_at w.clock p w.nodes f)) (sym who) t.rings;
@@ -137,6 +138,17 @@ module _ (P : ℕ → ℕ → List ℕ → Type 0) where
   inbox-node hand l Heard first second k m h = all-drop (λ a. P a.peer l.me a.bytes) 1 l.inbox h
   inbox-node hand l _ first second k m h = h
 
+  front-all : (n : ℕ) (inbox : List Arrival) → AllByRecursion (λ a. P a.peer n a.bytes) inbox
+      → IfSome (front_of n inbox) OfCopy
+  front-all n [] h = tt
+  front-all n (a ∷ inbox) h = h.0
+
+  hand-node : (n : ℕ) (e : Event) (inbox : List Arrival) (hand : Option InFlight)
+      → IfSome hand OfCopy
+      → AllByRecursion (λ a. P a.peer n a.bytes) inbox → IfSome (hand_noted n e inbox hand) OfCopy
+  hand-node n Heard inbox hand k h = front-all n inbox h
+  hand-node n _ inbox hand k h = k
+
   abbrev InboxIs : ℕ → Lists → Type 0
   InboxIs n l = AllByRecursion (λ a. P a.peer n a.bytes) l.inbox
 
@@ -159,7 +171,7 @@ module _ (P : ℕ → ℕ → List ℕ → Type 0) where
         flight = subst (λ (p : Who). AllByRecursion OfCopy
             (flight_at p f.event f.first f.second w.flight)) (sym who)
             (flight-node n f.event f.first f.second w.flight g t.flight);
-        hand = t.hand;
+        hand = hand-node n f.event l.inbox w.hand t.hand (t.inboxes n l a.is_node);
         rings = set-placed RingIs w.nodes n l (after w.clock l f) a.is_node now (λ j z ne is. t.rings j z is);
         inboxes = set-placed InboxIs w.nodes n l (after w.clock l f) a.is_node now_in (λ j z ne is. t.inboxes j z is);
       } in

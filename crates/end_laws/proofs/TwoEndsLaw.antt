@@ -17,6 +17,7 @@ use Rattle.rpc_laws.specs.NodeLists.{after}
 use Rattle.rpc_laws.specs.OwnAnswer.{IsCallOf}
 use Rattle.end_laws.specs.Moments.{Moment, moved, Always}
 use Rattle.end_laws.specs.TwoEnds.{HoldsCall, IsOfCall, IsOfJob, IsOfRun, IsOfSession, TwoEnds}
+use Rattle.end_laws.proofs.Valids.{AllValid, valid-net, valid-made, valid-node, valid-pair}
 use Rattle.end_laws.proofs.Courses.{Ends, Course, over, in_net, made, at_node, pairs, client_fact, paired}
 use Rattle.end_laws.proofs.GoodSteps.{good-net, good-made, good-node}
 use Rattle.end_laws.proofs.Known.{Known, Begin, GoodAnswer, GoodProgress, GoodCall, GoodClient}
@@ -108,8 +109,8 @@ good-ends w i g =
     record {
       servers = λ m l is. subst (λ (past : List Fact). AllByRecursion
           (λ v. AllByRecursion (IsOfCall past m v.way) v.slots) l.servers) g.past
-          (placed-all (GoodServer k m) (λ v. AllByRecursion (IsOfCall k.past m v.way) v.slots)
-          l.servers (λ t v s. all-map (GoodServed k m v.way)
+          (all-map (GoodServer k m) (λ v. AllByRecursion (IsOfCall k.past m v.way) v.slots)
+          l.servers (λ v s. all-map (GoodServed k m v.way)
           (IsOfCall k.past m v.way) v.slots (served-of k g.is_true m v.way) s.slots)
           ((g.nodes m l is).servers));
       jobs = λ m l is. subst (λ (past : List Fact). AllByRecursion (IsOfJob past m) l.jobs.out) g.past
@@ -232,23 +233,30 @@ between-ends w n m credits client server e h =
           (λ i l ne is. more-clients one w.past i l (h.clients i l is)));
     }
 
-pub course-ends : (w : Moment) (h : List Fact) (u : Moment) → Course w h u → AllRight w → Good w → Always TwoEnds w h
-course-ends _ _ _ (over w) i g = good-ends w i g
-course-ends _ _ _ (in_net w f h u who c) i g =
-    (good-ends w i g, course-ends (moved w f) h u c (right-net w f who i) (good-net w f who g))
-course-ends _ _ _ (made w ring h u c) i g =
-    (good-ends w i g, course-ends _ h u c (right-made w ring i) (good-made w ring g))
-course-ends _ _ _ (at_node w n l f h u a c) i g = (
+pub course-ends : (w : Moment) (h : List Fact) (u : Moment) → Course w h u → AllRight w → AllValid w
+    → Good w → Always TwoEnds w h
+course-ends _ _ _ (over w) i v g = good-ends w i g
+course-ends _ _ _ (in_net w f h u who c) i v g = (
   good-ends w i g,
-  course-ends (moved w f) h u c (right-noted w n l f a i)
-      (good-node w n l f a i g),
+  course-ends (moved w f) h u c (right-net w f who i) (valid-net w f who v)
+      (good-net w f who g),
 )
-course-ends _ _ _ (pairs w n m credits client server h u e c) i g = (
+course-ends _ _ _ (made w ring h u c) i v g = (
+  good-ends w i g,
+  course-ends _ h u c (right-made w ring i) (valid-made w ring v)
+      (good-made w ring g),
+)
+course-ends _ _ _ (at_node w n l f h u a c) i v g = (
+  good-ends w i g,
+  course-ends (moved w f) h u c (right-noted w n l f a i) (valid-node w n l f a v)
+      (good-node w n l f a i v g),
+)
+course-ends _ _ _ (pairs w n m credits client server h u e c) i v g = (
   good-ends w i g,
   (
     between-ends w n m credits client server e (good-ends w i g),
     course-ends (paired w n m credits client server) h u c
-        (right-paired w n m credits client server e i)
-        (good-paired w n m credits client server e g),
+        (right-paired w n m credits client server e i) (valid-pair w n m credits client server e v)
+        (good-paired w n m credits client server e i v g),
   ),
 )

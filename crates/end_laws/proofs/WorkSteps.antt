@@ -1,4 +1,10 @@
 -- Working jobs and finishing them notes only what is allowed.
+use Rattle.std.proofs.Common.{option_and_then}
+use Rattle.rpc_laws.specs.declared.tables.Server.{Server}
+use Rattle.rpc_laws.specs.Groups.{disconnect_fact}
+use Rattle.rpc_base.specs.declared.event.Event.TheVariants.{Opened}
+use Rattle.end_laws.proofs.Allowed.{Walks}
+use Rattle.std.proofs.Common.{inl}
 use Rattle.std.proofs.Common.{◌≡◌, ◌==◌, not, sym, ◌-◌, inr, ℕ, Bool}
 use Rattle.std.proofs.Common.{true, false, cond, List, [], ◌∷◌, length, Option, Some, None}
 use Rattle.std.proofs.Common.{slice_get, refl, ap, ◌∙◌, subst, arith}
@@ -17,7 +23,6 @@ use Rattle.rpc_laws.specs.Groups.{Connects, Disconnects, SetsRate, state_of, pen
 use Rattle.rpc_laws.specs.Groups.{clients_spent, has_no_room, client_refusal, connect_by}
 use Rattle.rpc_laws.specs.Sessions.{is_client, is_connected, is_live}
 use Rattle.rpc_base.specs.declared.event.Event.{Event}
-use Rattle.end_laws.specs.OnlyPairs.{is_of_control, OnlyPairs}
 use Rattle.rpc_base.specs.declared.fact.Fact.{Fact}
 use Rattle.rpc_laws.specs.declared.tables.InFlight.{InFlight}
 use Rattle.rpc_laws.specs.declared.tables.Job.{Job}
@@ -37,11 +42,10 @@ use Rattle.end_laws.proofs.AskSteps.{slots-found, owed-self}
 use Rattle.end_laws.proofs.CallSteps.{IsFree, AllFree, free-walks}
 use Rattle.end_laws.proofs.ListLemmas.{all-map, all-found, find-first}
 use Rattle.end_laws.proofs.QueueLemmas.{RightNode}
-use Rattle.end_laws.proofs.Rights.{JobFits, stands-right, out-job, job-number}
+use Rattle.end_laws.proofs.Rights.{JobRight, stands-right, out-job, job-number}
 use Rattle.end_laws.proofs.SendsLaw.{right-stays}
 use Rattle.end_laws.proofs.SlotLemmas.{with_slots, Apart, slot-of-request, apart-answered}
 use Rattle.end_laws.proofs.Walks.{Walked, Fine, walked-goes, walked-none, fine-then}
-use Rattle.rpc_base.proofs.BasicLemmas.{false-true}
 
 -- the number of the reply is that of the last packet of the job's bytes
 pub number-is : (q : Served) (size k : ℕ) → q.working ≡ true → size ≡ q.size → awaited_of (Some q) ≡ Some k
@@ -52,12 +56,20 @@ number-is q size k working sized e =
     ap (λ (n : ℕ). packet_count n - 1) sized ∙ same
 
 -- the packet that answers the last one of the request is posted
+none-some : {A : Type 0} (k : ℕ) → awaited_of None ≡ Some k → A
+none-some k e = cc
+
 posts-walk : (o : Option ℕ) (hand : Option InFlight) (clock : ℕ) (l : Lists) (job : Job)
-    (answer : List ℕ) → awaited job l.servers ≡ o → RightNode l → JobFits l.servers job
+    (answer : List ℕ) → awaited job l.servers ≡ o → RightNode l
+    → JobRight l.servers l.server_numbers job
     → let f : Fact = with_two l.me (Ran job.session job.request job.req_type) job.ask answer in
     let u : Lists = after clock l f in WalksFrom hand (Some f) clock u (answer_posted l.me job o)
 posts-walk None hand clock l job answer e i h = tt
-posts-walk (Some k) hand clock l job answer e i h =
+posts-walk (Some k) hand clock l job answer e i (inl o) =
+    let gone = o.gone in
+    none-some k (ap (λ (v : Option Server). awaited_of
+    (option_and_then (λ v. find (is_request job.request) v.slots) v)) (sym gone) ∙ e)
+posts-walk (Some k) hand clock l job answer e i (inr h) =
     let t = job.session in
     let r = job.request in
     let v = h.stands.server in
@@ -90,39 +102,38 @@ posts-walk (Some k) hand clock l job answer e i h =
       tt,
     )
 
-module _ (hand : Option InFlight) where
-  pub finishes-fine : (session request : ℕ) → Fine RightNode hand (Finishes session request)
-  finishes-fine session request s x t o i h =
-      let l = s.lists in
-      let job = h.job in
-      let fits = out-job l session request job i.jobs h.is_out in
-      let of = job-number session request l.jobs.out job h.is_out in
-      let here : find (is_job job.session request) l.jobs.out ≡ Some job =
-      subst (λ (a : ℕ). find (is_job a request) l.jobs.out ≡ Some job)
-      (sym of.0) h.is_out in
-      let is_out : find (is_job job.session job.request) l.jobs.out ≡ Some job =
-      subst (λ (b : ℕ). find (is_job job.session b) l.jobs.out ≡ Some job)
-      (sym of.1) here in
-      let run : IsAllowed hand l (with_two l.me (Ran job.session job.request job.req_type) job.ask
-      h.answer) = record {
-        who = refl;
-        may = inr (record { job = job; is_out = is_out; of_type = refl; own = refl });
-      } in
-      walked-goes RightNode right-stays hand s x t i
-      (rw h.facts (
-        run,
-        inr (record { job = job; is_out = is_out; own = refl }),
-        posts-walk (awaited job l.servers) hand s.clock l job h.answer refl i fits,
-      )) h.goes
+pub finishes-fine : (session request : ℕ) → Fine RightNode (Finishes session request)
+finishes-fine session request hand s x t i h =
+    let l = s.lists in
+    let job = h.job in
+    let fits = out-job l session request job i.jobs h.is_out in
+    let of = job-number session request l.jobs.out job h.is_out in
+    let here : find (is_job job.session request) l.jobs.out ≡ Some job =
+    subst (λ (a : ℕ). find (is_job a request) l.jobs.out ≡ Some job)
+    (sym of.0) h.is_out in
+    let is_out : find (is_job job.session job.request) l.jobs.out ≡ Some job =
+    subst (λ (b : ℕ). find (is_job job.session b) l.jobs.out ≡ Some job)
+    (sym of.1) here in
+    let run : IsAllowed hand l (with_two l.me (Ran job.session job.request job.req_type) job.ask
+    h.answer) = record {
+      who = refl;
+      may = inr (record { job = job; is_out = is_out; of_type = refl; own = refl });
+    } in
+    walked-goes RightNode right-stays hand s x t i
+    (rw h.facts (
+      run,
+      inr (record { job = job; is_out = is_out; own = refl }),
+      posts-walk (awaited job l.servers) hand s.clock l job h.answer refl i fits,
+    )) h.goes
 
-  finishes-each : (worked : List WorkedJob) → Fine RightNode hand (FinishesEach worked)
-  finishes-each [] s x t o i h = walked-none RightNode hand s x t i h.0 h.1
-  finishes-each (w ∷ ws) s x t o i h =
-      fine-then RightNode hand (Finishes w.session w.request) (FinishesEach ws)
-      (finishes-fine w.session w.request) (finishes-each ws) s x t o i h
+finishes-each : (worked : List WorkedJob) → Fine RightNode (FinishesEach worked)
+finishes-each [] hand s x t i h = walked-none RightNode hand s x t i h.0 h.1
+finishes-each (w ∷ ws) hand s x t i h =
+    fine-then RightNode (Finishes w.session w.request) (FinishesEach ws)
+    (finishes-fine w.session w.request) (finishes-each ws) hand s x t i h
 
-  pub finishes-worked : (worked : List WorkedJob) → Fine RightNode hand (FinishesWorked worked)
-  finishes-worked worked s x t o i h = finishes-each h.done s x t o i h.finishes
+pub finishes-worked : (worked : List WorkedJob) → Fine RightNode (FinishesWorked worked)
+finishes-worked worked hand s x t i h = finishes-each h.done hand s x t i h.finishes
 
 -- a fact of work is allowed anywhere, and its lists don't read the clock
 pub record IsWork (me : ℕ) (f : Fact) : Type 0 where
@@ -213,48 +224,84 @@ refused-work false true me credits shares room e h =
     })
 refused-work false false me credits shares room e h = cc
 
-connect-work : (refusal : Option Event) (peer credits : ℕ) (l : Lists)
-    → client_refusal credits l ≡ refusal → OnlyPairs (connect_by refusal peer credits 0 l)
-    → AllWork l.me (connect_by refusal peer credits 0 l)
-connect-work None peer credits l is o = false-true (sym o.0)
-connect-work (Some e) peer credits l is o =
-    (refused-work (clients_spent l) (has_no_room credits l) l.me credits (shares l) l.room e is, tt)
+connect-walk : (refusal : Option Event) (hand : Option InFlight) (clock peer credits : ℕ)
+    (l : Lists) → client_refusal credits l ≡ refusal
+    → Walks hand clock l (connect_by refusal peer credits 0 l)
+connect-walk None hand clock peer credits l is =
+    (record { who = refl; may = (refl, refl, refl) }, tt, tt)
+connect-walk (Some e) hand clock peer credits l is =
+    let one = refused-work (clients_spent l) (has_no_room credits l) l.me credits
+    (shares l) l.room e is in
+    free-walks hand None clock l (plain l.me e ∷ []) (one.free, tt)
 
-pub connects-so : (hand : Option InFlight) (peer credits : ℕ) (s : Timed) (x : List Fact)
-    (t : Timed) → RightNode s.lists → OnlyPairs x → Connects peer credits 0 s x t
-    → WorksSo hand s x t
-connects-so hand peer credits s x t i o h =
-    work-goes hand s x t i (rw h.facts (connect-work (client_refusal credits s.lists) peer credits
-    s.lists refl (subst OnlyPairs h.facts o))) h.goes
+pub connects-fine : (peer credits : ℕ) → Fine RightNode (Connects peer credits 0)
+connects-fine peer credits hand s x t i h =
+    walked-goes RightNode right-stays hand s x t i (rw h.facts (connect-walk
+    (client_refusal credits s.lists) hand s.clock peer credits s.lists refl)) h.goes
+
+-- a step of one fact, which doesn't read the clock
+pub record OneFact (u : Timed) (x : List Fact) : Type 0 where
+  pub fact : Fact
+  pub is : x ≡ fact ∷ []
+  pub still : (c d : ℕ) → after c u.lists fact ≡ after d u.lists fact
+
+connect-one : (refusal : Option Event) (peer credits : ℕ) (u : Timed)
+    → client_refusal credits u.lists ≡ refusal
+    → OneFact u (connect_by refusal peer credits 0 u.lists)
+connect-one None peer credits u is =
+    record {
+      fact = plain u.lists.me (Opened (length u.lists.clients) peer credits);
+      is = refl;
+      still = λ c d. refl;
+    }
+connect-one (Some e) peer credits u is =
+    let l = u.lists in
+    let one = refused-work (clients_spent l) (has_no_room credits l) l.me credits
+    (shares l) l.room e is in
+    record { fact = plain l.me e; is = refl; still = λ c d. one.still c d l }
+
+pub connects-one : (peer credits : ℕ) (u : Timed) (x : List Fact) (v : Timed)
+    → Connects peer credits 0 u x v → OneFact u x
+connects-one peer credits u x v h =
+    rw h.facts (connect-one (client_refusal credits u.lists) peer credits u refl)
+
+disconnect-one : (a b : Bool) (session calls : ℕ) (state : SessionState) (u : Timed)
+    → OneFact u (plain u.lists.me (cond (not a) (NcloseState session state)
+    (cond (not b) (NcloseBusy session calls) (Closing session))) ∷ [])
+disconnect-one false b session calls state u =
+    record { fact = plain u.lists.me (NcloseState session state); is = refl; still = λ c d. refl }
+disconnect-one true false session calls state u =
+    record { fact = plain u.lists.me (NcloseBusy session calls); is = refl; still = λ c d. refl }
+disconnect-one true true session calls state u =
+    record { fact = plain u.lists.me (Closing session); is = refl; still = λ c d. refl }
+
+pub disconnects-one : (session : ℕ) (u : Timed) (x : List Fact) (v : Timed)
+    → Disconnects session u x v
+    → OneFact u x
+disconnects-one session u x v h =
+    let client = find (is_client session) u.lists.clients in
+    rw h.facts (disconnect-one (is_connected (state_of client)) (pending client == 0) session
+    (pending client) (state_of client) u)
 
 disconnect-work : (a b : Bool) (me session calls : ℕ) (state : SessionState)
-    → is_of_control (cond (not a) (NcloseState session state)
-    (cond (not b) (NcloseBusy session calls) (Closing session))) ≡ false
-    → IsWork me (plain me (cond (not a) (NcloseState session state)
+    → IsFree me (plain me (cond (not a) (NcloseState session state)
     (cond (not b) (NcloseBusy session calls) (Closing session))))
-disconnect-work false b me session calls state o =
-    record {
-      free = record { who = refl; may = λ hand l. tt; linked = λ latest l. tt };
-      still = λ c d l. refl;
-    }
-disconnect-work true false me session calls state o =
-    record {
-      free = record { who = refl; may = λ hand l. tt; linked = λ latest l. tt };
-      still = λ c d l. refl;
-    }
-disconnect-work true true me session calls state o = false-true (sym o)
+disconnect-work false b me session calls state =
+    record { who = refl; may = λ hand l. tt; linked = λ latest l. tt }
+disconnect-work true false me session calls state =
+    record { who = refl; may = λ hand l. tt; linked = λ latest l. tt }
+disconnect-work true true me session calls state =
+    record { who = refl; may = λ hand l. tt; linked = λ latest l. tt }
 
-pub disconnects-so : (hand : Option InFlight) (session : ℕ) (s : Timed) (x : List Fact) (t : Timed)
-    → RightNode s.lists → OnlyPairs x → Disconnects session s x t → WorksSo hand s x t
-disconnects-so hand session s x t i o h =
-    let only = subst OnlyPairs h.facts o in
+pub disconnects-fine : (session : ℕ) → Fine RightNode (Disconnects session)
+disconnects-fine session hand s x t i h =
     let client = find (is_client session) s.lists.clients in
-    work-goes hand s x t i (rw h.facts (
-      disconnect-work (is_connected (state_of client))
-          (pending client == 0) s.lists.me session (pending client) (state_of client) only.0,
+    walked-goes RightNode right-stays hand s x t i (rw h.facts (free-walks hand None s.clock s.lists
+    (disconnect_fact session s.lists ∷ []) (
+      disconnect-work (is_connected (state_of client)) (pending client == 0) s.lists.me session
+          (pending client) (state_of client),
       tt,
-    ))
-    h.goes
+    ))) h.goes
 
 rate-work : (b : Bool) (me session rate : ℕ) (state : SessionState)
     → IsWork me (plain me (cond b (Rated session rate) (Nrate session state)))

@@ -1,6 +1,6 @@
 pub mod Genuine
+pub mod Handshakes
 pub mod Kinds
 pub mod Moments
-pub mod OnlyPairs
 pub mod TwoEnds
 pub mod TwoNodes

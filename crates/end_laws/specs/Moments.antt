@@ -1,18 +1,20 @@
 -- What the facts of a history so far leave: the clock, the lists of all nodes, and the copies in
 -- flight.
-use Rattle.std.specs.Prelude.{ℕ, Option, None, List, [], ◌∷◌, slice_get}
+use Rattle.std.specs.Prelude.{ℕ, Option, Some, None, List, [], ◌∷◌, slice_get}
 use Rattle.rpc_base.specs.declared.event.Event.{Event}
-use Rattle.rpc_base.specs.declared.event.Event.TheVariants.{Carried}
+use Rattle.rpc_base.specs.declared.event.Event.TheVariants.{Carried, Heard}
 use Rattle.rpc_base.specs.declared.fact.Fact.{Fact}
 use Rattle.rpc_base.specs.declared.fact.Who.{Who}
 use Rattle.rpc_base.specs.declared.fact.Who.TheVariants.{Node, Net}
+use Rattle.rpc_laws.specs.declared.tables.Arrival.{Arrival}
 use Rattle.rpc_laws.specs.declared.tables.InFlight.{InFlight}
 use Rattle.rpc_laws.specs.declared.tables.Lists.{Lists}
 use Rattle.rpc_laws.specs.BufferSafety.{clock_after, nodes_after}
 use Rattle.rpc_laws.specs.InFlight.{flight_after}
 
--- the clock of the world, the lists of each node, the copies in flight, the copy that was taken out
--- of flight last to be delivered, and the facts so far, the newest first
+-- the clock of the world, the lists of each node, the copies in flight, the datagram that was taken
+-- last, out of flight to be delivered or out of an inbox to be handled, and the facts so far, the
+-- newest first
 pub record Moment : Type 0 where
   pub clock : ℕ
   pub nodes : List Lists
@@ -25,10 +27,23 @@ abbrev pub hand_of : Event → List InFlight → Option InFlight → Option InFl
 hand_of (Carried i) copies hand = slice_get copies i
 hand_of _ copies hand = hand
 
--- no fact of a node takes one
-abbrev pub hand_after : Who → Event → List InFlight → Option InFlight → Option InFlight
-hand_after (Node n) e copies hand = hand
-hand_after Net e copies hand = hand_of e copies hand
+-- the control packet at the front of a node's inbox
+abbrev pub front_of : ℕ → List Arrival → Option InFlight
+front_of n [] = None
+front_of n (a ∷ inbox) = Some (record { from = a.peer; to = n; bytes = a.bytes })
+
+abbrev pub inbox_of : Option Lists → List Arrival
+inbox_of None = []
+inbox_of (Some l) = l.inbox
+
+-- Heard takes that one, and no other fact of a node takes one
+abbrev pub hand_noted : ℕ → Event → List Arrival → Option InFlight → Option InFlight
+hand_noted n Heard inbox hand = front_of n inbox
+hand_noted n _ inbox hand = hand
+
+abbrev pub hand_after : Who → Event → List Lists → List InFlight → Option InFlight → Option InFlight
+hand_after (Node n) e nodes copies hand = hand_noted n e (inbox_of (slice_get nodes n)) hand
+hand_after Net e nodes copies hand = hand_of e copies hand
 
 -- the moment after one fact more
 abbrev pub moved : Moment → Fact → Moment
@@ -36,7 +51,7 @@ moved w f = record {
   clock = clock_after f.who f.event w.clock;
   nodes = nodes_after w.clock w.nodes f;
   flight = flight_after w.flight f;
-  hand = hand_after f.who f.event w.flight w.hand;
+  hand = hand_after f.who f.event w.nodes w.flight w.hand;
   past = f ∷ w.past;
 }
 

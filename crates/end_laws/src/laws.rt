@@ -1,10 +1,10 @@
 //! Laws of every history that follows a script, whatever the network loses, repeats and holds back,
-//! over any number of nodes and sessions. Each pairing of the script is of two nodes, as in every
-//! `Script`, and the history makes sessions by pairing alone: so does each one of a script without
-//! `connect` and `disconnect`.
+//! over any number of nodes and sessions, which are paired, or opened and accepted by control
+//! packets that are lost, repeated and held back as well. Each pairing of the script is of two
+//! nodes, as in every `Script`.
 ghost use Rattle.std.specs.Prelude.{List};
 ghost use Rattle.end_laws.specs.Genuine.{AllGenuine};
-ghost use Rattle.end_laws.specs.OnlyPairs.{OnlyPairs, PairsOnly};
+ghost use Rattle.end_laws.specs.Handshakes.{AllAgree};
 ghost use Rattle.end_laws.specs.TwoEnds.{AllTwoEnds};
 ghost use Rattle.end_laws.specs.TwoNodes.{PairsTwoNodes};
 ghost use Rattle.rpc_base.specs.declared.fact.Fact.{Fact};
@@ -16,15 +16,15 @@ ghost use Rattle.sim_script.specs.FollowsScript.{Follows};
 
 /// Each datagram that a history sends is a packet of its owner's own bytes, and goes to its peer.
 pub fn sends_its_own()
-    ensures { (script : List Line) (h : List Fact) → PairsTwoNodes script → OnlyPairs h
-        → Follows script h → SendsItsOwn h }
+    ensures { (script : List Line) (h : List Fact) → PairsTwoNodes script → Follows script h
+        → SendsItsOwn h }
 {}
 
 /// At every moment each datagram in flight, and each in a node's ring or inbox, was sent by its
 /// sender to that node, as the packet that its owner had then.
 pub fn all_genuine()
-    ensures { (script : List Line) (h : List Fact) → PairsTwoNodes script → OnlyPairs h
-        → Follows script h → AllGenuine h }
+    ensures { (script : List Line) (h : List Fact) → PairsTwoNodes script → Follows script h
+        → AllGenuine h }
 {}
 
 /// Each run of a handler is of a call that was asked and began before, on that call's own type and
@@ -32,8 +32,8 @@ pub fn all_genuine()
 /// ends well has the answer of a run of its own request, and one that ends for want of room has
 /// such an answer's size, which is above its room.
 pub fn answers_own()
-    ensures { (script : List Line) (h : List Fact) → PairsTwoNodes script → OnlyPairs h
-        → Follows script h → Own h }
+    ensures { (script : List Line) (h : List Fact) → PairsTwoNodes script → Follows script h
+        → Own h }
 {}
 
 /// At every moment the request in each slot of a server session is a call that the session's client
@@ -42,19 +42,20 @@ pub fn answers_own()
 /// is out is of such a call, and holds its whole bytes. What an active call has taken of an answer
 /// are the first parts of the answer of its own request's run.
 pub fn two_ends()
-    ensures { (script : List Line) (h : List Fact) → PairsTwoNodes script → OnlyPairs h
-        → Follows script h → AllTwoEnds h }
+    ensures { (script : List Line) (h : List Fact) → PairsTwoNodes script → Follows script h
+        → AllTwoEnds h }
+{}
+
+/// At every moment each connect reply with status 0 in flight, in hand or in an inbox names a
+/// server session that its sender made for just that client session, with the credits that it
+/// tells; and a client session for which its node sent a request to disconnect a server session is
+/// neither Connecting nor connected with that one.
+pub fn ends_agree()
+    ensures { (script : List Line) (h : List Fact) → PairsTwoNodes script → Follows script h
+        → AllAgree h }
 {}
 
 /// Each pairing of a `Script` is of two nodes, so these laws are of all its histories.
 pub fn scripts_pair_two_nodes()
     ensures { (script : List Line) → IsScript script → PairsTwoNodes script }
-{}
-
-/// A script that opens no session by `connect`, and ends none by `disconnect`, makes sessions by
-/// pairing alone: no session is connected or ended, and nothing of session control is sent or
-/// heard.
-pub fn scripts_only_pair()
-    ensures { (script : List Line) (h : List Fact) → PairsTwoNodes script → PairsOnly script
-        → Follows script h → OnlyPairs h }
 {}

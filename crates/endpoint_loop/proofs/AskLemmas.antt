@@ -182,7 +182,7 @@ module _ (me : ℕ) (limits : Limits) (tallies : Tallies) (paces : List Pace) (j
         settled = rw at.changed (all-set IsSettled s.clients i (asks what at.client)
             (settled-connected at.client (asks what at.client)
             (all-at IsSettled s.clients i at.client fits.settled at.place)
-            up refl refl)
+            up refl refl refl refl)
             (λ j x e other. all-at IsSettled s.clients j x fits.settled e));
         numbers = omega (
           arith,
@@ -199,8 +199,10 @@ module _ (me : ℕ) (limits : Limits) (tallies : Tallies) (paces : List Pace) (j
         credits = rw servers fits.credits;
         sendable = rw queued fits.sendable;
         replies = rw queued fits.replies;
+        most = fits.most;
         packets = size ∙ fits.packets;
         jobs = fits.jobs;
+        server_numbers = fits.server_numbers;
         buffers = places ∙ fits.buffers;
       }
 

@@ -334,17 +334,22 @@ module _ (me : ℕ) (limits : Limits) (tallies : Tallies) (paces : List Pace) (j
         fits.each,
       );
       settled = rw changed (all-set IsSettled s.clients i (broken_with x [])
-          (record {
-            paired = refl;
-            some = (all-at IsSettled s.clients i x fits.settled place).some;
+          (let was = all-at IsSettled s.clients i x fits.settled place in
+          record {
+            some = was.some;
+            most = was.most;
+            joined = λ has. cc;
+            few = was.few;
             none_left = λ _. refl;
           })
           (λ j z e other. all-at IsSettled s.clients j z fits.settled e));
       credits = rw servers fits.credits;
       sendable = rw queued fits.sendable;
       replies = rw queued fits.replies;
+      most = fits.most;
       packets = size ∙ fits.packets;
       jobs = fits.jobs;
+      server_numbers = fits.server_numbers;
       buffers = places ∙ fits.buffers;
     }
 

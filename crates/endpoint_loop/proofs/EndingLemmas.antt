@@ -343,8 +343,10 @@ module _ (me : ℕ) (limits : Limits) (tallies : Tallies) (paces : List Pace) (j
       credits = rw left (all-left (is_server v.way.number) HasCredit s.servers fits.credits);
       sendable = rw queued fits.sendable;
       replies = rw queued fits.replies;
+      most = fits.most;
       packets = size ∙ fits.packets;
       jobs = fits.jobs;
+      server_numbers = fits.server_numbers;
       buffers = places ∙ fits.buffers;
     }
 

@@ -417,8 +417,10 @@ module _ (me : ℕ) (limits : Limits) (tallies : Tallies) (paces : List Pace) (j
           credits = rw same-servers fits.credits;
           sendable = rw same-queue fits.sendable;
           replies = rw same-queue fits.replies;
+          most = fits.most;
           packets = size ∙ fits.packets;
           jobs = rw left fits.jobs;
+          server_numbers = fits.server_numbers;
           buffers = rw left (places ∙ fits.buffers);
         }
 
@@ -499,8 +501,10 @@ module _ (me : ℕ) (limits : Limits) (tallies : Tallies) (paces : List Pace) (j
                 (λ j x f other. all-at HasCredit s.servers j x fits.credits f));
             sendable = rw one-more (put-all entry IsSendable (refl, λ reply. refl) s.queued fits.sendable);
             replies = rw one-more (omega (arith, replies-more entry s.queued refl, room));
+            most = fits.most;
             packets = size ∙ fits.packets;
             jobs = rw left fits.jobs;
+            server_numbers = fits.server_numbers;
             buffers = rw left (places ∙ fits.buffers);
           }
             where

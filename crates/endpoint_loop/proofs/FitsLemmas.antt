@@ -26,7 +26,9 @@ use Rattle.node_laws.specs.QueuedPackets.{asks_in, is_ask}
 use Rattle.node_laws.proofs.KeptLemmas.{kept-total}
 use Rattle.node_laws.proofs.TotalLemmas.{table_free}
 use Rattle.session_store.proofs.ListLemmas.{sum-one}
-use Rattle.endpoint_loop.specs.Fits.{HasCredit, IsSendable, IsSettled, is_of_call, is_paired}
+use Rattle.rpc_base.specs.declared.limits.TheConstants.{MOST_RING}
+use Rattle.rpc_laws.specs.declared.tables.Timed.{Timed}
+use Rattle.endpoint_loop.specs.Fits.{Fits, HasCredit, IsSendable, IsSettled, has_server, is_of_call}
 
 -- what is queued are packets of calls and replies
 one-part : (o : Owner) → is_of_call o ≡ true → cond {A = ℕ} (is_ask o) 1 0 + cond (is_reply o) 1 0 ≡ 1
@@ -60,6 +62,13 @@ has-room s size i kept ready few long = cases (slice_get s.clients i) refl
         let one = sum-one table_free s.clients i x e in
         let free = free-of x connected in
         omega (arith, two-parts s.queued ready, total, one, free, few, long)
+
+-- so no more packets are queued than twice the longest ring
+pub few-queued : (s : Timed) (size places : ℕ) → Fits s size places
+    → length s.lists.queued ≤ 2 * MOST_RING
+few-queued s size places fits =
+    let total = kept-total s.lists fits.kept in
+    omega (arith, two-parts s.lists.queued fits.sendable, total, fits.replies, fits.most)
 
 -- and among those that are paced
 pub has-paced-room : (s : Lists) (size i : ℕ) → Kept s → AllByRecursion IsSendable s.queued
@@ -109,7 +118,7 @@ all-servers : (vs : List Server) → AllByRecursion HasCredit vs
     → length vs ≤ sum_by (λ v. v.credits) vs
 all-servers [] all = omega arith
 all-servers (v ∷ vs) all =
-    omega (arith, all.0, sum_by-cons (λ (w : Server). w.credits) v vs, all-servers vs all.1)
+    omega (arith, all.0.0, sum_by-cons (λ (w : Server). w.credits) v vs, all-servers vs all.1)
 
 -- the pool has a place for each buffer that the sessions may have
 pub has-places : (s : Lists) (places : ℕ) → Kept s → AllByRecursion IsSettled s.clients
@@ -126,14 +135,18 @@ has-places s places kept settled credits jobs long =
       long,
     )
 
--- a connected session that keeps its state and its limit stays so
+-- a connected session that keeps its state, its limit, its ends and what it sent stays so
 pub settled-connected : (x y : Client) → IsSettled x → is_connected x.state ≡ true
-    → y.state ≡ x.state → y.limit ≡ x.limit → IsSettled y
-settled-connected x y settled connected state limit =
+    → y.state ≡ x.state → y.limit ≡ x.limit → y.way.other ≡ x.way.other → y.sends ≡ x.sends
+    → IsSettled y
+settled-connected x y settled connected state limit other sends =
     let up : is_connected y.state ≡ true = ap is_connected state ∙ connected in
     record {
-      paired = ap is_paired state ∙ settled.paired;
       some = omega (arith, limit, settled.some);
+      most = omega (arith, limit, settled.most);
+      joined = λ has. (let low = settled.joined (ap has_server (sym state) ∙ has) in
+          omega (arith, other, low));
+      few = omega (arith, sends, settled.few);
       none_left = λ other. let clash : true ≡ false = sym up ∙ other in cc;
     }
 

@@ -232,8 +232,10 @@ module _ (me : ℕ) (limits : Limits) (tallies : Tallies) (paces : List Pace) (j
       credits = rw servers fits.credits;
       sendable = rw taken.left (all-left (is_queued owner q.number) IsSendable s.queued fits.sendable);
       replies = omega (arith, few-left, fits.replies);
+      most = fits.most;
       packets = size ∙ fits.packets;
       jobs = fits.jobs;
+      server_numbers = fits.server_numbers;
       buffers = places ∙ fits.buffers;
     }
 

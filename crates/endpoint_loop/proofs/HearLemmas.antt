@@ -317,8 +317,9 @@ module _ (me : ℕ) (limits : Limits) (tallies : Tallies) (paces : List Pace) (j
             → x ≡ replies_facts old d.peer h (body_of d.bytes)
             → seen q t ≡ record { lists = after_all clock old x; clock = clock }
             → CallsAscend p.later → p.later.state ≡ p.client.state
-            → p.later.limit ≡ p.client.limit → Fits (seen q t) t.size t.places
-        fits-taken x r p takes-row is goes up state limit =
+            → p.later.limit ≡ p.client.limit → p.later.way.other ≡ p.client.way.other
+            → p.later.sends ≡ p.client.sends → Fits (seen q t) t.size t.places
+        fits-taken x r p takes-row is goes up state limit other sends =
             let connected = took-connected s.queued p.client d.peer h (length (body_of d.bytes))
             (p.row s.queued refl ∙ takes-row) in
             record {
@@ -340,13 +341,16 @@ module _ (me : ℕ) (limits : Limits) (tallies : Tallies) (paces : List Pace) (j
               );
               settled = rw p.changed (all-set IsSettled s.clients i p.later
                   (settled-connected p.client p.later
-                  (all-at IsSettled s.clients i p.client fits.settled p.at) connected state limit)
+                  (all-at IsSettled s.clients i p.client fits.settled p.at) connected state limit
+                  other sends)
                   (λ j y e other. all-at IsSettled s.clients j y fits.settled e));
               credits = rw servers fits.credits;
               sendable = rw queued fits.sendable;
               replies = rw (queued, same-size) fits.replies;
+              most = rw same-size fits.most;
               packets = rw same-size (size ∙ fits.packets);
               jobs = fits.jobs;
+              server_numbers = fits.server_numbers;
               buffers = rw same-size (places ∙ fits.buffers);
             }
 
@@ -379,6 +383,8 @@ module _ (me : ℕ) (limits : Limits) (tallies : Tallies) (paces : List Pace) (j
               (subst CallsAscend later-took (ascends-T TookReply p))
               (ap (λ (z : Client). z.state) (sym later-took))
               (ap (λ (z : Client). z.limit) (sym later-took))
+              (ap (λ (z : Client). z.way.other) (sym later-took))
+              (ap (λ (z : Client). z.sends) (sym later-took))
 
           pub node-took : {R : Type 0} (facts : R → Option (List Fact)) (whole : R → Bool)
               (before now : R) (a b k : ℕ) → a ≡ h.session → b ≡ h.request → k ≡ h.number
@@ -465,6 +471,8 @@ module _ (me : ℕ) (limits : Limits) (tallies : Tallies) (paces : List Pace) (j
               (ascends-without (is_call o.call) (T (Ended o) p).calls (ascends-T (Ended o) p)))
               (ap (λ (z : Client). z.state) (sym later-ended))
               (ap (λ (z : Client). z.limit) (sym later-ended))
+              (ap (λ (z : Client). z.way.other) (sym later-ended))
+              (ap (λ (z : Client). z.sends) (sym later-ended))
 
           pub node-ended : {R : Type 0} (facts : R → Option (List Fact)) (whole : R → Bool)
               (before between now : R) (a b k : ℕ) (event : Event) (bytes : List ℕ) → a ≡ h.session

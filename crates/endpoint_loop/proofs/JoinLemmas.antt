@@ -1,5 +1,6 @@
 -- A client session is connected, fails or is closed, from the store to what the node notes.
-use Rattle.std.proofs.Common.{◌≡◌, ℕ, ◌+◌, Bool, true, false, Option, Some, List, [], ◌∷◌, length}
+use Rattle.std.proofs.Common.{◌≡◌, ℕ, ◌+◌, ◌<◌, Bool, Option, Some, List, [], ◌∷◌}
+use Rattle.std.proofs.Common.{length}
 use Rattle.std.proofs.Common.{refl, sym, ap, subst, ◌∙◌, arith}
 use Rattle.std.specs.Prelude.{IfSome, slice_get, slice_set}
 use Rattle.std.specs.List.{find}
@@ -9,6 +10,7 @@ use Rattle.rpc_base.specs.declared.event.Event.TheVariants.{ClosedHeard, FailedN
 use Rattle.rpc_base.specs.declared.event.Event.TheVariants.{Connected as IsConnected}
 use Rattle.rpc_base.specs.declared.fact.Fact.{Fact}
 use Rattle.rpc_base.specs.declared.limits.Limits.{Limits}
+use Rattle.rpc_base.specs.declared.limits.TheConstants.{SESSION_NUMBERS}
 use Rattle.rpc_base.specs.declared.state.SessionState.{SessionState}
 use Rattle.rpc_base.specs.declared.state.SessionState.TheVariants.{Closed, Closing, Connecting}
 use Rattle.rpc_base.specs.declared.state.SessionState.TheVariants.{Failed}
@@ -29,7 +31,7 @@ use Rattle.session_store.specs.Changes.{ChangesAt, IsInState}
 use Rattle.session_store.specs.Ends.{Ascends}
 use Rattle.session_store.specs.Sides.{Shown}
 use Rattle.session_store.proofs.ListLemmas.{all-at, all-set}
-use Rattle.endpoint_loop.specs.Fits.{CallsAscend, Fits, IsSettled, is_paired}
+use Rattle.endpoint_loop.specs.Fits.{CallsAscend, Fits, IsSettled}
 use Rattle.endpoint_loop.specs.Noting.{Makes}
 use Rattle.endpoint_loop.specs.Seen.{Tallies, asking_jobs, seen_node}
 use Rattle.endpoint_loop.proofs.AskLemmas.{client-by}
@@ -37,34 +39,35 @@ use Rattle.endpoint_loop.proofs.PostLemmas.{first-at}
 
 module _ (me : ℕ) (limits : Limits) (tallies : Tallies) (paces : List Pace) (jobs : Jobs)
     (clock : ℕ) (rx : Ring DatagramValue) (s t : Shown) where
-  abbrev seen : Shown → Timed
+  abbrev pub seen : Shown → Timed
   seen u = seen_node me limits tallies paces jobs clock rx u
 
   -- with other jobs
-  abbrev seen_with : Jobs → Shown → Timed
+  abbrev pub seen_with : Jobs → Shown → Timed
   seen_with js u = seen_node me limits tallies paces js clock rx u
 
   module _ (fits : Fits (seen s) s.size s.places) (i : ℕ) (f : Client → Client)
       (at : ChangesAt i f s.clients t.clients) (servers : t.servers ≡ s.servers)
       (queued : t.queued ≡ s.queued) where
-    changed : t.clients ≡ at_first (is_client i) f s.clients
+    pub changed : t.clients ≡ at_first (is_client i) f s.clients
     changed =
         let same : 0 + i ≡ i = omega arith in
         at.changed ∙ sym (subst (λ k. at_first (is_client k) f s.clients
         ≡ slice_set s.clients i (f at.client)) same
         (first-at f 0 i s.clients at.client fits.kept.valid.numbered at.place))
 
-    its : find (is_client i) s.clients ≡ Some at.client
+    pub its : find (is_client i) s.clients ≡ Some at.client
     its = sym (client-by s.clients i i fits.kept.valid.numbered refl) ∙ at.place
 
-    settled : IsSettled at.client
+    pub settled : IsSettled at.client
     settled = all-at IsSettled s.clients i at.client fits.settled at.place
 
-    in-state : (state : SessionState) → IsInState state (slice_get s.clients i)
+    pub in-state : (state : SessionState) → IsInState state (slice_get s.clients i)
         → at.client.state ≡ state
     in-state state h = subst (λ o. IfSome o (λ (x : Client). x.state ≡ state)) at.place h
 
-    fits-client : (fact : Fact) → seen t ≡ record { lists = after clock (seen s).lists fact; clock = clock }
+    pub fits-client : (fact : Fact)
+        → seen t ≡ record { lists = after clock (seen s).lists fact; clock = clock }
         → Allowed (seen s).lists fact.event → (f at.client).calls ≡ at.client.calls
         → IsSettled (f at.client) → t.size ≡ s.size → t.places ≡ s.places
         → Fits (seen t) t.size t.places
@@ -92,8 +95,10 @@ module _ (me : ℕ) (limits : Limits) (tallies : Tallies) (paces : List Pace) (j
       credits = rw servers fits.credits;
       sendable = rw queued fits.sendable;
       replies = rw queued fits.replies;
+      most = fits.most;
       packets = size ∙ fits.packets;
       jobs = fits.jobs;
+      server_numbers = fits.server_numbers;
       buffers = places ∙ fits.buffers;
     }
 
@@ -111,9 +116,9 @@ module _ (me : ℕ) (limits : Limits) (tallies : Tallies) (paces : List Pace) (j
       goes-connected js =
           rw (changed fits i (connects n) at servers queued, servers, queued) refl
 
-      pub fits-connected : t.size ≡ s.size → t.places ≡ s.places
+      pub fits-connected : n < SESSION_NUMBERS → t.size ≡ s.size → t.places ≡ s.places
           → Fits (seen t) t.size t.places
-      fits-connected size places =
+      fits-connected below size places =
           fits-client fits i (connects n) at servers queued (plain me (IsConnected i n))
           (goes-connected jobs)
           (record {
@@ -121,9 +126,12 @@ module _ (me : ℕ) (limits : Limits) (tallies : Tallies) (paces : List Pace) (j
             found = its fits i (connects n) at servers queued;
             stands = in-state fits i (connects n) at servers queued Connecting connecting;
           }) refl
-          (record {
-            paired = refl;
-            some = (settled fits i (connects n) at servers queued).some;
+          (let old = settled fits i (connects n) at servers queued in
+          record {
+            some = old.some;
+            most = old.most;
+            joined = λ has. below;
+            few = omega arith;
             none_left = λ other. cc;
           }) size places
 
@@ -164,8 +172,10 @@ module _ (me : ℕ) (limits : Limits) (tallies : Tallies) (paces : List Pace) (j
             stands = was-connecting;
           }) refl
           (record {
-            paired = let clash : false ≡ true = ap is_paired (sym was-connecting) ∙ old.paired in cc;
             some = old.some;
+            most = old.most;
+            joined = λ has. cc;
+            few = omega arith;
             none_left = λ other. old.none_left (ap is_connected was-connecting);
           }) size places
 
@@ -206,8 +216,10 @@ module _ (me : ℕ) (limits : Limits) (tallies : Tallies) (paces : List Pace) (j
             stands = was-closing;
           }) refl
           (record {
-            paired = let clash : false ≡ true = ap is_paired (sym was-closing) ∙ old.paired in cc;
             some = old.some;
+            most = old.most;
+            joined = λ has. cc;
+            few = omega arith;
             none_left = λ other. old.none_left (ap is_connected was-closing);
           }) size places
 

@@ -37,7 +37,7 @@ use Rattle.endpoint_loop.proofs.ControlLemmas.{controls-by}
 use Rattle.endpoint_loop.proofs.ReadingLemmas.{there, told-credits}
 
 -- the state that is told of a session
-told-connecting : (state : SessionState) (asked : ℕ) → told_state state asked ≡ Connecting
+pub told-connecting : (state : SessionState) (asked : ℕ) → told_state state asked ≡ Connecting
     → state ≡ Connecting
 told-connecting Connected asked e = by (ltb asked MOST_CALLS) e
   where
@@ -52,7 +52,7 @@ told-connecting Closing asked e = cc
 told-connecting Closed asked e = cc
 told-connecting Failed asked e = cc
 
-told-closing : (state : SessionState) (asked : ℕ) → told_state state asked ≡ Closing
+pub told-closing : (state : SessionState) (asked : ℕ) → told_state state asked ≡ Closing
     → state ≡ Closing
 told-closing Connected asked e = by (ltb asked MOST_CALLS) e
   where
@@ -111,11 +111,11 @@ open-row Connecting other t apart = refl
 open-row Closed other t apart = refl
 open-row Failed other t apart = refl
 
-told-apart : (state : SessionState) (asked : ℕ) → told_state state asked ≢ Connecting
+pub told-apart : (state : SessionState) (asked : ℕ) → told_state state asked ≢ Connecting
     → state ≢ Connecting
 told-apart state asked other e = other (ap (λ x. told_state x asked) e)
 
-told-open : (state : SessionState) (asked : ℕ) → told_state state asked ≢ Closing
+pub told-open : (state : SessionState) (asked : ℕ) → told_state state asked ≢ Closing
     → state ≢ Closing
 told-open state asked other e = other (ap (λ x. told_state x asked) e)
 

@@ -1,7 +1,9 @@
+mod AnswerLemmas
 mod AskLemmas
 mod AskedLemmas
 mod BreakLemmas
 mod CallerLemmas
+mod ConnectLemmas
 mod ControlLemmas
 mod CrewLemmas
 mod EndingLemmas
@@ -15,16 +17,20 @@ mod GivingLemmas
 mod HandleLemmas
 pub mod HandingLemmas
 mod HearLemmas
+mod HeardLemmas
 mod IdleLemmas
+mod InboxLemmas
 mod JobLemmas
 mod JoinLemmas
 mod JoinRows
+mod ListenLemmas
 mod LoseLemmas
 mod NamedLemmas
 mod NextLemmas
 mod NodeLemmas
 mod NotesLemmas
 mod NotingLemmas
+mod OpeningLemmas
 mod PairLemmas
 mod PlaceLemmas
 mod PostLemmas
@@ -37,9 +43,12 @@ mod SentLemmas
 mod ServeLemmas
 mod ServerLemmas
 mod TakenLemmas
+mod TimesLemmas
+mod RetryLemmas
 mod TurnLemmas
 mod WalkLemmas
 mod WatchLemmas
+mod SpeakingLemmas
 mod StandingLemmas
 mod StillLemmas
 mod ToldLemmas

@@ -128,12 +128,14 @@ module _ {R : Type 0} (facts : R → Option (List Fact)) (whole : R → Bool) (i
             (all-at IsSettled s.clients i at.client fits.settled at.place)
             (next-connected posting at.client
             (posted_event at.client.way.number (packet_of_entry e)) at.next)
-            refl refl) (λ j x e other. all-at IsSettled s.clients j x fits.settled e));
+            refl refl refl refl) (λ j x e other. all-at IsSettled s.clients j x fits.settled e));
         credits = rw servers fits.credits;
         sendable = rw queue (put-all entry IsSendable (refl, λ reply. cc) s.queued fits.sendable);
         replies = rw queue (omega (arith, replies-ask entry s.queued refl, fits.replies));
+        most = fits.most;
         packets = size ∙ fits.packets;
         jobs = fits.jobs;
+        server_numbers = fits.server_numbers;
         buffers = places ∙ fits.buffers;
       }
 
@@ -179,12 +181,14 @@ module _ {R : Type 0} (facts : R → Option (List Fact)) (whole : R → Bool) (i
                 (all-at IsSettled s.clients i change.client fits.settled change.place)
                 (next-connected beginning change.client (begun_event p)
                 (ap (λ (o : Option Client). option_and_then (if_connected beginning) o)
-                (sym change.place) ∙ at.0)) refl refl)
+                (sym change.place) ∙ at.0)) refl refl refl refl)
                 (λ j x e other. all-at IsSettled s.clients j x fits.settled e));
             credits = rw servers fits.credits;
             sendable = rw queued fits.sendable;
             replies = rw queued fits.replies;
+            most = fits.most;
             packets = size ∙ fits.packets;
             jobs = fits.jobs;
+            server_numbers = fits.server_numbers;
             buffers = places ∙ fits.buffers;
           }

@@ -30,7 +30,7 @@ abbrev pub no_asks : Asks
 no_asks = λ _ _. []
 
 module _ {R : Type 0} (facts : R → Option (List Fact)) (whole : R → Bool) where
-  pub makes-join : (P Q S : Rel) (a b c : Timed) (f g h : R)
+  unfoldable pub makes-join : (P Q S : Rel) (a b c : Timed) (f g h : R)
       → ((asks : Asks) (x y : List Fact) → P (asking asks a) x (asking asks b)
       → Q (asking asks b) y (asking asks c) → S (asking asks a) (x ++ y) (asking asks c))
       → Makes facts whole P a b f g → Makes facts whole Q b c g h → Makes facts whole S a c f h
@@ -94,7 +94,7 @@ ends-append (f ∷ fs) y = by (is_end f) (ends-append fs y)
 
 module _ {R K : Type 0} (facts : R → Option (List Fact)) (whole : R → Bool)
     (given : K → Option (List Done)) where
-  pub ends-join : (P Q S : Rel) (a b c : Timed) (f g h : R) (j k l : K)
+  unfoldable pub ends-join : (P Q S : Rel) (a b c : Timed) (f g h : R) (j k l : K)
       → b.lists.me ≡ a.lists.me
       → ((asks : Asks) (x y : List Fact) → P (asking asks a) x (asking asks b)
       → Q (asking asks b) y (asking asks c) → S (asking asks a) (x ++ y) (asking asks c))
@@ -140,7 +140,7 @@ module _ {R K : Type 0} (facts : R → Option (List Fact)) (whole : R → Bool)
       }) p q)
 
   -- nothing is noted, and no call ends
-  pub ends-none : (P : Rel) (a : Timed) (f : R) (k : K)
+  unfoldable pub ends-none : (P : Rel) (a : Timed) (f : R) (k : K)
       → ((asks : Asks) → P (asking asks a) [] (asking asks a))
       → MakesEnds facts whole given P a a f f k k
   ends-none P a f k step = record {

@@ -75,11 +75,11 @@ sent-append (f ∷ fs) y =
     ap (λ ds. sent_by f.event f.first f.second ++ ds) (sent-append fs y)
     ∙ sym (append_assoc (sent_by f.event f.first f.second) (sent_of fs) (sent_of y))
 
-took-none : (o : Option (List Carried)) → o ≡ option_map (λ ds. ds ++ []) o
+pub took-none : (o : Option (List Carried)) → o ≡ option_map (λ ds. ds ++ []) o
 took-none None = refl
 took-none (Some ds) = ap Some (sym (append-nil ds))
 
-took-then : (o : Option (List Carried)) (x y : List Carried) → option_map (λ ds. ds ++ y)
+pub took-then : (o : Option (List Carried)) (x y : List Carried) → option_map (λ ds. ds ++ y)
     (option_map (λ ds. ds ++ x) o) ≡ option_map (λ ds. ds ++ (x ++ y)) o
 took-then None x y = refl
 took-then (Some ds) x y = ap Some (append_assoc ds x y)

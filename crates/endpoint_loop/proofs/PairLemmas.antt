@@ -7,7 +7,7 @@ use Rattle.std.proofs.lemmas.List.{length-append}
 use Rattle.rpc_base.specs.declared.event.Event.{Event}
 use Rattle.rpc_base.specs.declared.event.Event.TheVariants.{PairedClient, PairedServer}
 use Rattle.rpc_base.specs.declared.limits.Limits.{Limits}
-use Rattle.rpc_base.specs.declared.limits.TheConstants.{SESSION_NUMBERS}
+use Rattle.rpc_base.specs.declared.limits.TheConstants.{MOST_CREDITS, SESSION_NUMBERS}
 use Rattle.rpc_base.proofs.FirstLemmas.{all-push, counted-cons}
 use Rattle.packet_rings.specs.Rings.{Ring}
 use Rattle.packet_rings.specs.Values.{DatagramValue}
@@ -31,10 +31,15 @@ use Rattle.endpoint_loop.specs.Seen.{Tallies, seen_node}
 use Rattle.endpoint_loop.specs.Serving.{AllServed, SlotsServed}
 
 -- what nothing refuses has a number that wasn't used
-few-paired : (spent : Bool) (s : Lists) (credits : ℕ) → clients_spent s ≡ spent
+pub few-paired : (spent : Bool) (s : Lists) (credits : ℕ) → clients_spent s ≡ spent
     → refusal_by spent credits s ≡ None → length s.clients < SESSION_NUMBERS
 few-paired true s credits e taken = cc
 few-paired false s credits e taken = leb-false SESSION_NUMBERS (length s.clients) e
+
+pub few-servers : (spent : Bool) (s : Lists) (credits : ℕ) → servers_spent s ≡ spent
+    → refusal_by spent credits s ≡ None → s.server_numbers < SESSION_NUMBERS
+few-servers true s credits e taken = cc
+few-servers false s credits e taken = leb-false SESSION_NUMBERS s.server_numbers e
 
 module _ (me : ℕ) (limits : Limits) (tallies : Tallies) (paces : List Pace) (jobs : Jobs)
     (clock : ℕ) (rx : Ring DatagramValue) (s t : Shown) where
@@ -47,9 +52,9 @@ module _ (me : ℕ) (limits : Limits) (tallies : Tallies) (paces : List Pace) (j
         → now ≡ paces ++ record { session = length s.clients; rate = 0; next = 0 } ∷ []
         → client_refusal credits old.lists ≡ None
         → t.clients ≡ s.clients ++ client_end (length s.clients) peer other credits ∷ []
-        → t.servers ≡ s.servers
+        → t.servers ≡ s.servers → credits ≤ MOST_CREDITS → other < SESSION_NUMBERS
         → Fits (seen_node me limits tallies now jobs clock rx t) t.size t.places
-    fits-paired-client now paced taken clients servers =
+    fits-paired-client now paced taken clients servers most below =
         let made : Event = PairedClient (length s.clients) peer other credits in
         record {
           kept = rw (paced, clients, servers, queued) (kept-after clock old.lists (plain me made)
@@ -71,8 +76,10 @@ module _ (me : ℕ) (limits : Limits) (tallies : Tallies) (paces : List Pace) (j
           settled = rw clients (all-push IsSettled s.clients
               (client_end (length s.clients) peer other credits) fits.settled
               (record {
-                paired = refl;
                 some = some;
+                most = most;
+                joined = λ has. below;
+                few = omega arith;
                 none_left = λ closed. refl;
               }));
           numbers = rw clients (omega (
@@ -83,17 +90,19 @@ module _ (me : ℕ) (limits : Limits) (tallies : Tallies) (paces : List Pace) (j
           credits = rw servers fits.credits;
           sendable = rw queued fits.sendable;
           replies = rw queued fits.replies;
+          most = fits.most;
           packets = size ∙ fits.packets;
           jobs = fits.jobs;
+          server_numbers = fits.server_numbers;
           buffers = places ∙ fits.buffers;
         }
 
     pub fits-paired-server : (next : ℕ) → next ≡ tallies.server_numbers + 1
-        → server_refusal credits old.lists ≡ None → t.clients ≡ s.clients
+        → credits ≤ MOST_CREDITS → server_refusal credits old.lists ≡ None → t.clients ≡ s.clients
         → t.servers ≡ s.servers ++ server_end tallies.server_numbers peer other credits ∷ []
         → Fits (seen_node me limits (record tallies { server_numbers = next }) paces jobs clock rx t)
         t.size t.places
-    fits-paired-server next after-is taken clients servers =
+    fits-paired-server next after-is most taken clients servers =
         let made : Event = PairedServer tallies.server_numbers peer other credits in
         record {
           kept = rw (after-is, clients, servers, queued) (kept-after clock old.lists (plain me made)
@@ -107,11 +116,17 @@ module _ (me : ℕ) (limits : Limits) (tallies : Tallies) (paces : List Pace) (j
           numbers = rw clients fits.numbers;
           each = rw clients fits.each;
           credits = rw servers (all-push HasCredit s.servers
-              (server_end tallies.server_numbers peer other credits) fits.credits some);
+              (server_end tallies.server_numbers peer other credits) fits.credits (some, most));
           sendable = rw queued fits.sendable;
           replies = rw queued fits.replies;
+          most = fits.most;
           packets = size ∙ fits.packets;
           jobs = fits.jobs;
+          server_numbers = omega (
+            arith,
+            after-is,
+            few-servers (servers_spent old.lists) old.lists credits refl taken,
+          );
           buffers = places ∙ fits.buffers;
         }
 

@@ -97,8 +97,10 @@ module _ (me : ℕ) (limits : Limits) (tallies : Tallies) (paces : List Pace) (j
       credits = fits.credits;
       sendable = fits.sendable;
       replies = fits.replies;
+      most = fits.most;
       packets = fits.packets;
       jobs = fits.jobs;
+      server_numbers = fits.server_numbers;
       buffers = fits.buffers;
     }
 

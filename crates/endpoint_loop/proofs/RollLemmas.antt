@@ -211,13 +211,16 @@ module _ (me : ℕ) (limits : Limits) (tallies : Tallies) (paces : List Pace) (j
           fits.each,
         );
         settled =
-            rw changed (all-set IsSettled s.clients i y (settled-connected x y settled connected refl refl)
+            rw changed (all-set IsSettled s.clients i y
+            (settled-connected x y settled connected refl refl refl refl)
             (λ j z e other. all-at IsSettled s.clients j z fits.settled e));
         credits = rw servers fits.credits;
         sendable = rw queued fits.sendable;
         replies = rw queued fits.replies;
+        most = fits.most;
         packets = size ∙ fits.packets;
         jobs = fits.jobs;
+        server_numbers = fits.server_numbers;
         buffers = places ∙ fits.buffers;
       }
 

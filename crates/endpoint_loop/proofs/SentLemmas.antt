@@ -325,8 +325,10 @@ module _ (me : ℕ) (limits : Limits) (tallies : Tallies) (paces : List Pace) (j
 
     settled-sent : (r k : ℕ) (x : Client) → IsSettled x → IsSettled (sends clock r k x)
     settled-sent r k x settled = record {
-      paired = settled.paired;
       some = settled.some;
+      most = settled.most;
+      joined = settled.joined;
+      few = settled.few;
       none_left = λ closed. ap (at_first (is_active r) (moved (sent_packet clock k)))
           (settled.none_left closed);
     }
@@ -356,8 +358,10 @@ module _ (me : ℕ) (limits : Limits) (tallies : Tallies) (paces : List Pace) (j
       credits = rw servers fits.credits;
       sendable = rw queued (rest-ready s.queued fits.sendable);
       replies = rw queued (omega (arith, fewer-replies s.queued, fits.replies));
+      most = fits.most;
       packets = size ∙ fits.packets;
       jobs = fits.jobs;
+      server_numbers = fits.server_numbers;
       buffers = places ∙ fits.buffers;
     }
 
@@ -417,7 +421,9 @@ module _ (me : ℕ) (limits : Limits) (tallies : Tallies) (paces : List Pace) (j
     credits = rw servers fits.credits;
     sendable = rw queued (sendable-made clock s.queued fits.sendable);
     replies = rw queued (omega (arith, replies-made clock s.queued, fits.replies));
+    most = fits.most;
     packets = size ∙ fits.packets;
     jobs = fits.jobs;
+    server_numbers = fits.server_numbers;
     buffers = places ∙ fits.buffers;
   }

@@ -223,10 +223,10 @@ module _ (me : ℕ) (limits : Limits) (tallies : Tallies) (paces : List Pace) (j
       same-size = ap (λ (z : Ring DatagramValue). z.size) rest
 
       fits-served : (ta : Tallies) (js : Jobs) (v w : Server) → Kept (seen ta js q t).lists
-          → slice_get s.servers i ≡ Some v → t.servers ≡ slice_set s.servers i w
-          → w.credits ≡ v.credits → AllByRecursion IsSendable t.queued → replies t.queued ≤ rx.size
+          → ta.server_numbers ≡ tallies.server_numbers → slice_get s.servers i ≡ Some v
+          → t.servers ≡ slice_set s.servers i w → w.credits ≡ v.credits → AllByRecursion IsSendable t.queued → replies t.queued ≤ rx.size
           → js.limit ≡ jobs.limit → Fits (seen ta js q t) t.size t.places
-      fits-served ta js v w kept at changed credits ready few limit = record {
+      fits-served ta js v w kept numbered at changed credits ready few limit = record {
         kept = kept;
         ascends = rw clients fits.ascends;
         paces = fits.paces;
@@ -234,12 +234,15 @@ module _ (me : ℕ) (limits : Limits) (tallies : Tallies) (paces : List Pace) (j
         numbers = rw clients fits.numbers;
         each = rw clients fits.each;
         credits = rw changed (all-set HasCredit s.servers i w
-            (omega (arith, credits, all-at HasCredit s.servers i v fits.credits at))
+            (let own = all-at HasCredit s.servers i v fits.credits at in
+            (omega (arith, credits, own.0), omega (arith, credits, own.1)))
             (λ j y e other. all-at HasCredit s.servers j y fits.credits e));
         sendable = ready;
         replies = omega (arith, few, same-size);
+        most = rw same-size fits.most;
         packets = rw same-size (size ∙ fits.packets);
         jobs = omega (arith, limit, fits.jobs);
+        server_numbers = omega (arith, numbered, fits.server_numbers);
         buffers = omega (arith, limit, same-size, places, fits.buffers);
       }
 
@@ -402,7 +405,7 @@ module _ (me : ℕ) (limits : Limits) (tallies : Tallies) (paces : List Pace) (j
                 (rw (ap (λ (u : Timed). u.lists) (goes-again jobs))
                 (kept-all clock (old jobs) (again ∷ posted ∷ []) fits.kept
                 (all-allowed false p.handled.answer jobs (again ∷ posted ∷ []) fits.kept
-                (facts-again jobs refl)))) p.place
+                (facts-again jobs refl)))) refl p.place
                 (servers-again ∙ sym (set-own s.servers i p.server p.place)) refl
                 (pushed-ready s.queued t.queued queue-again fits.sendable)
                 (pushed-few s.queued t.queued queue-again (omega arith)) refl
@@ -464,7 +467,7 @@ module _ (me : ℕ) (limits : Limits) (tallies : Tallies) (paces : List Pace) (j
               (rw (ap (λ (u : Timed). u.lists) (goes-dropped jobs))
               (kept-all clock (old jobs) (dropped ∷ []) fits.kept
               (all-allowed lacks-and.0 p.handled.answer jobs (dropped ∷ []) fits.kept
-              (facts-drop jobs refl)))) p.place
+              (facts-drop jobs refl)))) refl p.place
               (servers-dropped ∙ sym (set-own s.servers i p.server p.place)) refl
               (rw queue-dropped fits.sendable) (rw queue-dropped (omega (arith, few))) refl
 
@@ -559,7 +562,7 @@ module _ (me : ℕ) (limits : Limits) (tallies : Tallies) (paces : List Pace) (j
                 (rw (ap (λ (u : Timed). u.lists) (goes-took jobs))
                 (kept-all clock (old jobs) noted-took fits.kept
                 (all-allowed false p.handled.answer jobs noted-took fits.kept
-                (facts-taken jobs refl)))) p.place servers-set refl
+                (facts-taken jobs refl)))) refl p.place servers-set refl
                 (pushed-ready tk.queue t.queued queue-took (tk.ready fits.sendable))
                 (pushed-few tk.queue t.queued queue-took tk.fewer) refl
 
@@ -680,7 +683,7 @@ module _ (me : ℕ) (limits : Limits) (tallies : Tallies) (paces : List Pace) (j
               (none-bare h.session h.request jobs none)))
               (kept-all clock (old jobs) noted-ran fits.kept
               (all-allowed false p.handled.answer jobs noted-ran fits.kept
-              (facts-run jobs refl)))) p.place set-ran refl
+              (facts-run jobs refl)))) refl p.place set-ran refl
               (pushed-ready tr.queue t.queued queue-ran (tr.ready fits.sendable))
               (pushed-few tr.queue t.queued queue-ran tr.fewer) refl
 
@@ -857,7 +860,7 @@ module _ (me : ℕ) (limits : Limits) (tallies : Tallies) (paces : List Pace) (j
           pub fits-give : Fits (seen given_tallies js_now q t) t.size t.places
           fits-give = fits-served given_tallies js_now p.server
               (gives h body (takes h body p.server))
-              (kept-jobs (seen given_tallies told q t).lists js_now as-many kept-told) p.place
+              (kept-jobs (seen given_tallies told q t).lists js_now as-many kept-told) refl p.place
               set-give refl (rw queue-give (tg.ready fits.sendable))
               (rw queue-give (omega (arith, tg.fewer, few))) limit
 

@@ -1,53 +1,39 @@
 -- An endpoint goes on by each of its calls.
-use Rattle.std.proofs.Common.{◌≡◌, ◌≢◌, ℕ, ◌≤◌, ◌<◌, ◌⊎◌, inl, inr, Bool, true, false, cond, ltb}
+use Rattle.std.proofs.Common.{◌≡◌, ℕ, ◌<◌, inl, inr, Bool, true, false, cond, ltb}
 use Rattle.std.proofs.Common.{Option, Some, None, List, [], ◌∷◌, ◌++◌, length, refl, sym, ap, ◌∙◌}
 use Rattle.std.proofs.Common.{subst, arith, append-nil}
-use Rattle.std.specs.Prelude.{Result, Ok, Err, OnErr, flat_map}
-use Rattle.std.specs.List.{AllByRecursion, find}
+use Rattle.std.specs.Prelude.{Result, Ok, Err, OnErr}
+use Rattle.std.specs.List.{find}
 use Rattle.client_core.specs.declared.outcome.Done.{Done}
-use Rattle.node_laws.specs.NodeRun.{Group, IsCredits, MayPair, NodeRun, asks, delivers}
-use Rattle.node_laws.specs.NodeRun.{pairs_client, pairs_server, polls, refuses, sets_rate}
+use Rattle.node_laws.specs.NodeRun.{Group, IsCredits, NodeRun}
+use Rattle.node_laws.specs.NodeRun.{pairs_client, pairs_server, polls, refuses}
 use Rattle.node_laws.proofs.RunLaws.{group-lawful, run_valid}
-use Rattle.packet_header.specs.declared.packet.ControlHeader.{ControlHeader}
 use Rattle.rpc_base.specs.declared.event.Event.{Event}
-use Rattle.rpc_base.specs.declared.event.Event.TheVariants.{Arrived, Bad, Overflowed, PairedClient}
-use Rattle.rpc_base.specs.declared.event.Event.TheVariants.{PairedServer, NconnectNumbers, NconnectRing}
+use Rattle.rpc_base.specs.declared.event.Event.TheVariants.{Arrived, Bad, Overflowed}
+use Rattle.rpc_base.specs.declared.event.Event.TheVariants.{NconnectNumbers, NconnectRing}
 use Rattle.rpc_base.specs.declared.event.Event.TheVariants.{Nrate, Ran, Rated, Worked}
 use Rattle.rpc_base.specs.declared.fact.Fact.{Fact}
 use Rattle.rpc_base.specs.declared.limits.Limits.{Limits}
 use Rattle.rpc_base.specs.declared.limits.TheConstants.{SESSION_NUMBERS}
 use Rattle.rpc_base.specs.declared.state.SessionState.{SessionState}
 use Rattle.rpc_base.specs.declared.state.SessionState.TheVariants.{Connected}
-use Rattle.rpc_laws.specs.declared.rows.ControlRow.{ControlRow}
-use Rattle.rpc_laws.specs.declared.rows.ControlRow.TheVariants.{Accepts, Closes, Connects, Declines}
-use Rattle.rpc_laws.specs.declared.rows.ControlRow.TheVariants.{Ends, Fails, Starves}
 use Rattle.rpc_laws.specs.declared.tables.Lists.{Lists}
-use Rattle.rpc_laws.specs.declared.tables.Queued.{Queued}
-use Rattle.rpc_laws.specs.declared.tables.Server.{Server}
 use Rattle.rpc_laws.specs.declared.tables.Timed.{Timed}
 use Rattle.rpc_laws.specs.AtMostOnce.{works_request}
-use Rattle.rpc_laws.specs.ControlSteps.{control_fact, Hears, HearsAll, Speaks, SpeaksIf, TimesAll}
-use Rattle.rpc_laws.specs.ControlTable.{control_facts, control_reply, control_row, session_end}
-use Rattle.rpc_laws.specs.ControlTable.{named_end, session_flushes}
-use Rattle.rpc_laws.specs.Deliveries.{Delivers, arrival, delivery, inbox_room}
-use Rattle.rpc_laws.specs.Facts.{plain}
+use Rattle.rpc_laws.specs.ControlSteps.{HearsAll, TimesAll}
+use Rattle.rpc_laws.specs.Deliveries.{Delivers, arrival, inbox_room}
 use Rattle.rpc_laws.specs.Front.{is_control, is_message}
 use Rattle.rpc_laws.specs.Groups.{Asks, SetsRate, ask_by_state, client_refusal, clients_spent}
-use Rattle.rpc_laws.specs.Groups.{has_no_room, rate_by, refusal_by, server_refusal, servers_spent}
+use Rattle.rpc_laws.specs.Groups.{has_no_room, server_refusal, servers_spent}
 use Rattle.rpc_laws.specs.Groups.{shares, state_of}
-use Rattle.rpc_laws.specs.NodeLists.{after_all, new_node}
 use Rattle.rpc_laws.specs.PollOrder.{Closes as EndsPoll, FinishesOne, FinishesSome, HandlesAll}
 use Rattle.rpc_laws.specs.PollOrder.{Poll, PollBy, PostsAll, raised, SendsSome}
-use Rattle.rpc_laws.specs.Requests.{in_slot_of}
-use Rattle.rpc_laws.specs.ServerTable.{flushes}
 use Rattle.rpc_laws.specs.Sessions.{is_client, is_live}
 use Rattle.rpc_laws.specs.Service.{Answers, Serving, served_after_all}
-use Rattle.rpc_laws.specs.Steps.{Chain, Goes, Rel, Then, more, none}
+use Rattle.rpc_laws.specs.Steps.{Chain, Rel, Then, more, none}
 use Rattle.rpc_laws.proofs.AnswerLemmas.{answers-append, served-append}
 use Rattle.rpc_laws.proofs.PollLemmas.{Within, chain-cons, within-first, within-second}
 use Rattle.rpc_laws.proofs.RunLemmas.{me-after_all}
-use Rattle.rpc_outside.specs.Linking.{Carried}
-use Rattle.rpc_outside.specs.Recording.{Grew}
 use Rattle.rpc_outside.specs.Served.{Served}
 use Rattle.rpc_outside.specs.declared.service.Mode.{Mode}
 use Rattle.server_core.proofs.FlushLemmas.{grew-none}
@@ -62,19 +48,19 @@ use Rattle.endpoint_loop.specs.declared.asking.AskError.{AskError}
 use Rattle.endpoint_loop.specs.declared.asking.AskError.TheVariants.{NoMemory as AskWanting, NotConnected}
 use Rattle.endpoint_loop.specs.declared.asking.AskError.TheVariants.{TooLarge}
 use Rattle.endpoint_loop.specs.declared.asking.Refused.{Refused}
-use Rattle.endpoint_loop.specs.Finishing.{FinishesBy, FinishesThese, Staff}
+use Rattle.endpoint_loop.specs.Finishing.{FinishesThese, Staff}
 use Rattle.endpoint_loop.specs.Noting.{Makes}
-use Rattle.endpoint_loop.specs.Polling.{FinishesBack, MakesPoll, SendsOver, SendsUntil, is_stopped}
+use Rattle.endpoint_loop.specs.Polling.{FinishesBack, LinkTells, MakesPoll, SendsUntil, is_stopped}
 use Rattle.endpoint_loop.specs.Running.{asks_of, Crew, IsStaffed, Running, told}
-use Rattle.endpoint_loop.specs.Seen.{asking}
 use Rattle.endpoint_loop.specs.Standing.{GoesOn, StandsFor}
 use Rattle.endpoint_loop.specs.declared.polling.Turn.{Turn}
 use Rattle.endpoint_loop.proofs.GivingLemmas.{staffed-still}
+use Rattle.endpoint_loop.proofs.HeardLemmas.{hears-still}
 use Rattle.endpoint_loop.proofs.PollLemmas.{is_ran, still-answers, these-still}
 use Rattle.endpoint_loop.proofs.StillLemmas.{AllStill, Stills, closes-still, posts-still, sends-still}
-use Rattle.endpoint_loop.proofs.StillLemmas.{still-append, still-chain, times-still}
-use Rattle.endpoint_loop.proofs.TurnLemmas.{flushes-none, handled-elsewhere, handled-unworked, is_work}
-use Rattle.endpoint_loop.proofs.TurnLemmas.{many, many-append, many-none}
+use Rattle.endpoint_loop.proofs.StillLemmas.{still-append, times-still}
+use Rattle.endpoint_loop.proofs.TurnLemmas.{handled-elsewhere, handled-unworked, is_work}
+use Rattle.endpoint_loop.proofs.TurnLemmas.{many-append, many-none}
 
 -- a handler ran, or a job was worked
 abbrev pub is_labour : Event → Bool
@@ -177,53 +163,6 @@ module _ {R V W : Type 0} (facts : R → Option (List Fact)) (whole : R → Bool
         leaves.jobs s.staffed));
   }
 
--- nothing of session control is that a job was worked
-slots-unworked : (me : ℕ) (queued : List Queued) (v : Server) (slots : List ℕ)
-    → AllStill is_work (flat_map (λ slot. flushes me queued v.way.number
-    (find (in_slot_of slot) v.slots)) slots)
-slots-unworked me queued v [] = tt
-slots-unworked me queued v (slot ∷ slots) =
-    still-append is_work _ _ (flushes-none is_work (λ o k. refl) me queued v.way.number
-    (find (in_slot_of slot) v.slots)) (slots-unworked me queued v slots)
-
-end-unworked : (me : ℕ) (queued : List Queued) (o : Option Server)
-    → AllStill is_work (session_end me queued o)
-end-unworked me queued None = tt
-end-unworked me queued (Some v) =
-    still-append is_work (session_flushes me queued v) _ (slots-unworked me queued v
-    (0 ∷ 1 ∷ 2 ∷ 3 ∷ 4 ∷ 5 ∷ 6 ∷ 7 ∷ [])) (refl, tt)
-
-control-unworked : (s : Lists) (peer : ℕ) (h : ControlHeader) (row : ControlRow)
-    → AllStill is_work (control_facts s peer h row)
-control-unworked s peer h Declines = (refl, tt)
-control-unworked s peer h Starves = (refl, tt)
-control-unworked s peer h (Accepts t) = (refl, tt)
-control-unworked s peer h Ends =
-    end-unworked s.me s.queued (named_end peer h.client h.server s.servers)
-control-unworked s peer h (Connects t) = (refl, tt)
-control-unworked s peer h Fails = (refl, tt)
-control-unworked s peer h Closes = (refl, tt)
-control-unworked s peer h _ = tt
-
-said-unworked : (me peer : ℕ) (o : Option ControlHeader) (x : List Fact) → SpeaksIf me peer o x
-    → AllStill is_work x
-said-unworked me peer None x h = rw h tt
-said-unworked me peer (Some k) x h = rw h.facts (by h.taken)
-  where
-    by : (taken : Bool) → AllStill is_work (control_fact taken me peer h.head ∷ [])
-    by true = (refl, tt)
-    by false = (refl, tt)
-
-hears-unworked : Stills is_work Hears
-hears-unworked s x t h =
-    let row = control_row h.lacks h.front.peer h.header s.lists in
-    rw h.facts (
-      refl,
-      still-append is_work (control_facts s.lists h.front.peer h.header row) h.said
-          (control-unworked s.lists h.front.peer h.header row)
-          (said-unworked s.lists.me h.front.peer (control_reply h.header row) h.said h.speaks),
-    )
-
 -- a poll works no job
 then-unworked : (P Q : Rel) → Stills is_work P → Stills is_work Q → Stills is_work (Then P Q)
 then-unworked P Q p q s x t h =
@@ -235,7 +174,8 @@ poll-unworked : (F S : Rel) (mode : ℕ → Mode) (now : ℕ) → Stills is_work
 poll-unworked F S mode now f sending s x t h =
     then-unworked F _ f
     (then-unworked HearsAll _
-    (λ s x t k. still-chain is_work Hears hears-unworked s x t k.steps)
+    (hears-still is_work (λ o k. refl) (λ i. refl) (λ p i c. refl) (λ p i c. refl)
+    (λ i p j c. refl) (λ i j. refl) (λ i. refl) (λ i. refl) (λ p o k. refl) (λ p. refl) refl)
     (then-unworked (HandlesAll mode) _
     (λ s x t k. handled-unworked x (handled-elsewhere mode s x t k.steps))
     (then-unworked TimesAll _
@@ -284,9 +224,9 @@ sends-some false s x t h = h.steps
 module _ {R K V W : Type 0} (facts : R → Option (List Fact)) (whole : R → Bool)
     (given : K → Option (List Done)) (crew : W → Crew) (v : Serving)
     (stands : V → Served → Type 0) (answer : ℕ → List ℕ → List ℕ) (turn : Option Turn) (now : ℕ)
-    (sent then_sent : Option (List Carried)) where
+    (link then_link : LinkTells) where
   pub goes-polled : (a b : Running V W) (f g : R) (j k : K)
-      → MakesPoll facts whole given crew v stands answer turn now sent then_sent a b f g j k
+      → MakesPoll facts whole given crew v stands answer turn now link then_link a b f g j k
       → GoesOn facts whole v stands answer (λ w. (crew w).staff) a b f g
   goes-polled a b f g j k h = record {
     noted = h.noted;
@@ -295,16 +235,16 @@ module _ {R K V W : Type 0} (facts : R → Option (List Fact)) (whole : R → Bo
         let does = h.does s.staffed in
         let told_of = does.1.answers (served_after_all v.mode [] past) s.serves in
         let F = FinishesBack answer does.0.parcels (crew a.workers) (crew b.workers) in
-        let S = SendsOver (is_stopped turn) sent then_sent in
+        let S = SendsUntil (is_stopped turn) in
         stands-more v stands answer (λ w. (crew w).staff) limits past a b h.noted s
         (polls now (poll-as F S v.mode now
         (λ s x t k. these-some answer does.0.parcels s x t k.finishes)
-        (λ s x t k. sends-some (is_stopped turn) s x t k.sends) _ h.noted _ does.0.polls))
+        (sends-some (is_stopped turn)) _ h.noted _ does.0.polls))
         (poll-unworked F S v.mode now
         (λ s x t k. these-still is_work (λ t r y. refl) (λ o k. refl) answer does.0.parcels s x t
         k.finishes)
         (λ s x t k. sends-still is_work (λ p o k. refl) s x t
-        (sends-some (is_stopped turn) s x t k.sends)) _ h.noted _ does.0.polls)
+        (sends-some (is_stopped turn) s x t k)) _ h.noted _ does.0.polls)
         told_of.0 told_of.1 does.0.staffed;
   }
 

@@ -136,6 +136,47 @@ module _ (q : Event → Bool) where
   pub closes-still : ((now : ℕ) → q (Polled now) ≡ false) → Stills q Closes
   closes-still polled s x t h = rw h.facts (polled s.clock, tt)
 
+  -- a control packet that is handed to the link
+  module _ (sent : (peer : ℕ) (o : Owner) (k : ℕ) → q (Sent peer o k) ≡ false)
+      (unsent : (peer : ℕ) → q (Unsent peer) ≡ false) where
+    pub said-still : (me : ℕ) (taken : Bool) (peer : ℕ) (head : List ℕ)
+        → AllStill q (control_fact taken me peer head ∷ [])
+    said-still me true peer head = (sent peer Control 0, tt)
+    said-still me false peer head = (unsent peer, tt)
+
+  -- the requests of sessions
+  module _ (sent : (peer : ℕ) (o : Owner) (k : ℕ) → q (Sent peer o k) ≡ false)
+      (unsent : (peer : ℕ) → q (Unsent peer) ≡ false)
+      (failed : (i : ℕ) → q (FailedNoAnswer i) ≡ false)
+      (closed : (i : ℕ) → q (ClosedUnheard i) ≡ false) where
+    given-still : (me : ℕ) (state : SessionState) (number : ℕ)
+        → AllStill q (map (plain me) (given_up state number))
+    given-still me Connecting number = (failed number, tt)
+    given-still me Closing number = (closed number, tt)
+    given-still me _ number = tt
+
+    retries-by : (me : ℕ) (row : RetryRow) (x : Client) (h : ControlHeader) (facts : List Fact)
+        → RetriesBy row me x h facts → AllStill q facts
+    retries-by me Rests x h facts r = rw r tt
+    retries-by me RetryAsks x h facts r = rw r.facts (said-still sent unsent me r.taken x.way.peer r.head)
+    retries-by me GivesUp x h facts r = rw r (given-still me x.state x.way.number)
+
+    retries-as : (own : Option ControlHeader) (clock timeout me : ℕ) (x : Client)
+        (facts : List Fact) → RetriesAs own clock timeout me x facts → AllStill q facts
+    retries-as None clock timeout me x facts r = rw r tt
+    retries-as (Some h) clock timeout me x facts r =
+        retries-by me (retry_row clock timeout x.sends x.sent_at) x h facts r
+
+    retries-of : (clock timeout me : ℕ) (x : Option Client) (facts : List Fact)
+        → RetriesOf clock timeout me x facts → AllStill q facts
+    retries-of clock timeout me None facts r = rw r tt
+    retries-of clock timeout me (Some x) facts r =
+        retries-as (own_request x) clock timeout me x facts r
+
+    pub retries-still : (timeout i : ℕ) → Stills q (Retries timeout i)
+    retries-still timeout i s x t h =
+        retries-of s.clock timeout s.lists.me (slice_get s.lists.clients i) x h.facts
+
   -- the timers of calls
   module _ (flushed : (o : Owner) (k : ℕ) → q (Flushed o k) ≡ false)
       (rolled : (c a b : ℕ) → q (Rolled c a b) ≡ false)
@@ -203,44 +244,15 @@ module _ (q : Event → Bool) where
         still-each (Watches timeout i) (call-watched timeout i)
         (numbers_in (slice_get s.lists.clients i)) s x t h
 
-    -- the requests of sessions
+    -- the requests of sessions, and then their calls
     module _ (sent : (peer : ℕ) (o : Owner) (k : ℕ) → q (Sent peer o k) ≡ false)
         (unsent : (peer : ℕ) → q (Unsent peer) ≡ false)
         (failed : (i : ℕ) → q (FailedNoAnswer i) ≡ false)
         (closed : (i : ℕ) → q (ClosedUnheard i) ≡ false) where
-      said-still : (me : ℕ) (taken : Bool) (peer : ℕ) (head : List ℕ)
-          → AllStill q (control_fact taken me peer head ∷ [])
-      said-still me true peer head = (sent peer Control 0, tt)
-      said-still me false peer head = (unsent peer, tt)
-
-      given-still : (me : ℕ) (state : SessionState) (number : ℕ)
-          → AllStill q (map (plain me) (given_up state number))
-      given-still me Connecting number = (failed number, tt)
-      given-still me Closing number = (closed number, tt)
-      given-still me _ number = tt
-
-      retries-by : (me : ℕ) (row : RetryRow) (x : Client) (h : ControlHeader) (facts : List Fact)
-          → RetriesBy row me x h facts → AllStill q facts
-      retries-by me Rests x h facts r = rw r tt
-      retries-by me RetryAsks x h facts r = rw r.facts (said-still me r.taken x.way.peer r.head)
-      retries-by me GivesUp x h facts r = rw r (given-still me x.state x.way.number)
-
-      retries-as : (own : Option ControlHeader) (clock timeout me : ℕ) (x : Client)
-          (facts : List Fact) → RetriesAs own clock timeout me x facts → AllStill q facts
-      retries-as None clock timeout me x facts r = rw r tt
-      retries-as (Some h) clock timeout me x facts r =
-          retries-by me (retry_row clock timeout x.sends x.sent_at) x h facts r
-
-      retries-of : (clock timeout me : ℕ) (x : Option Client) (facts : List Fact)
-          → RetriesOf clock timeout me x facts → AllStill q facts
-      retries-of clock timeout me None facts r = rw r tt
-      retries-of clock timeout me (Some x) facts r =
-          retries-as (own_request x) clock timeout me x facts r
-
       session-still : (timeout i : ℕ) → Stills q (TimesSession timeout i)
       session-still timeout i =
           still-then (Retries timeout i) (WatchesSession timeout i)
-          (λ s x t h. retries-of s.clock timeout s.lists.me (slice_get s.lists.clients i) x h.facts)
+          (retries-still sent unsent failed closed timeout i)
           (calls-still timeout i)
 
       pub times-still : Stills q TimesAll

@@ -1,11 +1,11 @@
 -- What a turn counts: packets that are handled leave the ring, one each, and packets that are sent
 -- leave the queue.
-use Rattle.std.proofs.Common.{◌≡◌, ℕ, zero, suc, ◌+◌, ◌-◌, ◌≤◌, Bool, true, false, cond, Option, Some}
+use Rattle.std.proofs.Common.{◌≡◌, ℕ, ◌+◌, ◌-◌, ◌≤◌, Bool, true, false, cond, Option, Some}
 use Rattle.std.proofs.Common.{None, List, [], ◌∷◌, ◌++◌, length, drop, refl, sym, ap, ◌∙◌, subst}
 use Rattle.std.proofs.Common.{append-nil, arith}
 use Rattle.std.proofs.lemmas.Bool.{false≢true}
-use Rattle.std.specs.Prelude.{count_by, is_none, map, slice_get, sum_by, IfSome}
-use Rattle.std.specs.List.{AllByRecursion, find}
+use Rattle.std.specs.Prelude.{count_by, is_none, map, slice_get}
+use Rattle.std.specs.List.{find}
 use Rattle.std.proofs.lemmas.List.{length-drop}
 use Rattle.std.proofs.lemmas.List.Sums.{sum_by-append, sum_by-cons}
 use Rattle.packet_header.specs.Reading.{body_of}
@@ -13,14 +13,12 @@ use Rattle.packet_header.specs.declared.packet.Kind.{Kind}
 use Rattle.packet_header.specs.declared.packet.Kind.TheVariants.{Request, Rfr, Cr, Response}
 use Rattle.packet_header.specs.declared.packet.MessageHeader.{MessageHeader}
 use Rattle.rpc_base.specs.declared.event.Event.{Event}
-use Rattle.rpc_base.specs.declared.event.Event.TheVariants.{Again, Arrived, Broken, DonePeerLost}
-use Rattle.rpc_base.specs.declared.event.Event.TheVariants.{Dropped, Flushed, Heard, Rolled, Sent, Took, Worked}
+use Rattle.rpc_base.specs.declared.event.Event.TheVariants.{Again, Arrived}
+use Rattle.rpc_base.specs.declared.event.Event.TheVariants.{Dropped, Flushed, Heard, Sent}
+use Rattle.rpc_base.specs.declared.event.Event.TheVariants.{Took, Unsent, Worked}
 use Rattle.rpc_base.specs.declared.fact.Fact.{Fact}
 use Rattle.rpc_base.specs.declared.owner.Owner.{Owner}
 use Rattle.rpc_base.specs.declared.owner.Owner.TheVariants.{Ask, Reply}
-use Rattle.rpc_base.specs.declared.state.SessionState.{SessionState}
-use Rattle.rpc_base.specs.declared.state.SessionState.TheVariants.{Broken as IsBroken, Connected, Spent}
-use Rattle.rpc_base.proofs.FirstLemmas.{all-each, all-kept}
 use Rattle.rpc_outside.specs.declared.service.Mode.{Mode}
 use Rattle.rpc_laws.specs.declared.rows.ClientRow.{ClientRow}
 use Rattle.rpc_laws.specs.declared.rows.ClientRow.TheVariants.{Drops as DropsReply, Takes as TakesReply}
@@ -39,28 +37,23 @@ use Rattle.rpc_laws.specs.declared.tables.Served.{Served}
 use Rattle.rpc_laws.specs.declared.tables.Server.{Server}
 use Rattle.rpc_laws.specs.declared.tables.Timed.{Timed}
 use Rattle.rpc_laws.specs.Calls.{asked_packets, is_active, with_reply}
-use Rattle.rpc_laws.specs.ClientTable.{call_ending, client_ending, client_row, end_facts, end_row}
+use Rattle.rpc_laws.specs.ClientTable.{call_ending, client_ending, end_facts, end_row}
 use Rattle.rpc_laws.specs.ClientTable.{progress_ending, reply_facts}
-use Rattle.rpc_laws.specs.ControlSteps.{RetriesOf, TimesAll, TimesSession}
 use Rattle.rpc_laws.specs.Facts.{plain}
-use Rattle.rpc_laws.specs.Front.{front_body, front_header}
-use Rattle.rpc_laws.specs.GoBackN.{Each, Watches, numbers_in}
-use Rattle.rpc_laws.specs.Jobs.{are_full}
 use Rattle.rpc_laws.specs.NodeLists.{after, after_all}
 use Rattle.rpc_laws.specs.PollOrder.{Handles, handling_by, Sends}
-use Rattle.rpc_laws.specs.Queues.{flush_facts, is_queued, numbers_of, ring_after}
+use Rattle.rpc_laws.specs.Queues.{numbers_of, ring_after}
 use Rattle.rpc_laws.specs.Requests.{in_slot_of, is_server}
 use Rattle.rpc_laws.specs.ServerTable.{flushes, flushes_older, is_last, makes_job}
-use Rattle.rpc_laws.specs.ServerTable.{served_facts, server_row, took_facts, whole_ask}
-use Rattle.rpc_laws.specs.Sessions.{breaks, clients_after, ends, has_call, is_client, rolls}
-use Rattle.rpc_laws.specs.Steps.{Chain, Visits, more, none}
-use Rattle.session_store.proofs.ListLemmas.{all-at}
+use Rattle.rpc_laws.specs.ServerTable.{served_facts, took_facts, whole_ask}
+use Rattle.rpc_laws.specs.Sessions.{is_client}
+use Rattle.rpc_laws.specs.Steps.{Chain, more, none}
 use Rattle.endpoint_loop.specs.Counting.{is_handled, is_sent}
-use Rattle.endpoint_loop.specs.Fits.{IsSettled, is_paired}
 use Rattle.endpoint_loop.specs.Noting.{sent_by, sent_of}
+use Rattle.endpoint_loop.specs.Speaking.{is_unsent}
 use Rattle.endpoint_loop.proofs.NotingLemmas.{sent-append}
 use Rattle.endpoint_loop.proofs.SentLemmas.{front-out}
-use Rattle.endpoint_loop.proofs.StillLemmas.{AllStill, call-watched, calls-still, still-append}
+use Rattle.endpoint_loop.proofs.StillLemmas.{AllStill, still-append}
 
 -- how many facts are of such an event
 abbrev pub many : (Event → Bool) → List Fact → ℕ
@@ -69,7 +62,7 @@ many q x = count_by (λ f. q f.event) x
 pub many-append : (q : Event → Bool) (x y : List Fact) → many q (x ++ y) ≡ many q x + many q y
 many-append q x y = sum_by-append (λ (f : Fact). cond {A = ℕ} (q f.event) 1 0) x y
 
-many-cons : (q : Event → Bool) (f : Fact) (x : List Fact) (b : Bool) → q f.event ≡ b
+pub many-cons : (q : Event → Bool) (f : Fact) (x : List Fact) (b : Bool) → q f.event ≡ b
     → many q (f ∷ x) ≡ cond {A = ℕ} b 1 0 + many q x
 many-cons q f x b e = sum_by-cons (λ (g : Fact). cond {A = ℕ} (q g.event) 1 0) f x
     ∙ ap (λ (c : Bool). cond {A = ℕ} c 1 0 + many q x) e
@@ -79,11 +72,12 @@ many-none q [] all = refl
 many-none q (f ∷ x) all = omega (arith, many-cons q f x false all.0, many-none q x all.1)
 
 -- what the handling of a packet of a call never notes: that a packet comes to the ring, is taken out
--- of the inbox or is sent, and that a job was worked
+-- of the inbox, is sent or isn't taken by the link, and that a job was worked
 abbrev pub is_elsewhere : Event → Bool
 is_elsewhere (Arrived peer) = true
 is_elsewhere Heard = true
 is_elsewhere (Sent peer owner k) = true
+is_elsewhere (Unsent peer) = true
 is_elsewhere (Worked session request) = true
 is_elsewhere _ = false
 
@@ -93,6 +87,7 @@ ring-one : (e : Event) (bytes : List ℕ) (ring : List Arrival) → is_elsewhere
 ring-one (Arrived peer) bytes ring h = cc
 ring-one Heard bytes ring h = cc
 ring-one (Sent peer owner k) bytes ring h = cc
+ring-one (Unsent peer) bytes ring h = cc
 ring-one (Worked session request) bytes ring h = cc
 ring-one (Took owner k) bytes ring h = refl
 ring-one (Again owner k) bytes ring h = refl
@@ -285,122 +280,6 @@ sent-count s x t (more {x = front} {t = between} c y u h) =
     let one = sends-one between y u h in
     omega (arith, sent-count s front between c, many-append is_sent front y, one.0, one.1)
 
--- where each client session was paired, none has a request of its own
-abbrev pub ArePaired : Lists → Type 0
-ArePaired s = AllByRecursion (λ x. is_paired x.state ≡ true) s.clients
-
--- what else than the timers of calls notes
-abbrev is_other : Event → Bool
-is_other (Flushed owner k) = false
-is_other (Rolled call posted got) = false
-is_other (Broken session) = false
-is_other (DonePeerLost call) = false
-is_other _ = true
-
-unsent-event : (e : Event) → is_other e ≡ false → is_sent e ≡ false
-unsent-event (Flushed owner k) h = refl
-unsent-event (Rolled call posted got) h = refl
-unsent-event (Broken session) h = refl
-unsent-event (DonePeerLost call) h = refl
-unsent-event _ h = absurd (false≢true (sym h))
-
-unsent : (x : List Fact) → AllStill is_other x → AllStill is_sent x
-unsent [] all = tt
-unsent (f ∷ x) all = (unsent-event f.event all.0, unsent x all.1)
-
-paired-one : (clock : ℕ) (e : Event) (bytes : List ℕ) (head : Option MessageHeader) (body : List ℕ)
-    (xs : List Client) → is_other e ≡ false → AllByRecursion (λ x. is_paired x.state ≡ true) xs
-    → AllByRecursion (λ x. is_paired x.state ≡ true) (clients_after clock e bytes head body xs)
-paired-one clock (Flushed owner k) bytes head body xs h all = all
-paired-one clock (Rolled call posted got) bytes head body xs h all =
-    all-kept (has_call call) (rolls call posted got) (λ x. is_paired x.state ≡ true) xs
-    (λ x own t. own) all
-paired-one clock (Broken session) bytes head body xs h all =
-    all-kept (is_client session) breaks (λ x. is_paired x.state ≡ true) xs (λ x own t. refl) all
-paired-one clock (DonePeerLost call) bytes head body xs h all =
-    all-kept (has_call call) (ends call) (λ x. is_paired x.state ≡ true) xs (λ x own t. own) all
-paired-one clock _ bytes head body xs h all = absurd (false≢true (sym h))
-
-paired-all : (clock : ℕ) (x : List Fact) (s : Lists) → AllStill is_other x → ArePaired s
-    → ArePaired (after_all clock s x)
-paired-all clock [] s still all = all
-paired-all clock (f ∷ x) s still all =
-    paired-all clock x (after clock s f) still.1
-    (paired-one clock f.event f.first (front_header s.ring) (front_body s.ring) s.clients still.0 all)
-
-no-request : (clock timeout me : ℕ) (o : Option Client) (x : List Fact)
-    → RetriesOf clock timeout me o x → IfSome o (λ c. is_paired c.state ≡ true) → x ≡ []
-no-request clock timeout me None x h paired = h
-no-request clock timeout me (Some c) x h paired = by c.state refl
-  where
-    by : (state : SessionState) → c.state ≡ state → x ≡ []
-    by Connected e = rw e at h
-    by Spent e = rw e at h
-    by IsBroken e = rw e at h
-    by _ e = absurd (false≢true (ap is_paired (sym e) ∙ paired))
-
-at-place : (P : Client → Type 0) (xs : List Client) (i : ℕ) → AllByRecursion P xs
-    → IfSome (slice_get xs i) P
-at-place P xs i all = by (slice_get xs i) refl
-  where
-    by : (o : Option Client) → slice_get xs i ≡ o → IfSome o P
-    by None e = tt
-    by (Some x) e = all-at P xs i x all e
-
--- so the timers note none but facts of calls
-call-silent : (timeout i number : ℕ) (s : Timed) (x : List Fact) (t : Timed)
-    → Watches timeout i number s x t → ArePaired s.lists → ArePaired t.lists
-call-silent timeout i number s x t h paired =
-    subst (λ (u : Timed). ArePaired u.lists) (sym h.goes) (paired-all s.clock x s.lists
-    (call-watched is_other (λ o k. refl) (λ c a b. refl) (λ j. refl) (λ c. refl) timeout i number s x
-    t h) paired)
-
-calls-silent : (timeout i : ℕ) (ns : List ℕ) (s : Timed) (x : List Fact) (t : Timed)
-    → Each (Watches timeout i) ns s x t → ArePaired s.lists → ArePaired t.lists
-calls-silent timeout i [] s x t h paired = subst (λ (u : Timed). ArePaired u.lists) (sym h.1) paired
-calls-silent timeout i (n ∷ ns) s x t h paired =
-    calls-silent timeout i ns h.between h.back t h.second
-    (call-silent timeout i n s h.front h.between h.first paired)
-
-session-silent : (timeout i : ℕ) (s : Timed) (x : List Fact) (t : Timed)
-    → TimesSession timeout i s x t → ArePaired s.lists → AllStill is_other x × ArePaired t.lists
-session-silent timeout i s x t h paired =
-    let first : h.front ≡ [] = no-request s.clock timeout s.lists.me (slice_get s.lists.clients i)
-    h.front h.first.facts (at-place (λ c. is_paired c.state ≡ true) s.lists.clients i paired) in
-    let between : ArePaired h.between.lists =
-    subst (λ (u : Timed). ArePaired u.lists) (sym (h.first.goes
-    ∙ ap (λ (fs : List Fact). record { lists = after_all s.clock s.lists fs; clock = s.clock }) first))
-    paired in (
-      subst (AllStill is_other) (sym (h.joined ∙ ap (λ (fs : List Fact). fs ++ h.back) first))
-          (calls-still is_other (λ o k. refl) (λ c a b. refl) (λ j. refl) (λ c. refl) timeout i
-          h.between h.back t h.second),
-      calls-silent timeout i (numbers_in (slice_get h.between.lists.clients i)) h.between h.back t
-          h.second between,
-    )
-
-visits-silent : (timeout n : ℕ) (s : Timed) (x : List Fact) (t : Timed)
-    → Visits (TimesSession timeout) n s x t → ArePaired s.lists
-    → AllStill is_other x × ArePaired t.lists
-visits-silent timeout zero s x t h paired = (
-  subst (AllStill is_other) (sym h.0) tt,
-  subst (λ (u : Timed). ArePaired u.lists) (sym h.1) paired,
-)
-visits-silent timeout (suc n) s x t h paired =
-    let one = visits-silent timeout n s h.front h.between h.first paired in
-    let two = session-silent timeout n h.between h.back t h.second one.1 in (
-      subst (AllStill is_other) (sym h.joined) (still-append is_other h.front h.back one.0 two.0),
-      two.1,
-    )
-
-pub times-silent : (s : Timed) (x : List Fact) (t : Timed) → TimesAll s x t → ArePaired s.lists
-    → AllStill is_sent x
-times-silent s x t h paired =
-    unsent x (visits-silent s.lists.timeout (length s.lists.clients) s x t h paired).0
-
-pub are-paired : (s : Lists) → AllByRecursion IsSettled s.clients → ArePaired s
-are-paired s all = all-each IsSettled (λ (x : Client). is_paired x.state ≡ true) s.clients
-    (λ x settled. settled.paired) all
-
 pub handled-elsewhere : (mode : ℕ → Mode) (s : Timed) (x : List Fact) (t : Timed)
     → Chain (Handles mode) s x t → AllStill is_elsewhere x
 handled-elsewhere mode s x t none = tt
@@ -417,6 +296,10 @@ elsewhere-unsent : (e : Event) → is_elsewhere e ≡ false → is_sent e ≡ fa
 elsewhere-unsent (Sent peer owner k) h = absurd (false≢true (sym h))
 elsewhere-unsent _ h = refl
 
+elsewhere-unsaid : (e : Event) → is_elsewhere e ≡ false → is_unsent e ≡ false
+elsewhere-unsaid (Unsent peer) h = absurd (false≢true (sym h))
+elsewhere-unsaid _ h = refl
+
 elsewhere-unworked : (e : Event) → is_elsewhere e ≡ false → is_work e ≡ false
 elsewhere-unworked (Worked session request) h = absurd (false≢true (sym h))
 elsewhere-unworked _ h = refl
@@ -424,6 +307,10 @@ elsewhere-unworked _ h = refl
 pub handled-unsent : (x : List Fact) → AllStill is_elsewhere x → AllStill is_sent x
 handled-unsent [] all = tt
 handled-unsent (f ∷ x) all = (elsewhere-unsent f.event all.0, handled-unsent x all.1)
+
+pub handled-unsaid : (x : List Fact) → AllStill is_elsewhere x → AllStill is_unsent x
+handled-unsaid [] all = tt
+handled-unsaid (f ∷ x) all = (elsewhere-unsaid f.event all.0, handled-unsaid x all.1)
 
 pub handled-unworked : (x : List Fact) → AllStill is_elsewhere x → AllStill is_work x
 handled-unworked [] all = tt
@@ -434,7 +321,7 @@ sent-event : (e : Event) (first second : List ℕ) → is_sent e ≡ false → s
 sent-event (Sent peer owner k) first second h = absurd (false≢true (sym h))
 sent-event _ first second h = refl
 
-sent-none : (x : List Fact) → AllStill is_sent x → sent_of x ≡ []
+pub sent-none : (x : List Fact) → AllStill is_sent x → sent_of x ≡ []
 sent-none [] all = refl
 sent-none (f ∷ x) all = rw (sent-event f.event f.first f.second all.0) (sent-none x all.1)
 

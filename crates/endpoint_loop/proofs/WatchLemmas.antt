@@ -1,19 +1,15 @@
 -- An active call that is looked at, by its row; and sessions, one after another.
 use Rattle.std.proofs.Common.{◌≡◌, ℕ, ◌+◌, ◌<◌, ◌≤◌, Bool, true, false, not, ◌++◌, cond, ltb}
 use Rattle.std.proofs.Common.{ltb-true}
-use Rattle.std.proofs.Common.{Option, Some, None, List, [], ◌∷◌, length, refl, sym, ap, subst, ◌∙◌}
+use Rattle.std.proofs.Common.{Option, Some, None, List, [], ◌∷◌, length, refl, sym, ap, ◌∙◌}
 use Rattle.std.proofs.Common.{arith}
 use Rattle.std.specs.Prelude.{map, slice_get, IfSome}
-use Rattle.std.specs.List.{AllByRecursion, filter, flat_map}
+use Rattle.std.specs.List.{filter, flat_map}
 use Rattle.std.proofs.lemmas.Bool.{eqb-true}
 use Rattle.std.proofs.lemmas.Option.{slice_get_past}
 use Rattle.rpc_base.specs.declared.event.Event.TheVariants.{Broken, Rolled}
 use Rattle.rpc_base.specs.declared.fact.Fact.{Fact}
 use Rattle.rpc_base.specs.declared.owner.Owner.TheVariants.{Ask}
-use Rattle.rpc_base.specs.declared.state.SessionState.{SessionState}
-use Rattle.rpc_base.specs.declared.state.SessionState.TheVariants.{Unknown, Connecting, Connected}
-use Rattle.rpc_base.specs.declared.state.SessionState.TheVariants.{Closing, Closed, Failed, Spent}
-use Rattle.rpc_base.specs.declared.state.SessionState.TheVariants.{Broken as IsBroken}
 use Rattle.rpc_base.proofs.BasicLemmas.{if-map}
 use Rattle.rpc_base.proofs.TakingLemmas.{find-passes}
 use Rattle.client_core.specs.declared.active.Active.{Active}
@@ -24,21 +20,18 @@ use Rattle.rpc_laws.specs.declared.tables.Client.{Client}
 use Rattle.rpc_laws.specs.declared.tables.Progress.{Progress}
 use Rattle.rpc_laws.specs.declared.tables.Timed.{Timed}
 use Rattle.rpc_laws.specs.Calls.{is_call}
-use Rattle.rpc_laws.specs.ControlSteps.{RetriesOf, TimesAll, TimesSession, request_by}
+use Rattle.rpc_laws.specs.ControlSteps.{TimesSession}
 use Rattle.rpc_laws.specs.Facts.{plain}
-use Rattle.rpc_laws.specs.GoBackN.{Watches, WatchesSession, break_facts, client_facts, row_facts}
+use Rattle.rpc_laws.specs.GoBackN.{Watches, break_facts, client_facts, row_facts}
 use Rattle.rpc_laws.specs.GoBackN.{flushes_of, row_of}
 use Rattle.rpc_laws.specs.Queues.{flush_facts}
-use Rattle.rpc_laws.specs.Steps.{Rel, Visits}
+use Rattle.rpc_laws.specs.Steps.{Rel}
 use Rattle.node_laws.specs.Valid.{NumberedFrom, client_no}
 use Rattle.node_laws.proofs.NumberLemmas.{numbered-at}
 use Rattle.session_store.specs.Changes.{ActiveAt, RowAt, calls_in}
 use Rattle.session_store.specs.Ends.{progress_of}
 use Rattle.session_store.specs.Sides.{Shown}
-use Rattle.session_store.proofs.ListLemmas.{all-at}
-use Rattle.endpoint_loop.specs.Fits.{IsSettled, is_paired}
 use Rattle.endpoint_loop.specs.Noting.{Makes, MakesEnds, is_end}
-use Rattle.endpoint_loop.specs.Seen.{asking}
 use Rattle.endpoint_loop.specs.Watching.{HasFewRolls, Notes, breaking_off, lost, rolling_back}
 use Rattle.endpoint_loop.proofs.BreakLemmas.{flush-silent}
 use Rattle.endpoint_loop.proofs.NotesLemmas.{ends-append, ends-as, ends-none, ends-silent}
@@ -166,60 +159,9 @@ session-none timeout i s past =
       second = rw none (refl, refl);
     }
 
--- a session that was paired has no request of its own
-none-requested : (state : SessionState) (number other credits : ℕ) → is_paired state ≡ true
-    → request_by state number other credits ≡ None
-none-requested Unknown number other credits e = cc
-none-requested Connecting number other credits e = cc
-none-requested Connected number other credits e = refl
-none-requested Closing number other credits e = cc
-none-requested Closed number other credits e = cc
-none-requested Failed number other credits e = cc
-none-requested IsBroken number other credits e = refl
-none-requested Spent number other credits e = refl
-
-pub none-retried : (clock timeout me i : ℕ) (xs : List Client) → AllByRecursion IsSettled xs
-    → RetriesOf clock timeout me (slice_get xs i) []
-none-retried clock timeout me i xs settled = by (slice_get xs i) refl
-  where
-    by : (o : Option Client) → slice_get xs i ≡ o → RetriesOf clock timeout me o []
-    by None e = refl
-    by (Some x) e =
-        rw (none-requested x.state x.way.number x.way.other x.limit
-        (all-at IsSettled xs i x settled e).paired) refl
-
-module _ {R K : Type 0} (facts : R → Option (List Fact)) (whole : R → Bool)
-    (given : K → Option (List Done)) (timeout i : ℕ) (a b : Timed) (f g : R) (k l : K) where
-  pub session-timed : RetriesOf a.clock timeout a.lists.me (slice_get a.lists.clients i) []
-      → MakesEnds facts whole given (WatchesSession timeout i) a b f g k l
-      → MakesEnds facts whole given (TimesSession timeout i) a b f g k l
-  session-timed none p =
-      ends-as facts whole given (WatchesSession timeout i) (TimesSession timeout i) a b f g k l
-      (λ asks x w. record {
-        between = asking asks a;
-        front = [];
-        back = x;
-        joined = refl;
-        first = record { facts = none; goes = refl };
-        second = w;
-      }) p
-
 module _ {R K : Type 0} (facts : R → Option (List Fact)) (whole : R → Bool)
     (given : K → Option (List Done)) where
   -- a step after which nothing changed
   pub ends-same : (P : Rel) (a b c : Timed) (f g h : R) (j k l : K) → c ≡ b → h ≡ g → l ≡ k
       → MakesEnds facts whole given P a b f g j k → MakesEnds facts whole given P a c f h j l
   ends-same P a b c f g h j k l node recorder kept p = rw (node, recorder, kept) p
-
-  -- all sessions
-  pub all-timed : (timeout count : ℕ) (a b : Timed) (f g : R) (k l : K) → timeout ≡ a.lists.timeout
-      → count ≡ length a.lists.clients
-      → MakesEnds facts whole given (Visits (TimesSession timeout) count) a b f g k l
-      → MakesEnds facts whole given TimesAll a b f g k l
-  all-timed timeout count a b f g k l is many p =
-      ends-as facts whole given (Visits (TimesSession timeout) count) TimesAll a b f g k l
-      (λ asks x v.
-      subst (λ n. Visits (TimesSession n) (length a.lists.clients) (asking asks a) x
-      (asking asks b))
-      is
-      (subst (λ m. Visits (TimesSession timeout) m (asking asks a) x (asking asks b)) many v)) p

@@ -1,7 +1,9 @@
 -- What a call of an application does, and what it leaves as it was.
-use Rattle.std.specs.Prelude.{◌≡◌, ◌≢◌, ℕ, Option, Some, None, List, [], ◌∷◌, length, Result, Ok, Err}
+use Rattle.std.specs.Prelude.{◌≡◌, ◌≢◌, ℕ, ◌==◌, Option, Some, None, List, [], ◌∷◌, length}
+use Rattle.std.specs.Prelude.{Result}
+use Rattle.std.specs.Prelude.{Ok, Err, if◌then◌else◌}
 use Rattle.rpc_base.specs.declared.event.Event.{Event}
-use Rattle.rpc_base.specs.declared.event.Event.TheVariants.{PairedClient, PairedServer}
+use Rattle.rpc_base.specs.declared.event.Event.TheVariants.{PairedClient, PairedServer, Rated}
 use Rattle.rpc_base.specs.declared.fact.Fact.{Fact}
 use Rattle.rpc_laws.specs.declared.tables.Timed.{Timed}
 use Rattle.rpc_laws.specs.Facts.{plain}
@@ -37,6 +39,11 @@ pub record PairsClient (peer server credits : ℕ) (s : Timed) (x : List Fact) (
 pub record PairsServer (peer client credits : ℕ) (s : Timed) (x : List Fact) (t : Timed) : Type 0 where
   pub facts : x ≡ plain s.lists.me (or_refused (server_refusal credits s.lists)
       (PairedServer s.lists.server_numbers peer client credits)) ∷ []
+  pub goes : Goes s x t
+
+-- a session gets its first rate, unless that is 0
+pub record StartsRate (session rate : ℕ) (s : Timed) (x : List Fact) (t : Timed) : Type 0 where
+  pub facts : x ≡ (if rate == 0 then [] else plain s.lists.me (Rated session rate) ∷ [])
   pub goes : Goes s x t
 
 -- what holds unless memory for a session was wanting, and what holds where it was

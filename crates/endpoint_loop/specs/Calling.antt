@@ -1,21 +1,34 @@
--- Which client sessions have calls.
-use Rattle.std.specs.Prelude.{◌≡◌, ℕ, ◌<◌, ◌≤◌, true, false, Option, Some, None, IfSome, List}
+-- Which client sessions a poll visits.
+use Rattle.std.specs.Prelude.{◌≡◌, ℕ, ◌<◌, ◌≤◌, ◌||◌, Bool, true, false, Option, Some, None}
+use Rattle.std.specs.Prelude.{IfSome, List}
 use Rattle.std.specs.Prelude.{slice_get}
 use Rattle.std.specs.List.{Contains}
+use Rattle.rpc_base.specs.declared.state.SessionState.{SessionState}
+use Rattle.rpc_base.specs.declared.state.SessionState.TheVariants.{Closing, Connecting}
 use Rattle.rpc_laws.specs.declared.tables.Client.{Client}
 use Rattle.session_store.specs.Sides.{has_calls}
 
--- each session that has calls is among these
+-- a session that is opened, and one that closes, has a request of its own
+abbrev pub has_request : SessionState → Bool
+has_request Connecting = true
+has_request Closing = true
+has_request _ = false
+
+-- a poll visits a session that has calls or a request of its own
+abbrev pub is_visited : Client → Bool
+is_visited x = has_calls x || has_request x.state
+
+-- each session that a poll visits is among these
 abbrev pub Covers : List ℕ → List Client → Type 0
 Covers callers clients = (i : ℕ) → (x : Client) → slice_get clients i ≡ Some x
-    → has_calls x ≡ true → Contains callers i
+    → is_visited x ≡ true → Contains callers i
 
--- no session from one place on, and below another, has calls
+-- no session from one place on, and below another, is visited
 abbrev pub NoneCalls : (low high : ℕ) → List Client → Type 0
 NoneCalls low high clients = (i : ℕ) → low ≤ i → i < high
-    → IfSome (slice_get clients i) (λ x. has_calls x ≡ false)
+    → IfSome (slice_get clients i) (λ x. is_visited x ≡ false)
 
--- from place `from` on, and below `count`, none before the next one has calls
+-- from place `from` on, and below `count`, none before the next one is visited
 abbrev pub IsNextCaller : (from count : ℕ) → List Client → Option ℕ → Type 0
 IsNextCaller from count clients None = NoneCalls from count clients
 IsNextCaller from count clients (Some n) =

@@ -1,11 +1,11 @@
 -- What always holds of a node and of what its store has room for.
-use Rattle.std.specs.Prelude.{◌≡◌, ℕ, ◌+◌, ◌*◌, ◌≤◌, Bool, true, false, None, [], length}
+use Rattle.std.specs.Prelude.{◌≡◌, ℕ, ◌+◌, ◌*◌, ◌<◌, ◌≤◌, Bool, true, false, None, [], length}
 use Rattle.std.specs.List.{AllByRecursion}
-use Rattle.rpc_base.specs.declared.limits.TheConstants.{SESSION_NUMBERS}
+use Rattle.rpc_base.specs.declared.limits.TheConstants.{MOST_CREDITS, MOST_RING, SESSION_NUMBERS}
 use Rattle.rpc_base.specs.declared.owner.Owner.{Owner}
 use Rattle.rpc_base.specs.declared.owner.Owner.TheVariants.{Ask, Reply, Control}
 use Rattle.rpc_base.specs.declared.state.SessionState.{SessionState}
-use Rattle.rpc_base.specs.declared.state.SessionState.TheVariants.{Broken, Connected, Spent}
+use Rattle.rpc_base.specs.declared.state.SessionState.TheVariants.{Closing, Connected, Spent}
 use Rattle.rpc_laws.specs.declared.tables.Client.{Client}
 use Rattle.rpc_laws.specs.declared.tables.Pace.{Pace}
 use Rattle.rpc_laws.specs.declared.tables.Queued.{Queued}
@@ -33,37 +33,46 @@ pace_no p = p.session
 abbrev pub CallsAscend : Client → Type 0
 CallsAscend x = Ascends x.calls
 
--- a session that was paired neither opens nor closes
-abbrev pub is_paired : SessionState → Bool
-is_paired Connected = true
-is_paired Spent = true
-is_paired Broken = true
-is_paired _ = false
+-- a session that is connected, or closes, has a server session
+abbrev pub has_server : SessionState → Bool
+has_server Connected = true
+has_server Spent = true
+has_server Closing = true
+has_server _ = false
 
--- a client session was paired, and has a credit. One that isn't connected has no call
+-- a client session has 1 to 256 credits, and the number of its server session, where it has one. It
+-- sent its own request nine times at most. One that isn't connected has no call
 pub record IsSettled (x : Client) : Type 0 where
-  pub paired : is_paired x.state ≡ true
   pub some : 1 ≤ x.limit
+  pub most : x.limit ≤ MOST_CREDITS
+  pub joined : has_server x.state ≡ true → x.way.other < SESSION_NUMBERS
+  pub few : x.sends ≤ 9
   pub none_left : is_connected x.state ≡ false → x.calls ≡ []
 
-abbrev pub HasCredit : Server → Type 0
-HasCredit v = 1 ≤ v.credits
+-- so many credits a session may have
+abbrev pub IsCredit : ℕ → Type 0
+IsCredit n = (1 ≤ n) × (n ≤ MOST_CREDITS)
 
--- the lists are kept, the calls of each session stand in the order of their numbers, the pace of each
--- client session stands in the place of its number, and there are no more client sessions than
--- numbers. There is room for as many packets of calls as the receive ring is long, and for as many
--- replies. The pool has sixteen places for each credit that the sessions may have, and two for each
--- job
+abbrev pub HasCredit : Server → Type 0
+HasCredit v = IsCredit v.credits
+
+-- the lists are kept, the calls of each session stand in the order of their numbers, the pace of
+-- each client session stands in the place of its number, and there are no more sessions of either
+-- kind than numbers. There is room for as many packets of calls as the receive ring is long, and
+-- for as many replies. The pool has sixteen places for each credit that the sessions may have, and
+-- two for each job
 pub record Fits (s : Timed) (size places : ℕ) : Type 0 where
   pub kept : Kept s.lists
   pub ascends : AllByRecursion CallsAscend s.lists.clients
   pub paces : NumberedFrom pace_no 0 s.lists.paces
   pub each : length s.lists.paces ≡ length s.lists.clients
   pub numbers : length s.lists.clients ≤ SESSION_NUMBERS
+  pub server_numbers : s.lists.server_numbers ≤ SESSION_NUMBERS
   pub settled : AllByRecursion IsSettled s.lists.clients
   pub credits : AllByRecursion HasCredit s.lists.servers
   pub sendable : AllByRecursion IsSendable s.lists.queued
   pub replies : replies s.lists.queued ≤ s.lists.room
+  pub most : s.lists.room ≤ MOST_RING
   pub packets : size ≡ 2 * s.lists.room
   pub jobs : 1 ≤ s.lists.jobs.limit
   pub buffers : places ≡ 16 * s.lists.room + 2 * s.lists.jobs.limit

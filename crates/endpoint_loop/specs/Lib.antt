@@ -10,7 +10,9 @@ pub mod Fits
 pub mod Handing
 pub mod Handling
 pub mod Hearing
+pub mod Inbox
 pub mod Lending
+pub mod Listening
 pub mod Measures
 pub mod Noting
 pub mod Polling
@@ -19,5 +21,6 @@ pub mod Reading
 pub mod Running
 pub mod Seen
 pub mod Serving
+pub mod Speaking
 pub mod Standing
 pub mod Watching

@@ -38,10 +38,11 @@ abbrev pub asking : Asks → Timed → Timed
 asking asks s =
     record s { lists = record s.lists { jobs = asking_jobs asks s.lists.jobs } }
 
--- what a node counts beside its sessions and rings
+-- what a node counts beside its sessions and rings, and the control packets of its inbox
 pub record Tallies : Type 0 where
   pub asked : ℕ
   pub server_numbers : ℕ
+  pub inbox : List Arrival
   pub counts : Counted
 
 -- a node of this number, with these limits, by what it keeps
@@ -56,7 +57,7 @@ seen_node me limits tallies paces jobs clock rx s = record {
     server_numbers = tallies.server_numbers;
     counts = tallies.counts;
     ring = map arrival_of rx.items;
-    inbox = [];
+    inbox = tallies.inbox;
     queued = s.queued;
     paces = paces;
     clients = s.clients;

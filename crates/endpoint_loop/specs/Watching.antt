@@ -15,11 +15,14 @@ use Rattle.rpc_laws.specs.declared.tables.Timed.{Timed}
 use Rattle.rpc_laws.specs.Facts.{plain}
 use Rattle.rpc_laws.specs.GoBackN.{Watches, flushes_of}
 use Rattle.rpc_laws.specs.Queues.{flush_facts}
-use Rattle.rpc_laws.specs.Steps.{Goes}
+use Rattle.rpc_laws.specs.Steps.{Goes, Rel}
+use Rattle.rpc_outside.specs.Linking.{Carried}
 use Rattle.rpc_outside.specs.Recording.{Grew}
 use Rattle.session_store.specs.Changes.{calls_in}
 use Rattle.session_store.specs.Ends.{next_above, progress_of}
 use Rattle.endpoint_loop.specs.Noting.{MakesEnds}
+use Rattle.endpoint_loop.specs.Speaking.{LinkTook, Troubles}
+use Rattle.endpoint_loop.specs.declared.retrying.Asking.{Asking}
 
 -- what is noted can be told of the node as it was
 pub record Notes (what : Timed → List Fact) (s : Timed) (x : List Fact) (t : Timed) : Type 0 where
@@ -118,3 +121,11 @@ LooksAt facts whole given timeout i after None old new before now from to =
 LooksAt facts whole given timeout i after (Some n) old new before now from to =
     (number_at after i old ≡ Some n)
     × MakesEnds facts whole given (Watches timeout i n) old new before now from to
+
+-- calls ended, and the link was handed control packets
+pub record MakesTimes {R K L : Type 0} (facts : R → Option (List Fact)) (whole : R → Bool)
+    (given : K → Option (List Done)) (sent : L → Option (List Carried)) (troubles : L → Troubles)
+    (P : Rel) (told : Asking) (old new : Timed) (before now : R) (from to : K) (at later : L)
+    : Type 0 where
+  pub ends : MakesEnds facts whole given P old new before now from to
+  pub link : LinkTook sent troubles told ends.makes.noted at later

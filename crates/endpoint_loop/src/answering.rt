@@ -151,7 +151,7 @@ impl Node {
 
     // A control packet of a peer is handled. The result is the packet that answers it, where there
     // is one.
-    fn on_control<R: Recorder>(
+    pub(crate) fn on_control<R: Recorder>(
         &mut self,
         peer: Peer,
         head: &ControlHeader,

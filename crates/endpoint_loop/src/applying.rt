@@ -162,8 +162,9 @@ impl<V: Service, W: Workers> Endpoint<V, W> {
     }
 
     /// Takes a datagram from a peer: it is copied into the receive ring where it is a packet of a
-    /// call and there is room. Bad comes exactly where it is no such packet, and then Full exactly
-    /// where the ring is full.
+    /// call, and into the inbox where it is a control packet. Bad comes exactly where it is no
+    /// packet, and tells why; then Full exactly where the ring, or for a control packet the inbox,
+    /// is full.
     pub fn deliver<R: Recorder>(&mut self, peer: Peer, bytes: &[u8], rec: &mut R) -> Delivery
         ensures makes { Makes R.facts R.whole (Delivers peer bytes.now) self.old.timed
             self.new.timed rec.old rec.new }

@@ -84,9 +84,7 @@ impl Node {
             room: waiting.resp.capacity(),
         };
         let next = self.next_call();
-        let Ok(()) = self.callers.enter(session.0) else {
-            return Err(waiting);
-        };
+        self.callers.enter(session.0);
         self.store.ask(i, waiting)?;
         self.asked = next.0 + 1;
         rec.note(Who::Node(self.me), event, self.store.newest_ask(i), &[]);

@@ -1,18 +1,15 @@
 //! Which client sessions a poll visits.
-ghost use Rattle.std.specs.Prelude.{◌≡◌, ◌≤◌, length};
-ghost use Rattle.std.specs.List.{AllByRecursion};
-ghost use Rattle.endpoint_loop.specs.Calling.{IsNextCaller};
-ghost use Rattle.endpoint_loop.specs.Fits.{IsSettled};
+ghost use Rattle.std.specs.Prelude.{◌≡◌, ◌<◌, ◌≤◌, length, slice_get, IfSome};
+ghost use Rattle.endpoint_loop.specs.Calling.{IsNextCaller, is_visited};
 
 use crate::node::Node;
 
 impl Node {
-    // The next client session that may have calls, from place `from` on and below `count`. Those
-    // that are passed over have none.
+    // The next client session that may have calls or a request of its own, from place `from` on and
+    // below `count`. Those that are passed over have neither.
     pub(crate) fn next_caller(&self, from: usize, count: usize) -> Option<usize>
         requires few { count ≤ 65536 }
-        ensures next { IsNextCaller from count self.now.lists.clients result }
-        ensures settled { AllByRecursion IsSettled self.now.lists.clients }
+        ensures { IsNextCaller from count self.now.lists.clients result }
     {
         let callers = &self.callers;
         if from >= count {
@@ -28,11 +25,20 @@ impl Node {
         None
     }
 
-    // Session `i` isn't visited any more until a call is asked on it, where it has none.
+    // Whether session `i` has calls or a request of its own.
+    fn is_visited(&self, i: usize) -> bool
+        requires known { i < length self.now.lists.clients }
+        ensures { IfSome (slice_get self.now.lists.clients i) (λ x. result ≡ is_visited x) }
+    {
+        self.store.pending(i) != 0 || self.store.own_request(i).is_some()
+    }
+
+    // Session `i` isn't visited any more, where it has neither a call nor a request of its own,
+    // until it has one.
     pub(crate) fn forget_idle(&mut self, i: usize)
         ensures { self.new ≡ self.old }
     {
-        if i < self.store.clients() && self.store.pending(i) == 0 {
+        if i < self.store.clients() && !self.is_visited(i) {
             self.callers.leave(i as u16);
         }
     }

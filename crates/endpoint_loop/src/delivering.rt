@@ -1,20 +1,19 @@
 //! A datagram comes in.
 ghost use Rattle.endpoint_loop.specs.Handing.{timed_of};
-ghost use Rattle.std.specs.Prelude.{◌≡◌, None};
-ghost use Rattle.endpoint_loop.specs.Delivering.{bad_by, delivered_as};
+ghost use Rattle.std.specs.Prelude.{◌≡◌, ◌≤◌, true, false, length};
+ghost use Rattle.endpoint_loop.specs.Delivering.{delivered_as, place_for};
 ghost use Rattle.endpoint_loop.specs.Noting.{Makes};
-ghost use Rattle.packet_header.specs.Reading.{decoded, message_of};
-ghost use Rattle.rpc_laws.specs.Deliveries.{Delivers};
+ghost use Rattle.endpoint_loop.specs.declared.delivering.Delivery.TheVariants.{Inbox, Ring};
+ghost use Rattle.packet_rings.specs.Values.{most_datagram_bytes};
+ghost use Rattle.rpc_laws.specs.Deliveries.{Delivers, delivery, inbox_room};
+ghost use Rattle.rpc_base.specs.declared.event.Event.TheVariants.{Overflowed};
+ghost use Rattle.rpc_laws.specs.Front.{is_control, is_message};
 
-use crate::hearing::read;
 use crate::node::Node;
-use packet_header::{BadPacket, decode};
+use packet_header::{BadPacket, Packet, decode};
 use packet_rings::Datagram;
 use rpc_base::{Event, Peer, Who};
 use rpc_outside::Recorder;
-
-// The place of the byte of a header that tells its kind.
-const KIND: usize = 1;
 
 /// What became of a datagram.
 #[derive(Clone, Copy, Debug, PartialEq, Eq)]
@@ -25,40 +24,38 @@ pub enum Delivery {
     Inbox,
     /// The ring, or for a control packet the inbox, is full: it is gone.
     Full,
-    /// It is no packet that a node takes, and is gone.
+    /// It is no packet, and is gone.
     Bad(BadPacket),
 }
 
-// What is wrong with a datagram that is no packet of a call. As yet no node takes a control packet:
-// its kind is refused.
-fn why_bad(bytes: &[u8]) -> BadPacket
-    requires { message_of bytes.now ≡ None }
-    ensures { result ≡ bad_by (decoded bytes.now) bytes.now }
-{
-    match decode(bytes) {
-        Ok(_packet) => BadPacket::Kind { byte: bytes[KIND] },
-        Err(why) => why,
-    }
-}
-
 impl Node {
-    /// Takes a datagram from a peer: it is copied into the receive ring where it is a packet of a
-    /// call and there is room.
-    pub fn deliver<R: Recorder>(&mut self, peer: Peer, bytes: &[u8], rec: &mut R) -> Delivery
+    // There is no room for a datagram: it is counted, and gone.
+    fn overflow<R: Recorder>(&mut self, peer: Peer, bytes: &[u8], rec: &mut R)
+        requires full { delivery self.old.lists peer bytes.now ≡ Overflowed peer }
         ensures makes { Makes R.facts R.whole (Delivers peer bytes.now) (timed_of self.old)
             (timed_of self.new) rec.old rec.new }
         ensures jobs { self.new.lists.jobs ≡ self.old.lists.jobs }
         ensures servers { self.new.lists.servers ≡ self.old.lists.servers }
         ensures handed { self.new.handed ≡ self.old.handed }
-        ensures answered { result ≡ delivered_as self.old.lists bytes.now }
     {
-        if read(bytes).is_none() {
-            rec.note(Who::Node(self.me), Event::Bad { peer }, bytes, &[]);
-            return Delivery::Bad(why_bad(bytes));
-        }
+        self.counts.overflowed = self.counts.overflowed.saturating_add(1);
+        rec.note(Who::Node(self.me), Event::Overflowed { peer }, bytes, &[]);
+    }
+
+    // A packet of a call is copied into the receive ring where there is room.
+    fn deliver_message<R: Recorder>(&mut self, peer: Peer, bytes: &[u8], rec: &mut R) -> Delivery
+        requires message { is_message bytes.now ≡ true }
+        requires long { length bytes.now ≤ most_datagram_bytes }
+        ensures makes { Makes R.facts R.whole (Delivers peer bytes.now) (timed_of self.old)
+            (timed_of self.new) rec.old rec.new }
+        ensures jobs { self.new.lists.jobs ≡ self.old.lists.jobs }
+        ensures servers { self.new.lists.servers ≡ self.old.lists.servers }
+        ensures handed { self.new.handed ≡ self.old.handed }
+        ensures answered { result
+            ≡ place_for (length self.old.lists.ring) self.old.lists.room Ring }
+    {
         if self.rx.size() <= self.rx.len() {
-            self.counts.overflowed = self.counts.overflowed.saturating_add(1);
-            rec.note(Who::Node(self.me), Event::Overflowed { peer }, bytes, &[]);
+            self.overflow(peer, bytes, rec);
             return Delivery::Full;
         }
         let Some(datagram) = Datagram::of(peer, bytes) else {
@@ -69,5 +66,46 @@ impl Node {
             unreachable!()
         };
         Delivery::Ring
+    }
+
+    // A control packet is copied into the inbox where there is room.
+    fn deliver_control<R: Recorder>(&mut self, peer: Peer, bytes: &[u8], rec: &mut R) -> Delivery
+        requires control { is_control bytes.now ≡ true }
+        requires other { is_message bytes.now ≡ false }
+        requires long { length bytes.now ≤ most_datagram_bytes }
+        ensures makes { Makes R.facts R.whole (Delivers peer bytes.now) (timed_of self.old)
+            (timed_of self.new) rec.old rec.new }
+        ensures jobs { self.new.lists.jobs ≡ self.old.lists.jobs }
+        ensures servers { self.new.lists.servers ≡ self.old.lists.servers }
+        ensures handed { self.new.handed ≡ self.old.handed }
+        ensures answered { result ≡ place_for (length self.old.lists.inbox) inbox_room Inbox }
+    {
+        if !self.inbox.has_room() {
+            self.overflow(peer, bytes, rec);
+            return Delivery::Full;
+        }
+        rec.note(Who::Node(self.me), Event::Arrived { peer }, bytes, &[]);
+        self.inbox.push(peer, bytes);
+        Delivery::Inbox
+    }
+
+    /// Takes a datagram from a peer: it is copied into the receive ring where it is a packet of a
+    /// call, and into the inbox where it is a control packet, as long as there is room.
+    pub fn deliver<R: Recorder>(&mut self, peer: Peer, bytes: &[u8], rec: &mut R) -> Delivery
+        ensures makes { Makes R.facts R.whole (Delivers peer bytes.now) (timed_of self.old)
+            (timed_of self.new) rec.old rec.new }
+        ensures jobs { self.new.lists.jobs ≡ self.old.lists.jobs }
+        ensures servers { self.new.lists.servers ≡ self.old.lists.servers }
+        ensures handed { self.new.handed ≡ self.old.handed }
+        ensures answered { result ≡ delivered_as self.old.lists bytes.now }
+    {
+        match decode(bytes) {
+            Ok(Packet::Message(_)) => self.deliver_message(peer, bytes, rec),
+            Ok(Packet::Control(_)) => self.deliver_control(peer, bytes, rec),
+            Err(why) => {
+                rec.note(Who::Node(self.me), Event::Bad { peer }, bytes, &[]);
+                Delivery::Bad(why)
+            }
+        }
     }
 }

@@ -136,7 +136,6 @@ impl Node {
     // What always holds of the lists of a node holds of this one's.
     pub(crate) fn sound(&self)
         ensures kept { Kept self.now.lists }
-        ensures inbox { self.now.lists.inbox ≡ [] }
         ensures handed { AreOfCalls self.now.handed self.now.lists.clients }
     {
         self.store.sound();

@@ -1,6 +1,6 @@
 //! Step 3 of a poll: the packets of the receive ring are handled.
 ghost use Rattle.endpoint_loop.specs.Handing.{GivesBackTo, timed_of};
-ghost use Rattle.std.specs.Prelude.{◌≡◌, ◌≢◌, ◌<◌, ◌+◌, [], true, false, drop, length};
+ghost use Rattle.std.specs.Prelude.{◌≡◌, ◌≢◌, ◌<◌, ◌≤◌, ◌+◌, [], true, false, drop, length};
 ghost use Rattle.endpoint_loop.specs.Handling.{MakesAllHandled, MakesHandled, StandsForSome};
 ghost use Rattle.endpoint_loop.specs.Handling.{WorksFor};
 ghost use Rattle.endpoint_loop.specs.Serving.{AllServed};
@@ -10,6 +10,7 @@ ghost use Rattle.rpc_laws.specs.Queues.{replies};
 use crate::continuation::Continuation;
 use crate::node::Node;
 use packet_header::Kind;
+use rpc_base::MOST_RING;
 use rpc_outside::{Recorder, Service};
 use std::alloc::Global;
 use worker_board::Parcel;
@@ -132,6 +133,7 @@ impl Node {
         ensures worked { W.worked workers.new ≡ W.worked workers.old }
         ensures looks { W.looks workers.new ≡ W.looks workers.old }
         ensures count { result + length self.new.lists.ring ≡ length self.old.lists.ring }
+        ensures few { result ≤ MOST_RING }
         ensures handed { GivesBackTo K.given self.old.handed self.new.handed k.old k.new }
     {
         let before = self.rx.len();

@@ -5,6 +5,7 @@ ghost use Rattle.rpc_base.specs.Limits.{Fits as InRange};
 ghost use Rattle.rpc_laws.specs.Groups.{shares};
 ghost use Rattle.rpc_laws.specs.NodeLists.{new_node};
 
+use crate::inbox::Inbox;
 use calling_sessions::CallingSessions;
 use packet_rings::RxRing;
 use rpc_base::{Limits, NoMemory, NodeId, RequestNo, SessionNo};
@@ -47,8 +48,10 @@ pub struct Node {
     /// In microseconds.
     pub(crate) clock: u64,
     pub(crate) rx: RxRing,
+    pub(crate) inbox: Inbox,
     pub(crate) store: Store,
-    /// Among them is each client session that has calls, so that a poll looks at no other.
+    /// Among them is each client session that has calls or a request of its own, so that a poll
+    /// looks at no other.
     pub(crate) callers: CallingSessions,
 }
 
@@ -65,6 +68,7 @@ impl Model for Node {
     ghost view = { λ n. holding n.store.handed (seen_node n.me n.limits (record {
       asked = n.asked;
       server_numbers = n.server_numbers;
+      inbox = n.inbox;
       counts = n.counts;
     }) n.paces.items (jobs_in n.limits.jobs n.given n.jobs.items) n.clock n.rx
         n.store) };
@@ -72,6 +76,7 @@ impl Model for Node {
     ghost invariant = { λ n. Fits (seen_node n.me n.limits (record {
       asked = n.asked;
       server_numbers = n.server_numbers;
+      inbox = n.inbox;
       counts = n.counts;
     }) n.paces.items (jobs_in n.limits.jobs n.given n.jobs.items) n.clock n.rx
         n.store) n.store.size n.store.places
@@ -81,7 +86,7 @@ impl Model for Node {
 
 impl Node {
     /// Node `me` with these limits, which are in their ranges. Its lists are empty. `NoMemory`
-    /// comes where there is no memory for its rings and its pool.
+    /// comes where there is no memory for its rings, its inbox and its pool.
     pub fn new(alloc: Global, me: NodeId, limits: Limits) -> Result<Node, NoMemory>
         requires limits { InRange limits }
         ensures { IfOk result (λ n. n ≡ holding [] (new_node me limits)) }
@@ -103,8 +108,9 @@ impl Node {
             jobs: VecDeque::with_capacity(alloc, limits.jobs as usize)?,
             clock: 0,
             rx: RxRing::new(alloc, limits.ring)?,
+            inbox: Inbox::new(alloc)?,
             store: Store::new(alloc, limits.ring, places)?,
-            callers: CallingSessions::new(alloc),
+            callers: CallingSessions::new(alloc)?,
         })
     }
 

@@ -44,7 +44,7 @@ impl Node {
     }
 
     // Notes why a session is refused.
-    fn refuse<R: Recorder>(&self, why: &ConnectError, rec: &mut R)
+    pub(crate) fn refuse<R: Recorder>(&self, why: &ConnectError, rec: &mut R)
         requires told { IsSome (refused why.now) }
         ensures { IfSome (refused why.now)
             (λ event. Makes R.facts R.whole (Refuses event) (timed_of self.now) (timed_of self.now)
@@ -69,7 +69,7 @@ impl Node {
     }
 
     // The number of the next client session.
-    fn next_client(&self) -> SessionNo
+    pub(crate) fn next_client(&self) -> SessionNo
         requires few { length self.now.lists.clients < SESSION_NUMBERS }
         ensures { result ≡ length self.now.lists.clients }
     {

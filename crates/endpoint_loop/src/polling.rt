@@ -1,16 +1,21 @@
 //! A poll, step by step.
 ghost use Rattle.endpoint_loop.specs.Handing.{GivesBackTo, holding, timed_of};
-ghost use Rattle.std.specs.Prelude.{◌≡◌, ◌≤◌, max, true, false, IfOk, IsOk};
-ghost use Rattle.endpoint_loop.specs.Polling.{MakesPoll, turn_of};
+ghost use Rattle.std.specs.Prelude.{◌≡◌, ◌≤◌, ◌*◌, max, true, IfOk};
+ghost use Rattle.endpoint_loop.specs.Polling.{MakesPoll, turn_of, turn_told};
 ghost use Rattle.endpoint_loop.specs.Standing.{GoesOn};
+ghost use Rattle.rpc_laws.specs.Deliveries.{inbox_room};
 ghost use Rattle.rpc_laws.specs.PollOrder.{raised};
 ghost use Rattle.rpc_outside.specs.Faults.{HasCause, HasRisen};
 ghost use Rattle.rpc_outside.specs.Linking.{NoneComes};
 
 use crate::continuation::Continuation;
 use crate::endpoint::Endpoint;
+use crate::listening::Listening;
 use crate::node::Node;
-use rpc_outside::{Link, Recorder, Service};
+use crate::retrying::Asking;
+use crate::sending::Sending;
+use rpc_base::{MOST_RING, SESSION_NUMBERS};
+use rpc_outside::{Failed, Link, Recorder, Service};
 use worker_crew::Workers;
 
 /// A fault of the link.
@@ -20,12 +25,41 @@ pub struct LinkFault;
 /// What a poll did.
 #[derive(Clone, Copy, Debug, PartialEq, Eq)]
 pub struct Turn {
-    /// How many packets were handled: those taken, answered again and dropped.
+    /// How many packets were handled: those of session control, and those of calls that were
+    /// taken, answered again or dropped.
     pub handled: u32,
-    /// How many packets were sent.
+    /// How many packets were sent, those of session control among them.
     pub sent: u32,
     /// Whether packets that may be sent are left, since the link was busy.
     pub busy: bool,
+}
+
+// What a poll tells, which handled so many packets of calls, by what its steps handed to the link:
+// the answers of control packets, the requests of its sessions, and packets of calls.
+fn turn_by(
+    handled: u32,
+    heard: Listening,
+    asked: Asking,
+    sent: Result<Sending, Failed>,
+) -> Result<Turn, LinkFault>
+    requires handled { handled ≤ MOST_RING }
+    requires heard { heard.heard ≤ inbox_room }
+    requires answers { heard.sent ≤ heard.heard }
+    requires asked { asked.sent ≤ SESSION_NUMBERS }
+    requires sent { IfOk sent (λ s. s.sent ≤ 2 * MOST_RING) }
+    ensures { turn_of result ≡ turn_told handled heard asked sent }
+{
+    if heard.failed || asked.failed {
+        return Err(LinkFault);
+    }
+    match sent {
+        Ok(sending) => Ok(Turn {
+            handled: heard.heard + handled,
+            sent: heard.sent + asked.sent + sending.sent,
+            busy: sending.busy,
+        }),
+        Err(_) => Err(LinkFault),
+    }
 }
 
 impl Node {
@@ -39,10 +73,12 @@ impl Node {
 
 impl<V: Service, W: Workers> Endpoint<V, W> {
     /// Polls the endpoint at the moment `now`, in microseconds: finishes the jobs that workers
-    /// finished, handles the packets of the receive ring, looks at the timers, begins and posts
-    /// what its sessions may, sends what is queued, and ends with a Polled. Its clock doesn't fall.
-    /// Calls that end go to `k`. A busy link stops the sending. So does a fault of the link, which
-    /// is answered at the end of the poll; the packet that met it stays in front of the queue.
+    /// finished, handles the control packets of the inbox and the packets of the receive ring,
+    /// looks at the timers, begins and posts what its sessions may, sends what is queued, and ends
+    /// with a Polled. Its clock doesn't fall. Calls that end go to `k`. A busy link stops the
+    /// sending of what is queued. So does a fault of the link; the packet that met it stays in front
+    /// of the queue. A control packet that the link doesn't take is gone. `LinkFault` comes at the
+    /// end of the poll, exactly where a fault of the link came in it.
     pub fn poll<L: Link, K: Continuation, R: Recorder>(
         &mut self,
         now: u64,
@@ -60,7 +96,13 @@ impl<V: Service, W: Workers> Endpoint<V, W> {
           worked = W.worked w;
           looks = W.looks w;
         }) (record { mode = V.mode_of; answer = V.answer }) V.stands W.answer (turn_of result) now
-            (L.sent link.old) (L.sent link.new) self.old self.new rec.old rec.new k.old k.new }
+            (record {
+              sent = L.sent link.old;
+              troubles = record { faults = L.faults link.old; busies = L.busies link.old };
+            }) (record {
+              sent = L.sent link.new;
+              troubles = record { faults = L.faults link.new; busies = L.busies link.new };
+            }) self.old self.new rec.old rec.new k.old k.new }
         ensures goes_on { GoesOn R.facts R.whole (record { mode = V.mode_of; answer = V.answer })
             V.stands W.answer (λ w. record {
               limit = W.limit w;
@@ -76,22 +118,15 @@ impl<V: Service, W: Workers> Endpoint<V, W> {
     {
         self.node.raise_clock(now);
         self.node.finish_all(&mut self.workers, rec);
-        self.node.sound();
+        let heard = self.node.hear_all(link, rec);
         let handled = self
             .node
             .handle_all(self.alloc, &mut self.service, &mut self.workers, k, rec);
-        self.node.watch(k, rec);
+        let asked = self.node.watch(link, k, rec);
         self.node.serve_sessions(rec);
         let sent = self.node.send_all(link, rec);
         self.node.close(rec);
         self.node.sound();
-        match sent {
-            Ok(sending) => Ok(Turn {
-                handled,
-                sent: sending.sent,
-                busy: sending.busy,
-            }),
-            Err(_) => Err(LinkFault),
-        }
+        turn_by(handled, heard, asked, sent)
     }
 }

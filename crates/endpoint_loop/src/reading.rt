@@ -63,7 +63,10 @@ impl Node {
     pub fn quiet(&self) -> bool
         ensures { IsTrue result ↔ IsQuiet self.now.lists }
     {
-        self.rx.is_empty() && self.store.queued() == 0 && self.jobs.is_empty()
+        self.rx.is_empty()
+            && self.inbox.is_empty()
+            && self.store.queued() == 0
+            && self.jobs.is_empty()
     }
 }
 

@@ -1,7 +1,9 @@
 //! Step 6 of a poll: what is ready or due is sent.
 ghost use Rattle.endpoint_loop.specs.Handing.{timed_of};
 ghost use Rattle.std.specs.Prelude.{◌≡◌, ◌≢◌, ◌<◌, ◌+◌, ◌↔◌, [], true, false, length, IfOk};
-ghost use Rattle.std.specs.Prelude.{IsTrue, OnErr};
+ghost use Rattle.std.specs.Prelude.{◌≤◌, ◌*◌, IsTrue, OnErr};
+ghost use Rattle.endpoint_loop.specs.Polling.{left_one};
+ghost use Rattle.endpoint_loop.specs.Speaking.{HeldBack};
 ghost use Rattle.endpoint_loop.specs.Noting.{MakesSent, SendsNone};
 ghost use Rattle.rpc_laws.specs.Pacing.{line};
 ghost use Rattle.rpc_laws.specs.PollOrder.{Sends, SendsSome};
@@ -10,7 +12,7 @@ ghost use Rattle.rpc_outside.specs.Linking.{NoneComes};
 
 use crate::node::Node;
 use packet_header::HEAD_BYTES;
-use rpc_base::{Event, Who};
+use rpc_base::{Event, MOST_RING, Who};
 use rpc_outside::{Failed, Link, Recorder, Taken};
 
 /// What was sent.
@@ -38,7 +40,7 @@ impl Node {
             (timed_of self.new) rec.old rec.new link.old link.new × HasRisen (L.busies link.old)
             (L.busies link.new)) }
         ensures fault { OnErr result (SendsNone L.sent (timed_of self.old) (timed_of self.new)
-            rec.old rec.new link.old link.new) }
+            rec.old rec.new link.old link.new × (L.busies link.new ≡ L.busies link.old)) }
         ensures fewer { IfOk result (λ went. went ≡ true →
             length self.new.lists.queued < length self.old.lists.queued) }
         ensures jobs { self.new.lists.jobs ≡ self.old.lists.jobs }
@@ -94,6 +96,11 @@ impl Node {
             HasRisen (L.busies link.old) (L.busies link.new)) }
         ensures count { IfOk result (λ s.
             s.sent + length self.new.lists.queued ≡ length self.old.lists.queued) }
+        ensures few { IfOk result (λ s. s.sent ≤ 2 * MOST_RING) }
+        ensures held { HeldBack (left_one (line self.new.clock self.new.lists.queued)) (record {
+          faults = L.faults link.old;
+          busies = L.busies link.old;
+        }) (record { faults = L.faults link.new; busies = L.busies link.new }) }
         ensures jobs { self.new.lists.jobs ≡ self.old.lists.jobs }
         ensures servers { self.new.lists.servers ≡ self.old.lists.servers }
         ensures lists { NoneComes L.waiting L.received link.old link.new }

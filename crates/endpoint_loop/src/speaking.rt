@@ -1,5 +1,5 @@
 //! Control packets are handed to the link at once, and are never queued.
-ghost use Rattle.std.specs.Prelude.{◌≡◌, false, IfOk};
+ghost use Rattle.std.specs.Prelude.{◌≡◌, true, false, IfOk, OnErr};
 ghost use Rattle.endpoint_loop.specs.Controlling.{Spoke, was_taken};
 ghost use Rattle.packet_header.specs.Header.{ControlInRange};
 ghost use Rattle.rpc_outside.specs.Faults.{HasCause, HasRisen};
@@ -23,6 +23,8 @@ pub fn speak<L: Link, R: Recorder>(
         link.old link.new }
     ensures busy { IfOk result (λ went. went ≡ false →
         HasRisen (L.busies link.old) (L.busies link.new)) }
+    ensures went { IfOk result (λ went. went ≡ true → L.busies link.new ≡ L.busies link.old) }
+    ensures fault { OnErr result (L.busies link.new ≡ L.busies link.old) }
     ensures lists { NoneComes L.waiting L.received link.old link.new }
     ensures cause { HasCause (L.faults link.old) (L.faults link.new) result }
 {

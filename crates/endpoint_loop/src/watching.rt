@@ -1,22 +1,22 @@
-//! Step 4 of a poll: the timers. A call that timed out is rolled back, and one that timed out once
-//! too often breaks its session.
+//! Step 4 of a poll: the timers. Client sessions send their own requests. A call that timed out is
+//! rolled back, and one that timed out once too often breaks its session.
 ghost use Rattle.endpoint_loop.specs.Handing.{GivesBackTo, timed_of};
-ghost use Rattle.std.specs.Prelude.{◌≡◌, ◌<◌, length};
-ghost use Rattle.std.specs.List.{AllByRecursion};
-ghost use Rattle.endpoint_loop.specs.Fits.{IsSettled};
+ghost use Rattle.std.specs.Prelude.{◌≡◌, ◌<◌, ◌≤◌, length};
 ghost use Rattle.endpoint_loop.specs.Noting.{MakesEnds};
-ghost use Rattle.endpoint_loop.specs.Watching.{LooksAt, calls_at};
+ghost use Rattle.endpoint_loop.specs.Watching.{LooksAt, MakesTimes, calls_at};
 ghost use Rattle.rpc_laws.specs.ControlSteps.{TimesAll, TimesSession};
-ghost use Rattle.rpc_laws.specs.GoBackN.{Watches};
+ghost use Rattle.rpc_laws.specs.GoBackN.{Watches, WatchesSession};
+ghost use Rattle.rpc_outside.specs.Linking.{NoneComes};
 ghost use Rattle.session_store.specs.Changes.{ActiveAt};
 ghost use Rattle.session_store.specs.Ends.{Ascends};
 
 use crate::continuation::Continuation;
 use crate::node::Node;
+use crate::retrying::Asking;
 use client_core::Active;
-use rpc_base::CallNo;
+use rpc_base::{CallNo, SESSION_NUMBERS};
 use rpc_laws::TimerRow;
-use rpc_outside::Recorder;
+use rpc_outside::{Link, Recorder};
 
 impl Node {
     // Looks at an active call of session `i`.
@@ -72,47 +72,99 @@ impl Node {
     }
 
     // Looks at the calls that session `i` has now, in the order of their numbers. Those that wait
-    // have no timer. The session has no request of its own, since it was paired.
-    fn watch_session<K: Continuation, R: Recorder>(
+    // have no timer.
+    fn watch_calls<K: Continuation, R: Recorder>(
         &mut self,
         timeout: u64,
         i: usize,
         k: &mut K,
         rec: &mut R,
     )
-        ensures ended { MakesEnds R.facts R.whole K.given (TimesSession timeout i)
+        ensures ended { MakesEnds R.facts R.whole K.given (WatchesSession timeout i)
             (timed_of self.old) (timed_of self.new) rec.old rec.new k.old k.new }
         ensures servers { self.new.lists.servers ≡ self.old.lists.servers }
         ensures me { self.new.lists.me ≡ self.old.lists.me }
         ensures jobs { self.new.lists.jobs ≡ self.old.lists.jobs }
         ensures handed { GivesBackTo K.given self.old.handed self.new.handed k.old k.new }
     {
-        if i >= self.store.clients() {
-            return;
-        }
+        // Their calls stand in the order of their numbers.
+        let _sessions = self.store.clients();
         let mut after = None;
         'calls: while let Some(call) = self.watch_next(timeout, i, after, k, rec) {
             after = Some(call);
         }
     }
 
-    /// Step 4 of a poll: the calls of all client sessions are looked at in the order of their
-    /// numbers, at the node's clock. A call that timed out is rolled back, and one that timed out
-    /// once too often breaks its session, whose calls end. A session without calls is passed over.
-    pub fn watch<K: Continuation, R: Recorder>(&mut self, k: &mut K, rec: &mut R)
-        ensures ended { MakesEnds R.facts R.whole K.given TimesAll (timed_of self.old)
-            (timed_of self.new) rec.old rec.new k.old k.new }
-        ensures settled { AllByRecursion IsSettled self.old.lists.clients }
+    // Looks at session `i`: at its own request, and then at its calls. Where the link failed with
+    // the request, the calls are looked at all the same.
+    fn watch_session<L: Link, K: Continuation, R: Recorder>(
+        &mut self,
+        timeout: u64,
+        i: usize,
+        link: &mut L,
+        k: &mut K,
+        rec: &mut R,
+    ) -> Asking
+        ensures timed { MakesTimes R.facts R.whole K.given L.sent (λ l. record {
+          faults = L.faults l;
+          busies = L.busies l;
+        }) (TimesSession timeout i) result (timed_of self.old) (timed_of self.new) rec.old rec.new
+            k.old k.new link.old link.new }
+        ensures servers { self.new.lists.servers ≡ self.old.lists.servers }
+        ensures me { self.new.lists.me ≡ self.old.lists.me }
+        ensures jobs { self.new.lists.jobs ≡ self.old.lists.jobs }
+        ensures lists { NoneComes L.waiting L.received link.old link.new }
+        ensures few { result.sent ≤ 1 }
+        ensures handed { GivesBackTo K.given self.old.handed self.new.handed k.old k.new }
+    {
+        if i >= self.store.clients() {
+            return Asking {
+                sent: 0,
+                failed: false,
+            };
+        }
+        let went = self.retry(timeout, i, link, rec);
+        self.watch_calls(timeout, i, k, rec);
+        went
+    }
+
+    /// Step 4 of a poll: all client sessions are looked at in the order of their numbers, at the
+    /// node's clock. One that is opened or closes sends its own request, at first and again each
+    /// time that a timeout has passed, and gives up where no answer came to the ninth; the request
+    /// is handed to the link at once. A call that timed out is rolled back, and one that timed out
+    /// once too often breaks its session, whose calls end. A session with neither a call nor a
+    /// request is passed over. Where the link failed with a request, the other sessions are looked
+    /// at all the same.
+    pub fn watch<L: Link, K: Continuation, R: Recorder>(
+        &mut self,
+        link: &mut L,
+        k: &mut K,
+        rec: &mut R,
+    ) -> Asking
+        ensures timed { MakesTimes R.facts R.whole K.given L.sent (λ l. record {
+          faults = L.faults l;
+          busies = L.busies l;
+        }) TimesAll result (timed_of self.old) (timed_of self.new) rec.old rec.new k.old k.new
+            link.old link.new }
         ensures servers { self.new.lists.servers ≡ self.old.lists.servers }
         ensures jobs { self.new.lists.jobs ≡ self.old.lists.jobs }
+        ensures lists { NoneComes L.waiting L.received link.old link.new }
+        ensures few { result.sent ≤ SESSION_NUMBERS }
         ensures handed { GivesBackTo K.given self.old.handed self.new.handed k.old k.new }
     {
         let timeout = self.limits.timeout;
         let count = self.store.clients();
         let mut from = 0;
+        let mut told = Asking {
+            sent: 0,
+            failed: false,
+        };
         'sessions: while let Some(i) = self.next_caller(from, count) {
-            self.watch_session(timeout, i, k, rec);
+            let one = self.watch_session(timeout, i, link, k, rec);
+            told.sent += one.sent;
+            told.failed |= one.failed;
             from = i + 1;
         }
+        told
     }
 }

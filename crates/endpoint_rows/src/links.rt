@@ -4,7 +4,7 @@ use rpc_outside::MemLink;
 use std::alloc::Global;
 
 /// More datagrams than a row sends.
-const ROOM: u32 = 16;
+const ROOM: u32 = 80;
 
 fn link(alloc: Global, fails: Vec<u64>, busy: Vec<u64>) -> Result<MemLink, NoMemory> {
     MemLink::new(alloc, Vec::new(alloc), ROOM, fails, busy)

@@ -2,10 +2,13 @@
 use Rattle.std.proofs.Common.{◌≡◌, ℕ, suc, ◌+◌, ◌≤◌, Bool, true, false, not, cond, ltb, Option}
 use Rattle.std.proofs.Common.{Some, None, List, [], ◌∷◌, length, refl, ap, ap₂, subst, ◌∙◌, inl}
 use Rattle.std.proofs.Common.{inr, arith}
-use Rattle.std.specs.Prelude.{◌==◌, slice_get}
+use Rattle.std.specs.Prelude.{◌==◌, is_some, slice_get, Result, Ok, Err}
 use Rattle.std.specs.List.{find}
 use Rattle.std.proofs.lemmas.Bool.{and_parts, eqb-true, ltb-true, ltb-false, not-false}
-use Rattle.packet_header.specs.Reading.{message_of, body_of}
+use Rattle.packet_header.specs.Reading.{decoded, message_in, message_of, body_of}
+use Rattle.packet_header.specs.declared.packet.BadPacket.{BadPacket}
+use Rattle.packet_header.specs.declared.packet.Packet.{Packet}
+use Rattle.packet_header.specs.declared.packet.Packet.TheVariants.{Control, Message}
 use Rattle.packet_header.specs.declared.packet.Kind.{Kind}
 use Rattle.packet_header.specs.declared.packet.Kind.TheVariants.{Request, Rfr, Cr, Response}
 use Rattle.packet_header.specs.declared.packet.MessageHeader.{MessageHeader}
@@ -30,7 +33,7 @@ use Rattle.rpc_laws.specs.declared.tables.Served.{Served}
 use Rattle.rpc_laws.specs.declared.tables.Server.{Server}
 use Rattle.rpc_laws.specs.declared.tables.Timed.{Timed}
 use Rattle.rpc_laws.specs.Facts.{plain, with_two}
-use Rattle.rpc_laws.specs.Front.{front_header, front_body, is_control, is_message}
+use Rattle.rpc_laws.specs.Front.{control_in, front_header, front_body, is_control, is_message}
 use Rattle.rpc_laws.specs.ControlSteps.{HearsAll, TimesAll}
 use Rattle.rpc_laws.specs.Deliveries.{arrival, inbox_room, Delivers}
 use Rattle.rpc_laws.specs.Groups.{Asks, Connects, Disconnects, SetsRate, told_state, state_of}
@@ -190,7 +193,12 @@ asked-allowed s session n f false a = a
 
 -- a datagram is delivered
 no-control : (bytes : List ℕ) → is_message bytes ≡ true → is_control bytes ≡ true → ⊥
-no-control bytes e h = cc
+no-control bytes e h = by (decoded bytes) e h where
+  by : (r : Result Packet BadPacket) → is_some (message_in r) ≡ true
+      → is_some (control_in r) ≡ true → ⊥
+  by (Ok (Message m)) i j = cc
+  by (Ok (Control c)) i j = cc
+  by (Err bad) i j = cc
 
 message-by : (s : Lists) (peer : ℕ) (bytes : List ℕ) (b : Bool) → ltb (length s.ring) s.room ≡ b
     → is_message bytes ≡ true → AllowedBy s (cond b (Arrived peer) (Overflowed peer)) bytes

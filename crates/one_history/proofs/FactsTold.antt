@@ -1,14 +1,15 @@
--- The facts of each row have no other bytes than those that their lines show.
-use Rattle.std.proofs.Common.{ℕ, Bool, true, false, cond, List, [], ◌∷◌, ◌++◌, length, map}
+-- The facts of each row have no other bytes than those that their lines show, and are of a node.
+use Rattle.std.proofs.Common.{◌≡◌, ℕ, Bool, true, false, cond, List, [], ◌∷◌, ◌++◌, length, map}
 use Rattle.std.proofs.Common.{Option, Some, None, refl, nat_lt}
 use Rattle.std.specs.Prelude.{◌==◌, flat_map}
-use Rattle.std.specs.List.{find}
+use Rattle.std.specs.List.{AllByRecursion, find}
+use Rattle.one_history.specs.NetFacts.{is_of_net}
 use Rattle.packet_header.specs.declared.packet.ControlHeader.{ControlHeader}
 use Rattle.packet_header.specs.declared.packet.Kind.{Kind}
 use Rattle.packet_header.specs.declared.packet.Kind.TheVariants.{Request, Rfr, Cr, Response}
 use Rattle.packet_header.specs.declared.packet.MessageHeader.{MessageHeader}
 use Rattle.report_text.specs.Shape.{tail_of}
-use Rattle.report_text.specs.Told.{AllTold, IsTold, NoOthers}
+use Rattle.report_text.specs.Told.{IsTold, NoOthers}
 use Rattle.report_text.specs.declared.shape.Tail.{Tail}
 use Rattle.report_text.specs.declared.shape.Tail.TheVariants.{Nothing, First, Both}
 use Rattle.rpc_base.specs.declared.event.Event.{Event}
@@ -17,6 +18,8 @@ use Rattle.rpc_base.specs.declared.event.Event.TheVariants.{Ended, Flushed, Give
 use Rattle.rpc_base.specs.declared.event.Event.TheVariants.{Overflowed, Posted, Ran, Rated, Rolled}
 use Rattle.rpc_base.specs.declared.event.Event.TheVariants.{Took, Worked}
 use Rattle.rpc_base.specs.declared.fact.Fact.{Fact}
+use Rattle.rpc_base.specs.declared.fact.Who.{Who}
+use Rattle.rpc_base.specs.declared.fact.Who.TheVariants.{Node, Net}
 use Rattle.rpc_base.specs.declared.owner.Owner.{Owner}
 use Rattle.rpc_base.specs.declared.owner.Owner.TheVariants.{Ask, Reply}
 use Rattle.rpc_base.specs.declared.state.SessionState.{SessionState}
@@ -63,104 +66,122 @@ no-others Nothing = (refl, refl)
 no-others First = refl
 no-others Both = tt
 
+-- the network notes no event but its own
+abbrev pub NotesOwn : Who → Event → Type 0
+NotesOwn (Node n) e = Unit {0}
+NotesOwn Net e = is_of_net e ≡ true
+
+-- a fact has no other bytes than its line shows, and one of the network has an event of the network
+abbrev pub IsSound : Fact → Type 0
+IsSound f = IsTold f × NotesOwn f.who f.event
+
+abbrev pub AllSound : List Fact → Type 0
+AllSound facts = AllByRecursion IsSound facts
+
 -- a fact without bytes
-pub told-plain : (me : ℕ) (e : Event) → IsTold (plain me e)
-told-plain me e = no-others (tail_of e)
+pub told-plain : (me : ℕ) (e : Event) → IsSound (plain me e)
+told-plain me e = (no-others (tail_of e), tt)
 
-pub told-net : (e : Event) → IsTold (of_net e)
-told-net e = no-others (tail_of e)
+pub told-net : (e : Event) → is_of_net e ≡ true → IsSound (of_net e)
+told-net e own = (no-others (tail_of e), own)
 
-pub one-plain : (me : ℕ) (e : Event) → AllTold (plain me e ∷ [])
+pub one-plain : (me : ℕ) (e : Event) → AllSound (plain me e ∷ [])
 one-plain me e = (told-plain me e, tt)
 
-pub told-append : (x y : List Fact) → AllTold x → AllTold y → AllTold (x ++ y)
+pub told-append : (x y : List Fact) → AllSound x → AllSound y → AllSound (x ++ y)
 told-append [] y a b = b
 told-append (f ∷ x) y a b = (a.0, told-append x y a.1 b)
 
-pub told-map : {A : Type 0} (f : A → Fact) → ((a : A) → IsTold (f a)) → (xs : List A) → AllTold (map f xs)
+pub told-map : {A : Type 0} (f : A → Fact) → ((a : A) → IsSound (f a)) → (xs : List A)
+    → AllSound (map f xs)
 told-map f each [] = tt
 told-map f each (a ∷ xs) = (each a, told-map f each xs)
 
-told-flat : {A : Type 0} (f : A → List Fact) → ((a : A) → AllTold (f a)) → (xs : List A) → AllTold (flat_map f xs)
+told-flat : {A : Type 0} (f : A → List Fact) → ((a : A) → AllSound (f a)) → (xs : List A)
+    → AllSound (flat_map f xs)
 told-flat f each [] = tt
 told-flat f each (a ∷ xs) = told-append (f a) (flat_map f xs) (each a) (told-flat f each xs)
 
-told-if : (b : Bool) (x y : List Fact) → AllTold x → AllTold y → AllTold (cond b x y)
+told-if : (b : Bool) (x y : List Fact) → AllSound x → AllSound y → AllSound (cond b x y)
 told-if true x y a c = a
 told-if false x y a c = c
 
-told-one-if : (b : Bool) (f g : Fact) → IsTold f → IsTold g → IsTold (cond b f g)
+told-one-if : (b : Bool) (f g : Fact) → IsSound f → IsSound g → IsSound (cond b f g)
 told-one-if true f g a c = a
 told-one-if false f g a c = c
 
-told-flush : (me : ℕ) (queued : List Queued) (owner : Owner) → AllTold (flush_facts me queued owner)
+told-flush : (me : ℕ) (queued : List Queued) (owner : Owner)
+    → AllSound (flush_facts me queued owner)
 told-flush me queued owner =
     told-map (λ k. plain me (Flushed owner k)) (λ k. told-plain me (Flushed owner k)) (numbers_of owner queued)
 
 told-flushes : (me : ℕ) (queued : List Queued) (session : ℕ) (l : Option Served)
-    → AllTold (flushes me queued session l)
+    → AllSound (flushes me queued session l)
 told-flushes me queued session None = tt
 told-flushes me queued session (Some l) = told-flush me queued (Reply session l.number)
 
-told-older : (me : ℕ) (queued : List Queued) (v : Option Server) (r : ℕ) → AllTold (flushes_older me queued v r)
+told-older : (me : ℕ) (queued : List Queued) (v : Option Server) (r : ℕ)
+    → AllSound (flushes_older me queued v r)
 told-older me queued None r = tt
 told-older me queued (Some v) r = told-flushes me queued v.way.number (find (in_slot_of r) v.slots)
 
 -- the server rule
 told-brings : (mode : Mode) (me : ℕ) (answer : List ℕ) (h : MessageHeader) (ask : List ℕ)
-    → AllTold (brings mode me answer h ask)
+    → AllSound (brings mode me answer h ask)
 told-brings mode me answer h ask =
     let posted = plain me (Posted (Reply h.session h.request) h.number) ∷ [] in
     let ran : List Fact = cond (is_last h) (with_two me (Ran h.session h.request h.req_type) ask answer ∷ []) [] in
     told-if (makes_job mode h) (plain me (Given h.session h.request) ∷ []) (ran ++ posted)
     (one-plain me (Given h.session h.request))
     (told-append ran posted (told-if (is_last h)
-    (with_two me (Ran h.session h.request h.req_type) ask answer ∷ []) [] (tt, tt) tt)
+    (with_two me (Ran h.session h.request h.req_type) ask answer ∷ []) [] ((tt, tt), tt) tt)
     (one-plain me (Posted (Reply h.session h.request) h.number)))
 
 told-took : (mode : Mode) (me : ℕ) (answer : List ℕ) (h : MessageHeader) (ask : List ℕ)
-    → AllTold (took_facts mode me answer h ask)
+    → AllSound (took_facts mode me answer h ask)
 told-took mode me answer h ask =
     (told-plain me (Took (Reply h.session h.request) h.number), told-brings mode me answer h ask)
 
 told-served : (mode : Mode) (me : ℕ) (answer : List ℕ) (queued : List Queued) (v : Option Server)
     (h : MessageHeader) (body : List ℕ) (r : ServerRow)
-    → AllTold (served_facts mode me answer queued v h body r)
-told-served mode me answer queued v h body (Drops why) = ((refl, refl), tt)
+    → AllSound (served_facts mode me answer queued v h body r)
+told-served mode me answer queued v h body (Drops why) = (((refl, refl), tt), tt)
 told-served mode me answer queued v h body Begins =
     told-append (flushes_older me queued v h.request) (took_facts mode me answer h body)
     (told-older me queued v h.request) (told-took mode me answer h body)
 told-served mode me answer queued v h body Takes = told-took mode me answer h _
-told-served mode me answer queued v h body Repeats = ((refl, refl), ((refl, refl), tt))
+told-served mode me answer queued v h body Repeats = (((refl, refl), tt), (((refl, refl), tt), tt))
 
 -- the client rule
-told-end : (me number : ℕ) (parts : List ℕ) (r : EndRow) → AllTold (end_facts me number parts r)
+told-end : (me number : ℕ) (parts : List ℕ) (r : EndRow) → AllSound (end_facts me number parts r)
 told-end me number parts GoesOn = tt
-told-end me number parts EndsOk = (refl, tt)
-told-end me number parts (EndsTooSmall size) = ((refl, refl), tt)
+told-end me number parts EndsOk = ((refl, tt), tt)
+told-end me number parts (EndsTooSmall size) = (((refl, refl), tt), tt)
 
 told-progress : (me : ℕ) (c : Call) (h : MessageHeader) (body : List ℕ) (o : Option Progress)
-    → AllTold (progress_ending me c.what h body o)
+    → AllSound (progress_ending me c.what h body o)
 told-progress me c h body None = tt
 told-progress me c h body (Some p) = told-end me c.what.number _ _
 
-told-call : (me : ℕ) (h : MessageHeader) (body : List ℕ) (o : Option Call) → AllTold (call_ending me h body o)
+told-call : (me : ℕ) (h : MessageHeader) (body : List ℕ) (o : Option Call)
+    → AllSound (call_ending me h body o)
 told-call me h body None = tt
 told-call me h body (Some c) = told-progress me c h body c.progress
 
-told-ending : (me : ℕ) (h : MessageHeader) (body : List ℕ) (o : Option Client) → AllTold (client_ending me h body o)
+told-ending : (me : ℕ) (h : MessageHeader) (body : List ℕ) (o : Option Client)
+    → AllSound (client_ending me h body o)
 told-ending me h body None = tt
 told-ending me h body (Some x) = told-call me h body (find (is_active h.request) x.calls)
 
 told-reply : (me : ℕ) (x : Option Client) (h : MessageHeader) (body : List ℕ) (r : ClientRow)
-    → AllTold (reply_facts me x h body r)
-told-reply me x h body (ClientDrops why) = ((refl, refl), tt)
-told-reply me x h body ClientTakes = ((refl, refl), told-ending me h body x)
+    → AllSound (reply_facts me x h body r)
+told-reply me x h body (ClientDrops why) = (((refl, refl), tt), tt)
+told-reply me x h body ClientTakes = (((refl, refl), tt), told-ending me h body x)
 
 -- the front packet of the ring, by its kind
 pub told-handling : (kind : Kind) (mode : ℕ → Mode) (lacks : Bool) (answer : List ℕ) (s : Lists)
     (peer : ℕ) (h : MessageHeader) (body : List ℕ)
-    → AllTold (handling_by mode lacks answer kind s peer h body)
+    → AllSound (handling_by mode lacks answer kind s peer h body)
 told-handling Request mode lacks answer s peer h body =
     told-served (mode h.req_type) s.me answer s.queued (find (is_server h.session) s.servers) h body
     (server_row (mode h.req_type) (are_full s.jobs) lacks (find (is_server h.session) s.servers)
@@ -177,15 +198,17 @@ told-handling Response mode lacks answer s peer h body =
     (client_row s.queued (find (is_client h.session) s.clients) peer h (length body))
 
 -- a job that is finished
-told-posted : (me : ℕ) (job : Job) (o : Option ℕ) → AllTold (answer_posted me job o)
+told-posted : (me : ℕ) (job : Job) (o : Option ℕ) → AllSound (answer_posted me job o)
 told-posted me job None = tt
-told-posted me job (Some k) = ((refl, refl), tt)
+told-posted me job (Some k) = (((refl, refl), tt), tt)
 
-pub told-finished : (answer : List ℕ) (s : Lists) (job : Job) → AllTold (finished_facts answer s job)
-told-finished answer s job = (tt, told-posted s.me job (awaited job s.servers))
+pub told-finished : (answer : List ℕ) (s : Lists) (job : Job)
+    → AllSound (finished_facts answer s job)
+told-finished answer s job = ((tt, tt), told-posted s.me job (awaited job s.servers))
 
 -- the control rule
-told-session-end : (me : ℕ) (queued : List Queued) (o : Option Server) → AllTold (session_end me queued o)
+told-session-end : (me : ℕ) (queued : List Queued) (o : Option Server)
+    → AllSound (session_end me queued o)
 told-session-end me queued None = tt
 told-session-end me queued (Some v) =
     told-append (flat_map (λ slot. flushes me queued v.way.number (find (in_slot_of slot) v.slots))
@@ -195,24 +218,25 @@ told-session-end me queued (Some v) =
     (0 ∷ 1 ∷ 2 ∷ 3 ∷ 4 ∷ 5 ∷ 6 ∷ 7 ∷ []))
     (one-plain me (Ended v.way.number))
 
-pub told-control : (s : Lists) (peer : ℕ) (h : ControlHeader) (r : ControlRow) → AllTold (control_facts s peer h r)
-told-control s peer h Declines = ((refl, refl), tt)
-told-control s peer h Starves = ((refl, refl), tt)
-told-control s peer h (Accepts t) = ((refl, refl), tt)
+pub told-control : (s : Lists) (peer : ℕ) (h : ControlHeader) (r : ControlRow)
+    → AllSound (control_facts s peer h r)
+told-control s peer h Declines = (((refl, refl), tt), tt)
+told-control s peer h Starves = (((refl, refl), tt), tt)
+told-control s peer h (Accepts t) = (((refl, refl), tt), tt)
 told-control s peer h Ends = told-session-end s.me s.queued (named_end peer h.client h.server s.servers)
-told-control s peer h (Connects t) = ((refl, refl), tt)
-told-control s peer h Fails = ((refl, refl), tt)
-told-control s peer h Closes = ((refl, refl), tt)
+told-control s peer h (Connects t) = (((refl, refl), tt), tt)
+told-control s peer h Fails = (((refl, refl), tt), tt)
+told-control s peer h Closes = (((refl, refl), tt), tt)
 told-control s peer h _ = tt
 
 -- the timer rule
 told-flushes-of : (me session : ℕ) (queued : List Queued) (o : Option Progress)
-    → AllTold (flushes_of me session queued o)
+    → AllSound (flushes_of me session queued o)
 told-flushes-of me session queued None = tt
 told-flushes-of me session queued (Some p) = told-flush me queued (Ask session p.request)
 
 told-row : (me : ℕ) (queued : List Queued) (x : Client) (number : ℕ) (p : Progress) (r : TimerRow)
-    → AllTold (row_facts me queued x number p r)
+    → AllSound (row_facts me queued x number p r)
 told-row me queued x number p Waits = tt
 told-row me queued x number p RollsBack =
     told-append (flush_facts me queued (Ask x.way.number p.request))
@@ -230,61 +254,70 @@ told-row me queued x number p Breaks =
     )
 
 told-progress-facts : (clock timeout me : ℕ) (queued : List Queued) (x : Client) (number : ℕ)
-    (o : Option Progress) → AllTold (progress_facts clock timeout me queued x number o)
+    (o : Option Progress) → AllSound (progress_facts clock timeout me queued x number o)
 told-progress-facts clock timeout me queued x number None = tt
 told-progress-facts clock timeout me queued x number (Some p) =
     told-row me queued x number p (row_of clock timeout x.way.number queued p)
 
 told-call-facts : (clock timeout me : ℕ) (queued : List Queued) (x : Client) (o : Option Call)
-    → AllTold (call_facts clock timeout me queued x o)
+    → AllSound (call_facts clock timeout me queued x o)
 told-call-facts clock timeout me queued x None = tt
 told-call-facts clock timeout me queued x (Some c) =
     told-progress-facts clock timeout me queued x c.what.number c.progress
 
 pub told-client : (clock timeout me : ℕ) (queued : List Queued) (number : ℕ) (o : Option Client)
-    → AllTold (client_facts clock timeout me queued number o)
+    → AllSound (client_facts clock timeout me queued number o)
 told-client clock timeout me queued number None = tt
 told-client clock timeout me queued number (Some x) =
     told-call-facts clock timeout me queued x (find (is_call number) x.calls)
 
 -- application calls
 told-ask-by : (state : SessionState) (session req_type room : ℕ) (ask : List ℕ) (s : Lists)
-    → IsTold (ask_by_state state session req_type room ask s)
-told-ask-by Connected session req_type room ask s = refl
-told-ask-by _ session req_type room ask s = (refl, refl)
+    → IsSound (ask_by_state state session req_type room ask s)
+told-ask-by Connected session req_type room ask s = (refl, tt)
+told-ask-by _ session req_type room ask s = ((refl, refl), tt)
 
-pub told-ask : (session req_type room : ℕ) (ask : List ℕ) (s : Lists) → IsTold (ask_fact session req_type room ask s)
+pub told-ask : (session req_type room : ℕ) (ask : List ℕ) (s : Lists)
+    → IsSound (ask_fact session req_type room ask s)
 told-ask session req_type room ask s =
     told-one-if (nat_lt 1048576 (length ask)) (plain s.me (NcallTooLarge session (length ask)))
     (ask_by_state (state_of (find (is_client session) s.clients)) session req_type room ask s)
-    (refl, refl) (told-ask-by (state_of (find (is_client session) s.clients)) session req_type
+    ((refl, refl), tt) (told-ask-by (state_of (find (is_client session) s.clients)) session req_type
     room ask s)
 
-pub told-connect : (o : Option Event) (peer credits rate : ℕ) (s : Lists) → AllTold (connect_by o peer credits rate s)
+pub told-connect : (o : Option Event) (peer credits rate : ℕ) (s : Lists)
+    → AllSound (connect_by o peer credits rate s)
 told-connect (Some refusal) peer credits rate s = one-plain s.me refusal
-told-connect None peer credits rate s =
-    ((refl, refl), told-if (rate == 0) [] (plain s.me (Rated (length s.clients) rate) ∷ []) tt ((refl, refl), tt))
+told-connect None peer credits rate s = (
+  ((refl, refl), tt),
+  told-if (rate == 0) [] (plain s.me (Rated (length s.clients) rate) ∷ []) tt
+      (one-plain s.me (Rated (length s.clients) rate)),
+)
 
 -- a delivery
-told-event-if : (b : Bool) (me : ℕ) (bytes : List ℕ) (d e : Event) → IsTold (with_bytes me d bytes)
-    → IsTold (with_bytes me e bytes) → IsTold (with_bytes me (cond b d e) bytes)
+told-event-if : (b : Bool) (me : ℕ) (bytes : List ℕ) (d e : Event) → IsSound (with_bytes me d bytes)
+    → IsSound (with_bytes me e bytes) → IsSound (with_bytes me (cond b d e) bytes)
 told-event-if true me bytes d e h k = h
 told-event-if false me bytes d e h k = k
 
-told-arrival : (count room me peer : ℕ) (bytes : List ℕ) → IsTold (with_bytes me (arrival count room peer) bytes)
+told-arrival : (count room me peer : ℕ) (bytes : List ℕ)
+    → IsSound (with_bytes me (arrival count room peer) bytes)
 told-arrival count room me peer bytes =
-    told-event-if (nat_lt count room) me bytes (Arrived peer) (Overflowed peer) refl refl
+    told-event-if (nat_lt count room) me bytes (Arrived peer) (Overflowed peer) (refl, tt)
+    (refl, tt)
 
-pub told-delivery : (s : Lists) (peer : ℕ) (bytes : List ℕ) → IsTold (with_bytes s.me (delivery s peer bytes) bytes)
+pub told-delivery : (s : Lists) (peer : ℕ) (bytes : List ℕ)
+    → IsSound (with_bytes s.me (delivery s peer bytes) bytes)
 told-delivery s peer bytes =
     told-event-if (is_message bytes) s.me bytes (arrival (length s.ring) s.room peer)
     (cond (is_control bytes) (arrival (length s.inbox) inbox_room peer) (Bad peer))
     (told-arrival (length s.ring) s.room s.me peer bytes)
     (told-event-if (is_control bytes) s.me bytes (arrival (length s.inbox) inbox_room peer)
-    (Bad peer) (told-arrival (length s.inbox) inbox_room s.me peer bytes) refl)
+    (Bad peer) (told-arrival (length s.inbox) inbox_room s.me peer bytes) (refl, tt))
 
 -- jobs that are worked
-pub told-works : (me : ℕ) (jobs : List Job) → AllTold (map (λ job. plain me (Worked job.session job.request)) jobs)
+pub told-works : (me : ℕ) (jobs : List Job)
+    → AllSound (map (λ job. plain me (Worked job.session job.request)) jobs)
 told-works me jobs =
     told-map (λ job. plain me (Worked job.session job.request))
     (λ job. told-plain me (Worked job.session job.request)) jobs

@@ -5,8 +5,6 @@ use Rattle.std.proofs.Common.{[], ◌∷◌, ◌++◌, Option, Some, None, refl,
 use Rattle.std.proofs.Common.{eq-eqb}
 use Rattle.std.specs.Prelude.{◌==◌, nat_lt}
 use Rattle.std.specs.List.{find}
-use Rattle.std.proofs.lemmas.Bool.{eqb-false}
-use Rattle.packet_header.specs.Parts.{packet_count}
 use Rattle.packet_header.specs.declared.packet.ControlHeader.{ControlHeader}
 use Rattle.packet_header.specs.declared.packet.ControlKind.{ControlKind}
 use Rattle.packet_header.specs.declared.packet.ControlKind.TheVariants.{ConnectRequest}

@@ -1,6 +1,7 @@
--- Each step of a node, and each command of a script, adds facts with no other bytes than their lines show.
+-- Each step of a node, and each command of a script, adds facts with no other bytes than their
+-- lines show, and none of the network but its own.
 use Rattle.std.proofs.Common.{◌≡◌, ℕ, zero, suc, nat_lt, Bool, true, false, List, [], ◌∷◌, ◌++◌}
-use Rattle.std.proofs.Common.{length, map, Option, Some, None, slice_get, refl, sym, subst}
+use Rattle.std.proofs.Common.{cond, length, map, Option, Some, None, slice_get, refl, sym, subst}
 use Rattle.std.specs.Bool.{MatchBool}
 use Rattle.std.specs.List.{find, list_all}
 use Rattle.network_model.specs.declared.stage.Stage.{Stage}
@@ -44,23 +45,27 @@ use Rattle.sim_script.specs.FollowsScript.{ask_bytes, AtNode, Carries, Does, emp
 use Rattle.sim_script.specs.FollowsScript.{FollowsFrom, is_polled, Joins, OfNet, or_missed, PairsBy}
 use Rattle.sim_script.specs.FollowsScript.{PollsFirst, PollsNode, Round, Settles, Times, Unless}
 use Rattle.sim_script.specs.FollowsScript.{WorksAndPolls, WorksFirst, WorksNode}
-use Rattle.one_history.proofs.FactsTold.{one-plain, told-append, told-ask, told-client}
-use Rattle.one_history.proofs.FactsTold.{told-connect, told-control, told-delivery, told-finished}
+use Rattle.rpc_base.proofs.FirstLemmas.{all-each}
+use Rattle.one_history.specs.NetFacts.{is_of_net}
+use Rattle.one_history.proofs.FactsTold.{AllSound, IsSound, one-plain, told-append, told-ask}
+use Rattle.one_history.proofs.FactsTold.{told-client, told-connect, told-control, told-delivery}
+use Rattle.one_history.proofs.FactsTold.{told-finished}
 use Rattle.one_history.proofs.FactsTold.{told-handling, told-map, told-net, told-plain, told-works}
 
 -- each step of P adds such facts
 abbrev Tells : Rel → Type 0
-Tells P = (s : Timed) (x : List Fact) (t : Timed) → P s x t → AllTold x
+Tells P = (s : Timed) (x : List Fact) (t : Timed) → P s x t → AllSound x
 
-told-by : (x y : List Fact) → x ≡ y → AllTold y → AllTold x
-told-by x y e a = subst AllTold (sym e) a
+told-by : (x y : List Fact) → x ≡ y → AllSound y → AllSound x
+told-by x y e a = subst AllSound (sym e) a
 
 tells-then : (P Q : Rel) → Tells P → Tells Q → Tells (Then P Q)
 tells-then P Q p q s x t h =
     told-by x (h.front ++ h.back) h.joined (told-append h.front h.back
     (p s h.front h.between h.first) (q h.between h.back t h.second))
 
-tells-chain : (P : Rel) → Tells P → (s : Timed) {x : List Fact} {t : Timed} → Chain P s x t → AllTold x
+tells-chain : (P : Rel) → Tells P → (s : Timed) {x : List Fact} {t : Timed} → Chain P s x t
+    → AllSound x
 tells-chain P p s none = tt
 tells-chain P p s (more {x = front} {t = between} c y u h) =
     told-append front y (tells-chain P p s c) (p between y u h)
@@ -82,15 +87,17 @@ tells-notes next =
     (λ s x t h. told-by x (plain s.lists.me h.event ∷ []) h.facts (one-plain s.lists.me h.event))
 
 -- session control
-told-spoken : (taken : Bool) (me peer : ℕ) (head : List ℕ) → AllTold (control_fact taken me peer head ∷ [])
-told-spoken true me peer head = (tt, tt)
-told-spoken false me peer head = (refl, tt)
+told-spoken : (taken : Bool) (me peer : ℕ) (head : List ℕ)
+    → AllSound (control_fact taken me peer head ∷ [])
+told-spoken true me peer head = ((tt, tt), tt)
+told-spoken false me peer head = ((refl, tt), tt)
 
-told-speaks : (me peer : ℕ) (h : ControlHeader) (x : List Fact) → Speaks me peer h x → AllTold x
+told-speaks : (me peer : ℕ) (h : ControlHeader) (x : List Fact) → Speaks me peer h x → AllSound x
 told-speaks me peer h x a =
     told-by x (control_fact a.taken me peer a.head ∷ []) a.facts (told-spoken a.taken me peer a.head)
 
-told-speaks-if : (me peer : ℕ) (o : Option ControlHeader) (x : List Fact) → SpeaksIf me peer o x → AllTold x
+told-speaks-if : (me peer : ℕ) (o : Option ControlHeader) (x : List Fact) → SpeaksIf me peer o x
+    → AllSound x
 told-speaks-if me peer None x e = told-by x [] e tt
 told-speaks-if me peer (Some h) x a = told-speaks me peer h x a
 
@@ -107,7 +114,7 @@ tells-hears =
     ))
 
 told-retries-by : (r : RetryRow) (me : ℕ) (c : Client) (h : ControlHeader) (x : List Fact)
-    → RetriesBy r me c h x → AllTold x
+    → RetriesBy r me c h x → AllSound x
 told-retries-by Rests me c h x e = told-by x [] e tt
 told-retries-by AsksAgain me c h x a = told-speaks me c.way.peer h x a
 told-retries-by GivesUp me c h x e =
@@ -115,12 +122,13 @@ told-retries-by GivesUp me c h x e =
     (told-map (plain me) (told-plain me) (given_up c.state c.way.number))
 
 told-retries-as : (o : Option ControlHeader) (clock timeout me : ℕ) (c : Client) (x : List Fact)
-    → RetriesAs o clock timeout me c x → AllTold x
+    → RetriesAs o clock timeout me c x → AllSound x
 told-retries-as None clock timeout me c x e = told-by x [] e tt
 told-retries-as (Some h) clock timeout me c x a =
     told-retries-by (retry_row clock timeout c.sends c.sent_at) me c h x a
 
-told-retries : (clock timeout me : ℕ) (o : Option Client) (x : List Fact) → RetriesOf clock timeout me o x → AllTold x
+told-retries : (clock timeout me : ℕ) (o : Option Client) (x : List Fact)
+    → RetriesOf clock timeout me o x → AllSound x
 told-retries clock timeout me None x e = told-by x [] e tt
 told-retries clock timeout me (Some c) x a = told-retries-as (own_request c) clock timeout me c x a
 
@@ -159,10 +167,11 @@ tells-posts s x t h =
 
 tells-sends : Tells SendsAll
 tells-sends =
-    tells-until Sends (λ t. line t.clock t.lists.queued ≡ []) (λ s x t h. told-by x _ h.facts (tt, tt))
+    tells-until Sends (λ t. line t.clock t.lists.queued ≡ [])
+    (λ s x t h. told-by x _ h.facts ((tt, tt), tt))
 
 tells-closes : Tells Closes
-tells-closes s x t h = told-by x _ h.facts ((refl, refl), tt)
+tells-closes s x t h = told-by x _ h.facts (((refl, refl), tt), tt)
 
 tells-poll : (worked : List WorkedJob) (mode : ℕ → Mode) (now : ℕ)
     → Tells (PollBy (FinishesWorked worked) SendsAll mode now)
@@ -184,13 +193,23 @@ abbrev Groups : Type 1
 Groups = Stage → List Fact → Stage → Type 0
 
 abbrev AllTell : Groups → Type 0
-AllTell P = (s : Stage) (x : List Fact) (t : Stage) → P s x t → AllTold x
+AllTell P = (s : Stage) (x : List Fact) (t : Stage) → P s x t → AllSound x
 
 tell-at : (P : Rel) (n : ℕ) → Tells P → AllTell (AtNode P n)
 tell-at P n p s x t h = p h.before x h.now h.step
 
-tell-net : (e : Event) → AllTell (OfNet e)
-tell-net e s x t h = told-by x (of_net e ∷ []) h.facts (told-net e, tt)
+tell-net : (e : Event) → is_of_net e ≡ true → AllTell (OfNet e)
+tell-net e own s x t h = told-by x (of_net e ∷ []) h.facts (told-net e own, tt)
+
+own-or-missed : (b : Bool) (i : ℕ) (e : Event) → is_of_net e ≡ true
+    → is_of_net (cond b e (Missed i)) ≡ true
+own-or-missed true i e own = own
+own-or-missed false i e own = refl
+
+tell-or-missed : (i : ℕ) (e : Event) → is_of_net e ≡ true → (s : Stage) (x : List Fact) (t : Stage)
+    → OfNet (or_missed s.flight i e) s x t → AllSound x
+tell-or-missed i e own s =
+    tell-net (or_missed s.flight i e) (own-or-missed (nat_lt i (length s.flight)) i e own) s
 
 tell-joins : (P Q : Groups) → AllTell P → AllTell Q → AllTell (Joins P Q)
 tell-joins P Q p q s x t h =
@@ -221,15 +240,15 @@ tell-carries : (i : ℕ) → AllTell (Carries i)
 tell-carries i s x t h =
     let a = h.arrives in
     told-by x (of_net (Carried i) ∷ h.delivered) h.facts (
-      told-net (Carried i),
+      told-net (Carried i) refl,
       told-by h.delivered _ a.step.facts
           (told-delivery a.before.lists h.copy.from h.copy.bytes, tt),
     )
 
 tell-arrives : (i : ℕ) (b : Bool) (s : Stage) (x : List Fact) (t : Stage)
-    → MatchBool b (Carries i s x t) (OfNet (Missed i) s x t) → AllTold x
+    → MatchBool b (Carries i s x t) (OfNet (Missed i) s x t) → AllSound x
 tell-arrives i true s x t h = tell-carries i s x t h
-tell-arrives i false s x t h = tell-net (Missed i) s x t h
+tell-arrives i false s x t h = tell-net (Missed i) refl s x t h
 
 tell-round : AllTell Round
 tell-round s x t h =
@@ -256,8 +275,8 @@ tell-pairs-by (Some e) r a b credits client server s x t h = told-by x _ h.0 (on
 tell-pairs-by None (Some e) a b credits client server s x t h =
     told-by x _ h.0 (one-plain server.lists.me e)
 tell-pairs-by None None a b credits client server s x t h =
-    let client_told : IsTold h.at_client = subst IsTold (sym h.for_client) (refl, refl) in
-    let server_told : IsTold h.at_server = subst IsTold (sym h.for_server) (refl, refl) in
+    let client_told : IsSound h.at_client = subst IsSound (sym h.for_client) ((refl, refl), tt) in
+    let server_told : IsSound h.at_server = subst IsSound (sym h.for_server) ((refl, refl), tt) in
     told-by x (h.at_client ∷ h.at_server ∷ []) h.facts (client_told, (server_told, tt))
 
 tell-does : (c : Command) → AllTell (Does c)
@@ -288,9 +307,10 @@ tell-does (Call n session y ask room) =
     (λ s x t h. told-by x _ h.facts (told-ask session y room (ask_bytes ask) s.lists, tt))
 tell-does (PollNode n) = tell-poll n
 tell-does (Arrive i) = λ s. tell-arrives i (nat_lt i (length s.flight)) s
-tell-does (Lose i) = λ s. tell-net (or_missed s.flight i (Lost i)) s
-tell-does (Repeat i) = λ s. tell-net (or_missed s.flight i (Repeated i)) s
-tell-does (Tick by) = λ s x t h. told-by x (of_net (Ticked by) ∷ []) h.facts (told-net (Ticked by), tt)
+tell-does (Lose i) = tell-or-missed i (Lost i) refl
+tell-does (Repeat i) = tell-or-missed i (Repeated i) refl
+tell-does (Tick by) =
+    λ s x t h. told-by x (of_net (Ticked by) ∷ []) h.facts (told-net (Ticked by) refl, tt)
 tell-does (Work n i) =
     λ s x t h. told-by x _ h.step.facts (one-plain h.before.lists.me
     (work_of i (slice_get (waiting_of s.worked h.before.lists) i)))
@@ -302,5 +322,8 @@ tell-follows (first ∷ lines) s x t h =
     tell-joins (Does first.command) (FollowsFrom lines) (tell-does first.command) (tell-follows lines) s x t h
 
 -- and so does a whole script
+pub all-sound : (script : List Line) (h : List Fact) → Follows script h → AllSound h
+all-sound script h (end, f) = tell-follows script empty_stage h end f.commands
+
 pub all-told : (script : List Line) (h : List Fact) → Follows script h → AllTold h
-all-told script h (end, f) = tell-follows script empty_stage h end f.commands
+all-told script h f = all-each IsSound IsTold h (λ g s. s.0) (all-sound script h f)

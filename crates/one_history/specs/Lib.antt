@@ -1,1 +1,2 @@
+pub mod NetFacts
 pub mod OneHistory

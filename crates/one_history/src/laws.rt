@@ -1,5 +1,6 @@
 //! Laws of every history that follows a script.
 ghost use Rattle.std.specs.Prelude.{◌≡◌, List};
+ghost use Rattle.one_history.specs.NetFacts.{AllOfNet};
 ghost use Rattle.one_history.specs.OneHistory.{HasOneHistory, HasScript, LeavesOneStage};
 ghost use Rattle.report_text.specs.Text.{text};
 ghost use Rattle.report_text.specs.Told.{AllTold};
@@ -21,6 +22,12 @@ pub fn scripts_have_one_history()
 /// report shows.
 pub fn facts_tell_their_bytes()
     ensures { (script : List Line) (h : List Fact) → Follows script h → AllTold h }
+{}
+
+/// No fact of the network, in a history that follows a script, has another event than Carried,
+/// Lost, Repeated, Missed and Ticked.
+pub fn network_notes_its_own()
+    ensures { (script : List Line) (h : List Fact) → Follows script h → AllOfNet h }
 {}
 
 /// Two histories that follow scripts and have the same report are the same.

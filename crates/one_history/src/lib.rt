@@ -4,4 +4,7 @@
 
 mod laws;
 
-pub use laws::{facts_tell_their_bytes, reports_have_one_history, scripts_have_one_history};
+pub use laws::{
+    facts_tell_their_bytes, network_notes_its_own, reports_have_one_history,
+    scripts_have_one_history,
+};

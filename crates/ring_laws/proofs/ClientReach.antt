@@ -1,4 +1,5 @@
 -- The other direction: a packet of a client session that leaves its node is sent, taken, dropped or flushed.
+use Rattle.ring_laws.proofs.ClientSteps.{control-out}
 use Rattle.std.proofs.Common.{◌≡◌, ◌+◌, ◌≤◌, ◌==◌, ◌&&◌, ℕ, Bool, true, false, cond, List, [], ◌∷◌}
 use Rattle.std.proofs.Common.{drop, Option, Some, None, refl, sym, arith}
 use Rattle.std.specs.Prelude.{option_to_list}
@@ -98,7 +99,8 @@ client-reach p s due latest hand l (Sent peer (Reply t r) k) first second m o no
     (is_queued (Reply t r) k) l.queued _
     (front-queued l.queued (Reply t r) k m.due m.is_front) in
     omega arith
-client-reach p s due latest hand l (Sent peer Control k) first second m o noted = let none = m.own in cc
+client-reach p s due latest hand l (Sent peer Control k) first second m o noted =
+    let q = control-out (own_ask p s) (λ n. refl) k l.queued in omega arith
 client-reach p s due latest hand l (Arrived peer) first second m o noted = let r = count-arrives (replies p s) refl (record { peer = peer; bytes = first }) l.ring in omega arith
 client-reach p s due latest hand l (Took (Ask a r) k) first second m o noted =
     let h = m.header in

@@ -20,7 +20,7 @@ use Rattle.rpc_laws.specs.declared.tables.Client.{Client}
 use Rattle.rpc_laws.specs.declared.tables.InFlight.{InFlight}
 use Rattle.rpc_laws.specs.declared.tables.Job.{Job}
 use Rattle.rpc_laws.specs.declared.tables.Lists.{Lists}
-use Rattle.rpc_laws.specs.Sessions.{is_client}
+use Rattle.rpc_laws.specs.Sessions.{is_client, is_connected}
 use Rattle.end_laws.specs.Moments.{Moment}
 use Rattle.end_laws.specs.Kinds.{is_ask}
 use Rattle.end_laws.proofs.Allowed.{is_owed, is_carried}
@@ -76,12 +76,19 @@ server_packets p t l =
     count (λ q. own_reply p t q.owner q.number) l.queued + count (own_job p t) l.jobs.out
     + count (λ a. asks p t (message_of a.bytes)) l.ring
 
+-- the credits of a session that may ask, so one that is connected
+abbrev pub free_in : Client → ℕ
+free_in c = cond (is_connected c.state) c.free 0
+
+abbrev pub limit_in : Client → ℕ
+limit_in c = cond (is_connected c.state) c.limit 0
+
 -- the free credits of client session s, and its limit
 abbrev pub free_of : ℕ → List Client → ℕ
-free_of s xs = value (λ c. c.free) (find (is_client s) xs)
+free_of s xs = value free_in (find (is_client s) xs)
 
 abbrev pub limit_of : ℕ → List Client → ℕ
-limit_of s xs = value (λ c. c.limit) (find (is_client s) xs)
+limit_of s xs = value limit_in (find (is_client s) xs)
 
 -- what a client session posts by a fact of its node, and the reply that it takes
 abbrev pub posted_ask : Filter → ℕ → Event → ℕ

@@ -20,17 +20,18 @@ use Rattle.rpc_laws.specs.Calls.{is_active}
 use Rattle.rpc_laws.specs.Queues.{is_queued}
 use Rattle.rpc_laws.specs.Sessions.{is_client}
 use Rattle.node_laws.proofs.NumberLemmas.{numbered-at, numbered-found}
-use Rattle.node_laws.specs.Valid.{client_no, Valid}
+use Rattle.node_laws.specs.Valid.{client_no}
 use Rattle.node_laws.specs.Windows.{InsideOf, Inside, Stands, InWindow}
 use Rattle.end_laws.specs.Moments.{Moment}
 use Rattle.end_laws.proofs.Allowed.{is_packet}
-use Rattle.end_laws.proofs.ListLemmas.{Placed}
 use Rattle.ring_laws.specs.PairsOnce.{IsUnanswered, is_asking, is_replying, is_job_of, places, AreEndsOf, StandsOnce}
 use Rattle.ring_laws.proofs.Counting.{count, value}
-use Rattle.ring_laws.proofs.Frames.{ClientTag, ServerTag, client_tag, server_tag, frame, FitsIn}
 use Rattle.ring_laws.proofs.Loads.{Pairing, asks, replies, own_ask, own_reply, own_job}
 use Rattle.ring_laws.proofs.Loads.{client_packets, server_packets, ask_to, reply_to, load}
-use Rattle.ring_laws.proofs.WorldSteps.{client-tagged, server-tagged}
+use Rattle.end_laws.proofs.Known.{End, Good, Known}
+use Rattle.end_laws.proofs.ServerLemmas.{server-at}
+use Rattle.end_laws.proofs.Valids.{AllValid}
+use Rattle.ring_laws.proofs.Standing.{FitsIn}
 
 -- std's count
 count-is : {A : Type 0} (p : A → Bool) (xs : List A) → count_by p xs ≡ count p xs
@@ -79,11 +80,8 @@ abbrev pub PairAt : Moment → Pairing → (r k : ℕ) → Type 0
 PairAt w x r k = (load (is_packet r k) x w ≤ 1)
     × (1 ≤ load (is_packet r k) x w → StandsIn (slice_get w.nodes x.home) x.client r k)
 
-abbrev pub Pairs : Moment → Type 0
-Pairs w = (x : Pairing) → FitsIn (frame w) x → (r k : ℕ) → PairAt w x r k
-
-abbrev pub AllValid : Moment → Type 0
-AllValid w = Placed (λ n l. Valid l) w.nodes
+abbrev pub Pairs : Known → Moment → Type 0
+Pairs known w = (x : Pairing) → FitsIn known w.nodes x → (r k : ℕ) → PairAt w x r k
 
 open-progress : (x : Client) (r k : ℕ) (c : Call) (p : Option Progress)
     → find (is_active r) x.calls ≡ Some c → c.progress ≡ p → InsideOf k p → IsUnanswered x r k
@@ -103,25 +101,38 @@ open-call : (x : Client) (r k : ℕ) (c : Option Call) → find (is_active r) x.
 open-call x r k None found inside = absurd inside
 open-call x r k (Some c) found inside = open-progress x r k c c.progress found refl inside
 
-module _ (w : Moment) (valid : AllValid w) (pairs : Pairs w) (n s : ℕ) (client : Lists) (x : Client)
+module _ (w : Moment) (g : Good w) (valid : AllValid w) (pairs : Pairs g.known w) (n s : ℕ)
+    (client : Lists) (x : Client)
     (m t : ℕ) (server : Lists) (v : Server) (e : AreEndsOf w n s client x m t server v)
     (r k : ℕ) where
   abbrev session : Pairing
   session = record { home = n; client = s; node = m; session = t }
 
-  session-fits : FitsIn (frame w) session
+  session-fits : FitsIn g.known w.nodes session
   session-fits = record {
-    server = λ u is. let there = server-tagged w.nodes m t server v e.is_server e.server_there in
-        let same : server_tag v ≡ u =
+    server = λ u is.
+        let at = server-at g.known m server.servers t v
+        (g.nodes m server e.is_server).servers e.server_there in
+        let own : g.known.ends m t 0 ≡ Some
+        (record { home = v.way.peer; client = v.way.other; credits = v.credits }) =
+        subst (λ (i : ℕ). g.known.ends m i 0
+        ≡ Some (record { home = v.way.peer; client = v.way.other; credits = v.credits })) at.1
+        at.0.session.end in
+        let same : record { home = v.way.peer; client = v.way.other; credits = v.credits } ≡ u =
         cc in (
-          ap (λ (z : ServerTag). z.way.peer) (sym same) ∙ e.home,
-          ap (λ (z : ServerTag). z.way.other) (sym same) ∙ e.number,
+          ap (λ (z : End). z.home) (sym same) ∙ e.home,
+          ap (λ (z : End). z.client) (sym same) ∙ e.number,
         );
-    client = λ c is. let there = client-tagged w.nodes n s client x e.is_client e.client_there in
-        let same : client_tag x ≡ c =
-        cc in (
-          ap (λ (z : ClientTag). z.way.peer) (sym same) ∙ e.peer,
-          ap (λ (z : ClientTag). z.way.other) (sym same) ∙ e.other,
+    client = λ a b j.
+        let node = j.is_node in
+        let mine = e.is_client in
+        let lists : j.lists ≡ client = cc in
+        let there : slice_get client.clients s ≡ Some j.client =
+        subst (λ (z : Lists). slice_get z.clients s ≡ Some j.client) lists j.is_there in
+        let own = e.client_there in
+        let same : j.client ≡ x = cc in (
+          sym j.peer ∙ (ap (λ (z : Client). z.way.peer) same ∙ e.peer),
+          sym j.other ∙ (ap (λ (z : Client). z.way.other) same ∙ e.other),
         );
   }
 

@@ -1,4 +1,10 @@
 -- An unanswered packet stays unanswered until its reply is taken, by the node's own facts while it is calm.
+use Rattle.std.proofs.Common.{◌∙◌}
+use Rattle.std.proofs.Common.{[]}
+use Rattle.std.proofs.Common.{ap}
+use Rattle.rpc_laws.specs.declared.tables.Call.{Call}
+use Rattle.rpc_base.proofs.BasicLemmas.{unless-true}
+use Rattle.rpc_laws.specs.Sessions.{is_connected}
 use Rattle.std.proofs.Common.{◌≡◌, ◌+◌, ◌≤◌, ◌==◌, ◌&&◌, ℕ, zero, suc, Bool, true, false, cond}
 use Rattle.std.proofs.Common.{List, Option, Some, refl, sym, subst, arith, eq-eqb}
 use Rattle.std.specs.List.{find}
@@ -65,11 +71,18 @@ ended-window l v c a o k m =
     window-ended l v c a.session a.client a.call a.active.place a.same o k
     (λ p e. own-progress o a.session a.call.progress p a.progress e a.active.active other) m
 
+none-found : (p : Call → Bool) (c : Call) → find p [] ≡ Some c → ⊥
+none-found p c e = cc
+
 -- no session of a calm node is broken
 lost-not : (l : Lists) (c : ℕ) → MayLose l c → CalmNode l → ⊥
 lost-not l c a calm =
     let x = all-found CalmClient (is_client a.session) l.clients a.client calm a.place.client in
-    both_ways (is_live a.client.state) a.broken (connected-live a.client.state x.connected)
+    let dead : is_connected a.client.state ≡ false =
+    unless-true (is_connected a.client.state) (λ e. both_ways (is_live a.client.state) a.broken
+    (connected-live a.client.state e)) in
+    let none = x.idle dead in
+    none-found a.place.test a.call (sym (ap (find a.place.test) none) ∙ a.place.call)
 
 other-by : (s r n request k j : ℕ) (b : Bool) → (same_owner (Ask s r) (Ask n request) && k == j) ≡ b
     → (n == s && (request == r && j == k)) ≡ false → b ≡ false

@@ -1,286 +1,562 @@
 -- No message finds a full ring in a calm history.
-use Rattle.std.proofs.Common.{◌≡◌, ℕ, suc, Bool, true, false, List, [], ◌∷◌, ◌++◌, length}
-use Rattle.std.proofs.Common.{map, Option, Some, slice_get, refl, sym, ap, ◌∙◌, subst, arith}
-use Rattle.std.specs.List.{list_any, slice_set}
+use Rattle.std.proofs.Common.{append-nil}
+use Rattle.std.proofs.Common.{◌≡◌, ◌==◌, ◌⊎◌, inl, inr, ℕ, Bool, true, false, cond, List, []}
+use Rattle.std.proofs.Common.{◌∷◌, ◌++◌}
+use Rattle.std.proofs.Common.{length, Option, Some, None, slice_get, refl, sym, ap, ◌∙◌, subst}
+use Rattle.std.proofs.Common.{arith}
+use Rattle.std.specs.Prelude.{Result, Ok, Err, drop, IfSome}
+use Rattle.std.specs.List.{find, list_any, slice_set, AllByRecursion}
+use Rattle.std.proofs.lemmas.Bool.{eqb-true, eqb-false}
+use Rattle.packet_header.specs.Reading.{decoded, message_in, message_of}
+use Rattle.packet_header.specs.declared.packet.BadPacket.{BadPacket}
+use Rattle.packet_header.specs.declared.packet.ControlHeader.{ControlHeader}
+use Rattle.packet_header.specs.declared.packet.MessageHeader.{MessageHeader}
+use Rattle.packet_header.specs.declared.packet.Packet.{Packet}
+use Rattle.packet_header.specs.declared.packet.Packet.TheVariants.{Message}
+use Rattle.packet_header.specs.declared.packet.Packet.TheVariants.{Control as ControlPacket}
+use Rattle.packet_header.proofs.Readings.{spells-decoded}
 use Rattle.rpc_base.specs.declared.event.Event.{Event}
-use Rattle.rpc_base.specs.declared.event.Event.TheVariants.{Made, Sent, Overflowed, Repeated, Rolled}
+use Rattle.rpc_base.specs.declared.event.Event.TheVariants.{Accepted, Again, Arrived, Dropped}
+use Rattle.rpc_base.specs.declared.event.Event.TheVariants.{Ended}
+use Rattle.rpc_base.specs.declared.event.Event.TheVariants.{Given, Made, Overflowed, PairedServer}
+use Rattle.rpc_base.specs.declared.event.Event.TheVariants.{Ran}
+use Rattle.rpc_base.specs.declared.event.Event.TheVariants.{Repeated, Rolled, Sent, Took}
 use Rattle.rpc_base.specs.declared.fact.Fact.{Fact}
 use Rattle.rpc_base.specs.declared.fact.Who.{Who}
 use Rattle.rpc_base.specs.declared.fact.Who.TheVariants.{Net}
 use Rattle.rpc_base.specs.declared.owner.Owner.{Owner}
-use Rattle.rpc_base.specs.declared.owner.Owner.TheVariants.{Ask, Reply, Control}
+use Rattle.rpc_base.specs.declared.owner.Owner.TheVariants.{Ask, Control, Reply}
+use Rattle.rpc_base.proofs.BasicLemmas.{false-true, or-false}
+use Rattle.rpc_laws.specs.declared.tables.Arrival.{Arrival}
 use Rattle.rpc_laws.specs.declared.tables.InFlight.{InFlight}
 use Rattle.rpc_laws.specs.declared.tables.Lists.{Lists}
-use Rattle.rpc_laws.specs.BufferSafety.{nodes_at}
+use Rattle.rpc_laws.specs.declared.tables.Server.{Server}
 use Rattle.rpc_laws.specs.Facts.{plain}
+use Rattle.rpc_laws.specs.Front.{control_in, control_of, front_body, front_header, is_message}
 use Rattle.rpc_laws.specs.NodeLists.{after, new_lists}
-use Rattle.rpc_laws.specs.UsualLimits.{with_ring}
 use Rattle.rpc_laws.specs.OwnAnswer.{AtEach}
-use Rattle.rpc_laws.specs.Sessions.{client_end}
-use Rattle.rpc_laws.specs.Requests.{server_end}
+use Rattle.rpc_laws.specs.Queues.{ring_after}
+use Rattle.rpc_laws.specs.Requests.{answered, given, is_request, is_server, server_end}
+use Rattle.rpc_laws.specs.Requests.{servers_after, took_packet}
+use Rattle.rpc_laws.specs.UsualLimits.{with_ring}
+use Rattle.rpc_base.specs.Tables.{at_first}
+use Rattle.node_laws.specs.Valid.{Valid}
 use Rattle.end_laws.specs.Genuine.{Travels}
-use Rattle.end_laws.specs.Moments.{Moment, moved, first_moment}
 use Rattle.end_laws.specs.Kinds.{is_ask}
-use Rattle.end_laws.proofs.Allowed.{May, Linked}
-use Rattle.end_laws.proofs.Courses.{latest, AtNode, Ends, Course, over, in_net, made, at_node}
-use Rattle.end_laws.proofs.Courses.{pairs, client_fact, server_fact, paired, moved-node}
-use Rattle.end_laws.proofs.ListLemmas.{Placed, all-add, set-placed, add-placed}
-use Rattle.end_laws.proofs.QueueLemmas.{RightNode}
-use Rattle.end_laws.proofs.SendsLaw.{AllRight, right-noted, right-net, right-made, right-paired}
-use Rattle.end_laws.proofs.TravelLemmas.{SentGives, travels-map, travels-net, travels-node}
-use Rattle.end_laws.proofs.TravelLemmas.{rings-made, inboxes-made, travels-paired}
-use Rattle.ring_laws.specs.CalmRing.{is_rough, Calm, Fits, FitsAt}
-use Rattle.ring_laws.proofs.CalmSteps.{CalmClient, CalmNode, calm-step, shares-all}
+use Rattle.end_laws.specs.Moments.{first_moment, Moment, moved}
+use Rattle.end_laws.proofs.Allowed.{Linked, May, MayLeave}
+use Rattle.end_laws.proofs.Courses.{at_node, AtNode, client_fact, Course, Ends, in_net, latest}
+use Rattle.end_laws.proofs.Courses.{made, moved-node}
+use Rattle.end_laws.proofs.Courses.{over, paired, pairs, server_fact}
+use Rattle.end_laws.proofs.GoodStart.{first-good}
+use Rattle.end_laws.proofs.GoodSteps.{NewEnds, next-made, next-net, next-node}
+use Rattle.end_laws.proofs.Known.{End, Good, Known, LiveAt}
+use Rattle.end_laws.proofs.LetGoSteps.{clients-kin, kin-added, kin-same, sent-gone}
+use Rattle.end_laws.proofs.ListLemmas.{add-keeps, add-placed, all-add, find-add, Placed, set-here}
+use Rattle.end_laws.proofs.ListLemmas.{set-other, set-placed}
+use Rattle.end_laws.proofs.OwnLaw.{next-paired}
+use Rattle.end_laws.proofs.QueueLemmas.{found-ended, is_end, RightNode, server-after}
+use Rattle.end_laws.proofs.SendsLaw.{AllRight, right-made, right-net, right-noted, right-paired}
+use Rattle.end_laws.proofs.ServerLemmas.{server-at}
+use Rattle.end_laws.proofs.TravelLemmas.{inboxes-made, rings-made, SentGives, travels-map}
+use Rattle.end_laws.proofs.TravelLemmas.{travels-net, travels-node}
+use Rattle.end_laws.proofs.TravelLemmas.{travels-paired}
+use Rattle.end_laws.proofs.Valids.{AllValid, valid-made, valid-net, valid-node, valid-pair}
+use Rattle.ring_laws.specs.CalmRing.{Calm, Fits, FitsAt, is_rough}
+use Rattle.ring_laws.proofs.CalmSteps.{calm-step, CalmClient, CalmNode, no-break}
 use Rattle.ring_laws.proofs.ClientSteps.{no_roll}
-use Rattle.ring_laws.proofs.Coverage.{EndOf, Comes, Met, has-place}
-use Rattle.ring_laws.proofs.Frames.{ClientTag, ServerTag, Bones, client_tag, server_tag, bones_of}
-use Rattle.ring_laws.proofs.Frames.{frame, map-set, set-same, map-add, map-get, bones-same}
-use Rattle.ring_laws.proofs.Frames.{client_at, server_at, Mirrors, Grows, FitsIn, fits-before}
-use Rattle.ring_laws.proofs.Loads.{Pairing, Within}
-use Rattle.ring_laws.proofs.MirrorSteps.{grows-made, mirrors-made, pair_frame, grows-pair, mirrors-pair}
+use Rattle.ring_laws.proofs.Coverage.{AllMessages, has-place, Met}
+use Rattle.ring_laws.proofs.Loads.{Pairing}
 use Rattle.ring_laws.proofs.SentReads.{Reads, sent-reads}
-use Rattle.ring_laws.proofs.WithinSteps.{no_repeat, within-node, within-net, within-made}
-use Rattle.ring_laws.proofs.WithinSteps.{within-pair, lists1, lists2, nodes1, nodes2, is_server1}
-use Rattle.ring_laws.proofs.WithinSteps.{paired-nodes}
-use Rattle.ring_laws.proofs.WorldSteps.{client-found, server-found}
-use Rattle.rpc_base.proofs.BasicLemmas.{or-false}
-
-end-more : (fs gs : List Bones) → Grows fs gs → (n : ℕ) (b : Bool) (s : ℕ) → EndOf fs n b s → EndOf gs n b s
-end-more fs gs g n true s e = (e.0, g.servers n s e.0 e.1)
-end-more fs gs g n false s e = (e.0, g.clients n s e.0 e.1)
-
-comes-more : (fs gs : List Bones) → Grows fs gs → (from to : ℕ) (bytes : List ℕ)
-    → Comes fs from to bytes → Comes gs from to bytes
-comes-more fs gs g from to bytes c =
-    record {
-      header = c.header;
-      reads = c.reads;
-      end = end-more fs gs g to (is_ask c.header.kind) c.header.session c.end;
-    }
+use Rattle.ring_laws.proofs.Standing.{Alive, client-to, Comes, comes-kin, copies-kin, EndOf, FitsIn}
+use Rattle.ring_laws.proofs.Standing.{fits-before}
+use Rattle.ring_laws.proofs.Standing.{gone-at-kin, GoneAt, JoinedTo, kin-more, kin-self, kin-set}
+use Rattle.ring_laws.proofs.Standing.{kin-then}
+use Rattle.ring_laws.proofs.Standing.{LetsGoCopy, NodesKin, slot-joined}
+use Rattle.ring_laws.proofs.WithinSteps.{no_repeat, nodes1, nodes-net, paired-nodes, is_server1}
+use Rattle.ring_laws.proofs.WithinSteps.{lists1, lists2}
+use Rattle.ring_laws.proofs.WithinSteps.{within-made, within-net, within-node, within-pair}
+use Rattle.ring_laws.proofs.WorldSteps.{said-none}
 
 -- what is sent comes to the other end
-comes-by : (nodes : List Lists) (n : ℕ) (l : Lists) (peer : ℕ) (o : Owner) (k : ℕ) (bytes : List ℕ)
-    → Mirrors (map bones_of nodes) → slice_get nodes n ≡ Some l → Reads l peer o k bytes
-    → Comes (map bones_of nodes) n peer bytes
-comes-by nodes n l peer (Ask s r) k bytes m is r0 =
+comes-by : (w : Moment) (g : Good w) (n : ℕ) (l : Lists) (peer : ℕ) (o : Owner) (k : ℕ)
+    (bytes : List ℕ)
+    → slice_get w.nodes n ≡ Some l → Reads l peer o k bytes → Comes w.nodes n peer bytes
+comes-by w g n l peer (Ask s r) k bytes is r0 = λ h reads.
     let from = r0.from in
-    let h = from.goes.header in
+    let head = from.goes.header in
     let c = from.client in
-    let to_peer : peer ≡ c.way.peer = r0.to_peer ∙ from.goes.peer in
-    let mirror = m.clients n s (client_tag c) (client-found nodes n s l c m is from.found) in
-    let there : server_at (map bones_of nodes) peer h.session ≡ Some mirror.server =
-    subst (λ (i : ℕ). server_at (map bones_of nodes) i h.session ≡ Some mirror.server) (sym to_peer)
-    (subst (λ (j : ℕ). server_at (map bones_of nodes) c.way.peer j ≡ Some mirror.server)
-    (sym from.goes.to) mirror.found) in
-    record {
-      header = h;
-      reads = r0.read h from.goes.is_message;
-      end = subst (λ (b : Bool). EndOf (map bones_of nodes) peer b h.session) (sym from.goes.asks)
-          (mirror.server, there);
-    }
-comes-by nodes n l peer (Reply t r) k bytes m is r0 =
+    let own = r0.read head from.goes.is_message in
+    let same : head ≡ h = cc in
+    let j = client-to w g n l s r c from.call is from.found from.active in
+    let to_peer : c.way.peer ≡ peer = sym (r0.to_peer ∙ from.goes.peer) in
+    let there : JoinedTo w.nodes n s peer head.session =
+    subst (λ (i : ℕ). JoinedTo w.nodes n s i head.session) to_peer
+    (subst (λ (i : ℕ). JoinedTo w.nodes n s c.way.peer i) (sym from.goes.to) j) in
+    subst (λ (z : MessageHeader). EndOf w.nodes n peer (is_ask z.kind) z.session) same
+    (subst (λ (b : Bool). EndOf w.nodes n peer b head.session) (sym from.goes.asks) (s, there))
+comes-by w g n l peer (Reply t r) k bytes is r0 = λ h reads.
     let from = r0.from in
-    let h = from.goes.header in
+    let head = from.goes.header in
     let v = from.server in
-    let to_peer : peer ≡ v.way.peer = r0.to_peer ∙ from.goes.peer in
-    let mirror = m.servers n t (server_tag v) (server-found nodes n t l v m is from.found) in
-    let there : client_at (map bones_of nodes) peer h.session ≡ Some mirror.client =
-    subst (λ (i : ℕ). client_at (map bones_of nodes) i h.session ≡ Some mirror.client) (sym to_peer)
-    (subst (λ (j : ℕ). client_at (map bones_of nodes) v.way.peer j ≡ Some mirror.client)
-    (sym from.goes.to) mirror.found) in
-    record {
-      header = h;
-      reads = r0.read h from.goes.is_message;
-      end = subst (λ (b : Bool). EndOf (map bones_of nodes) peer b h.session) (sym from.goes.asks)
-          (mirror.client, there);
-    }
-comes-by nodes n l peer Control k bytes m is r0 = absurd r0.from
+    let own = r0.read head from.goes.is_message in
+    let same : head ≡ h = cc in
+    let j = slot-joined w g n l t (is_request r) v from.request is from.found from.is_there in
+    let to_peer : v.way.peer ≡ peer = sym (r0.to_peer ∙ from.goes.peer) in
+    let there : JoinedTo w.nodes peer head.session n t =
+    subst (λ (i : ℕ). JoinedTo w.nodes i head.session n t) to_peer
+    (subst (λ (i : ℕ). JoinedTo w.nodes v.way.peer i n t) (sym from.goes.to) j) in
+    subst (λ (z : MessageHeader). EndOf w.nodes n peer (is_ask z.kind) z.session) same
+    (subst (λ (b : Bool). EndOf w.nodes n peer b head.session) (sym from.goes.asks) (t, there))
+comes-by w g n l peer Control k bytes is r0 = absurd r0.from
 
-sent-comes : (nodes : List Lists) (n : ℕ) (hand : Option InFlight) (l : Lists) (e : Event)
-    (first second : List ℕ) → Mirrors (map bones_of nodes) → slice_get nodes n ≡ Some l
-    → RightNode l → May hand l e first second
-    → SentGives (Comes (map bones_of nodes)) n e first second
-sent-comes nodes n hand l (Sent peer o k) first second m is i may =
-    comes-by nodes n l peer o k (first ++ second) m is (sent-reads l peer o k first second i may)
-sent-comes nodes n hand l _ first second m is i may = tt
+none-some : {A B : Type 0} (o : Option A) (x : A) → o ≡ None → o ≡ Some x → B
+none-some o x e f = cc
 
--- the same frame
-met-same : (w u : Moment) → frame u ≡ frame w → Mirrors (frame w) → Travels (Comes (frame w)) u
-    → ((x : Pairing) → FitsIn (frame w) x → Within u x) → Placed (λ n l. CalmNode l) u.nodes → Met u
-met-same w u e m c k q = record {
-  mirrors = subst Mirrors (sym e) m;
-  comes = subst (λ (fs : List Bones). Travels (Comes fs) u) (sym e) c;
-  within = λ x f. k x (subst (λ (fs : List Bones). FitsIn fs x) e f);
-  calm = q;
-}
+sent-comes : (w : Moment) (g : Good w) (n : ℕ) (l : Lists) (e : Event) (first second : List ℕ)
+    → slice_get w.nodes n ≡ Some l → RightNode l → May w.hand l e first second
+    → SentGives (Comes w.nodes) n e first second
+sent-comes w g n l (Sent peer (Ask s r) k) first second is i may =
+    comes-by w g n l peer (Ask s r) k (first ++ second) is
+    (sent-reads l peer (Ask s r) k first second i may)
+sent-comes w g n l (Sent peer (Reply t r) k) first second is i may =
+    comes-by w g n l peer (Reply t r) k (first ++ second) is
+    (sent-reads l peer (Reply t r) k first second i may)
+sent-comes w g n l (Sent peer Control k) first second is i may = λ h reads.
+    none-some (message_of (first ++ second)) h (said-none l peer k first second may) reads
+sent-comes w g n l _ first second is i may = tt
 
-pub met-net : (w : Moment) (f : Fact) → f.who ≡ Net → no_repeat f.event ≡ true → Met w → Met (moved w f)
+-- a message is no control packet
+message-alone : (r : Result Packet BadPacket) (h : MessageHeader) → message_in r ≡ Some h
+    → control_in r ≡ None
+message-alone (Ok (Message m)) h e = refl
+message-alone (Ok (ControlPacket c)) h e = cc
+message-alone (Err bad) h e = cc
+
+owner-leaves : (w : Moment) (n : ℕ) (l : Lists) (peer : ℕ) (o : Owner) (k : ℕ) (bytes : List ℕ)
+    → Reads l peer o k bytes → LetsGoCopy w.nodes n peer bytes
+owner-leaves w n l peer (Ask s r) k bytes r0 = λ h reads kind t names.
+    none-some (control_of bytes) h (message-alone (decoded bytes) r0.from.goes.header
+    (r0.read r0.from.goes.header r0.from.goes.is_message)) reads
+owner-leaves w n l peer (Reply t r) k bytes r0 = λ h reads kind u names.
+    none-some (control_of bytes) h (message-alone (decoded bytes) r0.from.goes.header
+    (r0.read r0.from.goes.header r0.from.goes.is_message)) reads
+owner-leaves w n l peer Control k bytes r0 = absurd r0.from
+
+pub sent-leaves : (w : Moment) (n : ℕ) (l : Lists) (e : Event) (first second : List ℕ)
+    → slice_get w.nodes n ≡ Some l → RightNode l → Valid l → May w.hand l e first second
+    → SentGives (LetsGoCopy w.nodes) n e first second
+sent-leaves w n l (Sent peer (Ask s r) k) first second is i v may =
+    owner-leaves w n l peer (Ask s r) k (first ++ second)
+    (sent-reads l peer (Ask s r) k first second i may)
+sent-leaves w n l (Sent peer (Reply t r) k) first second is i v may =
+    owner-leaves w n l peer (Reply t r) k (first ++ second)
+    (sent-reads l peer (Reply t r) k first second i may)
+sent-leaves w n l (Sent peer Control k) first second is i v may = λ h reads kind t names.
+    let whole : first ++ second ≡ first = ap (λ (b : List ℕ). first ++ b) may.whole
+    ∙ append-nil first in
+    let mine : control_of first ≡ Some may.header =
+    ap control_in (spells-decoded (ControlPacket may.header) first may.spells) in
+    let told : control_of first ≡ Some h = ap control_of (sym whole) ∙ reads in
+    let same : may.header ≡ h = cc in
+    let gone = sent-gone l v peer t may.header may.own
+    (ap (λ (c : ControlHeader). c.kind) same ∙ kind)
+    (ap (λ (c : ControlHeader). c.server) same ∙ names) in
+    subst (λ (c : ControlHeader). GoneAt w.nodes n c.client t) same
+    (record { lists = l; is_node = is; gone = gone })
+sent-leaves w n l _ first second is i v may = tt
+
+-- the server sessions that are there, after another fact
+abbrev pub StaysAlive : Known → List Lists → List Lists → Type 0
+StaysAlive j nodes others =
+    (m t : ℕ) (e : End) → j.ends m t 0 ≡ Some e → LiveAt nodes m t
+    → LiveAt others m t ⊎ GoneAt others e.home e.client t
+
+pub alive-next : (j k : Known) (nodes others : List Lists) → NewEnds others j k
+    → NodesKin nodes others
+    → StaysAlive j nodes others → Alive j nodes → Alive k others
+alive-next j k nodes others ends kin stays alive m t e is =
+    elim (ends m t e is) [
+      | inl old ↦ elim (alive m t e old) [
+        | inl live ↦ stays m t e old live
+        | inr gone ↦ inr (gone-at-kin nodes others e.home e.client t kin gone)
+      ]
+      | inr new ↦ inl new
+    ]
+
+-- a server session stays by each fact but its end
+server-stays : (hand : Option InFlight) (l : Lists) (e : Event) (first second : List ℕ) (t : ℕ)
+    (v : Server)
+    → is_end e ≡ false → May hand l e first second → find (is_server t) l.servers ≡ Some v
+    → (u : Server) × (find (is_server t)
+    (servers_after e second (front_header l.ring) (front_body l.ring) l.servers) ≡ Some u)
+server-stays hand l (PairedServer n p c k) first second t v live m is = absurd m
+server-stays hand l (Accepted n p c k) first second t v live m is =
+    (v, find-add (is_server t) l.servers (server_end n p c k) v is)
+server-stays hand l (Ended n) first second t v live m is = false-true (sym live)
+server-stays hand l (Took (Reply n r) k) first second t v live m is =
+    elim (server-after t n (took_packet r (front_header l.ring) (front_body l.ring)) l.servers v
+    is) [
+      | inl e ↦ (v, e)
+      | inr c ↦ (_, c.is)
+    ]
+server-stays hand l (Took (Ask n r) k) first second t v live m is = (v, is)
+server-stays hand l (Took Control k) first second t v live m is = (v, is)
+server-stays hand l (Given n r) first second t v live m is =
+    elim (server-after t n (at_first (is_request r) given) l.servers v is) [
+      | inl e ↦ (v, e)
+      | inr c ↦ (_, c.is)
+    ]
+server-stays hand l (Ran n r y) first second t v live m is =
+    elim (server-after t n (at_first (is_request r) (answered second)) l.servers v is) [
+      | inl e ↦ (v, e)
+      | inr c ↦ (_, c.is)
+    ]
+server-stays hand l _ first second t v live m is = (v, is)
+
+abbrev ServersNow : Lists → Event → List ℕ → List Server
+ServersNow l e second = servers_after e second (front_header l.ring) (front_body l.ring) l.servers
+
+-- a session that ends was let go of
+module _ (w : Moment) (g : Good w) (leaves : Travels (LetsGoCopy w.nodes) w) (n : ℕ) (l : Lists)
+    (is : slice_get w.nodes n ≡ Some l) where
+  in-hand : (o : Option InFlight) (c : InFlight) → o ≡ Some c
+      → IfSome o (λ c. LetsGoCopy w.nodes c.from c.to c.bytes)
+      → LetsGoCopy w.nodes c.from c.to c.bytes
+  in-hand None c e h = cc
+  in-hand (Some d) c e h = let same : d ≡ c =
+      cc in subst (λ (z : InFlight). LetsGoCopy w.nodes z.from z.to z.bytes) same h
+
+  pub ended-gone : (t : ℕ) (e : End) → g.known.ends n t 0 ≡ Some e → MayLeave w.hand l t
+      → GoneAt w.nodes e.home e.client t
+  ended-gone t e known m =
+      let h = m.hears in
+      let copy = in-hand w.hand (record { from = h.peer; to = l.me; bytes = h.bytes })
+      h.in_hand leaves.hand in
+      let gone = copy h.header h.reads h.of_kind t m.names in
+      let at = server-at g.known n l.servers t m.server (g.nodes n l is).servers m.found in
+      let own : g.known.ends n t 0 ≡ Some (record {
+        home = m.server.way.peer;
+        client = m.server.way.other;
+        credits = m.server.credits;
+      }) = subst (λ (i : ℕ). g.known.ends n i 0 ≡ Some (record {
+        home = m.server.way.peer;
+        client = m.server.way.other;
+        credits = m.server.credits;
+      })) at.1 at.0.session.end in
+      let same : record {
+        home = m.server.way.peer;
+        client = m.server.way.other;
+        credits = m.server.credits;
+      } ≡ e = cc in
+      let home : h.peer ≡ e.home = sym m.of_peer ∙ ap (λ (z : End). z.home) same in
+      let client : h.header.client ≡ e.client = sym m.of_client ∙ ap (λ (z : End). z.client) same in
+      subst (λ (i : ℕ). GoneAt w.nodes i e.client t) home
+      (subst (λ (i : ℕ). GoneAt w.nodes h.peer i t) client gone)
+
+  live-here : (e : Event) (first second : List ℕ) (t : ℕ) (v : Server) (end : End)
+      → May w.hand l e first second → find (is_server t) l.servers ≡ Some v
+      → g.known.ends n t 0 ≡ Some end
+      → ((u : Server) × (find (is_server t) (ServersNow l e second) ≡ Some u))
+      ⊎ GoneAt w.nodes end.home end.client t
+  live-here (Ended d) first second t v end m found known = by (d == t) refl
+    where
+      by : (b : Bool) → (d == t) ≡ b
+          → ((u : Server) × (find (is_server t) (ServersNow l (Ended d) second) ≡ Some u))
+          ⊎ GoneAt w.nodes end.home end.client t
+      by true e =
+          let same = eqb-true d t e in
+          inr (ended-gone t end known (subst (MayLeave w.hand l) same m))
+      by false e = inl (v, found-ended d t l.servers v e found)
+  live-here e first second t v end m found known =
+      inl (server-stays w.hand l e first second t v refl m found)
+
+pub live-node : (w : Moment) (g : Good w) (leaves : Travels (LetsGoCopy w.nodes) w) (n : ℕ)
+    (l : Lists)
+    (f : Fact) → AtNode w n l f → NodesKin w.nodes (slice_set w.nodes n (after w.clock l f))
+    → StaysAlive g.known w.nodes (slice_set w.nodes n (after w.clock l f))
+live-node w g leaves n l f a kin m t e known live = by (m == n) refl
+  where
+    by : (b : Bool) → (m == n) ≡ b
+        → LiveAt (slice_set w.nodes n (after w.clock l f)) m t
+        ⊎ GoneAt (slice_set w.nodes n (after w.clock l f)) e.home e.client t
+    by false q =
+        inl (record {
+          lists = live.lists;
+          is_node = set-other w.nodes n m (after w.clock l f) (eqb-false m n q) ∙ live.is_node;
+          server = live.server;
+          found = live.found;
+        })
+    by true q =
+        let at = eqb-true m n q in
+        let mine : slice_get w.nodes n ≡ Some live.lists = ap (slice_get w.nodes) (sym at)
+        ∙ live.is_node in
+        let node = a.is_node in
+        let lists : live.lists ≡ l = cc in
+        let found : find (is_server t) l.servers ≡ Some live.server =
+        subst (λ (z : Lists). find (is_server t) z.servers ≡ Some live.server) lists live.found in
+        let here : g.known.ends n t 0 ≡ Some e = ap (λ (i : ℕ). g.known.ends i t 0) (sym at)
+        ∙ known in
+        elim (live-here w g leaves n l a.is_node f.event f.first f.second t live.server e
+        a.allowed.may found here) [
+          | inl new ↦ inl (record {
+            lists = after w.clock l f;
+            is_node = ap (slice_get (slice_set w.nodes n (after w.clock l f))) at
+                ∙ set-here w.nodes n l (after w.clock l f) a.is_node;
+            server = new.0;
+            found = new.1;
+          })
+          | inr gone ↦ inr (gone-at-kin w.nodes
+              (slice_set w.nodes n (after w.clock l f)) e.home e.client t kin gone)
+        ]
+
+-- a ring gets messages alone
+drop-all : (P : Arrival → Type 0) (ring : List Arrival) → AllByRecursion P ring
+    → AllByRecursion P (drop 1 ring)
+drop-all P [] h = tt
+drop-all P (a ∷ ring) h = h.1
+
+arrived-all : (b : Bool) (a : Arrival) (ring : List Arrival) → is_message a.bytes ≡ b
+    → AllMessages ring
+    → AllMessages (cond b (ring ++ a ∷ []) ring)
+arrived-all true a ring e h = all-add (λ a. is_message a.bytes ≡ true) ring a h e
+arrived-all false a ring e h = h
+
+ring-all : (e : Event) (first : List ℕ) (ring : List Arrival) → AllMessages ring
+    → AllMessages (ring_after e first ring)
+ring-all (Arrived peer) first ring h =
+    arrived-all (is_message first) (record { peer = peer; bytes = first }) ring refl h
+ring-all (Took owner k) first ring h = drop-all (λ a. is_message a.bytes ≡ true) ring h
+ring-all (Again owner k) first ring h = drop-all (λ a. is_message a.bytes ≡ true) ring h
+ring-all (Dropped why) first ring h = drop-all (λ a. is_message a.bytes ≡ true) ring h
+ring-all _ first ring h = h
+
+-- what is so at another moment, and how what is known goes on
+pub record MetNext (w u : Moment) (m : Met w) : Type 0 where
+  pub met : Met u
+  pub fits : (x : Pairing) → FitsIn met.good.known u.nodes x → FitsIn m.good.known w.nodes x
+
+-- a fact of the network
+pub met-net : (w : Moment) (f : Fact) → f.who ≡ Net → no_repeat f.event ≡ true → (m : Met w)
+    → MetNext w (moved w f) m
 met-net w f who calm m =
-    let same : (moved w f).nodes ≡ w.nodes = ap (λ (p : Who). nodes_at w.clock p w.nodes f) who in
-    met-same w (moved w f) (ap (map bones_of) same) m.mirrors
-    (travels-net (Comes (frame w)) w f who m.comes)
-    (λ x fits. within-net w f x who calm (m.within x fits))
-    (subst (λ (ns : List Lists). Placed (λ n l. CalmNode l) ns) (sym same) m.calm)
+    let u = moved w f in
+    let n = next-net w f who m.good in
+    let same : u.nodes ≡ w.nodes = nodes-net w f who in
+    let kin : NodesKin w.nodes u.nodes = subst (NodesKin w.nodes) (sym same) (kin-self w.nodes) in
+    let before : (x : Pairing) → FitsIn n.good.known u.nodes x → FitsIn m.good.known w.nodes x =
+    λ x fits. fits-before m.good.known n.good.known w.nodes u.nodes n.later kin x fits in
+    record {
+      met = record {
+        good = n.good;
+        comes = travels-map (Comes w.nodes) (Comes u.nodes) u (comes-kin w.nodes u.nodes kin)
+            (travels-net (Comes w.nodes) w f who m.comes);
+        leaves = travels-map (LetsGoCopy w.nodes) (LetsGoCopy u.nodes) u
+            (copies-kin w.nodes u.nodes kin)
+            (travels-net (LetsGoCopy w.nodes) w f who m.leaves);
+        alive = alive-next m.good.known n.good.known w.nodes u.nodes n.ends kin
+            (λ i t e is live. inl (subst (λ (ns : List Lists). LiveAt ns i t) (sym same) live))
+            m.alive;
+        within = λ x fits. within-net w f x who calm (m.within x (before x fits));
+        rings = subst (λ (ns : List Lists). Placed (λ n l. AllMessages l.ring) ns)
+            (sym same) m.rings;
+        calm = subst (λ (ns : List Lists). Placed (λ n l. CalmNode l) ns) (sym same) m.calm;
+      };
+      fits = before;
+    }
 
 pub met-node : (w : Moment) (n : ℕ) (l : Lists) (f : Fact) → AtNode w n l f → AllRight w
-    → no_roll f.event ≡ true → Met w → Met (moved w f)
-met-node w n l f a i calm m =
-    let right = i n l a.is_node in
-    let nodes_are : (moved w f).nodes ≡ slice_set w.nodes n (after w.clock l f) =
-    ap (λ (v : Moment). v.nodes) (moved-node w n l f a) in
-    let same : map bones_of (slice_set w.nodes n (after w.clock l f)) ≡ frame w =
-    set-same bones_of w.nodes n l (after w.clock l f) a.is_node
-    (bones-same w.clock w.hand l f.event f.first f.second a.allowed.may) in
-    let quiet : Placed (λ n l. CalmNode l) (slice_set w.nodes n (after w.clock l f)) =
+    → AllValid w
+    → no_roll f.event ≡ true → (m : Met w) → MetNext w (moved w f) m
+met-node w n l f a i v calm m =
+    let u = moved w f in
+    let g = next-node w n l f a i v m.good in
+    let set : List Lists = slice_set w.nodes n (after w.clock l f) in
+    let nodes_are : u.nodes ≡ set = ap (λ (z : Moment). z.nodes) (moved-node w n l f a) in
+    let kin_set : NodesKin w.nodes set =
+    kin-set w.nodes n l (after w.clock l f) a.is_node
+    (clients-kin w.clock l f.event f.first (front_header l.ring) (front_body l.ring)
+    (v n l a.is_node) a.lawful) in
+    let kin : NodesKin w.nodes u.nodes = subst (NodesKin w.nodes) (sym nodes_are) kin_set in
+    let stays : StaysAlive m.good.known w.nodes u.nodes =
+    subst (λ (ns : List Lists). StaysAlive m.good.known w.nodes ns) (sym nodes_are)
+    (live-node w m.good m.leaves n l f a kin_set) in
+    let before : (x : Pairing) → FitsIn g.good.known u.nodes x → FitsIn m.good.known w.nodes x =
+    λ x fits. fits-before m.good.known g.good.known w.nodes u.nodes g.later kin x fits in
+    let quiet : Placed (λ n l. CalmNode l) set =
     set-placed (λ n l. CalmNode l) w.nodes n l (after w.clock l f) a.is_node
-    (calm-step w.clock w.hand l f.event f.first f.second calm a.allowed.may
+    (calm-step w.clock w.hand l f.event f.first f.second a.lawful calm a.allowed.may
     (m.calm n l a.is_node)) (λ j z ne is. m.calm j z is) in
-    met-same w (moved w f) (ap (map bones_of) nodes_are ∙ same) m.mirrors
-    (travels-node (Comes (frame w)) w n l f a
-    (sent-comes w.nodes n w.hand l f.event f.first f.second m.mirrors a.is_node right
-    a.allowed.may) m.comes)
-    (λ x fits. within-node w n l f x a m.mirrors right calm fits (m.within x fits))
-    (subst (λ (ns : List Lists). Placed (λ n l. CalmNode l) ns) (sym nodes_are) quiet)
-
-pub met-made : (w : Moment) (ring : ℕ) → Met w → Met (moved w (plain (length w.nodes) (Made ring)))
-met-made w ring m =
-    let new = new_lists (length w.nodes) (with_ring ring) in
-    let fs : List Bones = frame w ++ bones_of new ∷ [] in
-    let is : map bones_of (w.nodes ++ new ∷ []) ≡ fs = map-add bones_of w.nodes new in
-    let g : Grows (frame w) fs = grows-made (frame w) (bones_of new) in
-    let t = travels-map (Comes (frame w)) (Comes fs) w (comes-more (frame w) fs g) m.comes in
-    let u = moved w (plain (length w.nodes) (Made ring)) in
-    let travels : Travels (Comes fs) u =
+    let rings : Placed (λ n l. AllMessages l.ring) set =
+    set-placed (λ n l. AllMessages l.ring) w.nodes n l (after w.clock l f) a.is_node
+    (ring-all f.event f.first l.ring (m.rings n l a.is_node)) (λ j z ne is. m.rings j z is) in
     record {
-      flight = t.flight;
-      hand = t.hand;
-      rings = rings-made (Comes fs) w ring t;
-      inboxes = inboxes-made (Comes fs) w ring t;
-    } in
-    record {
-      mirrors = subst Mirrors (sym is) (mirrors-made (frame w) ring m.mirrors);
-      comes = subst (λ (gs : List Bones). Travels (Comes gs) u) (sym is) travels;
-      within = λ x fits. within-made w ring x
-          (m.within x (fits-before (frame w) fs g x
-          (subst (λ (gs : List Bones). FitsIn gs x) is fits)));
-      calm = add-placed (λ n l. CalmNode l) w.nodes new tt m.calm;
+      met = record {
+        good = g.good;
+        comes = travels-map (Comes w.nodes) (Comes u.nodes) u (comes-kin w.nodes u.nodes kin)
+            (travels-node (Comes w.nodes) w n l f a
+            (sent-comes w m.good n l f.event f.first f.second
+            a.is_node (i n l a.is_node) a.allowed.may) m.comes);
+        leaves = travels-map (LetsGoCopy w.nodes) (LetsGoCopy u.nodes) u
+            (copies-kin w.nodes u.nodes kin)
+            (travels-node (LetsGoCopy w.nodes) w n l f a (sent-leaves w n l f.event f.first f.second
+            a.is_node (i n l a.is_node) (v n l a.is_node) a.allowed.may) m.leaves);
+        alive = alive-next m.good.known g.good.known w.nodes u.nodes g.ends kin stays m.alive;
+        within = λ x fits. within-node w n l f x a m.good (i n l a.is_node) (v n l a.is_node) calm
+            (λ s e. no-break l s (subst
+            (λ (z : Event). May w.hand l z f.first f.second) e a.allowed.may)
+            (m.calm n l a.is_node)) (before x fits) (m.within x (before x fits));
+        rings = subst (λ (ns : List Lists). Placed (λ n l. AllMessages l.ring) ns)
+            (sym nodes_are) rings;
+        calm = subst (λ (ns : List Lists). Placed (λ n l. CalmNode l) ns) (sym nodes_are) quiet;
+      };
+      fits = before;
     }
 
-length-tags : {A B : Type 0} (f : A → B) (xs : List A) → length (map f xs) ≡ length xs
-length-tags f [] = refl
-length-tags f (x ∷ xs) = ap suc (length-tags f xs)
+pub met-made : (w : Moment) (ring : ℕ) → (m : Met w)
+    → MetNext w (moved w (plain (length w.nodes) (Made ring))) m
+met-made w ring m =
+    let new = new_lists (length w.nodes) (with_ring ring) in
+    let u = moved w (plain (length w.nodes) (Made ring)) in
+    let g = next-made w ring m.good in
+    let kin : NodesKin w.nodes u.nodes = kin-more w.nodes new in
+    let comes = travels-map (Comes w.nodes) (Comes u.nodes) w
+    (comes-kin w.nodes u.nodes kin) m.comes in
+    let leaves = travels-map (LetsGoCopy w.nodes) (LetsGoCopy u.nodes) w
+    (copies-kin w.nodes u.nodes kin) m.leaves in
+    let before : (x : Pairing) → FitsIn g.good.known u.nodes x → FitsIn m.good.known w.nodes x =
+    λ x fits. fits-before m.good.known g.good.known w.nodes u.nodes g.later kin x fits in
+    record {
+      met = record {
+        good = g.good;
+        comes = record {
+          flight = comes.flight;
+          hand = comes.hand;
+          rings = rings-made (Comes u.nodes) w ring comes;
+          inboxes = inboxes-made (Comes u.nodes) w ring comes;
+        };
+        leaves = record {
+          flight = leaves.flight;
+          hand = leaves.hand;
+          rings = rings-made (LetsGoCopy u.nodes) w ring leaves;
+          inboxes = inboxes-made (LetsGoCopy u.nodes) w ring leaves;
+        };
+        alive = alive-next m.good.known g.good.known w.nodes u.nodes g.ends kin
+            (λ i t e is live. inl (record {
+              lists = live.lists;
+              is_node = add-keeps w.nodes new i live.lists live.is_node;
+              server = live.server;
+              found = live.found;
+            })) m.alive;
+        within = λ x fits. within-made w ring x (m.within x (before x fits));
+        rings = add-placed (λ n l. AllMessages l.ring) w.nodes new tt m.rings;
+        calm = add-placed (λ n l. CalmNode l) w.nodes new tt m.calm;
+      };
+      fits = before;
+    }
 
 module _ (w : Moment) (n m credits : ℕ) (client server : Lists) (ends : Ends w n m credits client server) where
-  is_a : slice_get (frame w) n ≡ Some (bones_of client)
-  is_a = map-get bones_of w.nodes n client ends.is_client
+  abbrev first-nodes : List Lists
+  first-nodes = nodes1 w n m credits client server ends
 
-  is_b : slice_get (frame w) m ≡ Some (bones_of server)
-  is_b = map-get bones_of w.nodes m server ends.is_server
+  abbrev pair-nodes : List Lists
+  pair-nodes = slice_set first-nodes m (lists2 w n m credits client server ends)
 
-  abbrev pair-of : List Bones
-  pair-of = pair_frame (frame w) n m credits (bones_of client) (bones_of server) is_a is_b ends.two
+  pub kin-one : NodesKin w.nodes first-nodes
+  kin-one = kin-set w.nodes n client (lists1 w n m credits client server ends) ends.is_client
+      (kin-added client.clients _)
 
-  abbrev client-bones : ℕ → ℕ → Bones
-  client-bones s t = record {
-    room = client.room;
-    clients = map client_tag client.clients
-        ++ record { way = record { number = s; peer = m; other = t }; limit = credits }
-        ∷ [];
-    servers = map server_tag client.servers;
-  }
+  kin-two : NodesKin first-nodes pair-nodes
+  kin-two = kin-set first-nodes m server (lists2 w n m credits client server ends)
+      (is_server1 w n m credits client server ends) (kin-same server.clients)
 
-  abbrev server-bones : ℕ → ℕ → Bones
-  server-bones t s = record {
-    room = server.room;
-    clients = map client_tag server.clients;
-    servers = map server_tag server.servers
-        ++ record { way = record { number = t; peer = n; other = s }; credits = credits } ∷ [];
-  }
+  pub kin-pair : NodesKin w.nodes (paired w n m credits client server).nodes
+  kin-pair = subst (NodesKin w.nodes) (sym (paired-nodes w n m credits client server ends))
+      (kin-then w.nodes first-nodes pair-nodes kin-one kin-two)
 
-  bones1 : bones_of (lists1 w n m credits client server ends)
-      ≡ client-bones (length (map client_tag client.clients))
-      (length (map server_tag server.servers))
-  bones1 =
-      ap (λ (cs : List ClientTag). record {
-        room = client.room;
-        clients = cs;
-        servers = map server_tag client.servers;
-      })
-      (map-add client_tag client.clients (client_end (length client.clients) m
-      (length server.servers) credits))
-      ∙ (ap (λ (s : ℕ). client-bones s (length server.servers))
-      (sym (length-tags client_tag client.clients))
-      ∙ ap (client-bones (length (map client_tag client.clients)))
-      (sym (length-tags server_tag server.servers)))
+  live-set : (nodes : List Lists) (i : ℕ) (l now : Lists) → slice_get nodes i ≡ Some l
+      → ((t : ℕ) (v : Server) → find (is_server t) l.servers ≡ Some v
+      → find (is_server t) now.servers ≡ Some v) → (j t : ℕ) → LiveAt nodes j t
+      → LiveAt (slice_set nodes i now) j t
+  live-set nodes i l now is keep j t live = by (j == i) refl
+    where
+      by : (b : Bool) → (j == i) ≡ b → LiveAt (slice_set nodes i now) j t
+      by true e =
+          let at = eqb-true j i e in
+          let mine : slice_get nodes i ≡ Some live.lists = ap (slice_get nodes) (sym at)
+          ∙ live.is_node in
+          let lists : live.lists ≡ l = cc in
+          record {
+            lists = now;
+            is_node = ap (slice_get (slice_set nodes i now)) at ∙ set-here nodes i l now is;
+            server = live.server;
+            found = keep t live.server (subst (λ (z : Lists). find (is_server t) z.servers
+                ≡ Some live.server) lists live.found);
+          }
+      by false e =
+          record {
+            lists = live.lists;
+            is_node = set-other nodes i j now (eqb-false j i e) ∙ live.is_node;
+            server = live.server;
+            found = live.found;
+          }
 
-  bones2 : bones_of (lists2 w n m credits client server ends)
-      ≡ server-bones (length (map server_tag server.servers))
-      (length (map client_tag client.clients))
-  bones2 =
-      ap (λ (vs : List ServerTag). record {
-        room = server.room;
-        clients = map client_tag server.clients;
-        servers = vs;
-      })
-      (map-add server_tag server.servers (server_end (length server.servers) n
-      (length client.clients) credits))
-      ∙ (ap (λ (t : ℕ). server-bones t (length client.clients))
-      (sym (length-tags server_tag server.servers))
-      ∙ ap (server-bones (length (map server_tag server.servers)))
-      (sym (length-tags client_tag client.clients)))
+  pub live-pair : (j t : ℕ) → LiveAt w.nodes j t
+      → LiveAt (paired w n m credits client server).nodes j t
+  live-pair j t live =
+      subst (λ (ns : List Lists). LiveAt ns j t)
+      (sym (paired-nodes w n m credits client server ends))
+      (live-set first-nodes m server (lists2 w n m credits client server ends)
+      (is_server1 w n m credits client server ends)
+      (λ t v is. find-add (is_server t) server.servers _ v is) j t
+      (live-set w.nodes n client (lists1 w n m credits client server ends) ends.is_client
+      (λ t v is. is) j t live))
 
-  frame-is : frame (paired w n m credits client server) ≡ pair-of
-  frame-is =
-      ap (map bones_of) (paired-nodes w n m credits client server ends)
-      ∙ (map-set bones_of (nodes1 w n m credits client server ends) m (lists2 w n m credits client server ends)
-      ∙ (ap (λ (fs : List Bones). slice_set fs m
-      (bones_of (lists2 w n m credits client server ends)))
-      (map-set bones_of w.nodes n (lists1 w n m credits client server ends))
-      ∙ (ap (λ (b : Bones). slice_set (slice_set (frame w) n b) m
-      (bones_of (lists2 w n m credits client server ends))) bones1
-      ∙ ap (λ (b : Bones). slice_set (slice_set (frame w) n
-      (client-bones (length (map client_tag client.clients))
-      (length (map server_tag server.servers)))) m b) bones2)))
-
-  pub grows-paired : Grows (frame w) (frame (paired w n m credits client server))
-  grows-paired = subst (Grows (frame w)) (sym frame-is)
-      (grows-pair (frame w) n m credits (bones_of client) (bones_of server) is_a is_b ends.two)
-
-  pub met-pair : Met w → Met (paired w n m credits client server)
-  met-pair h =
-      let g : Grows (frame w) pair-of =
-      grows-pair (frame w) n m credits (bones_of client)
-      (bones_of server) is_a is_b ends.two in
+  pub met-pair : AllRight w → AllValid w → (h : Met w)
+      → MetNext w (paired w n m credits client server) h
+  met-pair i v h =
       let u = paired w n m credits client server in
-      let travels : Travels (Comes pair-of) u =
-      travels-paired (Comes pair-of) w n m credits client server ends
-      (travels-map (Comes (frame w)) (Comes pair-of) w (comes-more (frame w) pair-of g)
-      h.comes) in
-      let calm_a = h.calm n client ends.is_client in
-      let calm_b = h.calm m server ends.is_server in
-      let shares_a = shares-all client calm_a in
-      let shares_b = shares-all server calm_b in
-      let fits_a = ends.fits_client in
-      let fits_b = ends.fits_server in
-      let calm1 : Placed (λ n l. CalmNode l) (nodes1 w n m credits client server ends) =
+      let g = next-paired w n m credits client server ends i v h.good in
+      let kin = kin-pair in
+      let before : (x : Pairing) → FitsIn g.good.known u.nodes x → FitsIn h.good.known w.nodes x =
+      λ x fits. fits-before h.good.known g.good.known w.nodes u.nodes g.later kin x fits in
+      let calm1 : Placed (λ n l. CalmNode l) first-nodes =
       set-placed (λ n l. CalmNode l) w.nodes n client
       (lists1 w n m credits client server ends) ends.is_client
-      (all-add CalmClient client.clients _ calm_a (record { connected = refl; calls = tt }))
+      (all-add CalmClient client.clients _ (h.calm n client ends.is_client)
+      (record { idle = λ e. refl; calls = tt }))
       (λ j z ne is. h.calm j z is) in
-      let calm2 : Placed (λ n l. CalmNode l) (nodes2 w n m credits client server ends) =
-      set-placed (λ n l. CalmNode l) (nodes1 w n m credits client server ends) m server
+      let calm2 : Placed (λ n l. CalmNode l) pair-nodes =
+      set-placed (λ n l. CalmNode l) first-nodes m server (lists2 w n m credits client server ends)
+      (is_server1 w n m credits client server ends) (h.calm m server ends.is_server)
+      (λ j z ne is. calm1 j z is) in
+      let rings1 : Placed (λ n l. AllMessages l.ring) first-nodes =
+      set-placed (λ n l. AllMessages l.ring) w.nodes n client
+      (lists1 w n m credits client server ends) ends.is_client
+      (h.rings n client ends.is_client) (λ j z ne is. h.rings j z is) in
+      let rings2 : Placed (λ n l. AllMessages l.ring) pair-nodes =
+      set-placed (λ n l. AllMessages l.ring) first-nodes m server
       (lists2 w n m credits client server ends)
-      (is_server1 w n m credits client server ends) calm_b (λ j z ne is. calm1 j z is) in
+      (is_server1 w n m credits client server ends) (h.rings m server ends.is_server)
+      (λ j z ne is. rings1 j z is) in
       record {
-        mirrors = subst Mirrors (sym frame-is)
-            (mirrors-pair (frame w) n m credits (bones_of client)
-            (bones_of server) is_a is_b ends.two (omega arith) (omega arith) h.mirrors);
-        comes = subst (λ (gs : List Bones). Travels (Comes gs) u) (sym frame-is) travels;
-        within = λ x fits. within-pair w n m credits client server ends x
-            (h.within x (fits-before (frame w) pair-of g x
-            (subst (λ (gs : List Bones). FitsIn gs x) frame-is fits)));
-        calm = subst (λ (ns : List Lists). Placed (λ n l. CalmNode l) ns)
-            (sym (paired-nodes w n m credits client server ends)) calm2;
+        met = record {
+          good = g.good;
+          comes = travels-map (Comes w.nodes) (Comes u.nodes) u (comes-kin w.nodes u.nodes kin)
+              (travels-paired (Comes w.nodes) w n m credits client server ends h.comes);
+          leaves = travels-map (LetsGoCopy w.nodes) (LetsGoCopy u.nodes) u
+              (copies-kin w.nodes u.nodes kin)
+              (travels-paired (LetsGoCopy w.nodes) w n m credits client server ends h.leaves);
+          alive = alive-next h.good.known g.good.known w.nodes u.nodes g.ends kin
+              (λ j t e is live. inl (live-pair j t live)) h.alive;
+          within = λ x fits. within-pair w n m credits client server ends x
+              (h.within x (before x fits));
+          rings = subst (λ (ns : List Lists). Placed (λ n l. AllMessages l.ring) ns)
+              (sym (paired-nodes w n m credits client server ends)) rings2;
+          calm = subst (λ (ns : List Lists). Placed (λ n l. CalmNode l) ns)
+              (sym (paired-nodes w n m credits client server ends)) calm2;
+        };
+        fits = before;
       }
 
 -- a calm fact
@@ -297,47 +573,68 @@ calm-parts f past h = or-false (is_rough f.event) (list_any (λ g. is_rough g.ev
 
 -- at a fact of a node
 fits-event : (w : Moment) (n : ℕ) (l : Lists) (e : Event) (first second : List ℕ)
-    → slice_get w.nodes n ≡ Some l → l.me ≡ n → May w.hand l e first second
+    → slice_get w.nodes n ≡ Some l → l.me ≡ n → AllValid w → May w.hand l e first second
     → Linked (latest w.past) l e first → (Calm w.past → Met w) → Fits w.past e first
-fits-event w n l (Overflowed peer) first second is me may link met =
-    λ read calm. has-place w (met calm) n l is peer first
+fits-event w n l (Overflowed peer) first second is me v may link met =
+    λ read calm. has-place w v (met calm) n l is peer first
     (may.delivered.in_hand ∙ ap (λ (i : ℕ). Some
-    (record { from = peer; to = i; bytes = first })) me) link (may.full read)
-fits-event w n l _ first second is me may link met = tt
+    (record { from = peer; to = i; bytes = first })) me) link read (may.full read)
+fits-event w n l _ first second is me v may link met = tt
 
 abbrev At : List Fact → Fact → Type 0
 At past f = FitsAt past f.who f.event f.first
 
-pub course-fits : (w : Moment) (h : List Fact) (u : Moment) → Course w h u → AllRight w
+pub course-fits : (w : Moment) (h : List Fact) (u : Moment) → Course w h u → AllRight w → AllValid w
     → (Calm w.past → Met w) → AtEach At w.past h
-course-fits _ _ _ (over w) i met = tt
-course-fits _ _ _ (in_net w f h u who c) i met = (
+course-fits _ _ _ (over w) i v met = tt
+course-fits _ _ _ (in_net w f h u who c) i v met = (
   subst (λ (p : Who). FitsAt w.past p f.event f.first) (sym who) tt,
-  course-fits (moved w f) h u c (right-net w f who i) (λ calm. let parts = calm-parts f w.past calm in met-net w f who (rough-repeat f.event parts.0) (met parts.1)),
+  course-fits (moved w f) h u c (right-net w f who i) (valid-net w f who v)
+      (λ calm. let parts = calm-parts f w.past calm in
+      (met-net w f who (rough-repeat f.event parts.0) (met parts.1)).met),
 )
-course-fits _ _ _ (made w ring h u c) i met =
-    (tt, course-fits _ h u c (right-made w ring i) (λ calm. let parts = calm-parts (plain (length w.nodes) (Made ring)) w.past calm in met-made w ring (met parts.1)))
-course-fits _ _ _ (at_node w n l f h u a c) i met = (
+course-fits _ _ _ (made w ring h u c) i v met = (
+  tt,
+  course-fits _ h u c (right-made w ring i) (valid-made w ring v)
+      (λ calm. let parts = calm-parts (plain (length w.nodes) (Made ring)) w.past calm in
+      (met-made w ring (met parts.1)).met),
+)
+course-fits _ _ _ (at_node w n l f h u a c) i v met = (
   subst (λ (p : Who). FitsAt w.past p f.event f.first) (sym a.allowed.who)
-      (fits-event w n l f.event f.first f.second a.is_node a.me a.allowed.may a.linked met),
-  course-fits (moved w f) h u c (right-noted w n l f a i) (λ calm. let parts = calm-parts f w.past calm in met-node w n l f a i (rough-roll f.event parts.0) (met parts.1)),
+      (fits-event w n l f.event f.first f.second a.is_node a.me v a.allowed.may a.linked met),
+  course-fits (moved w f) h u c (right-noted w n l f a i) (valid-node w n l f a v)
+      (λ calm. let parts = calm-parts f w.past calm in
+      (met-node w n l f a i v (rough-roll f.event parts.0) (met parts.1)).met),
 )
-course-fits _ _ _ (pairs w n m credits client server h u e c) i met = (
+course-fits _ _ _ (pairs w n m credits client server h u e c) i v met = (
   tt,
   (
     tt,
     course-fits (paired w n m credits client server) h u c (right-paired w n m credits client server e i)
+        (valid-pair w n m credits client server e v)
         (λ calm. let parts = calm-parts (server_fact n m credits client server) (client_fact n m credits client server ∷ w.past) calm in
-        met-pair w n m credits client server e
-        (met (calm-parts (client_fact n m credits client server) w.past parts.1).1)),
+        (met-pair w n m credits client server e i v
+        (met (calm-parts (client_fact n m credits client server) w.past parts.1).1)).met),
   ),
 )
 
 -- before the first fact
 pub first-met : Met first_moment
 first-met = record {
-  mirrors = record { clients = λ n s c h. cc; servers = λ m t v h. cc; rooms = λ n b h. cc };
+  good = first-good;
   comes = record { flight = tt; hand = tt; rings = λ n l is. absurd (cc); inboxes = λ n l is. absurd (cc) };
-  within = λ x fits. omega arith;
+  leaves = record {
+    flight = tt;
+    hand = tt;
+    rings = λ n l is. absurd (cc);
+    inboxes = λ n l is. absurd (cc);
+  };
+  alive = λ m t e is. nothing-known m t e is;
+  within = λ x f. omega arith;
+  rings = λ n l is. absurd (cc);
   calm = λ n l is. absurd (cc);
 }
+  where
+    nothing-known : (m t : ℕ) (e : End) → first-good.known.ends m t 0 ≡ Some e
+        → LiveAt first_moment.nodes m t ⊎ GoneAt first_moment.nodes e.home e.client t
+    nothing-known m t e is = let none = first-good.unmade.ends m t (omega arith) in absurd (cc)

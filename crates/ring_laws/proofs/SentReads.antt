@@ -87,24 +87,32 @@ client-out false way a r k =
       peer = refl;
     }
 
-call-out : (way : Way) (r k : ℕ) (c : Option Call) (out : Outgoing)
-    → call_packet way r k c ≡ Some out → OutTo way true r k out
-call-out way r k None out h = cc
-call-out way r k (Some c) out h =
-    some-out way true r k (client_packet way c.what r k) out h
-    (client-out (nat_lt k (asked_packets c.what)) way c.what r k)
-
--- it goes from this client session
+-- it goes from this client session, and from this call of it
 pub record FromClient (l : Lists) (s r k : ℕ) (out : Outgoing) : Type 0 where
   pub client : Client
   pub found : find (is_client s) l.clients ≡ Some client
+  pub call : Call
+  pub active : find (is_active r) client.calls ≡ Some call
   pub goes : OutTo client.way true r k out
+
+call-out : (l : Lists) (s r k : ℕ) (x : Client) (c : Option Call) (out : Outgoing)
+    → find (is_client s) l.clients ≡ Some x → find (is_active r) x.calls ≡ c
+    → call_packet x.way r k c ≡ Some out → FromClient l s r k out
+call-out l s r k x None out found is h = cc
+call-out l s r k x (Some c) out found is h =
+    record {
+      client = x;
+      found = found;
+      call = c;
+      active = is;
+      goes = some-out x.way true r k (client_packet x.way c.what r k) out h
+          (client-out (nat_lt k (asked_packets c.what)) x.way c.what r k);
+    }
 
 ask-out : (l : Lists) (s r k : ℕ) (x : Option Client) (out : Outgoing)
     → find (is_client s) l.clients ≡ x → ask_packet r k x ≡ Some out → FromClient l s r k out
 ask-out l s r k None out is h = cc
-ask-out l s r k (Some x) out is h =
-    record { client = x; found = is; goes = call-out x.way r k (find (is_active r) x.calls) out h }
+ask-out l s r k (Some x) out is h = call-out l s r k x (find (is_active r) x.calls) out is refl h
 
 server-out : (b : Bool) (way : Way) (q : Served) (k : ℕ) (answer : Option (List ℕ)) (out : Outgoing)
     → cond b (Some (record {
@@ -155,24 +163,34 @@ server-out false way q k (Some a) out h =
       peer = refl;
     })
 
-request-out : (way : Way) (slots : List Served) (r k : ℕ) (q : Option Served) (out : Outgoing)
-    → find (is_request r) slots ≡ q → request_packet way k q ≡ Some out → OutTo way false r k out
-request-out way slots r k None out is h = cc
-request-out way slots r k (Some q) out is h =
-    let number : q.number ≡ r = eqb-true q.number r (find-passes (is_request r) slots q is) in
-    subst (λ (i : ℕ). OutTo way false i k out) number
-    (server-out (nat_lt (k + 1) (packet_count q.size)) way q k q.answer out h)
-
+-- it goes from this server session, and from this request of it
 pub record FromServer (l : Lists) (t r k : ℕ) (out : Outgoing) : Type 0 where
   pub server : Server
   pub found : find (is_server t) l.servers ≡ Some server
+  pub request : Served
+  pub is_there : find (is_request r) server.slots ≡ Some request
   pub goes : OutTo server.way false r k out
+
+request-out : (l : Lists) (t r k : ℕ) (v : Server) (q : Option Served) (out : Outgoing)
+    → find (is_server t) l.servers ≡ Some v → find (is_request r) v.slots ≡ q
+    → request_packet v.way k q ≡ Some out → FromServer l t r k out
+request-out l t r k v None out found is h = cc
+request-out l t r k v (Some q) out found is h =
+    let number : q.number ≡ r = eqb-true q.number r (find-passes (is_request r) v.slots q is) in
+    record {
+      server = v;
+      found = found;
+      request = q;
+      is_there = is;
+      goes = subst (λ (i : ℕ). OutTo v.way false i k out) number
+          (server-out (nat_lt (k + 1) (packet_count q.size)) v.way q k q.answer out h);
+    }
 
 reply-out : (l : Lists) (t r k : ℕ) (v : Option Server) (out : Outgoing)
     → find (is_server t) l.servers ≡ v → reply_packet r k v ≡ Some out → FromServer l t r k out
 reply-out l t r k None out is h = cc
 reply-out l t r k (Some v) out is h =
-    record { server = v; found = is; goes = request-out v.way v.slots r k _ out refl h }
+    request-out l t r k v (find (is_request r) v.slots) out is refl h
 
 abbrev pub FromOwner : Lists → Owner → ℕ → Outgoing → Type 0
 FromOwner l (Ask s r) k out = FromClient l s r k out
@@ -200,7 +218,8 @@ packet-read p head body h range has long len e =
 pub sent-reads : (l : Lists) (peer : ℕ) (o : Owner) (k : ℕ) (head body : List ℕ) → RightNode l
     → MaySend l peer o k head body → Reads l peer o k (head ++ body)
 sent-reads l peer o k head body i m =
-    let right = all-at (λ q. QueueRight l.servers q.owner q.number) l.queued 0 _ i.queue m.is_front in
+    let right = all-at (λ q. QueueRight l.servers l.server_numbers q.owner q.number)
+    l.queued 0 _ i.queue m.is_front in
     let long = owner-length l o k m.out i right m.own in
     record {
       out = m.out;

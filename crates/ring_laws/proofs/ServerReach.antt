@@ -1,4 +1,5 @@
 -- The other direction: a packet of a server session that leaves its node is sent, dropped or flushed.
+use Rattle.ring_laws.proofs.ClientSteps.{control-out}
 use Rattle.std.proofs.Common.{◌≡◌, ◌+◌, ◌≤◌, ◌==◌, ◌&&◌, ℕ, Bool, true, false, cond, List, []}
 use Rattle.std.proofs.Common.{◌∷◌, drop, Option, Some, None, refl, ap, arith}
 use Rattle.std.specs.Prelude.{option_to_list}
@@ -133,5 +134,6 @@ server-reach p t due hand l (Again (Ask s r) k) first second m plain = absurd (b
 server-reach p t due hand l (Again Control k) first second m plain = absurd (both_ways false refl plain)
 server-reach p t due hand l (Dropped why) first second m plain = let d = drop-counts p t l.ring in omega arith
 server-reach p t due hand l (Polled now) first second m plain = let q = count-ready (own_reply p t) now l.queued in omega arith
-server-reach p t due hand l (Sent peer Control k) first second m plain = let none = m.own in cc
+server-reach p t due hand l (Sent peer Control k) first second m plain =
+    let q = control-out (own_reply p t) (λ n. refl) k l.queued in omega arith
 server-reach p t due hand l _ first second m plain = omega arith

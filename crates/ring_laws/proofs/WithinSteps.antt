@@ -1,4 +1,9 @@
 -- Each calm fact keeps what is on its way for a session within its limit.
+use Rattle.rpc_base.specs.declared.event.Event.TheVariants.{Broken}
+use Rattle.node_laws.specs.Valid.{Valid}
+use Rattle.end_laws.proofs.Known.{Good}
+use Rattle.ring_laws.proofs.Loads.{free_in, limit_in}
+use Rattle.ring_laws.proofs.Standing.{FitsIn}
 use Rattle.std.proofs.Common.{◌≡◌, ◌+◌, ◌≤◌, ◌==◌, ◌&&◌, ℕ, zero, suc, Bool, true, false, cond}
 use Rattle.std.proofs.Common.{List, [], ◌∷◌, ◌++◌, length, Option, Some, None, slice_get, refl, sym}
 use Rattle.std.proofs.Common.{ap, ◌∙◌, subst, arith}
@@ -25,9 +30,8 @@ use Rattle.end_laws.proofs.Allowed.{is_owed, owes, carries}
 use Rattle.end_laws.proofs.Courses.{latest, AtNode, Ends, client_fact, server_fact, paired, noted_at, moved-node}
 use Rattle.end_laws.proofs.ListLemmas.{set-here, set-other}
 use Rattle.end_laws.proofs.QueueLemmas.{RightNode}
-use Rattle.ring_laws.proofs.ClientSteps.{no_roll, client-step, credit-step, limit-step}
+use Rattle.ring_laws.proofs.ClientSteps.{no_roll, client-step, credit-step}
 use Rattle.ring_laws.proofs.Counting.{value, count-remove}
-use Rattle.ring_laws.proofs.Frames.{frame, Mirrors, FitsIn}
 use Rattle.ring_laws.proofs.Loads.{Filter, all, Pairing, client_packets, server_packets, free_of}
 use Rattle.ring_laws.proofs.Loads.{limit_of, posted_ask, took_reply, sent_ask, sent_reply}
 use Rattle.ring_laws.proofs.Loads.{given_ask, given_reply, ask_to, reply_to, on_way, client_part}
@@ -68,7 +72,7 @@ abbrev of-limit : Pairing → Lists → ℕ
 of-limit x l = limit_of x.client l.clients
 
 module _ (w : Moment) (n : ℕ) (l : Lists) (e : Event) (first second : List ℕ) (x : Pairing)
-    (a : AtNode w n l (with_two n e first second)) (m : Mirrors (frame w)) (i : RightNode l) where
+    (a : AtNode w n l (with_two n e first second)) (g : Good w) (i : RightNode l) where
   abbrev now : Lists
   now = after w.clock l (with_two n e first second)
 
@@ -102,37 +106,41 @@ module _ (w : Moment) (n : ℕ) (l : Lists) (e : Event) (first second : List ℕ
     node-server false t = let same = there-same (server_packets p x.session) w.nodes n x.node now t in omega arith
 
     -- what is on its way for a session, less a reply that is taken, is no more than before, but for what is posted
-    pub load-noted : FitsIn (frame w) x
+    pub load-noted : FitsIn g.known w.nodes x
         → load p x (noted_at w n l (with_two n e first second))
         + if_at (n == x.home) (took_reply p x.client e) ≤ load p x w
         + if_at (n == x.home) (posted_ask p x.client e)
     load-noted fits =
         let c = node-client (n == x.home) refl in
         let s = node-server (n == x.node) refl in
-        let f = flight-node p w.nodes n l x w.hand e first second w.flight m a.is_node fits i a.allowed.may in
-        let g = hand-gives p x w n l e first second a.me a.allowed.may a.linked in
+        let f = flight-node p w g n l x a.is_node fits i w.hand e first second a.allowed.may in
+        let given = hand-gives p x w n l e first second a.me a.allowed.may a.linked in
         omega arith
 
-  node-free : no_roll e ≡ true → (b : Bool) → (n == x.home) ≡ b
-      → free x (slice_set w.nodes n now) + if_at b (posted_ask all x.client e) ≤ free x w.nodes
-      + if_at b (took_reply all x.client e)
-  node-free calm true t =
-      let step = credit-step w.clock x.client w.hand l e first second a.lawful calm a.allowed.may in
+  node-credit : Valid l → no_roll e ≡ true → ((s : ℕ) → e ≡ Broken s → ⊥) → (b : Bool)
+      → (n == x.home) ≡ b
+      → free x (slice_set w.nodes n now) + if_at b
+      (posted_ask all x.client e) + limit x w.nodes ≤ free x w.nodes
+      + if_at b (took_reply all x.client e) + limit x (slice_set w.nodes n now)
+  node-credit v calm whole true t =
+      let step =
+      credit-step w.clock x.client w.hand l e first second v a.lawful calm whole a.allowed.may in
       let new = here-now (of-free x) w.nodes n x.home l now a.is_node t in
       let old = here-was (of-free x) w.nodes n x.home l a.is_node t in
-      rw (new, old) step
-  node-free calm false t = let same = there-same (of-free x) w.nodes n x.home now t in omega arith
+      let new_limit = here-now (of-limit x) w.nodes n x.home l now a.is_node t in
+      let old_limit = here-was (of-limit x) w.nodes n x.home l a.is_node t in
+      rw (new, old, new_limit, old_limit) step
+  node-credit v calm whole false t =
+      let same = there-same (of-free x) w.nodes n x.home now t in
+      let same_limit = there-same (of-limit x) w.nodes n x.home now t in
+      omega arith
 
-  node-limit : limit x (slice_set w.nodes n now) ≡ limit x w.nodes
-  node-limit = part-same (of-limit x) w.nodes n x.home l now a.is_node
-      (limit-step w.clock x.client w.hand l e first second a.allowed.may)
-
-  pub within-noted : no_roll e ≡ true → FitsIn (frame w) x → Within w x
-      → Within (noted_at w n l (with_two n e first second)) x
-  within-noted calm fits h =
+  pub within-noted : Valid l → no_roll e ≡ true → ((s : ℕ) → e ≡ Broken s → ⊥)
+      → FitsIn g.known w.nodes x
+      → Within w x → Within (noted_at w n l (with_two n e first second)) x
+  within-noted v calm whole fits h =
       let c = load-noted all fits in
-      let f = node-free calm (n == x.home) refl in
-      let k = node-limit in
+      let f = node-credit v calm whole (n == x.home) refl in
       omega arith
 
 -- a fact, spelled out
@@ -141,12 +149,13 @@ pub own-fact : (f : Fact) (who : Who) → f.who ≡ who
 own-fact f who e = ap (λ (p : Who). record { who = p; event = f.event; first = f.first; second = f.second }) e
 
 pub within-node : (w : Moment) (n : ℕ) (l : Lists) (f : Fact) (x : Pairing) → AtNode w n l f
-    → Mirrors (frame w) → RightNode l → no_roll f.event ≡ true → FitsIn (frame w) x → Within w x
+    → (g : Good w) → RightNode l → Valid l → no_roll f.event ≡ true
+    → ((s : ℕ) → f.event ≡ Broken s → ⊥) → FitsIn g.known w.nodes x → Within w x
     → Within (moved w f) x
-within-node w n l f x a m i calm fits h =
+within-node w n l f x a g i v calm whole fits h =
     let e = own-fact f (Node n) (a.allowed.who ∙ ap Node a.me) in
     let at : AtNode w n l (with_two n f.event f.first f.second) = subst (AtNode w n l) e a in
-    let k = within-noted w n l f.event f.first f.second x at m i calm fits h in
+    let k = within-noted w n l f.event f.first f.second x at g i v calm whole fits h in
     subst (λ (v : Moment). Within v x) (sym (moved-node w n l f a))
     (subst (λ (g : Fact). Within (noted_at w n l g) x) (sym e) k)
 
@@ -221,22 +230,22 @@ within-made w ring x h =
     omega arith
 
 -- a pairing: a new session has all its credits free
-new-value : (s : ℕ) (xs : List Client) (c : Client) → c.free ≡ c.limit
+new-value : (s : ℕ) (xs : List Client) (c : Client) → free_in c ≡ limit_in c
     → free_of s (xs ++ c ∷ []) + limit_of s xs ≡ free_of s xs + limit_of s (xs ++ c ∷ [])
 new-value s [] c e = by (c.way.number == s)
   where
-    by : (b : Bool) → value {A = Client} (λ c. c.free) (cond b (Some c) None) + 0
-        ≡ 0 + value {A = Client} (λ c. c.limit) (cond b (Some c) None)
+    by : (b : Bool) → value free_in (cond b (Some c) None) + 0
+        ≡ 0 + value limit_in (cond b (Some c) None)
     by true = omega arith
     by false = omega arith
 new-value s (y ∷ xs) c e = by (y.way.number == s) (new-value s xs c e)
   where
     by : (b : Bool) → free_of s (xs ++ c ∷ []) + limit_of s xs
         ≡ free_of s xs + limit_of s (xs ++ c ∷ [])
-        → value {A = Client} (λ c. c.free) (cond b (Some y) (find (is_client s) (xs ++ c ∷ [])))
-        + value {A = Client} (λ c. c.limit) (cond b (Some y) (find (is_client s) xs))
-        ≡ value {A = Client} (λ c. c.free) (cond b (Some y) (find (is_client s) xs))
-        + value {A = Client} (λ c. c.limit) (cond b (Some y) (find (is_client s) (xs ++ c ∷ [])))
+        → value free_in (cond b (Some y) (find (is_client s) (xs ++ c ∷ [])))
+        + value limit_in (cond b (Some y) (find (is_client s) xs))
+        ≡ value free_in (cond b (Some y) (find (is_client s) xs))
+        + value limit_in (cond b (Some y) (find (is_client s) (xs ++ c ∷ [])))
     by true ih = omega arith
     by false ih = ih
 
@@ -276,7 +285,7 @@ module _ (w : Moment) (n m credits : ℕ) (client server : Lists) (ends : Ends w
       let new_limit = here-now (of-limit x) w.nodes n x.home client lists1 ends.is_client t in
       let old_limit = here-was (of-limit x) w.nodes n x.home client ends.is_client t in
       let k = new-value x.client client.clients
-      (client_end (length client.clients) m (length server.servers) credits) refl in
+      (client_end (length client.clients) m server.server_numbers credits) refl in
       omega arith
   pair-free x false t =
       let a = there-same (of-free x) w.nodes n x.home lists1 t in

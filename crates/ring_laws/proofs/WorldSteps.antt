@@ -1,8 +1,19 @@
 -- What is on its way for a session stays within its limit, by each calm fact.
+use Rattle.rpc_laws.specs.Requests.{is_request}
+use Rattle.std.proofs.Common.{None}
+use Rattle.packet_header.specs.Reading.{decoded, message_in}
+use Rattle.packet_header.specs.declared.packet.ControlHeader.{ControlHeader}
+use Rattle.packet_header.specs.declared.packet.Packet.TheVariants.{Control as ControlPacket}
+use Rattle.packet_header.proofs.Readings.{spells-decoded}
+use Rattle.std.specs.Prelude.{Ok}
+use Rattle.std.proofs.Common.{append-nil}
+use Rattle.rpc_base.proofs.BasicLemmas.{and-false}
+use Rattle.end_laws.proofs.Allowed.{MaySay, MaySend}
+use Rattle.end_laws.proofs.Known.{Good}
+use Rattle.ring_laws.proofs.Standing.{client-joined, FitsIn, JoinedTo, slot-joined}
 use Rattle.std.proofs.Common.{◌≡◌, ◌+◌, ◌≤◌, ◌==◌, ◌&&◌, ℕ, Bool, true, false, not, cond, List, []}
-use Rattle.std.proofs.Common.{◌∷◌, ◌++◌, map, Option, Some, slice_get, refl, sym, ap, ◌∙◌, subst}
+use Rattle.std.proofs.Common.{◌∷◌, ◌++◌, Option, Some, slice_get, refl, sym, ap, ◌∙◌, subst}
 use Rattle.std.proofs.Common.{arith, eq-eqb}
-use Rattle.std.specs.List.{find}
 use Rattle.std.proofs.lemmas.Bool.{eqb-true, and_from, both_ways}
 use Rattle.packet_header.specs.Reading.{message_of}
 use Rattle.packet_header.specs.declared.packet.MessageHeader.{MessageHeader}
@@ -10,69 +21,20 @@ use Rattle.rpc_base.specs.declared.event.Event.{Event}
 use Rattle.rpc_base.specs.declared.event.Event.TheVariants.{Sent, Arrived}
 use Rattle.rpc_base.specs.declared.owner.Owner.{Owner}
 use Rattle.rpc_base.specs.declared.owner.Owner.TheVariants.{Ask, Reply, Control}
-use Rattle.rpc_laws.specs.declared.tables.Client.{Client}
 use Rattle.rpc_laws.specs.declared.tables.InFlight.{InFlight}
 use Rattle.rpc_laws.specs.declared.tables.Lists.{Lists}
 use Rattle.rpc_laws.specs.declared.tables.Outgoing.{Outgoing}
-use Rattle.rpc_laws.specs.declared.tables.Server.{Server}
 use Rattle.rpc_laws.specs.InFlight.{flight_after_node}
-use Rattle.rpc_laws.specs.Requests.{is_server}
-use Rattle.rpc_laws.specs.Sessions.{is_client}
 use Rattle.end_laws.specs.Moments.{Moment}
 use Rattle.end_laws.specs.Kinds.{is_ask}
 use Rattle.end_laws.proofs.Allowed.{Linked, May}
 use Rattle.end_laws.proofs.Courses.{latest}
-use Rattle.end_laws.proofs.ListLemmas.{find-at}
 use Rattle.end_laws.proofs.QueueLemmas.{RightNode}
-use Rattle.ring_laws.proofs.ClientSteps.{Numbered}
 use Rattle.ring_laws.proofs.Counting.{count-add}
-use Rattle.ring_laws.proofs.Frames.{client_tag, server_tag, Bones, bones_of, map-get, tag_in}
-use Rattle.ring_laws.proofs.Frames.{client_at, server_at, Mirrors, FitsIn}
 use Rattle.ring_laws.proofs.Loads.{Filter, Pairing, asks, replies, own_ask, own_reply, sent_ask}
 use Rattle.ring_laws.proofs.Loads.{sent_reply, given_ask, given_reply, ask_to, reply_to, on_way}
 use Rattle.ring_laws.proofs.Loads.{carried}
 use Rattle.ring_laws.proofs.SentReads.{FromClient, FromServer, Reads, sent-reads}
-
--- the ends of a node stand in its frame
-pub client-tagged : (nodes : List Lists) (n s : ℕ) (l : Lists) (c : Client)
-    → slice_get nodes n ≡ Some l → slice_get l.clients s ≡ Some c
-    → client_at (map bones_of nodes) n s ≡ Some (client_tag c)
-client-tagged nodes n s l c is at =
-    ap (λ (o : Option Bones). tag_in (λ b. b.clients) o s) (map-get bones_of nodes n l is)
-    ∙ map-get client_tag l.clients s c at
-
-pub server-tagged : (nodes : List Lists) (m t : ℕ) (l : Lists) (v : Server)
-    → slice_get nodes m ≡ Some l → slice_get l.servers t ≡ Some v
-    → server_at (map bones_of nodes) m t ≡ Some (server_tag v)
-server-tagged nodes m t l v is at =
-    ap (λ (o : Option Bones). tag_in (λ b. b.servers) o t) (map-get bones_of nodes m l is)
-    ∙ map-get server_tag l.servers t v at
-
--- so the client sessions of a node stand at the places of their numbers
-pub clients-numbered : (nodes : List Lists) (n : ℕ) (l : Lists) → Mirrors (map bones_of nodes)
-    → slice_get nodes n ≡ Some l → Numbered l.clients
-clients-numbered nodes n l m is s c at = (m.clients n s (client_tag c) (client-tagged nodes n s l c is at)).number
-
--- a session that is found, at its place
-pub client-found : (nodes : List Lists) (n s : ℕ) (l : Lists) (c : Client)
-    → Mirrors (map bones_of nodes) → slice_get nodes n ≡ Some l
-    → find (is_client s) l.clients ≡ Some c
-    → client_at (map bones_of nodes) n s ≡ Some (client_tag c)
-client-found nodes n s l c m is found =
-    let at = find-at (is_client s) l.clients c found in
-    let tagged = client-tagged nodes n at.0 l c is at.1 in
-    let place : at.0 ≡ s = sym (m.clients n at.0 (client_tag c) tagged).number ∙ eqb-true c.way.number s at.2 in
-    subst (λ (i : ℕ). client_at (map bones_of nodes) n i ≡ Some (client_tag c)) place tagged
-
-pub server-found : (nodes : List Lists) (n t : ℕ) (l : Lists) (v : Server)
-    → Mirrors (map bones_of nodes) → slice_get nodes n ≡ Some l
-    → find (is_server t) l.servers ≡ Some v
-    → server_at (map bones_of nodes) n t ≡ Some (server_tag v)
-server-found nodes n t l v m is found =
-    let at = find-at (is_server t) l.servers v found in
-    let tagged = server-tagged nodes n at.0 l v is at.1 in
-    let place : at.0 ≡ t = sym (m.servers n at.0 (server_tag v) tagged).number ∙ eqb-true v.way.number t at.2 in
-    subst (λ (i : ℕ). server_at (map bones_of nodes) n i ≡ Some (server_tag v)) place tagged
 
 bits : (a b c d : Bool) → (a && (b && (c && d))) ≡ true → (a ≡ true) × (b ≡ true) × (c ≡ true) × (d ≡ true)
 bits true true true true h = (refl, refl, refl, refl)
@@ -82,9 +44,8 @@ bits true false c d h = cc
 bits false b c d h = cc
 
 -- what counts for a session was its own
-module _ (p : Filter) (nodes : List Lists) (n : ℕ) (l : Lists) (x : Pairing)
-    (m : Mirrors (map bones_of nodes)) (is : slice_get nodes n ≡ Some l)
-    (fits : FitsIn (map bones_of nodes) x) where
+module _ (p : Filter) (w : Moment) (g : Good w) (n : ℕ) (l : Lists) (x : Pairing)
+    (is : slice_get w.nodes n ≡ Some l) (fits : FitsIn g.known w.nodes x) where
   passes-too : (r k : ℕ) (h : MessageHeader) → h.request ≡ r → h.number ≡ k
       → p h.request h.number ≡ true → p r k ≡ true
   passes-too r k h request number e = ap (λ (i : ℕ). p i k) (sym request) ∙ (ap (p h.request) (sym number) ∙ e)
@@ -94,17 +55,18 @@ module _ (p : Filter) (nodes : List Lists) (n : ℕ) (l : Lists) (x : Pairing)
       let c = from.client in
       let h = from.goes.header in
       let parts = bits (peer == x.node) (is_ask h.kind) (h.session == x.session) (p h.request h.number) t in
-      let tagged = client-found nodes n s l c m is from.found in
-      let mirror = m.clients n s (client_tag c) tagged in
       let node : c.way.peer ≡ x.node = sym (to_out ∙ from.goes.peer) ∙ eqb-true peer x.node parts.0 in
       let session : c.way.other ≡ x.session = sym from.goes.to ∙ eqb-true h.session x.session parts.2 in
-      let there : server_at (map bones_of nodes) x.node x.session ≡ Some mirror.server =
-      subst (λ (i : ℕ). server_at (map bones_of nodes) i x.session ≡ Some mirror.server) node
-      (subst (λ (j : ℕ). server_at (map bones_of nodes) c.way.peer j ≡ Some mirror.server)
-      session mirror.found) in
-      let own = fits.server mirror.server there in
-      and_from (n == x.home) (s == x.client && p r k) (eq-eqb n x.home (sym mirror.peer ∙ own.0))
-      (and_from (s == x.client) (p r k) (eq-eqb s x.client (sym mirror.other ∙ own.1))
+      let end = (client-joined w g n l s r c from.call is from.found from.active).end in
+      let there : g.known.ends x.node x.session 0
+      ≡ Some (record { home = n; client = s; credits = c.limit }) =
+      subst (λ (i : ℕ). g.known.ends i x.session 0
+      ≡ Some (record { home = n; client = s; credits = c.limit })) node
+      (subst (λ (j : ℕ). g.known.ends c.way.peer j 0
+      ≡ Some (record { home = n; client = s; credits = c.limit })) session end) in
+      let own = fits.server (record { home = n; client = s; credits = c.limit }) there in
+      and_from (n == x.home) (s == x.client && p r k) (eq-eqb n x.home own.0)
+      (and_from (s == x.client) (p r k) (eq-eqb s x.client own.1)
       (passes-too r k h from.goes.request from.goes.number parts.3))
 
   reply-own : (peer t r k : ℕ) (out : Outgoing) → (from : FromServer l t r k out) → peer ≡ out.peer → let h : MessageHeader = from.goes.header in (peer == x.home && (not (is_ask h.kind) && (h.session == x.client && p h.request h.number))) ≡ true → (n == x.node && (t == x.session && p r k)) ≡ true
@@ -112,17 +74,16 @@ module _ (p : Filter) (nodes : List Lists) (n : ℕ) (l : Lists) (x : Pairing)
       let v = from.server in
       let h = from.goes.header in
       let parts = bits (peer == x.home) (not (is_ask h.kind)) (h.session == x.client) (p h.request h.number) e in
-      let tagged = server-found nodes n t l v m is from.found in
-      let mirror = m.servers n t (server_tag v) tagged in
       let home : v.way.peer ≡ x.home = sym (to_out ∙ from.goes.peer) ∙ eqb-true peer x.home parts.0 in
       let client : v.way.other ≡ x.client = sym from.goes.to ∙ eqb-true h.session x.client parts.2 in
-      let there : client_at (map bones_of nodes) x.home x.client ≡ Some mirror.client =
-      subst (λ (i : ℕ). client_at (map bones_of nodes) i x.client ≡ Some mirror.client) home
-      (subst (λ (j : ℕ). client_at (map bones_of nodes) v.way.peer j ≡ Some mirror.client)
-      client mirror.found) in
-      let own = fits.client mirror.client there in
-      and_from (n == x.node) (t == x.session && p r k) (eq-eqb n x.node (sym mirror.peer ∙ own.0))
-      (and_from (t == x.session) (p r k) (eq-eqb t x.session (sym mirror.other ∙ own.1))
+      let joined = slot-joined w g n l t
+      (is_request r) v from.request is from.found from.is_there in
+      let there : JoinedTo w.nodes x.home x.client n t =
+      subst (λ (i : ℕ). JoinedTo w.nodes i x.client n t) home
+      (subst (λ (j : ℕ). JoinedTo w.nodes v.way.peer j n t) client joined) in
+      let own = fits.client n t there in
+      and_from (n == x.node) (t == x.session && p r k) (eq-eqb n x.node own.0)
+      (and_from (t == x.session) (p r k) (eq-eqb t x.session own.1)
       (passes-too r k h from.goes.request from.goes.number parts.3))
 
   le-by : (a b : Bool) → (a ≡ true → b ≡ true) → cond {A = ℕ} a 1 0 ≤ cond b 1 0
@@ -187,24 +148,62 @@ if-none : (a : Bool) → ◌≡◌ {A = ℕ} (cond a 0 0) 0
 if-none true = refl
 if-none false = refl
 
+-- a control packet counts for none
+control-none : (bytes : List ℕ) (c : ControlHeader) → decoded bytes ≡ Ok (ControlPacket c)
+    → message_of bytes ≡ None
+control-none bytes c e = ap message_in e
+
+pub said-none : (l : Lists) (peer k : ℕ) (head body : List ℕ) → MaySay l peer k head body
+    → message_of (head ++ body) ≡ None
+said-none l peer k head body m =
+    let whole : head ++ body ≡ head = ap (λ (b : List ℕ). head ++ b) m.whole ∙ append-nil head in
+    ap message_of whole ∙ control-none head m.header
+    (spells-decoded (ControlPacket m.header) head m.spells)
+
+asks-none : (p : Filter) (m t to : ℕ) (o : Option MessageHeader) → o ≡ None
+    → cond {A = ℕ} (to == m && asks p t o) 1 0 ≡ 0
+asks-none p m t to o e = rw e (rw (and-false (to == m)) refl)
+
+replies-none : (p : Filter) (n s to : ℕ) (o : Option MessageHeader) → o ≡ None
+    → cond {A = ℕ} (to == n && replies p s o) 1 0 ≡ 0
+replies-none p n s to o e = rw e (rw (and-false (to == n)) refl)
+
 -- the copies in flight after a fact of a node
-pub flight-node : (p : Filter) (nodes : List Lists) (n : ℕ) (l : Lists) (x : Pairing)
-    (hand : Option InFlight) (e : Event) (first second : List ℕ) (copies : List InFlight)
-    → Mirrors (map bones_of nodes) → slice_get nodes n ≡ Some l → FitsIn (map bones_of nodes) x
-    → RightNode l → May hand l e first second
-    → on_way p x (flight_after_node n e first second copies) ≤ on_way p x copies
-    + if_at (n == x.home) (sent_ask p x.client e) + if_at (n == x.node) (sent_reply p x.session e)
-flight-node p nodes n l x hand (Sent peer o k) first second copies m is fits i may =
-    let reads = sent-reads l peer o k first second i may in
-    let c : InFlight = record { from = n; to = peer; bytes = first ++ second } in
-    let a = count-add (ask_to p x.node x.session) copies c in
-    let b = count-add (reply_to p x.home x.client) copies c in
-    let q = ask-counts p nodes n l x m is fits peer o k (first ++ second) reads in
-    let z = reply-counts p nodes n l x m is fits peer o k (first ++ second) reads in
-    let u = and-count (n == x.home) (own_ask p x.client o k) in
-    let v = and-count (n == x.node) (own_reply p x.session o k) in
-    omega arith
-flight-node p nodes n l x hand e first second copies m is fits i may = omega arith
+module _ (p : Filter) (w : Moment) (g : Good w) (n : ℕ) (l : Lists) (x : Pairing)
+    (is : slice_get w.nodes n ≡ Some l) (fits : FitsIn g.known w.nodes x) (i : RightNode l) where
+  abbrev Counted : Event → List ℕ → List ℕ → Type 0
+  Counted e first second =
+      on_way p x (flight_after_node n e first second w.flight) ≤ on_way p x w.flight
+      + if_at (n == x.home) (sent_ask p x.client e) + if_at (n == x.node) (sent_reply p x.session e)
+
+  owner-counted : (peer : ℕ) (o : Owner) (k : ℕ) (first second : List ℕ)
+      → MaySend l peer o k first second → Counted (Sent peer o k) first second
+  owner-counted peer o k first second may =
+      let reads = sent-reads l peer o k first second i may in
+      let c : InFlight = record { from = n; to = peer; bytes = first ++ second } in
+      let a = count-add (ask_to p x.node x.session) w.flight c in
+      let b = count-add (reply_to p x.home x.client) w.flight c in
+      let q = ask-counts p w g n l x is fits peer o k (first ++ second) reads in
+      let z = reply-counts p w g n l x is fits peer o k (first ++ second) reads in
+      let u = and-count (n == x.home) (own_ask p x.client o k) in
+      let v = and-count (n == x.node) (own_reply p x.session o k) in
+      omega arith
+
+  pub flight-node : (hand : Option InFlight) (e : Event) (first second : List ℕ)
+      → May hand l e first second → Counted e first second
+  flight-node hand (Sent peer (Ask s r) k) first second may =
+      owner-counted peer (Ask s r) k first second may
+  flight-node hand (Sent peer (Reply t r) k) first second may =
+      owner-counted peer (Reply t r) k first second may
+  flight-node hand (Sent peer Control k) first second may =
+      let c : InFlight = record { from = n; to = peer; bytes = first ++ second } in
+      let a = count-add (ask_to p x.node x.session) w.flight c in
+      let b = count-add (reply_to p x.home x.client) w.flight c in
+      let none = said-none l peer k first second may in
+      let q = asks-none p x.node x.session peer (message_of (first ++ second)) none in
+      let z = replies-none p x.home x.client peer (message_of (first ++ second)) none in
+      omega arith
+  flight-node hand e first second may = omega arith
 
 -- what a node is given leaves the hand
 pub hand-gives : (p : Filter) (x : Pairing) (w : Moment) (n : ℕ) (l : Lists) (e : Event)

@@ -1,7 +1,7 @@
 -- While no datagram was repeated and no call rolled back, a packet that is on its way is
 -- unanswered, and stands in one place only.
-use Rattle.std.specs.Prelude.{ℕ, ◌≡◌, ◌≤◌, ◌<◌, ◌+◌, ◌-◌, ◌==◌, ◌&&◌, not, Bool, false, Option}
-use Rattle.std.specs.Prelude.{Some, None, List, length, count_by, slice_get, true}
+use Rattle.std.specs.Prelude.{ℕ, ◌≡◌, ◌≤◌, ◌<◌, ◌+◌, ◌-◌, ◌==◌, ◌&&◌, not, Bool}
+use Rattle.std.specs.Prelude.{false, Option, Some, None, List, length, count_by, slice_get, true}
 use Rattle.std.specs.Bool.{MatchBool}
 use Rattle.std.specs.List.{find, AllByRecursion}
 use Rattle.packet_header.specs.Parts.{packet_count}
@@ -18,7 +18,9 @@ use Rattle.rpc_laws.specs.declared.tables.Lists.{Lists}
 use Rattle.rpc_laws.specs.declared.tables.Progress.{Progress}
 use Rattle.rpc_laws.specs.declared.tables.Server.{Server}
 use Rattle.rpc_laws.specs.Calls.{is_active}
+use Rattle.rpc_laws.specs.Front.{is_message}
 use Rattle.rpc_laws.specs.Queues.{is_queued}
+use Rattle.rpc_laws.specs.Requests.{is_server as is_session}
 use Rattle.end_laws.specs.Kinds.{is_ask}
 use Rattle.end_laws.specs.Moments.{Moment, Always, first_moment}
 use Rattle.ring_laws.specs.CalmRing.{Calm}
@@ -60,13 +62,14 @@ places flight n s client m t server r k =
     + count_by (λ c. c.to == n && is_replying s r k (message_of c.bytes)) flight
     + count_by (λ a. is_replying s r k (message_of a.bytes)) client.ring
 
--- client session s of node n and server session t of node m are the ends of one session
+-- client session s of node n and server session t of node m are the ends of one session, and both
+-- are there
 pub record AreEndsOf (w : Moment) (n s : ℕ) (client : Lists) (x : Client) (m t : ℕ) (server : Lists)
     (v : Server) : Type 0 where
   pub is_client : slice_get w.nodes n ≡ Some client
   pub client_there : slice_get client.clients s ≡ Some x
   pub is_server : slice_get w.nodes m ≡ Some server
-  pub server_there : slice_get server.servers t ≡ Some v
+  pub server_there : find (is_session t) server.servers ≡ Some v
   pub peer : x.way.peer ≡ m
   pub other : x.way.other ≡ t
   pub home : v.way.peer ≡ n
@@ -126,11 +129,11 @@ IsOpenOwner w n Control k = Unit {0}
 abbrev pub IsOpenJob : Moment → ℕ → Job → Type 0
 IsOpenJob w n j = IsOpenAt w false n j.session j.request (packet_count (length j.ask) - 1)
 
--- each packet of each session stands once at most, and what is in flight, in a ring, queued or a
--- job is unanswered
+-- each packet of each session stands once at most, and each packet of a call that is in flight, in
+-- a ring, queued or a job is unanswered
 pub record IsTidy (w : Moment) : Type 0 where
   pub once : AllStandOnce w
-  pub flight : AllByRecursion (λ c. IsOpen w c.to c.bytes) w.flight
+  pub flight : AllByRecursion (λ c. is_message c.bytes ≡ true → IsOpen w c.to c.bytes) w.flight
   pub rings : (n : ℕ) (l : Lists) → slice_get w.nodes n ≡ Some l
       → AllByRecursion (λ a. IsOpen w n a.bytes) l.ring
   pub queued : (n : ℕ) (l : Lists) → slice_get w.nodes n ≡ Some l

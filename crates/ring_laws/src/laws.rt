@@ -1,8 +1,7 @@
 //! The law of receive rings of every history that follows a script, over any number of nodes and
-//! sessions. Each pairing of the script is of two nodes, as in every `Script`, and the history
-//! makes sessions by pairing alone.
+//! sessions, which are paired, or opened and accepted, and ended. Each pairing of the script is of
+//! two nodes, as in every `Script`.
 ghost use Rattle.std.specs.Prelude.{List};
-ghost use Rattle.end_laws.specs.OnlyPairs.{OnlyPairs};
 ghost use Rattle.end_laws.specs.TwoNodes.{PairsTwoNodes};
 ghost use Rattle.ring_laws.specs.CalmRing.{MessagesFit};
 ghost use Rattle.ring_laws.specs.PairsOnce.{PairsOnce};
@@ -13,14 +12,14 @@ ghost use Rattle.sim_script.specs.FollowsScript.{Follows};
 /// Where a message finds the ring of its node full, a datagram was repeated or a call was rolled
 /// back before, at whatever node.
 pub fn messages_fit()
-    ensures { (script : List Line) (h : List Fact) → PairsTwoNodes script → OnlyPairs h
-        → Follows script h → MessagesFit h }
+    ensures { (script : List Line) (h : List Fact) → PairsTwoNodes script → Follows script h
+        → MessagesFit h }
 {}
 
 /// At every moment before which no datagram was repeated and no call rolled back, each packet of a
 /// call that is queued, in flight in either direction, in a ring or a job is unanswered, and it
 /// stands in one of these places only.
 pub fn packets_stand_once()
-    ensures { (script : List Line) (h : List Fact) → PairsTwoNodes script → OnlyPairs h
-        → Follows script h → PairsOnce h }
+    ensures { (script : List Line) (h : List Fact) → PairsTwoNodes script → Follows script h
+        → PairsOnce h }
 {}

@@ -1,11 +1,10 @@
--- A simulation whose script is served and that met no fault and no want of memory is Done.
-use Rattle.std.proofs.Common.{◌≡◌, ◌≢◌, ℕ, inl, inr, Option, Some, None, List, Ok, refl, subst, arith}
+-- A simulation of a script that met no fault and no want of memory is Done.
+use Rattle.std.proofs.Common.{◌≡◌, ◌≢◌, ℕ, Option, Some, None, List, Ok, refl, subst, arith}
 use Rattle.rpc_outside.specs.Faults.{HasRisen, IsQuiet}
 use Rattle.rpc_tools.specs.declared.status.Status.{Status}
 use Rattle.rpc_tools.specs.declared.status.Status.TheVariants.{Done, Usage, BadScript, ReadFault}
 use Rattle.rpc_tools.specs.declared.status.Status.TheVariants.{WriteFault, NoMemory}
 use Rattle.rpc_tools.specs.Outcomes.{Simulates, Reports, IsRefused, Succeeds}
-use Rattle.rpc_world.specs.Served.{later_of}
 use Rattle.script_grammar.specs.declared.bad.BadScript.{BadScript as Bad}
 use Rattle.script_grammar.specs.declared.line.Line.{Line}
 use Rattle.script_grammar.specs.Script.{script_of}
@@ -14,19 +13,15 @@ no-fault : (old new : ℕ) → HasRisen old new → IsQuiet old new → ⊥
 no-fault old new h q = omega (arith, h.rose, q.same, q.room)
 
 not-refused : (bytes : List ℕ) (script : List Line) (bad : Bad) → script_of bytes ≡ Ok script
-    → later_of script ≡ None → IsRefused bytes bad → ⊥
-not-refused bytes script bad e n (inl h) = cc
-not-refused bytes script bad e n (inr h) =
-    let same : h.script ≡ script = cc (h.accepted) in
-    let line : later_of script ≡ Some bad.line = subst (λ (s : List Line). later_of s ≡ Some bad.line) same h.line in
-    cc
+    → IsRefused bytes bad → ⊥
+not-refused bytes script bad e h = cc
 
 pub headline : (status : Status) (bytes : List ℕ) (script : List Line) (left more : Option (List ℕ))
     (read again : ℕ) (old new : Option (List ℕ)) (before after : ℕ)
     → Simulates status left more read again old new before after → left ≡ Some bytes
-    → script_of bytes ≡ Ok script → later_of script ≡ None → IsQuiet read again
+    → script_of bytes ≡ Ok script → IsQuiet read again
     → IsQuiet before after → status ≢ NoMemory → Succeeds script status more old new before after
-headline Done bytes script left more read again old new before after s e g l q w n =
+headline Done bytes script left more read again old new before after s e g q w n =
     let told = rw e at s.bytes in
     let found : script_of bytes ≡ Ok s.script = told.0 in
     let same : s.script ≡ script = cc in
@@ -35,11 +30,11 @@ headline Done bytes script left more read again old new before after s e g l q w
       ended = told.1;
       reports = subst (λ (x : List Line). Reports x old new before after) same s.reports;
     }
-headline Usage bytes script left more read again old new before after s e g l q w n = absurd s
-headline (BadScript bad) bytes script left more read again old new before after s e g l q w n =
-    absurd (not-refused bytes script bad g l (rw e at s.refused))
-headline ReadFault bytes script left more read again old new before after s e g l q w n =
+headline Usage bytes script left more read again old new before after s e g q w n = absurd s
+headline (BadScript bad) bytes script left more read again old new before after s e g q w n =
+    absurd (not-refused bytes script bad g (rw e at s.refused))
+headline ReadFault bytes script left more read again old new before after s e g q w n =
     absurd (no-fault _ _ s.fault q)
-headline WriteFault bytes script left more read again old new before after s e g l q w n =
+headline WriteFault bytes script left more read again old new before after s e g q w n =
     absurd (no-fault _ _ s.breaks.broke.fault w)
-headline NoMemory bytes script left more read again old new before after s e g l q w n = absurd (n refl)
+headline NoMemory bytes script left more read again old new before after s e g q w n = absurd (n refl)

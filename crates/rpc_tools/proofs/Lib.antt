@@ -1,3 +1,2 @@
-pub mod DrillLemmas
 pub mod Headline
 pub mod ReadingLemmas

@@ -1,6 +1,6 @@
 -- What a source gave, chunk by chunk.
 use Rattle.std.proofs.Common.{◌≡◌, ℕ, ◌<◌, Option, Some, None, IfSome, List, [], length, Result}
-use Rattle.std.proofs.Common.{Err, nat_lt, true, if◌then◌else◌, inl, refl, sym, ap, ◌∙◌, arith}
+use Rattle.std.proofs.Common.{Err, nat_lt, true, if◌then◌else◌, refl, sym, ap, ◌∙◌, arith}
 use Rattle.std.proofs.Common.{rules, tests, append-nil, length-append}
 use Rattle.std.specs.Io.KnownBytes.{Consumes, IsAtEnd}
 use Rattle.rpc_tools.specs.Outcomes.{Drained, IsRefused}
@@ -35,4 +35,4 @@ script-too_long all h = long-refused (length all) _ h
 pub refused-too_long : (left : Option (List ℕ)) → IfSome left (λ all. 16777216 < length all)
     → IfSome left (λ all. IsRefused all (record { line = 0; why = TooLong }))
 refused-too_long None h = tt
-refused-too_long (Some all) h = inl (script-too_long all h)
+refused-too_long (Some all) h = script-too_long all h

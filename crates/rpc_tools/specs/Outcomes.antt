@@ -1,17 +1,9 @@
 -- What each status of a simulation says of its source, its sink and the script.
 use Rattle.std.specs.Prelude.{ℕ, ◌≡◌, ◌<◌, ◌⊎◌, Option, Some, None, IfSome, List, [], Ok, Err, length}
 use Rattle.std.specs.Io.KnownBytes.{Keeps}
-use Rattle.node_laws.specs.CreditBalance.{Credit}
-use Rattle.node_laws.specs.EndedCalls.{EndsClean}
-use Rattle.node_laws.specs.OlderRequests.{BeginsClean}
 use Rattle.rpc_base.specs.declared.fact.Fact.{Fact}
 use Rattle.report_text.specs.Text.{text}
-use Rattle.report_text.specs.Told.{AllTold}
-use Rattle.ring_laws.specs.CalmRing.{MessagesFit}
 use Rattle.ring_laws.specs.PairsOnce.{PairsOnce}
-use Rattle.rpc_laws.specs.AtMostOnce.{Once}
-use Rattle.rpc_laws.specs.BufferSafety.{SendsItsOwn}
-use Rattle.rpc_laws.specs.OwnAnswer.{Own}
 use Rattle.rpc_outside.specs.Faults.{HasRisen}
 use Rattle.rpc_outside.specs.Writing.{Wrote, Broke}
 use Rattle.rpc_tools.specs.declared.reading.Input.{Input}
@@ -19,15 +11,14 @@ use Rattle.rpc_tools.specs.declared.reading.Input.TheVariants.{Whole, TooLong, F
 use Rattle.rpc_tools.specs.declared.status.Status.{Status}
 use Rattle.rpc_tools.specs.declared.status.Status.TheVariants.{Done, Usage, BadScript, ReadFault}
 use Rattle.rpc_tools.specs.declared.status.Status.TheVariants.{WriteFault, NoMemory}
-use Rattle.rpc_world.specs.Served.{later_of}
+use Rattle.rpc_world.specs.Lawful.{Lawful}
 use Rattle.script_grammar.specs.declared.bad.BadScript.{BadScript as Bad}
-use Rattle.script_grammar.specs.declared.bad.BadWhy.TheVariants.{Later}
 use Rattle.script_grammar.specs.declared.line.Line.{Line}
 use Rattle.script_grammar.specs.Script.{script_of}
 use Rattle.script_grammar.specs.declared.reading.TheConstants.{MOST_BYTES}
 use Rattle.sim_script.specs.FollowsScript.{Follows}
 use Rattle.stall_laws.specs.NoStall.{NoStall}
-use Rattle.world_laws.specs.Laws.{EachNode, EndTells, KeepsRing}
+use Rattle.world_laws.specs.Laws.{EndTells}
 
 -- nothing was written, and no fault came
 pub record Untouched (old new : Option (List ℕ)) (before after : ℕ) : Type 0 where
@@ -35,32 +26,18 @@ pub record Untouched (old new : Option (List ℕ)) (before after : ℕ) : Type 0
   pub quiet : after ≡ before
 
 -- the report of the history of the script was written: no other history follows the script, and the
--- report shows each fact with all its bytes, so the text names that one history. In it no request
--- runs twice, and no call begins or ends twice; each handler ran on its call's bytes, and each call
--- ended with its own handler's answer; each packet that was sent is its owner's; before a datagram
--- is repeated or a call is rolled back no message finds a full ring, and each packet of a session
--- stands in one place at most, and only while it is unanswered; and at every moment of each node
--- the unanswered packets and free credits of a live session make its limit, no packet of a call
--- that is over is queued, no reply to an older request is queued where a packet of a newer one of
--- its slot is taken, and the receive ring isn't longer than its room. At the end each node's table
--- of requests says what its facts tell. Where nothing is on its way at the end of a command, each
--- call that isn't over has a cause: a datagram that was lost, no free credit, or no free slot
+-- report shows each fact with all its bytes, so the text names that one history. It is lawful; before
+-- a datagram is repeated and a call is rolled back each packet of a session stands in one place at
+-- most, and only while it is unanswered; and at the end each node's table of requests says what its
+-- facts tell. Where nothing moves at the end of a command, each call that isn't over has a cause
 pub record Reports (script : List Line) (old new : Option (List ℕ)) (before after : ℕ)
     : Type 0 where
   pub history : List Fact
   pub follows : Follows script history
   pub one : (h : List Fact) → Follows script h → h ≡ history
-  pub told : AllTold history
-  pub once : Once history
-  pub own : Own history
-  pub sends_own : SendsItsOwn history
-  pub fits : MessagesFit history
+  pub lawful : Lawful history
   pub stands_once : PairsOnce history
   pub no_stall : NoStall script history
-  pub credit : EachNode Credit history
-  pub ends_clean : EachNode (EndsClean []) history
-  pub begins_clean : EachNode (BeginsClean []) history
-  pub ring : EachNode KeepsRing history
   pub requests : EndTells script history
   pub wrote : Wrote old new before after (text history)
 
@@ -71,38 +48,27 @@ pub record BreaksOff (script : List Line) (old new : Option (List ℕ)) (before 
   pub follows : Follows script history
   pub broke : Broke old new before after (text history)
 
--- the grammar refuses the bytes at this line, or its command isn't served yet
-pub record IsLater (bytes : List ℕ) (bad : Bad) : Type 0 where
-  pub script : List Line
-  pub accepted : script_of bytes ≡ Ok script
-  pub why : bad.why ≡ Later
-  pub line : later_of script ≡ Some bad.line
-
+-- the grammar refuses the bytes at this line
 abbrev pub IsRefused : List ℕ → Bad → Type 0
-IsRefused bytes bad = (script_of bytes ≡ Err bad) ⊎ IsLater bytes bad
+IsRefused bytes bad = script_of bytes ≡ Err bad
 
 -- what running the bytes of a script may end with
 abbrev pub RunsBytes : Status → List ℕ → Option (List ℕ) → Option (List ℕ) → ℕ → ℕ → Type 0
 RunsBytes Done bytes old new before after =
-    (script : List Line) × (script_of bytes ≡ Ok script) × (later_of script ≡ None)
-    × Reports script old new before after
+    (script : List Line) × (script_of bytes ≡ Ok script) × Reports script old new before after
 RunsBytes (BadScript bad) bytes old new before after =
     IsRefused bytes bad × Untouched old new before after
 RunsBytes WriteFault bytes old new before after =
-    (script : List Line) × (script_of bytes ≡ Ok script) × (later_of script ≡ None)
-    × BreaksOff script old new before after
+    (script : List Line) × (script_of bytes ≡ Ok script) × BreaksOff script old new before after
 RunsBytes NoMemory bytes old new before after = Unit {0}
 RunsBytes Usage bytes old new before after = ⊥
 RunsBytes ReadFault bytes old new before after = ⊥
 
 -- the same of a script that was read
 abbrev pub RunsScript : Status → List Line → Option (List ℕ) → Option (List ℕ) → ℕ → ℕ → Type 0
-RunsScript Done script old new before after =
-    (later_of script ≡ None) × Reports script old new before after
-RunsScript (BadScript bad) script old new before after =
-    (bad.why ≡ Later) × (later_of script ≡ Some bad.line) × Untouched old new before after
-RunsScript WriteFault script old new before after =
-    (later_of script ≡ None) × BreaksOff script old new before after
+RunsScript Done script old new before after = Reports script old new before after
+RunsScript (BadScript bad) script old new before after = ⊥
+RunsScript WriteFault script old new before after = BreaksOff script old new before after
 RunsScript NoMemory script old new before after = Unit {0}
 RunsScript Usage script old new before after = ⊥
 RunsScript ReadFault script old new before after = ⊥
@@ -129,7 +95,6 @@ pub record Completes (left more : Option (List ℕ)) (read again : ℕ) (old new
   pub quiet : again ≡ read
   pub script : List Line
   pub bytes : ReadScript script left more
-  pub served : later_of script ≡ None
   pub reports : Reports script old new before after
 
 -- BadScript: the source was read without a fault to its end or past the longest script, and its
@@ -146,7 +111,6 @@ pub record FailsToWrite (left more : Option (List ℕ)) (read again : ℕ) (old 
   pub quiet : again ≡ read
   pub script : List Line
   pub bytes : ReadScript script left more
-  pub served : later_of script ≡ None
   pub breaks : BreaksOff script old new before after
 
 -- ReadFault: the source failed, and nothing was written

@@ -13,12 +13,6 @@ fn run_script<K: Sink>(alloc: Global, script: &Script, sink: &mut K) -> Status
     ensures { RunsScript result script.now (K.written sink.old) (K.written sink.new)
         (K.faults sink.old) (K.faults sink.new) }
 {
-    if let Some(line) = World::later(script) {
-        return Status::BadScript(BadScript {
-            line,
-            why: BadWhy::Later,
-        });
-    }
     let Ok(world) = World::run(alloc, script) else {
         return Status::NoMemory;
     };

@@ -13,7 +13,7 @@ pub enum Status {
     Done,
     /// The words are not in the grammar of the command line.
     Usage,
-    /// The script is bad, or has a `connect` or a `disconnect`, which aren't served yet.
+    /// The script is bad.
     BadScript(BadScript),
     /// The source failed.
     ReadFault,

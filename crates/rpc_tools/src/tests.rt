@@ -38,15 +38,12 @@ fn each_fault_has_its_status_and_leaves_a_front(rt: HostRuntime) -> Result<(), F
     let alloc = rt.alloc();
     let none: &[u64] = &[];
     let second: &[u64] = &[1];
-    let unserved =
-        "erpc-sim 1\nnode ring=32\nnode ring=32\npair 0 1 credits=1\nconnect 1 0 credits=1\n";
     let low_ring = "erpc-sim 1\nnode ring=32\nnode ring=31\n";
     let cases = [
         (SCRIPT, second, none, Status::ReadFault, ""),
         (SCRIPT, none, second, Status::WriteFault, FIRST_LINE),
         ("", none, none, bad_at(1, BadWhy::First), ""),
         (low_ring, none, none, bad_at(3, BadWhy::Number), ""),
-        (unserved, none, none, bad_at(5, BadWhy::Later), ""),
     ];
     let sim = words(alloc, &["sim"])?;
     for (script, reads, writes, wanted, written) in cases {

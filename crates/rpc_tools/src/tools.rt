@@ -5,7 +5,6 @@ ghost use Rattle.command_line.specs.Tasks.{task_of};
 ghost use Rattle.rpc_outside.specs.Faults.{IsQuiet};
 ghost use Rattle.rpc_tools.specs.Drills.{Drills, Succeeds as DrillSucceeds};
 ghost use Rattle.rpc_tools.specs.Outcomes.{NothingDone, Simulates, Succeeds, Untouched};
-ghost use Rattle.rpc_world.specs.Served.{later_of};
 ghost use Rattle.script_grammar.specs.declared.line.Line.{Line};
 ghost use Rattle.script_grammar.specs.Script.{script_of};
 
@@ -17,10 +16,8 @@ use rpc_outside::{Sink, Source};
 use std::alloc::Global;
 
 /// Runs the program on the words after its name. `sim` reads a script from the source and writes
-/// the report of its history to the sink; a script with a `connect` or a `disconnect` is refused as
-/// `Later`, with the number of its first such line. `drill SEED CALLS` runs a script that it makes,
-/// and writes a line that counts what happened. Words that are in no row of the command line are
-/// `Usage`.
+/// the report of its history to the sink. `drill SEED CALLS` runs a script that it makes, and writes
+/// a line that counts what happened. Words that are in no row of the command line are `Usage`.
 pub fn run<S: Source, K: Sink>(
     alloc: Global,
     words: &[String],
@@ -40,7 +37,7 @@ pub fn run<S: Source, K: Sink>(
         (K.faults sink.new) }
     ensures headline { (bytes : List ℕ) (script : List Line)
         → task_of (map string_bytes words.now) ≡ Some Task.Sim
-        → S.left source.old ≡ Some bytes → script_of bytes ≡ Ok script → later_of script ≡ None
+        → S.left source.old ≡ Some bytes → script_of bytes ≡ Ok script
         → IsQuiet (S.faults source.old) (S.faults source.new)
         → IsQuiet (K.faults sink.old) (K.faults sink.new)
         → result ≢ Status.NoMemory

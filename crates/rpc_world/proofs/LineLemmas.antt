@@ -1,4 +1,4 @@
--- The lines of a script one by one: each is served and names nodes that are there, and the clock stays small.
+-- The lines of a script one by one: each names nodes that are there, and the clock stays small.
 use Rattle.std.proofs.Common.{◌≡◌, ◌<◌, ◌≤◌, ◌+◌, ◌-◌, ◌*◌, ◌^◌, ◌⊎◌, inl, inr, ℕ, zero, suc, not}
 use Rattle.std.proofs.Common.{Bool, true, false, cond, Some, None, List, [], ◌∷◌, get_or, length}
 use Rattle.std.proofs.Common.{refl, sym, ap, subst, ◌∙◌, arith, length-append}
@@ -8,8 +8,6 @@ use Rattle.rpc_base.specs.declared.fact.Fact.{Fact}
 use Rattle.rpc_world.specs.Answered.{Play, stage_of}
 use Rattle.rpc_world.specs.Performed.{Performed}
 use Rattle.rpc_world.specs.Before.{IsNumbered, Names}
-use Rattle.rpc_world.specs.Served.{is_served, later_of}
-use Rattle.rpc_world.proofs.ServedLaws.{none-later}
 use Rattle.rpc_world.proofs.StaysLemmas.{does-leaves, does-long, does-numbered, made, passed}
 use Rattle.script_grammar.specs.declared.line.Command.{Command}
 use Rattle.script_grammar.specs.declared.line.Command.TheVariants.{Node, Tick}
@@ -17,30 +15,6 @@ use Rattle.script_grammar.specs.declared.line.Line.{Line}
 use Rattle.script_grammar.specs.declared.command.TheConstants.{MOST_TICK}
 use Rattle.script_grammar.specs.Conditions.{IsAmong, IsInRange, IsNode, IsRising, IsScript}
 use Rattle.sim_script.specs.FollowsScript.{Does}
-
-served-line : (line : Line) (lines : List Line) (i : ℕ) (d : Line) (b : Bool)
-    → is_served line.command ≡ b
-    → cond (not b) (Some line) (find (λ line. not (is_served line.command)) lines) ≡ None
-    → i < suc (length lines)
-    → ((j : ℕ) → find (λ line. not (is_served line.command)) lines ≡ None → j < length lines
-    → is_served (get_or lines j d).command ≡ true)
-    → is_served (get_or (line ∷ lines) i d).command ≡ true
-served-line line lines zero d true t none within more = t
-served-line line lines (suc i) d true t none within more = more i none (omega (arith, within))
-served-line line lines i d false t none within more = cc
-
-line-served : (lines : List Line) (i : ℕ) (d : Line)
-    → find (λ line. not (is_served line.command)) lines ≡ None → i < length lines
-    → is_served (get_or lines i d).command ≡ true
-line-served [] i d none within = absurd (omega (arith, within))
-line-served (line ∷ lines) i d none within =
-    served-line line lines i d (is_served line.command) refl none within
-    (λ j rest less. line-served lines j d rest less)
-
-pub script-served : (lines : List Line) → later_of lines ≡ None → (i : ℕ) (d : Line)
-    → i < length lines → is_served (get_or lines i d).command ≡ true
-script-served lines none i d within =
-    line-served lines i d (none-later (find (λ line. not (is_served line.command)) lines) none) within
 
 -- a script has at most 100,000 lines
 rising-few : (least : ℕ) (lines : List Line) → IsRising least lines → least ≤ 100001 → length lines + least ≤ 100001
@@ -168,28 +142,24 @@ stands-clock lines is i s within h =
 
 -- what a command of a script has when its turn comes
 pub record Ready (s : Play) (c : Command) : Type 0 where
-  pub served : is_served c ≡ true
   pub ranges : IsInRange c
   pub names : Names (length s.ends) c
   pub clock : s.clock + MOST_TICK < 2 ^ 64
 
 ready-at : (lines : List Line) (is : IsScript lines) (i : ℕ) (d : Line) (s : Play)
-    → later_of lines ≡ None → i < length lines → Stands lines i s
-    → Ready s (get_or lines i d).command
-ready-at lines is i d s none within h = record {
-  served = script-served lines none i d within;
+    → i < length lines → Stands lines i s → Ready s (get_or lines i d).command
+ready-at lines is i d s within h = record {
   ranges = is.ranges i d within;
   names = stands-names lines is i d s within h;
   clock = stands-clock lines is i s within h;
 }
 
 pub ready : (script lines : List Line) (i : ℕ) (line : Line) (s : Play) → lines ≡ script
-    → IsScript script → later_of script ≡ None → i < length lines → line ≡ get_or lines i line
+    → IsScript script → i < length lines → line ≡ get_or lines i line
     → Stands lines i s → Ready s line.command
-ready script lines i line s same is none within here h =
+ready script lines i line s same is within here h =
     let script_is : IsScript lines = subst (λ (ls : List Line). IsScript ls) (sym same) is in
-    let all_served : later_of lines ≡ None = ap (λ (ls : List Line). later_of ls) same ∙ none in
-    subst (λ (x : Line). Ready s x.command) (sym here) (ready-at lines script_is i line s all_served within h)
+    subst (λ (x : Line). Ready s x.command) (sym here) (ready-at lines script_is i line s within h)
 
 pub stands-after : (script lines : List Line) (i : ℕ) (line : Line) (s t : Play) (f g : List Fact)
     → lines ≡ script → IsScript script → i < length lines → line ≡ get_or lines i line

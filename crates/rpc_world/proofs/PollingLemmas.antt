@@ -8,7 +8,7 @@ use Rattle.std.proofs.lemmas.Simd.{map-map}
 use Rattle.end_laws.proofs.OwnFacts.{poll-own}
 use Rattle.endpoint_loop.specs.Finishing.{FinishesThese, NoneBack, jobs_left}
 use Rattle.endpoint_loop.specs.Noting.{sent_by, sent_of}
-use Rattle.endpoint_loop.specs.Polling.{FinishesBack, PollsWith as EndPolls, SendsOver}
+use Rattle.endpoint_loop.specs.Polling.{FinishesBack, PollsWith as EndPolls, SendsUntil}
 use Rattle.endpoint_loop.specs.Running.{Crew}
 use Rattle.endpoint_loop.specs.Seen.{Asks, with_ask}
 use Rattle.endpoint_loop.specs.Serving.{job_named}
@@ -143,15 +143,14 @@ poll-as P Q R S mode now s x t f g h =
     (λ a y b k. then-as PostsAll PostsAll _ _ a y b (same PostsAll)
     (λ a y b k. then-as R S Closes Closes a y b g (same Closes) k) k) k) k) k) h
 
-sends-as : (b : Bool) (sent then_sent : Option (List Carried)) (s : Timed) (x : List Fact) (t : Timed)
-    → b ≡ false → SendsOver b sent then_sent s x t → SendsAll s x t
-sends-as true sent then_sent s x t e h = cc
-sends-as false sent then_sent s x t e h = h.sends
+sends-as : (b : Bool) (s : Timed) (x : List Fact) (t : Timed) → b ≡ false → SendsUntil b s x t → SendsAll s x t
+sends-as true s x t e h = cc
+sends-as false s x t e h = h
 
 module _ (n now : ℕ) (worked : List WorkedJob) (e new : End) (x : List Fact) (stopped : Bool)
-    (sent then_sent : Option (List Carried)) (k : Kept e.timed.lists) (goes_on : stopped ≡ false)
-    (p : EndPolls plain_serving background_answer stopped now sent then_sent (crew_of e.workers)
-    (crew_of new.workers) e.timed x new.timed)
+    (k : Kept e.timed.lists) (goes_on : stopped ≡ false)
+    (p : EndPolls plain_serving background_answer stopped now (crew_of e.workers) (crew_of new.workers)
+    e.timed x new.timed)
     (plays : IsPlaying worked n e) where
   with-parcels : PollsWith plain_mode now p.parcels p.gave e.workers new.workers (told_end e) x (told_end new)
   with-parcels = record {
@@ -159,12 +158,12 @@ module _ (n now : ℕ) (worked : List WorkedJob) (e new : End) (x : List Fact) (
     given = cc (p.waits);
     polls = poll-as (FinishesBack background_answer p.parcels (crew_of e.workers) (crew_of new.workers))
         (FinishesFirst (map (worked_as (told_end e).lists.me) p.parcels) (new.workers.worked ≡ []))
-        (SendsOver stopped sent then_sent) SendsAll plain_mode now (told_end e) x (told_end new)
+        (SendsUntil stopped) SendsAll plain_mode now (told_end e) x (told_end new)
         (λ s y t h. record {
           finishes = finishes-each background_answer (told_end e).lists.me p.parcels s y t h.finishes;
           over = over-as new.workers.worked (length t.lists.jobs.out) 0 0
               (t.lists.room ≤ replies t.lists.queued) h.over;
-        }) (λ s y t h. sends-as stopped sent then_sent s y t goes_on h) p.polls;
+        }) (λ s y t h. sends-as stopped s y t goes_on h) p.polls;
     names = asked-names _ new.timed.lists.jobs.out
         ∙ (ap (map job_name) p.jobs
         ∙ (map-append job_name (jobs_left p.parcels e.timed.lists.jobs.out) (map job_named p.gave)

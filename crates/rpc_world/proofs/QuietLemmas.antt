@@ -1,18 +1,20 @@
--- Steps of an endpoint that change no job: a call that is asked, a rate that is set, and a datagram
--- that is delivered.
-use Rattle.std.proofs.Common.{◌≡◌, ℕ, Bool, true, false, cond, List, [], ◌∷◌, length, nat_lt, refl, sym, subst, ◌∙◌}
-use Rattle.std.proofs.Common.{◌≢◌, Result, Ok, Err}
-use Rattle.std.specs.Prelude.{IfErr}
+-- Steps of an endpoint that change no job: a call that is asked, a rate that is set, a session that
+-- is opened or begins to close, and a datagram that is delivered.
+use Rattle.std.proofs.Common.{◌≡◌, ℕ, Bool, true, false, not, cond, Option, Some, None, List, []}
+use Rattle.std.proofs.Common.{◌∷◌, length, nat_lt, refl, sym, ap, subst, ◌∙◌, ◌≢◌, Result, Ok, Err}
+use Rattle.std.specs.Prelude.{◌==◌, IfErr}
 use Rattle.std.specs.List.{find}
-use Rattle.end_laws.proofs.OwnFacts.{asks-own, delivers-own, rates-own}
-use Rattle.endpoint_loop.specs.Applying.{Leaves}
+use Rattle.end_laws.proofs.OwnFacts.{asks-own, connects-own, delivers-own, disconnects-own, rates-own}
+use Rattle.endpoint_loop.specs.Applying.{Leaves, UnlessNoMemory}
 use Rattle.endpoint_loop.specs.Asking.{UnlessWanting}
 use Rattle.endpoint_loop.specs.declared.asking.AskError.TheVariants.{NoMemory}
 use Rattle.endpoint_loop.specs.declared.asking.Refused.{Refused}
 use Rattle.endpoint_loop.specs.Running.{IsStaffed, asks_of}
 use Rattle.endpoint_loop.specs.Seen.{Asks as AsksBytes, asking}
-use Rattle.rpc_base.specs.declared.event.Event.TheVariants.{Arrived, Bad, NcallTooLarge, Nrate}
-use Rattle.rpc_base.specs.declared.event.Event.TheVariants.{Overflowed, Rated}
+use Rattle.rpc_base.specs.declared.event.Event.{Event}
+use Rattle.rpc_base.specs.declared.event.Event.TheVariants.{Arrived, Bad, Closing, NcallTooLarge}
+use Rattle.rpc_base.specs.declared.event.Event.TheVariants.{NcloseBusy, NcloseState, NconnectNumbers}
+use Rattle.rpc_base.specs.declared.event.Event.TheVariants.{NconnectRing, Nrate, Overflowed, Rated}
 use Rattle.rpc_base.specs.declared.fact.Fact.{Fact}
 use Rattle.rpc_base.specs.declared.state.SessionState.{SessionState}
 use Rattle.rpc_base.specs.declared.state.SessionState.TheVariants.{Connected}
@@ -22,18 +24,22 @@ use Rattle.rpc_laws.specs.declared.tables.WorkedJob.{WorkedJob}
 use Rattle.rpc_laws.specs.Deliveries.{Delivers, inbox_room}
 use Rattle.rpc_laws.specs.Facts.{plain}
 use Rattle.rpc_laws.specs.Front.{is_control, is_message}
-use Rattle.rpc_laws.specs.Groups.{Asks, SetsRate, ask_by_state, state_of}
-use Rattle.rpc_laws.specs.Sessions.{is_client, is_live}
+use Rattle.rpc_laws.specs.Groups.{Asks, Connects, Disconnects, SetsRate, ask_by_state, client_refusal}
+use Rattle.rpc_laws.specs.Groups.{clients_spent, connect_by, has_no_room, pending, shares, state_of}
+use Rattle.rpc_laws.specs.Sessions.{is_client, is_connected, is_live}
 use Rattle.rpc_laws.specs.Steps.{Rel}
 use Rattle.rpc_laws.specs.Working.{worked_after_all}
 use Rattle.rpc_outside.specs.PlainAnswer.{background_answer}
 use Rattle.sim_script.specs.FollowsScript.{is_wanting}
+use Rattle.session_mgmt.specs.declared.answers.ConnectError.{ConnectError}
+use Rattle.session_mgmt.specs.declared.answers.ConnectError.TheVariants.{NoMemory as NoConnectMemory}
 use Rattle.rpc_world.specs.Answered.{End, Whole, told_end}
 use Rattle.rpc_world.specs.Before.{IsPlaying, staff_of}
 use Rattle.rpc_world.proofs.EndLemmas.{staffed-stays}
 use Rattle.rpc_world.proofs.PlainLemmas.{AllOf, all-owned, idle-quiet}
 use Rattle.rpc_world.proofs.StepLemmas.{NodeStep, quiet-plain}
-use Rattle.work_laws.proofs.StayLaws.{Stays, asks-stays, delivers-stays, rates-stays, stays-knows}
+use Rattle.work_laws.proofs.StayLaws.{Stays, asks-stays, connects-stays, delivers-stays}
+use Rattle.work_laws.proofs.StayLaws.{disconnects-stays, rates-stays, stays-knows}
 use Rattle.work_laws.specs.Known.{KnowsWork}
 use Rattle.worker_crew.specs.Local.{Local, out_of}
 
@@ -111,6 +117,54 @@ rates-still session rate s x t p =
           (rate-whole (is_live state) s.lists.me session rate state);
     }
 
+-- a session is opened, or that is refused
+refusal-whole : (a b : Bool) (n credits room : ℕ) (e : Event)
+    → cond a (Some NconnectNumbers) (cond b (Some (NconnectRing n credits room)) None) ≡ Some e
+    → is_wanting e ≡ false
+refusal-whole true b n credits room e h = let same : NconnectNumbers ≡ e = cc in ap is_wanting (sym same)
+refusal-whole false true n credits room e h =
+    let same : NconnectRing n credits room ≡ e = cc in ap is_wanting (sym same)
+refusal-whole false false n credits room e h = cc
+
+rated-whole : (b : Bool) (me session rate : ℕ) → Whole (cond b [] (plain me (Rated session rate) ∷ []))
+rated-whole true me session rate = refl
+rated-whole false me session rate = refl
+
+connect-whole : (refusal : Option Event) (peer credits rate : ℕ) (l : Lists)
+    → client_refusal credits l ≡ refusal → Whole (connect_by refusal peer credits rate l)
+connect-whole (Some e) peer credits rate l is =
+    rw (refusal-whole (clients_spent l) (has_no_room credits l) (shares l) credits l.room e is) refl
+connect-whole None peer credits rate l is = rated-whole (rate == 0) l.me (length l.clients) rate
+
+pub connects-still : (peer credits rate : ℕ) (s : Timed) (x : List Fact) (t : Timed)
+    → Connects peer credits rate s x t → IsStill (Connects peer credits rate) s x t
+connects-still peer credits rate s x t p = record {
+  stays = connects-stays peer credits rate s x t p;
+  own = all-owned s.lists.me x (connects-own false (λ e. cc) peer credits rate s x t (λ e. cc) p).facts;
+  whole = subst (λ (y : List Fact). Whole y) (sym p.facts)
+      (connect-whole (client_refusal credits s.lists) peer credits rate s.lists refl);
+}
+
+-- a session begins to close, or that is refused
+disconnect-whole : (a b : Bool) (me session calls : ℕ) (state : SessionState)
+    → Whole (plain me (cond a (NcloseState session state) (cond b (NcloseBusy session calls)
+    (Closing session))) ∷ [])
+disconnect-whole true b me session calls state = refl
+disconnect-whole false true me session calls state = refl
+disconnect-whole false false me session calls state = refl
+
+pub disconnects-still : (session : ℕ) (s : Timed) (x : List Fact) (t : Timed)
+    → Disconnects session s x t → IsStill (Disconnects session) s x t
+disconnects-still session s x t p =
+    let client = find (is_client session) s.lists.clients in
+    record {
+      stays = disconnects-stays session s x t p;
+      own = all-owned s.lists.me x (disconnects-own false (λ e. cc) session s x t (λ e. cc) p).facts;
+      whole = subst (λ (y : List Fact). Whole y) (sym p.facts) (disconnect-whole
+          (not (is_connected (state_of client))) (not (pending client == 0)) s.lists.me session
+          (pending client) (state_of client));
+    }
+
 -- a delivery
 delivery-whole : (me peer : ℕ) (bytes : List ℕ) (a b c d : Bool)
     → Whole (record (plain me (cond a (cond b (Arrived peer) (Overflowed peer))
@@ -130,6 +184,12 @@ delivers-still peer bytes s x t p = record {
       (is_message bytes) (nat_lt (length s.lists.ring) s.lists.room) (is_control bytes)
       (nat_lt (length s.lists.inbox) inbox_room));
 }
+
+-- a session that wasn't refused for want of memory
+pub opened-makes : (o : Result ℕ ConnectError) (claim : Type 0) (b : Bool) → b ≡ false
+    → IfErr o (λ why. b ≡ false → why ≢ NoConnectMemory) → UnlessNoMemory o claim → claim
+opened-makes (Ok session) claim b t wants u = u
+opened-makes (Err why) claim b t wants u = u (wants t)
 
 -- a call that wasn't refused for want of memory
 pub asked-makes : (o : Result ℕ Refused) (claim : Type 0) (b : Bool) → b ≡ false

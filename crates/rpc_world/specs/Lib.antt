@@ -1,6 +1,6 @@
 pub mod Answered
 pub mod Before
+pub mod Lawful
 pub mod Performed
-pub mod Served
 pub mod Standing
 pub mod Worked

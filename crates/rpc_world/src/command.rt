@@ -1,13 +1,13 @@
 //! What each command of a script does to the world.
-ghost use Rattle.std.specs.Prelude.{◌≡◌, ◌<◌, ◌+◌, ◌^◌, true, length, OnOk};
+ghost use Rattle.std.specs.Prelude.{◌<◌, ◌+◌, ◌^◌, length, OnOk};
 ghost use Rattle.rpc_base.specs.declared.event.Event.{Event};
 ghost use Rattle.sim_script.specs.FollowsScript.{Does, OfNet, Ticks, or_missed};
 ghost use Rattle.rpc_world.specs.Performed.{Performed};
 ghost use Rattle.rpc_world.specs.Before.{IsNumbered, Names};
-ghost use Rattle.rpc_world.specs.Served.{is_served};
 ghost use Rattle.script_grammar.specs.Conditions.{IsInRange};
 
 use crate::calling::call_on;
+use crate::connecting::{connect_on, disconnect_on};
 use crate::making::make_node;
 use crate::network::{note_of_net, perform_net};
 use crate::pairing::pair;
@@ -56,14 +56,13 @@ fn tick(stage: &mut Running, rec: &mut MemRecorder, by: u32) -> Result<(), NoMem
     Ok(())
 }
 
-/// Does what a command says that is served.
+/// Does what a command says.
 pub fn execute(
     alloc: Global,
     stage: &mut Running,
     rec: &mut MemRecorder,
     command: &Command,
 ) -> Result<(), NoMemory>
-    requires served { is_served command.now ≡ true }
     requires ranges { IsInRange command.now }
     requires names { Names (length stage.old.ends) command.now }
     requires numbered { IsNumbered stage.old }
@@ -74,6 +73,8 @@ pub fn execute(
     match command {
         Command::Node { ring } => make_node(alloc, stage, rec, *ring),
         Command::Pair { a, b, credits } => pair(stage, rec, *a, *b, *credits),
+        Command::Connect { a, b, credits } => connect_on(stage, rec, *a, *b, *credits),
+        Command::Disconnect { node, session } => disconnect_on(stage, rec, *node, *session),
         Command::Rate {
             node,
             session,
@@ -93,7 +94,5 @@ pub fn execute(
         Command::Tick { by } => tick(stage, rec, *by),
         Command::Work { node, job } => work_job(stage, rec, *node, *job),
         Command::Settle { rounds } => settle(alloc, stage, rec, *rounds),
-        Command::Connect { .. } => unreachable!(),
-        Command::Disconnect { .. } => unreachable!(),
     }
 }

@@ -3,6 +3,7 @@
 
 mod calling;
 mod command;
+mod connecting;
 mod dropping;
 mod finished;
 mod landing;
@@ -11,7 +12,6 @@ mod network;
 mod pairing;
 mod rating;
 mod running;
-mod serving;
 mod settling;
 mod stepping;
 mod working;

@@ -1,26 +1,17 @@
 //! The world that runs a script.
-ghost use Rattle.std.specs.Prelude.{◌≡◌, ◌≢◌, List, [], None, IfOk};
-ghost use Rattle.node_laws.specs.CreditBalance.{Credit};
-ghost use Rattle.node_laws.specs.EndedCalls.{EndsClean};
-ghost use Rattle.node_laws.specs.OlderRequests.{BeginsClean};
-ghost use Rattle.report_text.specs.Told.{AllTold};
+ghost use Rattle.std.specs.Prelude.{◌≡◌, ◌≢◌, List, [], IfOk};
 ghost use Rattle.rpc_base.specs.declared.fact.Fact.{Fact};
-ghost use Rattle.rpc_laws.specs.AtMostOnce.{Once};
-ghost use Rattle.rpc_laws.specs.BufferSafety.{SendsItsOwn};
-ghost use Rattle.rpc_laws.specs.OwnAnswer.{Own};
-ghost use Rattle.ring_laws.specs.CalmRing.{MessagesFit};
 ghost use Rattle.ring_laws.specs.PairsOnce.{PairsOnce};
-ghost use Rattle.rpc_world.specs.Served.{later_of};
+ghost use Rattle.rpc_world.specs.Lawful.{Lawful};
 ghost use Rattle.rpc_world.specs.Standing.{AllStand, StandsAt};
 ghost use Rattle.script_grammar.specs.Conditions.{IsScript};
 ghost use Rattle.sim_script.specs.FollowsScript.{Follows};
 ghost use Rattle.stall_laws.specs.NoStall.{NoStall};
-ghost use Rattle.world_laws.specs.Laws.{EachNode, EndTells, KeepsRing};
+ghost use Rattle.world_laws.specs.Laws.{EndTells};
 ghost use Rattle.world_laws.specs.NodeFacts.{facts_of};
 
 use crate::command::execute;
 use crate::running::Running;
-use crate::serving::is_served;
 use endpoint_loop::Endpoint;
 use rpc_base::{Listed, NoMemory, NodeId};
 use rpc_laws::History;
@@ -51,40 +42,17 @@ impl Model for World {
 }
 
 impl World {
-    /// The number of the first line that is a `connect` or a `disconnect`, which aren't served yet;
-    /// `None` exactly where there is none.
-    pub fn later(script: &Script) -> Option<u32>
-        ensures { result ≡ later_of script.now }
-    {
-        let line = script
-            .lines()
-            .iter()
-            .find(|line| !is_served(&line.command))?;
-        Some(line.number)
-    }
-
-    /// Runs a script: its nodes over one network, by commands that are all served. `NoMemory` comes
-    /// where there is no memory for the history and the tables.
+    /// Runs a script: its nodes over one network. `NoMemory` comes where there is no memory for the
+    /// history and the tables.
     pub fn run(alloc: Global, script: &Script) -> Result<World, NoMemory>
-        requires { later_of script.now ≡ None }
         ensures follows { IfOk result (λ w. Follows script.now w) }
         // No other history follows the script.
         ensures one { IfOk result (λ w. (h : List Fact) → Follows script.now h → h ≡ w) }
-        // The report shows all of each fact.
-        ensures told { IfOk result (λ w. AllTold w) }
-        ensures sends_own { IfOk result (λ w. SendsItsOwn w) }
-        ensures once { IfOk result (λ w. Once w) }
-        ensures own { IfOk result (λ w. Own w) }
+        ensures lawful { IfOk result (λ w. Lawful w) }
         // Before a datagram was repeated, or a call was rolled back.
-        ensures fits { IfOk result (λ w. MessagesFit w) }
         ensures stands_once { IfOk result (λ w. PairsOnce w) }
-        // At each end of a command at which the history is settled.
+        // At the end of each command.
         ensures no_stall { IfOk result (λ w. NoStall script.now w) }
-        // At every moment of each node.
-        ensures credit { IfOk result (λ w. EachNode Credit w) }
-        ensures ends_clean { IfOk result (λ w. EachNode (EndsClean []) w) }
-        ensures begins_clean { IfOk result (λ w. EachNode (BeginsClean []) w) }
-        ensures ring { IfOk result (λ w. EachNode KeepsRing w) }
         // Of each node at the end.
         ensures requests { IfOk result (λ w. EndTells script.now w) }
     {
@@ -94,7 +62,6 @@ impl World {
 
     // Does one command after the other.
     fn play(alloc: Global, script: &Script) -> Result<World, NoMemory>
-        requires { later_of script.now ≡ None }
         ensures follows { IfOk result (λ w. Follows script.now w) }
         ensures script { IfOk result (λ w. IsScript script.now) }
     {

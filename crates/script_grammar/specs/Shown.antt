@@ -5,7 +5,6 @@ use Rattle.script_grammar.specs.declared.bad.BadScript.{BadScript}
 use Rattle.script_grammar.specs.declared.bad.BadWhy.{BadWhy}
 use Rattle.script_grammar.specs.declared.bad.BadWhy.TheVariants.{TooLong, Lines, First, Word, Shape}
 use Rattle.script_grammar.specs.declared.bad.BadWhy.TheVariants.{Number, Hex, Nodes, Node, Same}
-use Rattle.script_grammar.specs.declared.bad.BadWhy.TheVariants.{Later}
 use Rattle.script_grammar.specs.declared.bad.ReadError.{ReadError}
 use Rattle.script_grammar.specs.declared.bad.ReadError.TheVariants.{Bad, NoMemory}
 
@@ -20,7 +19,6 @@ why_text Hex = codes "Hex"
 why_text Nodes = codes "Nodes"
 why_text Node = codes "Node"
 why_text Same = codes "Same"
-why_text Later = codes "Later"
 
 -- `line L: WHY`
 abbrev pub bad_text : BadScript → List ℕ

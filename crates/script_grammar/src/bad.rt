@@ -31,9 +31,6 @@ pub enum BadWhy {
     Node,
     /// A pair or a connect of a node with itself.
     Same,
-    /// A command that isn't served yet. `read` never answers it: the world tells which commands it
-    /// serves.
-    Later,
 }
 
 /// The first bad line of a script, counted from 1, and what is wrong with it.
@@ -70,7 +67,6 @@ impl fmt::Display for BadWhy {
             BadWhy::Nodes => "Nodes",
             BadWhy::Node => "Node",
             BadWhy::Same => "Same",
-            BadWhy::Later => "Later",
         })
     }
 }

@@ -188,7 +188,6 @@ impl<'a> fmt::Display for Explanation<'a> {
             BadWhy::Nodes => self.fmt_nodes(f),
             BadWhy::Node => self.fmt_node(f),
             BadWhy::Same => write!(f, "both nodes are {}", Shown(word(self.text(), 1))),
-            BadWhy::Later => write!(f, "{} is not served here yet", Shown(self.text())),
         }
     }
 }

@@ -137,11 +137,6 @@ fn reasons_of_the_whole_script_need_no_line(rt: HostRuntime) -> Result<(), Fail>
             BadWhy::Lines,
             "line 100001: Lines: a script has at most 100000 lines",
         ),
-        (
-            2,
-            BadWhy::Later,
-            "line 2: Later: disconnect 1 0 is not served here yet",
-        ),
     ];
     for (line, why, wanted) in cases {
         let text = format!(in alloc;

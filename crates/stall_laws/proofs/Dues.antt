@@ -1,4 +1,5 @@
 -- What is due is done next: each fact of a node leaves something to be done at once, or does it.
+use Rattle.rpc_laws.specs.Requests.{is_server}
 use Rattle.std.proofs.Common.{◌≡◌, ◌<◌, ◌%◌, ◌-◌, ◌==◌, ℕ, Bool, true, false, List, [], ◌∷◌, ◌++◌}
 use Rattle.std.proofs.Common.{length}
 use Rattle.std.proofs.Common.{Option, Some, None, slice_get, refl, subst}
@@ -24,8 +25,8 @@ use Rattle.rpc_laws.specs.Calls.{is_call}
 use Rattle.rpc_laws.specs.Front.{front_header, is_message}
 use Rattle.rpc_laws.specs.NodeLists.{after, after_all}
 use Rattle.rpc_laws.specs.Steps.{Rel}
-use Rattle.end_laws.specs.OnlyPairs.{OnlyPairs}
-use Rattle.end_laws.proofs.Allowed.{IsOut, IsWhole}
+use Rattle.end_laws.specs.Moments.{hand_noted}
+use Rattle.end_laws.proofs.Allowed.{IsOut, IsWhole, MayLeave}
 use Rattle.end_laws.proofs.QueueLemmas.{RightNode}
 use Rattle.end_laws.proofs.Walks.{Walked}
 use Rattle.ring_laws.proofs.ServerReach.{NoneOut}
@@ -94,6 +95,8 @@ Goes delivery n s o = ⊥
 pub data Step (hand : Option InFlight) (l : Lists) (first : List ℕ) : Due → Event → Due → Type 0 where
   alone : (e : Event) → is_alone e ≡ true → Step hand l first nothing e nothing
   older : (t r k : ℕ) → IsOlder l t r → Step hand l first nothing (Flushed (Reply t r) k) nothing
+  leaves : (t r k : ℕ) → MayLeave hand l t
+      → Step hand l first nothing (Flushed (Reply t r) k) nothing
   takes : (t r k : ℕ) → Step hand l first nothing (Took (Reply t r) k) (reply l.me t r k)
   repeats : (t r k : ℕ) → Step hand l first nothing (Again (Reply t r) k) (reply l.me t r k)
   posts : (t r k : ℕ) → Step hand l first (reply l.me t r k) (Posted (Reply t r) k) nothing
@@ -103,6 +106,8 @@ pub data Step (hand : Option InFlight) (l : Lists) (first : List ℕ) : Due → 
       → Step hand l first (reply l.me t r k) (Ran t r y) (reply l.me t r k)
   finishes : (t r y : ℕ) → IsOut l t r first
       → Step hand l first nothing (Ran t r y) (reply l.me t r (packet_count (length first) - 1))
+  is_done : (t r y : ℕ) → IsOut l t r first → find (is_server t) l.servers ≡ None
+      → Step hand l first nothing (Ran t r y) nothing
   arrives : (peer : ℕ) → Step hand l first delivery (Arrived peer) nothing
   overflows : (peer : ℕ) → Step hand l first delivery (Overflowed peer) nothing
   is_bad : (peer : ℕ) → (copy : InFlight) → hand ≡ Some copy → is_message copy.bytes ≡ false
@@ -118,14 +123,20 @@ abbrev pub StepsFrom : Option InFlight → Due → ℕ → Lists → List Fact �
 StepsFrom hand d clock l [] e = d ≡ e
 StepsFrom hand d clock l (f ∷ x) e =
     (u : Due) × (f.who ≡ Node l.me) × Step hand l f.first d f.event u
-    × StepsFrom hand u clock (after clock l f) x e
+    × StepsFrom (hand_noted l.me f.event l.inbox hand) u clock (after clock l f) x e
 
 pub steps-append : (hand : Option InFlight) (d : Due) (clock : ℕ) (l : Lists) (x y : List Fact)
-    (u e : Due) → StepsFrom hand d clock l x u → StepsFrom hand u clock (after_all clock l x) y e
+    (u e : Due) → StepsFrom hand d clock l x u
+    → ((other : Option InFlight) → StepsFrom other u clock (after_all clock l x) y e)
     → StepsFrom hand d clock l (x ++ y) e
-steps-append hand d clock l [] y u e h k = rw h k
-steps-append hand d clock l (f ∷ x) y u e h k =
-    (h.0, h.1, h.2, steps-append hand h.0 clock (after clock l f) x y u e h.3 k)
+steps-append hand d clock l [] y u e h k = rw h (k hand)
+steps-append hand d clock l (f ∷ x) y u e h k = (
+  h.0,
+  h.1,
+  h.2,
+  steps-append (hand_noted l.me f.event l.inbox hand) h.0 clock
+      (after clock l f) x y u e h.3 k,
+)
 
 -- facts that are alone
 abbrev pub IsAlone : ℕ → Fact → Type 0
@@ -134,8 +145,12 @@ IsAlone me f = (f.who ≡ Node me) × (is_alone f.event ≡ true)
 pub steps-alone : (hand : Option InFlight) (clock : ℕ) (l : Lists) (x : List Fact)
     → AllByRecursion (IsAlone l.me) x → StepsFrom hand nothing clock l x nothing
 steps-alone hand clock l [] a = refl
-steps-alone hand clock l (f ∷ x) a =
-    (nothing, a.0.0, alone f.event a.0.1, steps-alone hand clock (after clock l f) x a.1)
+steps-alone hand clock l (f ∷ x) a = (
+  nothing,
+  a.0.0,
+  alone f.event a.0.1,
+  steps-alone (hand_noted l.me f.event l.inbox hand) clock (after clock l f) x a.1,
+)
 
 pub one-alone : (hand : Option InFlight) (clock : ℕ) (l : Lists) (f : Fact) → f.who ≡ Node l.me
     → is_alone f.event ≡ true → StepsFrom hand nothing clock l (f ∷ []) nothing
@@ -145,12 +160,14 @@ one-alone hand clock l f who is = (nothing, who, alone f.event is, refl)
 abbrev pub Orders : Option InFlight → Timed → List Fact → Type 0
 Orders hand s x = StepsFrom hand nothing s.clock s.lists x nothing
 
-abbrev pub Orderly : Option InFlight → Rel → Type 0
-Orderly hand P = (s : Timed) (x : List Fact) (t : Timed) → OnlyPairs x → RightNode s.lists → P s x t → Orders hand s x
+abbrev pub Orderly : Rel → Type 0
+Orderly P = (hand : Option InFlight) (s : Timed) (x : List Fact) (t : Timed) → RightNode s.lists
+    → P s x t → Orders hand s x
 
 pub orders-append : (hand : Option InFlight) (s t : Timed) (x y : List Fact)
-    → Walked RightNode hand s x t → Orders hand s x → Orders hand t y → Orders hand s (x ++ y)
+    → Walked RightNode hand s x t → Orders hand s x → ((other : Option InFlight) → Orders other t y)
+    → Orders hand s (x ++ y)
 orders-append hand s t x y w h k =
     steps-append hand nothing s.clock s.lists x y nothing nothing h
-    (subst (λ c. StepsFrom hand nothing c (after_all s.clock s.lists x) y nothing) w.clock
-    (subst (λ l. StepsFrom hand nothing t.clock l y nothing) w.lists k))
+    (λ other. subst (λ c. StepsFrom other nothing c (after_all s.clock s.lists x) y nothing) w.clock
+    (subst (λ l. StepsFrom other nothing t.clock l y nothing) w.lists (k other)))

@@ -35,7 +35,7 @@ use Rattle.rpc_laws.specs.Requests.{is_server}
 use Rattle.rpc_laws.specs.Sessions.{is_client}
 use Rattle.end_laws.specs.Kinds.{is_ask}
 use Rattle.end_laws.specs.Moments.{Moment, moved, hand_of, hand_after}
-use Rattle.end_laws.proofs.Allowed.{May, is_packet}
+use Rattle.end_laws.proofs.Allowed.{MayLeave, May, is_packet}
 use Rattle.end_laws.proofs.Courses.{latest, AtNode, noted_at}
 use Rattle.end_laws.proofs.QueueLemmas.{RightNode}
 use Rattle.ring_laws.proofs.ClientReach.{client-reach, spilt_reply}
@@ -51,7 +51,8 @@ use Rattle.ring_laws.proofs.WorldSteps.{and-count, if_at}
 use Rattle.stall_laws.specs.Caused.{lost_at_node, lost_in_net, lost_by, front_copy}
 use Rattle.stall_laws.proofs.Dues.{Due, nothing, reply, delivery, flushed, covers, is_alone, Step}
 use Rattle.stall_laws.proofs.Dues.{alone, older}
-use Rattle.stall_laws.proofs.Dues.{takes, repeats, posts, gives, serves, finishes, arrives}
+use Rattle.stall_laws.proofs.Dues.{takes, repeats, posts, gives, serves, finishes, is_done, leaves}
+use Rattle.stall_laws.proofs.Dues.{arrives}
 use Rattle.stall_laws.proofs.Dues.{overflows, is_bad}
 use Rattle.stall_laws.proofs.Dues.{flushes, rolls, breaks, Goes, IsOlder, IsCallFor}
 use Rattle.stall_laws.proofs.Moves.{net_due}
@@ -59,11 +60,13 @@ use Rattle.stall_laws.proofs.Standing.{owed_at, flushed_at, due_copy, standing, 
 use Rattle.stall_laws.proofs.Standing.{server-moves}
 
 -- the sessions that are found at the ends of a pairing are its own
-pub record JoinsAt (n : ℕ) (l : Lists) (x : Pairing) : Type 0 where
+pub record JoinsAt (hand : Option InFlight) (n : ℕ) (l : Lists) (x : Pairing) : Type 0 where
   pub client : n ≡ x.home → (c : Client) → find (is_client x.client) l.clients ≡ Some c
       → (c.way.peer ≡ x.node) × (c.way.other ≡ x.session)
   pub server : n ≡ x.node → (v : Server) → find (is_server x.session) l.servers ≡ Some v
       → (v.way.peer ≡ x.home) × (v.way.other ≡ x.client)
+  pub stands : n ≡ x.node → find (is_server x.session) l.servers ≡ None → ⊥
+  pub stays : n ≡ x.node → MayLeave hand l x.session → ⊥
 
 -- a datagram of a pairing was lost
 pub record Passing (x : Pairing) (r k : ℕ) (lost : Option InFlight) : Type 0 where
@@ -97,12 +100,14 @@ step-of : (hand : Option InFlight) (l : Lists) (first : List ℕ) (d : Due) (e :
     → Step hand l first d e u → OfNode l.me d × OfNode l.me u
 step-of hand l first d e u (alone _ h) = (tt, tt)
 step-of hand l first d e u (older t r k o) = (tt, tt)
+step-of hand l first d e u (leaves t r k m) = (tt, tt)
 step-of hand l first d e u (takes t r k) = (tt, refl)
 step-of hand l first d e u (repeats t r k) = (tt, refl)
 step-of hand l first d e u (posts t r k) = (refl, tt)
 step-of hand l first d e u (gives t r k w q) = (refl, tt)
 step-of hand l first d e u (serves t r y k none q) = (refl, refl)
 step-of hand l first d e u (finishes t r y w) = (tt, refl)
+step-of hand l first d e u (is_done t r y w none) = (tt, tt)
 step-of hand l first d e u (arrives peer) = (tt, tt)
 step-of hand l first d e u (overflows peer) = (tt, tt)
 step-of hand l first d e u (is_bad peer copy h g) = (tt, tt)
@@ -136,7 +141,8 @@ some-at true false n m some le = inl (omega arith)
 some-at false b n m some le = inl (omega arith)
 
 -- what is sent is in flight
-module _ (r k : ℕ) (n : ℕ) (l : Lists) (x : Pairing) (joins : JoinsAt n l x) where
+module _ (r k : ℕ) (held : Option InFlight) (n : ℕ) (l : Lists) (x : Pairing)
+    (joins : JoinsAt held n l x) where
   abbrev p : Filter
   p = is_packet r k
 
@@ -210,7 +216,13 @@ module _ (r k : ℕ) (n : ℕ) (l : Lists) (x : Pairing) (joins : JoinsAt n l x)
       let split = and-count (n == x.node) (t == x.session && p q j) in
       let none = none-at (n == x.home) in
       omega arith
-  flight-moves hand (Sent peer Control j) first second copies i m = let own = m.own in absurd (cc)
+  flight-moves hand (Sent peer Control j) first second copies i m =
+      let c : InFlight = record { from = n; to = peer; bytes = first ++ second } in
+      let a = count-add (ask_to p x.node x.session) copies c in
+      let b = count-add (reply_to p x.home x.client) copies c in
+      let none = none-at (n == x.home) in
+      let other = none-at (n == x.node) in
+      omega arith
   flight-moves hand _ first second copies i m =
       let a = none-at (n == x.home) in let b = none-at (n == x.node) in omega arith
 
@@ -229,7 +241,7 @@ in-hand : (p : Filter) (x : Pairing) (n : ℕ) (hand : Option InFlight) (peer : 
 in-hand p x n hand peer first is = rw is (omega arith)
 
 module _ (w : Moment) (n : ℕ) (l : Lists) (e : Event) (first second : List ℕ) (x : Pairing)
-    (r k : ℕ) (a : AtNode w n l (with_two n e first second)) (joins : JoinsAt n l x)
+    (r k : ℕ) (a : AtNode w n l (with_two n e first second)) (joins : JoinsAt w.hand n l x)
     (i : RightNode l) where
   abbrev f : Fact
   f = with_two n e first second
@@ -260,7 +272,7 @@ module _ (w : Moment) (n : ℕ) (l : Lists) (e : Event) (first second : List ℕ
       + if_at b (spilt_ask q x.session e l)
   server-by d u step true t =
       let moves = server-moves q x.session (due_of w.clock e l.paces) w.hand l first second d e u
-      step a.allowed.may in
+      step a.allowed.may (joins.stands (eqb-true n x.node t)) in
       let new = here-now (server_packets q x.session) w.nodes n x.node l now a.is_node t in
       let old = here-was (server_packets q x.session) w.nodes n x.node l a.is_node t in
       rw (new, old) moves
@@ -279,7 +291,7 @@ module _ (w : Moment) (n : ℕ) (l : Lists) (e : Event) (first second : List ℕ
   base-moves d u step =
       let c = client-by d u step (n == x.home) refl in
       let s = server-by d u step (n == x.node) refl in
-      let g = flight-moves r k n l x joins w.hand e first second w.flight i a.allowed.may in
+      let g = flight-moves r k w.hand n l x joins w.hand e first second w.flight i a.allowed.may in
       let of = step-of w.hand l first d e u step in
       let before = owed-here q l.me x.node x.session d of.0 in
       let later = owed-here q l.me x.node x.session u of.1 in
@@ -411,7 +423,7 @@ flushed-parts m a r o x h =
 -- a packet that stood somewhere does so after a fact of a node, or has one of these fates
 pub node-fate : (w : Moment) (n : ℕ) (l : Lists) (first second : List ℕ) (x : Pairing) (r k : ℕ)
     (d : Due) (e : Event) (u : Due) → Step w.hand l first d e u
-    → AtNode w n l (with_two n e first second) → JoinsAt n l x → RightNode l
+    → AtNode w n l (with_two n e first second) → JoinsAt w.hand n l x → RightNode l
     → 1 ≤ standing r k x d w
     → (1 ≤ standing r k x u (noted_at w n l (with_two n e first second)))
     ⊎ Fate w n l x r k e first
@@ -435,6 +447,19 @@ node-fate w n l first second x r k d e u (older t q b o) a j i some =
           inr (passed (eqb-true n x.node both.0) (rw (same.0, same.1, same.2) refl)
           (rw (← same.0, ← same.1) o)))
     ]
+node-fate w n l first second x r k d e u (leaves t q b gone) a j i some =
+    let m = base-moves w n l (Flushed (Reply t q) b) first second x r k a j i nothing nothing
+    (leaves t q b gone) in
+    let z = none-at (n == x.home) in
+    elim (some-at (n == x.node) (t == x.session && is_packet r k q b) (base r k x nothing w)
+    (base r k x nothing (noted_at w n l (with_two n (Flushed (Reply t q) b) first second)))
+    (omega arith) (omega arith)) [
+      | inl more ↦ inl (omega arith)
+      | inr both ↦ (let same = same-three w n l
+          (Flushed (Reply t q) b) first second x r k a j i t x.session q b
+          both.1 in
+          absurd (j.stays (eqb-true n x.node both.0) (subst (MayLeave w.hand l) same.0 gone)))
+    ]
 node-fate w n l first second x r k d e u (takes t q b) a j i some =
     let m = base-moves w n l (Took (Reply t q) b) first second x r k a j i nothing (reply l.me t q b) (takes t q b) in
     let z = none-at (n == x.home) in let y = none-at (n == x.node) in inl (omega arith)
@@ -455,6 +480,10 @@ node-fate w n l first second x r k d e u (serves t q c b v same) a j i some =
 node-fate w n l first second x r k d e u (finishes t q c v) a j i some =
     let m = base-moves w n l (Ran t q c) first second x r k a j i nothing (reply l.me t q (packet_count
     (length first) - 1)) (finishes t q c v) in
+    let z = none-at (n == x.home) in let y = none-at (n == x.node) in inl (omega arith)
+node-fate w n l first second x r k d e u (is_done t q c v gone) a j i some =
+    let m = base-moves w n l (Ran t q c) first second x r k a j i nothing nothing
+    (is_done t q c v gone) in
     let z = none-at (n == x.home) in let y = none-at (n == x.node) in inl (omega arith)
 node-fate w n l first second x r k d e u (arrives peer) a j i some =
     let p = is_packet r k in
@@ -617,7 +646,8 @@ net-fate w f x r k who some =
     (net_due f.event)
     + flushed_at r x.home x.client (net_due f.event)
     + on_way (is_packet r k) x (flight_at v f.event f.first f.second w.flight)
-    + on_way (is_packet r k) x (due_copy (net_due f.event) (hand_after v f.event w.flight w.hand)))
+    + on_way (is_packet r k) x (due_copy (net_due f.event)
+    (hand_after v f.event w.nodes w.flight w.hand)))
     ⊎ Passing x r k (lost_by w v f.event f.first)) (sym who)
     (by (client_part (is_packet r k) x w.nodes + server_part (is_packet r k) x w.nodes) refl)
   where

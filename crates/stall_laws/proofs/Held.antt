@@ -26,10 +26,14 @@ use Rattle.rpc_laws.specs.Front.{front_header}
 use Rattle.rpc_laws.specs.Posting.{next_turn}
 use Rattle.end_laws.specs.Kinds.{is_ask}
 use Rattle.end_laws.specs.Moments.{Moment}
-use Rattle.end_laws.proofs.Allowed.{is_packet}
-use Rattle.end_laws.proofs.ClientLemmas.{client-at}
+use Rattle.end_laws.proofs.Allowed.{is_packet, MayLeave}
+use Rattle.end_laws.proofs.ClientLemmas.{client-at, is-joined}
+use Rattle.rpc_laws.specs.Sessions.{is_connected}
+use Rattle.std.specs.List.{find}
+use Rattle.rpc_laws.specs.Requests.{is_server}
+use Rattle.stall_laws.proofs.Living.{joined-connected}
 use Rattle.end_laws.proofs.Courses.{AtNode, noted_at}
-use Rattle.end_laws.proofs.Known.{Known, Good, End, Says, SaysRequest, Speaks}
+use Rattle.end_laws.proofs.Known.{Known, Good, LiveAt, End, Says, SaysRequest, Speaks}
 use Rattle.end_laws.proofs.QueueLemmas.{RightNode}
 use Rattle.end_laws.proofs.ServerLemmas.{server-at}
 use Rattle.ring_laws.proofs.Loads.{Pairing, asks, replies, ask_to, reply_to}
@@ -127,16 +131,22 @@ lost-now h w f j way c r k e p = record {
 pub record SessionAt (w : Moment) (j s : ℕ) (z : Lists) (x : Client) : Type 0 where
   pub is_node : slice_get w.nodes j ≡ Some z
   pub is_there : slice_get z.clients s ≡ Some x
+  pub live : is_connected x.state ≡ true
+  pub stands : LiveAt w.nodes x.way.peer x.way.other
+  pub stays : (n : ℕ) (l : Lists) → slice_get w.nodes n ≡ Some l → n ≡ x.way.peer
+      → MayLeave w.hand l x.way.other → ⊥
 
 some-end : (o : Option End) (a b : End) → o ≡ Some a → o ≡ Some b → a ≡ b
 some-end o a b e f = cc
 
 -- the sessions at its two ends are its own
 pub joins-of : (w : Moment) (n : ℕ) (l : Lists) (j s : ℕ) (z : Lists) (x : Client)
-    → slice_get w.nodes n ≡ Some l → Good w → SessionAt w j s z x → JoinsAt n l (pair_of j x.way)
+    → slice_get w.nodes n ≡ Some l → Good w → SessionAt w j s z x
+    → JoinsAt w.hand n l (pair_of j x.way)
 joins-of w n l j s z x is g at =
     let k = g.known in
     let own = (g.nodes j z at.is_node).clients s x at.is_there in
+    let end = (is-joined k j s x (joined-connected x.state at.live) own).end in
     record {
       client = λ home c found.
           let here : slice_get w.nodes n ≡ Some z = ap (slice_get w.nodes) home ∙ at.is_node in
@@ -149,14 +159,29 @@ joins-of w n l j s z x is g at =
           let one : c ≡ x = cc in
           (ap (λ (y : Client). y.way.peer) one, ap (λ (y : Client). y.way.other) one);
       server = λ node v found.
-          let there = server-at k n l.servers x.way.other v (g.nodes n l is).servers found in
-          let other = (g.nodes n l is).servers x.way.other v there.0 in
-          let mine : k.ends n x.way.other 0 ≡ Some (record { home = j; client = s }) =
-          subst (λ (i : ℕ). k.ends i x.way.other 0 ≡ Some (record { home = j; client = s })) (sym node) own.end in
-          let both = some-end _ _ _ other.end mine in (
+          let other = server-at k n l.servers x.way.other v (g.nodes n l is).servers found in
+          let theirs : k.ends n x.way.other 0
+          ≡ Some (record { home = v.way.peer; client = v.way.other; credits = v.credits }) =
+          subst (λ (i : ℕ). k.ends n i 0
+          ≡ Some (record { home = v.way.peer; client = v.way.other; credits = v.credits })) other.1
+          other.0.session.end in
+          let mine : k.ends n x.way.other 0
+          ≡ Some (record { home = j; client = s; credits = x.limit }) =
+          subst (λ (i : ℕ). k.ends i x.way.other 0
+          ≡ Some (record { home = j; client = s; credits = x.limit })) (sym node) end in
+          let both = some-end _ _ _ theirs mine in (
             ap (λ (e : End). e.home) both,
             ap (λ (e : End). e.client) both ∙ sym own.number,
           );
+      stands = λ node none.
+          let here : slice_get w.nodes n ≡ Some at.stands.lists = ap (slice_get w.nodes) node
+          ∙ at.stands.is_node in
+          let same : at.stands.lists ≡ l = cc in
+          let found : find (is_server x.way.other) l.servers ≡ Some at.stands.server =
+          subst (λ (y : Lists). find (is_server x.way.other) y.servers ≡ Some at.stands.server) same
+          at.stands.found in
+          cc;
+      stays = λ node may. at.stays n l is node may;
     }
 
 -- no request of an active call is older than another of its slot that arrives
@@ -167,7 +192,7 @@ unfolding decoded
 says-front k n [] h all reads kind = absurd (cc)
 says-front k n (d ∷ ds) h all reads kind =
     let said : Says h.kind k d.peer n h (body_of d.bytes) =
-    some-says (message_of d.bytes) reads all.0 in (
+    some-says (message_of d.bytes) reads all.0.0 in (
       d.peer,
       body_of d.bytes,
       subst (λ (kind : Kind). Says kind k d.peer n h (body_of d.bytes)) kind said,
@@ -188,10 +213,15 @@ never-older w n l j s z x r is g at newest node o =
     let own = (g.nodes j z at.is_node).clients s x at.is_there in
     let said = says-front k n l.ring o.header (g.travels.rings n l is) o.reads o.kind in
     let says = said.2 in
-    let theirs : k.ends n x.way.other 0 ≡ Some (record { home = said.0; client = says.session }) =
-    subst (λ (i : ℕ). k.ends n i 0 ≡ Some (record { home = said.0; client = says.session })) o.session says.end in
-    let mine : k.ends n x.way.other 0 ≡ Some (record { home = j; client = s }) =
-    subst (λ (i : ℕ). k.ends i x.way.other 0 ≡ Some (record { home = j; client = s })) (sym node) own.end in
+    let end = (is-joined k j s x (joined-connected x.state at.live) own).end in
+    let theirs : k.ends n x.way.other 0
+    ≡ Some (record { home = said.0; client = says.session; credits = says.credits }) =
+    subst (λ (i : ℕ). k.ends n i 0
+    ≡ Some (record { home = said.0; client = says.session; credits = says.credits }))
+    o.session says.end in
+    let mine : k.ends n x.way.other 0 ≡ Some (record { home = j; client = s; credits = x.limit }) =
+    subst (λ (i : ℕ). k.ends i x.way.other 0
+    ≡ Some (record { home = j; client = s; credits = x.limit })) (sym node) end in
     let both = some-end _ _ _ theirs mine in
     let home : said.0 ≡ j = ap (λ (e : End). e.home) both in
     let client : says.session ≡ s = ap (λ (e : End). e.client) both in

@@ -37,8 +37,6 @@ use Rattle.node_laws.proofs.LeadsLemmas.{valid-at, valid_after_all, lawful-until
 use Rattle.node_laws.proofs.RunLaws.{group-lawful, handles-lawful, finishes-some}
 use Rattle.node_laws.proofs.TimerLemmas.{timers-lawful}
 use Rattle.node_laws.proofs.ValidLemmas.{valid_new}
-use Rattle.end_laws.specs.OnlyPairs.{OnlyPairs}
-use Rattle.end_laws.proofs.Walks.{only-front, only-back}
 use Rattle.stall_laws.specs.Settled.{awaits_after, awaits_poll}
 use Rattle.stall_laws.proofs.Keeping.{poll-keeps}
 use Rattle.stall_laws.proofs.Ongoing.{OngoingNode, AllMild, is_mild, ongoing-all}
@@ -134,11 +132,11 @@ record Leaves (b : Bool) (s : Timed) (y : List Fact) (t : Timed) : Type 0 where
   rests : RestsIf b y s.lists t.lists
 
 still-leaves : (b : Bool) (mode : ℕ → Mode) (s : Timed) (y : List Fact) (t : Timed) → Valid s.lists
-    → OngoingNode s.lists → OnlyPairs y → Group mode s y t → AllStill y → Leaves b s y t
-still-leaves b mode s y t v on o g h =
+    → OngoingNode s.lists → Group mode s y t → AllStill y → Leaves b s y t
+still-leaves b mode s y t v on g h =
     let l = group-lawful mode s y t v g in
     record {
-      ongoing = rw (l.leads.lists) (ongoing-all l.clock s.lists y l.leads.all o (still-mild y h) on);
+      ongoing = rw (l.leads.lists) (ongoing-all l.clock s.lists y l.leads.all (still-mild y h) on);
       rests = λ e k. rw (l.leads.lists) (still-rests l.clock s.lists y h (k (sym (still-awaits b y h) ∙ e)));
     }
 
@@ -199,18 +197,19 @@ asked-by b true session y room ask l state = record { mild = refl; rests = λ cl
 asked-by b false session y room ask l state = asked-state b state session y room ask l
 
 asked-leaves : (b : Bool) (mode : ℕ → Mode) (s : Timed) (y : List Fact) (t : Timed) (f : Fact) → Valid s.lists
-    → OngoingNode s.lists → OnlyPairs y → Group mode s y t → y ≡ f ∷ [] → AskedOr b f → Leaves b s y t
-asked-leaves b mode s y t f v on o g is h =
+    → OngoingNode s.lists → Group mode s y t → y ≡ f ∷ [] → AskedOr b f → Leaves b s y t
+asked-leaves b mode s y t f v on g is h =
     let l = group-lawful mode s y t v g in
     let lists : t.lists ≡ after l.clock s.lists f = l.leads.lists ∙ ap (after_all l.clock s.lists) is in
     record {
-      ongoing = rw (l.leads.lists) (ongoing-all l.clock s.lists y l.leads.all o (rw is (h.mild, tt)) on);
+      ongoing = rw (l.leads.lists) (ongoing-all l.clock s.lists y l.leads.all
+          (rw is (h.mild, tt)) on);
       rests = λ e k. rw lists (h.rests l.clock s.lists (sym (ap (awaits_poll b) is) ∙ e) k);
     }
 
 poll-leaves : (b : Bool) (mode : ℕ → Mode) (now : ℕ) (s : Timed) (y : List Fact) (t : Timed) → Valid s.lists
-    → OngoingNode s.lists → OnlyPairs y → Poll mode now s y t → Leaves b s y t
-poll-leaves b mode now s y t v on o h =
+    → OngoingNode s.lists → Poll mode now s y t → Leaves b s y t
+poll-leaves b mode now s y t v on h =
     let s1 = raised now s in
     let one = h.second in
     let two = one.second in
@@ -223,58 +222,58 @@ poll-leaves b mode now s y t v on o h =
     let v4 = valid-at two.between three.front three.between v3 (timers-lawful two.between three.front three.between
     v3 three.first) in
     record {
-      ongoing = poll-keeps mode now s y t o v on h;
+      ongoing = poll-keeps mode now s y t v on h;
       rests = λ e k. ends-resting three.between three.back t v4 three.second;
     }
 
 group-leaves : (b : Bool) (mode : ℕ → Mode) (s : Timed) (y : List Fact) (t : Timed) → Valid s.lists
-    → OngoingNode s.lists → OnlyPairs y → Group mode s y t → Leaves b s y t
-group-leaves b mode s y t v on o (pairs_client peer server credits may h) =
-    still-leaves b mode s y t v on o (pairs_client peer server credits may h) (rw h.facts (refl, tt))
-group-leaves b mode s y t v on o (pairs_server peer client credits may h) =
-    still-leaves b mode s y t v on o (pairs_server peer client credits may h) (rw h.facts (refl, tt))
-group-leaves b mode s y t v on o (refuses credits e (inl r) h) =
-    still-leaves b mode s y t v on o (refuses credits e (inl r) h) (rw h.facts (
+    → OngoingNode s.lists → Group mode s y t → Leaves b s y t
+group-leaves b mode s y t v on (pairs_client peer server credits may h) =
+    still-leaves b mode s y t v on (pairs_client peer server credits may h) (rw h.facts (refl, tt))
+group-leaves b mode s y t v on (pairs_server peer client credits may h) =
+    still-leaves b mode s y t v on (pairs_server peer client credits may h) (rw h.facts (refl, tt))
+group-leaves b mode s y t v on (refuses credits e (inl r) h) =
+    still-leaves b mode s y t v on (refuses credits e (inl r) h) (rw h.facts (
       refusal-still (clients_spent s.lists) (has_no_room credits s.lists) (shares s.lists) credits s.lists.room e r,
       tt,
     ))
-group-leaves b mode s y t v on o (refuses credits e (inr r) h) =
-    still-leaves b mode s y t v on o (refuses credits e (inr r) h) (rw h.facts (
+group-leaves b mode s y t v on (refuses credits e (inr r) h) =
+    still-leaves b mode s y t v on (refuses credits e (inr r) h) (rw h.facts (
       refusal-still (servers_spent s.lists) (has_no_room credits s.lists) (shares s.lists) credits s.lists.room e r,
       tt,
     ))
-group-leaves b mode s y t v on o (connects peer credits rate few h) =
-    still-leaves b mode s y t v on o (connects peer credits rate few h)
+group-leaves b mode s y t v on (connects peer credits rate few h) =
+    still-leaves b mode s y t v on (connects peer credits rate few h)
     (rw h.facts (connect-still _ peer credits rate s.lists refl))
-group-leaves b mode s y t v on o (disconnects session h) =
+group-leaves b mode s y t v on (disconnects session h) =
     let client = find (is_client session) s.lists.clients in
-    still-leaves b mode s y t v on o (disconnects session h)
+    still-leaves b mode s y t v on (disconnects session h)
     (rw h.facts (
       disconnect-still (is_connected (state_of client)) (pending client == 0) session (pending client)
           (state_of client),
       tt,
     ))
-group-leaves b mode s y t v on o (sets_rate session rate h) =
+group-leaves b mode s y t v on (sets_rate session rate h) =
     let state = state_of (find (is_client session) s.lists.clients) in
-    still-leaves b mode s y t v on o (sets_rate session rate h)
+    still-leaves b mode s y t v on (sets_rate session rate h)
     (rw h.facts (rate-still (is_live state) session rate state, tt))
-group-leaves b mode s y t v on o (asks session req_type ask room h) =
-    asked-leaves b mode s y t _ v on o (asks session req_type ask room h) h.facts
+group-leaves b mode s y t v on (asks session req_type ask room h) =
+    asked-leaves b mode s y t _ v on (asks session req_type ask room h) h.facts
     (asked-by b (nat_lt 1048576 (length ask)) session req_type room ask s.lists
     (state_of (find (is_client session) s.lists.clients)))
-group-leaves b mode s y t v on o (delivers peer bytes h) =
+group-leaves b mode s y t v on (delivers peer bytes h) =
     let l = s.lists in
-    still-leaves b mode s y t v on o (delivers peer bytes h)
+    still-leaves b mode s y t v on (delivers peer bytes h)
     (rw h.facts (
       delivery-still (is_message bytes) (nat_lt (length l.ring) l.room) (is_control bytes)
           (nat_lt (length l.inbox) inbox_room) peer,
       tt,
     ))
-group-leaves b mode s y t v on o (polls now h) = poll-leaves b mode now s y t v on o h
-group-leaves b mode s y t v on o (works session request out h) =
-    still-leaves b mode s y t v on o (works session request out h) (rw h.facts (refl, tt))
-group-leaves b mode s y t v on o (misses i h) =
-    still-leaves b mode s y t v on o (misses i h) (rw h.facts (refl, tt))
+group-leaves b mode s y t v on (polls now h) = poll-leaves b mode now s y t v on h
+group-leaves b mode s y t v on (works session request out h) =
+    still-leaves b mode s y t v on (works session request out h) (rw h.facts (refl, tt))
+group-leaves b mode s y t v on (misses i h) =
+    still-leaves b mode s y t v on (misses i h) (rw h.facts (refl, tt))
 
 -- at the end of each group
 pub record AtRest (g : List Fact) (t : Timed) : Type 0 where
@@ -283,12 +282,16 @@ pub record AtRest (g : List Fact) (t : Timed) : Type 0 where
   pub rests : awaits_poll false g ≡ false → RestsNode t.lists
 
 pub run-rests : (mode : ℕ → Mode) (me : ℕ) (limits : Limits) (g : List Fact) (t : Timed)
-    → OnlyPairs g → Chain (Group mode) (new_node me limits) g t → AtRest g t
-run-rests mode me limits g t o none = record { valid = valid_new me limits; ongoing = tt; rests = λ e. tt }
-run-rests mode me limits g t o (more {x = front} {t = between} c y u h) =
-    let before = run-rests mode me limits front between (only-front front y o) c in
-    let back = only-back front y o in
-    let leaves = group-leaves (awaits_poll false front) mode between y u before.valid before.ongoing back h in
+    → Chain (Group mode) (new_node me limits) g t → AtRest g t
+run-rests mode me limits g t none = record {
+  valid = valid_new me limits;
+  ongoing = tt;
+  rests = λ e. tt;
+}
+run-rests mode me limits g t (more {x = front} {t = between} c y u h) =
+    let before = run-rests mode me limits front between c in
+    let leaves = group-leaves (awaits_poll false front)
+    mode between y u before.valid before.ongoing h in
     let l = group-lawful mode between y u before.valid h in
     record {
       valid = rw (l.leads.lists) (valid_after_all l.clock between.lists y before.valid l.leads.all);

@@ -7,7 +7,6 @@ use Rattle.packet_header.specs.Reading.{message_of, body_of}
 use Rattle.packet_header.specs.declared.packet.Kind.{Kind}
 use Rattle.packet_header.specs.declared.packet.Kind.TheVariants.{Request, Rfr, Cr, Response}
 use Rattle.packet_header.specs.declared.packet.MessageHeader.{MessageHeader}
-use Rattle.rpc_base.proofs.BasicLemmas.{false-true}
 use Rattle.rpc_base.specs.declared.event.Event.{Event}
 use Rattle.rpc_base.specs.declared.event.Event.TheVariants.{Begun, Posted, Flushed, Broken}
 use Rattle.rpc_base.specs.declared.event.Event.TheVariants.{DonePeerLost, Ran, Given}
@@ -63,54 +62,66 @@ use Rattle.node_laws.proofs.PostLemmas.{begun-allowed, posted-allowed, posts-law
 use Rattle.node_laws.proofs.RunLaws.{handles-lawful, finishes-lawful, finishes-some, closes-lawful}
 use Rattle.node_laws.proofs.RunLaws.{sends-lawful}
 use Rattle.node_laws.proofs.TimerLemmas.{watches-lawful, retries-lawful, timers-lawful}
-use Rattle.end_laws.specs.OnlyPairs.{OnlyPairs}
-use Rattle.end_laws.proofs.ControlSteps.{retries-of}
 use Rattle.end_laws.proofs.ListLemmas.{all-append}
-use Rattle.end_laws.proofs.Walks.{only-front, only-back}
 use Rattle.end_laws.proofs.ReplySteps.{front-is}
+use Rattle.packet_header.specs.declared.packet.ControlHeader.{ControlHeader}
+use Rattle.rpc_base.specs.declared.state.SessionState.{SessionState}
+use Rattle.rpc_base.specs.declared.state.SessionState.TheVariants.{Closing as IsClosing, Connecting}
+use Rattle.rpc_laws.specs.declared.rows.ControlRow.{ControlRow}
+use Rattle.rpc_laws.specs.declared.rows.ControlRow.TheVariants.{Accepts, Closes as ClosesRow}
+use Rattle.rpc_laws.specs.declared.rows.ControlRow.TheVariants.{Connects, Declines, Ends, Fails}
+use Rattle.rpc_laws.specs.declared.rows.ControlRow.TheVariants.{Starves}
+use Rattle.rpc_laws.specs.declared.rows.RetryRow.{RetryRow}
+use Rattle.rpc_laws.specs.declared.rows.RetryRow.TheVariants.{Asks, GivesUp, Rests}
+use Rattle.rpc_laws.specs.ControlSteps.{control_fact, given_up, own_request, RetriesAs, RetriesBy}
+use Rattle.rpc_laws.specs.ControlSteps.{RetriesOf}
+use Rattle.rpc_laws.specs.ControlSteps.{retry_row, Speaks, SpeaksIf}
+use Rattle.rpc_laws.specs.ControlTable.{control_facts, control_reply, control_row, named_end}
+use Rattle.rpc_laws.specs.ControlTable.{session_end}
+use Rattle.rpc_laws.specs.ControlTable.{session_flushes}
+use Rattle.rpc_laws.specs.Requests.{in_slot_of}
+use Rattle.rpc_laws.specs.ServerTable.{flushes}
 use Rattle.stall_laws.proofs.OrderSteps.{IsFlush, calls-all}
 use Rattle.stall_laws.proofs.Endings.{taken-ongoing, breaks-ongoing}
 use Rattle.stall_laws.proofs.Ongoing.{OngoingNode, AllMild, is_mild, ongoing-all}
 
 abbrev pub Keeps : Rel → Type 0
-Keeps P = (s : Timed) (x : List Fact) (t : Timed) → OnlyPairs x → Valid s.lists → OngoingNode s.lists
+Keeps P = (s : Timed) (x : List Fact) (t : Timed) → Valid s.lists → OngoingNode s.lists
     → P s x t → OngoingNode t.lists
 
 -- a step, and then others
 pub keeps-then : (P Q : Rel) → Lawful P → Keeps P → Keeps Q → Keeps (Then P Q)
-keeps-then P Q law p q s x t o v on h =
-    let both = subst OnlyPairs h.joined o in
-    let front = only-front h.front h.back both in
-    q h.between h.back t (only-back h.front h.back both)
+keeps-then P Q law p q s x t v on h =
+    q h.between h.back t
     (valid-at s h.front h.between v (law s h.front h.between v h.first))
-    (p s h.front h.between front v on h.first) h.second
+    (p s h.front h.between v on h.first) h.second
 
 pub keeps-chain : (P : Rel) → Lawful P → Keeps P → Keeps (Chain P)
-keeps-chain P law p s x t o v on none = on
-keeps-chain P law p s x t o v on (more {x = front} {t = between} c y u h) =
-    let first = only-front front y o in
-    p between y u (only-back front y o) (valid-at s front between v (lawful-chain P law s v c))
-    (keeps-chain P law p s front between first v on c) h
+keeps-chain P law p s x t v on none = on
+keeps-chain P law p s x t v on (more {x = front} {t = between} c y u h) =
+    p between y u (valid-at s front between v (lawful-chain P law s v c))
+    (keeps-chain P law p s front between v on c) h
 
 pub keeps-until : (P : Rel) (Over : Timed → Type 0) → Lawful P → Keeps P → Keeps (Until P Over)
-keeps-until P Over law p s x t o v on h = keeps-chain P law p s x t o v on h.steps
+keeps-until P Over law p s x t v on h = keeps-chain P law p s x t v on h.steps
 
 same-node : (s t : Timed) → t ≡ s → OngoingNode s.lists → OngoingNode t.lists
 same-node s t e on = subst (λ (u : Timed). OngoingNode u.lists) (sym e) on
 
 pub keeps-visits : (P : ℕ → Rel) → ((n : ℕ) → Lawful (P n)) → ((n : ℕ) → Keeps (P n)) → (n : ℕ) → Keeps (Visits P n)
-keeps-visits P law p zero s x t o v on h = same-node s t h.1 on
-keeps-visits P law p (suc n) s x t o v on h =
-    keeps-then (Visits P n) (P n) (lawful-visits P law n) (keeps-visits P law p n) (p n) s x t o v on h
+keeps-visits P law p zero s x t v on h = same-node s t h.1 on
+keeps-visits P law p (suc n) s x t v on h =
+    keeps-then (Visits P n) (P n) (lawful-visits P law n) (keeps-visits P law p n)
+    (p n) s x t v on h
 
 pub keeps-each : (P : ℕ → Rel) → ((n : ℕ) → Lawful (P n)) → ((n : ℕ) → Keeps (P n)) → (ns : List ℕ) → Keeps (Each P ns)
-keeps-each P law p [] s x t o v on h = same-node s t h.1 on
-keeps-each P law p (n ∷ ns) s x t o v on h =
-    keeps-then (P n) (Each P ns) (law n) (p n) (keeps-each P law p ns) s x t o v on h
+keeps-each P law p [] s x t v on h = same-node s t h.1 on
+keeps-each P law p (n ∷ ns) s x t v on h =
+    keeps-then (P n) (Each P ns) (law n) (p n) (keeps-each P law p ns) s x t v on h
 
-pub mild-step : (s : Timed) (x : List Fact) (t : Timed) → LeadsAt s x t → OnlyPairs x → AllMild x
+pub mild-step : (s : Timed) (x : List Fact) (t : Timed) → LeadsAt s x t → AllMild x
     → OngoingNode s.lists → OngoingNode t.lists
-mild-step s x t l o m on = rw (l.lists) (ongoing-all s.clock s.lists x l.all o m on)
+mild-step s x t l m on = rw (l.lists) (ongoing-all s.clock s.lists x l.all m on)
 
 abbrev MildAt : Fact → Type 0
 MildAt f = is_mild f.event ≡ true
@@ -121,8 +132,8 @@ posted-mild me job None = tt
 posted-mild me job (Some k) = (refl, tt)
 
 finishes-keeps : Keeps FinishesOne
-finishes-keeps s x t o v on h =
-    mild-step s x t (finishes-lawful h.session h.request s x t v h.finishes) o
+finishes-keeps s x t v on h =
+    mild-step s x t (finishes-lawful h.session h.request s x t v h.finishes)
     (rw h.finishes.facts (refl, posted-mild s.lists.me h.finishes.job (awaited h.finishes.job s.lists.servers))) on
 
 -- the front of the ring is handled
@@ -165,11 +176,10 @@ reply-keeps : (clock : ℕ) (l : Lists) (h : MessageHeader) (x : Option Client) 
     → Valid l → OngoingNode l → front_header l.ring ≡ Some h
     → find (is_client h.session) l.clients ≡ x
     → AllAllowed clock l (reply_facts l.me x h (front_body l.ring) row)
-    → OnlyPairs (reply_facts l.me x h (front_body l.ring) row)
     → OngoingNode (after_all clock l (reply_facts l.me x h (front_body l.ring) row))
-reply-keeps clock l h x (DropsReply why) v on reads is a o =
-    ongoing-all clock l (reply_facts l.me x h (front_body l.ring) (DropsReply why)) a o (refl, tt) on
-reply-keeps clock l h x TakesReply v on reads is a o =
+reply-keeps clock l h x (DropsReply why) v on reads is a =
+    ongoing-all clock l (reply_facts l.me x h (front_body l.ring) (DropsReply why)) a (refl, tt) on
+reply-keeps clock l h x TakesReply v on reads is a =
     let m = a.0 in
     let same : Some m.client ≡ x = sym m.active.place.client ∙ is in
     subst (λ (y : Option Client). OngoingNode (after_all clock l (reply_facts l.me y h
@@ -179,27 +189,28 @@ reply-keeps clock l h x TakesReply v on reads is a o =
 kind-keeps : (mode : ℕ → Mode) (lacks : Bool) (answer : List ℕ) (clock : ℕ) (l : Lists) (peer : ℕ)
     (h : MessageHeader) (k : Kind) → Valid l → OngoingNode l → front_header l.ring ≡ Some h
     → AllAllowed clock l (handling_by mode lacks answer k l peer h (front_body l.ring))
-    → OnlyPairs (handling_by mode lacks answer k l peer h (front_body l.ring))
     → OngoingNode (after_all clock l (handling_by mode lacks answer k l peer h (front_body l.ring)))
-kind-keeps mode lacks answer clock l peer h Request v on reads a o =
+kind-keeps mode lacks answer clock l peer h Request v on reads a =
     let found = find (is_server h.session) l.servers in
-    ongoing-all clock l (handling_by mode lacks answer Request l peer h (front_body l.ring)) a o
+    ongoing-all clock l (handling_by mode lacks answer Request l peer h (front_body l.ring)) a
     (served-mild (mode h.req_type) l.me answer l.queued found h (front_body l.ring)
     (server_row (mode h.req_type) (are_full l.jobs) lacks found peer h)) on
-kind-keeps mode lacks answer clock l peer h Rfr v on reads a o =
+kind-keeps mode lacks answer clock l peer h Rfr v on reads a =
     let found = find (is_server h.session) l.servers in
-    ongoing-all clock l (handling_by mode lacks answer Rfr l peer h (front_body l.ring)) a o
+    ongoing-all clock l (handling_by mode lacks answer Rfr l peer h (front_body l.ring)) a
     (served-mild (mode h.req_type) l.me answer l.queued found h (front_body l.ring)
     (server_row (mode h.req_type) (are_full l.jobs) lacks found peer h)) on
-kind-keeps mode lacks answer clock l peer h Cr v on reads a o =
+kind-keeps mode lacks answer clock l peer h Cr v on reads a =
     reply-keeps clock l h (find (is_client h.session) l.clients)
-    (client_row l.queued (find (is_client h.session) l.clients) peer h (length (front_body l.ring))) v on reads refl a o
-kind-keeps mode lacks answer clock l peer h Response v on reads a o =
+    (client_row l.queued (find (is_client h.session) l.clients) peer h (length (front_body l.ring)))
+    v on reads refl a
+kind-keeps mode lacks answer clock l peer h Response v on reads a =
     reply-keeps clock l h (find (is_client h.session) l.clients)
-    (client_row l.queued (find (is_client h.session) l.clients) peer h (length (front_body l.ring))) v on reads refl a o
+    (client_row l.queued (find (is_client h.session) l.clients) peer h (length (front_body l.ring)))
+    v on reads refl a
 
 handles-keeps : (mode : ℕ → Mode) → Keeps (Handles mode)
-handles-keeps mode s x t o v on h =
+handles-keeps mode s x t v on h =
     let bytes = front-is s.lists.ring h.front h.is_front in
     let reads : front_header s.lists.ring ≡ Some h.header = ap message_of bytes ∙ h.reads in
     let facts : x ≡ handling_by mode h.lacks h.answer h.header.kind s.lists h.front.peer h.header
@@ -209,17 +220,94 @@ handles-keeps mode s x t o v on h =
     let l = handles-lawful mode s x t v h in
     let all = subst (λ (y : List Fact). AllAllowed s.clock s.lists y) facts l.all in
     rw (l.lists, facts) (kind-keeps mode h.lacks h.answer s.clock s.lists h.front.peer h.header h.header.kind v on
-    reads all
-    (subst OnlyPairs facts o))
+    reads all)
+
+-- session control
+speaks-mild : (me peer : ℕ) (c : ControlHeader) (said : List Fact) → Speaks me peer c said
+    → AllMild said
+speaks-mild me peer c said s = rw (s.facts) (by s.taken)
+  where
+    by : (taken : Bool) → AllMild (control_fact taken me peer s.head ∷ [])
+    by true = (refl, tt)
+    by false = (refl, tt)
+
+says-mild : (me peer : ℕ) (o : Option ControlHeader) (said : List Fact) → SpeaksIf me peer o said
+    → AllMild said
+says-mild me peer None said s = rw s tt
+says-mild me peer (Some c) said s = speaks-mild me peer c said s
+
+ends-mild : (me : ℕ) (queued : List Queued) (v : Server) (slots : List ℕ)
+    → AllMild (flat_map (λ slot. flushes me queued v.way.number (find (in_slot_of slot) v.slots))
+    slots)
+ends-mild me queued v [] = tt
+ends-mild me queued v (slot ∷ slots) =
+    all-append MildAt (flushes me queued v.way.number (find (in_slot_of slot) v.slots)) _
+    (by (find (in_slot_of slot) v.slots)) (ends-mild me queued v slots)
+  where
+    by : (o : Option Served) → AllMild (flushes me queued v.way.number o)
+    by None = tt
+    by (Some q) = flush-mild me (Reply v.way.number q.number)
+        (numbers_of (Reply v.way.number q.number) queued)
+
+end-mild : (me : ℕ) (queued : List Queued) (o : Option Server) → AllMild (session_end me queued o)
+end-mild me queued None = tt
+end-mild me queued (Some v) =
+    all-append MildAt (session_flushes me queued v) _
+    (ends-mild me queued v (0 ∷ 1 ∷ 2 ∷ 3 ∷ 4 ∷ 5 ∷ 6 ∷ 7 ∷ [])) (refl, tt)
+
+row-mild : (l : Lists) (peer : ℕ) (c : ControlHeader) (row : ControlRow)
+    → AllMild (control_facts l peer c row)
+row-mild l peer c Declines = (refl, tt)
+row-mild l peer c Starves = (refl, tt)
+row-mild l peer c (Accepts t) = (refl, tt)
+row-mild l peer c Ends = end-mild l.me l.queued (named_end peer c.client c.server l.servers)
+row-mild l peer c (Connects t) = (refl, tt)
+row-mild l peer c Fails = (refl, tt)
+row-mild l peer c ClosesRow = (refl, tt)
+row-mild l peer c _ = tt
+
+hears-mild : (l : Lists) (peer : ℕ) (c : ControlHeader) (row : ControlRow) (said : List Fact)
+    → SpeaksIf l.me peer (control_reply c row) said → AllMild (control_facts l peer c row ++ said)
+hears-mild l peer c row said s =
+    all-append MildAt (control_facts l peer c row) said (row-mild l peer c row)
+    (says-mild l.me peer (control_reply c row) said s)
+
+gives-mild : (me : ℕ) (state : SessionState) (number : ℕ)
+    → AllMild (map (plain me) (given_up state number))
+gives-mild me Connecting number = (refl, tt)
+gives-mild me IsClosing number = (refl, tt)
+gives-mild me _ number = tt
+
+retry-mild : (row : RetryRow) (me : ℕ) (x : Client) (c : ControlHeader) (facts : List Fact)
+    → RetriesBy row me x c facts → AllMild facts
+retry-mild Rests me x c facts r = rw r tt
+retry-mild Asks me x c facts r = speaks-mild me x.way.peer c facts r
+retry-mild GivesUp me x c facts r = rw r (gives-mild me x.state x.way.number)
+
+retries-as : (clock timeout me : ℕ) (x : Client) (o : Option ControlHeader) (facts : List Fact)
+    → RetriesAs o clock timeout me x facts → AllMild facts
+retries-as clock timeout me x None facts r = rw r tt
+retries-as clock timeout me x (Some c) facts r =
+    retry-mild (retry_row clock timeout x.sends x.sent_at) me x c facts r
+
+retries-mild : (clock timeout me : ℕ) (x : Option Client) (facts : List Fact)
+    → RetriesOf clock timeout me x facts → AllMild facts
+retries-mild clock timeout me None facts r = rw r tt
+retries-mild clock timeout me (Some x) facts r =
+    retries-as clock timeout me x (own_request x) facts r
 
 hears-keeps : Keeps HearsAll
-hears-keeps s x t o v on h = hears-none s x t o on h.steps
+hears-keeps s x t v on h = mild-step s x t (hears-all-lawful s x t v h) (all-heard s x t h.steps) on
   where
-    hears-none : (s : Timed) (x : List Fact) (t : Timed) → OnlyPairs x → OngoingNode s.lists → Chain Hears s x t
-        → OngoingNode t.lists
-    hears-none s x t o on none = on
-    hears-none s x t o on (more {x = front} c y u h) =
-        let heard = subst OnlyPairs h.facts (only-back front y o) in false-true (sym heard.0)
+    all-heard : (s : Timed) (x : List Fact) (t : Timed) → Chain Hears s x t → AllMild x
+    all-heard s x t none = tt
+    all-heard s x t (more {x = front} {t = between} c y u h) =
+        all-append MildAt front y (all-heard s front between c)
+        (rw h.facts (
+          refl,
+          hears-mild between.lists h.front.peer h.header
+              (control_row h.lacks h.front.peer h.header between.lists) h.said h.speaks,
+        ))
 
 -- the timers
 all-mild : (me s : ℕ) (x : List Fact) → AllByRecursion (IsFlush me s) x → AllMild x
@@ -247,21 +335,20 @@ after-append clock l (f ∷ x) y = after-append clock (after clock l f) x y
 row-keeps : (clock : ℕ) (l : Lists) (x : Client) (number : ℕ) (p : Progress) (row : TimerRow) → Valid l
     → OngoingNode l → find (is_client x.way.number) l.clients ≡ Some x
     → AllAllowed clock l (row_facts l.me l.queued x number p row)
-    → OnlyPairs (row_facts l.me l.queued x number p row)
     → OngoingNode (after_all clock l (row_facts l.me l.queued x number p row))
-row-keeps clock l x number p Waits v on found a o = on
-row-keeps clock l x number p RollsBack v on found a o =
-    ongoing-all clock l (row_facts l.me l.queued x number p RollsBack) a o
+row-keeps clock l x number p Waits v on found a = on
+row-keeps clock l x number p RollsBack v on found a =
+    ongoing-all clock l (row_facts l.me l.queued x number p RollsBack) a
     (all-append MildAt (flush_facts l.me l.queued (Ask x.way.number p.request)) _
     (flush-mild l.me (Ask x.way.number p.request) (numbers_of (Ask x.way.number p.request) l.queued)) (refl, tt)) on
-row-keeps clock l x number p Breaks v on found a o =
+row-keeps clock l x number p Breaks v on found a =
     let flushing = flat_map (λ c. flushes_of l.me x.way.number l.queued c.progress) x.calls in
     let losing = plain l.me (Broken x.way.number) ∷ map (λ c. plain l.me (DonePeerLost c.what.number)) x.calls in
     let are = calls-all l.me x.way.number l.queued x.calls in
     let both = split-allowed clock l flushing losing a in
     let l1 = after_all clock l flushing in
     let mild = all-mild l.me x.way.number flushing are in
-    let on1 = ongoing-all clock l flushing both.0 (only-front flushing losing o) mild on in
+    let on1 = ongoing-all clock l flushing both.0 mild on in
     let same = flush-clients clock l.me x.way.number l flushing are in
     rw (after-append clock l flushing losing)
     (breaks-ongoing clock l1 l.me x x.calls (valid_after_all clock l flushing v both.0) on1 both.1
@@ -270,52 +357,50 @@ row-keeps clock l x number p Breaks v on found a o =
 progress-keeps : (clock timeout : ℕ) (l : Lists) (x : Client) (number : ℕ) (p : Option Progress) → Valid l
     → OngoingNode l → find (is_client x.way.number) l.clients ≡ Some x
     → AllAllowed clock l (progress_facts clock timeout l.me l.queued x number p)
-    → OnlyPairs (progress_facts clock timeout l.me l.queued x number p)
     → OngoingNode (after_all clock l (progress_facts clock timeout l.me l.queued x number p))
-progress-keeps clock timeout l x number None v on found a o = on
-progress-keeps clock timeout l x number (Some p) v on found a o =
-    row-keeps clock l x number p (row_of clock timeout x.way.number l.queued p) v on found a o
+progress-keeps clock timeout l x number None v on found a = on
+progress-keeps clock timeout l x number (Some p) v on found a =
+    row-keeps clock l x number p (row_of clock timeout x.way.number l.queued p) v on found a
 
 call-keeps : (clock timeout : ℕ) (l : Lists) (x : Client) (c : Option Call) → Valid l
     → OngoingNode l → find (is_client x.way.number) l.clients ≡ Some x
     → AllAllowed clock l (call_facts clock timeout l.me l.queued x c)
-    → OnlyPairs (call_facts clock timeout l.me l.queued x c)
     → OngoingNode (after_all clock l (call_facts clock timeout l.me l.queued x c))
-call-keeps clock timeout l x None v on found a o = on
-call-keeps clock timeout l x (Some c) v on found a o = progress-keeps clock timeout l x c.what.number c.progress v
-    on found a o
+call-keeps clock timeout l x None v on found a = on
+call-keeps clock timeout l x (Some c) v on found a =
+    progress-keeps clock timeout l x c.what.number c.progress v
+    on found a
 
 client-keeps : (clock timeout number i : ℕ) (l : Lists) (x : Option Client) → Valid l → OngoingNode l
     → slice_get l.clients i ≡ x → AllAllowed clock l (client_facts clock timeout l.me l.queued number x)
-    → OnlyPairs (client_facts clock timeout l.me l.queued number x)
     → OngoingNode (after_all clock l (client_facts clock timeout l.me l.queued number x))
-client-keeps clock timeout number i l None v on is a o = on
-client-keeps clock timeout number i l (Some x) v on is a o =
+client-keeps clock timeout number i l None v on is a = on
+client-keeps clock timeout number i l (Some x) v on is a =
     call-keeps clock timeout l x (find (is_call number) x.calls) v on
-    (numbered-found client_no 0 i l.clients x v.numbered is) a o
+    (numbered-found client_no 0 i l.clients x v.numbered is) a
 
 watches-keeps : (timeout i number : ℕ) → Keeps (Watches timeout i number)
-watches-keeps timeout i number s x t o v on h =
+watches-keeps timeout i number s x t v on h =
     let l = watches-lawful timeout i number s x t v h in
     let all = subst (λ (y : List Fact). AllAllowed s.clock s.lists y) h.facts l.all in
-    rw (l.lists, h.facts) (client-keeps s.clock timeout number i s.lists (slice_get s.lists.clients i) v on refl all
-    (subst OnlyPairs h.facts o))
+    rw (l.lists, h.facts) (client-keeps s.clock timeout number i s.lists
+    (slice_get s.lists.clients i) v on refl all)
 
 retries-keeps : (timeout i : ℕ) → Keeps (Retries timeout i)
-retries-keeps timeout i s x t o v on h =
-    mild-step s x t (retries-lawful timeout i s x t v h) o
-    (rw (retries-of s.clock timeout s.lists.me (slice_get s.lists.clients i) x o h.facts) tt) on
+retries-keeps timeout i s x t v on h =
+    mild-step s x t (retries-lawful timeout i s x t v h)
+    (retries-mild s.clock timeout s.lists.me (slice_get s.lists.clients i) x h.facts) on
 
 times-keeps : Keeps TimesAll
-times-keeps s x t o v on h =
+times-keeps s x t v on h =
     keeps-visits (TimesSession s.lists.timeout)
     (λ i. lawful-then (Retries s.lists.timeout i) (WatchesSession s.lists.timeout i)
     (retries-lawful s.lists.timeout i) (session-lawful s.lists.timeout i))
     (λ i. keeps-then (Retries s.lists.timeout i) (WatchesSession s.lists.timeout i)
     (retries-lawful s.lists.timeout i) (retries-keeps s.lists.timeout i)
-    (λ s2 x t o v on h. keeps-each (Watches s.lists.timeout i) (watches-lawful s.lists.timeout i)
-    (watches-keeps s.lists.timeout i) (numbers_in (slice_get s2.lists.clients i)) s2 x t o v on h))
-    (length s.lists.clients) s x t o v on h
+    (λ s2 x t v on h. keeps-each (Watches s.lists.timeout i) (watches-lawful s.lists.timeout i)
+    (watches-keeps s.lists.timeout i) (numbers_in (slice_get s2.lists.clients i)) s2 x t v on h))
+    (length s.lists.clients) s x t v on h
   where
     session-lawful : (timeout i : ℕ) → Lawful (WatchesSession timeout i)
     session-lawful timeout i s x t v h =
@@ -408,32 +493,32 @@ serves-lawful i =
     (lawful-until (NotesNext (next_posted i)) _ (posted-one i))
 
 begun-keeps : (i : ℕ) → Keeps (NotesNext (next_begun i))
-begun-keeps i s x t o v on h =
+begun-keeps i s x t v on h =
     let b = begins-at i s.lists h.event h.is_next in
-    mild-step s x t (begun-one i s x t v h) o (rw h.facts (ap is_mild b.event, tt)) on
+    mild-step s x t (begun-one i s x t v h) (rw h.facts (ap is_mild b.event, tt)) on
 
 posted-keeps : (i : ℕ) → Keeps (NotesNext (next_posted i))
-posted-keeps i s x t o v on h =
+posted-keeps i s x t v on h =
     let b = posts-at i s.lists h.event h.is_next in
-    mild-step s x t (posted-one i s x t v h) o (rw h.facts (ap is_mild b.event, tt)) on
+    mild-step s x t (posted-one i s x t v h) (rw h.facts (ap is_mild b.event, tt)) on
 
 posts-keeps : Keeps PostsAll
-posts-keeps s x t o v on h =
+posts-keeps s x t v on h =
     keeps-visits Serves serves-lawful (λ i. keeps-then (NotesAll (next_begun i)) (NotesAll (next_posted i))
     (lawful-until (NotesNext (next_begun i)) _ (begun-one i))
     (keeps-until (NotesNext (next_begun i)) _ (begun-one i) (begun-keeps i))
     (keeps-until (NotesNext (next_posted i)) _ (posted-one i) (posted-keeps i)))
-    (length s.lists.clients) s x t o v on h
+    (length s.lists.clients) s x t v on h
 
 sends-keeps : Keeps Sends
-sends-keeps s x t o v on h = mild-step s x t (sends-lawful s x t v h) o (rw h.facts (refl, tt)) on
+sends-keeps s x t v on h = mild-step s x t (sends-lawful s x t v h) (rw h.facts (refl, tt)) on
 
 closes-keeps : Keeps Closes
-closes-keeps s x t o v on h = mild-step s x t (closes-lawful s x t v h) o (rw h.facts (refl, tt)) on
+closes-keeps s x t v on h = mild-step s x t (closes-lawful s x t v h) (rw h.facts (refl, tt)) on
 
 -- a whole poll does
 pub poll-keeps : (mode : ℕ → Mode) (now : ℕ) → Keeps (Poll mode now)
-poll-keeps mode now s x t o v on h =
+poll-keeps mode now s x t v on h =
     keeps-then FinishesSome (Then HearsAll (Then (HandlesAll mode) (Then TimesAll (Then PostsAll
     (Then SendsSome Closes)))))
     finishes-some (keeps-chain FinishesOne (λ s x t v h. finishes-lawful h.session h.request s x t v h.finishes)
@@ -447,4 +532,4 @@ poll-keeps mode now s x t o v on h =
     (keeps-then PostsAll (Then SendsSome Closes) posts-lawful posts-keeps
     (keeps-then SendsSome Closes (λ s x t v h. lawful-chain Sends sends-lawful s v h)
     (keeps-chain Sends sends-lawful sends-keeps) closes-keeps)))))
-    (raised now s) x t o v on h
+    (raised now s) x t v on h

@@ -6,6 +6,7 @@ pub mod Fates
 pub mod Held
 pub mod IdleLaw
 pub mod Keeping
+pub mod Living
 pub mod Moves
 pub mod Newest
 pub mod OnePlace

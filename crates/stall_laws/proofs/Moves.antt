@@ -43,8 +43,7 @@ use Rattle.sim_script.specs.FollowsScript.{WorksNode, WorksFirst, WorksAndPolls,
 use Rattle.sim_script.specs.FollowsScript.{Does}
 use Rattle.sim_script.specs.FollowsScript.{Settles, is_polled, FollowsFrom, Follows, empty_stage}
 use Rattle.node_laws.proofs.Allowed.{AllAllowed as AllLawful, allowed-of}
-use Rattle.end_laws.specs.Moments.{Moment, first_moment, moved}
-use Rattle.end_laws.specs.OnlyPairs.{OnlyPairs}
+use Rattle.end_laws.specs.Moments.{Moment, first_moment, hand_noted, moved}
 use Rattle.end_laws.specs.TwoNodes.{PairsTwoNodes}
 use Rattle.end_laws.proofs.Allowed.{WalksFrom}
 use Rattle.end_laws.proofs.CommandLeads.{poll-step, carry-net, times-lead, polls-lead, carry-leads}
@@ -54,7 +53,6 @@ use Rattle.end_laws.proofs.Courses.{noted_at, moved-node}
 use Rattle.end_laws.proofs.Leads.{Fits, Leading}
 use Rattle.end_laws.proofs.ListLemmas.{set-here}
 use Rattle.end_laws.proofs.PairLeads.{does-lead, empty-fits}
-use Rattle.end_laws.proofs.Walks.{only-front, only-back}
 use Rattle.stall_laws.specs.Settled.{moment_from}
 use Rattle.stall_laws.proofs.Dues.{Due, nothing, delivery, Step, alone, arrives, overflows, is_bad}
 use Rattle.stall_laws.proofs.Dues.{is_alone, StepsFrom}
@@ -132,8 +130,17 @@ node-moves w n l (f ∷ x) d e is me h v s =
     let who : f.who ≡ Node n = s.1 ∙ ap Node me in
     let here : MovesAt w.hand (slice_get w.nodes n) f.event f.first d u =
     subst (λ (o : Option Lists). MovesAt w.hand o f.event f.first d u) (sym is) s.2 in
+    let walks : WalksFrom (hand_noted n f.event l.inbox w.hand) (Some f) w.clock
+    (after w.clock l f) x =
+    subst (λ (m : ℕ). WalksFrom (hand_noted m f.event l.inbox w.hand) (Some f) w.clock
+    (after w.clock l f) x)
+    me h.2 in
+    let next : StepsFrom (hand_noted n f.event l.inbox w.hand) u w.clock (after w.clock l f) x e =
+    subst (λ (m : ℕ). StepsFrom (hand_noted m f.event l.inbox w.hand) u w.clock
+    (after w.clock l f) x e)
+    me s.3 in
     let rest = node-moves (noted_at w n l f) n (after w.clock l f) x u e
-    (set-here w.nodes n l (after w.clock l f) is) me h.2 v.1 s.3 in (
+    (set-here w.nodes n l (after w.clock l f) is) me walks v.1 next in (
       u,
       subst (λ (p : Who). MovesBy w p f.event f.first d u) (sym who) here,
       subst (λ (v : Moment). MovesFrom u v x e) (sym at) rest,
@@ -141,18 +148,18 @@ node-moves w n l (f ∷ x) d e is me h v s =
 
 -- each step does what is due
 abbrev Moving : (Stage → List Fact → Stage → Type 0) → Type 0
-Moving P = (s : Stage) (w : Moment) (x : List Fact) (t : Stage) → Fits s w → OnlyPairs x → P s x t
+Moving P = (s : Stage) (w : Moment) (x : List Fact) (t : Stage) → Fits s w → P s x t
     → MovesFrom nothing w x nothing
 
 polls-move : (n : ℕ) → Moving (PollsNode n)
-polls-move n s w x t f o h =
+polls-move n s w x t f h =
     let fit = f.nodes n h.before h.is_node in
     let late = fit.late in
     let m : max h.before.clock s.clock ≡ s.clock = omega arith in
-    let k = poll-step s w n h.before h.now x h.is_node fit.right fit.valid o h.step m in
+    let k = poll-step s w n h.before h.now x h.is_node fit.right fit.valid h.step m in
     let start : Timed = record { lists = h.before.lists; clock = max h.before.clock s.clock } in
     let steps : StepsFrom w.hand nothing (max h.before.clock s.clock) h.before.lists x nothing =
-    poll-orders w.hand s.worked start x h.now o fit.right h.step in
+    poll-orders s.worked w.hand start x h.now fit.right h.step in
     let at : StepsFrom w.hand nothing w.clock h.before.lists x nothing =
     subst (λ (c : ℕ). StepsFrom w.hand nothing c h.before.lists x nothing) (m ∙ sym f.clock) steps in
     let walks : WalksFrom w.hand (latest w.past) w.clock h.before.lists x = rw (f.clock) k.walks in
@@ -171,7 +178,7 @@ delivered-by hand l copy false b true false e h = overflows copy.from
 delivered-by hand l copy false b false d e h = is_bad copy.from copy h e
 
 carries-move : (i : ℕ) → Moving (Carries i)
-carries-move i s w x t f o h =
+carries-move i s w x t f h =
     let u = moved w (of_net (Carried i)) in
     let g = carry-net s w i f in
     let a = h.arrives in
@@ -264,18 +271,16 @@ pairs-alone None None a b credits client server s x t r q p = rw (p.facts, p.for
 )
 
 works-move : (n : ℕ) → Moving (WorksNode n)
-works-move n s w x t f o h =
+works-move n s w x t f h =
     moves-alone w x (rw (h.step.facts) (works-alone h.before.lists.me (waiting_of s.worked h.before.lists)))
 
 -- one group, and then others
 joins-move : (P Q : Stage → List Fact → Stage → Type 0) → Leading P → Moving P → Moving Q → Moving (Joins P Q)
-joins-move P Q lead p q s w x t f o h =
-    let both = subst OnlyPairs h.joined o in
-    let front = only-front h.group h.rest both in
-    let l = lead s w h.group h.between f front h.does in
-    let rest = q h.between l.end h.rest t l.fits (only-back h.group h.rest both) h.follows in
+joins-move P Q lead p q s w x t f h =
+    let l = lead s w h.group h.between f h.does in
+    let rest = q h.between l.end h.rest t l.fits h.follows in
     rw h.joined (moves-append nothing w h.group h.rest nothing nothing
-    (p s w h.group h.between f front h.does)
+    (p s w h.group h.between f h.does)
     (subst (λ (v : Moment). MovesFrom nothing v h.rest nothing)
     (course-end w h.group l.end l.course) rest))
 
@@ -283,102 +288,104 @@ none-move : (w : Moment) (x : List Fact) → x ≡ [] → MovesFrom nothing w x 
 none-move w x e = rw e refl
 
 times-move : (P : Stage → List Fact → Stage → Type 0) → Leading P → Moving P → (n : ℕ) → Moving (Times P n)
-times-move P lead p zero s w x t f o h = none-move w x h.0
-times-move P lead p (suc n) s w x t f o h =
-    joins-move (Times P n) P (times-lead P lead n) (times-move P lead p n) p s w x t f o h
+times-move P lead p zero s w x t f h = none-move w x h.0
+times-move P lead p (suc n) s w x t f h =
+    joins-move (Times P n) P (times-lead P lead n) (times-move P lead p n) p s w x t f h
 
 first-polls-move : (n : ℕ) → Moving (PollsFirst n)
-first-polls-move zero s w x t f o h = none-move w x h.0
-first-polls-move (suc n) s w x t f o h =
-    joins-move (PollsFirst n) (PollsNode n) (polls-lead n) (first-polls-move n) (polls-move n) s w x t f o h
+first-polls-move zero s w x t f h = none-move w x h.0
+first-polls-move (suc n) s w x t f h =
+    joins-move (PollsFirst n) (PollsNode n) (polls-lead n) (first-polls-move n)
+    (polls-move n) s w x t f h
 
 first-works-move : (n : ℕ) → Moving (WorksFirst n)
-first-works-move zero s w x t f o h = none-move w x h.0
-first-works-move (suc n) s w x t f o h =
-    joins-move (WorksFirst n) (WorksNode n) (first-works-lead n) (first-works-move n) (works-move n) s w x t f o h
+first-works-move zero s w x t f h = none-move w x h.0
+first-works-move (suc n) s w x t f h =
+    joins-move (WorksFirst n) (WorksNode n) (first-works-lead n) (first-works-move n)
+    (works-move n) s w x t f h
 
 round-move : Moving Round
-round-move s w x t f o h =
+round-move s w x t f h =
     joins-move (Times (Carries 0) (length s.flight)) (λ u. WorksAndPolls (length u.nodes) u)
     (times-lead (Carries 0) (carry-leads 0) (length s.flight))
     (times-move (Carries 0) (carry-leads 0) (carries-move 0) (length s.flight))
     (λ u. joins-move (WorksFirst (length u.nodes)) (PollsFirst (length u.nodes))
     (first-works-lead (length u.nodes)) (first-works-move (length u.nodes))
-    (first-polls-move (length u.nodes)) u) s w x t f o h
+    (first-polls-move (length u.nodes)) u) s w x t f h
 
 unless-move : (b : Bool) (P : Stage → List Fact → Stage → Type 0) → Moving P → Moving (Unless b P)
-unless-move true P p s w x t f o h = none-move w x h.0
-unless-move false P p s w x t f o h = p s w x t f o h
+unless-move true P p s w x t f h = none-move w x h.0
+unless-move false P p s w x t f h = p s w x t f h
 
 settles-move : (k : ℕ) → Moving (Settles k)
-settles-move zero s w x t f o h = none-move w x h.0
-settles-move (suc k) s w x t f o h =
-    let both = subst OnlyPairs h.joined o in
-    let front = only-front h.round h.rest both in
-    let l = round-leads s w h.round h.between f front h.makes in
+settles-move zero s w x t f h = none-move w x h.0
+settles-move (suc k) s w x t f h =
+    let l = round-leads s w h.round h.between f h.makes in
     let rest = unless-move (list_all (λ f. is_polled f.event) h.round) (Settles k)
-    (settles-move k) h.between l.end h.rest t l.fits (only-back h.round h.rest both) h.goes_on in
+    (settles-move k) h.between l.end h.rest t l.fits h.goes_on in
     rw h.joined (moves-append nothing w h.round h.rest nothing nothing
-    (round-move s w h.round h.between f front h.makes)
+    (round-move s w h.round h.between f h.makes)
     (subst (λ (v : Moment). MovesFrom nothing v h.rest nothing)
     (course-end w h.round l.end l.course) rest))
 
 arrives-by : (i : ℕ) (b : Bool) (s : Stage) (w : Moment) (x : List Fact) (t : Stage) → Fits s w
-    → OnlyPairs x → MatchBool b (Carries i s x t) (OfNet (Missed i) s x t)
+    → MatchBool b (Carries i s x t) (OfNet (Missed i) s x t)
     → MovesFrom nothing w x nothing
-arrives-by i true s w x t f o h = carries-move i s w x t f o h
-arrives-by i false s w x t f o h = rw (h.facts) (moves-alone w (of_net (Missed i) ∷ []) (refl, tt))
+arrives-by i true s w x t f h = carries-move i s w x t f h
+arrives-by i false s w x t f h = rw (h.facts) (moves-alone w (of_net (Missed i) ∷ []) (refl, tt))
 
 does-move : (c : Command) → Moving (Does c)
-does-move (MakesNode ring) s w x t f o h = moves-alone w x (rw (h.facts) (refl, tt))
-does-move (Pair a b credits) s w x t f o h = moves-alone w x (pairs-alone _ _ a b credits h.client h.server s x t
+does-move (MakesNode ring) s w x t f h = moves-alone w x (rw (h.facts) (refl, tt))
+does-move (Pair a b credits) s w x t f h =
+    moves-alone w x (pairs-alone _ _ a b credits h.client h.server s x t
     refl refl h.pairs)
-does-move (Connect a b credits) s w x t f o h = moves-alone w x (rw (h.step.facts)
+does-move (Connect a b credits) s w x t f h = moves-alone w x (rw (h.step.facts)
     (connect-alone _ b credits h.before.lists refl))
-does-move (Disconnect n session) s w x t f o h =
+does-move (Disconnect n session) s w x t f h =
     let client = find (is_client session) h.before.lists.clients in
     moves-alone w x (rw (h.step.facts) (
       disconnect-alone (is_connected (state_of client))
           (pending client == 0) session (pending client) (state_of client),
       tt,
     ))
-does-move (Rate n session rate) s w x t f o h =
+does-move (Rate n session rate) s w x t f h =
     let state = state_of (find (is_client session) h.before.lists.clients) in
     moves-alone w x (rw (h.step.facts) (rate-alone (is_live state) session rate state, tt))
-does-move (Call n session y ask room) s w x t f o h =
+does-move (Call n session y ask room) s w x t f h =
     let l = h.before.lists in
     moves-alone w x (rw (h.step.facts) (
       ask-alone (nat_lt 1048576 (length (ask_bytes ask))) session y room
           (ask_bytes ask) l (state_of (find (is_client session) l.clients)),
       tt,
     ))
-does-move (Poll n) s w x t f o h = polls-move n s w x t f o h
-does-move (Arrive i) s w x t f o h = arrives-by i (nat_lt i (length s.flight)) s w x t f o h
-does-move (Lose i) s w x t f o h = moves-alone w x (rw (h.facts) (
+does-move (Poll n) s w x t f h = polls-move n s w x t f h
+does-move (Arrive i) s w x t f h = arrives-by i (nat_lt i (length s.flight)) s w x t f h
+does-move (Lose i) s w x t f h = moves-alone w x (rw (h.facts) (
   missed-alone (nat_lt i (length s.flight))
       (Lost i) i refl,
   tt,
 ))
-does-move (Repeat i) s w x t f o h = moves-alone w x (rw (h.facts) (
+does-move (Repeat i) s w x t f h = moves-alone w x (rw (h.facts) (
   missed-alone (nat_lt i (length s.flight))
       (Repeated i) i refl,
   tt,
 ))
-does-move (Tick by) s w x t f o h = moves-alone w x (rw (h.facts) (refl, tt))
-does-move (Work n i) s w x t f o h = moves-alone w x (rw (h.step.facts) (
+does-move (Tick by) s w x t f h = moves-alone w x (rw (h.facts) (refl, tt))
+does-move (Work n i) s w x t f h = moves-alone w x (rw (h.step.facts) (
   work-alone i (slice_get
       (waiting_of s.worked h.before.lists) i),
   tt,
 ))
-does-move (Settle rounds) s w x t f o h = settles-move rounds s w x t f o h
+does-move (Settle rounds) s w x t f h = settles-move rounds s w x t f h
 
 lines-move : (lines : List Line) → PairsTwoNodes lines → Moving (FollowsFrom lines)
-lines-move [] p s w x t f o h = none-move w x h.0
-lines-move (line ∷ lines) p s w x t f o h =
+lines-move [] p s w x t f h = none-move w x h.0
+lines-move (line ∷ lines) p s w x t f h =
     joins-move (Does line.command) (FollowsFrom lines) (does-lead line.command p.0)
-    (does-move line.command) (lines-move lines p.1) s w x t f o h
+    (does-move line.command) (lines-move lines p.1) s w x t f h
 
 -- so it is of every history that follows a script
-pub follows-moves : (lines : List Line) (h : List Fact) → PairsTwoNodes lines → OnlyPairs h
+pub follows-moves : (lines : List Line) (h : List Fact) → PairsTwoNodes lines
     → Follows lines h → MovesFrom nothing first_moment h nothing
-follows-moves lines h p o d = lines-move lines p empty_stage first_moment h d.0 empty-fits o d.1.commands
+follows-moves lines h p d =
+    lines-move lines p empty_stage first_moment h d.0 empty-fits d.1.commands

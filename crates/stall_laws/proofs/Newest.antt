@@ -1,4 +1,10 @@
 -- The request of an active call is the newest of its slot.
+use Rattle.std.proofs.Common.{cond}
+use Rattle.packet_header.specs.declared.packet.ControlHeader.{ControlHeader}
+use Rattle.rpc_base.specs.declared.state.SessionState.TheVariants.{Closed, Failed}
+use Rattle.rpc_base.specs.declared.state.SessionState.TheVariants.{Closing as IsClosing}
+use Rattle.rpc_laws.specs.Front.{control_of}
+use Rattle.rpc_laws.specs.Sessions.{clients_told, comes_to, connects, is_request_of, requests}
 use Rattle.std.proofs.Common.{◌≡◌, ◌<◌, ◌≤◌, ◌+◌, ◌%◌, ◌||◌, ℕ, Bool, true, false, List, [], ◌∷◌}
 use Rattle.std.proofs.Common.{length, Option, Some, None, refl, arith}
 use Rattle.std.specs.Prelude.{option_map, slice_index}
@@ -114,6 +120,20 @@ begins-newest l c r v m eight h =
     rw (← same) (all-first (NewestCall turns) (NewestCall turns) (is_call c) (begun r) m.client.calls
     (λ d p. p) (λ d is p. new) kept)) h
 
+-- a control packet is sent
+requests-newest : (clock : ℕ) (b : Bool) (x : Client) → NewestClient x
+    → NewestClient (cond b (record x { sends = x.sends + 1; sent_at = clock }) x)
+requests-newest clock true x n = n
+requests-newest clock false x n = n
+
+told-newest : (clock : ℕ) (o : Option ControlHeader) (xs : List Client)
+    → AllByRecursion NewestClient xs
+    → AllByRecursion NewestClient (clients_told clock o xs)
+told-newest clock None xs h = h
+told-newest clock (Some c) xs h =
+    one-newest (is_client c.client) (requests clock c) xs
+    (λ x n. requests-newest clock (is_request_of c.kind c.server x.state x.way.other) x n) h
+
 pub newest-after : (clock : ℕ) (hand : Option InFlight) (l : Lists) (e : Event) (first second : List ℕ)
     → Valid l → Lawful l e → May hand l e first second
     → ((x : Client) (s : ℕ) → find (is_client s) l.clients ≡ Some x → length x.turns ≡ 8)
@@ -121,13 +141,20 @@ pub newest-after : (clock : ℕ) (hand : Option InFlight) (l : Lists) (e : Event
     → AllByRecursion NewestClient
     (clients_after clock e first (front_header l.ring) (front_body l.ring) l.clients)
 newest-after clock hand l (PairedClient a p t c) first second v a0 m eight h = absurd m
-newest-after clock hand l (Opened a p c) first second v a0 m eight h = absurd m
-newest-after clock hand l (Connected a t) first second v a0 m eight h = absurd m
-newest-after clock hand l (FailedNoRoom a) first second v a0 m eight h = absurd m
-newest-after clock hand l (FailedNoAnswer a) first second v a0 m eight h = absurd m
-newest-after clock hand l (Closing a) first second v a0 m eight h = absurd m
-newest-after clock hand l (ClosedHeard a) first second v a0 m eight h = absurd m
-newest-after clock hand l (ClosedUnheard a) first second v a0 m eight h = absurd m
+newest-after clock hand l (Opened a p c) first second v a0 m eight h =
+    all-add NewestClient l.clients _ h tt
+newest-after clock hand l (Connected a t) first second v a0 m eight h =
+    one-newest (is_client a) (connects t) l.clients (λ x n. n) h
+newest-after clock hand l (FailedNoRoom a) first second v a0 m eight h =
+    one-newest (is_client a) (comes_to Failed) l.clients (λ x n. n) h
+newest-after clock hand l (FailedNoAnswer a) first second v a0 m eight h =
+    one-newest (is_client a) (comes_to Failed) l.clients (λ x n. n) h
+newest-after clock hand l (Closing a) first second v a0 m eight h =
+    one-newest (is_client a) (comes_to IsClosing) l.clients (λ x n. n) h
+newest-after clock hand l (ClosedHeard a) first second v a0 m eight h =
+    one-newest (is_client a) (comes_to Closed) l.clients (λ x n. n) h
+newest-after clock hand l (ClosedUnheard a) first second v a0 m eight h =
+    one-newest (is_client a) (comes_to Closed) l.clients (λ x n. n) h
 newest-after clock hand l (Asked c a y room) first second v a0 m eight h =
     one-newest (is_client a) _ l.clients (λ x k. all-add (NewestCall x.turns) x.calls _ k tt) h
 newest-after clock hand l (Begun c r) first second v a0 m eight h = begins-newest l c r v a0 eight h
@@ -140,7 +167,8 @@ newest-after clock hand l (Sent peer (Ask a r) k) first second v a0 m eight h =
     one-newest (is_client a) (sends clock r k) l.clients
     (λ x n. calls-newest (sent_packet clock k) (is_active r) x (sent-request clock k) n) h
 newest-after clock hand l (Sent peer (Reply t r) k) first second v a0 m eight h = h
-newest-after clock hand l (Sent peer Control k) first second v a0 m eight h = let own = m.own in absurd (cc)
+newest-after clock hand l (Sent peer Control k) first second v a0 m eight h =
+    told-newest clock (control_of first) l.clients h
 newest-after clock hand l (Took (Ask a r) k) first second v a0 m eight h =
     one-newest (is_client a) (takes clock r (front_header l.ring) (front_body l.ring)) l.clients
     (λ x n. calls-newest (took_reply clock (front_header l.ring) (front_body l.ring)) (is_active r) x

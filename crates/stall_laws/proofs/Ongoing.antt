@@ -2,6 +2,13 @@
 -- answered or not posted yet. So it is where no group of facts is under way.
 use Rattle.std.proofs.Common.{◌≡◌, ◌<◌, ℕ, Bool, true, false, List, [], ◌∷◌}
 use Rattle.std.proofs.Common.{Option, Some, None, refl, sym, ap, ◌∙◌}
+use Rattle.std.proofs.Common.{cond, ◌+◌}
+use Rattle.packet_header.specs.declared.packet.ControlHeader.{ControlHeader}
+use Rattle.rpc_base.specs.declared.state.SessionState.TheVariants.{Closed, Failed}
+use Rattle.rpc_base.specs.declared.state.SessionState.TheVariants.{Closing as IsClosing}
+use Rattle.rpc_laws.specs.Front.{control_of}
+use Rattle.rpc_laws.specs.Sessions.{clients_told, comes_to, connects, is_request_of, opened_end}
+use Rattle.rpc_laws.specs.Sessions.{requests}
 use Rattle.std.specs.Prelude.{option_map}
 use Rattle.std.specs.List.{AllByRecursion}
 use Rattle.packet_header.proofs.PartsLemmas.{packet_count_above}
@@ -31,7 +38,6 @@ use Rattle.rpc_laws.specs.Sessions.{is_client, has_call, is_connected, clients_a
 use Rattle.rpc_laws.specs.Sessions.{posts, sends, rolls, ends, client_end}
 use Rattle.node_laws.proofs.Allowed.{Allowed as Lawful, AllAllowed, allowed-of}
 use Rattle.node_laws.proofs.SoundLemmas.{sent-got, sent-answer}
-use Rattle.end_laws.specs.OnlyPairs.{is_of_control, OnlyPairs}
 
 abbrev pub OngoingBy : Asking → Option Progress → Type 0
 OngoingBy a None = Unit {0}
@@ -81,62 +87,91 @@ ends-ongoing c x h = record {
   calls = all-left (is_call c) OngoingCall x.calls h.calls;
 }
 
+-- a control packet is sent
+requests-ongoing : (clock : ℕ) (b : Bool) (x : Client) → Ongoing x
+    → Ongoing (cond b (record x { sends = x.sends + 1; sent_at = clock }) x)
+requests-ongoing clock true x k = record { alive = k.alive; calls = k.calls }
+requests-ongoing clock false x k = k
+
+told-ongoing : (clock : ℕ) (o : Option ControlHeader) (xs : List Client) → AllByRecursion Ongoing xs
+    → AllByRecursion Ongoing (clients_told clock o xs)
+told-ongoing clock None xs h = h
+told-ongoing clock (Some c) xs h =
+    all-kept (is_client c.client) (requests clock c) Ongoing xs
+    (λ x k t. requests-ongoing clock (is_request_of c.kind c.server x.state x.way.other) x k) h
+
 pub ongoing-after : (clock : ℕ) (l : Lists) (e : Event) (first : List ℕ) → Lawful l e
-    → is_of_control e ≡ false → is_mild e ≡ true → OngoingNode l
+    → is_mild e ≡ true → OngoingNode l
     → AllByRecursion Ongoing (clients_after clock e first (front_header l.ring) (front_body l.ring) l.clients)
-ongoing-after clock l (PairedClient s p t c) first a o m h =
+ongoing-after clock l (PairedClient s p t c) first a m h =
     all-push Ongoing l.clients (client_end s p t c) h (record { alive = λ off. refl; calls = tt })
-ongoing-after clock l (Opened s p c) first a o m h = false-true (sym o)
-ongoing-after clock l (Connected s t) first a o m h = false-true (sym o)
-ongoing-after clock l (FailedNoRoom s) first a o m h = false-true (sym o)
-ongoing-after clock l (FailedNoAnswer s) first a o m h = false-true (sym o)
-ongoing-after clock l (Closing s) first a o m h = false-true (sym o)
-ongoing-after clock l (ClosedHeard s) first a o m h = false-true (sym o)
-ongoing-after clock l (ClosedUnheard s) first a o m h = false-true (sym o)
-ongoing-after clock l (Asked c s y room) first a o m h =
+ongoing-after clock l (Opened s p c) first a m h =
+    all-push Ongoing l.clients (opened_end s p c) h (record { alive = λ off. refl; calls = tt })
+ongoing-after clock l (Connected s t) first a m h =
+    all-kept (is_client s) (connects t) Ongoing l.clients
+    (λ x k t. record { alive = λ off. false-true (sym off); calls = k.calls }) h
+ongoing-after clock l (FailedNoRoom s) first a m h =
+    all-changed (is_client s) (comes_to Failed) Ongoing l.clients a.client a.found
+    (λ k. record { alive = λ off. k.alive (ap is_connected a.stands); calls = k.calls }) h
+ongoing-after clock l (FailedNoAnswer s) first a m h =
+    all-changed (is_client s) (comes_to Failed) Ongoing l.clients a.client a.found
+    (λ k. record { alive = λ off. k.alive (ap is_connected a.stands); calls = k.calls }) h
+ongoing-after clock l (Closing s) first a m h =
+    all-changed (is_client s) (comes_to IsClosing) Ongoing l.clients a.client a.found
+    (λ k. record { alive = λ off. a.idle; calls = k.calls }) h
+ongoing-after clock l (ClosedHeard s) first a m h =
+    all-changed (is_client s) (comes_to Closed) Ongoing l.clients a.client a.found
+    (λ k. record { alive = λ off. k.alive (ap is_connected a.stands); calls = k.calls }) h
+ongoing-after clock l (ClosedUnheard s) first a m h =
+    all-changed (is_client s) (comes_to Closed) Ongoing l.clients a.client a.found
+    (λ k. record { alive = λ off. k.alive (ap is_connected a.stands); calls = k.calls }) h
+ongoing-after clock l (Asked c s y room) first a m h =
     all-changed (is_client s) (asks (record { number = c; req_type = y; room = room; ask = first })) Ongoing
     l.clients a.client a.found (λ k. record {
       alive = λ off. let on = a.connected in false-true (sym off ∙ on);
       calls = all-push OngoingCall a.client.calls _ k.calls tt;
     }) h
-ongoing-after clock l (Begun c r) first a o m h =
+ongoing-after clock l (Begun c r) first a m h =
     all-kept (has_call c) (begins c r) Ongoing l.clients (λ x k t. record {
       alive = λ off. ap (λ cs. at_first (is_call c) (begun r) cs) (k.alive off);
       calls = all-kept (is_call c) (begun r) OngoingCall x.calls
           (λ b j t. packet_count_above _) k.calls;
     }) h
-ongoing-after clock l (Posted (Ask s r) k) first a o m h =
+ongoing-after clock l (Posted (Ask s r) k) first a m h =
     all-kept (is_client s) (posts r k) Ongoing l.clients
     (λ x j t. one-ongoing (posted_up_to k) (is_active r) x (posts r k x) (λ p. (refl, refl)) refl refl j) h
-ongoing-after clock l (Posted (Reply t r) k) first a o m h = h
-ongoing-after clock l (Posted Control k) first a o m h = h
-ongoing-after clock l (Sent peer (Ask s r) k) first a o m h =
+ongoing-after clock l (Posted (Reply t r) k) first a m h = h
+ongoing-after clock l (Posted Control k) first a m h = h
+ongoing-after clock l (Sent peer (Ask s r) k) first a m h =
     all-kept (is_client s) (sends clock r k) Ongoing l.clients
     (λ x j t. one-ongoing (sent_packet clock k) (is_active r) x (sends clock r k x)
     (λ p. (sent-got clock k p, sent-answer clock k p)) refl refl j) h
-ongoing-after clock l (Sent peer (Reply t r) k) first a o m h = h
-ongoing-after clock l (Sent peer Control k) first a o m h = false-true (sym o)
-ongoing-after clock l (Took (Ask s r) k) first a o m h = false-true m
-ongoing-after clock l (Took (Reply t r) k) first a o m h = h
-ongoing-after clock l (Took Control k) first a o m h = h
-ongoing-after clock l (Rolled c posted got) first a o m h =
+ongoing-after clock l (Sent peer (Reply t r) k) first a m h = h
+ongoing-after clock l (Sent peer Control k) first a m h =
+    told-ongoing clock (control_of first) l.clients h
+ongoing-after clock l (Took (Ask s r) k) first a m h = false-true m
+ongoing-after clock l (Took (Reply t r) k) first a m h = h
+ongoing-after clock l (Took Control k) first a m h = h
+ongoing-after clock l (Rolled c posted got) first a m h =
     all-kept (has_call c) (rolls c posted got) Ongoing l.clients
     (λ x j t. one-ongoing (rolled_back got) (is_call c) x (rolls c posted got x) (λ p. (refl, refl)) refl refl j) h
-ongoing-after clock l (Broken s) first a o m h = false-true m
-ongoing-after clock l (DoneOk c) first a o m h = all-kept (has_call c) (ends c) Ongoing l.clients
+ongoing-after clock l (Broken s) first a m h = false-true m
+ongoing-after clock l (DoneOk c) first a m h = all-kept (has_call c) (ends c) Ongoing l.clients
     (λ x j t. ends-ongoing c x j) h
-ongoing-after clock l (DoneTooSmall c size) first a o m h = all-kept (has_call c) (ends c) Ongoing l.clients
+ongoing-after clock l (DoneTooSmall c size) first a m h =
+    all-kept (has_call c) (ends c) Ongoing l.clients
     (λ x j t. ends-ongoing c x j) h
-ongoing-after clock l (DonePeerLost c) first a o m h = all-kept (has_call c) (ends c) Ongoing l.clients
+ongoing-after clock l (DonePeerLost c) first a m h =
+    all-kept (has_call c) (ends c) Ongoing l.clients
     (λ x j t. ends-ongoing c x j) h
-ongoing-after clock l _ first a o m h = h
+ongoing-after clock l _ first a m h = h
 
 abbrev pub AllMild : List Fact → Type 0
 AllMild x = AllByRecursion (λ f. is_mild f.event ≡ true) x
 
-pub ongoing-all : (clock : ℕ) (l : Lists) (x : List Fact) → AllAllowed clock l x → OnlyPairs x
-    → AllMild x → OngoingNode l → OngoingNode (after_all clock l x)
-ongoing-all clock l [] a o m h = h
-ongoing-all clock l (f ∷ x) a o m h =
-    ongoing-all clock (after clock l f) x a.1 o.1 m.1
-    (ongoing-after clock l f.event f.first (allowed-of l f.event f.first a.0) o.0 m.0 h)
+pub ongoing-all : (clock : ℕ) (l : Lists) (x : List Fact) → AllAllowed clock l x → AllMild x
+    → OngoingNode l → OngoingNode (after_all clock l x)
+ongoing-all clock l [] a m h = h
+ongoing-all clock l (f ∷ x) a m h =
+    ongoing-all clock (after clock l f) x a.1 m.1
+    (ongoing-after clock l f.event f.first (allowed-of l f.event f.first a.0) m.0 h)

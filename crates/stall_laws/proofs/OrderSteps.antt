@@ -1,7 +1,8 @@
 -- The steps of a node leave nothing to be done.
 use Rattle.std.proofs.Common.{◌≡◌, ◌+◌, ◌-◌, ◌==◌, ◌%◌, ℕ, zero, suc, Bool, true, false, not, cond}
 use Rattle.std.proofs.Common.{List, [], ◌∷◌, ◌++◌, length, map, Option, Some, None, slice_get, refl}
-use Rattle.std.proofs.Common.{sym, ap, ◌∙◌, subst, eq-eqb}
+use Rattle.std.proofs.Common.{sym, ap, ◌∙◌, subst, eq-eqb, inl, inr}
+use Rattle.std.proofs.Common.{append_assoc}
 use Rattle.std.specs.Prelude.{option_and_then, option_map, flat_map}
 use Rattle.std.specs.List.{find, AllByRecursion}
 use Rattle.std.proofs.lemmas.Bool.{eqb-true}
@@ -66,7 +67,6 @@ use Rattle.rpc_laws.specs.Sessions.{is_client, is_connected}
 use Rattle.rpc_laws.specs.Steps.{Rel, Then, Chain, none, more, Until, Visits, NotesNext, NotesAll}
 use Rattle.rpc_laws.specs.Working.{FinishesEach, FinishesWorked}
 use Rattle.rpc_outside.specs.PlainAnswer.{plain_mode}
-use Rattle.end_laws.specs.OnlyPairs.{OnlyPairs}
 use Rattle.end_laws.proofs.Allowed.{Fronts, IsWhole}
 use Rattle.end_laws.proofs.AskSteps.{bring_facts, took-walk, OpenSlot, Taking, took-slot}
 use Rattle.end_laws.proofs.AskSteps.{slots-found, last-number, taken-last, taken-size}
@@ -77,9 +77,30 @@ use Rattle.end_laws.proofs.Rights.{job-number}
 use Rattle.end_laws.proofs.RowSteps.{IsAsk, row-begins, row-takes}
 use Rattle.end_laws.proofs.SendsLaw.{right-stays}
 use Rattle.end_laws.proofs.SlotLemmas.{with_slots, Apart}
-use Rattle.end_laws.proofs.Walks.{Fine, only-front, only-back, fine-chain, fine-until, fine-visits}
+use Rattle.end_laws.proofs.Walks.{Fine, fine-chain, fine-until, fine-visits}
 use Rattle.end_laws.proofs.CallSteps.{watches-fine}
-use Rattle.end_laws.proofs.ControlSteps.{hears-fine, hears-all, retries-of, retries-fine}
+use Rattle.end_laws.proofs.HearsSteps.{front-hand, heard-facts, heard-row, hears-all, hears-fine}
+use Rattle.end_laws.proofs.HearsSteps.{InHand}
+use Rattle.end_laws.proofs.HearsSteps.{may-leave, MayEnd, row-may, RowMay}
+use Rattle.end_laws.specs.Moments.{front_of, hand_noted}
+use Rattle.packet_header.specs.declared.packet.ControlHeader.{ControlHeader}
+use Rattle.rpc_base.specs.declared.event.Event.TheVariants.{Accepted, ClosedHeard, Declined, Ended}
+use Rattle.rpc_base.specs.declared.event.Event.TheVariants.{FailedNoRoom, Heard}
+use Rattle.rpc_base.specs.declared.event.Event.TheVariants.{Connected as IsConnected, Starved}
+use Rattle.rpc_base.specs.declared.state.SessionState.{SessionState}
+use Rattle.rpc_base.specs.declared.state.SessionState.TheVariants.{Closing as IsClosing, Connecting}
+use Rattle.rpc_laws.specs.declared.rows.ControlRow.{ControlRow}
+use Rattle.rpc_laws.specs.declared.rows.ControlRow.TheVariants.{Accepts, Closes as ClosesRow}
+use Rattle.rpc_laws.specs.declared.rows.ControlRow.TheVariants.{Connects, Declines}
+use Rattle.rpc_laws.specs.declared.rows.ControlRow.TheVariants.{Ends as EndsRow, Fails, Starves}
+use Rattle.rpc_laws.specs.declared.rows.RetryRow.{RetryRow}
+use Rattle.rpc_laws.specs.declared.rows.RetryRow.TheVariants.{Asks, GivesUp, Rests}
+use Rattle.rpc_laws.specs.ControlSteps.{control_fact, given_up, own_request, RetriesAs, RetriesBy}
+use Rattle.rpc_laws.specs.ControlSteps.{RetriesOf}
+use Rattle.rpc_laws.specs.ControlSteps.{retry_row, Speaks, SpeaksIf}
+use Rattle.rpc_laws.specs.ControlTable.{control_facts, control_reply, control_row, session_end}
+use Rattle.rpc_laws.specs.ControlTable.{session_flushes}
+use Rattle.end_laws.proofs.ControlSteps.{retries-fine}
 use Rattle.end_laws.proofs.ControlSteps.{times-session, times-all}
 use Rattle.end_laws.proofs.PollSteps.{begun-fine, posted-fine, serves-fine, sends-fine, posts-all}
 use Rattle.end_laws.proofs.PollSteps.{sends-all}
@@ -88,115 +109,141 @@ use Rattle.end_laws.proofs.WorkSteps.{number-is, finishes-fine, finishes-worked 
 use Rattle.ring_laws.proofs.ServerReach.{NoneOut}
 use Rattle.stall_laws.proofs.Dues.{Due, nothing, reply, flushed, Step, older, takes, repeats}
 use Rattle.stall_laws.proofs.Dues.{posts, gives, serves, finishes, flushes as flushes_step, rolls}
-use Rattle.stall_laws.proofs.Dues.{breaks}
+use Rattle.stall_laws.proofs.Dues.{alone, breaks, is_done, leaves}
 use Rattle.stall_laws.proofs.Dues.{StepsFrom, steps-alone, one-alone, IsAlone, is_alone, Orders}
 use Rattle.stall_laws.proofs.Dues.{Orderly}
 use Rattle.stall_laws.proofs.Dues.{orders-append, IsOlder, IsCallFor, Goes as MayGoOn}
 
 -- a step, and then others
-module _ (hand : Option InFlight) where
-  pub orderly-then : (P Q : Rel) → Fine RightNode hand P → Orderly hand P → Orderly hand Q → Orderly hand (Then P Q)
-  orderly-then P Q fine p q s x t o i h =
-      let both = subst OnlyPairs h.joined o in
-      let front = only-front h.front h.back both in
-      let w = fine s h.front h.between front i h.first in
-      subst (λ (y : List Fact). Orders hand s y) (sym h.joined)
-      (orders-append hand s h.between h.front h.back w (p s h.front h.between front i h.first)
-      (q h.between h.back t (only-back h.front h.back both) w.inv h.second))
+pub orderly-then : (P Q : Rel) → Fine RightNode P → Orderly P → Orderly Q → Orderly (Then P Q)
+orderly-then P Q fine p q hand s x t i h =
+    let w = fine hand s h.front h.between i h.first in
+    subst (λ (y : List Fact). Orders hand s y) (sym h.joined)
+    (orders-append hand s h.between h.front h.back w (p hand s h.front h.between i h.first)
+    (λ other. q other h.between h.back t w.inv h.second))
 
-  pub orderly-chain : (P : Rel) → Fine RightNode hand P → Orderly hand P → Orderly hand (Chain P)
-  orderly-chain P fine p s x t o i none = refl
-  orderly-chain P fine p s x t o i (more {x = front} {t = between} c y u h) =
-      let first = only-front front y o in
-      let w = fine-chain RightNode hand P fine s front between first i c in
-      orders-append hand s between front y w (orderly-chain P fine p s front between first i c)
-      (p between y u (only-back front y o) w.inv h)
+pub orderly-chain : (P : Rel) → Fine RightNode P → Orderly P → Orderly (Chain P)
+orderly-chain P fine p hand s x t i none = refl
+orderly-chain P fine p hand s x t i (more {x = front} {t = between} c y u h) =
+    let w = fine-chain RightNode P fine hand s front between i c in
+    orders-append hand s between front y w (orderly-chain P fine p hand s front between i c)
+    (λ other. p other between y u w.inv h)
 
-  pub orderly-until : (P : Rel) (Over : Timed → Type 0) → Fine RightNode hand P → Orderly hand P
-      → Orderly hand (Until P Over)
-  orderly-until P Over fine p s x t o i h = orderly-chain P fine p s x t o i h.steps
+pub orderly-until : (P : Rel) (Over : Timed → Type 0) → Fine RightNode P → Orderly P
+    → Orderly (Until P Over)
+orderly-until P Over fine p hand s x t i h = orderly-chain P fine p hand s x t i h.steps
 
-  pub orderly-visits : (P : ℕ → Rel) → ((n : ℕ) → Fine RightNode hand (P n))
-      → ((n : ℕ) → Orderly hand (P n)) → (n : ℕ) → Orderly hand (Visits P n)
-  orderly-visits P fine p zero s x t o i h = rw h.0 refl
-  orderly-visits P fine p (suc n) s x t o i h =
-      orderly-then (Visits P n) (P n) (fine-visits RightNode hand P fine n)
-      (orderly-visits P fine p n) (p n) s x t o i h
+pub orderly-visits : (P : ℕ → Rel) → ((n : ℕ) → Fine RightNode (P n))
+    → ((n : ℕ) → Orderly (P n)) → (n : ℕ) → Orderly (Visits P n)
+orderly-visits P fine p zero hand s x t i h = rw h.0 refl
+orderly-visits P fine p (suc n) hand s x t i h =
+    orderly-then (Visits P n) (P n) (fine-visits RightNode P fine n)
+    (orderly-visits P fine p n) (p n) hand s x t i h
 
-  pub orderly-each : (P : ℕ → Rel) → ((n : ℕ) → Fine RightNode hand (P n))
-      → ((n : ℕ) → Orderly hand (P n)) → (ns : List ℕ) → Orderly hand (Each P ns)
-  orderly-each P fine p [] s x t o i h = rw h.0 refl
-  orderly-each P fine p (n ∷ ns) s x t o i h =
-      orderly-then (P n) (Each P ns) (fine n) (p n) (orderly-each P fine p ns) s x t o i h
+pub orderly-each : (P : ℕ → Rel) → ((n : ℕ) → Fine RightNode (P n))
+    → ((n : ℕ) → Orderly (P n)) → (ns : List ℕ) → Orderly (Each P ns)
+orderly-each P fine p [] hand s x t i h = rw h.0 refl
+orderly-each P fine p (n ∷ ns) hand s x t i h =
+    orderly-then (P n) (Each P ns) (fine n) (p n) (orderly-each P fine p ns) hand s x t i h
 
 -- a job is finished: its answer is awaited, and posted
 awaits-some : (q : Served) → q.working ≡ true → awaited_of (Some q) ≡ None → ⊥
 awaits-some q working e = let there : Some (packet_count q.size - 1) ≡ None = rw working at e in cc
 
-posts-answer : (o : Option ℕ) (hand : Option InFlight) (clock : ℕ) (l u : Lists) (job : Job)
+posts-held : (o : Option ℕ) (hand : Option InFlight) (clock : ℕ) (l u : Lists) (job : Job)
     → awaited job l.servers ≡ o → JobFits l.servers job → u.me ≡ l.me
     → StepsFrom hand (reply l.me job.session job.request (packet_count (length job.ask) - 1)) clock u
     (answer_posted l.me job o) nothing
-posts-answer None hand clock l u job e h me =
+posts-held None hand clock l u job e h me =
     let own : awaited_of (Some h.request) ≡ None = rw (h.stands.found, h.stands.is_there) at e in
     absurd (awaits-some h.request h.working own)
-posts-answer (Some k) hand clock l u job e h me =
+posts-held (Some k) hand clock l u job e h me =
     let own : awaited_of (Some h.request) ≡ Some k = rw (h.stands.found, h.stands.is_there) at e in
     let last : packet_count (length job.ask) - 1 ≡ k = number-is h.request (length job.ask) k h.working h.sized own in
     (nothing, ap Node (sym me), rw (last, ← me) (posts job.session job.request k), refl)
 
-module _ (hand : Option InFlight) where
-  pub finishes-orders : (session request : ℕ) → Orderly hand (Finishes session request)
-  finishes-orders session request s x t o i h =
-      let l = s.lists in
-      let job = h.job in
-      let fits = out-job l session request job i.jobs h.is_out in
-      let of = job-number session request l.jobs.out job h.is_out in
-      let is_out : find (is_job job.session job.request) l.jobs.out ≡ Some job =
-      subst (λ (b : ℕ). find (is_job job.session b) l.jobs.out ≡ Some job) (sym of.1)
-      (subst (λ (a : ℕ). find (is_job a request) l.jobs.out ≡ Some job) (sym of.0) h.is_out) in
-      let f : Fact = with_two l.me (Ran job.session job.request job.req_type) job.ask h.answer in
-      rw h.facts (
+-- the answer of a session that is over goes nowhere
+unposted : (o : Option ℕ) (hand : Option InFlight) (clock : ℕ) (l u : Lists) (job : Job) → o ≡ None
+    → StepsFrom hand nothing clock u (answer_posted l.me job o) nothing
+unposted None hand clock l u job e = refl
+unposted (Some k) hand clock l u job e = cc
+
+pub finishes-orders : (session request : ℕ) → Orderly (Finishes session request)
+finishes-orders session request hand s x t i h =
+    let l = s.lists in
+    let job = h.job in
+    let of = job-number session request l.jobs.out job h.is_out in
+    let is_out : find (is_job job.session job.request) l.jobs.out ≡ Some job =
+    subst (λ (b : ℕ). find (is_job job.session b) l.jobs.out ≡ Some job) (sym of.1)
+    (subst (λ (a : ℕ). find (is_job a request) l.jobs.out ≡ Some job) (sym of.0) h.is_out) in
+    let f : Fact = with_two l.me (Ran job.session job.request job.req_type) job.ask h.answer in
+    rw h.facts (elim (out-job l session request job i.jobs h.is_out) [
+      | inl is_over ↦ (
+        nothing,
+        refl,
+        is_done job.session job.request job.req_type
+            (record { job = job; is_out = is_out; own = refl })
+            is_over.gone,
+        unposted (awaited job l.servers) hand s.clock l (after s.clock l f) job
+            (rw (is_over.gone) refl),
+      )
+      | inr fits ↦ (
         reply l.me job.session job.request (packet_count (length job.ask) - 1),
         refl,
         finishes job.session job.request job.req_type (record { job = job; is_out = is_out; own = refl }),
-        posts-answer (awaited job l.servers) hand s.clock l (after s.clock l f) job refl fits refl,
+        posts-held (awaited job l.servers) hand s.clock l (after s.clock l f) job refl fits refl,
       )
+    ])
 
-  finishes-each : (worked : List WorkedJob) → Orderly hand (FinishesEach worked)
-  finishes-each [] s x t o i h = rw h.0 refl
-  finishes-each (w ∷ ws) s x t o i h =
-      orderly-then hand (Finishes w.session w.request) (FinishesEach ws)
-      (finishes-fine hand w.session w.request) (finishes-orders w.session w.request)
-      (finishes-each ws) s x t o i h
+finishes-each : (worked : List WorkedJob) → Orderly (FinishesEach worked)
+finishes-each [] hand s x t i h = rw h.0 refl
+finishes-each (w ∷ ws) hand s x t i h =
+    orderly-then (Finishes w.session w.request) (FinishesEach ws)
+    (finishes-fine w.session w.request) (finishes-orders w.session w.request)
+    (finishes-each ws) hand s x t i h
 
-  pub finishes-worked : (worked : List WorkedJob) → Orderly hand (FinishesWorked worked)
-  finishes-worked worked s x t o i h = finishes-each h.done s x t o i h.finishes
+pub finishes-worked : (worked : List WorkedJob) → Orderly (FinishesWorked worked)
+finishes-worked worked hand s x t i h = finishes-each h.done hand s x t i h.finishes
 
 -- a request whose last packet was just taken has no job
 none-out : (l : Lists) (h : MessageHeader) (v : Server) (ask : List ℕ) (o : Option Job)
-    → find (is_job h.session h.request) l.jobs.out ≡ o → JobsRight l.servers l.jobs
+    → find (is_job h.session h.request) l.jobs.out ≡ o → JobsRight l.servers l.server_numbers l.jobs
     → find (is_server h.session) l.servers ≡ Some v → (n : OpenSlot v.slots h ask)
     → h.kind ≡ Request → NoneOut l h.session h.request
 none-out l h v ask None is jobs found n kind = is
 none-out l h v ask (Some job) is jobs found n kind =
-    let fits = out-job l h.session h.request job jobs is in
-    let of = job-number h.session h.request l.jobs.out job is in
-    let server : find (is_server h.session) l.servers ≡ Some fits.stands.server =
-    subst (λ (t : ℕ). find (is_server t) l.servers ≡ Some fits.stands.server) of.0 fits.stands.found in
-    let request : find (is_request h.request) fits.stands.server.slots ≡ Some fits.request =
-    subst (λ (r : ℕ). find (is_request r) fits.stands.server.slots ≡ Some fits.request) of.1 fits.stands.is_there in
-    let same : fits.stands.server ≡ v = cc in
-    let there : find (is_request h.request) v.slots ≡ Some fits.request =
-    subst (λ (z : Server). find (is_request h.request) z.slots ≡ Some fits.request) same request in
-    let slot = n.slot.is_there in
-    let one : n.slot.request ≡ fits.request = cc in
-    let working = fits.working in
-    let idle : fits.request.working ≡ false = ap (λ (q : Served). q.working) (sym one) ∙ (n.is_open kind).1 in
-    false-true (sym idle ∙ working)
+    elim (out-job l h.session h.request job jobs is) [
+      | inl is_over ↦
+          let none : find (is_server h.session) l.servers ≡ None =
+          subst (λ (t : ℕ). find (is_server t) l.servers ≡ None) of.0 is_over.gone in
+          cc
+      | inr fits ↦ fitting fits
+    ]
+  where
+    of : (job.session ≡ h.session) × (job.request ≡ h.request)
+    of = job-number h.session h.request l.jobs.out job is
+
+    fitting : JobFits l.servers job → NoneOut l h.session h.request
+    fitting fits =
+        let server : find (is_server h.session) l.servers ≡ Some fits.stands.server =
+        subst (λ (t : ℕ). find (is_server t) l.servers ≡ Some fits.stands.server)
+        of.0 fits.stands.found in
+        let request : find (is_request h.request) fits.stands.server.slots ≡ Some fits.request =
+        subst (λ (r : ℕ). find (is_request r) fits.stands.server.slots ≡ Some fits.request) of.1
+        fits.stands.is_there in
+        let same : fits.stands.server ≡ v = cc in
+        let there : find (is_request h.request) v.slots ≡ Some fits.request =
+        subst (λ (z : Server). find (is_request h.request) z.slots ≡ Some fits.request)
+        same request in
+        let slot = n.slot.is_there in
+        let one : n.slot.request ≡ fits.request = cc in
+        let working = fits.working in
+        let idle : fits.request.working ≡ false = ap (λ (q : Served). q.working) (sym one)
+        ∙ (n.is_open kind).1 in
+        false-true (sym idle ∙ working)
 
 bring-steps : (hand : Option InFlight) (clock : ℕ) (l : Lists) (h : MessageHeader) (v : Server)
-    (ask answer : List ℕ) (last background : Bool) → JobsRight l.servers l.jobs
+    (ask answer : List ℕ) (last background : Bool) → JobsRight l.servers l.server_numbers l.jobs
     → find (is_server h.session) l.servers ≡ Some v → OpenSlot v.slots h ask
     → (last ≡ true → (h.kind ≡ Request) × (h.number + 1 ≡ packet_count h.size)
     × (length ask ≡ h.size))
@@ -424,21 +471,138 @@ kind-steps hand clock l front h lacks answer Cr e f i =
 kind-steps hand clock l front h lacks answer Response e f i =
     steps-alone hand clock l _ (reply-alone l.me (find (is_client h.session) l.clients) h (front_body l.ring) _)
 
-module _ (hand : Option InFlight) where
-  handles-orders : Orderly hand (Handles plain_mode)
-  handles-orders s x t o i h =
-      let bytes = front-is s.lists.ring h.front h.is_front in
-      let reads : front_header s.lists.ring ≡ Some h.header = ap message_of bytes ∙ h.reads in
-      let steps = kind-steps hand s.clock s.lists h.front h.header h.lacks h.answer h.header.kind refl
-      (record { is_front = h.is_front; reads = reads }) i in
-      let same : handling_by plain_mode h.lacks h.answer h.header.kind s.lists h.front.peer h.header
-      (front_body s.lists.ring) ≡ x =
-      ap (λ (b : List ℕ). handling_by plain_mode h.lacks h.answer h.header.kind s.lists
-      h.front.peer h.header (body_of b)) bytes ∙ sym h.facts in
-      subst (λ (y : List Fact). Orders hand s y) same steps
+handles-orders : Orderly (Handles plain_mode)
+handles-orders hand s x t i h =
+    let bytes = front-is s.lists.ring h.front h.is_front in
+    let reads : front_header s.lists.ring ≡ Some h.header = ap message_of bytes ∙ h.reads in
+    let steps = kind-steps hand s.clock s.lists h.front h.header h.lacks h.answer h.header.kind refl
+    (record { is_front = h.is_front; reads = reads }) i in
+    let same : handling_by plain_mode h.lacks h.answer h.header.kind s.lists h.front.peer h.header
+    (front_body s.lists.ring) ≡ x =
+    ap (λ (b : List ℕ). handling_by plain_mode h.lacks h.answer h.header.kind s.lists
+    h.front.peer h.header (body_of b)) bytes ∙ sym h.facts in
+    subst (λ (y : List Fact). Orders hand s y) same steps
 
-  hears-orders : Orderly hand Hears
-  hears-orders s x t o i h = let heard = subst OnlyPairs h.facts o in false-true (sym heard.0)
+-- session control: what is sent is alone
+speaks-alone : (me peer : ℕ) (c : ControlHeader) (said : List Fact) → Speaks me peer c said
+    → AllByRecursion (IsAlone me) said
+speaks-alone me peer c said s = rw (s.facts) (by s.taken)
+  where
+    by : (taken : Bool) → AllByRecursion (IsAlone me) (control_fact taken me peer s.head ∷ [])
+    by true = ((refl, refl), tt)
+    by false = ((refl, refl), tt)
+
+says-alone : (me peer : ℕ) (o : Option ControlHeader) (said : List Fact) → SpeaksIf me peer o said
+    → AllByRecursion (IsAlone me) said
+says-alone me peer None said s = rw s tt
+says-alone me peer (Some c) said s = speaks-alone me peer c said s
+
+-- the replies of a server session that ends are flushed
+record IsLeft (me t : ℕ) (f : Fact) : Type 0 where
+  request : ℕ
+  number : ℕ
+  is : f ≡ plain me (Flushed (Reply t request) number)
+
+numbers-left : (me t r : ℕ) (ks : List ℕ)
+    → AllByRecursion (IsLeft me t) (map (λ k. plain me (Flushed (Reply t r) k)) ks)
+numbers-left me t r [] = tt
+numbers-left me t r (k ∷ ks) = (
+  record { request = r; number = k; is = refl },
+  numbers-left me t r ks,
+)
+
+slot-left : (me : ℕ) (queued : List Queued) (t : ℕ) (o : Option Served)
+    → AllByRecursion (IsLeft me t) (flushes me queued t o)
+slot-left me queued t None = tt
+slot-left me queued t (Some q) = numbers-left me t q.number (numbers_of (Reply t q.number) queued)
+
+slots-left : (me : ℕ) (queued : List Queued) (v : Server) (slots : List ℕ)
+    → AllByRecursion (IsLeft me v.way.number)
+    (flat_map (λ slot. flushes me queued v.way.number (find (in_slot_of slot) v.slots)) slots)
+slots-left me queued v [] = tt
+slots-left me queued v (slot ∷ slots) =
+    all-append (IsLeft me v.way.number)
+    (flushes me queued v.way.number (find (in_slot_of slot) v.slots)) _
+    (slot-left me queued v.way.number (find (in_slot_of slot) v.slots))
+    (slots-left me queued v slots)
+
+left-steps : (hand : Option InFlight) (clock : ℕ) (l m : Lists) (peer : ℕ) (h : ControlHeader)
+    (x y : List Fact) → RightNode l → InHand hand l.me peer h → (e : MayEnd l peer h) → m.me ≡ l.me
+    → m.servers ≡ l.servers → AllByRecursion (IsLeft l.me e.server.way.number) x
+    → AllByRecursion (IsAlone l.me) y → StepsFrom hand nothing clock m (x ++ y) nothing
+left-steps hand clock l m peer h [] y i k e me servers left al =
+    steps-alone hand clock m y (subst (λ (n : ℕ). AllByRecursion (IsAlone n) y) (sym me) al)
+left-steps hand clock l m peer h (f ∷ x) y i k e me servers left al =
+    let one = left.0 in
+    let g : Fact = plain l.me (Flushed (Reply e.server.way.number one.request) one.number) in
+    let rest = left-steps hand clock l (after clock m g) peer h x y i k e me servers left.1 al in
+    let steps : StepsFrom hand nothing clock m (g ∷ (x ++ y)) nothing = (
+      nothing,
+      ap Node (sym me),
+      leaves e.server.way.number one.request one.number
+          (may-leave hand l m peer h i k e me servers),
+      rest,
+    ) in
+    subst (λ (z : Fact). StepsFrom hand nothing clock m (z ∷ (x ++ y)) nothing) (sym one.is) steps
+
+then-said : (hand : Option InFlight) (clock : ℕ) (l : Lists) (f : Fact) (said : List Fact)
+    → f.who ≡ Node l.me → is_alone f.event ≡ true → AllByRecursion (IsAlone l.me) said
+    → StepsFrom hand nothing clock l (f ∷ said) nothing
+then-said hand clock l f said who is s = steps-alone hand clock l (f ∷ said) ((who, is), s)
+
+hear-alone : (row : ControlRow) (hand : Option InFlight) (clock : ℕ) (l : Lists) (peer : ℕ)
+    (h : ControlHeader) (said : List Fact) → RightNode l → InHand hand l.me peer h
+    → RowMay row hand l peer h → AllByRecursion (IsAlone l.me) said
+    → StepsFrom hand nothing clock l (control_facts l peer h row ++ said) nothing
+hear-alone Declines hand clock l peer h said i k m s =
+    then-said hand clock l (plain l.me (Declined peer h.client h.credits)) said refl refl s
+hear-alone Starves hand clock l peer h said i k m s =
+    then-said hand clock l (plain l.me (Starved peer h.client h.credits)) said refl refl s
+hear-alone (Accepts t) hand clock l peer h said i k m s =
+    then-said hand clock l (plain l.me (Accepted t peer h.client h.credits)) said refl refl s
+hear-alone EndsRow hand clock l peer h said i k m s =
+    let v = m.server in
+    let facts : session_end l.me l.queued (Some v) ++ said
+    ≡ session_flushes l.me l.queued v ++ (plain l.me (Ended v.way.number) ∷ said) =
+    append_assoc (session_flushes l.me l.queued v) (plain l.me (Ended v.way.number) ∷ []) said in
+    let whole : control_facts l peer h EndsRow ++ said
+    ≡ session_flushes l.me l.queued v ++ (plain l.me (Ended v.way.number) ∷ said) =
+    ap (λ (o : Option Server). session_end l.me l.queued o ++ said) m.named ∙ facts in
+    rw whole (left-steps hand clock l l peer h (session_flushes l.me l.queued v)
+    (plain l.me (Ended v.way.number) ∷ said) i k m refl refl
+    (slots-left l.me l.queued v (0 ∷ 1 ∷ 2 ∷ 3 ∷ 4 ∷ 5 ∷ 6 ∷ 7 ∷ [])) ((refl, refl), s))
+hear-alone (Connects t) hand clock l peer h said i k m s =
+    then-said hand clock l (plain l.me (IsConnected h.client t)) said refl refl s
+hear-alone Fails hand clock l peer h said i k m s =
+    then-said hand clock l (plain l.me (FailedNoRoom h.client)) said refl refl s
+hear-alone ClosesRow hand clock l peer h said i k m s =
+    then-said hand clock l (plain l.me (ClosedHeard h.client)) said refl refl s
+hear-alone _ hand clock l peer h said i k m s = steps-alone hand clock l said s
+
+hears-orders : Orderly Hears
+hears-orders hand s x t i h =
+    let l = s.lists in
+    let f : Fact = plain l.me Heard in
+    let l1 = after s.clock l f in
+    let held = front_of l.me l.inbox in
+    let i1 : RightNode l1 = right-stays hand s.clock l f (record { who = refl; may = tt }) i in
+    let k : InHand held l1.me h.front.peer h.header = record {
+      bytes = h.front.bytes;
+      in_hand = front-hand l.me l.inbox h.front h.is_front;
+      reads = h.reads;
+    } in
+    let row = control_row h.lacks h.front.peer h.header l in
+    let may : RowMay row held l1 h.front.peer h.header =
+    subst (λ (r : ControlRow). RowMay r held l1 h.front.peer h.header)
+    (heard-row h.header.kind s.clock h.lacks h.front.peer h.header l)
+    (row-may h.header.kind h.lacks held l1 h.front.peer h.header refl i1 k) in
+    let steps : StepsFrom held nothing s.clock l1
+    (control_facts l h.front.peer h.header row ++ h.said) nothing =
+    subst (λ (y : List Fact). StepsFrom held nothing s.clock l1 (y ++ h.said) nothing)
+    (heard-facts row s.clock h.front.peer h.header l)
+    (hear-alone row held s.clock l1 h.front.peer h.header h.said i1 k may
+    (says-alone l.me h.front.peer (control_reply h.header row) h.said h.speaks)) in
+    rw h.facts (nothing, refl, alone Heard refl, steps)
 
 -- a call is rolled back
 rolls-steps : (hand : Option InFlight) (clock : ℕ) (l : Lists) (d : Due) (s r c posted got : ℕ)
@@ -506,7 +670,8 @@ breaks-steps hand clock l d s (f ∷ x) dones go all lost = (
   all.0.who,
   subst (λ (e : Event). Step hand l f.first d e (flushed l.me s None)) (sym all.0.event)
       (flushes_step d s all.0.request all.0.number None go refl),
-  breaks-steps hand clock (after clock l f) (flushed l.me s None) s x dones (refl, refl, refl) all.1 lost,
+  breaks-steps (hand_noted l.me f.event l.inbox hand) clock (after clock l f)
+      (flushed l.me s None) s x dones (refl, refl, refl) all.1 lost,
 )
 
 timer-steps : (hand : Option InFlight) (clock : ℕ) (l : Lists) (x : Client) (c : Call)
@@ -600,74 +765,100 @@ posted-alone i l e h =
     (λ c m. mapped-alone (λ p. Posted (Ask x.way.number p.request) p.posted) c.progress e
     (λ p. refl) m) n) b) k) h
 
-module _ (hand : Option InFlight) where
-  watches-orders : (timeout i number : ℕ) → Orderly hand (Watches timeout i number)
-  watches-orders timeout i number s x t o inv h =
-      rw h.facts (watch-client hand s.clock timeout number i s.lists (slice_get s.lists.clients i) refl)
+watches-orders : (timeout i number : ℕ) → Orderly (Watches timeout i number)
+watches-orders timeout i number hand s x t inv h =
+    rw h.facts (watch-client hand s.clock timeout number i s.lists
+    (slice_get s.lists.clients i) refl)
 
-  retries-orders : (timeout i : ℕ) → Orderly hand (Retries timeout i)
-  retries-orders timeout i s x t o inv h =
-      rw (retries-of s.clock timeout s.lists.me (slice_get s.lists.clients i) x o h.facts) refl
+gives-alone : (me : ℕ) (state : SessionState) (number : ℕ)
+    → AllByRecursion (IsAlone me) (map (plain me) (given_up state number))
+gives-alone me Connecting number = ((refl, refl), tt)
+gives-alone me IsClosing number = ((refl, refl), tt)
+gives-alone me _ number = tt
 
-  session-orders : (timeout i : ℕ) → Orderly hand (TimesSession timeout i)
-  session-orders timeout i =
-      orderly-then hand (Retries timeout i) (WatchesSession timeout i)
-      (retries-fine RightNode right-stays hand timeout i) (retries-orders timeout i)
-      (λ s x t o inv h. orderly-each hand (Watches timeout i)
-      (watches-fine RightNode right-stays hand timeout i) (watches-orders timeout i)
-      (numbers_in (slice_get s.lists.clients i)) s x t o inv h)
+retry-alone : (row : RetryRow) (me : ℕ) (x : Client) (c : ControlHeader) (facts : List Fact)
+    → RetriesBy row me x c facts → AllByRecursion (IsAlone me) facts
+retry-alone Rests me x c facts r = rw r tt
+retry-alone Asks me x c facts r = speaks-alone me x.way.peer c facts r
+retry-alone GivesUp me x c facts r = rw r (gives-alone me x.state x.way.number)
 
-  times-orders : Orderly hand TimesAll
-  times-orders s x t o inv h =
-      orderly-visits hand (TimesSession s.lists.timeout)
-      (times-session RightNode right-stays hand s.lists.timeout) (session-orders s.lists.timeout)
-      (length s.lists.clients) s x t o inv h
+retries-as : (clock timeout me : ℕ) (x : Client) (o : Option ControlHeader) (facts : List Fact)
+    → RetriesAs o clock timeout me x facts → AllByRecursion (IsAlone me) facts
+retries-as clock timeout me x None facts r = rw r tt
+retries-as clock timeout me x (Some c) facts r =
+    retry-alone (retry_row clock timeout x.sends x.sent_at) me x c facts r
 
-  next-orders : (next : Lists → Option Event)
-      → ((l : Lists) (e : Event) → next l ≡ Some e → is_alone e ≡ true)
-      → Orderly hand (NotesNext next)
-  next-orders next all s x t o inv h =
-      rw h.facts (one-alone hand s.clock s.lists (plain s.lists.me h.event) refl (all s.lists h.event h.is_next))
+retries-alone : (clock timeout me : ℕ) (x : Option Client) (facts : List Fact)
+    → RetriesOf clock timeout me x facts → AllByRecursion (IsAlone me) facts
+retries-alone clock timeout me None facts r = rw r tt
+retries-alone clock timeout me (Some x) facts r =
+    retries-as clock timeout me x (own_request x) facts r
 
-  serves-orders : (i : ℕ) → Orderly hand (Serves i)
-  serves-orders i =
-      orderly-then hand (NotesAll (next_begun i)) (NotesAll (next_posted i))
-      (fine-until RightNode hand (NotesNext (next_begun i)) _
-      (begun-fine RightNode right-stays hand i))
-      (orderly-until hand (NotesNext (next_begun i)) _ (begun-fine RightNode right-stays hand i)
-      (next-orders (next_begun i) (begun-alone i)))
-      (orderly-until hand (NotesNext (next_posted i)) _ (posted-fine RightNode right-stays hand i)
-      (next-orders (next_posted i) (posted-alone i)))
+retries-orders : (timeout i : ℕ) → Orderly (Retries timeout i)
+retries-orders timeout i hand s x t inv h =
+    steps-alone hand s.clock s.lists x
+    (retries-alone s.clock timeout s.lists.me (slice_get s.lists.clients i) x h.facts)
 
-  posts-orders : Orderly hand PostsAll
-  posts-orders s x t o inv h =
-      orderly-visits hand Serves (serves-fine RightNode right-stays hand) serves-orders
-      (length s.lists.clients) s x t o inv h
+session-orders : (timeout i : ℕ) → Orderly (TimesSession timeout i)
+session-orders timeout i =
+    orderly-then (Retries timeout i) (WatchesSession timeout i)
+    (retries-fine RightNode right-stays timeout i) (retries-orders timeout i)
+    (λ hand s x t inv h. orderly-each (Watches timeout i)
+    (watches-fine RightNode right-stays timeout i) (watches-orders timeout i)
+    (numbers_in (slice_get s.lists.clients i)) hand s x t inv h)
 
-  sends-orders : Orderly hand Sends
-  sends-orders s x t o inv h =
-      rw h.facts (one-alone hand s.clock s.lists (with_two s.lists.me
-      (Sent h.out.peer h.entry.owner h.entry.number) h.head h.out.body) refl refl)
+times-orders : Orderly TimesAll
+times-orders hand s x t inv h =
+    orderly-visits (TimesSession s.lists.timeout)
+    (times-session RightNode right-stays s.lists.timeout) (session-orders s.lists.timeout)
+    (length s.lists.clients) hand s x t inv h
 
-  closes-orders : Orderly hand Closes
-  closes-orders s x t o inv h =
-      rw h.facts (one-alone hand s.clock s.lists (plain s.lists.me (Polled s.clock)) refl refl)
+next-orders : (next : Lists → Option Event)
+    → ((l : Lists) (e : Event) → next l ≡ Some e → is_alone e ≡ true)
+    → Orderly (NotesNext next)
+next-orders next all hand s x t inv h =
+    rw h.facts (one-alone hand s.clock s.lists (plain s.lists.me h.event) refl
+    (all s.lists h.event h.is_next))
 
-  -- a poll at the node's clock
-  pub poll-orders : (worked : List WorkedJob)
-      → Orderly hand (Then (FinishesWorked worked)
-      (Then HearsAll (Then (HandlesAll plain_mode)
-      (Then TimesAll (Then PostsAll (Then SendsAll Closes))))))
-  poll-orders worked =
-      orderly-then hand (FinishesWorked worked) _ (finishes-worked-fine hand worked)
-      (finishes-worked hand worked)
-      (orderly-then hand HearsAll _ (hears-all RightNode right-stays hand)
-      (orderly-until hand Hears _ (hears-fine RightNode right-stays hand) (hears-orders hand))
-      (orderly-then hand (HandlesAll plain_mode) _
-      (fine-until RightNode hand (Handles plain_mode) _ (handles-fine hand))
-      (orderly-until hand (Handles plain_mode) _ (handles-fine hand) (handles-orders hand))
-      (orderly-then hand TimesAll _ (times-all RightNode right-stays hand) times-orders
-      (orderly-then hand PostsAll _ (posts-all RightNode right-stays hand) posts-orders
-      (orderly-then hand SendsAll Closes (sends-all RightNode right-stays hand)
-      (orderly-until hand Sends _ (sends-fine RightNode right-stays hand) sends-orders)
-      closes-orders)))))
+serves-orders : (i : ℕ) → Orderly (Serves i)
+serves-orders i =
+    orderly-then (NotesAll (next_begun i)) (NotesAll (next_posted i))
+    (fine-until RightNode (NotesNext (next_begun i)) _
+    (begun-fine RightNode right-stays i))
+    (orderly-until (NotesNext (next_begun i)) _ (begun-fine RightNode right-stays i)
+    (next-orders (next_begun i) (begun-alone i)))
+    (orderly-until (NotesNext (next_posted i)) _ (posted-fine RightNode right-stays i)
+    (next-orders (next_posted i) (posted-alone i)))
+
+posts-orders : Orderly PostsAll
+posts-orders hand s x t inv h =
+    orderly-visits Serves (serves-fine RightNode right-stays) serves-orders
+    (length s.lists.clients) hand s x t inv h
+
+sends-orders : Orderly Sends
+sends-orders hand s x t inv h =
+    rw h.facts (one-alone hand s.clock s.lists (with_two s.lists.me
+    (Sent h.out.peer h.entry.owner h.entry.number) h.head h.out.body) refl refl)
+
+closes-orders : Orderly Closes
+closes-orders hand s x t inv h =
+    rw h.facts (one-alone hand s.clock s.lists (plain s.lists.me (Polled s.clock)) refl refl)
+
+-- a poll at the node's clock
+pub poll-orders : (worked : List WorkedJob)
+    → Orderly (Then (FinishesWorked worked)
+    (Then HearsAll (Then (HandlesAll plain_mode)
+    (Then TimesAll (Then PostsAll (Then SendsAll Closes))))))
+poll-orders worked =
+    orderly-then (FinishesWorked worked) _ (finishes-worked-fine worked)
+    (finishes-worked worked)
+    (orderly-then HearsAll _ hears-all
+    (orderly-until Hears _ hears-fine hears-orders)
+    (orderly-then (HandlesAll plain_mode) _
+    (fine-until RightNode (Handles plain_mode) _ handles-fine)
+    (orderly-until (Handles plain_mode) _ handles-fine handles-orders)
+    (orderly-then TimesAll _ (times-all RightNode right-stays) times-orders
+    (orderly-then PostsAll _ (posts-all RightNode right-stays) posts-orders
+    (orderly-then SendsAll Closes (sends-all RightNode right-stays)
+    (orderly-until Sends _ (sends-fine RightNode right-stays) sends-orders)
+    closes-orders)))))

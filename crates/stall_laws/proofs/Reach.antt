@@ -30,7 +30,7 @@ use Rattle.node_laws.proofs.SoundLemmas.{by_request, reply-got, reply-posted, re
 use Rattle.end_laws.specs.Moments.{Moment}
 use Rattle.end_laws.proofs.Allowed.{is_packet}
 use Rattle.end_laws.proofs.Courses.{AtNode, noted_at}
-use Rattle.end_laws.proofs.Known.{Good}
+use Rattle.stall_laws.proofs.Living.{Living, other-stands, other-stays}
 use Rattle.end_laws.proofs.ListLemmas.{Placed, find-at, set-first, set-placed, first-each}
 use Rattle.end_laws.proofs.ListLemmas.{all-first, all-both, all-map, all-at}
 use Rattle.end_laws.proofs.QueueLemmas.{RightNode}
@@ -68,7 +68,8 @@ at-false b c e h = rw h (and-false b)
 -- a call's packets, where what it has got and posted stays
 module _ (h : List Fact) (w : Moment) (n : ℕ) (l : Lists) (e : Event) (first second : List ℕ)
     (d u : Due) (step : Step w.hand l first d e u) (a : AtNode w n l (with_two n e first second))
-    (is : w ≡ moment_of h) (g : Good w) (i : RightNode l) (v : Valid l) (newest : NewestNode l) where
+    (is : w ≡ moment_of h) (g : Living w) (i : RightNode l) (v : Valid l)
+    (newest : NewestNode l) where
   abbrev f : Fact
   f = with_two n e first second
 
@@ -89,17 +90,20 @@ module _ (h : List Fact) (w : Moment) (n : ℕ) (l : Lists) (e : Event) (first s
       → HeldBy h2 w2 u j x.way c o
   by-kept j s z x at c None new sp held = tt
   by-kept j s z x at c (Some p) new sp held =
-      λ k low high. held-noted h w n l e first second d u step a is g i j s z x at c p.request k new sp.0
+      λ k low high.
+      held-noted h w n l e first second d u step a is g.good i j s z x at c p.request k new sp.0
       (sp.1 k low high) (held k low high)
 
   -- a session none of whose calls changes
-  client-kept : (j s : ℕ) (z : Lists) (x : Client) → SessionAt w j s z x → NewestClient x
+  client-kept : (j s : ℕ) (z : Lists) (x : Client)
+      → (is_connected x.state ≡ true → SessionAt w j s z x)
+      → NewestClient x
       → AllByRecursion (λ c. SparesBy j x.way.number c.what.number c.progress) x.calls
       → HeldClient h w d j x → HeldClient h2 w2 u j x
   client-kept j s z x at new sp held =
       λ live. all-map (λ c. (NewestCall x.turns c × SparesBy j x.way.number c.what.number c.progress) × HeldCall h w
       d j x.way c) (HeldCall h2 w2 u j x.way) x.calls
-      (λ c both. by-kept j s z x at c.what.number c.progress both.0.0 both.0.1 both.1)
+      (λ c both. by-kept j s z x (at live) c.what.number c.progress both.0.0 both.0.1 both.1)
       (all-both (λ c. NewestCall x.turns c × SparesBy j x.way.number c.what.number c.progress)
       (HeldCall h w d j x.way) x.calls
       (all-both (NewestCall x.turns) (λ c. SparesBy j x.way.number c.what.number c.progress) x.calls new sp)
@@ -115,7 +119,13 @@ module _ (h : List Fact) (w : Moment) (n : ℕ) (l : Lists) (e : Event) (first s
       → HeldNode h w d j z → HeldNode h2 w2 u j z
   other-node j z ne is_node new held s x there =
       let apart : (n == j) ≡ false = by (n == j) refl in
-      client-kept j s z x (record { is_node = is_node; is_there = there })
+      client-kept j s z x (λ live. record {
+        is_node = is_node;
+        is_there = there;
+        live = live;
+        stands = other-stands w g j z s x is_node there live;
+        stays = λ m y is node may. other-stays w g j z s x is_node there live m y is node may;
+      })
       (all-at NewestClient z.clients s x new there)
       (every (λ c. SparesBy j x.way.number c.what.number c.progress) x.calls
       (λ c. spares-of j x.way.number c.what.number c.progress
@@ -129,8 +139,15 @@ module _ (h : List Fact) (w : Moment) (n : ℕ) (l : Lists) (e : Event) (first s
       by true t = absurd (ne (sym (eqb-true n j t)))
       by false t = refl
 
-  here-at : (s : ℕ) (x : Client) → slice_get l.clients s ≡ Some x → SessionAt w n s l x
-  here-at s x there = record { is_node = a.is_node; is_there = there }
+  here-at : (s : ℕ) (x : Client) → slice_get l.clients s ≡ Some x → is_connected x.state ≡ true
+      → SessionAt w n s l x
+  here-at s x there live = record {
+    is_node = a.is_node;
+    is_there = there;
+    live = live;
+    stands = other-stands w g n l s x a.is_node there live;
+    stays = λ m z is node may. other-stays w g n l s x a.is_node there live m z is node may;
+  }
 
   abbrev After : Client → Type 0
   After x = HeldClient h2 w2 u n x
@@ -212,15 +229,16 @@ module _ (h : List Fact) (w : Moment) (n : ℕ) (l : Lists) (e : Event) (first s
       z.calls (λ m b is_b. sp t z ne at m b is_b)) held)
 
   -- one call of a session changes, and its other calls are spared
-  call-changed : (s : ℕ) (x : Client) → slice_get l.clients s ≡ Some x → (j : ℕ) (b c : Call)
+  call-changed : (s : ℕ) (x : Client) → slice_get l.clients s ≡ Some x → is_connected x.state ≡ true
+      → (j : ℕ) (b c : Call)
       → slice_get x.calls j ≡ Some b → ((m : ℕ) (o : Call) → (m ≡ j → ⊥) → slice_get x.calls m ≡ Some o
       → SparesBy n x.way.number o.what.number o.progress) → HeldCall h2 w2 u n x.way c
       → AllByRecursion (HeldCall h w d n x.way) x.calls
       → AllByRecursion (HeldCall h2 w2 u n x.way) (slice_set x.calls j c)
-  call-changed s x there j b c is_b sp here held =
+  call-changed s x there live j b c is_b sp here held =
       placed-all (HeldCall h2 w2 u n x.way) (slice_set x.calls j c)
       (set-placed (λ m o. HeldCall h2 w2 u n x.way o) x.calls j b c is_b here
-      (λ m o ne at. by-kept n s l x (here-at s x there) o.what.number o.progress
+      (λ m o ne at. by-kept n s l x (here-at s x there live) o.what.number o.progress
       (all-at (NewestCall x.turns) x.calls m o (all-at NewestClient l.clients s x newest there) at)
       (sp m o ne at) (all-at (HeldCall h w d n x.way) x.calls m o held at)))
 
@@ -263,7 +281,8 @@ module _ (h : List Fact) (w : Moment) (n : ℕ) (l : Lists) (e : Event) (first s
       let posted = reply-posted may.header body p in
       let turn = may.turn in
       subst (λ (r : ℕ). Held h2 w2 u n x.way call.what.number r k) (sym (reply-request may.header body p))
-      (held-noted h w n l e first second d u step a is g i n set.0 l x (here-at set.0 x there)
+      (held-noted h w n l e first second d u step a is g.good i n set.0 l x
+      (here-at set.0 x there live)
       call.what.number p.request k (newest-at set.0 x there at.0 call at.1 p may.active.active) (none call.what.number)
       (record {
         took = λ home t. let same : k ≡ b = cc in absurd (omega arith);
@@ -282,7 +301,7 @@ module _ (h : List Fact) (w : Moment) (n : ℕ) (l : Lists) (e : Event) (first s
         rolled = λ home c po gt k2 y. cc;
         broken = λ home k2. cc;
       }))
-      (λ live. rw calls (call-changed set.0 x there at.0 call (moved tk call) at.1
+      (λ live. rw calls (call-changed set.0 x there live at.0 call (moved tk call) at.1
       (λ j o ne is_o. spares-call x.way.number o.what.number o.progress (none o.what.number)
       (λ p2 at2 k low high. record {
         took = λ home k2. let same : p2.request ≡ q = cc in
@@ -336,7 +355,7 @@ module _ (h : List Fact) (w : Moment) (n : ℕ) (l : Lists) (e : Event) (first s
       (λ t z ne is_z j o is_o. spares-call z.way.number o.what.number o.progress
       (other o.what.number (λ same. foreign c set.0 x there set.2 t z ne is_z j o is_o same))
       (λ p at2 k low high. free z.way.number p.request k))
-      (λ live. rw calls (call-changed set.0 x there at.0 call (begun r call) at.1
+      (λ live. rw calls (call-changed set.0 x there live at.0 call (begun r call) at.1
       (λ j o ne is_o. spares-call x.way.number o.what.number o.progress
       (other o.what.number (λ same. ne (one-call l v c set.0 x there j at.0 o call is_o
       (eq-eqb o.what.number c (sym same)) at.1 at.2)))
@@ -387,7 +406,7 @@ module _ (h : List Fact) (w : Moment) (n : ℕ) (l : Lists) (e : Event) (first s
             owner.1);
         broken = λ home q. cc;
       }))
-      (λ live. rw calls (call-changed set.0 x there at.0 call (back call) at.1
+      (λ live. rw calls (call-changed set.0 x there live at.0 call (back call) at.1
       (λ j o ne is_o. spares-call x.way.number o.what.number o.progress
       (other o.what.number (λ same. ne (one-call l v c set.0 x there j at.0 o call is_o
       (eq-eqb o.what.number c (sym same)) at.1 at.2)))
@@ -467,14 +486,15 @@ module _ (h : List Fact) (w : Moment) (n : ℕ) (l : Lists) (e : Event) (first s
       (λ c k. k) (λ c is_c k. let same : may.call ≡ c = cc in
       let at : c.progress ≡ Some may.progress = ap (λ (o : Call). o.progress) (sym same) ∙ may.active.active in
       subst (λ (o : Option Progress). HeldBy h2 w2 u n x.way c.what.number (option_map (posted_up_to b) o)) (sym at)
-      (λ j low high. by set.0 x there number j c.what.number low high (subst
+      (λ j low high. by set.0 x there live number j c.what.number low high (subst
       (HeldBy h2 w2 u n x.way c.what.number) at k)))
       (kept live)) held)
     where
-      by : (s : ℕ) (x : Client) → slice_get l.clients s ≡ Some x → x.way.number ≡ m → (j c : ℕ)
+      by : (s : ℕ) (x : Client) → slice_get l.clients s ≡ Some x → is_connected x.state ≡ true
+          → x.way.number ≡ m → (j c : ℕ)
           → may.progress.got ≤ j → j < b + 1 → HeldBy h2 w2 u n x.way c (Some may.progress)
           → Held h2 w2 u n x.way c may.progress.request j
-      by s x there number j c low high k = pick (ltb j may.progress.posted) refl
+      by s x there live number j c low high k = pick (ltb j may.progress.posted) refl
         where
           pick : (t : Bool) → ltb j may.progress.posted ≡ t → Held h2 w2 u n x.way c may.progress.request j
           pick true t = k j low (ltb-true j may.progress.posted t)
@@ -490,6 +510,6 @@ module _ (h : List Fact) (w : Moment) (n : ℕ) (l : Lists) (e : Event) (first s
               let one : posted_ask p x.way.number e ≡ 1 =
               ap (posted_ask p x.way.number) e_is ∙ ap {B = ℕ} (λ (t : Bool). cond t 1 0) counted in
               inl (posted-stands w n l e first second (pair_of n x.way) may.progress.request j a
-              (joins-of w n l n s l x a.is_node g (here-at s x there)) i d u step refl one
+              (joins-of w n l n s l x a.is_node g.good (here-at s x there live)) i d u step refl one
               (ap (took_packets p x.way.number) e_is) (ap (λ (v : Event). spilt_reply p x.way.number v l) e_is)
               (ap (λ (v : Event). spilt_ask p x.way.other v l) e_is))

@@ -1,4 +1,20 @@
 -- At each moment of a course each unanswered packet of each call is held.
+use Rattle.std.proofs.Common.{cond, Bool, false, ◌+◌}
+use Rattle.packet_header.specs.declared.packet.ControlHeader.{ControlHeader}
+use Rattle.rpc_base.specs.Tables.{at_first}
+use Rattle.rpc_base.specs.declared.state.SessionState.TheVariants.{Closed, Connecting, Failed}
+use Rattle.rpc_base.specs.declared.state.SessionState.TheVariants.{Closing as IsClosing}
+use Rattle.rpc_laws.specs.declared.tables.Client.{Client}
+use Rattle.rpc_laws.specs.Front.{control_of}
+use Rattle.rpc_laws.specs.Sessions.{clients_told, comes_to, connects, is_connected, is_request_of}
+use Rattle.rpc_laws.specs.Sessions.{opened_end}
+use Rattle.rpc_laws.specs.Sessions.{requests}
+use Rattle.end_laws.proofs.Known.{GoodClient, is_joined, Known, Tied}
+use Rattle.end_laws.proofs.LetGoSteps.{at-number}
+use Rattle.end_laws.proofs.ListLemmas.{first-each}
+use Rattle.stall_laws.specs.Caused.{restarts_by}
+use Rattle.stall_laws.proofs.Held.{Spares}
+use Rattle.stall_laws.proofs.Living.{Living, living-made, living-net, living-node, living-pair}
 use Rattle.std.proofs.Common.{◌≡◌, ◌==◌, inl, inr, ℕ, true, List, [], ◌∷◌}
 use Rattle.std.proofs.Common.{◌++◌, length, Option, Some, None, slice_get, refl, sym, ap, ◌∙◌}
 use Rattle.std.proofs.Common.{subst, arith}
@@ -32,21 +48,18 @@ use Rattle.end_laws.proofs.ClientLemmas.{client-at}
 use Rattle.end_laws.proofs.Courses.{AtNode, Ends, noted_at, moved-node, Course, over, in_net, made}
 use Rattle.end_laws.proofs.Courses.{at_node, pairs, client_fact, server_fact, paired}
 use Rattle.end_laws.proofs.Allowed.{is_packet}
-use Rattle.end_laws.proofs.GoodSteps.{good-net, good-made, good-node}
 use Rattle.end_laws.proofs.Known.{Good}
 use Rattle.end_laws.proofs.ListLemmas.{Placed, set-placed, add-placed, all-first, all-map, all-add}
 use Rattle.end_laws.proofs.ListLemmas.{all-without}
-use Rattle.end_laws.proofs.OwnLaw.{good-paired}
 use Rattle.end_laws.proofs.QueueLemmas.{RightNode}
 use Rattle.end_laws.proofs.SendsLaw.{AllRight, right-noted, right-net, right-made, right-paired}
 use Rattle.ring_laws.proofs.Loads.{client_packets, server_packets, client_part, server_part}
-use Rattle.ring_laws.proofs.PairLaw.{valid-net, valid-made, valid-node, valid-pair}
-use Rattle.ring_laws.proofs.PairPlaces.{AllValid}
+use Rattle.end_laws.proofs.Valids.{AllValid, valid-net, valid-made, valid-node, valid-pair}
 use Rattle.ring_laws.proofs.WithinSteps.{own-fact, nodes-net, added-by, part-same, lists1, lists2}
 use Rattle.ring_laws.proofs.WithinSteps.{nodes1, is_server1, paired-nodes}
 use Rattle.stall_laws.specs.Settled.{moment_of, moment_from}
 use Rattle.stall_laws.proofs.Dues.{Due, nothing, Step, is_alone, alone, older, takes, repeats}
-use Rattle.stall_laws.proofs.Dues.{posts, gives, serves, finishes}
+use Rattle.stall_laws.proofs.Dues.{posts, gives, serves, finishes, is_done, leaves}
 use Rattle.stall_laws.proofs.Dues.{arrives, overflows, is_bad, flushes, rolls, breaks}
 use Rattle.stall_laws.proofs.Fates.{net-fate}
 use Rattle.stall_laws.proofs.Held.{pair_of, Held, lost-since, lost-now}
@@ -56,20 +69,120 @@ use Rattle.stall_laws.proofs.Reach.{HeldBy, HeldCall, HeldClient, HeldNode, at-f
 use Rattle.stall_laws.proofs.Reach.{first-kept, other-node}
 use Rattle.stall_laws.proofs.Reach.{took-held, begun-held, rolled-held, broken-held, posted-held}
 
+-- a session that is Connecting has no calls
+idle-unjoined : (k : Known) (n i : ℕ) (x : Client) → GoodClient k n i x → x.state ≡ Connecting
+    → x.calls ≡ []
+idle-unjoined k n i x g state = by (is_joined x.state) (ap is_joined state) g.tied
+  where
+    by : (b : Bool) → b ≡ false → Tied b k n i x → x.calls ≡ []
+    by true e t = false-true (sym e)
+    by false e t = t.idle
+
+-- a control packet is sent
+requests-kept : (h : List Fact) (w : Moment) (d : Due) (n clock : ℕ) (b : Bool) (x : Client)
+    → HeldClient h w d n x → HeldClient h w d n
+    (cond b (record x { sends = x.sends + 1; sent_at = clock }) x)
+requests-kept h w d n clock true x k = k
+requests-kept h w d n clock false x k = k
+
+told-kept : (h : List Fact) (w : Moment) (d : Due) (n clock : ℕ) (o : Option ControlHeader)
+    (xs : List Client)
+    → Placed (λ s x. HeldClient h w d n x) xs
+    → Placed (λ s x. HeldClient h w d n x) (clients_told clock o xs)
+told-kept h w d n clock None xs k = k
+told-kept h w d n clock (Some c) xs k =
+    first-each (is_client c.client) (requests clock c) (λ s x. HeldClient h w d n x)
+    (λ s x. HeldClient h w d n x) xs
+    (λ s x held t. requests-kept h w d n clock
+    (is_request_of c.kind c.server x.state x.way.other) x held)
+    (λ s x held. held) k
+
 -- at the node of the fact
 module _ (h : List Fact) (w : Moment) (n : ℕ) (l : Lists) (first second : List ℕ) (d u : Due)
-    (is : w ≡ moment_of h) (g : Good w) (i : RightNode l) (v : Valid l) (newest : NewestNode l) where
+    (is : w ≡ moment_of h) (g : Living w) (i : RightNode l) (v : Valid l)
+    (newest : NewestNode l) where
+  -- one session isn't connected any more
+  over-kept : (e : Event) → Step w.hand l first d e u → AtNode w n l (with_two n e first second)
+      → ((s r k : ℕ) → Spares n n l e s r k) → ((c : ℕ) → restarts_by c e ≡ false)
+      → (p : Client → Bool) (change : Client → Client)
+      → ((x : Client) → is_connected (change x).state ≡ false) → HeldNode h w d n l
+      → Placed (λ s x. HeldClient (h ++ with_two n e first second ∷ [])
+      (noted_at w n l (with_two n e first second)) u n x) (at_first p change l.clients)
+  over-kept e step a sp none p change closed held =
+      first-each p change (λ s x. HeldClient (h ++ with_two n e first second ∷ [])
+      (noted_at w n l (with_two n e first second)) u n x)
+      (λ s x. HeldClient (h ++ with_two n e first second ∷ [])
+      (noted_at w n l (with_two n e first second)) u n x) l.clients
+      (λ s x k t. λ live. false-true (sym (closed x) ∙ live)) (λ s x k. k)
+      (all-kept h w n l e first second d u step a is g i v newest sp none held)
+
   node-held : (e : Event) → Step w.hand l first d e u → AtNode w n l (with_two n e first second)
       → HeldNode h w d n l → HeldNode (h ++ with_two n e first second ∷ [])
       (noted_at w n l (with_two n e first second)) u n (after w.clock l (with_two n e first second))
   node-held (PairedClient s p t c) step a held = absurd a.allowed.may
-  node-held (Opened s p c) step a held = absurd a.allowed.may
-  node-held (Connected s t) step a held = absurd a.allowed.may
-  node-held (FailedNoRoom s) step a held = absurd a.allowed.may
-  node-held (FailedNoAnswer s) step a held = absurd a.allowed.may
-  node-held (Closing s) step a held = absurd a.allowed.may
-  node-held (ClosedHeard s) step a held = absurd a.allowed.may
-  node-held (ClosedUnheard s) step a held = absurd a.allowed.may
+  node-held (Opened s p c) step a held =
+      add-placed (λ j x. HeldClient (h ++ with_two n (Opened s p c) first second ∷ [])
+      (noted_at w n l (with_two n (Opened s p c) first second)) u n x) l.clients (opened_end s p c)
+      (λ live. tt)
+      (all-kept h w n l (Opened s p c) first second d u step a is g i v newest
+      (λ s r k. record {
+        took = λ home t. cc;
+        rolled = λ home c po gt t z. cc;
+        broken = λ home t. cc;
+      })
+      (λ c. refl) held)
+  node-held (Connected s t) step a held =
+      let m = a.allowed.may.0 in
+      let kept = all-kept h w n l (Connected s t) first second d u step a is g i v newest
+      (λ s r k. record {
+        took = λ home t. cc;
+        rolled = λ home c po gt t z. cc;
+        broken = λ home t. cc;
+      })
+      (λ c. refl) held in
+      first-each (is_client s) (connects t)
+      (λ j x. HeldClient (h ++ with_two n (Connected s t) first second ∷ [])
+      (noted_at w n l (with_two n (Connected s t) first second)) u n x
+      × (slice_get l.clients j ≡ Some x))
+      (λ j x. HeldClient (h ++ with_two n (Connected s t) first second ∷ [])
+      (noted_at w n l (with_two n (Connected s t) first second)) u n x) l.clients
+      (λ j x k test.
+      let same : m.client ≡ x = at-number l v s j m.client x m.found k.1 test in
+      let state : x.state ≡ Connecting = ap (λ (y : Client). y.state) (sym same) ∙ m.connecting in
+      let idle : x.calls ≡ [] = idle-unjoined g.good.known n j x
+      ((g.good.nodes n l a.is_node).clients j x k.1) state in
+      λ live. rw idle tt)
+      (λ j x k. k.0) (λ j x at. (kept j x at, at))
+  node-held (FailedNoRoom s) step a held =
+      over-kept (FailedNoRoom s) step a (λ s r k. record {
+        took = λ home t. cc;
+        rolled = λ home c po gt t z. cc;
+        broken = λ home t. cc;
+      }) (λ c. refl) (is_client s) (comes_to Failed) (λ x. refl) held
+  node-held (FailedNoAnswer s) step a held =
+      over-kept (FailedNoAnswer s) step a (λ s r k. record {
+        took = λ home t. cc;
+        rolled = λ home c po gt t z. cc;
+        broken = λ home t. cc;
+      }) (λ c. refl) (is_client s) (comes_to Failed) (λ x. refl) held
+  node-held (Closing s) step a held =
+      over-kept (Closing s) step a (λ s r k. record {
+        took = λ home t. cc;
+        rolled = λ home c po gt t z. cc;
+        broken = λ home t. cc;
+      }) (λ c. refl) (is_client s) (comes_to IsClosing) (λ x. refl) held
+  node-held (ClosedHeard s) step a held =
+      over-kept (ClosedHeard s) step a (λ s r k. record {
+        took = λ home t. cc;
+        rolled = λ home c po gt t z. cc;
+        broken = λ home t. cc;
+      }) (λ c. refl) (is_client s) (comes_to Closed) (λ x. refl) held
+  node-held (ClosedUnheard s) step a held =
+      over-kept (ClosedUnheard s) step a (λ s r k. record {
+        took = λ home t. cc;
+        rolled = λ home c po gt t z. cc;
+        broken = λ home t. cc;
+      }) (λ c. refl) (is_client s) (comes_to Closed) (λ x. refl) held
   node-held (Asked c s y room) step a held =
       first-kept h w n l (Asked c s y room) first second d u step a is g i v newest (is_client s)
       (asks (record { number = c; req_type = y; room = room; ask = first }))
@@ -101,7 +214,17 @@ module _ (h : List Fact) (w : Moment) (n : ℕ) (l : Lists) (first second : List
       all-kept h w n l (Sent peer (Reply t r) k) first second d u step a is g i v newest
       (λ s r k. record { took = λ home t. cc; rolled = λ home c po gt t z. cc; broken = λ home t. cc })
       (λ c. refl) held
-  node-held (Sent peer Control k) step a held = let own = a.allowed.may.own in absurd (cc)
+  node-held (Sent peer Control k) step a held =
+      told-kept (h ++ with_two n (Sent peer Control k) first second ∷ [])
+      (noted_at w n l (with_two n (Sent peer Control k) first second)) u n w.clock
+      (control_of first) l.clients
+      (all-kept h w n l (Sent peer Control k) first second d u step a is g i v newest
+      (λ s r k. record {
+        took = λ home t. cc;
+        rolled = λ home c po gt t z. cc;
+        broken = λ home t. cc;
+      })
+      (λ c. refl) held)
   node-held (Took (Ask s r) k) step a held =
       took-held h w n l (Took (Ask s r) k) first second d u step a is g i v newest s r k refl a.lawful held
   node-held (Took (Reply t r) k) step a held =
@@ -142,7 +265,7 @@ AllNewest w = Placed (λ j z. NewestNode z) w.nodes
 
 reach-noted : (h : List Fact) (w : Moment) (n : ℕ) (l : Lists) (e : Event) (first second : List ℕ)
     (d u : Due) → Step w.hand l first d e u → AtNode w n l (with_two n e first second)
-    → w ≡ moment_of h → Good w → AllRight w → AllValid w → AllNewest w → Reach h w d
+    → w ≡ moment_of h → Living w → AllRight w → AllValid w → AllNewest w → Reach h w d
     → Reach (h ++ with_two n e first second ∷ []) (noted_at w n l (with_two n e first second)) u
 reach-noted h w n l e first second d u step a is g right valid newest reach =
     let i = right n l a.is_node in
@@ -154,7 +277,7 @@ reach-noted h w n l e first second d u step a is g right valid newest reach =
     (λ j z ne at. other-node h w n l e first second d u step a is g i v k j z ne at (newest j z at) (reach j z at))
 
 reach-node : (h : List Fact) (w : Moment) (n : ℕ) (l : Lists) (f : Fact) (d u : Due)
-    → Step w.hand l f.first d f.event u → AtNode w n l f → w ≡ moment_of h → Good w → AllRight w
+    → Step w.hand l f.first d f.event u → AtNode w n l f → w ≡ moment_of h → Living w → AllRight w
     → AllValid w → AllNewest w → Reach h w d → Reach (h ++ f ∷ []) (moved w f) u
 reach-node h w n l f d u step a is g right valid newest reach =
     let e = own-fact f (Node n) (a.allowed.who ∙ ap Node a.me) in
@@ -255,7 +378,7 @@ module _ (h : List Fact) (w : Moment) (n m credits : ℕ) (client server : Lists
       let first : Placed (HeldNode h2 w2 nothing) (nodes1 w n m credits client server e) =
       set-placed (HeldNode h2 w2 nothing) w.nodes n client (lists1 w n m credits client server e) e.is_client
       (add-placed (λ s x. HeldClient h2 w2 nothing n x) client.clients
-      (client_end (length client.clients) m (length server.servers) credits) (λ live. tt)
+      (client_end (length client.clients) m server.server_numbers credits) (λ live. tt)
       (kept n client e.is_client)) (λ j z ne at. kept j z at) in
       subst (λ (ns : List Lists). Placed (HeldNode h2 w2 nothing) ns) (sym (paired-nodes w n m credits client server e))
       (set-placed (HeldNode h2 w2 nothing) (nodes1 w n m credits client server e) m server
@@ -294,12 +417,14 @@ step-alone : (hand : Option InFlight) (l : Lists) (first : List ℕ) (d : Due) (
     → Step hand l first d e u → is_alone e ≡ true → (d ≡ nothing) × (u ≡ nothing)
 step-alone hand l first d e u (alone _ h) al = (refl, refl)
 step-alone hand l first d e u (older t r k o) al = (refl, refl)
+step-alone hand l first d e u (leaves t r k m) al = (refl, refl)
 step-alone hand l first d e u (takes t r k) al = false-true al
 step-alone hand l first d e u (repeats t r k) al = false-true al
 step-alone hand l first d e u (posts t r k) al = false-true al
 step-alone hand l first d e u (gives t r k w q) al = false-true al
 step-alone hand l first d e u (serves t r y k none q) al = false-true al
 step-alone hand l first d e u (finishes t r y w) al = false-true al
+step-alone hand l first d e u (is_done t r y w none) al = false-true al
 step-alone hand l first d e u (arrives peer) al = false-true al
 step-alone hand l first d e u (overflows peer) al = false-true al
 step-alone hand l first d e u (is_bad peer copy h g) al = false-true al
@@ -317,7 +442,7 @@ pub record At (h : List Fact) (w : Moment) (d : Due) : Type 0 where
   pub moment : w ≡ moment_of h
   pub right : AllRight w
   pub valid : AllValid w
-  pub good : Good w
+  pub living : Living w
   pub newest : AllNewest w
   pub reach : Reach h w d
 
@@ -344,7 +469,7 @@ course-reach _ _ _ (in_net w f x v who c) h d u m at =
       moment = next-moment h w f at.moment;
       right = right-net w f who at.right;
       valid = valid-net w f who at.valid;
-      good = good-net w f who at.good;
+      living = living-net w f who at.living;
       newest = newest-net w f who at.newest;
       reach = subst (Reach (h ++ f ∷ []) (moved w f)) (sym by.1) (reach-net h w f who at.moment reach);
     }))
@@ -357,7 +482,7 @@ course-reach _ _ _ (made w ring x v c) h d u m at =
       moment = next-moment h w f at.moment;
       right = right-made w ring at.right;
       valid = valid-made w ring at.valid;
-      good = good-made w ring at.good;
+      living = living-made w ring at.living;
       newest = newest-made w ring at.newest;
       reach = subst (Reach (h ++ f ∷ []) (moved w f)) (sym by.1) (reach-made h w ring reach);
     }))
@@ -372,9 +497,10 @@ course-reach _ _ _ (at_node w n l f x v a c) h d u m at =
       moment = next-moment h w f at.moment;
       right = right-noted w n l f a at.right;
       valid = valid-node w n l f a at.valid;
-      good = good-node w n l f a at.right at.good;
-      newest = newest-node w n l f a at.good at.valid at.newest;
-      reach = reach-node h w n l f d m.0 step a at.moment at.good at.right at.valid at.newest at.reach;
+      living = living-node w n l f a at.right at.valid at.living;
+      newest = newest-node w n l f a at.living.good at.valid at.newest;
+      reach = reach-node h w n l f d m.0 step a at.moment at.living at.right at.valid at.newest
+          at.reach;
     }))
 course-reach _ _ _ (pairs w n k credits client server x v e c) h d u m at =
     let f = client_fact n k credits client server in
@@ -386,8 +512,8 @@ course-reach _ _ _ (pairs w n k credits client server x v e c) h d u m at =
     let more = course-reach w2 x v c ((h ++ f ∷ []) ++ g ∷ []) m.2.0 u m.2.2 (record {
       moment = next-moment (h ++ f ∷ []) (moved w f) g (next-moment h w f at.moment);
       right = right-paired w n k credits client server e at.right;
-      valid = valid-pair w n k credits client server e at.right at.valid;
-      good = good-paired w n k credits client server e at.good;
+      valid = valid-pair w n k credits client server e at.valid;
+      living = living-pair w n k credits client server e at.right at.valid at.living;
       newest = newest-paired h w n k credits client server e at.newest;
       reach = subst (Reach ((h ++ f ∷ []) ++ g ∷ []) w2) (sym by2.1) (reach-paired h w n k credits client server e
           reach);

@@ -1,11 +1,12 @@
 -- Where a history is settled, each call that isn't over has its cause.
+use Rattle.stall_laws.proofs.Living.{first-living}
 use Rattle.std.proofs.Common.{◌≡◌, ◌<◌, ◌≤◌, ◌⊎◌, inl, inr, ℕ, zero, suc, nat_lt, Bool, true, false}
-use Rattle.std.proofs.Common.{cond, List, [], ◌∷◌}
+use Rattle.std.proofs.Common.{List, [], ◌∷◌}
 use Rattle.std.proofs.Common.{length, Option, Some, None, slice_get, refl, sym, ap, ◌∙◌, subst}
 use Rattle.std.proofs.Common.{arith, ltb-true, ltb-false}
 use Rattle.std.specs.Prelude.{is_some}
 use Rattle.std.specs.Bool.{MatchBool}
-use Rattle.std.specs.List.{filter, AllByRecursion}
+use Rattle.std.specs.List.{AllByRecursion}
 use Rattle.std.proofs.lemmas.Option.{slice_get_within}
 use Rattle.rpc_base.proofs.BasicLemmas.{false-true}
 use Rattle.rpc_base.specs.declared.fact.Fact.{Fact}
@@ -14,7 +15,6 @@ use Rattle.rpc_laws.specs.declared.tables.Client.{Client}
 use Rattle.rpc_laws.specs.declared.tables.Lists.{Lists}
 use Rattle.rpc_laws.specs.declared.tables.Progress.{Progress}
 use Rattle.rpc_laws.specs.declared.tables.Timed.{Timed}
-use Rattle.rpc_laws.specs.AtMostOnce.{is_at}
 use Rattle.rpc_laws.specs.Calls.{asked_packets, known_packets}
 use Rattle.rpc_laws.specs.Posting.{can_post, has_postable}
 use Rattle.rpc_laws.specs.Service.{plain_serving}
@@ -23,10 +23,9 @@ use Rattle.rpc_laws.specs.UsualLimits.{with_ring}
 use Rattle.script_grammar.specs.declared.line.Line.{Line}
 use Rattle.sim_script.specs.FollowsScript.{Follows, empty_stage}
 use Rattle.end_laws.specs.Moments.{Moment, first_moment}
-use Rattle.end_laws.specs.OnlyPairs.{is_of_control, OnlyPairs}
 use Rattle.end_laws.specs.TwoNodes.{PairsTwo, PairsTwoNodes}
 use Rattle.end_laws.proofs.Allowed.{is_packet}
-use Rattle.end_laws.proofs.GoodStart.{first-right, first-good}
+use Rattle.end_laws.proofs.GoodStart.{first-right}
 use Rattle.end_laws.proofs.ListLemmas.{all-front, all-at}
 use Rattle.end_laws.proofs.PairLeads.{follows-lead, empty-fits}
 use Rattle.ring_laws.proofs.Counting.{value}
@@ -55,7 +54,7 @@ first-at = record {
   moment = refl;
   right = first-right;
   valid = λ n l is. absurd (cc);
-  good = first-good;
+  living = first-living;
   newest = λ n l is. absurd (cc);
   reach = λ n l is. absurd (cc);
 }
@@ -81,21 +80,12 @@ none-stands r k x w flight empty =
     let c : on_way (is_packet r k) x w.flight ≡ 0 = ap (on_way (is_packet r k) x) flight in
     omega arith
 
-all-filter : (P : Fact → Type 0) (p : Fact → Bool) (h : List Fact) → AllByRecursion P h → AllByRecursion P (filter p h)
-all-filter P p [] a = tt
-all-filter P p (f ∷ h) a = by (p f) (all-filter P p h a.1)
-  where
-    by : (b : Bool) → AllByRecursion P (filter p h) → AllByRecursion P (cond b (f ∷ filter p h) (filter p h))
-    by true rest = (a.0, rest)
-    by false rest = rest
-
 -- the run of a node at rest
-node-rests : (n : ℕ) (facts : List Fact) (t : Timed) → OnlyPairs facts → awaits_poll false facts ≡ false
+node-rests : (n : ℕ) (facts : List Fact) (t : Timed) → awaits_poll false facts ≡ false
     → IsRun n facts t → AllByRecursion Ongoing t.lists.clients
     × AllByRecursion Rests t.lists.clients
-node-rests n facts t o e r =
-    let only = (subst OnlyPairs r.made o).1 in
-    let rest = run-rests plain_serving.mode n (with_ring r.ring) r.later t only r.run.steps in
+node-rests n facts t e r =
+    let rest = run-rests plain_serving.mode n (with_ring r.ring) r.later t r.run.steps in
     (rest.ongoing, rest.rests (sym (ap (awaits_poll false) r.made) ∙ e))
 
 past : {A : Type 0} (xs : List A) (j : ℕ) → slice_get xs j ≡ None → length xs ≤ j
@@ -159,34 +149,33 @@ client-caused h n x settled on rests held = by (is_connected x.state) refl
 
 -- at the end of a script
 script-caused : (lines : List Line) (h : List Fact) → PairsTwoNodes lines → PairsFewCredits lines
-    → OnlyPairs h → Follows lines h → IsSettled h → Caused h
-script-caused lines h two few o f settled n l is =
-    let lead = follows-lead lines two empty_stage first_moment h f.0 empty-fits o f.1.commands in
+    → Follows lines h → IsSettled h → Caused h
+script-caused lines h two few f settled n l is =
+    let lead = follows-lead lines two empty_stage first_moment h f.0 empty-fits f.1.commands in
     let end : lead.end ≡ moment_of h = course-end first_moment h lead.end lead.course in
-    let moves = follows-moves lines h two o f in
+    let moves = follows-moves lines h two f in
     let at = course-reach first_moment h lead.end lead.course [] nothing nothing moves first-at in
     let reach : HeldNode h (moment_of h) nothing n l =
     subst (λ (w : Moment). (m : Lists) → slice_get w.nodes n ≡ Some m → HeldNode h w nothing n m) end
     (λ m k. at.reach n m k) l is in
     let there : slice_get lead.end.nodes n ≡ Some l = ap (λ (w : Moment). slice_get w.nodes n) end ∙ is in
     let runs = script-runs lines h f.0 two few f.1 in
-    let only : OnlyPairs (facts_of n h) = all-filter (λ g. is_of_control g.event ≡ false) (λ g. is_at n g.who) h o in
     by (slice_get f.0.nodes n) refl (runs n) lead.end.nodes lead.fits.size there
-    (λ t k. (lead.fits.nodes n t k).is_node) only reach
+    (λ t k. (lead.fits.nodes n t k).is_node) reach
   where
     by : (o2 : Option Timed) → slice_get f.0.nodes n ≡ o2 → RunAt n (facts_of n h) o2
         → (nodes : List Lists) → length nodes ≡ length f.0.nodes → slice_get nodes n ≡ Some l
         → ((t : Timed) → slice_get f.0.nodes n ≡ Some t → slice_get nodes n ≡ Some t.lists)
-        → OnlyPairs (facts_of n h) → HeldNode h (moment_of h) nothing n l
+        → HeldNode h (moment_of h) nothing n l
         → AllByRecursion (λ x. AllByRecursion (λ c. CauseBy h n x c.what.number c.progress) x.calls) l.clients
-    by None none run nodes size there nodes_are only reach =
+    by None none run nodes size there nodes_are reach =
         let low = slice_get_within nodes n l there in
         let high = past f.0.nodes n none in
         absurd (omega arith)
-    by (Some t) found run nodes size there nodes_are only reach =
+    by (Some t) found run nodes size there nodes_are reach =
         let same_node = nodes_are t found in
         let same : t.lists ≡ l = cc in
-        let rest = node-rests n (facts_of n h) t only (settled.polled n) run in
+        let rest = node-rests n (facts_of n h) t (settled.polled n) run in
         let on : AllByRecursion Ongoing l.clients = subst (λ (m : Lists). AllByRecursion Ongoing m.clients) same
         rest.0 in
         let rests : AllByRecursion Rests l.clients = subst (λ (m : Lists). AllByRecursion Rests m.clients) same
@@ -197,8 +186,8 @@ script-caused lines h two few o f settled n l is =
 
 -- at each end of a command
 pub no-stall : (script : List Line) (h : List Fact) → PairsTwoNodes script → PairsFewCredits script
-    → OnlyPairs h → Follows script h → NoStall script h
-no-stall script h two few o f done left lines =
+    → Follows script h → NoStall script h
+no-stall script h two few f done left lines =
     let end = end-of done left h (subst (λ (s : List Line). Follows s h) lines f) in
     record {
       facts = end.facts;
@@ -209,6 +198,5 @@ no-stall script h two few o f done left lines =
           script-caused done end.facts
           (all-front (λ line. PairsTwo line.command) done left (subst PairsTwoNodes lines two))
           (all-front (λ line. PairsFew line.command) done left (subst PairsFewCredits lines few))
-          (all-front (λ f. is_of_control f.event ≡ false) end.facts end.later (subst OnlyPairs end.parted o))
           end.follows;
     }

@@ -1,6 +1,8 @@
 -- Where a packet of a session stands: at one of its ends, in flight, in hand, or due.
 use Rattle.std.proofs.Common.{◌≡◌, ◌+◌, ◌-◌, ◌≤◌, ◌==◌, ◌&&◌, ℕ, Bool, true, cond, List, []}
-use Rattle.std.proofs.Common.{length, Option, refl, ap, eq-eqb, arith}
+use Rattle.std.proofs.Common.{length, Option, None, refl, ap, eq-eqb, arith, false, subst}
+use Rattle.std.proofs.lemmas.Bool.{eqb-true}
+use Rattle.rpc_laws.specs.Requests.{is_server}
 use Rattle.std.specs.Prelude.{option_to_list}
 use Rattle.std.specs.List.{find}
 use Rattle.packet_header.specs.Parts.{packet_count}
@@ -29,7 +31,8 @@ use Rattle.ring_laws.proofs.ServerReach.{is_other, server-reach, spilt_ask}
 use Rattle.ring_laws.proofs.ServerSteps.{new-counts}
 use Rattle.stall_laws.proofs.Dues.{Due, nothing, reply, delivery, flushed, covers, is_alone, Step}
 use Rattle.stall_laws.proofs.Dues.{alone, older}
-use Rattle.stall_laws.proofs.Dues.{takes, repeats, posts, gives, serves, finishes, arrives}
+use Rattle.stall_laws.proofs.Dues.{takes, repeats, posts, gives, serves, finishes, is_done, leaves}
+use Rattle.stall_laws.proofs.Dues.{arrives}
 use Rattle.stall_laws.proofs.Dues.{overflows, is_bad}
 use Rattle.stall_laws.proofs.Dues.{flushes, rolls, breaks}
 
@@ -79,12 +82,14 @@ pub step-noted : (hand : Option InFlight) (l : Lists) (first : List ℕ) (d : Du
     (u : Due) → Step hand l first d e u → is_noted e ≡ true
 step-noted hand l first d e u (alone _ h) = alone-noted e h
 step-noted hand l first d e u (older t r k o) = refl
+step-noted hand l first d e u (leaves t r k m) = refl
 step-noted hand l first d e u (takes t r k) = refl
 step-noted hand l first d e u (repeats t r k) = refl
 step-noted hand l first d e u (posts t r k) = refl
 step-noted hand l first d e u (gives t r k w q) = refl
 step-noted hand l first d e u (serves t r y k none q) = refl
 step-noted hand l first d e u (finishes t r y w) = refl
+step-noted hand l first d e u (is_done t r y w none) = refl
 step-noted hand l first d e u (arrives peer) = refl
 step-noted hand l first d e u (overflows peer) = refl
 step-noted hand l first d e u (is_bad peer copy h g) = refl
@@ -106,27 +111,30 @@ ServerMoves p t due d u e first l =
 
 pub server-moves : (p : Filter) (t : ℕ) (due : Option ℕ) (hand : Option InFlight) (l : Lists)
     (first second : List ℕ) (d : Due) (e : Event) (u : Due) → Step hand l first d e u
-    → May hand l e first second → ServerMoves p t due d u e first l
-server-moves p t due hand l first second d e u (alone _ h) m =
+    → May hand l e first second → (find (is_server t) l.servers ≡ None → ⊥)
+    → ServerMoves p t due d u e first l
+server-moves p t due hand l first second d e u (alone _ h) m stands =
     let k = server-reach p t due hand l e first second m (alone-other e h) in
     let none = alone-owes p t e first h in
     omega arith
-server-moves p t due hand l first second d e u (older s r k o) m =
+server-moves p t due hand l first second d e u (older s r k o) m stands =
     let g = server-reach p t due hand l (Flushed (Reply s r) k) first second m refl in omega arith
-server-moves p t due hand l first second d e u (takes s r k) m =
+server-moves p t due hand l first second d e u (leaves s r k o) m stands =
+    let g = server-reach p t due hand l (Flushed (Reply s r) k) first second m refl in omega arith
+server-moves p t due hand l first second d e u (takes s r k) m stands =
     let g = server-reach p t due hand l (Took (Reply s r) k) first second m refl in
     let me = self p l.me t s r k in
     omega arith
-server-moves p t due hand l first second d e u (repeats s r k) m =
+server-moves p t due hand l first second d e u (repeats s r k) m stands =
     let g = server-reach p t due hand l (Again (Reply s r) k) first second m refl in
     let me = self p l.me t s r k in
     omega arith
-server-moves p t due hand l first second d e u (posts s r k) m =
+server-moves p t due hand l first second d e u (posts s r k) m stands =
     let q = count-put (λ (q : Queued). own_reply p t q.owner q.number)
     (record { owner = Reply s r; number = k; due = due }) l.queued in
     let me = self p l.me t s r k in
     omega arith
-server-moves p t due hand l first second d e u (gives s r k w same) m =
+server-moves p t due hand l first second d e u (gives s r k w same) m stands =
     let j = count-append (own_job p t) l.jobs.out (new_job s r l.servers) in
     let new = new-counts p l s r t w in
     let last : cond {A = ℕ} (s == t && p r (packet_count (length w.request.ask) - 1)) 1 0
@@ -134,12 +142,12 @@ server-moves p t due hand l first second d e u (gives s r k w same) m =
     ap {B = ℕ} (λ (i : ℕ). cond (s == t && p r i) 1 0) same in
     let me = self p l.me t s r k in
     omega arith
-server-moves p t due hand l first second d e u (serves s r y k none same) m =
+server-moves p t due hand l first second d e u (serves s r y k none same) m stands =
     let out = count-out (own_job p t) (is_job s r) l.jobs.out in
     let nothing : count (own_job p t) (option_to_list (find (is_job s r) l.jobs.out)) ≡ 0 =
     ap (λ (z : Option Job). count (own_job p t) (option_to_list z)) none in
     omega arith
-server-moves p t due hand l first second d e u (finishes s r y w) m =
+server-moves p t due hand l first second d e u (finishes s r y w) m stands =
     let of = job-number s r l.jobs.out w.job w.is_out in
     let j = count-found (own_job p t) (is_job s r) l.jobs.out w.job w.is_out in
     let counted : cond {A = ℕ} (own_job p t w.job) 1 0
@@ -147,27 +155,42 @@ server-moves p t due hand l first second d e u (finishes s r y w) m =
     rw (of.0, of.1, w.own) refl in
     let me = self p l.me t s r (packet_count (length first) - 1) in
     omega arith
-server-moves p t due hand l first second d e u (arrives peer) m =
+server-moves p t due hand l first second d e u (is_done s r y w none) m stands =
+    by (s == t) refl
+  where
+    by : (b : Bool) → (s == t) ≡ b → ServerMoves p t due nothing nothing (Ran s r y) first l
+    by true same = absurd (stands (subst (λ (i : ℕ). find (is_server i) l.servers ≡ None)
+        (eqb-true s t same) none))
+    by false other =
+        let of = job-number s r l.jobs.out w.job w.is_out in
+        let j = count-found (own_job p t) (is_job s r) l.jobs.out w.job w.is_out in
+        let counted : cond {A = ℕ} (own_job p t w.job) 1 0 ≡ 0 = rw (of.0, other) refl in
+        omega arith
+server-moves p t due hand l first second d e u (arrives peer) m stands =
     let g = server-reach p t due hand l (Arrived peer) first second m refl in omega arith
-server-moves p t due hand l first second d e u (overflows peer) m =
+server-moves p t due hand l first second d e u (overflows peer) m stands =
     let g = server-reach p t due hand l (Overflowed peer) first second m refl in omega arith
-server-moves p t due hand l first second d e u (is_bad peer copy h g) m =
+server-moves p t due hand l first second d e u (is_bad peer copy h g) m stands =
     let g = server-reach p t due hand l (Bad peer) first second m refl in omega arith
-server-moves p t due hand l first second d e u (flushes nothing s r k o go c) m =
+server-moves p t due hand l first second d e u (flushes nothing s r k o go c) m stands =
     let g = server-reach p t due hand l (Flushed (Ask s r) k) first second m refl in omega arith
-server-moves p t due hand l first second d e u (flushes (flushed n a b) s r k o go c) m =
+server-moves p t due hand l first second d e u (flushes (flushed n a b) s r k o go c) m stands =
     let g = server-reach p t due hand l (Flushed (Ask s r) k) first second m refl in omega arith
-server-moves p t due hand l first second d e u (flushes (reply n a b c) s r k o go z) m = absurd go
-server-moves p t due hand l first second d e u (flushes delivery s r k o go c) m = absurd go
-server-moves p t due hand l first second d e u (rolls nothing s r c posted got go call) m =
+server-moves p t due hand l first second d e u (flushes (reply n a b c) s r k o go z) m stands =
+    absurd go
+server-moves p t due hand l first second d e u (flushes delivery s r k o go c) m stands = absurd go
+server-moves p t due hand l first second d e u (rolls nothing s r c posted got go call) m stands =
     let g = server-reach p t due hand l (Rolled c posted got) first second m refl in omega arith
-server-moves p t due hand l first second d e u (rolls (flushed n a b) s r c posted got go call) m =
+server-moves p t due hand l first second d e u
+    (rolls (flushed n a b) s r c posted got go call) m stands =
     let g = server-reach p t due hand l (Rolled c posted got) first second m refl in omega arith
-server-moves p t due hand l first second d e u (rolls (reply n a b k) s r c posted got go call) m = absurd go
-server-moves p t due hand l first second d e u (rolls delivery s r c posted got go call) m = absurd go
-server-moves p t due hand l first second d e u (breaks nothing s go) m =
+server-moves p t due hand l first second d e u
+    (rolls (reply n a b k) s r c posted got go call) m stands = absurd go
+server-moves p t due hand l first second d e u (rolls delivery s r c posted got go call) m stands =
+    absurd go
+server-moves p t due hand l first second d e u (breaks nothing s go) m stands =
     let g = server-reach p t due hand l (Broken s) first second m refl in omega arith
-server-moves p t due hand l first second d e u (breaks (flushed n a b) s go) m =
+server-moves p t due hand l first second d e u (breaks (flushed n a b) s go) m stands =
     let g = server-reach p t due hand l (Broken s) first second m refl in omega arith
-server-moves p t due hand l first second d e u (breaks (reply n a b k) s go) m = absurd go
-server-moves p t due hand l first second d e u (breaks delivery s go) m = absurd go
+server-moves p t due hand l first second d e u (breaks (reply n a b k) s go) m stands = absurd go
+server-moves p t due hand l first second d e u (breaks delivery s go) m stands = absurd go

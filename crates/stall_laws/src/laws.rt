@@ -1,8 +1,7 @@
 //! The law of stalls of every history that follows a script, over any number of nodes and sessions.
-//! Each pairing of the script is of two nodes and has 1 to 256 credits, as in every `Script`, and
-//! the history makes sessions by pairing alone.
+//! The sessions are paired, or opened and accepted, and ended. Each pairing of the script is of two
+//! nodes and has 1 to 256 credits, as in every `Script`.
 ghost use Rattle.std.specs.Prelude.{List};
-ghost use Rattle.end_laws.specs.OnlyPairs.{OnlyPairs};
 ghost use Rattle.end_laws.specs.TwoNodes.{PairsTwoNodes};
 ghost use Rattle.rpc_base.specs.declared.fact.Fact.{Fact};
 ghost use Rattle.script_grammar.specs.declared.line.Line.{Line};
@@ -16,5 +15,5 @@ ghost use Rattle.world_laws.specs.FewCredits.{PairsFewCredits};
 /// was rolled back last. An active call without any has no free credit, and a waiting one no slot.
 pub fn no_stall()
     ensures { (script : List Line) (h : List Fact) → PairsTwoNodes script
-        → PairsFewCredits script → OnlyPairs h → Follows script h → NoStall script h }
+        → PairsFewCredits script → Follows script h → NoStall script h }
 {}

@@ -12,14 +12,14 @@ use std::{fs, io};
 /// The cases with a whole report.
 const WHOLE: [&str; 5] = [
     "one_echo",
-    "every_served_command",
+    "every_command",
     "late_copy",
     "refusals",
     "settled_without_credit",
 ];
 
 /// The cases with lines of a report.
-const LINES: [&str; 19] = [
+const LINES: [&str; 22] = [
     "repeated_packets",
     "older_reply_flushed",
     "empty_message",
@@ -39,6 +39,9 @@ const LINES: [&str; 19] = [
     "plain_service",
     "resent_packet_waits",
     "refused_rate",
+    "connect_and_disconnect",
+    "no_answer",
+    "declined",
 ];
 
 /// The cases with counts of lines: a number, how the lines begin, and what each has in it.

@@ -5,10 +5,10 @@ use Rattle.end_laws.proofs.laws.all_genuine.Goals as goal
 use Rattle.std.proofs.Common.{refl}
 
 pub returns : goal.returns
-returns c = λ script h two only follows.
-    let made = follows-course script h two only follows in
+returns c = λ script h two follows.
+    let made = follows-course script h two follows in
     course-genuine first_moment h made.end made.course (λ j z is. absurd (cc))
-    (record { clock = refl; nodes = refl })
+    (λ j z is. absurd (cc)) (record { clock = refl; nodes = refl })
     (record {
       flight = tt;
       hand = tt;

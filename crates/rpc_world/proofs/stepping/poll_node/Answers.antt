@@ -40,7 +40,7 @@ returns c =
     let plays = c.requires.numbered.playing.each c.args.node e
     (ap (λ (z : Play). slice_get z.ends c.args.node) (sym c.stage.view_is) ∙ at) in
     let does = polls.does plays.staffed in
-    let own = mine c.args.node now c.args.stage.now.worked e c.poll.new.self polls.noted _ _ _ c.sound.ensures.kept
+    let own = mine c.args.node now c.args.stage.now.worked e c.poll.new.self polls.noted _ c.sound.ensures.kept
     free does.0 plays in
     let z : Play = record {
       ends = c.stage.inside.nodes;
@@ -60,7 +60,7 @@ returns c =
     (stepped (PollBy (FinishesWorked c.args.stage.now.worked) SendsAll plain_mode now) c.args.node
     c.args.stage.now z e c.poll.new.self polls.noted _ _ _ _ c.stage.view_is
     c.requires.numbered.playing at
-    (λ p. poll-step c.args.node now c.args.stage.now.worked e c.poll.new.self polls.noted _ _ _
+    (λ p. poll-step c.args.node now c.args.stage.now.worked e c.poll.new.self polls.noted _
     c.sound.ensures.kept free (polls.does p.staffed).0 p (polls.does p.staffed).1.answers whole)
     grew from (landed z _ c.args.node c.poll.new.self _
     (drop (length c.facts-before.result.now) c.poll.new.rec.facts.items) (rw is_n at c.in_ok-land_sent.ensures) flight))

@@ -13,7 +13,7 @@ returns-then-place-len c =
     let is : get_or xs p 0 ≡ c.index.result.now =
     get_or_default xs p 0 c.index.result.now inside ∙ sym c.index.ensures in
     rw (← c.self.view_is) (subst (λ m. IsNext c.args.from xs (Some m)) is
-    (next-there xs c.args.from p c.self.invariant inside
+    (next-there xs c.args.from p c.self.invariant.0 inside
     (rw (← c.self.view_is) at c.place_from-place.ensures.below)
     (rw (← c.self.view_is) at c.place_from-place.ensures.above)))
 

@@ -1,37 +1,39 @@
-use Rattle.std.proofs.Common.{◌≡◌, ◌+◌, false, true, [], length, sym, ap, ◌∙◌, IfSome}
+use Rattle.std.proofs.Common.{◌≡◌, false, [], ap, ◌∙◌, refl, IfSome}
+use Rattle.endpoint_loop.specs.Handing.{timed_of}
 use Rattle.endpoint_loop.specs.Polling.{is_stopped, turn_of}
-use Rattle.endpoint_loop.proofs.PollLemmas.{makes-poll, still-serving}
+use Rattle.endpoint_loop.proofs.HandingLemmas.{gives-more, gives-same}
+use Rattle.endpoint_loop.proofs.PollLemmas.{IsCounted, makes-poll, still-serving, turn-busy}
+use Rattle.endpoint_loop.proofs.PollLemmas.{turn-cause, turn-counted, turn-sent}
 use Rattle.endpoint_loop.proofs.StandingLemmas.{goes-polled}
 use Rattle.rpc_laws.specs.Pacing.{line}
-use Rattle.endpoint_loop.specs.Handing.{timed_of}
-use Rattle.endpoint_loop.proofs.HandingLemmas.{gives-more, gives-same}
-use Rattle.std.proofs.Common.{refl}
 use Rattle.endpoint_loop.proofs.endpoint.Endpoint.poll.Goals as goal
-use Rattle.endpoint_loop.proofs.endpoint.Endpoint.poll.Goals.{in-Ok, in-Err}
 
 pub handle_all-handled-requires-clause-served : goal.handle_all-handled-requires-clause-served
 handle_all-handled-requires-clause-served g c =
-    c.finish_all.ensures.served g.V.Service.mode_of
-    (rw (c.raise_clock.ensures) c.self.invariant.served)
+    c.hear_all-heard.ensures.served g.V.Service.mode_of
+    (c.finish_all.ensures.served g.V.Service.mode_of
+    (rw (c.raise_clock.ensures) c.self.invariant.served))
 
 pub invariant_of-self : goal.invariant_of-self
 invariant_of-self g c =
     let h = c.handle_all-handled.ensures.handles in
-    still-serving _ _ _ (timed_of c.finish_all.new.self) (timed_of c.handle_all-handled.new.self)
-    (timed_of c.close.new.self) h.gave
+    let heard = c.hear_all-heard.ensures.jobs in
+    still-serving _ _ _ (timed_of c.hear_all-heard.new.self)
+    (timed_of c.handle_all-handled.new.self) (timed_of c.close.new.self) h.gave
     c.handle_all-handled.ensures.founded c.self.invariant.works c.handle_all-handled.ensures.served
     (c.close.ensures.servers ∙ c.send_all-sent.ensures.servers ∙ c.serve_sessions.ensures.servers
-    ∙ c.watch.ensures.servers)
-    (c.finish_all.ensures.background g.V.Service.mode_of (rw (c.raise_clock.ensures)
-    c.self.invariant.background)) h.background
+    ∙ c.watch-asked.ensures.servers)
+    (rw heard (c.finish_all.ensures.background g.V.Service.mode_of (rw (c.raise_clock.ensures)
+    c.self.invariant.background))) h.background
     h.jobs
     (c.close.ensures.jobs ∙ c.send_all-sent.ensures.jobs ∙ c.serve_sessions.ensures.jobs
-    ∙ c.watch.ensures.jobs)
+    ∙ c.watch-asked.ensures.jobs)
 
 pub returns-clause-polls : goal.returns-clause-polls
 returns-clause-polls g c =
     rw (← c.self.view_is) (makes-poll g.R.Recorder.facts g.R.Recorder.whole g.K.Continuation.given
-    g.L.Link.sent (λ w. record {
+    g.L.Link.sent (λ l. record { faults = g.L.Link.faults l; busies = g.L.Link.busies l })
+    (λ w. record {
       staff = record {
         limit = g.W.Workers.limit w;
         given = g.W.Workers.given w;
@@ -42,41 +44,57 @@ returns-clause-polls g c =
       looks = g.W.Workers.looks w;
     }) (record { mode = g.V.Service.mode_of; answer = g.V.Service.answer }) g.V.Service.stands
     g.W.Workers.answer c.self.invariant.works c.args.now (timed_of c.self.inside.node)
-    (timed_of c.finish_all.new.self) (timed_of c.handle_all-handled.new.self) (timed_of c.watch.new.self)
+    (timed_of c.finish_all.new.self) (timed_of c.hear_all-heard.new.self)
+    (timed_of c.handle_all-handled.new.self) (timed_of c.watch-asked.new.self)
     (timed_of c.serve_sessions.new.self) (timed_of c.send_all-sent.new.self)
     (timed_of c.close.new.self) c.self.inside.workers c.finish_all.new.workers c.handle_all-handled.new.workers
     c.self.inside.service c.handle_all-handled.new.service c.args.rec.now c.finish_all.new.rec
-    c.handle_all-handled.new.rec c.watch.new.rec c.serve_sessions.new.rec c.send_all-sent.new.rec
-    c.close.new.rec c.args.k.now c.handle_all-handled.new.k c.watch.new.k c.args.link.now
-    c.send_all-sent.new.link c.self.invariant.background
+    c.hear_all-heard.new.rec c.handle_all-handled.new.rec c.watch-asked.new.rec
+    c.serve_sessions.new.rec c.send_all-sent.new.rec c.close.new.rec c.args.k.now
+    c.handle_all-handled.new.k c.watch-asked.new.k c.args.link.now c.hear_all-heard.new.link
+    c.watch-asked.new.link c.send_all-sent.new.link c.self.invariant.background
     (rw (c.raise_clock.ensures) at c.finish_all.ensures.makes) c.finish_all.ensures.over
     c.finish_all.ensures.limit c.finish_all.ensures.given c.finish_all.ensures.waiting
-    c.sound.ensures.inbox c.handle_all-handled.ensures.handles c.handle_all-handled.ensures.worked
-    c.handle_all-handled.ensures.looks c.handle_all-handled.ensures.me c.watch.ensures.ended
-    c.serve_sessions.ensures.makes c.send_all-sent.ensures.sent c.close.ensures.makes
-    (turn_of c.match-sent.result) all
+    c.hear_all-heard.result c.watch-asked.result
+    c.hear_all-heard.ensures.listens c.hear_all-heard.ensures.jobs c.hear_all-heard.ensures.me
+    c.hear_all-heard.ensures.inbox c.handle_all-handled.ensures.handles
+    c.handle_all-handled.ensures.worked c.handle_all-handled.ensures.looks
+    c.handle_all-handled.ensures.me c.watch-asked.ensures.timed
+    c.serve_sessions.ensures.makes c.send_all-sent.ensures.sent c.send_all-sent.ensures.held
+    c.close.ensures.makes (turn_of c.turn_by.result) all
     (c.close.ensures.jobs ∙ c.send_all-sent.ensures.jobs ∙ c.serve_sessions.ensures.jobs
-    ∙ c.watch.ensures.jobs) c.sound-2.ensures.kept c.watch.ensures.settled counted
+    ∙ c.watch-asked.ensures.jobs) c.sound.ensures.kept counted
     c.self.inside.node.handed c.close.new.self.handed)
   where
-    all : is_stopped (turn_of c.match-sent.result) ≡ false → line c.send_all-sent.new.self.clock
+    all : is_stopped (turn_of c.turn_by.result) ≡ false → line c.send_all-sent.new.self.clock
         c.send_all-sent.new.self.lists.queued ≡ []
-    all = elim c.match-sent.branch [
-      | in-Ok w ↦ λ e. (w.in-Ok.ensures.all
-          (ap (λ r. is_stopped (turn_of r)) (sym w.result-is) ∙ e)).0
-      | in-Err w ↦ λ e.
-          let no : true ≡ false = ap (λ r. is_stopped (turn_of r)) (sym w.result-is) ∙ e in cc
-    ]
+    all = rw c.turn_by.ensures (λ e. (turn-sent _ c.hear_all-heard.result c.watch-asked.result
+        c.send_all-sent.result _ c.send_all-sent.ensures.all e).0)
 
-    counted : IfSome (turn_of c.match-sent.result) (λ turn.
-        (turn.handled + length c.handle_all-handled.new.self.lists.ring
-        ≡ length c.finish_all.new.self.lists.ring)
-        × (turn.sent + length c.send_all-sent.new.self.lists.queued
-        ≡ length c.serve_sessions.new.self.lists.queued))
-    counted = elim c.match-sent.branch [
-      | in-Ok w ↦ rw (w.result-is) (c.handle_all-handled.ensures.count, w.in-Ok.ensures.count)
-      | in-Err w ↦ rw (w.result-is) tt
-    ]
+    counted : IfSome (turn_of c.turn_by.result) (IsCounted c.hear_all-heard.result
+        c.watch-asked.result (timed_of c.hear_all-heard.new.self)
+        (timed_of c.handle_all-handled.new.self) (timed_of c.serve_sessions.new.self)
+        (timed_of c.send_all-sent.new.self))
+    counted = rw c.turn_by.ensures (turn-counted c.handle_all-handled.result
+        c.hear_all-heard.result c.watch-asked.result c.send_all-sent.result
+        (timed_of c.hear_all-heard.new.self)
+        (timed_of c.handle_all-handled.new.self) (timed_of c.serve_sessions.new.self)
+        (timed_of c.send_all-sent.new.self) c.handle_all-handled.ensures.count
+        c.send_all-sent.ensures.count)
+
+pub returns-clause-busy : goal.returns-clause-busy
+returns-clause-busy g c =
+    turn-busy c.handle_all-handled.result c.hear_all-heard.result c.watch-asked.result
+    c.send_all-sent.result _ _ _ _ c.hear_all-heard.ensures.listens.counts.held.busies.no_less
+    c.watch-asked.ensures.timed.link.counts.held.busies.no_less c.send_all-sent.ensures.busy
+    c.turn_by.result c.turn_by.ensures
+
+pub returns-clause-cause : goal.returns-clause-cause
+returns-clause-cause g c =
+    turn-cause c.handle_all-handled.result c.hear_all-heard.result c.watch-asked.result
+    c.send_all-sent.result _ _ _ _ c.hear_all-heard.ensures.listens.counts.cause
+    c.watch-asked.ensures.timed.link.counts.cause c.send_all-sent.ensures.cause
+    c.turn_by.result c.turn_by.ensures
 
 pub returns-clause-goes_on : goal.returns-clause-goes_on
 returns-clause-goes_on g c =
@@ -96,12 +114,12 @@ pub returns-clause-handed : goal.returns-clause-handed
 returns-clause-handed g c =
     let raised = ap (λ v. v.handed) c.raise_clock.ensures in
     let before = gives-same g.K.Continuation.given c.self.inside.node.handed
-    c.finish_all.new.self.handed c.args.k.now c.args.k.now
-    (c.finish_all.ensures.handed ∙ raised) refl in
-    let after = gives-same g.K.Continuation.given c.watch.new.self.handed
-    c.close.new.self.handed c.watch.new.k c.watch.new.k
+    c.hear_all-heard.new.self.handed c.args.k.now c.args.k.now
+    (c.hear_all-heard.ensures.handed ∙ c.finish_all.ensures.handed ∙ raised) refl in
+    let after = gives-same g.K.Continuation.given c.watch-asked.new.self.handed
+    c.close.new.self.handed c.watch-asked.new.k c.watch-asked.new.k
     (c.close.ensures.handed ∙ c.send_all-sent.ensures.handed ∙ c.serve_sessions.ensures.handed)
     refl in
     rw (← c.self.view_is) (gives-more g.K.Continuation.given _ _ _ _ _ _ before
     (gives-more g.K.Continuation.given _ _ _ _ _ _ c.handle_all-handled.ensures.handed
-    (gives-more g.K.Continuation.given _ _ _ _ _ _ c.watch.ensures.handed after)))
+    (gives-more g.K.Continuation.given _ _ _ _ _ _ c.watch-asked.ensures.handed after)))

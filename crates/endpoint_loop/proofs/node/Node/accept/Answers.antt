@@ -9,7 +9,7 @@ use Rattle.endpoint_loop.proofs.AskLemmas.{calls-before, connected-at, connected
 use Rattle.message_buffer.specs.Buffer.{bytes_of}
 use Rattle.rpc_base.specs.declared.limits.TheConstants.{MOST_MESSAGE_BYTES}
 use Rattle.endpoint_loop.proofs.AskLemmas.{newest-is, node-asked}
-use Rattle.endpoint_loop.proofs.CallerLemmas.{covers-asked}
+use Rattle.endpoint_loop.proofs.CallerLemmas.{covers-entered}
 use Rattle.client_core.specs.Handing.{handed_waiting}
 use Rattle.session_store.specs.Handing.{HandsInAt}
 use Rattle.endpoint_loop.proofs.node.Node.accept.Goals as goal
@@ -59,6 +59,7 @@ invariant_of-self-2 g c =
       fits-asked c.self.inside.me c.self.inside.limits (record {
         asked = c.self.inside.asked;
         server_numbers = c.self.inside.server_numbers;
+        inbox = c.self.inside.inbox;
         counts = c.self.inside.counts;
       }) c.self.inside.paces.items
           (jobs_in c.self.inside.limits.jobs c.self.inside.given c.self.inside.jobs.items)
@@ -67,10 +68,11 @@ invariant_of-self-2 g c =
           asked.clients asked.servers asked.queued asked.size asked.places next
           (c.next.inside.0 + 1) number,
       c.self.invariant.1,
-      covers-asked c.self.inside.callers c.enter.new.self c.from-i.result _ _ _ asked.clients
+      covers-entered c.self.inside.callers c.enter.new.self c.from-i.result
+          (asks (asking_in c.args.waiting)) _ _ asked.clients
           (subst (λ n. Contains c.enter.new.self n)
           (c.session-2.view_is ∙ sym c.session.view_is ∙ sym c.from-i.ensures)
-          c.in-Ok.ensures.entered)
+          c.enter.ensures.entered)
           c.enter.ensures.others c.self.invariant.2,
     )
 
@@ -89,6 +91,7 @@ returns-clause-makes g c =
     rw (← c.self.view_is) (node-asked c.self.inside.me c.self.inside.limits (record {
       asked = c.self.inside.asked;
       server_numbers = c.self.inside.server_numbers;
+      inbox = c.self.inside.inbox;
       counts = c.self.inside.counts;
     }) c.self.inside.paces.items
     (jobs_in c.self.inside.limits.jobs c.self.inside.given c.self.inside.jobs.items)
@@ -101,6 +104,7 @@ returns-clause-makes g c =
     (newest-is c.self.inside.me c.self.inside.limits (record {
       asked = c.self.inside.asked;
       server_numbers = c.self.inside.server_numbers;
+      inbox = c.self.inside.inbox;
       counts = c.self.inside.counts;
     }) c.self.inside.paces.items
     (jobs_in c.self.inside.limits.jobs c.self.inside.given c.self.inside.jobs.items)

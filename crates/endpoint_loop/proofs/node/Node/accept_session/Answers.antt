@@ -16,12 +16,14 @@ invariant_of-self-2 g c =
           (record {
             asked = c.self.inside.asked;
             server_numbers = c.self.inside.server_numbers;
+            inbox = c.self.inside.inbox;
             counts = c.self.inside.counts;
           }) c.self.inside.paces.items
           (jobs_in c.self.inside.limits.jobs c.self.inside.given c.self.inside.jobs.items)
           c.self.inside.clock c.self.inside.rx c.self.inside.store
           c.pair_server.new.self c.self.invariant.0 c.args.credits c.args.peer c.args.client
-          c.requires.some made.queued made.size made.places (c.self.inside.server_numbers + 1) refl taken
+          c.requires.some made.queued made.size made.places (c.self.inside.server_numbers + 1) refl
+          c.requires.most taken
           made.clients made.servers,
       c.self.invariant.1,
       rw made.clients c.self.invariant.2,

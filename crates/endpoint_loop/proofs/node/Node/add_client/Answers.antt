@@ -14,6 +14,7 @@ invariant_of-self-2 g c =
           (record {
             asked = c.self.inside.asked;
             server_numbers = c.self.inside.server_numbers;
+            inbox = c.self.inside.inbox;
             counts = c.self.inside.counts;
           }) c.self.inside.paces.items
           (jobs_in c.self.inside.limits.jobs c.self.inside.given c.self.inside.jobs.items)
@@ -25,7 +26,7 @@ invariant_of-self-2 g c =
             rate = 0;
             next = 0;
           } ∷ []) same) taken
-          made.clients made.servers,
+          made.clients made.servers c.requires.most c.requires.server,
       c.self.invariant.1,
       covers-paired c.self.inside.callers _ _ _ _ _ _ made.clients c.self.invariant.2,
     )

@@ -17,6 +17,7 @@ invariant_of-self-2 g c =
           (record {
             asked = c.self.inside.asked;
             server_numbers = c.self.inside.server_numbers;
+            inbox = c.self.inside.inbox;
             counts = c.self.inside.counts;
           }) c.self.inside.paces.items (jobs_in c.self.inside.limits.jobs c.self.inside.given
           c.self.inside.jobs.items)
@@ -34,6 +35,7 @@ returns-clause-notes g c =
     (record {
       asked = c.self.inside.asked;
       server_numbers = c.self.inside.server_numbers;
+      inbox = c.self.inside.inbox;
       counts = c.self.inside.counts;
     }) c.self.inside.paces.items (jobs_in c.self.inside.limits.jobs c.self.inside.given c.self.inside.jobs.items)
     c.self.inside.clock c.self.inside.rx c.self.inside.store c.begin.new.self c.args.rec.now

@@ -1,8 +1,10 @@
-use Rattle.std.proofs.Common.{refl, ◌∙◌}
+use Rattle.std.proofs.Common.{◌∙◌}
 use Rattle.rpc_laws.specs.Sessions.{comes_to}
 use Rattle.rpc_base.specs.declared.state.SessionState.TheVariants.{Closed}
 use Rattle.endpoint_loop.specs.Seen.{jobs_in}
-use Rattle.endpoint_loop.proofs.CallerLemmas.{covers-stay}
+use Rattle.session_store.specs.Sides.{has_calls}
+use Rattle.endpoint_loop.specs.Calling.{has_request}
+use Rattle.endpoint_loop.proofs.CallerLemmas.{covers-stay, visited-calls}
 use Rattle.endpoint_loop.proofs.JoinLemmas.{fits-closed, node-closed}
 use Rattle.endpoint_loop.proofs.node.Node.close_session.Goals as goal
 
@@ -14,6 +16,7 @@ invariant_of-self g c =
           (record {
             asked = c.self.inside.asked;
             server_numbers = c.self.inside.server_numbers;
+            inbox = c.self.inside.inbox;
             counts = c.self.inside.counts;
           }) c.self.inside.paces.items (jobs_in c.self.inside.limits.jobs c.self.inside.given
           c.self.inside.jobs.items) c.self.inside.clock c.self.inside.rx c.self.inside.store
@@ -21,8 +24,8 @@ invariant_of-self g c =
           c.self.invariant.0 c.args.session h.servers h.queued at
           (rw (← c.self.view_is) at c.requires.closing) h.size h.places,
       c.self.invariant.1,
-      covers-stay c.self.inside.callers c.args.session (comes_to Closed) _ _ (λ x. refl) at
-          c.self.invariant.2,
+      covers-stay c.self.inside.callers c.args.session (comes_to Closed) _ _
+          (λ x. visited-calls (has_calls x) (has_request x.state)) at c.self.invariant.2,
     )
 
 pub returns-clause-makes : goal.returns-clause-makes
@@ -33,6 +36,7 @@ returns-clause-makes g c =
     (record {
       asked = c.self.inside.asked;
       server_numbers = c.self.inside.server_numbers;
+      inbox = c.self.inside.inbox;
       counts = c.self.inside.counts;
     }) c.self.inside.paces.items (jobs_in c.self.inside.limits.jobs c.self.inside.given
     c.self.inside.jobs.items) c.self.inside.clock c.self.inside.rx c.self.inside.store

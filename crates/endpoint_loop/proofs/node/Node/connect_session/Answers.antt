@@ -1,7 +1,9 @@
-use Rattle.std.proofs.Common.{refl, ◌∙◌}
+use Rattle.std.proofs.Common.{◌∙◌}
 use Rattle.rpc_laws.specs.Sessions.{connects}
 use Rattle.endpoint_loop.specs.Seen.{jobs_in}
-use Rattle.endpoint_loop.proofs.CallerLemmas.{covers-stay}
+use Rattle.session_store.specs.Sides.{has_calls}
+use Rattle.endpoint_loop.specs.Calling.{has_request}
+use Rattle.endpoint_loop.proofs.CallerLemmas.{covers-stay, visited-calls}
 use Rattle.endpoint_loop.proofs.JoinLemmas.{fits-connected, node-connected}
 use Rattle.endpoint_loop.proofs.node.Node.connect_session.Goals as goal
 
@@ -13,15 +15,16 @@ invariant_of-self g c =
           (record {
             asked = c.self.inside.asked;
             server_numbers = c.self.inside.server_numbers;
+            inbox = c.self.inside.inbox;
             counts = c.self.inside.counts;
           }) c.self.inside.paces.items (jobs_in c.self.inside.limits.jobs c.self.inside.given
           c.self.inside.jobs.items) c.self.inside.clock c.self.inside.rx c.self.inside.store
           c.connected.new.self g.R.Recorder.facts g.R.Recorder.whole c.args.rec.now c.note.new.self
           c.self.invariant.0 c.args.session h.servers h.queued c.args.server at
-          (rw (← c.self.view_is) at c.requires.connecting) h.size h.places,
+          (rw (← c.self.view_is) at c.requires.connecting) c.requires.server h.size h.places,
       c.self.invariant.1,
-      covers-stay c.self.inside.callers c.args.session (connects c.args.server) _ _ (λ x. refl) at
-          c.self.invariant.2,
+      covers-stay c.self.inside.callers c.args.session (connects c.args.server) _ _
+          (λ x. visited-calls (has_calls x) (has_request x.state)) at c.self.invariant.2,
     )
 
 pub returns-clause-makes : goal.returns-clause-makes
@@ -32,6 +35,7 @@ returns-clause-makes g c =
     (record {
       asked = c.self.inside.asked;
       server_numbers = c.self.inside.server_numbers;
+      inbox = c.self.inside.inbox;
       counts = c.self.inside.counts;
     }) c.self.inside.paces.items (jobs_in c.self.inside.limits.jobs c.self.inside.given
     c.self.inside.jobs.items) c.self.inside.clock c.self.inside.rx c.self.inside.store

@@ -34,6 +34,7 @@ post_answer-requires-clause-ring g c =
     (record {
       asked = c.self.inside.asked;
       server_numbers = c.self.inside.server_numbers;
+      inbox = c.self.inside.inbox;
       counts = c.self.inside.counts;
     }) c.self.inside.paces.items (jobs_in c.self.inside.limits.jobs c.self.inside.given
     c.self.inside.jobs.items)
@@ -46,6 +47,7 @@ post_answer-requires-clause-room g c =
     (record {
       asked = c.self.inside.asked;
       server_numbers = c.self.inside.server_numbers;
+      inbox = c.self.inside.inbox;
       counts = c.self.inside.counts;
     }) c.self.inside.paces.items (jobs_in c.self.inside.limits.jobs c.self.inside.given
     c.self.inside.jobs.items)
@@ -57,6 +59,7 @@ invariant_of-self-in_default-post_answer g c = (
       (record {
         asked = c.self.inside.asked;
         server_numbers = c.self.inside.server_numbers;
+        inbox = c.self.inside.inbox;
         counts = c.self.inside.counts;
       }) c.self.inside.paces.items (jobs_in c.self.inside.limits.jobs c.self.inside.given
       c.self.inside.jobs.items)
@@ -79,6 +82,7 @@ returns-in_default-post_answer-clause-done g c = λ yes.
     (record {
       asked = c.self.inside.asked;
       server_numbers = c.self.inside.server_numbers;
+      inbox = c.self.inside.inbox;
       counts = c.self.inside.counts;
     }) c.self.inside.paces.items (jobs_in c.self.inside.limits.jobs c.self.inside.given
     c.self.inside.jobs.items)
@@ -105,6 +109,7 @@ invariant_of-self-2 g c = (
       (record {
         asked = c.self.inside.asked;
         server_numbers = c.self.inside.server_numbers;
+        inbox = c.self.inside.inbox;
         counts = c.self.inside.counts;
       }) c.self.inside.paces.items (jobs_in c.self.inside.limits.jobs c.self.inside.given
       c.self.inside.jobs.items)
@@ -129,6 +134,7 @@ returns-clause-done g c = λ yes.
     (record {
       asked = c.self.inside.asked;
       server_numbers = c.self.inside.server_numbers;
+      inbox = c.self.inside.inbox;
       counts = c.self.inside.counts;
     }) c.self.inside.paces.items (jobs_in c.self.inside.limits.jobs c.self.inside.given
     c.self.inside.jobs.items)

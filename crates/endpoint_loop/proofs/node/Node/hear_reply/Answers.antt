@@ -27,6 +27,7 @@ returns-then-i-clients-clause-hears g c =
     (record {
       asked = c.self.inside.asked;
       server_numbers = c.self.inside.server_numbers;
+      inbox = c.self.inside.inbox;
       counts = c.self.inside.counts;
     }) c.self.inside.paces.items (jobs_in c.self.inside.limits.jobs c.self.inside.given c.self.inside.jobs.items)
     c.self.inside.clock c.self.inside.rx c.self.inside.store c.self.invariant.0 c.args.head.now
@@ -45,6 +46,7 @@ invariant_of-self g c =
           (record {
             asked = c.self.inside.asked;
             server_numbers = c.self.inside.server_numbers;
+            inbox = c.self.inside.inbox;
             counts = c.self.inside.counts;
           }) c.self.inside.paces.items (jobs_in c.self.inside.limits.jobs c.self.inside.given
           c.self.inside.jobs.items)
@@ -67,6 +69,7 @@ returns-in-Dropped-clause-hears g c =
     (record {
       asked = c.self.inside.asked;
       server_numbers = c.self.inside.server_numbers;
+      inbox = c.self.inside.inbox;
       counts = c.self.inside.counts;
     }) c.self.inside.paces.items (jobs_in c.self.inside.limits.jobs c.self.inside.given c.self.inside.jobs.items)
     c.self.inside.clock c.self.inside.rx c.self.inside.store c.self.invariant.0 c.args.head.now
@@ -87,6 +90,7 @@ invariant_of-self-in-Took g c =
           (record {
             asked = c.self.inside.asked;
             server_numbers = c.self.inside.server_numbers;
+            inbox = c.self.inside.inbox;
             counts = c.self.inside.counts;
           }) c.self.inside.paces.items (jobs_in c.self.inside.limits.jobs c.self.inside.given
           c.self.inside.jobs.items)
@@ -110,6 +114,7 @@ returns-in-Took-clause-hears g c =
     (record {
       asked = c.self.inside.asked;
       server_numbers = c.self.inside.server_numbers;
+      inbox = c.self.inside.inbox;
       counts = c.self.inside.counts;
     }) c.self.inside.paces.items (jobs_in c.self.inside.limits.jobs c.self.inside.given c.self.inside.jobs.items)
     c.self.inside.clock c.self.inside.rx c.self.inside.store c.self.invariant.0 c.args.head.now
@@ -131,6 +136,7 @@ invariant_of-self-in-Ended g c =
           (record {
             asked = c.self.inside.asked;
             server_numbers = c.self.inside.server_numbers;
+            inbox = c.self.inside.inbox;
             counts = c.self.inside.counts;
           }) c.self.inside.paces.items (jobs_in c.self.inside.limits.jobs c.self.inside.given
           c.self.inside.jobs.items)
@@ -154,6 +160,7 @@ returns-in-Ended-clause-hears g c =
     (record {
       asked = c.self.inside.asked;
       server_numbers = c.self.inside.server_numbers;
+      inbox = c.self.inside.inbox;
       counts = c.self.inside.counts;
     }) c.self.inside.paces.items (jobs_in c.self.inside.limits.jobs c.self.inside.given c.self.inside.jobs.items)
     c.self.inside.clock c.self.inside.rx c.self.inside.store c.self.invariant.0 c.args.head.now

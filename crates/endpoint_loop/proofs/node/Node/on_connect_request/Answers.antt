@@ -1,6 +1,5 @@
 use Rattle.std.proofs.Common.{false, true, None, Some, [], ◌∷◌, sym, ap, refl, ◌∙◌}
 use Rattle.rpc_base.specs.declared.event.Event.TheVariants.{Starved}
-use Rattle.rpc_laws.specs.declared.tables.Timed.{Timed}
 use Rattle.rpc_laws.specs.Facts.{plain}
 use Rattle.rpc_laws.specs.ControlTable.{connect_reply}
 use Rattle.rpc_laws.specs.declared.rows.ControlRow.TheVariants.{Confirms, Declines}

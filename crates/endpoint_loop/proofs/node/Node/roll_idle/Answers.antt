@@ -10,6 +10,7 @@ roll-requires-clause-may g c =
     (record {
       asked = c.self.inside.asked;
       server_numbers = c.self.inside.server_numbers;
+      inbox = c.self.inside.inbox;
       counts = c.self.inside.counts;
     }) c.self.inside.paces.items
     (jobs_in c.self.inside.limits.jobs c.self.inside.given c.self.inside.jobs.items)
@@ -24,6 +25,7 @@ invariant_of-self g c =
           (record {
             asked = c.self.inside.asked;
             server_numbers = c.self.inside.server_numbers;
+            inbox = c.self.inside.inbox;
             counts = c.self.inside.counts;
           }) c.self.inside.paces.items (jobs_in c.self.inside.limits.jobs c.self.inside.given
           c.self.inside.jobs.items)
@@ -42,6 +44,7 @@ returns-clause-makes g c =
     (record {
       asked = c.self.inside.asked;
       server_numbers = c.self.inside.server_numbers;
+      inbox = c.self.inside.inbox;
       counts = c.self.inside.counts;
     }) c.self.inside.paces.items (jobs_in c.self.inside.limits.jobs c.self.inside.given
     c.self.inside.jobs.items)

@@ -67,6 +67,7 @@ invariant_of-self g c =
       fits-took-it c.self.inside.me c.self.inside.limits (record {
         asked = c.self.inside.asked;
         server_numbers = c.self.inside.server_numbers;
+        inbox = c.self.inside.inbox;
         counts = c.self.inside.counts;
       }) c.self.inside.paces.items (jobs_in c.self.inside.limits.jobs c.self.inside.given
           c.self.inside.jobs.items) c.self.inside.clock c.self.inside.rx c.self.inside.store
@@ -95,6 +96,7 @@ returns-in-Took-clause-serves g c =
     rw (← c.self.view_is) (node-took-it c.self.inside.me c.self.inside.limits (record {
       asked = c.self.inside.asked;
       server_numbers = c.self.inside.server_numbers;
+      inbox = c.self.inside.inbox;
       counts = c.self.inside.counts;
     }) c.self.inside.paces.items (jobs_in c.self.inside.limits.jobs c.self.inside.given
     c.self.inside.jobs.items) c.self.inside.clock c.self.inside.rx c.self.inside.store
@@ -121,6 +123,7 @@ invariant_of-self-in-Again g c =
       fits-again c.self.inside.me c.self.inside.limits (record {
         asked = c.self.inside.asked;
         server_numbers = c.self.inside.server_numbers;
+        inbox = c.self.inside.inbox;
         counts = c.self.inside.counts;
       }) c.self.inside.paces.items (jobs_in c.self.inside.limits.jobs c.self.inside.given
           c.self.inside.jobs.items) c.self.inside.clock c.self.inside.rx c.self.inside.store
@@ -149,6 +152,7 @@ returns-in-Again-clause-serves g c =
     rw (← c.self.view_is) (node-again c.self.inside.me c.self.inside.limits (record {
       asked = c.self.inside.asked;
       server_numbers = c.self.inside.server_numbers;
+      inbox = c.self.inside.inbox;
       counts = c.self.inside.counts;
     }) c.self.inside.paces.items (jobs_in c.self.inside.limits.jobs c.self.inside.given
     c.self.inside.jobs.items) c.self.inside.clock c.self.inside.rx c.self.inside.store
@@ -175,6 +179,7 @@ invariant_of-self-in-Ran g c =
       fits-ran c.self.inside.me c.self.inside.limits (record {
         asked = c.self.inside.asked;
         server_numbers = c.self.inside.server_numbers;
+        inbox = c.self.inside.inbox;
         counts = c.self.inside.counts;
       }) c.self.inside.paces.items (jobs_in c.self.inside.limits.jobs c.self.inside.given
           c.self.inside.jobs.items) c.self.inside.clock c.self.inside.rx c.self.inside.store
@@ -204,6 +209,7 @@ returns-in-Ran-clause-serves g c =
     rw (← c.self.view_is) (node-ran c.self.inside.me c.self.inside.limits (record {
       asked = c.self.inside.asked;
       server_numbers = c.self.inside.server_numbers;
+      inbox = c.self.inside.inbox;
       counts = c.self.inside.counts;
     }) c.self.inside.paces.items (jobs_in c.self.inside.limits.jobs c.self.inside.given
     c.self.inside.jobs.items) c.self.inside.clock c.self.inside.rx c.self.inside.store
@@ -230,6 +236,7 @@ invariant_of-self-in-Dropped g c =
       fits-drop c.self.inside.me c.self.inside.limits (record {
         asked = c.self.inside.asked;
         server_numbers = c.self.inside.server_numbers;
+        inbox = c.self.inside.inbox;
         counts = c.self.inside.counts;
       }) c.self.inside.paces.items (jobs_in c.self.inside.limits.jobs c.self.inside.given
           c.self.inside.jobs.items) c.self.inside.clock c.self.inside.rx c.self.inside.store
@@ -259,6 +266,7 @@ returns-in-Dropped-clause-serves g c =
     rw (← c.self.view_is) (node-drop c.self.inside.me c.self.inside.limits (record {
       asked = c.self.inside.asked;
       server_numbers = c.self.inside.server_numbers;
+      inbox = c.self.inside.inbox;
       counts = c.self.inside.counts;
     }) c.self.inside.paces.items (jobs_in c.self.inside.limits.jobs c.self.inside.given
     c.self.inside.jobs.items) c.self.inside.clock c.self.inside.rx c.self.inside.store
@@ -286,6 +294,7 @@ invariant_of-self-in-Give g c =
       fits-give c.self.inside.me c.self.inside.limits (record {
         asked = c.self.inside.asked;
         server_numbers = c.self.inside.server_numbers;
+        inbox = c.self.inside.inbox;
         counts = c.self.inside.counts;
       }) c.self.inside.paces.items (jobs_in c.self.inside.limits.jobs c.self.inside.given
           c.self.inside.jobs.items) c.self.inside.clock c.self.inside.rx c.self.inside.store
@@ -321,6 +330,7 @@ returns-in-Give-clause-serves g c =
     rw (← c.self.view_is) (node-give c.self.inside.me c.self.inside.limits (record {
       asked = c.self.inside.asked;
       server_numbers = c.self.inside.server_numbers;
+      inbox = c.self.inside.inbox;
       counts = c.self.inside.counts;
     }) c.self.inside.paces.items (jobs_in c.self.inside.limits.jobs c.self.inside.given
     c.self.inside.jobs.items) c.self.inside.clock c.self.inside.rx c.self.inside.store
@@ -353,6 +363,7 @@ overflow_add-self g c =
     let none = unfull-of c.self.inside.me c.self.inside.limits (record {
       asked = c.self.inside.asked;
       server_numbers = c.self.inside.server_numbers;
+      inbox = c.self.inside.inbox;
       counts = c.self.inside.counts;
     }) c.self.inside.paces.items (jobs_in c.self.inside.limits.jobs c.self.inside.given
     c.self.inside.jobs.items) c.self.inside.clock c.self.inside.rx c.self.inside.store
@@ -381,6 +392,7 @@ push_back_reserved-requires g c =
     let none = unfull-of c.self.inside.me c.self.inside.limits (record {
       asked = c.self.inside.asked;
       server_numbers = c.self.inside.server_numbers;
+      inbox = c.self.inside.inbox;
       counts = c.self.inside.counts;
     }) c.self.inside.paces.items (jobs_in c.self.inside.limits.jobs c.self.inside.given
     c.self.inside.jobs.items) c.self.inside.clock c.self.inside.rx c.self.inside.store

@@ -23,6 +23,7 @@ returns-in_default-place_of_server-clause-serves g c =
     rw (← c.self.view_is) (node-unknown c.self.inside.me c.self.inside.limits (record {
       asked = c.self.inside.asked;
       server_numbers = c.self.inside.server_numbers;
+      inbox = c.self.inside.inbox;
       counts = c.self.inside.counts;
     }) c.self.inside.paces.items (jobs_in c.self.inside.limits.jobs c.self.inside.given
     c.self.inside.jobs.items) c.self.inside.clock c.self.inside.rx c.self.inside.store
@@ -44,6 +45,7 @@ returns-then-ne-clause-serves g c =
     rw (← c.self.view_is) (node-stranger c.self.inside.me c.self.inside.limits (record {
       asked = c.self.inside.asked;
       server_numbers = c.self.inside.server_numbers;
+      inbox = c.self.inside.inbox;
       counts = c.self.inside.counts;
     }) c.self.inside.paces.items (jobs_in c.self.inside.limits.jobs c.self.inside.given
     c.self.inside.jobs.items) c.self.inside.clock c.self.inside.rx c.self.inside.store

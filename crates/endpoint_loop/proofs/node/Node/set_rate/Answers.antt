@@ -11,6 +11,7 @@ returns-then-not-lives-clause-makes g c =
     (record {
       asked = c.self.inside.asked;
       server_numbers = c.self.inside.server_numbers;
+      inbox = c.self.inside.inbox;
       counts = c.self.inside.counts;
     }) c.self.inside.paces.items (jobs_in c.self.inside.limits.jobs c.self.inside.given
     c.self.inside.jobs.items)
@@ -35,6 +36,7 @@ invariant_of-self g c =
           (record {
             asked = c.self.inside.asked;
             server_numbers = c.self.inside.server_numbers;
+            inbox = c.self.inside.inbox;
             counts = c.self.inside.counts;
           }) c.self.inside.paces.items (jobs_in c.self.inside.limits.jobs c.self.inside.given
           c.self.inside.jobs.items)
@@ -54,6 +56,7 @@ returns-clause-makes g c =
     (record {
       asked = c.self.inside.asked;
       server_numbers = c.self.inside.server_numbers;
+      inbox = c.self.inside.inbox;
       counts = c.self.inside.counts;
     }) c.self.inside.paces.items (jobs_in c.self.inside.limits.jobs c.self.inside.given
     c.self.inside.jobs.items)

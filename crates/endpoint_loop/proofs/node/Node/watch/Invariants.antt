@@ -1,21 +1,25 @@
 use Rattle.std.proofs.Common.{◌≡◌, ◌≤◌, ◌-◌}
 use Rattle.rpc_laws.specs.ControlSteps.{TimesSession}
 use Rattle.rpc_laws.specs.Steps.{Visits}
-use Rattle.endpoint_loop.specs.Noting.{MakesEnds}
+use Rattle.rpc_outside.specs.Linking.{NoneComes}
+use Rattle.endpoint_loop.specs.Watching.{MakesTimes}
 use Rattle.endpoint_loop.specs.Handing.{timed_of}
 use Rattle.endpoint_loop.specs.Handing.{GivesBackTo}
 use Rattle.endpoint_loop.proofs.node.Node.watch.Given as goal
 
 abbrev pub invariant-sessions : goal.invariant-sessions
 invariant-sessions g l =
-    MakesEnds g.R.Recorder.facts g.R.Recorder.whole g.K.Continuation.given
-    (Visits (TimesSession l.timeout) l.from) (timed_of l.initial.self) (timed_of l.self)
-    l.initial.rec l.rec l.initial.k l.k
+    MakesTimes g.R.Recorder.facts g.R.Recorder.whole g.K.Continuation.given g.L.Link.sent
+    (λ l. record { faults = g.L.Link.faults l; busies = g.L.Link.busies l }) (Visits (TimesSession l.timeout) l.from)
+    l.told (timed_of l.initial.self) (timed_of l.self) l.initial.rec l.rec l.initial.k l.k
+    l.initial.link l.link
     × (l.self.lists.servers ≡ l.initial.self.lists.servers)
     × (l.self.lists.me ≡ l.initial.self.lists.me)
     × (l.self.lists.jobs ≡ l.initial.self.lists.jobs)
     × (l.from ≤ l.count)
     × GivesBackTo g.K.Continuation.given l.initial.self.handed l.self.handed l.initial.k l.k
+    × NoneComes g.L.Link.waiting g.L.Link.received l.initial.link l.link
+    × (l.told.sent ≤ l.from)
 
 abbrev pub decreases-sessions : goal.decreases-sessions
 decreases-sessions g l = l.count - l.from

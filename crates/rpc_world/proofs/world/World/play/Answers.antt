@@ -43,28 +43,22 @@ returns-clause-follows c =
     c.loop-line.invariant.0 in
     rw same (follows-by _ _ c.loop-line.stage all c.loop-line.invariant.1)
 
-pub execute-requires-clause-served : goal.execute-requires-clause-served
-execute-requires-clause-served c =
-    let within : c.loop-line.line-index < length c.lines-line-items.result.now = omega arith in
-    (ready _ _ _ _ _ c.lines-line-items.ensures.lines c.lines-line-items.ensures.script c.requires
-    within c.line-item.is c.loop-line.invariant.2).served
-
 pub execute-requires-clause-ranges : goal.execute-requires-clause-ranges
 execute-requires-clause-ranges c =
     let within : c.loop-line.line-index < length c.lines-line-items.result.now = omega arith in
-    (ready _ _ _ _ _ c.lines-line-items.ensures.lines c.lines-line-items.ensures.script c.requires
+    (ready _ _ _ _ _ c.lines-line-items.ensures.lines c.lines-line-items.ensures.script
     within c.line-item.is c.loop-line.invariant.2).ranges
 
 pub execute-requires-clause-names : goal.execute-requires-clause-names
 execute-requires-clause-names c =
     let within : c.loop-line.line-index < length c.lines-line-items.result.now = omega arith in
-    (ready _ _ _ _ _ c.lines-line-items.ensures.lines c.lines-line-items.ensures.script c.requires
+    (ready _ _ _ _ _ c.lines-line-items.ensures.lines c.lines-line-items.ensures.script
     within c.line-item.is c.loop-line.invariant.2).names
 
 pub execute-requires-clause-clock : goal.execute-requires-clause-clock
 execute-requires-clause-clock c =
     let within : c.loop-line.line-index < length c.lines-line-items.result.now = omega arith in
-    (ready _ _ _ _ _ c.lines-line-items.ensures.lines c.lines-line-items.ensures.script c.requires
+    (ready _ _ _ _ _ c.lines-line-items.ensures.lines c.lines-line-items.ensures.script
     within c.line-item.is c.loop-line.invariant.2).clock
 
 pub execute-requires-clause-numbered : goal.execute-requires-clause-numbered

@@ -1,0 +1,67 @@
+-- What always holds of a node's lists holds of all nodes at each moment.
+use Rattle.std.proofs.Common.{◌≡◌, ℕ, Option, Some, length, slice_get, refl, sym, ap, ◌∙◌, subst}
+use Rattle.rpc_base.specs.declared.event.Event.TheVariants.{Made}
+use Rattle.rpc_base.specs.declared.fact.Fact.{Fact}
+use Rattle.rpc_base.specs.declared.fact.Who.{Who}
+use Rattle.rpc_base.specs.declared.fact.Who.TheVariants.{Net}
+use Rattle.rpc_laws.specs.declared.tables.Lists.{Lists}
+use Rattle.rpc_laws.specs.BufferSafety.{changed, nodes_at}
+use Rattle.rpc_laws.specs.Facts.{plain}
+use Rattle.rpc_laws.specs.NodeLists.{after, new_lists}
+use Rattle.rpc_laws.specs.UsualLimits.{with_ring}
+use Rattle.node_laws.proofs.ValidLemmas.{valid_after, valid_new}
+use Rattle.node_laws.specs.Valid.{Valid}
+use Rattle.end_laws.specs.Moments.{Moment, moved}
+use Rattle.end_laws.proofs.Courses.{AtNode, Ends, client_fact, server_fact, paired, moved-node}
+use Rattle.end_laws.proofs.ListLemmas.{Placed, add-placed, set-other, set-placed}
+
+abbrev ValidAt : ℕ → Lists → Type 0
+ValidAt n l = Valid l
+
+abbrev pub AllValid : Moment → Type 0
+AllValid w = Placed ValidAt w.nodes
+
+pub valid-net : (w : Moment) (f : Fact) → f.who ≡ Net → AllValid w → AllValid (moved w f)
+valid-net w f who v = subst (λ (p : Who). Placed ValidAt (nodes_at w.clock p w.nodes f)) (sym who) v
+
+pub valid-made : (w : Moment) (ring : ℕ) → AllValid w
+    → AllValid (moved w (plain (length w.nodes) (Made ring)))
+valid-made w ring v =
+    add-placed ValidAt w.nodes (new_lists (length w.nodes) (with_ring ring))
+    (valid_new (length w.nodes) (with_ring ring)) v
+
+pub valid-node : (w : Moment) (n : ℕ) (l : Lists) (f : Fact) → AtNode w n l f → AllValid w
+    → AllValid (moved w f)
+valid-node w n l f a v =
+    subst AllValid (sym (moved-node w n l f a))
+    (set-placed ValidAt w.nodes n l (after w.clock l f) a.is_node
+    (valid_after w.clock l f (v n l a.is_node) a.lawful) (λ j z ne is. v j z is))
+
+module _ (w : Moment) (n m credits : ℕ) (client server : Lists)
+    (ends : Ends w n m credits client server) (v : AllValid w) where
+  abbrev one : Fact
+  one = client_fact n m credits client server
+
+  abbrev other : Fact
+  other = server_fact n m credits client server
+
+  pub valid-one : AllValid (moved w one)
+  valid-one =
+      subst (λ (o : Option Lists). Placed ValidAt (changed w.clock o n w.nodes one))
+      (sym ends.is_client)
+      (set-placed ValidAt w.nodes n client (after w.clock client one) ends.is_client
+      (valid_after w.clock client one (v n client ends.is_client)
+      (record { numbered = refl; room = ends.fits_client })) (λ j z ne is. v j z is))
+
+  is-server : slice_get (moved w one).nodes m ≡ Some server
+  is-server =
+      ap (λ (o : Option Lists). slice_get (changed w.clock o n w.nodes one) m) ends.is_client
+      ∙ (set-other w.nodes n m (after w.clock client one) (λ k. ends.two (sym k)) ∙ ends.is_server)
+
+  pub valid-pair : AllValid (paired w n m credits client server)
+  valid-pair =
+      subst (λ (o : Option Lists). Placed ValidAt (changed w.clock o m (moved w one).nodes other))
+      (sym is-server)
+      (set-placed ValidAt (moved w one).nodes m server (after w.clock server other) is-server
+      (valid_after w.clock server other (v m server ends.is_server)
+      (record { numbered = refl; room = ends.fits_server })) (λ j z ne is. valid-one j z is))

@@ -1,0 +1,10 @@
+use Rattle.end_laws.proofs.AgreeLaw.{course-agree, first-lets}
+use Rattle.end_laws.proofs.GoodStart.{first-good, first-right, first-valid}
+use Rattle.end_laws.proofs.PairLeads.{follows-course}
+use Rattle.end_laws.specs.Moments.{first_moment}
+use Rattle.end_laws.proofs.laws.ends_agree.Goals as goal
+
+pub returns : goal.returns
+returns c = λ script h two follows.
+    let made = follows-course script h two follows in
+    course-agree first_moment h made.end made.course first-right first-valid first-good first-lets

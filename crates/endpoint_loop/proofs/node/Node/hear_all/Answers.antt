@@ -1,0 +1,57 @@
+use Rattle.std.proofs.Common.{◌≡◌, ◌∙◌, List, [], length, refl, ap, arith, length-drop}
+use Rattle.rpc_laws.specs.declared.tables.Arrival.{Arrival}
+use Rattle.rpc_laws.specs.ControlSteps.{Hears}
+use Rattle.endpoint_loop.specs.Handing.{Holding}
+use Rattle.endpoint_loop.proofs.ListenLemmas.{listens-more, listens-none, listens-until, none-waits}
+use Rattle.endpoint_loop.proofs.NotingLemmas.{none-comes}
+use Rattle.endpoint_loop.proofs.node.Node.hear_all.Goals as goal
+
+pub packets-init : goal.packets-init
+packets-init g c = record {
+  listens = listens-none g.R.Recorder.facts g.R.Recorder.whole g.L.Link.sent (λ l. record { faults = g.L.Link.faults l; busies = g.L.Link.busies l }) Hears _ _ _;
+  heard = omega (
+    arith,
+    c.len-count.ensures.len,
+    ap (λ (n : Holding). length n.lists.inbox) c.self.view_is,
+  );
+  few = c.len-count.ensures.within;
+  sent = omega arith;
+  ring = refl;
+  served = λ mode all. all;
+  me = refl;
+  jobs = refl;
+  handed = refl;
+  lists = record { waits = refl; stays = refl };
+}
+
+pub packets-preserved : goal.packets-preserved
+packets-preserved g c =
+    let i = c.packets.invariant in
+    let h = c.hear_control-one.ensures in
+    record {
+      listens = listens-more g.R.Recorder.facts g.R.Recorder.whole g.L.Link.sent (λ l. record { faults = g.L.Link.faults l; busies = g.L.Link.busies l }) Hears c.packets.told c.hear_control-one.result _ _ _ _ _ _ _ _ _ _ refl
+          refl refl i.listens h.listens;
+      heard = omega (
+        arith,
+        i.heard,
+        h.one,
+        ap (λ (xs : List Arrival). length xs) h.inbox,
+        length-drop 1 c.packets.self.lists.inbox,
+        c.packets-test.true,
+      );
+      few = i.few;
+      sent = omega (arith, i.sent, h.one, h.few);
+      ring = h.ring ∙ i.ring;
+      served = λ mode all. h.served mode (i.served mode all);
+      me = h.me ∙ i.me;
+      jobs = h.jobs ∙ i.jobs;
+      handed = h.handed ∙ i.handed;
+      lists = none-comes g.L.Link.waiting g.L.Link.received _ _ _ i.lists h.lists;
+    }
+
+pub returns-clause-listens : goal.returns-clause-listens
+returns-clause-listens g c =
+    let i = c.packets.invariant in
+    listens-until g.R.Recorder.facts g.R.Recorder.whole g.L.Link.sent (λ l. record { faults = g.L.Link.faults l; busies = g.L.Link.busies l }) Hears (λ t. t.lists.inbox ≡ []) c.packets.told _ _ _ _ _ _ i.listens
+    (λ asks. none-waits c.packets.self.lists.inbox
+    (omega (arith, i.heard, c.packets-test.false)))

@@ -1,0 +1,81 @@
+-- What steps that hand control packets to the link tell of it.
+use Rattle.std.specs.Prelude.{◌≡◌, ℕ, ◌+◌, ◌≤◌, min, Bool, true, false, Option, option_map, IfSome}
+use Rattle.std.specs.Prelude.{List, ◌++◌, count_by, map, slice_get}
+use Rattle.packet_header.specs.declared.packet.ControlHeader.{ControlHeader}
+use Rattle.rpc_base.specs.declared.event.Event.{Event}
+use Rattle.rpc_base.specs.declared.event.Event.TheVariants.{Unsent}
+use Rattle.rpc_base.specs.declared.fact.Fact.{Fact}
+use Rattle.rpc_laws.specs.declared.tables.Timed.{Timed}
+use Rattle.rpc_laws.specs.ControlSteps.{Speaks, given_up}
+use Rattle.rpc_laws.specs.Facts.{plain}
+use Rattle.rpc_laws.specs.Steps.{Goes, Rel}
+use Rattle.rpc_outside.specs.Faults.{end_of_count, HasRisen}
+use Rattle.rpc_outside.specs.Linking.{Carried}
+use Rattle.endpoint_loop.specs.Counting.{is_sent}
+use Rattle.endpoint_loop.specs.Noting.{Makes, sent_of}
+use Rattle.endpoint_loop.specs.declared.retrying.Asking.{Asking}
+
+-- a link's counts: how often it failed so far, and how often it was busy
+pub record Troubles : Type 0 where
+  pub faults : ℕ
+  pub busies : ℕ
+
+-- a count rose by n at least, or stands at its end
+pub record RisenBy (n old new : ℕ) : Type 0 where
+  pub no_less : old ≤ new
+  pub rose : min (old + n) end_of_count ≤ new
+
+-- n packets weren't taken: for each the link failed or was busy
+pub record HeldBack (n : ℕ) (from to : Troubles) : Type 0 where
+  pub failed : ℕ
+  pub busy : ℕ
+  pub parts : n ≡ failed + busy
+  pub faults : RisenBy failed from.faults to.faults
+  pub busies : RisenBy busy from.busies to.busies
+
+-- a control packet that the link didn't take
+abbrev pub is_unsent : Event → Bool
+is_unsent (Unsent peer) = true
+is_unsent _ = false
+
+-- how many of these facts are of such packets
+abbrev pub unsent_in : List Fact → ℕ
+unsent_in x = count_by (λ f. is_unsent f.event) x
+
+-- the count of faults has risen where one came, and otherwise it is unchanged
+abbrev pub FailedAs : (failed : Bool) → (old new : ℕ) → Type 0
+FailedAs true old new = HasRisen old new
+FailedAs false old new = new ≡ old
+
+-- what a link counted while these facts were noted: for each packet that it didn't take it failed or
+-- was busy
+pub record CountsUnsent (x : List Fact) (failed : Bool) (from to : Troubles) : Type 0 where
+  pub held : HeldBack (unsent_in x) from to
+  pub cause : FailedAs failed from.faults to.faults
+
+-- the link, where it tells what it sent, took just the datagrams of the Sent facts; it is told how
+-- many they are, and whether the link failed
+pub record LinkTook {L : Type 0} (sent : L → Option (List Carried)) (troubles : L → Troubles)
+    (told : Asking) (x : List Fact) (from to : L) : Type 0 where
+  pub took : sent to ≡ option_map (λ ds. ds ++ sent_of x) (sent from)
+  pub went : told.sent ≡ count_by (λ f. is_sent f.event) x
+  pub counts : CountsUnsent x told.failed (troubles from) (troubles to)
+
+-- a step that hands control packets to the link
+pub record MakesSpoken {R L : Type 0} (facts : R → Option (List Fact)) (whole : R → Bool)
+    (sent : L → Option (List Carried)) (troubles : L → Troubles) (P : Rel) (told : Asking)
+    (old new : Timed) (before now : R) (from to : L) : Type 0 where
+  pub makes : Makes facts whole P old new before now
+  pub link : LinkTook sent troubles told makes.noted from to
+
+-- session i sends its own request, with this header
+pub record SendsRequest (i : ℕ) (h : ControlHeader) (s : Timed) (x : List Fact) (t : Timed)
+    : Type 0 where
+  pub facts : IfSome (slice_get s.lists.clients i) (λ c. Speaks s.lists.me c.way.peer h x)
+  pub goes : Goes s x t
+
+-- session i, to whose request no answer came, gives up
+pub record GivesUpAt (i : ℕ) (s : Timed) (x : List Fact) (t : Timed) : Type 0 where
+  pub facts : IfSome (slice_get s.lists.clients i)
+      (λ c. x ≡ map (plain s.lists.me) (given_up c.state c.way.number))
+  pub goes : Goes s x t

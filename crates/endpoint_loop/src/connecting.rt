@@ -1,0 +1,275 @@
+//! Sessions are opened and closed by the application.
+ghost use Rattle.std.specs.Prelude.{◌≡◌, ◌<◌, ◌≤◌, ◌++◌, [], ◌∷◌, Some, None, true, length};
+ghost use Rattle.std.specs.Prelude.{IfErr};
+ghost use Rattle.std.specs.Prelude.{IfOk, OnErr, OnOk};
+ghost use Rattle.std.specs.List.{find};
+ghost use Rattle.endpoint_loop.specs.Applying.{IfNoMemory, Leaves, StartsRate, UnlessNoMemory};
+ghost use Rattle.endpoint_loop.specs.Handing.{timed_of};
+ghost use Rattle.endpoint_loop.specs.Noting.{Makes};
+ghost use Rattle.endpoint_loop.specs.Standing.{GoesOn};
+ghost use Rattle.rpc_base.specs.declared.event.Event.TheVariants.{Closing, Opened};
+ghost use Rattle.rpc_laws.specs.Groups.{Connects, Disconnects, client_refusal, disconnect_by};
+ghost use Rattle.rpc_laws.specs.Groups.{pending as pending_of, state_of};
+ghost use Rattle.rpc_laws.specs.Sessions.{is_client, is_connected as is_connected_in, is_live};
+ghost use Rattle.rpc_laws.specs.Sessions.{opened_end};
+ghost use Rattle.rpc_laws.specs.Steps.{NotesNext};
+ghost use Rattle.session_mgmt.specs.Table.{closing, refused};
+
+use crate::endpoint::Endpoint;
+use crate::node::Node;
+use rpc_base::{
+    Event, MOST_CREDITS, NoMemory, Peer, SESSION_NUMBERS, SessionNo, SessionState, Who,
+};
+use rpc_laws::Pace;
+use rpc_outside::{Recorder, Service};
+use session_mgmt::{CloseError, ConnectError};
+use std::alloc::Global;
+use worker_crew::Workers;
+
+// Whether a session in this state is connected, also where it takes no more calls.
+fn is_connected(state: SessionState) -> bool
+    ensures { result ≡ is_connected_in state }
+{
+    match state {
+        SessionState::Connected => true,
+        SessionState::Spent => true,
+        _ => false,
+    }
+}
+
+impl Node {
+    // The next client session is opened, for which the node has room. Want of memory changes
+    // nothing.
+    fn open_client<R: Recorder>(
+        &mut self,
+        alloc: Global,
+        peer: Peer,
+        credits: u16,
+        rec: &mut R,
+    ) -> Result<(), NoMemory>
+        requires fits { client_refusal credits self.old.lists ≡ None }
+        requires some { 1 ≤ credits }
+        requires most { credits ≤ MOST_CREDITS }
+        ensures makes { OnOk result (Makes R.facts R.whole (NotesNext (λ s. Some (Opened
+            (length s.clients) peer credits))) (timed_of self.old) (timed_of self.new) rec.old
+            rec.new) }
+        ensures clients { OnOk result (self.new.lists.clients ≡ self.old.lists.clients
+            ++ opened_end (length self.old.lists.clients) peer credits ∷ []) }
+        ensures jobs { self.new.lists.jobs ≡ self.old.lists.jobs }
+        ensures servers { self.new.lists.servers ≡ self.old.lists.servers }
+        ensures me { self.new.lists.me ≡ self.old.lists.me }
+        ensures unchanged { OnErr result ((self.new ≡ self.old) × (rec.new ≡ rec.old)) }
+        ensures handed { OnOk result (self.new.handed ≡ self.old.handed ++ [] ∷ []) }
+    {
+        let session = self.next_client();
+        let pace = Pace {
+            session,
+            rate: 0,
+            next: 0,
+        };
+        self.paces.push(pace)?;
+        if let Err(wanting) = self.store.open(alloc, peer, credits) {
+            let _pace = self.paces.pop();
+            return Err(wanting);
+        }
+        self.callers.enter(session.0);
+        let event = Event::Opened {
+            session,
+            peer,
+            credits,
+        };
+        rec.note(Who::Node(self.me), event, &[], &[]);
+        Ok(())
+    }
+
+    // A live session gets its first rate, in bytes per millisecond, where that isn't 0.
+    fn start_rate<R: Recorder>(&mut self, session: SessionNo, rate: u32, rec: &mut R)
+        requires live { is_live (state_of (find (is_client session)
+            self.old.lists.clients)) ≡ true }
+        ensures makes { Makes R.facts R.whole (StartsRate session rate) (timed_of self.old)
+            (timed_of self.new) rec.old rec.new }
+        ensures jobs { self.new.lists.jobs ≡ self.old.lists.jobs }
+        ensures servers { self.new.lists.servers ≡ self.old.lists.servers }
+        ensures handed { self.new.handed ≡ self.old.handed }
+    {
+        if rate == 0 {
+            return;
+        }
+        let _rated = self.set_rate(session, rate, rec);
+    }
+
+    /// Opens a session to a peer with the next number, 1 to 256 credits and a rate in bytes per
+    /// millisecond: its packets are paced, or not where that is 0. It is Connecting, and its
+    /// request to connect goes out in the next poll. `NumbersSpent` comes exactly where 65,535
+    /// numbers of client sessions were used, then `RingFull` exactly where the credits of the live
+    /// sessions and these are more than the ring is long; both are noted. `NoMemory` is noted
+    /// nowhere. A refusal opens no session.
+    pub fn connect<R: Recorder>(
+        &mut self,
+        alloc: Global,
+        peer: Peer,
+        credits: u16,
+        rate: u32,
+        rec: &mut R,
+    ) -> Result<SessionNo, ConnectError>
+        requires some { 1 ≤ credits }
+        requires most { credits ≤ MOST_CREDITS }
+        ensures number { IfOk result (λ s. s ≡ length self.old.lists.clients) }
+        ensures makes { UnlessNoMemory result (Makes R.facts R.whole (Connects peer credits rate)
+            (timed_of self.old) (timed_of self.new) rec.old rec.new) }
+        ensures accepted { OnOk result (client_refusal credits self.old.lists ≡ None) }
+        ensures refused { IfErr result
+            (λ why. refused why ≡ client_refusal credits self.old.lists) }
+        ensures jobs { self.new.lists.jobs ≡ self.old.lists.jobs }
+        ensures servers { self.new.lists.servers ≡ self.old.lists.servers }
+        ensures handed { OnOk result (self.new.handed ≡ self.old.handed ++ [] ∷ []) }
+        ensures unchanged { OnErr result (self.new ≡ self.old) }
+        ensures wanting { IfNoMemory result (rec.new ≡ rec.old) }
+    {
+        let spent = usize::from(SESSION_NUMBERS) <= self.store.clients();
+        if let Err(why) = self.room_for(spent, credits) {
+            self.refuse(&why, rec);
+            return Err(why);
+        }
+        let session = self.next_client();
+        match self.open_client(alloc, peer, credits, rec) {
+            Ok(()) => {
+                self.start_rate(session, rate, rec);
+                Ok(session)
+            }
+            Err(_) => Err(ConnectError::NoMemory),
+        }
+    }
+
+    // A session that is connected and has no calls begins to close.
+    fn begin_closing<R: Recorder>(&mut self, session: SessionNo, rec: &mut R)
+        requires connected { is_connected_in (state_of (find (is_client session)
+            self.old.lists.clients)) ≡ true }
+        requires idle { pending_of (find (is_client session) self.old.lists.clients) ≡ 0 }
+        ensures makes { Makes R.facts R.whole (NotesNext (λ s. Some (Closing session)))
+            (timed_of self.old) (timed_of self.new) rec.old rec.new }
+        ensures jobs { self.new.lists.jobs ≡ self.old.lists.jobs }
+        ensures servers { self.new.lists.servers ≡ self.old.lists.servers }
+        ensures handed { self.new.handed ≡ self.old.handed }
+    {
+        self.store.closing(usize::from(session.0));
+        self.callers.enter(session.0);
+        rec.note(Who::Node(self.me), Event::Closing { session }, &[], &[]);
+    }
+
+    /// Begins to close a client session: its request to disconnect goes out in the next poll.
+    /// `NotConnected` comes exactly where it is neither Connected nor Spent, with its state; then
+    /// `Busy` exactly where calls are pending, those that wait included, with their number. Both
+    /// are noted, and change nothing. It takes no memory.
+    pub fn disconnect<R: Recorder>(
+        &mut self,
+        session: SessionNo,
+        rec: &mut R,
+    ) -> Result<(), CloseError>
+        ensures makes { Makes R.facts R.whole (Disconnects session) (timed_of self.old)
+            (timed_of self.new) rec.old rec.new }
+        ensures accepted { OnOk result (disconnect_by
+            (state_of (find (is_client session) self.old.lists.clients)) session
+            (pending_of (find (is_client session) self.old.lists.clients)) ≡ Closing session) }
+        ensures refused { IfErr result (λ why. closing session why ≡ disconnect_by
+            (state_of (find (is_client session) self.old.lists.clients)) session
+            (pending_of (find (is_client session) self.old.lists.clients))) }
+        ensures jobs { self.new.lists.jobs ≡ self.old.lists.jobs }
+        ensures servers { self.new.lists.servers ≡ self.old.lists.servers }
+        ensures handed { self.new.handed ≡ self.old.handed }
+        ensures unchanged { OnErr result (self.new ≡ self.old) }
+    {
+        let state = self.state(session);
+        if !is_connected(state) {
+            rec.note(
+                Who::Node(self.me),
+                Event::NcloseState { session, state },
+                &[],
+                &[],
+            );
+            return Err(CloseError::NotConnected { state });
+        }
+        let calls = self.pending(session);
+        if calls != 0 {
+            rec.note(
+                Who::Node(self.me),
+                Event::NcloseBusy { session, calls },
+                &[],
+                &[],
+            );
+            return Err(CloseError::Busy { calls });
+        }
+        self.begin_closing(session, rec);
+        Ok(())
+    }
+}
+
+impl<V: Service, W: Workers> Endpoint<V, W> {
+    /// Opens a session to a peer with the next number, 1 to 256 credits and a rate in bytes per
+    /// millisecond: its packets are paced, or not where that is 0. It is Connecting, and its
+    /// request to connect goes out in the next poll. `NumbersSpent` comes exactly where 65,535
+    /// numbers of client sessions were used, then `RingFull` exactly where the credits of the live
+    /// sessions and these are more than the ring is long; both are noted. `NoMemory` is noted
+    /// nowhere. A refusal opens no session.
+    pub fn connect<R: Recorder>(
+        &mut self,
+        peer: Peer,
+        credits: u16,
+        rate: u32,
+        rec: &mut R,
+    ) -> Result<SessionNo, ConnectError>
+        requires some { 1 ≤ credits }
+        requires most { credits ≤ MOST_CREDITS }
+        ensures number { IfOk result (λ s. s ≡ length self.old.timed.lists.clients) }
+        ensures makes { UnlessNoMemory result (Makes R.facts R.whole (Connects peer credits rate)
+            self.old.timed self.new.timed rec.old rec.new) }
+        ensures accepted { OnOk result (client_refusal credits self.old.timed.lists ≡ None) }
+        ensures refused { IfErr result
+            (λ why. refused why ≡ client_refusal credits self.old.timed.lists) }
+        ensures leaves { Leaves self.old self.new }
+        ensures goes_on { GoesOn R.facts R.whole (record { mode = V.mode_of; answer = V.answer })
+            V.stands W.answer (λ w. record {
+              limit = W.limit w;
+              given = W.given w;
+              out = W.out w;
+              waiting = W.waiting w;
+            }) self.old self.new rec.old rec.new }
+        ensures unchanged { OnErr result (self.new ≡ self.old) }
+        ensures wanting { IfNoMemory result (rec.new ≡ rec.old) }
+        ensures handed { OnOk result (self.new.handed ≡ self.old.handed ++ [] ∷ []) }
+    {
+        self.node.connect(self.alloc, peer, credits, rate, rec)
+    }
+
+    /// Begins to close a client session: its request to disconnect goes out in the next poll.
+    /// `NotConnected` comes exactly where it is neither Connected nor Spent, with its state; then
+    /// `Busy` exactly where calls are pending, those that wait included, with their number. Both
+    /// are noted, and change nothing. It takes no memory.
+    pub fn disconnect<R: Recorder>(
+        &mut self,
+        session: SessionNo,
+        rec: &mut R,
+    ) -> Result<(), CloseError>
+        ensures makes { Makes R.facts R.whole (Disconnects session) self.old.timed self.new.timed
+            rec.old rec.new }
+        ensures accepted { OnOk result (disconnect_by
+            (state_of (find (is_client session) self.old.timed.lists.clients)) session
+            (pending_of (find (is_client session) self.old.timed.lists.clients))
+            ≡ Closing session) }
+        ensures refused { IfErr result (λ why. closing session why ≡ disconnect_by
+            (state_of (find (is_client session) self.old.timed.lists.clients)) session
+            (pending_of (find (is_client session) self.old.timed.lists.clients))) }
+        ensures leaves { Leaves self.old self.new }
+        ensures goes_on { GoesOn R.facts R.whole (record { mode = V.mode_of; answer = V.answer })
+            V.stands W.answer (λ w. record {
+              limit = W.limit w;
+              given = W.given w;
+              out = W.out w;
+              waiting = W.waiting w;
+            }) self.old self.new rec.old rec.new }
+        ensures unchanged { OnErr result (self.new ≡ self.old) }
+        ensures handed { self.new.handed ≡ self.old.handed }
+    {
+        self.node.disconnect(session, rec)
+    }
+}

@@ -1,0 +1,170 @@
+//! Client sessions send their own requests: to connect, and to disconnect.
+ghost use Rattle.std.specs.Prelude.{◌≡◌, ◌<◌, ◌≤◌, false, length, slice_get, IfSome, Some};
+ghost use Rattle.endpoint_loop.specs.Handing.{timed_of};
+ghost use Rattle.endpoint_loop.specs.Noting.{Makes};
+ghost use Rattle.endpoint_loop.specs.Speaking.{GivesUpAt, MakesSpoken, SendsRequest};
+ghost use Rattle.rpc_base.specs.declared.event.Event.TheVariants.{ClosedUnheard, FailedNoAnswer};
+ghost use Rattle.rpc_base.specs.declared.state.SessionState.TheVariants.{Closing, Connecting};
+ghost use Rattle.rpc_laws.specs.ControlSteps.{Retries, own_request};
+ghost use Rattle.rpc_laws.specs.Steps.{NotesNext};
+ghost use Rattle.rpc_outside.specs.Linking.{NoneComes};
+ghost use Rattle.session_store.specs.Changes.{IsInState};
+
+use crate::node::Node;
+use crate::speaking::speak;
+use packet_header::ControlHeader;
+use rpc_base::{Event, SessionNo, SessionState, Who};
+use rpc_laws::RetryRow;
+use rpc_outside::{Link, Recorder};
+
+/// What came of the requests of sessions.
+#[derive(Clone, Copy, Debug, PartialEq, Eq)]
+pub struct Asking {
+    /// How many were sent.
+    pub sent: u32,
+    /// Whether the link failed.
+    pub failed: bool,
+}
+
+impl Node {
+    // Session `i`, which is Connecting, failed, since no answer came to its request.
+    fn fail_unanswered<R: Recorder>(&mut self, i: usize, rec: &mut R)
+        requires known { i < length self.old.lists.clients }
+        requires connecting { IsInState Connecting (slice_get self.old.lists.clients i) }
+        ensures makes { Makes R.facts R.whole (NotesNext (λ s. Some (FailedNoAnswer i)))
+            (timed_of self.old) (timed_of self.new) rec.old rec.new }
+        ensures servers { self.new.lists.servers ≡ self.old.lists.servers }
+        ensures me { self.new.lists.me ≡ self.old.lists.me }
+        ensures jobs { self.new.lists.jobs ≡ self.old.lists.jobs }
+        ensures handed { self.new.handed ≡ self.old.handed }
+    {
+        self.store.failed(i);
+        let session = SessionNo(i as u16);
+        let event = Event::FailedNoAnswer { session };
+        rec.note(Who::Node(self.me), event, &[], &[]);
+    }
+
+    // Session `i`, which is Closing, is closed, though no answer came to its request.
+    fn close_unheard<R: Recorder>(&mut self, i: usize, rec: &mut R)
+        requires known { i < length self.old.lists.clients }
+        requires closing { IsInState Closing (slice_get self.old.lists.clients i) }
+        ensures makes { Makes R.facts R.whole (NotesNext (λ s. Some (ClosedUnheard i)))
+            (timed_of self.old) (timed_of self.new) rec.old rec.new }
+        ensures servers { self.new.lists.servers ≡ self.old.lists.servers }
+        ensures me { self.new.lists.me ≡ self.old.lists.me }
+        ensures jobs { self.new.lists.jobs ≡ self.old.lists.jobs }
+        ensures handed { self.new.handed ≡ self.old.handed }
+    {
+        self.store.closed(i);
+        let session = SessionNo(i as u16);
+        let event = Event::ClosedUnheard { session };
+        rec.note(Who::Node(self.me), event, &[], &[]);
+    }
+
+    // Session `i` gives up, to whose request no answer came.
+    fn give_up<R: Recorder>(&mut self, i: usize, rec: &mut R)
+        requires known { i < length self.old.lists.clients }
+        ensures makes { Makes R.facts R.whole (GivesUpAt i) (timed_of self.old)
+            (timed_of self.new) rec.old rec.new }
+        ensures servers { self.new.lists.servers ≡ self.old.lists.servers }
+        ensures me { self.new.lists.me ≡ self.old.lists.me }
+        ensures jobs { self.new.lists.jobs ≡ self.old.lists.jobs }
+        ensures handed { self.new.handed ≡ self.old.handed }
+    {
+        match self.store.state(i) {
+            SessionState::Connecting => self.fail_unanswered(i, rec),
+            SessionState::Closing => self.close_unheard(i, rec),
+            _ => {}
+        }
+    }
+
+    // Session `i` sends its own request, which has this header and was sent fewer than nine times.
+    fn send_request<L: Link, R: Recorder>(
+        &mut self,
+        i: usize,
+        head: &ControlHeader,
+        link: &mut L,
+        rec: &mut R,
+    ) -> Asking
+        requires known { i < length self.old.lists.clients }
+        requires own { IfSome (slice_get self.old.lists.clients i)
+            (λ x. own_request x ≡ Some head.now) }
+        requires few { IfSome (slice_get self.old.lists.clients i) (λ x. x.sends < 9) }
+        ensures spoken { MakesSpoken R.facts R.whole L.sent (λ l. record {
+          faults = L.faults l;
+          busies = L.busies l;
+        }) (SendsRequest i head.now) result
+            (timed_of self.old) (timed_of self.new) rec.old rec.new link.old link.new }
+        ensures servers { self.new.lists.servers ≡ self.old.lists.servers }
+        ensures me { self.new.lists.me ≡ self.old.lists.me }
+        ensures jobs { self.new.lists.jobs ≡ self.old.lists.jobs }
+        ensures lists { NoneComes L.waiting L.received link.old link.new }
+        ensures few { result.sent ≤ 1 }
+        ensures handed { self.new.handed ≡ self.old.handed }
+    {
+        let end = self.store.end_of_client(i);
+        match speak(self.me, end.peer, head, link, rec) {
+            Ok(true) => {
+                self.store.request_sent(i, self.clock);
+                Asking {
+                    sent: 1,
+                    failed: false,
+                }
+            }
+            Ok(false) => Asking {
+                sent: 0,
+                failed: false,
+            },
+            Err(_) => {
+                Asking {
+                    sent: 0,
+                    failed: true,
+                }
+            }
+        }
+    }
+
+    // Looks at the own request of session `i`: it is sent in the first poll, and again each time
+    // that a timeout, in microseconds, has passed; after the ninth time the session gives up.
+    pub(crate) fn retry<L: Link, R: Recorder>(
+        &mut self,
+        timeout: u64,
+        i: usize,
+        link: &mut L,
+        rec: &mut R,
+    ) -> Asking
+        requires known { i < length self.old.lists.clients }
+        ensures spoken { MakesSpoken R.facts R.whole L.sent (λ l. record {
+          faults = L.faults l;
+          busies = L.busies l;
+        }) (Retries timeout i) result
+            (timed_of self.old) (timed_of self.new) rec.old rec.new link.old link.new }
+        ensures servers { self.new.lists.servers ≡ self.old.lists.servers }
+        ensures me { self.new.lists.me ≡ self.old.lists.me }
+        ensures jobs { self.new.lists.jobs ≡ self.old.lists.jobs }
+        ensures lists { NoneComes L.waiting L.received link.old link.new }
+        ensures few { result.sent ≤ 1 }
+        ensures handed { self.new.handed ≡ self.old.handed }
+    {
+        let Some(head) = self.store.own_request(i) else {
+            return Asking {
+                sent: 0,
+                failed: false,
+            };
+        };
+        match self.store.retry_row(i, self.clock, timeout) {
+            RetryRow::Rests => Asking {
+                sent: 0,
+                failed: false,
+            },
+            RetryRow::Asks => self.send_request(i, &head, link, rec),
+            RetryRow::GivesUp => {
+                self.give_up(i, rec);
+                Asking {
+                    sent: 0,
+                    failed: false,
+                }
+            }
+        }
+    }
+}

@@ -1,0 +1,49 @@
+-- What is so of the history of each script, whatever the network does and whenever workers finish.
+use Rattle.std.specs.Prelude.{ℕ, ◌≡◌, List, []}
+use Rattle.node_laws.specs.CreditBalance.{Credit}
+use Rattle.node_laws.specs.EndedCalls.{EndsClean}
+use Rattle.node_laws.specs.EndedSessions.{SessionsEndClean}
+use Rattle.node_laws.specs.OlderRequests.{BeginsClean}
+use Rattle.one_history.specs.NetFacts.{AllOfNet}
+use Rattle.report_text.specs.Told.{AllTold}
+use Rattle.ring_laws.specs.CalmRing.{MessagesFit}
+use Rattle.rpc_base.specs.declared.fact.Fact.{Fact}
+use Rattle.rpc_laws.specs.declared.tables.Timed.{Timed}
+use Rattle.rpc_laws.specs.AtMostOnce.{Once}
+use Rattle.rpc_laws.specs.BufferSafety.{SendsItsOwn}
+use Rattle.rpc_laws.specs.OwnAnswer.{Own}
+use Rattle.world_laws.specs.Laws.{EachNode, KeepsRing}
+use Rattle.world_laws.specs.NodeFacts.{facts_of, IsRun}
+
+-- node n has no facts, or its facts are its Made and then a run of the plain service's node with
+-- that ring, which leaves it somehow
+pub data Runs (n : ℕ) (facts : List Fact) : Type 0 where
+  nowhere : facts ≡ [] → Runs n facts
+  runs : (t : Timed) → IsRun n facts t → Runs n facts
+
+pub record Lawful (h : List Fact) : Type 0 where
+  -- each node does what the rules of a node say
+  pub nodes : (n : ℕ) → Runs n (facts_of n h)
+  -- the network carries, loses and repeats, misses jobs and ticks
+  pub net : AllOfNet h
+  -- no request runs twice, and no call begins or ends twice
+  pub once : Once h
+  -- each handler runs on its call's bytes, and each call ends with its own handler's answer
+  pub own : Own h
+  -- at every moment the unanswered packets and free credits of a live session make its limit
+  pub credit : EachNode Credit h
+  -- before a repeat and a rollback no packet of a call finds a full ring
+  pub fits : MessagesFit h
+  -- no receive ring is longer than its room
+  pub ring : EachNode KeepsRing h
+  -- where a call ends none of its packets is queued, and none is posted later
+  pub ends_clean : EachNode (EndsClean []) h
+  -- where a packet of a request is taken no reply to an older one of its slot is queued, and none is
+  -- posted later
+  pub begins_clean : EachNode (BeginsClean []) h
+  -- where a server session ends no reply of it is queued, and none is posted later
+  pub sessions_clean : EachNode (SessionsEndClean []) h
+  -- each packet goes to its session's peer, and is the one that its owner has
+  pub sends_own : SendsItsOwn h
+  -- each fact has just the bytes that its line shows
+  pub told : AllTold h
