@@ -1,3 +1,4 @@
 pub mod Filling
 pub mod Moving
 pub mod Printing
+pub mod Ticking

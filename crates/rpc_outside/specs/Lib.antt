@@ -7,4 +7,5 @@ pub mod PlainLaws
 pub mod PlainStands
 pub mod Recording
 pub mod Served
+pub mod Ticking
 pub mod Writing

@@ -5,6 +5,7 @@
 
 mod arrivals;
 mod calls;
+mod clock;
 mod copying;
 mod edges;
 mod failed;
@@ -22,6 +23,7 @@ mod source;
 mod tests;
 mod writing;
 
+pub use clock::{Clock, StepClock, SysClock};
 pub use edges::{IoSink, IoSource};
 pub use failed::Failed;
 pub use firm::{FirmLink, FirmSink, FirmSource};

@@ -174,3 +174,23 @@ fn a_recorder_keeps_facts_in_order(rt: HostRuntime) -> Result<(), Fail> {
     assert_eq!(rt; facts[1].second.bytes(), b"bc".as_slice());
     Ok(())
 }
+
+/// Three answers, one after another.
+fn answers<C: Clock>(clock: &mut C) -> [u64; 3] {
+    let first = clock.now();
+    let second = clock.now();
+    let third = clock.now();
+    [first, second, third]
+}
+
+#[test]
+fn a_clock_goes_on_by_its_step(rt: HostRuntime) {
+    assert_eq!(rt; answers(&mut StepClock::new(0, 5_000)), [0, 5_000, 10_000]);
+    let end = u64::MAX;
+    assert_eq!(rt;
+        answers(&mut StepClock::new(end - 1, 5)),
+        [end - 1, end, end]
+    );
+    let [first, second, third] = answers(&mut SysClock::new(&rt));
+    assert!(rt; first <= second && second <= third && third > 0);
+}
