@@ -2,7 +2,6 @@
 -- ring has here all that is queued, also what is paced.
 use Rattle.std.specs.Prelude.{◌≡◌, ℕ, ◌+◌, ◌*◌, ◌<◌, ◌≤◌, ◌==◌, ◌&&◌, Bool, true, false, Option}
 use Rattle.std.specs.Prelude.{Some, None, List, [], ◌∷◌, count_by, length, map, sum_by, slice_get}
-use Rattle.credit_book.specs.Credits.{limit_of}
 use Rattle.std.specs.List.{AllByRecursion, find, list_any}
 use Rattle.rpc_base.specs.declared.owner.Owner.{Owner}
 use Rattle.rpc_base.specs.declared.owner.Owner.TheVariants.{Ask, Reply, Control}
@@ -10,6 +9,8 @@ use Rattle.buffer_pool.specs.Counting.{Counts}
 use Rattle.buffer_pool.specs.Pool.{Pool, spare_of}
 use Rattle.packet_rings.specs.Rings.{Ring}
 use Rattle.packet_rings.specs.Values.{EntryValue}
+use Rattle.rpc_base.specs.declared.limits.TheConstants.{MOST_CREDITS}
+use Rattle.rpc_laws.specs.Groups.{live_credits}
 use Rattle.rpc_laws.specs.Sessions.{no_session}
 use Rattle.rpc_laws.specs.declared.tables.Call.{Call}
 use Rattle.rpc_laws.specs.declared.tables.Client.{Client}
@@ -37,15 +38,6 @@ use Rattle.session_store.specs.declared.stage.Stage.TheVariants.{Closed, Failed,
 abbrev pub shown_side : Pool → Side → Client
 shown_side pool s = shown_end s.stage pool s.peer s.session
 
--- the credits of a client session that is live: it neither closed nor failed, and has its peer
-abbrev pub credits_at : Stage → Session → ℕ
-credits_at (Connecting sends sent_at) s = limit_of s.credits
-credits_at Connected s = limit_of s.credits
-credits_at (Closing sends sent_at) s = limit_of s.credits
-credits_at Closed s = 0
-credits_at Failed s = 0
-credits_at Broken s = 0
-
 -- the number of its server session, none before it is connected
 abbrev pub server_at : Stage → Session → ℕ
 server_at (Connecting sends sent_at) s = no_session
@@ -58,9 +50,6 @@ server_at Broken s = s.server
 -- and what was handed in with its calls
 abbrev pub side_handed : Pool → Side → List Handed
 side_handed pool s = handed_of pool s.session
-
-abbrev pub side_credits : Side → ℕ
-side_credits s = credits_at s.stage s.session
 
 abbrev pub queued_of : EntryValue → Queued
 queued_of e = record { owner = e.owner; number = e.number; due = None }
@@ -221,3 +210,9 @@ pub record Kept (pool : Pool) (sides : List Side) (servers : List Serving) (tx :
   -- each session has eight slots
   pub slots : AllByRecursion HasSlots sides
   pub served : AllByRecursion HasPlaces servers
+
+-- the credits of the live sessions are counted, and none has more than a session may
+pub record CountsShares (count : ℕ) (clients : List Client) (servers : List Server) : Type 0 where
+  pub all : count ≡ sum_by live_credits clients + sum_by (λ v. v.credits) servers
+  pub few : AllByRecursion (λ x. live_credits x ≤ MOST_CREDITS) clients
+  pub few_served : AllByRecursion (λ v. v.credits ≤ MOST_CREDITS) servers

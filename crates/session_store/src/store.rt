@@ -30,18 +30,24 @@ pub struct Store {
     pacer: Pacer,
     sides: Vec<Side>,
     servers: Vec<ServerSession>,
+    // The credits of the live sessions.
+    shares: u32,
 }
 
 impl Model for Store {
     ghost use Rattle.session_store.specs.Joined.{Paces, joined, shown_with};
-    ghost use Rattle.session_store.specs.Sides.{Kept, Shown};
+    ghost use Rattle.session_store.specs.Sides.{CountsShares, Kept, Shown, shown_side};
+    ghost use Rattle.server_core.specs.Shown.{shown};
+    ghost use Rattle.std.specs.Prelude.{map};
 
     ghost Value = { Shown };
 
     ghost view = { λ s. shown_with s.pool s.sides.items s.servers.items s.tx s.pacer };
 
     ghost invariant = { λ s. Kept s.pool s.sides.items s.servers.items (joined s.tx s.pacer)
-        × Paces s.tx s.pacer };
+        × Paces s.tx s.pacer
+        × CountsShares s.shares (map (shown_side s.pool) s.sides.items)
+        (map (shown s.pool) s.servers.items) };
 }
 
 impl Store {
@@ -61,6 +67,7 @@ impl Store {
             pacer,
             sides: Vec::new(alloc),
             servers: Vec::new(alloc),
+            shares: 0,
         })
     }
 }

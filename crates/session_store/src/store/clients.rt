@@ -110,6 +110,7 @@ impl Store {
         ensures places { self.new.places ≡ self.old.places }
         ensures unchanged { OnErr result (self.new ≡ self.old) }
     {
+        let shares = self.shares_with(credits);
         let number = SessionNo(self.sides.len() as u16);
         let session = ClientSession::new(alloc, number, server, credits);
         let side = Side {
@@ -118,6 +119,7 @@ impl Store {
             session,
         };
         self.sides.push(side)?;
+        self.shares = shares;
         Ok(())
     }
 

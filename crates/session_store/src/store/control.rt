@@ -36,6 +36,7 @@ impl Store {
         ensures places { self.new.places ≡ self.old.places }
         ensures unchanged { OnErr result (self.new ≡ self.old) }
     {
+        let shares = self.shares_with(credits);
         let number = SessionNo(self.sides.len() as u16);
         // The server's number isn't known yet, and isn't shown.
         let session = ClientSession::new(alloc, number, SessionNo(0), credits);
@@ -48,6 +49,7 @@ impl Store {
             session,
         };
         self.sides.push(side)?;
+        self.shares = shares;
         Ok(())
     }
 
@@ -82,6 +84,7 @@ impl Store {
     {
         let side = &mut self.sides[i];
         side.stage = Stage::Failed;
+        self.shares -= u32::from(side.session.limit());
     }
 
     /// Session `i`, which is Connected and has no calls, begins to close.
@@ -116,6 +119,7 @@ impl Store {
     {
         let side = &mut self.sides[i];
         side.stage = Stage::Closed;
+        self.shares -= u32::from(side.session.limit());
     }
 
     /// The peer, the credits and the server session of session `i`, which is 65,535 before it is

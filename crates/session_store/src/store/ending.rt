@@ -35,6 +35,7 @@ impl Store {
         ensures places { self.new.places ≡ self.old.places }
         ensures handed { self.new.handed ≡ self.old.handed }
     {
+        self.shares -= u32::from(self.servers[i].credits());
         end_at(&mut self.servers, i, &mut self.pool);
     }
 }

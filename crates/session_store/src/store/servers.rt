@@ -92,8 +92,10 @@ impl Store {
         ensures places { self.new.places ≡ self.old.places }
         ensures unchanged { OnErr result (self.new ≡ self.old) }
     {
+        let shares = self.shares_with(credits);
         let session = ServerSession::new(number, client, peer, credits);
         self.servers.push(session)?;
+        self.shares = shares;
         Ok(())
     }
 

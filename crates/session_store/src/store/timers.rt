@@ -71,6 +71,7 @@ impl Store {
     {
         let side = &mut self.sides[i];
         side.stage = Stage::Broken;
+        self.shares -= u32::from(side.session.limit());
     }
 
     /// The first call of session `i` ends, which lost its peer and has no packet queued. None comes

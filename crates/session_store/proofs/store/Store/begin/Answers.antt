@@ -4,6 +4,7 @@ use Rattle.session_store.proofs.StoreLemmas.{clients-begin, connected-at, kept-b
 use Rattle.session_store.proofs.StoreLemmas.{size-begin, two-spare}
 use Rattle.session_store.proofs.UndueLemmas.{flat}
 use Rattle.session_store.proofs.StoreLemmas.{handed-begin}
+use Rattle.session_store.proofs.ShareLemmas.{begins-kept, clients-kept}
 use Rattle.session_store.proofs.store.Store.begin.Goals as goal
 
 pub begin_at-requires-clause-spare : goal.begin_at-requires-clause-spare
@@ -22,6 +23,12 @@ invariant_of-self c =
           c.begin_at.new.sides.items c.self.inside.servers.items (joined c.self.inside.tx c.self.inside.pacer) c.args.i
           c.self.invariant.0 c.begin_at.result h connected,
       c.self.invariant.1,
+      clients-kept c.self.inside.shares c.self.inside.pool c.begin_at.new.pool
+          c.self.inside.sides.items c.begin_at.new.sides.items c.self.inside.servers.items
+          (begins-kept c.args.i c.begin_at.result _ _ (clients-begin c.self.inside.pool
+          c.begin_at.new.pool c.self.inside.sides.items c.begin_at.new.sides.items
+          c.self.inside.servers.items (joined c.self.inside.tx c.self.inside.pacer) c.args.i
+          c.self.invariant.0 c.begin_at.result h connected)) c.self.invariant.2,
     )
 
 pub returns-clause-clients : goal.returns-clause-clients

@@ -2,6 +2,8 @@ use Rattle.session_store.specs.Joined.{joined, undue}
 use Rattle.session_store.proofs.FlushLemmas.{there-at}
 use Rattle.session_store.proofs.MovedLemmas.{moved-closing}
 use Rattle.session_store.proofs.UndueLemmas.{flat}
+use Rattle.std.proofs.Common.{refl}
+use Rattle.session_store.proofs.ShareLemmas.{live-connected, share-stays}
 use Rattle.session_store.proofs.store.Store.closing.Goals as goal
 
 pub invariant_of-self : goal.invariant_of-self
@@ -12,8 +14,13 @@ invariant_of-self c =
     (undue c.args.self.now) seen c.args.i c.index_mut-side.result.now c.requires.known
     c.index_mut-side.ensures.value in
     let moved = moved-closing s.pool s.sides.items s.servers.items (joined s.tx s.pacer) c.self.invariant.0
-    (undue c.args.self.now) seen c.args.i c.index_mut-side.result.now at c.requires.connected c.requires.idle in
-    (moved.kept, c.self.invariant.1)
+    (undue c.args.self.now) seen c.args.i c.index_mut-side.result.now at c.requires.connected c.requires.idle in (
+      moved.kept,
+      c.self.invariant.1,
+      share-stays s.shares s.pool s.sides.items s.servers.items c.self.invariant.2 c.args.i
+          c.index_mut-side.result.now at s.tx s.pacer c.args.self.now c.self.view_is
+          (live-connected _ c.requires.connected) _ refl,
+    )
 
 pub returns-clause-clients : goal.returns-clause-clients
 returns-clause-clients c =

@@ -2,6 +2,9 @@ use Rattle.session_store.specs.Joined.{joined, undue}
 use Rattle.session_store.proofs.FlushLemmas.{there-at}
 use Rattle.session_store.proofs.MovedLemmas.{moved-connected}
 use Rattle.session_store.proofs.UndueLemmas.{flat}
+use Rattle.rpc_base.specs.declared.state.SessionState.{SessionState}
+use Rattle.std.proofs.Common.{refl}
+use Rattle.session_store.proofs.ShareLemmas.{live-in, share-stays}
 use Rattle.session_store.proofs.store.Store.connected.Goals as goal
 
 pub invariant_of-self : goal.invariant_of-self
@@ -13,8 +16,13 @@ invariant_of-self c =
     c.index_mut-side.ensures.value in
     let moved = moved-connected s.pool s.sides.items s.servers.items (joined s.tx s.pacer) c.self.invariant.0
     (undue c.args.self.now) seen c.args.i c.index_mut-side.result.now at
-    c.args.server c.connected.new.self c.connected.ensures c.requires.connecting in
-    (moved.kept, c.self.invariant.1)
+    c.args.server c.connected.new.self c.connected.ensures c.requires.connecting in (
+      moved.kept,
+      c.self.invariant.1,
+      share-stays s.shares s.pool s.sides.items s.servers.items c.self.invariant.2 c.args.i
+          c.index_mut-side.result.now at s.tx s.pacer c.args.self.now c.self.view_is
+          (live-in SessionState.Connecting refl _ c.requires.connecting) _ (rw c.connected.ensures refl),
+    )
 
 pub returns-clause-clients : goal.returns-clause-clients
 returns-clause-clients c =

@@ -1,5 +1,26 @@
+use Rattle.std.proofs.Common.{length, ap, ◌∙◌, arith}
+use Rattle.std.proofs.lemmas.List.{length-map}
+use Rattle.server_core.specs.Session.{Session as Serving}
+use Rattle.server_core.specs.Shown.{shown}
+use Rattle.session_store.specs.Sides.{Shown}
+use Rattle.session_store.proofs.ListLemmas.{get-there, got-same}
 use Rattle.session_store.proofs.EndingLemmas.{ended, unheld-at}
+use Rattle.session_store.proofs.ShareLemmas.{server-ended, server-within}
 use Rattle.session_store.proofs.store.Store.end_server.Goals as goal
+
+pub overflow_sub-self : goal.overflow_sub-self
+overflow_sub-self c =
+    let s = c.self.inside in
+    let v = c.index.result.now in
+    let at = get-there s.servers.items c.args.i v
+    (omega (
+      arith,
+      c.requires.known,
+      ap (λ (x : Shown). length x.servers) c.self.view_is,
+      length-map s.servers.items (shown s.pool),
+    )) c.index.ensures in
+    server-within s.shares s.pool s.pool s.sides.items s.servers.items c.self.invariant.2 c.args.i v
+    at c.from.result (c.from.ensures ∙ c.credits.ensures)
 
 pub end_at-requires-clause-unheld : goal.end_at-requires-clause-unheld
 end_at-requires-clause-unheld c =
@@ -12,8 +33,16 @@ invariant_of-self c =
     let s = c.self.inside in
     let h = ended s.pool s.sides.items s.servers.items s.tx s.pacer c.self.invariant.0 c.args.self.now
     c.self.view_is c.args.i c.requires.drained c.end_at.new.pool c.end_at.new.servers.items
-    c.end_at.ensures in
-    (h.kept, c.self.invariant.1)
+    c.end_at.ensures in (
+      h.kept,
+      c.self.invariant.1,
+      server-ended s.shares s.pool c.end_at.new.pool s.sides.items s.servers.items
+          c.self.invariant.2 c.args.i c.end_at.ensures.server c.end_at.ensures.at
+          c.from.result (c.from.ensures ∙ c.credits.ensures ∙ ap (λ (v : Serving). v.credits)
+          (c.index.ensures ∙ got-same s.servers.items c.args.i c.end_at.ensures.server
+          c.index.result.now c.end_at.ensures.at)) c.end_at.new.servers.items
+          c.end_at.ensures.changed,
+    )
 
 pub returns-clause-servers : goal.returns-clause-servers
 returns-clause-servers c =

@@ -14,6 +14,9 @@ use Rattle.session_store.proofs.GoneLemmas.{flushed-clients, flushed-kept, flush
 use Rattle.session_store.proofs.GoneLemmas.{gone-held}
 use Rattle.session_store.proofs.UndueLemmas.{flat}
 use Rattle.session_store.proofs.GoneLemmas.{flushed-handed}
+use Rattle.std.specs.Prelude.{map}
+use Rattle.rpc_laws.specs.Groups.{live_credits}
+use Rattle.session_store.proofs.ShareLemmas.{clients-kept}
 use Rattle.session_store.proofs.store.Store.flush.Goals as goal
 
 pub returns-in_default-clause-taken : goal.returns-in_default-clause-taken
@@ -75,6 +78,13 @@ invariant_of-self-2 c =
           (joined c.flush_in-flushed.new.tx c.flush_in-flushed.new.pacer).items
           c.self.invariant.0 h.nearest own c.flushed_at.ensures),
       h.paces,
+      clients-kept s.shares s.pool c.flushed_at.new.pool s.sides.items c.flushed_at.new.sides.items
+          s.servers.items (ap (map live_credits) (flushed-clients s.pool c.flushed_at.new.pool
+          s.sides.items c.flushed_at.new.sides.items s.servers.items (joined s.tx s.pacer) c.args.i
+          c.args.request c.in-Some.entry
+          (is_entry (Ask c.session.result c.args.request) c.in-Some.entry.number)
+          (joined c.flush_in-flushed.new.tx c.flush_in-flushed.new.pacer).items c.self.invariant.0
+          h.nearest own c.flushed_at.ensures)) c.self.invariant.2,
     )
 
 pub returns-clause-taken : goal.returns-clause-taken

@@ -10,6 +10,7 @@ use Rattle.session_store.proofs.FlushLemmas.{taken-seen, least-reply}
 use Rattle.session_store.proofs.ReplyGoneLemmas.{reply-clients, reply-held, reply-kept}
 use Rattle.session_store.proofs.ReplyGoneLemmas.{reply-places, reply-servers, reply-there}
 use Rattle.session_store.proofs.ReplyGoneLemmas.{reply-handed}
+use Rattle.session_store.proofs.ShareLemmas.{gone-kept, servers-kept}
 use Rattle.session_store.proofs.store.Store.flush_reply.Goals as goal
 
 pub returns-in_default-clause-taken : goal.returns-in_default-clause-taken
@@ -56,6 +57,10 @@ invariant_of-self-2 c =
           (joined c.flush_in-flushed.new.tx c.flush_in-flushed.new.pacer).items
           c.self.invariant.0 h.nearest own c.reply_flushed_at.ensures),
       h.paces,
+      servers-kept s.shares s.pool c.reply_flushed_at.new.pool s.sides.items s.servers.items
+          c.reply_flushed_at.new.servers.items (gone-kept c.args.session c.in-Some.entry
+          s.servers.items c.reply_flushed_at.new.servers.items s.pool c.reply_flushed_at.new.pool
+          c.reply_flushed_at.ensures) c.self.invariant.2,
     )
 
 pub returns-clause-taken : goal.returns-clause-taken

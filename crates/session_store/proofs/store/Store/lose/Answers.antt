@@ -3,6 +3,12 @@ use Rattle.session_store.proofs.LoseLemmas.{lose-clients, lose-kept, lose-places
 use Rattle.session_store.proofs.LoseLemmas.{lost-as, lost-broken, unheld-at}
 use Rattle.session_store.proofs.UndueLemmas.{flat, idle-undue}
 use Rattle.session_store.proofs.LoseLemmas.{lose-handed}
+use Rattle.std.proofs.Common.{sym, ap, ◌∙◌}
+use Rattle.std.specs.Prelude.{map, option_map}
+use Rattle.rpc_laws.specs.Groups.{live_credits}
+use Rattle.client_core.specs.declared.outcome.Done.{Done}
+use Rattle.session_store.specs.Sides.{Shown}
+use Rattle.session_store.proofs.ShareLemmas.{clients-kept, loses-kept}
 use Rattle.session_store.proofs.store.Store.lose.Goals as goal
 
 pub lose_at-requires-clause-unheld : goal.lose_at-requires-clause-unheld
@@ -28,6 +34,15 @@ invariant_of-self c =
           (idle-undue c.args.i c.args.self.now.queued c.requires.idle) c.lose_at.result h
           broken,
       c.self.invariant.1,
+      clients-kept s.shares s.pool c.lose_at.new.pool s.sides.items c.lose_at.new.sides.items
+          s.servers.items (loses-kept c.args.i (option_map (λ (d : Done). d.call) c.lose_at.result)
+          _ _ (lose-clients s.pool c.lose_at.new.pool s.sides.items c.lose_at.new.sides.items
+          s.servers.items (joined s.tx s.pacer) c.self.invariant.0 (undue c.args.self.now)
+          (flat c.self.inside.pool c.self.inside.sides.items c.self.inside.servers.items
+          c.self.inside.tx c.self.inside.pacer c.args.self.now c.self.view_is) c.args.i
+          (idle-undue c.args.i c.args.self.now.queued c.requires.idle) c.lose_at.result h broken)
+          ∙ ap (λ (v : Shown). map live_credits v.clients) (sym c.self.view_is))
+          c.self.invariant.2,
     )
 
 pub returns-clause-clients : goal.returns-clause-clients

@@ -2,7 +2,22 @@ use Rattle.session_store.specs.Joined.{joined, undue}
 use Rattle.session_store.proofs.FlushLemmas.{there-at}
 use Rattle.session_store.proofs.LoseLemmas.{breaks-clients, breaks-handed, breaks-kept}
 use Rattle.session_store.proofs.UndueLemmas.{flat, idle-undue}
+use Rattle.std.proofs.Common.{refl, ◌∙◌}
+use Rattle.session_store.specs.declared.stage.Stage.TheVariants.{Broken}
+use Rattle.session_store.proofs.ShareLemmas.{live-connected, share-ended, share-within}
 use Rattle.session_store.proofs.store.Store.lose_peer.Goals as goal
+
+pub overflow_sub-self : goal.overflow_sub-self
+overflow_sub-self c =
+    let s = c.self.inside in
+    let at = there-at s.pool s.sides.items s.servers.items (joined s.tx s.pacer) c.self.invariant.0
+    (undue c.args.self.now) (flat s.pool s.sides.items s.servers.items s.tx s.pacer
+    c.args.self.now c.self.view_is) c.args.i c.index_mut-side.result.now c.requires.known
+    c.index_mut-side.ensures.value in
+    share-within s.shares s.pool s.sides.items s.servers.items c.self.invariant.2 c.args.i
+    c.index_mut-side.result.now at s.tx s.pacer c.args.self.now c.self.view_is
+    (live-connected _ c.requires.connected) c.from.result
+    (c.from.ensures ∙ c.limit.ensures)
 
 pub invariant_of-self : goal.invariant_of-self
 invariant_of-self c =
@@ -18,6 +33,11 @@ invariant_of-self c =
           c.self.view_is) c.args.i c.index_mut-side.result.now at
           (idle-undue c.args.i c.args.self.now.queued c.requires.idle) c.requires.connected,
       c.self.invariant.1,
+      share-ended s.shares s.pool s.sides.items s.servers.items c.self.invariant.2 c.args.i
+          c.index_mut-side.result.now at s.tx s.pacer c.args.self.now c.self.view_is
+          (live-connected _ c.requires.connected)
+          c.from.result (c.from.ensures ∙ c.limit.ensures)
+          (record c.index_mut-side.result.now { stage = Broken }) refl,
     )
 
 pub returns-clause-clients : goal.returns-clause-clients

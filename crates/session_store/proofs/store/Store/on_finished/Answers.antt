@@ -1,4 +1,4 @@
-use Rattle.std.proofs.Common.{[], ◌∷◌, ◌++◌, refl, arith}
+use Rattle.std.proofs.Common.{Some, None, [], ◌∷◌, ◌++◌, refl, arith}
 use Rattle.packet_rings.specs.Rings.{ring}
 use Rattle.session_store.specs.Joined.{joined, undue}
 use Rattle.session_store.proofs.FinishLemmas.{finish-at, finish-clients, finish-kept, finish-places}
@@ -9,6 +9,7 @@ use Rattle.session_store.proofs.PutLemmas.{kept-put}
 use Rattle.session_store.proofs.UndueLemmas.{joined-length, less-undue, flat}
 use Rattle.session_store.proofs.FinishLemmas.{left-handed}
 use Rattle.session_store.proofs.FinishLemmas.{finish-handed}
+use Rattle.session_store.proofs.ShareLemmas.{finished-kept, servers-kept}
 use Rattle.session_store.proofs.store.Store.on_finished.Goals as goal
 
 pub finished_at-reply-requires-clause-spare : goal.finished_at-reply-requires-clause-spare
@@ -28,6 +29,10 @@ invariant_of-self c =
           c.finished_at-reply.new.servers.items (joined s.tx s.pacer) c.args.i c.args.parcel.request _ h
           c.self.invariant.0,
       c.self.invariant.1,
+      servers-kept s.shares s.pool c.finished_at-reply.new.pool s.sides.items s.servers.items
+          c.finished_at-reply.new.servers.items (finished-kept c.args.i c.args.parcel.request _ None
+          s.servers.items c.finished_at-reply.new.servers.items s.pool c.finished_at-reply.new.pool
+          h) c.self.invariant.2,
     )
 
 pub returns-in_default-clause-servers : goal.returns-in_default-clause-servers
@@ -62,6 +67,10 @@ invariant_of-self-2 c =
           c.finished_at-reply.new.servers.items (joined s.tx s.pacer) c.args.i c.args.parcel.request _ c.in-Some.entry
           c.self.invariant.0 h room),
       record { calls = c.self.invariant.1.calls; half = c.self.invariant.1.half },
+      servers-kept s.shares s.pool c.finished_at-reply.new.pool s.sides.items s.servers.items
+          c.finished_at-reply.new.servers.items (finished-kept c.args.i c.args.parcel.request _
+          (Some c.in-Some.entry) s.servers.items c.finished_at-reply.new.servers.items s.pool
+          c.finished_at-reply.new.pool h) c.self.invariant.2,
     )
 
 pub returns-clause-servers : goal.returns-clause-servers

@@ -22,6 +22,7 @@ use Rattle.session_store.proofs.ServeLemmas.{serve-kept, serve-places, served-at
 use Rattle.session_store.proofs.StoreLemmas.{ring-room, two-spare}
 use Rattle.session_store.proofs.UndueLemmas.{flat, joined-length, less-undue}
 use Rattle.session_store.proofs.ServeLemmas.{serve-handed}
+use Rattle.session_store.proofs.ShareLemmas.{servers-kept, step-kept, steps-credits}
 use Rattle.session_store.proofs.store.Store.on_packet.Goals as goal
 
 pub asked_at-step-requires-clause-holds : goal.asked_at-step-requires-clause-holds
@@ -97,6 +98,11 @@ invariant_of-self g c =
           c.asked_at-step.new.pool s.sides.items s.servers.items c.asked_at-step.new.servers.items
           c.self.invariant.0 room step),
       record { calls = calls; half = c.self.invariant.1.half ∙ sym size },
+      servers-kept s.shares s.pool c.asked_at-step.new.pool s.sides.items s.servers.items
+          c.asked_at-step.new.servers.items (step-kept c.args.i s.servers.items
+          c.asked_at-step.new.servers.items handles.server handles.later handles.at handles.changed
+          (steps-credits c.asked_at-step.result handles.step.handled.answer c.args.head.now
+          c.args.body.now _ _ handles.step.handled.steps)) c.self.invariant.2,
     )
 
 pub push-requires : goal.push-requires
@@ -167,6 +173,11 @@ invariant_of-self-2 g c =
           c.asked_at-step.new.pool s.sides.items s.servers.items c.asked_at-step.new.servers.items
           c.self.invariant.0 room step)),
       record { calls = calls; half = c.self.invariant.1.half ∙ sym size },
+      servers-kept s.shares s.pool c.asked_at-step.new.pool s.sides.items s.servers.items
+          c.asked_at-step.new.servers.items (step-kept c.args.i s.servers.items
+          c.asked_at-step.new.servers.items handles.server handles.later handles.at handles.changed
+          (steps-credits c.asked_at-step.result handles.step.handled.answer c.args.head.now
+          c.args.body.now _ _ handles.step.handled.steps)) c.self.invariant.2,
     )
 
 pub returns-in_default-clause-handles : goal.returns-in_default-clause-handles

@@ -14,6 +14,7 @@ use Rattle.session_store.proofs.StageLemmas.{connected-stage}
 use Rattle.session_store.proofs.StoreLemmas.{connected-at}
 use Rattle.session_store.proofs.UndueLemmas.{flat, queued-undue, windows-undue}
 use Rattle.session_store.proofs.ReplyLemmas.{heard-handed}
+use Rattle.session_store.proofs.ShareLemmas.{clients-kept, replies-kept}
 use Rattle.session_store.proofs.store.Store.on_reply.Goals as goal
 
 pub returns-then-not-is_connected-clause-clients : goal.returns-then-not-is_connected-clause-clients
@@ -69,6 +70,10 @@ invariant_of-self c =
     c.self.inside.servers.items c.self.inside.tx c.self.inside.pacer c.args.self.now
     c.self.view_is) c.args.i (windows-undue c.args.self.now.clients c.args.self.now.queued
     c.requires.windows) in
+    let same = c.index-2.ensures ∙ got-same s.sides.items c.args.i h.side c.index-2.result.now h.at in
+    let peer : c.args.peer ≡ h.side.peer =
+    peer-same c.args.peer c.index-2.result.now.peer (sym c.if-ne.false ∙ c.ne.ensures)
+    ∙ ap (λ (x : Side). x.peer) same in
     let waits = c.is_waiting-is_waiting.ensures ∙ sym
     (queued-undue (Ask c.args.i c.args.head.now.request) c.args.head.now.number
     c.args.self.now.queued) ∙ seen-waits s.pool s.sides.items s.servers.items
@@ -80,6 +85,13 @@ invariant_of-self c =
           (joined s.tx s.pacer) c.args.i c.args.now c.args.head.now c.args.body.now c.is_waiting-is_waiting.result
           c.heard_at.result c.self.invariant.0 h connected c.requires.session windows waits,
       c.self.invariant.1,
+      clients-kept s.shares s.pool c.heard_at.new.pool s.sides.items c.heard_at.new.sides.items
+          s.servers.items (replies-kept c.args.i c.args.now c.args.peer c.args.head.now
+          c.args.body.now _ c.heard_at.result _ _ (heard-clients s.pool
+          c.heard_at.new.pool s.sides.items c.heard_at.new.sides.items s.servers.items
+          (joined s.tx s.pacer) c.args.i c.args.now c.args.head.now c.args.body.now
+          c.is_waiting-is_waiting.result c.heard_at.result c.self.invariant.0 h connected
+          c.requires.session windows waits c.args.peer peer)) c.self.invariant.2,
     )
 
 pub returns-clause-servers : goal.returns-clause-servers

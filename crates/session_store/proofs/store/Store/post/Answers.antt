@@ -1,5 +1,6 @@
-use Rattle.std.proofs.Common.{ap, arith, sym, ◌∙◌}
+use Rattle.std.proofs.Common.{Some, None, ap, arith, sym, ◌∙◌}
 use Rattle.std.specs.Prelude.{count_by}
+use Rattle.session_store.specs.Effects.{packet_of_entry}
 use Rattle.session_store.specs.Joined.{is_paced, joined, undue}
 use Rattle.session_store.proofs.StoreLemmas.{pace-room, queue-room}
 use Rattle.session_store.proofs.StoreLemmas.{connected-at, kept-posted, may-post}
@@ -10,6 +11,7 @@ use Rattle.session_store.proofs.PutLemmas.{kept-put}
 use Rattle.session_store.proofs.UndueLemmas.{paced-counted, room-undue, flat}
 use Rattle.session_store.proofs.StoreLemmas.{unposted-handed}
 use Rattle.session_store.proofs.StoreLemmas.{posted-handed}
+use Rattle.session_store.proofs.ShareLemmas.{clients-kept, posts-kept}
 use Rattle.session_store.proofs.store.Store.post.Goals as goal
 
 pub post_at-posted-requires-clause-keeps : goal.post_at-posted-requires-clause-keeps
@@ -18,13 +20,21 @@ post_at-posted-requires-clause-keeps c =
     (joined c.self.inside.tx c.self.inside.pacer) c.self.invariant.0
 
 pub invariant_of-self : goal.invariant_of-self
-invariant_of-self c = (
-  unposted-kept c.self.inside.pool c.post_at-posted.new.pool c.self.inside.sides.items
-      c.post_at-posted.new.sides.items c.self.inside.servers.items
-      (joined c.self.inside.tx c.self.inside.pacer) c.args.i
-      (rw c.in_default.is at c.post_at-posted.ensures) c.self.invariant.0,
-  c.self.invariant.1,
-)
+invariant_of-self c =
+    let s = c.self.inside in
+    let h = rw c.in_default.is at c.post_at-posted.ensures in
+    let connected = connected-at s.sides.items c.args.i c.index.result.now h.side c.index.ensures
+    h.at (sym c.is_connected.ensures ∙ c.if-not-is_connected.false) in (
+      unposted-kept s.pool c.post_at-posted.new.pool s.sides.items
+          c.post_at-posted.new.sides.items s.servers.items (joined s.tx s.pacer) c.args.i h
+          c.self.invariant.0,
+      c.self.invariant.1,
+      clients-kept s.shares s.pool c.post_at-posted.new.pool s.sides.items
+          c.post_at-posted.new.sides.items s.servers.items (posts-kept c.args.i None _ _
+          (unposted-clients s.pool c.post_at-posted.new.pool s.sides.items
+          c.post_at-posted.new.sides.items s.servers.items (joined s.tx s.pacer) c.args.i h
+          connected)) c.self.invariant.2,
+    )
 
 pub returns-in_default-clause-clients : goal.returns-in_default-clause-clients
 returns-in_default-clause-clients c =
@@ -87,6 +97,12 @@ invariant_of-self-2 c =
           s.servers.items (joined s.tx s.pacer) c.args.i c.in-Some.entry c.self.invariant.0 h connected
           room),
       c.put_in.ensures.paces,
+      clients-kept s.shares s.pool c.post_at-posted.new.pool s.sides.items
+          c.post_at-posted.new.sides.items s.servers.items (posts-kept c.args.i
+          (Some (packet_of_entry c.in-Some.entry)) _ _ (posted-clients s.pool
+          c.post_at-posted.new.pool s.sides.items c.post_at-posted.new.sides.items s.servers.items
+          (joined s.tx s.pacer) c.args.i c.in-Some.entry c.self.invariant.0 h connected room))
+          c.self.invariant.2,
     )
 
 pub returns-clause-clients : goal.returns-clause-clients

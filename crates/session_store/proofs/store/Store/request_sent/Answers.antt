@@ -2,6 +2,7 @@ use Rattle.session_store.specs.Joined.{joined, undue}
 use Rattle.session_store.proofs.FlushLemmas.{there-at}
 use Rattle.session_store.proofs.MovedLemmas.{moved-asked, few-sends}
 use Rattle.session_store.proofs.UndueLemmas.{flat}
+use Rattle.session_store.proofs.ShareLemmas.{live-asking, share-asked}
 use Rattle.session_store.proofs.store.Store.request_sent.Goals as goal
 
 pub asked-side-requires : goal.asked-side-requires
@@ -23,8 +24,13 @@ invariant_of-self c =
     c.index_mut-side.ensures.value in
     let moved = moved-asked s.pool s.sides.items s.servers.items (joined s.tx s.pacer) c.self.invariant.0
     (undue c.args.self.now) seen c.args.i c.index_mut-side.result.now at
-    c.args.now c.asked-side.result c.asked-side.ensures c.requires.asking in
-    (moved.kept, c.self.invariant.1)
+    c.args.now c.asked-side.result c.asked-side.ensures c.requires.asking in (
+      moved.kept,
+      c.self.invariant.1,
+      share-asked s.shares s.pool s.sides.items s.servers.items c.self.invariant.2 c.args.i
+          c.index_mut-side.result.now at s.tx s.pacer c.args.self.now c.self.view_is
+          (live-asking _ c.requires.asking) c.args.now c.asked-side.result c.asked-side.ensures,
+    )
 
 pub returns-clause-clients : goal.returns-clause-clients
 returns-clause-clients c =

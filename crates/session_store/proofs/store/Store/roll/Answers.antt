@@ -3,6 +3,11 @@ use Rattle.session_store.proofs.RollLemmas.{kept-roll, places-roll, roll-active-
 use Rattle.session_store.proofs.RollLemmas.{roll-idle-at, rolled-clients}
 use Rattle.session_store.proofs.UndueLemmas.{flat, may-undue}
 use Rattle.session_store.proofs.RollLemmas.{handed-roll}
+use Rattle.std.proofs.Common.{sym, ap, ◌∙◌}
+use Rattle.std.specs.Prelude.{map}
+use Rattle.rpc_laws.specs.Groups.{live_credits}
+use Rattle.session_store.specs.Sides.{Shown}
+use Rattle.session_store.proofs.ShareLemmas.{clients-kept, rolls-kept}
 use Rattle.session_store.proofs.store.Store.roll.Goals as goal
 
 pub roll_at-requires-clause-active : goal.roll_at-requires-clause-active
@@ -39,6 +44,17 @@ invariant_of-self c = (
       (may-undue c.args.i c.args.call c.args.self.now c.requires.may)
       c.roll_at.new.sides.items c.self.invariant.0 c.roll_at.ensures,
   c.self.invariant.1,
+  clients-kept c.self.inside.shares c.self.inside.pool c.self.inside.pool
+      c.self.inside.sides.items c.roll_at.new.sides.items c.self.inside.servers.items
+      (rolls-kept c.args.i c.args.call _ _ (rolled-clients c.self.inside.pool
+      c.self.inside.sides.items c.self.inside.servers.items
+      (joined c.self.inside.tx c.self.inside.pacer) c.args.i c.args.call (undue c.args.self.now)
+      (flat c.self.inside.pool c.self.inside.sides.items c.self.inside.servers.items
+      c.self.inside.tx c.self.inside.pacer c.args.self.now c.self.view_is)
+      (may-undue c.args.i c.args.call c.args.self.now c.requires.may)
+      c.roll_at.new.sides.items c.self.invariant.0 c.roll_at.ensures)
+      ∙ ap (λ (v : Shown). map live_credits v.clients) (sym c.self.view_is))
+      c.self.invariant.2,
 )
 
 pub returns-clause-clients : goal.returns-clause-clients

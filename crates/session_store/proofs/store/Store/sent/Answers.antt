@@ -13,6 +13,8 @@ use Rattle.session_store.proofs.StandLemmas.{front-taken}
 use Rattle.session_store.proofs.UndueLemmas.{flat, sends-undue}
 use Rattle.session_store.proofs.GoneLemmas.{sent-handed}
 use Rattle.session_store.proofs.ReplyGoneLemmas.{reply-handed}
+use Rattle.rpc_laws.specs.Groups.{live_credits}
+use Rattle.session_store.proofs.ShareLemmas.{clients-kept, gone-kept, sends-kept, servers-kept}
 use Rattle.session_store.proofs.store.Store.sent.Goals as goal
 
 pub invariant_of-self : goal.invariant_of-self
@@ -27,6 +29,14 @@ invariant_of-self c =
           c.in-Some.entry (λ d. false) (drop 1 (joined s.tx s.pacer).items) c.self.invariant.0
           (front-taken (joined s.tx s.pacer).items c.in-Some.entry front) own c.args.now c.sent_at.ensures),
       c.pop_in.ensures.paces,
+      clients-kept s.shares s.pool c.sent_at.new.pool s.sides.items c.sent_at.new.sides.items
+          s.servers.items (ap (map live_credits) (sent-clients s.pool c.sent_at.new.pool
+          s.sides.items c.sent_at.new.sides.items s.servers.items (joined s.tx s.pacer)
+          c.from.result c.in-Ask.request c.in-Some.entry (λ d. false)
+          (drop 1 (joined s.tx s.pacer).items) c.self.invariant.0
+          (front-taken (joined s.tx s.pacer).items c.in-Some.entry front) own c.args.now
+          c.sent_at.ensures) ∙ sends-kept c.args.now (Ask c.from.result c.in-Ask.request)
+          c.in-Some.entry.number (map (shown_side s.pool) s.sides.items)) c.self.invariant.2,
     )
 
 pub reply_sent_at-requires-clause-stands : goal.reply_sent_at-requires-clause-stands
@@ -49,6 +59,10 @@ invariant_of-self-in-Reply c =
           (λ d. false) (drop 1 (joined s.tx s.pacer).items) c.self.invariant.0
           (front-taken (joined s.tx s.pacer).items c.in-Some.entry front) own c.reply_sent_at.ensures),
       c.pop_in.ensures.paces,
+      servers-kept s.shares s.pool c.reply_sent_at.new.pool s.sides.items s.servers.items
+          c.reply_sent_at.new.servers.items (gone-kept c.in-Reply.session c.in-Some.entry
+          s.servers.items c.reply_sent_at.new.servers.items s.pool c.reply_sent_at.new.pool
+          c.reply_sent_at.ensures) c.self.invariant.2,
     )
 
 pub returns-in-Ask-clause-clients : goal.returns-in-Ask-clause-clients
