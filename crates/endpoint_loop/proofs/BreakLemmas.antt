@@ -2,7 +2,7 @@
 use Rattle.std.proofs.Common.{◌≡◌, ℕ, ◌+◌, ◌≤◌, Bool, true, false, eqb, Option}
 use Rattle.std.proofs.Common.{Some, None, List, [], ◌∷◌, ◌++◌, append-nil, length, refl, sym, ap}
 use Rattle.std.proofs.Common.{subst, ◌∙◌, arith}
-use Rattle.std.specs.Prelude.{map, option_map, slice_get, slice_set}
+use Rattle.std.specs.Prelude.{map, slice_get, slice_set}
 use Rattle.std.specs.List.{AllByRecursion, filter, find, flat_map, list_any}
 use Rattle.std.proofs.lemmas.Bool.{eq-eqb, eqb-true}
 use Rattle.std.proofs.lemmas.List.{length-set}
@@ -46,6 +46,7 @@ use Rattle.node_laws.proofs.ValidLemmas.{valid_after}
 use Rattle.session_store.specs.Changes.{IsIdle, calls_in}
 use Rattle.session_store.specs.Sides.{Shown}
 use Rattle.session_store.proofs.ListLemmas.{all-at, all-set, get-own, set-own}
+use Rattle.endpoint_loop.specs.Given.{Gave}
 use Rattle.endpoint_loop.specs.Fits.{CallsAscend, Fits, IsSettled}
 use Rattle.endpoint_loop.specs.Noting.{Makes, MakesEnds, is_end}
 use Rattle.endpoint_loop.specs.Seen.{Asks, Tallies, asking, asking_jobs, seen_node}
@@ -358,10 +359,10 @@ module _ (me : ℕ) (limits : Limits) (tallies : Tallies) (paces : List Pace) (j
     ends-of (c ∷ cs) = ap (λ fs. lost me c ∷ fs) (ends-of cs)
 
     pub node-broken : {R K : Type 0} (facts : R → Option (List Fact)) (whole : R → Bool)
-        (given : K → Option (List Done)) (before now : R) (from to : K)
+        (given : K → List Done → Type 0) (before now : R) (from to : K)
         → Grew facts whole before now (fact ∷ map (lost me) x.calls) → (dones : List Done)
         → map (lost me) x.calls ≡ map (done_fact me) dones
-        → given to ≡ option_map (λ ds. ds ++ dones) (given from)
+        → Gave given from to dones
         → MakesEnds facts whole given (Notes (breaking i)) (seen s) (seen t) before now from to
     node-broken facts whole given before now from to grew dones ends gave = record {
       makes = record {
@@ -378,7 +379,7 @@ module _ (me : ℕ) (limits : Limits) (tallies : Tallies) (paces : List Pace) (j
     }
 
   module _ {R K : Type 0} (facts : R → Option (List Fact)) (whole : R → Bool)
-      (given : K → Option (List Done)) (before now : R) (from to : K)
+      (given : K → List Done → Type 0) (before now : R) (from to : K)
       (fits : Fits (seen s) s.size s.places) (i : ℕ) (idle : IsIdle i s.queued)
       (h : HasLost facts whole given me i [] s.clients t.clients before now from to)
       (servers : t.servers ≡ s.servers) (queued : t.queued ≡ s.queued) where
@@ -424,7 +425,7 @@ flushes-silent me i queued (c ∷ cs) =
 
 -- the end of a session, whole
 pub broken-whole : {R K : Type 0} (facts : R → Option (List Fact)) (whole : R → Bool)
-    (given : K → Option (List Done)) (i : ℕ) (a b c : Timed) (f g h : R) (k l : K)
+    (given : K → List Done → Type 0) (i : ℕ) (a b c : Timed) (f g h : R) (k l : K)
     → b.lists.me ≡ a.lists.me → b.lists.clients ≡ a.lists.clients
     → Makes facts whole (Notes (flushing_all i)) a b f g
     → MakesEnds facts whole given (Notes (breaking i)) b c g h k l

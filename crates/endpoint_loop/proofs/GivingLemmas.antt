@@ -33,6 +33,7 @@ use Rattle.node_laws.specs.Valid.{jobs_of}
 use Rattle.server_core.proofs.FlushLemmas.{grew-none, grew-then}
 use Rattle.worker_board.specs.declared.Parcel.{Parcel}
 use Rattle.worker_crew.specs.Jobs.{HasRoom, IsFull, Job as CrewJob, job_of}
+use Rattle.endpoint_loop.proofs.GivenLemmas.{gave-none, gave-then}
 use Rattle.endpoint_loop.specs.Finishing.{AreStaffed, CanFinish, Staff, asked_job}
 use Rattle.endpoint_loop.specs.Handling.{HandlesWith, MakesAllHandled, MakesHandled, StandsForSome}
 use Rattle.endpoint_loop.specs.Handling.{WorksFor, with_all_given}
@@ -40,7 +41,7 @@ use Rattle.endpoint_loop.specs.Noting.{is_end}
 use Rattle.endpoint_loop.specs.Seen.{Asks, arrival_of, asking, with_ask}
 use Rattle.endpoint_loop.specs.Serving.{IsGiven, job_named, with_given}
 use Rattle.endpoint_loop.proofs.HandleLemmas.{asks-as, asks-of}
-use Rattle.endpoint_loop.proofs.NotesLemmas.{ends-append, gave-none, gave-then, me-goes}
+use Rattle.endpoint_loop.proofs.NotesLemmas.{ends-append, me-goes}
 
 -- as many as a list has
 pub ones : {A : Type 0} (xs : List A) → sum_by (λ x. 1) xs ≡ length xs
@@ -264,7 +265,7 @@ ring-fewer {A} (x ∷ xs) ys some is = rw is (omega arith)
 
 -- what holds once a packet is handled
 module _ {R K : Type 0} (facts : R → Option (List Fact)) (whole : R → Bool)
-    (given : K → Option (List Done)) (v : Serving) where
+    (given : K → List Done → Type 0) (v : Serving) where
   pub me-handled : (stands then_stands : Served → Type 0) (o : Option Parcel) (a b : Timed)
       (f g : R) (j k : K)
       → MakesHandled facts whole given v stands then_stands (Handles v.mode) o a b f g j k
@@ -284,7 +285,7 @@ module _ {R K : Type 0} (facts : R → Option (List Fact)) (whole : R → Bool)
   )
 
 module _ {R K W : Type 0} (facts : R → Option (List Fact)) (whole : R → Bool)
-    (given : K → Option (List Done)) (staff : W → Staff) (v : Serving)
+    (given : K → List Done → Type 0) (staff : W → Staff) (v : Serving)
     (answer : ℕ → List ℕ → List ℕ) where
   -- a packet of which no job is made
   pub handled-none : (stands then_stands : Served → Type 0) (a b : Timed) (f g : R) (j k : K)

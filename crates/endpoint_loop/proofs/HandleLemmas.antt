@@ -1,8 +1,8 @@
 -- The packet in front of the receive ring is handled: by the server rule where it asks, and by the
 -- client rule where it replies.
 use Rattle.std.proofs.Common.{◌≡◌, ◌≢◌, ◌<◌, ℕ, Bool, true, false, cond, Option, Some, None, List, []}
-use Rattle.std.proofs.Common.{◌∷◌, ◌++◌, map, drop, length, refl, sym, ap, subst, ◌∙◌, append-nil, inl, inr}
-use Rattle.std.specs.Prelude.{◌⊎◌, is_none, is_some, option_map, option_to_list, slice_get}
+use Rattle.std.proofs.Common.{◌∷◌, ◌++◌, map, drop, length, refl, sym, ap, subst, ◌∙◌, inl, inr}
+use Rattle.std.specs.Prelude.{◌⊎◌, is_none, is_some, option_to_list, slice_get}
 use Rattle.std.specs.List.{AllByRecursion, filter, find}
 use Rattle.client_core.specs.Shown.{done_fact}
 use Rattle.client_core.specs.declared.outcome.Done.{Done}
@@ -48,6 +48,8 @@ use Rattle.rpc_outside.specs.Served.{Served}
 use Rattle.rpc_outside.specs.declared.service.Mode.{Mode}
 use Rattle.worker_board.specs.declared.Parcel.{Parcel}
 use Rattle.node_laws.specs.Kept.{IsPacket}
+use Rattle.endpoint_loop.specs.Given.{Gave}
+use Rattle.endpoint_loop.proofs.GivenLemmas.{gave-same}
 use Rattle.endpoint_loop.specs.Handling.{MakesHandled}
 use Rattle.endpoint_loop.specs.Hearing.{HearsReply, over_facts}
 use Rattle.endpoint_loop.specs.Noting.{Makes, is_end}
@@ -201,17 +203,13 @@ pub asks-as : (job : Option Parcel) → AsksAs job (asks-of job)
 asks-as None = tt
 asks-as (Some p) = refl
 
-none-more : (o : Option (List Done)) → o ≡ option_map (λ ds. ds ++ []) o
-none-more None = refl
-none-more (Some ds) = ap Some (sym (append-nil ds))
-
 module _ {R K : Type 0} (facts : R → Option (List Fact)) (whole : R → Bool)
-    (given : K → Option (List Done)) (v : Serving) (stands : Served → Type 0) (h : MessageHeader)
+    (given : K → List Done → Type 0) (v : Serving) (stands : Served → Type 0) (h : MessageHeader)
     (a b : Timed) (before now : R) (front : front_header a.lists.ring ≡ Some h)
     (room : replies a.lists.queued < a.lists.room) where
   pub node-replies : (o : Option Done) (from to : K) → is_asking h.kind ≡ false
       → Makes facts whole (HearsReply h o) a b before now → b.lists.jobs ≡ a.lists.jobs
-      → given to ≡ option_map (λ ds. ds ++ option_to_list o) (given from)
+      → Gave given from to (option_to_list o)
       → MakesHandled facts whole given v stands stands (Handles v.mode) None a b before now from to
   node-replies o from to replying makes jobs gave =
       let first = makes.step no-asks in
@@ -289,7 +287,7 @@ module _ {R K : Type 0} (facts : R → Option (List Fact)) (whole : R → Bool)
         ends = ap (λ (x : List Fact). filter is_end x) one.facts
             ∙ served-ends (v.mode h.req_type) a.lists.me one.answer a.lists.queued
             (find (is_server h.session) a.lists.servers) h (body_of one.front.bytes) _;
-        gave = ap given same ∙ none-more (given from);
+        gave = gave-same given from to same;
       }
 
 -- the kinds of packets that ask, and of those that reply
@@ -300,17 +298,3 @@ asks-kind k (inr e) = ap is_asking e
 pub replies-kind : (k : Kind) → (k ≡ Cr) ⊎ (k ≡ Response) → is_asking k ≡ false
 replies-kind k (inl e) = ap is_asking e
 replies-kind k (inr e) = ap is_asking e
-
--- what the continuation was given
-pub gave-none : (o : Option Done) (from : Option (List Done)) → o ≡ None
-    → from ≡ option_map (λ ds. ds ++ option_to_list o) from
-gave-none None from e = none-more from
-gave-none (Some d) from e = cc
-
-pub gave-one : (o : Option Done) (d : Done) (from to : Option (List Done)) → o ≡ Some d
-    → to ≡ option_map (λ ds. ds ++ d ∷ []) from
-    → to ≡ option_map (λ ds. ds ++ option_to_list o) from
-gave-one None d from to e gave = cc
-gave-one (Some x) d from to e gave =
-    let same : x ≡ d = cc in
-    gave ∙ ap (λ (y : Done). option_map (λ ds. ds ++ y ∷ []) from) (sym same)

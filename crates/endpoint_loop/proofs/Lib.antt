@@ -13,7 +13,8 @@ mod FitsLemmas
 mod FlushLemmas
 mod FlushedLemmas
 mod GatherLemmas
-mod GivingLemmas
+pub mod GivenLemmas
+pub mod GivingLemmas
 mod HandleLemmas
 pub mod HandingLemmas
 mod HearLemmas
@@ -28,7 +29,7 @@ mod LoseLemmas
 mod NamedLemmas
 mod NextLemmas
 mod NodeLemmas
-mod NotesLemmas
+pub mod NotesLemmas
 mod NotingLemmas
 mod OpeningLemmas
 mod PairLemmas
@@ -45,11 +46,12 @@ mod ServerLemmas
 mod TakenLemmas
 mod TimesLemmas
 mod RetryLemmas
-mod TurnLemmas
+pub mod TurnLemmas
 mod WalkLemmas
 mod WatchLemmas
 mod SpeakingLemmas
-mod StandingLemmas
-mod StillLemmas
+pub mod StandingLemmas
+pub mod StillLemmas
 mod ToldLemmas
-mod PollLemmas
+pub mod PollLemmas
+pub mod TurningLemmas

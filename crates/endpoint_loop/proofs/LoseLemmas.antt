@@ -1,7 +1,7 @@
 -- The calls of a session that lost its peer end, one after another.
 use Rattle.std.proofs.Common.{◌≡◌, ℕ, ◌<◌, Bool, Option, Some, None, List, [], ◌∷◌}
 use Rattle.std.proofs.Common.{◌++◌, length, refl, sym, ap, subst, ◌∙◌, append_assoc, arith}
-use Rattle.std.specs.Prelude.{map, option_map, slice_get, slice_set}
+use Rattle.std.specs.Prelude.{map, slice_get, slice_set}
 use Rattle.std.proofs.lemmas.Bool.{eq-eqb}
 use Rattle.std.proofs.lemmas.List.{map-append}
 use Rattle.rpc_base.specs.Tables.{without_first}
@@ -20,9 +20,10 @@ use Rattle.rpc_outside.specs.Recording.{Grew}
 use Rattle.server_core.proofs.FlushLemmas.{grew-then}
 use Rattle.session_store.specs.Changes.{ChangesAt, IsLost, LosesAt, calls_in, first_number}
 use Rattle.session_store.proofs.ListLemmas.{get-own}
+use Rattle.endpoint_loop.specs.Given.{Gave}
+use Rattle.endpoint_loop.proofs.GivenLemmas.{gave-none, gave-then}
 use Rattle.endpoint_loop.specs.Watching.{EndsOne, HasLost, broken_with, lost}
 use Rattle.endpoint_loop.proofs.HearLemmas.{set-twice}
-use Rattle.endpoint_loop.proofs.NotesLemmas.{gave-none, gave-then}
 use Rattle.endpoint_loop.proofs.RollLemmas.{some-same}
 
 -- the first of some calls
@@ -55,7 +56,7 @@ ended-fact me d is =
     ap (λ (o : Outcome). with_bytes me (end_event d.call o) (end_bytes o d.resp)) (sym is)
 
 module _ {R K : Type 0} (facts : R → Option (List Fact)) (whole : R → Bool)
-    (given : K → Option (List Done)) (me i : ℕ) where
+    (given : K → List Done → Type 0) (me i : ℕ) where
   pub none-lost : (o : Option ℕ) (old new : List Client) → o ≡ None → LosesAt i o old new
       → (calls_in (slice_get old i) ≡ []) × (new ≡ old)
   none-lost o old new e h =
@@ -65,7 +66,7 @@ module _ {R K : Type 0} (facts : R → Option (List Fact)) (whole : R → Bool)
   pub one-lost : (d : Done) (old new : List Client) (before now : R) (from to : K)
       → LosesAt i (Some d.call) old new → d.outcome ≡ PeerLost
       → Grew facts whole before now (plain me (DonePeerLost d.call) ∷ [])
-      → given to ≡ option_map (λ ds. ds ++ d ∷ []) (given from)
+      → Gave given from to (d ∷ [])
       → EndsOne facts whole given me i old new before now from to
   one-lost d old new before now from to h is grew gave =
       let x = h.1.client in

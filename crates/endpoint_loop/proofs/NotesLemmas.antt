@@ -1,8 +1,8 @@
 -- Steps that note what can be told of the node as it was, one after another; and those in which
 -- calls end.
-use Rattle.std.proofs.Common.{◌≡◌, ℕ, suc, Bool, Option, Some, None, List, [], ◌∷◌, ◌++◌, refl}
-use Rattle.std.proofs.Common.{sym, ap, ◌∙◌, append_assoc, append-nil, cond, true, false}
-use Rattle.std.specs.Prelude.{map, option_map}
+use Rattle.std.proofs.Common.{◌≡◌, ℕ, suc, Bool, Option, List, [], ◌∷◌, ◌++◌, refl}
+use Rattle.std.proofs.Common.{sym, ap, ◌∙◌, cond, true, false}
+use Rattle.std.specs.Prelude.{map}
 use Rattle.std.specs.List.{filter}
 use Rattle.std.proofs.lemmas.List.{map-append}
 use Rattle.client_core.specs.Shown.{done_fact}
@@ -13,6 +13,7 @@ use Rattle.rpc_laws.specs.declared.tables.Timed.{Timed}
 use Rattle.rpc_laws.specs.Steps.{Rel, Goes, Visits}
 use Rattle.rpc_laws.proofs.RunLemmas.{after_all-append, me-after_all}
 use Rattle.server_core.proofs.FlushLemmas.{grew-none, grew-then}
+use Rattle.endpoint_loop.proofs.GivenLemmas.{gave-none, gave-then}
 use Rattle.endpoint_loop.specs.Noting.{Makes, MakesEnds, is_end}
 use Rattle.endpoint_loop.specs.Seen.{Asks, asking}
 use Rattle.endpoint_loop.specs.Watching.{Notes}
@@ -61,26 +62,6 @@ module _ {R : Type 0} (facts : R → Option (List Fact)) (whole : R → Bool) wh
         goes = goes-then (asking asks a) (asking asks b) (asking asks c) x y s.goes t.goes;
       }) p q
 
--- what the continuation is given
-pub gave-none : {K : Type 0} (given : K → Option (List Done)) (k : K)
-    → given k ≡ option_map (λ ds. ds ++ []) (given k)
-gave-none given k = none (given k)
-  where
-    none : (o : Option (List Done)) → o ≡ option_map (λ ds. ds ++ []) o
-    none None = refl
-    none (Some ds) = ap Some (sym (append-nil ds))
-
-gave-both : (o : Option (List Done)) (x y : List Done) → option_map (λ ds. ds ++ y)
-    (option_map (λ ds. ds ++ x) o) ≡ option_map (λ ds. ds ++ (x ++ y)) o
-gave-both None x y = refl
-gave-both (Some ds) x y = ap Some (append_assoc ds x y)
-
-pub gave-then : {K : Type 0} (given : K → Option (List Done)) (j k l : K) (x y : List Done)
-    → given k ≡ option_map (λ ds. ds ++ x) (given j)
-    → given l ≡ option_map (λ ds. ds ++ y) (given k)
-    → given l ≡ option_map (λ ds. ds ++ (x ++ y)) (given j)
-gave-then given j k l x y p q = q ∙ ap (option_map (λ ds. ds ++ y)) p ∙ gave-both (given j) x y
-
 -- the ends among facts
 pub ends-append : (x y : List Fact) → filter is_end (x ++ y) ≡ filter is_end x ++ filter is_end y
 ends-append [] y = refl
@@ -93,7 +74,7 @@ ends-append (f ∷ fs) y = by (is_end f) (ends-append fs y)
     by false ih = ih
 
 module _ {R K : Type 0} (facts : R → Option (List Fact)) (whole : R → Bool)
-    (given : K → Option (List Done)) where
+    (given : K → List Done → Type 0) where
   unfoldable pub ends-join : (P Q S : Rel) (a b c : Timed) (f g h : R) (j k l : K)
       → b.lists.me ≡ a.lists.me
       → ((asks : Asks) (x y : List Fact) → P (asking asks a) x (asking asks b)

@@ -44,6 +44,7 @@ use Rattle.node_laws.specs.Kept.{Kept}
 use Rattle.server_core.proofs.FlushLemmas.{grew-then}
 use Rattle.worker_board.specs.declared.Parcel.{Parcel}
 use Rattle.worker_crew.specs.Jobs.{Job as CrewJob}
+use Rattle.endpoint_loop.proofs.GivenLemmas.{gave-then}
 use Rattle.endpoint_loop.specs.Counting.{CountsTurn, is_handled, is_sent}
 use Rattle.endpoint_loop.specs.declared.polling.Turn.{Turn}
 use Rattle.endpoint_loop.specs.Finishing.{Agree, AllBackground, AreStaffed, FinishesThese, FinishesTaken}
@@ -194,18 +195,6 @@ these-me answer (p ∷ ps) s x t h =
     these-me answer ps h.between h.back t h.second
     ∙ ap (λ (u : Timed). u.lists.me) h.first.goes ∙ me-after_all s.clock s.lists h.front
 
--- what a continuation was given
-gave-then : {K : Type 0} (given : K → Option (List Done)) (j k l : K) (a b : List Done)
-    → given k ≡ option_map (λ ds. ds ++ a) (given j) → given l ≡ option_map (λ ds. ds ++ b) (given k)
-    → given l ≡ option_map (λ ds. ds ++ (a ++ b)) (given j)
-gave-then given j k l a b one two = two ∙ ap (option_map (λ ds. ds ++ b)) one ∙ by (given j)
-  where
-    by : (o : Option (List Done))
-        → option_map (λ ds. ds ++ b) (option_map (λ ds. ds ++ a) o)
-        ≡ option_map (λ ds. ds ++ (a ++ b)) o
-    by None = refl
-    by (Some ds) = ap Some (append_assoc ds a b)
-
 -- sending to the end, or until the link stops it
 sends-until : (stopped : Bool) (s : Timed) (x : List Fact) (t : Timed) → SendsSome s x t
     → (stopped ≡ false → line t.clock t.lists.queued ≡ []) → SendsUntil stopped s x t
@@ -344,7 +333,7 @@ closed-left s x t h =
     ∙ ready-left s.clock s.lists.queued
 
 module _ {R K L V W : Type 0} (facts : R → Option (List Fact)) (whole : R → Bool)
-    (given : K → Option (List Done)) (sent : L → Option (List Carried))
+    (given : K → List Done → Type 0) (sent : L → Option (List Carried))
     (troubles : L → Troubles) (crew : W → Crew) (v : Serving) (stands : V → Served → Type 0)
     (answer : ℕ → List ℕ → List ℕ) (works : WorksFor answer v) (now : ℕ) (n0 n1 n2 n3 n4 n5 n6 n7 : Timed) (w0 w1 w2 : W)
     (s0 s1 : V) (r0 rf r1 r2 r3 r4 r5 r6 : R) (k0 k1 k2 : K) (l0 l1 l2 l3 : L)

@@ -76,11 +76,11 @@ labour-work : (e : Event) → is_labour e ≡ false → is_work e ≡ false
 labour-work (Worked session request) h = cc
 labour-work _ h = refl
 
-none-ran : (x : List Fact) → AllStill is_labour x → AllStill is_ran x
+pub none-ran : (x : List Fact) → AllStill is_labour x → AllStill is_ran x
 none-ran [] all = tt
 none-ran (f ∷ x) all = (labour-ran f.event all.0, none-ran x all.1)
 
-none-worked : (x : List Fact) → AllStill is_labour x → AllStill is_work x
+pub none-worked : (x : List Fact) → AllStill is_labour x → AllStill is_work x
 none-worked [] all = tt
 none-worked (f ∷ x) all = (labour-work f.event all.0, none-worked x all.1)
 
@@ -89,7 +89,7 @@ unworked-event : (t r : ℕ) (e : Event) → is_work e ≡ false → works_reque
 unworked-event t r (Worked session request) h = cc
 unworked-event t r _ h = refl
 
-unworked : (t r : ℕ) (x : List Fact) → AllStill is_work x → AllStill (works_request t r) x
+pub unworked : (t r : ℕ) (x : List Fact) → AllStill is_work x → AllStill (works_request t r) x
 unworked t r [] all = tt
 unworked t r (f ∷ x) all = (unworked-event t r f.event all.0, unworked t r x all.1)
 
@@ -169,7 +169,7 @@ then-unworked P Q p q s x t h =
     rw h.joined (still-append is_work h.front h.back (p s h.front h.between h.first)
     (q h.between h.back t h.second))
 
-poll-unworked : (F S : Rel) (mode : ℕ → Mode) (now : ℕ) → Stills is_work F → Stills is_work S
+pub poll-unworked : (F S : Rel) (mode : ℕ → Mode) (now : ℕ) → Stills is_work F → Stills is_work S
     → Stills is_work (PollBy F S mode now)
 poll-unworked F S mode now f sending s x t h =
     then-unworked F _ f
@@ -186,7 +186,7 @@ poll-unworked F S mode now f sending s x t h =
     (raised now s) x t h
 
 -- a poll of which more is known is a poll
-poll-as : (F S : Rel) (mode : ℕ → Mode) (now : ℕ) → Within F FinishesSome → Within S SendsSome
+pub poll-as : (F S : Rel) (mode : ℕ → Mode) (now : ℕ) → Within F FinishesSome → Within S SendsSome
     → Within (PollBy F S mode now) (Poll mode now)
 poll-as F S mode now f sending s x t h =
     within-first F FinishesSome _ f (raised now s) x t
@@ -196,7 +196,7 @@ poll-as F S mode now f sending s x t h =
     (within-second TimesAll _ _
     (within-second PostsAll _ _ (within-first S SendsSome EndsPoll sending))))) (raised now s) x t h)
 
-these-some : (answer : ℕ → List ℕ → List ℕ) (ps : List Parcel)
+pub these-some : (answer : ℕ → List ℕ → List ℕ) (ps : List Parcel)
     → Within (FinishesThese answer ps) FinishesSome
 these-some answer [] s x t h =
     subst (λ (u : Timed). Chain FinishesOne s x u) (sym h.1)
@@ -217,15 +217,15 @@ these-some answer (p ∷ ps) s x t h =
       };
     }) (these-some answer ps h.between h.back t h.second))
 
-sends-some : (stopped : Bool) → Within (SendsUntil stopped) SendsSome
+pub sends-some : (stopped : Bool) → Within (SendsUntil stopped) SendsSome
 sends-some true s x t h = h
 sends-some false s x t h = h.steps
 
 module _ {R K V W : Type 0} (facts : R → Option (List Fact)) (whole : R → Bool)
-    (given : K → Option (List Done)) (crew : W → Crew) (v : Serving)
+    (given : K → List Done → Type 0) (crew : W → Crew) (v : Serving)
     (stands : V → Served → Type 0) (answer : ℕ → List ℕ → List ℕ) (turn : Option Turn) (now : ℕ)
     (link then_link : LinkTells) where
-  pub goes-polled : (a b : Running V W) (f g : R) (j k : K)
+  unfoldable pub goes-polled : (a b : Running V W) (f g : R) (j k : K)
       → MakesPoll facts whole given crew v stands answer turn now link then_link a b f g j k
       → GoesOn facts whole v stands answer (λ w. (crew w).staff) a b f g
   goes-polled a b f g j k h = record {

@@ -8,6 +8,7 @@ use Rattle.rpc_laws.specs.ControlSteps.{Retries, TimesAll, TimesSession}
 use Rattle.rpc_laws.specs.GoBackN.{WatchesSession}
 use Rattle.rpc_laws.specs.Steps.{Rel, Visits}
 use Rattle.rpc_outside.specs.Linking.{Carried}
+use Rattle.endpoint_loop.proofs.GivenLemmas.{gave-none}
 use Rattle.endpoint_loop.specs.Calling.{NoneCalls}
 use Rattle.endpoint_loop.specs.Counting.{is_sent}
 use Rattle.endpoint_loop.specs.Noting.{MakesEnds, is_end_event}
@@ -16,12 +17,12 @@ use Rattle.endpoint_loop.specs.Speaking.{is_unsent, MakesSpoken, Troubles}
 use Rattle.endpoint_loop.specs.declared.retrying.Asking.{Asking}
 use Rattle.endpoint_loop.specs.Watching.{MakesTimes}
 use Rattle.endpoint_loop.proofs.CallerLemmas.{session-quiet, visits-up}
-use Rattle.endpoint_loop.proofs.NotesLemmas.{ends-join, ends-none, gave-none, makes-join, no_asks}
+use Rattle.endpoint_loop.proofs.NotesLemmas.{ends-join, ends-none, makes-join, no_asks}
 use Rattle.endpoint_loop.proofs.SpeakingLemmas.{link-both, link-still, nothing, or-false}
 use Rattle.endpoint_loop.proofs.StillLemmas.{calls-still, retries-still, still-none}
 
 module _ {R K L : Type 0} (facts : R → Option (List Fact)) (whole : R → Bool)
-    (given : K → Option (List Done)) (sent : L → Option (List Carried)) (troubles : L → Troubles)
+    (given : K → List Done → Type 0) (sent : L → Option (List Carried)) (troubles : L → Troubles)
   where
     pub times-none : (P : Rel) (a : Timed) (f : R) (k : K) (l : L)
         → ((asks : Asks) → P (asking asks a) [] (asking asks a))

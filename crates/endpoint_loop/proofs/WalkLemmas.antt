@@ -209,7 +209,7 @@ pub known-start : (i : ℕ) (s : Timed) → Known i s s
 known-start i s = λ m h. idle-unlisted m (calls_at i s) h
 
 module _ {R K : Type 0} (facts : R → Option (List Fact)) (whole : R → Bool)
-    (given : K → Option (List Done)) (timeout i : ℕ) where
+    (given : K → List Done → Type 0) (timeout i : ℕ) where
   pub walk-start : (a : Timed) (f : R) (k : K)
       → MakesEnds facts whole given (Walked timeout i None) a a f f k k
   walk-start a f k =

@@ -97,7 +97,7 @@ module _ (timeout i : ℕ) (a : Active) (s : Timed) (now : ℕ) (t : Shown)
         rw (active.place, found.found, found.active, number, own) refl
 
     module _ {R K : Type 0} (facts : R → Option (List Fact)) (whole : R → Bool)
-        (given : K → Option (List Done)) where
+        (given : K → List Done → Type 0) where
       pub watch-waits : (f : R) (k : K) → RowAt now timeout i a.call Waits t
           → MakesEnds facts whole given (Watches timeout i a.call) s s f f k k
       watch-waits f k at =
@@ -160,7 +160,7 @@ session-none timeout i s past =
     }
 
 module _ {R K : Type 0} (facts : R → Option (List Fact)) (whole : R → Bool)
-    (given : K → Option (List Done)) where
+    (given : K → List Done → Type 0) where
   -- a step after which nothing changed
   pub ends-same : (P : Rel) (a b c : Timed) (f g h : R) (j k l : K) → c ≡ b → h ≡ g → l ≡ k
       → MakesEnds facts whole given P a b f g j k → MakesEnds facts whole given P a c f h j l

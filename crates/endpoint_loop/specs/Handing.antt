@@ -1,10 +1,11 @@
 -- What was handed in with the calls of a node that aren't over, and how it is given back.
-use Rattle.std.specs.Prelude.{◌≡◌, ℕ, Option, option_map, List, [], ◌∷◌, ◌++◌}
+use Rattle.std.specs.Prelude.{◌≡◌, ℕ, List, [], ◌∷◌}
 use Rattle.client_core.specs.Handing.{Handed}
 use Rattle.client_core.specs.declared.outcome.Done.{Done}
 use Rattle.rpc_laws.specs.declared.tables.Lists.{Lists}
 use Rattle.rpc_laws.specs.declared.tables.Timed.{Timed}
 use Rattle.session_store.specs.Handing.{HandsBackAt}
+use Rattle.endpoint_loop.specs.Given.{Gave}
 
 -- a node as contracts see it: as the definitions over histories have it, and with what was handed
 -- in with the calls of each client session, in their order
@@ -27,8 +28,8 @@ HandBack (d ∷ ds) old new =
     (then : List (List Handed)) × HandsBackAt d.session d old then × HandBack ds then new
 
 -- the calls that are over are those that the continuation was given, in order
-pub record GivesBackTo {K : Type 0} (given : K → Option (List Done)) (old new : List (List Handed))
+pub record GivesBackTo {K : Type 0} (given : K → List Done → Type 0) (old new : List (List Handed))
     (from to : K) : Type 0 where
   pub dones : List Done
   pub back : HandBack dones old new
-  pub gave : given to ≡ option_map (λ ds. ds ++ dones) (given from)
+  pub gave : Gave given from to dones

@@ -12,6 +12,7 @@ use Rattle.rpc_outside.specs.Recording.{Grew}
 use Rattle.rpc_outside.specs.Served.{Served}
 use Rattle.rpc_outside.specs.declared.service.Mode.TheVariants.{Background}
 use Rattle.worker_board.specs.declared.Parcel.{Parcel}
+use Rattle.endpoint_loop.specs.Given.{Gave}
 use Rattle.endpoint_loop.specs.Finishing.{AreStaffed, Staff}
 use Rattle.endpoint_loop.specs.Noting.{is_end}
 use Rattle.endpoint_loop.specs.Seen.{Asks, asking}
@@ -20,12 +21,12 @@ use Rattle.endpoint_loop.specs.Serving.{MakesServed, with_given}
 -- a step that may run a handler, make a job, or end calls: the calls that the continuation was given
 -- are those whose ends were noted, in order
 pub record MakesHandled {R K : Type 0} (facts : R → Option (List Fact)) (whole : R → Bool)
-    (given : K → Option (List Done)) (v : Serving) (stands then_stands : Served → Type 0) (P : Rel)
+    (given : K → List Done → Type 0) (v : Serving) (stands then_stands : Served → Type 0) (P : Rel)
     (job : Option Parcel) (old new : Timed) (before now : R) (from to : K) : Type 0 where
   pub serves : MakesServed facts whole v stands then_stands P job old new before now
   pub dones : List Done
   pub ends : filter is_end serves.makes.noted ≡ map (done_fact old.lists.me) dones
-  pub gave : given to ≡ option_map (λ ds. ds ++ dones) (given from)
+  pub gave : Gave given from to dones
 
 -- an endpoint's workers answer background requests as its service does
 abbrev pub WorksFor : (ℕ → List ℕ → List ℕ) → Serving → Type 0
@@ -52,7 +53,7 @@ pub record HandlesWith (P : Rel) (answer : ℕ → List ℕ → List ℕ) (gave 
   pub handles : P (asking asks s) x (asking then_asks t)
 
 pub record MakesAllHandled {R K W : Type 0} (facts : R → Option (List Fact)) (whole : R → Bool)
-    (given : K → Option (List Done)) (staff : W → Staff) (v : Serving)
+    (given : K → List Done → Type 0) (staff : W → Staff) (v : Serving)
     (stands then_stands : Served → Type 0) (answer : ℕ → List ℕ → List ℕ) (P : Rel)
     (old new : Timed) (before now : R) (from to : K) (crew later : W) : Type 0 where
   pub noted : List Fact
@@ -66,4 +67,4 @@ pub record MakesAllHandled {R K W : Type 0} (facts : R → Option (List Fact)) (
       → HandlesWith P answer gave (staff crew) (staff later) asks old noted new
   pub dones : List Done
   pub ends : filter is_end noted ≡ map (done_fact old.lists.me) dones
-  pub told : given to ≡ option_map (λ ds. ds ++ dones) (given from)
+  pub told : Gave given from to dones

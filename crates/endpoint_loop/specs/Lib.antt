@@ -7,6 +7,7 @@ pub mod Counting
 pub mod Delivering
 pub mod Finishing
 pub mod Fits
+pub mod Given
 pub mod Handing
 pub mod Handling
 pub mod Hearing
@@ -23,4 +24,5 @@ pub mod Seen
 pub mod Serving
 pub mod Speaking
 pub mod Standing
+pub mod Turning
 pub mod Watching

@@ -11,6 +11,7 @@ use Rattle.rpc_laws.specs.declared.tables.Lists.{Lists}
 use Rattle.rpc_laws.specs.declared.tables.Timed.{Timed}
 use Rattle.rpc_laws.specs.Steps.{Rel, NotesNext}
 use Rattle.rpc_outside.specs.Linking.{Carried}
+use Rattle.endpoint_loop.specs.Given.{Gave}
 use Rattle.endpoint_loop.specs.Seen.{Asks, asking}
 use Rattle.rpc_outside.specs.Recording.{Grew}
 
@@ -72,9 +73,9 @@ is_end f = is_end_event f.event
 
 -- calls ended: those that the continuation was given are those whose ends were noted, in order
 pub record MakesEnds {R K : Type 0} (facts : R → Option (List Fact)) (whole : R → Bool)
-    (given : K → Option (List Done)) (P : Rel) (old new : Timed) (before now : R) (from to : K)
+    (given : K → List Done → Type 0) (P : Rel) (old new : Timed) (before now : R) (from to : K)
     : Type 0 where
   pub makes : Makes facts whole P old new before now
   pub dones : List Done
   pub ends : filter is_end makes.noted ≡ map (done_fact old.lists.me) dones
-  pub gave : given to ≡ option_map (λ ds. ds ++ dones) (given from)
+  pub gave : Gave given from to dones

@@ -17,6 +17,7 @@ use Rattle.rpc_outside.specs.Linking.{Carried}
 use Rattle.rpc_outside.specs.Recording.{Grew}
 use Rattle.rpc_outside.specs.Served.{Served}
 use Rattle.worker_board.specs.declared.Parcel.{Parcel}
+use Rattle.endpoint_loop.specs.Given.{Gave}
 use Rattle.endpoint_loop.specs.Counting.{CountsTurn}
 use Rattle.endpoint_loop.specs.declared.listening.Listening.{Listening}
 use Rattle.endpoint_loop.specs.declared.polling.Turn.{Turn}
@@ -95,21 +96,21 @@ pub record LinkTells : Type 0 where
 -- was given are those whose ends were noted, in order, and the turn counts its facts. The link,
 -- where it tells what it sent, sent exactly the datagrams of the Sent facts, and failed or was busy
 -- for each packet that it didn't take
-pub record TellsOfPoll {K : Type 0} (given : K → Option (List Done)) (v : Serving)
+pub record TellsOfPoll {K : Type 0} (given : K → List Done → Type 0) (v : Serving)
     (stands then_stands : Served → Type 0) (told : Option Turn) (link then_link : LinkTells)
     (me : ℕ) (x : List Fact) (t : Timed) (from to : K) : Type 0 where
   pub answers : (served : Served) → stands served
       → Answers v served x × then_stands (served_after_all v.mode served x)
   pub dones : List Done
   pub ends : filter is_end x ≡ map (done_fact me) dones
-  pub gave : given to ≡ option_map (λ ds. ds ++ dones) (given from)
+  pub gave : Gave given from to dones
   pub counts : IfSome told (CountsTurn x)
   pub took : then_link.sent ≡ option_map (λ ds. ds ++ sent_of x) link.sent
   pub held : HeldBack (held_in x t) link.troubles then_link.troubles
 
 -- the recorder grew by the facts of a poll
 pub record MakesPoll {R K V W : Type 0} (facts : R → Option (List Fact)) (whole : R → Bool)
-    (given : K → Option (List Done)) (crew : W → Crew) (v : Serving)
+    (given : K → List Done → Type 0) (crew : W → Crew) (v : Serving)
     (stands : V → Served → Type 0) (answer : ℕ → List ℕ → List ℕ) (told : Option Turn) (now : ℕ)
     (link then_link : LinkTells) (old new : Running V W) (before later : R) (from to : K)
     : Type 0 where

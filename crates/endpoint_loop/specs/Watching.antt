@@ -20,6 +20,7 @@ use Rattle.rpc_outside.specs.Linking.{Carried}
 use Rattle.rpc_outside.specs.Recording.{Grew}
 use Rattle.session_store.specs.Changes.{calls_in}
 use Rattle.session_store.specs.Ends.{next_above, progress_of}
+use Rattle.endpoint_loop.specs.Given.{Gave}
 use Rattle.endpoint_loop.specs.Noting.{MakesEnds}
 use Rattle.endpoint_loop.specs.Speaking.{LinkTook, Troubles}
 use Rattle.endpoint_loop.specs.declared.retrying.Asking.{Asking}
@@ -75,7 +76,7 @@ broken_with x left = record x { state = IsBroken; free = 0; calls = left }
 -- session i has lost its peer, and its first calls, those that are not left, have ended: what was
 -- noted, and what the continuation was given
 pub record HasLost {R K : Type 0} (facts : R → Option (List Fact)) (whole : R → Bool)
-    (given : K → Option (List Done)) (me i : ℕ) (left : List Call) (old new : List Client)
+    (given : K → List Done → Type 0) (me i : ℕ) (left : List Call) (old new : List Client)
     (before now : R) (from to : K) : Type 0 where
   pub client : Client
   pub place : slice_get old i ≡ Some client
@@ -85,11 +86,11 @@ pub record HasLost {R K : Type 0} (facts : R → Option (List Fact)) (whole : R 
   pub grew : Grew facts whole before now (plain me (Broken i) ∷ map (lost me) over)
   pub dones : List Done
   pub ends : map (lost me) over ≡ map (done_fact me) dones
-  pub gave : given to ≡ option_map (λ ds. ds ++ dones) (given from)
+  pub gave : Gave given from to dones
 
 -- the first call of session i has ended
 pub record EndsOne {R K : Type 0} (facts : R → Option (List Fact)) (whole : R → Bool)
-    (given : K → Option (List Done)) (me i : ℕ) (old new : List Client) (before now : R)
+    (given : K → List Done → Type 0) (me i : ℕ) (old new : List Client) (before now : R)
     (from to : K) : Type 0 where
   pub client : Client
   pub place : slice_get old i ≡ Some client
@@ -100,7 +101,7 @@ pub record EndsOne {R K : Type 0} (facts : R → Option (List Fact)) (whole : R 
   pub grew : Grew facts whole before now (lost me first ∷ [])
   pub done : Done
   pub end : lost me first ≡ done_fact me done
-  pub gave : given to ≡ option_map (λ ds. ds ++ done ∷ []) (given from)
+  pub gave : Gave given from to (done ∷ [])
 
 -- session i breaks: its packets are taken out, and then its calls end
 abbrev pub breaking_off : ℕ → Timed → List Fact
@@ -114,7 +115,7 @@ number_at after i s =
 
 -- it was looked at, or there is none
 abbrev pub LooksAt : {R K : Type 0} → (R → Option (List Fact)) → (R → Bool)
-    → (K → Option (List Done)) → (timeout i : ℕ) → Option ℕ → Option ℕ → Timed → Timed → R → R
+    → (K → List Done → Type 0) → (timeout i : ℕ) → Option ℕ → Option ℕ → Timed → Timed → R → R
     → K → K → Type 0
 LooksAt facts whole given timeout i after None old new before now from to =
     (number_at after i old ≡ None) × (new ≡ old) × (now ≡ before) × (to ≡ from)
@@ -124,7 +125,7 @@ LooksAt facts whole given timeout i after (Some n) old new before now from to =
 
 -- calls ended, and the link was handed control packets
 pub record MakesTimes {R K L : Type 0} (facts : R → Option (List Fact)) (whole : R → Bool)
-    (given : K → Option (List Done)) (sent : L → Option (List Carried)) (troubles : L → Troubles)
+    (given : K → List Done → Type 0) (sent : L → Option (List Carried)) (troubles : L → Troubles)
     (P : Rel) (told : Asking) (old new : Timed) (before now : R) (from to : K) (at later : L)
     : Type 0 where
   pub ends : MakesEnds facts whole given P old new before now from to

@@ -1,16 +1,17 @@
 //! What an application does with its calls that are over.
-ghost use Rattle.std.specs.Prelude.{◌≡◌, ◌++◌, [], ◌∷◌, Option, List, option_map};
+ghost use Rattle.std.specs.Prelude.{[], ◌∷◌, List};
 ghost use Rattle.client_core.specs.declared.outcome.Done.{Done};
+ghost use Rattle.endpoint_loop.specs.Given.{Gave};
 
 use client_core::Done;
 
 /// Takes the calls of an endpoint that are over.
 pub trait Continuation {
-    // The calls that it was given, in the order of their ends, where it tells them.
-    ghost given: { Self → Option (List Done) };
+    // Whether these may be all calls that it was given, in the order of their ends.
+    ghost given: { Self → List Done → Type 0 };
 
     /// A call is over. Its buffers come back; where it ended Ok, `resp` holds the answer, and
     /// otherwise it has length 0.
     fn done(&mut self, done: Done)
-        ensures { given self.new ≡ option_map (λ ds. ds ++ done ∷ []) (given self.old) };
+        ensures { Gave given self.old self.new (done ∷ []) };
 }

@@ -98,7 +98,7 @@ impl Node {
         ensures jobs { self.new.lists.jobs ≡ self.old.lists.jobs }
         ensures handed { self.new.handed ≡ self.old.handed }
     {
-        let _ = &self.me;
+        self.sound();
         let mut slot = 0;
         'slots: while slot < 8 {
             self.flush_slot(i, slot, rec);

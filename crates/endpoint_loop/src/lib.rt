@@ -1,6 +1,6 @@
-//! The endpoint: the event loop that owns the sessions of a node, its rings and its buffers. So far
-//! it takes datagrams, finishes jobs, handles requests and replies, looks at the timers, begins and
-//! posts calls, and sends packets; the program runs the nodes of the simulation.
+//! The endpoint: the event loop that owns the sessions of a node, its rings and its buffers. An
+//! application connects and closes sessions with it, and asks calls on them. It takes datagrams,
+//! polls, and takes turns, in each of which it receives what came over a link and polls.
 #![tactic(auto)]
 
 mod answering;
@@ -31,6 +31,7 @@ mod rolling;
 mod sending;
 mod serving;
 mod speaking;
+mod turning;
 mod watching;
 
 pub use asking::{AskError, Refused};
@@ -41,3 +42,4 @@ pub use listening::Listening;
 pub use node::{JobName, Node};
 pub use polling::{LinkFault, Turn};
 pub use sending::Sending;
+pub use turning::MOST_ARRIVALS;

@@ -126,6 +126,12 @@ impl<V: Service, W: Workers> Bench<V, W> {
             .poll(0, &mut self.link, &mut self.kept, &mut self.recorder)
     }
 
+    /// Takes a turn at the moment 0.
+    pub fn turn(&mut self) -> Result<Turn, LinkFault> {
+        self.endpoint
+            .turn(0, &mut self.link, &mut self.kept, &mut self.recorder)
+    }
+
     /// Asks a call of these bytes on session 0, which has to accept it.
     pub fn expect_call(
         &mut self,

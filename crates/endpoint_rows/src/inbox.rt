@@ -9,13 +9,16 @@ use std::alloc::Global;
 /// So many control packets fit an inbox.
 const INBOX_PLACES: u8 = 64;
 
-/// A request to connect, of session 0 with one credit.
-const REQUEST: [u8; 16] = [0xe1, 4, 0, 0, 0xff, 0xff, 0, 1, 0, 0, 0, 0, 0, 0, 0, 0];
+/// A request to connect, of this session with one credit.
+pub fn request(session: u8) -> [u8; 16] {
+    [
+        0xe1, 4, 0, session, 0xff, 0xff, 0, 1, 0, 0, 0, 0, 0, 0, 0, 0,
+    ]
+}
 
 // A request to connect comes from this session of peer 1.
 fn deliver_request(bench: &mut Plain, session: u8, wanted: Delivery) -> Result<(), Differs> {
-    let mut bytes = REQUEST;
-    bytes[3] = session;
+    let bytes = request(session);
     expect(bench.deliver(Peer(1), &bytes) == wanted, Differs::Answer)
 }
 

@@ -1,5 +1,5 @@
 //! A continuation that keeps what it is given.
-ghost use Rattle.std.specs.Prelude.{None};
+ghost use Rattle.std.specs.Prelude.{⊤};
 
 use client_core::Done;
 use endpoint_loop::Continuation;
@@ -37,7 +37,7 @@ impl Kept {
 }
 
 impl Continuation for Kept {
-    ghost given = { λ _. None };
+    ghost given = { λ _ _. ⊤ };
 
     fn done(&mut self, done: Done) {
         if self.dones.push(done).is_err() {

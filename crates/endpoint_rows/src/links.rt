@@ -1,5 +1,7 @@
 //! Links in memory.
-use rpc_base::NoMemory;
+ghost use Rattle.rpc_outside.specs.Linking.{AreCarried};
+
+use rpc_base::{NoMemory, Octets, Peer};
 use rpc_outside::MemLink;
 use std::alloc::Global;
 
@@ -25,4 +27,16 @@ pub fn failing_link(alloc: Global, call: u64) -> Result<MemLink, NoMemory> {
 pub fn busy_link(alloc: Global, send: u64) -> Result<MemLink, NoMemory> {
     let busy = vec![in alloc; send]?;
     link(alloc, Vec::new(alloc), busy)
+}
+
+/// A link to which these datagrams come, and of which these calls fail, the first call having
+/// number 0.
+pub fn giving_link(
+    alloc: Global,
+    arrivals: Vec<(Peer, Octets)>,
+    fails: Vec<u64>,
+) -> Result<MemLink, NoMemory>
+    requires carried { AreCarried arrivals.items }
+{
+    MemLink::new(alloc, arrivals, ROOM, fails, Vec::new(alloc))
 }

@@ -17,6 +17,7 @@ mod serving;
 mod stopping;
 mod tags;
 mod told;
+mod turning;
 mod working;
 
 use crate::differs::Differs;
@@ -39,7 +40,9 @@ fn main(rt: HostRuntime) -> io::Result<()> {
     tell(&rt, "refused pairs", pairs::refused_row(alloc))?;
     tell(&rt, "busy at each send", stopping::busy_row(alloc))?;
     tell(&rt, "failing at each call", stopping::failing_row(alloc))?;
+    tell(&rt, "a fault in receiving", turning::fault_row(alloc))?;
     tell(&rt, "a service with state", serving::row(alloc))?;
     tell(&rt, "tags and buffers", tags::row(alloc))?;
+    tell(&rt, "turns", turning::most_row(alloc))?;
     tell(&rt, "workers out of order", working::row(alloc))
 }

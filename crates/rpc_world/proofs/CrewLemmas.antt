@@ -175,7 +175,7 @@ module _ (j session request : ℕ) (e : End) (later : Local)
         { lists = record e.timed.lists { jobs = record e.timed.lists.jobs { out = out } } })
         (asked-same (asks_of (out_of later)) (asks_of (out_of w)) asks-same e.timed.lists.jobs.out)
 
-    staffed-worked : IsStaffed background_answer (staff_of later) e.timed
+    pub staffed-worked : IsStaffed background_answer (staff_of later) e.timed
     staffed-worked =
         let jobs = e.timed.lists.jobs.out in
         record {

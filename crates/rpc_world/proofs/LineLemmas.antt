@@ -1,9 +1,8 @@
 -- The lines of a script one by one: each names nodes that are there, and the clock stays small.
-use Rattle.std.proofs.Common.{◌≡◌, ◌<◌, ◌≤◌, ◌+◌, ◌-◌, ◌*◌, ◌^◌, ◌⊎◌, inl, inr, ℕ, zero, suc, not}
-use Rattle.std.proofs.Common.{Bool, true, false, cond, Some, None, List, [], ◌∷◌, get_or, length}
+use Rattle.std.proofs.Common.{◌≡◌, ◌<◌, ◌≤◌, ◌+◌, ◌-◌, ◌*◌, ◌^◌, ◌⊎◌, inl, inr, ℕ, zero, suc}
+use Rattle.std.proofs.Common.{List, [], ◌∷◌, get_or, length}
 use Rattle.std.proofs.Common.{refl, sym, ap, subst, ◌∙◌, arith, length-append}
 use Rattle.std.proofs.lemmas.List.{get_or_append_left, get_or-append_right}
-use Rattle.std.specs.Prelude.{find}
 use Rattle.rpc_base.specs.declared.fact.Fact.{Fact}
 use Rattle.rpc_world.specs.Answered.{Play, stage_of}
 use Rattle.rpc_world.specs.Performed.{Performed}

@@ -4,14 +4,13 @@ use Rattle.std.proofs.Common.{length, refl, sym, ap, ◌∙◌, subst, arith}
 use Rattle.std.specs.Prelude.{map, option_map, slice_get}
 use Rattle.std.proofs.lemmas.Option.{slice_get-map}
 use Rattle.rpc_base.specs.declared.fact.Fact.{Fact}
-use Rattle.rpc_laws.specs.declared.tables.Timed.{Timed}
 use Rattle.rpc_laws.specs.Service.{plain_serving, served_after_all}
 use Rattle.rpc_laws.specs.UsualLimits.{with_ring}
 use Rattle.rpc_outside.specs.PlainAnswer.{plain_mode}
 use Rattle.rpc_outside.specs.PlainStands.{PlainStands}
 use Rattle.node_laws.specs.NodeRun.{NodeRun}
 use Rattle.rpc_world.specs.Answered.{End, Plainly, Play, stage_of, told_end, totals_of}
-use Rattle.rpc_world.specs.Before.{AllPlay, IsPlaying}
+use Rattle.rpc_world.specs.Before.{AllPlay}
 use Rattle.rpc_world.specs.Standing.{AllStand, StandsAt, StandsIf}
 use Rattle.world_laws.specs.NodeFacts.{IsRun, RunAt, RunsOf, facts_of}
 

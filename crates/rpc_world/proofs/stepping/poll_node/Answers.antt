@@ -1,15 +1,13 @@
-use Rattle.std.specs.Prelude.{slice_get, slice_set}
-use Rattle.std.proofs.Common.{◌≡◌, ◌++◌, ◌∙◌, Some, ap, ap₂, length, map, drop, refl, subst, sym, List}
+use Rattle.std.specs.Prelude.{slice_get}
+use Rattle.std.proofs.Common.{◌≡◌, ◌++◌, ◌∙◌, ap, length, map, drop, subst, sym, List}
 use Rattle.network_model.specs.Sending.{Sending, copy_from}
 use Rattle.rpc_base.specs.declared.fact.Fact.{Fact}
-use Rattle.rpc_laws.specs.declared.tables.InFlight.{InFlight}
-use Rattle.rpc_laws.specs.declared.tables.WorkedJob.{WorkedJob}
 use Rattle.rpc_laws.specs.InFlight.{flight_after_all}
 use Rattle.rpc_laws.specs.PollOrder.{PollBy, SendsAll}
-use Rattle.rpc_laws.specs.Working.{FinishesWorked, worked_after_all}
+use Rattle.rpc_laws.specs.Working.{FinishesWorked}
 use Rattle.rpc_outside.specs.PlainAnswer.{plain_mode}
 use Rattle.endpoint_loop.specs.Noting.{sent_of}
-use Rattle.rpc_world.specs.Answered.{End, Play, Whole}
+use Rattle.rpc_world.specs.Answered.{Play, Whole}
 use Rattle.rpc_world.proofs.PollingLemmas.{at-polls, landed, mine, never-busy, poll-step, sent-all}
 use Rattle.rpc_world.proofs.PollingLemmas.{sent-flight}
 use Rattle.rpc_world.proofs.StepLemmas.{grew-facts, grew-since, since, stepped}

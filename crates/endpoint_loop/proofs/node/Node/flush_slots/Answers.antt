@@ -1,8 +1,4 @@
-use Rattle.std.proofs.Common.{◌≡◌, subst, ◌∙◌, arith}
-use Rattle.std.specs.List.{AllByRecursion}
-use Rattle.node_laws.specs.Valid.{SoundServer}
-use Rattle.endpoint_loop.specs.Handing.{Holding}
-use Rattle.endpoint_loop.specs.contracts.node.Node.{the_view}
+use Rattle.std.proofs.Common.{◌≡◌, ◌∙◌, arith}
 use Rattle.endpoint_loop.proofs.EndingLemmas.{all-flushed, drained-whole, flushes-more}
 use Rattle.endpoint_loop.proofs.node.Node.flush_slots.Goals as goal
 
@@ -30,8 +26,5 @@ returns-clause-makes g c =
 pub returns-clause-drained : goal.returns-clause-drained
 returns-clause-drained g c =
     let last : c.slots.slot ≡ 8 = omega (arith, c.slots.invariant.1, c.slots-test.false) in
-    let served : AllByRecursion SoundServer (the_view c.self.inside).lists.servers =
-    c.self.invariant.0.kept.valid.served in
     drained-whole g.R.Recorder.facts g.R.Recorder.whole c.args.i c.slots.slot _ _ _ _ last
-    (subst (λ (n : Holding). AllByRecursion SoundServer n.lists.servers) c.self.view_is served) c.slots.invariant.3
-    c.slots.invariant.0
+    c.sound.ensures.kept.valid.served c.slots.invariant.3 c.slots.invariant.0

@@ -1,5 +1,6 @@
 use Rattle.std.proofs.Common.{refl, sym, ◌∙◌}
-use Rattle.endpoint_loop.proofs.HandleLemmas.{asks-kind, gave-none, gave-one, node-replies, node-requests}
+use Rattle.endpoint_loop.proofs.HandleLemmas.{asks-kind, node-replies, node-requests}
+use Rattle.endpoint_loop.proofs.GivenLemmas.{gave-no, gave-one}
 use Rattle.endpoint_loop.proofs.HandleLemmas.{replies-kind}
 use Rattle.endpoint_loop.proofs.HandingLemmas.{gives-one, gives-same}
 use Rattle.endpoint_loop.proofs.node.Node.handle_front.Goals as goal
@@ -25,7 +26,7 @@ returns-in-None-clause-handles g c =
     (g.V.Service.stands c.args.service.now) c.in-Some.head _ _ _ _ front c.requires.room
     c.hear_reply.result _ _ (replies-kind c.in-Some.head.kind c.in-Cr.is)
     c.hear_reply.ensures.hears c.hear_reply.ensures.jobs
-    (gave-none c.hear_reply.result (g.K.Continuation.given c.args.k.now) c.in-None.is)
+    (gave-no g.K.Continuation.given c.hear_reply.result c.args.k.now c.in-None.is)
 
 pub returns-in-Some-hear_reply-clause-handles : goal.returns-in-Some-hear_reply-clause-handles
 returns-in-Some-hear_reply-clause-handles g c =
@@ -35,8 +36,8 @@ returns-in-Some-hear_reply-clause-handles g c =
     (g.V.Service.stands c.args.service.now) c.in-Some.head _ _ _ _ front c.requires.room
     c.hear_reply.result _ _ (replies-kind c.in-Some.head.kind c.in-Cr.is)
     c.hear_reply.ensures.hears c.hear_reply.ensures.jobs
-    (gave-one c.hear_reply.result c.in-Some-hear_reply.done (g.K.Continuation.given c.args.k.now)
-    (g.K.Continuation.given c.done.new.self) c.in-Some-hear_reply.is c.done.ensures)
+    (gave-one g.K.Continuation.given c.hear_reply.result c.in-Some-hear_reply.done c.args.k.now
+    c.done.new.self c.in-Some-hear_reply.is c.done.ensures)
 
 pub returns-in-Request-clause-handed : goal.returns-in-Request-clause-handed
 returns-in-Request-clause-handed g c =

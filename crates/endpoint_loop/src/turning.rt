@@ -1,0 +1,91 @@
+//! A turn: datagrams are received and delivered, and then the endpoint polls.
+ghost use Rattle.endpoint_loop.specs.Handing.{GivesBackTo};
+ghost use Rattle.std.specs.Prelude.{◌≡◌, true, IfOk, is_err};
+ghost use Rattle.endpoint_loop.specs.Polling.{turn_of};
+ghost use Rattle.endpoint_loop.specs.Standing.{GoesOn};
+ghost use Rattle.endpoint_loop.specs.Turning.{MakesTurn, Receives};
+ghost use Rattle.rpc_outside.specs.Faults.{HasCause, HasRisen};
+
+use crate::continuation::Continuation;
+use crate::endpoint::Endpoint;
+use crate::polling::{LinkFault, Turn};
+use rpc_outside::{Failed, Got, Link, MOST_LINK_BYTES, Recorder, Service};
+use worker_crew::Workers;
+
+/// The most datagrams that a turn receives.
+pub const MOST_ARRIVALS: u32 = 64;
+
+impl<V: Service, W: Workers> Endpoint<V, W> {
+    // Receives datagrams until none waits, at most 64, and delivers each. `Failed` comes exactly
+    // where a fault of the link ended it.
+    fn receive<L: Link, R: Recorder>(&mut self, link: &mut L, rec: &mut R) -> Result<(), Failed>
+        ensures receives { Receives R.facts R.whole L.received L.waiting (is_err result)
+            self.old self.new rec.old rec.new link.old link.new }
+        ensures goes_on { GoesOn R.facts R.whole (record { mode = V.mode_of; answer = V.answer })
+            V.stands W.answer (λ w. record {
+              limit = W.limit w;
+              given = W.given w;
+              out = W.out w;
+              waiting = W.waiting w;
+            }) self.old self.new rec.old rec.new }
+        ensures sent { L.sent link.new ≡ L.sent link.old }
+        ensures busies { L.busies link.new ≡ L.busies link.old }
+        ensures cause { HasCause (L.faults link.old) (L.faults link.new) result }
+    {
+        let mut out = [0; MOST_LINK_BYTES];
+        'datagrams: for _ in 0..MOST_ARRIVALS {
+            match link.recv(&mut out)? {
+                Got::Nothing => return Ok(()),
+                Got::Packet { peer, len } => {
+                    let _delivery = self.deliver(peer, &out[..len], rec);
+                }
+            }
+        }
+        Ok(())
+    }
+
+    /// Takes a turn at the moment `now`, in microseconds: receives datagrams until none waits, at
+    /// most 64, delivers each, and polls. A fault of the link ends the receiving, and it polls all
+    /// the same. What it tells is what the poll told. `LinkFault` comes at its end, exactly where a
+    /// fault of the link came in receiving or in the poll.
+    pub fn turn<L: Link, K: Continuation, R: Recorder>(
+        &mut self,
+        now: u64,
+        link: &mut L,
+        k: &mut K,
+        rec: &mut R,
+    ) -> Result<Turn, LinkFault>
+        ensures turns { MakesTurn R.facts R.whole L.received L.waiting K.given (λ w. record {
+          staff = record {
+            limit = W.limit w;
+            given = W.given w;
+            out = W.out w;
+            waiting = W.waiting w;
+          };
+          worked = W.worked w;
+          looks = W.looks w;
+        }) (record { mode = V.mode_of; answer = V.answer }) V.stands W.answer (turn_of result) now
+            (λ l. record {
+              sent = L.sent l;
+              troubles = record { faults = L.faults l; busies = L.busies l };
+            }) link.old link.new self.old self.new rec.old rec.new k.old k.new }
+        ensures goes_on { GoesOn R.facts R.whole (record { mode = V.mode_of; answer = V.answer })
+            V.stands W.answer (λ w. record {
+              limit = W.limit w;
+              given = W.given w;
+              out = W.out w;
+              waiting = W.waiting w;
+            }) self.old self.new rec.old rec.new }
+        ensures busy { IfOk result (λ turn. turn.busy ≡ true →
+            HasRisen (L.busies link.old) (L.busies link.new)) }
+        ensures cause { HasCause (L.faults link.old) (L.faults link.new) result }
+        ensures handed { GivesBackTo K.given self.old.handed self.new.handed k.old k.new }
+    {
+        let received = self.receive(link, rec);
+        let polled = self.poll(now, link, k, rec);
+        match received {
+            Ok(()) => polled,
+            Err(_) => Err(LinkFault),
+        }
+    }
+}
