@@ -1,2 +1,4 @@
+pub mod LoadRows
 pub mod RowLemmas
+pub mod ServeRows
 pub mod WordRows

@@ -1,8 +1,7 @@
--- The rows are simple commands, and what such a command makes of words.
+-- What a simple command makes of words.
 use Rattle.std.proofs.Common.{◌≡◌, ◌≢◌, true, false, ◌==◌, List, [], ◌∷◌, length, Some, refl, sym}
 use Rattle.std.proofs.Common.{ap, inl, inr, arith}
 use Rattle.std.proofs.lemmas.Bool.Decides.{nat_tests}
-use Rattle.clap.proofs.OnLiterals.{clap_on_literals}
 use Rattle.clap.proofs.WalkLemmas.{both}
 use Rattle.clap.specs.Words.{App, HasKind, HasMatchesOf, IsAmong, Kinds, Text, fault_of, found_of}
 use Rattle.clap.specs.Words.{is_simple_and_free, kind_of, rows_of}
@@ -11,18 +10,9 @@ use Rattle.clap.specs.declared.error.kind.ErrorKind.{ErrorKind}
 use Rattle.clap.specs.declared.error.kind.ErrorKind.TheVariants.{OutOfMemory}
 use Rattle.clap.specs.declared.parser.matches.ArgMatches.{ArgMatches}
 use Rattle.command_line.specs.Answers.{IsNone}
-use Rattle.command_line.specs.Rows.{drill_row, sim_row}
 use Rattle.command_line.specs.Tasks.{taken}
 use Rattle.command_line.specs.declared.task.WordsError.{WordsError}
 use Rattle.command_line.specs.declared.task.WordsError.TheVariants.{Usage, NoMemory}
-
-pub sim_is_simple : is_simple_and_free sim_row ≡ true
-unfolding clap_on_literals
-sim_is_simple = refl
-
-pub drill_is_simple : is_simple_and_free drill_row ≡ true
-unfolding clap_on_literals
-drill_is_simple = refl
 
 pub taken_whole : (row : App) (words : List Text) (found : ArgMatches) → is_simple_and_free row ≡ true
     → fault_of row words ≡ [] → HasMatchesOf row words found

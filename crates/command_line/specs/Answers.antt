@@ -1,27 +1,54 @@
 -- What reading words may answer: what they ask for, or at any time that memory ran out.
-use Rattle.std.specs.Prelude.{◌≡◌, ◌≤◌, List, Option, Some, None, Result, Ok, Err}
+use Rattle.std.specs.Prelude.{◌≡◌, ◌≤◌, true, List, Option, Some, None, Result, Ok, Err}
+use Rattle.std.specs.String.{string_bytes}
+use Rattle.std.specs.declared.string.String.{String}
 use Rattle.clap.specs.Words.{App, Text, found_of, rows_of}
 use Rattle.clap.specs.declared.parser.matches.ArgMatches.{ArgMatches}
 use Rattle.command_line.specs.declared.task.Task.{Task}
-use Rattle.command_line.specs.declared.task.Task.TheVariants.{Sim, Drill}
+use Rattle.command_line.specs.declared.task.Task.TheVariants.{Sim, Drill, Serve, Load}
 use Rattle.command_line.specs.declared.task.WordsError.{WordsError}
 use Rattle.command_line.specs.declared.task.WordsError.TheVariants.{Usage, NoMemory}
+use Rattle.command_line.specs.Numbers.{is_type}
 use Rattle.command_line.specs.Tasks.{taken}
+use Rattle.command_line.specs.Words.{LoadWords, ServeWords}
 
 -- the words are in no row, or memory ran out
 abbrev pub IsNone : {A : Type 0} → WordsError → Option A → Type 0
 IsNone Usage said = said ≡ None
 IsNone NoMemory said = Unit {0}
 
-abbrev pub Reads : Result Task WordsError → Option Task → Type 0
-Reads (Ok task) said = said ≡ Some task
+-- what was read is what the words say
+abbrev pub Reads : {A : Type 0} → Result A WordsError → Option A → Type 0
+Reads (Ok value) said = said ≡ Some value
 Reads (Err error) said = IsNone error said
+
+-- the same of a text, by its bytes
+abbrev pub ReadsText : {Z : Type 0} → Result (String Z) WordsError → Option Text → Type 0
+ReadsText (Ok text) said = said ≡ Some (string_bytes text)
+ReadsText (Err error) said = IsNone error said
+
+-- the numbers of `serve` are in their ranges
+abbrev pub IsServeInRange : ServeWords → Type 0
+IsServeInRange words =
+    (1 ≤ words.turns) × (words.turns ≤ 4294967295) × (words.workers ≡ 0)
+
+-- the numbers of `load` are in their ranges, and the type in its list
+pub record IsLoadInRange (words : LoadWords) : Type 0 where
+  pub some_calls : 1 ≤ words.calls
+  pub most_calls : words.calls ≤ 1000000
+  pub known_type : is_type words.req_type ≡ true
+  pub most_bytes : words.size ≤ 1048576
+  pub most_seed : words.seed ≤ 4294967295
+  pub some_turns : 1 ≤ words.turns
+  pub most_turns : words.turns ≤ 4294967295
 
 -- the numbers of a task are in their ranges
 abbrev pub IsInRange : Task → Type 0
 IsInRange Sim = Unit {0}
 IsInRange (Drill seed calls) =
     (seed ≤ 9223372036854775807) × (1 ≤ calls) × (calls ≤ 10000)
+IsInRange (Serve words) = IsServeInRange words
+IsInRange (Load words) = IsLoadInRange words
 
 abbrev pub Takes : Result ArgMatches WordsError → App → List Text → Type 0
 Takes (Ok found) row words = taken row words ≡ Some (rows_of (found_of found))

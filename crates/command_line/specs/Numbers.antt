@@ -1,6 +1,7 @@
--- Numbers among the words.
-use Rattle.std.specs.Prelude.{ℕ, ◌&&◌, nat_le, List, Option, Some, None, option_and_then}
-use Rattle.std.specs.Prelude.{if◌then◌else◌}
+-- Numbers and texts among the words.
+use Rattle.std.specs.Prelude.{ℕ, ◌==◌, ◌&&◌, Bool, nat_le, List, [], ◌∷◌, Option, Some, None}
+use Rattle.std.specs.Prelude.{codes, option_and_then, if◌then◌else◌}
+use Rattle.std.specs.List.{list_any}
 use Rattle.clap.specs.Words.{Row, Text, first_of}
 use Rattle.script_grammar.specs.Numbers.{is_numeral, value_of}
 
@@ -13,3 +14,14 @@ number_in low high text =
 -- the number that is the value of an argument
 abbrev pub number_at : (low high : ℕ) → Text → List Row → Option ℕ
 number_at low high id rows = option_and_then (λ text. number_in low high text) (first_of id rows)
+
+-- the request types that `load` may ask
+abbrev pub is_type : ℕ → Bool
+is_type number = list_any (λ known. known == number) (1 ∷ 2 ∷ 3 ∷ 4 ∷ 129 ∷ 130 ∷ 132 ∷ [])
+
+abbrev pub listed : ℕ → Option ℕ
+listed number = if is_type number then Some number else None
+
+-- the request type that is the value of `--type`
+unfoldable pub type_at : List Row → Option ℕ
+type_at rows = option_and_then (λ number. listed number) (number_at 0 255 (codes "type") rows)

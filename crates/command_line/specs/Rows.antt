@@ -1,5 +1,5 @@
 -- The subcommands, each with the simple command that takes the words after its name.
-use Rattle.std.specs.Prelude.{codes, true, Some}
+use Rattle.std.specs.Prelude.{codes, true, Some, [], ◌∷◌}
 use Rattle.clap.specs.Words.{App, Rule, Text, new_app, new_rule, with_rule}
 use Rattle.clap.specs.Simple.{on_top}
 use Rattle.clap.specs.declared.builder.action.ArgAction.TheVariants.{Set}
@@ -12,10 +12,40 @@ row name = on_top (λ top. record top { no_binary_name = true }) (new_app name)
 abbrev pub positional : Text → Rule
 positional id = record (new_rule id) { action = Some Set; required = true }
 
+-- `--NAME VALUE`, which is not given twice
+abbrev pub named : Text → Rule
+named name = record (new_rule name) { long = Some name; action = Some Set }
+
+-- the same, which has to be given
+abbrev pub needed : Text → Rule
+needed name = record (named name) { required = true }
+
+-- the same, with its value where it is not given
+abbrev pub optional : (name default : Text) → Rule
+optional name default = record (named name) { defaults = default ∷ [] }
+
 -- `sim`
 abbrev pub sim_row : App
 sim_row = row (codes "sim")
 
 -- `drill SEED CALLS`
 abbrev pub drill_row : App
-drill_row = with_rule (with_rule (row (codes "drill")) (positional (codes "SEED"))) (positional (codes "CALLS"))
+drill_row = with_rule (with_rule (row (codes "drill")) (positional (codes "SEED")))
+    (positional (codes "CALLS"))
+
+-- `serve ADDR --turns T`
+abbrev pub serve_row : App
+serve_row = with_rule (with_rule (row (codes "serve")) (positional (codes "ADDR")))
+    (needed (codes "turns"))
+
+-- the options of `load` that say what is asked
+abbrev pub with_call : App → App
+with_call app = with_rule (with_rule (with_rule (with_rule app (needed (codes "calls")))
+    (needed (codes "type"))) (needed (codes "size"))) (needed (codes "seed"))
+
+-- `load ADDR --calls N --type Y --size Z --seed G --turns T [--bind ADDR]`
+abbrev pub load_row : App
+load_row =
+    let addressed = with_rule (row (codes "load")) (positional (codes "ADDR")) in
+    with_rule (with_rule (with_call addressed) (needed (codes "turns")))
+    (optional (codes "bind") (codes "127.0.0.1:0"))

@@ -6,9 +6,10 @@ mod number;
 mod row;
 mod task;
 mod telling;
+mod text;
 mod words;
 
-pub use task::{Task, WordsError};
+pub use task::{LoadSpec, ServeSpec, Task, WordsError};
 pub use telling::{complaint, usage};
 pub use words::read_words;
 

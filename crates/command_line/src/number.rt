@@ -1,11 +1,12 @@
 //! Numbers among the words.
-ghost use Rattle.std.specs.Prelude.{◌≡◌, ◌<◌, ◌≤◌, min, IfSome};
+ghost use Rattle.std.specs.Prelude.{◌≡◌, ◌<◌, ◌≤◌, min, true, IfSome, codes};
 ghost use Rattle.std.specs.Char.{is_ascii_digit};
 ghost use Rattle.std.specs.List.{list_all};
 ghost use Rattle.clap.specs.Words.{found_of, rows_of};
-ghost use Rattle.command_line.specs.Numbers.{number_at, number_in};
+ghost use Rattle.command_line.specs.Numbers.{is_type, number_at, number_in, type_at};
 ghost use Rattle.script_grammar.specs.Numbers.{is_numeral, value_of};
 
+use crate::text::text_at;
 use clap::ArgMatches;
 
 /// Tells whether all bytes are decimal digits.
@@ -41,7 +42,7 @@ fn value(digits: &[u8]) -> u64
 
 /// The number that a text spells, from `low` to `high`.
 #[tactic(auto, unfolding(crate::specs::Numbers::number_in))]
-fn number(text: &[u8], low: u64, high: u64) -> Option<u64>
+fn number_from(text: &[u8], low: u64, high: u64) -> Option<u64>
     requires { high < u64.MAX }
     ensures value { result ≡ number_in low high text.now }
     ensures range { IfSome result (λ n. (low ≤ n) × (n ≤ high)) }
@@ -56,12 +57,51 @@ fn number(text: &[u8], low: u64, high: u64) -> Option<u64>
     Some(value)
 }
 
-/// The number that is the value of an argument.
-pub fn number_at(matches: &ArgMatches<'_>, id: &str, low: u64, high: u64) -> Option<u64>
-    requires { high < u64.MAX }
-    ensures value { result ≡ number_at low high id.now (rows_of (found_of matches.now)) }
-    ensures range { IfSome result (λ n. (low ≤ n) × (n ≤ high)) }
+/// A number among the words of a subcommand.
+pub struct Number {
+    /// Its argument.
+    pub id: &'static str,
+    /// What a user knows it by.
+    pub shown: &'static str,
+    /// It is no less.
+    pub low: u64,
+    /// It is no greater.
+    pub high: u64,
+    ghost bounded: { high < 18446744073709551615 },
+}
+
+impl Number {
+    /// The number that the words give; None where they give none in its range.
+    pub fn read(&self, matches: &ArgMatches<'_>) -> Option<u64>
+        ensures value { result ≡ number_at self.now.low self.now.high self.now.id.now
+            (rows_of (found_of matches.now)) }
+        ensures range { IfSome result (λ n. (self.now.low ≤ n) × (n ≤ self.now.high)) }
+    {
+        let text = text_at(matches, self.id)?;
+        number_from(text.as_bytes(), self.low, self.high)
+    }
+}
+
+/// `load` asks calls of these types.
+pub const TYPES: [u8; 7] = [1, 2, 3, 4, 129, 130, 132];
+
+const TYPE: Number = Number {
+    id: "type",
+    shown: "--type",
+    low: 0,
+    high: u8::MAX as u64,
+};
+
+/// The request type that the words of `load` give; None where they give none of the list.
+#[tactic(auto, unfolding(crate::specs::Numbers::type_at))]
+pub fn request_type(matches: &ArgMatches<'_>) -> Option<u8>
+    ensures value { result ≡ type_at (rows_of (found_of matches.now)) }
+    ensures known { IfSome result (λ number. is_type number ≡ true) }
 {
-    let text = matches.get_str(id)?;
-    number(text.as_bytes(), low, high)
+    let number = TYPE.read(matches)? as u8;
+    if TYPES.contains(&number) {
+        Some(number)
+    } else {
+        None
+    }
 }

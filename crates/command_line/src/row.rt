@@ -4,7 +4,8 @@ ghost use Rattle.std.specs.String.{string_bytes};
 ghost use Rattle.clap.specs.Words.{app_of, is_simple_and_free, rule_of};
 ghost use Rattle.clap.specs.declared.error.kind.ErrorKind.TheVariants.{OutOfMemory};
 ghost use Rattle.command_line.specs.Answers.{Takes};
-ghost use Rattle.command_line.specs.Rows.{drill_row, positional, row, sim_row};
+ghost use Rattle.command_line.specs.Rows.{drill_row, load_row, named, needed, optional, positional};
+ghost use Rattle.command_line.specs.Rows.{row, serve_row, sim_row, with_call};
 
 use crate::task::WordsError;
 use clap::error::ErrorKind;
@@ -17,6 +18,30 @@ fn positional<'a>(alloc: Global, id: &'a str) -> Arg<'a>
     ensures local { result.global ≡ false }
 {
     Arg::new(alloc, id).action(ArgAction::Set).required(true)
+}
+
+/// An argument `--NAME VALUE`, which is not given twice.
+fn named<'a>(alloc: Global, name: &'a str) -> Arg<'a>
+    ensures rule { rule_of result ≡ named name.entry.now }
+    ensures local { result.global ≡ false }
+{
+    Arg::new(alloc, name).long(name).action(ArgAction::Set)
+}
+
+/// The same, which has to be given.
+fn needed<'a>(alloc: Global, name: &'a str) -> Arg<'a>
+    ensures rule { rule_of result ≡ needed name.entry.now }
+    ensures local { result.global ≡ false }
+{
+    named(alloc, name).required(true)
+}
+
+/// The same, with its value where it is not given.
+fn optional<'a>(alloc: Global, name: &'a str, default: &'a str) -> Arg<'a>
+    ensures rule { rule_of result ≡ optional name.entry.now default.entry.now }
+    ensures local { result.global ≡ false }
+{
+    named(alloc, name).default_value(default)
 }
 
 /// A command that reads all of its words, with how it is called and what it does.
@@ -53,6 +78,50 @@ pub fn drill<'a>(alloc: Global) -> Result<Command<'a>, AllocError>
     )
     .arg(positional(alloc, "SEED"))?
     .arg(positional(alloc, "CALLS"))?;
+    Ok(command)
+}
+
+/// `serve ADDR --turns T`.
+pub fn serve<'a>(alloc: Global) -> Result<Command<'a>, AllocError>
+    ensures { IfOk result (λ command. app_of command ≡ serve_row) }
+{
+    let command = row(
+        alloc,
+        "serve",
+        "erpc serve ADDR --turns T",
+        "answers calls that come to the UDP address ADDR, for T turns, and counts what happened",
+    )
+    .arg(positional(alloc, "ADDR"))?
+    .arg(needed(alloc, "turns"))?;
+    Ok(command)
+}
+
+/// The command with the arguments that say what a call of `load` is.
+fn with_call<'a>(alloc: Global, command: Command<'a>) -> Result<Command<'a>, AllocError>
+    ensures { IfOk result (λ new. app_of new ≡ with_call (app_of command.entry)) }
+{
+    let command = command
+        .arg(needed(alloc, "calls"))?
+        .arg(needed(alloc, "type"))?
+        .arg(needed(alloc, "size"))?
+        .arg(needed(alloc, "seed"))?;
+    Ok(command)
+}
+
+/// `load ADDR --calls N --type Y --size Z --seed G --turns T [--bind ADDR]`.
+pub fn load<'a>(alloc: Global) -> Result<Command<'a>, AllocError>
+    ensures { IfOk result (λ command. app_of command ≡ load_row) }
+{
+    let command = row(
+        alloc,
+        "load",
+        "erpc load ADDR --calls N --type Y --size Z --seed G --turns T [--bind ADDR]",
+        "asks N calls of the server at ADDR, and counts how they ended",
+    )
+    .arg(positional(alloc, "ADDR"))?;
+    let command = with_call(alloc, command)?
+        .arg(needed(alloc, "turns"))?
+        .arg(optional(alloc, "bind", "127.0.0.1:0"))?;
     Ok(command)
 }
 

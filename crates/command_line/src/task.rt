@@ -1,13 +1,79 @@
 //! What the words of a command line ask for.
 use std::alloc::AllocError;
+use std::marker::Model;
+
+/// The words of `serve`, read.
+#[derive(Debug, Drop)]
+pub struct ServeSpec {
+    /// The address to which calls come, as it was written.
+    pub addr: String,
+    /// After so many turns the server ends; at least 1.
+    pub turns: u32,
+    /// The number of hands that work its jobs: 0, since no word names it.
+    pub workers: u8,
+}
+
+impl Model for ServeSpec {
+    ghost use Rattle.std.specs.String.{string_bytes};
+    ghost use Rattle.command_line.specs.Words.{ServeWords};
+
+    ghost Value = { ServeWords };
+
+    ghost view = { λ spec. record {
+      addr = string_bytes spec.addr;
+      turns = spec.turns;
+      workers = spec.workers;
+    } };
+}
+
+/// The words of `load`, read.
+#[derive(Debug, Drop)]
+pub struct LoadSpec {
+    /// The server's address, as it was written.
+    pub addr: String,
+    /// So many calls are asked, 1 to 1,000,000.
+    pub calls: u32,
+    /// Their request type: 1, 2, 3, 4, 129, 130 or 132.
+    pub req_type: u8,
+    /// The size of a call of a type that asks as many bytes as it is told, and what the other types
+    /// ask for; at most 1,048,576 bytes.
+    pub size: u32,
+    /// The number that the bytes of the calls begin with.
+    pub seed: u32,
+    /// After so many turns the client gives up; at least 1.
+    pub turns: u32,
+    /// The client's own address, as it was written; `127.0.0.1:0` where none was.
+    pub bind: String,
+}
+
+impl Model for LoadSpec {
+    ghost use Rattle.std.specs.String.{string_bytes};
+    ghost use Rattle.command_line.specs.Words.{LoadWords};
+
+    ghost Value = { LoadWords };
+
+    ghost view = { λ spec. record {
+      addr = string_bytes spec.addr;
+      calls = spec.calls;
+      req_type = spec.req_type;
+      size = spec.size;
+      seed = spec.seed;
+      turns = spec.turns;
+      bind = string_bytes spec.bind;
+    } };
+}
 
 /// What the words ask for, with their numbers in range.
-#[derive(Clone, Copy, Debug, PartialEq, Eq)]
+#[derive(Debug, Drop)]
 pub enum Task {
     /// To run the script that comes in.
     Sim,
     /// To run the script that `seed`, below 2^63, makes of so many `calls`, 1 to 10,000.
     Drill { seed: u64, calls: u32 },
+    /// To answer calls that come to an address.
+    Serve(ServeSpec),
+    /// To ask calls of the server at an address.
+    Load(LoadSpec),
 }
 
 /// Why words ask for nothing.

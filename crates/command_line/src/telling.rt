@@ -1,33 +1,16 @@
 //! What a user reads where the words are not in the grammar.
-ghost use Rattle.std.specs.Prelude.{◌<◌};
-
-use crate::number::number_at;
-use crate::row::{drill, sim};
-use crate::words::{LEAST_CALLS, MOST_SEED};
+use crate::number::{Number, TYPES, request_type};
+use crate::row::{drill, load, serve, sim};
+use crate::text::text_at;
+use crate::words::{CALLS, CALLS_OF_DRILL, SEED, SEED_OF_DRILL, SIZE, TURNS};
 use clap::{ArgMatches, Command, Error};
-use drill_maker::MOST_CALLS;
 use std::alloc::{AllocError, Global};
 
-/// A number among the words of a subcommand, with its range.
-struct Number {
-    id: &'static str,
-    low: u64,
-    high: u64,
-    ghost bounded: { high < 18446744073709551615 },
-}
+const NUMBERS_OF_DRILL: [Number; 2] = [SEED_OF_DRILL, CALLS_OF_DRILL];
 
-const NUMBERS_OF_DRILL: [Number; 2] = [
-    Number {
-        id: "SEED",
-        low: 0,
-        high: MOST_SEED,
-    },
-    Number {
-        id: "CALLS",
-        low: LEAST_CALLS,
-        high: MOST_CALLS as u64,
-    },
-];
+const NUMBERS_OF_SERVE: [Number; 1] = [TURNS];
+
+const NUMBERS_OF_LOAD: [Number; 4] = [CALLS, SIZE, SEED, TURNS];
 
 /// What `clap` says of words, in one line: its lines up to an empty one.
 fn first_paragraph(alloc: Global, error: &Error) -> Result<String, AllocError> {
@@ -44,22 +27,40 @@ fn first_paragraph(alloc: Global, error: &Error) -> Result<String, AllocError> {
     Ok(line)
 }
 
-/// Which number is none of its range.
-fn wrong_number(
+/// The request types that `load` may ask, one after another.
+fn known_types(alloc: Global) -> Result<String, AllocError> {
+    let mut text = String::new(alloc);
+    for known in TYPES {
+        if !text.is_empty() {
+            text.push_str(", ")?;
+        }
+        write!(text, "{known}")?;
+    }
+    Ok(text)
+}
+
+/// Which number is none of its range, or that the request type is none of its list.
+fn wrong_value(
     alloc: Global,
     matches: &ArgMatches<'_>,
     numbers: &[Number],
 ) -> Result<String, AllocError> {
     for number in numbers {
-        if number_at(matches, number.id, number.low, number.high).is_none() {
-            let text = matches.get_str(number.id).unwrap_or("");
-            let id = number.id;
+        if number.read(matches).is_none() {
+            let text = text_at(matches, number.id).unwrap_or("");
+            let shown = number.shown;
             let low = number.low;
             let high = number.high;
-            return format!(in alloc; "{id} is a number from {low} to {high}, not {text:?}");
+            return format!(in alloc; "{shown} is a number from {low} to {high}, not {text:?}");
         }
     }
-    String::from_str(alloc, "out of memory")
+    match text_at(matches, "type") {
+        Some(text) if request_type(matches).is_none() => {
+            let types = known_types(alloc)?;
+            format!(in alloc; "--type is one of {types}, not {text:?}")
+        }
+        _ => String::from_str(alloc, "out of memory"),
+    }
 }
 
 /// How a subcommand is called.
@@ -78,7 +79,7 @@ fn wrong_words<'a>(
 ) -> Result<String, AllocError> {
     let usage = how_called(alloc, &mut command)?;
     let wrong = match command.try_get_matches_from(words) {
-        Ok(matches) => wrong_number(alloc, &matches, numbers)?,
+        Ok(matches) => wrong_value(alloc, &matches, numbers)?,
         Err(error) => first_paragraph(alloc, &error)?,
     };
     format!(in alloc; "{wrong}; usage: {usage}")
@@ -87,7 +88,7 @@ fn wrong_words<'a>(
 /// How each subcommand is called, and what it does, a line each.
 pub fn usage(alloc: Global) -> Result<String, AllocError> {
     let mut text = String::from_str(alloc, "usage:")?;
-    for mut command in [sim(alloc), drill(alloc)?] {
+    for mut command in [sim(alloc), drill(alloc)?, serve(alloc)?, load(alloc)?] {
         let call = how_called(alloc, &mut command)?;
         let about = command.get_about().unwrap_or("");
         write!(text, "\n  {call}\n      {about}")?;
@@ -117,6 +118,10 @@ pub fn complaint(alloc: Global, words: &[String]) -> Result<String, AllocError> 
     match name.as_str() {
         "sim" => wrong_words(alloc, sim(alloc), rest, &[]),
         "drill" => wrong_words(alloc, drill(alloc)?, rest, &NUMBERS_OF_DRILL),
-        other => format!(in alloc; "{other:?} is no subcommand; those are sim and drill"),
+        "serve" => wrong_words(alloc, serve(alloc)?, rest, &NUMBERS_OF_SERVE),
+        "load" => wrong_words(alloc, load(alloc)?, rest, &NUMBERS_OF_LOAD),
+        other => {
+            format!(in alloc; "{other:?} is no subcommand; those are sim, drill, serve and load")
+        }
     }
 }

@@ -1,19 +1,58 @@
-//! What words ask for.
+//! Words, and what they ask for.
 ghost use Rattle.std.specs.Prelude.{map, IfOk};
 ghost use Rattle.std.specs.String.{string_bytes};
 ghost use Rattle.command_line.specs.Answers.{IsInRange, Reads};
-ghost use Rattle.command_line.specs.Tasks.{drill_in, sim_in, task_of};
+ghost use Rattle.command_line.specs.Tasks.{drill_in, load_in, serve_in, sim_in, task_of};
 
-use crate::number::number_at;
-use crate::row::{drill, sim, take};
-use crate::task::{Task, WordsError};
+use crate::number::{Number, request_type};
+use crate::row::{drill, load, serve, sim, take};
+use crate::task::{LoadSpec, ServeSpec, Task, WordsError};
+use crate::text::copy_at;
 use drill_maker::MOST_CALLS;
 use std::alloc::Global;
 
-/// The number of its calls is no less.
-pub const LEAST_CALLS: u64 = 1;
-/// No seed of a drill is greater.
-pub const MOST_SEED: u64 = (1 << 63) - 1;
+/// SEED of `drill`.
+pub const SEED_OF_DRILL: Number = Number {
+    id: "SEED",
+    shown: "SEED",
+    low: 0,
+    high: (1 << 63) - 1,
+};
+/// CALLS of `drill`.
+pub const CALLS_OF_DRILL: Number = Number {
+    id: "CALLS",
+    shown: "CALLS",
+    low: 1,
+    high: MOST_CALLS as u64,
+};
+/// `--turns` of `serve` and `load`.
+pub const TURNS: Number = Number {
+    id: "turns",
+    shown: "--turns",
+    low: 1,
+    high: u32::MAX as u64,
+};
+/// `--calls` of `load`.
+pub const CALLS: Number = Number {
+    id: "calls",
+    shown: "--calls",
+    low: 1,
+    high: 1_000_000,
+};
+/// `--size` of `load`.
+pub const SIZE: Number = Number {
+    id: "size",
+    shown: "--size",
+    low: 0,
+    high: 1_048_576,
+};
+/// `--seed` of `load`.
+pub const SEED: Number = Number {
+    id: "seed",
+    shown: "--seed",
+    low: 0,
+    high: u32::MAX as u64,
+};
 
 #[tactic(auto, unfolding(crate::specs::Tasks::sim_in))]
 fn read_sim(alloc: Global, words: &[String]) -> Result<Task, WordsError>
@@ -30,16 +69,48 @@ fn read_drill(alloc: Global, words: &[String]) -> Result<Task, WordsError>
     ensures range { IfOk result IsInRange }
 {
     let matches = take(drill(alloc)?, words)?;
-    let Some(seed) = number_at(&matches, "SEED", 0, MOST_SEED) else {
-        return Err(WordsError::Usage);
-    };
-    let Some(calls) = number_at(&matches, "CALLS", LEAST_CALLS, u64::from(MOST_CALLS)) else {
-        return Err(WordsError::Usage);
-    };
-    Ok(Task::Drill {
+    let seed = SEED_OF_DRILL.read(&matches).ok_or(WordsError::Usage)?;
+    let calls = CALLS_OF_DRILL.read(&matches).ok_or(WordsError::Usage)? as u32;
+    Ok(Task::Drill { seed, calls })
+}
+
+#[tactic(auto, unfolding(crate::specs::Tasks::serve_in))]
+fn read_serve(alloc: Global, words: &[String]) -> Result<Task, WordsError>
+    ensures value { Reads result (serve_in (map string_bytes words.now)) }
+    ensures range { IfOk result IsInRange }
+{
+    let matches = take(serve(alloc)?, words)?;
+    let addr = copy_at(alloc, &matches, "ADDR")?;
+    let turns = TURNS.read(&matches).ok_or(WordsError::Usage)? as u32;
+    Ok(Task::Serve(ServeSpec {
+        addr,
+        turns,
+        workers: 0,
+    }))
+}
+
+#[tactic(auto, unfolding(crate::specs::Tasks::load_in))]
+fn read_load(alloc: Global, words: &[String]) -> Result<Task, WordsError>
+    ensures value { Reads result (load_in (map string_bytes words.now)) }
+    ensures range { IfOk result IsInRange }
+{
+    let matches = take(load(alloc)?, words)?;
+    let addr = copy_at(alloc, &matches, "ADDR")?;
+    let calls = CALLS.read(&matches).ok_or(WordsError::Usage)? as u32;
+    let req_type = request_type(&matches).ok_or(WordsError::Usage)?;
+    let size = SIZE.read(&matches).ok_or(WordsError::Usage)? as u32;
+    let seed = SEED.read(&matches).ok_or(WordsError::Usage)? as u32;
+    let turns = TURNS.read(&matches).ok_or(WordsError::Usage)? as u32;
+    let bind = copy_at(alloc, &matches, "bind")?;
+    Ok(Task::Load(LoadSpec {
+        addr,
+        calls,
+        req_type,
+        size,
         seed,
-        calls: calls as u32,
-    })
+        turns,
+        bind,
+    }))
 }
 
 /// Reads the words after the program's name.
@@ -54,6 +125,8 @@ pub fn read_words(alloc: Global, words: &[String]) -> Result<Task, WordsError>
     match name.as_str() {
         "sim" => read_sim(alloc, rest),
         "drill" => read_drill(alloc, rest),
+        "serve" => read_serve(alloc, rest),
+        "load" => read_load(alloc, rest),
         _ => Err(WordsError::Usage),
     }
 }

@@ -2,7 +2,7 @@
 #![tactic(auto)]
 
 use command_line::complaint;
-use rpc_outside::{IoSink, IoSource, Kept, Source};
+use rpc_outside::{IoSink, IoSource, Kept, NoRecord, Source, SysClock};
 use rpc_tools::{Status, run};
 use script_help::Explanation;
 use std::alloc::AllocError;
@@ -10,6 +10,7 @@ use std::env;
 use std::io::{self, BufWriter, Write};
 use std::process::ExitCode;
 use std::rt::Env;
+use udp_link::UdpLink;
 
 // The words after the program's name.
 fn words_of(rt: &(impl Env + AllocGlobal)) -> io::Result<Vec<String>> {
@@ -26,7 +27,15 @@ fn run_words<S: Source>(rt: &HostRuntime, words: &[String], source: &mut S) -> S
         return Status::NoMemory;
     };
     let mut sink = IoSink::new(writer);
-    let status = run(rt.alloc(), words, source, &mut sink);
+    let status = run(
+        rt.alloc(),
+        words,
+        source,
+        &mut sink,
+        &mut UdpLink::new(rt.alloc(), rt),
+        &mut SysClock::new(rt),
+        &mut NoRecord,
+    );
     // The writer holds the last piece back until it is flushed.
     match sink.into_writer().flush() {
         Ok(()) => status,

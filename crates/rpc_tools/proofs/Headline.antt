@@ -1,9 +1,10 @@
 -- A simulation of a script that met no fault and no want of memory is Done.
 use Rattle.std.proofs.Common.{◌≡◌, ◌≢◌, ℕ, Option, Some, None, List, Ok, refl, subst, arith}
 use Rattle.rpc_outside.specs.Faults.{HasRisen, IsQuiet}
-use Rattle.rpc_tools.specs.declared.status.Status.{Status}
-use Rattle.rpc_tools.specs.declared.status.Status.TheVariants.{Done, Usage, BadScript, ReadFault}
-use Rattle.rpc_tools.specs.declared.status.Status.TheVariants.{WriteFault, NoMemory}
+use Rattle.run_status.specs.declared.status.Status.{Status}
+use Rattle.run_status.specs.declared.status.Status.TheVariants.{Done, Usage, BadScript, ReadFault}
+use Rattle.run_status.specs.declared.status.Status.TheVariants.{WriteFault, NoMemory, LinkFault}
+use Rattle.run_status.specs.declared.status.Status.TheVariants.{CallsFailed, TurnsSpent}
 use Rattle.rpc_tools.specs.Outcomes.{Simulates, Reports, IsRefused, Succeeds}
 use Rattle.script_grammar.specs.declared.bad.BadScript.{BadScript as Bad}
 use Rattle.script_grammar.specs.declared.line.Line.{Line}
@@ -38,3 +39,6 @@ headline ReadFault bytes script left more read again old new before after s e g 
 headline WriteFault bytes script left more read again old new before after s e g q w n =
     absurd (no-fault _ _ s.breaks.broke.fault w)
 headline NoMemory bytes script left more read again old new before after s e g q w n = absurd (n refl)
+headline LinkFault bytes script left more read again old new before after s e g q w n = absurd s
+headline CallsFailed bytes script left more read again old new before after s e g q w n = absurd s
+headline TurnsSpent bytes script left more read again old new before after s e g q w n = absurd s

@@ -4,9 +4,10 @@ use Rattle.drill_line.specs.DrillLine.{drill_line}
 use Rattle.drill_maker.specs.Drill.{drill_of}
 use Rattle.rpc_base.specs.declared.fact.Fact.{Fact}
 use Rattle.rpc_outside.specs.Writing.{Wrote, Broke}
-use Rattle.rpc_tools.specs.declared.status.Status.{Status}
-use Rattle.rpc_tools.specs.declared.status.Status.TheVariants.{Done, Usage, BadScript, ReadFault}
-use Rattle.rpc_tools.specs.declared.status.Status.TheVariants.{WriteFault, NoMemory}
+use Rattle.run_status.specs.declared.status.Status.{Status}
+use Rattle.run_status.specs.declared.status.Status.TheVariants.{Done, Usage, BadScript, ReadFault}
+use Rattle.run_status.specs.declared.status.Status.TheVariants.{WriteFault, NoMemory, LinkFault}
+use Rattle.run_status.specs.declared.status.Status.TheVariants.{CallsFailed, TurnsSpent}
 use Rattle.rpc_tools.specs.Outcomes.{Reports, Untouched}
 use Rattle.script_grammar.specs.declared.line.Line.{Line}
 
@@ -42,6 +43,9 @@ Drills NoMemory seed calls old new before after = Untouched old new before after
 Drills Usage seed calls old new before after = ⊥
 Drills (BadScript bad) seed calls old new before after = ⊥
 Drills ReadFault seed calls old new before after = ⊥
+Drills LinkFault seed calls old new before after = ⊥
+Drills CallsFailed seed calls old new before after = ⊥
+Drills TurnsSpent seed calls old new before after = ⊥
 
 -- a drill that met no fault and no want of memory: Done, and its line
 pub record Succeeds (status : Status) (seed calls : ℕ) (old new : Option (List ℕ))

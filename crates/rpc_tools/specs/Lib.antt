@@ -1,3 +1,3 @@
-pub mod Codes
+pub mod Alone
 pub mod Drills
 pub mod Outcomes

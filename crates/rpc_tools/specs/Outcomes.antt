@@ -8,9 +8,10 @@ use Rattle.rpc_outside.specs.Faults.{HasRisen}
 use Rattle.rpc_outside.specs.Writing.{Wrote, Broke}
 use Rattle.rpc_tools.specs.declared.reading.Input.{Input}
 use Rattle.rpc_tools.specs.declared.reading.Input.TheVariants.{Whole, TooLong, Fault, Memory}
-use Rattle.rpc_tools.specs.declared.status.Status.{Status}
-use Rattle.rpc_tools.specs.declared.status.Status.TheVariants.{Done, Usage, BadScript, ReadFault}
-use Rattle.rpc_tools.specs.declared.status.Status.TheVariants.{WriteFault, NoMemory}
+use Rattle.run_status.specs.declared.status.Status.{Status}
+use Rattle.run_status.specs.declared.status.Status.TheVariants.{Done, Usage, BadScript, ReadFault}
+use Rattle.run_status.specs.declared.status.Status.TheVariants.{WriteFault, NoMemory, LinkFault}
+use Rattle.run_status.specs.declared.status.Status.TheVariants.{CallsFailed, TurnsSpent}
 use Rattle.rpc_world.specs.Lawful.{Lawful}
 use Rattle.script_grammar.specs.declared.bad.BadScript.{BadScript as Bad}
 use Rattle.script_grammar.specs.declared.line.Line.{Line}
@@ -63,6 +64,9 @@ RunsBytes WriteFault bytes old new before after =
 RunsBytes NoMemory bytes old new before after = Unit {0}
 RunsBytes Usage bytes old new before after = ⊥
 RunsBytes ReadFault bytes old new before after = ⊥
+RunsBytes LinkFault bytes old new before after = ⊥
+RunsBytes CallsFailed bytes old new before after = ⊥
+RunsBytes TurnsSpent bytes old new before after = ⊥
 
 -- the same of a script that was read
 abbrev pub RunsScript : Status → List Line → Option (List ℕ) → Option (List ℕ) → ℕ → ℕ → Type 0
@@ -72,6 +76,9 @@ RunsScript WriteFault script old new before after = BreaksOff script old new bef
 RunsScript NoMemory script old new before after = Unit {0}
 RunsScript Usage script old new before after = ⊥
 RunsScript ReadFault script old new before after = ⊥
+RunsScript LinkFault script old new before after = ⊥
+RunsScript CallsFailed script old new before after = ⊥
+RunsScript TurnsSpent script old new before after = ⊥
 
 -- all bytes that the source had left were read
 abbrev pub Drained : Option (List ℕ) → Option (List ℕ) → List ℕ → Type 0
@@ -132,6 +139,9 @@ Simulates WriteFault left more read again old new before after =
     FailsToWrite left more read again old new before after
 Simulates NoMemory left more read again old new before after = Unit {0}
 Simulates Usage left more read again old new before after = ⊥
+Simulates LinkFault left more read again old new before after = ⊥
+Simulates CallsFailed left more read again old new before after = ⊥
+Simulates TurnsSpent left more read again old new before after = ⊥
 
 -- the headline: Done, the source read to its end, and the report of a history that follows the
 -- script

@@ -2,12 +2,12 @@
 ghost use Rattle.std.specs.Prelude.{◌≤◌, IfOk};
 ghost use Rattle.rpc_tools.specs.Drills.{Drills, IsDrillHistory};
 
-use crate::status::Status;
 use drill_line::{count, drill_line};
 use drill_maker::{MOST_CALLS, drill_script};
 use rpc_base::NoMemory;
 use rpc_outside::{Sink, write_all};
 use rpc_world::World;
+use run_status::Status;
 use std::alloc::Global;
 
 /// The world that the script of a drill left.

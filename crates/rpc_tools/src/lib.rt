@@ -1,14 +1,15 @@
-//! The tools of the program: words, a source and a sink in, a status out.
+//! The tools of the program: words and the outside in, a status out.
 #![tactic(auto)]
 
 mod drill;
 mod reading;
 mod simulation;
-mod status;
 mod tools;
 
+pub use load_run::LoadRun;
+pub use run_status::{Going, Status};
+pub use serve_run::ServeRun;
 pub use simulation::sim;
-pub use status::Status;
 pub use tools::run;
 
 #[cfg(test)]

@@ -3,9 +3,9 @@ ghost use Rattle.std.specs.Prelude.{ℕ};
 ghost use Rattle.rpc_tools.specs.Outcomes.{RunsBytes, RunsScript, Simulates};
 
 use crate::reading::{Input, read_all};
-use crate::status::Status;
 use rpc_outside::{Sink, Source};
 use rpc_world::World;
+use run_status::Status;
 use sim_script::{BadScript, BadWhy, ReadError, Script, print, read};
 use std::alloc::Global;
 

@@ -1,8 +1,10 @@
 //! Faults of the outside: the source's second read and the sink's second write; and words that are
 //! no tool, and those of a drill.
-use crate::status::Status;
 use crate::tools::run;
-use rpc_outside::{FirmSink, FirmSource, MemSink, MemSource};
+use rpc_outside::{
+    FirmLink, FirmSink, FirmSource, MemLink, MemSink, MemSource, NoRecord, Sink, Source, StepClock,
+};
+use run_status::Status;
 use sim_script::{BadScript, BadWhy};
 use std::alloc::{AllocError, Global};
 use std::test::Fail;
@@ -33,6 +35,26 @@ fn source(alloc: Global, script: &str, fails: &[u64]) -> Result<MemSource, Alloc
     Ok(MemSource::new(bytes, Vec::from_slice(alloc, fails)?))
 }
 
+/// Runs these words with a source and a sink, over a link to which nothing comes.
+fn run_on<S: Source, K: Sink>(
+    alloc: Global,
+    words: &[String],
+    source: &mut S,
+    sink: &mut K,
+) -> Status {
+    let mut link = FirmLink::new(Vec::new(alloc));
+    let mut clock = StepClock::new(0, 0);
+    run(
+        alloc,
+        words,
+        source,
+        sink,
+        &mut link,
+        &mut clock,
+        &mut NoRecord,
+    )
+}
+
 #[test]
 fn each_fault_has_its_status_and_leaves_a_front(rt: HostRuntime) -> Result<(), Fail> {
     let alloc = rt.alloc();
@@ -49,7 +71,10 @@ fn each_fault_has_its_status_and_leaves_a_front(rt: HostRuntime) -> Result<(), F
     for (script, reads, writes, wanted, written) in cases {
         let mut source = source(alloc, script, reads)?;
         let mut sink = MemSink::new(alloc, ROOM, Vec::from_slice(alloc, writes)?)?;
-        assert_eq!(rt; run(alloc, sim.as_slice(), &mut source, &mut sink), wanted);
+        assert_eq!(rt;
+            run_on(alloc, sim.as_slice(), &mut source, &mut sink),
+            wanted
+        );
         assert_eq!(rt; sink.bytes(), written.as_bytes());
     }
     Ok(())
@@ -69,13 +94,13 @@ fn other_words_are_usage(rt: HostRuntime) -> Result<(), Fail> {
     ] {
         let words = words(alloc, list)?;
         assert_eq!(rt;
-            run(alloc, words.as_slice(), &mut source, &mut sink),
+            run_on(alloc, words.as_slice(), &mut source, &mut sink),
             Status::Usage
         );
     }
     let sim = words(alloc, &["sim"])?;
     assert_eq!(rt;
-        run(alloc, sim.as_slice(), &mut source, &mut sink),
+        run_on(alloc, sim.as_slice(), &mut source, &mut sink),
         Status::Done
     );
     assert_eq!(rt; Status::Done.code(), 0);

@@ -2,27 +2,38 @@
 ghost use Rattle.std.specs.Prelude.{◌≡◌, ◌≢◌, ℕ, List, map, Some, None, Ok};
 ghost use Rattle.std.specs.String.{string_bytes};
 ghost use Rattle.command_line.specs.Tasks.{task_of};
+ghost use Rattle.command_line.specs.Words.{LoadWords, ServeWords};
+ghost use Rattle.load_run.specs.Loading.{Loads};
+ghost use Rattle.rpc_tools.specs.Alone.{StaysAlone};
 ghost use Rattle.rpc_outside.specs.Faults.{IsQuiet};
 ghost use Rattle.rpc_tools.specs.Drills.{Drills, Succeeds as DrillSucceeds};
 ghost use Rattle.rpc_tools.specs.Outcomes.{NothingDone, Simulates, Succeeds, Untouched};
 ghost use Rattle.script_grammar.specs.declared.line.Line.{Line};
 ghost use Rattle.script_grammar.specs.Script.{script_of};
+ghost use Rattle.serve_run.specs.Serving.{Serves};
 
 use crate::drill::drill;
 use crate::simulation::sim;
-use crate::status::Status;
 use command_line::{Task, WordsError, read_words};
-use rpc_outside::{Sink, Source};
+use load_run::load;
+use rpc_outside::{Clock, Link, Recorder, Sink, Source};
+use run_status::Status;
+use serve_run::serve;
 use std::alloc::Global;
 
 /// Runs the program on the words after its name. `sim` reads a script from the source and writes
 /// the report of its history to the sink. `drill SEED CALLS` runs a script that it makes, and writes
-/// a line that counts what happened. Words that are in no row of the command line are `Usage`.
-pub fn run<S: Source, K: Sink>(
+/// a line that counts what happened. `serve` answers calls that come to the link, and `load` asks
+/// them: each turns by turn of the clock, its node's facts go to the recorder, and in the end it
+/// writes a line of counts. Words that are in no row of the command line are `Usage`.
+pub fn run<S: Source, K: Sink, L: Link, C: Clock, R: Recorder>(
     alloc: Global,
     words: &[String],
     source: &mut S,
     sink: &mut K,
+    link: &mut L,
+    clock: &mut C,
+    rec: &mut R,
 ) -> Status
     ensures usage { result ≡ Status.Usage → task_of (map string_bytes words.now) ≡ None }
     ensures no_task { task_of (map string_bytes words.now) ≡ None → result ≢ Status.NoMemory
@@ -47,10 +58,25 @@ pub fn run<S: Source, K: Sink>(
         → task_of (map string_bytes words.now) ≡ Some (Task.Drill seed calls)
         → Drills result seed calls (K.written sink.old) (K.written sink.new) (K.faults sink.old)
         (K.faults sink.new) }
-    ensures reads_nothing { (seed calls : ℕ)
-        → task_of (map string_bytes words.now) ≡ Some (Task.Drill seed calls)
+    ensures reads_nothing { task_of (map string_bytes words.now) ≢ Some Task.Sim
         → Untouched (S.left source.old) (S.left source.new) (S.faults source.old)
         (S.faults source.new) }
+    ensures serves { (words' : ServeWords)
+        → task_of (map string_bytes words.now) ≡ Some (Task.Serve words')
+        → Serves result R.facts R.whole C.gave (λ l. record {
+          sent = L.sent l;
+          troubles = record { faults = L.faults l; busies = L.busies l };
+        }) words'.turns link.old link.new clock.old clock.new rec.old rec.new (K.written sink.old)
+        (K.written sink.new) (K.faults sink.old) (K.faults sink.new) }
+    ensures loads { (words' : LoadWords)
+        → task_of (map string_bytes words.now) ≡ Some (Task.Load words')
+        → Loads result R.facts R.whole C.gave (λ l. record {
+          sent = L.sent l;
+          troubles = record { faults = L.faults l; busies = L.busies l };
+        }) words' link.old link.new clock.old clock.new rec.old rec.new (K.written sink.old)
+        (K.written sink.new) (K.faults sink.old) (K.faults sink.new) }
+    ensures alone { StaysAlone (task_of (map string_bytes words.now)) link.old link.new clock.old
+        clock.new rec.old rec.new }
     ensures drilled { (seed calls : ℕ)
         → task_of (map string_bytes words.now) ≡ Some (Task.Drill seed calls)
         → IsQuiet (K.faults sink.old) (K.faults sink.new) → result ≢ Status.NoMemory
@@ -60,6 +86,8 @@ pub fn run<S: Source, K: Sink>(
     match read_words(alloc, words) {
         Ok(Task::Sim) => sim(alloc, source, sink),
         Ok(Task::Drill { seed, calls }) => drill(alloc, seed, calls, sink),
+        Ok(Task::Serve(spec)) => serve(alloc, &spec, sink, link, clock, rec),
+        Ok(Task::Load(spec)) => load(alloc, &spec, sink, link, clock, rec),
         Err(WordsError::Usage) => Status::Usage,
         Err(WordsError::NoMemory) => Status::NoMemory,
     }

@@ -3,7 +3,7 @@
 //! there, or counts of lines. Drills write the line that is expected, twice the same.
 #![tactic(auto)]
 
-use rpc_outside::{MemSink, MemSource};
+use rpc_outside::{FirmLink, MemSink, MemSource, NoRecord, StepClock};
 use rpc_tools::{Status, run};
 use std::alloc::Global;
 use std::rt::Files;
@@ -72,7 +72,15 @@ fn written_by(alloc: Global, line: &str, source: Vec<u8>) -> io::Result<String> 
     let Ok(mut sink) = MemSink::new(alloc, ROOM, Vec::new(alloc)) else {
         return Err(io::Error::from(io::ErrorKind::OutOfMemory));
     };
-    let status = run(alloc, words.as_slice(), &mut source, &mut sink);
+    let status = run(
+        alloc,
+        words.as_slice(),
+        &mut source,
+        &mut sink,
+        &mut FirmLink::new(Vec::new(alloc)),
+        &mut StepClock::new(0, 0),
+        &mut NoRecord,
+    );
     if status != Status::Done {
         return Err(io::Error::from(io::ErrorKind::InvalidInput));
     }

@@ -1,0 +1,26 @@
+-- What the grammar says of words of `serve` that are written out.
+use Rattle.std.proofs.Common.{◌≡◌, [], ◌∷◌, Some, None, codes, refl}
+use Rattle.clap.proofs.OnLiterals.{clap_on_literals}
+use Rattle.script_grammar.specs.Numbers.{is_numeral, value_of}
+use Rattle.command_line.specs.Numbers.{number_in}
+use Rattle.command_line.specs.Tasks.{serve_in, taken, task_of}
+use Rattle.command_line.specs.declared.task.Task.TheVariants.{Serve}
+
+serve_is_taken : task_of (codes "serve" ∷ codes "a:7" ∷ codes "--turns" ∷ codes "3" ∷ [])
+    ≡ Some (Serve (record { addr = codes "a:7"; turns = 3; workers = 0 }))
+unfolding clap_on_literals task_of serve_in taken number_in is_numeral value_of
+serve_is_taken = refl
+
+turns_are_needed : task_of (codes "serve" ∷ codes "a:7" ∷ []) ≡ None
+unfolding clap_on_literals task_of serve_in taken number_in is_numeral value_of
+turns_are_needed = refl
+
+turns_stand_once : task_of (codes "serve" ∷ codes "a:7" ∷ codes "--turns" ∷ codes "3"
+    ∷ codes "--turns" ∷ codes "3" ∷ []) ≡ None
+unfolding clap_on_literals task_of serve_in taken number_in is_numeral value_of
+turns_stand_once = refl
+
+no_workers : task_of (codes "serve" ∷ codes "a:7" ∷ codes "--turns" ∷ codes "3"
+    ∷ codes "--workers" ∷ codes "1" ∷ []) ≡ None
+unfolding clap_on_literals task_of serve_in taken number_in is_numeral value_of
+no_workers = refl

@@ -1,0 +1,17 @@
+-- What the words of `serve` and `load` say, each text as its bytes.
+use Rattle.std.specs.Prelude.{ℕ}
+use Rattle.clap.specs.Words.{Text}
+
+pub record ServeWords : Type 0 where
+  pub addr : Text
+  pub turns : ℕ
+  pub workers : ℕ
+
+pub record LoadWords : Type 0 where
+  pub addr : Text
+  pub calls : ℕ
+  pub req_type : ℕ
+  pub size : ℕ
+  pub seed : ℕ
+  pub turns : ℕ
+  pub bind : Text

@@ -1,0 +1,30 @@
+-- The line that a run of turns writes.
+use Rattle.std.specs.Prelude.{ℕ, List, ◌++◌, codes, flat_map}
+use Rattle.std.specs.Fmt.{decimal}
+use Rattle.count_line.specs.declared.line.Count.{Count}
+use Rattle.count_line.specs.declared.word.Word.{Word}
+use Rattle.count_line.specs.declared.word.Word.TheVariants as word
+
+abbrev pub word_text : Word → List ℕ
+word_text word.Turns = codes "turns "
+word_text word.Calls = codes "calls "
+word_text word.Ran = codes " ran "
+word_text word.Given = codes " given "
+word_text word.Dropped = codes " dropped "
+word_text word.Overflowed = codes " overflowed "
+word_text word.Ok = codes " ok "
+word_text word.Small = codes " small "
+word_text word.Lost = codes " lost "
+word_text word.Wrong = codes " wrong "
+word_text word.Unasked = codes " unasked "
+
+-- each word with its count
+abbrev pub count_text : Count → List ℕ
+count_text c = word_text c.word ++ decimal c.number
+
+abbrev pub counts_text : List Count → List ℕ
+counts_text counts = flat_map count_text counts
+
+-- a line of them
+abbrev pub line_text : List Count → List ℕ
+line_text counts = counts_text counts ++ codes "\n"

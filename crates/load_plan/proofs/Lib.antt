@@ -1,0 +1,2 @@
+mod CountedLemmas
+mod RightLemmas

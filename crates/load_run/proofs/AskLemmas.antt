@@ -1,0 +1,88 @@
+-- Calls are asked, one after another.
+use Rattle.std.proofs.Common.{◌≡◌, ℕ, suc, ◌+◌, ◌<◌, Bool, Option, List, [], ◌++◌}
+use Rattle.std.proofs.Common.{refl, ◌∙◌, arith}
+use Rattle.endpoint_loop.specs.Noting.{Makes}
+use Rattle.endpoint_loop.specs.Seen.{asking}
+use Rattle.endpoint_loop.proofs.NotesLemmas.{makes-as, makes-join}
+use Rattle.load_plan.specs.Calls.{Calls, asked_bytes, room_of}
+use Rattle.load_run.specs.Loading.{AsksCalls, AsksNext, Keeps, LoadsSoFar, Passes, pending_in}
+use Rattle.load_run.proofs.PassLemmas.{passes-none, passes-then}
+use Rattle.rpc_base.specs.declared.fact.Fact.{Fact}
+use Rattle.rpc_laws.specs.declared.tables.Timed.{Timed}
+use Rattle.rpc_laws.specs.Groups.{Asks}
+use Rattle.rpc_laws.specs.Steps.{Rel, Visits}
+use Rattle.server_core.proofs.FlushLemmas.{grew-none}
+
+-- calls were asked so far
+pub record AsksSome {R : Type 0} (facts : R → Option (List Fact)) (whole : R → Bool)
+    (old new : LoadsSoFar) (before now : R) : Type 0 where
+  pub many : ℕ
+  pub asked : new.asked ≡ old.asked + many
+  pub asks : Makes facts whole (AsksCalls old.session old.ledger.plan old.asked many)
+      old.endpoint.timed new.endpoint.timed before now
+  pub keeps : Keeps old new
+  pub passes : Passes facts whole old.endpoint new.endpoint before now
+
+module _ {R : Type 0} (facts : R → Option (List Fact)) (whole : R → Bool) where
+  pub asks-none : (a : LoadsSoFar) (f : R) → AsksSome facts whole a a f f
+  asks-none a f = record {
+    many = 0;
+    asked = omega arith;
+    asks = record {
+      noted = [];
+      grew = grew-none facts whole f;
+      step = λ asks. (refl, refl);
+    };
+    keeps = record { session = refl; ledger = refl; turns = refl; made = refl };
+    passes = passes-none facts whole a.endpoint a.endpoint f f refl refl;
+  }
+
+  joins : (P : ℕ → Rel) (n : ℕ) (s m t : Timed) (x y : List Fact) → Visits P n s x m → P n m y t
+      → Visits P (suc n) s (x ++ y) t
+  joins P n s m t x y p q = record {
+    between = m;
+    front = x;
+    back = y;
+    joined = refl;
+    first = p;
+    second = q;
+  }
+
+  -- call number `first + n` is asked of a plan that stays
+  abbrev One : (c : Calls) → (session first n : ℕ) → Rel
+  One c session first n = AsksNext session c (first + n)
+
+  pub asks-more : (a b c : LoadsSoFar) (f g h : R) → AsksSome facts whole a b f g
+      → Makes facts whole (Asks b.session b.ledger.plan.req_type (asked_bytes b.ledger.plan b.asked)
+      (room_of b.ledger.plan)) b.endpoint.timed c.endpoint.timed g h
+      → pending_in b < 64 → Keeps b c → c.asked ≡ b.asked + 1 → Passes facts whole b.endpoint
+      c.endpoint g h
+      → AsksSome facts whole a c f h
+  asks-more a b c f g h some one few keeps counted passes =
+      let next : Makes facts whole (AsksNext b.session b.ledger.plan b.asked) b.endpoint.timed
+      c.endpoint.timed g h =
+      makes-as facts whole (Asks b.session b.ledger.plan.req_type
+      (asked_bytes b.ledger.plan b.asked) (room_of b.ledger.plan))
+      (AsksNext b.session b.ledger.plan b.asked) b.endpoint.timed c.endpoint.timed g h
+      (λ asks x p. record { few = few; asks = p }) one in
+      let same : Makes facts whole (One a.ledger.plan a.session a.asked some.many) b.endpoint.timed
+      c.endpoint.timed g h =
+      rw (← some.asked, ← some.keeps.session, ← some.keeps.ledger) next in
+      record {
+        many = suc some.many;
+        asked = let so = some.asked in omega arith;
+        asks = makes-join facts whole (AsksCalls a.session a.ledger.plan a.asked some.many)
+            (One a.ledger.plan a.session a.asked some.many)
+            (AsksCalls a.session a.ledger.plan a.asked (suc some.many)) a.endpoint.timed
+            b.endpoint.timed c.endpoint.timed f g h
+            (λ asks x y p q. joins (One a.ledger.plan a.session a.asked) some.many
+            (asking asks a.endpoint.timed) (asking asks b.endpoint.timed)
+            (asking asks c.endpoint.timed) x y p q) some.asks same;
+        keeps = record {
+          session = keeps.session ∙ some.keeps.session;
+          ledger = keeps.ledger ∙ some.keeps.ledger;
+          turns = keeps.turns ∙ some.keeps.turns;
+          made = keeps.made ∙ some.keeps.made;
+        };
+        passes = passes-then facts whole a.endpoint b.endpoint c.endpoint f g h some.passes passes;
+      }

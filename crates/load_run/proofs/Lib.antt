@@ -1,0 +1,6 @@
+mod AskLemmas
+mod EndLemmas
+mod LoadLemmas
+mod PassLemmas
+mod TallyLemmas
+mod TurnLemmas

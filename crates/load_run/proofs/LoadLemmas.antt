@@ -1,0 +1,95 @@
+-- What `load` did, from its start to its end.
+use Rattle.std.proofs.Common.{◌≡◌, ◌≢◌, ℕ, Bool, Option, List, [], ◌∷◌, ◌++◌, refl, sym, ap, subst}
+use Rattle.std.proofs.Common.{◌∙◌, arith}
+use Rattle.std.specs.Prelude.{option_map}
+use Rattle.command_line.specs.Words.{LoadWords}
+use Rattle.endpoint_loop.specs.Noting.{sent_of}
+use Rattle.endpoint_loop.specs.Polling.{LinkTells}
+use Rattle.load_plan.specs.Calls.{Calls}
+use Rattle.load_run.specs.declared.tally.Tally.{Tally}
+use Rattle.load_run.specs.Loading.{HasRun, Loads, LoadsOn, LoadsSoFar, Prints, StartsAs, TurnsEnd}
+use Rattle.load_run.specs.Loading.{going_at}
+use Rattle.load_run.specs.Tallies.{Tallies}
+use Rattle.load_run.proofs.EndLemmas.{end-known}
+use Rattle.load_run.proofs.TallyLemmas.{counts-silent, tallies-none}
+use Rattle.plain_turns.proofs.TurnLemmas.{sent-append}
+use Rattle.load_run.specs.declared.run.TheConstants.{LOAD_CREDITS}
+use Rattle.rpc_base.specs.declared.event.Event.TheVariants.{Opened}
+use Rattle.rpc_base.specs.declared.fact.Fact.{Fact}
+use Rattle.rpc_laws.specs.Facts.{plain}
+use Rattle.run_status.specs.declared.going.Going.TheVariants.{On, Over}
+use Rattle.run_status.specs.declared.status.Status.{Status}
+use Rattle.run_status.specs.declared.status.Status.TheVariants.{LinkFault, NoMemory}
+use Rattle.server_core.proofs.FlushLemmas.{grew-then}
+
+module _ {R L C : Type 0} (facts : R → Option (List Fact)) (whole : R → Bool)
+    (gave : C → List ℕ → Type 0) (tells : L → LinkTells) (words : LoadWords)
+    (link via then_link : L) (clock then_clock : C) (before mid later : R) (start run : LoadsSoFar)
+    (starts : StartsAs facts whole words before mid start)
+    (sent : (tells via).sent ≡ (tells link).sent)
+    (quiet : (tells via).troubles.faults ≡ (tells link).troubles.faults) where
+  -- turns were made since the start
+  ran : (told : Status) (many : ℕ) → going_at run ≡ Over told
+      → (tells then_link).troubles.faults ≡ (tells via).troubles.faults
+      → LoadsOn facts whole gave (tells via).sent (tells then_link).sent clock then_clock start run
+      mid later many
+      → HasRun facts whole gave tells words link then_link clock then_clock before later run
+  ran told many e still on =
+      let counts = on.counts starts.noted starts.stands in
+      let first : Tallies start.ledger.plan start.ledger.tally [] =
+      subst (λ (t : Tally). Tallies start.ledger.plan t []) (sym starts.tally)
+      (tallies-none start.ledger.plan) in
+      let opened : Tallies start.ledger.plan start.ledger.tally starts.noted =
+      (counts-silent starts.noted start.ledger starts.ends).tally [] first in
+      record {
+        over = λ on. let both : Over told ≡ On = sym e ∙ on in cc;
+        plan = counts.plan ∙ starts.plan;
+        turns = on.turns ∙ starts.turns;
+        noted = starts.noted ++ on.runs.noted;
+        grew = grew-then facts whole before mid later starts.noted on.runs.noted starts.grew
+            on.runs.grew;
+        stands = on.runs.goes_on starts.noted starts.stands;
+        opens = (
+          start.endpoint.timed.lists.me,
+          starts.peer,
+          on.runs.noted,
+          ap (λ (x : List Fact). x ++ on.runs.noted) starts.opens
+              ∙ ap (λ n. plain start.endpoint.timed.lists.me (Opened n starts.peer LOAD_CREDITS)
+              ∷ on.runs.noted) (sym on.session),
+        );
+        tallies = subst (λ (c : Calls). Tallies c run.ledger.tally (starts.noted ++ on.runs.noted))
+            (sym counts.plan) (counts.tally starts.noted opened);
+        sent = on.runs.sends starts.noted starts.stands
+            ∙ ap (option_map (λ ds. ds ++ sent_of on.runs.noted)) sent
+            ∙ ap (λ x. option_map (λ ds. ds ++ x) (tells link).sent)
+            (sym (sent-append starts.noted on.runs.noted
+            ∙ ap (λ x. x ++ sent_of on.runs.noted) starts.sends));
+        times = on.runs.times;
+        count = let count = on.runs.count in let made = on.made in let none = starts.made in
+            omega arith;
+        ticks = on.runs.ticks;
+        quiet = still ∙ quiet;
+      }
+
+  pub has-run : (told : Status) → told ≢ NoMemory → told ≢ LinkFault
+      → TurnsEnd told facts whole gave tells via then_link clock then_clock start run mid later
+      → HasRun facts whole gave tells words link then_link clock then_clock before later run
+  has-run NoMemory kept held ends = absurd (kept refl)
+  has-run LinkFault kept held ends = absurd (held refl)
+  has-run told kept held ends = ran told ends.2 ends.0 ends.1 ends.3
+
+-- and its line was written
+pub loads-printed : {R L C : Type 0} (facts : R → Option (List Fact)) (whole : R → Bool)
+    (gave : C → List ℕ → Type 0) (tells : L → LinkTells) (words : LoadWords) (link then_link : L)
+    (clock then_clock : C) (before later : R) (old new : Option (List ℕ)) (read again : ℕ)
+    (run : LoadsSoFar)
+    → HasRun facts whole gave tells words link then_link clock then_clock before later run
+    → (told : Status) → Prints run told old new read again
+    → Loads told facts whole gave tells words link then_link clock then_clock before later old new
+    read again
+loads-printed facts whole gave tells words link then_link clock then_clock before later old new read
+    again run has LinkFault prints = absurd (end-known run LinkFault prints.0)
+loads-printed facts whole gave tells words link then_link clock then_clock before later old new read
+    again run has NoMemory prints = absurd (end-known run NoMemory prints.0)
+loads-printed facts whole gave tells words link then_link clock then_clock before later old new read
+    again run has told prints = (run, has, prints)

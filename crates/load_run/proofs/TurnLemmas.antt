@@ -1,0 +1,185 @@
+-- Turns of a run, each prepared and then made.
+use Rattle.std.proofs.Common.{◌≡◌, ◌≢◌, ℕ, ◌+◌, Bool, true, false, Option}
+use Rattle.std.proofs.Common.{List, [], ◌∷◌, ◌++◌, map, refl, sym, ap, subst, ◌∙◌, arith}
+use Rattle.std.proofs.Common.{append_assoc, append-nil}
+use Rattle.std.proofs.Common.{add-zero}
+use Rattle.std.specs.Prelude.{option_map, Result, Ok, Err, OnOk, OnErr}
+use Rattle.client_core.specs.Shown.{done_fact}
+use Rattle.endpoint_loop.specs.Noting.{sent_of}
+use Rattle.endpoint_loop.specs.declared.polling.Turn.{Turn}
+use Rattle.endpoint_loop.specs.Polling.{LinkTells}
+use Rattle.load_run.specs.declared.ended.Ended.{Ended}
+use Rattle.load_run.specs.declared.ledger.Ledger.{Ledger}
+use Rattle.load_run.specs.Loading.{HasLoaded, Keeps, LoadsOn, LoadsSoFar, Passes, Prepares}
+use Rattle.load_run.specs.Loading.{PreparesIn}
+use Rattle.load_run.specs.Loading.{UnlessFailed, UnlessNoMemory}
+use Rattle.load_run.specs.Tallies.{Counts, KeepsAll}
+use Rattle.load_run.proofs.TallyLemmas.{counts-none, counts-noted, counts-silent, counts-then}
+use Rattle.plain_turns.proofs.RunLemmas.{runs-then, sent-none}
+use Rattle.plain_turns.proofs.TurnLemmas.{sent-append}
+use Rattle.plain_turns.specs.PlainTurns.{Stands, TakesTurn, TellsTurn, usual_limits}
+use Rattle.rpc_base.specs.declared.fact.Fact.{Fact}
+use Rattle.rpc_base.specs.declared.state.SessionState.{SessionState}
+use Rattle.rpc_base.specs.declared.state.SessionState.TheVariants.{Connected}
+use Rattle.rpc_outside.specs.Linking.{Carried}
+use Rattle.rpc_outside.specs.Ticking.{Gives}
+use Rattle.rpc_world.specs.Answered.{End}
+use Rattle.run_status.specs.declared.going.Going.{Going}
+use Rattle.run_status.specs.declared.going.Going.TheVariants.{On, Over}
+use Rattle.run_status.specs.declared.status.Status.TheVariants.{LinkFault, NoMemory}
+use Rattle.server_core.proofs.FlushLemmas.{grew-none, grew-then}
+
+-- nothing is prepared where the session isn't Connected
+pub idles : {R : Type 0} (facts : R → Option (List Fact)) (whole : R → Bool) (old new : LoadsSoFar)
+    (before now : R) (state : SessionState) → state ≢ Connected → new ≡ old → now ≡ before
+    → PreparesIn state facts whole old new before now
+idles facts whole old new before now Connected other same still = absurd (other refl)
+idles facts whole old new before now _ other same still = (same, still)
+
+module _ {R C : Type 0} (facts : R → Option (List Fact)) (whole : R → Bool)
+    (gave : C → List ℕ → Type 0) where
+  -- one turn: it is prepared, and the endpoint makes one
+  pub loads-one : (sent then_sent : Option (List Carried)) (clock then_clock : C)
+      (old ready new : LoadsSoFar) (f g h : R) (none ended : Ended) (now : ℕ)
+      → Passes facts whole old.endpoint ready.endpoint f g
+      → TellsTurn facts whole KeepsAll sent then_sent ready.endpoint new.endpoint g h none ended
+      → Gives gave clock then_clock now → KeepsAll none [] → ended.whole ≡ true
+      → Counts (map (done_fact 0) ended.dones.items) ready.ledger new.ledger → Keeps old ready
+      → new.session ≡ ready.session → new.turns ≡ ready.turns → new.made ≡ ready.made + 1
+      → LoadsOn facts whole gave sent then_sent clock then_clock old new f h 1
+  loads-one sent then_sent clock then_clock old ready new f g h none ended now passes turn tick
+      empty kept counts keeps session turns made = record {
+        runs = record {
+          noted = passes.goes.noted ++ turn.noted;
+          grew = grew-then facts whole f g h passes.goes.noted turn.noted passes.goes.grew
+              turn.grew;
+          goes_on = λ past s.
+              subst (λ z. Stands z new.endpoint) (append_assoc past passes.goes.noted turn.noted)
+              (turn.goes_on (past ++ passes.goes.noted) (passes.goes.goes_on usual_limits past s));
+          sends = λ past s.
+              (turn.told (past ++ passes.goes.noted) (passes.goes.goes_on usual_limits past
+              s)).sends
+              ∙ ap (λ x. option_map (λ ds. ds ++ x) sent)
+              (sym (sent-append passes.goes.noted turn.noted
+              ∙ ap (λ x. x ++ sent_of turn.noted) passes.sends));
+          times = now ∷ [];
+          count = refl;
+          ticks = tick;
+        };
+        counts = λ past s.
+            let told = turn.told (past ++ passes.goes.noted) (passes.goes.goes_on usual_limits past
+            s) in
+            counts-then passes.goes.noted turn.noted old.ledger old.ledger new.ledger
+            (counts-silent passes.goes.noted old.ledger passes.ends)
+            (subst (λ (l : Ledger). Counts turn.noted l new.ledger) keeps.ledger
+            (counts-noted ready.endpoint.timed.lists.me ended.dones.items turn.noted ready.ledger
+            new.ledger (told.ends ∙ ap (map (done_fact ready.endpoint.timed.lists.me))
+            (sym (told.gave [] empty kept))) counts));
+        session = session ∙ keeps.session;
+        turns = turns ∙ keeps.turns;
+        made = made ∙ ap (λ n. n + 1) keeps.made;
+      }
+
+  pub loads-none : (sent : Option (List Carried)) (clock : C) (run : LoadsSoFar) (f : R)
+      → LoadsOn facts whole gave sent sent clock clock run run f f 0
+  loads-none sent clock run f = record {
+    runs = record {
+      noted = [];
+      grew = grew-none facts whole f;
+      goes_on = λ past s. subst (λ z. Stands z run.endpoint) (sym (append-nil past)) s;
+      sends = λ past s. sent-none sent;
+      times = [];
+      count = refl;
+      ticks = λ before h. subst (gave clock) (sym (append-nil before)) h;
+    };
+    counts = λ past s. counts-none run.ledger;
+    session = refl;
+    turns = refl;
+    made = sym (add-zero run.made);
+  }
+
+  pub loads-then : (sent mid then_sent : Option (List Carried)) (clock via then_clock : C)
+      (a b c : LoadsSoFar) (f g h : R) (n m : ℕ)
+      → LoadsOn facts whole gave sent mid clock via a b f g n
+      → LoadsOn facts whole gave mid then_sent via then_clock b c g h m
+      → LoadsOn facts whole gave sent then_sent clock then_clock a c f h (n + m)
+  unfolding runs-then
+  loads-then sent mid then_sent clock via then_clock a b c f g h n m p q = record {
+    runs = runs-then facts whole gave sent mid then_sent clock via then_clock a.endpoint b.endpoint
+        c.endpoint f g h n m p.runs q.runs;
+    counts = λ past s.
+        counts-then p.runs.noted q.runs.noted a.ledger b.ledger c.ledger (p.counts past s)
+        (q.counts (past ++ p.runs.noted) (p.runs.goes_on past s));
+    session = q.session ∙ p.session;
+    turns = q.turns ∙ p.turns;
+    made = let one = p.made in let two = q.made in omega arith;
+  }
+
+-- a count is either made or for want of memory
+pub counted-or : {T E : Type 0} (r : Result T E) (P : Type 0) (whole : Bool) → OnOk r P
+    → OnErr r (whole ≡ false) → whole ≡ true → P
+counted-or (Ok x) P whole made lost kept = made
+counted-or (Err e) P whole made lost kept = let no : true ≡ false = sym kept ∙ lost in cc
+
+-- and what is known of it, by the run that was prepared
+module _ {R L C : Type 0} (facts : R → Option (List Fact)) (whole : R → Bool)
+    (received waiting : L → Option (List Carried)) (gave : C → List ℕ → Type 0)
+    (tells : L → LinkTells) (link then_link : L) (clock then_clock : C)
+    (old ready shown : LoadsSoFar)
+    (before mid later : R) (next : End) (counted : Ledger) (none ended : Ended)
+    (same : shown ≡ ready) (keeps : Keeps old ready) (empty : KeepsAll none []) where
+  abbrev after : LoadsSoFar → LoadsSoFar
+  after s = record s { endpoint = next; ledger = counted; made = s.made + 1 }
+
+  pub has-loaded : (told : Option Turn) → Prepares facts whole old ready before mid
+      → TakesTurn facts whole received waiting KeepsAll gave told tells link then_link clock
+      then_clock shown.endpoint next mid later none ended
+      → (ended.whole ≡ true → Counts (map (done_fact 0) ended.dones.items) shown.ledger counted)
+      → HasLoaded facts whole received waiting gave tells link then_link clock then_clock old
+      (after shown) before later
+  has-loaded told prepares takes counts = record {
+    ready = ready;
+    mid = mid;
+    prepares = prepares;
+    keeps = keeps;
+    told = told;
+    none = none;
+    none_over = empty;
+    ended = ended;
+    takes = subst (λ (s : LoadsSoFar). TakesTurn facts whole received waiting KeepsAll gave told
+        tells link then_link clock then_clock s.endpoint next mid later none ended) same takes;
+    counts = λ kept.
+        subst (λ (s : LoadsSoFar). Counts (map (done_fact 0) ended.dones.items) s.ledger counted)
+        same (counts kept);
+    then_is = ap after same;
+  }
+
+  pub loads-turn : (now : ℕ) → Passes facts whole old.endpoint ready.endpoint before mid
+      → TellsTurn facts whole KeepsAll (tells link).sent (tells then_link).sent shown.endpoint next
+      mid later none ended
+      → Gives gave clock then_clock now → ended.whole ≡ true
+      → Counts (map (done_fact 0) ended.dones.items) shown.ledger counted
+      → LoadsOn facts whole gave (tells link).sent (tells then_link).sent clock then_clock old
+      (after shown) before later 1
+  loads-turn now passes turn tick kept counts =
+      subst (λ (s : LoadsSoFar). LoadsOn facts whole gave (tells link).sent
+      (tells then_link).sent clock
+      then_clock old (after s) before later 1) (sym same)
+      (loads-one facts whole gave (tells link).sent (tells then_link).sent clock then_clock old
+      ready (after ready) before mid later none ended now passes
+      (subst (λ (s : LoadsSoFar). TellsTurn facts whole KeepsAll (tells link).sent
+      (tells then_link).sent s.endpoint next mid later none ended) same turn) tick empty kept
+      (subst (λ (s : LoadsSoFar). Counts (map (done_fact 0) ended.dones.items) s.ledger counted)
+      same counts) keeps refl refl refl)
+
+-- what holds holds unless something is wanting or failed
+pub unless-wanting : (going : Going) (P : Type 0) → P → UnlessNoMemory going P
+unless-wanting (Over NoMemory) P p = tt
+unless-wanting (Over _) P p = p
+unless-wanting On P p = p
+
+pub unless-failed : (going : Going) (P : Type 0) → P → UnlessFailed going P
+unless-failed (Over NoMemory) P p = tt
+unless-failed (Over LinkFault) P p = tt
+unless-failed (Over _) P p = p
+unless-failed On P p = p

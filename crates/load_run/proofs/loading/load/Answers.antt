@@ -1,0 +1,21 @@
+-- a run is over, and its line was written
+use Rattle.load_run.proofs.LoadLemmas.{has-run, loads-printed}
+use Rattle.load_run.proofs.loading.load.Goals as goal
+
+pub returns-in_default : goal.returns-in_default
+returns-in_default g c =
+    loads-printed g.R.Recorder.facts g.R.Recorder.whole g.C.Clock.gave (λ l. record {
+      sent = g.L.Link.sent l;
+      troubles = record { faults = g.L.Link.faults l; busies = g.L.Link.busies l };
+    })
+    c.args.spec.now c.args.link.now c.turn_all.new.link c.args.clock.now c.turn_all.new.clock
+    c.args.rec.now c.turn_all.new.rec _ _ _ _ c.turn_all.new.run
+    (has-run g.R.Recorder.facts g.R.Recorder.whole g.C.Clock.gave (λ l. record {
+      sent = g.L.Link.sent l;
+      troubles = record { faults = g.L.Link.faults l; busies = g.L.Link.busies l };
+    })
+    c.args.spec.now c.args.link.now c.start.new.link c.turn_all.new.link c.args.clock.now
+    c.turn_all.new.clock c.args.rec.now c.start.new.rec c.turn_all.new.rec c.in-Ok.run'
+    c.turn_all.new.run c.in-Ok.ensures.starts c.start.ensures.sent c.in-Ok.ensures.quiet
+    c.turn_all.result c.in_default.not-NoMemory c.in_default.not-LinkFault c.turn_all.ensures.ends)
+    c.finish.result c.finish.ensures

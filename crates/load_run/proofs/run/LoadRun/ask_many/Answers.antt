@@ -1,0 +1,21 @@
+use Rattle.load_run.proofs.AskLemmas.{asks-more, asks-none}
+use Rattle.endpoint_loop.proofs.TurningLemmas.{goes-further}
+use Rattle.rpc_laws.specs.Service.{plain_serving}
+use Rattle.rpc_outside.specs.PlainAnswer.{background_answer}
+use Rattle.rpc_outside.specs.PlainStands.{PlainStands}
+use Rattle.rpc_world.specs.Before.{staff_of}
+use Rattle.load_run.proofs.run.LoadRun.ask_many.Goals as goal
+
+pub calls-init : goal.calls-init
+calls-init g c = asks-none g.R.Recorder.facts g.R.Recorder.whole _ _
+
+pub calls-preserved : goal.calls-preserved
+calls-preserved g c =
+    asks-more g.R.Recorder.facts g.R.Recorder.whole _ _ _ _ _ _ c.calls.invariant
+    c.in_ok-ask_next.ensures.asks (rw c.pending.ensures at c.if-pending-lt-MOST_PENDING.true)
+    c.in_ok-ask_next.ensures.keeps c.in_ok-ask_next.ensures.counted c.in_ok-ask_next.ensures.passes
+
+pub returns-in_err-ask_next-clause-goes_on : goal.returns-in_err-ask_next-clause-goes_on
+returns-in_err-ask_next-clause-goes_on g c =
+    goes-further g.R.Recorder.facts g.R.Recorder.whole plain_serving PlainStands background_answer
+    staff_of _ _ _ _ _ _ c.calls.invariant.passes.goes c.in_err-ask_next.ensures.goes_on

@@ -1,0 +1,32 @@
+-- a session is opened
+use Rattle.std.proofs.Common.{[], ◌∷◌, ◌∙◌, ap, arith, refl, sym}
+use Rattle.command_line.specs.Words.{LoadWords}
+use Rattle.load_run.proofs.PassLemmas.{connect-passes}
+use Rattle.plain_turns.specs.PlainTurns.{usual_limits}
+use Rattle.rpc_base.specs.declared.event.Event.TheVariants.{Opened}
+use Rattle.rpc_laws.specs.Facts.{plain}
+use Rattle.load_run.proofs.run.LoadRun.start.Goals as goal
+
+pub returns-clause-starts : goal.returns-clause-starts
+returns-clause-starts g c =
+    let opened = connect-passes g.R.Recorder.facts g.R.Recorder.whole c.in-Ok-plain_endpoint.endpoint
+    c.connect.new.self c.args.rec.now c.connect.new.rec c.in-Ok-connect.ensures.leaves
+    c.in-Ok.peer 32 (record { some = omega arith; few = omega arith })
+    c.in-Ok-connect.ensures.makes c.in-Ok-connect.ensures.accepted in
+    let passes = opened.passes in
+    record {
+      noted = passes.goes.noted;
+      grew = passes.goes.grew;
+      peer = c.in-Ok.peer;
+      opens = opened.opens
+          ∙ ap (λ n. plain c.connect.new.self.timed.lists.me (Opened n c.in-Ok.peer 32) ∷ [])
+          (sym c.in-Ok-connect.ensures.number);
+      stands = passes.goes.goes_on usual_limits [] c.in-Ok-plain_endpoint.ensures;
+      sends = passes.sends;
+      ends = passes.ends;
+      plan = c.in-Ok-of.ensures;
+      tally = c.new.ensures;
+      asked = refl;
+      turns = ap (λ (w : LoadWords). w.turns) c.spec.view_is;
+      made = refl;
+    }

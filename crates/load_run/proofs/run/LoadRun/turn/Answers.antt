@@ -1,0 +1,79 @@
+-- a turn is prepared and made
+use Rattle.std.proofs.Common.{subst}
+use Rattle.endpoint_loop.proofs.TurningLemmas.{goes-further}
+use Rattle.endpoint_loop.specs.Polling.{turn_of}
+use Rattle.load_run.specs.Loading.{LoadsSoFar}
+use Rattle.load_run.proofs.TurnLemmas.{counted-or, has-loaded, loads-turn, unless-failed}
+use Rattle.load_run.proofs.TurnLemmas.{unless-wanting}
+use Rattle.plain_turns.specs.PlainTurns.{GoesOnBy}
+use Rattle.rpc_laws.specs.Service.{plain_serving}
+use Rattle.rpc_outside.specs.PlainAnswer.{background_answer}
+use Rattle.rpc_outside.specs.PlainStands.{PlainStands}
+use Rattle.rpc_world.specs.Before.{staff_of}
+use Rattle.load_run.proofs.run.LoadRun.turn.Goals as goal
+
+pub returns-in-Err-default-clause-loads : goal.returns-in-Err-default-clause-loads
+returns-in-Err-default-clause-loads g c =
+    has-loaded g.R.Recorder.facts g.R.Recorder.whole g.L.Link.received g.L.Link.waiting
+    g.C.Clock.gave (λ l. record {
+      sent = g.L.Link.sent l;
+      troubles = record { faults = g.L.Link.faults l; busies = g.L.Link.busies l };
+    }) c.args.link.now c.take_turn-turned.new.link c.args.clock.now c.take_turn-turned.new.clock
+    c.args.self.now c.prepare.new.self _ c.args.rec.now c.prepare.new.rec c.take_turn-turned.new.rec
+    c.take_turn-turned.new.endpoint c.count.new.self c.new-ended.result c.take_turn-turned.new.k
+    c.self.view_is c.in-Ok.ensures.keeps c.new-ended.ensures (turn_of c.take_turn-turned.result)
+    c.in-Ok.ensures.prepares c.take_turn-turned.ensures.takes
+    (counted-or c.count.result _ _ c.count.ensures.counts c.count.ensures.lost)
+
+pub returns-in-Err-default-clause-goes_on : goal.returns-in-Err-default-clause-goes_on
+returns-in-Err-default-clause-goes_on g c =
+    goes-further g.R.Recorder.facts g.R.Recorder.whole plain_serving PlainStands background_answer
+    staff_of _ _ _ _ _ _ c.in-Ok.ensures.goes_on
+    (subst (λ (s : LoadsSoFar). GoesOnBy g.R.Recorder.facts g.R.Recorder.whole s.endpoint
+    c.take_turn-turned.new.endpoint c.prepare.new.rec c.take_turn-turned.new.rec) c.self.view_is
+    c.take_turn-turned.ensures.goes_on)
+
+pub returns-in-Ok-Err-clause-goes_on : goal.returns-in-Ok-Err-clause-goes_on
+returns-in-Ok-Err-clause-goes_on g c =
+    goes-further g.R.Recorder.facts g.R.Recorder.whole plain_serving PlainStands background_answer
+    staff_of _ _ _ _ _ _ c.in-Ok.ensures.goes_on
+    (subst (λ (s : LoadsSoFar). GoesOnBy g.R.Recorder.facts g.R.Recorder.whole s.endpoint
+    c.take_turn-turned.new.endpoint c.prepare.new.rec c.take_turn-turned.new.rec) c.self.view_is
+    c.take_turn-turned.ensures.goes_on)
+
+pub returns-clause-loads : goal.returns-clause-loads
+returns-clause-loads g c =
+    unless-wanting c.going.result _
+    (has-loaded g.R.Recorder.facts g.R.Recorder.whole g.L.Link.received g.L.Link.waiting
+    g.C.Clock.gave (λ l. record {
+      sent = g.L.Link.sent l;
+      troubles = record { faults = g.L.Link.faults l; busies = g.L.Link.busies l };
+    })
+    c.args.link.now c.take_turn-turned.new.link c.args.clock.now c.take_turn-turned.new.clock
+    c.args.self.now c.prepare.new.self _ c.args.rec.now c.prepare.new.rec c.take_turn-turned.new.rec
+    c.take_turn-turned.new.endpoint c.count.new.self c.new-ended.result c.take_turn-turned.new.k
+    c.self.view_is c.in-Ok.ensures.keeps c.new-ended.ensures (turn_of c.take_turn-turned.result)
+    c.in-Ok.ensures.prepares c.take_turn-turned.ensures.takes (λ kept. c.in-Ok-Ok.ensures.counts))
+
+pub returns-clause-on : goal.returns-clause-on
+returns-clause-on g c =
+    unless-failed c.going.result _
+    (loads-turn g.R.Recorder.facts g.R.Recorder.whole g.L.Link.received g.L.Link.waiting
+    g.C.Clock.gave (λ l. record {
+      sent = g.L.Link.sent l;
+      troubles = record { faults = g.L.Link.faults l; busies = g.L.Link.busies l };
+    })
+    c.args.link.now c.take_turn-turned.new.link c.args.clock.now c.take_turn-turned.new.clock
+    c.args.self.now c.prepare.new.self _ c.args.rec.now c.prepare.new.rec c.take_turn-turned.new.rec
+    c.take_turn-turned.new.endpoint c.count.new.self c.new-ended.result c.take_turn-turned.new.k
+    c.self.view_is c.in-Ok.ensures.keeps c.new-ended.ensures
+    c.take_turn-turned.ensures.takes.now c.in-Ok.ensures.passes c.take_turn-turned.ensures.tells
+    c.take_turn-turned.ensures.takes.ticks c.in-Ok-Ok.ensures.whole c.in-Ok-Ok.ensures.counts)
+
+pub returns-clause-goes_on : goal.returns-clause-goes_on
+returns-clause-goes_on g c =
+    goes-further g.R.Recorder.facts g.R.Recorder.whole plain_serving PlainStands background_answer
+    staff_of _ _ _ _ _ _ c.in-Ok.ensures.goes_on
+    (subst (λ (s : LoadsSoFar). GoesOnBy g.R.Recorder.facts g.R.Recorder.whole s.endpoint
+    c.take_turn-turned.new.endpoint c.prepare.new.rec c.take_turn-turned.new.rec) c.self.view_is
+    c.take_turn-turned.ensures.goes_on)

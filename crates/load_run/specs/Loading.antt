@@ -1,0 +1,278 @@
+-- A run of a client.
+use Rattle.std.specs.Prelude.{◌≡◌, ◌≢◌, ℕ, ◌+◌, ◌-◌, ◌<◌, ◌≤◌, ◌==◌, ◌&&◌, ◌⊎◌, Bool, true, false}
+use Rattle.std.specs.Prelude.{Option}
+use Rattle.std.specs.Prelude.{if◌then◌else◌, List, [], ◌∷◌, ◌++◌, length, map, option_map}
+use Rattle.std.specs.List.{filter, find}
+use Rattle.client_core.specs.Shown.{done_fact}
+use Rattle.count_line.specs.declared.word.Word.TheVariants as word
+use Rattle.count_line.specs.Line.{line_text}
+use Rattle.endpoint_loop.specs.declared.polling.Turn.{Turn}
+use Rattle.endpoint_loop.specs.Noting.{Makes, is_end, sent_of}
+use Rattle.endpoint_loop.specs.Polling.{LinkTells}
+use Rattle.endpoint_loop.specs.Reading.{pending_told}
+use Rattle.command_line.specs.Words.{LoadWords}
+use Rattle.load_plan.specs.Calls.{Calls, asked_bytes, calls_of, room_of}
+use Rattle.load_run.specs.declared.ended.Ended.{Ended}
+use Rattle.load_run.specs.declared.ledger.Ledger.{Ledger}
+use Rattle.load_run.specs.Tallies.{Counts, KeepsAll, Tallies}
+use Rattle.plain_turns.specs.PlainTurns.{GivesAll, GoesOnBy, RunsOn, Stands, TakesTurn}
+use Rattle.load_run.specs.declared.run.TheConstants.{LOAD_CREDITS}
+use Rattle.rpc_base.specs.declared.event.Event.TheVariants.{Opened}
+use Rattle.rpc_base.specs.declared.fact.Fact.{Fact}
+use Rattle.rpc_base.specs.declared.state.SessionState.{SessionState}
+use Rattle.rpc_base.specs.declared.state.SessionState.TheVariants.{Connected, Closed, Failed}
+use Rattle.rpc_base.specs.declared.state.SessionState.TheVariants.{Broken}
+use Rattle.rpc_laws.specs.declared.tables.Timed.{Timed}
+use Rattle.rpc_laws.specs.Facts.{plain}
+use Rattle.rpc_laws.specs.Groups.{Asks, Disconnects, state_of}
+use Rattle.rpc_laws.specs.Sessions.{is_client}
+use Rattle.rpc_laws.specs.Steps.{Rel, Visits}
+use Rattle.rpc_outside.specs.Faults.{HasRisen}
+use Rattle.rpc_outside.specs.Linking.{Carried}
+use Rattle.rpc_outside.specs.Recording.{Grew}
+use Rattle.rpc_outside.specs.Writing.{Broke, Wrote}
+use Rattle.rpc_world.specs.Answered.{End}
+use Rattle.run_status.specs.declared.going.Going.{Going}
+use Rattle.run_status.specs.declared.going.Going.TheVariants.{On, Over}
+use Rattle.run_status.specs.declared.status.Status.{Status}
+use Rattle.run_status.specs.declared.status.Status.TheVariants as status
+
+-- its endpoint and its session, its calls with how they ended, how many it asked, and the turns
+-- that it makes and made
+pub record LoadsSoFar : Type 0 where
+  pub endpoint : End
+  pub session : ℕ
+  pub ledger : Ledger
+  pub asked : ℕ
+  pub turns : ℕ
+  pub made : ℕ
+
+-- the state of its session, and how many calls are pending
+abbrev pub state_in : LoadsSoFar → SessionState
+state_in s = state_of (find (is_client s.session) s.endpoint.timed.lists.clients)
+
+abbrev pub pending_in : LoadsSoFar → ℕ
+pending_in s = pending_told (find (is_client s.session) s.endpoint.timed.lists.clients)
+
+abbrev pub unasked : LoadsSoFar → ℕ
+unasked s = s.ledger.plan.calls - s.asked
+
+-- only its endpoint changed, and how many calls were asked
+pub record Keeps (old new : LoadsSoFar) : Type 0 where
+  pub session : new.session ≡ old.session
+  pub ledger : new.ledger ≡ old.ledger
+  pub turns : new.turns ≡ old.turns
+  pub made : new.made ≡ old.made
+
+-- call number k is asked, while fewer than 64 are pending
+pub record AsksNext (session : ℕ) (c : Calls) (k : ℕ) (s : Timed) (x : List Fact) (t : Timed)
+    : Type 0 where
+  pub few : pending_told (find (is_client session) s.lists.clients) < 64
+  pub asks : Asks session c.req_type (asked_bytes c k) (room_of c) s x t
+
+-- n calls are asked, the first of them call number `first`
+abbrev pub AsksCalls : (session : ℕ) → Calls → (first n : ℕ) → Rel
+AsksCalls session c first n = Visits (λ k. AsksNext session c (first + k)) n
+
+-- nothing is asked where the session isn't Connected. Where it is, calls are asked in their order,
+-- until 64 are pending or all are asked
+pub record AsksMany {R : Type 0} (facts : R → Option (List Fact)) (whole : R → Bool)
+    (old new : LoadsSoFar) (before now : R) : Type 0 where
+  pub many : ℕ
+  pub asked : new.asked ≡ old.asked + many
+  pub asks : Makes facts whole (AsksCalls old.session old.ledger.plan old.asked many)
+      old.endpoint.timed new.endpoint.timed before now
+  pub enough : (unasked new ≡ 0) ⊎ (64 ≤ pending_in new)
+  pub keeps : Keeps old new
+
+-- its session begins to close where no call is pending, and otherwise nothing happens
+pub record ClosesIdle {R : Type 0} (facts : R → Option (List Fact)) (whole : R → Bool)
+    (old new : LoadsSoFar) (before now : R) : Type 0 where
+  pub asked : new.asked ≡ old.asked
+  pub closes : pending_in old ≡ 0
+      → Makes facts whole (Disconnects old.session) old.endpoint.timed new.endpoint.timed before now
+  pub waits : pending_in old ≢ 0 → (new ≡ old) × (now ≡ before)
+
+-- what happens before a turn of the endpoint: nothing where its session isn't Connected, and
+-- otherwise calls are asked, and the session begins to close where none is pending then
+abbrev pub PreparesIn : {R : Type 0} → SessionState → (R → Option (List Fact)) → (R → Bool)
+    → (old new : LoadsSoFar) → (before now : R) → Type 0
+PreparesIn {R} Connected facts whole old new before now =
+    (mid : LoadsSoFar) × (via : R)
+    × AsksMany facts whole old mid before via × ClosesIdle facts whole mid new via now
+PreparesIn _ facts whole old new before now = (new ≡ old) × (now ≡ before)
+
+abbrev pub Prepares : {R : Type 0} → (R → Option (List Fact)) → (R → Bool) → (old new : LoadsSoFar)
+    → (before now : R) → Type 0
+Prepares facts whole old new before now =
+    PreparesIn (state_in old) facts whole old new before now
+
+-- the recorder grew by facts by which its endpoint goes on, that send nothing and end no call
+pub record Passes {R : Type 0} (facts : R → Option (List Fact)) (whole : R → Bool) (old new : End)
+    (before now : R) : Type 0 where
+  pub goes : GoesOnBy facts whole old new before now
+  pub sends : sent_of goes.noted ≡ []
+  pub ends : filter is_end goes.noted ≡ []
+
+-- a turn was made: it was prepared, and the endpoint made a turn. The calls that were over then
+-- were counted, where there was memory for each
+pub record HasLoaded {R L C : Type 0} (facts : R → Option (List Fact)) (whole : R → Bool)
+    (received waiting : L → Option (List Carried)) (gave : C → List ℕ → Type 0)
+    (tells : L → LinkTells) (link then_link : L) (clock then_clock : C) (old new : LoadsSoFar)
+    (before later : R) : Type 0 where
+  pub ready : LoadsSoFar
+  pub mid : R
+  pub prepares : Prepares facts whole old ready before mid
+  pub keeps : Keeps old ready
+  pub told : Option Turn
+  pub none : Ended
+  pub none_over : KeepsAll none []
+  pub ended : Ended
+  pub takes : TakesTurn facts whole received waiting KeepsAll gave told tells link then_link clock
+      then_clock ready.endpoint new.endpoint mid later none ended
+  pub counts : ended.whole ≡ true
+      → Counts (map (done_fact 0) ended.dones.items) ready.ledger new.ledger
+  pub then_is : new
+      ≡ record ready { endpoint = new.endpoint; ledger = new.ledger; made = ready.made + 1 }
+
+-- n turns were made: its endpoint goes on by what was noted, and the ends of calls among that were
+-- counted
+pub record LoadsOn {R C : Type 0} (facts : R → Option (List Fact)) (whole : R → Bool)
+    (gave : C → List ℕ → Type 0) (sent then_sent : Option (List Carried)) (clock then_clock : C)
+    (old new : LoadsSoFar) (before later : R) (n : ℕ) : Type 0 where
+  pub runs : RunsOn facts whole gave sent then_sent clock then_clock old.endpoint new.endpoint
+      before later n
+  pub counts : (past : List Fact) → Stands past old.endpoint
+      → Counts runs.noted old.ledger new.ledger
+  pub session : new.session ≡ old.session
+  pub turns : new.turns ≡ old.turns
+  pub made : new.made ≡ old.made + n
+
+-- unless there was no memory
+abbrev pub UnlessNoMemory : Going → Type 0 → Type 0
+UnlessNoMemory (Over status.NoMemory) claim = Unit {0}
+UnlessNoMemory _ claim = claim
+
+-- and unless the link failed
+abbrev pub UnlessFailed : Going → Type 0 → Type 0
+UnlessFailed (Over status.NoMemory) claim = Unit {0}
+UnlessFailed (Over status.LinkFault) claim = Unit {0}
+UnlessFailed _ claim = claim
+
+-- its session is over
+abbrev pub is_over : SessionState → Bool
+is_over Closed = true
+is_over Failed = true
+is_over Broken = true
+is_over _ = false
+
+-- all calls were asked, and each ended well with a right answer
+abbrev pub is_clean : LoadsSoFar → Bool
+is_clean s =
+    (unasked s == 0) && (s.ledger.tally.small == 0) && (s.ledger.tally.lost == 0)
+    && (s.ledger.tally.wrong == 0)
+
+-- how it is to end, where its session is over or all turns are made
+abbrev pub going_at : LoadsSoFar → Going
+going_at s =
+    if is_over (state_in s) then Over (if is_clean s then status.Done else status.CallsFailed)
+    else (if s.made == s.turns then Over status.TurnsSpent else On)
+
+-- what a turn answers: that the link failed, exactly where it did; else that there was no memory,
+-- or how it goes on
+abbrev pub Answers : (before now : ℕ) → LoadsSoFar → Going → Type 0
+Answers before now s going =
+    ((going ≡ Over status.LinkFault) × HasRisen before now)
+    ⊎ ((now ≡ before) × ((going ≡ Over status.NoMemory) ⊎ (going ≡ going_at s)))
+
+-- `calls N ok A small B lost C wrong D unasked E`
+abbrev pub calls_line : LoadsSoFar → List ℕ
+calls_line s =
+    line_text (record { word = word.Calls; number = s.ledger.plan.calls }
+    ∷ record { word = word.Ok; number = s.ledger.tally.ok }
+    ∷ record { word = word.Small; number = s.ledger.tally.small }
+    ∷ record { word = word.Lost; number = s.ledger.tally.lost }
+    ∷ record { word = word.Wrong; number = s.ledger.tally.wrong }
+    ∷ record { word = word.Unasked; number = unasked s } ∷ [])
+
+-- the line was written, and its status is told; or a front of the line, where the sink failed
+abbrev pub Prints : LoadsSoFar → Status → Option (List ℕ) → Option (List ℕ) → ℕ → ℕ → Type 0
+Prints s status.WriteFault old new before after = Broke old new before after (calls_line s)
+Prints s told old new before after =
+    (going_at s ≡ Over told) × Wrote old new before after (calls_line s)
+
+-- a session was opened with some peer, and nothing asked yet
+pub record StartsAs {R : Type 0} (facts : R → Option (List Fact)) (whole : R → Bool)
+    (words : LoadWords) (before now : R) (s : LoadsSoFar) : Type 0 where
+  pub noted : List Fact
+  pub peer : ℕ
+  pub opens : noted
+      ≡ plain s.endpoint.timed.lists.me (Opened s.session peer LOAD_CREDITS) ∷ []
+  pub grew : Grew facts whole before now noted
+  pub stands : Stands noted s.endpoint
+  pub sends : sent_of noted ≡ []
+  pub ends : filter is_end noted ≡ []
+  pub plan : s.ledger.plan ≡ calls_of words
+  pub tally : s.ledger.tally ≡ record { ok = 0; small = 0; lost = 0; wrong = 0 }
+  pub asked : s.asked ≡ 0
+  pub turns : s.turns ≡ words.turns
+  pub made : s.made ≡ 0
+
+-- how the turns of a run end: the link failed; or there was no memory, and it didn't; or the run is
+-- over, and it didn't
+abbrev pub TurnsEnd : {R L C : Type 0} → Status → (R → Option (List Fact)) → (R → Bool)
+    → (C → List ℕ → Type 0) → (tells : L → LinkTells) → (link then_link : L)
+    → (clock then_clock : C) → (old new : LoadsSoFar) → (before later : R) → Type 0
+TurnsEnd status.LinkFault facts whole gave tells link then_link clock then_clock old new
+    before later =
+    HasRisen (tells link).troubles.faults (tells then_link).troubles.faults
+TurnsEnd status.NoMemory facts whole gave tells link then_link clock then_clock old new
+    before later =
+    (tells then_link).troubles.faults ≡ (tells link).troubles.faults
+TurnsEnd told facts whole gave tells link then_link clock then_clock old new before later =
+    (going_at new ≡ Over told)
+    × ((tells then_link).troubles.faults ≡ (tells link).troubles.faults)
+    × (many : ℕ)
+    × LoadsOn facts whole gave (tells link).sent (tells then_link).sent clock then_clock old new
+    before later many
+
+-- what `load` did once its run was over: the facts are a run of its node with usual limits, which
+-- opened the session first; the link, where it tells that, sent just what they say was sent, the
+-- clock gave a number for each turn, and the tally counts the ends of calls among them
+pub record HasRun {R L C : Type 0} (facts : R → Option (List Fact)) (whole : R → Bool)
+    (gave : C → List ℕ → Type 0) (tells : L → LinkTells) (words : LoadWords) (link then_link : L)
+    (clock then_clock : C) (before later : R) (run : LoadsSoFar) : Type 0 where
+  pub over : going_at run ≢ On
+  pub plan : run.ledger.plan ≡ calls_of words
+  pub turns : run.turns ≡ words.turns
+  pub noted : List Fact
+  pub grew : Grew facts whole before later noted
+  pub stands : Stands noted run.endpoint
+  pub opens : (who peer : ℕ) × (rest : List Fact)
+      × (noted ≡ plain who (Opened run.session peer LOAD_CREDITS) ∷ rest)
+  pub tallies : Tallies run.ledger.plan run.ledger.tally noted
+  pub sent : (tells then_link).sent ≡ option_map (λ ds. ds ++ sent_of noted) (tells link).sent
+  pub times : List ℕ
+  pub count : length times ≡ run.made
+  pub ticks : GivesAll gave clock then_clock times
+  pub quiet : (tells then_link).troubles.faults ≡ (tells link).troubles.faults
+
+-- how `load` ends: the link failed, or there was no memory and it didn't, and nothing was written;
+-- or its run was over, and the line was written, or a front of it where the sink failed
+abbrev pub Loads : {R L C : Type 0} → Status → (R → Option (List Fact)) → (R → Bool)
+    → (C → List ℕ → Type 0) → (tells : L → LinkTells) → LoadWords → (link then_link : L)
+    → (clock then_clock : C) → (before later : R) → (old new : Option (List ℕ)) → (read again : ℕ)
+    → Type 0
+Loads status.LinkFault facts whole gave tells words link then_link clock then_clock before later
+    old new read again =
+    HasRisen (tells link).troubles.faults (tells then_link).troubles.faults
+    × (new ≡ old) × (again ≡ read)
+Loads status.NoMemory facts whole gave tells words link then_link clock then_clock before later
+    old new read again =
+    ((tells then_link).troubles.faults ≡ (tells link).troubles.faults)
+    × (new ≡ old) × (again ≡ read)
+Loads told facts whole gave tells words link then_link clock then_clock before later old new
+    read again =
+    (run : LoadsSoFar)
+    × HasRun facts whole gave tells words link then_link clock then_clock before later run
+    × Prints run told old new read again

@@ -1,0 +1,94 @@
+//! Calls are asked before a turn, and the session is closed once all are over.
+ghost use Rattle.std.specs.Prelude.{◌≡◌, ◌+◌, ◌<◌, OnOk};
+ghost use Rattle.endpoint_loop.specs.Noting.{Makes};
+ghost use Rattle.load_plan.specs.Calls.{asked_bytes, room_of};
+ghost use Rattle.load_run.specs.Loading.{AsksMany, ClosesIdle, Keeps, Passes, Prepares, unasked};
+ghost use Rattle.plain_turns.specs.PlainTurns.{GoesOnBy};
+ghost use Rattle.rpc_laws.specs.Groups.{Asks};
+
+use crate::run::LoadRun;
+use rpc_base::{NoMemory, SessionState};
+use rpc_outside::Recorder;
+
+/// No more calls are pending at a time.
+const MOST_PENDING: u64 = 64;
+
+impl LoadRun {
+    // Asks the next call. NoMemory comes only where there is none for it.
+    fn ask_next<R: Recorder>(&mut self, rec: &mut R) -> Result<(), NoMemory>
+        requires left { 0 < unasked self.old }
+        ensures asks { OnOk result (Makes R.facts R.whole (Asks self.old.session
+            self.old.ledger.plan.req_type (asked_bytes self.old.ledger.plan self.old.asked)
+            (room_of self.old.ledger.plan)) self.old.endpoint.timed self.new.endpoint.timed
+            rec.old rec.new) }
+        ensures passes { OnOk result (Passes R.facts R.whole self.old.endpoint self.new.endpoint
+            rec.old rec.new) }
+        ensures counted { OnOk result (self.new.asked ≡ self.old.asked + 1) }
+        ensures keeps { Keeps self.old self.new }
+        ensures goes_on { GoesOnBy R.facts R.whole self.old.endpoint self.new.endpoint rec.old
+            rec.new }
+    {
+        let tag = u64::from(self.asked);
+        let req_type = self.ledger.plan.req_type;
+        let (req, resp) = self.ledger.buffers(self.alloc, tag)?;
+        match self
+            .endpoint
+            .ask(self.session, req_type, req, resp, tag, rec)
+        {
+            Ok(_call) => {
+                self.asked += 1;
+                Ok(())
+            }
+            Err(_refused) => Err(NoMemory),
+        }
+    }
+
+    // Asks calls until 64 are pending or all are asked.
+    fn ask_many<R: Recorder>(&mut self, rec: &mut R) -> Result<(), NoMemory>
+        ensures asks { OnOk result (AsksMany R.facts R.whole self.old self.new rec.old rec.new) }
+        ensures passes { OnOk result (Passes R.facts R.whole self.old.endpoint self.new.endpoint
+            rec.old rec.new) }
+        ensures keeps { Keeps self.old self.new }
+        ensures goes_on { GoesOnBy R.facts R.whole self.old.endpoint self.new.endpoint rec.old
+            rec.new }
+    {
+        'calls: while self.unasked() > 0 && self.pending() < MOST_PENDING {
+            self.ask_next(rec)?;
+        }
+        Ok(())
+    }
+
+    // Begins to close the session where no call is pending.
+    fn close_idle<R: Recorder>(&mut self, rec: &mut R)
+        ensures closes { ClosesIdle R.facts R.whole self.old self.new rec.old rec.new }
+        ensures asked { self.new.asked ≡ self.old.asked }
+        ensures keeps { Keeps self.old self.new }
+        ensures passes { Passes R.facts R.whole self.old.endpoint self.new.endpoint rec.old
+            rec.new }
+    {
+        if self.pending() == 0 {
+            // Nothing is pending: it isn't refused.
+            let _closing = self.endpoint.disconnect(self.session, rec);
+        }
+    }
+
+    /// What is done before a turn of the endpoint: where the session is Connected, calls are asked
+    /// until 64 are pending or all are asked, and then the session begins to close where none is
+    /// pending.
+    pub(crate) fn prepare<R: Recorder>(&mut self, rec: &mut R) -> Result<(), NoMemory>
+        ensures prepares { OnOk result (Prepares R.facts R.whole self.old self.new rec.old
+            rec.new) }
+        ensures passes { OnOk result (Passes R.facts R.whole self.old.endpoint self.new.endpoint
+            rec.old rec.new) }
+        ensures keeps { Keeps self.old self.new }
+        ensures goes_on { GoesOnBy R.facts R.whole self.old.endpoint self.new.endpoint rec.old
+            rec.new }
+    {
+        if self.state() != SessionState::Connected {
+            return Ok(());
+        }
+        self.ask_many(rec)?;
+        self.close_idle(rec);
+        Ok(())
+    }
+}

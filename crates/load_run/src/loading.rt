@@ -1,0 +1,65 @@
+//! `load`, from its start to its end.
+ghost use Rattle.std.specs.Prelude.{◌<◌};
+ghost use Rattle.command_line.specs.Answers.{IsLoadInRange};
+ghost use Rattle.load_run.specs.Loading.{Loads, TurnsEnd};
+ghost use Rattle.plain_turns.specs.PlainTurns.{GoesOnBy};
+
+use crate::run::LoadRun;
+use command_line::LoadSpec;
+use rpc_outside::{Clock, Link, Recorder, Sink};
+use run_status::{Going, Status};
+use std::alloc::Global;
+
+// Makes turns until the run is over, and tells with which status.
+fn turn_all<L: Link, C: Clock, R: Recorder>(
+    run: &mut LoadRun,
+    link: &mut L,
+    clock: &mut C,
+    rec: &mut R,
+) -> Status
+    requires left { run.old.made < run.old.turns }
+    ensures ends { TurnsEnd result R.facts R.whole C.gave (λ l. record {
+      sent = L.sent l;
+      troubles = record { faults = L.faults l; busies = L.busies l };
+    }) link.old link.new clock.old clock.new run.old run.new rec.old rec.new }
+    ensures goes_on { GoesOnBy R.facts R.whole run.old.endpoint run.new.endpoint rec.old rec.new }
+{
+    'turns: loop {
+        if let Going::Over(status) = run.turn(link, clock, rec) {
+            return status;
+        }
+    }
+}
+
+/// Asks the calls that the words say of the server at their address, and writes a line that counts
+/// how they ended. `LinkFault` comes exactly where a fault of the link came, `WriteFault` exactly
+/// where one of the sink did, and `NoMemory` only where there was no memory. `Done` comes where the
+/// session is over, all calls were asked and each ended well with a right answer, `CallsFailed`
+/// where it is over and one didn't, and `TurnsSpent` where it isn't over and all turns are made.
+pub fn load<K: Sink, L: Link, C: Clock, R: Recorder>(
+    alloc: Global,
+    spec: &LoadSpec,
+    sink: &mut K,
+    link: &mut L,
+    clock: &mut C,
+    rec: &mut R,
+) -> Status
+    requires { IsLoadInRange spec.now }
+    ensures { Loads result R.facts R.whole C.gave (λ l. record {
+      sent = L.sent l;
+      troubles = record { faults = L.faults l; busies = L.busies l };
+    }) spec.now link.old link.new clock.old clock.new rec.old rec.new (K.written sink.old)
+        (K.written sink.new) (K.faults sink.old) (K.faults sink.new) }
+{
+    let mut run = match LoadRun::start(alloc, spec, link, rec) {
+        Ok(run) => run,
+        Err(status) => return status,
+    };
+    match turn_all(&mut run, link, clock, rec) {
+        status @ (Status::LinkFault | Status::NoMemory) => {
+            run.stop();
+            status
+        }
+        _ => run.finish(sink),
+    }
+}

@@ -1,0 +1,244 @@
+//! A run of a client.
+ghost use Rattle.std.specs.Prelude.{◌≡◌, ◌<◌, ◌≢◌, IfErr, IfOk, OnOk};
+ghost use Rattle.command_line.specs.Answers.{IsLoadInRange};
+ghost use Rattle.count_line.specs.Line.{line_text};
+ghost use Rattle.load_run.specs.Loading.{calls_line};
+ghost use Rattle.load_run.specs.Loading.{Answers, HasLoaded, LoadsOn, Prints, StartsAs};
+ghost use Rattle.load_run.specs.Loading.{UnlessFailed, UnlessNoMemory, going_at, is_clean};
+ghost use Rattle.load_run.specs.Loading.{pending_in, state_in, unasked};
+ghost use Rattle.plain_turns.specs.PlainTurns.{GoesOnBy, WhyNot};
+ghost use Rattle.run_status.specs.declared.going.Going.TheVariants.{On};
+
+use crate::ended::Ended;
+use crate::ledger::Ledger;
+use crate::tally::Tally;
+use command_line::LoadSpec;
+use count_line::{Count, Word, write_counts};
+use load_plan::Plan;
+use plain_turns::{PlainEndpoint, let_go, plain_endpoint, take_turn};
+use rpc_base::{SessionNo, SessionState};
+use rpc_outside::{Clock, Link, Recorder, Sink};
+use run_status::{Going, Status};
+use std::alloc::Global;
+use std::marker::Model;
+
+/// The credits of the session.
+pub const LOAD_CREDITS: u16 = 32;
+
+/// A client's endpoint and its session, its calls with how they ended, and its turns counted.
+#[derive(Drop)]
+pub struct LoadRun {
+    pub(crate) alloc: Global,
+    pub(crate) endpoint: PlainEndpoint,
+    pub(crate) session: SessionNo,
+    pub(crate) ledger: Ledger,
+    pub(crate) asked: u32,
+    turns: u32,
+    made: u32,
+}
+
+impl Model for LoadRun {
+    ghost use Rattle.std.specs.Prelude.{◌≤◌};
+    ghost use Rattle.load_run.specs.Loading.{LoadsSoFar};
+
+    ghost Value = { LoadsSoFar };
+
+    ghost view = { λ r. record {
+      endpoint = r.endpoint;
+      session = r.session;
+      ledger = r.ledger;
+      asked = r.asked;
+      turns = r.turns;
+      made = r.made;
+    } };
+
+    ghost invariant = { λ r. (r.asked ≤ r.ledger.plan.calls) × (r.made ≤ r.turns) };
+}
+
+impl LoadRun {
+    /// How many calls weren't asked yet.
+    pub(crate) fn unasked(&self) -> u32
+        ensures { result ≡ unasked self.now }
+    {
+        self.ledger.plan.calls - self.asked
+    }
+
+    /// How many calls are pending.
+    pub(crate) fn pending(&self) -> u64
+        ensures { result ≡ pending_in self.now }
+    {
+        self.endpoint.pending(self.session)
+    }
+
+    /// The state of the session.
+    pub(crate) fn state(&self) -> SessionState
+        ensures { result ≡ state_in self.now }
+    {
+        self.endpoint.state(self.session)
+    }
+
+    // Whether all calls were asked, and each ended well with a right answer.
+    fn is_clean(&self) -> bool
+        ensures { result ≡ is_clean self.now }
+    {
+        let tally = &self.ledger.tally;
+        self.unasked() == 0 && tally.small == 0 && tally.lost == 0 && tally.wrong == 0
+    }
+
+    // Whether it goes on, and how it is to end where it doesn't.
+    fn going(&self) -> Going
+        ensures { result ≡ going_at self.now }
+    {
+        match self.state() {
+            SessionState::Closed | SessionState::Failed | SessionState::Broken => {
+                if self.is_clean() {
+                    Going::Over(Status::Done)
+                } else {
+                    Going::Over(Status::CallsFailed)
+                }
+            }
+            _ if self.made == self.turns => Going::Over(Status::TurnsSpent),
+            _ => Going::On,
+        }
+    }
+
+    /// Binds the link to the client's address, and opens a session with the server at the other
+    /// one, with 32 credits, of an endpoint of node 0 with usual limits. `LinkFault` comes exactly
+    /// where a fault of the link came, and `NoMemory` only where there was no memory.
+    pub fn start<L: Link, R: Recorder>(
+        alloc: Global,
+        spec: &LoadSpec,
+        link: &mut L,
+        rec: &mut R,
+    ) -> Result<LoadRun, Status>
+        requires { IsLoadInRange spec.now }
+        ensures starts { IfOk result (StartsAs R.facts R.whole spec.now rec.old rec.new) }
+        ensures sent { L.sent link.new ≡ L.sent link.old }
+        ensures quiet { OnOk result (L.faults link.new ≡ L.faults link.old) }
+        ensures refused { IfErr result (WhyNot (L.faults link.old) (L.faults link.new)) }
+    {
+        if link.bind(spec.bind.as_str()).is_err() {
+            return Err(Status::LinkFault);
+        }
+        let Ok(peer) = link.peer(spec.addr.as_str()) else {
+            return Err(Status::LinkFault);
+        };
+        let Ok(plan) = Plan::of(alloc, spec) else {
+            return Err(Status::NoMemory);
+        };
+        let Ok(mut endpoint) = plain_endpoint(alloc) else {
+            return Err(Status::NoMemory);
+        };
+        let Ok(session) = endpoint.connect(peer, LOAD_CREDITS, 0, rec) else {
+            let_go(endpoint);
+            return Err(Status::NoMemory);
+        };
+        Ok(LoadRun {
+            alloc,
+            endpoint,
+            session,
+            ledger: Ledger {
+                plan,
+                tally: Tally::new(),
+            },
+            asked: 0,
+            turns: spec.turns,
+            made: 0,
+        })
+    }
+
+    /// Makes a turn: where the session is Connected, asks calls until 64 are pending or all are
+    /// asked, and begins to close it where none is pending then; takes one number of the clock, and
+    /// makes one turn of the endpoint. It is over with `LinkFault` exactly where a fault of the
+    /// link came; with `NoMemory` only where there was none for a call that is asked or is over;
+    /// and otherwise exactly where the session is over, with `Done` or `CallsFailed`, or all turns
+    /// are made, with `TurnsSpent`. A turn is made only while some are left.
+    pub fn turn<L: Link, C: Clock, R: Recorder>(
+        &mut self,
+        link: &mut L,
+        clock: &mut C,
+        rec: &mut R,
+    ) -> Going
+        requires left { self.old.made < self.old.turns }
+        ensures loads { UnlessNoMemory result (HasLoaded R.facts R.whole L.received L.waiting C.gave
+            (λ l. record {
+              sent = L.sent l;
+              troubles = record { faults = L.faults l; busies = L.busies l };
+            }) link.old link.new clock.old clock.new self.old self.new rec.old rec.new) }
+        ensures on { UnlessFailed result (LoadsOn R.facts R.whole C.gave (L.sent link.old)
+            (L.sent link.new) clock.old clock.new self.old self.new rec.old rec.new 1) }
+        ensures goes_on { GoesOnBy R.facts R.whole self.old.endpoint self.new.endpoint rec.old
+            rec.new }
+        ensures answers { Answers (L.faults link.old) (L.faults link.new) self.new result }
+    {
+        let Ok(()) = self.prepare(rec) else {
+            return Going::Over(Status::NoMemory);
+        };
+        let mut ended = Ended::new(self.alloc);
+        let turned = take_turn(&mut self.endpoint, link, clock, &mut ended, rec);
+        self.made += 1;
+        match (turned, self.ledger.count(&ended)) {
+            (Err(_), _) => Going::Over(Status::LinkFault),
+            (Ok(_), Err(_)) => Going::Over(Status::NoMemory),
+            (Ok(_), Ok(())) => self.going(),
+        }
+    }
+
+    /// Writes the line of its counts, once the run is over: calls, those that ended well, whose
+    /// answer was too large, that lost their peer, that had a wrong answer, and that weren't asked.
+    /// Tells with which status the run ended, or `WriteFault` exactly where a fault of the sink
+    /// came; a front of the line was then written.
+    pub fn finish<K: Sink>(self, sink: &mut K) -> Status
+        requires over { going_at self ≢ On }
+        ensures { Prints self result (K.written sink.old) (K.written sink.new) (K.faults sink.old)
+            (K.faults sink.new) }
+    {
+        let line = self.line();
+        let going = self.going();
+        self.stop();
+        match (write_counts(sink, &line), going) {
+            (Ok(()), Going::Over(status)) => status,
+            (Ok(()), Going::On) => unreachable!(),
+            (Err(_), _) => Status::WriteFault,
+        }
+    }
+
+    /// Lets the run go, and writes nothing.
+    pub fn stop(self) {
+        let LoadRun { endpoint, .. } = self;
+        let_go(endpoint);
+    }
+
+    // The line of its counts.
+    fn line(&self) -> [Count; 6]
+        ensures { line_text result ≡ calls_line self.now }
+    {
+        let tally = &self.ledger.tally;
+        [
+            Count {
+                word: Word::Calls,
+                number: u64::from(self.ledger.plan.calls),
+            },
+            Count {
+                word: Word::Ok,
+                number: tally.ok,
+            },
+            Count {
+                word: Word::Small,
+                number: tally.small,
+            },
+            Count {
+                word: Word::Lost,
+                number: tally.lost,
+            },
+            Count {
+                word: Word::Wrong,
+                number: tally.wrong,
+            },
+            Count {
+                word: Word::Unasked,
+                number: u64::from(self.unasked()),
+            },
+        ]
+    }
+}

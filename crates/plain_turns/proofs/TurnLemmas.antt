@@ -1,0 +1,207 @@
+-- What a turn of a run tells: its facts, and what they say of the link and of the calls that ended.
+use Rattle.std.proofs.Common.{◌≡◌, ℕ, Bool, true, false, cond, ltb, Option, List, [], ◌∷◌, ◌++◌}
+use Rattle.std.proofs.Common.{length, refl, sym, ap, ap₂, ◌∙◌, subst, arith, append_assoc, append-nil}
+use Rattle.std.specs.Prelude.{map, option_map}
+use Rattle.std.specs.List.{filter}
+use Rattle.client_core.specs.declared.outcome.Done.{Done}
+use Rattle.client_core.specs.Shown.{done_fact}
+use Rattle.endpoint_loop.specs.declared.polling.Turn.{Turn}
+use Rattle.endpoint_loop.specs.Noting.{is_end, sent_by, sent_of}
+use Rattle.endpoint_loop.specs.Polling.{LinkTells}
+use Rattle.endpoint_loop.specs.Running.{asks_of, told}
+use Rattle.endpoint_loop.specs.Turning.{DeliversAll, TakesIn}
+use Rattle.endpoint_loop.proofs.GivingLemmas.{staffed-still}
+use Rattle.endpoint_loop.proofs.NotesLemmas.{ends-append, me-goes}
+use Rattle.endpoint_loop.proofs.PollLemmas.{still-answers}
+use Rattle.endpoint_loop.proofs.StandingLemmas.{delivery-still, goes-polled, is_labour, none-ran, none-worked}
+use Rattle.endpoint_loop.proofs.StandingLemmas.{unworked}
+use Rattle.endpoint_loop.proofs.StillLemmas.{AllStill, still-append}
+use Rattle.endpoint_loop.proofs.TurnLemmas.{many-append, many-none}
+use Rattle.node_laws.specs.NodeRun.{Group, NodeRun, delivers}
+use Rattle.rpc_base.specs.declared.event.Event.{Event}
+use Rattle.rpc_base.specs.declared.event.Event.TheVariants.{Arrived, Bad, Overflowed}
+use Rattle.rpc_base.specs.declared.fact.Fact.{Fact}
+use Rattle.rpc_base.specs.declared.limits.Limits.{Limits}
+use Rattle.rpc_laws.specs.declared.tables.Timed.{Timed}
+use Rattle.rpc_laws.specs.AtMostOnce.{works_request}
+use Rattle.rpc_laws.specs.Facts.{with_bytes}
+use Rattle.rpc_laws.specs.Deliveries.{Delivers, arrival, inbox_room}
+use Rattle.rpc_laws.specs.Front.{is_control, is_message}
+use Rattle.rpc_laws.specs.Service.{Serving, plain_serving, served_after_all}
+use Rattle.rpc_laws.specs.Steps.{more}
+use Rattle.rpc_laws.proofs.AnswerLemmas.{answers-append, served-append}
+use Rattle.rpc_outside.specs.Linking.{Carried}
+use Rattle.rpc_outside.specs.PlainAnswer.{background_answer, plain_mode}
+use Rattle.rpc_outside.specs.PlainStands.{PlainStands}
+use Rattle.rpc_world.specs.Answered.{End}
+use Rattle.rpc_world.specs.Before.{staff_of}
+use Rattle.server_core.proofs.FlushLemmas.{grew-then}
+use Rattle.worker_crew.specs.Local.{Local, out_of}
+use Rattle.plain_turns.specs.PlainTurns.{Stands, TakesTurn, TellsMore, TellsTurn, crew_of, usual_limits}
+
+module _ (v : Serving) (me : ℕ) (limits : Limits) where
+  -- a run, and then a group that runs and works nothing
+  run-more : (g x : List Fact) (s t : Timed) → NodeRun v me limits g s → Group v.mode s x t
+      → AllStill is_labour x → NodeRun v me limits (g ++ x) t
+  run-more g x s t run group still = record {
+    steps = more run.steps x t group;
+    worked_once = λ i r. omega (
+      arith,
+      many-append (works_request i r) g x,
+      many-none (works_request i r) x (unworked i r x (none-worked x still)),
+      run.worked_once i r,
+    );
+    answers = answers-append v [] g x run.answers
+        (still-answers v (served_after_all v.mode [] g) x (none-ran x still)).0;
+  }
+
+  run-delivers : (came : List Carried) (g x : List Fact) (s t : Timed) → NodeRun v me limits g s
+      → DeliversAll came s x t → NodeRun v me limits (g ++ x) t
+  run-delivers [] g x s t run h =
+      rw (h.0, h.1, append-nil g) run
+  run-delivers (d ∷ ds) g x s t run h =
+      rw (h.joined, ← append_assoc g h.front h.back)
+      (run-delivers ds (g ++ h.front) h.back h.between t
+      (run-more g h.front s h.between run (delivers d.0 d.1 h.first) (delivery-still d.0 d.1 s h.front h.between h.first))
+      h.second)
+
+-- datagrams that come run and work nothing, send nothing and end no call
+all-still : (came : List Carried) (s : Timed) (x : List Fact) (t : Timed) → DeliversAll came s x t
+    → AllStill is_labour x
+all-still [] s x t h = rw h.0 tt
+all-still (d ∷ ds) s x t h =
+    rw h.joined
+    (still-append is_labour h.front h.back (delivery-still d.0 d.1 s h.front h.between h.first)
+    (all-still ds h.between h.back t h.second))
+
+-- the fact of a delivery sends nothing and ends no call
+abbrev IsComing : (me : ℕ) → List ℕ → Event → Type 0
+IsComing me bytes e =
+    (sent_of (with_bytes me e bytes ∷ []) ≡ []) × (filter is_end (with_bytes me e bytes ∷ []) ≡ [])
+
+coming : (peer : ℕ) (bytes : List ℕ) (s : Timed) (x : List Fact) (t : Timed) → Delivers peer bytes s x t
+    → (sent_of x ≡ []) × (filter is_end x ≡ [])
+coming peer bytes s x t h = rw h.facts (by (is_message bytes) (is_control bytes))
+  where
+    arrived : (n room : ℕ) → IsComing s.lists.me bytes (arrival n room peer)
+    arrived n room = one (ltb n room)
+      where
+        one : (b : Bool) → IsComing s.lists.me bytes (cond b (Arrived peer) (Overflowed peer))
+        one true = (refl, refl)
+        one false = (refl, refl)
+
+    by : (b c : Bool) → IsComing s.lists.me bytes (cond b (arrival (length s.lists.ring) s.lists.room peer)
+        (cond c (arrival (length s.lists.inbox) inbox_room peer) (Bad peer)))
+    by true c = arrived (length s.lists.ring) s.lists.room
+    by false true = arrived (length s.lists.inbox) inbox_room
+    by false false = (refl, refl)
+
+pub sent-append : (x y : List Fact) → sent_of (x ++ y) ≡ sent_of x ++ sent_of y
+sent-append [] y = refl
+sent-append (f ∷ x) y =
+    ap (λ ds. sent_by f.event f.first f.second ++ ds) (sent-append x y)
+    ∙ sym (append_assoc (sent_by f.event f.first f.second) (sent_of x) (sent_of y))
+
+all-coming : (came : List Carried) (s : Timed) (x : List Fact) (t : Timed) → DeliversAll came s x t
+    → (sent_of x ≡ []) × (filter is_end x ≡ [])
+all-coming [] s x t h = rw h.0 (refl, refl)
+all-coming (d ∷ ds) s x t h =
+    let one = coming d.0 d.1 s h.front h.between h.first in
+    let rest = all-coming ds h.between h.back t h.second in
+    rw h.joined (
+      sent-append h.front h.back ∙ ap₂ (λ (a b : List Carried). a ++ b) one.0 rest.0,
+      ends-append h.front h.back ∙ ap₂ (λ (a b : List Fact). a ++ b) one.1 rest.1,
+    )
+
+me-delivers : (came : List Carried) (s : Timed) (x : List Fact) (t : Timed) → DeliversAll came s x t
+    → t.lists.me ≡ s.lists.me
+me-delivers [] s x t h = ap (λ (u : Timed). u.lists.me) h.1
+me-delivers (d ∷ ds) s x t h =
+    me-delivers ds h.between h.back t h.second ∙ me-goes s h.between h.front h.first.goes
+
+-- datagrams come in
+module _ {R : Type 0} (facts : R → Option (List Fact)) (whole : R → Bool) (came : List Carried) (a b : End)
+    (f g : R) (h : TakesIn facts whole came a b f g) where
+  takes-step : DeliversAll came (told (out_of a.workers) a.timed) h.delivers.noted
+      (told (out_of a.workers) b.timed)
+  takes-step = h.delivers.step (asks_of (out_of a.workers))
+
+  takes-me : b.timed.lists.me ≡ a.timed.lists.me
+  takes-me = me-delivers came (told (out_of a.workers) a.timed) h.delivers.noted
+      (told (out_of a.workers) b.timed) takes-step
+
+  takes-stands : (past : List Fact) → Stands past a → Stands (past ++ h.delivers.noted) b
+  takes-stands past s =
+      let run = run-delivers plain_serving a.timed.lists.me usual_limits came past h.delivers.noted
+      (told (out_of a.workers) a.timed) (told (out_of a.workers) b.timed) s.run takes-step in
+      let me = takes-me in
+      let still = all-still came (told (out_of a.workers) a.timed) h.delivers.noted
+      (told (out_of a.workers) b.timed) takes-step in
+      let none = still-answers plain_serving (served_after_all plain_mode [] past) h.delivers.noted
+      (none-ran h.delivers.noted still) in
+      record {
+        run = subst (λ (w : Local). NodeRun plain_serving b.timed.lists.me usual_limits
+            (past ++ h.delivers.noted) (told (out_of w) b.timed)) (sym h.leaves.workers)
+            (subst (λ m. NodeRun plain_serving m usual_limits (past ++ h.delivers.noted)
+            (told (out_of a.workers) b.timed)) (sym me) run);
+        serves = subst (PlainStands b.service) (sym (served-append plain_mode [] past h.delivers.noted ∙ none.1))
+            (rw h.leaves.service s.serves);
+        staffed = rw h.leaves.workers (staffed-still background_answer (asks_of (out_of a.workers))
+            (staff_of a.workers) a.timed b.timed h.leaves.jobs s.staffed);
+      }
+
+-- what a turn tells, of which it is known what it is
+module _ {R L C K : Type 0} (facts : R → Option (List Fact)) (whole : R → Bool)
+    (received waiting : L → Option (List Carried)) (given : K → List Done → Type 0)
+    (gave : C → List ℕ → Type 0) (turn : Option Turn) (tells : L → LinkTells) (link then_link : L)
+    (clock then_clock : C) (old new : End) (before later : R) (from to : K)
+    (h : TakesTurn facts whole received waiting given gave turn tells link then_link clock then_clock
+    old new before later from to) where
+  abbrev first : List Fact
+  first = h.turns.takes.delivers.noted
+
+  abbrev second : List Fact
+  second = h.turns.polls.noted
+
+  between-stands : (past : List Fact) → Stands past old → Stands (past ++ first) h.turns.between
+  between-stands past s =
+      takes-stands facts whole h.turns.came h.ready h.turns.between before h.turns.mid h.turns.takes
+      past (h.works.stands usual_limits past s)
+
+  polled : (past : List Fact) → Stands (past ++ first) h.turns.between
+      → Stands ((past ++ first) ++ second) new
+  unfolding goes-polled
+  polled past s =
+      (goes-polled facts whole given crew_of plain_serving PlainStands background_answer
+      h.turns.polled h.now h.turns.mid_link (tells then_link) h.turns.between new h.turns.mid later
+      from to h.turns.polls).goes_on usual_limits (past ++ first) s
+
+  more-told : (past : List Fact) → Stands past old
+      → TellsMore given (tells link).sent (tells then_link).sent old.timed.lists.me (first ++ second) from to
+  more-told past s =
+      let mid = between-stands past s in
+      let told_of = (h.turns.polls.does mid.staffed).1 in
+      let quiet = all-coming h.turns.came _ first _
+      (takes-step facts whole h.turns.came h.ready h.turns.between before h.turns.mid h.turns.takes) in
+      let me : h.turns.between.timed.lists.me ≡ old.timed.lists.me =
+      takes-me facts whole h.turns.came h.ready h.turns.between before h.turns.mid h.turns.takes
+      ∙ ap (λ (t : Timed). t.lists.me) h.works.timed in
+      record {
+        dones = told_of.dones;
+        ends = ends-append first second ∙ ap (λ ends. ends ++ filter is_end second) quiet.1
+            ∙ told_of.ends ∙ ap (λ m. map (done_fact m) told_of.dones) me;
+        gave = told_of.gave;
+        sends = told_of.took ∙ ap (option_map (λ ds. ds ++ sent_of second)) h.turns.receives.sent
+            ∙ ap (λ sent. option_map (λ ds. ds ++ sent) (tells link).sent)
+            (sym (sent-append first second ∙ ap (λ sent. sent ++ sent_of second) quiet.0));
+      }
+
+  pub turn-tells : TellsTurn facts whole given (tells link).sent (tells then_link).sent old new before later from to
+  turn-tells = record {
+    noted = first ++ second;
+    grew = grew-then facts whole before h.turns.mid later first second h.turns.takes.delivers.grew
+        h.turns.polls.grew;
+    goes_on = λ past s.
+        subst (λ z. Stands z new) (append_assoc past first second) (polled past (between-stands past s));
+    told = more-told;
+  }

@@ -1,0 +1,129 @@
+-- Turns of a server, one after another.
+use Rattle.std.proofs.Common.{◌≡◌, inl, inr, ℕ, ◌+◌, ◌<◌, Bool, true, false, Option, List, [], ◌++◌, refl, ap, subst, ◌∙◌, arith}
+use Rattle.std.specs.Prelude.{◌==◌, option_map}
+use Rattle.endpoint_loop.specs.Noting.{sent_of}
+use Rattle.std.proofs.lemmas.Bool.{eqb-false, eqb-true}
+use Rattle.endpoint_loop.specs.Polling.{LinkTells}
+use Rattle.plain_turns.proofs.RunLemmas.{none-made, runs-then}
+use Rattle.plain_turns.specs.PlainTurns.{RunsOn, Stands}
+use Rattle.rpc_base.specs.declared.fact.Fact.{Fact}
+use Rattle.rpc_outside.specs.Faults.{HasRisen}
+use Rattle.run_status.specs.declared.going.Going.{Going}
+use Rattle.run_status.specs.declared.going.Going.TheVariants.{On, Over}
+use Rattle.run_status.specs.declared.status.Status.{Status}
+use Rattle.run_status.specs.declared.status.Status.TheVariants as statuses
+use Rattle.serve_run.specs.Serving.{Answers, HasRun, Serves, ServesOn, ServesSoFar, TurnsEnd}
+use Rattle.serve_run.specs.Serving.{Writes, one_more, turns_line}
+
+module _ {R L C : Type 0} (facts : R → Option (List Fact)) (whole : R → Bool)
+    (gave : C → List ℕ → Type 0) (tells : L → LinkTells) where
+  pub serves-none : (link : L) (clock : C) (run : ServesSoFar) (f : R)
+      → ServesOn facts whole gave tells link link clock clock run run f f
+  serves-none link clock run f = record {
+    many = 0;
+    made = omega arith;
+    turns = refl;
+    runs = none-made facts whole gave (tells link).sent clock run.endpoint f;
+    quiet = refl;
+  }
+
+  -- one turn more
+  pub serves-more : (link mid then_link : L) (clock via then_clock : C) (old run new : ServesSoFar)
+      (f g h : R) → ServesOn facts whole gave tells link mid clock via old run f g
+      → RunsOn facts whole gave (tells mid).sent (tells then_link).sent via then_clock run.endpoint
+      new.endpoint g h 1
+      → new ≡ one_more new.endpoint run
+      → (tells then_link).troubles.faults ≡ (tells mid).troubles.faults
+      → ServesOn facts whole gave tells link then_link clock then_clock old new f h
+  serves-more link mid then_link clock via then_clock old run new f g h on one is quiet = record {
+    many = on.many + 1;
+    made =
+        let count = ap (λ (s : ServesSoFar). s.made) is in
+        omega (arith, on.made, count);
+    turns = ap (λ (s : ServesSoFar). s.turns) is ∙ on.turns;
+    runs = runs-then facts whole gave (tells link).sent (tells mid).sent (tells then_link).sent clock
+        via then_clock old.endpoint run.endpoint new.endpoint f g h on.many 1 on.runs one;
+    quiet = quiet ∙ on.quiet;
+  }
+
+module _ {R L C : Type 0} (facts : R → Option (List Fact)) (whole : R → Bool)
+    (gave : C → List ℕ → Type 0) (tells : L → LinkTells) (link mid then_link : L)
+    (clock via then_clock : C) (old run new : ServesSoFar) (f g h : R)
+    (on : ServesOn facts whole gave tells link mid clock via old run f g)
+    (one : RunsOn facts whole gave (tells mid).sent (tells then_link).sent via then_clock run.endpoint
+    new.endpoint g h 1) (is : new ≡ one_more new.endpoint run) where
+  -- the run is over
+  pub turns-over : (status : Status)
+      → Answers (tells mid).troubles.faults (tells then_link).troubles.faults new (Over status)
+      → TurnsEnd status facts whole gave tells link then_link clock then_clock old new f h
+  turns-over status (inl (same, risen)) =
+      let failed : status ≡ statuses.LinkFault = cc in
+      rw failed (subst (λ n. HasRisen n (tells then_link).troubles.faults) on.quiet risen)
+  turns-over status (inr (same, quiet)) = by (new.made == new.turns) refl
+    where
+      by : (b : Bool) → (new.made == new.turns) ≡ b
+          → TurnsEnd status facts whole gave tells link then_link clock then_clock old new f h
+      by true e =
+          let told : Over status ≡ Over statuses.Done = rw e at same in
+          let done : status ≡ statuses.Done = cc in
+          rw done (
+            eqb-true new.made new.turns e,
+            serves-more facts whole gave tells link mid then_link clock via then_clock old run new f g h
+                on one is quiet,
+          )
+      by false e = let told : Over status ≡ On = rw e at same in cc
+
+  -- it goes on: turns are left, and the link didn't fail
+  pub turns-on : run.made < run.turns → (going : Going) → ((status : Status) → going ≡ Over status → ⊥)
+      → Answers (tells mid).troubles.faults (tells then_link).troubles.faults new going
+      → ServesOn facts whole gave tells link then_link clock then_clock old new f h × (new.made < new.turns)
+  turns-on left going not (inl (same, risen)) = absurd (not statuses.LinkFault same)
+  turns-on left going not (inr (same, quiet)) = by (new.made == new.turns) refl
+    where
+      by : (b : Bool) → (new.made == new.turns) ≡ b
+          → ServesOn facts whole gave tells link then_link clock then_clock old new f h
+          × (new.made < new.turns)
+      by true e = absurd (not statuses.Done (rw e at same))
+      by false e =
+          let made = ap (λ (s : ServesSoFar). s.made) is in
+          let turns = ap (λ (s : ServesSoFar). s.turns) is in
+          let other = eqb-false new.made new.turns e in (
+            serves-more facts whole gave tells link mid then_link clock via then_clock old run new f g h
+                on one is quiet,
+            omega (arith, left, made, turns, other),
+          )
+
+module _ {R L C : Type 0} (facts : R → Option (List Fact)) (whole : R → Bool)
+    (gave : C → List ℕ → Type 0) (tells : L → LinkTells) (turns : ℕ) (link via then_link : L)
+    (clock then_clock : C) (fresh new : ServesSoFar) (f h : R) (few : fresh.turns ≡ turns)
+    (none : fresh.made ≡ 0) (stands : Stands [] fresh.endpoint)
+    (unsent : (tells via).sent ≡ (tells link).sent)
+    (quiet : (tells via).troubles.faults ≡ (tells link).troubles.faults) where
+  -- all turns were made
+  pub has-run : new.made ≡ new.turns
+      → ServesOn facts whole gave tells via then_link clock then_clock fresh new f h
+      → HasRun facts whole gave tells turns link then_link clock then_clock f h
+      (turns_line new.turns new.endpoint.timed.lists.counts)
+  has-run all on = record {
+    endpoint = new.endpoint;
+    noted = on.runs.noted;
+    grew = on.runs.grew;
+    stands = on.runs.goes_on [] stands;
+    sent = on.runs.sends [] stands ∙ ap (option_map (λ ds. ds ++ sent_of on.runs.noted)) unsent;
+    times = on.runs.times;
+    count = let many = on.runs.count in omega (arith, many, on.made, on.turns, few, none, all);
+    ticks = on.runs.ticks;
+    quiet = on.quiet ∙ quiet;
+    counts = ap (λ n. turns_line n new.endpoint.timed.lists.counts) (on.turns ∙ few);
+  }
+
+  -- and the line was written, or a front of it
+  pub ends-well : (told : Status) (old later : Option (List ℕ)) (read again : ℕ) → new.made ≡ new.turns
+      → ServesOn facts whole gave tells via then_link clock then_clock fresh new f h
+      → Writes told (turns_line new.turns new.endpoint.timed.lists.counts) old later read again
+      → Serves told facts whole gave tells turns link then_link clock then_clock f h old later read again
+  ends-well statuses.Done old later read again all on wrote =
+      (turns_line new.turns new.endpoint.timed.lists.counts, has-run all on, wrote)
+  ends-well statuses.WriteFault old later read again all on wrote =
+      (turns_line new.turns new.endpoint.timed.lists.counts, has-run all on, wrote)
+  ends-well _ old later read again all on wrote = absurd wrote

@@ -1,0 +1,18 @@
+-- one turn of the endpoint
+use Rattle.endpoint_loop.specs.Polling.{turn_of}
+use Rattle.plain_turns.proofs.RunLemmas.{one-made}
+use Rattle.serve_run.proofs.run.ServeRun.turn.Goals as goal
+
+pub returns-clause-serves : goal.returns-clause-serves
+returns-clause-serves g c = rw (← c.self.view_is) (record {
+  told = turn_of c.take_turn-turned.result;
+  from = record {};
+  to = c.take_turn-turned.new.k;
+  takes = c.take_turn-turned.ensures.takes;
+})
+
+pub returns-clause-tells : goal.returns-clause-tells
+returns-clause-tells g c =
+    rw (← c.self.view_is)
+    (one-made g.R.Recorder.facts g.R.Recorder.whole g.C.Clock.gave _ _ _ _ _ _ _ _ _ _ _ _
+    c.take_turn-turned.ensures.tells c.take_turn-turned.ensures.takes.ticks)

@@ -1,0 +1,28 @@
+-- the turns of a run
+use Rattle.serve_run.proofs.ServingLemmas.{serves-none, turns-on, turns-over}
+use Rattle.serve_run.proofs.serving.turn_all.Goals as goal
+
+pub turns-init : goal.turns-init
+turns-init g c = (
+  serves-none g.R.Recorder.facts g.R.Recorder.whole g.C.Clock.gave (λ l. record {
+    sent = g.L.Link.sent l;
+    troubles = record { faults = g.L.Link.faults l; busies = g.L.Link.busies l };
+  }) _ _ _ _,
+  c.requires.left,
+)
+
+pub returns-in-Over : goal.returns-in-Over
+returns-in-Over g c =
+    turns-over g.R.Recorder.facts g.R.Recorder.whole g.C.Clock.gave (λ l. record {
+      sent = g.L.Link.sent l;
+      troubles = record { faults = g.L.Link.faults l; busies = g.L.Link.busies l };
+    }) _ _ _ _ _ _ _ _ _ _ _ _ c.turns.invariant.0 c.turn.ensures.tells c.turn.ensures.counted
+    c.in-Over.status (rw c.in-Over.is at c.turn.ensures.answers)
+
+pub turns-preserved : goal.turns-preserved
+turns-preserved g c =
+    turns-on g.R.Recorder.facts g.R.Recorder.whole g.C.Clock.gave (λ l. record {
+      sent = g.L.Link.sent l;
+      troubles = record { faults = g.L.Link.faults l; busies = g.L.Link.busies l };
+    }) _ _ _ _ _ _ _ _ _ _ _ _ c.turns.invariant.0 c.turn.ensures.tells c.turn.ensures.counted
+    c.turns.invariant.1 c.turn.result c.in_default.not-Over c.turn.ensures.answers

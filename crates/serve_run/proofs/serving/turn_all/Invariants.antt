@@ -1,0 +1,15 @@
+-- turns were made, and some are left
+use Rattle.std.proofs.Common.{◌<◌, ◌-◌}
+use Rattle.serve_run.specs.Serving.{ServesOn}
+use Rattle.serve_run.proofs.serving.turn_all.Given as goal
+
+abbrev pub invariant-turns : goal.invariant-turns
+invariant-turns g l =
+    ServesOn g.R.Recorder.facts g.R.Recorder.whole g.C.Clock.gave (λ l. record {
+      sent = g.L.Link.sent l;
+      troubles = record { faults = g.L.Link.faults l; busies = g.L.Link.busies l };
+    }) l.initial.link l.link l.initial.clock l.clock l.initial.run l.run l.initial.rec l.rec
+    × (l.run.made < l.run.turns)
+
+abbrev pub decreases-turns : goal.decreases-turns
+decreases-turns g l = l.run.turns - l.run.made

@@ -1,0 +1,165 @@
+//! A run of a server.
+ghost use Rattle.std.specs.Prelude.{◌≡◌, ◌+◌, ◌≤◌, ◌<◌, [], IfOk, IfErr, OnOk};
+ghost use Rattle.plain_turns.specs.PlainTurns.{GoesOnBy, RunsOn, Stands, WhyNot};
+ghost use Rattle.rpc_outside.specs.Linking.{NoneComes};
+ghost use Rattle.serve_run.specs.Serving.{Answers, HasServed, Prints, Writes, one_more};
+ghost use Rattle.serve_run.specs.Serving.{turns_line};
+
+use client_core::Done;
+use command_line::ServeSpec;
+use count_line::{Count, Word, write_counts};
+use endpoint_loop::Continuation;
+use plain_turns::{PlainEndpoint, let_go, plain_endpoint, take_turn};
+use rpc_laws::Counted;
+use rpc_outside::{Clock, Link, Recorder, Sink};
+use run_status::{Going, Status};
+use std::alloc::Global;
+use std::marker::Model;
+
+/// A server asks no calls.
+#[derive(Clone, Copy)]
+struct NoCalls;
+
+impl Continuation for NoCalls {
+    ghost use Rattle.std.specs.Prelude.{⊤};
+
+    ghost given = { λ _ _. ⊤ };
+
+    fn done(&mut self, _done: Done) {}
+}
+
+/// A server's endpoint, with its turns counted.
+#[derive(Drop)]
+pub struct ServeRun {
+    endpoint: PlainEndpoint,
+    turns: u32,
+    made: u32,
+}
+
+impl Model for ServeRun {
+    ghost use Rattle.std.specs.Prelude.{◌≤◌};
+    ghost use Rattle.serve_run.specs.Serving.{ServesSoFar};
+
+    ghost Value = { ServesSoFar };
+
+    ghost view = { λ r. record { endpoint = r.endpoint; turns = r.turns; made = r.made } };
+
+    ghost invariant = { λ r. r.made ≤ r.turns };
+}
+
+// Writes the line of a server's counts.
+fn write_turns<K: Sink>(sink: &mut K, turns: u32, counts: &Counted) -> Status
+    ensures { Writes result (turns_line turns counts.now) (K.written sink.old) (K.written sink.new)
+        (K.faults sink.old) (K.faults sink.new) }
+{
+    let line = [
+        Count {
+            word: Word::Turns,
+            number: u64::from(turns),
+        },
+        Count {
+            word: Word::Ran,
+            number: counts.ran,
+        },
+        Count {
+            word: Word::Given,
+            number: counts.given,
+        },
+        Count {
+            word: Word::Dropped,
+            number: counts.dropped,
+        },
+        Count {
+            word: Word::Overflowed,
+            number: counts.overflowed,
+        },
+    ];
+    match write_counts(sink, &line) {
+        Ok(()) => Status::Done,
+        Err(_) => Status::WriteFault,
+    }
+}
+
+impl ServeRun {
+    /// Binds the link to the address, for an endpoint of node 0 with usual limits. `LinkFault` comes
+    /// exactly where a fault of the link came, and `NoMemory` only where there was no memory.
+    pub fn start<L: Link>(alloc: Global, spec: &ServeSpec, link: &mut L) -> Result<ServeRun, Status>
+        requires some { 1 ≤ spec.now.turns }
+        requires alone { spec.now.workers ≡ 0 }
+        ensures turns { IfOk result (λ r. (r.turns ≡ spec.now.turns) × (r.made ≡ 0)) }
+        ensures stands { IfOk result (λ r. Stands [] r.endpoint) }
+        ensures refused { IfErr result (WhyNot (L.faults link.old) (L.faults link.new)) }
+        ensures quiet { OnOk result (L.faults link.new ≡ L.faults link.old) }
+        ensures sent { L.sent link.new ≡ L.sent link.old }
+        ensures lists { NoneComes L.waiting L.received link.old link.new }
+        ensures busies { L.busies link.new ≡ L.busies link.old }
+    {
+        if link.bind(spec.addr.as_str()).is_err() {
+            return Err(Status::LinkFault);
+        }
+        let Ok(endpoint) = plain_endpoint(alloc) else {
+            return Err(Status::NoMemory);
+        };
+        Ok(ServeRun {
+            endpoint,
+            turns: spec.turns,
+            made: 0,
+        })
+    }
+
+    /// Makes a turn: works the jobs that wait, takes one number of the clock, and makes one turn of
+    /// the endpoint then. It is over with `LinkFault` exactly where a fault of the link came, and
+    /// otherwise with `Done` exactly where this was the last turn. A turn is made only while some
+    /// are left.
+    pub fn turn<L: Link, C: Clock, R: Recorder>(
+        &mut self,
+        link: &mut L,
+        clock: &mut C,
+        rec: &mut R,
+    ) -> Going
+        requires left { self.old.made < self.old.turns }
+        ensures serves { HasServed R.facts R.whole L.received L.waiting C.gave (λ l. record {
+          sent = L.sent l;
+          troubles = record { faults = L.faults l; busies = L.busies l };
+        }) link.old link.new clock.old clock.new self.old.endpoint self.new.endpoint
+            rec.old rec.new }
+        ensures tells { RunsOn R.facts R.whole C.gave (L.sent link.old) (L.sent link.new) clock.old
+            clock.new self.old.endpoint self.new.endpoint rec.old rec.new 1 }
+        ensures counted { self.new ≡ one_more self.new.endpoint self.old }
+        ensures goes_on { GoesOnBy R.facts R.whole self.old.endpoint self.new.endpoint rec.old
+            rec.new }
+        ensures answers { Answers (L.faults link.old) (L.faults link.new) self.new result }
+    {
+        let turned = take_turn(&mut self.endpoint, link, clock, &mut NoCalls, rec);
+        self.made += 1;
+        match turned {
+            Err(_) => Going::Over(Status::LinkFault),
+            Ok(_) if self.made == self.turns => Going::Over(Status::Done),
+            Ok(_) => Going::On,
+        }
+    }
+
+    /// Writes the line of its counts, once all turns are made: turns, handlers that ran, jobs given,
+    /// packets dropped and datagrams overflowed. `WriteFault` comes exactly where a fault of the
+    /// sink came; a front of the line was then written.
+    pub fn finish<K: Sink>(self, sink: &mut K) -> Status
+        requires over { self.made ≡ self.turns }
+        ensures { Prints self result (K.written sink.old) (K.written sink.new) (K.faults sink.old)
+            (K.faults sink.new) }
+    {
+        let ServeRun {
+            endpoint,
+            turns,
+            ..
+        } = self;
+        let counts = endpoint.counts();
+        let_go(endpoint);
+        write_turns(sink, turns, &counts)
+    }
+
+    /// Lets the run go, and writes nothing.
+    pub fn stop(self) {
+        let ServeRun { endpoint, .. } = self;
+        let_go(endpoint);
+    }
+}
