@@ -20,6 +20,7 @@ use Rattle.rpc_base.specs.declared.fact.Fact.{Fact}
 use Rattle.rpc_base.specs.declared.fact.Who.{Who}
 use Rattle.rpc_base.specs.declared.fact.Who.TheVariants.{Node, Net}
 use Rattle.rpc_base.specs.declared.owner.Owner.TheVariants.{Control}
+use Rattle.rpc_base.proofs.PlaceLemmas.{set-other}
 use Rattle.rpc_laws.specs.declared.tables.Client.{Client}
 use Rattle.rpc_laws.specs.declared.tables.InFlight.{InFlight}
 use Rattle.rpc_laws.specs.declared.tables.Lists.{Lists}
@@ -40,7 +41,7 @@ use Rattle.end_laws.proofs.GoodSteps.{good-net, good-made, good-node}
 use Rattle.end_laws.proofs.Known.{Known, Speaks, Tells, RepliesBy, Good, contains-more}
 use Rattle.end_laws.proofs.LetGoSteps.{GoneFrom, KinAll, clients-kin, gone-kin, kin-added, kin-same}
 use Rattle.end_laws.proofs.LetGoSteps.{sent-gone}
-use Rattle.end_laws.proofs.ListLemmas.{Placed, add-placed, all-map, length-slice_set, set-other}
+use Rattle.end_laws.proofs.ListLemmas.{Placed, add-placed, all-map, length-slice_set}
 use Rattle.end_laws.proofs.ListLemmas.{set-placed}
 use Rattle.end_laws.proofs.OwnLaw.{good-paired}
 use Rattle.end_laws.proofs.SendsLaw.{AllRight, right-made, right-net, right-noted, right-paired}

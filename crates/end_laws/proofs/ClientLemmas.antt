@@ -26,6 +26,7 @@ use Rattle.rpc_base.specs.declared.state.SessionState.TheVariants.{Connecting, C
 use Rattle.rpc_base.specs.declared.state.SessionState.TheVariants.{Failed}
 use Rattle.packet_header.specs.declared.packet.ControlHeader.{ControlHeader}
 use Rattle.rpc_base.specs.declared.owner.Owner.TheVariants.{Ask, Reply, Control}
+use Rattle.rpc_base.proofs.PlaceLemmas.{all-at}
 use Rattle.rpc_laws.specs.declared.tables.Arrival.{Arrival}
 use Rattle.rpc_laws.specs.declared.tables.Asking.{Asking}
 use Rattle.rpc_laws.specs.declared.tables.Call.{Call}
@@ -46,7 +47,7 @@ use Rattle.node_laws.proofs.Allowed.{Allowed as Lawful}
 use Rattle.end_laws.proofs.Allowed.{Fronts, MayTakeReply, MayBreak, May}
 use Rattle.end_laws.proofs.Known.{Known, HasRun, Says, Speaks, GoodAnswer, GoodProgress, GoodCall}
 use Rattle.end_laws.proofs.Known.{is_joined, IsJoined, Tied, GoodClient, Begin, Run}
-use Rattle.end_laws.proofs.ListLemmas.{Placed, first-each, find-at, all-first, all-at, all-without}
+use Rattle.end_laws.proofs.ListLemmas.{Placed, first-each, find-at, all-first, all-without}
 
 -- facts that add nothing to the logs
 abbrev pub is_quiet : Event → Bool

@@ -6,7 +6,6 @@ use Rattle.std.proofs.Common.{◌⊎◌, inl, inr, Some, slice_get}
 use Rattle.rpc_laws.specs.declared.tables.Server.{Server}
 use Rattle.rpc_laws.specs.Requests.{is_server}
 use Rattle.end_laws.proofs.Known.{End, LiveAt}
-use Rattle.end_laws.proofs.ListLemmas.{set-here}
 use Rattle.std.proofs.lemmas.List.{length-append}
 use Rattle.std.proofs.lemmas.Option.{slice_get_within}
 use Rattle.rpc_base.specs.declared.event.Event.{Event}
@@ -17,6 +16,7 @@ use Rattle.rpc_base.specs.declared.owner.Owner.TheVariants.{Ask, Reply, Control}
 use Rattle.rpc_base.specs.declared.fact.Fact.{Fact}
 use Rattle.rpc_base.specs.declared.fact.Who.{Who}
 use Rattle.rpc_base.specs.declared.fact.Who.TheVariants.{Node, Net}
+use Rattle.rpc_base.proofs.PlaceLemmas.{all-at, set-here}
 use Rattle.rpc_laws.specs.declared.tables.InFlight.{InFlight}
 use Rattle.rpc_laws.specs.declared.tables.Lists.{Lists}
 use Rattle.rpc_laws.specs.BufferSafety.{nodes_at}
@@ -38,7 +38,7 @@ use Rattle.end_laws.proofs.Courses.{AtNode, moved-node}
 use Rattle.end_laws.proofs.GoodLemmas.{SameAt, node-more, noting-same, unmade-noting, own-fact, node-quiet}
 use Rattle.end_laws.proofs.Known.{Known, Later, Speaks, GoodNode, Good, IsTrue, Unmade, noting, later-noting}
 use Rattle.end_laws.proofs.KnownLemmas.{speaks-later, true-noting}
-use Rattle.end_laws.proofs.ListLemmas.{Placed, set-placed, add-placed, length-slice_set, all-at}
+use Rattle.end_laws.proofs.ListLemmas.{Placed, set-placed, add-placed, length-slice_set}
 use Rattle.end_laws.proofs.QueueLemmas.{QueueRight, RightNode}
 use Rattle.end_laws.proofs.RanLemmas.{run-of, with_run, later-run, run-same, true-run, is-new, run-node}
 use Rattle.end_laws.proofs.SaysLemmas.{sent-speaks, said-speaks}

@@ -3,6 +3,7 @@ use Rattle.std.proofs.Common.{◌≡◌, ◌≤◌, ℕ, zero, suc, List, [], �
 use Rattle.std.proofs.Common.{refl, sym, ap, ◌∙◌, subst}
 use Rattle.std.specs.List.{slice_set}
 use Rattle.rpc_base.specs.declared.fact.Fact.{Fact}
+use Rattle.rpc_base.proofs.PlaceLemmas.{set-here, set-other}
 use Rattle.network_model.specs.declared.stage.Stage.{Stage}
 use Rattle.rpc_laws.specs.declared.tables.Lists.{Lists}
 use Rattle.rpc_laws.specs.declared.tables.Timed.{Timed}
@@ -16,7 +17,7 @@ use Rattle.end_laws.specs.Moments.{Moment}
 use Rattle.end_laws.specs.Moments.{hand_noted}
 use Rattle.end_laws.proofs.Allowed.{WalksFrom}
 use Rattle.end_laws.proofs.Courses.{latest, AtNode, Course, over, at_node, course-append, noted_at, moved-node}
-use Rattle.end_laws.proofs.ListLemmas.{Placed, set-here, set-other, set-placed, length-slice_set}
+use Rattle.end_laws.proofs.ListLemmas.{Placed, set-placed, length-slice_set}
 use Rattle.end_laws.proofs.QueueLemmas.{RightNode}
 
 -- a node as the moment has it

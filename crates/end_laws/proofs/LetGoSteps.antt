@@ -41,6 +41,7 @@ use Rattle.rpc_laws.specs.declared.tables.Way.{Way}
 use Rattle.rpc_laws.specs.Sessions.{breaks}
 use Rattle.node_laws.proofs.NumberLemmas.{numbered-at, numbered-found}
 use Rattle.node_laws.specs.Valid.{Valid, client_no}
+use Rattle.node_laws.proofs.ControlLemmas.{unless-disowns}
 use Rattle.end_laws.specs.Handshakes.{IsLetGo}
 use Rattle.end_laws.proofs.Allowed.{AsksAt}
 use Rattle.end_laws.proofs.ListLemmas.{add-keeps, find-at}
@@ -272,10 +273,6 @@ closing-gone x t e = record {
 }
 
 -- a session that disowns a server session isn't connected with it
-kept-no : (b : Bool) → cond b Ignores Disowns ≡ Disowns → b ≡ false
-kept-no true e = cc
-kept-no false e = refl
-
 apart-by : (other t : ℕ) → (other == t) ≡ false → other ≡ t → ⊥
 apart-by other t e same = false-true (sym e ∙ eq-eqb other t same)
 
@@ -287,8 +284,10 @@ disown-state Connecting limit other t e = connecting-no (0 == limit) t e
     connecting-no : {A : Type 0} (b : Bool) (t : ℕ) → cond b (Connects t) Ignores ≡ Disowns → A
     connecting-no true t e = cc
     connecting-no false t e = cc
-disown-state Connected limit other t e = (λ o. cc, λ c. apart-by other t (kept-no (other == t) e))
-disown-state Spent limit other t e = (λ o. cc, λ c. apart-by other t (kept-no (other == t) e))
+disown-state Connected limit other t e =
+    (λ o. cc, λ c. apart-by other t (unless-disowns (other == t) e))
+disown-state Spent limit other t e =
+    (λ o. cc, λ c. apart-by other t (unless-disowns (other == t) e))
 disown-state Closing limit other t e = (λ o. cc, λ c. false-true c)
 disown-state Unknown limit other t e = (λ o. cc, λ c. false-true c)
 disown-state Closed limit other t e = (λ o. cc, λ c. false-true c)

@@ -6,20 +6,9 @@ use Rattle.std.specs.List.{slice_set, find, AllByRecursion}
 use Rattle.std.proofs.lemmas.Bool.{eqb-true, eqb-false}
 use Rattle.rpc_base.specs.Tables.{at_first, without_first}
 use Rattle.rpc_base.proofs.BasicLemmas.{false-true}
+use Rattle.rpc_base.proofs.PlaceLemmas.{set-here, set-other}
 
 module _ {A : Type 0} where
-  pub set-here : (xs : List A) (i : ℕ) (x y : A) → slice_get xs i ≡ Some x → slice_get (slice_set xs i y) i ≡ Some y
-  set-here [] i x y h = cc
-  set-here (z ∷ zs) zero x y h = refl
-  set-here (z ∷ zs) (suc i) x y h = set-here zs i x y h
-
-  pub set-other : (xs : List A) (i j : ℕ) (y : A) → (j ≡ i → ⊥) → slice_get (slice_set xs i y) j ≡ slice_get xs j
-  set-other [] i j y h = refl
-  set-other (z ∷ zs) zero zero y h = absurd (h refl)
-  set-other (z ∷ zs) zero (suc j) y h = refl
-  set-other (z ∷ zs) (suc i) zero y h = refl
-  set-other (z ∷ zs) (suc i) (suc j) y h = set-other zs i j y (λ e. h (ap suc e))
-
   pub length-slice_set : (xs : List A) (i : ℕ) (y : A) → length (slice_set xs i y) ≡ length xs
   length-slice_set [] i y = refl
   length-slice_set (z ∷ zs) zero y = refl
@@ -197,11 +186,6 @@ module _ {A : Type 0} where
       → AllByRecursion P (without_first p xs)
   all-without P p [] h = tt
   all-without P p (z ∷ zs) h = all-without-cons P p z zs (p z) h.0 h.1 (all-without P p zs h.1)
-
-  pub all-at : (P : A → Type 0) (xs : List A) (i : ℕ) (x : A) → AllByRecursion P xs → slice_get xs i ≡ Some x → P x
-  all-at P [] i x h e = cc
-  all-at P (z ∷ zs) zero x h e = let same : z ≡ x = some-same z x e in rw (← same) h.0
-  all-at P (z ∷ zs) (suc i) x h e = all-at P zs i x h.1 e
 
   -- what is found, where the first that passes another test changes
   pub record Changed (p : A → Bool) (f : A → A) (xs : List A) (v : A) (found : Option A) : Type 0 where

@@ -4,7 +4,7 @@ use Rattle.std.proofs.Common.{length, map, Option, Some, None, slice_get, refl, 
 use Rattle.std.proofs.Common.{eqb, nat_lt}
 use Rattle.std.specs.Prelude.{flat_map, option_and_then, option_map}
 use Rattle.std.specs.List.{find, AllByRecursion}
-use Rattle.end_laws.proofs.ListLemmas.{all-add, all-append, all-at, all-first}
+use Rattle.end_laws.proofs.ListLemmas.{all-add, all-append, all-first}
 use Rattle.packet_header.specs.Reading.{body_of}
 use Rattle.packet_header.specs.declared.packet.ControlHeader.{ControlHeader}
 use Rattle.packet_header.specs.declared.packet.Kind.{Kind}
@@ -84,6 +84,7 @@ use Rattle.rpc_laws.specs.Sessions.{clients_after, is_client, is_connected, is_l
 use Rattle.rpc_laws.specs.Steps.{Chain, Goes, more, none, NotesAll, NotesNext, Rel, Then, Until, Visits}
 use Rattle.rpc_outside.specs.declared.service.Mode.{Mode}
 use Rattle.rpc_base.proofs.BasicLemmas.{false-true}
+use Rattle.rpc_base.proofs.PlaceLemmas.{all-at}
 
 abbrev pub is_work : Event → Bool
 is_work (Worked t r) = true

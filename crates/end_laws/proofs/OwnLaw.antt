@@ -7,12 +7,12 @@ use Rattle.std.proofs.lemmas.Bool.{eq-eqb}
 use Rattle.rpc_laws.specs.Requests.{is_server}
 use Rattle.end_laws.proofs.SessionLemmas.{add-new, none-made}
 use Rattle.end_laws.proofs.Known.{LiveAt}
-use Rattle.end_laws.proofs.ListLemmas.{set-here}
 use Rattle.std.proofs.lemmas.List.{length-append}
 use Rattle.std.proofs.lemmas.Option.{slice_get_within}
 use Rattle.rpc_base.specs.declared.fact.Fact.{Fact}
 use Rattle.rpc_base.specs.declared.fact.Who.{Who}
 use Rattle.rpc_base.specs.declared.fact.Who.TheVariants.{Node}
+use Rattle.rpc_base.proofs.PlaceLemmas.{set-here, set-other}
 use Rattle.rpc_laws.specs.declared.tables.Lists.{Lists}
 use Rattle.rpc_laws.specs.BufferSafety.{changed}
 use Rattle.rpc_laws.specs.NodeLists.{after}
@@ -31,7 +31,7 @@ use Rattle.end_laws.proofs.KnownLemmas.{servers-later, jobs-later, speaks-later,
 use Rattle.end_laws.proofs.KnownLemmas.{start-more}
 use Rattle.end_laws.proofs.KnownLemmas.{ask-more}
 use Rattle.end_laws.specs.Handshakes.{IsMade}
-use Rattle.end_laws.proofs.ListLemmas.{Placed, set-other, set-placed, add-placed, all-add}
+use Rattle.end_laws.proofs.ListLemmas.{Placed, set-placed, add-placed, all-add}
 use Rattle.end_laws.proofs.ListLemmas.{length-slice_set}
 use Rattle.end_laws.proofs.OwnLemmas.{own-event}
 use Rattle.end_laws.proofs.SendsLaw.{AllRight, right-noted, right-net, right-made, right-paired}

@@ -6,6 +6,7 @@ use Rattle.std.specs.List.{slice_set}
 use Rattle.rpc_base.specs.declared.event.Event.{Event}
 use Rattle.rpc_base.specs.declared.event.Event.TheVariants.{PairedClient, PairedServer, NconnectRing, NconnectNumbers}
 use Rattle.rpc_base.specs.declared.fact.Fact.{Fact}
+use Rattle.rpc_base.proofs.PlaceLemmas.{set-here, set-other}
 use Rattle.network_model.specs.declared.stage.Stage.{Stage}
 use Rattle.rpc_laws.specs.declared.tables.InFlight.{InFlight}
 use Rattle.rpc_laws.specs.declared.tables.Lists.{Lists}
@@ -34,7 +35,7 @@ use Rattle.end_laws.proofs.CommandLeads.{repeat-leads, tick-leads, work-leads, m
 use Rattle.end_laws.proofs.CommandLeads.{call-leads, poll-leads, arrive-leads, settles-lead}
 use Rattle.end_laws.proofs.Courses.{latest, Course, over, pairs, client_fact, server_fact, paired}
 use Rattle.end_laws.proofs.Leads.{NodeFits, Fits, Leads, Leading, leads-none, leads-append, step-stays}
-use Rattle.end_laws.proofs.ListLemmas.{Placed, set-here, set-other, set-placed, length-slice_set}
+use Rattle.end_laws.proofs.ListLemmas.{Placed, set-placed, length-slice_set}
 use Rattle.end_laws.proofs.SendsLaw.{right-client, right-served}
 
 -- a refusal leaves all as it is

@@ -15,6 +15,7 @@ use Rattle.rpc_base.specs.declared.owner.Owner.TheVariants.{Ask}
 use Rattle.rpc_base.specs.declared.state.DropReason.TheVariants.{NoSession, WrongPeer, Past, Ahead}
 use Rattle.rpc_base.specs.declared.state.DropReason.TheVariants.{Mismatch, Queued as StillQueued}
 use Rattle.rpc_base.proofs.TakingLemmas.{find-passes}
+use Rattle.rpc_base.proofs.BasicLemmas.{or-false}
 use Rattle.rpc_laws.specs.declared.rows.ClientRow.{ClientRow}
 use Rattle.rpc_laws.specs.declared.rows.ClientRow.TheVariants.{Drops, Takes}
 use Rattle.rpc_laws.specs.declared.tables.Arrival.{Arrival}
@@ -206,10 +207,6 @@ row-by false false false d h = cc
 row-by false false true true h = cc
 row-by false false true false h = (refl, refl, refl)
 
-or-left : (a b : Bool) → (a || b) ≡ false → a ≡ false
-or-left true b h = cc
-or-left false b h = refl
-
 progress-takes : (queued : List Queued) (a : Asking) (p : Progress) (h : MessageHeader) (n : ℕ)
     → progress_row queued a p h n ≡ Takes → (h.number ≡ p.got)
     × (is_of_turn (asked_packets a) a.req_type p.answer h n ≡ true)
@@ -218,7 +215,7 @@ progress-takes queued a p h n e =
     (is_of_turn (asked_packets a) a.req_type p.answer h n)
     (list_any (is_queued (Ask h.session h.request) h.number) queued) e in
     let low = ltb-false h.number p.got t.0 in
-    let high = ltb-false p.got h.number (or-left _ _ t.1) in
+    let high = ltb-false p.got h.number (or-false _ _ t.1).0 in
     (omega arith, t.2)
 
 -- what is known so far

@@ -1,7 +1,7 @@
 -- What is sent spells the packet of its owner.
 use Rattle.std.proofs.Common.{◌≡◌, ◌<◌, ◌+◌, ◌-◌, ℕ, nat_lt, Bool, true, false, cond, List, [], ◌∷◌}
 use Rattle.std.proofs.Common.{◌++◌, length, Option, Some, None, slice_get, refl, sym, ap, ◌∙◌}
-use Rattle.std.proofs.Common.{subst, arith, ◌≤◌, ◌⊎◌, inl, inr, leb}
+use Rattle.std.proofs.Common.{subst, arith, ◌⊎◌, inl, inr, leb}
 use Rattle.std.specs.Prelude.{option_map}
 use Rattle.std.specs.List.{find, slice_set, AllByRecursion}
 use Rattle.std.proofs.lemmas.Bool.{eqb-true}
@@ -24,6 +24,8 @@ use Rattle.rpc_base.specs.declared.owner.Owner.{Owner}
 use Rattle.rpc_base.specs.declared.owner.Owner.TheVariants.{Ask, Reply, Control}
 use Rattle.rpc_base.specs.declared.state.SessionState.{SessionState}
 use Rattle.rpc_base.specs.declared.state.SessionState.TheVariants.{Connecting, Closing}
+use Rattle.rpc_base.proofs.PlaceLemmas.{all-at, set-other}
+use Rattle.rpc_base.proofs.BasicLemmas.{at-most-one}
 use Rattle.rpc_laws.specs.declared.tables.Asking.{Asking}
 use Rattle.rpc_laws.specs.declared.tables.Call.{Call}
 use Rattle.rpc_laws.specs.declared.tables.Client.{Client}
@@ -51,7 +53,7 @@ use Rattle.end_laws.proofs.Allowed.{AsksAt, May, MaySend}
 use Rattle.end_laws.proofs.Courses.{AtNode, Ends, Course, over, in_net, made, at_node, pairs}
 use Rattle.end_laws.proofs.Courses.{client_fact, server_fact, paired, noted_at, moved-node}
 use Rattle.end_laws.proofs.JobLemmas.{jobs-right, jobs-added}
-use Rattle.end_laws.proofs.ListLemmas.{Placed, all-found, all-map, all-at, all-add, set-other}
+use Rattle.end_laws.proofs.ListLemmas.{Placed, all-found, all-map, all-add}
 use Rattle.end_laws.proofs.ListLemmas.{set-placed, add-placed}
 use Rattle.end_laws.proofs.QueueLemmas.{Stood, QueueRight, RightNode, slots-right, queue-after}
 use Rattle.end_laws.proofs.QueueLemmas.{queued-right, stood-added}
@@ -307,17 +309,13 @@ right-noted w n l f a i =
 pub right-net : (w : Moment) (f : Fact) → f.who ≡ Net → AllRight w → AllRight (moved w f)
 right-net w f who i = subst (λ (p : Who). Placed (λ n l. RightNode l) (nodes_at w.clock p w.nodes f)) (sym who) i
 
-new-alone : (b : Bool) → 0 + cond b 1 0 ≤ 1
-new-alone true = omega arith
-new-alone false = omega arith
-
 pub right-new : (me ring : ℕ) → RightNode (new_lists me (with_ring ring))
 right-new me ring = record {
   sound = tt;
   slots = tt;
   queue = tt;
   jobs = record { out = tt; once = λ t r. omega arith };
-  alone = λ t. new-alone (leb 0 t);
+  alone = λ t. at-most-one (leb 0 t);
 }
 
 pub right-made : (w : Moment) (ring : ℕ) → AllRight w

@@ -22,6 +22,7 @@ use Rattle.rpc_laws.specs.declared.tables.Server.{Server}
 use Rattle.rpc_laws.specs.Requests.{is_server, is_request, server_end, took_packet, given, answered}
 use Rattle.rpc_laws.specs.Requests.{servers_after, server_numbers_after}
 use Rattle.node_laws.specs.Valid.{to_come}
+use Rattle.node_laws.proofs.ServedLemmas.{next-one}
 use Rattle.end_laws.proofs.Allowed.{May}
 
 -- what isn't there isn't there after the first of others changes or goes
@@ -112,16 +113,12 @@ module _ (t : ℕ) where
   abbrev one : Server → ℕ
   one v = cond (is_server t v) 1 0
 
-  next-one : (used n c m : ℕ) → n ≡ used → c + to_come used t ≤ 1 → m ≤ c + cond (n == t) 1 0
-      → m + to_come (used + 1) t ≤ 1
-  next-one used n c m e h k = grind (arith, nat_tests)
-
   pub made-alone : (n peer c credits used : ℕ) (xs : List Server) → n ≡ used
       → count_by (is_server t) xs + to_come used t ≤ 1
       → count_by (is_server t) (xs ++ server_end n peer c credits ∷ []) + to_come (used + 1) t ≤ 1
   made-alone n peer c credits used xs e h =
       let push = sum_by_push one xs (server_end n peer c credits) in
-      next-one used n (count_by (is_server t) xs) _ e h (omega arith)
+      next-one t used n (count_by (is_server t) xs) _ e h (omega arith)
 
   kept-alone : (p : Server → Bool) (f : Server → Server) → ((v : Server) → (f v).way ≡ v.way)
       → (xs : List Server) (come : ℕ) → count_by (is_server t) xs + come ≤ 1

@@ -23,9 +23,10 @@ use Rattle.end_laws.specs.Genuine.{Travels}
 use Rattle.end_laws.specs.Moments.{Moment, moved, front_of, hand_of, hand_noted, hand_after}
 use Rattle.end_laws.proofs.Allowed.{May}
 use Rattle.end_laws.proofs.Courses.{AtNode, Ends, client_fact, server_fact, paired, noted_at, moved-node}
-use Rattle.end_laws.proofs.ListLemmas.{Placed, all-append, all-map, all-at, all-add, set-other}
+use Rattle.end_laws.proofs.ListLemmas.{Placed, all-append, all-map, all-add}
 use Rattle.end_laws.proofs.ListLemmas.{set-placed, add-placed}
 use Rattle.rpc_base.proofs.BasicLemmas.{if-map}
+use Rattle.rpc_base.proofs.PlaceLemmas.{all-at, set-other}
 
 module _ {A : Type 0} (P : A → Type 0) where
   all-take : (i : ℕ) (xs : List A) → AllByRecursion P xs → AllByRecursion P (take i xs)

@@ -4,6 +4,7 @@ use Rattle.rpc_base.specs.declared.event.Event.TheVariants.{Made}
 use Rattle.rpc_base.specs.declared.fact.Fact.{Fact}
 use Rattle.rpc_base.specs.declared.fact.Who.{Who}
 use Rattle.rpc_base.specs.declared.fact.Who.TheVariants.{Net}
+use Rattle.rpc_base.proofs.PlaceLemmas.{set-other}
 use Rattle.rpc_laws.specs.declared.tables.Lists.{Lists}
 use Rattle.rpc_laws.specs.BufferSafety.{changed, nodes_at}
 use Rattle.rpc_laws.specs.Facts.{plain}
@@ -13,7 +14,7 @@ use Rattle.node_laws.proofs.ValidLemmas.{valid_after, valid_new}
 use Rattle.node_laws.specs.Valid.{Valid}
 use Rattle.end_laws.specs.Moments.{Moment, moved}
 use Rattle.end_laws.proofs.Courses.{AtNode, Ends, client_fact, server_fact, paired, moved-node}
-use Rattle.end_laws.proofs.ListLemmas.{Placed, add-placed, set-other, set-placed}
+use Rattle.end_laws.proofs.ListLemmas.{Placed, add-placed, set-placed}
 
 abbrev ValidAt : ℕ → Lists → Type 0
 ValidAt n l = Valid l

@@ -46,6 +46,7 @@ use Rattle.rpc_laws.specs.ServerTable.{flushes}
 use Rattle.rpc_laws.specs.Sessions.{clients_told, is_client, is_request_of, requests}
 use Rattle.rpc_laws.proofs.RunLemmas.{after_all-append}
 use Rattle.node_laws.proofs.FlushLemmas.{no-more-same, slots-flushed}
+use Rattle.node_laws.proofs.ControlLemmas.{unless-disowns}
 use Rattle.rpc_outside.specs.declared.service.Mode.{Mode}
 use Rattle.endpoint_loop.specs.Fits.{HasCredit, IsCredit}
 use Rattle.endpoint_loop.specs.Serving.{AllServed, SlotsServed}
@@ -376,10 +377,6 @@ at_first-same p f (x ∷ xs) h = by (p x) h (λ g. at_first-same p f xs g)
 each-if : {A : Type 0} (P : A → Type 0) (o : Option A) → ((x : A) → P x) → IfSome o P
 each-if P None each = tt
 each-if P (Some x) each = each x
-
-unless-disowns : (b : Bool) → cond b Ignores Disowns ≡ Disowns → b ≡ false
-unless-disowns true e = cc
-unless-disowns false e = refl
 
 connects-never : (b : Bool) (t : ℕ) → cond b (Connects t) Ignores ≡ Disowns → ⊥
 connects-never true t e = cc

@@ -14,6 +14,7 @@ use Rattle.rpc_base.specs.declared.limits.Limits.{Limits}
 use Rattle.rpc_base.specs.declared.limits.TheConstants.{MOST_CALLS, MOST_MESSAGE_BYTES}
 use Rattle.rpc_base.specs.declared.state.SessionState.TheVariants.{Connected}
 use Rattle.rpc_base.proofs.FirstLemmas.{counted-cons}
+use Rattle.rpc_base.proofs.PlaceLemmas.{all-at, set-here}
 use Rattle.packet_rings.specs.Rings.{Ring}
 use Rattle.packet_rings.specs.Values.{DatagramValue}
 use Rattle.rpc_laws.specs.declared.tables.Asking.{Asking}
@@ -36,7 +37,7 @@ use Rattle.node_laws.proofs.StateLemmas.{told-connected, told-few}
 use Rattle.session_store.specs.Changes.{ChangesAt}
 use Rattle.session_store.specs.Sides.{Shown}
 use Rattle.session_store.proofs.AscendsLemmas.{ascends-end}
-use Rattle.session_store.proofs.ListLemmas.{all-at, all-set, get-own, sum-one}
+use Rattle.session_store.proofs.ListLemmas.{all-set, sum-one}
 use Rattle.endpoint_loop.specs.Fits.{CallsAscend, Fits, IsSettled}
 use Rattle.endpoint_loop.specs.Noting.{Makes}
 use Rattle.endpoint_loop.specs.Seen.{Tallies, asking_jobs, seen_node}
@@ -218,7 +219,7 @@ module _ (me : ℕ) (limits : Limits) (tallies : Tallies) (paces : List Pace) (j
   newest-is bytes h =
       let here : slice_get t.clients i ≡ Some (asks what at.client) =
       ap (λ (xs : List Client). slice_get xs i) at.changed
-      ∙ get-own s.clients i at.client (asks what at.client) at.place in
+      ∙ set-here s.clients i at.client (asks what at.client) at.place in
       subst (λ (o : Option Client). IfSome o (λ x. (calls : List Call) → (a : Asking)
       → x.calls ≡ asking a calls → bytes ≡ a.ask)) here h at.client.calls what refl
 

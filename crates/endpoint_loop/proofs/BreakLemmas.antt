@@ -16,6 +16,7 @@ use Rattle.rpc_base.specs.declared.owner.Owner.TheVariants.{Ask, Reply, Control}
 use Rattle.rpc_base.proofs.BasicLemmas.{or-false}
 use Rattle.rpc_base.proofs.FirstLemmas.{found-holds}
 use Rattle.rpc_base.proofs.TakingLemmas.{find-passes}
+use Rattle.rpc_base.proofs.PlaceLemmas.{all-at, set-here}
 use Rattle.packet_rings.specs.Rings.{Ring}
 use Rattle.packet_rings.specs.Values.{DatagramValue}
 use Rattle.client_core.specs.Shown.{done_fact}
@@ -45,7 +46,7 @@ use Rattle.node_laws.proofs.NumberLemmas.{numbered-get}
 use Rattle.node_laws.proofs.ValidLemmas.{valid_after}
 use Rattle.session_store.specs.Changes.{IsIdle, calls_in}
 use Rattle.session_store.specs.Sides.{Shown}
-use Rattle.session_store.proofs.ListLemmas.{all-at, all-set, get-own, set-own}
+use Rattle.session_store.proofs.ListLemmas.{all-set, set-own}
 use Rattle.endpoint_loop.specs.Given.{Gave}
 use Rattle.endpoint_loop.specs.Fits.{CallsAscend, Fits, IsSettled}
 use Rattle.endpoint_loop.specs.Noting.{Makes, MakesEnds, is_end}
@@ -239,7 +240,7 @@ module _ (clock me i : ℕ) where
       only-at (ends number) number s.clients i y few place (first-listed c cs y.calls e) in
       let here : slice_get next.clients i ≡ Some (ends number y) =
       ap (λ (xs : List Client). slice_get xs i) changed
-      ∙ get-own s.clients i y (ends number y) place in
+      ∙ set-here s.clients i y (ends number y) place in
       let rest = ends-all cs next (ends number y) (valid_after clock s (lost me c) valid may) here
       (rest-left c cs y.calls e) broken clean.1 in
       record {
@@ -288,7 +289,7 @@ module _ (me : ℕ) (limits : Limits) (tallies : Tallies) (paces : List Pace) (j
     all =
         let here : slice_get mid.clients i ≡ Some (breaks x) =
         ap (λ (xs : List Client). slice_get xs i) mid-clients
-        ∙ get-own s.clients i x (breaks x) place in
+        ∙ set-here s.clients i x (breaks x) place in
         ends-all clock me i x.calls mid (breaks x)
         (valid_after clock (seen s).lists fact fits.kept.valid may) here refl refl clean
 

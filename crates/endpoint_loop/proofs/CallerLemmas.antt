@@ -19,6 +19,8 @@ use Rattle.rpc_base.specs.declared.fact.Fact.{Fact}
 use Rattle.rpc_laws.specs.ControlSteps.{RetriesOf, TimesSession, request_by}
 use Rattle.rpc_base.specs.declared.state.SessionState.{SessionState}
 use Rattle.rpc_base.specs.declared.state.SessionState.TheVariants.{Closing, Connecting}
+use Rattle.rpc_base.proofs.PlaceLemmas.{set-here, set-other}
+use Rattle.rpc_base.proofs.BasicLemmas.{or-false}
 use Rattle.rpc_laws.specs.GoBackN.{Each, Watches, WatchesSession}
 use Rattle.rpc_laws.specs.PollOrder.{PostsAll, Serves}
 use Rattle.rpc_laws.specs.Posting.{beginning, can_post, if_connected, next_packet, posting}
@@ -36,7 +38,6 @@ use Rattle.session_store.specs.Hearing.{RepliesAt}
 use Rattle.session_store.specs.Joined.{without_due}
 use Rattle.session_store.specs.Queue.{SendsFront, clients_sent}
 use Rattle.session_store.specs.Sides.{are_calls, has_calls}
-use Rattle.session_store.proofs.ListLemmas.{get-other, get-own}
 use Rattle.endpoint_loop.specs.Calling.{Covers, NoneCalls, has_request, is_visited}
 use Rattle.endpoint_loop.specs.Noting.{Makes}
 use Rattle.endpoint_loop.specs.Seen.{asking}
@@ -64,15 +65,6 @@ visited-less x y state less h =
 pub visited-calls : (a b : Bool) → (a || false) ≡ true → (a || b) ≡ true
 visited-calls true b h = refl
 visited-calls false b h = cc
-
--- where it isn't visited it has neither
-idle-calls : (a b : Bool) → (a || b) ≡ false → a ≡ false
-idle-calls true b h = cc
-idle-calls false b h = refl
-
-idle-request : (a b : Bool) → (a || b) ≡ false → b ≡ false
-idle-request true b h = cc
-idle-request false b h = h
 
 pub covers-were : (callers : List ℕ) (old new : List Client) → WereVisited old new
     → Covers callers old → Covers callers new
@@ -108,10 +100,10 @@ were-set : (xs : List Client) (i : ℕ) (x y : Client) → slice_get xs i ≡ So
 were-set xs i x y there kept = λ j z at has. elim (cases_eq j i) [
   | inl here ↦ (
       let own : slice_get (slice_set xs i y) j ≡ Some y =
-      ap (λ k. slice_get (slice_set xs i y) k) here ∙ get-own xs i x y there in
+      ap (λ k. slice_get (slice_set xs i y) k) here ∙ set-here xs i x y there in
       let same : y ≡ z = cc in
       (x, ap (λ k. slice_get xs k) here ∙ there, kept (ap is_visited same ∙ has)))
-  | inr other ↦ (z, sym (get-other xs i j y other) ∙ at, has)
+  | inr other ↦ (z, sym (set-other xs i j y other) ∙ at, has)
 ]
 
 -- calls that change stay, and one that is over is no new one
@@ -177,7 +169,7 @@ pub covers-entered : (callers later : List ℕ) (i : ℕ) (f : Client → Client
 covers-entered callers later i f xs ys h entered others covers =
     rw h.changed (λ j y at has. elim (cases_eq j i) [
       | inl here ↦ subst (λ k. Contains later k) (sym here) entered
-      | inr other ↦ others j (covers j y (sym (get-other xs i j (f h.client) other) ∙ at) has)
+      | inr other ↦ others j (covers j y (sym (set-other xs i j (f h.client) other) ∙ at) has)
     ])
 
 -- a session changed that isn't visited unless it was before
@@ -297,7 +289,7 @@ begins-none : (o : Option Client) → IfSome o (λ x. is_visited x ≡ false)
     → option_and_then (if_connected beginning) o ≡ None
 begins-none None idle = refl
 begins-none (Some x) idle =
-    by x.calls (is_connected x.state) refl (idle-calls (has_calls x) (has_request x.state) idle)
+    by x.calls (is_connected x.state) refl (or-false (has_calls x) (has_request x.state) idle).0
   where
     by : (cs : List Call) (b : Bool) → x.calls ≡ cs → are_calls cs ≡ false
         → cond b (beginning x) None ≡ None
@@ -310,7 +302,7 @@ posts-none : (o : Option Client) → IfSome o (λ x. is_visited x ≡ false)
 posts-none None idle = refl
 posts-none (Some x) idle =
     by x.calls (is_connected x.state) (x.free == 0) refl
-    (idle-calls (has_calls x) (has_request x.state) idle)
+    (or-false (has_calls x) (has_request x.state) idle).0
   where
     by : (cs : List Call) (b free : Bool) → x.calls ≡ cs → are_calls cs ≡ false
         → cond b (cond free None (option_and_then (λ (c : Call). next_packet x.way.number c.progress)
@@ -397,7 +389,7 @@ session-quiet timeout i s quiet = record {
     none-retried clock timeout me None h = refl
     none-retried clock timeout me (Some x) h =
         rw (requested x.state x.way.number x.way.other x.limit
-        (idle-request (has_calls x) (has_request x.state) h)) refl
+        (or-false (has_calls x) (has_request x.state) h).1) refl
 
     looks-none : (cs : List Call) → are_calls cs ≡ false
         → Each (Watches timeout i) (map (λ (c : Call). c.what.number) cs) s [] s
@@ -408,4 +400,4 @@ session-quiet timeout i s quiet = record {
         → IfSome o (λ x. is_visited x ≡ false) → WatchesSession timeout i s [] s
     watched None at h = rw at (refl, refl)
     watched (Some x) at h =
-        rw at (looks-none x.calls (idle-calls (has_calls x) (has_request x.state) h))
+        rw at (looks-none x.calls (or-false (has_calls x) (has_request x.state) h).0)

@@ -17,6 +17,7 @@ use Rattle.rpc_base.specs.Tables.{without_first}
 use Rattle.rpc_base.proofs.FindLemmas.{at-found}
 use Rattle.rpc_base.proofs.FirstLemmas.{all-left, counted-cons, found-holds, some-counted}
 use Rattle.rpc_base.proofs.TakingLemmas.{find-passes}
+use Rattle.rpc_base.proofs.PlaceLemmas.{all-at}
 use Rattle.rpc_laws.specs.declared.tables.Jobs.{Jobs}
 use Rattle.rpc_laws.specs.declared.tables.Lists.{Lists}
 use Rattle.rpc_laws.specs.declared.tables.Pace.{Pace}
@@ -38,11 +39,11 @@ use Rattle.node_laws.proofs.FlushLemmas.{no-more-same, slots-flushed}
 use Rattle.node_laws.proofs.KeptLemmas.{kept-after}
 use Rattle.node_laws.proofs.LeftLemmas.{same-slot}
 use Rattle.node_laws.proofs.PutLemmas.{owner-is}
+use Rattle.node_laws.proofs.ControlLemmas.{slot-within}
 use Rattle.session_store.specs.Changes.{IsDrained}
 use Rattle.session_store.specs.Queue.{is_owned}
 use Rattle.session_store.specs.Serving.{without_owned}
 use Rattle.session_store.specs.Sides.{Shown}
-use Rattle.session_store.proofs.ListLemmas.{all-at}
 use Rattle.endpoint_loop.specs.Ending.{ending, flushing_slot, flushing_slots, leaving}
 use Rattle.endpoint_loop.specs.Fits.{Fits, HasCredit}
 use Rattle.endpoint_loop.specs.Noting.{Makes}
@@ -251,19 +252,6 @@ module _ (t : ℕ) (queued : List Queued) where
       by (Some l) e =
           found-holds (in_slot_of r)
           (λ q. list_any (is_owned (Reply t q.number)) queued ≡ false) slots l all e
-
--- each slot
-slot-within : (P : ℕ → Type 0) → AllByRecursion P (0 ∷ 1 ∷ 2 ∷ 3 ∷ 4 ∷ 5 ∷ 6 ∷ 7 ∷ []) → (slot : ℕ)
-    → slot < 8 → P slot
-slot-within P all zero h = all.0
-slot-within P all (suc zero) h = all.1.0
-slot-within P all (suc (suc zero)) h = all.1.1.0
-slot-within P all (suc (suc (suc zero))) h = all.1.1.1.0
-slot-within P all (suc (suc (suc (suc zero)))) h = all.1.1.1.1.0
-slot-within P all (suc (suc (suc (suc (suc zero))))) h = all.1.1.1.1.1.0
-slot-within P all (suc (suc (suc (suc (suc (suc zero)))))) h = all.1.1.1.1.1.1.0
-slot-within P all (suc (suc (suc (suc (suc (suc (suc zero))))))) h = all.1.1.1.1.1.1.1.0
-slot-within P all (suc (suc (suc (suc (suc (suc (suc (suc slot)))))))) h = absurd (omega arith)
 
 clean-of : (v : Server) (queue : List Queued)
     → AllByRecursion (λ slot. NoneOlder v.way.number (find (in_slot_of slot) v.slots) queue)

@@ -20,6 +20,7 @@ use Rattle.rpc_base.proofs.FirstLemmas.{all-kept, missing-same}
 use Rattle.rpc_base.proofs.FirstLemmas.{all-left, some-counted, sum-fewer}
 use Rattle.rpc_base.proofs.TablesLemmas.{at_first-found, find-found, find-missing}
 use Rattle.rpc_base.proofs.TakingLemmas.{find-passes}
+use Rattle.rpc_base.proofs.PlaceLemmas.{all-at}
 use Rattle.rpc_laws.specs.declared.tables.Counted.{Counted}
 use Rattle.rpc_laws.specs.declared.tables.Job.{Job}
 use Rattle.rpc_laws.specs.declared.tables.Jobs.{Jobs}
@@ -48,7 +49,7 @@ use Rattle.server_core.specs.Steps.{gone_on_as}
 use Rattle.session_store.specs.Changes.{is_waited}
 use Rattle.session_store.specs.Sides.{HasRoom, Shown, queued_of}
 use Rattle.endpoint_loop.proofs.QueueLemmas.{put-all, replies-more}
-use Rattle.session_store.proofs.ListLemmas.{all-at, all-set}
+use Rattle.session_store.proofs.ListLemmas.{all-set}
 use Rattle.worker_board.specs.declared.Parcel.{Parcel}
 use Rattle.endpoint_loop.specs.Finishing.{AllBackground, AnswersTo, AsksOf, is_named}
 use Rattle.endpoint_loop.specs.Fits.{Fits, HasCredit, IsSendable}

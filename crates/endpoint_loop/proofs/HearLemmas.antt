@@ -61,7 +61,7 @@ use Rattle.node_laws.proofs.ReplyLemmas.{replies-allowed}
 use Rattle.session_store.specs.Hearing.{RepliesAt}
 use Rattle.session_store.specs.Sides.{Shown}
 use Rattle.session_store.proofs.AscendsLemmas.{ascends-changed, ascends-without}
-use Rattle.session_store.proofs.ListLemmas.{all-at, all-set, get-own, set-own}
+use Rattle.session_store.proofs.ListLemmas.{all-set, set-own}
 use Rattle.endpoint_loop.specs.Fits.{CallsAscend, Fits, IsSettled}
 use Rattle.endpoint_loop.specs.Hearing.{Drops, HearsReply}
 use Rattle.endpoint_loop.specs.Noting.{Makes}
@@ -70,6 +70,7 @@ use Rattle.server_core.proofs.FlushLemmas.{grew-then}
 use Rattle.endpoint_loop.proofs.FitsLemmas.{settled-connected}
 use Rattle.endpoint_loop.proofs.PostLemmas.{first-at, only-at}
 use Rattle.rpc_base.proofs.BasicLemmas.{or-true}
+use Rattle.rpc_base.proofs.PlaceLemmas.{all-at, set-here}
 
 -- a call whose number stays
 module _ (p : Call → Bool) (g : Call → Call) (same : (c : Call) → (g c).what ≡ c.what) (n : ℕ) where
@@ -456,7 +457,7 @@ module _ (me : ℕ) (limits : Limits) (tallies : Tallies) (paces : List Pace) (j
           clients-ended : t.clients ≡ at_first (has_call o.call) (ends o.call) mid.clients
           clients-ended =
               let there = only-at (ends o.call) o.call (slice_set s.clients i (T (Ended o) p)) i
-              (T (Ended o) p) few (get-own s.clients i p.client (T (Ended o) p) p.at) has in
+              (T (Ended o) p) few (set-here s.clients i p.client (T (Ended o) p) p.at) has in
               let twice = set-twice s.clients i (T (Ended o) p) (ends o.call (T (Ended o) p)) in
               let all : at_first (has_call o.call) (ends o.call) mid.clients
               ≡ slice_set s.clients i (ends o.call (T (Ended o) p)) =

@@ -14,6 +14,7 @@ use Rattle.rpc_base.specs.declared.limits.TheConstants.{SESSION_NUMBERS}
 use Rattle.rpc_base.specs.declared.state.SessionState.{SessionState}
 use Rattle.rpc_base.specs.declared.state.SessionState.TheVariants.{Closed, Closing, Connecting}
 use Rattle.rpc_base.specs.declared.state.SessionState.TheVariants.{Failed}
+use Rattle.rpc_base.proofs.PlaceLemmas.{all-at}
 use Rattle.packet_rings.specs.Rings.{Ring}
 use Rattle.packet_rings.specs.Values.{DatagramValue}
 use Rattle.rpc_laws.specs.declared.tables.Client.{Client}
@@ -30,7 +31,7 @@ use Rattle.rpc_outside.specs.Recording.{Grew}
 use Rattle.session_store.specs.Changes.{ChangesAt, IsInState}
 use Rattle.session_store.specs.Ends.{Ascends}
 use Rattle.session_store.specs.Sides.{Shown}
-use Rattle.session_store.proofs.ListLemmas.{all-at, all-set}
+use Rattle.session_store.proofs.ListLemmas.{all-set}
 use Rattle.endpoint_loop.specs.Fits.{CallsAscend, Fits, IsSettled}
 use Rattle.endpoint_loop.specs.Noting.{Makes}
 use Rattle.endpoint_loop.specs.Seen.{Tallies, asking_jobs, seen_node}

@@ -30,7 +30,7 @@ mod NamedLemmas
 mod NextLemmas
 mod NodeLemmas
 pub mod NotesLemmas
-mod NotingLemmas
+pub mod NotingLemmas
 mod OpeningLemmas
 mod PairLemmas
 mod PlaceLemmas

@@ -7,6 +7,7 @@ use Rattle.std.proofs.lemmas.List.{map-append}
 use Rattle.rpc_base.specs.Tables.{without_first}
 use Rattle.rpc_base.specs.declared.event.Event.TheVariants.{Broken, DonePeerLost}
 use Rattle.rpc_base.specs.declared.fact.Fact.{Fact}
+use Rattle.rpc_base.proofs.PlaceLemmas.{set-here}
 use Rattle.client_core.specs.Shown.{done_fact, end_bytes, end_event}
 use Rattle.client_core.specs.declared.outcome.Done.{Done}
 use Rattle.client_core.specs.declared.outcome.Outcome.{Outcome}
@@ -19,7 +20,6 @@ use Rattle.rpc_laws.specs.Sessions.{breaks}
 use Rattle.rpc_outside.specs.Recording.{Grew}
 use Rattle.server_core.proofs.FlushLemmas.{grew-then}
 use Rattle.session_store.specs.Changes.{ChangesAt, IsLost, LosesAt, calls_in, first_number}
-use Rattle.session_store.proofs.ListLemmas.{get-own}
 use Rattle.endpoint_loop.specs.Given.{Gave}
 use Rattle.endpoint_loop.proofs.GivenLemmas.{gave-none, gave-then}
 use Rattle.endpoint_loop.specs.Watching.{EndsOne, HasLost, broken_with, lost}
@@ -110,7 +110,7 @@ module _ {R K : Type 0} (facts : R → Option (List Fact)) (whole : R → Bool)
       (h : HasLost facts whole given me i left old mid before between from via) where
     here : slice_get mid i ≡ Some (broken_with h.client left)
     here = ap (λ (xs : List Client). slice_get xs i) h.changed
-        ∙ get-own old i h.client (broken_with h.client left) h.place
+        ∙ set-here old i h.client (broken_with h.client left) h.place
 
     pub is-lost : IsLost (slice_get mid i)
     is-lost = rw here refl
@@ -163,7 +163,7 @@ module _ {R K : Type 0} (facts : R → Option (List Fact)) (whole : R → Bool)
       fewer-left =
           let after : calls_in (slice_get new i) ≡ e.left =
           ap (λ (xs : List Client). calls_in (slice_get xs i)) e.changed
-          ∙ ap calls_in (get-own mid i e.client (record e.client { calls = e.left }) e.place) in
+          ∙ ap calls_in (set-here mid i e.client (record e.client { calls = e.left }) e.place) in
           let before : calls_in (slice_get mid i) ≡ e.first ∷ e.left =
           ap calls_in e.place ∙ e.calls in
           rw (after, before) (omega arith)

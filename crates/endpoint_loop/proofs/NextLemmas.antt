@@ -13,10 +13,10 @@ use Rattle.rpc_laws.specs.declared.tables.Progress.{Progress}
 use Rattle.rpc_laws.specs.Calls.{is_call}
 use Rattle.rpc_base.proofs.FirstLemmas.{found-holds}
 use Rattle.rpc_base.proofs.TakingLemmas.{find-passes}
+use Rattle.rpc_base.proofs.PlaceLemmas.{all-at}
 use Rattle.node_laws.specs.Valid.{Sound, in_slot}
 use Rattle.session_store.specs.Changes.{ActiveAt, calls_in}
 use Rattle.session_store.specs.Ends.{Ascends, is_above, next_above, told_call, told_of}
-use Rattle.session_store.proofs.ListLemmas.{all-at}
 use Rattle.endpoint_loop.specs.Fits.{CallsAscend}
 use Rattle.endpoint_loop.proofs.RollLemmas.{some-same}
 

@@ -10,6 +10,7 @@ use Rattle.rpc_base.specs.declared.fact.Fact.{Fact}
 use Rattle.rpc_base.specs.declared.limits.Limits.{Limits}
 use Rattle.rpc_base.specs.declared.owner.Owner.{Owner}
 use Rattle.rpc_base.specs.declared.owner.Owner.TheVariants.{Ask}
+use Rattle.rpc_base.proofs.PlaceLemmas.{all-at}
 use Rattle.packet_rings.specs.Rings.{Ring}
 use Rattle.packet_rings.specs.Values.{DatagramValue, EntryValue}
 use Rattle.rpc_outside.specs.Recording.{Grew}
@@ -30,7 +31,7 @@ use Rattle.session_store.specs.Changes.{BeginsAt, PostsAt}
 use Rattle.session_store.specs.Effects.{packet_of_entry, request_in}
 use Rattle.session_store.specs.Joined.{queued_at}
 use Rattle.session_store.specs.Sides.{Shown}
-use Rattle.session_store.proofs.ListLemmas.{all-at, all-set}
+use Rattle.session_store.proofs.ListLemmas.{all-set}
 use Rattle.endpoint_loop.specs.Fits.{Fits, IsSendable, IsSettled, pace_no}
 use Rattle.client_core.proofs.CallsLemmas.{length-at_first}
 use Rattle.node_laws.proofs.NumberLemmas.{numbered-kept}

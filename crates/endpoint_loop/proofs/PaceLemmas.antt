@@ -6,6 +6,7 @@ use Rattle.std.specs.List.{find}
 use Rattle.std.proofs.lemmas.Bool.{eq-eqb, ltb-false, ne_eqb}
 use Rattle.rpc_base.specs.Tables.{at_first}
 use Rattle.rpc_base.proofs.FindLemmas.{mapped-found}
+use Rattle.rpc_base.proofs.PlaceLemmas.{set-here}
 use Rattle.rpc_laws.specs.declared.tables.Call.{Call}
 use Rattle.rpc_laws.specs.declared.tables.Client.{Client}
 use Rattle.rpc_laws.specs.declared.tables.Pace.{Pace}
@@ -16,7 +17,6 @@ use Rattle.rpc_laws.specs.Sessions.{is_client, posts}
 use Rattle.node_laws.specs.Valid.{NumberedFrom, client_no}
 use Rattle.node_laws.proofs.NumberLemmas.{numbered-get}
 use Rattle.session_store.specs.Changes.{PostsNext}
-use Rattle.session_store.proofs.ListLemmas.{get-own}
 use Rattle.endpoint_loop.specs.Fits.{pace_no}
 
 -- a later session's pace is another's
@@ -123,7 +123,7 @@ pub size-told : (i r k n : ℕ) (xs ys : List Client) (p : PostsNext i (r, k) xs
     → n ≡ packet_size r k (find (is_client i) xs)
 size-told i r k n xs ys p numbered told =
     let there : slice_get ys i ≡ Some (posts r k p.client) =
-    ap (λ zs. slice_get zs i) p.changed ∙ get-own xs i p.client (posts r k p.client) p.place in
+    ap (λ zs. slice_get zs i) p.changed ∙ set-here xs i p.client (posts r k p.client) p.place in
     let now : n ≡ packet_size r k (Some (posts r k p.client)) = rw there at told in
     now ∙ size-posted r k k p.client
     ∙ ap (packet_size r k) (sym p.place ∙ numbered-get client_no 0 i i xs numbered (omega arith))

@@ -21,10 +21,11 @@ use Rattle.node_laws.proofs.NumberLemmas.{numbered-at}
 use Rattle.session_store.specs.Changes.{BeginsAt, PostsAt, PostsNext}
 use Rattle.session_store.specs.Ends.{Ascends}
 use Rattle.session_store.proofs.AscendsLemmas.{ascends-changed}
-use Rattle.session_store.proofs.ListLemmas.{all-at, all-set, get-own, sum-one}
+use Rattle.session_store.proofs.ListLemmas.{all-set, sum-one}
 use Rattle.endpoint_loop.specs.Fits.{CallsAscend}
 use Rattle.endpoint_loop.specs.Measures.{free_at, waiting_at, waiting_in}
 use Rattle.rpc_base.proofs.BasicLemmas.{some-of}
+use Rattle.rpc_base.proofs.PlaceLemmas.{all-at, set-here}
 
 -- a session stands in the place of its number
 numbered-cons : (f : Client → Client) (k : ℕ) (y : Client) (ys zs : List Client) (b : Bool)
@@ -149,7 +150,8 @@ pub posted-fewer : (i : ℕ) (p : ℕ × ℕ) (xs ys : List Client) → PostsAt 
 posted-fewer i p xs ys at =
     let next = some-of (is_connected at.client.state) (posting at.client) _ at.next in
     let free = posts-free at.client _ (at.client.free == 0) refl next in
-    rw (at.changed, at.place, get-own xs i at.client (posts p.0 p.1 at.client) at.place) (omega (arith, free))
+    rw (at.changed, at.place, set-here xs i at.client (posts p.0 p.1 at.client) at.place)
+    (omega (arith, free))
 
 -- who begins a call has one less that waits
 later-number : (n : ℕ) (k : Call) (cs : List Call) → AllByRecursion (λ d. n < d.what.number) cs
@@ -205,7 +207,7 @@ begun-fewer i p xs ys at up =
     rw (
       change.changed,
       change.place,
-      get-own xs i change.client (begins p.0 p.1 change.client)
+      set-here xs i change.client (begins p.0 p.1 change.client)
           change.place,
     ) (has-waits change.client p.0 p.1 (find is_waiting change.client.calls) refl
     (all-at CallsAscend xs i change.client up change.place) next)

@@ -23,6 +23,7 @@ use Rattle.rpc_base.specs.declared.owner.Owner.TheVariants.{Ask, Control, Reply}
 use Rattle.rpc_base.specs.declared.state.SessionState.{SessionState}
 use Rattle.rpc_base.specs.declared.state.SessionState.TheVariants.{Closed, Closing, Connecting}
 use Rattle.rpc_base.specs.declared.state.SessionState.TheVariants.{Failed}
+use Rattle.rpc_base.proofs.PlaceLemmas.{all-at}
 use Rattle.rpc_laws.specs.declared.rows.RetryRow.TheVariants.{Asks, GivesUp, Rests}
 use Rattle.rpc_laws.specs.declared.tables.Client.{Client}
 use Rattle.rpc_laws.specs.declared.tables.Jobs.{Jobs}
@@ -46,7 +47,6 @@ use Rattle.node_laws.proofs.Allowed.{Allowed}
 use Rattle.node_laws.proofs.NumberLemmas.{numbered-at}
 use Rattle.session_store.specs.Changes.{ChangesAt, IsInState, sent_again}
 use Rattle.session_store.specs.Sides.{Shown}
-use Rattle.session_store.proofs.ListLemmas.{all-at}
 use Rattle.endpoint_loop.specs.Controlling.{Spoke}
 use Rattle.endpoint_loop.specs.Counting.{is_sent}
 use Rattle.endpoint_loop.specs.Fits.{Fits, IsSendable, IsSettled, has_server, is_of_call}

@@ -12,6 +12,7 @@ use Rattle.rpc_base.specs.declared.limits.Limits.{Limits}
 use Rattle.rpc_base.specs.declared.owner.Owner.TheVariants.{Ask}
 use Rattle.rpc_base.proofs.FirstLemmas.{found-any}
 use Rattle.rpc_base.proofs.TakingLemmas.{find-passes}
+use Rattle.rpc_base.proofs.PlaceLemmas.{all-at}
 use Rattle.packet_rings.specs.Rings.{Ring}
 use Rattle.packet_rings.specs.Values.{DatagramValue}
 use Rattle.client_core.specs.declared.active.Active.{Active}
@@ -35,7 +36,7 @@ use Rattle.session_store.specs.Ends.{progress_of}
 use Rattle.session_store.specs.Queue.{is_owned}
 use Rattle.session_store.specs.Sides.{Shown}
 use Rattle.session_store.proofs.AscendsLemmas.{ascends-changed}
-use Rattle.session_store.proofs.ListLemmas.{all-at, all-set}
+use Rattle.session_store.proofs.ListLemmas.{all-set}
 use Rattle.endpoint_loop.specs.Fits.{CallsAscend, Fits, IsSettled}
 use Rattle.endpoint_loop.specs.Noting.{Makes}
 use Rattle.endpoint_loop.specs.Seen.{Tallies, asking, asking_jobs, seen_node}

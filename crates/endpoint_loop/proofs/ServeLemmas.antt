@@ -23,6 +23,7 @@ use Rattle.rpc_base.specs.declared.state.DropReason.TheVariants.{NoSession, Wron
 use Rattle.rpc_base.proofs.FirstLemmas.{found-changed, found-holds}
 use Rattle.rpc_base.proofs.TablesLemmas.{at_first-found, find-found, find-missing}
 use Rattle.rpc_base.proofs.TakingLemmas.{find-passes}
+use Rattle.rpc_base.proofs.PlaceLemmas.{all-at}
 use Rattle.rpc_laws.specs.declared.rows.ServerRow.{ServerRow}
 use Rattle.rpc_laws.specs.declared.rows.ServerRow.TheVariants.{Drops, Repeats}
 use Rattle.rpc_laws.specs.declared.tables.Jobs.{Jobs}
@@ -62,7 +63,7 @@ use Rattle.session_store.specs.Serving.{HandlesAt, handled_facts, queue_handled,
 use Rattle.session_store.specs.Serving.{without_owned}
 use Rattle.session_store.specs.Joined.{put_ready}
 use Rattle.session_store.specs.Sides.{Shown, queued_of}
-use Rattle.session_store.proofs.ListLemmas.{all-at, all-set, set-own}
+use Rattle.session_store.proofs.ListLemmas.{all-set, set-own}
 use Rattle.endpoint_loop.specs.Fits.{Fits, HasCredit, IsSendable}
 use Rattle.endpoint_loop.specs.Noting.{Makes}
 use Rattle.endpoint_loop.specs.Seen.{Asks, Tallies, arrival_of, asking_jobs, seen_node}

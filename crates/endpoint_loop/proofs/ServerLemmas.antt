@@ -13,6 +13,7 @@ use Rattle.rpc_base.specs.Tables.{at_first}
 use Rattle.rpc_base.specs.declared.fact.Fact.{Fact}
 use Rattle.rpc_base.proofs.TablesLemmas.{find-found}
 use Rattle.rpc_base.proofs.TakingLemmas.{find-passes}
+use Rattle.rpc_base.proofs.PlaceLemmas.{all-at, set-here}
 use Rattle.rpc_laws.specs.declared.tables.Arrival.{Arrival}
 use Rattle.rpc_laws.specs.declared.tables.Jobs.{Jobs}
 use Rattle.rpc_laws.specs.declared.tables.Lists.{Lists}
@@ -29,7 +30,7 @@ use Rattle.server_core.specs.Steps.{gave, ran, took as took_by}
 use Rattle.server_core.specs.declared.step.Step.{Step}
 use Rattle.session_store.specs.Serving.{HandlesAt}
 use Rattle.session_store.specs.Sides.{Shown}
-use Rattle.session_store.proofs.ListLemmas.{all-at, all-set, get-own}
+use Rattle.session_store.proofs.ListLemmas.{all-set}
 use Rattle.endpoint_loop.specs.Fits.{IsSendable}
 use Rattle.endpoint_loop.specs.Seen.{Asks, arrival_of, asking_jobs}
 use Rattle.endpoint_loop.specs.Serving.{AllServed}
@@ -118,7 +119,7 @@ pub served-then : (mode_of : ℕ → Mode) (xs ys : List Server) (i : ℕ) (v w 
     → IfSome (slice_get ys i) (SlotsServed mode_of) → AllServed mode_of ys
 served-then mode_of xs ys i v w all at changed own =
     let there : slice_get ys i ≡ Some w =
-    ap (λ (zs : List Server). slice_get zs i) changed ∙ get-own xs i v w at in
+    ap (λ (zs : List Server). slice_get zs i) changed ∙ set-here xs i v w at in
     rw changed (all-set (SlotsServed mode_of) xs i w (rw there at own)
     (λ j y e other. all-at (SlotsServed mode_of) xs j y all e))
 

@@ -5,6 +5,7 @@ use Rattle.std.specs.Prelude.{option_map}
 use Rattle.command_line.specs.Words.{LoadWords}
 use Rattle.endpoint_loop.specs.Noting.{sent_of}
 use Rattle.endpoint_loop.specs.Polling.{LinkTells}
+use Rattle.endpoint_loop.proofs.NotingLemmas.{sent-append}
 use Rattle.load_plan.specs.Calls.{Calls}
 use Rattle.load_run.specs.declared.tally.Tally.{Tally}
 use Rattle.load_run.specs.Loading.{HasRun, Loads, LoadsOn, LoadsSoFar, Prints, StartsAs, TurnsEnd}
@@ -12,7 +13,6 @@ use Rattle.load_run.specs.Loading.{going_at}
 use Rattle.load_run.specs.Tallies.{Tallies}
 use Rattle.load_run.proofs.EndLemmas.{end-known}
 use Rattle.load_run.proofs.TallyLemmas.{counts-silent, tallies-none}
-use Rattle.plain_turns.proofs.TurnLemmas.{sent-append}
 use Rattle.load_run.specs.declared.run.TheConstants.{LOAD_CREDITS}
 use Rattle.rpc_base.specs.declared.event.Event.TheVariants.{Opened}
 use Rattle.rpc_base.specs.declared.fact.Fact.{Fact}

@@ -14,9 +14,9 @@ use Rattle.endpoint_loop.proofs.NotesLemmas.{ends-append, me-goes, no_asks}
 use Rattle.endpoint_loop.proofs.PollLemmas.{still-answers}
 use Rattle.endpoint_loop.proofs.StandingLemmas.{is_labour, none-ran, none-worked, stands-more}
 use Rattle.endpoint_loop.proofs.StillLemmas.{AllStill, Stills, still-none}
+use Rattle.endpoint_loop.proofs.NotingLemmas.{sent-append}
 use Rattle.load_run.specs.Loading.{Passes}
 use Rattle.node_laws.specs.NodeRun.{Group, IsCredits, asks, connects, disconnects}
-use Rattle.plain_turns.proofs.TurnLemmas.{sent-append}
 use Rattle.rpc_base.specs.declared.event.Event.{Event}
 use Rattle.rpc_base.specs.declared.event.Event.TheVariants.{DoneOk, DonePeerLost, DoneTooSmall}
 use Rattle.rpc_base.specs.declared.event.Event.TheVariants.{NconnectNumbers, NconnectRing, Opened}

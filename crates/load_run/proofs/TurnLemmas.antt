@@ -8,6 +8,7 @@ use Rattle.client_core.specs.Shown.{done_fact}
 use Rattle.endpoint_loop.specs.Noting.{sent_of}
 use Rattle.endpoint_loop.specs.declared.polling.Turn.{Turn}
 use Rattle.endpoint_loop.specs.Polling.{LinkTells}
+use Rattle.endpoint_loop.proofs.NotingLemmas.{sent-append, took-none}
 use Rattle.load_run.specs.declared.ended.Ended.{Ended}
 use Rattle.load_run.specs.declared.ledger.Ledger.{Ledger}
 use Rattle.load_run.specs.Loading.{HasLoaded, Keeps, LoadsOn, LoadsSoFar, Passes, Prepares}
@@ -15,8 +16,7 @@ use Rattle.load_run.specs.Loading.{PreparesIn}
 use Rattle.load_run.specs.Loading.{UnlessFailed, UnlessNoMemory}
 use Rattle.load_run.specs.Tallies.{Counts, KeepsAll}
 use Rattle.load_run.proofs.TallyLemmas.{counts-none, counts-noted, counts-silent, counts-then}
-use Rattle.plain_turns.proofs.RunLemmas.{runs-then, sent-none}
-use Rattle.plain_turns.proofs.TurnLemmas.{sent-append}
+use Rattle.plain_turns.proofs.RunLemmas.{runs-then}
 use Rattle.plain_turns.specs.PlainTurns.{Stands, TakesTurn, TellsTurn, usual_limits}
 use Rattle.rpc_base.specs.declared.fact.Fact.{Fact}
 use Rattle.rpc_base.specs.declared.state.SessionState.{SessionState}
@@ -87,7 +87,7 @@ module _ {R C : Type 0} (facts : R → Option (List Fact)) (whole : R → Bool)
       noted = [];
       grew = grew-none facts whole f;
       goes_on = λ past s. subst (λ z. Stands z run.endpoint) (sym (append-nil past)) s;
-      sends = λ past s. sent-none sent;
+      sends = λ past s. took-none sent;
       times = [];
       count = refl;
       ticks = λ before h. subst (gave clock) (sym (append-nil before)) h;

@@ -214,9 +214,14 @@ row-tells DisconnectReply lacks peer h s =
     opened-tells s h.client h.credits peer (closed_row h.server)
     (λ x. over-joins x.state x.way.other h.server) (find (is_client h.client) s.clients) refl
 
+-- what isn't ignored is disowned
+pub unless-disowns : (b : Bool) → cond b Ignores Disowns ≡ Disowns → b ≡ false
+unless-disowns true e = cc
+unless-disowns false e = refl
+
 -- each slot
-slot-within : (P : ℕ → Type 0) → AllByRecursion P (0 ∷ 1 ∷ 2 ∷ 3 ∷ 4 ∷ 5 ∷ 6 ∷ 7 ∷ []) → (slot : ℕ)
-    → slot < 8 → P slot
+pub slot-within : (P : ℕ → Type 0) → AllByRecursion P (0 ∷ 1 ∷ 2 ∷ 3 ∷ 4 ∷ 5 ∷ 6 ∷ 7 ∷ [])
+    → (slot : ℕ) → slot < 8 → P slot
 slot-within P all zero h = all.0
 slot-within P all (suc zero) h = all.1.0
 slot-within P all (suc (suc zero)) h = all.1.1.0

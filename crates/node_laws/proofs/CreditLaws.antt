@@ -1,5 +1,5 @@
 -- Credit holds at every moment of a run, and no packet is posted without one.
-use Rattle.std.proofs.Common.{◌≡◌, ℕ, suc, ◌+◌, ◌≤◌, ◌<◌, Bool, true, false, cond, eqb, leb, Some}
+use Rattle.std.proofs.Common.{◌≡◌, ℕ, suc, ◌<◌, true, false, eqb, leb, Some}
 use Rattle.std.proofs.Common.{List, [], ◌∷◌, length, refl, ap, ◌∙◌, arith}
 use Rattle.std.specs.Prelude.{sum_by, map}
 use Rattle.std.specs.List.{AllByRecursion, find}
@@ -14,6 +14,7 @@ use Rattle.rpc_base.specs.declared.state.SessionState.{SessionState}
 use Rattle.rpc_base.specs.declared.state.SessionState.TheVariants.{Unknown, Connecting, Connected}
 use Rattle.rpc_base.specs.declared.state.SessionState.TheVariants.{Closing, Closed, Failed, Broken}
 use Rattle.rpc_base.specs.declared.state.SessionState.TheVariants.{Spent}
+use Rattle.rpc_base.proofs.BasicLemmas.{at-most-one}
 use Rattle.rpc_laws.specs.declared.tables.Call.{Call}
 use Rattle.rpc_laws.specs.declared.tables.Client.{Client}
 use Rattle.rpc_laws.specs.declared.tables.Lists.{Lists}
@@ -41,12 +42,12 @@ agrees-after clock f a s v k may = record {
   once = λ number. once-agrees number f.event a.calls s (k.once number) may;
 }
 
-one-come : (b : Bool) → 0 + cond b 1 0 ≤ 1
-one-come true = omega arith
-one-come false = omega arith
-
 pub agrees-new : (me : ℕ) (limits : Limits) → Agrees no_accounts (new_lists me limits)
-agrees-new me limits = record { sessions = refl; calls = λ n. refl; once = λ number. one-come (leb 0 number) }
+agrees-new me limits = record {
+  sessions = refl;
+  calls = λ n. refl;
+  once = λ number. at-most-one (leb 0 number);
+}
 
 -- each session is found by its number
 abbrev pub Found : List Client → Client → Type 0

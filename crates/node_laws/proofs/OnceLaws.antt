@@ -5,6 +5,7 @@ use Rattle.std.proofs.lemmas.List.Sums.{sum_by-cons}
 use Rattle.rpc_base.specs.declared.event.Event.{Event}
 use Rattle.rpc_base.specs.declared.fact.Fact.{Fact}
 use Rattle.rpc_base.specs.declared.limits.Limits.{Limits}
+use Rattle.rpc_base.proofs.BasicLemmas.{at-most-one}
 use Rattle.rpc_laws.specs.declared.tables.Lists.{Lists}
 use Rattle.rpc_laws.specs.AtMostOnce.{is_at, runs_request, works_request, begins_call, ends_call, times, Once}
 use Rattle.rpc_laws.specs.Front.{front_header, front_body}
@@ -58,10 +59,6 @@ done-spends c = record {
 ran-spends : (t r : ℕ) → Spends (runs_request t r) (to_run t r)
 ran-spends t r = record { each = λ clock s f v h a. run-spends t r s v clock f a }
 
-one-come : (b : Bool) → 0 + cond b 1 0 ≤ 1
-one-come true = omega arith
-one-come false = omega arith
-
 at-most : (a b : ℕ) → a ≤ b → b ≤ 1 → a ≤ 1
 at-most a b h k = omega arith
 
@@ -84,12 +81,14 @@ module _ (me : ℕ) (limits : Limits) (g : List Fact) (t : Lists) (l : Leads (ne
 
   run-once : ((n r : ℕ) → count_by (λ f. works_request n r f.event) g ≤ 1) → Once g
   run-once worked = record {
-    ran = λ m n r. once-of (runs_request n r) (to_run n r) (ran-spends n r) (let one = one-come (leb 0 n) in omega arith) m;
+    ran = λ m n r.
+        once-of (runs_request n r) (to_run n r) (ran-spends n r)
+        (let one = at-most-one (leb 0 n) in omega arith) m;
     worked = λ m n r. at-most (times m (works_request n r) g)
         (count_by (λ f. works_request n r f.event) g) (times-few m (works_request n r) g)
         (worked n r);
-    begun = λ n c. once-of (begins_call c) (to_begin c) (begun-spends c) (one-come (leb 0 c)) n;
-    done = λ n c. once-of (ends_call c) (to_end c) (done-spends c) (one-come (leb 0 c)) n;
+    begun = λ n c. once-of (begins_call c) (to_begin c) (begun-spends c) (at-most-one (leb 0 c)) n;
+    done = λ n c. once-of (ends_call c) (to_end c) (done-spends c) (at-most-one (leb 0 c)) n;
   }
 
 pub once : HappensAtMostOnce

@@ -90,7 +90,7 @@ module _ (t : ℕ) where
   abbrev one : Server → ℕ
   one v = cond (is_server t v) 1 0
 
-  next-one : (used n c m : ℕ) → n ≡ used → c + to_come used t ≤ 1 → m ≤ c + cond (n == t) 1 0
+  pub next-one : (used n c m : ℕ) → n ≡ used → c + to_come used t ≤ 1 → m ≤ c + cond (n == t) 1 0
       → m + to_come (used + 1) t ≤ 1
   next-one used n c m e h k = grind (arith, nat_tests)
 

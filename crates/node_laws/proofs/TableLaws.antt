@@ -26,6 +26,7 @@ use Rattle.node_laws.proofs.NumberLemmas.{numbered-at, numbered-found, one-holde
 use Rattle.node_laws.proofs.RunLaws.{run_leads}
 use Rattle.node_laws.proofs.SpendLemmas.{to_begin}
 use Rattle.rpc_base.proofs.FirstLemmas.{found-le, any-counted, none-counted}
+use Rattle.rpc_base.proofs.BasicLemmas.{at-most-one}
 use Rattle.node_laws.proofs.TakenLemmas.{none-taken-after}
 use Rattle.node_laws.proofs.ToldLemmas.{NoneTaken, told-after}
 use Rattle.node_laws.proofs.TellLemmas.{count-new, ToldProgress, ToldCall, Told}
@@ -67,18 +68,14 @@ tells-after clock past s f k a = record {
       omega arith;
 }
 
-one-come : (b : Bool) → 0 + cond b 1 0 ≤ 1
-one-come true = omega arith
-one-come false = omega arith
-
 tells-new : (me : ℕ) (limits : Limits) → Tells [] (new_lists me limits)
 tells-new me limits = record {
   knows = knows-new me limits;
   fresh = record { taken = λ n r. inl refl };
   told = λ c n. tt;
   listed = λ c. refl;
-  asked = λ c. one-come (leb 0 c);
-  begun = λ c. let one = one-come (leb 0 c) in omega arith;
+  asked = λ c. at-most-one (leb 0 c);
+  begun = λ c. let one = at-most-one (leb 0 c) in omega arith;
 }
 
 -- a call is in the table exactly where it was asked and isn't over

@@ -1,5 +1,5 @@
 -- Allowed facts keep what holds of a node's lists at every moment.
-use Rattle.std.proofs.Common.{◌≡◌, ℕ, ◌+◌, ◌-◌, ◌*◌, ◌%◌, ◌≤◌, ◌<◌, Bool, true, false, cond, leb}
+use Rattle.std.proofs.Common.{◌≡◌, ℕ, ◌+◌, ◌-◌, ◌*◌, ◌%◌, ◌≤◌, ◌<◌, Bool, false, cond, leb}
 use Rattle.std.proofs.Common.{Option, Some, None, List, length, refl, ap, ◌∙◌, arith}
 use Rattle.std.specs.Prelude.{◌==◌, count_by, sum_by}
 use Rattle.std.specs.List.{AllByRecursion, find}
@@ -44,6 +44,7 @@ use Rattle.node_laws.proofs.ShareLemmas.{shares-after}
 use Rattle.node_laws.proofs.StateLemmas.{connected-live}
 use Rattle.node_laws.proofs.ToldSame.{told-same}
 use Rattle.rpc_base.proofs.FirstLemmas.{all-push, all-kept, all-changed, sum-grown, sum-fewer}
+use Rattle.rpc_base.proofs.BasicLemmas.{at-most-one}
 use Rattle.node_laws.specs.Valid.{NumberedFrom, client_no, unanswered_of, Sound, holders, to_come, Valid}
 
 -- sessions stay sound
@@ -332,19 +333,15 @@ valid_after clock s f v a = record {
   shared = shares-after clock s f v.shared a;
 }
 
-one-cond : (b : Bool) → 0 + cond b 1 0 ≤ 1
-one-cond true = omega arith
-one-cond false = omega arith
-
 pub valid_new : (me : ℕ) (limits : Limits) → Valid (new_lists me limits)
 valid_new me limits = record {
   numbered = tt;
-  alone = λ t. one-cond (leb 0 t);
-  once = λ number. one-cond (leb 0 number);
+  alone = λ t. at-most-one (leb 0 t);
+  once = λ number. at-most-one (leb 0 number);
   sound = tt;
   idle = tt;
   served = tt;
-  runs = λ t r. let one = one-cond (leb 0 t) in omega arith;
-  works = λ t r. let one = one-cond (leb 0 t) in omega arith;
+  runs = λ t r. let one = at-most-one (leb 0 t) in omega arith;
+  works = λ t r. let one = at-most-one (leb 0 t) in omega arith;
   shared = omega arith;
 }

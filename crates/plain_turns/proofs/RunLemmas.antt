@@ -1,25 +1,16 @@
 -- Turns, one after another.
-use Rattle.std.proofs.Common.{◌≡◌, ℕ, ◌+◌, Bool, Option, Some, None, List, [], ◌∷◌, ◌++◌, refl, sym, ap, ap₂, ◌∙◌}
+use Rattle.std.proofs.Common.{ℕ, ◌+◌, Bool, Option, List, [], ◌∷◌, ◌++◌, refl, sym, ap, ap₂, ◌∙◌}
 use Rattle.std.proofs.Common.{subst, append_assoc, append-nil, length-append}
 use Rattle.std.specs.Prelude.{option_map}
 use Rattle.client_core.specs.declared.outcome.Done.{Done}
 use Rattle.endpoint_loop.specs.Noting.{sent_of}
+use Rattle.endpoint_loop.proofs.NotingLemmas.{sent-append, took-none, took-then}
 use Rattle.rpc_base.specs.declared.fact.Fact.{Fact}
 use Rattle.rpc_outside.specs.Linking.{Carried}
 use Rattle.rpc_outside.specs.Ticking.{Gives}
 use Rattle.rpc_world.specs.Answered.{End}
 use Rattle.server_core.proofs.FlushLemmas.{grew-none, grew-then}
-use Rattle.plain_turns.proofs.TurnLemmas.{sent-append}
 use Rattle.plain_turns.specs.PlainTurns.{RunsOn, Stands, TellsTurn}
-
-pub sent-none : (o : Option (List Carried)) → o ≡ option_map (λ ds. ds ++ []) o
-sent-none None = refl
-sent-none (Some ds) = ap Some (sym (append-nil ds))
-
-pub sent-both : (o : Option (List Carried)) (x y : List Carried)
-    → option_map (λ ds. ds ++ y) (option_map (λ ds. ds ++ x) o) ≡ option_map (λ ds. ds ++ (x ++ y)) o
-sent-both None x y = refl
-sent-both (Some ds) x y = ap Some (append_assoc ds x y)
 
 module _ {R C : Type 0} (facts : R → Option (List Fact)) (whole : R → Bool) (gave : C → List ℕ → Type 0) where
   -- no turn was made yet
@@ -29,7 +20,7 @@ module _ {R C : Type 0} (facts : R → Option (List Fact)) (whole : R → Bool) 
     noted = [];
     grew = grew-none facts whole f;
     goes_on = λ past s. subst (λ z. Stands z e) (sym (append-nil past)) s;
-    sends = λ past s. sent-none sent;
+    sends = λ past s. took-none sent;
     times = [];
     count = refl;
     ticks = λ before h. subst (gave clock) (sym (append-nil before)) h;
@@ -50,7 +41,7 @@ module _ {R C : Type 0} (facts : R → Option (List Fact)) (whole : R → Bool) 
     sends = λ past s.
         q.sends (past ++ p.noted) (p.goes_on past s)
         ∙ ap (option_map (λ ds. ds ++ sent_of q.noted)) (p.sends past s)
-        ∙ sent-both sent (sent_of p.noted) (sent_of q.noted)
+        ∙ took-then sent (sent_of p.noted) (sent_of q.noted)
         ∙ ap (λ x. option_map (λ ds. ds ++ x) sent) (sym (sent-append p.noted q.noted));
     times = p.times ++ q.times;
     count = length-append p.times q.times ∙ ap₂ (λ i j. i + j) p.count q.count;

@@ -6,7 +6,7 @@ use Rattle.std.specs.List.{filter}
 use Rattle.client_core.specs.declared.outcome.Done.{Done}
 use Rattle.client_core.specs.Shown.{done_fact}
 use Rattle.endpoint_loop.specs.declared.polling.Turn.{Turn}
-use Rattle.endpoint_loop.specs.Noting.{is_end, sent_by, sent_of}
+use Rattle.endpoint_loop.specs.Noting.{is_end, sent_of}
 use Rattle.endpoint_loop.specs.Polling.{LinkTells}
 use Rattle.endpoint_loop.specs.Running.{asks_of, told}
 use Rattle.endpoint_loop.specs.Turning.{DeliversAll, TakesIn}
@@ -17,6 +17,7 @@ use Rattle.endpoint_loop.proofs.StandingLemmas.{delivery-still, goes-polled, is_
 use Rattle.endpoint_loop.proofs.StandingLemmas.{unworked}
 use Rattle.endpoint_loop.proofs.StillLemmas.{AllStill, still-append}
 use Rattle.endpoint_loop.proofs.TurnLemmas.{many-append, many-none}
+use Rattle.endpoint_loop.proofs.NotingLemmas.{sent-append}
 use Rattle.node_laws.specs.NodeRun.{Group, NodeRun, delivers}
 use Rattle.rpc_base.specs.declared.event.Event.{Event}
 use Rattle.rpc_base.specs.declared.event.Event.TheVariants.{Arrived, Bad, Overflowed}
@@ -95,12 +96,6 @@ coming peer bytes s x t h = rw h.facts (by (is_message bytes) (is_control bytes)
     by true c = arrived (length s.lists.ring) s.lists.room
     by false true = arrived (length s.lists.inbox) inbox_room
     by false false = (refl, refl)
-
-pub sent-append : (x y : List Fact) → sent_of (x ++ y) ≡ sent_of x ++ sent_of y
-sent-append [] y = refl
-sent-append (f ∷ x) y =
-    ap (λ ds. sent_by f.event f.first f.second ++ ds) (sent-append x y)
-    ∙ sym (append_assoc (sent_by f.event f.first f.second) (sent_of x) (sent_of y))
 
 all-coming : (came : List Carried) (s : Timed) (x : List Fact) (t : Timed) → DeliversAll came s x t
     → (sent_of x ≡ []) × (filter is_end x ≡ [])

@@ -1,5 +1,6 @@
 -- Jobs that wait are worked, one after another.
-use Rattle.std.proofs.Common.{◌≡◌, ℕ, ◌≤◌, List, [], ◌∷◌, length, refl, sym, subst, arith}
+use Rattle.std.proofs.Common.{◌≡◌, ℕ, ◌≤◌, List, length, refl, sym, subst, arith}
+use Rattle.std.proofs.lemmas.List.{nil_from_length}
 use Rattle.endpoint_loop.specs.Standing.{StandsFor}
 use Rattle.node_laws.specs.Kept.{Kept}
 use Rattle.node_laws.specs.NodeRun.{NodeRun}
@@ -12,7 +13,6 @@ use Rattle.rpc_outside.specs.PlainStands.{PlainStands}
 use Rattle.rpc_world.proofs.CrewLemmas.{staffed-worked, told-same}
 use Rattle.rpc_world.specs.Answered.{End}
 use Rattle.rpc_world.specs.Before.{staff_of}
-use Rattle.worker_board.specs.declared.Parcel.{Parcel}
 use Rattle.worker_crew.specs.Local.{Local, Works as LocalWorks}
 use Rattle.plain_turns.specs.PlainTurns.{WorksWaiting}
 
@@ -52,10 +52,6 @@ one-more old new later session request k some h = record {
       (subst (λ (t : Timed). Kept t.lists) (sym some.timed) k) (some.stands limits g s);
 }
 
-none-left : (ps : List Parcel) → length ps ≤ 0 → ps ≡ []
-none-left [] h = refl
-none-left (p ∷ ps) h = absurd (omega (arith, h))
-
 -- none is left
 pub to-end : (old new : End) (later : Local) → WorksSome old new → length new.workers.waiting ≤ 0
     → later ≡ new.workers → WorksWaiting old (record new { workers = later })
@@ -65,6 +61,6 @@ to-end old new later some none same =
       timed = some.timed;
       handed = some.handed;
       service = some.service;
-      none_waits = none-left new.workers.waiting none;
+      none_waits = nil_from_length new.workers.waiting (omega (arith, none));
       stands = some.stands;
     })

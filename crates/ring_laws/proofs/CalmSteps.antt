@@ -27,13 +27,14 @@ use Rattle.rpc_laws.specs.Front.{control_of}
 use Rattle.rpc_laws.specs.Sessions.{clients_told, comes_to, connects, is_request_of, requests}
 use Rattle.rpc_laws.specs.Sessions.{is_client, has_call, is_connected, clients_after}
 use Rattle.end_laws.proofs.Allowed.{MayBreak, May}
-use Rattle.end_laws.proofs.ListLemmas.{all-first, all-add, all-without, all-at, all-found}
+use Rattle.end_laws.proofs.ListLemmas.{all-first, all-add, all-without, all-found}
 use Rattle.ring_laws.proofs.ClientSteps.{no_roll}
 use Rattle.node_laws.proofs.Allowed.{Allowed as Lawful}
 use Rattle.rpc_base.proofs.BasicLemmas.{false-true}
 use Rattle.std.specs.List.{find}
 use Rattle.rpc_base.specs.declared.state.SessionState.{SessionState}
 use Rattle.rpc_base.specs.declared.state.SessionState.TheVariants.{Connecting}
+use Rattle.rpc_base.proofs.PlaceLemmas.{all-at}
 
 -- an active call wasn't rolled back since its last reply
 abbrev pub Unrolled : Call → Type 0

@@ -31,7 +31,7 @@ use Rattle.end_laws.proofs.Allowed.{is_carried}
 use Rattle.end_laws.proofs.Courses.{latest}
 use Rattle.end_laws.proofs.Known.{End, Good, LiveAt}
 use Rattle.end_laws.proofs.ClientLemmas.{is-joined}
-use Rattle.end_laws.proofs.ListLemmas.{all-add, all-at, Placed}
+use Rattle.end_laws.proofs.ListLemmas.{all-add, Placed}
 use Rattle.end_laws.proofs.ServerLemmas.{server-at}
 use Rattle.end_laws.proofs.TwoEndsLaw.{placed-all}
 use Rattle.end_laws.proofs.Valids.{AllValid}
@@ -40,6 +40,7 @@ use Rattle.std.specs.Prelude.{count_by}
 use Rattle.rpc_base.proofs.FirstLemmas.{some-counted}
 use Rattle.rpc_base.proofs.FirstLemmas.{counted-cons as counted-cons-by}
 use Rattle.rpc_base.proofs.BasicLemmas.{not-true}
+use Rattle.rpc_base.proofs.PlaceLemmas.{all-at}
 use Rattle.end_laws.proofs.ListLemmas.{find-at}
 use Rattle.ring_laws.proofs.Counting.{find-front, find-some}
 use Rattle.ring_laws.proofs.Counting.{count, count-add, covered, some_of, total-le, total-sum_by}

@@ -33,11 +33,6 @@ module _ {A B : Type 0} (f : A → B) where
   map-add [] y = refl
   map-add (x ∷ xs) y = ap (λ ys. f x ∷ ys) (map-add xs y)
 
-  pub map-get : (xs : List A) (i : ℕ) (x : A) → slice_get xs i ≡ Some x → slice_get (map f xs) i ≡ Some (f x)
-  map-get [] i x is = cc
-  map-get (z ∷ zs) zero x is = let same : z ≡ x = cc in ap (λ y. Some (f y)) same
-  map-get (z ∷ zs) (suc i) x is = map-get zs i x is
-
   -- what an element of the image is of
   pub record Origin (xs : List A) (i : ℕ) (y : B) : Type 0 where
     pub item : A

@@ -25,7 +25,6 @@ use Rattle.rpc_laws.specs.Queues.{is_queued}
 use Rattle.end_laws.specs.Kinds.{is_ask}
 use Rattle.end_laws.specs.Moments.{Moment}
 use Rattle.end_laws.proofs.TwoEndsLaw.{placed-all}
-use Rattle.end_laws.proofs.ListLemmas.{all-at}
 use Rattle.ring_laws.specs.PairsOnce.{is_asking, is_replying, is_job_of, AreEndsOf, IsOpen}
 use Rattle.ring_laws.specs.PairsOnce.{IsOpenAt, IsOpenOwner, IsOpenJob, IsTidy}
 use Rattle.rpc_laws.specs.declared.tables.Call.{Call}
@@ -36,6 +35,7 @@ use Rattle.rpc_laws.specs.Front.{is_message}
 use Rattle.rpc_laws.specs.Requests.{is_request}
 use Rattle.rpc_laws.specs.Sessions.{is_client}
 use Rattle.rpc_base.proofs.BasicLemmas.{false-true}
+use Rattle.rpc_base.proofs.PlaceLemmas.{all-at}
 use Rattle.node_laws.specs.Valid.{client_no}
 use Rattle.node_laws.specs.Windows.{InWindow, Inside, Stands}
 use Rattle.node_laws.proofs.NumberLemmas.{numbered-get}

@@ -22,7 +22,7 @@ use Rattle.end_laws.specs.Moments.{Moment, moved, Always, first_moment}
 use Rattle.end_laws.proofs.Allowed.{is_packet}
 use Rattle.end_laws.proofs.Courses.{AtNode, Ends, Course, over, in_net, made, at_node, pairs}
 use Rattle.end_laws.proofs.Courses.{client_fact, server_fact, paired, noted_at, moved-node}
-use Rattle.end_laws.proofs.ListLemmas.{set-here, set-other, add-keeps}
+use Rattle.end_laws.proofs.ListLemmas.{add-keeps}
 use Rattle.end_laws.proofs.QueueLemmas.{RightNode}
 use Rattle.end_laws.proofs.SendsLaw.{AllRight, right-noted, right-net, right-made, right-paired}
 use Rattle.ring_laws.specs.CalmRing.{Calm}
@@ -36,6 +36,7 @@ use Rattle.ring_laws.proofs.OpenLaw.{is-tidy}
 use Rattle.packet_header.specs.Parts.{packet_count}
 use Rattle.rpc_base.specs.declared.owner.Owner.{Owner}
 use Rattle.rpc_base.specs.declared.owner.Owner.TheVariants.{Ask, Reply, Control}
+use Rattle.rpc_base.proofs.PlaceLemmas.{set-here, set-other}
 use Rattle.rpc_laws.specs.declared.tables.Client.{Client}
 use Rattle.rpc_laws.specs.declared.tables.Queued.{Queued}
 use Rattle.rpc_laws.specs.declared.tables.Server.{Server}

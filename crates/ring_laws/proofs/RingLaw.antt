@@ -40,6 +40,7 @@ use Rattle.rpc_laws.specs.Requests.{answered, given, is_request, is_server, serv
 use Rattle.rpc_laws.specs.Requests.{servers_after, took_packet}
 use Rattle.rpc_laws.specs.UsualLimits.{with_ring}
 use Rattle.rpc_base.specs.Tables.{at_first}
+use Rattle.rpc_base.proofs.PlaceLemmas.{set-here, set-other}
 use Rattle.node_laws.specs.Valid.{Valid}
 use Rattle.end_laws.specs.Genuine.{Travels}
 use Rattle.end_laws.specs.Kinds.{is_ask}
@@ -52,8 +53,8 @@ use Rattle.end_laws.proofs.GoodStart.{first-good}
 use Rattle.end_laws.proofs.GoodSteps.{NewEnds, next-made, next-net, next-node}
 use Rattle.end_laws.proofs.Known.{End, Good, Known, LiveAt}
 use Rattle.end_laws.proofs.LetGoSteps.{clients-kin, kin-added, kin-same, sent-gone}
-use Rattle.end_laws.proofs.ListLemmas.{add-keeps, add-placed, all-add, find-add, Placed, set-here}
-use Rattle.end_laws.proofs.ListLemmas.{set-other, set-placed}
+use Rattle.end_laws.proofs.ListLemmas.{add-keeps, add-placed, all-add, find-add, Placed}
+use Rattle.end_laws.proofs.ListLemmas.{set-placed}
 use Rattle.end_laws.proofs.OwnLaw.{next-paired}
 use Rattle.end_laws.proofs.QueueLemmas.{found-ended, is_end, RightNode, server-after}
 use Rattle.end_laws.proofs.SendsLaw.{AllRight, right-made, right-net, right-noted, right-paired}

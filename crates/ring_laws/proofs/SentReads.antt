@@ -15,6 +15,7 @@ use Rattle.packet_header.proofs.Heads.{decoded-append}
 use Rattle.rpc_base.proofs.TakingLemmas.{find-passes}
 use Rattle.rpc_base.specs.declared.owner.Owner.{Owner}
 use Rattle.rpc_base.specs.declared.owner.Owner.TheVariants.{Ask, Reply, Control}
+use Rattle.rpc_base.proofs.PlaceLemmas.{all-at}
 use Rattle.rpc_laws.specs.declared.tables.Asking.{Asking}
 use Rattle.rpc_laws.specs.declared.tables.Call.{Call}
 use Rattle.rpc_laws.specs.declared.tables.Client.{Client}
@@ -29,7 +30,6 @@ use Rattle.rpc_laws.specs.Requests.{is_server, is_request}
 use Rattle.rpc_laws.specs.Sessions.{is_client}
 use Rattle.end_laws.specs.Kinds.{is_ask}
 use Rattle.end_laws.proofs.Allowed.{MaySend}
-use Rattle.end_laws.proofs.ListLemmas.{all-at}
 use Rattle.end_laws.proofs.QueueLemmas.{QueueRight, RightNode}
 use Rattle.end_laws.proofs.SendsLaw.{owner-length}
 

@@ -5,6 +5,7 @@ use Rattle.std.proofs.Common.{◌++◌, length, Option, Some, None, slice_get, r
 use Rattle.std.proofs.Common.{subst, arith}
 use Rattle.std.specs.List.{find, slice_set}
 use Rattle.std.proofs.lemmas.Bool.{eqb-true, eqb-false}
+use Rattle.rpc_base.proofs.PlaceLemmas.{set-here, set-other}
 use Rattle.packet_header.specs.Reading.{message_of}
 use Rattle.packet_header.specs.declared.packet.ControlHeader.{ControlHeader}
 use Rattle.packet_header.specs.declared.packet.ControlKind.TheVariants.{DisconnectRequest}
@@ -25,7 +26,7 @@ use Rattle.end_laws.proofs.ClientLemmas.{client-at, has-joined, is-joined}
 use Rattle.end_laws.proofs.Known.{IsJoined}
 use Rattle.end_laws.proofs.Known.{Begin, End, Good, GoodServed, is_joined, Known, Later, LiveAt}
 use Rattle.end_laws.proofs.LetGoSteps.{gone-kin, GoneFrom, KinAll, kin-same}
-use Rattle.end_laws.proofs.ListLemmas.{add-keeps, all-found, set-here, set-other}
+use Rattle.end_laws.proofs.ListLemmas.{add-keeps, all-found}
 use Rattle.end_laws.proofs.ServerLemmas.{server-at}
 use Rattle.ring_laws.proofs.Loads.{Pairing}
 

@@ -28,7 +28,6 @@ use Rattle.rpc_laws.specs.Sessions.{is_client, client_end}
 use Rattle.end_laws.specs.Moments.{Moment, moved, hand_of}
 use Rattle.end_laws.proofs.Allowed.{is_owed, owes, carries}
 use Rattle.end_laws.proofs.Courses.{latest, AtNode, Ends, client_fact, server_fact, paired, noted_at, moved-node}
-use Rattle.end_laws.proofs.ListLemmas.{set-here, set-other}
 use Rattle.end_laws.proofs.QueueLemmas.{RightNode}
 use Rattle.ring_laws.proofs.ClientSteps.{no_roll, client-step, credit-step}
 use Rattle.ring_laws.proofs.Counting.{value, count-remove}
@@ -39,6 +38,7 @@ use Rattle.ring_laws.proofs.Loads.{server_part, owed, free, limit, load, Within}
 use Rattle.ring_laws.proofs.ServerSteps.{server-step}
 use Rattle.ring_laws.proofs.WorldSteps.{if_at, flight-node, hand-gives}
 use Rattle.rpc_base.proofs.BasicLemmas.{and-false}
+use Rattle.rpc_base.proofs.PlaceLemmas.{set-here, set-other}
 
 -- a number of one node, where it changes
 pub here-now : (f : Lists → ℕ) (nodes : List Lists) (n k : ℕ) (l m : Lists) → slice_get nodes n ≡ Some l

@@ -1,5 +1,5 @@
 -- Truth values and options: what a test that came out so says of its parts.
-use Rattle.std.proofs.Common.{◌≡◌, ◌<◌, ◌≤◌, ℕ, Bool, true, false, not, ◌&&◌, ◌||◌, cond, ltb}
+use Rattle.std.proofs.Common.{◌≡◌, ◌<◌, ◌≤◌, ◌+◌, ℕ, Bool, true, false, not, ◌&&◌, ◌||◌, cond, ltb}
 use Rattle.std.proofs.Common.{ltb-true, Option, Some, None, refl, arith, rules, tests}
 use Rattle.std.specs.Prelude.{IfSome, is_none}
 use Rattle.std.specs.Option.{option_or}
@@ -51,6 +51,11 @@ none-is (Some x) e = cc
 pub if-map : {A : Type 0} (P Q : A → Type 0) (o : Option A) → ((x : A) → P x → Q x) → IfSome o P → IfSome o Q
 if-map P Q None step h = tt
 if-map P Q (Some x) step h = step x h
+
+-- one is counted at most, of a number that may be there
+pub at-most-one : (b : Bool) → 0 + cond b 1 0 ≤ 1
+at-most-one true = omega arith
+at-most-one false = omega arith
 
 -- a number that is told where it is below another
 pub found-at : (n m i : ℕ) (b : Bool) → ltb n m ≡ b → cond b (Some n) None ≡ Some i → (i ≡ n) × (n < m)

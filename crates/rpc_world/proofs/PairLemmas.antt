@@ -5,7 +5,6 @@ use Rattle.std.proofs.Common.{ap, map, subst, ◌∙◌, append_assoc, arith}
 use Rattle.std.specs.Prelude.{option_map}
 use Rattle.std.specs.List.{slice_get, slice_set}
 use Rattle.std.proofs.lemmas.Option.{slice_get-map}
-use Rattle.end_laws.proofs.ListLemmas.{set-other}
 use Rattle.endpoint_loop.specs.Applying.{Leaves, PairsClient, PairsServer, or_refused}
 use Rattle.endpoint_loop.specs.Running.{asks_of}
 use Rattle.endpoint_loop.specs.Seen.{Asks, asking}
@@ -14,6 +13,7 @@ use Rattle.rpc_base.specs.declared.event.Event.{Event}
 use Rattle.rpc_base.specs.declared.event.Event.TheVariants.{PairedClient, PairedServer, NconnectNumbers, NconnectRing}
 use Rattle.rpc_base.specs.declared.fact.Fact.{Fact}
 use Rattle.rpc_base.specs.declared.limits.TheConstants.{SESSION_NUMBERS}
+use Rattle.rpc_base.proofs.PlaceLemmas.{set-other}
 use Rattle.rpc_laws.specs.declared.tables.Lists.{Lists}
 use Rattle.rpc_laws.specs.declared.tables.Timed.{Timed}
 use Rattle.rpc_laws.specs.declared.tables.WorkedJob.{WorkedJob}

@@ -3,6 +3,7 @@ use Rattle.std.proofs.Common.{◌≡◌, ℕ, ◌≤◌, Option, Some, None, Lis
 use Rattle.std.proofs.Common.{refl, sym, ap, subst, ◌∙◌, arith, append-nil}
 use Rattle.std.specs.Prelude.{IfNone, IfSome, IsNone, ◌↔◌}
 use Rattle.std.specs.List.{AllByRecursion}
+use Rattle.std.proofs.lemmas.List.{nil_from_length}
 use Rattle.node_laws.specs.Kept.{Kept}
 use Rattle.rpc_base.specs.declared.event.Event.TheVariants.{Missed, Worked}
 use Rattle.rpc_base.specs.declared.fact.Fact.{Fact}
@@ -26,7 +27,6 @@ use Rattle.sim_script.specs.FollowsScript.{AtNode, WorksNode}
 use Rattle.work_laws.proofs.HistoryLemmas.{worked-append}
 use Rattle.work_laws.proofs.WorkLaws.{WorksRest, misses-one, rest-end, rest-next, rest-start}
 use Rattle.work_laws.specs.Known.{KnowsWork}
-use Rattle.worker_board.specs.declared.Parcel.{Parcel}
 use Rattle.worker_crew.specs.Local.{Local, Works as LocalWorks}
 
 -- one waiting job is worked, or there is none
@@ -107,10 +107,6 @@ works-one-more old new later session request r q u k some h g =
           (some.plays worked p));
     }
 
-none-left : (ps : List Parcel) → length ps ≤ 0 → ps ≡ []
-none-left [] h = refl
-none-left (p ∷ ps) h = absurd (omega (arith, h))
-
 -- none is left
 pub works-to-end : (old new : End) (r q : MemRecorder) → WorksSome old new r q
     → length new.workers.waiting ≤ 0 → WorksAllAt old new r q
@@ -123,7 +119,7 @@ works-to-end old new r q some none = record {
       (some.told worked p) (some.plays worked p).knows in
       subst (λ (t : Timed). WorksAll worked (told_end old) some.noted t) (sym (some.told worked p))
       (rest-end worked (told_end old) some.noted new.workers knows
-      (none-left new.workers.waiting none) (some.rest worked p));
+      (nil_from_length new.workers.waiting (omega (arith, none))) (some.rest worked p));
   plays = some.plays;
 }
 

@@ -207,10 +207,6 @@ module _ (peer client : ℕ) where
   ours true c h t = sym t ∙ h
   ours false c h t = refl
 
-  or-second : (a b : Bool) → (a || b) ≡ false → b ≡ false
-  or-second true b h = cc
-  or-second false b h = h
-
   or-left : (a b : Bool) → (a || b) ≡ true → b ≡ false → a ≡ true
   or-left true b h n = refl
   or-left false b h n = absurd (false-true (sym n ∙ h))
@@ -231,7 +227,7 @@ module _ (peer client : ℕ) where
       let here : stands_at (peer, client, e.0) e ≡ false = (or-false _ _ (h e.0 below)).0 in
       let not-ours : (e.1.peer == peer && e.1.client == client) ≡ false =
       ours (e.1.peer == peer && e.1.client == client) (e.0 == e.0) here (equal-self e.0) in
-      rw not-ours (none-lowest (e.0 + 1) high es a.2 (λ u within. or-second _ _ (h u within)))
+      rw not-ours (none-lowest (e.0 + 1) high es a.2 (λ u within. (or-false _ _ (h u within)).1))
 
   lowest-by : (t low high : ℕ) (e : Kept) (es : List Kept) → Order e.0 t → Ascend low high (e ∷ es)
       → list_any (stands_at (peer, client, t)) (e ∷ es) ≡ true
@@ -252,7 +248,7 @@ module _ (peer client : ℕ) where
       or-right (stands_at (peer, client, t) e)
       (list_any (stands_at (peer, client, t)) es) some
       (stands-not (peer, client, t) e (λ same. absurd (omega (arith, same, h)))) in
-      rw (apart, not-ours) (ih later (λ u within. or-second _ _ (least u within)))
+      rw (apart, not-ours) (ih later (λ u within. (or-false _ _ (least u within)).1))
   lowest-by t low high e es (equal h) a some least ih =
       let none : list_any (stands_at (peer, client, t)) es ≡ false =
       none-below (peer, client, t) (e.0 + 1) high es a.2 (omega (arith, h)) in

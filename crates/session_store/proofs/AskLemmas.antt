@@ -9,6 +9,7 @@ use Rattle.rpc_base.specs.declared.owner.Owner.{Owner}
 use Rattle.rpc_base.specs.declared.owner.Owner.TheVariants.{Ask, Reply, Control}
 use Rattle.rpc_base.specs.declared.state.SessionState.{SessionState}
 use Rattle.rpc_base.proofs.FirstLemmas.{all-push}
+use Rattle.rpc_base.proofs.PlaceLemmas.{all-at, get-map}
 use Rattle.buffer_pool.specs.Pool.{Pool, spare_of}
 use Rattle.packet_rings.specs.Rings.{Ring}
 use Rattle.packet_rings.specs.Values.{EntryValue}
@@ -34,7 +35,7 @@ use Rattle.session_store.specs.Handing.{HandsInAt}
 use Rattle.session_store.specs.Sides.{side_handed}
 use Rattle.session_store.proofs.EndLemmas.{Steps, ask-steps, calls-end}
 use Rattle.session_store.proofs.KeptLemmas.{ClientActs, client-kept, clients-set, handed-set}
-use Rattle.session_store.proofs.ListLemmas.{all-at, get-map, sum-set}
+use Rattle.session_store.proofs.ListLemmas.{sum-set}
 use Rattle.session_store.proofs.StandLemmas.{stands-all}
 
 -- a session that is connected is there, not broken, and has turns left

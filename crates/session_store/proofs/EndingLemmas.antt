@@ -13,6 +13,7 @@ use Rattle.rpc_base.proofs.BasicLemmas.{or-false}
 use Rattle.rpc_base.proofs.TablesLemmas.{without_first-found}
 use Rattle.rpc_base.specs.declared.owner.Owner.{Owner}
 use Rattle.rpc_base.specs.declared.owner.Owner.TheVariants.{Ask, Reply, Control}
+use Rattle.rpc_base.proofs.PlaceLemmas.{all-at, get-map, set-here}
 use Rattle.buffer_pool.specs.Pool.{Pool, refs_of, spare_of}
 use Rattle.packet_rings.specs.Entries.{is_of}
 use Rattle.packet_rings.specs.Rings.{Ring}
@@ -42,7 +43,7 @@ use Rattle.session_store.specs.Sides.{numbers_in, places_in, queued_of, served_p
 use Rattle.session_store.specs.Sides.{ends_at, shown_side, side_handed}
 use Rattle.session_store.proofs.KeptLemmas.{ServerActs, clients-same, handed-same, server-acted, server-places}
 use Rattle.session_store.proofs.KeptLemmas.{servers-set}
-use Rattle.session_store.proofs.ListLemmas.{all-at, get-map, get-own, get-there}
+use Rattle.session_store.proofs.ListLemmas.{get-there}
 use Rattle.session_store.proofs.ReplyGoneLemmas.{position-seen}
 use Rattle.session_store.proofs.SearchLemmas.{found-at}
 use Rattle.session_store.proofs.StandLemmas.{ends-all}
@@ -202,7 +203,7 @@ module _ (pool after : Pool) (sides : List Side) (servers now : List Serving) (t
   its = server-acted pool after sides servers i h.server bare tx tx h.at kept end-acts
 
   there : slice_get (slice_set servers i bare) i ≡ Some bare
-  there = get-own servers i h.server bare h.at
+  there = set-here servers i h.server bare h.at
 
   left : now ≡ remove (slice_set servers i bare) i
   left = h.changed ∙ sym (remove-set servers i bare)

@@ -33,10 +33,11 @@ use Rattle.session_store.specs.Sides.{side_handed}
 use Rattle.session_store.proofs.BesideLemmas.{rest-push}
 use Rattle.session_store.proofs.KeptLemmas.{ServerActs, clients-same, handed-same, server-acted, server-places}
 use Rattle.session_store.proofs.KeptLemmas.{servers-set}
-use Rattle.session_store.proofs.ListLemmas.{all-at, get-map, set-own}
+use Rattle.session_store.proofs.ListLemmas.{set-own}
 use Rattle.session_store.proofs.ReplyGoneLemmas.{end-at}
 use Rattle.session_store.proofs.StandLemmas.{ends-all}
 use Rattle.rpc_base.proofs.BasicLemmas.{or-right}
+use Rattle.rpc_base.proofs.PlaceLemmas.{all-at, get-map}
 
 -- an element that passes is in the list
 pub any-set : {A : Type 0} (p : A → Bool) (xs : List A) (i : ℕ) (x y : A) → slice_get xs i ≡ Some x

@@ -4,6 +4,7 @@ use Rattle.std.specs.Prelude.{IfNone, IfSome, map, option_map, slice_get}
 use Rattle.std.proofs.lemmas.Option.{slice_get-map}
 use Rattle.rpc_base.specs.declared.owner.Owner.{Owner}
 use Rattle.rpc_base.specs.declared.owner.Owner.TheVariants.{Ask, Reply, Control}
+use Rattle.rpc_base.proofs.PlaceLemmas.{all-at, get-map}
 use Rattle.buffer_pool.specs.Pool.{Pool}
 use Rattle.packet_rings.specs.Rings.{Ring}
 use Rattle.packet_rings.specs.Values.{EntryValue}
@@ -19,7 +20,6 @@ use Rattle.session_store.specs.Joined.{is_some_due, joined, queue_of, shown_with
 use Rattle.session_store.proofs.UndueLemmas.{queue-undue}
 use Rattle.session_store.specs.Sides.{IsOf, IsOfOwner, Kept, Shown, queued_of, shown_of, shown_side}
 use Rattle.session_store.proofs.GoneLemmas.{front-peer}
-use Rattle.session_store.proofs.ListLemmas.{all-at, get-map}
 use Rattle.session_store.proofs.ReplyGoneLemmas.{end-peer}
 
 module _ (pool : Pool) (sides : List Side) (servers : List Serving) (tx : Ring EntryValue)

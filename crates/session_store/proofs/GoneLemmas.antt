@@ -8,6 +8,7 @@ use Rattle.rpc_base.specs.Tables.{at_first}
 use Rattle.rpc_base.specs.Taking.{TakenOut}
 use Rattle.rpc_base.specs.declared.owner.Owner.TheVariants.{Ask}
 use Rattle.rpc_base.proofs.TakingLemmas.{find-passes, taken-fewer}
+use Rattle.rpc_base.proofs.PlaceLemmas.{all-at, get-map}
 use Rattle.buffer_pool.specs.Places.{IsHeld}
 use Rattle.buffer_pool.specs.Pool.{Pool, spare_of}
 use Rattle.packet_rings.specs.Rings.{Ring, ring}
@@ -40,7 +41,7 @@ use Rattle.session_store.proofs.BesideLemmas.{rest-taken}
 use Rattle.session_store.proofs.EndLemmas.{Steps, ask-end, same-owners, sends-one}
 use Rattle.session_store.proofs.KeptLemmas.{ClientActs, client-kept, client-places, clients-set}
 use Rattle.session_store.proofs.KeptLemmas.{handed-kept}
-use Rattle.session_store.proofs.ListLemmas.{all-at, get-map, set-own}
+use Rattle.session_store.proofs.ListLemmas.{set-own}
 use Rattle.session_store.proofs.PostedLemmas.{spare-released}
 use Rattle.session_store.proofs.StandLemmas.{OfSide, all-taken, of-side, stands-all}
 use Rattle.session_store.proofs.StoreLemmas.{own-ask}

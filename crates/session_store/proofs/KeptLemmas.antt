@@ -5,6 +5,7 @@ use Rattle.std.specs.Prelude.{map, slice_get, slice_set}
 use Rattle.std.specs.List.{AllByRecursion}
 use Rattle.std.proofs.lemmas.Bool.{cases_eq, cases_lt}
 use Rattle.std.proofs.lemmas.List.Sums.{sum_by-cons}
+use Rattle.rpc_base.proofs.PlaceLemmas.{all-at, get-map, set-here, set-other}
 use Rattle.buffer_pool.specs.Uses.{is_empty}
 use Rattle.buffer_pool.specs.Pool.{Pool, spare_of, use_at}
 use Rattle.packet_rings.specs.Rings.{Ring}
@@ -27,7 +28,7 @@ use Rattle.session_store.proofs.ActLemmas.{server-queued, server-shown, side-kep
 use Rattle.session_store.proofs.ActLemmas.{side-handed, side-shown}
 use Rattle.session_store.proofs.BesideLemmas.{ask-no-reply, ask-other, ask-replies, reply-asks}
 use Rattle.session_store.proofs.BesideLemmas.{reply-no-reply, reply-other}
-use Rattle.session_store.proofs.ListLemmas.{all-at, all-from, all-set, get-map, get-other, get-own}
+use Rattle.session_store.proofs.ListLemmas.{all-from, all-set}
 use Rattle.session_store.proofs.ListLemmas.{map-kept, map-same, map-set, set-own, sum-one, sum-set, sum-two}
 use Rattle.session_store.proofs.PlaceLemmas.{named-full, served-full}
 use Rattle.server_core.proofs.HoldLemmas.{full-not-empty}
@@ -86,11 +87,11 @@ pub numbered-set : (sides : List Side) (i : ℕ) (side later : Side) → slice_g
     → (s : Side) → slice_get (slice_set sides i later) j ≡ Some s → s.session.number ≡ j
 numbered-set sides i side later there same numbered j s e = elim (cases_eq j i) [
   | inl here ↦ (
-      let own = get-own sides i side later there in
+      let own = set-here sides i side later there in
       let is : Some later ≡ Some s = sym own ∙ ap (λ n. slice_get (slice_set sides i later) n) (sym here) ∙ e in
       let one : later ≡ s = cc in
       ap (λ (x : Side). x.session.number) (sym one) ∙ same ∙ numbered i side there ∙ sym here)
-  | inr other ↦ numbered j s (sym (get-other sides i j later other) ∙ e)
+  | inr other ↦ numbered j s (sym (set-other sides i j later other) ∙ e)
 ]
 
 -- a client session acted

@@ -6,12 +6,6 @@ use Rattle.std.specs.List.{AllByRecursion, find, list_any}
 use Rattle.std.proofs.lemmas.List.Sums.{sum_by-cons}
 
 module _ {A : Type 0} where
-  pub all-at : (P : A → Type 0) (xs : List A) (i : ℕ) (x : A) → AllByRecursion P xs
-      → slice_get xs i ≡ Some x → P x
-  all-at P [] i x all e = cc
-  all-at P (y ∷ ys) zero x all e = let same : y ≡ x = cc in rw (← same) all.0
-  all-at P (y ∷ ys) (suc i) x all e = all-at P ys i x all.1 e
-
   pub all-from : (P : A → Type 0) (xs : List A)
       → ((j : ℕ) → (x : A) → slice_get xs j ≡ Some x → P x) → AllByRecursion P xs
   all-from P [] each = tt
@@ -38,20 +32,6 @@ module _ {A : Type 0} where
   got-same [] i x d e = cc
   got-same (z ∷ zs) zero x d e = let same : z ≡ x = cc in same
   got-same (z ∷ zs) (suc i) x d e = got-same zs i x d e
-
-  pub get-own : (xs : List A) (i : ℕ) (x y : A) → slice_get xs i ≡ Some x
-      → slice_get (slice_set xs i y) i ≡ Some y
-  get-own [] i x y e = cc
-  get-own (z ∷ zs) zero x y e = refl
-  get-own (z ∷ zs) (suc i) x y e = get-own zs i x y e
-
-  pub get-other : (xs : List A) (i j : ℕ) (y : A) → j ≢ i
-      → slice_get (slice_set xs i y) j ≡ slice_get xs j
-  get-other [] i j y other = refl
-  get-other (z ∷ zs) zero zero y other = absurd (other refl)
-  get-other (z ∷ zs) zero (suc j) y other = refl
-  get-other (z ∷ zs) (suc i) zero y other = refl
-  get-other (z ∷ zs) (suc i) (suc j) y other = get-other zs i j y (λ t. other (ap suc t))
 
   pub set-own : (xs : List A) (i : ℕ) (x : A) → slice_get xs i ≡ Some x → slice_set xs i x ≡ xs
   set-own [] i x e = cc
@@ -100,13 +80,6 @@ module _ {A B : Type 0} (f g : A → B) where
       rw (each 0 z refl (λ t. absurd (omega (arith, t))))
       (ap (λ ws. f z ∷ ws) (map-set zs i y
       (λ j x e other. each (suc j) x e (λ t. other (omega (arith, t))))))
-
-module _ {A B : Type 0} (f : A → B) where
-  pub get-map : (xs : List A) (i : ℕ) (x : A) → slice_get xs i ≡ Some x
-      → slice_get (map f xs) i ≡ Some (f x)
-  get-map [] i x e = cc
-  get-map (y ∷ ys) zero x e = let same : y ≡ x = cc in ap (λ z. Some (f z)) same
-  get-map (y ∷ ys) (suc i) x e = get-map ys i x e
 
 -- an element that keeps what is read of it
 module _ {A : Type 0} where

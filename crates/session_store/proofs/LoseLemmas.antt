@@ -8,6 +8,7 @@ use Rattle.rpc_base.specs.declared.owner.Owner.{Owner}
 use Rattle.rpc_base.specs.declared.owner.Owner.TheVariants.{Ask, Reply, Control}
 use Rattle.rpc_base.specs.declared.state.SessionState.{SessionState}
 use Rattle.rpc_base.proofs.BasicLemmas.{or-false}
+use Rattle.rpc_base.proofs.PlaceLemmas.{all-at, get-map, set-other}
 use Rattle.buffer_pool.specs.Pool.{Pool, refs_of, spare_of}
 use Rattle.packet_rings.specs.Rings.{Ring}
 use Rattle.packet_rings.specs.Values.{EntryValue}
@@ -58,7 +59,7 @@ use Rattle.session_store.proofs.EndLemmas.{calls-end}
 use Rattle.session_store.proofs.KeptLemmas.{ClientActs, client-kept, client-places, clients-set}
 use Rattle.session_store.proofs.KeptLemmas.{handed-kept, handed-set}
 use Rattle.session_store.proofs.KeptLemmas.{servers-same}
-use Rattle.session_store.proofs.ListLemmas.{all-at, get-map, get-other, set-own, sum-one, sum-two}
+use Rattle.session_store.proofs.ListLemmas.{set-own, sum-one, sum-two}
 use Rattle.session_store.proofs.PlaceLemmas.{names-ask, names-later}
 use Rattle.session_store.proofs.ReplyGoneLemmas.{end-at, named-cases, reply-stands}
 use Rattle.session_store.proofs.ReplyLemmas.{Spends, ended-spends}
@@ -78,7 +79,7 @@ module _ (sides : List Side) (servers : List Serving) (i : ℕ) (later : Side) w
       → IsOfOwner (slice_set sides i later) servers e o
   other-one e (Ask s r) other h = elim (cases_eq s i) [
     | inl here ↦ (let yes : eqb s i ≡ true = eq-eqb s i here in cc)
-    | inr away ↦ subst (IsOfSide e) (sym (get-other sides i s later away)) h
+    | inr away ↦ subst (IsOfSide e) (sym (set-other sides i s later away)) h
   ]
   other-one e (Reply t r) other h = h
   other-one e Control other h = h

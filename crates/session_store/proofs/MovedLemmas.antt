@@ -8,6 +8,7 @@ use Rattle.std.proofs.lemmas.Bool.{cases_eq, ne_eqb}
 use Rattle.rpc_base.specs.declared.owner.Owner.{Owner}
 use Rattle.rpc_base.specs.declared.owner.Owner.TheVariants.{Ask, Reply, Control}
 use Rattle.rpc_base.specs.declared.state.SessionState.{SessionState}
+use Rattle.rpc_base.proofs.PlaceLemmas.{all-at, get-map}
 use Rattle.buffer_pool.specs.Pool.{Pool, spare_of}
 use Rattle.packet_rings.specs.Rings.{Ring}
 use Rattle.packet_rings.specs.Values.{EntryValue}
@@ -31,7 +32,6 @@ use Rattle.session_store.specs.Sides.{shown_side, side_handed}
 use Rattle.session_store.specs.Stages.{asked, sends_at}
 use Rattle.session_store.proofs.EndLemmas.{calls-end}
 use Rattle.session_store.proofs.KeptLemmas.{ClientActs, client-kept, client-places, clients-set, handed-kept}
-use Rattle.session_store.proofs.ListLemmas.{all-at, get-map}
 use Rattle.session_store.proofs.LoseLemmas.{stands-idle}
 use Rattle.session_store.proofs.RollLemmas.{at-connected}
 

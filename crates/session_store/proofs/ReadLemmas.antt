@@ -1,6 +1,7 @@
 -- What is read of a client session, as it is seen.
 use Rattle.std.proofs.Common.{◌≡◌, ℕ, Some, List, sym, ap, ◌∙◌}
 use Rattle.std.specs.Prelude.{IfSome, slice_get}
+use Rattle.rpc_base.proofs.PlaceLemmas.{get-map}
 use Rattle.buffer_pool.specs.Pool.{Pool}
 use Rattle.packet_rings.specs.Rings.{Ring}
 use Rattle.packet_rings.specs.Values.{EntryValue}
@@ -8,7 +9,6 @@ use Rattle.rpc_laws.specs.declared.tables.Client.{Client}
 use Rattle.server_core.specs.Session.{Session as Serving}
 use Rattle.session_store.specs.declared.side.Side.{Side}
 use Rattle.session_store.specs.Sides.{Shown, shown_of, shown_side}
-use Rattle.session_store.proofs.ListLemmas.{get-map}
 
 module _ (pool : Pool) (sides : List Side) (servers : List Serving) (tx : Ring EntryValue)
     (seen : Shown) (view : shown_of pool sides servers tx ≡ seen) (i : ℕ) (s : Side)

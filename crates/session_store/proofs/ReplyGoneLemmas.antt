@@ -15,6 +15,7 @@ use Rattle.rpc_base.proofs.FindLemmas.{missing-none}
 use Rattle.rpc_base.proofs.FirstLemmas.{found-holds, found-le}
 use Rattle.rpc_base.proofs.TablesLemmas.{any-missing, find-found, find-missing, position-at}
 use Rattle.rpc_base.proofs.TakingLemmas.{find-passes, taken-fewer}
+use Rattle.rpc_base.proofs.PlaceLemmas.{all-at, get-map}
 use Rattle.buffer_pool.specs.Places.{IsHeld, released_at}
 use Rattle.buffer_pool.specs.Pool.{Pool, buf_at, refs_of, spare_of, use_at}
 use Rattle.buffer_pool.specs.Uses.{is_empty}
@@ -50,7 +51,7 @@ use Rattle.session_store.proofs.BesideLemmas.{rest-taken}
 use Rattle.session_store.proofs.GoneLemmas.{find-map}
 use Rattle.session_store.proofs.KeptLemmas.{ServerActs, clients-same, handed-same, rises-apart, server-acted}
 use Rattle.session_store.proofs.KeptLemmas.{server-places, servers-set}
-use Rattle.session_store.proofs.ListLemmas.{all-at, find-there, get-map, get-there, set-own}
+use Rattle.session_store.proofs.ListLemmas.{find-there, get-there, set-own}
 use Rattle.session_store.proofs.PostedLemmas.{spare-released}
 use Rattle.session_store.proofs.StandLemmas.{all-taken, ends-all, front-taken}
 use Rattle.client_core.proofs.OthersLemmas.{released-buf}

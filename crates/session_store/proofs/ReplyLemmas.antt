@@ -11,6 +11,7 @@ use Rattle.rpc_base.specs.declared.state.DropReason.TheVariants.{Mismatch, Queue
 use Rattle.rpc_base.proofs.ChangedLemmas.{length-without}
 use Rattle.rpc_base.proofs.FirstLemmas.{found-holds}
 use Rattle.rpc_base.proofs.TakingLemmas.{find-passes}
+use Rattle.rpc_base.proofs.PlaceLemmas.{all-at, get-map}
 use Rattle.buffer_pool.specs.Pool.{Pool, IsFull, buf_at, emptied, spare_of}
 use Rattle.buffer_pool.specs.Uses.{is_empty, is_full}
 use Rattle.buffer_pool.specs.declared.usage.Use.{Use}
@@ -56,7 +57,7 @@ use Rattle.session_store.proofs.EndLemmas.{Replied, facts-end, reply-steps}
 use Rattle.session_store.proofs.KeptLemmas.{ClientActs, client-kept, client-places, clients-set}
 use Rattle.session_store.proofs.KeptLemmas.{handed-kept, handed-set}
 use Rattle.session_store.proofs.KeptLemmas.{servers-same}
-use Rattle.session_store.proofs.ListLemmas.{all-at, get-map, set-own}
+use Rattle.session_store.proofs.ListLemmas.{set-own}
 use Rattle.session_store.proofs.StageLemmas.{stage-state}
 use Rattle.session_store.proofs.StandLemmas.{stands-all, stands-but}
 use Rattle.session_store.proofs.UnheldLemmas.{entry-queued, next-unheld, none-queued}

@@ -9,6 +9,7 @@ use Rattle.std.proofs.lemmas.List.Folds.{find-append}
 use Rattle.rpc_base.specs.declared.owner.Owner.{Owner}
 use Rattle.rpc_base.specs.declared.owner.Owner.TheVariants.{Ask}
 use Rattle.rpc_base.proofs.FirstLemmas.{found-holds, none-counted}
+use Rattle.rpc_base.proofs.PlaceLemmas.{all-at, get-map}
 use Rattle.buffer_pool.specs.Pool.{Pool, spare_of}
 use Rattle.packet_rings.specs.Entries.{is_of}
 use Rattle.packet_rings.specs.Rings.{Ring}
@@ -46,7 +47,6 @@ use Rattle.session_store.specs.Sides.{side_handed}
 use Rattle.session_store.proofs.EndLemmas.{calls-end}
 use Rattle.session_store.proofs.KeptLemmas.{ClientActs, client-kept, client-places, clients-set}
 use Rattle.session_store.proofs.KeptLemmas.{handed-kept}
-use Rattle.session_store.proofs.ListLemmas.{all-at, get-map}
 use Rattle.session_store.proofs.StandLemmas.{stands-but}
 use Rattle.session_store.proofs.TimerLemmas.{RollsEnd, numbered-same, progress-found, roll-end}
 

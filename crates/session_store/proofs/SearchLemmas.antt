@@ -8,11 +8,12 @@ use Rattle.std.specs.List.Sorted.{IsNonDecreasingBy}
 use Rattle.std.proofs.lemmas.Bool.{cases_lt, eqb-true, false≢true}
 use Rattle.std.proofs.lemmas.List.Sums.{position_or_len_is}
 use Rattle.std.proofs.lemmas.Option.{slice_get-get_or, slice_get_within}
+use Rattle.rpc_base.proofs.PlaceLemmas.{get-map}
 use Rattle.packet_rings.specs.Entries.{option_is}
 use Rattle.server_core.specs.Session.{Session as Serving}
 use Rattle.session_store.specs.Sides.{Rises, has_number, numbers_in}
 use Rattle.session_store.proofs.KeptLemmas.{rises-later}
-use Rattle.session_store.proofs.ListLemmas.{get-map, got-same}
+use Rattle.session_store.proofs.ListLemmas.{got-same}
 
 rising : (vs : List Serving) (i j : ℕ) (d : Serving) → Rises (numbers_in vs) → i < j
     → j < length vs → (get_or vs i d).number < (get_or vs j d).number

@@ -24,6 +24,7 @@ use Rattle.packet_rings.specs.Values.{EntryValue}
 use Rattle.packet_rings.proofs.MentionsLemmas.{mentions-le-length}
 use Rattle.rpc_laws.specs.Requests.{in_slot_of}
 use Rattle.rpc_base.specs.declared.event.Event.TheVariants.{Flushed}
+use Rattle.rpc_base.proofs.PlaceLemmas.{all-at, get-map}
 use Rattle.rpc_laws.specs.Facts.{plain}
 use Rattle.rpc_laws.specs.Queues.{numbers_of}
 use Rattle.rpc_laws.specs.ServerTable.{flushes, served_facts, took_facts}
@@ -64,7 +65,7 @@ use Rattle.session_store.proofs.BesideLemmas.{rest, rest-push}
 use Rattle.session_store.proofs.FinishLemmas.{new-stands, own-reply}
 use Rattle.session_store.proofs.KeptLemmas.{ServerActs, clients-same, handed-same, server-acted, server-places}
 use Rattle.session_store.proofs.KeptLemmas.{servers-set}
-use Rattle.session_store.proofs.ListLemmas.{all-at, all-from, get-map}
+use Rattle.session_store.proofs.ListLemmas.{all-from}
 use Rattle.session_store.proofs.StandLemmas.{ends-all}
 use Rattle.server_core.proofs.NoteLemmas.{way-of}
 

@@ -20,6 +20,7 @@ use Rattle.rpc_laws.specs.ControlSteps.{request_by}
 use Rattle.rpc_laws.specs.Groups.{live_credits}
 use Rattle.rpc_base.specs.Tables.{at_first}
 use Rattle.rpc_base.proofs.FirstLemmas.{all-each}
+use Rattle.rpc_base.proofs.PlaceLemmas.{all-at, get-map}
 use Rattle.rpc_laws.specs.Requests.{answered, given, is_request, is_server, took_packet}
 use Rattle.rpc_laws.specs.Sessions.{begins, clients_after, ends, has_call, is_client, is_live}
 use Rattle.rpc_laws.specs.Sessions.{is_connected as takes_calls, posts, rolls, sends, takes}
@@ -56,7 +57,7 @@ use Rattle.session_store.specs.Joined.{shown_with}
 use Rattle.session_store.specs.Sides.{CountsShares, Rises, Shown, numbers_in, shown_side}
 use Rattle.session_store.specs.Stages.{asked}
 use Rattle.session_store.proofs.EndingLemmas.{all-removed, map-removed, sum-less}
-use Rattle.session_store.proofs.ListLemmas.{all-at, all-from, all-set, get-map, map-kept, map-set}
+use Rattle.session_store.proofs.ListLemmas.{all-from, all-set, map-kept, map-set}
 use Rattle.session_store.proofs.ListLemmas.{sum-one, sum-set}
 
 -- lists with the same numbers

@@ -8,13 +8,14 @@ use Rattle.rpc_base.specs.Owners.{same_owner}
 use Rattle.rpc_base.specs.Taking.{TakenOut}
 use Rattle.rpc_base.specs.declared.owner.Owner.{Owner}
 use Rattle.rpc_base.specs.declared.owner.Owner.TheVariants.{Ask, Reply, Control}
+use Rattle.rpc_base.proofs.PlaceLemmas.{set-here, set-other}
 use Rattle.packet_rings.specs.Entries.{is_of}
 use Rattle.packet_rings.specs.Values.{EntryValue}
 use Rattle.client_core.specs.Posting.{IsPacketOf, call_of}
 use Rattle.server_core.specs.Session.{Session as Serving}
 use Rattle.session_store.specs.declared.side.Side.{Side}
 use Rattle.session_store.specs.Sides.{IsOf, IsOfOwner, IsOfSide, is_end}
-use Rattle.session_store.proofs.ListLemmas.{any-kept, get-other, get-own}
+use Rattle.session_store.proofs.ListLemmas.{any-kept}
 
 -- a client session changed, and its peer and its state didn't
 module _ (sides : List Side) (servers : List Serving) (i : ℕ) (side later : Side)
@@ -28,8 +29,8 @@ module _ (sides : List Side) (servers : List Serving) (i : ℕ) (side later : Si
         let was : IsOfSide e (Some side) = rw (here, there) at h in
         let now : IsOfSide e (Some later) = (was.0 ∙ sym peer, state ∙ was.1, packet was.2) in
         subst (IsOfSide e) (sym (ap (λ n. slice_get (slice_set sides i later) n) here
-        ∙ get-own sides i side later there)) now)
-    | inr other ↦ subst (IsOfSide e) (sym (get-other sides i s later other)) h
+        ∙ set-here sides i side later there)) now)
+    | inr other ↦ subst (IsOfSide e) (sym (set-other sides i s later other)) h
   ]
   of-one e (Reply t r) packet h = h
   of-one e Control packet h = h
@@ -70,7 +71,7 @@ pub stands-own : (sides : List Side) (servers : List Serving) (i r : ℕ) (side 
     → IsOf (slice_set sides i later) servers e
 stands-own sides servers i r side later e there own is =
     subst (IsOfOwner (slice_set sides i later) servers e) (sym own)
-    (subst (IsOfSide e) (sym (get-own sides i side later there)) is)
+    (subst (IsOfSide e) (sym (set-here sides i side later there)) is)
 
 -- the owner of a call's packets
 pub owner-is : (o : Owner) (i r : ℕ) → same_owner o (Ask i r) ≡ true → o ≡ Ask i r

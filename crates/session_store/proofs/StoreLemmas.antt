@@ -11,6 +11,7 @@ use Rattle.std.proofs.lemmas.Bool.{and_parts, eq-eqb, eqb-true}
 use Rattle.rpc_base.specs.declared.owner.Owner.{Owner}
 use Rattle.rpc_base.specs.declared.owner.Owner.TheVariants.{Ask}
 use Rattle.rpc_base.proofs.FirstLemmas.{all-push, counted-cons}
+use Rattle.rpc_base.proofs.PlaceLemmas.{all-at, get-map}
 use Rattle.buffer_pool.specs.Counting.{Counts}
 use Rattle.buffer_pool.specs.Pool.{Pool, spare_of}
 use Rattle.packet_rings.specs.Entries.{is_of, is_reply}
@@ -49,7 +50,7 @@ use Rattle.session_store.proofs.EndLemmas.{some-steps}
 use Rattle.session_store.proofs.KeptLemmas.{ClientActs, client-kept, client-places, clients-set}
 use Rattle.session_store.proofs.KeptLemmas.{handed-kept}
 use Rattle.session_store.proofs.KeptLemmas.{servers-same}
-use Rattle.session_store.proofs.ListLemmas.{all-at, all-from, get-map, got-same, set-own}
+use Rattle.session_store.proofs.ListLemmas.{all-from, got-same, set-own}
 use Rattle.session_store.proofs.PostedLemmas.{begun-length, begun-spare, free-slot, posted-free}
 use Rattle.session_store.proofs.PostedLemmas.{posted-length, posted-number, posted-spare}
 use Rattle.session_store.proofs.PostedLemmas.{slot-empty}

@@ -12,6 +12,7 @@ use Rattle.rpc_base.specs.declared.owner.Owner.TheVariants.{Ask, Reply, Control}
 use Rattle.rpc_base.proofs.FindLemmas.{skip-found}
 use Rattle.rpc_base.proofs.FirstLemmas.{found-le}
 use Rattle.rpc_base.proofs.TakingLemmas.{find-passes}
+use Rattle.rpc_base.proofs.PlaceLemmas.{all-at}
 use Rattle.buffer_pool.specs.Pool.{Pool}
 use Rattle.buffer_pool.proofs.PlacesLemmas.{named-one}
 use Rattle.packet_header.specs.Parts.{packet_count}
@@ -44,7 +45,7 @@ use Rattle.session_store.specs.Sides.{IsOf, IsOfOwner, Kept, ServerHolds, SideQu
 use Rattle.session_store.specs.Sides.{shown_side}
 use Rattle.session_store.proofs.EndLemmas.{calls-end, same-owners}
 use Rattle.session_store.proofs.GoneLemmas.{find-side}
-use Rattle.session_store.proofs.ListLemmas.{all-at, sum-one, sum-two}
+use Rattle.session_store.proofs.ListLemmas.{sum-one, sum-two}
 use Rattle.session_store.proofs.ReplyGoneLemmas.{end-at, named-cases, reply-stands}
 use Rattle.session_store.proofs.StandLemmas.{of-side, owner-is}
 use Rattle.client_core.proofs.QueuedLemmas.{owner-is as ask-owner}

@@ -8,6 +8,7 @@ use Rattle.std.proofs.lemmas.Bool.{eqb-true}
 use Rattle.rpc_base.proofs.BasicLemmas.{or-right}
 use Rattle.rpc_base.proofs.FirstLemmas.{count-fewer}
 use Rattle.rpc_base.specs.Tables.{at_first}
+use Rattle.rpc_base.proofs.PlaceLemmas.{all-at}
 use Rattle.rpc_laws.specs.declared.tables.Call.{Call}
 use Rattle.rpc_laws.specs.declared.tables.Client.{Client}
 use Rattle.rpc_laws.specs.declared.tables.Lists.{Lists}
@@ -17,7 +18,7 @@ use Rattle.rpc_laws.specs.Sessions.{is_client, has_call}
 use Rattle.node_laws.specs.Valid.{Valid, Sound, client_no}
 use Rattle.node_laws.proofs.NumberLemmas.{numbered-at}
 use Rattle.node_laws.proofs.SoundLemmas.{active-holds}
-use Rattle.end_laws.proofs.ListLemmas.{find-at, set-first, all-at}
+use Rattle.end_laws.proofs.ListLemmas.{find-at, set-first}
 use Rattle.end_laws.proofs.SlotLemmas.{find-any}
 use Rattle.stall_laws.proofs.OnePlace.{sum-two, sum-here, one-place, count-here}
 

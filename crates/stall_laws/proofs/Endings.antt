@@ -14,6 +14,7 @@ use Rattle.rpc_base.specs.Tables.{at_first, without_first}
 use Rattle.rpc_base.specs.declared.event.Event.TheVariants.{Took, Broken, DonePeerLost}
 use Rattle.rpc_base.specs.declared.fact.Fact.{Fact}
 use Rattle.rpc_base.specs.declared.owner.Owner.TheVariants.{Ask}
+use Rattle.rpc_base.proofs.PlaceLemmas.{all-at, set-here, set-other}
 use Rattle.rpc_laws.specs.declared.rows.EndRow.{EndRow}
 use Rattle.rpc_laws.specs.declared.rows.EndRow.TheVariants.{GoesOn, EndsOk, EndsTooSmall}
 use Rattle.rpc_laws.specs.declared.tables.Asking.{Asking}
@@ -34,8 +35,8 @@ use Rattle.node_laws.proofs.SoundLemmas.{by_request, took-request}
 use Rattle.node_laws.proofs.WindowLemmas.{same-request}
 use Rattle.node_laws.proofs.ValidLemmas.{valid_after}
 use Rattle.end_laws.proofs.CountLemmas.{count-none}
-use Rattle.end_laws.proofs.ListLemmas.{find-first, set-first, find-at, set-here, set-other}
-use Rattle.end_laws.proofs.ListLemmas.{set-placed, all-first, all-at, all-both}
+use Rattle.end_laws.proofs.ListLemmas.{find-first, set-first, find-at}
+use Rattle.end_laws.proofs.ListLemmas.{set-placed, all-first, all-both}
 use Rattle.stall_laws.proofs.CallPlaces.{found-number, counted, few-calls, client-set, owner-at}
 use Rattle.stall_laws.proofs.CallPlaces.{one-active}
 use Rattle.stall_laws.proofs.OnePlace.{sum-here, placed-all}

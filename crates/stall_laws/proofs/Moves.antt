@@ -17,6 +17,7 @@ use Rattle.rpc_base.specs.declared.fact.Who.{Who}
 use Rattle.rpc_base.specs.declared.fact.Who.TheVariants.{Node, Net}
 use Rattle.rpc_base.specs.declared.state.SessionState.{SessionState}
 use Rattle.rpc_base.specs.declared.state.SessionState.TheVariants.{Connected}
+use Rattle.rpc_base.proofs.PlaceLemmas.{set-here}
 use Rattle.network_model.specs.declared.stage.Stage.{Stage}
 use Rattle.rpc_laws.specs.declared.tables.InFlight.{InFlight}
 use Rattle.rpc_laws.specs.declared.tables.Job.{Job}
@@ -51,7 +52,6 @@ use Rattle.end_laws.proofs.CommandLeads.{first-works-lead, round-leads}
 use Rattle.end_laws.proofs.Courses.{latest, AtNode, Course, over, in_net, made, at_node, pairs}
 use Rattle.end_laws.proofs.Courses.{noted_at, moved-node}
 use Rattle.end_laws.proofs.Leads.{Fits, Leading}
-use Rattle.end_laws.proofs.ListLemmas.{set-here}
 use Rattle.end_laws.proofs.PairLeads.{does-lead, empty-fits}
 use Rattle.stall_laws.specs.Settled.{moment_from}
 use Rattle.stall_laws.proofs.Dues.{Due, nothing, delivery, Step, alone, arrives, overflows, is_bad}

@@ -12,6 +12,7 @@ use Rattle.rpc_base.specs.declared.event.Event.{Event}
 use Rattle.rpc_base.specs.declared.event.Event.TheVariants.{Begun, Posted, Took, Rolled, Broken}
 use Rattle.rpc_base.specs.declared.fact.Fact.{Fact}
 use Rattle.rpc_base.specs.declared.owner.Owner.TheVariants.{Ask}
+use Rattle.rpc_base.proofs.PlaceLemmas.{all-at}
 use Rattle.rpc_laws.specs.declared.tables.Call.{Call}
 use Rattle.rpc_laws.specs.declared.tables.Client.{Client}
 use Rattle.rpc_laws.specs.declared.tables.Lists.{Lists}
@@ -32,7 +33,7 @@ use Rattle.end_laws.proofs.Allowed.{is_packet}
 use Rattle.end_laws.proofs.Courses.{AtNode, noted_at}
 use Rattle.stall_laws.proofs.Living.{Living, other-stands, other-stays}
 use Rattle.end_laws.proofs.ListLemmas.{Placed, find-at, set-first, set-placed, first-each}
-use Rattle.end_laws.proofs.ListLemmas.{all-first, all-both, all-map, all-at}
+use Rattle.end_laws.proofs.ListLemmas.{all-first, all-both, all-map}
 use Rattle.end_laws.proofs.QueueLemmas.{RightNode}
 use Rattle.ring_laws.proofs.ClientReach.{spilt_reply}
 use Rattle.ring_laws.proofs.Loads.{posted_ask, took_reply as took_packets}

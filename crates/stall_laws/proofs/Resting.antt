@@ -16,6 +16,7 @@ use Rattle.rpc_base.specs.declared.event.Event.TheVariants.{Begun, Posted, Sent}
 use Rattle.rpc_base.specs.declared.fact.Fact.{Fact}
 use Rattle.rpc_base.specs.declared.owner.Owner.{Owner}
 use Rattle.rpc_base.specs.declared.owner.Owner.TheVariants.{Ask, Reply, Control}
+use Rattle.rpc_base.proofs.PlaceLemmas.{all-at, set-here, set-other}
 use Rattle.rpc_laws.specs.declared.tables.Call.{Call}
 use Rattle.rpc_laws.specs.declared.tables.Client.{Client}
 use Rattle.rpc_laws.specs.declared.tables.Lists.{Lists}
@@ -37,7 +38,6 @@ use Rattle.node_laws.proofs.LeadsLemmas.{Lawful, valid-at, lawful-chain, lawful-
 use Rattle.node_laws.proofs.LeadsLemmas.{lawful-visits}
 use Rattle.node_laws.proofs.NumberLemmas.{numbered-found}
 use Rattle.node_laws.proofs.SoundLemmas.{sent-posted, sent-answer}
-use Rattle.end_laws.proofs.ListLemmas.{set-here, set-other, all-at}
 use Rattle.stall_laws.specs.Caused.{active_calls}
 use Rattle.stall_laws.proofs.CallPlaces.{found-number, number-at, owner-at, client-set}
 use Rattle.stall_laws.proofs.Keeping.{begins-at, posts-at, begun-one, posted-one, serves-lawful}

@@ -10,6 +10,7 @@ use Rattle.std.specs.List.{AllByRecursion}
 use Rattle.std.proofs.lemmas.Option.{slice_get_within}
 use Rattle.rpc_base.proofs.BasicLemmas.{false-true}
 use Rattle.rpc_base.specs.declared.fact.Fact.{Fact}
+use Rattle.rpc_base.proofs.PlaceLemmas.{all-at}
 use Rattle.rpc_laws.specs.declared.tables.Call.{Call}
 use Rattle.rpc_laws.specs.declared.tables.Client.{Client}
 use Rattle.rpc_laws.specs.declared.tables.Lists.{Lists}
@@ -26,7 +27,7 @@ use Rattle.end_laws.specs.Moments.{Moment, first_moment}
 use Rattle.end_laws.specs.TwoNodes.{PairsTwo, PairsTwoNodes}
 use Rattle.end_laws.proofs.Allowed.{is_packet}
 use Rattle.end_laws.proofs.GoodStart.{first-right}
-use Rattle.end_laws.proofs.ListLemmas.{all-front, all-at}
+use Rattle.end_laws.proofs.ListLemmas.{all-front}
 use Rattle.end_laws.proofs.PairLeads.{follows-lead, empty-fits}
 use Rattle.ring_laws.proofs.Counting.{value}
 use Rattle.ring_laws.proofs.Loads.{Filter, Pairing, client_packets, server_packets, on_way}

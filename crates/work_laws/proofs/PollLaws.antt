@@ -18,13 +18,12 @@ use Rattle.rpc_base.proofs.BasicLemmas.{false-true}
 use Rattle.rpc_base.proofs.FirstLemmas.{counted-cons, counted-none}
 use Rattle.rpc_base.proofs.TakingLemmas.{find-passes}
 use Rattle.rpc_base.specs.Tables.{without_first}
-use Rattle.rpc_base.specs.declared.event.Event.TheVariants.{Posted, Ran}
+use Rattle.rpc_base.specs.declared.event.Event.TheVariants.{Ran}
 use Rattle.rpc_base.specs.declared.fact.Fact.{Fact}
-use Rattle.rpc_base.specs.declared.owner.Owner.TheVariants.{Reply}
 use Rattle.rpc_laws.proofs.PollLemmas.{poll-within}
 use Rattle.rpc_laws.proofs.RunLemmas.{me-after_all}
 use Rattle.rpc_laws.specs.AtMostOnce.{runs_request}
-use Rattle.rpc_laws.specs.Facts.{plain, with_two}
+use Rattle.rpc_laws.specs.Facts.{with_two}
 use Rattle.rpc_laws.specs.Jobs.{is_job}
 use Rattle.rpc_laws.specs.NodeLists.{after, after_all}
 use Rattle.rpc_laws.specs.PollOrder.{answer_posted, awaited, Poll, PollBy, raised, SendsAll}

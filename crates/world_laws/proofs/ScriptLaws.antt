@@ -4,7 +4,6 @@ use Rattle.std.proofs.Common.{false, cond, List, [], ◌∷◌, ◌++◌, length
 use Rattle.std.proofs.Common.{slice_get, refl, sym, ap, ◌∙◌, subst, append_assoc, arith, leb-false}
 use Rattle.std.specs.Bool.{MatchBool}
 use Rattle.std.specs.List.{list_all, remove, slice_set}
-use Rattle.end_laws.proofs.ListLemmas.{set-other}
 use Rattle.end_laws.specs.TwoNodes.{PairsTwo, PairsTwoNodes}
 use Rattle.network_model.specs.declared.stage.Stage.{Stage}
 use Rattle.node_laws.specs.NodeRun.{IsCredits, MayPair, Notes, asks, connects, delivers}
@@ -50,6 +49,7 @@ use Rattle.world_laws.proofs.RunLemmas.{step-runs, at-runs-all, at-runs, net-run
 use Rattle.world_laws.proofs.WorkLemmas.{times_worked, worked-cons}
 use Rattle.world_laws.proofs.WorkSteps.{all-groups, all-mine, works-group, works-mine}
 use Rattle.rpc_base.proofs.BasicLemmas.{false-true}
+use Rattle.rpc_base.proofs.PlaceLemmas.{set-other}
 
 -- session control is not kept out here
 not-still : {l : Lists} → Still false l

@@ -4,7 +4,6 @@ use Rattle.std.proofs.Common.{List, [], ◌∷◌, ◌++◌, map, Option, Some, 
 use Rattle.std.proofs.Common.{◌∙◌, subst, arith, eq-eqb}
 use Rattle.std.specs.List.{filter, list_any, AllByRecursion}
 use Rattle.std.proofs.lemmas.List.Sums.{sum_by-cons}
-use Rattle.end_laws.proofs.ListLemmas.{all-at}
 use Rattle.node_laws.proofs.Allowed.{AllAllowed}
 use Rattle.node_laws.specs.NodeRun.{Group, misses, works}
 use Rattle.node_laws.specs.Valid.{jobs_of, Valid}
@@ -24,6 +23,7 @@ use Rattle.rpc_outside.specs.PlainAnswer.{plain_mode}
 use Rattle.world_laws.proofs.RunLemmas.{Groups, Mine, mine-works}
 use Rattle.world_laws.proofs.WorkLemmas.{AllMay, AllNode, any-same, times_worked, to_work, works-spend}
 use Rattle.rpc_base.proofs.BasicLemmas.{not-true}
+use Rattle.rpc_base.proofs.PlaceLemmas.{all-at}
 
 -- a job that waits is out, and wasn't worked
 pub record Waits (worked : List WorkedJob) (me : ℕ) (out : List Job) (job : Job) : Type 0 where

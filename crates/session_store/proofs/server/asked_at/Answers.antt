@@ -1,9 +1,10 @@
 use Rattle.std.proofs.Common.{refl}
+use Rattle.rpc_base.proofs.PlaceLemmas.{all-at, set-here}
 use Rattle.server_core.proofs.FlushLemmas.{newest-holds}
 use Rattle.server_core.proofs.QueuedLemmas.{newest-counted}
 use Rattle.session_store.specs.Serving.{ServerCanHold}
 use Rattle.session_store.specs.Sides.{ServerHolds, ServerQueued}
-use Rattle.session_store.proofs.ListLemmas.{all-at, get-own, get-there}
+use Rattle.session_store.proofs.ListLemmas.{get-there}
 use Rattle.session_store.proofs.ServeLemmas.{newest-can}
 use Rattle.session_store.proofs.server.asked_at.Goals as goal
 
@@ -41,7 +42,8 @@ pub returns-clause-all_served : goal.returns-clause-all_served
 returns-clause-all_served g c =
     let x = c.index_mut-server.result.now in
     let at = get-there c.args.servers.now.items c.args.i x c.requires.known c.index_mut-server.ensures.value in
-    rw (get-own c.args.servers.now.items c.args.i x c.on_packet-step.new.self at) c.on_packet-step.ensures.all_served
+    rw (set-here c.args.servers.now.items c.args.i x c.on_packet-step.new.self at)
+    c.on_packet-step.ensures.all_served
 
 pub returns-clause-handles : goal.returns-clause-handles
 returns-clause-handles g c =

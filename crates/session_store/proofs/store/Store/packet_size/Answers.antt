@@ -1,11 +1,11 @@
 use Rattle.std.proofs.Common.{◌≡◌, ap, ◌∙◌}
 use Rattle.rpc_laws.specs.Pacing.{packet_size}
 use Rattle.std.proofs.Common.{Some, ◌+◌}
+use Rattle.rpc_base.proofs.PlaceLemmas.{all-at}
 use Rattle.packet_header.specs.Parts.{part_size}
 use Rattle.session_store.specs.Joined.{joined, undue}
 use Rattle.session_store.specs.Sides.{SideKept}
 use Rattle.session_store.proofs.FlushLemmas.{there-at}
-use Rattle.session_store.proofs.ListLemmas.{all-at}
 use Rattle.session_store.proofs.ReadLemmas.{read-at}
 use Rattle.session_store.proofs.SizeLemmas.{size-shown}
 use Rattle.session_store.proofs.UndueLemmas.{flat}
