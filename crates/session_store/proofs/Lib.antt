@@ -35,3 +35,5 @@ pub mod ServeLemmas
 mod ReadLemmas
 mod NewestLemmas
 mod ShareLemmas
+mod EndOrderLemmas
+mod WayLemmas

@@ -15,7 +15,7 @@ use Rattle.session_store.specs.Sides.{Rises, has_number, numbers_in}
 use Rattle.session_store.proofs.KeptLemmas.{rises-later}
 use Rattle.session_store.proofs.ListLemmas.{got-same}
 
-rising : (vs : List Serving) (i j : ℕ) (d : Serving) → Rises (numbers_in vs) → i < j
+pub rising : (vs : List Serving) (i j : ℕ) (d : Serving) → Rises (numbers_in vs) → i < j
     → j < length vs → (get_or vs i d).number < (get_or vs j d).number
 rising [] i j d up less within = absurd (omega (arith, within))
 rising (v ∷ vs) i zero d up less within = absurd (omega (arith, less))

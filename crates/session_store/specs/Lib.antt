@@ -1,5 +1,6 @@
 pub mod Changes
 pub mod Effects
+pub mod EndOrder
 pub mod Ends
 pub mod Handing
 pub mod Hearing

@@ -2,6 +2,7 @@
 //! facts and read no clock.
 #![tactic(auto)]
 
+mod ends;
 mod line;
 mod server;
 mod side;

@@ -10,7 +10,6 @@ ghost use Rattle.session_store.specs.Effects.{ServerEnds, ServerFinishes, Server
 ghost use Rattle.session_store.specs.Effects.{ServerSpells, ServerStep};
 ghost use Rattle.packet_rings.specs.Entries.{listed_entry, option_is};
 ghost use Rattle.session_store.specs.Serving.{Handles, ServerCanHold, ServerServed};
-ghost use Rattle.session_store.specs.Sides.{ends_at};
 ghost use Rattle.session_store.specs.Sides.{HasReply, ServerHolds, ServerKept, ServerQueued};
 ghost use Rattle.session_store.specs.Sides.{Rises, has_number, numbers_in};
 ghost use Rattle.server_core.specs.Flushing.{replies_of};
@@ -34,13 +33,6 @@ pub struct ServerEnd {
     /// Its number at the client.
     pub client: SessionNo,
     pub credits: u16,
-}
-
-/// Where the first of these sessions stands that is the other end of a peer's client session.
-pub fn end_in(servers: &Vec<ServerSession>, peer: Peer, client: SessionNo) -> Option<usize>
-    ensures { result ≡ position (ends_at peer client) servers.now.items }
-{
-    servers.iter().position(|server| server.peer().0 == peer.0 && server.client().0 == client.0)
 }
 
 /// Where the server session with this number stands. Numbers rise, and as long as no session is

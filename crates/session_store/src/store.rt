@@ -32,12 +32,15 @@ pub struct Store {
     servers: Vec<ServerSession>,
     // The credits of the live sessions.
     shares: u32,
+    // The codes of the server sessions, in rising order.
+    ends: Vec<u64>,
 }
 
 impl Model for Store {
+    ghost use Rattle.session_store.specs.EndOrder.{EndOrder};
     ghost use Rattle.session_store.specs.Joined.{Paces, joined, shown_with};
     ghost use Rattle.session_store.specs.Sides.{CountsShares, Kept, Shown, shown_side};
-    ghost use Rattle.server_core.specs.Shown.{shown};
+    ghost use Rattle.server_core.specs.Shown.{shown, way_of};
     ghost use Rattle.std.specs.Prelude.{map};
 
     ghost Value = { Shown };
@@ -47,7 +50,8 @@ impl Model for Store {
     ghost invariant = { λ s. Kept s.pool s.sides.items s.servers.items (joined s.tx s.pacer)
         × Paces s.tx s.pacer
         × CountsShares s.shares (map (shown_side s.pool) s.sides.items)
-        (map (shown s.pool) s.servers.items) };
+        (map (shown s.pool) s.servers.items)
+        × EndOrder s.ends.items (map way_of s.servers.items) };
 }
 
 impl Store {
@@ -68,6 +72,7 @@ impl Store {
             sides: Vec::new(alloc),
             servers: Vec::new(alloc),
             shares: 0,
+            ends: Vec::new(alloc),
         })
     }
 }

@@ -7,6 +7,7 @@ ghost use Rattle.rpc_laws.specs.Requests.{in_slot_of, is_server};
 ghost use Rattle.session_store.specs.Changes.{IsDrained};
 
 use super::Store;
+use crate::ends::{code_at, place_in};
 use crate::server::end_at;
 use rpc_base::Owner;
 
@@ -36,6 +37,10 @@ impl Store {
         ensures handed { self.new.handed ≡ self.old.handed }
     {
         self.shares -= u32::from(self.servers[i].credits());
+        let server = &self.servers[i];
+        let code = code_at(server.peer(), server.client(), server.session());
+        let place = place_in(&self.ends, code);
+        self.ends.remove(place);
         end_at(&mut self.servers, i, &mut self.pool);
     }
 }

@@ -14,7 +14,8 @@ ghost use Rattle.session_store.specs.Joined.{put_listed};
 ghost use Rattle.session_store.specs.Sides.{HasRoom};
 
 use super::Store;
-use crate::server::{ServerEnd, asked_at, end_in, finished_at, place_of, reply_of};
+use crate::ends::{code_at, end_in, place_in};
+use crate::server::{ServerEnd, asked_at, finished_at, place_of, reply_of};
 use packet_header::MessageHeader;
 use packet_rings::Entry;
 use rpc_base::{MOST_CREDITS, NoMemory, NodeId, Peer, SESSION_NUMBERS, SessionNo, Who};
@@ -43,7 +44,7 @@ impl Store {
     pub fn place_of_end(&self, peer: Peer, client: SessionNo) -> Option<usize>
         ensures { result ≡ position (is_end_of peer client) self.now.servers }
     {
-        end_in(&self.servers, peer, client)
+        end_in(&self.servers, &self.ends, peer, client)
     }
 
     /// The number, the credits and the client's number of the server session at place `i`.
@@ -94,7 +95,12 @@ impl Store {
     {
         let shares = self.shares_with(credits);
         let session = ServerSession::new(number, client, peer, credits);
-        self.servers.push(session)?;
+        // There is room for the session before anything changes.
+        self.servers.reserve(1)?;
+        let code = code_at(peer, client, number);
+        let place = place_in(&self.ends, code);
+        self.ends.insert(place, code)?;
+        self.servers.push(session).unwrap();
         self.shares = shares;
         Ok(())
     }

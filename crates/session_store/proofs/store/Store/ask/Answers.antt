@@ -38,6 +38,7 @@ invariant_of-self c = (
       c.enqueue_at.ensures.waits)) (unchanged-shown c.self.inside.pool c.self.inside.sides.items
       c.enqueue_at.new.sides.items c.enqueue_at.result c.enqueue_at.ensures.unchanged))
       c.self.invariant.2,
+  c.self.invariant.3,
 )
 
 pub returns-clause-clients : goal.returns-clause-clients

@@ -29,6 +29,7 @@ invariant_of-self c =
           c.begin_at.new.pool c.self.inside.sides.items c.begin_at.new.sides.items
           c.self.inside.servers.items (joined c.self.inside.tx c.self.inside.pacer) c.args.i
           c.self.invariant.0 c.begin_at.result h connected)) c.self.invariant.2,
+      c.self.invariant.3,
     )
 
 pub returns-clause-clients : goal.returns-clause-clients

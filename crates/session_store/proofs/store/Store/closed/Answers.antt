@@ -36,6 +36,7 @@ invariant_of-self c =
           (live-in SessionState.Closing refl _ c.requires.closing)
           c.from.result (c.from.ensures ∙ c.limit.ensures)
           (record c.index_mut-side.result.now { stage = Closed }) refl,
+      c.self.invariant.3,
     )
 
 pub returns-clause-clients : goal.returns-clause-clients

@@ -20,6 +20,7 @@ invariant_of-self c =
       share-stays s.shares s.pool s.sides.items s.servers.items c.self.invariant.2 c.args.i
           c.index_mut-side.result.now at s.tx s.pacer c.args.self.now c.self.view_is
           (live-connected _ c.requires.connected) _ refl,
+      c.self.invariant.3,
     )
 
 pub returns-clause-clients : goal.returns-clause-clients

@@ -22,6 +22,7 @@ invariant_of-self c =
       share-stays s.shares s.pool s.sides.items s.servers.items c.self.invariant.2 c.args.i
           c.index_mut-side.result.now at s.tx s.pacer c.args.self.now c.self.view_is
           (live-in SessionState.Connecting refl _ c.requires.connecting) _ (rw c.connected.ensures refl),
+      c.self.invariant.3,
     )
 
 pub returns-clause-clients : goal.returns-clause-clients

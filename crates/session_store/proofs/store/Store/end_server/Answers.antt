@@ -1,4 +1,4 @@
-use Rattle.std.proofs.Common.{length, ap, ◌∙◌, arith}
+use Rattle.std.proofs.Common.{◌≡◌, length, ap, ◌∙◌, arith}
 use Rattle.std.proofs.lemmas.List.{length-map}
 use Rattle.server_core.specs.Session.{Session as Serving}
 use Rattle.server_core.specs.Shown.{shown}
@@ -6,6 +6,9 @@ use Rattle.session_store.specs.Sides.{Shown}
 use Rattle.session_store.proofs.ListLemmas.{get-there, got-same}
 use Rattle.session_store.proofs.EndingLemmas.{ended, unheld-at}
 use Rattle.session_store.proofs.ShareLemmas.{server-ended, server-within}
+use Rattle.server_core.specs.Shown.{way_of}
+use Rattle.session_store.specs.EndOrder.{code_of}
+use Rattle.session_store.proofs.EndOrderLemmas.{end-left, end-there}
 use Rattle.session_store.proofs.store.Store.end_server.Goals as goal
 
 pub overflow_sub-self : goal.overflow_sub-self
@@ -22,6 +25,23 @@ overflow_sub-self c =
     server-within s.shares s.pool s.pool s.sides.items s.servers.items c.self.invariant.2 c.args.i v
     at c.from.result (c.from.ensures ∙ c.credits.ensures)
 
+pub remove-requires : goal.remove-requires
+remove-requires c =
+    let s = c.self.inside in
+    let w = c.index-server.result.now in
+    let at = get-there s.servers.items c.args.i w
+    (omega (
+      arith,
+      c.requires.known,
+      ap (λ (x : Shown). length x.servers) c.self.view_is,
+      length-map s.servers.items (shown s.pool),
+    )) c.index-server.ensures in
+    let own : c.code_at-code.result ≡ code_of (way_of w) =
+    omega (arith, c.code_at-code.ensures, c.peer.ensures, c.client.ensures, c.session.ensures) in
+    let there = end-there s.ends.items s.servers.items c.self.invariant.3 c.place_in-place.result
+    c.code_at-code.result c.args.i w at own c.place_in-place.ensures.parts in
+    omega (arith, there.0)
+
 pub end_at-requires-clause-unheld : goal.end_at-requires-clause-unheld
 end_at-requires-clause-unheld c =
     let s = c.self.inside in
@@ -31,6 +51,16 @@ end_at-requires-clause-unheld c =
 pub invariant_of-self : goal.invariant_of-self
 invariant_of-self c =
     let s = c.self.inside in
+    let w = c.index-server.result.now in
+    let at = get-there s.servers.items c.args.i w
+    (omega (
+      arith,
+      c.requires.known,
+      ap (λ (x : Shown). length x.servers) c.self.view_is,
+      length-map s.servers.items (shown s.pool),
+    )) c.index-server.ensures in
+    let own : c.code_at-code.result ≡ code_of (way_of w) =
+    omega (arith, c.code_at-code.ensures, c.peer.ensures, c.client.ensures, c.session.ensures) in
     let h = ended s.pool s.sides.items s.servers.items s.tx s.pacer c.self.invariant.0 c.args.self.now
     c.self.view_is c.args.i c.requires.drained c.end_at.new.pool c.end_at.new.servers.items
     c.end_at.ensures in (
@@ -42,6 +72,9 @@ invariant_of-self c =
           (c.index.ensures ∙ got-same s.servers.items c.args.i c.end_at.ensures.server
           c.index.result.now c.end_at.ensures.at)) c.end_at.new.servers.items
           c.end_at.ensures.changed,
+      rw (c.end_at.ensures.changed, c.remove.ensures.items) (end-left s.ends.items s.servers.items
+          c.self.invariant.3 c.place_in-place.result c.code_at-code.result c.args.i w at own
+          c.place_in-place.ensures.parts),
     )
 
 pub returns-clause-servers : goal.returns-clause-servers

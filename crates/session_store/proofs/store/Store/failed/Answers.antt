@@ -36,6 +36,7 @@ invariant_of-self c =
           (live-in SessionState.Connecting refl _ c.requires.connecting)
           c.from.result (c.from.ensures ∙ c.limit.ensures)
           (record c.index_mut-side.result.now { stage = Failed }) refl,
+      c.self.invariant.3,
     )
 
 pub returns-clause-clients : goal.returns-clause-clients

@@ -85,6 +85,7 @@ invariant_of-self-2 c =
           (is_entry (Ask c.session.result c.args.request) c.in-Some.entry.number)
           (joined c.flush_in-flushed.new.tx c.flush_in-flushed.new.pacer).items c.self.invariant.0
           h.nearest own c.flushed_at.ensures)) c.self.invariant.2,
+      c.self.invariant.3,
     )
 
 pub returns-clause-taken : goal.returns-clause-taken

@@ -11,6 +11,7 @@ use Rattle.session_store.proofs.ReplyGoneLemmas.{reply-clients, reply-held, repl
 use Rattle.session_store.proofs.ReplyGoneLemmas.{reply-places, reply-servers, reply-there}
 use Rattle.session_store.proofs.ReplyGoneLemmas.{reply-handed}
 use Rattle.session_store.proofs.ShareLemmas.{gone-kept, servers-kept}
+use Rattle.session_store.proofs.WayLemmas.{ends-kept, gone-ways}
 use Rattle.session_store.proofs.store.Store.flush_reply.Goals as goal
 
 pub returns-in_default-clause-taken : goal.returns-in_default-clause-taken
@@ -61,6 +62,10 @@ invariant_of-self-2 c =
           c.reply_flushed_at.new.servers.items (gone-kept c.args.session c.in-Some.entry
           s.servers.items c.reply_flushed_at.new.servers.items s.pool c.reply_flushed_at.new.pool
           c.reply_flushed_at.ensures) c.self.invariant.2,
+      ends-kept s.ends.items s.servers.items c.reply_flushed_at.new.servers.items
+          (gone-ways c.args.session c.in-Some.entry s.servers.items
+          c.reply_flushed_at.new.servers.items s.pool c.reply_flushed_at.new.pool
+          c.reply_flushed_at.ensures) c.self.invariant.3,
     )
 
 pub returns-clause-taken : goal.returns-clause-taken

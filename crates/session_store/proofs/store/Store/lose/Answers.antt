@@ -43,6 +43,7 @@ invariant_of-self c =
           (idle-undue c.args.i c.args.self.now.queued c.requires.idle) c.lose_at.result h broken)
           ∙ ap (λ (v : Shown). map live_credits v.clients) (sym c.self.view_is))
           c.self.invariant.2,
+      c.self.invariant.3,
     )
 
 pub returns-clause-clients : goal.returns-clause-clients

@@ -38,6 +38,7 @@ invariant_of-self c =
           (live-connected _ c.requires.connected)
           c.from.result (c.from.ensures ∙ c.limit.ensures)
           (record c.index_mut-side.result.now { stage = Broken }) refl,
+      c.self.invariant.3,
     )
 
 pub returns-clause-clients : goal.returns-clause-clients

@@ -10,6 +10,7 @@ use Rattle.session_store.proofs.UndueLemmas.{joined-length, less-undue, flat}
 use Rattle.session_store.proofs.FinishLemmas.{left-handed}
 use Rattle.session_store.proofs.FinishLemmas.{finish-handed}
 use Rattle.session_store.proofs.ShareLemmas.{finished-kept, servers-kept}
+use Rattle.session_store.proofs.WayLemmas.{ends-kept, finished-ways}
 use Rattle.session_store.proofs.store.Store.on_finished.Goals as goal
 
 pub finished_at-reply-requires-clause-spare : goal.finished_at-reply-requires-clause-spare
@@ -33,6 +34,10 @@ invariant_of-self c =
           c.finished_at-reply.new.servers.items (finished-kept c.args.i c.args.parcel.request _ None
           s.servers.items c.finished_at-reply.new.servers.items s.pool c.finished_at-reply.new.pool
           h) c.self.invariant.2,
+      ends-kept s.ends.items s.servers.items c.finished_at-reply.new.servers.items
+          (finished-ways c.args.i c.args.parcel.request _ None s.servers.items
+          c.finished_at-reply.new.servers.items s.pool c.finished_at-reply.new.pool h)
+          c.self.invariant.3,
     )
 
 pub returns-in_default-clause-servers : goal.returns-in_default-clause-servers
@@ -71,6 +76,10 @@ invariant_of-self-2 c =
           c.finished_at-reply.new.servers.items (finished-kept c.args.i c.args.parcel.request _
           (Some c.in-Some.entry) s.servers.items c.finished_at-reply.new.servers.items s.pool
           c.finished_at-reply.new.pool h) c.self.invariant.2,
+      ends-kept s.ends.items s.servers.items c.finished_at-reply.new.servers.items
+          (finished-ways c.args.i c.args.parcel.request _ (Some c.in-Some.entry) s.servers.items
+          c.finished_at-reply.new.servers.items s.pool c.finished_at-reply.new.pool h)
+          c.self.invariant.3,
     )
 
 pub returns-clause-servers : goal.returns-clause-servers

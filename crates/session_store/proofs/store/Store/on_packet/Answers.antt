@@ -23,6 +23,7 @@ use Rattle.session_store.proofs.StoreLemmas.{ring-room, two-spare}
 use Rattle.session_store.proofs.UndueLemmas.{flat, joined-length, less-undue}
 use Rattle.session_store.proofs.ServeLemmas.{serve-handed}
 use Rattle.session_store.proofs.ShareLemmas.{servers-kept, step-kept, steps-credits}
+use Rattle.session_store.proofs.WayLemmas.{ends-kept, step-ways, steps-way}
 use Rattle.session_store.proofs.store.Store.on_packet.Goals as goal
 
 pub asked_at-step-requires-clause-holds : goal.asked_at-step-requires-clause-holds
@@ -103,6 +104,11 @@ invariant_of-self g c =
           c.asked_at-step.new.servers.items handles.server handles.later handles.at handles.changed
           (steps-credits c.asked_at-step.result handles.step.handled.answer c.args.head.now
           c.args.body.now _ _ handles.step.handled.steps)) c.self.invariant.2,
+      ends-kept s.ends.items s.servers.items c.asked_at-step.new.servers.items
+          (step-ways c.args.i s.servers.items c.asked_at-step.new.servers.items handles.server
+          handles.later handles.at handles.changed (steps-way c.asked_at-step.result
+          handles.step.handled.answer c.args.head.now c.args.body.now _ _
+          handles.step.handled.steps)) c.self.invariant.3,
     )
 
 pub push-requires : goal.push-requires
@@ -178,6 +184,11 @@ invariant_of-self-2 g c =
           c.asked_at-step.new.servers.items handles.server handles.later handles.at handles.changed
           (steps-credits c.asked_at-step.result handles.step.handled.answer c.args.head.now
           c.args.body.now _ _ handles.step.handled.steps)) c.self.invariant.2,
+      ends-kept s.ends.items s.servers.items c.asked_at-step.new.servers.items
+          (step-ways c.args.i s.servers.items c.asked_at-step.new.servers.items handles.server
+          handles.later handles.at handles.changed (steps-way c.asked_at-step.result
+          handles.step.handled.answer c.args.head.now c.args.body.now _ _
+          handles.step.handled.steps)) c.self.invariant.3,
     )
 
 pub returns-in_default-clause-handles : goal.returns-in_default-clause-handles

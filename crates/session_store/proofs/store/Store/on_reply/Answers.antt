@@ -92,6 +92,7 @@ invariant_of-self c =
           (joined s.tx s.pacer) c.args.i c.args.now c.args.head.now c.args.body.now
           c.is_waiting-is_waiting.result c.heard_at.result c.self.invariant.0 h connected
           c.requires.session windows waits c.args.peer peer)) c.self.invariant.2,
+      c.self.invariant.3,
     )
 
 pub returns-clause-servers : goal.returns-clause-servers

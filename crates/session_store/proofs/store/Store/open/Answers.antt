@@ -27,4 +27,5 @@ invariant_of-self-2 c =
           (made c.args.peer c.new-session.result)
           (opened-share c.self.inside.pool (made c.args.peer c.new-session.result)
           _ 0 c.args.credits 0 0 refl c.new-session.ensures.session)),
+      c.self.invariant.3,
     )

@@ -27,4 +27,5 @@ invariant_of-self-2 c =
           (made c.args.peer c.new-session.result)
           (paired-share c.self.inside.pool (made c.args.peer c.new-session.result)
           _ c.args.server c.args.credits refl c.new-session.ensures.session)),
+      c.self.invariant.3,
     )

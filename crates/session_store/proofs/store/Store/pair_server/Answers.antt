@@ -1,6 +1,9 @@
 use Rattle.session_store.specs.Joined.{joined}
 use Rattle.session_store.proofs.FinishLemmas.{kept-server}
-use Rattle.std.proofs.Common.{ap}
+use Rattle.std.proofs.Common.{◌≡◌, ap, arith, sym, ◌∙◌, ◌++◌, List, [], ◌∷◌}
+use Rattle.server_core.specs.Shown.{way_of}
+use Rattle.session_store.specs.EndOrder.{code_of}
+use Rattle.session_store.proofs.EndOrderLemmas.{end-added}
 use Rattle.server_core.specs.Session.{Session as Serving}
 use Rattle.session_store.proofs.ShareLemmas.{server-added}
 use Rattle.session_store.proofs.store.Store.pair_server.Goals as goal
@@ -8,13 +11,23 @@ use Rattle.session_store.proofs.store.Store.pair_server.Goals as goal
 pub invariant_of-self-2 : goal.invariant_of-self-2
 invariant_of-self-2 c =
     let s = c.self.inside in
-    let below = rw (← c.self.view_is) at c.requires.above in (
-      rw c.in_ok-push.ensures.items (kept-server s.pool s.sides.items s.servers.items (joined s.tx s.pacer) _
-          c.args.number c.args.client c.args.peer c.args.credits c.self.invariant.0 below
-          c.new-session.ensures.session),
+    let v = c.new-session.result in
+    let own = c.new-session.ensures.session in
+    let below = rw (← c.self.view_is) at c.requires.above in
+    let pushed : c.push.new.self.items ≡ s.servers.items ++ v ∷ [] =
+    (rw c.unwrap.ensures at c.push.ensures.items)
+    ∙ ap (λ (vs : List Serving). vs ++ v ∷ []) c.reserve.ensures.items in (
+      rw pushed (kept-server s.pool s.sides.items s.servers.items (joined s.tx s.pacer) v
+          c.args.number c.args.client c.args.peer c.args.credits c.self.invariant.0 below own),
       c.self.invariant.1,
-      rw c.in_ok-push.ensures.items (server-added s.shares s.pool s.sides.items s.servers.items
+      rw pushed (server-added s.shares s.pool s.sides.items s.servers.items
           c.self.invariant.2 s.tx s.pacer c.args.self.now c.self.view_is
-          c.shares_with-shares.result c.args.credits c.shares_with-shares.ensures c.requires.most _
-          (ap (λ (v : Serving). v.credits) c.new-session.ensures.session)),
+          c.shares_with-shares.result c.args.credits c.shares_with-shares.ensures c.requires.most v
+          (ap (λ (x : Serving). x.credits) own)),
+      rw (pushed, c.in_ok-insert.ensures.items) (end-added s.ends.items s.servers.items
+          c.place_in-place.result v c.code_at-code.result c.self.invariant.3
+          (c.code_at-code.ensures ∙ ap (λ (x : Serving). code_of (way_of x)) (sym own))
+          (omega (arith, ap (λ (x : Serving). x.client) own, c.requires.client))
+          (omega (arith, ap (λ (x : Serving). x.number) own, c.requires.number))
+          c.place_in-place.ensures.within c.place_in-place.ensures.parts),
     )

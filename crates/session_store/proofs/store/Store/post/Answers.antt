@@ -34,6 +34,7 @@ invariant_of-self c =
           (unposted-clients s.pool c.post_at-posted.new.pool s.sides.items
           c.post_at-posted.new.sides.items s.servers.items (joined s.tx s.pacer) c.args.i h
           connected)) c.self.invariant.2,
+      c.self.invariant.3,
     )
 
 pub returns-in_default-clause-clients : goal.returns-in_default-clause-clients
@@ -103,6 +104,7 @@ invariant_of-self-2 c =
           c.post_at-posted.new.pool s.sides.items c.post_at-posted.new.sides.items s.servers.items
           (joined s.tx s.pacer) c.args.i c.in-Some.entry c.self.invariant.0 h connected room))
           c.self.invariant.2,
+      c.self.invariant.3,
     )
 
 pub returns-clause-clients : goal.returns-clause-clients

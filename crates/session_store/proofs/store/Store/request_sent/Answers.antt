@@ -30,6 +30,7 @@ invariant_of-self c =
       share-asked s.shares s.pool s.sides.items s.servers.items c.self.invariant.2 c.args.i
           c.index_mut-side.result.now at s.tx s.pacer c.args.self.now c.self.view_is
           (live-asking _ c.requires.asking) c.args.now c.asked-side.result c.asked-side.ensures,
+      c.self.invariant.3,
     )
 
 pub returns-clause-clients : goal.returns-clause-clients

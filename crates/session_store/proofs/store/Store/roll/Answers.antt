@@ -55,6 +55,7 @@ invariant_of-self c = (
       c.roll_at.new.sides.items c.self.invariant.0 c.roll_at.ensures)
       ∙ ap (λ (v : Shown). map live_credits v.clients) (sym c.self.view_is))
       c.self.invariant.2,
+  c.self.invariant.3,
 )
 
 pub returns-clause-clients : goal.returns-clause-clients

@@ -15,6 +15,7 @@ use Rattle.session_store.proofs.GoneLemmas.{sent-handed}
 use Rattle.session_store.proofs.ReplyGoneLemmas.{reply-handed}
 use Rattle.rpc_laws.specs.Groups.{live_credits}
 use Rattle.session_store.proofs.ShareLemmas.{clients-kept, gone-kept, sends-kept, servers-kept}
+use Rattle.session_store.proofs.WayLemmas.{ends-kept, gone-ways}
 use Rattle.session_store.proofs.store.Store.sent.Goals as goal
 
 pub invariant_of-self : goal.invariant_of-self
@@ -37,6 +38,7 @@ invariant_of-self c =
           (front-taken (joined s.tx s.pacer).items c.in-Some.entry front) own c.args.now
           c.sent_at.ensures) ∙ sends-kept c.args.now (Ask c.from.result c.in-Ask.request)
           c.in-Some.entry.number (map (shown_side s.pool) s.sides.items)) c.self.invariant.2,
+      c.self.invariant.3,
     )
 
 pub reply_sent_at-requires-clause-stands : goal.reply_sent_at-requires-clause-stands
@@ -63,6 +65,10 @@ invariant_of-self-in-Reply c =
           c.reply_sent_at.new.servers.items (gone-kept c.in-Reply.session c.in-Some.entry
           s.servers.items c.reply_sent_at.new.servers.items s.pool c.reply_sent_at.new.pool
           c.reply_sent_at.ensures) c.self.invariant.2,
+      ends-kept s.ends.items s.servers.items c.reply_sent_at.new.servers.items
+          (gone-ways c.in-Reply.session c.in-Some.entry s.servers.items
+          c.reply_sent_at.new.servers.items s.pool c.reply_sent_at.new.pool
+          c.reply_sent_at.ensures) c.self.invariant.3,
     )
 
 pub returns-in-Ask-clause-clients : goal.returns-in-Ask-clause-clients
