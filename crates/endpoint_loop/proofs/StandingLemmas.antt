@@ -50,7 +50,8 @@ use Rattle.endpoint_loop.specs.declared.asking.AskError.TheVariants.{TooLarge}
 use Rattle.endpoint_loop.specs.declared.asking.Refused.{Refused}
 use Rattle.endpoint_loop.specs.Finishing.{FinishesThese, Staff}
 use Rattle.endpoint_loop.specs.Noting.{Makes}
-use Rattle.endpoint_loop.specs.Polling.{FinishesBack, LinkTells, MakesPoll, SendsUntil, is_stopped}
+use Rattle.endpoint_loop.specs.Polling.{FinishesBack, LinkTells, MakesPoll, PollsWith}
+use Rattle.endpoint_loop.specs.Polling.{SendsUntil, is_stopped}
 use Rattle.endpoint_loop.specs.Running.{asks_of, Crew, IsStaffed, Running, told}
 use Rattle.endpoint_loop.specs.Standing.{GoesOn, StandsFor}
 use Rattle.endpoint_loop.specs.declared.polling.Turn.{Turn}
@@ -102,6 +103,12 @@ module _ {V W : Type 0} (v : Serving) (stands : V → Served → Type 0)
   abbrev later : Timed
   later = told (staff b.workers).out b.timed
 
+  -- the node keeps its number
+  pub me-more : Group v.mode before noted later → b.timed.lists.me ≡ a.timed.lists.me
+  me-more group =
+      let l = group-lawful v.mode before noted later (run_valid s.run) group in
+      ap (λ (z : Lists). z.me) l.leads.lists ∙ me-after_all l.clock before.lists noted
+
   -- a group that works no job, and answers as the service does
   pub stands-more : Group v.mode before noted later → AllStill is_work noted
       → Answers v (served_after_all v.mode [] g) noted
@@ -109,7 +116,7 @@ module _ {V W : Type 0} (v : Serving) (stands : V → Served → Type 0)
       → IsStaffed answer (staff b.workers) b.timed
       → StandsFor v stands answer staff limits (g ++ noted) b
   stands-more group still answers serves staffed = record {
-    run = subst (λ m. NodeRun v m limits (g ++ noted) later) (sym me) (record {
+    run = subst (λ m. NodeRun v m limits (g ++ noted) later) (sym (me-more group)) (record {
       steps = more s.run.steps noted later group;
       worked_once = λ t r. omega (
         arith,
@@ -122,11 +129,6 @@ module _ {V W : Type 0} (v : Serving) (stands : V → Served → Type 0)
     serves = subst (stands b.service) (sym (served-append v.mode [] g noted)) serves;
     staffed = staffed;
   }
-    where
-      me : b.timed.lists.me ≡ a.timed.lists.me
-      me =
-          let l = group-lawful v.mode before noted later (run_valid s.run) group in
-          ap (λ (z : Lists). z.me) l.leads.lists ∙ me-after_all l.clock before.lists noted
 
 module _ {R V W : Type 0} (facts : R → Option (List Fact)) (whole : R → Bool) (v : Serving)
     (stands : V → Served → Type 0) (answer : ℕ → List ℕ → List ℕ) (staff : W → Staff) where
@@ -225,6 +227,26 @@ module _ {R K V W : Type 0} (facts : R → Option (List Fact)) (whole : R → Bo
     (given : K → List Done → Type 0) (crew : W → Crew) (v : Serving)
     (stands : V → Served → Type 0) (answer : ℕ → List ℕ → List ℕ) (turn : Option Turn) (now : ℕ)
     (link then_link : LinkTells) where
+  pub group-polled : (a b : Running V W) (x : List Fact)
+      → PollsWith v answer (is_stopped turn) now (crew a.workers) (crew b.workers) a.timed x b.timed
+      → Group v.mode (told (crew a.workers).staff.out a.timed) x
+      (told (crew b.workers).staff.out b.timed)
+  group-polled a b x does =
+      polls now (poll-as (FinishesBack answer does.parcels (crew a.workers) (crew b.workers))
+      (SendsUntil (is_stopped turn)) v.mode now
+      (λ s x t k. these-some answer does.parcels s x t k.finishes)
+      (sends-some (is_stopped turn)) _ x _ does.polls)
+
+  -- the node keeps its number
+  pub me-polled : (a b : Running V W) (f g : R) (j k : K)
+      → MakesPoll facts whole given crew v stands answer turn now link then_link a b f g j k
+      → (limits : Limits) (past : List Fact)
+      → StandsFor v stands answer (λ w. (crew w).staff) limits past a
+      → b.timed.lists.me ≡ a.timed.lists.me
+  me-polled a b f g j k h limits past s =
+      me-more v stands answer (λ w. (crew w).staff) limits past a b h.noted s
+      (group-polled a b h.noted (h.does s.staffed).0)
+
   unfoldable pub goes-polled : (a b : Running V W) (f g : R) (j k : K)
       → MakesPoll facts whole given crew v stands answer turn now link then_link a b f g j k
       → GoesOn facts whole v stands answer (λ w. (crew w).staff) a b f g
@@ -237,9 +259,7 @@ module _ {R K V W : Type 0} (facts : R → Option (List Fact)) (whole : R → Bo
         let F = FinishesBack answer does.0.parcels (crew a.workers) (crew b.workers) in
         let S = SendsUntil (is_stopped turn) in
         stands-more v stands answer (λ w. (crew w).staff) limits past a b h.noted s
-        (polls now (poll-as F S v.mode now
-        (λ s x t k. these-some answer does.0.parcels s x t k.finishes)
-        (sends-some (is_stopped turn)) _ h.noted _ does.0.polls))
+        (group-polled a b h.noted does.0)
         (poll-unworked F S v.mode now
         (λ s x t k. these-still is_work (λ t r y. refl) (λ o k. refl) answer does.0.parcels s x t
         k.finishes)

@@ -162,6 +162,7 @@ impl Node {
         ensures given { W.given workers.new ≡ W.given workers.old }
         ensures limit { W.limit workers.new ≡ W.limit workers.old }
         ensures looks { W.looks workers.old ≤ W.looks workers.new }
+        ensures team { W.team workers.new ≡ W.team workers.old }
         ensures handed { self.new.handed ≡ self.old.handed }
     {
         self.sound();
@@ -203,6 +204,7 @@ impl Node {
         ensures given { W.given workers.new ≡ W.given workers.old }
         ensures limit { W.limit workers.new ≡ W.limit workers.old }
         ensures looks { W.looks workers.old ≤ W.looks workers.new }
+        ensures team { W.team workers.new ≡ W.team workers.old }
         ensures handed { self.new.handed ≡ self.old.handed }
     {
         'jobs: while self.has_room() {

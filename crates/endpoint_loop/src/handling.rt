@@ -93,6 +93,7 @@ impl Node {
         ensures founded { StandsForSome (V.stands service.new) }
         ensures worked { W.worked workers.new ≡ W.worked workers.old }
         ensures looks { W.looks workers.new ≡ W.looks workers.old }
+        ensures team { W.team workers.new ≡ W.team workers.old }
         ensures handed { GivesBackTo K.given self.old.handed self.new.handed k.old k.new }
     {
         let Some(parcel) = self.handle_front(alloc, service, k, rec) else {
@@ -132,6 +133,7 @@ impl Node {
         ensures founded { StandsForSome (V.stands service.new) }
         ensures worked { W.worked workers.new ≡ W.worked workers.old }
         ensures looks { W.looks workers.new ≡ W.looks workers.old }
+        ensures team { W.team workers.new ≡ W.team workers.old }
         ensures count { result + length self.new.lists.ring ≡ length self.old.lists.ring }
         ensures few { result ≤ MOST_RING }
         ensures handed { GivesBackTo K.given self.old.handed self.new.handed k.old k.new }

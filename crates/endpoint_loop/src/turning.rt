@@ -78,6 +78,7 @@ impl<V: Service, W: Workers> Endpoint<V, W> {
             }) self.old self.new rec.old rec.new }
         ensures busy { IfOk result (λ turn. turn.busy ≡ true →
             HasRisen (L.busies link.old) (L.busies link.new)) }
+        ensures team { W.team self.new.workers ≡ W.team self.old.workers }
         ensures cause { HasCause (L.faults link.old) (L.faults link.new) result }
         ensures handed { GivesBackTo K.given self.old.handed self.new.handed k.old k.new }
     {

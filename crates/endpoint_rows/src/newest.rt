@@ -80,6 +80,8 @@ impl Workers for NewestFirst {
 
     ghost looks = { λ _. 0 };
 
+    ghost team = { λ _. None };
+
     fn give(&mut self, job: Parcel) -> Result<(), Parcel> {
         if self.full() {
             return Err(job);

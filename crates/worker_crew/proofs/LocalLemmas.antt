@@ -58,9 +58,3 @@ works answer j limit given waiting worked left done job back old is at others pu
       left = ap₂ (λ w k. record { limit = limit; given = given; waiting = w; worked = k }) others
           (pushed ∙ ap (λ p. worked ++ p ∷ []) same);
     })
-
-pub all-at : {A : Type 0} (P : A → Type 0) (xs : List A) (j : ℕ) (x : A) → AllByRecursion P xs
-    → slice_get xs j ≡ Some x → P x
-all-at P [] j x h e = absurd cc
-all-at P (y ∷ ys) zero x h e = let same : y ≡ x = cc in subst P same h.0
-all-at P (y ∷ ys) (suc j) x h e = all-at P ys j x h.1 e

@@ -1,6 +1,6 @@
 -- A crew: its dispatcher, and its hands.
 use Rattle.std.specs.Prelude.{◌≡◌, ◌+◌, ◌≤◌, ℕ, Bool, true, false, List, [], ◌∷◌, ◌++◌, map, min}
-use Rattle.std.specs.Prelude.{Option, None}
+use Rattle.std.specs.Prelude.{Option, None, Some}
 use Rattle.atomic_table.specs.Seated.{TableId}
 use Rattle.rpc_outside.specs.Faults.{end_of_count}
 use Rattle.worker_board.specs.declared.Parcel.{Parcel}
@@ -44,6 +44,20 @@ numbered n hands = total (λ (x : HandName). only n x.number) hands
 pub record AreOut (board : TableId) (out : List ℕ) (hands : List HandName) : Type 0 where
   pub ours : AllOn board hands
   pub counts : (n : ℕ) → numbered n hands ≡ times n out
+
+-- the hands of workers: the board that they work for, the numbers of those that are out by its
+-- dispatcher, and those that stay with the workers
+pub record Team : Type 0 where
+  pub board : TableId
+  pub out : List ℕ
+  pub kept : List HandName
+
+abbrev pub team_of : CrewState → Option Team
+team_of c = Some (record {
+  board = c.dispatching.board;
+  out = c.dispatching.view.out;
+  kept = c.kept;
+})
 
 -- these are the hands of a crew that were started
 abbrev pub AreStarted : CrewState → List HandName → Type 0

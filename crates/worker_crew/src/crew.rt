@@ -9,6 +9,7 @@ use crate::manner::Manner;
 use crate::tickets::Tickets;
 use crate::workers::Finished;
 use rpc_outside::Duty;
+pub use starting::MOST_HANDS;
 use std::collections::VecDeque;
 use std::marker::Model;
 use std::sync::Wait;

@@ -15,7 +15,7 @@ mod thread_spawner;
 mod tickets;
 mod workers;
 
-pub use crew::Crew;
+pub use crew::{Crew, MOST_HANDS};
 pub use hand::Hand;
 pub use leftover::Leftover;
 pub use local::LocalWorkers;

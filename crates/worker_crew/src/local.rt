@@ -1,6 +1,6 @@
 //! Workers on the caller's own thread.
 ghost use Rattle.std.specs.Prelude.{◌≡◌, ◌≤◌, ◌<◌, ◌↔◌, ◌+◌, [], ◌∷◌, ◌++◌, length, drop};
-ghost use Rattle.std.specs.Prelude.{slice_get, option_to_list, true, Some, IsNone, IsErr, IsOk};
+ghost use Rattle.std.specs.Prelude.{slice_get, option_to_list, true, Some, None, IsNone, IsErr, IsOk};
 ghost use Rattle.std.specs.Prelude.{IfNone, IfSome, IfOk, IfErr, OnOk, OnErr, IsPermutation};
 ghost use Rattle.std.specs.List.{remove};
 ghost use Rattle.std.specs.VecDeque.{deque_capacity};
@@ -142,6 +142,8 @@ impl<D: Duty> Workers for LocalWorkers<D> {
     ghost waiting = { λ w. Some w.waiting };
 
     ghost looks = { λ _. 0 };
+
+    ghost team = { λ _. None };
 
     /// As the trait says; the job waits behind all others.
     fn give(&mut self, job: Parcel) -> Result<(), Parcel>

@@ -3,6 +3,7 @@ ghost use Rattle.std.specs.Prelude.{◌≡◌, ◌≤◌, ◌+◌, ◌∷◌, �
 ghost use Rattle.std.specs.Prelude.{option_map, true, IsTrue};
 ghost use Rattle.std.specs.Prelude.{IsErr, IfErr, IfSome, IfNone, OnOk, OnErr, IsPermutation};
 ghost use Rattle.worker_board.specs.declared.Parcel.{Parcel};
+ghost use Rattle.worker_crew.specs.Crews.{Team};
 ghost use Rattle.worker_crew.specs.Jobs.{Job, job_of, HasRoom, IsAnswered, IsFull, TakesFirst, FoundUnfinished};
 
 use worker_board::Parcel;
@@ -38,6 +39,9 @@ pub trait Workers {
     // How often a job was looked at and found unfinished.
     ghost looks: { Self → ℕ };
 
+    // The hands that work for them, where there are any. No call of a job changes these.
+    ghost team: { Self → Option Team };
+
     /// Gives a job, whose buffer for the answer has the answer's length. Err comes exactly where
     /// the workers are full, and hands the job back.
     fn give(&mut self, job: Parcel) -> Result<(), Parcel>
@@ -53,7 +57,8 @@ pub trait Workers {
         ensures waits { OnOk result (waiting self.new
             ≡ option_map (λ jobs. jobs ++ job ∷ []) (waiting self.old)) }
         ensures limit { limit self.new ≡ limit self.old }
-        ensures looks { looks self.new ≡ looks self.old };
+        ensures looks { looks self.new ≡ looks self.old }
+        ensures team { team self.new ≡ team self.old };
 
     /// Whether as many jobs as the limit are given and not taken, or 2^61 jobs were given so far.
     fn full(&self) -> bool
@@ -72,5 +77,6 @@ pub trait Workers {
         ensures waits { waiting self.new ≡ waiting self.old }
         ensures given { given self.new ≡ given self.old }
         ensures limit { limit self.new ≡ limit self.old }
-        ensures looks { looks self.old ≤ looks self.new };
+        ensures looks { looks self.old ≤ looks self.new }
+        ensures team { team self.new ≡ team self.old };
 }

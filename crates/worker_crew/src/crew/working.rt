@@ -3,7 +3,7 @@ ghost use Rattle.std.specs.Prelude.{◌≡◌, ◌≤◌, ◌+◌, ◌∷◌, �
 ghost use Rattle.std.specs.Prelude.{option_map, IsTrue, IsNone, IsErr, IfErr, IfSome, IfNone};
 ghost use Rattle.std.specs.Prelude.{OnOk, OnErr, IsPermutation};
 ghost use Rattle.worker_crew.specs.Jobs.{job_of, HasRoom, IsAnswered, IsFull, TakesFirst, FoundUnfinished};
-ghost use Rattle.worker_crew.specs.Crews.{untold, names, SameHands, KeepsTo};
+ghost use Rattle.worker_crew.specs.Crews.{untold, names, team_of, SameHands, KeepsTo};
 ghost use Rattle.worker_crew.specs.Dispatching.{jobs_in, looks_in};
 
 use super::Crew;
@@ -47,6 +47,8 @@ impl<D: Duty, R: Wait> Workers for Crew<D, R> {
 
     ghost looks = { λ c. looks_in c.dispatching };
 
+    ghost team = { team_of };
+
     /// As the trait says; the job waits behind all others.
     fn give(&mut self, job: Parcel) -> Result<(), Parcel>
         requires room { HasRoom D.answer job }
@@ -68,6 +70,7 @@ impl<D: Duty, R: Wait> Workers for Crew<D, R> {
         ensures last { OnOk result (jobs_in self.new.dispatching
             ≡ jobs_in self.old.dispatching ++ job_of job ∷ []) }
         ensures hands { SameHands self.old self.new }
+        ensures team { team_of self.new ≡ team_of self.old }
         ensures keeps { KeepsTo self.new }
     {
         if self.dispatcher.is_full() {
@@ -105,6 +108,7 @@ impl<D: Duty, R: Wait> Workers for Crew<D, R> {
         ensures looked { self.old.by_hands ≡ true → IfNone result (looks_in self.new.dispatching
             ≡ looks_in self.old.dispatching + length (jobs_in self.old.dispatching)) }
         ensures hands { SameHands self.old self.new }
+        ensures team { team_of self.new ≡ team_of self.old }
         ensures keeps { KeepsTo self.new }
     {
         let found = match &mut self.manner {

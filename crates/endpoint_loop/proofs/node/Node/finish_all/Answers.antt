@@ -13,6 +13,7 @@ jobs-init g c = (
   refl,
   omega arith,
   refl,
+  refl,
 )
 
 pub jobs-preserved : goal.jobs-preserved
@@ -27,7 +28,8 @@ jobs-preserved g c =
       c.finish_next.ensures.given ∙ i.5,
       c.finish_next.ensures.limit ∙ i.6,
       omega (arith, i.7, c.finish_next.ensures.looks),
-      c.finish_next.ensures.handed ∙ i.8,
+      c.finish_next.ensures.team ∙ i.8,
+      c.finish_next.ensures.handed ∙ i.9,
     )
 
 pub returns-then-not-finish_next-clause-makes : goal.returns-then-not-finish_next-clause-makes

@@ -20,6 +20,7 @@ invariant-jobs g l =
     × (g.W.Workers.given l.workers ≡ g.W.Workers.given l.initial.workers)
     × (g.W.Workers.limit l.workers ≡ g.W.Workers.limit l.initial.workers)
     × (g.W.Workers.looks l.initial.workers ≤ g.W.Workers.looks l.workers)
+    × (g.W.Workers.team l.workers ≡ g.W.Workers.team l.initial.workers)
     × (l.self.handed ≡ l.initial.self.handed)
 
 abbrev pub decreases-jobs : goal.decreases-jobs

@@ -18,6 +18,7 @@ packets-init g c = (
   refl,
   refl,
   refl,
+  refl,
   omega arith,
   gives-none g.K.Continuation.given _ _,
 )
@@ -39,8 +40,9 @@ packets-preserved g c =
       h.me ∙ i.3,
       h.worked ∙ i.4,
       h.looks ∙ i.5,
-      omega (arith, h.fewer, i.6),
-      gives-more g.K.Continuation.given _ _ _ _ _ _ i.7 h.handed,
+      h.team ∙ i.6,
+      omega (arith, h.fewer, i.7),
+      gives-more g.K.Continuation.given _ _ _ _ _ _ i.8 h.handed,
     )
 
 pub returns-clause-handles : goal.returns-clause-handles

@@ -23,6 +23,7 @@ invariant-packets g l =
     × (l.self.lists.me ≡ l.initial.self.lists.me)
     × (g.W.Workers.worked l.workers ≡ g.W.Workers.worked l.initial.workers)
     × (g.W.Workers.looks l.workers ≡ g.W.Workers.looks l.initial.workers)
+    × (g.W.Workers.team l.workers ≡ g.W.Workers.team l.initial.workers)
     × (length l.self.lists.ring ≤ length l.initial.self.lists.ring)
     × GivesBackTo g.K.Continuation.given l.initial.self.handed l.self.handed l.initial.k l.k
 

@@ -2,7 +2,8 @@ use Rattle.std.proofs.Common.{◌∙◌, subst, sym, ap, arith, length}
 use Rattle.std.specs.List.{AllByRecursion}
 use Rattle.std.proofs.lemmas.List.{length-append}
 use Rattle.worker_crew.specs.Jobs.{HasRoom, IsAnswered}
-use Rattle.worker_crew.proofs.LocalLemmas.{all-at, all-without, works}
+use Rattle.rpc_base.proofs.PlaceLemmas.{all-at}
+use Rattle.worker_crew.proofs.LocalLemmas.{all-without, works}
 use Rattle.worker_crew.proofs.local.LocalWorkers.work.Goals as goal
 use Rattle.rpc_base.proofs.FirstLemmas.{all-push}
 
