@@ -20,7 +20,13 @@ turns_stand_once : task_of (codes "serve" ∷ codes "a:7" ∷ codes "--turns" �
 unfolding clap_on_literals task_of serve_in taken number_in is_numeral value_of
 turns_stand_once = refl
 
-no_workers : task_of (codes "serve" ∷ codes "a:7" ∷ codes "--turns" ∷ codes "3"
-    ∷ codes "--workers" ∷ codes "1" ∷ []) ≡ None
+workers_are_taken : task_of (codes "serve" ∷ codes "--workers" ∷ codes "16" ∷ codes "a:7"
+    ∷ codes "--turns" ∷ codes "3" ∷ [])
+    ≡ Some (Serve (record { addr = codes "a:7"; turns = 3; workers = 16 }))
 unfolding clap_on_literals task_of serve_in taken number_in is_numeral value_of
-no_workers = refl
+workers_are_taken = refl
+
+few_workers : task_of (codes "serve" ∷ codes "a:7" ∷ codes "--turns" ∷ codes "3"
+    ∷ codes "--workers" ∷ codes "17" ∷ []) ≡ None
+unfolding clap_on_literals task_of serve_in taken number_in is_numeral value_of
+few_workers = refl

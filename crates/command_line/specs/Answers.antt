@@ -30,7 +30,7 @@ ReadsText (Err error) said = IsNone error said
 -- the numbers of `serve` are in their ranges
 abbrev pub IsServeInRange : ServeWords → Type 0
 IsServeInRange words =
-    (1 ≤ words.turns) × (words.turns ≤ 4294967295) × (words.workers ≡ 0)
+    (1 ≤ words.turns) × (words.turns ≤ 4294967295) × (words.workers ≤ 16)
 
 -- the numbers of `load` are in their ranges, and the type in its list
 pub record IsLoadInRange (words : LoadWords) : Type 0 where

@@ -33,10 +33,10 @@ abbrev pub drill_row : App
 drill_row = with_rule (with_rule (row (codes "drill")) (positional (codes "SEED")))
     (positional (codes "CALLS"))
 
--- `serve ADDR --turns T`
+-- `serve ADDR --turns T [--workers W]`
 abbrev pub serve_row : App
-serve_row = with_rule (with_rule (row (codes "serve")) (positional (codes "ADDR")))
-    (needed (codes "turns"))
+serve_row = with_rule (with_rule (with_rule (row (codes "serve")) (positional (codes "ADDR")))
+    (needed (codes "turns"))) (optional (codes "workers") (codes "0"))
 
 -- the options of `load` that say what is asked
 abbrev pub with_call : App → App

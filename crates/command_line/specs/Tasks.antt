@@ -29,12 +29,13 @@ drill_of_rows rows =
 unfoldable pub drill_in : List Text → Option Task
 drill_in words = given (taken drill_row words) drill_of_rows
 
--- ADDR, and --turns from 1 to 2^32 - 1
+-- ADDR, --turns from 1 to 2^32 - 1, and --workers up to 16
 abbrev pub serve_of_rows : List Row → Option Task
 serve_of_rows rows =
     given (first_of (codes "ADDR") rows) (λ addr.
     given (number_at 1 4294967295 (codes "turns") rows) (λ turns.
-    Some (Serve (record { addr = addr; turns = turns; workers = 0 }))))
+    given (number_at 0 16 (codes "workers") rows) (λ workers.
+    Some (Serve (record { addr = addr; turns = turns; workers = workers })))))
 
 unfoldable pub serve_in : List Text → Option Task
 serve_in words = given (taken serve_row words) serve_of_rows

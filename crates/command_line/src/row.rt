@@ -81,18 +81,20 @@ pub fn drill<'a>(alloc: Global) -> Result<Command<'a>, AllocError>
     Ok(command)
 }
 
-/// `serve ADDR --turns T`.
+/// `serve ADDR --turns T [--workers W]`.
 pub fn serve<'a>(alloc: Global) -> Result<Command<'a>, AllocError>
     ensures { IfOk result (λ command. app_of command ≡ serve_row) }
 {
     let command = row(
         alloc,
         "serve",
-        "erpc serve ADDR --turns T",
-        "answers calls that come to the UDP address ADDR, for T turns, and counts what happened",
+        "erpc serve ADDR --turns T [--workers W]",
+        "answers calls that come to the UDP address ADDR, for T turns, with W threads for \
+         background calls, and counts what happened",
     )
     .arg(positional(alloc, "ADDR"))?
-    .arg(needed(alloc, "turns"))?;
+    .arg(needed(alloc, "turns"))?
+    .arg(optional(alloc, "workers", "0"))?;
     Ok(command)
 }
 

@@ -9,7 +9,7 @@ pub struct ServeSpec {
     pub addr: String,
     /// After so many turns the server ends; at least 1.
     pub turns: u32,
-    /// The number of hands that work its jobs: 0, since no word names it.
+    /// So many hands work its jobs, at most 16; where there are none, it works them by itself.
     pub workers: u8,
 }
 

@@ -2,13 +2,13 @@
 use crate::number::{Number, TYPES, request_type};
 use crate::row::{drill, load, serve, sim};
 use crate::text::text_at;
-use crate::words::{CALLS, CALLS_OF_DRILL, SEED, SEED_OF_DRILL, SIZE, TURNS};
+use crate::words::{CALLS, CALLS_OF_DRILL, SEED, SEED_OF_DRILL, SIZE, TURNS, WORKERS};
 use clap::{ArgMatches, Command, Error};
 use std::alloc::{AllocError, Global};
 
 const NUMBERS_OF_DRILL: [Number; 2] = [SEED_OF_DRILL, CALLS_OF_DRILL];
 
-const NUMBERS_OF_SERVE: [Number; 1] = [TURNS];
+const NUMBERS_OF_SERVE: [Number; 2] = [TURNS, WORKERS];
 
 const NUMBERS_OF_LOAD: [Number; 4] = [CALLS, SIZE, SEED, TURNS];
 

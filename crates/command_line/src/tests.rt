@@ -63,12 +63,17 @@ fn words_ask_to_serve(rt: HostRuntime) -> Result<(), Fail> {
             "serve localhost:7 --turns 4294967295",
             "Ok(Serve(ServeSpec { addr: \"localhost:7\", turns: 4294967295, workers: 0 }))",
         ),
+        (
+            "serve --workers 16 a:7 --turns 3",
+            "Ok(Serve(ServeSpec { addr: \"a:7\", turns: 3, workers: 16 }))",
+        ),
         ("serve 127.0.0.1:7000", REFUSED),
         ("serve --turns 3", REFUSED),
         ("serve 127.0.0.1:7000 --turns 0", REFUSED),
         ("serve 127.0.0.1:7000 --turns 4294967296", REFUSED),
         ("serve 127.0.0.1:7000 --turns 3 --turns 3", REFUSED),
-        ("serve 127.0.0.1:7000 --turns 3 --workers 1", REFUSED),
+        ("serve 127.0.0.1:7000 --turns 3 --workers 17", REFUSED),
+        ("serve 127.0.0.1:7000 --turns 3 --workers", REFUSED),
         ("serve 127.0.0.1:7000 --turns 3 --help", REFUSED),
     ];
     for (line, wanted) in cases {

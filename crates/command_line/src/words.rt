@@ -32,6 +32,13 @@ pub const TURNS: Number = Number {
     low: 1,
     high: u32::MAX as u64,
 };
+/// `--workers` of `serve`.
+pub const WORKERS: Number = Number {
+    id: "workers",
+    shown: "--workers",
+    low: 0,
+    high: 16,
+};
 /// `--calls` of `load`.
 pub const CALLS: Number = Number {
     id: "calls",
@@ -82,10 +89,11 @@ fn read_serve(alloc: Global, words: &[String]) -> Result<Task, WordsError>
     let matches = take(serve(alloc)?, words)?;
     let addr = copy_at(alloc, &matches, "ADDR")?;
     let turns = TURNS.read(&matches).ok_or(WordsError::Usage)? as u32;
+    let workers = WORKERS.read(&matches).ok_or(WordsError::Usage)? as u8;
     Ok(Task::Serve(ServeSpec {
         addr,
         turns,
-        workers: 0,
+        workers,
     }))
 }
 

@@ -3,19 +3,14 @@ use Rattle.std.proofs.Common.{◌≡◌, ◌≢◌, ◌⊎◌, ℕ, ◌+◌, ◌
 use Rattle.std.proofs.Common.{List, refl, sym, subst, ◌∙◌, inl, inr, arith}
 use Rattle.std.specs.Prelude.{◌==◌}
 use Rattle.std.proofs.lemmas.Bool.{eq-eqb}
-use Rattle.endpoint_loop.proofs.TurningLemmas.{goes-further}
 use Rattle.endpoint_loop.specs.Polling.{LinkTells}
 use Rattle.load_run.specs.Loading.{Answers, LoadsOn, LoadsSoFar, TurnsEnd, UnlessFailed}
 use Rattle.load_run.specs.Loading.{going_at, is_clean, is_over, state_in}
-use Rattle.load_run.proofs.PassLemmas.{passes-none}
 use Rattle.load_run.proofs.TurnLemmas.{loads-none, loads-then}
+use Rattle.plain_turns.proofs.RunLemmas.{goes-none, goes-then}
 use Rattle.plain_turns.specs.PlainTurns.{GoesOnBy}
 use Rattle.rpc_base.specs.declared.fact.Fact.{Fact}
-use Rattle.rpc_laws.specs.Service.{plain_serving}
 use Rattle.rpc_outside.specs.Faults.{HasRisen}
-use Rattle.rpc_outside.specs.PlainAnswer.{background_answer}
-use Rattle.rpc_outside.specs.PlainStands.{PlainStands}
-use Rattle.rpc_world.specs.Before.{staff_of}
 use Rattle.run_status.specs.declared.going.Going.{Going}
 use Rattle.run_status.specs.declared.going.Going.TheVariants.{On, Over}
 use Rattle.run_status.specs.declared.status.Status.{Status}
@@ -131,15 +126,8 @@ module _ {R L C : Type 0} (facts : R → Option (List Fact)) (whole : R → Bool
     many = 0;
     on = loads-none facts whole gave (tells link).sent clock a f;
     quiet = refl;
-    goes = (passes-none facts whole a.endpoint a.endpoint f f refl refl).goes;
+    goes = goes-none facts whole a.endpoint f;
   }
-
-  further-goes : (a b c : LoadsSoFar) (f g h : R) → GoesOnBy facts whole a.endpoint b.endpoint f g
-      → GoesOnBy facts whole b.endpoint c.endpoint g h
-      → GoesOnBy facts whole a.endpoint c.endpoint f h
-  further-goes a b c f g h p q =
-      goes-further facts whole plain_serving PlainStands background_answer staff_of a.endpoint
-      b.endpoint c.endpoint f g h p q
 
   module _ (link via then_link : L) (clock mid then_clock : C) (a b c : LoadsSoFar) (f g h : R)
       (some : GoesSome facts whole gave tells link via clock mid a b f g)
@@ -163,7 +151,7 @@ module _ {R L C : Type 0} (facts : R → Option (List Fact)) (whole : R → Bool
           on = loads-then facts whole gave (tells link).sent (tells via).sent (tells then_link).sent
               clock mid then_clock a b c f g h some.many 1 some.on turn;
           quiet = so.0 ∙ some.quiet;
-          goes = further-goes a b c f g h some.goes goes;
+          goes = goes-then facts whole a.endpoint b.endpoint c.endpoint f g h some.goes goes;
         }
 
     pub some-fewer : (going : Going) → going ≡ On
@@ -187,4 +175,5 @@ module _ {R L C : Type 0} (facts : R → Option (List Fact)) (whole : R → Bool
         some.many some.on some.quiet told answers turn
 
     pub some-goes : GoesOnBy facts whole a.endpoint c.endpoint f h
-    some-goes = further-goes a b c f g h some.goes goes
+    some-goes =
+        goes-then facts whole a.endpoint b.endpoint c.endpoint f g h some.goes goes

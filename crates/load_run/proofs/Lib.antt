@@ -4,3 +4,4 @@ mod LoadLemmas
 mod PassLemmas
 mod TallyLemmas
 mod TurnLemmas
+mod StartLemmas

@@ -1,5 +1,6 @@
 -- What `load` did, from its start to its end.
-use Rattle.std.proofs.Common.{◌≡◌, ◌≢◌, ℕ, Bool, Option, List, [], ◌∷◌, ◌++◌, refl, sym, ap, subst}
+use Rattle.std.proofs.Common.{◌≡◌, ◌≢◌, ◌⊎◌, inl, inr, ℕ, Bool, Option, List, [], ◌∷◌, ◌++◌, refl}
+use Rattle.std.proofs.Common.{sym, ap, subst}
 use Rattle.std.proofs.Common.{◌∙◌, arith}
 use Rattle.std.specs.Prelude.{option_map}
 use Rattle.command_line.specs.Words.{LoadWords}
@@ -8,8 +9,8 @@ use Rattle.endpoint_loop.specs.Polling.{LinkTells}
 use Rattle.endpoint_loop.proofs.NotingLemmas.{sent-append}
 use Rattle.load_plan.specs.Calls.{Calls}
 use Rattle.load_run.specs.declared.tally.Tally.{Tally}
-use Rattle.load_run.specs.Loading.{HasRun, Loads, LoadsOn, LoadsSoFar, Prints, StartsAs, TurnsEnd}
-use Rattle.load_run.specs.Loading.{going_at}
+use Rattle.load_run.specs.Loading.{HasRun, Loads, LoadsOn, LoadsSoFar, NotesRun, Prints, StartsAs}
+use Rattle.load_run.specs.Loading.{TurnsEnd, going_at}
 use Rattle.load_run.specs.Tallies.{Tallies}
 use Rattle.load_run.proofs.EndLemmas.{end-known}
 use Rattle.load_run.proofs.TallyLemmas.{counts-silent, tallies-none}
@@ -17,6 +18,7 @@ use Rattle.load_run.specs.declared.run.TheConstants.{LOAD_CREDITS}
 use Rattle.rpc_base.specs.declared.event.Event.TheVariants.{Opened}
 use Rattle.rpc_base.specs.declared.fact.Fact.{Fact}
 use Rattle.rpc_laws.specs.Facts.{plain}
+use Rattle.rpc_outside.specs.Faults.{HasRisen}
 use Rattle.run_status.specs.declared.going.Going.TheVariants.{On, Over}
 use Rattle.run_status.specs.declared.status.Status.{Status}
 use Rattle.run_status.specs.declared.status.Status.TheVariants.{LinkFault, NoMemory}
@@ -45,25 +47,25 @@ module _ {R L C : Type 0} (facts : R → Option (List Fact)) (whole : R → Bool
         over = λ on. let both : Over told ≡ On = sym e ∙ on in cc;
         plan = counts.plan ∙ starts.plan;
         turns = on.turns ∙ starts.turns;
-        noted = starts.noted ++ on.runs.noted;
-        grew = grew-then facts whole before mid later starts.noted on.runs.noted starts.grew
-            on.runs.grew;
-        stands = on.runs.goes_on starts.noted starts.stands;
+        noted = starts.noted ++ on.runs.goes.noted;
+        grew = grew-then facts whole before mid later starts.noted on.runs.goes.noted starts.grew
+            on.runs.goes.grew;
+        stands = on.runs.goes.goes_on starts.noted starts.stands;
         opens = (
-          start.endpoint.timed.lists.me,
           starts.peer,
-          on.runs.noted,
-          ap (λ (x : List Fact). x ++ on.runs.noted) starts.opens
-              ∙ ap (λ n. plain start.endpoint.timed.lists.me (Opened n starts.peer LOAD_CREDITS)
-              ∷ on.runs.noted) (sym on.session),
+          on.runs.goes.noted,
+          ap (λ (x : List Fact). x ++ on.runs.goes.noted) starts.opens
+              ∙ ap (λ n. plain 0 (Opened n starts.peer LOAD_CREDITS)
+              ∷ on.runs.goes.noted) (sym on.session),
         );
-        tallies = subst (λ (c : Calls). Tallies c run.ledger.tally (starts.noted ++ on.runs.noted))
-            (sym counts.plan) (counts.tally starts.noted opened);
+        tallies = subst (λ (c : Calls). Tallies c run.ledger.tally
+            (starts.noted ++ on.runs.goes.noted)) (sym counts.plan)
+            (counts.tally starts.noted opened);
         sent = on.runs.sends starts.noted starts.stands
-            ∙ ap (option_map (λ ds. ds ++ sent_of on.runs.noted)) sent
+            ∙ ap (option_map (λ ds. ds ++ sent_of on.runs.goes.noted)) sent
             ∙ ap (λ x. option_map (λ ds. ds ++ x) (tells link).sent)
-            (sym (sent-append starts.noted on.runs.noted
-            ∙ ap (λ x. x ++ sent_of on.runs.noted) starts.sends));
+            (sym (sent-append starts.noted on.runs.goes.noted
+            ∙ ap (λ x. x ++ sent_of on.runs.goes.noted) starts.sends));
         times = on.runs.times;
         count = let count = on.runs.count in let made = on.made in let none = starts.made in
             omega arith;
@@ -93,3 +95,24 @@ loads-printed facts whole gave tells words link then_link clock then_clock befor
     again run has NoMemory prints = absurd (end-known run NoMemory prints.0)
 loads-printed facts whole gave tells words link then_link clock then_clock before later old new read
     again run has told prints = (run, has, prints)
+
+-- the link failed, or there was no memory, and nothing was written
+pub loads-stopped : {R L C : Type 0} (facts : R → Option (List Fact)) (whole : R → Bool)
+    (gave : C → List ℕ → Type 0) (tells : L → LinkTells) (words : LoadWords)
+    (link via then_link : L) (clock then_clock : C) (before mid later : R) (out : Option (List ℕ))
+    (read : ℕ) (start run : LoadsSoFar)
+    → (tells via).troubles.faults ≡ (tells link).troubles.faults
+    → (told : Status) → (told ≡ LinkFault) ⊎ (told ≡ NoMemory)
+    → TurnsEnd told facts whole gave tells via then_link clock then_clock start run mid later
+    → NotesRun facts whole before later
+    → Loads told facts whole gave tells words link then_link clock then_clock before later out out
+    read read
+loads-stopped facts whole gave tells words link via then_link clock then_clock before mid later out
+    read start run quiet LinkFault which ends notes =
+    (subst (λ n. HasRisen n (tells then_link).troubles.faults) quiet ends, notes, refl, refl)
+loads-stopped facts whole gave tells words link via then_link clock then_clock before mid later out
+    read start run quiet NoMemory which ends notes = (ends ∙ quiet, notes, refl, refl)
+loads-stopped facts whole gave tells words link via then_link clock then_clock before mid later out
+    read start run quiet told (inl e) ends notes = cc
+loads-stopped facts whole gave tells words link via then_link clock then_clock before mid later out
+    read start run quiet told (inr e) ends notes = cc

@@ -2,17 +2,17 @@
 use Rattle.std.proofs.Common.{◌≡◌, ℕ, Bool, true, false, cond, ltb, Option, Some, None, List, []}
 use Rattle.std.proofs.Common.{◌∷◌, ◌++◌}
 use Rattle.std.specs.Prelude.{◌==◌}
-use Rattle.std.proofs.Common.{length, refl, sym, ap₂, subst, ◌∙◌, append_assoc, append-nil}
+use Rattle.std.proofs.Common.{length, refl, sym, ap₂, subst, ◌∙◌}
 use Rattle.std.specs.List.{find}
 use Rattle.endpoint_loop.specs.Applying.{Leaves}
 use Rattle.endpoint_loop.specs.Noting.{Makes, is_end_event, sent_by, sent_of}
 use Rattle.endpoint_loop.specs.Running.{asks_of, told}
 use Rattle.endpoint_loop.specs.Seen.{asking}
-use Rattle.endpoint_loop.specs.Standing.{StandsFor}
 use Rattle.endpoint_loop.proofs.GivingLemmas.{staffed-still}
 use Rattle.endpoint_loop.proofs.NotesLemmas.{ends-append, me-goes, no_asks}
 use Rattle.endpoint_loop.proofs.PollLemmas.{still-answers}
-use Rattle.endpoint_loop.proofs.StandingLemmas.{is_labour, none-ran, none-worked, stands-more}
+use Rattle.endpoint_loop.proofs.StandingLemmas.{is_labour, me-more, none-ran}
+use Rattle.endpoint_loop.proofs.StandingLemmas.{none-worked, stands-more}
 use Rattle.endpoint_loop.proofs.StillLemmas.{AllStill, Stills, still-none}
 use Rattle.endpoint_loop.proofs.NotingLemmas.{sent-append}
 use Rattle.load_run.specs.Loading.{Passes}
@@ -23,7 +23,6 @@ use Rattle.rpc_base.specs.declared.event.Event.TheVariants.{NconnectNumbers, Nco
 use Rattle.rpc_base.specs.declared.event.Event.TheVariants.{Closing, NcloseBusy, NcloseState}
 use Rattle.rpc_base.specs.declared.event.Event.TheVariants.{Rated, Ran, Sent, Worked}
 use Rattle.rpc_base.specs.declared.fact.Fact.{Fact}
-use Rattle.rpc_base.specs.declared.limits.Limits.{Limits}
 use Rattle.rpc_base.specs.declared.state.SessionState.{SessionState}
 use Rattle.rpc_base.specs.declared.state.SessionState.TheVariants.{Connected}
 use Rattle.rpc_laws.specs.declared.tables.Lists.{Lists}
@@ -37,10 +36,10 @@ use Rattle.rpc_laws.specs.Sessions.{is_client}
 use Rattle.rpc_laws.specs.Steps.{Rel}
 use Rattle.rpc_outside.specs.PlainAnswer.{background_answer}
 use Rattle.rpc_outside.specs.PlainStands.{PlainStands}
-use Rattle.rpc_world.specs.Answered.{End}
-use Rattle.rpc_world.specs.Before.{staff_of}
-use Rattle.server_core.proofs.FlushLemmas.{grew-none, grew-then}
-use Rattle.worker_crew.specs.Local.{Local, out_of}
+use Rattle.worker_crew.specs.Crews.{CrewState}
+use Rattle.worker_crew.specs.Dispatching.{jobs_in}
+use Rattle.plain_turns.specs.PlainTurns.{End, Stands, staff_of, usual_limits}
+use Rattle.plain_turns.proofs.RunLemmas.{goes-none, goes-then}
 
 -- a handler ran, a job was worked, a datagram was sent, or a call ended
 abbrev pub is_loud : Event → Bool
@@ -80,6 +79,10 @@ none-sent [] all = refl
 none-sent (f ∷ x) all =
     ap₂ (λ xs ys. xs ++ ys) (loud-sent f.event f.first f.second all.0) (none-sent x all.1)
 
+-- an endpoint whose jobs ask what the workers of another one have of them
+abbrev seen : (a e : End) → Timed
+seen a e = told (jobs_in a.workers.dispatching) e.timed
+
 module _ {R : Type 0} (facts : R → Option (List Fact)) (whole : R → Bool) where
   -- what a call notes
   unfoldable pub passes-of : (P : Rel) (a b : End) (f g : R) → Makes facts whole P a.timed b.timed f
@@ -95,54 +98,44 @@ module _ {R : Type 0} (facts : R → Option (List Fact)) (whole : R → Bool) wh
     ends = still-none is_end_event makes.noted (none-end makes.noted all);
   }
     where
-      step : P (told (out_of a.workers) a.timed) makes.noted (told (out_of a.workers) b.timed)
-      step = makes.step (asks_of (out_of a.workers))
+      step : P (seen a a) makes.noted (seen a b)
+      step = makes.step (asks_of (jobs_in a.workers.dispatching))
 
       all : AllStill is_loud makes.noted
-      all = still (told (out_of a.workers) a.timed) makes.noted
-          (told (out_of a.workers) b.timed) step
+      all = still (seen a a) makes.noted (seen a b) step
 
-      goes : (limits : Limits) → (h : List Fact)
-          → StandsFor plain_serving PlainStands background_answer staff_of limits h a
-          → StandsFor plain_serving PlainStands background_answer staff_of limits
-          (h ++ makes.noted) b
-      goes limits h s =
+      changes : Group plain_serving.mode (seen a a) makes.noted
+          (told (jobs_in b.workers.dispatching) b.timed)
+      changes =
+          subst (λ (w : CrewState). Group plain_serving.mode (seen a a) makes.noted
+          (told (jobs_in w.dispatching) b.timed)) (sym leaves.workers)
+          (group (seen a a) makes.noted (seen a b) step)
+
+      goes : (h : List Fact) → Stands h a → Stands (h ++ makes.noted) b
+      goes h s =
           let quiet = none-labour makes.noted all in
           let none = still-answers plain_serving (served_after_all plain_serving.mode [] h)
           makes.noted (none-ran makes.noted quiet) in
-          stands-more plain_serving PlainStands background_answer staff_of limits h a b makes.noted
-          s (subst (λ (w : Local). Group plain_serving.mode (told (out_of a.workers) a.timed)
-          makes.noted (told (out_of w) b.timed)) (sym leaves.workers)
-          (group (told (out_of a.workers) a.timed) makes.noted
-          (told (out_of a.workers) b.timed) step))
-          (none-worked makes.noted quiet) none.0 (rw (leaves.service, none.1) s.serves)
-          (rw leaves.workers (staffed-still background_answer (asks_of (out_of a.workers))
-          (staff_of a.workers) a.timed b.timed leaves.jobs s.staffed))
+          let me = me-more plain_serving PlainStands background_answer staff_of usual_limits h a b
+          makes.noted s.runs changes in
+          let runs = stands-more plain_serving PlainStands background_answer staff_of usual_limits h
+          a b makes.noted s.runs changes (none-worked makes.noted quiet) none.0
+          (rw (leaves.service, none.1) s.runs.serves)
+          (rw leaves.workers (staffed-still background_answer
+          (asks_of (jobs_in a.workers.dispatching)) (staff_of a.workers) a.timed b.timed leaves.jobs
+          s.runs.staffed)) in
+          record { node = me ∙ s.node; runs = runs }
 
   pub passes-none : (a b : End) (f g : R) → b ≡ a → g ≡ f → Passes facts whole a b f g
-  passes-none a b f g same still = rw (same, still) (record {
-    goes = record {
-      noted = [];
-      grew = grew-none facts whole f;
-      goes_on = λ limits h s.
-          subst (λ z. StandsFor plain_serving PlainStands background_answer staff_of limits z a)
-          (sym (append-nil h)) s;
-    };
-    sends = refl;
-    ends = refl;
-  })
+  unfolding goes-none
+  passes-none a b f g same still =
+      rw (same, still) (record { goes = goes-none facts whole a f; sends = refl; ends = refl })
 
   pub passes-then : (a b c : End) (f g h : R) → Passes facts whole a b f g
       → Passes facts whole b c g h → Passes facts whole a c f h
+  unfolding goes-then
   passes-then a b c f g h p q = record {
-    goes = record {
-      noted = p.goes.noted ++ q.goes.noted;
-      grew = grew-then facts whole f g h p.goes.noted q.goes.noted p.goes.grew q.goes.grew;
-      goes_on = λ limits past s.
-          subst (λ z. StandsFor plain_serving PlainStands background_answer staff_of limits z c)
-          (append_assoc past p.goes.noted q.goes.noted)
-          (q.goes.goes_on limits (past ++ p.goes.noted) (p.goes.goes_on limits past s));
-    };
+    goes = goes-then facts whole a b c f g h p.goes q.goes;
     sends = sent-append p.goes.noted q.goes.noted ∙ ap₂ (λ xs ys. xs ++ ys) p.sends q.sends;
     ends = ends-append p.goes.noted q.goes.noted ∙ ap₂ (λ xs ys. xs ++ ys) p.ends q.ends;
   }

@@ -1,7 +1,7 @@
 -- Turns of a run, each prepared and then made.
 use Rattle.std.proofs.Common.{◌≡◌, ◌≢◌, ℕ, ◌+◌, Bool, true, false, Option}
 use Rattle.std.proofs.Common.{List, [], ◌∷◌, ◌++◌, map, refl, sym, ap, subst, ◌∙◌, arith}
-use Rattle.std.proofs.Common.{append_assoc, append-nil}
+use Rattle.std.proofs.Common.{append-nil}
 use Rattle.std.proofs.Common.{add-zero}
 use Rattle.std.specs.Prelude.{option_map, Result, Ok, Err, OnOk, OnErr}
 use Rattle.client_core.specs.Shown.{done_fact}
@@ -16,18 +16,16 @@ use Rattle.load_run.specs.Loading.{PreparesIn}
 use Rattle.load_run.specs.Loading.{UnlessFailed, UnlessNoMemory}
 use Rattle.load_run.specs.Tallies.{Counts, KeepsAll}
 use Rattle.load_run.proofs.TallyLemmas.{counts-none, counts-noted, counts-silent, counts-then}
-use Rattle.plain_turns.proofs.RunLemmas.{runs-then}
-use Rattle.plain_turns.specs.PlainTurns.{Stands, TakesTurn, TellsTurn, usual_limits}
+use Rattle.plain_turns.proofs.RunLemmas.{goes-none, goes-then, runs-then}
+use Rattle.plain_turns.specs.PlainTurns.{End, TakesTurn, TellsTurn}
 use Rattle.rpc_base.specs.declared.fact.Fact.{Fact}
 use Rattle.rpc_base.specs.declared.state.SessionState.{SessionState}
 use Rattle.rpc_base.specs.declared.state.SessionState.TheVariants.{Connected}
 use Rattle.rpc_outside.specs.Linking.{Carried}
 use Rattle.rpc_outside.specs.Ticking.{Gives}
-use Rattle.rpc_world.specs.Answered.{End}
 use Rattle.run_status.specs.declared.going.Going.{Going}
 use Rattle.run_status.specs.declared.going.Going.TheVariants.{On, Over}
 use Rattle.run_status.specs.declared.status.Status.TheVariants.{LinkFault, NoMemory}
-use Rattle.server_core.proofs.FlushLemmas.{grew-none, grew-then}
 
 -- nothing is prepared where the session isn't Connected
 pub idles : {R : Type 0} (facts : R → Option (List Fact)) (whole : R → Bool) (old new : LoadsSoFar)
@@ -47,34 +45,28 @@ module _ {R C : Type 0} (facts : R → Option (List Fact)) (whole : R → Bool)
       → Counts (map (done_fact 0) ended.dones.items) ready.ledger new.ledger → Keeps old ready
       → new.session ≡ ready.session → new.turns ≡ ready.turns → new.made ≡ ready.made + 1
       → LoadsOn facts whole gave sent then_sent clock then_clock old new f h 1
+  unfolding goes-then
   loads-one sent then_sent clock then_clock old ready new f g h none ended now passes turn tick
       empty kept counts keeps session turns made = record {
         runs = record {
-          noted = passes.goes.noted ++ turn.noted;
-          grew = grew-then facts whole f g h passes.goes.noted turn.noted passes.goes.grew
-              turn.grew;
-          goes_on = λ past s.
-              subst (λ z. Stands z new.endpoint) (append_assoc past passes.goes.noted turn.noted)
-              (turn.goes_on (past ++ passes.goes.noted) (passes.goes.goes_on usual_limits past s));
+          goes = goes-then facts whole old.endpoint ready.endpoint new.endpoint f g h passes.goes
+              turn.goes;
           sends = λ past s.
-              (turn.told (past ++ passes.goes.noted) (passes.goes.goes_on usual_limits past
-              s)).sends
+              (turn.told (past ++ passes.goes.noted) (passes.goes.goes_on past s)).sends
               ∙ ap (λ x. option_map (λ ds. ds ++ x) sent)
-              (sym (sent-append passes.goes.noted turn.noted
-              ∙ ap (λ x. x ++ sent_of turn.noted) passes.sends));
+              (sym (sent-append passes.goes.noted turn.goes.noted
+              ∙ ap (λ x. x ++ sent_of turn.goes.noted) passes.sends));
           times = now ∷ [];
           count = refl;
           ticks = tick;
         };
         counts = λ past s.
-            let told = turn.told (past ++ passes.goes.noted) (passes.goes.goes_on usual_limits past
-            s) in
-            counts-then passes.goes.noted turn.noted old.ledger old.ledger new.ledger
+            let told = turn.told (past ++ passes.goes.noted) (passes.goes.goes_on past s) in
+            counts-then passes.goes.noted turn.goes.noted old.ledger old.ledger new.ledger
             (counts-silent passes.goes.noted old.ledger passes.ends)
-            (subst (λ (l : Ledger). Counts turn.noted l new.ledger) keeps.ledger
-            (counts-noted ready.endpoint.timed.lists.me ended.dones.items turn.noted ready.ledger
-            new.ledger (told.ends ∙ ap (map (done_fact ready.endpoint.timed.lists.me))
-            (sym (told.gave [] empty kept))) counts));
+            (subst (λ (l : Ledger). Counts turn.goes.noted l new.ledger)
+            keeps.ledger (counts-noted 0 ended.dones.items turn.goes.noted ready.ledger new.ledger
+            (told.ends ∙ ap (map (done_fact 0)) (sym (told.gave [] empty kept))) counts));
         session = session ∙ keeps.session;
         turns = turns ∙ keeps.turns;
         made = made ∙ ap (λ n. n + 1) keeps.made;
@@ -82,11 +74,10 @@ module _ {R C : Type 0} (facts : R → Option (List Fact)) (whole : R → Bool)
 
   pub loads-none : (sent : Option (List Carried)) (clock : C) (run : LoadsSoFar) (f : R)
       → LoadsOn facts whole gave sent sent clock clock run run f f 0
+  unfolding goes-none
   loads-none sent clock run f = record {
     runs = record {
-      noted = [];
-      grew = grew-none facts whole f;
-      goes_on = λ past s. subst (λ z. Stands z run.endpoint) (sym (append-nil past)) s;
+      goes = goes-none facts whole run.endpoint f;
       sends = λ past s. took-none sent;
       times = [];
       count = refl;
@@ -103,13 +94,13 @@ module _ {R C : Type 0} (facts : R → Option (List Fact)) (whole : R → Bool)
       → LoadsOn facts whole gave sent mid clock via a b f g n
       → LoadsOn facts whole gave mid then_sent via then_clock b c g h m
       → LoadsOn facts whole gave sent then_sent clock then_clock a c f h (n + m)
-  unfolding runs-then
+  unfolding runs-then goes-then
   loads-then sent mid then_sent clock via then_clock a b c f g h n m p q = record {
     runs = runs-then facts whole gave sent mid then_sent clock via then_clock a.endpoint b.endpoint
         c.endpoint f g h n m p.runs q.runs;
     counts = λ past s.
-        counts-then p.runs.noted q.runs.noted a.ledger b.ledger c.ledger (p.counts past s)
-        (q.counts (past ++ p.runs.noted) (p.runs.goes_on past s));
+        counts-then p.runs.goes.noted q.runs.goes.noted a.ledger b.ledger c.ledger
+        (p.counts past s) (q.counts (past ++ p.runs.goes.noted) (p.runs.goes.goes_on past s));
     session = q.session ∙ p.session;
     turns = q.turns ∙ p.turns;
     made = let one = p.made in let two = q.made in omega arith;

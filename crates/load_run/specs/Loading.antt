@@ -15,7 +15,7 @@ use Rattle.load_plan.specs.Calls.{Calls, asked_bytes, calls_of, room_of}
 use Rattle.load_run.specs.declared.ended.Ended.{Ended}
 use Rattle.load_run.specs.declared.ledger.Ledger.{Ledger}
 use Rattle.load_run.specs.Tallies.{Counts, KeepsAll, Tallies}
-use Rattle.plain_turns.specs.PlainTurns.{GivesAll, GoesOnBy, RunsOn, Stands, TakesTurn}
+use Rattle.plain_turns.specs.PlainTurns.{End, GivesAll, GoesOnBy, RunsOn, Stands, TakesTurn}
 use Rattle.load_run.specs.declared.run.TheConstants.{LOAD_CREDITS}
 use Rattle.rpc_base.specs.declared.event.Event.TheVariants.{Opened}
 use Rattle.rpc_base.specs.declared.fact.Fact.{Fact}
@@ -31,7 +31,6 @@ use Rattle.rpc_outside.specs.Faults.{HasRisen}
 use Rattle.rpc_outside.specs.Linking.{Carried}
 use Rattle.rpc_outside.specs.Recording.{Grew}
 use Rattle.rpc_outside.specs.Writing.{Broke, Wrote}
-use Rattle.rpc_world.specs.Answered.{End}
 use Rattle.run_status.specs.declared.going.Going.{Going}
 use Rattle.run_status.specs.declared.going.Going.TheVariants.{On, Over}
 use Rattle.run_status.specs.declared.status.Status.{Status}
@@ -143,7 +142,7 @@ pub record LoadsOn {R C : Type 0} (facts : R → Option (List Fact)) (whole : R 
   pub runs : RunsOn facts whole gave sent then_sent clock then_clock old.endpoint new.endpoint
       before later n
   pub counts : (past : List Fact) → Stands past old.endpoint
-      → Counts runs.noted old.ledger new.ledger
+      → Counts runs.goes.noted old.ledger new.ledger
   pub session : new.session ≡ old.session
   pub turns : new.turns ≡ old.turns
   pub made : new.made ≡ old.made + n
@@ -206,8 +205,7 @@ pub record StartsAs {R : Type 0} (facts : R → Option (List Fact)) (whole : R �
     (words : LoadWords) (before now : R) (s : LoadsSoFar) : Type 0 where
   pub noted : List Fact
   pub peer : ℕ
-  pub opens : noted
-      ≡ plain s.endpoint.timed.lists.me (Opened s.session peer LOAD_CREDITS) ∷ []
+  pub opens : noted ≡ plain 0 (Opened s.session peer LOAD_CREDITS) ∷ []
   pub grew : Grew facts whole before now noted
   pub stands : Stands noted s.endpoint
   pub sends : sent_of noted ≡ []
@@ -236,9 +234,10 @@ TurnsEnd told facts whole gave tells link then_link clock then_clock old new bef
     × LoadsOn facts whole gave (tells link).sent (tells then_link).sent clock then_clock old new
     before later many
 
--- what `load` did once its run was over: the facts are a run of its node with usual limits, which
--- opened the session first; the link, where it tells that, sent just what they say was sent, the
--- clock gave a number for each turn, and the tally counts the ends of calls among them
+-- what `load` did once its run was over: the facts are a run of its node, node 0, with usual
+-- limits, which opened the session first; the link, where it tells that, sent just what they say
+-- was sent, the clock gave a number for each turn, and the tally counts the ends of calls among
+-- them
 pub record HasRun {R L C : Type 0} (facts : R → Option (List Fact)) (whole : R → Bool)
     (gave : C → List ℕ → Type 0) (tells : L → LinkTells) (words : LoadWords) (link then_link : L)
     (clock then_clock : C) (before later : R) (run : LoadsSoFar) : Type 0 where
@@ -248,14 +247,21 @@ pub record HasRun {R L C : Type 0} (facts : R → Option (List Fact)) (whole : R
   pub noted : List Fact
   pub grew : Grew facts whole before later noted
   pub stands : Stands noted run.endpoint
-  pub opens : (who peer : ℕ) × (rest : List Fact)
-      × (noted ≡ plain who (Opened run.session peer LOAD_CREDITS) ∷ rest)
+  pub opens : (peer : ℕ) × (rest : List Fact)
+      × (noted ≡ plain 0 (Opened run.session peer LOAD_CREDITS) ∷ rest)
   pub tallies : Tallies run.ledger.plan run.ledger.tally noted
   pub sent : (tells then_link).sent ≡ option_map (λ ds. ds ++ sent_of noted) (tells link).sent
   pub times : List ℕ
   pub count : length times ≡ run.made
   pub ticks : GivesAll gave clock then_clock times
   pub quiet : (tells then_link).troubles.faults ≡ (tells link).troubles.faults
+
+-- the facts that were noted are a run of node 0 with usual limits
+pub record NotesRun {R : Type 0} (facts : R → Option (List Fact)) (whole : R → Bool)
+    (before later : R) : Type 0 where
+  pub noted : List Fact
+  pub grew : Grew facts whole before later noted
+  pub runs : (noted ≡ []) ⊎ ((endpoint : End) × Stands noted endpoint)
 
 -- how `load` ends: the link failed, or there was no memory and it didn't, and nothing was written;
 -- or its run was over, and the line was written, or a front of it where the sink failed
@@ -266,11 +272,11 @@ abbrev pub Loads : {R L C : Type 0} → Status → (R → Option (List Fact)) �
 Loads status.LinkFault facts whole gave tells words link then_link clock then_clock before later
     old new read again =
     HasRisen (tells link).troubles.faults (tells then_link).troubles.faults
-    × (new ≡ old) × (again ≡ read)
+    × NotesRun facts whole before later × (new ≡ old) × (again ≡ read)
 Loads status.NoMemory facts whole gave tells words link then_link clock then_clock before later
     old new read again =
     ((tells then_link).troubles.faults ≡ (tells link).troubles.faults)
-    × (new ≡ old) × (again ≡ read)
+    × NotesRun facts whole before later × (new ≡ old) × (again ≡ read)
 Loads told facts whole gave tells words link then_link clock then_clock before later old new
     read again =
     (run : LoadsSoFar)

@@ -9,11 +9,12 @@ ghost use Rattle.rpc_laws.specs.Groups.{Asks};
 use crate::run::LoadRun;
 use rpc_base::{NoMemory, SessionState};
 use rpc_outside::Recorder;
+use std::sync::Wait;
 
 /// No more calls are pending at a time.
 const MOST_PENDING: u64 = 64;
 
-impl LoadRun {
+impl<H: Wait> LoadRun<H> {
     // Asks the next call. NoMemory comes only where there is none for it.
     fn ask_next<R: Recorder>(&mut self, rec: &mut R) -> Result<(), NoMemory>
         requires left { 0 < unasked self.old }

@@ -9,10 +9,11 @@ use command_line::LoadSpec;
 use rpc_outside::{Clock, Link, Recorder, Sink};
 use run_status::{Going, Status};
 use std::alloc::Global;
+use std::sync::Wait;
 
 // Makes turns until the run is over, and tells with which status.
-fn turn_all<L: Link, C: Clock, R: Recorder>(
-    run: &mut LoadRun,
+fn turn_all<H: Wait + Drop, L: Link, C: Clock, R: Recorder>(
+    run: &mut LoadRun<H>,
     link: &mut L,
     clock: &mut C,
     rec: &mut R,
@@ -36,7 +37,8 @@ fn turn_all<L: Link, C: Clock, R: Recorder>(
 /// where one of the sink did, and `NoMemory` only where there was no memory. `Done` comes where the
 /// session is over, all calls were asked and each ended well with a right answer, `CallsFailed`
 /// where it is over and one didn't, and `TurnsSpent` where it isn't over and all turns are made.
-pub fn load<K: Sink, L: Link, C: Clock, R: Recorder>(
+pub fn load<H: Wait + Drop, K: Sink, L: Link, C: Clock, R: Recorder>(
+    rt: H,
     alloc: Global,
     spec: &LoadSpec,
     sink: &mut K,
@@ -51,7 +53,7 @@ pub fn load<K: Sink, L: Link, C: Clock, R: Recorder>(
     }) spec.now link.old link.new clock.old clock.new rec.old rec.new (K.written sink.old)
         (K.written sink.new) (K.faults sink.old) (K.faults sink.new) }
 {
-    let mut run = match LoadRun::start(alloc, spec, link, rec) {
+    let mut run = match LoadRun::start(rt, alloc, spec, link, rec) {
         Ok(run) => run,
         Err(status) => return status,
     };

@@ -1,5 +1,5 @@
 //! A run of a client.
-ghost use Rattle.std.specs.Prelude.{◌≡◌, ◌<◌, ◌≢◌, IfErr, IfOk, OnOk};
+ghost use Rattle.std.specs.Prelude.{◌≡◌, ◌<◌, ◌≢◌, IfErr, IfOk, OnErr, OnOk};
 ghost use Rattle.command_line.specs.Answers.{IsLoadInRange};
 ghost use Rattle.count_line.specs.Line.{line_text};
 ghost use Rattle.load_run.specs.Loading.{calls_line};
@@ -21,15 +21,18 @@ use rpc_outside::{Clock, Link, Recorder, Sink};
 use run_status::{Going, Status};
 use std::alloc::Global;
 use std::marker::Model;
+use std::sync::Wait;
+use worker_crew::SerialSpawner;
 
 /// The credits of the session.
 pub const LOAD_CREDITS: u16 = 32;
 
-/// A client's endpoint and its session, its calls with how they ended, and its turns counted.
+/// A client's endpoint and its session, its calls with how they ended, and its turns counted. Its
+/// crew has no hands, and waits by the handle `H`.
 #[derive(Drop)]
-pub struct LoadRun {
+pub struct LoadRun<H: Wait> {
     pub(crate) alloc: Global,
-    pub(crate) endpoint: PlainEndpoint,
+    pub(crate) endpoint: PlainEndpoint<H>,
     pub(crate) session: SessionNo,
     pub(crate) ledger: Ledger,
     pub(crate) asked: u32,
@@ -37,7 +40,7 @@ pub struct LoadRun {
     made: u32,
 }
 
-impl Model for LoadRun {
+impl<H: Wait> Model for LoadRun<H> {
     ghost use Rattle.std.specs.Prelude.{◌≤◌};
     ghost use Rattle.load_run.specs.Loading.{LoadsSoFar};
 
@@ -55,7 +58,7 @@ impl Model for LoadRun {
     ghost invariant = { λ r. (r.asked ≤ r.ledger.plan.calls) × (r.made ≤ r.turns) };
 }
 
-impl LoadRun {
+impl<H: Wait> LoadRun<H> {
     /// How many calls weren't asked yet.
     pub(crate) fn unasked(&self) -> u32
         ensures { result ≡ unasked self.now }
@@ -87,7 +90,8 @@ impl LoadRun {
 
     // Whether it goes on, and how it is to end where it doesn't.
     fn going(&self) -> Going
-        ensures { result ≡ going_at self.now }
+        ensures going { result ≡ going_at self.now }
+        ensures left { result ≡ On → self.now.made < self.now.turns }
     {
         match self.state() {
             SessionState::Closed | SessionState::Failed | SessionState::Broken => {
@@ -101,21 +105,25 @@ impl LoadRun {
             _ => Going::On,
         }
     }
+}
 
+impl<H: Wait + Drop> LoadRun<H> {
     /// Binds the link to the client's address, and opens a session with the server at the other
     /// one, with 32 credits, of an endpoint of node 0 with usual limits. `LinkFault` comes exactly
     /// where a fault of the link came, and `NoMemory` only where there was no memory.
     pub fn start<L: Link, R: Recorder>(
+        rt: H,
         alloc: Global,
         spec: &LoadSpec,
         link: &mut L,
         rec: &mut R,
-    ) -> Result<LoadRun, Status>
+    ) -> Result<LoadRun<H>, Status>
         requires { IsLoadInRange spec.now }
         ensures starts { IfOk result (StartsAs R.facts R.whole spec.now rec.old rec.new) }
         ensures sent { L.sent link.new ≡ L.sent link.old }
         ensures quiet { OnOk result (L.faults link.new ≡ L.faults link.old) }
         ensures refused { IfErr result (WhyNot (L.faults link.old) (L.faults link.new)) }
+        ensures unnoted { OnErr result (rec.new ≡ rec.old) }
     {
         if link.bind(spec.bind.as_str()).is_err() {
             return Err(Status::LinkFault);
@@ -126,7 +134,7 @@ impl LoadRun {
         let Ok(plan) = Plan::of(alloc, spec) else {
             return Err(Status::NoMemory);
         };
-        let Ok(mut endpoint) = plain_endpoint(alloc) else {
+        let Ok(mut endpoint) = plain_endpoint(rt, alloc, 0, &mut SerialSpawner::new()) else {
             return Err(Status::NoMemory);
         };
         let Ok(session) = endpoint.connect(peer, LOAD_CREDITS, 0, rec) else {
@@ -170,6 +178,7 @@ impl LoadRun {
         ensures goes_on { GoesOnBy R.facts R.whole self.old.endpoint self.new.endpoint rec.old
             rec.new }
         ensures answers { Answers (L.faults link.old) (L.faults link.new) self.new result }
+        ensures left { result ≡ On → self.new.made < self.new.turns }
     {
         let Ok(()) = self.prepare(rec) else {
             return Going::Over(Status::NoMemory);

@@ -1,5 +1,6 @@
 -- Turns, one after another.
-use Rattle.std.proofs.Common.{ℕ, ◌+◌, Bool, Option, List, [], ◌∷◌, ◌++◌, refl, sym, ap, ap₂, ◌∙◌}
+use Rattle.std.proofs.Common.{◌≡◌, ℕ, ◌+◌, Bool, Option, List, [], ◌∷◌, ◌++◌, refl, sym, ap, ap₂}
+use Rattle.std.proofs.Common.{◌∙◌}
 use Rattle.std.proofs.Common.{subst, append_assoc, append-nil, length-append}
 use Rattle.std.specs.Prelude.{option_map}
 use Rattle.client_core.specs.declared.outcome.Done.{Done}
@@ -8,18 +9,52 @@ use Rattle.endpoint_loop.proofs.NotingLemmas.{sent-append, took-none, took-then}
 use Rattle.rpc_base.specs.declared.fact.Fact.{Fact}
 use Rattle.rpc_outside.specs.Linking.{Carried}
 use Rattle.rpc_outside.specs.Ticking.{Gives}
-use Rattle.rpc_world.specs.Answered.{End}
 use Rattle.server_core.proofs.FlushLemmas.{grew-none, grew-then}
-use Rattle.plain_turns.specs.PlainTurns.{RunsOn, Stands, TellsTurn}
+use Rattle.endpoint_loop.specs.Standing.{GoesOn}
+use Rattle.rpc_laws.specs.Service.{plain_serving}
+use Rattle.rpc_outside.specs.PlainAnswer.{background_answer}
+use Rattle.rpc_outside.specs.PlainStands.{PlainStands}
+use Rattle.plain_turns.specs.PlainTurns.{End, GoesOnBy, RunsOn, Stands, TellsTurn, staff_of}
+use Rattle.plain_turns.specs.PlainTurns.{usual_limits}
+
+module _ {R : Type 0} (facts : R → Option (List Fact)) (whole : R → Bool) where
+  -- nothing was noted
+  unfoldable pub goes-none : (a : End) (f : R) → GoesOnBy facts whole a a f f
+  goes-none a f = record {
+    noted = [];
+    grew = grew-none facts whole f;
+    goes_on = λ past s. subst (λ z. Stands z a) (sym (append-nil past)) s;
+  }
+
+  -- facts of a call that keeps the node's number
+  pub goes-by : (a b : End) (f g : R) → b.timed.lists.me ≡ a.timed.lists.me
+      → GoesOn facts whole plain_serving PlainStands background_answer staff_of a b f g
+      → GoesOnBy facts whole a b f g
+  goes-by a b f g me h = record {
+    noted = h.noted;
+    grew = h.grew;
+    goes_on = λ past s.
+        record { node = me ∙ s.node; runs = h.goes_on usual_limits past s.runs };
+  }
+
+  -- facts, and then further ones
+  unfoldable pub goes-then : (a b c : End) (f g h : R) → GoesOnBy facts whole a b f g
+      → GoesOnBy facts whole b c g h → GoesOnBy facts whole a c f h
+  goes-then a b c f g h p q = record {
+    noted = p.noted ++ q.noted;
+    grew = grew-then facts whole f g h p.noted q.noted p.grew q.grew;
+    goes_on = λ past s.
+        subst (λ z. Stands z c) (append_assoc past p.noted q.noted)
+        (q.goes_on (past ++ p.noted) (p.goes_on past s));
+  }
 
 module _ {R C : Type 0} (facts : R → Option (List Fact)) (whole : R → Bool) (gave : C → List ℕ → Type 0) where
   -- no turn was made yet
   pub none-made : (sent : Option (List Carried)) (clock : C) (e : End) (f : R)
       → RunsOn facts whole gave sent sent clock clock e e f f 0
+  unfolding goes-none
   none-made sent clock e f = record {
-    noted = [];
-    grew = grew-none facts whole f;
-    goes_on = λ past s. subst (λ z. Stands z e) (sym (append-nil past)) s;
+    goes = goes-none facts whole e f;
     sends = λ past s. took-none sent;
     times = [];
     count = refl;
@@ -32,17 +67,14 @@ module _ {R C : Type 0} (facts : R → Option (List Fact)) (whole : R → Bool) 
       → RunsOn facts whole gave sent mid clock via a b f g n
       → RunsOn facts whole gave mid then_sent via then_clock b c g h m
       → RunsOn facts whole gave sent then_sent clock then_clock a c f h (n + m)
+  unfolding goes-then
   runs-then sent mid then_sent clock via then_clock a b c f g h n m p q = record {
-    noted = p.noted ++ q.noted;
-    grew = grew-then facts whole f g h p.noted q.noted p.grew q.grew;
-    goes_on = λ past s.
-        subst (λ z. Stands z c) (append_assoc past p.noted q.noted)
-        (q.goes_on (past ++ p.noted) (p.goes_on past s));
+    goes = goes-then facts whole a b c f g h p.goes q.goes;
     sends = λ past s.
-        q.sends (past ++ p.noted) (p.goes_on past s)
-        ∙ ap (option_map (λ ds. ds ++ sent_of q.noted)) (p.sends past s)
-        ∙ took-then sent (sent_of p.noted) (sent_of q.noted)
-        ∙ ap (λ x. option_map (λ ds. ds ++ x) sent) (sym (sent-append p.noted q.noted));
+        q.sends (past ++ p.goes.noted) (p.goes.goes_on past s)
+        ∙ ap (option_map (λ ds. ds ++ sent_of q.goes.noted)) (p.sends past s)
+        ∙ took-then sent (sent_of p.goes.noted) (sent_of q.goes.noted)
+        ∙ ap (λ x. option_map (λ ds. ds ++ x) sent) (sym (sent-append p.goes.noted q.goes.noted));
     times = p.times ++ q.times;
     count = length-append p.times q.times ∙ ap₂ (λ i j. i + j) p.count q.count;
     ticks = λ before h.
@@ -56,9 +88,7 @@ module _ {R C : Type 0} (facts : R → Option (List Fact)) (whole : R → Bool) 
       → TellsTurn facts whole given sent then_sent a b f g from to → Gives gave clock then_clock now
       → RunsOn facts whole gave sent then_sent clock then_clock a b f g 1
   one-made given sent then_sent clock then_clock a b f g from to now turn tick = record {
-    noted = turn.noted;
-    grew = turn.grew;
-    goes_on = turn.goes_on;
+    goes = turn.goes;
     sends = λ past s. (turn.told past s).sends;
     times = now ∷ [];
     count = refl;

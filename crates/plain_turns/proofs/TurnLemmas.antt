@@ -13,8 +13,9 @@ use Rattle.endpoint_loop.specs.Turning.{DeliversAll, TakesIn}
 use Rattle.endpoint_loop.proofs.GivingLemmas.{staffed-still}
 use Rattle.endpoint_loop.proofs.NotesLemmas.{ends-append, me-goes}
 use Rattle.endpoint_loop.proofs.PollLemmas.{still-answers}
-use Rattle.endpoint_loop.proofs.StandingLemmas.{delivery-still, goes-polled, is_labour, none-ran, none-worked}
-use Rattle.endpoint_loop.proofs.StandingLemmas.{unworked}
+use Rattle.endpoint_loop.proofs.StandingLemmas.{delivery-still, goes-polled, is_labour, me-polled}
+use Rattle.endpoint_loop.proofs.StandingLemmas.{none-ran, none-worked, unworked}
+use Rattle.endpoint_loop.specs.Standing.{StandsFor}
 use Rattle.endpoint_loop.proofs.StillLemmas.{AllStill, still-append}
 use Rattle.endpoint_loop.proofs.TurnLemmas.{many-append, many-none}
 use Rattle.endpoint_loop.proofs.NotingLemmas.{sent-append}
@@ -34,11 +35,11 @@ use Rattle.rpc_laws.proofs.AnswerLemmas.{answers-append, served-append}
 use Rattle.rpc_outside.specs.Linking.{Carried}
 use Rattle.rpc_outside.specs.PlainAnswer.{background_answer, plain_mode}
 use Rattle.rpc_outside.specs.PlainStands.{PlainStands}
-use Rattle.rpc_world.specs.Answered.{End}
-use Rattle.rpc_world.specs.Before.{staff_of}
 use Rattle.server_core.proofs.FlushLemmas.{grew-then}
-use Rattle.worker_crew.specs.Local.{Local, out_of}
-use Rattle.plain_turns.specs.PlainTurns.{Stands, TakesTurn, TellsMore, TellsTurn, crew_of, usual_limits}
+use Rattle.worker_crew.specs.Crews.{CrewState}
+use Rattle.worker_crew.specs.Dispatching.{jobs_in}
+use Rattle.plain_turns.specs.PlainTurns.{End, Stands, TakesTurn, TellsMore, TellsTurn, crew_of}
+use Rattle.plain_turns.specs.PlainTurns.{staff_of, usual_limits}
 
 module _ (v : Serving) (me : ℕ) (limits : Limits) where
   -- a run, and then a group that runs and works nothing
@@ -117,33 +118,38 @@ me-delivers (d ∷ ds) s x t h =
 -- datagrams come in
 module _ {R : Type 0} (facts : R → Option (List Fact)) (whole : R → Bool) (came : List Carried) (a b : End)
     (f g : R) (h : TakesIn facts whole came a b f g) where
-  takes-step : DeliversAll came (told (out_of a.workers) a.timed) h.delivers.noted
-      (told (out_of a.workers) b.timed)
-  takes-step = h.delivers.step (asks_of (out_of a.workers))
+  takes-step : DeliversAll came (told (jobs_in a.workers.dispatching) a.timed) h.delivers.noted
+      (told (jobs_in a.workers.dispatching) b.timed)
+  takes-step = h.delivers.step (asks_of (jobs_in a.workers.dispatching))
 
   takes-me : b.timed.lists.me ≡ a.timed.lists.me
-  takes-me = me-delivers came (told (out_of a.workers) a.timed) h.delivers.noted
-      (told (out_of a.workers) b.timed) takes-step
+  takes-me = me-delivers came (told (jobs_in a.workers.dispatching) a.timed) h.delivers.noted
+      (told (jobs_in a.workers.dispatching) b.timed) takes-step
 
   takes-stands : (past : List Fact) → Stands past a → Stands (past ++ h.delivers.noted) b
   takes-stands past s =
       let run = run-delivers plain_serving a.timed.lists.me usual_limits came past h.delivers.noted
-      (told (out_of a.workers) a.timed) (told (out_of a.workers) b.timed) s.run takes-step in
+      (told (jobs_in a.workers.dispatching) a.timed)
+      (told (jobs_in a.workers.dispatching) b.timed) s.runs.run takes-step in
       let me = takes-me in
-      let still = all-still came (told (out_of a.workers) a.timed) h.delivers.noted
-      (told (out_of a.workers) b.timed) takes-step in
+      let still = all-still came (told (jobs_in a.workers.dispatching) a.timed) h.delivers.noted
+      (told (jobs_in a.workers.dispatching) b.timed) takes-step in
       let none = still-answers plain_serving (served_after_all plain_mode [] past) h.delivers.noted
       (none-ran h.delivers.noted still) in
-      record {
-        run = subst (λ (w : Local). NodeRun plain_serving b.timed.lists.me usual_limits
-            (past ++ h.delivers.noted) (told (out_of w) b.timed)) (sym h.leaves.workers)
+      let runs : StandsFor plain_serving PlainStands background_answer staff_of usual_limits
+      (past ++ h.delivers.noted) b = record {
+        run = subst (λ (w : CrewState). NodeRun plain_serving b.timed.lists.me usual_limits
+            (past ++ h.delivers.noted) (told (jobs_in w.dispatching) b.timed))
+            (sym h.leaves.workers)
             (subst (λ m. NodeRun plain_serving m usual_limits (past ++ h.delivers.noted)
-            (told (out_of a.workers) b.timed)) (sym me) run);
+            (told (jobs_in a.workers.dispatching) b.timed)) (sym me) run);
         serves = subst (PlainStands b.service) (sym (served-append plain_mode [] past h.delivers.noted ∙ none.1))
-            (rw h.leaves.service s.serves);
-        staffed = rw h.leaves.workers (staffed-still background_answer (asks_of (out_of a.workers))
-            (staff_of a.workers) a.timed b.timed h.leaves.jobs s.staffed);
-      }
+            (rw h.leaves.service s.runs.serves);
+        staffed = rw h.leaves.workers (staffed-still background_answer
+            (asks_of (jobs_in a.workers.dispatching))
+            (staff_of a.workers) a.timed b.timed h.leaves.jobs s.runs.staffed);
+      } in
+      record { node = me ∙ s.node; runs = runs }
 
 -- what a turn tells, of which it is known what it is
 module _ {R L C K : Type 0} (facts : R → Option (List Fact)) (whole : R → Bool)
@@ -160,31 +166,32 @@ module _ {R L C K : Type 0} (facts : R → Option (List Fact)) (whole : R → Bo
 
   between-stands : (past : List Fact) → Stands past old → Stands (past ++ first) h.turns.between
   between-stands past s =
-      takes-stands facts whole h.turns.came h.ready h.turns.between before h.turns.mid h.turns.takes
-      past (h.works.stands usual_limits past s)
+      takes-stands facts whole h.turns.came old h.turns.between before h.turns.mid h.turns.takes
+      past s
 
   polled : (past : List Fact) → Stands (past ++ first) h.turns.between
       → Stands ((past ++ first) ++ second) new
   unfolding goes-polled
   polled past s =
-      (goes-polled facts whole given crew_of plain_serving PlainStands background_answer
+      let runs = (goes-polled facts whole given crew_of plain_serving PlainStands background_answer
       h.turns.polled h.now h.turns.mid_link (tells then_link) h.turns.between new h.turns.mid later
-      from to h.turns.polls).goes_on usual_limits (past ++ first) s
+      from to h.turns.polls).goes_on usual_limits (past ++ first) s.runs in
+      let me = me-polled facts whole given crew_of plain_serving PlainStands background_answer
+      h.turns.polled h.now h.turns.mid_link (tells then_link) h.turns.between new h.turns.mid later
+      from to h.turns.polls usual_limits (past ++ first) s.runs in
+      record { node = me ∙ s.node; runs = runs }
 
   more-told : (past : List Fact) → Stands past old
-      → TellsMore given (tells link).sent (tells then_link).sent old.timed.lists.me (first ++ second) from to
+      → TellsMore given (tells link).sent (tells then_link).sent (first ++ second) from to
   more-told past s =
       let mid = between-stands past s in
-      let told_of = (h.turns.polls.does mid.staffed).1 in
+      let told_of = (h.turns.polls.does mid.runs.staffed).1 in
       let quiet = all-coming h.turns.came _ first _
-      (takes-step facts whole h.turns.came h.ready h.turns.between before h.turns.mid h.turns.takes) in
-      let me : h.turns.between.timed.lists.me ≡ old.timed.lists.me =
-      takes-me facts whole h.turns.came h.ready h.turns.between before h.turns.mid h.turns.takes
-      ∙ ap (λ (t : Timed). t.lists.me) h.works.timed in
+      (takes-step facts whole h.turns.came old h.turns.between before h.turns.mid h.turns.takes) in
       record {
         dones = told_of.dones;
         ends = ends-append first second ∙ ap (λ ends. ends ++ filter is_end second) quiet.1
-            ∙ told_of.ends ∙ ap (λ m. map (done_fact m) told_of.dones) me;
+            ∙ told_of.ends ∙ ap (λ m. map (done_fact m) told_of.dones) mid.node;
         gave = told_of.gave;
         sends = told_of.took ∙ ap (option_map (λ ds. ds ++ sent_of second)) h.turns.receives.sent
             ∙ ap (λ sent. option_map (λ ds. ds ++ sent) (tells link).sent)
@@ -193,10 +200,13 @@ module _ {R L C K : Type 0} (facts : R → Option (List Fact)) (whole : R → Bo
 
   pub turn-tells : TellsTurn facts whole given (tells link).sent (tells then_link).sent old new before later from to
   turn-tells = record {
-    noted = first ++ second;
-    grew = grew-then facts whole before h.turns.mid later first second h.turns.takes.delivers.grew
-        h.turns.polls.grew;
-    goes_on = λ past s.
-        subst (λ z. Stands z new) (append_assoc past first second) (polled past (between-stands past s));
+    goes = record {
+      noted = first ++ second;
+      grew = grew-then facts whole before h.turns.mid later first second h.turns.takes.delivers.grew
+          h.turns.polls.grew;
+      goes_on = λ past s.
+          subst (λ z. Stands z new) (append_assoc past first second)
+          (polled past (between-stands past s));
+    };
     told = more-told;
   }

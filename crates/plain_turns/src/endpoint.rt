@@ -1,32 +1,70 @@
-//! The endpoint that is run.
-ghost use Rattle.std.specs.Prelude.{[], IfOk};
-ghost use Rattle.plain_turns.specs.PlainTurns.{Stands};
+//! The endpoint that is run, with its crew.
+ghost use Rattle.std.specs.Prelude.{◌≡◌, ◌≤◌, [], IfErr, IfOk, OnErr};
+ghost use Rattle.plain_turns.specs.PlainTurns.{IsCrewed, IsFresh, IsNew};
+ghost use Rattle.worker_crew.specs.Crews.{AreStarted};
 
 use endpoint_loop::Endpoint;
 use rpc_base::{Limits, NoMemory, NodeId, USUAL_JOBS};
 use rpc_outside::{PlainDuty, PlainService};
 use std::alloc::Global;
-use worker_crew::LocalWorkers;
+use std::sync::{Arc, Wait};
+use worker_crew::{Crew, Hand, MOST_HANDS, Spawner};
 
-/// An endpoint with the plain service, and workers on its own thread.
-pub type PlainEndpoint = Endpoint<PlainService, LocalWorkers<PlainDuty>>;
+/// A crew of the plain duty, whose calls wait by the handle `H`.
+pub type PlainCrew<H> = Crew<PlainDuty, H>;
 
-/// The endpoint of node 0 with usual limits, which noted nothing so far.
-pub fn plain_endpoint(alloc: Global) -> Result<PlainEndpoint, NoMemory>
-    ensures { IfOk result (λ e. Stands [] e) }
+/// An endpoint with the plain service, whose jobs a crew works.
+pub type PlainEndpoint<H> = Endpoint<PlainService, PlainCrew<H>>;
+
+// The endpoint of node 0 with usual limits over a crew to which no job was given. The crew comes
+// back where there is no memory.
+fn endpoint_over<H: Wait>(
+    alloc: Global,
+    crew: PlainCrew<H>,
+) -> Result<PlainEndpoint<H>, PlainCrew<H>>
+    requires { IsFresh crew }
+    ensures made { IfOk result (IsNew crew) }
+    ensures wanting { IfErr result (λ back. back ≡ crew) }
 {
-    let workers = LocalWorkers::new(alloc, PlainDuty, USUAL_JOBS)?;
-    match Endpoint::new(
-        alloc,
-        NodeId(0),
-        Limits::usual(),
-        PlainService::new(),
-        workers,
-    ) {
+    Endpoint::new(alloc, NodeId(0), Limits::usual(), PlainService::new(), crew)
+}
+
+/// The endpoint of node 0 with usual limits, which noted nothing so far, over a crew of `hands`
+/// hands, at most 16, each of which is offered to the spawner, which has no hand out. `NoMemory`
+/// comes only where there is none for the crew or the endpoint; no hand is out then.
+pub fn plain_endpoint<H: Wait + Drop, P: Spawner<Hand<PlainDuty>>>(
+    rt: H,
+    alloc: Global,
+    hands: u8,
+    spawner: &mut P,
+) -> Result<PlainEndpoint<H>, NoMemory>
+    requires hands { hands ≤ MOST_HANDS }
+    requires none { P.hands_out spawner.old ≡ [] }
+    ensures made { IfOk result (IsCrewed hands (P.hands_out spawner.new)) }
+    ensures wanting { OnErr result (P.hands_out spawner.new ≡ []) }
+{
+    let duty = Arc::new(alloc, PlainDuty)?;
+    let crew = Crew::start(rt, alloc, duty, USUAL_JOBS, hands, spawner)?;
+    match endpoint_over(alloc, crew) {
         Ok(endpoint) => Ok(endpoint),
-        Err(_) => Err(NoMemory),
+        Err(crew) => {
+            let _none = crew.stop(spawner);
+            Err(NoMemory)
+        }
     }
 }
 
-/// Lets an endpoint go, with its sessions, its buffers and its jobs.
-pub fn let_go(_endpoint: PlainEndpoint) {}
+/// Lets an endpoint go whose crew has no hand out, with its sessions, its buffers and its jobs.
+pub fn let_go<H: Wait + Drop>(_endpoint: PlainEndpoint<H>) {}
+
+/// Stops the crew of an endpoint, whose hands the spawner has out, and lets both go. It may wait
+/// for the hands.
+pub fn stop<H: Wait + Drop, P: Spawner<Hand<PlainDuty>>>(
+    endpoint: PlainEndpoint<H>,
+    spawner: &mut P,
+)
+    requires hands { AreStarted endpoint.workers (P.hands_out spawner.old) }
+    ensures none { P.hands_out spawner.new ≡ [] }
+{
+    let _left = endpoint.into_workers().stop(spawner);
+}

@@ -2,18 +2,19 @@
 ghost use Rattle.std.specs.Prelude.{◌≡◌, true, IfOk};
 ghost use Rattle.endpoint_loop.specs.Handing.{GivesBackTo};
 ghost use Rattle.endpoint_loop.specs.Polling.{turn_of};
-ghost use Rattle.plain_turns.specs.PlainTurns.{GoesOnBy, TakesTurn, TellsTurn};
+ghost use Rattle.plain_turns.specs.PlainTurns.{TakesTurn, TellsTurn};
 ghost use Rattle.rpc_outside.specs.Faults.{HasCause};
+ghost use Rattle.worker_crew.specs.Crews.{team_of};
 
 use crate::endpoint::PlainEndpoint;
-use crate::working::work_all;
 use endpoint_loop::{Continuation, LinkFault, Turn};
 use rpc_outside::{Clock, Link, Recorder};
+use std::sync::Wait;
 
-/// Works the jobs of the endpoint that wait, takes one number of the clock, and makes one turn of
-/// the endpoint then. `LinkFault` comes exactly where a fault of the link came.
-pub fn take_turn<L: Link, C: Clock, K: Continuation, R: Recorder>(
-    endpoint: &mut PlainEndpoint,
+/// Takes one number of the clock, and makes one turn of the endpoint then. `LinkFault` comes
+/// exactly where a fault of the link came. The crew has the hands that it had.
+pub fn take_turn<H: Wait, L: Link, C: Clock, K: Continuation, R: Recorder>(
+    endpoint: &mut PlainEndpoint<H>,
     link: &mut L,
     clock: &mut C,
     k: &mut K,
@@ -27,11 +28,10 @@ pub fn take_turn<L: Link, C: Clock, K: Continuation, R: Recorder>(
         k.old k.new }
     ensures tells { TellsTurn R.facts R.whole K.given (L.sent link.old) (L.sent link.new)
         endpoint.old endpoint.new rec.old rec.new k.old k.new }
-    ensures goes_on { GoesOnBy R.facts R.whole endpoint.old endpoint.new rec.old rec.new }
     ensures cause { HasCause (L.faults link.old) (L.faults link.new) result }
+    ensures team { team_of endpoint.new.workers ≡ team_of endpoint.old.workers }
     ensures handed { GivesBackTo K.given endpoint.old.handed endpoint.new.handed k.old k.new }
 {
-    work_all(endpoint);
     let now = clock.now();
     endpoint.turn(now, link, k, rec)
 }

@@ -1,5 +1,5 @@
 -- A simulation of a script that met no fault and no want of memory is Done.
-use Rattle.std.proofs.Common.{◌≡◌, ◌≢◌, ℕ, Option, Some, None, List, Ok, refl, subst, arith}
+use Rattle.std.proofs.Common.{◌≡◌, ◌≢◌, ℕ, Option, Some, List, Ok, refl, subst, arith}
 use Rattle.rpc_outside.specs.Faults.{HasRisen, IsQuiet}
 use Rattle.run_status.specs.declared.status.Status.{Status}
 use Rattle.run_status.specs.declared.status.Status.TheVariants.{Done, Usage, BadScript, ReadFault}

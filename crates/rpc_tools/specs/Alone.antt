@@ -1,4 +1,4 @@
--- Which tasks leave the link, the clock and the recorder as they are.
+-- Which tasks leave the link, the clock, the recorder and the spawner as they are.
 use Rattle.std.specs.Prelude.{◌≡◌, Option, Some, None}
 use Rattle.command_line.specs.declared.task.Task.{Task}
 use Rattle.command_line.specs.declared.task.Task.TheVariants.{Sim, Drill, Serve, Load}
@@ -9,6 +9,11 @@ pub record Alone {L C R : Type 0} (link then_link : L) (clock then_clock : C) (b
   pub link_same : then_link ≡ link
   pub clock_same : then_clock ≡ clock
   pub recorder_same : now ≡ before
+
+-- only serving starts hands: all other words leave the spawner as it was
+abbrev pub StartsNone : {P : Type 0} → Option Task → (spawner then_spawner : P) → Type 0
+StartsNone (Some (Serve words)) spawner then_spawner = Unit {0}
+StartsNone _ spawner then_spawner = then_spawner ≡ spawner
 
 -- words that are in no row, a simulation and a drill do nothing with them
 abbrev pub StaysAlone : {L C R : Type 0} → Option Task → (link then_link : L)

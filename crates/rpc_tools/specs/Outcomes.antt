@@ -1,5 +1,5 @@
 -- What each status of a simulation says of its source, its sink and the script.
-use Rattle.std.specs.Prelude.{ℕ, ◌≡◌, ◌<◌, ◌⊎◌, Option, Some, None, IfSome, List, [], Ok, Err, length}
+use Rattle.std.specs.Prelude.{ℕ, ◌≡◌, ◌<◌, Option, Some, IfSome, List, [], Ok, Err, length}
 use Rattle.std.specs.Io.KnownBytes.{Keeps}
 use Rattle.rpc_base.specs.declared.fact.Fact.{Fact}
 use Rattle.report_text.specs.Text.{text}

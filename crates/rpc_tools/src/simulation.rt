@@ -1,6 +1,9 @@
 //! A simulation: a script is read, run over a modelled network, and its history reported.
-ghost use Rattle.std.specs.Prelude.{ℕ};
-ghost use Rattle.rpc_tools.specs.Outcomes.{RunsBytes, RunsScript, Simulates};
+ghost use Rattle.std.specs.Prelude.{◌≡◌, ◌≢◌, ℕ, List, Some, Ok};
+ghost use Rattle.rpc_outside.specs.Faults.{IsQuiet};
+ghost use Rattle.rpc_tools.specs.Outcomes.{RunsBytes, RunsScript, Simulates, Succeeds};
+ghost use Rattle.script_grammar.specs.declared.line.Line.{Line};
+ghost use Rattle.script_grammar.specs.Script.{script_of};
 
 use crate::reading::{Input, read_all};
 use rpc_outside::{Sink, Source};
@@ -33,11 +36,19 @@ fn run_bytes<K: Sink>(alloc: Global, bytes: &[u8], sink: &mut K) -> Status
     }
 }
 
-/// Reads the source to its end, runs the script and writes the report of its history.
+/// Reads the source to its end, runs the script and writes the report of its history. It waits for
+/// nothing.
 pub fn sim<S: Source, K: Sink>(alloc: Global, source: &mut S, sink: &mut K) -> Status
-    ensures { Simulates result (S.left source.old) (S.left source.new) (S.faults source.old)
-        (S.faults source.new) (K.written sink.old) (K.written sink.new) (K.faults sink.old)
-        (K.faults sink.new) }
+    ensures simulates { Simulates result (S.left source.old) (S.left source.new)
+        (S.faults source.old) (S.faults source.new) (K.written sink.old) (K.written sink.new)
+        (K.faults sink.old) (K.faults sink.new) }
+    ensures headline { (bytes : List ℕ) (script : List Line)
+        → S.left source.old ≡ Some bytes → script_of bytes ≡ Ok script
+        → IsQuiet (S.faults source.old) (S.faults source.new)
+        → IsQuiet (K.faults sink.old) (K.faults sink.new)
+        → result ≢ Status.NoMemory
+        → Succeeds script result (S.left source.new) (K.written sink.old) (K.written sink.new)
+        (K.faults sink.old) (K.faults sink.new) }
 {
     match read_all(alloc, source) {
         Input::Whole(bytes) => run_bytes(alloc, bytes.bytes(), sink),

@@ -2,12 +2,14 @@
 //! no tool, and those of a drill.
 use crate::tools::run;
 use rpc_outside::{
-    FirmLink, FirmSink, FirmSource, MemLink, MemSink, MemSource, NoRecord, Sink, Source, StepClock,
+    FirmLink, FirmSink, FirmSource, MemSink, MemSource, NoRecord, Sink, Source, StepClock,
 };
 use run_status::Status;
 use sim_script::{BadScript, BadWhy};
 use std::alloc::{AllocError, Global};
+use std::sync::Wait;
 use std::test::Fail;
+use worker_crew::SerialSpawner;
 
 const SCRIPT: &str =
     "erpc-sim 1\nnode ring=32\nnode ring=32\npair 0 1 credits=1\ncall 0 0 1 68656c6c6f room=64\n\
@@ -36,7 +38,8 @@ fn source(alloc: Global, script: &str, fails: &[u64]) -> Result<MemSource, Alloc
 }
 
 /// Runs these words with a source and a sink, over a link to which nothing comes.
-fn run_on<S: Source, K: Sink>(
+fn run_on<H: Wait + Drop, S: Source, K: Sink>(
+    rt: H,
     alloc: Global,
     words: &[String],
     source: &mut S,
@@ -45,12 +48,14 @@ fn run_on<S: Source, K: Sink>(
     let mut link = FirmLink::new(Vec::new(alloc));
     let mut clock = StepClock::new(0, 0);
     run(
+        rt,
         alloc,
         words,
         source,
         sink,
         &mut link,
         &mut clock,
+        &mut SerialSpawner::new(),
         &mut NoRecord,
     )
 }
@@ -72,7 +77,7 @@ fn each_fault_has_its_status_and_leaves_a_front(rt: HostRuntime) -> Result<(), F
         let mut source = source(alloc, script, reads)?;
         let mut sink = MemSink::new(alloc, ROOM, Vec::from_slice(alloc, writes)?)?;
         assert_eq!(rt;
-            run_on(alloc, sim.as_slice(), &mut source, &mut sink),
+            run_on(rt, alloc, sim.as_slice(), &mut source, &mut sink),
             wanted
         );
         assert_eq!(rt; sink.bytes(), written.as_bytes());
@@ -94,13 +99,13 @@ fn other_words_are_usage(rt: HostRuntime) -> Result<(), Fail> {
     ] {
         let words = words(alloc, list)?;
         assert_eq!(rt;
-            run_on(alloc, words.as_slice(), &mut source, &mut sink),
+            run_on(rt, alloc, words.as_slice(), &mut source, &mut sink),
             Status::Usage
         );
     }
     let sim = words(alloc, &["sim"])?;
     assert_eq!(rt;
-        run_on(alloc, sim.as_slice(), &mut source, &mut sink),
+        run_on(rt, alloc, sim.as_slice(), &mut source, &mut sink),
         Status::Done
     );
     assert_eq!(rt; Status::Done.code(), 0);

@@ -1,10 +1,10 @@
 //! The top call.
-ghost use Rattle.std.specs.Prelude.{◌≡◌, ◌≢◌, ℕ, List, map, Some, None, Ok};
+ghost use Rattle.std.specs.Prelude.{◌≡◌, ◌≢◌, ℕ, List, [], map, Some, None, Ok};
 ghost use Rattle.std.specs.String.{string_bytes};
 ghost use Rattle.command_line.specs.Tasks.{task_of};
 ghost use Rattle.command_line.specs.Words.{LoadWords, ServeWords};
 ghost use Rattle.load_run.specs.Loading.{Loads};
-ghost use Rattle.rpc_tools.specs.Alone.{StaysAlone};
+ghost use Rattle.rpc_tools.specs.Alone.{StartsNone, StaysAlone};
 ghost use Rattle.rpc_outside.specs.Faults.{IsQuiet};
 ghost use Rattle.rpc_tools.specs.Drills.{Drills, Succeeds as DrillSucceeds};
 ghost use Rattle.rpc_tools.specs.Outcomes.{NothingDone, Simulates, Succeeds, Untouched};
@@ -16,25 +16,43 @@ use crate::drill::drill;
 use crate::simulation::sim;
 use command_line::{Task, WordsError, read_words};
 use load_run::load;
-use rpc_outside::{Clock, Link, Recorder, Sink, Source};
+use rpc_outside::{Clock, Link, PlainDuty, Recorder, Sink, Source};
 use run_status::Status;
 use serve_run::serve;
 use std::alloc::Global;
+use std::sync::Wait;
+use worker_crew::{Hand, Spawner};
 
 /// Runs the program on the words after its name. `sim` reads a script from the source and writes
 /// the report of its history to the sink. `drill SEED CALLS` runs a script that it makes, and writes
 /// a line that counts what happened. `serve` answers calls that come to the link, and `load` asks
 /// them: each turns by turn of the clock, its node's facts go to the recorder, and in the end it
-/// writes a line of counts. Words that are in no row of the command line are `Usage`.
-pub fn run<S: Source, K: Sink, L: Link, C: Clock, R: Recorder>(
+/// writes a line of counts. `serve` works background calls by hands that it offers to the spawner,
+/// which has no hand out before and after; it may wait for them, by the handle `rt`. Words that are
+/// in no row of the command line are `Usage`.
+pub fn run<H, S, K, L, C, P, R>(
+    rt: H,
     alloc: Global,
     words: &[String],
     source: &mut S,
     sink: &mut K,
     link: &mut L,
     clock: &mut C,
+    spawner: &mut P,
     rec: &mut R,
 ) -> Status
+where
+    H: Wait + Drop,
+    S: Source,
+    K: Sink,
+    L: Link,
+    C: Clock,
+    P: Spawner<Hand<PlainDuty>>,
+    R: Recorder,
+    requires none { P.hands_out spawner.old ≡ [] }
+    ensures none { P.hands_out spawner.new ≡ [] }
+    ensures starts_none { StartsNone (task_of (map string_bytes words.now)) spawner.old
+        spawner.new }
     ensures usage { result ≡ Status.Usage → task_of (map string_bytes words.now) ≡ None }
     ensures no_task { task_of (map string_bytes words.now) ≡ None → result ≢ Status.NoMemory
         → result ≡ Status.Usage }
@@ -86,8 +104,8 @@ pub fn run<S: Source, K: Sink, L: Link, C: Clock, R: Recorder>(
     match read_words(alloc, words) {
         Ok(Task::Sim) => sim(alloc, source, sink),
         Ok(Task::Drill { seed, calls }) => drill(alloc, seed, calls, sink),
-        Ok(Task::Serve(spec)) => serve(alloc, &spec, sink, link, clock, rec),
-        Ok(Task::Load(spec)) => load(alloc, &spec, sink, link, clock, rec),
+        Ok(Task::Serve(spec)) => serve(rt, alloc, &spec, sink, link, clock, spawner, rec),
+        Ok(Task::Load(spec)) => load(rt, alloc, &spec, sink, link, clock, rec),
         Err(WordsError::Usage) => Status::Usage,
         Err(WordsError::NoMemory) => Status::NoMemory,
     }

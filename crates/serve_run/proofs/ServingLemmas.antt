@@ -1,5 +1,6 @@
 -- Turns of a server, one after another.
-use Rattle.std.proofs.Common.{◌≡◌, inl, inr, ℕ, ◌+◌, ◌<◌, Bool, true, false, Option, List, [], ◌++◌, refl, ap, subst, ◌∙◌, arith}
+use Rattle.std.proofs.Common.{◌≡◌, ◌≢◌, inl, inr, ℕ, ◌+◌, ◌<◌, ◌≤◌, Bool, true, false, Option}
+use Rattle.std.proofs.Common.{List, [], ◌++◌, refl, ap, subst, ◌∙◌, arith}
 use Rattle.std.specs.Prelude.{◌==◌, option_map}
 use Rattle.endpoint_loop.specs.Noting.{sent_of}
 use Rattle.std.proofs.lemmas.Bool.{eqb-false, eqb-true}
@@ -12,7 +13,8 @@ use Rattle.run_status.specs.declared.going.Going.{Going}
 use Rattle.run_status.specs.declared.going.Going.TheVariants.{On, Over}
 use Rattle.run_status.specs.declared.status.Status.{Status}
 use Rattle.run_status.specs.declared.status.Status.TheVariants as statuses
-use Rattle.serve_run.specs.Serving.{Answers, HasRun, Serves, ServesOn, ServesSoFar, TurnsEnd}
+use Rattle.serve_run.specs.Serving.{Answers, HasNotRun, HasRun, HasServedAll, Serves, ServesOn}
+use Rattle.serve_run.specs.Serving.{ServesSoFar, TurnsEnd}
 use Rattle.serve_run.specs.Serving.{Writes, one_more, turns_line}
 
 module _ {R L C : Type 0} (facts : R → Option (List Fact)) (whole : R → Bool)
@@ -24,7 +26,6 @@ module _ {R L C : Type 0} (facts : R → Option (List Fact)) (whole : R → Bool
     made = omega arith;
     turns = refl;
     runs = none-made facts whole gave (tells link).sent clock run.endpoint f;
-    quiet = refl;
   }
 
   -- one turn more
@@ -33,9 +34,8 @@ module _ {R L C : Type 0} (facts : R → Option (List Fact)) (whole : R → Bool
       → RunsOn facts whole gave (tells mid).sent (tells then_link).sent via then_clock run.endpoint
       new.endpoint g h 1
       → new ≡ one_more new.endpoint run
-      → (tells then_link).troubles.faults ≡ (tells mid).troubles.faults
       → ServesOn facts whole gave tells link then_link clock then_clock old new f h
-  serves-more link mid then_link clock via then_clock old run new f g h on one is quiet = record {
+  serves-more link mid then_link clock via then_clock old run new f g h on one is = record {
     many = on.many + 1;
     made =
         let count = ap (λ (s : ServesSoFar). s.made) is in
@@ -43,22 +43,33 @@ module _ {R L C : Type 0} (facts : R → Option (List Fact)) (whole : R → Bool
     turns = ap (λ (s : ServesSoFar). s.turns) is ∙ on.turns;
     runs = runs-then facts whole gave (tells link).sent (tells mid).sent (tells then_link).sent clock
         via then_clock old.endpoint run.endpoint new.endpoint f g h on.many 1 on.runs one;
-    quiet = quiet ∙ on.quiet;
   }
 
 module _ {R L C : Type 0} (facts : R → Option (List Fact)) (whole : R → Bool)
     (gave : C → List ℕ → Type 0) (tells : L → LinkTells) (link mid then_link : L)
     (clock via then_clock : C) (old run new : ServesSoFar) (f g h : R)
     (on : ServesOn facts whole gave tells link mid clock via old run f g)
+    (still : (tells mid).troubles.faults ≡ (tells link).troubles.faults)
+    (left : run.made < run.turns)
     (one : RunsOn facts whole gave (tells mid).sent (tells then_link).sent via then_clock run.endpoint
     new.endpoint g h 1) (is : new ≡ one_more new.endpoint run) where
+  more : ServesOn facts whole gave tells link then_link clock then_clock old new f h
+  more = serves-more facts whole gave tells link mid then_link clock via then_clock old run new f g
+      h on one is
+
   -- the run is over
   pub turns-over : (status : Status)
       → Answers (tells mid).troubles.faults (tells then_link).troubles.faults new (Over status)
       → TurnsEnd status facts whole gave tells link then_link clock then_clock old new f h
   turns-over status (inl (same, risen)) =
       let failed : status ≡ statuses.LinkFault = cc in
-      rw failed (subst (λ n. HasRisen n (tells then_link).troubles.faults) on.quiet risen)
+      let made = ap (λ (s : ServesSoFar). s.made) is in
+      let turns = ap (λ (s : ServesSoFar). s.turns) is in
+      rw failed (
+        omega (arith, left, made, turns),
+        subst (λ n. HasRisen n (tells then_link).troubles.faults) still risen,
+        more,
+      )
   turns-over status (inr (same, quiet)) = by (new.made == new.turns) refl
     where
       by : (b : Bool) → (new.made == new.turns) ≡ b
@@ -66,32 +77,27 @@ module _ {R L C : Type 0} (facts : R → Option (List Fact)) (whole : R → Bool
       by true e =
           let told : Over status ≡ Over statuses.Done = rw e at same in
           let done : status ≡ statuses.Done = cc in
-          rw done (
-            eqb-true new.made new.turns e,
-            serves-more facts whole gave tells link mid then_link clock via then_clock old run new f g h
-                on one is quiet,
-          )
+          rw done (eqb-true new.made new.turns e, quiet ∙ still, more)
       by false e = let told : Over status ≡ On = rw e at same in cc
 
   -- it goes on: turns are left, and the link didn't fail
-  pub turns-on : run.made < run.turns → (going : Going) → ((status : Status) → going ≡ Over status → ⊥)
+  pub turns-on : (going : Going) → ((status : Status) → going ≡ Over status → ⊥)
       → Answers (tells mid).troubles.faults (tells then_link).troubles.faults new going
-      → ServesOn facts whole gave tells link then_link clock then_clock old new f h × (new.made < new.turns)
-  turns-on left going not (inl (same, risen)) = absurd (not statuses.LinkFault same)
-  turns-on left going not (inr (same, quiet)) = by (new.made == new.turns) refl
+      → ServesOn facts whole gave tells link then_link clock then_clock old new f h
+      × ((tells then_link).troubles.faults ≡ (tells link).troubles.faults) × (new.made < new.turns)
+  turns-on going not (inl (same, risen)) = absurd (not statuses.LinkFault same)
+  turns-on going not (inr (same, quiet)) = by (new.made == new.turns) refl
     where
       by : (b : Bool) → (new.made == new.turns) ≡ b
           → ServesOn facts whole gave tells link then_link clock then_clock old new f h
+          × ((tells then_link).troubles.faults ≡ (tells link).troubles.faults)
           × (new.made < new.turns)
       by true e = absurd (not statuses.Done (rw e at same))
       by false e =
           let made = ap (λ (s : ServesSoFar). s.made) is in
           let turns = ap (λ (s : ServesSoFar). s.turns) is in
-          let other = eqb-false new.made new.turns e in (
-            serves-more facts whole gave tells link mid then_link clock via then_clock old run new f g h
-                on one is quiet,
-            omega (arith, left, made, turns, other),
-          )
+          let other = eqb-false new.made new.turns e in
+          (more, quiet ∙ still, omega (arith, left, made, turns, other))
 
 module _ {R L C : Type 0} (facts : R → Option (List Fact)) (whole : R → Bool)
     (gave : C → List ℕ → Type 0) (tells : L → LinkTells) (turns : ℕ) (link via then_link : L)
@@ -99,31 +105,67 @@ module _ {R L C : Type 0} (facts : R → Option (List Fact)) (whole : R → Bool
     (none : fresh.made ≡ 0) (stands : Stands [] fresh.endpoint)
     (unsent : (tells via).sent ≡ (tells link).sent)
     (quiet : (tells via).troubles.faults ≡ (tells link).troubles.faults) where
-  -- all turns were made
-  pub has-run : new.made ≡ new.turns
-      → ServesOn facts whole gave tells via then_link clock then_clock fresh new f h
-      → HasRun facts whole gave tells turns link then_link clock then_clock f h
-      (turns_line new.turns new.endpoint.timed.lists.counts)
-  has-run all on = record {
+  -- turns were made
+  has-run : ServesOn facts whole gave tells via then_link clock then_clock fresh new f h
+      → HasRun facts whole gave tells new.made link then_link clock then_clock f h
+  has-run on = record {
     endpoint = new.endpoint;
-    noted = on.runs.noted;
-    grew = on.runs.grew;
-    stands = on.runs.goes_on [] stands;
-    sent = on.runs.sends [] stands ∙ ap (option_map (λ ds. ds ++ sent_of on.runs.noted)) unsent;
+    noted = on.runs.goes.noted;
+    grew = on.runs.goes.grew;
+    stands = on.runs.goes.goes_on [] stands;
+    sent = on.runs.sends [] stands
+        ∙ ap (option_map (λ ds. ds ++ sent_of on.runs.goes.noted)) unsent;
     times = on.runs.times;
-    count = let many = on.runs.count in omega (arith, many, on.made, on.turns, few, none, all);
+    count = let many = on.runs.count in omega (arith, many, on.made, none);
     ticks = on.runs.ticks;
-    quiet = on.quiet ∙ quiet;
+  }
+
+  -- all of them
+  served-all : new.made ≡ new.turns
+      → (tells then_link).troubles.faults ≡ (tells via).troubles.faults
+      → ServesOn facts whole gave tells via then_link clock then_clock fresh new f h
+      → HasServedAll facts whole gave tells turns link then_link clock then_clock f h
+      (turns_line new.turns new.endpoint.timed.lists.counts)
+  unfolding has-run
+  served-all all still on = record {
+    run = subst (λ n. HasRun facts whole gave tells n link then_link clock then_clock f h)
+        (all ∙ on.turns ∙ few) (has-run on);
+    quiet = still ∙ quiet;
     counts = ap (λ n. turns_line n new.endpoint.timed.lists.counts) (on.turns ∙ few);
   }
 
+  -- the link failed in the last of them
+  ends-early : (old later : Option (List ℕ)) (read again : ℕ) → new.made ≤ new.turns
+      → HasRisen (tells via).troubles.faults (tells then_link).troubles.faults
+      → ServesOn facts whole gave tells via then_link clock then_clock fresh new f h
+      → later ≡ old → again ≡ read
+      → Serves statuses.LinkFault facts whole gave tells turns link then_link clock then_clock f h
+      old later read again
+  ends-early old later read again most risen on written faults = (
+    subst (λ n. HasRisen n (tells then_link).troubles.faults) quiet risen,
+    inr (new.made, omega (arith, most, on.turns, few), has-run on),
+    written,
+    faults,
+  )
+
+  -- so it is where not all were made
+  pub stops : (told : Status) (out : Option (List ℕ)) (read : ℕ) → told ≢ statuses.Done
+      → TurnsEnd told facts whole gave tells via then_link clock then_clock fresh new f h
+      → Serves told facts whole gave tells turns link then_link clock then_clock f h out out read
+      read
+  stops statuses.Done out read not ends = absurd (not refl)
+  stops statuses.LinkFault out read not ends =
+      ends-early out out read read ends.0 ends.1 ends.2 refl refl
+  stops _ out read not ends = absurd ends
+
   -- and the line was written, or a front of it
   pub ends-well : (told : Status) (old later : Option (List ℕ)) (read again : ℕ) → new.made ≡ new.turns
+      → (tells then_link).troubles.faults ≡ (tells via).troubles.faults
       → ServesOn facts whole gave tells via then_link clock then_clock fresh new f h
       → Writes told (turns_line new.turns new.endpoint.timed.lists.counts) old later read again
       → Serves told facts whole gave tells turns link then_link clock then_clock f h old later read again
-  ends-well statuses.Done old later read again all on wrote =
-      (turns_line new.turns new.endpoint.timed.lists.counts, has-run all on, wrote)
-  ends-well statuses.WriteFault old later read again all on wrote =
-      (turns_line new.turns new.endpoint.timed.lists.counts, has-run all on, wrote)
-  ends-well _ old later read again all on wrote = absurd wrote
+  ends-well statuses.Done old later read again all still on wrote =
+      (turns_line new.turns new.endpoint.timed.lists.counts, served-all all still on, wrote)
+  ends-well statuses.WriteFault old later read again all still on wrote =
+      (turns_line new.turns new.endpoint.timed.lists.counts, served-all all still on, wrote)
+  ends-well _ old later read again all still on wrote = absurd wrote

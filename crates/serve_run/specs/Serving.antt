@@ -1,5 +1,6 @@
 -- A run of a server.
-use Rattle.std.specs.Prelude.{◌≡◌, ℕ, ◌+◌, ◌==◌, ◌⊎◌, Bool, Option, List, [], ◌∷◌, ◌++◌, length}
+use Rattle.std.specs.Prelude.{◌≡◌, ℕ, ◌+◌, ◌≤◌, ◌==◌, ◌⊎◌, Bool, Option, List, [], ◌∷◌, ◌++◌}
+use Rattle.std.specs.Prelude.{length}
 use Rattle.std.specs.Prelude.{option_map, if◌then◌else◌, ⊤}
 use Rattle.client_core.specs.declared.outcome.Done.{Done}
 use Rattle.count_line.specs.declared.word.Word.TheVariants as word
@@ -7,14 +8,13 @@ use Rattle.count_line.specs.Line.{line_text}
 use Rattle.endpoint_loop.specs.declared.polling.Turn.{Turn}
 use Rattle.endpoint_loop.specs.Noting.{sent_of}
 use Rattle.endpoint_loop.specs.Polling.{LinkTells}
-use Rattle.plain_turns.specs.PlainTurns.{GivesAll, RunsOn, Stands, TakesTurn}
+use Rattle.plain_turns.specs.PlainTurns.{End, GivesAll, RunsOn, Stands, TakesTurn}
 use Rattle.rpc_base.specs.declared.fact.Fact.{Fact}
 use Rattle.rpc_laws.specs.declared.tables.Counted.{Counted}
 use Rattle.rpc_outside.specs.Faults.{HasRisen}
 use Rattle.rpc_outside.specs.Linking.{Carried}
 use Rattle.rpc_outside.specs.Recording.{Grew}
 use Rattle.rpc_outside.specs.Writing.{Broke, Wrote}
-use Rattle.rpc_world.specs.Answered.{End}
 use Rattle.run_status.specs.declared.going.Going.{Going}
 use Rattle.run_status.specs.declared.going.Going.TheVariants.{On, Over}
 use Rattle.run_status.specs.declared.status.Status.{Status}
@@ -78,53 +78,80 @@ pub record ServesOn {R L C : Type 0} (facts : R → Option (List Fact)) (whole :
   pub turns : new.turns ≡ old.turns
   pub runs : RunsOn facts whole gave (tells link).sent (tells then_link).sent clock then_clock
       old.endpoint new.endpoint before later many
-  pub quiet : (tells then_link).troubles.faults ≡ (tells link).troubles.faults
 
--- how the turns of a run end: all are made, or the link failed
+-- how the turns of a run end: all are made, or the link failed in the last of them
 abbrev pub TurnsEnd : {R L C : Type 0} → Status → (R → Option (List Fact)) → (R → Bool)
     → (C → List ℕ → Type 0) → (tells : L → LinkTells) → (link then_link : L)
     → (clock then_clock : C) → (old new : ServesSoFar) → (before later : R) → Type 0
 TurnsEnd status.Done facts whole gave tells link then_link clock then_clock old new before later =
     (new.made ≡ new.turns)
+    × ((tells then_link).troubles.faults ≡ (tells link).troubles.faults)
     × ServesOn facts whole gave tells link then_link clock then_clock old new before later
 TurnsEnd status.LinkFault facts whole gave tells link then_link clock then_clock old new before later =
-    HasRisen (tells link).troubles.faults (tells then_link).troubles.faults
+    (new.made ≤ new.turns)
+    × HasRisen (tells link).troubles.faults (tells then_link).troubles.faults
+    × ServesOn facts whole gave tells link then_link clock then_clock old new before later
 TurnsEnd _ facts whole gave tells link then_link clock then_clock old new before later = ⊥
 
--- what `serve` did once all turns were made: the facts are a run of its node with usual limits, the
--- link, where it tells that, sent just what they say was sent, the clock gave a number for each turn,
--- and the line counts them
+-- what `serve` did in so many turns: the facts are a run of its node, node 0, with usual limits,
+-- the link, where it tells that, sent just what they say was sent, and the clock gave a number for
+-- each turn
 pub record HasRun {R L C : Type 0} (facts : R → Option (List Fact)) (whole : R → Bool)
-    (gave : C → List ℕ → Type 0) (tells : L → LinkTells) (turns : ℕ) (link then_link : L)
-    (clock then_clock : C) (before later : R) (line : List ℕ) : Type 0 where
+    (gave : C → List ℕ → Type 0) (tells : L → LinkTells) (made : ℕ) (link then_link : L)
+    (clock then_clock : C) (before later : R) : Type 0 where
   pub endpoint : End
   pub noted : List Fact
   pub grew : Grew facts whole before later noted
   pub stands : Stands noted endpoint
   pub sent : (tells then_link).sent ≡ option_map (λ ds. ds ++ sent_of noted) (tells link).sent
   pub times : List ℕ
-  pub count : length times ≡ turns
+  pub count : length times ≡ made
   pub ticks : GivesAll gave clock then_clock times
+
+-- all turns were made, the link didn't fail, and the line counts what happened
+pub record HasServedAll {R L C : Type 0} (facts : R → Option (List Fact)) (whole : R → Bool)
+    (gave : C → List ℕ → Type 0) (tells : L → LinkTells) (turns : ℕ) (link then_link : L)
+    (clock then_clock : C) (before later : R) (line : List ℕ) : Type 0 where
+  pub run : HasRun facts whole gave tells turns link then_link clock then_clock before later
   pub quiet : (tells then_link).troubles.faults ≡ (tells link).troubles.faults
-  pub counts : line ≡ turns_line turns endpoint.timed.lists.counts
+  pub counts : line ≡ turns_line turns run.endpoint.timed.lists.counts
+
+-- no turn was made: nothing was noted or sent, and the clock gave no number
+pub record HasNotRun {R L C : Type 0} (tells : L → LinkTells) (link then_link : L)
+    (clock then_clock : C) (before later : R) : Type 0 where
+  pub sent : (tells then_link).sent ≡ (tells link).sent
+  pub ticks : then_clock ≡ clock
+  pub noted : later ≡ before
+
+-- the link failed: before the first turn, or in the last of those that were made
+abbrev pub StopsEarly : {R L C : Type 0} → (R → Option (List Fact)) → (R → Bool)
+    → (C → List ℕ → Type 0) → (tells : L → LinkTells) → (turns : ℕ) → (link then_link : L)
+    → (clock then_clock : C) → (before later : R) → Type 0
+StopsEarly facts whole gave tells turns link then_link clock then_clock before later =
+    HasNotRun tells link then_link clock then_clock before later
+    ⊎ ((made : ℕ) × (made ≤ turns)
+    × HasRun facts whole gave tells made link then_link clock then_clock before later)
 
 -- how `serve` ends: the line was written, or a front of it where the sink failed; or the link failed,
--- or there was no memory, and nothing was written
+-- or there was no memory to start, and nothing was written
 abbrev pub Serves : {R L C : Type 0} → Status → (R → Option (List Fact)) → (R → Bool)
     → (C → List ℕ → Type 0) → (tells : L → LinkTells) → (turns : ℕ) → (link then_link : L)
     → (clock then_clock : C) → (before later : R) → (old new : Option (List ℕ)) → (read again : ℕ)
     → Type 0
 Serves status.Done facts whole gave tells turns link then_link clock then_clock before later old new read again =
     (line : List ℕ)
-    × HasRun facts whole gave tells turns link then_link clock then_clock before later line
+    × HasServedAll facts whole gave tells turns link then_link clock then_clock before later line
     × Wrote old new read again line
 Serves status.WriteFault facts whole gave tells turns link then_link clock then_clock before later old new read again =
     (line : List ℕ)
-    × HasRun facts whole gave tells turns link then_link clock then_clock before later line
+    × HasServedAll facts whole gave tells turns link then_link clock then_clock before later line
     × Broke old new read again line
 Serves status.LinkFault facts whole gave tells turns link then_link clock then_clock before later old new read again =
     HasRisen (tells link).troubles.faults (tells then_link).troubles.faults
+    × StopsEarly facts whole gave tells turns link then_link clock then_clock before later
     × (new ≡ old) × (again ≡ read)
 Serves status.NoMemory facts whole gave tells turns link then_link clock then_clock before later old new read again =
-    ((tells then_link).troubles.faults ≡ (tells link).troubles.faults) × (new ≡ old) × (again ≡ read)
+    ((tells then_link).troubles.faults ≡ (tells link).troubles.faults)
+    × HasNotRun tells link then_link clock then_clock before later
+    × (new ≡ old) × (again ≡ read)
 Serves _ facts whole gave tells turns link then_link clock then_clock before later old new read again = ⊥

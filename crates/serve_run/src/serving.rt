@@ -1,22 +1,26 @@
 //! `serve`, from its start to its end.
-ghost use Rattle.std.specs.Prelude.{◌≡◌, ◌≤◌, ◌<◌};
+ghost use Rattle.std.specs.Prelude.{◌≡◌, ◌≤◌, ◌<◌, []};
 ghost use Rattle.serve_run.specs.Serving.{Serves, TurnsEnd};
+ghost use Rattle.worker_crew.specs.Crews.{team_of};
 
 use crate::run::ServeRun;
 use command_line::ServeSpec;
-use rpc_outside::{Clock, Link, Recorder, Sink};
+use rpc_outside::{Clock, Link, PlainDuty, Recorder, Sink};
 use run_status::{Going, Status};
 use std::alloc::Global;
+use std::sync::Wait;
+use worker_crew::{Hand, MOST_HANDS, Spawner};
 
 // Makes turns until the run is over, and tells with which status.
-fn turn_all<L: Link, C: Clock, R: Recorder>(
-    run: &mut ServeRun,
+fn turn_all<H: Wait + Drop, L: Link, C: Clock, R: Recorder>(
+    run: &mut ServeRun<H>,
     link: &mut L,
     clock: &mut C,
     rec: &mut R,
 ) -> Status
     requires left { run.old.made < run.old.turns }
-    ensures { TurnsEnd result R.facts R.whole C.gave (λ l. record {
+    ensures team { team_of run.new.endpoint.workers ≡ team_of run.old.endpoint.workers }
+    ensures ends { TurnsEnd result R.facts R.whole C.gave (λ l. record {
       sent = L.sent l;
       troubles = record { faults = L.faults l; busies = L.busies l };
     }) link.old link.new clock.old clock.new run.old run.new rec.old rec.new }
@@ -28,33 +32,45 @@ fn turn_all<L: Link, C: Clock, R: Recorder>(
     }
 }
 
-/// Serves at the address of the words for as many turns as they say, and writes a line that counts
-/// what happened. `LinkFault` comes exactly where a fault of the link came, `WriteFault` exactly
-/// where one of the sink did, and `NoMemory` only where there was no memory.
-pub fn serve<K: Sink, L: Link, C: Clock, R: Recorder>(
+/// Serves at the address of the words for as many turns as they say, with a crew of as many hands,
+/// and writes a line that counts what happened. `LinkFault` comes exactly where a fault of the link
+/// came, `WriteFault` exactly where one of the sink did, and `NoMemory` only where there was no
+/// memory. The spawner has no hand out before and after; it may wait for the hands.
+pub fn serve<H, K, L, C, P, R>(
+    rt: H,
     alloc: Global,
     spec: &ServeSpec,
     sink: &mut K,
     link: &mut L,
     clock: &mut C,
+    spawner: &mut P,
     rec: &mut R,
 ) -> Status
+where
+    H: Wait + Drop,
+    K: Sink,
+    L: Link,
+    C: Clock,
+    P: Spawner<Hand<PlainDuty>>,
+    R: Recorder,
     requires some { 1 ≤ spec.now.turns }
-    requires alone { spec.now.workers ≡ 0 }
-    ensures { Serves result R.facts R.whole C.gave (λ l. record {
+    requires hands { spec.now.workers ≤ MOST_HANDS }
+    requires none { P.hands_out spawner.old ≡ [] }
+    ensures none { P.hands_out spawner.new ≡ [] }
+    ensures serves { Serves result R.facts R.whole C.gave (λ l. record {
       sent = L.sent l;
       troubles = record { faults = L.faults l; busies = L.busies l };
     }) spec.now.turns link.old link.new clock.old clock.new rec.old rec.new (K.written sink.old)
         (K.written sink.new) (K.faults sink.old) (K.faults sink.new) }
 {
-    let mut run = match ServeRun::start(alloc, spec, link) {
+    let mut run = match ServeRun::start(rt, alloc, spec, link, spawner) {
         Ok(run) => run,
         Err(status) => return status,
     };
     match turn_all(&mut run, link, clock, rec) {
-        Status::Done => run.finish(sink),
+        Status::Done => run.finish(spawner, sink),
         status => {
-            run.stop();
+            run.stop(spawner);
             status
         }
     }

@@ -13,6 +13,8 @@ pub enum Differs {
     Ended(Status),
     /// What was sent.
     Sent,
+    /// How many hands were offered to the spawner.
+    Hands,
     /// The line that was written, this one.
     Wrote(String),
 }
@@ -23,6 +25,7 @@ impl fmt::Display for Differs {
             Differs::Memory => f.write_str("no memory"),
             Differs::Ended(status) => write!(f, "it ended otherwise: {status}"),
             Differs::Sent => f.write_str("something else was sent"),
+            Differs::Hands => f.write_str("another number of hands was offered"),
             Differs::Wrote(line) => write!(f, "it wrote {line}"),
         }
     }

@@ -17,8 +17,9 @@ fn tell(rt: &impl Print, name: &str, outcome: Result<(), Differs>) -> io::Result
 
 fn main(rt: HostRuntime) -> io::Result<()> {
     let alloc = rt.alloc();
-    tell(&rt, "no answer", memory::no_answer(alloc))?;
-    tell(&rt, "turns spent", memory::turns_spent(alloc))?;
-    tell(&rt, "a fault of the link", memory::fault(alloc))?;
-    tell(&rt, "an idle server", memory::idle_server(alloc))
+    tell(&rt, "no answer", memory::no_answer(rt, alloc))?;
+    tell(&rt, "turns spent", memory::turns_spent(rt, alloc))?;
+    tell(&rt, "a fault of the link", memory::fault(rt, alloc))?;
+    tell(&rt, "an idle server", memory::idle_server(rt, alloc))?;
+    tell(&rt, "three hands", memory::three_hands(rt, alloc))
 }

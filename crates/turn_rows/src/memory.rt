@@ -4,6 +4,8 @@ use rpc_base::Peer;
 use rpc_outside::{FirmSource, MemLink, MemSink, NoRecord, StepClock};
 use rpc_tools::{Status, run};
 use std::alloc::{AllocError, Global};
+use std::sync::Wait;
+use worker_crew::SerialSpawner;
 
 /// More bytes than a line has.
 const ROOM: u32 = 256;
@@ -28,23 +30,27 @@ fn words(alloc: Global, line: &str) -> Result<Vec<String>, AllocError> {
 }
 
 // Runs a line of words over a link, by a clock that begins at 0.
-fn run_line(
+fn run_line<H: Wait + Drop>(
+    rt: H,
     alloc: Global,
     line: &str,
     link: &mut MemLink,
     step: u64,
+    spawner: &mut SerialSpawner,
     sink: &mut MemSink,
 ) -> Result<Status, Differs> {
     let words = words(alloc, line)?;
     let mut source = FirmSource::new(Vec::new(alloc));
     let mut clock = StepClock::new(0, step);
     Ok(run(
+        rt,
         alloc,
         words.as_slice(),
         &mut source,
         sink,
         link,
         &mut clock,
+        spawner,
         &mut NoRecord,
     ))
 }
@@ -54,72 +60,123 @@ fn sent_requests(link: &MemLink, count: u32) -> bool {
     (0..count).all(|i| link.sent(i) == Some((Peer(0), REQUEST))) && link.sent(count).is_none()
 }
 
-// What a line of words makes of a link that never fails, and writes, with so many requests sent.
-fn ends_as(
+// How a line of words is to end.
+#[derive(Drop)]
+struct Wanted {
+    status: Status,
+    written: &'static str,
+    // So many requests to connect are sent, and nothing else.
+    requests: u32,
+    // So many hands are offered to a spawner, which hands each back.
+    hands: u64,
+}
+
+// Whether a line of words ends as wanted over a link that never fails.
+fn ends_as<H: Wait + Drop>(
+    rt: H,
     alloc: Global,
     line: &str,
     step: u64,
-    status: Status,
-    written: &str,
-    requests: u32,
+    wanted: Wanted,
 ) -> Result<(), Differs> {
     let none = Vec::new(alloc);
     let mut link = MemLink::new(alloc, Vec::new(alloc), LINK_ROOM, none, Vec::new(alloc))?;
     let mut sink = MemSink::new(alloc, ROOM, Vec::new(alloc))?;
-    let ended = run_line(alloc, line, &mut link, step, &mut sink)?;
-    expect(ended == status, Differs::Ended(ended))?;
-    expect(sent_requests(&link, requests), Differs::Sent)?;
+    let mut spawner = SerialSpawner::new();
+    let ended = run_line(rt, alloc, line, &mut link, step, &mut spawner, &mut sink)?;
+    expect(ended == wanted.status, Differs::Ended(ended))?;
+    expect(sent_requests(&link, wanted.requests), Differs::Sent)?;
+    expect(spawner.refused() == wanted.hands, Differs::Hands)?;
     let wrote = String::from_utf8_lossy(alloc, sink.bytes())?;
-    expect(sink.bytes() == written.as_bytes(), Differs::Wrote(wrote))
+    expect(
+        sink.bytes() == wanted.written.as_bytes(),
+        Differs::Wrote(wrote),
+    )
 }
 
 /// A server that doesn't answer is asked nine times; the tenth turn ends the session.
-pub fn no_answer(alloc: Global) -> Result<(), Differs> {
+pub fn no_answer<H: Wait + Drop>(rt: H, alloc: Global) -> Result<(), Differs> {
     let line = format!(in alloc; "{LOAD} 20")?;
     ends_as(
+        rt,
         alloc,
         line.as_str(),
         5_000,
-        Status::CallsFailed,
-        NOT_ASKED,
-        9,
+        Wanted {
+            status: Status::CallsFailed,
+            written: NOT_ASKED,
+            requests: 9,
+            hands: 0,
+        },
     )
 }
 
 /// Three turns, in which the timeout doesn't pass.
-pub fn turns_spent(alloc: Global) -> Result<(), Differs> {
+pub fn turns_spent<H: Wait + Drop>(rt: H, alloc: Global) -> Result<(), Differs> {
     let line = format!(in alloc; "{LOAD} 3")?;
     ends_as(
+        rt,
         alloc,
         line.as_str(),
         1_000,
-        Status::TurnsSpent,
-        NOT_ASKED,
-        1,
+        Wanted {
+            status: Status::TurnsSpent,
+            written: NOT_ASKED,
+            requests: 1,
+            hands: 0,
+        },
     )
 }
 
 /// The first datagram that is sent meets a fault: nothing is written.
-pub fn fault(alloc: Global) -> Result<(), Differs> {
+pub fn fault<H: Wait + Drop>(rt: H, alloc: Global) -> Result<(), Differs> {
     let line = format!(in alloc; "{LOAD} 20")?;
     // Two calls of the link come before: to bind it and to name the peer; then it receives.
     let fails = vec![in alloc; 3]?;
     let mut link = MemLink::new(alloc, Vec::new(alloc), LINK_ROOM, fails, Vec::new(alloc))?;
     let mut sink = MemSink::new(alloc, ROOM, Vec::new(alloc))?;
-    let ended = run_line(alloc, line.as_str(), &mut link, 5_000, &mut sink)?;
+    let mut spawner = SerialSpawner::new();
+    let ended = run_line(
+        rt,
+        alloc,
+        line.as_str(),
+        &mut link,
+        5_000,
+        &mut spawner,
+        &mut sink,
+    )?;
     expect(ended == Status::LinkFault, Differs::Ended(ended))?;
     expect(sink.bytes().is_empty(), Differs::Sent)
 }
 
 /// Nothing comes to a server.
-pub fn idle_server(alloc: Global) -> Result<(), Differs> {
-    let written = "turns 2 ran 0 given 0 dropped 0 overflowed 0\n";
+pub fn idle_server<H: Wait + Drop>(rt: H, alloc: Global) -> Result<(), Differs> {
     ends_as(
+        rt,
         alloc,
         "serve 127.0.0.1:7000 --turns 2",
         5_000,
-        Status::Done,
-        written,
-        0,
+        Wanted {
+            status: Status::Done,
+            written: "turns 2 ran 0 given 0 dropped 0 overflowed 0\n",
+            requests: 0,
+            hands: 0,
+        },
+    )
+}
+
+/// A server with three hands offers each once.
+pub fn three_hands<H: Wait + Drop>(rt: H, alloc: Global) -> Result<(), Differs> {
+    ends_as(
+        rt,
+        alloc,
+        "serve 127.0.0.1:7000 --turns 1 --workers 3",
+        5_000,
+        Wanted {
+            status: Status::Done,
+            written: "turns 1 ran 0 given 0 dropped 0 overflowed 0\n",
+            requests: 0,
+            hands: 3,
+        },
     )
 }

@@ -5,9 +5,10 @@
 
 use rpc_outside::{FirmLink, MemSink, MemSource, NoRecord, StepClock};
 use rpc_tools::{Status, run};
-use std::alloc::Global;
 use std::rt::Files;
+use std::sync::Wait;
 use std::{fs, io};
+use worker_crew::SerialSpawner;
 
 /// The cases with a whole report.
 const WHOLE: [&str; 5] = [
@@ -63,7 +64,12 @@ const DRILLS: [(&str, &str); 2] = [
 const ROOM: u32 = 1 << 25;
 
 // What the program writes on a line of words; an error where the run did not end well.
-fn written_by(alloc: Global, line: &str, source: Vec<u8>) -> io::Result<String> {
+fn written_by<H: AllocGlobal + Wait + Copy + Drop>(
+    rt: H,
+    line: &str,
+    source: Vec<u8>,
+) -> io::Result<String> {
+    let alloc = rt.alloc();
     let mut words = Vec::new(alloc);
     for word in line.split_whitespace() {
         words.push(String::from_str(alloc, word)?)?;
@@ -73,12 +79,14 @@ fn written_by(alloc: Global, line: &str, source: Vec<u8>) -> io::Result<String> 
         return Err(io::Error::from(io::ErrorKind::OutOfMemory));
     };
     let status = run(
+        rt,
         alloc,
         words.as_slice(),
         &mut source,
         &mut sink,
         &mut FirmLink::new(Vec::new(alloc)),
         &mut StepClock::new(0, 0),
+        &mut SerialSpawner::new(),
         &mut NoRecord,
     );
     if status != Status::Done {
@@ -129,29 +137,29 @@ fn has_count(report: &str, wanted: &str) -> bool {
     }
 }
 
-fn run_case(rt: &(impl Files + AllocGlobal), name: &str) -> io::Result<String> {
+fn run_case<H: Files + AllocGlobal + Wait + Copy + Drop>(rt: H, name: &str) -> io::Result<String> {
     let script = format!(in rt.alloc(); "{name}.script")?;
-    written_by(rt.alloc(), "sim", fs::read(rt, script.as_str())?)
+    written_by(rt, "sim", fs::read(&rt, script.as_str())?)
 }
 
-fn is_whole(rt: &(impl Files + AllocGlobal), name: &str) -> io::Result<bool> {
+fn is_whole<H: Files + AllocGlobal + Wait + Copy + Drop>(rt: H, name: &str) -> io::Result<bool> {
     let report = run_case(rt, name)?;
     let path = format!(in rt.alloc(); "{name}.report")?;
-    let wanted = fs::read_to_string(rt, path.as_str())?;
+    let wanted = fs::read_to_string(&rt, path.as_str())?;
     Ok(report.as_str() == wanted.as_str())
 }
 
-fn is_in_order(rt: &(impl Files + AllocGlobal), name: &str) -> io::Result<bool> {
+fn is_in_order<H: Files + AllocGlobal + Wait + Copy + Drop>(rt: H, name: &str) -> io::Result<bool> {
     let report = run_case(rt, name)?;
     let path = format!(in rt.alloc(); "{name}.lines")?;
-    let wanted = fs::read_to_string(rt, path.as_str())?;
+    let wanted = fs::read_to_string(&rt, path.as_str())?;
     Ok(has_lines(report.as_str(), wanted.as_str()))
 }
 
-fn is_counted(rt: &(impl Files + AllocGlobal), name: &str) -> io::Result<bool> {
+fn is_counted<H: Files + AllocGlobal + Wait + Copy + Drop>(rt: H, name: &str) -> io::Result<bool> {
     let report = run_case(rt, name)?;
     let path = format!(in rt.alloc(); "{name}.counts")?;
-    let wanted = fs::read_to_string(rt, path.as_str())?;
+    let wanted = fs::read_to_string(&rt, path.as_str())?;
     Ok(
         wanted
             .as_str()
@@ -161,9 +169,13 @@ fn is_counted(rt: &(impl Files + AllocGlobal), name: &str) -> io::Result<bool> {
 }
 
 // Whether a drill writes one line that begins so, and the same one again.
-fn is_drilled(alloc: Global, words: &str, front: &str) -> io::Result<bool> {
-    let first = written_by(alloc, words, Vec::new(alloc))?;
-    let second = written_by(alloc, words, Vec::new(alloc))?;
+fn is_drilled<H: AllocGlobal + Wait + Copy + Drop>(
+    rt: H,
+    words: &str,
+    front: &str,
+) -> io::Result<bool> {
+    let first = written_by(rt, words, Vec::new(rt.alloc()))?;
+    let second = written_by(rt, words, Vec::new(rt.alloc()))?;
     let line = first.as_str();
     let is_one = line.starts_with(front) && line.lines().count() == 1;
     Ok(is_one && line == second.as_str())
@@ -179,16 +191,16 @@ fn tell(rt: &impl Print, name: &str, outcome: io::Result<bool>) -> io::Result<()
 
 fn main(rt: HostRuntime) -> io::Result<()> {
     for name in WHOLE {
-        tell(&rt, name, is_whole(&rt, name))?;
+        tell(&rt, name, is_whole(rt, name))?;
     }
     for name in LINES {
-        tell(&rt, name, is_in_order(&rt, name))?;
+        tell(&rt, name, is_in_order(rt, name))?;
     }
     for name in COUNTS {
-        tell(&rt, name, is_counted(&rt, name))?;
+        tell(&rt, name, is_counted(rt, name))?;
     }
     for (words, front) in DRILLS {
-        tell(&rt, words, is_drilled(rt.alloc(), words, front))?;
+        tell(&rt, words, is_drilled(rt, words, front))?;
     }
     println!(rt;
         "{} cases",

@@ -1,5 +1,6 @@
 -- a run is over, and its line was written
-use Rattle.load_run.proofs.LoadLemmas.{has-run, loads-printed}
+use Rattle.load_run.proofs.LoadLemmas.{has-run, loads-printed, loads-stopped}
+use Rattle.load_run.proofs.StartLemmas.{notes-run}
 use Rattle.load_run.proofs.loading.load.Goals as goal
 
 pub returns-in_default : goal.returns-in_default
@@ -19,3 +20,17 @@ returns-in_default g c =
     c.turn_all.new.run c.in-Ok.ensures.starts c.start.ensures.sent c.in-Ok.ensures.quiet
     c.turn_all.result c.in_default.not-NoMemory c.in_default.not-LinkFault c.turn_all.ensures.ends)
     c.finish.result c.finish.ensures
+
+pub returns-in-LinkFault : goal.returns-in-LinkFault
+returns-in-LinkFault g c =
+    loads-stopped g.R.Recorder.facts g.R.Recorder.whole g.C.Clock.gave (λ l. record {
+      sent = g.L.Link.sent l;
+      troubles = record { faults = g.L.Link.faults l; busies = g.L.Link.busies l };
+    })
+    c.args.spec.now c.args.link.now c.start.new.link c.turn_all.new.link c.args.clock.now
+    c.turn_all.new.clock c.args.rec.now c.start.new.rec c.turn_all.new.rec _ _ c.in-Ok.run'
+    c.turn_all.new.run c.in-Ok.ensures.quiet c.turn_all.result c.in-LinkFault.is
+    c.turn_all.ensures.ends
+    (notes-run g.R.Recorder.facts g.R.Recorder.whole c.args.spec.now c.args.rec.now c.start.new.rec
+    c.turn_all.new.rec c.in-Ok.run' c.turn_all.new.run c.in-Ok.ensures.starts
+    c.turn_all.ensures.goes_on)

@@ -1,4 +1,4 @@
-use Rattle.std.proofs.Common.{◌≡◌, List, Some, [], refl, subst}
+use Rattle.std.proofs.Common.{List, refl, subst}
 use Rattle.report_text.specs.Text.{text}
 use Rattle.rpc_tools.specs.Drills.{IsReported}
 use Rattle.script_grammar.specs.declared.line.Line.{Line}

@@ -1,4 +1,5 @@
 -- the turns of a run
+use Rattle.std.proofs.Common.{refl, ◌∙◌}
 use Rattle.serve_run.proofs.ServingLemmas.{serves-none, turns-on, turns-over}
 use Rattle.serve_run.proofs.serving.turn_all.Goals as goal
 
@@ -8,21 +9,26 @@ turns-init g c = (
     sent = g.L.Link.sent l;
     troubles = record { faults = g.L.Link.faults l; busies = g.L.Link.busies l };
   }) _ _ _ _,
+  refl,
   c.requires.left,
+  refl,
 )
 
-pub returns-in-Over : goal.returns-in-Over
-returns-in-Over g c =
+pub returns-in-Over-clause-ends : goal.returns-in-Over-clause-ends
+returns-in-Over-clause-ends g c =
     turns-over g.R.Recorder.facts g.R.Recorder.whole g.C.Clock.gave (λ l. record {
       sent = g.L.Link.sent l;
       troubles = record { faults = g.L.Link.faults l; busies = g.L.Link.busies l };
-    }) _ _ _ _ _ _ _ _ _ _ _ _ c.turns.invariant.0 c.turn.ensures.tells c.turn.ensures.counted
-    c.in-Over.status (rw c.in-Over.is at c.turn.ensures.answers)
+    }) _ _ _ _ _ _ _ _ _ _ _ _ c.turns.invariant.0 c.turns.invariant.1 c.turns.invariant.2
+    c.turn.ensures.tells c.turn.ensures.counted c.in-Over.status
+    (rw c.in-Over.is at c.turn.ensures.answers)
 
 pub turns-preserved : goal.turns-preserved
 turns-preserved g c =
-    turns-on g.R.Recorder.facts g.R.Recorder.whole g.C.Clock.gave (λ l. record {
+    let more = turns-on g.R.Recorder.facts g.R.Recorder.whole g.C.Clock.gave (λ l. record {
       sent = g.L.Link.sent l;
       troubles = record { faults = g.L.Link.faults l; busies = g.L.Link.busies l };
-    }) _ _ _ _ _ _ _ _ _ _ _ _ c.turns.invariant.0 c.turn.ensures.tells c.turn.ensures.counted
-    c.turns.invariant.1 c.turn.result c.in_default.not-Over c.turn.ensures.answers
+    }) _ _ _ _ _ _ _ _ _ _ _ _ c.turns.invariant.0 c.turns.invariant.1 c.turns.invariant.2
+    c.turn.ensures.tells c.turn.ensures.counted c.turn.result c.in_default.not-Over
+    c.turn.ensures.answers in
+    (more.0, more.1, more.2, c.turn.ensures.team ∙ c.turns.invariant.3)

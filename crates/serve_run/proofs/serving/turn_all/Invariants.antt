@@ -1,6 +1,7 @@
 -- turns were made, and some are left
-use Rattle.std.proofs.Common.{◌<◌, ◌-◌}
+use Rattle.std.proofs.Common.{◌≡◌, ◌<◌, ◌-◌}
 use Rattle.serve_run.specs.Serving.{ServesOn}
+use Rattle.worker_crew.specs.Crews.{team_of}
 use Rattle.serve_run.proofs.serving.turn_all.Given as goal
 
 abbrev pub invariant-turns : goal.invariant-turns
@@ -9,7 +10,9 @@ invariant-turns g l =
       sent = g.L.Link.sent l;
       troubles = record { faults = g.L.Link.faults l; busies = g.L.Link.busies l };
     }) l.initial.link l.link l.initial.clock l.clock l.initial.run l.run l.initial.rec l.rec
+    × (g.L.Link.faults l.link ≡ g.L.Link.faults l.initial.link)
     × (l.run.made < l.run.turns)
+    × (team_of l.run.endpoint.workers ≡ team_of l.initial.run.endpoint.workers)
 
 abbrev pub decreases-turns : goal.decreases-turns
 decreases-turns g l = l.run.turns - l.run.made

@@ -1,9 +1,5 @@
 use Rattle.load_run.proofs.AskLemmas.{asks-more, asks-none}
-use Rattle.endpoint_loop.proofs.TurningLemmas.{goes-further}
-use Rattle.rpc_laws.specs.Service.{plain_serving}
-use Rattle.rpc_outside.specs.PlainAnswer.{background_answer}
-use Rattle.rpc_outside.specs.PlainStands.{PlainStands}
-use Rattle.rpc_world.specs.Before.{staff_of}
+use Rattle.plain_turns.proofs.RunLemmas.{goes-then}
 use Rattle.load_run.proofs.run.LoadRun.ask_many.Goals as goal
 
 pub calls-init : goal.calls-init
@@ -17,5 +13,5 @@ calls-preserved g c =
 
 pub returns-in_err-ask_next-clause-goes_on : goal.returns-in_err-ask_next-clause-goes_on
 returns-in_err-ask_next-clause-goes_on g c =
-    goes-further g.R.Recorder.facts g.R.Recorder.whole plain_serving PlainStands background_answer
-    staff_of _ _ _ _ _ _ c.calls.invariant.passes.goes c.in_err-ask_next.ensures.goes_on
+    goes-then g.R.Recorder.facts g.R.Recorder.whole _ _ _ _ _ _
+    c.calls.invariant.passes.goes c.in_err-ask_next.ensures.goes_on

@@ -1,11 +1,7 @@
 -- calls are asked, and the session begins to close where none is pending
 use Rattle.std.proofs.Common.{refl}
-use Rattle.endpoint_loop.proofs.TurningLemmas.{goes-further}
+use Rattle.plain_turns.proofs.RunLemmas.{goes-then}
 use Rattle.load_run.proofs.PassLemmas.{passes-none, passes-then}
-use Rattle.rpc_laws.specs.Service.{plain_serving}
-use Rattle.rpc_outside.specs.PlainAnswer.{background_answer}
-use Rattle.rpc_outside.specs.PlainStands.{PlainStands}
-use Rattle.rpc_world.specs.Before.{staff_of}
 use Rattle.load_run.proofs.run.LoadRun.prepare.Goals as goal
 
 pub returns-then-ne-clause-passes : goal.returns-then-ne-clause-passes
@@ -19,5 +15,5 @@ returns-clause-passes g c =
 
 pub returns-clause-goes_on : goal.returns-clause-goes_on
 returns-clause-goes_on g c =
-    goes-further g.R.Recorder.facts g.R.Recorder.whole plain_serving PlainStands background_answer
-    staff_of _ _ _ _ _ _ c.in_ok-ask_many.ensures.goes_on c.close_idle.ensures.passes.goes
+    goes-then g.R.Recorder.facts g.R.Recorder.whole _ _ _ _ _ _
+    c.in_ok-ask_many.ensures.goes_on c.close_idle.ensures.passes.goes

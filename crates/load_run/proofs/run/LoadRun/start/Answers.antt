@@ -1,8 +1,7 @@
 -- a session is opened
-use Rattle.std.proofs.Common.{[], ◌∷◌, ◌∙◌, ap, arith, refl, sym}
+use Rattle.std.proofs.Common.{[], ◌∷◌, ◌∙◌, ap, ap₂, arith, refl, sym}
 use Rattle.command_line.specs.Words.{LoadWords}
 use Rattle.load_run.proofs.PassLemmas.{connect-passes}
-use Rattle.plain_turns.specs.PlainTurns.{usual_limits}
 use Rattle.rpc_base.specs.declared.event.Event.TheVariants.{Opened}
 use Rattle.rpc_laws.specs.Facts.{plain}
 use Rattle.load_run.proofs.run.LoadRun.start.Goals as goal
@@ -14,18 +13,18 @@ returns-clause-starts g c =
     c.in-Ok.peer 32 (record { some = omega arith; few = omega arith })
     c.in-Ok-connect.ensures.makes c.in-Ok-connect.ensures.accepted in
     let passes = opened.passes in
+    let stands = passes.goes.goes_on [] c.in-Ok-plain_endpoint.ensures.made.stands in
     record {
       noted = passes.goes.noted;
       grew = passes.goes.grew;
       peer = c.in-Ok.peer;
-      opens = opened.opens
-          ∙ ap (λ n. plain c.connect.new.self.timed.lists.me (Opened n c.in-Ok.peer 32) ∷ [])
+      opens = opened.opens ∙ ap₂ (λ m n. plain m (Opened n c.in-Ok.peer 32) ∷ []) stands.node
           (sym c.in-Ok-connect.ensures.number);
-      stands = passes.goes.goes_on usual_limits [] c.in-Ok-plain_endpoint.ensures;
+      stands = stands;
       sends = passes.sends;
       ends = passes.ends;
       plan = c.in-Ok-of.ensures;
-      tally = c.new.ensures;
+      tally = c.new-2.ensures;
       asked = refl;
       turns = ap (λ (w : LoadWords). w.turns) c.spec.view_is;
       made = refl;

@@ -1,15 +1,11 @@
 -- a turn is prepared and made
 use Rattle.std.proofs.Common.{subst}
-use Rattle.endpoint_loop.proofs.TurningLemmas.{goes-further}
+use Rattle.plain_turns.proofs.RunLemmas.{goes-then}
 use Rattle.endpoint_loop.specs.Polling.{turn_of}
 use Rattle.load_run.specs.Loading.{LoadsSoFar}
 use Rattle.load_run.proofs.TurnLemmas.{counted-or, has-loaded, loads-turn, unless-failed}
 use Rattle.load_run.proofs.TurnLemmas.{unless-wanting}
 use Rattle.plain_turns.specs.PlainTurns.{GoesOnBy}
-use Rattle.rpc_laws.specs.Service.{plain_serving}
-use Rattle.rpc_outside.specs.PlainAnswer.{background_answer}
-use Rattle.rpc_outside.specs.PlainStands.{PlainStands}
-use Rattle.rpc_world.specs.Before.{staff_of}
 use Rattle.load_run.proofs.run.LoadRun.turn.Goals as goal
 
 pub returns-in-Err-default-clause-loads : goal.returns-in-Err-default-clause-loads
@@ -27,19 +23,17 @@ returns-in-Err-default-clause-loads g c =
 
 pub returns-in-Err-default-clause-goes_on : goal.returns-in-Err-default-clause-goes_on
 returns-in-Err-default-clause-goes_on g c =
-    goes-further g.R.Recorder.facts g.R.Recorder.whole plain_serving PlainStands background_answer
-    staff_of _ _ _ _ _ _ c.in-Ok.ensures.goes_on
+    goes-then g.R.Recorder.facts g.R.Recorder.whole _ _ _ _ _ _ c.in-Ok.ensures.goes_on
     (subst (λ (s : LoadsSoFar). GoesOnBy g.R.Recorder.facts g.R.Recorder.whole s.endpoint
     c.take_turn-turned.new.endpoint c.prepare.new.rec c.take_turn-turned.new.rec) c.self.view_is
-    c.take_turn-turned.ensures.goes_on)
+    c.take_turn-turned.ensures.tells.goes)
 
 pub returns-in-Ok-Err-clause-goes_on : goal.returns-in-Ok-Err-clause-goes_on
 returns-in-Ok-Err-clause-goes_on g c =
-    goes-further g.R.Recorder.facts g.R.Recorder.whole plain_serving PlainStands background_answer
-    staff_of _ _ _ _ _ _ c.in-Ok.ensures.goes_on
+    goes-then g.R.Recorder.facts g.R.Recorder.whole _ _ _ _ _ _ c.in-Ok.ensures.goes_on
     (subst (λ (s : LoadsSoFar). GoesOnBy g.R.Recorder.facts g.R.Recorder.whole s.endpoint
     c.take_turn-turned.new.endpoint c.prepare.new.rec c.take_turn-turned.new.rec) c.self.view_is
-    c.take_turn-turned.ensures.goes_on)
+    c.take_turn-turned.ensures.tells.goes)
 
 pub returns-clause-loads : goal.returns-clause-loads
 returns-clause-loads g c =
@@ -72,8 +66,7 @@ returns-clause-on g c =
 
 pub returns-clause-goes_on : goal.returns-clause-goes_on
 returns-clause-goes_on g c =
-    goes-further g.R.Recorder.facts g.R.Recorder.whole plain_serving PlainStands background_answer
-    staff_of _ _ _ _ _ _ c.in-Ok.ensures.goes_on
+    goes-then g.R.Recorder.facts g.R.Recorder.whole _ _ _ _ _ _ c.in-Ok.ensures.goes_on
     (subst (λ (s : LoadsSoFar). GoesOnBy g.R.Recorder.facts g.R.Recorder.whole s.endpoint
     c.take_turn-turned.new.endpoint c.prepare.new.rec c.take_turn-turned.new.rec) c.self.view_is
-    c.take_turn-turned.ensures.goes_on)
+    c.take_turn-turned.ensures.tells.goes)
