@@ -153,8 +153,9 @@ const USAGE: &str = "usage:
       runs the script on standard input and writes the report of what happened
   erpc drill SEED CALLS
       runs a script that the number SEED makes, with CALLS calls, and counts what happened
-  erpc serve ADDR --turns T
-      answers calls that come to the UDP address ADDR, for T turns, and counts what happened
+  erpc serve ADDR --turns T [--workers W]
+      answers calls that come to the UDP address ADDR, for T turns, with W threads for background \
+calls, and counts what happened
   erpc load ADDR --calls N --type Y --size Z --seed G --turns T [--bind ADDR]
       asks N calls of the server at ADDR, and counts how they ended";
 
@@ -181,7 +182,7 @@ fn a_complaint_without_a_subcommand_names_them(rt: HostRuntime) -> Result<(), Fa
 
 const DRILL: &str = "erpc drill SEED CALLS";
 
-const SERVE: &str = "erpc serve ADDR --turns T";
+const SERVE: &str = "erpc serve ADDR --turns T [--workers W]";
 
 const LOAD: &str = "erpc load ADDR --calls N --type Y --size Z --seed G --turns T [--bind ADDR]";
 
@@ -207,6 +208,11 @@ fn a_complaint_names_the_word(rt: HostRuntime) -> Result<(), Fail> {
         (
             "serve a --turns 0",
             "--turns is a number from 1 to 4294967295, not \"0\"",
+            SERVE,
+        ),
+        (
+            "serve a --turns 3 --workers 17",
+            "--workers is a number from 0 to 16, not \"17\"",
             SERVE,
         ),
         (
