@@ -1,7 +1,7 @@
 -- The leaves of a tree as the list of the places' values: the first true one, a write, and as they are made.
-use Rattle.std.proofs.Common.{◌≡◌, ◌≤◌, ◌<◌, ◌+◌, ◌-◌, ◌*◌, ◌∙◌, inl, inr, ℕ, suc, Bool, true}
+use Rattle.std.proofs.Common.{◌≡◌, ◌≢◌, ◌≤◌, ◌<◌, ◌+◌, ◌-◌, ◌*◌, ◌∙◌, inl, inr, ℕ, suc, Bool, true}
 use Rattle.std.proofs.Common.{false, Some, None, List, [], ◌∷◌, ◌++◌, length, get_or, set, drop}
-use Rattle.std.proofs.Common.{replicate, position, refl, sym, arith}
+use Rattle.std.proofs.Common.{replicate, position, sym, arith}
 use Rattle.std.specs.List.{position_or_len}
 use Rattle.std.proofs.lemmas.List.{get_or-set_same, get_or-set_other, length-set, get_or-take}
 use Rattle.std.proofs.lemmas.List.{get_or-drop, length-take, length-drop, ext_get_or}
@@ -10,7 +10,7 @@ use Rattle.std.proofs.lemmas.List.{replicate_more, append_assoc}
 use Rattle.std.proofs.lemmas.List.Sums.{position_or_len_is}
 use Rattle.std.proofs.lemmas.Bool.{cases_eq, cases_lt}
 use Rattle.std.proofs.lemmas.Bool.Decides.{nat_tests}
-use Rattle.buffer_pool.specs.Tree.{value_at, above, leaves_in, FitsTree}
+use Rattle.buffer_pool.specs.Tree.{value_at, above, leaves_in, FitsTree, IsJoined, NoneBelow}
 use Rattle.buffer_pool.proofs.TreeLemmas.{above-from, above-below, true_above}
 use Rattle.rpc_base.proofs.BasicLemmas.{unless-true}
 
@@ -80,6 +80,50 @@ lowest-some tree leaves height places leaf fits l v first =
     (leaf-at tree leaves places (leaf - leaves) (omega (arith, fits.size)) ∙ here)
     (λ k h. leaf-at tree leaves places k (omega arith)
     ∙ first (leaves + k) (omega (arith, fits.size)) (omega arith))
+
+-- the first place that may be empty is
+pub lowest-first : (tree : List Bool) (leaves height places from : ℕ)
+    → FitsTree tree leaves height places → NoneBelow tree leaves from
+    → value_at tree (leaves + from) ≡ true
+    → Some from ≡ position (λ x. x) (leaves_in tree leaves places)
+lowest-first tree leaves height places from fits none v =
+    let own : leaves + from - leaves ≡ from = omega arith in
+    let found = lowest-some tree leaves height places (leaves + from) fits
+    (omega (arith, fits.size)) v
+    (λ p l h. let back : leaves + (p - leaves) ≡ p = omega (arith, fits.size) in
+    let other : value_at tree (leaves + (p - leaves)) ≡ false =
+    none (p - leaves) (omega (arith, fits.size)) in
+    rw back at other) in
+    rw own at found
+
+-- the tree in which a place was written, and the values above it joined
+pub fits-set : (before after : List Bool) (leaves height places place : ℕ) (b : Bool)
+    → FitsTree before leaves height places → place < places → length after ≡ length before
+    → ((q : ℕ) → 0 < q → 2 * q + 1 < length after → IsJoined after q)
+    → ((p : ℕ) → leaves ≤ p → value_at after p ≡ value_at (set before (leaves + place) b) p)
+    → FitsTree after leaves height places
+fits-set before after leaves height places place b fits within long joined same = record {
+  size = long ∙ fits.size;
+  power = fits.power;
+  room = fits.room;
+  few = fits.few;
+  joined = joined;
+  past = λ p h. same p (omega arith)
+      ∙ get_or-set_other before (leaves + place) p b false (omega arith) ∙ fits.past p h;
+}
+
+-- once a place is written, none before the new first one is marked
+pub below-set : (before after : List Bool) (leaves place from then : ℕ) (b : Bool)
+    → leaves + place < length before
+    → ((p : ℕ) → leaves ≤ p → value_at after p ≡ value_at (set before (leaves + place) b) p)
+    → NoneBelow before leaves from → ((k : ℕ) → k < then → k ≢ place → k < from)
+    → (place < then → b ≡ false) → NoneBelow after leaves then
+below-set before after leaves place from then b wide same none others own k h =
+    same (leaves + k) (omega arith) ∙ elim (cases_eq k place) [
+      | inl e ↦ rw e (get_or-set_same before (leaves + place) b false wide ∙ own (rw e at h))
+      | inr n ↦ get_or-set_other before (leaves + place) (leaves + k) b false (omega arith)
+          ∙ none k (others k h n)
+    ]
 
 -- a place written
 pub leaves-set : (before after : List Bool) (leaves places place : ℕ) (b : Bool)

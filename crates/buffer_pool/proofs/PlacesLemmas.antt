@@ -1,6 +1,6 @@
 -- What is done to a place of a pool, by the use of each: full places stay full, and none is full and empty.
 use Rattle.std.proofs.Common.{◌≡◌, ◌≢◌, ℕ, ◌<◌, Bool, true, false, cond, eqb, Option, Some, None}
-use Rattle.std.proofs.Common.{List, length, get_or, set, refl, sym, ap, ◌∙◌, inl, inr, arith}
+use Rattle.std.proofs.Common.{List, length, get_or, set, sym, ap, ◌∙◌, inl, inr, arith}
 use Rattle.std.proofs.lemmas.Bool.{cases_eq, cases_lt, eq-eqb, eqb-false, ne_eqb}
 use Rattle.std.proofs.lemmas.List.{get_or_past}
 use Rattle.message_buffer.specs.Buffer.{Buffer}

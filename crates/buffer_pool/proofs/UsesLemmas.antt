@@ -1,10 +1,9 @@
 -- The marks and the count of the empty places, as they are made and when one place changes.
 use Rattle.std.proofs.Common.{◌≡◌, ◌≤◌, ◌<◌, ◌+◌, ◌∙◌, ◌^◌, ℕ, zero, suc, Bool, true, false, not}
-use Rattle.std.proofs.Common.{cond, ltb, Some, None, List, [], ◌∷◌, length, get_or, set, map}
+use Rattle.std.proofs.Common.{cond, None, List, [], ◌∷◌, length, get_or, set, map}
 use Rattle.std.proofs.Common.{replicate, position, count_by, refl, sym, ap, arith}
 use mathlib.Core.Bool.{beq}
 use Rattle.std.specs.List.{position_or_len}
-use Rattle.std.proofs.lemmas.Bool.{ltb-false}
 use Rattle.std.proofs.lemmas.List.{length-map, length-set, length-replicate, map-set, set-get_or, get_or-map}
 use Rattle.std.proofs.lemmas.List.Folds.{sum_by-replicate}
 use Rattle.std.proofs.lemmas.List.Sums.{sum_by-cons, sum_by-set, count_by-le-length}

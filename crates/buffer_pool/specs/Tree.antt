@@ -24,6 +24,10 @@ above (suc levels) q = above levels q / 2
 abbrev pub leaves_in : List Bool → ℕ → ℕ → List Bool
 leaves_in tree leaves places = take places (drop leaves tree)
 
+-- no place before this one is marked
+abbrev pub NoneBelow : List Bool → ℕ → ℕ → Type 0
+NoneBelow tree leaves from = (k : ℕ) → k < from → value_at tree (leaves + k) ≡ false
+
 -- the tree has its leaves behind its inner nodes, and each inner node is joined. Leaves past the
 -- places are false
 pub record FitsTree (tree : List Bool) (leaves height places : ℕ) : Type 0 where

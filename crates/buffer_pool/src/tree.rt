@@ -20,7 +20,7 @@ pub fn shape_for(places: u32) -> (u32, usize)
 }
 
 /// Joins the values above a node that may have changed: `node`, the node above it, and so on up to
-/// the root. All other nodes have to be joined.
+/// the first whose value stays. All other nodes have to be joined.
 pub fn join_up(tree: &mut [bool], node: usize)
     requires inner { 2 * node + 1 < length tree.old }
     requires others { (q : ℕ) → 0 < q → 2 * q + 1 < length tree.old → q ≢ node
@@ -30,7 +30,11 @@ pub fn join_up(tree: &mut [bool], node: usize)
 {
     let mut node = node;
     while node > 0 {
-        tree[node] = either(tree[2 * node], tree[2 * node + 1]);
+        let joined = either(tree[2 * node], tree[2 * node + 1]);
+        if tree[node] == joined {
+            return;
+        }
+        tree[node] = joined;
         node /= 2;
     }
 }
