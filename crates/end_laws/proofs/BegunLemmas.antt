@@ -126,7 +126,7 @@ module _ (k : Known) (n c s y room : ℕ) (ask : List ℕ) where
             (λ i z h t.
             let same = found-same k n l.clients s may.client g.clients may.found i z h.1 t in
             ask-client later i z t (ap (λ (y : Client). is_joined y.state) same
-            ∙ connected-joined k n may.client.state may.connected) h.0)
+            ∙ connected-joined may.client.state may.connected) h.0)
             (λ i z h. client-more k knows later n i z (λ r h. h) h.0)
             (λ i z is. (g.clients i z is, is));
         servers = servers-later k knows later n l.servers g.servers;

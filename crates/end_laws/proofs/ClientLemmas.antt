@@ -88,6 +88,12 @@ sent-leaves clock k = record {
   parts = λ p. sent-by (λ p. p.parts) (p.got == k) clock p refl;
 }
 
+-- a session that is Connected knows its other end
+pub connected-joined : (state : SessionState) → is_connected state ≡ true → is_joined state ≡ true
+connected-joined Connecting e = cc
+connected-joined Failed e = cc
+connected-joined _ e = refl
+
 module _ (k : Known) (n : ℕ) where
   leaves-progress : (change : Progress → Progress) (way : Way) (a : Asking) (p : Progress)
       → Leaves change → GoodProgress k n way a p → GoodProgress k n way a (change p)
@@ -414,11 +420,6 @@ module _ (k : Known) (n : ℕ) where
   comes-first state was s xs same x found is g =
       found-first s (comes_to state) xs x found
       (λ i. comes-good state i x (same ∙ sym (ap is_joined is))) g
-
-  pub connected-joined : (state : SessionState) → is_connected state ≡ true → is_joined state ≡ true
-  connected-joined Connecting e = cc
-  connected-joined Failed e = cc
-  connected-joined _ e = refl
 
   -- a session that has a call is joined
   joined-by : (b : Bool) (i : ℕ) (x : Client) (p : Call → Bool) (c : Call) → is_joined x.state ≡ b

@@ -43,6 +43,11 @@ bits true true false d h = cc
 bits true false c d h = cc
 bits false b c d h = cc
 
+-- what counts only where another does counts no more
+pub le-by : (a b : Bool) → (a ≡ true → b ≡ true) → cond {A = ℕ} a 1 0 ≤ cond b 1 0
+le-by false b h = omega arith
+le-by true b h = rw (h refl) (omega arith)
+
 -- what counts for a session was its own
 module _ (p : Filter) (w : Moment) (g : Good w) (n : ℕ) (l : Lists) (x : Pairing)
     (is : slice_get w.nodes n ≡ Some l) (fits : FitsIn g.known w.nodes x) where
@@ -85,11 +90,6 @@ module _ (p : Filter) (w : Moment) (g : Good w) (n : ℕ) (l : Lists) (x : Pairi
       and_from (n == x.node) (t == x.session && p r k) (eq-eqb n x.node own.0)
       (and_from (t == x.session) (p r k) (eq-eqb t x.session own.1)
       (passes-too r k h from.goes.request from.goes.number parts.3))
-
-  le-by : (a b : Bool) → (a ≡ true → b ≡ true) → cond {A = ℕ} a 1 0 ≤ cond b 1 0
-  le-by false b h = omega arith
-  le-by true true h = omega arith
-  le-by true false h = absurd (both_ways false refl (h refl))
 
   abbrev sent-copy : ℕ → List ℕ → InFlight
   sent-copy peer bytes = record { from = n; to = peer; bytes = bytes }

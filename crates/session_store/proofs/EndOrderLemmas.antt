@@ -12,6 +12,7 @@ use Rattle.std.proofs.lemmas.List.Sorted.{IsNonDecreasingBy-insert, IsPermutatio
 use Rattle.std.proofs.lemmas.List.Sorted.{sum_by-IsPermutation}
 use Rattle.std.proofs.lemmas.List.Sums.{position_or_len_is, sum_by-append, sum_by-cons}
 use Rattle.std.proofs.lemmas.Option.{slice_get-get_or, slice_get_within}
+use Rattle.rpc_base.proofs.BasicLemmas.{unless-true}
 use Rattle.rpc_base.proofs.FirstLemmas.{all-push}
 use Rattle.rpc_laws.specs.declared.tables.Way.{Way}
 use Rattle.packet_rings.specs.Entries.{option_is}
@@ -34,10 +35,6 @@ parts a b c d first second e =
 -- what counts a number
 abbrev hits : (n m : ℕ) → ℕ
 hits n m = cond (m == n) 1 0
-
-not-true : (b : Bool) → (b ≡ true → ⊥) → b ≡ false
-not-true true = λ no. absurd (no refl)
-not-true false = λ no. refl
 
 -- what is counted stands somewhere
 record Stands {A : Type 0} (f : A → ℕ) (n : ℕ) (xs : List A) : Type 0 where
@@ -150,7 +147,7 @@ module _ (ends : List ℕ) (servers : List Serving) (peer client place : ℕ)
   pub no-end : (length ends ≤ place) ⊎ (end_code peer client 0 + SPAN ≤ get_or ends place 0)
       → None ≡ position (ends_at peer client) servers
   no-end none = none-passes (ends_at peer client) servers (λ k v at.
-      not-true (ends_at peer client v) (λ is.
+      unless-true (ends_at peer client v) (λ is.
       let h = own-least k v at is in
       let small = small-at ends servers order k v at in
       elim none [
@@ -190,7 +187,7 @@ module _ (ends : List ℕ) (servers : List Serving) (peer client place : ℕ)
         let at = slice_get-get_or servers j v (omega (arith, less, inside)) in
         let rise = rising servers j here.place v up less inside in
         let own = got-same servers here.place v v there.1 in
-        not-true (ends_at peer client w) (λ passes.
+        unless-true (ends_at peer client w) (λ passes.
         let h = own-least j w at passes in
         omega (arith, h.1, is, rise, ap (λ (x : Serving). x.number) own, same.2))
 

@@ -57,6 +57,7 @@ use Rattle.stall_laws.proofs.Dues.{overflows, is_bad}
 use Rattle.stall_laws.proofs.Dues.{flushes, rolls, breaks, Goes, IsOlder, IsCallFor}
 use Rattle.stall_laws.proofs.Moves.{net_due}
 use Rattle.stall_laws.proofs.Standing.{owed_at, flushed_at, due_copy, standing, step-noted}
+use Rattle.ring_laws.proofs.WorldSteps.{le-by}
 use Rattle.stall_laws.proofs.Standing.{server-moves}
 
 -- the sessions that are found at the ends of a pairing are its own
@@ -125,10 +126,6 @@ owed-here p me n t (reply m s r k) of =
 owed-here p me n t (flushed m s o) of = sym (none-at (me == n))
 owed-here p me n t nothing of = sym (none-at (me == n))
 owed-here p me n t delivery of = sym (none-at (me == n))
-
-le-by : (a b : Bool) → (a ≡ true → b ≡ true) → cond {A = ℕ} a 1 0 ≤ cond b 1 0
-le-by false b h = omega arith
-le-by true b h = rw (h refl) (omega arith)
 
 -- a positive number of either kind
 some-one : (b : Bool) (n m : ℕ) → 1 ≤ n → n ≤ m + cond b 1 0 → (1 ≤ m) ⊎ (b ≡ true)

@@ -27,11 +27,10 @@ use Rattle.rpc_laws.specs.Posting.{next_turn}
 use Rattle.end_laws.specs.Kinds.{is_ask}
 use Rattle.end_laws.specs.Moments.{Moment}
 use Rattle.end_laws.proofs.Allowed.{is_packet, MayLeave}
-use Rattle.end_laws.proofs.ClientLemmas.{client-at, is-joined}
+use Rattle.end_laws.proofs.ClientLemmas.{client-at, connected-joined, is-joined}
 use Rattle.rpc_laws.specs.Sessions.{is_connected}
 use Rattle.std.specs.List.{find}
 use Rattle.rpc_laws.specs.Requests.{is_server}
-use Rattle.stall_laws.proofs.Living.{joined-connected}
 use Rattle.end_laws.proofs.Courses.{AtNode, noted_at}
 use Rattle.end_laws.proofs.Known.{Known, Good, LiveAt, End, Says, SaysRequest, Speaks}
 use Rattle.end_laws.proofs.QueueLemmas.{RightNode}
@@ -146,7 +145,7 @@ pub joins-of : (w : Moment) (n : ℕ) (l : Lists) (j s : ℕ) (z : Lists) (x : C
 joins-of w n l j s z x is g at =
     let k = g.known in
     let own = (g.nodes j z at.is_node).clients s x at.is_there in
-    let end = (is-joined k j s x (joined-connected x.state at.live) own).end in
+    let end = (is-joined k j s x (connected-joined x.state at.live) own).end in
     record {
       client = λ home c found.
           let here : slice_get w.nodes n ≡ Some z = ap (slice_get w.nodes) home ∙ at.is_node in
@@ -213,7 +212,7 @@ never-older w n l j s z x r is g at newest node o =
     let own = (g.nodes j z at.is_node).clients s x at.is_there in
     let said = says-front k n l.ring o.header (g.travels.rings n l is) o.reads o.kind in
     let says = said.2 in
-    let end = (is-joined k j s x (joined-connected x.state at.live) own).end in
+    let end = (is-joined k j s x (connected-joined x.state at.live) own).end in
     let theirs : k.ends n x.way.other 0
     ≡ Some (record { home = said.0; client = says.session; credits = says.credits }) =
     subst (λ (i : ℕ). k.ends n i 0

@@ -18,7 +18,7 @@ use Rattle.end_laws.specs.Genuine.{Travels}
 use Rattle.end_laws.specs.Handshakes.{IsLetGo}
 use Rattle.end_laws.specs.Moments.{first_moment, Moment, moved}
 use Rattle.end_laws.proofs.Allowed.{MayLeave}
-use Rattle.end_laws.proofs.ClientLemmas.{is-joined}
+use Rattle.end_laws.proofs.ClientLemmas.{connected-joined, is-joined}
 use Rattle.end_laws.proofs.Courses.{AtNode, Ends, moved-node, paired}
 use Rattle.end_laws.proofs.GoodSteps.{next-made, next-net, next-node}
 use Rattle.end_laws.proofs.Known.{Good, is_joined, LiveAt}
@@ -127,13 +127,6 @@ living-pair w n m credits client server ends i v h =
           (λ j t e is live. inl (live-pair w n m credits client server ends j t live)) h.alive;
     }
 
--- a session that is connected is joined
-pub joined-connected : (state : SessionState) → is_connected state ≡ true → is_joined state ≡ true
-joined-connected Connected e = refl
-joined-connected Connecting e = cc
-joined-connected Failed e = cc
-joined-connected _ e = refl
-
 -- where a session is connected, it let nothing of its other end go
 not-gone : (w : Moment) (n : ℕ) (l : Lists) (s : ℕ) (x : Client) → slice_get w.nodes n ≡ Some l
     → slice_get l.clients s ≡ Some x → is_connected x.state ≡ true → GoneAt w.nodes n s x.way.other
@@ -152,7 +145,7 @@ own-end : (w : Moment) (g : Living w) (n : ℕ) (l : Lists) (s : ℕ) (x : Clien
     → g.good.known.ends x.way.peer x.way.other 0
     ≡ Some (record { home = n; client = s; credits = x.limit })
 own-end w g n l s x is there live =
-    (is-joined g.good.known n s x (joined-connected x.state live)
+    (is-joined g.good.known n s x (connected-joined x.state live)
     ((g.good.nodes n l is).clients s x there)).end
 
 -- its other end stands
