@@ -9,11 +9,13 @@ use Rattle.node_laws.specs.NodeRun.{Group, IsCredits, NodeRun}
 use Rattle.node_laws.specs.NodeRun.{pairs_client, pairs_server, polls, refuses}
 use Rattle.node_laws.proofs.RunLaws.{group-lawful, run_valid}
 use Rattle.rpc_base.specs.declared.event.Event.{Event}
-use Rattle.rpc_base.specs.declared.event.Event.TheVariants.{Arrived, Bad, Overflowed}
+use Rattle.rpc_base.specs.declared.event.Event.TheVariants.{Arrived, Bad, Begun, Overflowed}
 use Rattle.rpc_base.specs.declared.event.Event.TheVariants.{NconnectNumbers, NconnectRing}
-use Rattle.rpc_base.specs.declared.event.Event.TheVariants.{Nrate, Ran, Rated, Worked}
+use Rattle.rpc_base.specs.declared.event.Event.TheVariants.{Nrate, Polled, Posted, Ran, Rated}
+use Rattle.rpc_base.specs.declared.event.Event.TheVariants.{Worked}
 use Rattle.rpc_base.specs.declared.fact.Fact.{Fact}
 use Rattle.rpc_base.specs.declared.limits.Limits.{Limits}
+use Rattle.rpc_base.specs.declared.owner.Owner.{Owner}
 use Rattle.rpc_base.specs.declared.limits.TheConstants.{SESSION_NUMBERS}
 use Rattle.rpc_base.specs.declared.state.SessionState.{SessionState}
 use Rattle.rpc_base.specs.declared.state.SessionState.TheVariants.{Connected}
@@ -49,7 +51,7 @@ use Rattle.endpoint_loop.specs.declared.asking.AskError.TheVariants.{NoMemory as
 use Rattle.endpoint_loop.specs.declared.asking.AskError.TheVariants.{TooLarge}
 use Rattle.endpoint_loop.specs.declared.asking.Refused.{Refused}
 use Rattle.endpoint_loop.specs.Finishing.{FinishesThese, Staff}
-use Rattle.endpoint_loop.specs.Noting.{Makes}
+use Rattle.endpoint_loop.specs.Noting.{Makes, is_asked}
 use Rattle.endpoint_loop.specs.Polling.{FinishesBack, LinkTells, MakesPoll, PollsWith}
 use Rattle.endpoint_loop.specs.Polling.{SendsUntil, is_stopped}
 use Rattle.endpoint_loop.specs.Running.{asks_of, Crew, IsStaffed, Running, told}
@@ -59,8 +61,9 @@ use Rattle.endpoint_loop.proofs.GivingLemmas.{staffed-still}
 use Rattle.endpoint_loop.proofs.HeardLemmas.{hears-still}
 use Rattle.endpoint_loop.proofs.PollLemmas.{is_ran, still-answers, these-still}
 use Rattle.endpoint_loop.proofs.StillLemmas.{AllStill, Stills, closes-still, posts-still, sends-still}
-use Rattle.endpoint_loop.proofs.StillLemmas.{still-append, times-still}
-use Rattle.endpoint_loop.proofs.TurnLemmas.{handled-elsewhere, handled-unworked, is_work}
+use Rattle.endpoint_loop.proofs.StillLemmas.{still-by, still-then, times-still}
+use Rattle.endpoint_loop.proofs.TurnLemmas.{elsewhere-unasked, elsewhere-unworked}
+use Rattle.endpoint_loop.proofs.TurnLemmas.{handled-elsewhere, is_elsewhere, is_work}
 use Rattle.endpoint_loop.proofs.TurnLemmas.{many-append, many-none}
 
 -- a handler ran, or a job was worked
@@ -78,12 +81,10 @@ labour-work (Worked session request) h = cc
 labour-work _ h = refl
 
 pub none-ran : (x : List Fact) → AllStill is_labour x → AllStill is_ran x
-none-ran [] all = tt
-none-ran (f ∷ x) all = (labour-ran f.event all.0, none-ran x all.1)
+none-ran = still-by is_labour is_ran labour-ran
 
 pub none-worked : (x : List Fact) → AllStill is_labour x → AllStill is_work x
-none-worked [] all = tt
-none-worked (f ∷ x) all = (labour-work f.event all.0, none-worked x all.1)
+none-worked = still-by is_labour is_work labour-work
 
 -- where no job was worked, none of a request was
 unworked-event : (t r : ℕ) (e : Event) → is_work e ≡ false → works_request t r e ≡ false
@@ -165,27 +166,41 @@ module _ {R V W : Type 0} (facts : R → Option (List Fact)) (whole : R → Bool
         leaves.jobs s.staffed));
   }
 
--- a poll works no job
-then-unworked : (P Q : Rel) → Stills is_work P → Stills is_work Q → Stills is_work (Then P Q)
-then-unworked P Q p q s x t h =
-    rw h.joined (still-append is_work h.front h.back (p s h.front h.between h.first)
-    (q h.between h.back t h.second))
+-- what no step of a poll notes, nor the handling of a packet
+module _ (q : Event → Bool) (elsewhere : (e : Event) → is_elsewhere e ≡ false → q e ≡ false)
+    (begun : (c r : ℕ) → q (Begun c r) ≡ false)
+    (posted : (o : Owner) (k : ℕ) → q (Posted o k) ≡ false)
+    (polled : (now : ℕ) → q (Polled now) ≡ false)
+    (hears : Stills q HearsAll) (times : Stills q TimesAll) where
+  pub poll-still : (F S : Rel) (mode : ℕ → Mode) (now : ℕ) → Stills q F → Stills q S
+      → Stills q (PollBy F S mode now)
+  poll-still F S mode now f sending s x t h =
+      still-then q F _ f
+      (still-then q HearsAll _ hears
+      (still-then q (HandlesAll mode) _
+      (λ s x t k. still-by is_elsewhere q elsewhere x (handled-elsewhere mode s x t k.steps))
+      (still-then q TimesAll _ times
+      (still-then q PostsAll _ (posts-still q begun posted)
+      (still-then q S EndsPoll sending (closes-still q polled)))))) (raised now s) x t h
 
+-- a poll works no job, and asks no call
 pub poll-unworked : (F S : Rel) (mode : ℕ → Mode) (now : ℕ) → Stills is_work F → Stills is_work S
     → Stills is_work (PollBy F S mode now)
-poll-unworked F S mode now f sending s x t h =
-    then-unworked F _ f
-    (then-unworked HearsAll _
+poll-unworked =
+    poll-still is_work elsewhere-unworked (λ c r. refl) (λ o k. refl) (λ n. refl)
     (hears-still is_work (λ o k. refl) (λ i. refl) (λ p i c. refl) (λ p i c. refl)
     (λ i p j c. refl) (λ i j. refl) (λ i. refl) (λ i. refl) (λ p o k. refl) (λ p. refl) refl)
-    (then-unworked (HandlesAll mode) _
-    (λ s x t k. handled-unworked x (handled-elsewhere mode s x t k.steps))
-    (then-unworked TimesAll _
     (times-still is_work (λ o k. refl) (λ c a b. refl) (λ i. refl) (λ c. refl) (λ p o k. refl)
     (λ p. refl) (λ i. refl) (λ i. refl))
-    (then-unworked PostsAll _ (posts-still is_work (λ c r. refl) (λ o k. refl))
-    (then-unworked S EndsPoll sending (closes-still is_work (λ n. refl)))))))
-    (raised now s) x t h
+
+pub poll-unasked : (F S : Rel) (mode : ℕ → Mode) (now : ℕ) → Stills is_asked F → Stills is_asked S
+    → Stills is_asked (PollBy F S mode now)
+poll-unasked =
+    poll-still is_asked elsewhere-unasked (λ c r. refl) (λ o k. refl) (λ n. refl)
+    (hears-still is_asked (λ o k. refl) (λ i. refl) (λ p i c. refl) (λ p i c. refl)
+    (λ i p j c. refl) (λ i j. refl) (λ i. refl) (λ i. refl) (λ p o k. refl) (λ p. refl) refl)
+    (times-still is_asked (λ o k. refl) (λ c a b. refl) (λ i. refl) (λ c. refl) (λ p o k. refl)
+    (λ p. refl) (λ i. refl) (λ i. refl))
 
 -- a poll of which more is known is a poll
 pub poll-as : (F S : Rel) (mode : ℕ → Mode) (now : ℕ) → Within F FinishesSome → Within S SendsSome
@@ -246,6 +261,19 @@ module _ {R K V W : Type 0} (facts : R → Option (List Fact)) (whole : R → Bo
   me-polled a b f g j k h limits past s =
       me-more v stands answer (λ w. (crew w).staff) limits past a b h.noted s
       (group-polled a b h.noted (h.does s.staffed).0)
+
+  -- nor does what is known of it
+  pub unasked-polled : (a b : Running V W) (x : List Fact)
+      → PollsWith v answer (is_stopped turn) now (crew a.workers) (crew b.workers) a.timed x b.timed
+      → AllStill is_asked x
+  unasked-polled a b x does =
+      let F = FinishesBack answer does.parcels (crew a.workers) (crew b.workers) in
+      let S = SendsUntil (is_stopped turn) in
+      poll-unasked F S v.mode now
+      (λ s x t k. these-still is_asked (λ t r y. refl) (λ o k. refl) answer does.parcels s x t
+      k.finishes)
+      (λ s x t k. sends-still is_asked (λ p o k. refl) s x t
+      (sends-some (is_stopped turn) s x t k)) _ x _ does.polls
 
   unfoldable pub goes-polled : (a b : Running V W) (f g : R) (j k : K)
       → MakesPoll facts whole given crew v stands answer turn now link then_link a b f g j k

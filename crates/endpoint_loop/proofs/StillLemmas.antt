@@ -49,13 +49,19 @@ pub still-append : (q : Event → Bool) (x y : List Fact) → AllStill q x → A
 still-append q [] y a b = b
 still-append q (f ∷ x) y a b = (a.0, still-append q x y a.1 b)
 
+-- a test that is false of all of which another is
+pub still-by : (p q : Event → Bool) → ((e : Event) → p e ≡ false → q e ≡ false) → (x : List Fact)
+    → AllStill p x → AllStill q x
+still-by p q each [] all = tt
+still-by p q each (f ∷ x) all = (each f.event all.0, still-by p q each x all.1)
+
 -- so a filter by the test leaves nothing
 pub still-none : (q : Event → Bool) (x : List Fact) → AllStill q x → filter (λ f. q f.event) x ≡ []
 still-none q [] a = refl
 still-none q (f ∷ x) a = rw (a.0) (still-none q x a.1)
 
 module _ (q : Event → Bool) where
-  still-then : (P Q : Rel) → Stills q P → Stills q Q → Stills q (Then P Q)
+  pub still-then : (P Q : Rel) → Stills q P → Stills q Q → Stills q (Then P Q)
   still-then P Q p r s x t h =
       rw h.joined (still-append q h.front h.back (p s h.front h.between h.first)
       (r h.between h.back t h.second))

@@ -13,7 +13,7 @@ use Rattle.packet_header.specs.declared.packet.Kind.{Kind}
 use Rattle.packet_header.specs.declared.packet.Kind.TheVariants.{Request, Rfr, Cr, Response}
 use Rattle.packet_header.specs.declared.packet.MessageHeader.{MessageHeader}
 use Rattle.rpc_base.specs.declared.event.Event.{Event}
-use Rattle.rpc_base.specs.declared.event.Event.TheVariants.{Again, Arrived}
+use Rattle.rpc_base.specs.declared.event.Event.TheVariants.{Again, Arrived, Asked}
 use Rattle.rpc_base.specs.declared.event.Event.TheVariants.{Dropped, Flushed, Heard, Sent}
 use Rattle.rpc_base.specs.declared.event.Event.TheVariants.{Took, Unsent, Worked}
 use Rattle.rpc_base.specs.declared.fact.Fact.{Fact}
@@ -49,11 +49,11 @@ use Rattle.rpc_laws.specs.ServerTable.{served_facts, took_facts, whole_ask}
 use Rattle.rpc_laws.specs.Sessions.{is_client}
 use Rattle.rpc_laws.specs.Steps.{Chain, more, none}
 use Rattle.endpoint_loop.specs.Counting.{is_handled, is_sent}
-use Rattle.endpoint_loop.specs.Noting.{sent_by, sent_of}
+use Rattle.endpoint_loop.specs.Noting.{is_asked, sent_by, sent_of}
 use Rattle.endpoint_loop.specs.Speaking.{is_unsent}
 use Rattle.endpoint_loop.proofs.NotingLemmas.{sent-append}
 use Rattle.endpoint_loop.proofs.SentLemmas.{front-out}
-use Rattle.endpoint_loop.proofs.StillLemmas.{AllStill, still-append}
+use Rattle.endpoint_loop.proofs.StillLemmas.{AllStill, still-append, still-by}
 
 -- how many facts are of such an event
 abbrev pub many : (Event → Bool) → List Fact → ℕ
@@ -72,13 +72,14 @@ many-none q [] all = refl
 many-none q (f ∷ x) all = omega (arith, many-cons q f x false all.0, many-none q x all.1)
 
 -- what the handling of a packet of a call never notes: that a packet comes to the ring, is taken out
--- of the inbox, is sent or isn't taken by the link, and that a job was worked
+-- of the inbox, is sent or isn't taken by the link, that a job was worked, and that a call was asked
 abbrev pub is_elsewhere : Event → Bool
 is_elsewhere (Arrived peer) = true
 is_elsewhere Heard = true
 is_elsewhere (Sent peer owner k) = true
 is_elsewhere (Unsent peer) = true
 is_elsewhere (Worked session request) = true
+is_elsewhere (Asked call session req_type room) = true
 is_elsewhere _ = false
 
 -- each packet that is handled leaves the ring
@@ -89,6 +90,7 @@ ring-one Heard bytes ring h = cc
 ring-one (Sent peer owner k) bytes ring h = cc
 ring-one (Unsent peer) bytes ring h = cc
 ring-one (Worked session request) bytes ring h = cc
+ring-one (Asked call session req_type room) bytes ring h = cc
 ring-one (Took owner k) bytes ring h = refl
 ring-one (Again owner k) bytes ring h = refl
 ring-one (Dropped why) bytes ring h = refl
@@ -300,21 +302,19 @@ elsewhere-unsaid : (e : Event) → is_elsewhere e ≡ false → is_unsent e ≡ 
 elsewhere-unsaid (Unsent peer) h = absurd (false≢true (sym h))
 elsewhere-unsaid _ h = refl
 
-elsewhere-unworked : (e : Event) → is_elsewhere e ≡ false → is_work e ≡ false
+pub elsewhere-unworked : (e : Event) → is_elsewhere e ≡ false → is_work e ≡ false
 elsewhere-unworked (Worked session request) h = absurd (false≢true (sym h))
 elsewhere-unworked _ h = refl
 
+pub elsewhere-unasked : (e : Event) → is_elsewhere e ≡ false → is_asked e ≡ false
+elsewhere-unasked (Asked call session req_type room) h = absurd (false≢true (sym h))
+elsewhere-unasked _ h = refl
+
 pub handled-unsent : (x : List Fact) → AllStill is_elsewhere x → AllStill is_sent x
-handled-unsent [] all = tt
-handled-unsent (f ∷ x) all = (elsewhere-unsent f.event all.0, handled-unsent x all.1)
+handled-unsent = still-by is_elsewhere is_sent elsewhere-unsent
 
 pub handled-unsaid : (x : List Fact) → AllStill is_elsewhere x → AllStill is_unsent x
-handled-unsaid [] all = tt
-handled-unsaid (f ∷ x) all = (elsewhere-unsaid f.event all.0, handled-unsaid x all.1)
-
-pub handled-unworked : (x : List Fact) → AllStill is_elsewhere x → AllStill is_work x
-handled-unworked [] all = tt
-handled-unworked (f ∷ x) all = (elsewhere-unworked f.event all.0, handled-unworked x all.1)
+handled-unsaid = still-by is_elsewhere is_unsent elsewhere-unsaid
 
 -- where nothing was sent, no datagram was
 sent-event : (e : Event) (first second : List ℕ) → is_sent e ≡ false → sent_by e first second ≡ []

@@ -1,9 +1,10 @@
 -- What a step of an endpoint notes, by any recorder.
 use Rattle.std.specs.Prelude.{◌≡◌, ℕ, Bool, true, false, Option, None, option_map, List, [], ◌∷◌}
-use Rattle.std.specs.Prelude.{◌++◌, map}
+use Rattle.std.specs.Prelude.{◌++◌, count_by, map}
 use Rattle.std.specs.List.{filter}
 use Rattle.rpc_base.specs.declared.event.Event.{Event}
-use Rattle.rpc_base.specs.declared.event.Event.TheVariants.{Sent, DoneOk, DoneTooSmall, DonePeerLost}
+use Rattle.rpc_base.specs.declared.event.Event.TheVariants.{Asked as AskedEvent, Sent}
+use Rattle.rpc_base.specs.declared.event.Event.TheVariants.{DoneOk, DoneTooSmall, DonePeerLost}
 use Rattle.client_core.specs.Shown.{done_fact}
 use Rattle.client_core.specs.declared.outcome.Done.{Done}
 use Rattle.rpc_base.specs.declared.fact.Fact.{Fact}
@@ -70,6 +71,14 @@ is_end_event _ = false
 -- the end of a call
 abbrev pub is_end : Fact → Bool
 is_end f = is_end_event f.event
+
+-- a call was asked, and how many were
+abbrev pub is_asked : Event → Bool
+is_asked (AskedEvent call session req_type room) = true
+is_asked _ = false
+
+abbrev pub asked_in : List Fact → ℕ
+asked_in x = count_by (λ f. is_asked f.event) x
 
 -- calls ended: those that the continuation was given are those whose ends were noted, in order
 pub record MakesEnds {R K : Type 0} (facts : R → Option (List Fact)) (whole : R → Bool)
