@@ -6,7 +6,7 @@ use Rattle.std.specs.List.{filter}
 use Rattle.client_core.specs.declared.outcome.Done.{Done}
 use Rattle.client_core.specs.Shown.{done_fact}
 use Rattle.endpoint_loop.specs.declared.polling.Turn.{Turn}
-use Rattle.endpoint_loop.specs.Noting.{is_end, sent_of}
+use Rattle.endpoint_loop.specs.Noting.{asked_in, is_asked, is_end, sent_of}
 use Rattle.endpoint_loop.specs.Polling.{LinkTells}
 use Rattle.endpoint_loop.specs.Running.{asks_of, told}
 use Rattle.endpoint_loop.specs.Turning.{DeliversAll, TakesIn}
@@ -14,7 +14,7 @@ use Rattle.endpoint_loop.proofs.GivingLemmas.{staffed-still}
 use Rattle.endpoint_loop.proofs.NotesLemmas.{ends-append, me-goes}
 use Rattle.endpoint_loop.proofs.PollLemmas.{still-answers}
 use Rattle.endpoint_loop.proofs.StandingLemmas.{delivery-still, goes-polled, is_labour, me-polled}
-use Rattle.endpoint_loop.proofs.StandingLemmas.{none-ran, none-worked, unworked}
+use Rattle.endpoint_loop.proofs.StandingLemmas.{none-ran, none-worked, unasked-polled, unworked}
 use Rattle.endpoint_loop.specs.Standing.{StandsFor}
 use Rattle.endpoint_loop.proofs.StillLemmas.{AllStill, still-append}
 use Rattle.endpoint_loop.proofs.TurnLemmas.{many-append, many-none}
@@ -76,38 +76,47 @@ all-still (d ∷ ds) s x t h =
     (still-append is_labour h.front h.back (delivery-still d.0 d.1 s h.front h.between h.first)
     (all-still ds h.between h.back t h.second))
 
--- the fact of a delivery sends nothing and ends no call
+-- facts that send nothing, end no call and ask none
+record IsSilent (x : List Fact) : Type 0 where
+  sends : sent_of x ≡ []
+  ends : filter is_end x ≡ []
+  asks : asked_in x ≡ 0
+
+-- the fact of a delivery is silent
 abbrev IsComing : (me : ℕ) → List ℕ → Event → Type 0
-IsComing me bytes e =
-    (sent_of (with_bytes me e bytes ∷ []) ≡ []) × (filter is_end (with_bytes me e bytes ∷ []) ≡ [])
+IsComing me bytes e = IsSilent (with_bytes me e bytes ∷ [])
 
 coming : (peer : ℕ) (bytes : List ℕ) (s : Timed) (x : List Fact) (t : Timed) → Delivers peer bytes s x t
-    → (sent_of x ≡ []) × (filter is_end x ≡ [])
+    → IsSilent x
 coming peer bytes s x t h = rw h.facts (by (is_message bytes) (is_control bytes))
   where
     arrived : (n room : ℕ) → IsComing s.lists.me bytes (arrival n room peer)
     arrived n room = one (ltb n room)
       where
         one : (b : Bool) → IsComing s.lists.me bytes (cond b (Arrived peer) (Overflowed peer))
-        one true = (refl, refl)
-        one false = (refl, refl)
+        one true = record { sends = refl; ends = refl; asks = refl }
+        one false = record { sends = refl; ends = refl; asks = refl }
 
     by : (b c : Bool) → IsComing s.lists.me bytes (cond b (arrival (length s.lists.ring) s.lists.room peer)
         (cond c (arrival (length s.lists.inbox) inbox_room peer) (Bad peer)))
     by true c = arrived (length s.lists.ring) s.lists.room
     by false true = arrived (length s.lists.inbox) inbox_room
-    by false false = (refl, refl)
+    by false false = record { sends = refl; ends = refl; asks = refl }
+
+silent-append : (x y : List Fact) → IsSilent x → IsSilent y → IsSilent (x ++ y)
+silent-append x y a b = record {
+  sends = sent-append x y ∙ ap₂ (λ (c d : List Carried). c ++ d) a.sends b.sends;
+  ends = ends-append x y ∙ ap₂ (λ (c d : List Fact). c ++ d) a.ends b.ends;
+  asks = let first = a.asks in let second = b.asks in
+      omega (arith, many-append is_asked x y, first, second);
+}
 
 all-coming : (came : List Carried) (s : Timed) (x : List Fact) (t : Timed) → DeliversAll came s x t
-    → (sent_of x ≡ []) × (filter is_end x ≡ [])
-all-coming [] s x t h = rw h.0 (refl, refl)
+    → IsSilent x
+all-coming [] s x t h = rw h.0 (record { sends = refl; ends = refl; asks = refl })
 all-coming (d ∷ ds) s x t h =
-    let one = coming d.0 d.1 s h.front h.between h.first in
-    let rest = all-coming ds h.between h.back t h.second in
-    rw h.joined (
-      sent-append h.front h.back ∙ ap₂ (λ (a b : List Carried). a ++ b) one.0 rest.0,
-      ends-append h.front h.back ∙ ap₂ (λ (a b : List Fact). a ++ b) one.1 rest.1,
-    )
+    rw h.joined (silent-append h.front h.back (coming d.0 d.1 s h.front h.between h.first)
+    (all-coming ds h.between h.back t h.second))
 
 me-delivers : (came : List Carried) (s : Timed) (x : List Fact) (t : Timed) → DeliversAll came s x t
     → t.lists.me ≡ s.lists.me
@@ -185,17 +194,23 @@ module _ {R L C K : Type 0} (facts : R → Option (List Fact)) (whole : R → Bo
       → TellsMore given (tells link).sent (tells then_link).sent (first ++ second) from to
   more-told past s =
       let mid = between-stands past s in
-      let told_of = (h.turns.polls.does mid.runs.staffed).1 in
+      let does = h.turns.polls.does mid.runs.staffed in
+      let told_of = does.1 in
+      let still = unasked-polled facts whole given crew_of plain_serving PlainStands
+      background_answer h.turns.polled h.now h.turns.mid_link (tells then_link) h.turns.between new
+      second does.0 in
       let quiet = all-coming h.turns.came _ first _
       (takes-step facts whole h.turns.came old h.turns.between before h.turns.mid h.turns.takes) in
       record {
         dones = told_of.dones;
-        ends = ends-append first second ∙ ap (λ ends. ends ++ filter is_end second) quiet.1
+        ends = ends-append first second ∙ ap (λ ends. ends ++ filter is_end second) quiet.ends
             ∙ told_of.ends ∙ ap (λ m. map (done_fact m) told_of.dones) mid.node;
         gave = told_of.gave;
+        asks = let none = quiet.asks in
+            omega (arith, many-append is_asked first second, many-none is_asked second still, none);
         sends = told_of.took ∙ ap (option_map (λ ds. ds ++ sent_of second)) h.turns.receives.sent
             ∙ ap (λ sent. option_map (λ ds. ds ++ sent) (tells link).sent)
-            (sym (sent-append first second ∙ ap (λ sent. sent ++ sent_of second) quiet.0));
+            (sym (sent-append first second ∙ ap (λ sent. sent ++ sent_of second) quiet.sends));
       }
 
   pub turn-tells : TellsTurn facts whole given (tells link).sent (tells then_link).sent old new before later from to

@@ -5,7 +5,7 @@ use Rattle.client_core.specs.Shown.{done_fact}
 use Rattle.client_core.specs.declared.outcome.Done.{Done}
 use Rattle.endpoint_loop.specs.declared.polling.Turn.{Turn}
 use Rattle.endpoint_loop.specs.Given.{Gave}
-use Rattle.endpoint_loop.specs.Noting.{is_end, sent_of}
+use Rattle.endpoint_loop.specs.Noting.{asked_in, is_end, sent_of}
 use Rattle.endpoint_loop.specs.Polling.{LinkTells}
 use Rattle.endpoint_loop.specs.Finishing.{Staff}
 use Rattle.endpoint_loop.specs.Running.{Crew, Running}
@@ -93,13 +93,14 @@ pub record TakesTurn {R L C K : Type 0} (facts : R → Option (List Fact)) (whol
       background_answer told now tells link then_link old new before later from to
 
 -- what the facts of a turn tell besides: the calls that the continuation was given are those whose
--- ends were noted, in order, and the link, where it tells what it sent, sent just the datagrams
--- that were noted as sent
+-- ends were noted, in order; no call was asked; and the link, where it tells what it sent, sent just
+-- the datagrams that were noted as sent
 pub record TellsMore {K : Type 0} (given : K → List Done → Type 0)
     (sent then_sent : Option (List Carried)) (noted : List Fact) (from to : K) : Type 0 where
   pub dones : List Done
   pub ends : filter is_end noted ≡ map (done_fact 0) dones
   pub gave : Gave given from to dones
+  pub asks : asked_in noted ≡ 0
   pub sends : then_sent ≡ option_map (λ ds. ds ++ sent_of noted) sent
 
 -- the recorder grew by the facts of a turn, by which the endpoint goes on
@@ -124,6 +125,20 @@ pub record RunsOn {R C : Type 0} (facts : R → Option (List Fact)) (whole : R �
       → then_sent ≡ option_map (λ ds. ds ++ sent_of goes.noted) sent
   pub times : List ℕ
   pub count : length times ≡ n
+  pub ticks : GivesAll gave clock then_clock times
+
+-- what a run did in so many turns, whose endpoint is the one that is left: the facts are a run of
+-- node 0 with usual limits, the link, where it tells that, sent just what they say was sent, and
+-- the clock gave a number for each turn
+pub record HasTurned {R C : Type 0} (facts : R → Option (List Fact)) (whole : R → Bool)
+    (gave : C → List ℕ → Type 0) (sent then_sent : Option (List Carried)) (clock then_clock : C)
+    (before later : R) (made : ℕ) (endpoint : End) : Type 0 where
+  pub noted : List Fact
+  pub grew : Grew facts whole before later noted
+  pub stands : Stands noted endpoint
+  pub sends : then_sent ≡ option_map (λ ds. ds ++ sent_of noted) sent
+  pub times : List ℕ
+  pub count : length times ≡ made
   pub ticks : GivesAll gave clock then_clock times
 
 -- why a run couldn't start: the link failed, or there was no memory and it didn't

@@ -6,14 +6,14 @@ use Rattle.endpoint_loop.specs.Noting.{sent_of}
 use Rattle.std.proofs.lemmas.Bool.{eqb-false, eqb-true}
 use Rattle.endpoint_loop.specs.Polling.{LinkTells}
 use Rattle.plain_turns.proofs.RunLemmas.{none-made, runs-then}
-use Rattle.plain_turns.specs.PlainTurns.{RunsOn, Stands}
+use Rattle.plain_turns.specs.PlainTurns.{HasTurned, RunsOn, Stands}
 use Rattle.rpc_base.specs.declared.fact.Fact.{Fact}
 use Rattle.rpc_outside.specs.Faults.{HasRisen}
 use Rattle.run_status.specs.declared.going.Going.{Going}
 use Rattle.run_status.specs.declared.going.Going.TheVariants.{On, Over}
 use Rattle.run_status.specs.declared.status.Status.{Status}
 use Rattle.run_status.specs.declared.status.Status.TheVariants as statuses
-use Rattle.serve_run.specs.Serving.{Answers, HasNotRun, HasRun, HasServedAll, Serves, ServesOn}
+use Rattle.serve_run.specs.Serving.{Answers, HasServedAll, Serves, ServesOn}
 use Rattle.serve_run.specs.Serving.{ServesSoFar, TurnsEnd}
 use Rattle.serve_run.specs.Serving.{Writes, one_more, turns_line}
 
@@ -106,14 +106,14 @@ module _ {R L C : Type 0} (facts : R → Option (List Fact)) (whole : R → Bool
     (unsent : (tells via).sent ≡ (tells link).sent)
     (quiet : (tells via).troubles.faults ≡ (tells link).troubles.faults) where
   -- turns were made
-  has-run : ServesOn facts whole gave tells via then_link clock then_clock fresh new f h
-      → HasRun facts whole gave tells new.made link then_link clock then_clock f h
-  has-run on = record {
-    endpoint = new.endpoint;
+  has-turned : ServesOn facts whole gave tells via then_link clock then_clock fresh new f h
+      → HasTurned facts whole gave (tells link).sent (tells then_link).sent clock then_clock f h
+      new.made new.endpoint
+  has-turned on = record {
     noted = on.runs.goes.noted;
     grew = on.runs.goes.grew;
     stands = on.runs.goes.goes_on [] stands;
-    sent = on.runs.sends [] stands
+    sends = on.runs.sends [] stands
         ∙ ap (option_map (λ ds. ds ++ sent_of on.runs.goes.noted)) unsent;
     times = on.runs.times;
     count = let many = on.runs.count in omega (arith, many, on.made, none);
@@ -126,10 +126,10 @@ module _ {R L C : Type 0} (facts : R → Option (List Fact)) (whole : R → Bool
       → ServesOn facts whole gave tells via then_link clock then_clock fresh new f h
       → HasServedAll facts whole gave tells turns link then_link clock then_clock f h
       (turns_line new.turns new.endpoint.timed.lists.counts)
-  unfolding has-run
   served-all all still on = record {
-    run = subst (λ n. HasRun facts whole gave tells n link then_link clock then_clock f h)
-        (all ∙ on.turns ∙ few) (has-run on);
+    endpoint = new.endpoint;
+    turned = subst (λ n. HasTurned facts whole gave (tells link).sent (tells then_link).sent clock
+        then_clock f h n new.endpoint) (all ∙ on.turns ∙ few) (has-turned on);
     quiet = still ∙ quiet;
     counts = ap (λ n. turns_line n new.endpoint.timed.lists.counts) (on.turns ∙ few);
   }
@@ -143,7 +143,7 @@ module _ {R L C : Type 0} (facts : R → Option (List Fact)) (whole : R → Bool
       old later read again
   ends-early old later read again most risen on written faults = (
     subst (λ n. HasRisen n (tells then_link).troubles.faults) quiet risen,
-    inr (new.made, omega (arith, most, on.turns, few), has-run on),
+    inr (new.made, new.endpoint, omega (arith, most, on.turns, few), has-turned on),
     written,
     faults,
   )

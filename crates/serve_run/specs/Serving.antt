@@ -1,19 +1,16 @@
 -- A run of a server.
-use Rattle.std.specs.Prelude.{◌≡◌, ℕ, ◌+◌, ◌≤◌, ◌==◌, ◌⊎◌, Bool, Option, List, [], ◌∷◌, ◌++◌}
-use Rattle.std.specs.Prelude.{length}
-use Rattle.std.specs.Prelude.{option_map, if◌then◌else◌, ⊤}
+use Rattle.std.specs.Prelude.{◌≡◌, ℕ, ◌+◌, ◌≤◌, ◌==◌, ◌⊎◌, Bool, Option, List, [], ◌∷◌}
+use Rattle.std.specs.Prelude.{if◌then◌else◌, ⊤}
 use Rattle.client_core.specs.declared.outcome.Done.{Done}
 use Rattle.count_line.specs.declared.word.Word.TheVariants as word
 use Rattle.count_line.specs.Line.{line_text}
 use Rattle.endpoint_loop.specs.declared.polling.Turn.{Turn}
-use Rattle.endpoint_loop.specs.Noting.{sent_of}
 use Rattle.endpoint_loop.specs.Polling.{LinkTells}
-use Rattle.plain_turns.specs.PlainTurns.{End, GivesAll, RunsOn, Stands, TakesTurn}
+use Rattle.plain_turns.specs.PlainTurns.{End, HasTurned, RunsOn, TakesTurn}
 use Rattle.rpc_base.specs.declared.fact.Fact.{Fact}
 use Rattle.rpc_laws.specs.declared.tables.Counted.{Counted}
 use Rattle.rpc_outside.specs.Faults.{HasRisen}
 use Rattle.rpc_outside.specs.Linking.{Carried}
-use Rattle.rpc_outside.specs.Recording.{Grew}
 use Rattle.rpc_outside.specs.Writing.{Broke, Wrote}
 use Rattle.run_status.specs.declared.going.Going.{Going}
 use Rattle.run_status.specs.declared.going.Going.TheVariants.{On, Over}
@@ -93,28 +90,15 @@ TurnsEnd status.LinkFault facts whole gave tells link then_link clock then_clock
     × ServesOn facts whole gave tells link then_link clock then_clock old new before later
 TurnsEnd _ facts whole gave tells link then_link clock then_clock old new before later = ⊥
 
--- what `serve` did in so many turns: the facts are a run of its node, node 0, with usual limits,
--- the link, where it tells that, sent just what they say was sent, and the clock gave a number for
--- each turn
-pub record HasRun {R L C : Type 0} (facts : R → Option (List Fact)) (whole : R → Bool)
-    (gave : C → List ℕ → Type 0) (tells : L → LinkTells) (made : ℕ) (link then_link : L)
-    (clock then_clock : C) (before later : R) : Type 0 where
-  pub endpoint : End
-  pub noted : List Fact
-  pub grew : Grew facts whole before later noted
-  pub stands : Stands noted endpoint
-  pub sent : (tells then_link).sent ≡ option_map (λ ds. ds ++ sent_of noted) (tells link).sent
-  pub times : List ℕ
-  pub count : length times ≡ made
-  pub ticks : GivesAll gave clock then_clock times
-
 -- all turns were made, the link didn't fail, and the line counts what happened
 pub record HasServedAll {R L C : Type 0} (facts : R → Option (List Fact)) (whole : R → Bool)
     (gave : C → List ℕ → Type 0) (tells : L → LinkTells) (turns : ℕ) (link then_link : L)
     (clock then_clock : C) (before later : R) (line : List ℕ) : Type 0 where
-  pub run : HasRun facts whole gave tells turns link then_link clock then_clock before later
+  pub endpoint : End
+  pub turned : HasTurned facts whole gave (tells link).sent (tells then_link).sent clock then_clock
+      before later turns endpoint
   pub quiet : (tells then_link).troubles.faults ≡ (tells link).troubles.faults
-  pub counts : line ≡ turns_line turns run.endpoint.timed.lists.counts
+  pub counts : line ≡ turns_line turns endpoint.timed.lists.counts
 
 -- no turn was made: nothing was noted or sent, and the clock gave no number
 pub record HasNotRun {R L C : Type 0} (tells : L → LinkTells) (link then_link : L)
@@ -129,8 +113,9 @@ abbrev pub StopsEarly : {R L C : Type 0} → (R → Option (List Fact)) → (R �
     → (clock then_clock : C) → (before later : R) → Type 0
 StopsEarly facts whole gave tells turns link then_link clock then_clock before later =
     HasNotRun tells link then_link clock then_clock before later
-    ⊎ ((made : ℕ) × (made ≤ turns)
-    × HasRun facts whole gave tells made link then_link clock then_clock before later)
+    ⊎ ((made : ℕ) × (endpoint : End) × (made ≤ turns)
+    × HasTurned facts whole gave (tells link).sent (tells then_link).sent clock then_clock before
+    later made endpoint)
 
 -- how `serve` ends: the line was written, or a front of it where the sink failed; or the link failed,
 -- or there was no memory to start, and nothing was written
