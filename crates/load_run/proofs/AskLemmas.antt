@@ -1,13 +1,21 @@
 -- Calls are asked, one after another.
-use Rattle.std.proofs.Common.{◌≡◌, ℕ, suc, ◌+◌, ◌<◌, Bool, Option, List, [], ◌++◌}
-use Rattle.std.proofs.Common.{refl, ◌∙◌, arith}
+use Rattle.std.proofs.Common.{◌≡◌, ◌⊎◌, inl, inr, ℕ, suc, ◌+◌, ◌<◌, ◌≤◌, Bool, false, Option, Some, None}
+use Rattle.std.proofs.Common.{List, [], ◌++◌, ltb, le-ltb, refl, sym, ◌∙◌, arith}
+use Rattle.std.specs.Prelude.{Err}
+use Rattle.endpoint_loop.specs.Asking.{IsAskedAs, refusal_of}
+use Rattle.endpoint_loop.specs.declared.asking.AskError.{AskError}
+use Rattle.endpoint_loop.specs.declared.asking.AskError.TheVariants.{NoMemory}
+use Rattle.endpoint_loop.specs.declared.asking.Refused.{Refused}
 use Rattle.endpoint_loop.specs.Noting.{Makes}
 use Rattle.endpoint_loop.specs.Seen.{asking}
 use Rattle.endpoint_loop.proofs.NotesLemmas.{makes-as, makes-join}
 use Rattle.load_plan.specs.Calls.{Calls, asked_bytes, room_of}
 use Rattle.load_run.specs.Loading.{AsksCalls, AsksNext, Keeps, LoadsSoFar, Passes, pending_in}
 use Rattle.load_run.proofs.PassLemmas.{passes-none, passes-then}
+use Rattle.message_buffer.specs.Buffer.{Buffer}
 use Rattle.rpc_base.specs.declared.fact.Fact.{Fact}
+use Rattle.rpc_base.specs.declared.state.SessionState.{SessionState}
+use Rattle.rpc_base.specs.declared.state.SessionState.TheVariants.{Connected}
 use Rattle.rpc_laws.specs.declared.tables.Timed.{Timed}
 use Rattle.rpc_laws.specs.Groups.{Asks}
 use Rattle.rpc_laws.specs.Steps.{Rel, Visits}
@@ -21,7 +29,7 @@ pub record AsksSome {R : Type 0} (facts : R → Option (List Fact)) (whole : R �
   pub asks : Makes facts whole (AsksCalls old.session old.ledger.plan old.asked many)
       old.endpoint.timed new.endpoint.timed before now
   pub keeps : Keeps old new
-  pub passes : Passes facts whole old.endpoint new.endpoint before now
+  pub passes : Passes facts whole old.endpoint new.endpoint before now old.asked new.asked
 
 module _ {R : Type 0} (facts : R → Option (List Fact)) (whole : R → Bool) where
   pub asks-none : (a : LoadsSoFar) (f : R) → AsksSome facts whole a a f f
@@ -34,7 +42,7 @@ module _ {R : Type 0} (facts : R → Option (List Fact)) (whole : R → Bool) wh
       step = λ asks. (refl, refl);
     };
     keeps = record { session = refl; ledger = refl; turns = refl; made = refl };
-    passes = passes-none facts whole a.endpoint a.endpoint f f refl refl;
+    passes = passes-none facts whole a.endpoint a.endpoint f f a.asked refl refl;
   }
 
   joins : (P : ℕ → Rel) (n : ℕ) (s m t : Timed) (x y : List Fact) → Visits P n s x m → P n m y t
@@ -56,7 +64,7 @@ module _ {R : Type 0} (facts : R → Option (List Fact)) (whole : R → Bool) wh
       → Makes facts whole (Asks b.session b.ledger.plan.req_type (asked_bytes b.ledger.plan b.asked)
       (room_of b.ledger.plan)) b.endpoint.timed c.endpoint.timed g h
       → pending_in b < 64 → Keeps b c → c.asked ≡ b.asked + 1 → Passes facts whole b.endpoint
-      c.endpoint g h
+      c.endpoint g h b.asked c.asked
       → AsksSome facts whole a c f h
   asks-more a b c f g h some one few keeps counted passes =
       let next : Makes facts whole (AsksNext b.session b.ledger.plan b.asked) b.endpoint.timed
@@ -84,5 +92,20 @@ module _ {R : Type 0} (facts : R → Option (List Fact)) (whole : R → Bool) wh
           turns = keeps.turns ∙ some.keeps.turns;
           made = keeps.made ∙ some.keeps.made;
         };
-        passes = passes-then facts whole a.endpoint b.endpoint c.endpoint f g h some.passes passes;
+        passes = passes-then facts whole a.endpoint b.endpoint c.endpoint f g h a.asked b.asked
+            c.asked some.passes passes;
       }
+
+-- a call that isn't too large is refused by a session that is Connected for want of memory alone
+pub wants-memory : (len next : ℕ) (req resp : Buffer) (state : SessionState) (r : Refused)
+    → IsAskedAs (refusal_of len state) next req resp (Err r) → len ≤ 1048576 → state ≡ Connected
+    → r.why ≡ NoMemory
+wants-memory len next req resp state r h few on =
+    let fits : ltb 1048576 len ≡ false = le-ltb 1048576 len few in
+    let free : refusal_of len state ≡ None = rw (fits, on) refl in
+    by (refusal_of len state) free h.2
+  where
+    by : (o : Option AskError) → o ≡ None → (o ≡ Some r.why) ⊎ ((r.why ≡ NoMemory) × (o ≡ None))
+        → r.why ≡ NoMemory
+    by o free (inl e) = let never : None ≡ Some r.why = sym free ∙ e in cc
+    by o free (inr h) = h.0

@@ -4,9 +4,10 @@ use Rattle.std.proofs.Common.{sym, ap, subst}
 use Rattle.std.proofs.Common.{◌∙◌, arith}
 use Rattle.std.specs.Prelude.{option_map}
 use Rattle.command_line.specs.Words.{LoadWords}
-use Rattle.endpoint_loop.specs.Noting.{sent_of}
+use Rattle.endpoint_loop.specs.Noting.{is_asked, sent_of}
 use Rattle.endpoint_loop.specs.Polling.{LinkTells}
 use Rattle.endpoint_loop.proofs.NotingLemmas.{sent-append}
+use Rattle.endpoint_loop.proofs.TurnLemmas.{many-append}
 use Rattle.load_plan.specs.Calls.{Calls}
 use Rattle.load_run.specs.declared.tally.Tally.{Tally}
 use Rattle.load_run.specs.Loading.{HasRun, Loads, LoadsOn, LoadsSoFar, NotesRun, Prints, StartsAs}
@@ -47,10 +48,21 @@ module _ {R L C : Type 0} (facts : R → Option (List Fact)) (whole : R → Bool
         over = λ on. let both : Over told ≡ On = sym e ∙ on in cc;
         plan = counts.plan ∙ starts.plan;
         turns = on.turns ∙ starts.turns;
-        noted = starts.noted ++ on.runs.goes.noted;
-        grew = grew-then facts whole before mid later starts.noted on.runs.goes.noted starts.grew
-            on.runs.goes.grew;
-        stands = on.runs.goes.goes_on starts.noted starts.stands;
+        turned = record {
+          noted = starts.noted ++ on.runs.goes.noted;
+          grew = grew-then facts whole before mid later starts.noted on.runs.goes.noted starts.grew
+              on.runs.goes.grew;
+          stands = on.runs.goes.goes_on starts.noted starts.stands;
+          sends = on.runs.sends starts.noted starts.stands
+              ∙ ap (option_map (λ ds. ds ++ sent_of on.runs.goes.noted)) sent
+              ∙ ap (λ x. option_map (λ ds. ds ++ x) (tells link).sent)
+              (sym (sent-append starts.noted on.runs.goes.noted
+              ∙ ap (λ x. x ++ sent_of on.runs.goes.noted) starts.sends));
+          times = on.runs.times;
+          count = let count = on.runs.count in let made = on.made in let none = starts.made in
+              omega arith;
+          ticks = on.runs.ticks;
+        };
         opens = (
           starts.peer,
           on.runs.goes.noted,
@@ -58,18 +70,14 @@ module _ {R L C : Type 0} (facts : R → Option (List Fact)) (whole : R → Bool
               ∙ ap (λ n. plain 0 (Opened n starts.peer LOAD_CREDITS)
               ∷ on.runs.goes.noted) (sym on.session),
         );
+        asked =
+            let more = on.asks starts.noted starts.stands in
+            let first = starts.asked in
+            let none = starts.none in
+            omega (arith, more, first, none, many-append is_asked starts.noted on.runs.goes.noted);
         tallies = subst (λ (c : Calls). Tallies c run.ledger.tally
             (starts.noted ++ on.runs.goes.noted)) (sym counts.plan)
             (counts.tally starts.noted opened);
-        sent = on.runs.sends starts.noted starts.stands
-            ∙ ap (option_map (λ ds. ds ++ sent_of on.runs.goes.noted)) sent
-            ∙ ap (λ x. option_map (λ ds. ds ++ x) (tells link).sent)
-            (sym (sent-append starts.noted on.runs.goes.noted
-            ∙ ap (λ x. x ++ sent_of on.runs.goes.noted) starts.sends));
-        times = on.runs.times;
-        count = let count = on.runs.count in let made = on.made in let none = starts.made in
-            omega arith;
-        ticks = on.runs.ticks;
         quiet = still ∙ quiet;
       }
 

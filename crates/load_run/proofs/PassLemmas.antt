@@ -1,11 +1,12 @@
--- Calls of an application: they send nothing and end no call, and an endpoint goes on by them.
+-- Calls of an application: they send nothing, end no call and ask one at most, and an endpoint goes
+-- on by them.
 use Rattle.std.proofs.Common.{◌≡◌, ℕ, Bool, true, false, cond, ltb, Option, Some, None, List, []}
 use Rattle.std.proofs.Common.{◌∷◌, ◌++◌}
 use Rattle.std.specs.Prelude.{◌==◌}
-use Rattle.std.proofs.Common.{length, refl, sym, ap₂, subst, ◌∙◌}
+use Rattle.std.proofs.Common.{◌+◌, ◌≤◌, add-zero, ap, ap₂, le-ltb, arith, length, refl, sym, subst, ◌∙◌}
 use Rattle.std.specs.List.{find}
 use Rattle.endpoint_loop.specs.Applying.{Leaves}
-use Rattle.endpoint_loop.specs.Noting.{Makes, is_end_event, sent_by, sent_of}
+use Rattle.endpoint_loop.specs.Noting.{Makes, asked_in, is_asked, is_end_event, sent_by, sent_of}
 use Rattle.endpoint_loop.specs.Running.{asks_of, told}
 use Rattle.endpoint_loop.specs.Seen.{asking}
 use Rattle.endpoint_loop.proofs.GivingLemmas.{staffed-still}
@@ -13,7 +14,8 @@ use Rattle.endpoint_loop.proofs.NotesLemmas.{ends-append, me-goes, no_asks}
 use Rattle.endpoint_loop.proofs.PollLemmas.{still-answers}
 use Rattle.endpoint_loop.proofs.StandingLemmas.{is_labour, me-more, none-ran}
 use Rattle.endpoint_loop.proofs.StandingLemmas.{none-worked, stands-more}
-use Rattle.endpoint_loop.proofs.StillLemmas.{AllStill, Stills, still-none}
+use Rattle.endpoint_loop.proofs.StillLemmas.{AllStill, Stills, still-by, still-none}
+use Rattle.endpoint_loop.proofs.TurnLemmas.{many-append, many-none}
 use Rattle.endpoint_loop.proofs.NotingLemmas.{sent-append}
 use Rattle.load_run.specs.Loading.{Passes}
 use Rattle.node_laws.specs.NodeRun.{Group, IsCredits, asks, connects, disconnects}
@@ -67,12 +69,10 @@ loud-sent (Sent peer owner k) first second h = cc
 loud-sent _ first second h = refl
 
 pub none-labour : (x : List Fact) → AllStill is_loud x → AllStill is_labour x
-none-labour [] all = tt
-none-labour (f ∷ x) all = (loud-labour f.event all.0, none-labour x all.1)
+none-labour = still-by is_loud is_labour loud-labour
 
 pub none-end : (x : List Fact) → AllStill is_loud x → AllStill is_end_event x
-none-end [] all = tt
-none-end (f ∷ x) all = (loud-end f.event all.0, none-end x all.1)
+none-end = still-by is_loud is_end_event loud-end
 
 pub none-sent : (x : List Fact) → AllStill is_loud x → sent_of x ≡ []
 none-sent [] all = refl
@@ -85,15 +85,18 @@ seen a e = told (jobs_in a.workers.dispatching) e.timed
 
 module _ {R : Type 0} (facts : R → Option (List Fact)) (whole : R → Bool) where
   -- what a call notes
-  unfoldable pub passes-of : (P : Rel) (a b : End) (f g : R) → Makes facts whole P a.timed b.timed f
-      g → ((s : Timed) (x : List Fact) (t : Timed) → P s x t → Group plain_serving.mode s x t)
-      → Stills is_loud P → Leaves a b → Passes facts whole a b f g
-  passes-of P a b f g makes group still leaves = record {
+  unfoldable pub passes-of : (P : Rel) (a b : End) (f g : R) (from to : ℕ)
+      → (makes : Makes facts whole P a.timed b.timed f g)
+      → ((s : Timed) (x : List Fact) (t : Timed) → P s x t → Group plain_serving.mode s x t)
+      → Stills is_loud P → to ≡ from + asked_in makes.noted → Leaves a b
+      → Passes facts whole a b f g from to
+  passes-of P a b f g from to makes group still asked leaves = record {
     goes = record {
       noted = makes.noted;
       grew = makes.grew;
       goes_on = goes;
     };
+    asks = asked;
     sends = none-sent makes.noted all;
     ends = still-none is_end_event makes.noted (none-end makes.noted all);
   }
@@ -126,16 +129,22 @@ module _ {R : Type 0} (facts : R → Option (List Fact)) (whole : R → Bool) wh
           s.runs.staffed)) in
           record { node = me ∙ s.node; runs = runs }
 
-  pub passes-none : (a b : End) (f g : R) → b ≡ a → g ≡ f → Passes facts whole a b f g
+  pub passes-none : (a b : End) (f g : R) (n : ℕ) → b ≡ a → g ≡ f → Passes facts whole a b f g n n
   unfolding goes-none
-  passes-none a b f g same still =
-      rw (same, still) (record { goes = goes-none facts whole a f; sends = refl; ends = refl })
+  passes-none a b f g n same still = rw (same, still) (record {
+    goes = goes-none facts whole a f;
+    asks = sym (add-zero n);
+    sends = refl;
+    ends = refl;
+  })
 
-  pub passes-then : (a b c : End) (f g h : R) → Passes facts whole a b f g
-      → Passes facts whole b c g h → Passes facts whole a c f h
+  pub passes-then : (a b c : End) (f g h : R) (l m n : ℕ) → Passes facts whole a b f g l m
+      → Passes facts whole b c g h m n → Passes facts whole a c f h l n
   unfolding goes-then
-  passes-then a b c f g h p q = record {
+  passes-then a b c f g h l m n p q = record {
     goes = goes-then facts whole a b c f g h p.goes q.goes;
+    asks = let one = p.asks in let two = q.asks in
+        omega (arith, one, two, many-append is_asked p.goes.noted q.goes.noted);
     sends = sent-append p.goes.noted q.goes.noted ∙ ap₂ (λ xs ys. xs ++ ys) p.sends q.sends;
     ends = ends-append p.goes.noted q.goes.noted ∙ ap₂ (λ xs ys. xs ++ ys) p.ends q.ends;
   }
@@ -159,55 +168,83 @@ ask-quiet session req_type ask room s x t h = rw h.facts (
   tt,
 )
 
-closed-if : (b c : Bool) (state : SessionState) (session calls : ℕ)
-    → is_loud (cond b (NcloseState session state) (cond c (NcloseBusy session calls)
-    (Closing session)))
-    ≡ false
-closed-if true c state session calls = refl
-closed-if false true state session calls = refl
-closed-if false false state session calls = refl
+-- a call that isn't too large is asked on a session that is Connected
+asks-one : (session req_type : ℕ) (ask : List ℕ) (room : ℕ) (s : Timed) (x : List Fact) (t : Timed)
+    → Asks session req_type ask room s x t → length ask ≤ 1048576
+    → state_of (find (is_client session) s.lists.clients) ≡ Connected → asked_in x ≡ 1
+asks-one session req_type ask room s x t h few on =
+    let fits : ltb 1048576 (length ask) ≡ false = le-ltb 1048576 (length ask) few in
+    rw h.facts (rw (fits, on) refl)
 
-pub close-quiet : (session : ℕ) → Stills is_loud (Disconnects session)
-close-quiet session s x t h = rw h.facts (closed-if _ _ _ _ _, tt)
+-- a test that is false of all that closing may note, and one for opening
+module _ (q : Event → Bool) (state : (n : ℕ) (s : SessionState) → q (NcloseState n s) ≡ false)
+    (busy : (n calls : ℕ) → q (NcloseBusy n calls) ≡ false)
+    (closing : (n : ℕ) → q (Closing n) ≡ false) where
+  closed-if : (b c : Bool) (s : SessionState) (session calls : ℕ)
+      → q (cond b (NcloseState session s) (cond c (NcloseBusy session calls) (Closing session)))
+      ≡ false
+  closed-if true c s session calls = state session s
+  closed-if false true s session calls = busy session calls
+  closed-if false false s session calls = closing session
 
-connected-if : (spent full : Bool) (n credits room peer rate : ℕ) (s : Lists)
-    → AllStill is_loud (connect_by (cond spent (Some NconnectNumbers)
-    (cond full (Some (NconnectRing n credits room)) None)) peer credits rate s)
-connected-if true full n credits room peer rate s = (refl, tt)
-connected-if false true n credits room peer rate s = (refl, tt)
-connected-if false false n credits room peer rate s = (refl, rated (rate == 0))
-  where
-    rated : (b : Bool)
-        → AllStill is_loud (cond b [] (plain s.me (Rated (length s.clients) rate) ∷ []))
-    rated true = tt
-    rated false = (refl, tt)
+  close-still : (session : ℕ) → Stills q (Disconnects session)
+  close-still session s x t h = rw h.facts (closed-if _ _ _ _ _, tt)
 
-pub connect-quiet : (peer credits rate : ℕ) → Stills is_loud (Connects peer credits rate)
-connect-quiet peer credits rate s x t h =
-    rw h.facts (connected-if (clients_spent s.lists) (has_no_room credits s.lists) (shares s.lists)
-    credits s.lists.room peer rate s.lists)
+module _ (q : Event → Bool) (numbers : q NconnectNumbers ≡ false)
+    (full : (n credits room : ℕ) → q (NconnectRing n credits room) ≡ false)
+    (opened : (n peer credits : ℕ) → q (Opened n peer credits) ≡ false)
+    (rated : (n rate : ℕ) → q (Rated n rate) ≡ false) where
+  connected-if : (b c : Bool) (n credits room peer rate : ℕ) (s : Lists)
+      → AllStill q (connect_by (cond b (Some NconnectNumbers)
+      (cond c (Some (NconnectRing n credits room)) None)) peer credits rate s)
+  connected-if true c n credits room peer rate s = (numbers, tt)
+  connected-if false true n credits room peer rate s = (full n credits room, tt)
+  connected-if false false n credits room peer rate s =
+      (opened (length s.clients) peer credits, paced (rate == 0))
+    where
+      paced : (b : Bool)
+          → AllStill q (cond b [] (plain s.me (Rated (length s.clients) rate) ∷ []))
+      paced true = tt
+      paced false = (rated (length s.clients) rate, tt)
+
+  connect-still : (peer credits rate : ℕ) → Stills q (Connects peer credits rate)
+  connect-still peer credits rate s x t h =
+      rw h.facts (connected-if (clients_spent s.lists) (has_no_room credits s.lists)
+      (shares s.lists) credits s.lists.room peer rate s.lists)
+
+-- where none is asked, as many were as before
+none-more : (n : ℕ) (x : List Fact) → AllStill is_asked x → n ≡ n + asked_in x
+none-more n x all = omega (arith, many-none is_asked x all)
 
 -- the recorder grew by the opening of a session alone
 pub record Opens {R : Type 0} (facts : R → Option (List Fact)) (whole : R → Bool)
     (peer credits : ℕ) (old new : End) (before now : R) : Type 0 where
-  pub passes : Passes facts whole old new before now
+  pub passes : Passes facts whole old new before now 0 0
   pub opens : passes.goes.noted
       ≡ plain new.timed.lists.me (Opened (length old.timed.lists.clients) peer credits) ∷ []
 
 module _ {R : Type 0} (facts : R → Option (List Fact)) (whole : R → Bool) (a b : End) (f g : R)
     (leaves : Leaves a b) where
-  pub asks-pass : (session req_type : ℕ) (ask : List ℕ) (room : ℕ)
+  pub asks-pass : (session req_type : ℕ) (ask : List ℕ) (room n : ℕ)
       → Makes facts whole (Asks session req_type ask room) a.timed b.timed f g
-      → Passes facts whole a b f g
-  asks-pass session req_type ask room makes =
-      passes-of facts whole (Asks session req_type ask room) a b f g makes
-      (λ s x t h. asks session req_type ask room h) (ask-quiet session req_type ask room) leaves
+      → length ask ≤ 1048576
+      → state_of (find (is_client session) a.timed.lists.clients) ≡ Connected
+      → Passes facts whole a b f g n (n + 1)
+  asks-pass session req_type ask room n makes few on =
+      passes-of facts whole (Asks session req_type ask room) a b f g n (n + 1) makes
+      (λ s x t h. asks session req_type ask room h) (ask-quiet session req_type ask room)
+      (ap (λ k. n + k) (sym (asks-one session req_type ask room (asking no_asks a.timed)
+      makes.noted (asking no_asks b.timed) (makes.step no_asks) few on))) leaves
 
-  pub close-passes : (session : ℕ) → Makes facts whole (Disconnects session) a.timed b.timed f g
-      → Passes facts whole a b f g
-  close-passes session makes =
-      passes-of facts whole (Disconnects session) a b f g makes
-      (λ s x t h. disconnects session h) (close-quiet session) leaves
+  pub close-passes : (session n : ℕ) → Makes facts whole (Disconnects session) a.timed b.timed f g
+      → Passes facts whole a b f g n n
+  close-passes session n makes =
+      passes-of facts whole (Disconnects session) a b f g n n makes
+      (λ s x t h. disconnects session h)
+      (close-still is_loud (λ n s. refl) (λ n c. refl) (λ n. refl) session)
+      (none-more n makes.noted (close-still is_asked (λ n s. refl) (λ n c. refl) (λ n. refl)
+      session (asking no_asks a.timed) makes.noted (asking no_asks b.timed) (makes.step no_asks)))
+      leaves
 
   -- a session is opened, at no rate
   pub connect-passes : (peer credits : ℕ) → IsCredits credits
@@ -215,8 +252,12 @@ module _ {R : Type 0} (facts : R → Option (List Fact)) (whole : R → Bool) (a
       → client_refusal credits a.timed.lists ≡ None → Opens facts whole peer credits a b f g
   unfolding passes-of
   connect-passes peer credits own makes free = record {
-    passes = passes-of facts whole (Connects peer credits 0) a b f g makes
-        (λ s x t h. connects peer credits 0 own h) (connect-quiet peer credits 0) leaves;
+    passes = passes-of facts whole (Connects peer credits 0) a b f g 0 0 makes
+        (λ s x t h. connects peer credits 0 own h)
+        (connect-still is_loud refl (λ n c r. refl) (λ n p c. refl) (λ n r. refl) peer credits 0)
+        (none-more 0 makes.noted (connect-still is_asked refl (λ n c r. refl) (λ n p c. refl)
+        (λ n r. refl) peer credits 0 (asking no_asks a.timed) makes.noted
+        (asking no_asks b.timed) (makes.step no_asks))) leaves;
     opens =
         let one = makes.step no_asks in
         let me : b.timed.lists.me ≡ a.timed.lists.me =

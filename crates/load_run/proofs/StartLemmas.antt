@@ -1,13 +1,12 @@
 -- A session is opened, or there is no memory.
 use Rattle.std.proofs.Common.{◌≡◌, ◌++◌, ℕ, Bool, Option, Some, None, List, [], refl, ap, ◌∙◌}
 use Rattle.std.proofs.Common.{inl, inr}
-use Rattle.std.specs.Prelude.{Result, Ok, Err, OnErr}
+use Rattle.std.specs.Prelude.{Result, Ok, Err}
 use Rattle.endpoint_loop.specs.Applying.{IfNoMemory}
 use Rattle.load_run.specs.declared.run.TheConstants.{LOAD_CREDITS}
 use Rattle.load_run.specs.Loading.{LoadsSoFar, NotesRun, StartsAs}
 use Rattle.command_line.specs.Words.{LoadWords}
 use Rattle.plain_turns.specs.PlainTurns.{GoesOnBy, usual_limits}
-use Rattle.rpc_base.specs.declared.event.Event.{Event}
 use Rattle.rpc_base.specs.declared.event.Event.TheVariants.{NconnectNumbers, NconnectRing}
 use Rattle.rpc_base.specs.declared.fact.Fact.{Fact}
 use Rattle.rpc_laws.specs.declared.tables.Timed.{Timed}

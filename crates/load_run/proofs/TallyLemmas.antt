@@ -1,5 +1,5 @@
 -- How the ends of calls are counted.
-use Rattle.std.proofs.Common.{◌≡◌, ◌≢◌, ◌⊎◌, inl, inr, ℕ, ◌+◌, Bool, true, false, not, cond, List}
+use Rattle.std.proofs.Common.{◌≡◌, ◌≢◌, ◌⊎◌, inl, inr, ℕ, ◌+◌, Bool, true, false, cond, List}
 use Rattle.std.proofs.Common.{[], ◌∷◌, ◌++◌}
 use Rattle.std.proofs.Common.{map, min, refl, sym, ap, subst, ◌∙◌, arith, append_assoc, append-nil}
 use Rattle.std.specs.List.{filter}
@@ -14,6 +14,7 @@ use Rattle.load_run.specs.declared.ledger.Ledger.{Ledger}
 use Rattle.load_run.specs.declared.tally.Ending.{Ending}
 use Rattle.load_run.specs.declared.tally.Ending.TheVariants.{Right, Small, Lost, Wrong}
 use Rattle.load_run.specs.Tallies.{Counts, Tallies, endings, ends_so, tally_at}
+use Rattle.rpc_base.proofs.BasicLemmas.{not-true}
 use Rattle.rpc_base.specs.declared.event.Event.{Event}
 use Rattle.rpc_base.specs.declared.event.Event.TheVariants.{DoneOk, DoneTooSmall, DonePeerLost}
 use Rattle.rpc_base.specs.declared.fact.Fact.{Fact}
@@ -25,10 +26,6 @@ same-or Small Small = inl refl
 same-or Lost Lost = inl refl
 same-or Wrong Wrong = inl refl
 same-or _ _ = inr (λ e. cc)
-
-not-true : (r : Bool) → not r ≡ true → r ≡ false
-not-true true h = cc
-not-true false h = refl
 
 -- a call ends in one way alone
 only-one : (c : Calls) (call : ℕ) (outcome : Outcome) (bytes : List ℕ) (a b : Ending) → a ≢ b

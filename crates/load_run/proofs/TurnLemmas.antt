@@ -5,10 +5,11 @@ use Rattle.std.proofs.Common.{append-nil}
 use Rattle.std.proofs.Common.{add-zero}
 use Rattle.std.specs.Prelude.{option_map, Result, Ok, Err, OnOk, OnErr}
 use Rattle.client_core.specs.Shown.{done_fact}
-use Rattle.endpoint_loop.specs.Noting.{sent_of}
+use Rattle.endpoint_loop.specs.Noting.{is_asked, sent_of}
 use Rattle.endpoint_loop.specs.declared.polling.Turn.{Turn}
 use Rattle.endpoint_loop.specs.Polling.{LinkTells}
 use Rattle.endpoint_loop.proofs.NotingLemmas.{sent-append, took-none}
+use Rattle.endpoint_loop.proofs.TurnLemmas.{many-append}
 use Rattle.load_run.specs.declared.ended.Ended.{Ended}
 use Rattle.load_run.specs.declared.ledger.Ledger.{Ledger}
 use Rattle.load_run.specs.Loading.{HasLoaded, Keeps, LoadsOn, LoadsSoFar, Passes, Prepares}
@@ -39,15 +40,15 @@ module _ {R C : Type 0} (facts : R → Option (List Fact)) (whole : R → Bool)
   -- one turn: it is prepared, and the endpoint makes one
   pub loads-one : (sent then_sent : Option (List Carried)) (clock then_clock : C)
       (old ready new : LoadsSoFar) (f g h : R) (none ended : Ended) (now : ℕ)
-      → Passes facts whole old.endpoint ready.endpoint f g
+      → Passes facts whole old.endpoint ready.endpoint f g old.asked ready.asked
       → TellsTurn facts whole KeepsAll sent then_sent ready.endpoint new.endpoint g h none ended
       → Gives gave clock then_clock now → KeepsAll none [] → ended.whole ≡ true
       → Counts (map (done_fact 0) ended.dones.items) ready.ledger new.ledger → Keeps old ready
-      → new.session ≡ ready.session → new.turns ≡ ready.turns → new.made ≡ ready.made + 1
+      → new.asked ≡ ready.asked → new.session ≡ ready.session → new.turns ≡ ready.turns → new.made ≡ ready.made + 1
       → LoadsOn facts whole gave sent then_sent clock then_clock old new f h 1
   unfolding goes-then
   loads-one sent then_sent clock then_clock old ready new f g h none ended now passes turn tick
-      empty kept counts keeps session turns made = record {
+      empty kept counts keeps asked session turns made = record {
         runs = record {
           goes = goes-then facts whole old.endpoint ready.endpoint new.endpoint f g h passes.goes
               turn.goes;
@@ -60,6 +61,11 @@ module _ {R C : Type 0} (facts : R → Option (List Fact)) (whole : R → Bool)
           count = refl;
           ticks = tick;
         };
+        asks = λ past s.
+            let told = turn.told (past ++ passes.goes.noted) (passes.goes.goes_on past s) in
+            let none = told.asks in
+            let some = passes.asks in
+            omega (arith, asked, some, none, many-append is_asked passes.goes.noted turn.goes.noted);
         counts = λ past s.
             let told = turn.told (past ++ passes.goes.noted) (passes.goes.goes_on past s) in
             counts-then passes.goes.noted turn.goes.noted old.ledger old.ledger new.ledger
@@ -83,6 +89,7 @@ module _ {R C : Type 0} (facts : R → Option (List Fact)) (whole : R → Bool)
       count = refl;
       ticks = λ before h. subst (gave clock) (sym (append-nil before)) h;
     };
+    asks = λ past s. sym (add-zero run.asked);
     counts = λ past s. counts-none run.ledger;
     session = refl;
     turns = refl;
@@ -98,6 +105,10 @@ module _ {R C : Type 0} (facts : R → Option (List Fact)) (whole : R → Bool)
   loads-then sent mid then_sent clock via then_clock a b c f g h n m p q = record {
     runs = runs-then facts whole gave sent mid then_sent clock via then_clock a.endpoint b.endpoint
         c.endpoint f g h n m p.runs q.runs;
+    asks = λ past s.
+        let one = p.asks past s in
+        let two = q.asks (past ++ p.runs.goes.noted) (p.runs.goes.goes_on past s) in
+        omega (arith, one, two, many-append is_asked p.runs.goes.noted q.runs.goes.noted);
     counts = λ past s.
         counts-then p.runs.goes.noted q.runs.goes.noted a.ledger b.ledger c.ledger
         (p.counts past s) (q.counts (past ++ p.runs.goes.noted) (p.runs.goes.goes_on past s));
@@ -145,7 +156,8 @@ module _ {R L C : Type 0} (facts : R → Option (List Fact)) (whole : R → Bool
     then_is = ap after same;
   }
 
-  pub loads-turn : (now : ℕ) → Passes facts whole old.endpoint ready.endpoint before mid
+  pub loads-turn : (now : ℕ)
+      → Passes facts whole old.endpoint ready.endpoint before mid old.asked ready.asked
       → TellsTurn facts whole KeepsAll (tells link).sent (tells then_link).sent shown.endpoint next
       mid later none ended
       → Gives gave clock then_clock now → ended.whole ≡ true
@@ -161,7 +173,7 @@ module _ {R L C : Type 0} (facts : R → Option (List Fact)) (whole : R → Bool
       (subst (λ (s : LoadsSoFar). TellsTurn facts whole KeepsAll (tells link).sent
       (tells then_link).sent s.endpoint next mid later none ended) same turn) tick empty kept
       (subst (λ (s : LoadsSoFar). Counts (map (done_fact 0) ended.dones.items) s.ledger counted)
-      same counts) keeps refl refl refl)
+      same counts) keeps refl refl refl refl)
 
 -- what holds holds unless something is wanting or failed
 pub unless-wanting : (going : Going) (P : Type 0) → P → UnlessNoMemory going P

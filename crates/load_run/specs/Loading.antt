@@ -1,21 +1,23 @@
 -- A run of a client.
 use Rattle.std.specs.Prelude.{◌≡◌, ◌≢◌, ℕ, ◌+◌, ◌-◌, ◌<◌, ◌≤◌, ◌==◌, ◌&&◌, ◌⊎◌, Bool, true, false}
 use Rattle.std.specs.Prelude.{Option}
-use Rattle.std.specs.Prelude.{if◌then◌else◌, List, [], ◌∷◌, ◌++◌, length, map, option_map}
+use Rattle.std.specs.Prelude.{if◌then◌else◌, List, [], ◌∷◌, map}
 use Rattle.std.specs.List.{filter, find}
 use Rattle.client_core.specs.Shown.{done_fact}
 use Rattle.count_line.specs.declared.word.Word.TheVariants as word
 use Rattle.count_line.specs.Line.{line_text}
 use Rattle.endpoint_loop.specs.declared.polling.Turn.{Turn}
-use Rattle.endpoint_loop.specs.Noting.{Makes, is_end, sent_of}
+use Rattle.endpoint_loop.specs.Noting.{Makes, asked_in, is_end, sent_of}
 use Rattle.endpoint_loop.specs.Polling.{LinkTells}
 use Rattle.endpoint_loop.specs.Reading.{pending_told}
 use Rattle.command_line.specs.Words.{LoadWords}
 use Rattle.load_plan.specs.Calls.{Calls, asked_bytes, calls_of, room_of}
+use Rattle.message_buffer.specs.Buffer.{Buffer, bytes_of, capacity_of}
+use Rattle.rpc_base.specs.declared.limits.TheConstants.{MOST_MESSAGE_BYTES}
 use Rattle.load_run.specs.declared.ended.Ended.{Ended}
 use Rattle.load_run.specs.declared.ledger.Ledger.{Ledger}
 use Rattle.load_run.specs.Tallies.{Counts, KeepsAll, Tallies}
-use Rattle.plain_turns.specs.PlainTurns.{End, GivesAll, GoesOnBy, RunsOn, Stands, TakesTurn}
+use Rattle.plain_turns.specs.PlainTurns.{End, GoesOnBy, HasTurned, RunsOn, Stands, TakesTurn}
 use Rattle.load_run.specs.declared.run.TheConstants.{LOAD_CREDITS}
 use Rattle.rpc_base.specs.declared.event.Event.TheVariants.{Opened}
 use Rattle.rpc_base.specs.declared.fact.Fact.{Fact}
@@ -56,6 +58,12 @@ pending_in s = pending_told (find (is_client s.session) s.endpoint.timed.lists.c
 abbrev pub unasked : LoadsSoFar → ℕ
 unasked s = s.ledger.plan.calls - s.asked
 
+-- the buffers that a call is asked with: its bytes, which are not too many, and room for its answer
+pub record AreBuffersOf (c : Calls) (call : ℕ) (req resp : Buffer) : Type 0 where
+  pub asks : bytes_of req ≡ asked_bytes c call
+  pub len : req.len ≤ MOST_MESSAGE_BYTES
+  pub room : capacity_of resp ≡ room_of c
+
 -- only its endpoint changed, and how many calls were asked
 pub record Keeps (old new : LoadsSoFar) : Type 0 where
   pub session : new.session ≡ old.session
@@ -73,15 +81,15 @@ pub record AsksNext (session : ℕ) (c : Calls) (k : ℕ) (s : Timed) (x : List 
 abbrev pub AsksCalls : (session : ℕ) → Calls → (first n : ℕ) → Rel
 AsksCalls session c first n = Visits (λ k. AsksNext session c (first + k)) n
 
--- nothing is asked where the session isn't Connected. Where it is, calls are asked in their order,
--- until 64 are pending or all are asked
+-- calls are asked in their order, while the session is Connected, until 64 are pending or all are
+-- asked
 pub record AsksMany {R : Type 0} (facts : R → Option (List Fact)) (whole : R → Bool)
     (old new : LoadsSoFar) (before now : R) : Type 0 where
   pub many : ℕ
   pub asked : new.asked ≡ old.asked + many
   pub asks : Makes facts whole (AsksCalls old.session old.ledger.plan old.asked many)
       old.endpoint.timed new.endpoint.timed before now
-  pub enough : (unasked new ≡ 0) ⊎ (64 ≤ pending_in new)
+  pub enough : state_in new ≡ Connected → (unasked new ≡ 0) ⊎ (64 ≤ pending_in new)
   pub keeps : Keeps old new
 
 -- its session begins to close where no call is pending, and otherwise nothing happens
@@ -106,10 +114,12 @@ abbrev pub Prepares : {R : Type 0} → (R → Option (List Fact)) → (R → Boo
 Prepares facts whole old new before now =
     PreparesIn (state_in old) facts whole old new before now
 
--- the recorder grew by facts by which its endpoint goes on, that send nothing and end no call
+-- the recorder grew by facts by which its endpoint goes on, that send nothing, end no call, and ask
+-- as many calls as are counted
 pub record Passes {R : Type 0} (facts : R → Option (List Fact)) (whole : R → Bool) (old new : End)
-    (before now : R) : Type 0 where
+    (before now : R) (from to : ℕ) : Type 0 where
   pub goes : GoesOnBy facts whole old new before now
+  pub asks : to ≡ from + asked_in goes.noted
   pub sends : sent_of goes.noted ≡ []
   pub ends : filter is_end goes.noted ≡ []
 
@@ -134,13 +144,15 @@ pub record HasLoaded {R L C : Type 0} (facts : R → Option (List Fact)) (whole 
   pub then_is : new
       ≡ record ready { endpoint = new.endpoint; ledger = new.ledger; made = ready.made + 1 }
 
--- n turns were made: its endpoint goes on by what was noted, and the ends of calls among that were
--- counted
+-- n turns were made: its endpoint goes on by what was noted, and the calls that were asked and those
+-- that ended among that were counted
 pub record LoadsOn {R C : Type 0} (facts : R → Option (List Fact)) (whole : R → Bool)
     (gave : C → List ℕ → Type 0) (sent then_sent : Option (List Carried)) (clock then_clock : C)
     (old new : LoadsSoFar) (before later : R) (n : ℕ) : Type 0 where
   pub runs : RunsOn facts whole gave sent then_sent clock then_clock old.endpoint new.endpoint
       before later n
+  pub asks : (past : List Fact) → Stands past old.endpoint
+      → new.asked ≡ old.asked + asked_in runs.goes.noted
   pub counts : (past : List Fact) → Stands past old.endpoint
       → Counts runs.goes.noted old.ledger new.ledger
   pub session : new.session ≡ old.session
@@ -210,6 +222,7 @@ pub record StartsAs {R : Type 0} (facts : R → Option (List Fact)) (whole : R �
   pub stands : Stands noted s.endpoint
   pub sends : sent_of noted ≡ []
   pub ends : filter is_end noted ≡ []
+  pub none : asked_in noted ≡ 0
   pub plan : s.ledger.plan ≡ calls_of words
   pub tally : s.ledger.tally ≡ record { ok = 0; small = 0; lost = 0; wrong = 0 }
   pub asked : s.asked ≡ 0
@@ -234,26 +247,21 @@ TurnsEnd told facts whole gave tells link then_link clock then_clock old new bef
     × LoadsOn facts whole gave (tells link).sent (tells then_link).sent clock then_clock old new
     before later many
 
--- what `load` did once its run was over: the facts are a run of its node, node 0, with usual
--- limits, which opened the session first; the link, where it tells that, sent just what they say
--- was sent, the clock gave a number for each turn, and the tally counts the ends of calls among
--- them
+-- what `load` did once its run was over: it made its turns, in which the session was opened first;
+-- the calls that were asked and how calls ended are counts of what was noted, and the link didn't
+-- fail
 pub record HasRun {R L C : Type 0} (facts : R → Option (List Fact)) (whole : R → Bool)
     (gave : C → List ℕ → Type 0) (tells : L → LinkTells) (words : LoadWords) (link then_link : L)
     (clock then_clock : C) (before later : R) (run : LoadsSoFar) : Type 0 where
   pub over : going_at run ≢ On
   pub plan : run.ledger.plan ≡ calls_of words
   pub turns : run.turns ≡ words.turns
-  pub noted : List Fact
-  pub grew : Grew facts whole before later noted
-  pub stands : Stands noted run.endpoint
+  pub turned : HasTurned facts whole gave (tells link).sent (tells then_link).sent clock then_clock
+      before later run.made run.endpoint
   pub opens : (peer : ℕ) × (rest : List Fact)
-      × (noted ≡ plain 0 (Opened run.session peer LOAD_CREDITS) ∷ rest)
-  pub tallies : Tallies run.ledger.plan run.ledger.tally noted
-  pub sent : (tells then_link).sent ≡ option_map (λ ds. ds ++ sent_of noted) (tells link).sent
-  pub times : List ℕ
-  pub count : length times ≡ run.made
-  pub ticks : GivesAll gave clock then_clock times
+      × (turned.noted ≡ plain 0 (Opened run.session peer LOAD_CREDITS) ∷ rest)
+  pub asked : run.asked ≡ asked_in turned.noted
+  pub tallies : Tallies run.ledger.plan run.ledger.tally turned.noted
   pub quiet : (tells then_link).troubles.faults ≡ (tells link).troubles.faults
 
 -- the facts that were noted are a run of node 0 with usual limits

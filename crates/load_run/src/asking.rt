@@ -1,9 +1,11 @@
 //! Calls are asked before a turn, and the session is closed once all are over.
-ghost use Rattle.std.specs.Prelude.{◌≡◌, ◌+◌, ◌<◌, OnOk};
+ghost use Rattle.std.specs.Prelude.{◌≡◌, ◌+◌, ◌<◌, OnErr, OnOk};
 ghost use Rattle.endpoint_loop.specs.Noting.{Makes};
 ghost use Rattle.load_plan.specs.Calls.{asked_bytes, room_of};
-ghost use Rattle.load_run.specs.Loading.{AsksMany, ClosesIdle, Keeps, Passes, Prepares, unasked};
+ghost use Rattle.load_run.specs.Loading.{AsksMany, ClosesIdle, Keeps, Passes, Prepares, state_in};
+ghost use Rattle.load_run.specs.Loading.{unasked};
 ghost use Rattle.plain_turns.specs.PlainTurns.{GoesOnBy};
+ghost use Rattle.rpc_base.specs.declared.state.SessionState.TheVariants.{Connected};
 ghost use Rattle.rpc_laws.specs.Groups.{Asks};
 
 use crate::run::LoadRun;
@@ -15,15 +17,17 @@ use std::sync::Wait;
 const MOST_PENDING: u64 = 64;
 
 impl<H: Wait> LoadRun<H> {
-    // Asks the next call. NoMemory comes only where there is none for it.
+    // Asks the next call. NoMemory comes only where there is none for it, and then nothing happened.
     fn ask_next<R: Recorder>(&mut self, rec: &mut R) -> Result<(), NoMemory>
         requires left { 0 < unasked self.old }
+        requires connected { state_in self.old ≡ Connected }
         ensures asks { OnOk result (Makes R.facts R.whole (Asks self.old.session
             self.old.ledger.plan.req_type (asked_bytes self.old.ledger.plan self.old.asked)
             (room_of self.old.ledger.plan)) self.old.endpoint.timed self.new.endpoint.timed
             rec.old rec.new) }
         ensures passes { OnOk result (Passes R.facts R.whole self.old.endpoint self.new.endpoint
-            rec.old rec.new) }
+            rec.old rec.new self.old.asked self.new.asked) }
+        ensures wanting { OnErr result ((self.new ≡ self.old) × (rec.new ≡ rec.old)) }
         ensures counted { OnOk result (self.new.asked ≡ self.old.asked + 1) }
         ensures keeps { Keeps self.old self.new }
         ensures goes_on { GoesOnBy R.facts R.whole self.old.endpoint self.new.endpoint rec.old
@@ -31,7 +35,7 @@ impl<H: Wait> LoadRun<H> {
     {
         let tag = u64::from(self.asked);
         let req_type = self.ledger.plan.req_type;
-        let (req, resp) = self.ledger.buffers(self.alloc, tag)?;
+        let (req, resp) = self.ledger.buffers(self.alloc, &mut self.spare, tag)?;
         match self
             .endpoint
             .ask(self.session, req_type, req, resp, tag, rec)
@@ -40,20 +44,24 @@ impl<H: Wait> LoadRun<H> {
                 self.asked += 1;
                 Ok(())
             }
-            Err(_refused) => Err(NoMemory),
+            // The session is Connected, and the request not too large.
+            Err(_wanting) => Err(NoMemory),
         }
     }
 
-    // Asks calls until 64 are pending or all are asked.
+    // Asks calls while the session is Connected, until 64 are pending or all are asked.
     fn ask_many<R: Recorder>(&mut self, rec: &mut R) -> Result<(), NoMemory>
         ensures asks { OnOk result (AsksMany R.facts R.whole self.old self.new rec.old rec.new) }
         ensures passes { OnOk result (Passes R.facts R.whole self.old.endpoint self.new.endpoint
-            rec.old rec.new) }
+            rec.old rec.new self.old.asked self.new.asked) }
         ensures keeps { Keeps self.old self.new }
         ensures goes_on { GoesOnBy R.facts R.whole self.old.endpoint self.new.endpoint rec.old
             rec.new }
     {
-        'calls: while self.unasked() > 0 && self.pending() < MOST_PENDING {
+        'calls: while self.state() == SessionState::Connected
+            && self.unasked() > 0
+            && self.pending() < MOST_PENDING
+        {
             self.ask_next(rec)?;
         }
         Ok(())
@@ -65,7 +73,7 @@ impl<H: Wait> LoadRun<H> {
         ensures asked { self.new.asked ≡ self.old.asked }
         ensures keeps { Keeps self.old self.new }
         ensures passes { Passes R.facts R.whole self.old.endpoint self.new.endpoint rec.old
-            rec.new }
+            rec.new self.old.asked self.new.asked }
     {
         if self.pending() == 0 {
             // Nothing is pending: it isn't refused.
@@ -80,7 +88,7 @@ impl<H: Wait> LoadRun<H> {
         ensures prepares { OnOk result (Prepares R.facts R.whole self.old self.new rec.old
             rec.new) }
         ensures passes { OnOk result (Passes R.facts R.whole self.old.endpoint self.new.endpoint
-            rec.old rec.new) }
+            rec.old rec.new self.old.asked self.new.asked) }
         ensures keeps { Keeps self.old self.new }
         ensures goes_on { GoesOnBy R.facts R.whole self.old.endpoint self.new.endpoint rec.old
             rec.new }

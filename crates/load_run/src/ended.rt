@@ -4,6 +4,7 @@ ghost use Rattle.load_run.specs.Tallies.{KeepsAll};
 
 use client_core::Done;
 use endpoint_loop::Continuation;
+use message_buffer::MsgBuf;
 use std::alloc::Global;
 
 /// The calls that were over in a turn, in the order of their ends.
@@ -22,6 +23,15 @@ impl Ended {
         Ended {
             dones: Vec::new(alloc),
             whole: true,
+        }
+    }
+
+    /// The buffers of these calls are kept for further ones, as long as there is memory to.
+    pub(crate) fn keep_buffers(self, spare: &mut Vec<(MsgBuf, MsgBuf)>) {
+        'calls: for done in self.dones {
+            if spare.push((done.req, done.resp)).is_err() {
+                return;
+            }
         }
     }
 }

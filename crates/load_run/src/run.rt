@@ -15,6 +15,7 @@ use crate::tally::Tally;
 use command_line::LoadSpec;
 use count_line::{Count, Word, write_counts};
 use load_plan::Plan;
+use message_buffer::MsgBuf;
 use plain_turns::{PlainEndpoint, let_go, plain_endpoint, take_turn};
 use rpc_base::{SessionNo, SessionState};
 use rpc_outside::{Clock, Link, Recorder, Sink};
@@ -36,6 +37,8 @@ pub struct LoadRun<H: Wait> {
     pub(crate) session: SessionNo,
     pub(crate) ledger: Ledger,
     pub(crate) asked: u32,
+    // The buffers of calls that are over.
+    pub(crate) spare: Vec<(MsgBuf, MsgBuf)>,
     turns: u32,
     made: u32,
 }
@@ -150,6 +153,7 @@ impl<H: Wait + Drop> LoadRun<H> {
                 tally: Tally::new(),
             },
             asked: 0,
+            spare: Vec::new(alloc),
             turns: spec.turns,
             made: 0,
         })
@@ -186,7 +190,7 @@ impl<H: Wait + Drop> LoadRun<H> {
         let mut ended = Ended::new(self.alloc);
         let turned = take_turn(&mut self.endpoint, link, clock, &mut ended, rec);
         self.made += 1;
-        match (turned, self.ledger.count(&ended)) {
+        match (turned, self.ledger.count(ended, &mut self.spare)) {
             (Err(_), _) => Going::Over(Status::LinkFault),
             (Ok(_), Err(_)) => Going::Over(Status::NoMemory),
             (Ok(_), Ok(())) => self.going(),

@@ -1,25 +1,50 @@
--- a call is asked
-use Rattle.std.proofs.Common.{ap, subst}
-use Rattle.load_run.specs.Loading.{LoadsSoFar, Passes}
-use Rattle.load_run.proofs.PassLemmas.{asks-pass}
-use Rattle.plain_turns.proofs.RunLemmas.{goes-by}
-use Rattle.plain_turns.specs.PlainTurns.{End, GoesOnBy}
+-- a call is asked, or there is no memory and nothing happens
+use Rattle.std.proofs.Common.{◌≡◌, ◌+◌, ◌∙◌, ap, arith, refl, subst, sym}
+use Rattle.std.proofs.lemmas.List.{length-take}
+use Rattle.load_run.specs.Loading.{LoadsSoFar, Passes, state_in}
+use Rattle.load_run.proofs.AskLemmas.{wants-memory}
+use Rattle.load_run.proofs.PassLemmas.{asks-pass, passes-none}
+use Rattle.plain_turns.specs.PlainTurns.{End}
+use Rattle.rpc_base.specs.declared.state.SessionState.TheVariants.{Connected}
 use Rattle.load_run.proofs.run.LoadRun.ask_next.Goals as goal
 
 pub returns-in-Ok-clause-passes : goal.returns-in-Ok-clause-passes
 returns-in-Ok-clause-passes g c =
     subst (λ (s : LoadsSoFar). Passes g.R.Recorder.facts g.R.Recorder.whole s.endpoint
-    c.ask.new.self
-    c.args.rec.now c.ask.new.rec) c.self.view_is
-    (asks-pass g.R.Recorder.facts g.R.Recorder.whole _ _ _ _ c.in-Ok.ensures.leaves _ _ _ _
-    c.in-Ok.ensures.asks)
+    c.ask.new.self c.args.rec.now c.ask.new.rec s.asked (c.self.inside.asked + 1)) c.self.view_is
+    (asks-pass g.R.Recorder.facts g.R.Recorder.whole _ _ _ _ c.in-Ok.ensures.leaves _ _ _ _ _
+    c.in-Ok.ensures.asks
+    (omega (arith, length-take c.in_ok-req.req.len c.in_ok-req.req.store, c.in_ok-req.ensures.len))
+    (subst (λ (s : LoadsSoFar). state_in s ≡ Connected) (sym c.self.view_is) c.requires.connected))
 
 pub returns-in-Ok-clause-goes_on : goal.returns-in-Ok-clause-goes_on
 returns-in-Ok-clause-goes_on g c = (returns-in-Ok-clause-passes g c).goes
 
+pub returns-in-Err-clause-wanting : goal.returns-in-Err-clause-wanting
+returns-in-Err-clause-wanting g c =
+    let s = c.self.inside in
+    let why = wants-memory c.in_ok-req.req.len s.endpoint.timed.lists.asked _ _ _ _ c.in-Err.ensures.asked
+    c.in_ok-req.ensures.len
+    (subst (λ (s : LoadsSoFar). state_in s ≡ Connected) (sym c.self.view_is) c.requires.connected)
+    in (
+      ap (λ (e : End). record {
+        endpoint = e;
+        session = s.session;
+        ledger = s.ledger;
+        asked = s.asked;
+        turns = s.turns;
+        made = s.made;
+      }) c.in-Err.ensures.unchanged ∙ c.self.view_is,
+      c.in-Err.ensures.wanting why,
+    )
+
 pub returns-in-Err-clause-goes_on : goal.returns-in-Err-clause-goes_on
 returns-in-Err-clause-goes_on g c =
-    subst (λ (s : LoadsSoFar). GoesOnBy g.R.Recorder.facts g.R.Recorder.whole s.endpoint
-    c.ask.new.self c.args.rec.now c.ask.new.rec) c.self.view_is
-    (goes-by g.R.Recorder.facts g.R.Recorder.whole _ _ _ _
-    (ap (λ (e : End). e.timed.lists.me) c.in-Err.ensures.unchanged) c.ask.ensures.goes_on)
+    let same = returns-in-Err-clause-wanting g c in
+    (passes-none g.R.Recorder.facts g.R.Recorder.whole _ _ _ _ 0
+    (ap (λ (s : LoadsSoFar). s.endpoint) same.0) same.1).goes
+
+pub returns-in_err-req-clause-goes_on : goal.returns-in_err-req-clause-goes_on
+returns-in_err-req-clause-goes_on g c =
+    (passes-none g.R.Recorder.facts g.R.Recorder.whole _ _ _ _ 0
+    (ap (λ (s : LoadsSoFar). s.endpoint) c.self.view_is) refl).goes

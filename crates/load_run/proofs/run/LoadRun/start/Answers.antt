@@ -23,6 +23,7 @@ returns-clause-starts g c =
       stands = stands;
       sends = passes.sends;
       ends = passes.ends;
+      none = let asks = passes.asks in omega (arith, asks);
       plan = c.in-Ok-of.ensures;
       tally = c.new-2.ensures;
       asked = refl;

@@ -35,8 +35,8 @@ returns-in-Ok-Err-clause-goes_on g c =
     c.take_turn-turned.new.endpoint c.prepare.new.rec c.take_turn-turned.new.rec) c.self.view_is
     c.take_turn-turned.ensures.tells.goes)
 
-pub returns-clause-loads : goal.returns-clause-loads
-returns-clause-loads g c =
+pub returns-in-Ok-Ok-clause-loads : goal.returns-in-Ok-Ok-clause-loads
+returns-in-Ok-Ok-clause-loads g c =
     unless-wanting c.going.result _
     (has-loaded g.R.Recorder.facts g.R.Recorder.whole g.L.Link.received g.L.Link.waiting
     g.C.Clock.gave (λ l. record {
@@ -49,8 +49,8 @@ returns-clause-loads g c =
     c.self.view_is c.in-Ok.ensures.keeps c.new-ended.ensures (turn_of c.take_turn-turned.result)
     c.in-Ok.ensures.prepares c.take_turn-turned.ensures.takes (λ kept. c.in-Ok-Ok.ensures.counts))
 
-pub returns-clause-on : goal.returns-clause-on
-returns-clause-on g c =
+pub returns-in-Ok-Ok-clause-on : goal.returns-in-Ok-Ok-clause-on
+returns-in-Ok-Ok-clause-on g c =
     unless-failed c.going.result _
     (loads-turn g.R.Recorder.facts g.R.Recorder.whole g.L.Link.received g.L.Link.waiting
     g.C.Clock.gave (λ l. record {
@@ -64,8 +64,8 @@ returns-clause-on g c =
     c.take_turn-turned.ensures.takes.now c.in-Ok.ensures.passes c.take_turn-turned.ensures.tells
     c.take_turn-turned.ensures.takes.ticks c.in-Ok-Ok.ensures.whole c.in-Ok-Ok.ensures.counts)
 
-pub returns-clause-goes_on : goal.returns-clause-goes_on
-returns-clause-goes_on g c =
+pub returns-in-Ok-Ok-clause-goes_on : goal.returns-in-Ok-Ok-clause-goes_on
+returns-in-Ok-Ok-clause-goes_on g c =
     goes-then g.R.Recorder.facts g.R.Recorder.whole _ _ _ _ _ _ c.in-Ok.ensures.goes_on
     (subst (λ (s : LoadsSoFar). GoesOnBy g.R.Recorder.facts g.R.Recorder.whole s.endpoint
     c.take_turn-turned.new.endpoint c.prepare.new.rec c.take_turn-turned.new.rec) c.self.view_is
