@@ -44,8 +44,9 @@ pub struct LoadRun<H: Wait> {
 }
 
 impl<H: Wait> Model for LoadRun<H> {
-    ghost use Rattle.std.specs.Prelude.{◌≤◌};
+    ghost use Rattle.std.specs.Prelude.{◌≤◌, []};
     ghost use Rattle.load_run.specs.Loading.{LoadsSoFar};
+    ghost use Rattle.worker_crew.specs.Crews.{AreStarted};
 
     ghost Value = { LoadsSoFar };
 
@@ -58,7 +59,8 @@ impl<H: Wait> Model for LoadRun<H> {
       made = r.made;
     } };
 
-    ghost invariant = { λ r. (r.asked ≤ r.ledger.plan.calls) × (r.made ≤ r.turns) };
+    ghost invariant = { λ r. (r.asked ≤ r.ledger.plan.calls) × (r.made ≤ r.turns)
+        × AreStarted r.endpoint.workers [] };
 }
 
 impl<H: Wait> LoadRun<H> {

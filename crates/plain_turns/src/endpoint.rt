@@ -55,7 +55,11 @@ pub fn plain_endpoint<H: Wait + Drop, P: Spawner<Hand<PlainDuty>>>(
 }
 
 /// Lets an endpoint go whose crew has no hand out, with its sessions, its buffers and its jobs.
-pub fn let_go<H: Wait + Drop>(_endpoint: PlainEndpoint<H>) {}
+pub fn let_go<H: Wait + Drop>(endpoint: PlainEndpoint<H>)
+    requires alone { AreStarted endpoint.workers [] }
+{
+    let _gone = endpoint;
+}
 
 /// Stops the crew of an endpoint, whose hands the spawner has out, and lets both go. It may wait
 /// for the hands.
