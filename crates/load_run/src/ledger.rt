@@ -117,11 +117,7 @@ impl Ledger {
     /// Counts how the calls ended that are over, and keeps their buffers for further calls, as long
     /// as there is memory to. NoMemory comes exactly where there was none for one of the calls, and
     /// then none is counted.
-    pub fn count(
-        &mut self,
-        ended: Ended,
-        spare: &mut Vec<(MsgBuf, MsgBuf)>,
-    ) -> Result<(), NoMemory>
+    pub fn count(&mut self, ended: Ended, spare: &mut Vec<(MsgBuf, MsgBuf)>) -> Result<(), NoMemory>
         ensures counts { OnOk result (Counts (map (done_fact 0) ended.dones.items) self.old
             self.new) }
         ensures whole { OnOk result (ended.whole ≡ true) }
