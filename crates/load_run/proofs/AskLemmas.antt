@@ -29,7 +29,8 @@ pub record AsksSome {R : Type 0} (facts : R → Option (List Fact)) (whole : R �
   pub asks : Makes facts whole (AsksCalls old.session old.ledger.plan old.asked many)
       old.endpoint.timed new.endpoint.timed before now
   pub keeps : Keeps old new
-  pub passes : Passes facts whole old.endpoint new.endpoint before now old.asked new.asked
+  pub passes : Passes facts whole old.endpoint new.endpoint before now old.ledger.plan old.session
+      old.asked new.asked
 
 module _ {R : Type 0} (facts : R → Option (List Fact)) (whole : R → Bool) where
   pub asks-none : (a : LoadsSoFar) (f : R) → AsksSome facts whole a a f f
@@ -42,7 +43,8 @@ module _ {R : Type 0} (facts : R → Option (List Fact)) (whole : R → Bool) wh
       step = λ asks. (refl, refl);
     };
     keeps = record { session = refl; ledger = refl; turns = refl; made = refl };
-    passes = passes-none facts whole a.endpoint a.endpoint f f a.asked refl refl;
+    passes = passes-none facts whole a.endpoint a.endpoint f f a.ledger.plan a.session a.asked refl
+        refl;
   }
 
   joins : (P : ℕ → Rel) (n : ℕ) (s m t : Timed) (x y : List Fact) → Visits P n s x m → P n m y t
@@ -64,7 +66,7 @@ module _ {R : Type 0} (facts : R → Option (List Fact)) (whole : R → Bool) wh
       → Makes facts whole (Asks b.session b.ledger.plan.req_type (asked_bytes b.ledger.plan b.asked)
       (room_of b.ledger.plan)) b.endpoint.timed c.endpoint.timed g h
       → pending_in b < 64 → Keeps b c → c.asked ≡ b.asked + 1 → Passes facts whole b.endpoint
-      c.endpoint g h b.asked c.asked
+      c.endpoint g h b.ledger.plan b.session b.asked c.asked
       → AsksSome facts whole a c f h
   asks-more a b c f g h some one few keeps counted passes =
       let next : Makes facts whole (AsksNext b.session b.ledger.plan b.asked) b.endpoint.timed
@@ -92,8 +94,9 @@ module _ {R : Type 0} (facts : R → Option (List Fact)) (whole : R → Bool) wh
           turns = keeps.turns ∙ some.keeps.turns;
           made = keeps.made ∙ some.keeps.made;
         };
-        passes = passes-then facts whole a.endpoint b.endpoint c.endpoint f g h a.asked b.asked
-            c.asked some.passes passes;
+        passes = passes-then facts whole a.endpoint b.endpoint c.endpoint f g h a.ledger.plan
+            a.session a.asked b.asked c.asked some.passes
+            (rw (← some.keeps.session, ← some.keeps.ledger) passes);
       }
 
 -- a call that isn't too large is refused by a session that is Connected for want of memory alone

@@ -1,6 +1,7 @@
 mod AskLemmas
 mod EndLemmas
 mod LoadLemmas
+mod OrderLemmas
 mod PassLemmas
 mod TallyLemmas
 mod TurnLemmas

@@ -14,6 +14,7 @@ use Rattle.load_run.specs.Loading.{HasRun, Loads, LoadsOn, LoadsSoFar, NotesRun,
 use Rattle.load_run.specs.Loading.{TurnsEnd, going_at}
 use Rattle.load_run.specs.Tallies.{Tallies}
 use Rattle.load_run.proofs.EndLemmas.{end-known}
+use Rattle.load_run.proofs.OrderLemmas.{order-none, order-then}
 use Rattle.load_run.proofs.TallyLemmas.{counts-silent, tallies-none}
 use Rattle.load_run.specs.declared.run.TheConstants.{LOAD_CREDITS}
 use Rattle.rpc_base.specs.declared.event.Event.TheVariants.{Opened}
@@ -75,6 +76,12 @@ module _ {R L C : Type 0} (facts : R → Option (List Fact)) (whole : R → Bool
             let first = starts.asked in
             let none = starts.none in
             omega (arith, more, first, none, many-append is_asked starts.noted on.runs.goes.noted);
+        order =
+            let order = on.order starts.noted starts.stands (starts.asked ∙ sym starts.none) in
+            let none = starts.none in
+            order-then run.ledger.plan run.session 0 0 starts.noted on.runs.goes.noted
+            (omega (arith, none)) (order-none run.ledger.plan run.session 0 starts.noted starts.none)
+            (rw (← counts.plan, ← on.session, starts.asked) at order);
         tallies = subst (λ (c : Calls). Tallies c run.ledger.tally
             (starts.noted ++ on.runs.goes.noted)) (sym counts.plan)
             (counts.tally starts.noted opened);

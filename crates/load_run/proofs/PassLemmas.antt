@@ -17,10 +17,13 @@ use Rattle.endpoint_loop.proofs.StandingLemmas.{none-worked, stands-more}
 use Rattle.endpoint_loop.proofs.StillLemmas.{AllStill, Stills, still-by, still-none}
 use Rattle.endpoint_loop.proofs.TurnLemmas.{many-append, many-none}
 use Rattle.endpoint_loop.proofs.NotingLemmas.{sent-append}
-use Rattle.load_run.specs.Loading.{Passes}
+use Rattle.load_plan.specs.Calls.{Calls, asked_bytes, room_of}
+use Rattle.load_run.specs.Loading.{AsksInOrder, Passes, ask_noted}
+use Rattle.load_run.proofs.OrderLemmas.{asked-stands, order-none, order-then}
 use Rattle.node_laws.specs.NodeRun.{Group, IsCredits, asks, connects, disconnects}
 use Rattle.rpc_base.specs.declared.event.Event.{Event}
-use Rattle.rpc_base.specs.declared.event.Event.TheVariants.{DoneOk, DonePeerLost, DoneTooSmall}
+use Rattle.rpc_base.specs.declared.event.Event.TheVariants.{Asked, DoneOk, DonePeerLost}
+use Rattle.rpc_base.specs.declared.event.Event.TheVariants.{DoneTooSmall}
 use Rattle.rpc_base.specs.declared.event.Event.TheVariants.{NconnectNumbers, NconnectRing, Opened}
 use Rattle.rpc_base.specs.declared.event.Event.TheVariants.{Closing, NcloseBusy, NcloseState}
 use Rattle.rpc_base.specs.declared.event.Event.TheVariants.{Rated, Ran, Sent, Worked}
@@ -29,7 +32,7 @@ use Rattle.rpc_base.specs.declared.state.SessionState.{SessionState}
 use Rattle.rpc_base.specs.declared.state.SessionState.TheVariants.{Connected}
 use Rattle.rpc_laws.specs.declared.tables.Lists.{Lists}
 use Rattle.rpc_laws.specs.declared.tables.Timed.{Timed}
-use Rattle.rpc_laws.specs.Facts.{plain}
+use Rattle.rpc_laws.specs.Facts.{plain, with_bytes}
 use Rattle.rpc_laws.specs.Groups.{Asks, Connects, Disconnects, ask_by_state, client_refusal}
 use Rattle.rpc_laws.specs.Groups.{connect_by}
 use Rattle.rpc_laws.specs.Groups.{clients_spent, has_no_room, shares, state_of}
@@ -85,18 +88,21 @@ seen a e = told (jobs_in a.workers.dispatching) e.timed
 
 module _ {R : Type 0} (facts : R → Option (List Fact)) (whole : R → Bool) where
   -- what a call notes
-  unfoldable pub passes-of : (P : Rel) (a b : End) (f g : R) (from to : ℕ)
+  unfoldable pub passes-of : (P : Rel) (a b : End) (f g : R) (c : Calls) (session from to : ℕ)
       → (makes : Makes facts whole P a.timed b.timed f g)
       → ((s : Timed) (x : List Fact) (t : Timed) → P s x t → Group plain_serving.mode s x t)
-      → Stills is_loud P → to ≡ from + asked_in makes.noted → Leaves a b
-      → Passes facts whole a b f g from to
-  passes-of P a b f g from to makes group still asked leaves = record {
+      → Stills is_loud P → to ≡ from + asked_in makes.noted
+      → ((past : List Fact) → Stands past a → from ≡ asked_in past
+      → AsksInOrder c session from makes.noted) → Leaves a b
+      → Passes facts whole a b f g c session from to
+  passes-of P a b f g c session from to makes group still asked order leaves = record {
     goes = record {
       noted = makes.noted;
       grew = makes.grew;
       goes_on = goes;
     };
     asks = asked;
+    order = order;
     sends = none-sent makes.noted all;
     ends = still-none is_end_event makes.noted (none-end makes.noted all);
   }
@@ -129,22 +135,30 @@ module _ {R : Type 0} (facts : R → Option (List Fact)) (whole : R → Bool) wh
           s.runs.staffed)) in
           record { node = me ∙ s.node; runs = runs }
 
-  pub passes-none : (a b : End) (f g : R) (n : ℕ) → b ≡ a → g ≡ f → Passes facts whole a b f g n n
+  pub passes-none : (a b : End) (f g : R) (c : Calls) (session n : ℕ) → b ≡ a → g ≡ f
+      → Passes facts whole a b f g c session n n
   unfolding goes-none
-  passes-none a b f g n same still = rw (same, still) (record {
+  passes-none a b f g c session n same still = rw (same, still) (record {
     goes = goes-none facts whole a f;
     asks = sym (add-zero n);
+    order = λ past s e. order-none c session n [] refl;
     sends = refl;
     ends = refl;
   })
 
-  pub passes-then : (a b c : End) (f g h : R) (l m n : ℕ) → Passes facts whole a b f g l m
-      → Passes facts whole b c g h m n → Passes facts whole a c f h l n
+  pub passes-then : (a b c : End) (f g h : R) (plan : Calls) (session l m n : ℕ)
+      → Passes facts whole a b f g plan session l m → Passes facts whole b c g h plan session m n
+      → Passes facts whole a c f h plan session l n
   unfolding goes-then
-  passes-then a b c f g h l m n p q = record {
+  passes-then a b c f g h plan session l m n p q = record {
     goes = goes-then facts whole a b c f g h p.goes q.goes;
     asks = let one = p.asks in let two = q.asks in
         omega (arith, one, two, many-append is_asked p.goes.noted q.goes.noted);
+    order = λ past s e.
+        let one = p.asks in
+        order-then plan session l m p.goes.noted q.goes.noted one (p.order past s e)
+        (q.order (past ++ p.goes.noted) (p.goes.goes_on past s)
+        (omega (arith, one, e, many-append is_asked past p.goes.noted)));
     sends = sent-append p.goes.noted q.goes.noted ∙ ap₂ (λ xs ys. xs ++ ys) p.sends q.sends;
     ends = ends-append p.goes.noted q.goes.noted ∙ ap₂ (λ xs ys. xs ++ ys) p.ends q.ends;
   }
@@ -171,10 +185,11 @@ ask-quiet session req_type ask room s x t h = rw h.facts (
 -- a call that isn't too large is asked on a session that is Connected
 asks-one : (session req_type : ℕ) (ask : List ℕ) (room : ℕ) (s : Timed) (x : List Fact) (t : Timed)
     → Asks session req_type ask room s x t → length ask ≤ 1048576
-    → state_of (find (is_client session) s.lists.clients) ≡ Connected → asked_in x ≡ 1
+    → state_of (find (is_client session) s.lists.clients) ≡ Connected
+    → x ≡ with_bytes s.lists.me (Asked s.lists.asked session req_type room) ask ∷ []
 asks-one session req_type ask room s x t h few on =
     let fits : ltb 1048576 (length ask) ≡ false = le-ltb 1048576 (length ask) few in
-    rw h.facts (rw (fits, on) refl)
+    h.facts ∙ rw (fits, on) refl
 
 -- a test that is false of all that closing may note, and one for opening
 module _ (q : Event → Bool) (state : (n : ℕ) (s : SessionState) → q (NcloseState n s) ≡ false)
@@ -212,55 +227,69 @@ module _ (q : Event → Bool) (numbers : q NconnectNumbers ≡ false)
       rw h.facts (connected-if (clients_spent s.lists) (has_no_room credits s.lists)
       (shares s.lists) credits s.lists.room peer rate s.lists)
 
--- where none is asked, as many were as before
-none-more : (n : ℕ) (x : List Fact) → AllStill is_asked x → n ≡ n + asked_in x
-none-more n x all = omega (arith, many-none is_asked x all)
-
 -- the recorder grew by the opening of a session alone
 pub record Opens {R : Type 0} (facts : R → Option (List Fact)) (whole : R → Bool)
-    (peer credits : ℕ) (old new : End) (before now : R) : Type 0 where
-  pub passes : Passes facts whole old new before now 0 0
+    (peer credits : ℕ) (old new : End) (before now : R) (c : Calls) (session : ℕ) : Type 0 where
+  pub passes : Passes facts whole old new before now c session 0 0
   pub opens : passes.goes.noted
       ≡ plain new.timed.lists.me (Opened (length old.timed.lists.clients) peer credits) ∷ []
 
 module _ {R : Type 0} (facts : R → Option (List Fact)) (whole : R → Bool) (a b : End) (f g : R)
-    (leaves : Leaves a b) where
-  pub asks-pass : (session req_type : ℕ) (ask : List ℕ) (room n : ℕ)
+    (leaves : Leaves a b) (c : Calls) where
+  -- call n is asked
+  pub asks-pass : (session n req_type : ℕ) (ask : List ℕ) (room : ℕ)
       → Makes facts whole (Asks session req_type ask room) a.timed b.timed f g
       → length ask ≤ 1048576
       → state_of (find (is_client session) a.timed.lists.clients) ≡ Connected
-      → Passes facts whole a b f g n (n + 1)
-  asks-pass session req_type ask room n makes few on =
-      passes-of facts whole (Asks session req_type ask room) a b f g n (n + 1) makes
+      → req_type ≡ c.req_type → ask ≡ asked_bytes c n → room ≡ room_of c
+      → Passes facts whole a b f g c session n (n + 1)
+  asks-pass session n req_type ask room makes few on own_type own_bytes own_room =
+      passes-of facts whole (Asks session req_type ask room) a b f g c session n (n + 1) makes
       (λ s x t h. asks session req_type ask room h) (ask-quiet session req_type ask room)
-      (ap (λ k. n + k) (sym (asks-one session req_type ask room (asking no_asks a.timed)
-      makes.noted (asking no_asks b.timed) (makes.step no_asks) few on))) leaves
+      (ap (λ k. n + k) (sym (ap asked_in noted))) order leaves
+    where
+      noted : makes.noted
+          ≡ with_bytes a.timed.lists.me (Asked a.timed.lists.asked session req_type room) ask ∷ []
+      noted = asks-one session req_type ask room (asking no_asks a.timed) makes.noted
+          (asking no_asks b.timed) (makes.step no_asks) few on
+
+      order : (past : List Fact) → Stands past a → n ≡ asked_in past
+          → AsksInOrder c session n makes.noted
+      order past s e =
+          let number : a.timed.lists.asked ≡ n = asked-stands past a s ∙ sym e in
+          let same : makes.noted ≡ ask_noted c session n ∷ [] =
+          noted ∙ rw (s.node, number, own_type, own_bytes, own_room) refl in
+          rw same refl
 
   pub close-passes : (session n : ℕ) → Makes facts whole (Disconnects session) a.timed b.timed f g
-      → Passes facts whole a b f g n n
+      → Passes facts whole a b f g c session n n
   close-passes session n makes =
-      passes-of facts whole (Disconnects session) a b f g n n makes
+      let none = many-none is_asked makes.noted (close-still is_asked (λ n s. refl) (λ n c. refl)
+      (λ n. refl) session (asking no_asks a.timed) makes.noted (asking no_asks b.timed)
+      (makes.step no_asks)) in
+      passes-of facts whole (Disconnects session) a b f g c session n n makes
       (λ s x t h. disconnects session h)
       (close-still is_loud (λ n s. refl) (λ n c. refl) (λ n. refl) session)
-      (none-more n makes.noted (close-still is_asked (λ n s. refl) (λ n c. refl) (λ n. refl)
-      session (asking no_asks a.timed) makes.noted (asking no_asks b.timed) (makes.step no_asks)))
-      leaves
+      (omega (arith, none)) (λ past s e. order-none c session n makes.noted none) leaves
 
   -- a session is opened, at no rate
-  pub connect-passes : (peer credits : ℕ) → IsCredits credits
+  pub connect-passes : (session peer credits : ℕ) → IsCredits credits
       → (makes : Makes facts whole (Connects peer credits 0) a.timed b.timed f g)
-      → client_refusal credits a.timed.lists ≡ None → Opens facts whole peer credits a b f g
+      → client_refusal credits a.timed.lists ≡ None
+      → Opens facts whole peer credits a b f g c session
   unfolding passes-of
-  connect-passes peer credits own makes free = record {
-    passes = passes-of facts whole (Connects peer credits 0) a b f g 0 0 makes
-        (λ s x t h. connects peer credits 0 own h)
-        (connect-still is_loud refl (λ n c r. refl) (λ n p c. refl) (λ n r. refl) peer credits 0)
-        (none-more 0 makes.noted (connect-still is_asked refl (λ n c r. refl) (λ n p c. refl)
-        (λ n r. refl) peer credits 0 (asking no_asks a.timed) makes.noted
-        (asking no_asks b.timed) (makes.step no_asks))) leaves;
-    opens =
-        let one = makes.step no_asks in
-        let me : b.timed.lists.me ≡ a.timed.lists.me =
-        me-goes (asking no_asks a.timed) (asking no_asks b.timed) makes.noted one.goes in
-        one.facts ∙ rw (free, me) refl;
-  }
+  connect-passes session peer credits own makes free =
+      let none = many-none is_asked makes.noted (connect-still is_asked refl (λ n c r. refl)
+      (λ n p c. refl) (λ n r. refl) peer credits 0 (asking no_asks a.timed) makes.noted
+      (asking no_asks b.timed) (makes.step no_asks)) in
+      record {
+        passes = passes-of facts whole (Connects peer credits 0) a b f g c session 0 0 makes
+            (λ s x t h. connects peer credits 0 own h)
+            (connect-still is_loud refl (λ n c r. refl) (λ n p c. refl) (λ n r. refl) peer credits
+            0) (omega (arith, none)) (λ past s e. order-none c session 0 makes.noted none) leaves;
+        opens =
+            let one = makes.step no_asks in
+            let me : b.timed.lists.me ≡ a.timed.lists.me =
+            me-goes (asking no_asks a.timed) (asking no_asks b.timed) makes.noted one.goes in
+            one.facts ∙ rw (free, me) refl;
+      }

@@ -5,7 +5,7 @@ use Rattle.std.proofs.Common.{append-nil}
 use Rattle.std.proofs.Common.{add-zero}
 use Rattle.std.specs.Prelude.{option_map, Result, Ok, Err, OnOk, OnErr}
 use Rattle.client_core.specs.Shown.{done_fact}
-use Rattle.endpoint_loop.specs.Noting.{is_asked, sent_of}
+use Rattle.endpoint_loop.specs.Noting.{asked_in, is_asked, sent_of}
 use Rattle.endpoint_loop.specs.declared.polling.Turn.{Turn}
 use Rattle.endpoint_loop.specs.Polling.{LinkTells}
 use Rattle.endpoint_loop.proofs.NotingLemmas.{sent-append, took-none}
@@ -16,6 +16,7 @@ use Rattle.load_run.specs.Loading.{HasLoaded, Keeps, LoadsOn, LoadsSoFar, Passes
 use Rattle.load_run.specs.Loading.{PreparesIn}
 use Rattle.load_run.specs.Loading.{UnlessFailed, UnlessNoMemory}
 use Rattle.load_run.specs.Tallies.{Counts, KeepsAll}
+use Rattle.load_run.proofs.OrderLemmas.{order-none, order-then}
 use Rattle.load_run.proofs.TallyLemmas.{counts-none, counts-noted, counts-silent, counts-then}
 use Rattle.plain_turns.proofs.RunLemmas.{goes-none, goes-then, runs-then}
 use Rattle.plain_turns.specs.PlainTurns.{End, TakesTurn, TellsTurn}
@@ -40,7 +41,8 @@ module _ {R C : Type 0} (facts : R → Option (List Fact)) (whole : R → Bool)
   -- one turn: it is prepared, and the endpoint makes one
   pub loads-one : (sent then_sent : Option (List Carried)) (clock then_clock : C)
       (old ready new : LoadsSoFar) (f g h : R) (none ended : Ended) (now : ℕ)
-      → Passes facts whole old.endpoint ready.endpoint f g old.asked ready.asked
+      → Passes facts whole old.endpoint ready.endpoint f g old.ledger.plan old.session old.asked
+      ready.asked
       → TellsTurn facts whole KeepsAll sent then_sent ready.endpoint new.endpoint g h none ended
       → Gives gave clock then_clock now → KeepsAll none [] → ended.whole ≡ true
       → Counts (map (done_fact 0) ended.dones.items) ready.ledger new.ledger → Keeps old ready
@@ -66,6 +68,11 @@ module _ {R C : Type 0} (facts : R → Option (List Fact)) (whole : R → Bool)
             let none = told.asks in
             let some = passes.asks in
             omega (arith, asked, some, none, many-append is_asked passes.goes.noted turn.goes.noted);
+        order = λ past s e.
+            let told = turn.told (past ++ passes.goes.noted) (passes.goes.goes_on past s) in
+            order-then old.ledger.plan old.session old.asked ready.asked passes.goes.noted
+            turn.goes.noted passes.asks (passes.order past s e)
+            (order-none old.ledger.plan old.session ready.asked turn.goes.noted told.asks);
         counts = λ past s.
             let told = turn.told (past ++ passes.goes.noted) (passes.goes.goes_on past s) in
             counts-then passes.goes.noted turn.goes.noted old.ledger old.ledger new.ledger
@@ -90,6 +97,7 @@ module _ {R C : Type 0} (facts : R → Option (List Fact)) (whole : R → Bool)
       ticks = λ before h. subst (gave clock) (sym (append-nil before)) h;
     };
     asks = λ past s. sym (add-zero run.asked);
+    order = λ past s e. order-none run.ledger.plan run.session run.asked [] refl;
     counts = λ past s. counts-none run.ledger;
     session = refl;
     turns = refl;
@@ -109,6 +117,15 @@ module _ {R C : Type 0} (facts : R → Option (List Fact)) (whole : R → Bool)
         let one = p.asks past s in
         let two = q.asks (past ++ p.runs.goes.noted) (p.runs.goes.goes_on past s) in
         omega (arith, one, two, many-append is_asked p.runs.goes.noted q.runs.goes.noted);
+    order = λ past s e.
+        let one = p.asks past s in
+        let plan = (p.counts past s).plan in
+        let count : b.asked ≡ asked_in (past ++ p.runs.goes.noted) =
+        omega (arith, one, e, many-append is_asked past p.runs.goes.noted) in
+        order-then a.ledger.plan a.session a.asked b.asked p.runs.goes.noted q.runs.goes.noted one
+        (p.order past s e)
+        (rw (plan, p.session) at q.order (past ++ p.runs.goes.noted) (p.runs.goes.goes_on past s)
+        count);
     counts = λ past s.
         counts-then p.runs.goes.noted q.runs.goes.noted a.ledger b.ledger c.ledger
         (p.counts past s) (q.counts (past ++ p.runs.goes.noted) (p.runs.goes.goes_on past s));
@@ -157,7 +174,8 @@ module _ {R L C : Type 0} (facts : R → Option (List Fact)) (whole : R → Bool
   }
 
   pub loads-turn : (now : ℕ)
-      → Passes facts whole old.endpoint ready.endpoint before mid old.asked ready.asked
+      → Passes facts whole old.endpoint ready.endpoint before mid old.ledger.plan old.session
+      old.asked ready.asked
       → TellsTurn facts whole KeepsAll (tells link).sent (tells then_link).sent shown.endpoint next
       mid later none ended
       → Gives gave clock then_clock now → ended.whole ≡ true

@@ -2,12 +2,12 @@
 use Rattle.std.specs.Prelude.{◌≡◌, ◌≢◌, ℕ, ◌+◌, ◌-◌, ◌<◌, ◌≤◌, ◌==◌, ◌&&◌, ◌⊎◌, Bool, true, false}
 use Rattle.std.specs.Prelude.{Option}
 use Rattle.std.specs.Prelude.{if◌then◌else◌, List, [], ◌∷◌, map}
-use Rattle.std.specs.List.{filter, find}
+use Rattle.std.specs.List.{filter, find, range_with_len}
 use Rattle.client_core.specs.Shown.{done_fact}
 use Rattle.count_line.specs.declared.word.Word.TheVariants as word
 use Rattle.count_line.specs.Line.{line_text}
 use Rattle.endpoint_loop.specs.declared.polling.Turn.{Turn}
-use Rattle.endpoint_loop.specs.Noting.{Makes, asked_in, is_end, sent_of}
+use Rattle.endpoint_loop.specs.Noting.{Makes, asked_in, is_asked, is_end, sent_of}
 use Rattle.endpoint_loop.specs.Polling.{LinkTells}
 use Rattle.endpoint_loop.specs.Reading.{pending_told}
 use Rattle.command_line.specs.Words.{LoadWords}
@@ -19,13 +19,13 @@ use Rattle.load_run.specs.declared.ledger.Ledger.{Ledger}
 use Rattle.load_run.specs.Tallies.{Counts, KeepsAll, Tallies}
 use Rattle.plain_turns.specs.PlainTurns.{End, GoesOnBy, HasTurned, RunsOn, Stands, TakesTurn}
 use Rattle.load_run.specs.declared.run.TheConstants.{LOAD_CREDITS}
-use Rattle.rpc_base.specs.declared.event.Event.TheVariants.{Opened}
+use Rattle.rpc_base.specs.declared.event.Event.TheVariants.{Asked, Opened}
 use Rattle.rpc_base.specs.declared.fact.Fact.{Fact}
 use Rattle.rpc_base.specs.declared.state.SessionState.{SessionState}
 use Rattle.rpc_base.specs.declared.state.SessionState.TheVariants.{Connected, Closed, Failed}
 use Rattle.rpc_base.specs.declared.state.SessionState.TheVariants.{Broken}
 use Rattle.rpc_laws.specs.declared.tables.Timed.{Timed}
-use Rattle.rpc_laws.specs.Facts.{plain}
+use Rattle.rpc_laws.specs.Facts.{plain, with_bytes}
 use Rattle.rpc_laws.specs.Groups.{Asks, Disconnects, state_of}
 use Rattle.rpc_laws.specs.Sessions.{is_client}
 use Rattle.rpc_laws.specs.Steps.{Rel, Visits}
@@ -63,6 +63,16 @@ pub record AreBuffersOf (c : Calls) (call : ℕ) (req resp : Buffer) : Type 0 wh
   pub asks : bytes_of req ≡ asked_bytes c call
   pub len : req.len ≤ MOST_MESSAGE_BYTES
   pub room : capacity_of resp ≡ room_of c
+
+-- call k of a session, as it is noted where it is asked
+abbrev pub ask_noted : Calls → (session k : ℕ) → Fact
+ask_noted c session k = with_bytes 0 (Asked k session c.req_type (room_of c)) (asked_bytes c k)
+
+-- the calls that were asked by these facts are those from call `from` on, in their order
+abbrev pub AsksInOrder : Calls → (session from : ℕ) → List Fact → Type 0
+AsksInOrder c session from noted =
+    filter (λ f. is_asked f.event) noted
+    ≡ map (ask_noted c session) (range_with_len from (asked_in noted))
 
 -- only its endpoint changed, and how many calls were asked
 pub record Keeps (old new : LoadsSoFar) : Type 0 where
@@ -115,11 +125,13 @@ Prepares facts whole old new before now =
     PreparesIn (state_in old) facts whole old new before now
 
 -- the recorder grew by facts by which its endpoint goes on, that send nothing, end no call, and ask
--- as many calls as are counted
+-- as many calls as are counted, each in its turn where so many were asked before
 pub record Passes {R : Type 0} (facts : R → Option (List Fact)) (whole : R → Bool) (old new : End)
-    (before now : R) (from to : ℕ) : Type 0 where
+    (before now : R) (c : Calls) (session from to : ℕ) : Type 0 where
   pub goes : GoesOnBy facts whole old new before now
   pub asks : to ≡ from + asked_in goes.noted
+  pub order : (past : List Fact) → Stands past old → from ≡ asked_in past
+      → AsksInOrder c session from goes.noted
   pub sends : sent_of goes.noted ≡ []
   pub ends : filter is_end goes.noted ≡ []
 
@@ -153,6 +165,8 @@ pub record LoadsOn {R C : Type 0} (facts : R → Option (List Fact)) (whole : R 
       before later n
   pub asks : (past : List Fact) → Stands past old.endpoint
       → new.asked ≡ old.asked + asked_in runs.goes.noted
+  pub order : (past : List Fact) → Stands past old.endpoint → old.asked ≡ asked_in past
+      → AsksInOrder old.ledger.plan old.session old.asked runs.goes.noted
   pub counts : (past : List Fact) → Stands past old.endpoint
       → Counts runs.goes.noted old.ledger new.ledger
   pub session : new.session ≡ old.session
@@ -248,8 +262,8 @@ TurnsEnd told facts whole gave tells link then_link clock then_clock old new bef
     before later many
 
 -- what `load` did once its run was over: it made its turns, in which the session was opened first;
--- the calls that were asked and how calls ended are counts of what was noted, and the link didn't
--- fail
+-- the calls that were asked are the first of its calls, in their order; how many were and how calls
+-- ended are counts of what was noted, and the link didn't fail
 pub record HasRun {R L C : Type 0} (facts : R → Option (List Fact)) (whole : R → Bool)
     (gave : C → List ℕ → Type 0) (tells : L → LinkTells) (words : LoadWords) (link then_link : L)
     (clock then_clock : C) (before later : R) (run : LoadsSoFar) : Type 0 where
@@ -261,6 +275,7 @@ pub record HasRun {R L C : Type 0} (facts : R → Option (List Fact)) (whole : R
   pub opens : (peer : ℕ) × (rest : List Fact)
       × (turned.noted ≡ plain 0 (Opened run.session peer LOAD_CREDITS) ∷ rest)
   pub asked : run.asked ≡ asked_in turned.noted
+  pub order : AsksInOrder run.ledger.plan run.session 0 turned.noted
   pub tallies : Tallies run.ledger.plan run.ledger.tally turned.noted
   pub quiet : (tells then_link).troubles.faults ≡ (tells link).troubles.faults
 

@@ -26,7 +26,8 @@ impl<H: Wait> LoadRun<H> {
             (room_of self.old.ledger.plan)) self.old.endpoint.timed self.new.endpoint.timed
             rec.old rec.new) }
         ensures passes { OnOk result (Passes R.facts R.whole self.old.endpoint self.new.endpoint
-            rec.old rec.new self.old.asked self.new.asked) }
+            rec.old rec.new self.old.ledger.plan self.old.session self.old.asked
+            self.new.asked) }
         ensures wanting { OnErr result ((self.new ≡ self.old) × (rec.new ≡ rec.old)) }
         ensures counted { OnOk result (self.new.asked ≡ self.old.asked + 1) }
         ensures keeps { Keeps self.old self.new }
@@ -53,7 +54,8 @@ impl<H: Wait> LoadRun<H> {
     fn ask_many<R: Recorder>(&mut self, rec: &mut R) -> Result<(), NoMemory>
         ensures asks { OnOk result (AsksMany R.facts R.whole self.old self.new rec.old rec.new) }
         ensures passes { OnOk result (Passes R.facts R.whole self.old.endpoint self.new.endpoint
-            rec.old rec.new self.old.asked self.new.asked) }
+            rec.old rec.new self.old.ledger.plan self.old.session self.old.asked
+            self.new.asked) }
         ensures keeps { Keeps self.old self.new }
         ensures goes_on { GoesOnBy R.facts R.whole self.old.endpoint self.new.endpoint rec.old
             rec.new }
@@ -73,7 +75,7 @@ impl<H: Wait> LoadRun<H> {
         ensures asked { self.new.asked ≡ self.old.asked }
         ensures keeps { Keeps self.old self.new }
         ensures passes { Passes R.facts R.whole self.old.endpoint self.new.endpoint rec.old
-            rec.new self.old.asked self.new.asked }
+            rec.new self.old.ledger.plan self.old.session self.old.asked self.new.asked }
     {
         if self.pending() == 0 {
             // Nothing is pending: it isn't refused.
@@ -88,7 +90,8 @@ impl<H: Wait> LoadRun<H> {
         ensures prepares { OnOk result (Prepares R.facts R.whole self.old self.new rec.old
             rec.new) }
         ensures passes { OnOk result (Passes R.facts R.whole self.old.endpoint self.new.endpoint
-            rec.old rec.new self.old.asked self.new.asked) }
+            rec.old rec.new self.old.ledger.plan self.old.session self.old.asked
+            self.new.asked) }
         ensures keeps { Keeps self.old self.new }
         ensures goes_on { GoesOnBy R.facts R.whole self.old.endpoint self.new.endpoint rec.old
             rec.new }
