@@ -2,14 +2,15 @@
 use Rattle.std.proofs.Common.{◌≡◌, ◌≢◌, ℕ, zero, suc, ◌+◌, ◌-◌, ◌<◌, ◌≤◌, ◌⊎◌}
 use Rattle.std.proofs.Common.{inl, inr, List, length, get_or}
 use Rattle.std.proofs.Common.{refl, sym, ap, ◌∙◌, arith}
-use Rattle.std.specs.Prelude.{Some, None}
+use Rattle.std.specs.Prelude.{Some, None, Result, Ok, Err}
 use Rattle.std.specs.List.{Contains, insert, remove}
+use Rattle.std.specs.Result.{MatchResult}
 use Rattle.std.proofs.lemmas.Bool.{cases_lt, cases_eq}
 use Rattle.std.proofs.lemmas.List.{get_or_default}
 use Rattle.std.proofs.lemmas.List.Edits.{length-insert, get_or-insert_below, get_or-insert_at}
 use Rattle.std.proofs.lemmas.List.Edits.{get_or-insert_above, length-remove, get_or-remove_below}
 use Rattle.std.proofs.lemmas.List.Edits.{get_or-remove_above}
-use Rattle.calling_sessions.specs.Rising.{AreBelow, Rises, IsNext}
+use Rattle.calling_sessions.specs.Rising.{AreBelow, Rises, IsNext, StandsAt}
 
 pub stands : (xs : List ℕ) (n : ℕ) → Contains xs n → (k : ℕ) × (k < length xs) × (get_or xs k 0 ≡ n)
 stands xs n h = (h.0, h.1, get_or_default xs h.0 0 n h.1 ∙ h.2)
@@ -23,6 +24,14 @@ in-order xs up i j le within = elim (cases_lt i j) [
   | inl less ↦ (let h = up i j less within in omega (arith, h))
   | inr more ↦ (let same : i ≡ j = omega arith in rw same (omega arith))
 ]
+
+-- what a search in numbers that rise says, by its cases
+pub as-placed : (xs : List ℕ) (n : ℕ) (r : Result ℕ ℕ)
+    → MatchResult r (λ i. (i < length xs) × (get_or xs i 0 ≡ n)) (λ i. (i ≤ length xs)
+    × ((k : ℕ) → k < i → get_or xs k 0 < n) × ((k : ℕ) → i ≤ k → k < length xs → n < get_or xs k 0))
+    → StandsAt n xs r
+as-placed xs n (Ok p) h = h
+as-placed xs n (Err p) h = h
 
 module _ (xs : List ℕ) (p x : ℕ) (within : p ≤ length xs) where
   -- what stands at a place of the list with x at place p

@@ -1,7 +1,8 @@
 //! Numbers of sessions, in ascending order.
 ghost use Rattle.std.specs.Prelude.{◌≡◌, ◌≢◌, ◌<◌, ◌≤◌, ℕ, [], length, slice_index, IfOk};
-ghost use Rattle.std.specs.List.{Contains};
-ghost use Rattle.calling_sessions.specs.Rising.{IsNext};
+ghost use Rattle.std.specs.List.{Contains, insert, remove};
+ghost use Rattle.std.specs.Vec.{vec_capacity};
+ghost use Rattle.calling_sessions.specs.Rising.{IsNext, Rises, StandsAt};
 
 use rpc_base::NoMemory;
 use std::alloc::Global;
@@ -9,6 +10,37 @@ use std::marker::Model;
 
 // How many numbers a session may have.
 const NUMBERS: usize = 65_536;
+
+// Puts a number into its place: most often that is behind all others.
+fn put_at(numbers: &mut Vec<u16>, place: usize, number: u16)
+    requires place { place ≤ length numbers.old.items }
+    requires room { length numbers.old.items < vec_capacity numbers.old }
+    ensures items { numbers.new.items ≡ insert numbers.old.items place number }
+    ensures capacity { vec_capacity numbers.old ≤ vec_capacity numbers.new }
+{
+    if place == numbers.len() {
+        let Ok(()) = numbers.push(number) else {
+            unreachable!()
+        };
+        return;
+    }
+    let Ok(()) = numbers.insert(place, number) else {
+        unreachable!()
+    };
+}
+
+// Takes the number at a place out: most often it is the last one.
+fn take_at(numbers: &mut Vec<u16>, place: usize)
+    requires there { place < length numbers.old.items }
+    ensures items { numbers.new.items ≡ remove numbers.old.items place }
+    ensures capacity { vec_capacity numbers.new ≡ vec_capacity numbers.old }
+{
+    if place + 1 == numbers.len() {
+        numbers.truncate(place);
+    } else {
+        let _number = numbers.remove(place);
+    }
+}
 
 /// The numbers of the sessions that a poll visits. Contracts see them as a list that rises. It has
 /// room for all of them.
@@ -45,12 +77,10 @@ impl CallingSessions {
         ensures others { (n : ℕ) → Contains self.old n → Contains self.new n }
         ensures alone { (n : ℕ) → n ≢ session → Contains self.new n → Contains self.old n }
     {
-        let Err(place) = self.numbers.binary_search(&session) else {
+        let Err(place) = self.search(session) else {
             return;
         };
-        let Ok(()) = self.numbers.insert(place, session) else {
-            unreachable!()
-        };
+        put_at(&mut self.numbers, place, session);
     }
 
     /// A session isn't visited any more.
@@ -59,12 +89,28 @@ impl CallingSessions {
         ensures others { (n : ℕ) → n ≢ session → Contains self.old n → Contains self.new n }
         ensures alone { (n : ℕ) → Contains self.new n → Contains self.old n }
     {
-        match self.numbers.binary_search(&session) {
-            Ok(place) => {
-                let _number = self.numbers.remove(place);
-            }
+        match self.search(session) {
+            Ok(place) => take_at(&mut self.numbers, place),
             Err(_place) => {}
         }
+    }
+
+    // Where a number stands, or as an Err where it would stand. Most often it is the last one, or
+    // above all.
+    fn search(&self, number: u16) -> Result<usize, usize>
+        ensures place { StandsAt number self.now result }
+        ensures rises { Rises self.now }
+    {
+        let Some(last) = self.numbers.last() else {
+            return Err(0);
+        };
+        if *last < number {
+            return Err(self.numbers.len());
+        }
+        if *last == number {
+            return Ok(self.numbers.len() - 1);
+        }
+        self.numbers.binary_search(&number)
     }
 
     // Where the number `from` stands, or would stand.
@@ -72,7 +118,7 @@ impl CallingSessions {
         ensures below { (k : ℕ) → k < result → slice_index self.now k < from }
         ensures above { (k : ℕ) → result ≤ k → k < length self.now → from ≤ slice_index self.now k }
     {
-        match self.numbers.binary_search(&from) {
+        match self.search(from) {
             Ok(place) => place,
             Err(place) => place,
         }
