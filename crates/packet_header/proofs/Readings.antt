@@ -1,5 +1,5 @@
 -- What is read is what is spelled, and each refusal has its reason.
-use Rattle.std.proofs.Common.{◌≡◌, ◌↔◌, ◌≤◌, ◌∙◌, ℕ, ◌==◌, nat_lt, ◌||◌, not, Bool, true, false}
+use Rattle.std.proofs.Common.{◌≡◌, ◌≢◌, ◌↔◌, ◌≤◌, ◌∙◌, ℕ, ◌==◌, nat_lt, ◌||◌, not, Bool, true, false}
 use Rattle.std.proofs.Common.{if◌then◌else◌, List, length, slice_index, Option, Some, None, Result}
 use Rattle.std.proofs.Common.{Ok, Err, IfOk, unwrap_or, inl, inr, refl, sym, ap, arith}
 use Rattle.std.proofs.lemmas.Bool.{eqb-false, eqb-true, lt-ltb, ltb-false, ltb-true, not-false, not-true}
@@ -341,3 +341,28 @@ spells-message_of m bytes s = ap message_in (spells-decoded (Message m) bytes s)
 -- a control packet has no message's header
 pub control-no_message : (c : ControlHeader) (bytes : List ℕ) → Spells (Control c) bytes → message_of bytes ≡ None
 control-no_message c bytes s = ap message_in (spells-decoded (Control c) bytes s)
+
+-- a packet of a call begins with a header of its kind, which is read as it stands
+pub record BeginsWith (m : MessageHeader) (bytes : List ℕ) : Type 0 where
+  pub whole : 16 ≤ length bytes
+  pub kind : kind_of (slice_index bytes 1) ≡ Some (OfMessage m.kind)
+  pub fields : message_at m.kind bytes ≡ m
+
+begins-with : (m : MessageHeader) (bytes : List ℕ) → message_of bytes ≡ Some m → BeginsWith m bytes
+begins-with m bytes h =
+    let s = message_of-spells m bytes h in
+    record {
+      whole = s.head.whole;
+      kind = ap kind_of s.head.kind ∙ kind_of-message m.kind;
+      fields = message_at-same m bytes s.head;
+    }
+
+-- a datagram that is a packet of a call has a header
+pub message_of-some : (bytes : List ℕ) → message_of bytes ≢ None
+    → (m : MessageHeader) × (message_of bytes ≡ Some m) × BeginsWith m bytes
+message_of-some bytes h = by (message_of bytes) refl
+  where
+    by : (o : Option MessageHeader) → message_of bytes ≡ o
+        → (m : MessageHeader) × (message_of bytes ≡ Some m) × BeginsWith m bytes
+    by None e = absurd (h e)
+    by (Some m) e = (m, e, begins-with m bytes e)

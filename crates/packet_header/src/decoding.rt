@@ -1,13 +1,14 @@
 //! Reading a datagram's header. The refusals come in one order: length of the header, magic byte,
 //! kind, fields by offset, length of the datagram.
-ghost use Rattle.std.specs.Prelude.{◌≡◌, ◌≤◌, ◌<◌, ◌↔◌, IfOk, length};
+ghost use Rattle.std.specs.Prelude.{◌≡◌, ◌≢◌, ◌≤◌, ◌<◌, ◌↔◌, IfOk, None, Some, length};
 ghost use Rattle.packet_header.specs.Header.{Spells, number_at};
 ghost use Rattle.packet_header.specs.Refusals.{Refuses};
 ghost use Rattle.packet_header.specs.declared.packet.BadPacket.{BadPacket};
 ghost use Rattle.packet_header.specs.declared.packet.Packet.{Packet};
+ghost use Rattle.packet_header.specs.declared.packet.Packet.TheVariants.{Message};
 ghost use Rattle.packet_header.specs.Reading.{control_at, control_fault, control_read, decoded};
 ghost use Rattle.packet_header.specs.Reading.{kind_of, message_at, message_fault, is_full_part};
-ghost use Rattle.packet_header.specs.Reading.{is_server, message_read, server_of, wanted};
+ghost use Rattle.packet_header.specs.Reading.{is_server, message_of, message_read, server_of, wanted};
 ghost use Rattle.packet_header.specs.Parts.{packet_count};
 
 use crate::layout::{
@@ -48,6 +49,20 @@ pub fn decode(bytes: &[u8]) -> Result<Packet, BadPacket>
             check_control(control_at(kind, bytes), padding_at(bytes), bytes.len())
         }
         None => Err(BadPacket::Kind { byte: bytes[KIND] }),
+    }
+}
+
+/// The header of a datagram that is known to be a packet of a call: what `decode` finds there, read
+/// without its tests.
+pub fn message_header(bytes: &[u8]) -> MessageHeader
+    requires message { message_of bytes.now ≢ None }
+    ensures header { message_of bytes.now ≡ Some result }
+    ensures spelled { Spells (Message result) bytes.now }
+{
+    match kind_of(bytes[KIND]) {
+        Some(AnyKind::OfMessage(kind)) => message_at(kind, bytes),
+        Some(AnyKind::OfControl(_)) => unreachable!(),
+        None => unreachable!(),
     }
 }
 

@@ -11,7 +11,7 @@ mod parts;
 mod range_test;
 mod ranges;
 
-pub use decoding::decode;
+pub use decoding::{decode, message_header};
 pub use encoding::encode;
 pub use laws::{every_packet_has_one_head, no_bytes_spell_two_packets};
 pub use layout::{HEAD_BYTES, MAGIC};
