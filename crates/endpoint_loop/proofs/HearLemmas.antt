@@ -2,8 +2,8 @@
 use Rattle.std.proofs.Common.{◌≡◌, ℕ, zero, suc, ◌+◌, ◌≤◌, ◌||◌, Bool, true, false, cond, Option}
 use Rattle.std.proofs.Common.{Some, None, List, [], ◌∷◌, length, drop, refl, sym, ap, subst, ◌∙◌}
 use Rattle.std.proofs.Common.{arith}
-use Rattle.std.specs.Prelude.{map, not, slice_get, slice_set}
-use Rattle.std.specs.List.{find, list_any}
+use Rattle.std.specs.Prelude.{◌≢◌, is_some, map, not, slice_get, slice_set}
+use Rattle.std.specs.List.{AllByRecursion, find, list_any}
 use Rattle.std.proofs.lemmas.Bool.{eq-eqb}
 use Rattle.std.proofs.lemmas.List.{drop-map, length-set}
 use Rattle.std.proofs.lemmas.Option.{slice_get_past}
@@ -52,7 +52,7 @@ use Rattle.rpc_laws.specs.Queues.{is_queued}
 use Rattle.rpc_laws.specs.Sessions.{is_client, is_connected, has_call, ends, takes}
 use Rattle.rpc_laws.specs.Sessions.{clients_after}
 use Rattle.rpc_outside.specs.Recording.{Grew}
-use Rattle.node_laws.specs.Kept.{Kept}
+use Rattle.node_laws.specs.Kept.{IsPacket, Kept}
 use Rattle.node_laws.specs.Valid.{client_no, holders}
 use Rattle.node_laws.proofs.Allowed.{AllAllowed, allowed-of}
 use Rattle.node_laws.proofs.KeptLemmas.{kept-after, kept-all}
@@ -503,6 +503,15 @@ pub none-front : (ds : List DatagramValue) → slice_get ds 0 ≡ None
     → front_header (map arrival_of ds) ≡ None
 none-front [] e = none-read
 none-front (d ∷ ds) e = cc
+
+-- of packets of calls the one in front has a header
+pub front-reads : (ds : List DatagramValue) (d : DatagramValue) → slice_get ds 0 ≡ Some d
+    → AllByRecursion IsPacket (map arrival_of ds) → message_of d.bytes ≢ None
+front-reads [] d e all = cc
+front-reads (y ∷ ds) d e all = λ none.
+    let same : y ≡ d = cc in
+    let clash : false ≡ true = ap is_some (sym none ∙ ap (λ (z : DatagramValue). message_of z.bytes) (sym same)) ∙ all.0 in
+    cc
 
 pub head-there : (ds : List DatagramValue) (d : DatagramValue) → slice_get ds 0 ≡ Some d
     → front_header (map arrival_of ds) ≡ message_of d.bytes

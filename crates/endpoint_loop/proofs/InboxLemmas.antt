@@ -1,8 +1,9 @@
--- What stands in front of an inbox.
-use Rattle.std.proofs.Common.{◌≡◌, true, Some, None, List, [], ◌∷◌, refl, sym, ap, ◌∙◌}
+-- What stands in front of an inbox, and what comes in at its back.
+use Rattle.std.proofs.Common.{◌≡◌, true, Some, None, List, [], ◌∷◌, ◌++◌, refl, sym, ap, ◌∙◌}
 use Rattle.std.specs.Prelude.{map, slice_get}
 use Rattle.std.specs.List.{AllByRecursion}
 use Rattle.packet_rings.specs.Values.{DatagramValue}
+use Rattle.rpc_laws.specs.declared.tables.Arrival.{Arrival}
 use Rattle.rpc_laws.specs.Front.{is_control}
 use Rattle.endpoint_loop.specs.Inbox.{IsControl}
 use Rattle.endpoint_loop.specs.Seen.{arrival_of}
@@ -26,3 +27,10 @@ pub some-front : (ds : List DatagramValue) (d : DatagramValue) → Some d ≡ sl
     → map arrival_of ds ≡ [] → ⊥
 some-front [] d e h = cc
 some-front (x ∷ ds) d e h = cc
+
+-- one more datagram stands at the back of an inbox or a ring
+pub all-arrived : (P : Arrival → Type 0) (ds : List DatagramValue) (d : DatagramValue)
+    → AllByRecursion P (map arrival_of ds) → P (arrival_of d)
+    → AllByRecursion P (map arrival_of (ds ++ d ∷ []))
+all-arrived P [] d all h = (h, tt)
+all-arrived P (x ∷ ds) d all h = (all.0, all-arrived P ds d all.1 h)

@@ -11,7 +11,6 @@ ghost use Rattle.rpc_laws.specs.Front.{is_control, is_message};
 
 use crate::node::Node;
 use packet_header::{BadPacket, Packet, decode};
-use packet_rings::Datagram;
 use rpc_base::{Event, Peer, Who};
 use rpc_outside::Recorder;
 
@@ -58,13 +57,8 @@ impl Node {
             self.overflow(peer, bytes, rec);
             return Delivery::Full;
         }
-        let Some(datagram) = Datagram::of(peer, bytes) else {
-            unreachable!()
-        };
         rec.note(Who::Node(self.me), Event::Arrived { peer }, bytes, &[]);
-        let Ok(()) = self.rx.push(datagram) else {
-            unreachable!()
-        };
+        self.rx.push(peer, bytes);
         Delivery::Ring
     }
 

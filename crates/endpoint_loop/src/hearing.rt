@@ -6,28 +6,14 @@ ghost use Rattle.client_core.specs.Shown.{done_event, end_bytes};
 ghost use Rattle.endpoint_loop.specs.Hearing.{Drops, HearsReply};
 ghost use Rattle.endpoint_loop.specs.Noting.{Makes};
 ghost use Rattle.packet_header.specs.Header.{MessageInRange, MessageLength};
-ghost use Rattle.packet_header.specs.Reading.{body_of, message_of};
+ghost use Rattle.packet_header.specs.Reading.{body_of};
 ghost use Rattle.rpc_laws.specs.Front.{front_body, front_header};
 
 use crate::node::Node;
 use client_core::{Done, Outcome, Reply};
-use packet_header::{HEAD_BYTES, MessageHeader, Packet, decode};
+use packet_header::{HEAD_BYTES, MessageHeader, message_header};
 use rpc_base::{DropReason, Event, Owner, Who};
 use rpc_outside::Recorder;
-
-/// The header of a datagram that is a packet of a call, which is as long as that tells.
-pub fn read(bytes: &[u8]) -> Option<MessageHeader>
-    ensures value { result ≡ message_of bytes.now }
-    ensures in_range { IfSome result (λ h. MessageInRange h) }
-    ensures long { IfSome result (λ h. MessageLength h.kind h.size h.number
-        (16 + length (body_of bytes.now))) }
-{
-    match decode(bytes) {
-        Ok(Packet::Message(head)) => Some(head),
-        Ok(Packet::Control(_)) => None,
-        Err(_) => None,
-    }
-}
 
 /// What follows the header of a datagram.
 pub fn body(bytes: &[u8]) -> &[u8]
@@ -138,6 +124,6 @@ impl Node {
         let Some(front) = self.rx.front() else {
             return None;
         };
-        read(front.bytes())
+        Some(message_header(front.bytes()))
     }
 }

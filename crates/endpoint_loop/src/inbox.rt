@@ -8,7 +8,7 @@ ghost use Rattle.rpc_laws.specs.Deliveries.{inbox_room};
 ghost use Rattle.rpc_laws.specs.Front.{control_of, is_control};
 
 use packet_header::{ControlHeader, Packet, decode};
-use packet_rings::{Datagram, RxRing};
+use packet_rings::RxRing;
 use rpc_base::{NoMemory, Peer};
 use std::alloc::Global;
 use std::marker::Model;
@@ -97,12 +97,7 @@ impl Inbox {
         requires room { length self.old < inbox_room }
         ensures { self.new ≡ self.old ++ record { peer = peer; bytes = bytes.now } ∷ [] }
     {
-        let Some(datagram) = Datagram::of(peer, bytes) else {
-            unreachable!()
-        };
-        let Ok(()) = self.ring.push(datagram) else {
-            unreachable!()
-        };
+        self.ring.push(peer, bytes);
     }
 
     /// What the oldest packet tells, read where it lies. None exactly where the inbox is empty.

@@ -1,5 +1,5 @@
-//! A datagram with its bytes inline, so that a ring of them takes memory once.
-ghost use Rattle.std.specs.Prelude.{◌≡◌, ◌≤◌, ◌↔◌, length, IfSome, IsSome};
+//! A datagram with its bytes inline, written where it lies.
+ghost use Rattle.std.specs.Prelude.{◌≡◌, ◌≤◌, [], length};
 ghost use Rattle.packet_rings.specs.Values.{most_datagram_bytes, datagram};
 
 use rpc_base::Peer;
@@ -28,18 +28,26 @@ impl Model for Datagram {
 }
 
 impl Datagram {
-    /// Copies the bytes. None exactly above 1,040 bytes.
-    pub fn of(peer: Peer, bytes: &[u8]) -> Option<Datagram>
-        ensures fits { IsSome result ↔ (length bytes.now ≤ most_datagram_bytes) }
-        ensures whole { IfSome result (λ d. d ≡ datagram peer bytes.now) }
+    /// A datagram without bytes: a place to write one to.
+    pub(crate) fn empty() -> Datagram
+        ensures { result ≡ datagram 0 [] }
     {
-        if bytes.len() > MOST_DATAGRAM_BYTES {
-            return None;
+        Datagram {
+            peer: Peer(0),
+            len: 0,
+            room: [0; MOST_DATAGRAM_BYTES],
         }
+    }
+
+    /// Writes at most 1,040 bytes over what it was. Just these are copied.
+    pub(crate) fn write(&mut self, peer: Peer, bytes: &[u8])
+        requires fits { length bytes.now ≤ most_datagram_bytes }
+        ensures { self.new ≡ datagram peer bytes.now }
+    {
         let len = bytes.len();
-        let mut room = [0; MOST_DATAGRAM_BYTES];
-        room[..len].copy_from_slice(bytes);
-        Some(Datagram { peer, len, room })
+        self.peer = peer;
+        self.len = len;
+        self.room[..len].copy_from_slice(bytes);
     }
 
     /// The peer that it came from.

@@ -1,31 +1,51 @@
 //! The receive ring.
-ghost use Rattle.std.specs.Prelude.{◌≡◌, ◌≤◌, ◌↔◌, [], ◌∷◌, ◌++◌, length, drop, slice_get};
-ghost use Rattle.std.specs.Prelude.{option_copied, IfOk, IfErr, OnOk, OnErr, IsErr, IsTrue};
+ghost use Rattle.std.specs.Prelude.{◌≡◌, ◌<◌, ◌≤◌, ◌↔◌, [], ◌∷◌, ◌++◌, length, drop, slice_get};
+ghost use Rattle.std.specs.Prelude.{option_copied, vec_capacity, IfOk, IsTrue};
 ghost use Rattle.packet_rings.specs.Rings.{ring};
+ghost use Rattle.packet_rings.specs.Values.{datagram, most_datagram_bytes};
 
 use crate::datagram::Datagram;
 use circular_buffer::HeapCircularBuffer;
-use rpc_base::NoMemory;
-use std::alloc::Global;
+use rpc_base::{NoMemory, Peer};
+use std::alloc::{AllocError, Global};
 use std::marker::Model;
 
 /// The datagrams that arrived and wait to be handled, the oldest in front, in a ring of fixed size.
 #[derive(Drop)]
 pub struct RxRing {
-    datagrams: HeapCircularBuffer<Datagram>,
+    /// Those that wait.
+    datagrams: HeapCircularBuffer<Box<Datagram>>,
+    /// The places without a datagram. The last one given back is written first, so that few are
+    /// used as long as few wait.
+    free: Vec<Box<Datagram>>,
 }
 
 impl Model for RxRing {
-    ghost use Rattle.std.specs.Prelude.{◌^◌, ◌<◌, ◌≤◌, length};
+    ghost use Rattle.std.specs.Prelude.{◌≡◌, ◌+◌, ◌^◌, ◌<◌, ◌≤◌, length, map, vec_capacity};
     ghost use Rattle.packet_rings.specs.Values.{DatagramValue};
     ghost use Rattle.packet_rings.specs.Rings.{Ring, ring};
 
     ghost Value = { Ring DatagramValue };
 
-    ghost view = { λ r. ring r.datagrams.items r.datagrams.capacity };
+    ghost view = { λ r. ring (map (λ d. d.value) r.datagrams.items) r.datagrams.capacity };
 
-    ghost invariant = { λ r. (length r.datagrams.items ≤ r.datagrams.capacity)
+    ghost invariant = { λ r. (length r.datagrams.items + length r.free.items
+        ≡ r.datagrams.capacity)
+        × (r.datagrams.capacity ≤ vec_capacity r.free)
         × (r.datagrams.capacity < 2 ^ 32) };
+}
+
+// So many places without a datagram.
+fn empty_places(alloc: Global, count: u32) -> Result<Vec<Box<Datagram>>, AllocError>
+    ensures places { IfOk result (λ v. length v.items ≡ count) }
+    ensures room { IfOk result (λ v. count ≤ vec_capacity v) }
+{
+    let mut places = Vec::with_capacity(alloc, count as usize)?;
+    for _i in 0..count {
+        let place = Box::new(alloc, Datagram::empty())?;
+        places.push_reserved(place);
+    }
+    Ok(places)
 }
 
 impl RxRing {
@@ -35,7 +55,8 @@ impl RxRing {
         ensures { IfOk result (λ r. r ≡ ring [] size) }
     {
         let datagrams = HeapCircularBuffer::with_capacity(alloc, size as usize)?;
-        Ok(RxRing { datagrams })
+        let free = empty_places(alloc, size)?;
+        Ok(RxRing { datagrams, free })
     }
 
     /// How many datagrams wait.
@@ -61,38 +82,35 @@ impl RxRing {
         self.datagrams.is_empty()
     }
 
-    /// Puts a datagram at the back. Err exactly where the ring is full: it is handed back then, and
-    /// nothing changed.
-    pub fn push(&mut self, datagram: Datagram) -> Result<(), Datagram>
-        ensures full { IsErr result ↔ (length self.old.items ≡ self.old.size) }
-        ensures pushed { OnOk result (self.new
-            ≡ ring (self.old.items ++ datagram ∷ []) self.old.size) }
-        ensures unchanged { OnErr result (self.new ≡ self.old) }
-        ensures handed_back { IfErr result (λ back. back ≡ datagram) }
+    /// Copies a datagram of at most 1,040 bytes to the back of a ring that isn't full. It takes no
+    /// memory.
+    pub fn push(&mut self, peer: Peer, bytes: &[u8])
+        requires room { length self.old.items < self.old.size }
+        requires fits { length bytes.now ≤ most_datagram_bytes }
+        ensures { self.new ≡ ring (self.old.items ++ datagram peer bytes.now ∷ []) self.old.size }
     {
-        self.datagrams.try_push_back(datagram)
+        let Some(mut place) = self.free.pop() else {
+            unreachable!()
+        };
+        place.write(peer, bytes);
+        // There is room, so the ring gives up nothing.
+        let _none = self.datagrams.push_back(place);
     }
 
     /// Lends the oldest datagram. None exactly where the ring is empty.
     pub fn front(&self) -> Option<&Datagram>
         ensures { option_copied result ≡ slice_get self.now.items 0 }
     {
-        self.datagrams.front()
+        let place = self.datagrams.front()?;
+        Some(place)
     }
 
-    /// Drops the oldest datagram where it lies. Nothing changes where the ring is empty.
+    /// Drops the oldest datagram: its place is free again. Nothing changes where the ring is empty.
     pub fn drop_front(&mut self)
         ensures { self.new ≡ ring (drop 1 self.old.items) self.old.size }
     {
-        let left = self.datagrams.len().saturating_sub(1);
-        self.datagrams.truncate_front(left);
-    }
-
-    /// Takes the oldest datagram out. None exactly where the ring is empty.
-    pub fn pop(&mut self) -> Option<Datagram>
-        ensures front { result ≡ slice_get self.old.items 0 }
-        ensures rest { self.new ≡ ring (drop 1 self.old.items) self.old.size }
-    {
-        self.datagrams.pop_front()
+        if let Some(place) = self.datagrams.pop_front() {
+            self.free.push_reserved(place);
+        }
     }
 }

@@ -1,4 +1,4 @@
-//! The longest datagram, a full ring, and which entry of an owner is flushed.
+//! The longest datagram, the order of a ring, and which entry of an owner is flushed.
 ghost use Rattle.std.specs.Prelude.{◌≤◌, length};
 
 use crate::{Datagram, Entry, MOST_DATAGRAM_BYTES, RxRing, TxRing};
@@ -39,39 +39,50 @@ fn entry(owner: Owner, number: u16, place: u32) -> Entry {
     }
 }
 
-#[test]
-fn a_datagram_holds_1040_bytes(rt: HostRuntime) {
-    let bytes = [0x5a; MOST_DATAGRAM_BYTES + 1];
-    for (len, fits) in [(0, true), (1, true), (1040, true), (1041, false)] {
-        match Datagram::of(Peer(3), &bytes[..len]) {
-            Some(datagram) => {
-                assert!(rt; fits, "at {len}");
-                assert_eq!(rt; datagram.peer(), Peer(3));
-                assert_eq!(rt; datagram.bytes(), &bytes[..len]);
-            }
-            None => assert!(rt; !fits, "at {len}"),
-        }
-    }
-}
-
 fn first_byte(datagram: Option<&Datagram>) -> Option<u8> {
     datagram.and_then(|it| it.bytes().first().copied())
 }
 
 #[test]
-fn a_full_ring_hands_the_datagram_back(rt: HostRuntime) -> Result<(), Fail> {
+fn a_datagram_of_up_to_1040_bytes_is_kept(rt: HostRuntime) -> Result<(), Fail> {
+    let bytes = [0x5a; MOST_DATAGRAM_BYTES];
     let mut ring = RxRing::new(rt.alloc(), 1)?;
-    for (byte, back) in [(5, None), (6, Some(6))] {
-        let Some(datagram) = Datagram::of(Peer(0), &[byte]) else {
-            continue;
-        };
-        let handed_back = ring.push(datagram).err();
-        assert_eq!(rt; first_byte(handed_back.as_ref()), back);
-        assert_eq!(rt; ring.len(), 1);
-        assert_eq!(rt; first_byte(ring.front()), Some(5));
+    // A place that held a longer datagram keeps nothing of it.
+    for len in [0, 1, MOST_DATAGRAM_BYTES, 1, 0] {
+        ring.push(Peer(3), &bytes[..len]);
+        assert_eq!(rt; ring.front().map(|it| it.peer()), Some(Peer(3)));
+        assert_eq!(rt; ring.front().map(|it| it.bytes()), Some(&bytes[..len]));
+        ring.drop_front();
     }
-    assert_eq!(rt; first_byte(ring.pop().as_ref()), Some(5));
-    assert!(rt; ring.pop().is_none());
+    assert!(rt; ring.is_empty());
+    Ok(())
+}
+
+#[test]
+fn datagrams_keep_their_order(rt: HostRuntime) -> Result<(), Fail> {
+    let mut ring = RxRing::new(rt.alloc(), 2)?;
+    ring.push(Peer(0), &[5]);
+    for byte in 6..12 {
+        ring.push(Peer(0), &[byte]);
+        assert_eq!(rt; ring.len(), 2);
+        assert_eq!(rt; first_byte(ring.front()), Some(byte - 1));
+        ring.drop_front();
+        assert_eq!(rt; first_byte(ring.front()), Some(byte));
+    }
+    ring.drop_front();
+    assert!(rt; ring.front().is_none());
+    ring.drop_front();
+    assert!(rt; ring.is_empty());
+    Ok(())
+}
+
+#[test]
+fn a_ring_of_size_0_is_full(rt: HostRuntime) -> Result<(), Fail> {
+    let mut ring = RxRing::new(rt.alloc(), 0)?;
+    assert_eq!(rt; (ring.len(), ring.size()), (0, 0));
+    assert!(rt; ring.front().is_none());
+    ring.drop_front();
+    assert_eq!(rt; (ring.len(), ring.size()), (0, 0));
     Ok(())
 }
 
