@@ -139,7 +139,7 @@ module _ (pool : Pool) (s : Session) (head : MessageHeader) (keeps : KeepsPool p
   given-kept : KeepsPool given rest
   given-kept = given-keeps (is_in_slot (head.request % 8)) pool s.slots keeps
 
-  shown-behind : (after : Pool) (d : SlotRequest) (x : Served) → d.number ≡ head.request
+  pub shown-behind : (after : Pool) (d : SlotRequest) (x : Served) → d.number ≡ head.request
       → map (shown_request after) rest ≡ map (shown_request pool) rest → shown_request after d ≡ x
       → shown after (with_slots (begun d s.slots) s) ≡ begun_with x (shown pool s)
   shown-behind after d x number same is =

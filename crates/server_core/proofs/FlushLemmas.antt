@@ -277,6 +277,11 @@ leaves-then s t a b c first second = λ p none used.
     let two = second p none (ap is_empty one.1 ∙ used) in
     (two.0, two.1 ∙ one.1, two.2 ∙ one.2)
 
+-- releasing changes no buffer
+pub bufs-released : (pool : Pool) (place : Option ℕ) → (released_at place pool).bufs ≡ pool.bufs
+bufs-released pool None = refl
+bufs-released pool (Some p) = refl
+
 pub shown-released : (pool : Pool) (place : Option ℕ) (s : Session) → shown (released_at place pool) s ≡ shown pool s
 shown-released pool None s = refl
 shown-released pool (Some p) s = refl

@@ -1,12 +1,12 @@
 -- What the begin of a request, and the sending of a reply, make of a list that holds each reply of a session.
 use Rattle.rpc_base.proofs.FirstLemmas.{all-left, all-push, found-holds, found-own}
 use Rattle.std.proofs.Common.{◌≡◌, ℕ, ◌%◌, Bool, true, false, ◌||◌, cond, eqb, Option, Some, None}
-use Rattle.std.proofs.Common.{List, [], ◌∷◌, ◌++◌, refl, sym, ap, subst, ◌∙◌}
+use Rattle.std.proofs.Common.{List, [], ◌∷◌, ◌++◌, refl, sym, ap, subst, ◌∙◌, arith}
 use Rattle.std.specs.Prelude.{IsTrue}
 use Rattle.std.specs.List.{AllByRecursion, find, list_any}
 use Rattle.std.proofs.lemmas.Bool.{and_parts, eq-eqb, eqb-true, ne_eqb}
 use Rattle.message_buffer.specs.Buffer.{Buffer}
-use Rattle.buffer_pool.specs.Pool.{Pool, filled, lowest_empty}
+use Rattle.buffer_pool.specs.Pool.{Pool, filled, lowest_empty, refs_of}
 use Rattle.packet_header.specs.declared.packet.MessageHeader.{MessageHeader}
 use Rattle.packet_rings.specs.Entries.{is_of}
 use Rattle.packet_rings.specs.Values.{EntryValue}
@@ -22,10 +22,12 @@ use Rattle.server_core.specs.Serving.{begun, first_given, first_taken, given_up,
 use Rattle.server_core.specs.Session.{IsSession, Session, answer_of, is_in_slot, newest, owner_of}
 use Rattle.server_core.specs.Steps.{IsReply}
 use Rattle.server_core.specs.declared.slot.SlotRequest.{SlotRequest}
+use Rattle.server_core.specs.declared.slot.Stored.{Stored}
 use Rattle.server_core.proofs.ChangedLemmas.{self-first}
 use Rattle.server_core.proofs.FlushLemmas.{all-taken, flush-holds, flush-others}
 use Rattle.server_core.proofs.HoldLemmas.{AreOwn, KeepsUses, and-none, and-one, any-behind}
-use Rattle.server_core.proofs.HoldLemmas.{any-left, named-unplaced, none-pass, own-as, posted-any}
+use Rattle.server_core.proofs.HoldLemmas.{any-left, named-behind, named-place, named-unplaced, none-pass}
+use Rattle.server_core.proofs.HoldLemmas.{own-as, posted-any}
 use Rattle.server_core.proofs.HoldLemmas.{rest-as, rest-behind, rest-left, uses-beside}
 use Rattle.server_core.proofs.HoldStepLemmas.{alone-newest, put-together, rest-new, rest-other}
 use Rattle.server_core.proofs.OtherLemmas.{first-others, given-others}
@@ -40,7 +42,7 @@ listed None = []
 listed (Some q) = q ∷ []
 
 -- a session of the newest request of a slot alone
-abbrev only : ℕ → Session → Session
+abbrev pub only : ℕ → Session → Session
 only r s = with_slots (listed (newest r s)) s
 
 only-cases : (i : ℕ) (s : Session) (o : Option SlotRequest) → find (is_in_slot i) s.slots ≡ o
@@ -48,7 +50,7 @@ only-cases : (i : ℕ) (s : Session) (o : Option SlotRequest) → find (is_in_sl
 only-cases i s None found = refl
 only-cases i s (Some q) found = rw (find-passes (is_in_slot i) s.slots q found) refl
 
-only-newest : (r : ℕ) (s : Session) → newest r (only r s) ≡ newest r s
+pub only-newest : (r : ℕ) (s : Session) → newest r (only r s) ≡ newest r s
 only-newest r s = only-cases (r % 8) s (newest r s) refl
 
 -- no entry is a reply to a request of a number that none of these has
@@ -163,6 +165,24 @@ module _ (pool : Pool) (s : Session) (r : ℕ) (h : IsSession s) (keeps : KeepsP
         → HoldsAll (with_slots (begun d s.slots) s) new (es ++ e ∷ [])
     first-holds k e none reply mine =
         begun-behind k e reply (record { each = all-push _ es e mine-each (λ of. mine); all = rw none tt })
+
+    -- which has a part of the answer
+    pub first-answered-holds : (k : ℕ) (e : EntryValue) (a : Stored) → answer_of d.state ≡ Some a
+        → refs_of new a.place ≡ 1 → e.place ≡ Some a.place
+        → IsReply r k (with_slots (begun d s.slots) s) new e → IsReplyIn d e
+        → HoldsAll (with_slots (begun d s.slots) s) new (es ++ e ∷ [])
+    first-answered-holds k e a is one place reply mine =
+        let own = reply.owner in
+        let all : refs_of new a.place ≡ named_by (owner_of s.number d) a.place (es ++ e ∷ []) =
+        omega (
+          arith,
+          one,
+          mine-named a.place,
+          named-behind s.number r e own (owner_of s.number d) a.place es,
+          named-place s.number r e own d a.place number place,
+        ) in
+        begun-behind k e reply
+        (record { each = all-push _ es e mine-each (λ of. mine); all = rw is all })
 
 -- each way of the begin leaves the places of all but the older request
 pub given-leaves : (pool : Pool) (s : Session) (head : MessageHeader)

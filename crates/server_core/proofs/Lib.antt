@@ -1,3 +1,4 @@
+mod AgainLemmas
 mod BeginLemmas
 mod ChangedLemmas
 mod GivenLemmas

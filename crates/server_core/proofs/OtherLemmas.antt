@@ -116,7 +116,7 @@ all-others pool slots = λ p none used.
     let same = all-same p pool slots none in (refl, same.use_is, same.buf_is)
 
 -- a request begins
-begun-names : (p : ℕ) (slots : List SlotRequest) (d : SlotRequest) → names p slots ≡ 0
+pub begun-names : (p : ℕ) (slots : List SlotRequest) (d : SlotRequest) → names p slots ≡ 0
     → own_names p d ≡ 0 → names p (begun d slots) ≡ 0
 begun-names p slots d none own =
     omega (

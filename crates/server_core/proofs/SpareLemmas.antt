@@ -37,7 +37,7 @@ spare-emptied pool p full =
       full_used (use_at pool p) full,
     )
 
-spare-held : (pool : Pool) (p : ℕ) → IsFull pool p → spare_of (held p pool) ≡ spare_of pool
+pub spare-held : (pool : Pool) (p : ℕ) → IsFull pool p → spare_of (held p pool) ≡ spare_of pool
 spare-held pool p full =
     omega (
       arith,
@@ -88,7 +88,7 @@ all-spare pool (q ∷ qs) keeps unheld =
     )
 
 -- a request begins
-begun-places : (slots : List SlotRequest) (d : SlotRequest)
+pub begun-places : (slots : List SlotRequest) (d : SlotRequest)
     → places (begun d slots) ≡ places (without_first (is_in_slot (d.number % 8)) slots) + own_places
     d
 begun-places slots d =

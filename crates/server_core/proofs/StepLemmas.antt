@@ -115,18 +115,26 @@ pub first-took : (h : MessageHeader) (body : List ℕ) (b : Buffer) → IsFirstP
     → first_packet h.request h body ≡ first_shown h (bytes_of b) None
 first-took h body b first long = rw (first-bytes h.size body b first long) refl
 
--- a request that begins with its only packet, once its handler ran
-pub ran-whole : (v : Server) (h : MessageHeader) (body answer : List ℕ)
+-- a request that begins with its only packet, once its handler ran: as one that went to a worker
+-- before
+pub answered-begun : (v : Server) (h : MessageHeader) (answer : List ℕ)
     → find (is_request h.request) v.slots ≡ None
-    → ran h body answer v ≡ gone_on_as h.request (answered answer)
-    (begun_with (given (first_shown h [] None)) v) ∷ []
-ran-whole v h body answer none =
+    → begun_with (answered answer (first_shown h [] None)) v
+    ≡ gone_on_as h.request (answered answer) (begun_with (given (first_shown h [] None)) v)
+answered-begun v h answer none =
     let rest = any-without (is_request h.request)
     (in_slot_of h.request) v.slots (missing-none (is_request h.request) v.slots none) in
     let last = at_first-last (is_request h.request) (answered answer)
     (given (first_shown h [] None)) (without_first (in_slot_of h.request) v.slots) rest
     (eq-eqb h.request h.request refl) in
-    ran-begun v h body answer none ∙ rw last refl
+    rw last refl
+
+pub ran-whole : (v : Server) (h : MessageHeader) (body answer : List ℕ)
+    → find (is_request h.request) v.slots ≡ None
+    → ran h body answer v ≡ gone_on_as h.request (answered answer)
+    (begun_with (given (first_shown h [] None)) v) ∷ []
+ran-whole v h body answer none =
+    ran-begun v h body answer none ∙ ap (λ w. w ∷ []) (answered-begun v h answer none)
 
 -- a request that goes on
 module _ (pool : Pool) (s : Session) (q : SlotRequest) (head : MessageHeader) (sound : IsSession s)

@@ -6,6 +6,7 @@ pub mod Keeping
 pub mod KeepsPool
 pub mod Noting
 pub mod Replies
+pub mod Reusing
 pub mod Rows
 pub mod Serving
 pub mod Session

@@ -32,6 +32,17 @@ first_given h = record {
   state = Working;
 }
 
+-- one of this only packet has its answer at once, whose reply is queued
+abbrev pub first_answered : MessageHeader → Stored → SlotRequest
+first_answered h a = record {
+  number = h.request;
+  req_type = h.req_type;
+  size = h.size;
+  taken = 1;
+  queued = 1;
+  state = Answered a;
+}
+
 -- one reply more is queued, or one less
 abbrev pub one_queued : SlotRequest → SlotRequest
 one_queued q = record q { queued = q.queued + 1 }

@@ -37,26 +37,31 @@ pub(crate) fn make_room<V: Service>(
     ensures room { IfOk result (λ b. (served : Served) → V.stands service.now served →
         length (V.answer served req_type ask.now) ≡ b.len) }
 {
-    let room = service.room(req_type, ask);
-    let mut answer = MsgBuf::new(alloc, room)?;
-    answer.set_len(room);
+    make_answer(alloc, service.room(req_type, ask))
+}
+
+/// A buffer for an answer of this size.
+pub(crate) fn make_answer(alloc: Global, size: u32) -> Result<MsgBuf, NoMemory>
+    requires { IsMessage size }
+    ensures { IfOk result (λ b. (b.len ≡ size) × (size ≤ capacity_of b)) }
+{
+    let mut answer = MsgBuf::new(alloc, size)?;
+    answer.set_len(size);
     Ok(answer)
 }
 
-/// Runs the handler of a type that is handled inline, and gives its answer in the buffer that was
-/// made for it.
-pub(crate) fn serve<V: Service>(service: &mut V, req_type: u8, ask: &[u8], room: MsgBuf) -> MsgBuf
+/// Runs the handler of a type that is handled inline, which writes its answer over the message of a
+/// buffer as long as the answer.
+pub(crate) fn serve<V: Service>(service: &mut V, req_type: u8, ask: &[u8], answer: &mut MsgBuf)
     requires inline { V.mode_of req_type ≡ Inline }
-    requires message { IsMessage room.len × (room.len ≤ capacity_of room) }
     requires room { (served : Served) → V.stands service.old served →
-        length (V.answer served req_type ask.now) ≡ room.len }
-    ensures message { IsMessage result.len × (result.len ≤ capacity_of result) }
+        length (V.answer served req_type ask.now) ≡ answer.old.len }
+    ensures len { answer.new.len ≡ answer.old.len }
+    ensures capacity { capacity_of answer.new ≡ capacity_of answer.old }
     ensures answer { (served : Served) → V.stands service.old served →
-        bytes_of result ≡ V.answer served req_type ask.now }
+        bytes_of answer.new ≡ V.answer served req_type ask.now }
     ensures next { (served : Served) → V.stands service.old served →
         V.stands service.new (served ++ (req_type, ask.now) ∷ []) }
 {
-    let mut answer = room;
     service.serve(req_type, ask, answer.whole_mut());
-    answer
 }

@@ -7,6 +7,7 @@ ghost use Rattle.server_core.specs.KeepsPool.{KeepsPool};
 ghost use Rattle.server_core.specs.Session.{IsSession, new_session, owner_in};
 ghost use Rattle.server_core.specs.Shown.{paired, shown};
 
+mod again;
 mod asked;
 mod conditions;
 mod finish;

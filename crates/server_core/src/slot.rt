@@ -9,7 +9,8 @@ ghost use Rattle.server_core.specs.KeepsPool.{IsKept};
 ghost use Rattle.server_core.specs.Replies.{CanHold, answer_size, entry_at, has_reply, head_of};
 ghost use Rattle.server_core.specs.Replies.{place_of};
 ghost use Rattle.server_core.specs.Rows.{as_newest};
-ghost use Rattle.server_core.specs.Serving.{IsUnheld, first_given, last_given, one_left};
+ghost use Rattle.server_core.specs.Serving.{IsUnheld, first_answered, first_given, last_given};
+ghost use Rattle.server_core.specs.Serving.{one_left};
 ghost use Rattle.server_core.specs.Session.{IsInTurn, answer_of, ask_of, is_at_work};
 ghost use Rattle.server_core.specs.Session.{owner_of};
 ghost use Rattle.packet_header.specs.Parts.{IsMessage};
@@ -72,6 +73,21 @@ impl SlotRequest {
             taken: 1,
             queued: 0,
             state: SlotState::Working,
+        }
+    }
+
+    /// A request that begins with its only packet, and has its answer at once, whose reply is
+    /// queued.
+    pub fn answered(head: &MessageHeader, answer: Stored) -> SlotRequest
+        ensures { result ≡ first_answered head.now answer }
+    {
+        SlotRequest {
+            number: head.request,
+            req_type: head.req_type,
+            size: head.size,
+            taken: 1,
+            queued: 1,
+            state: SlotState::Answered { answer },
         }
     }
 

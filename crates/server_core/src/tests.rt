@@ -210,5 +210,6 @@ fn an_older_request_leaves_the_ring(rt: HostRuntime) -> Result<(), Fail> {
     }
     let front = t.pop().ok_or("the ring is empty")?;
     assert_eq!(rt; front.owner, owner_of(other));
+    assert_eq!(rt; s.answer(p, newer), [3, 2, 1].as_slice());
     Ok(())
 }

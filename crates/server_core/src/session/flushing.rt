@@ -41,6 +41,7 @@ impl ServerSession {
             (flushed_facts who.now self.now.number (newest request self.now) tx.old.items) }
         ensures unheld { IfSome (newest request self.now) (IsUnheld pool.new) }
         ensures shown { shown pool.new self.now ≡ shown pool.old self.now }
+        ensures bufs { pool.new.bufs ≡ pool.old.bufs }
         ensures spare { spare_of pool.new ≡ spare_of pool.old }
         ensures others { LeavesOthers self.now.slots self.now.slots pool.old pool.new }
         ensures holds { HoldsAll self.now pool.old tx.old.items →

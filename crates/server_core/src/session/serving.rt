@@ -67,7 +67,8 @@ impl ServerSession {
         ensures counts { CountsWith (result ∷ []) pool.old pool.new }
         ensures keeps_pool { KeepsPool pool.new self.new.slots }
     {
-        let answer = serve(service, head.req_type, ask, room);
+        let mut answer = room;
+        serve(service, head.req_type, ask, &mut answer);
         self.note_ran(head, ask, answer.bytes(), who, rec);
         self.put_answer(pool, request, answer)
     }

@@ -36,7 +36,7 @@ ghost use Rattle.server_core.specs.Steps.{bytes_with, first_shown, gone_on_as, g
 ghost use Rattle.buffer_pool.specs.Counting.{Counts};
 
 use super::ServerSession;
-use crate::running::{make_message, make_room};
+use crate::running::{make_answer, make_message, make_room};
 use crate::slot::{SlotRequest, SlotState, Stored, is_background};
 use crate::slots::Slots;
 use crate::step::Step;
@@ -52,7 +52,7 @@ use worker_board::Parcel;
 impl ServerSession {
     // A new request begins with this packet. Where it is the only one, its handler runs, or it goes
     // to a worker. The buffers are made first, and then the replies to the older request of the
-    // slot are flushed.
+    // slot are flushed. None is made where the older answer's buffer can be used again.
     pub(super) fn begin<V: Service, R: Recorder>(
         &mut self,
         alloc: Global,
@@ -113,10 +113,10 @@ impl ServerSession {
             let reply = self.begin_first(pool, head, ask);
             return Step::Took { reply: Some(reply) };
         }
-        let Ok(room) = make_room(alloc, service, head.req_type, body) else {
-            return Step::Dropped(DropReason::NoMemory);
-        };
         if is_background(mode) {
+            let Ok(room) = make_room(alloc, service, head.req_type, body) else {
+                return Step::Dropped(DropReason::NoMemory);
+            };
             let Ok(ask) = make_message(alloc, head.size, body) else {
                 return Step::Dropped(DropReason::NoMemory);
             };
@@ -124,6 +124,15 @@ impl ServerSession {
             self.begin_working(pool, head);
             return Step::Give(self.parcel(head, ask, room));
         }
+        let size = service.room(head.req_type, body);
+        if let Some(place) = self.reusable(pool, head.request, size) {
+            self.flush_older(pool, tx, head.request, who, rec);
+            let reply = self.answer_again(pool, service, place, size, head, body, who, rec);
+            return Step::Ran { reply };
+        }
+        let Ok(room) = make_answer(alloc, size) else {
+            return Step::Dropped(DropReason::NoMemory);
+        };
         self.flush_older(pool, tx, head.request, who, rec);
         self.begin_working(pool, head);
         let request = SlotRequest::given(head);

@@ -93,6 +93,31 @@ returns-then-is_background-clause-holds g c =
     (c.flush_older-then-is_background.ensures.holds holds) in
     rw (append-nil items) all
 
+pub returns-in-Some-clause-handled : goal.returns-in-Some-clause-handled
+returns-in-Some-clause-handled g c =
+    let v = shown c.args.pool.now c.args.self.now in
+    let none = none-shown c.args.pool.now c.args.self.now c.args.head.now.request c.requires.session
+    c.requires.beginning.newer in
+    let answers = c.answer_again-reply.ensures.answers in
+    let asked = asked-begun v c.args.head.now c.args.body.now none in
+    record {
+      answer = answers.answer;
+      steps = ran-whole v c.args.head.now c.args.body.now answers.answer none
+          ∙ ap (λ w. w ∷ []) (sym (answers.shown_is
+          ∙ ap (λ x. gone_on_as c.args.head.now.request (answered answers.answer)
+          (begun_with (given (first_shown c.args.head.now [] None)) x))
+          c.flush_older-in-Some.ensures.shown));
+      by_service = rw asked answers.by_service;
+      grew = rw asked (grew-then g.R.Recorder.facts g.R.Recorder.whole c.args.rec.now
+          c.flush_older-in-Some.new.rec c.answer_again-reply.new.rec _ _
+          c.flush_older-in-Some.ensures.noted answers.grew);
+    }
+
+pub returns-in-Some-clause-all_served : goal.returns-in-Some-clause-all_served
+returns-in-Some-clause-all_served g c =
+    c.answer_again-reply.ensures.served g.V.Service.mode_of (rw c.requires.mode c.requires.served)
+    c.requires.all_served
+
 pub returns-clause-handled : goal.returns-clause-handled
 returns-clause-handled g c =
     let v = shown c.args.pool.now c.args.self.now in

@@ -16,7 +16,7 @@ use Rattle.server_core.specs.Flushing.{bare, flushed_facts, queued_of}
 use Rattle.server_core.specs.KeepsPool.{IsKept}
 use Rattle.server_core.specs.Replies.{released_at}
 use Rattle.server_core.specs.Session.{IsSession, is_in_slot, newest, owner_of}
-use Rattle.server_core.proofs.FlushLemmas.{filter-none, flush-held, flush-holds, flush-others}
+use Rattle.server_core.proofs.FlushLemmas.{bufs-released, filter-none, flush-held, flush-holds, flush-others}
 use Rattle.server_core.proofs.FlushLemmas.{flush-spare, flush-unheld, grew-then}
 use Rattle.server_core.proofs.FlushLemmas.{leaves-then, numbers-flushed, numbers-none}
 use Rattle.server_core.proofs.FlushLemmas.{shown-released}
@@ -91,6 +91,7 @@ loop-left-preserved g c =
       size = ap (λ r. r.size) c.in-Some-flush.ensures.left ∙ inv.size;
       noted = (x ++ fact ∷ [], grown, order);
       shown = shown-released pool e.place c.args.self.now ∙ inv.shown;
+      bufs = bufs-released pool e.place ∙ inv.bufs;
       spare = flush-spare n q pool old new _ e inv.holds out own kept ∙ inv.spare;
       others = leaves-then c.args.self.now.slots c.args.self.now.slots c.args.pool.now pool
           (released_at e.place pool) inv.others

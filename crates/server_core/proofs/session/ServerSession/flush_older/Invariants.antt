@@ -23,6 +23,7 @@ invariant-loop-left g l = record {
       × (x ++ flushed_facts l.fn.who l.fn.self.number (Some l.older) l.tx.items
       ≡ flushed_facts l.fn.who l.fn.self.number (Some l.older) l.fn.tx.items);
   shown : shown l.pool l.fn.self ≡ shown l.fn.pool l.fn.self;
+  bufs : l.pool.bufs ≡ l.fn.pool.bufs;
   spare : spare_of l.pool ≡ spare_of l.fn.pool;
   others : LeavesOthers l.fn.self.slots l.fn.self.slots l.fn.pool l.pool;
   all : HoldsAll l.fn.self l.fn.pool l.fn.tx.items → HoldsAll l.fn.self l.pool l.tx.items;

@@ -1,0 +1,136 @@
+use Rattle.std.proofs.Common.{◌≡◌, Some, refl, sym, ap, ◌∙◌, arith}
+use Rattle.message_buffer.specs.Buffer.{bytes_of}
+use Rattle.message_buffer.specs.Messages.{message_in}
+use Rattle.buffer_pool.specs.Pool.{buf_at}
+use Rattle.server_core.specs.Serving.{begun, with_slots}
+use Rattle.server_core.specs.Session.{newest}
+use Rattle.server_core.specs.Shown.{shown}
+use Rattle.server_core.proofs.AgainLemmas.{again-counts, again-full, again-holds, again-keeps}
+use Rattle.server_core.proofs.AgainLemmas.{again-others, again-reply, again-shows, again-spare}
+use Rattle.server_core.proofs.AgainLemmas.{again-unheld, again_request}
+use Rattle.server_core.proofs.AgainLemmas.{answered-turn}
+use Rattle.server_core.proofs.BeginLemmas.{begun-newest, begun-served}
+use Rattle.server_core.proofs.HoldStepLemmas.{late-placed}
+use Rattle.server_core.proofs.QueuedLemmas.{first-counted}
+use Rattle.server_core.proofs.StepLemmas.{answered-begun, none-shown}
+use Rattle.server_core.proofs.session.ServerSession.answer_again.Goals as goal
+
+pub serve_at-requires-clause-full : goal.serve_at-requires-clause-full
+serve_at-requires-clause-full g c =
+    again-full c.args.pool.now c.args.self.now c.args.head.now c.args.size c.args.place
+    c.requires.reusable c.requires.keeps_pool
+
+pub get-requires : goal.get-requires
+get-requires g c = rw c.serve_at.ensures.rewritten.after_is
+    (again-full c.args.pool.now c.args.self.now c.args.head.now c.args.size c.args.place
+    c.requires.reusable c.requires.keeps_pool)
+
+pub begin_answered-requires-clause-full : goal.begin_answered-requires-clause-full
+begin_answered-requires-clause-full g c =
+    rw c.serve_at.ensures.rewritten.after_is
+    (again-full c.args.pool.now c.args.self.now c.args.head.now c.args.size c.args.place
+    c.requires.reusable c.requires.keeps_pool)
+
+pub returns-clause-keeps_pool : goal.returns-clause-keeps_pool
+returns-clause-keeps_pool g c =
+    let re = c.serve_at.ensures.rewritten in
+    rw (c.begin_answered.ensures.session, c.begin_answered.ensures.pool, re.after_is)
+    (again-keeps c.args.pool.now c.args.self.now c.args.head.now c.args.size c.args.place
+    c.requires.reusable c.requires.keeps_pool re.buf (rw re.after_is at re.there) re.size_is)
+
+pub returns-clause-others : goal.returns-clause-others
+returns-clause-others g c =
+    let re = c.serve_at.ensures.rewritten in
+    rw (c.begin_answered.ensures.session, c.begin_answered.ensures.pool, re.after_is)
+    (again-others c.args.pool.now c.args.self.now c.args.head.now c.args.size c.args.place
+    c.requires.reusable re.buf)
+
+pub returns-clause-spare : goal.returns-clause-spare
+returns-clause-spare g c =
+    let re = c.serve_at.ensures.rewritten in
+    rw (c.begin_answered.ensures.session, c.begin_answered.ensures.pool, re.after_is)
+    (again-spare c.args.pool.now c.args.self.now c.args.head.now c.args.size c.args.place
+    c.requires.reusable c.requires.keeps_pool re.buf)
+
+pub returns-clause-served : goal.returns-clause-served
+returns-clause-served g c = λ mode_of new all.
+    rw c.begin_answered.ensures.session (begun-served mode_of c.args.self.now.slots
+    (again_request c.args.head.now c.args.size c.args.place) new all)
+
+pub returns-clause-no_bytes : goal.returns-clause-no_bytes
+returns-clause-no_bytes g c =
+    let d = again_request c.args.head.now c.args.size c.args.place in
+    let own : newest c.args.head.now.request (with_slots (begun d c.args.self.now.slots) c.args.self.now) ≡ Some d =
+    begun-newest c.args.self.now d c.requires.session in
+    rw (c.begin_answered.ensures.session, own) refl
+
+pub returns-clause-reply : goal.returns-clause-reply
+returns-clause-reply g c =
+    let re = c.serve_at.ensures.rewritten in
+    let turn = answered-turn c.args.head.now (record { place = c.args.place; size = c.args.size })
+    c.requires.size c.requires.one c.requires.answer in
+    rw (
+      c.begin_answered.ensures.reply,
+      c.begin_answered.ensures.session,
+      c.begin_answered.ensures.pool,
+      re.after_is,
+    )
+    (again-reply c.args.pool.now c.args.self.now c.args.head.now c.args.size c.args.place
+    c.requires.reusable c.requires.keeps_pool re.buf c.requires.session turn (omega (arith, c.requires.one)))
+
+pub returns-clause-holds : goal.returns-clause-holds
+returns-clause-holds g c = λ entries holds.
+    let re = c.serve_at.ensures.rewritten in
+    let turn = answered-turn c.args.head.now (record { place = c.args.place; size = c.args.size })
+    c.requires.size c.requires.one c.requires.answer in
+    let unheld = again-unheld c.args.pool.now c.args.self.now c.args.head.now c.args.size c.args.place
+    c.requires.reusable c.requires.keeps_pool (rw c.requires.reusable.newest_is at c.requires.unheld) in
+    rw (
+      c.begin_answered.ensures.reply,
+      c.begin_answered.ensures.session,
+      c.begin_answered.ensures.pool,
+      re.after_is,
+    )
+    (again-holds c.args.pool.now c.args.self.now c.args.head.now c.args.size c.args.place
+    c.requires.reusable c.requires.keeps_pool re.buf c.requires.session turn (omega (arith, c.requires.one))
+    entries holds unheld)
+
+pub returns-clause-queued : goal.returns-clause-queued
+returns-clause-queued g c = λ entries holds counted.
+    let d = again_request c.args.head.now c.args.size c.args.place in
+    rw c.begin_answered.ensures.session
+    (first-counted c.args.pool.now c.args.self.now c.args.head.now.request c.requires.session
+    c.requires.keeps_pool d refl c.args.pool.now entries holds counted c.begin_answered.result refl
+    (ap (λ e. e.owner) c.begin_answered.ensures.reply))
+
+pub returns-clause-counts : goal.returns-clause-counts
+returns-clause-counts g c = λ entries counts.
+    let re = c.serve_at.ensures.rewritten in
+    let d = again_request c.args.head.now c.args.size c.args.place in
+    rw (c.begin_answered.ensures.pool, re.after_is)
+    (again-counts c.args.pool.now c.args.self.now c.args.head.now c.args.size c.args.place
+    c.requires.reusable c.requires.keeps_pool re.buf entries c.begin_answered.result
+    (ap (λ e. e.place) c.begin_answered.ensures.reply
+    ∙ late-placed d (record { place = c.args.place; size = c.args.size }) 0 refl
+    (omega (arith, c.requires.one))) counts)
+
+pub returns-clause-answers : goal.returns-clause-answers
+returns-clause-answers g c =
+    let re = c.serve_at.ensures.rewritten in
+    let v = shown c.args.pool.now c.args.self.now in
+    let none = none-shown c.args.pool.now c.args.self.now c.args.head.now.request c.requires.session
+    c.requires.newer in
+    let bytes : message_in (buf_at c.serve_at.new.pool c.args.place) ≡ bytes_of re.buf = ap message_in re.there in
+    let same : bytes_of c.get.result.now ≡ bytes_of re.buf = ap message_in (sym c.get.ensures ∙ re.there) in
+    record {
+      answer = bytes_of re.buf;
+      shown_is = rw (c.begin_answered.ensures.session, c.begin_answered.ensures.pool, re.after_is)
+          (again-shows c.args.pool.now c.args.self.now c.args.head.now c.args.size c.args.place
+          c.requires.reusable c.requires.keeps_pool re.buf (rw re.after_is at re.there) re.size_is)
+          ∙ answered-begun v c.args.head.now (bytes_of re.buf) none;
+      by_service = λ served stands. (
+        sym bytes ∙ c.serve_at.ensures.answer served stands,
+        c.serve_at.ensures.next served stands,
+      );
+      grew = rw (c.bytes.ensures.message, same) at c.note_ran.ensures;
+    }
