@@ -74,10 +74,11 @@ impl Store {
         ensures count { result ≡ length self.now.clients }
         ensures few { result ≤ 65536 }
     {
-        let Some(last) = self.sides.last() else {
-            return 0;
-        };
-        usize::from(last.session.session().0) + 1
+        if let Some(last) = self.sides.last() {
+            // Its number, of 16 bits, is its place.
+            let _number = last.session.session();
+        }
+        self.sides.len()
     }
 
     /// What was handed in, as it is seen, is that of the calls which are seen.
