@@ -2,6 +2,7 @@
 -- places that others name.
 use Rattle.std.specs.Prelude.{◌≡◌, ℕ, ◌<◌, ◌≤◌, false, List, Option, Some, None, IfSome}
 use Rattle.std.specs.List.{AllByRecursion}
+use Rattle.rpc_base.specs.declared.limits.TheConstants.{MOST_REFERENCES}
 use Rattle.buffer_pool.specs.Pool.{Pool, IsFull, buf_at, held, refs_of, released, use_at}
 use Rattle.buffer_pool.specs.Uses.{is_empty}
 
@@ -17,7 +18,7 @@ released_at (Some p) pool = released p pool
 
 -- the place, if there is one, is full and one reference more can be counted
 abbrev pub MayHold : Pool → Option ℕ → Type 0
-MayHold pool place = IfSome place (λ p. IsFull pool p × (refs_of pool p < 4294967295))
+MayHold pool place = IfSome place (λ p. IsFull pool p × (refs_of pool p < MOST_REFERENCES))
 
 -- there is a reference to the place, if there is a place
 abbrev pub IsHeld : Pool → Option ℕ → Type 0

@@ -5,7 +5,7 @@ ghost use Rattle.std.specs.Prelude.{◌≢◌, IfSome};
 ghost use Rattle.buffer_pool.specs.Tree.{doubled};
 
 use crate::tree::{first_leaf, join_up, shape_for};
-use rpc_base::NoMemory;
+use rpc_base::{MOST_REFERENCES, NoMemory};
 use std::alloc::Global;
 use std::marker::Model;
 
@@ -35,7 +35,7 @@ impl Model for LowestEmpty {
 
 /// The first place that may be empty, once a place is or isn't.
 fn from_after(from: u32, place: u32, empty: bool) -> u32
-    requires { place < 4294967295 }
+    requires { place < MOST_REFERENCES }
     ensures others { (k : ℕ) → k < result → k ≢ place → k < from }
     ensures own { place < result → empty ≡ false }
 {

@@ -7,7 +7,7 @@ ghost use Rattle.buffer_pool.specs.Uses.{is_empty};
 
 use crate::lowest::LowestEmpty;
 use crate::usage::Use;
-use rpc_base::NoMemory;
+use rpc_base::{MOST_REFERENCES, NoMemory};
 use std::alloc::Global;
 use std::marker::Model;
 
@@ -84,7 +84,7 @@ impl Places {
 
 /// The count of empty places, once one more is empty or full.
 fn recount(spare: u32, is_empty: bool) -> u32
-    requires more { is_empty ≡ true → spare < 4294967295 }
+    requires more { is_empty ≡ true → spare < MOST_REFERENCES }
     requires fewer { is_empty ≡ false → 0 < spare }
     ensures more { is_empty ≡ true → result ≡ spare + 1 }
     ensures fewer { is_empty ≡ false → result + 1 ≡ spare }

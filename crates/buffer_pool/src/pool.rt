@@ -10,7 +10,7 @@ use crate::held::Held;
 use crate::places::Places;
 use crate::usage::Use;
 use message_buffer::MsgBuf;
-use rpc_base::{NoMemory, Place};
+use rpc_base::{MOST_REFERENCES, NoMemory, Place};
 use std::alloc::Global;
 use std::marker::Model;
 
@@ -103,7 +103,7 @@ impl BufferPool {
     /// Adds a reference to the buffer of a full place, which has fewer than 2^32 - 1.
     pub fn hold(&mut self, place: Place)
         requires full { IsFull self.old place }
-        requires few { refs_of self.old place < 4294967295 }
+        requires few { refs_of self.old place < MOST_REFERENCES }
         ensures { self.new ≡ held place self.old }
     {
         let refs = self.refs(place);

@@ -4,12 +4,9 @@ ghost use Rattle.std.specs.List.{Contains, insert, remove};
 ghost use Rattle.std.specs.Vec.{vec_capacity};
 ghost use Rattle.calling_sessions.specs.Rising.{IsNext, Rises, StandsAt};
 
-use rpc_base::NoMemory;
+use rpc_base::{MOST_SESSIONS, NoMemory};
 use std::alloc::Global;
 use std::marker::Model;
-
-// How many numbers a session may have.
-const NUMBERS: usize = 65_536;
 
 // Puts a number into its place: most often that is behind all others.
 fn put_at(numbers: &mut Vec<u16>, place: usize, number: u16)
@@ -52,14 +49,15 @@ pub struct CallingSessions {
 impl Model for CallingSessions {
     ghost use Rattle.std.specs.Prelude.{◌≤◌, ℕ, List};
     ghost use Rattle.std.specs.Vec.{vec_capacity};
+    ghost use Rattle.rpc_base.specs.declared.limits.TheConstants.{MOST_SESSIONS};
     ghost use Rattle.calling_sessions.specs.Rising.{AreBelow, Rises};
 
     ghost Value = { List ℕ };
 
     ghost view = { λ s. s.numbers.items };
 
-    ghost invariant = { λ s. Rises s.numbers.items × AreBelow 65536 s.numbers.items
-        × (65536 ≤ vec_capacity s.numbers) };
+    ghost invariant = { λ s. Rises s.numbers.items × AreBelow MOST_SESSIONS s.numbers.items
+        × (MOST_SESSIONS ≤ vec_capacity s.numbers) };
 }
 
 impl CallingSessions {
@@ -67,7 +65,7 @@ impl CallingSessions {
     pub fn new(alloc: Global) -> Result<CallingSessions, NoMemory>
         ensures { IfOk result (λ s. s ≡ []) }
     {
-        let numbers = Vec::with_capacity(alloc, NUMBERS)?;
+        let numbers = Vec::with_capacity(alloc, MOST_SESSIONS)?;
         Ok(CallingSessions { numbers })
     }
 

@@ -2,6 +2,7 @@
 use Rattle.std.specs.Prelude.{◌≡◌, ℕ, ◌+◌, ◌<◌, ◌≤◌, ◌==◌, if◌then◌else◌, List, sum_by, Option}
 use Rattle.std.specs.Prelude.{Some, None, IfSome}
 use Rattle.std.specs.List.{AllByRecursion}
+use Rattle.rpc_base.specs.declared.limits.TheConstants.{MOST_REFERENCES}
 use Rattle.message_buffer.specs.Buffer.{Buffer, capacity_of}
 use Rattle.buffer_pool.specs.Places.{KeepsAll, LeavesUnnamed}
 pub use Rattle.buffer_pool.specs.Places.{IsHeld, MayHold, held_at, released_at}
@@ -43,7 +44,7 @@ LeavesOthers = LeavesUnnamed names
 
 -- one reference more can be counted to each request
 abbrev pub CanHold : Pool → List ActiveCall → Type 0
-CanHold pool calls = AllByRecursion (λ c. refs_of pool c.ask < 4294967295) calls
+CanHold pool calls = AllByRecursion (λ c. refs_of pool c.ask < MOST_REFERENCES) calls
 
 -- that of an entry, if there is one
 abbrev pub held_for : Option EntryValue → Pool → Pool

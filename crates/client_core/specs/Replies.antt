@@ -2,6 +2,7 @@
 use Rattle.std.specs.Prelude.{◌≡◌, ℕ, ◌+◌, ◌-◌, ◌*◌, ◌%◌, ◌<◌, ◌≤◌, ◌==◌, Bool, true, false, Option}
 use Rattle.std.specs.Prelude.{Some, None, option_map, is_none, IfSome, List, if◌then◌else◌}
 use Rattle.std.specs.List.{find}
+use Rattle.rpc_base.specs.declared.limits.TheConstants.{PART_BYTES}
 use Rattle.rpc_base.specs.Tables.{at_first, without_first}
 use Rattle.rpc_base.specs.declared.state.DropReason.TheVariants.{NoCall}
 use Rattle.packet_header.specs.Parts.{packet_count}
@@ -68,14 +69,14 @@ pub record IsTaken (c : ActiveCall) (h : MessageHeader) (body_len : ℕ) : Type 
 -- the body is a part of an answer that the call has room for
 pub record IsPart (c : ActiveCall) (h : MessageHeader) (body_len : ℕ) : Type 0 where
   pub answers : packet_count c.len ≤ h.number + 1
-  pub within : 1024 * (h.number + 1 - packet_count c.len) + body_len ≤ h.size
+  pub within : PART_BYTES * (h.number + 1 - packet_count c.len) + body_len ≤ h.size
   pub same : is_same_size c.size h.size ≡ true
   pub fits : h.size ≤ c.room
 
 -- a part of the answer is written to its place in the message
 abbrev pub with_part : ActiveCall → MessageHeader → List ℕ → Buffer → Buffer
 with_part c h body b =
-    written (1024 * (h.number + 1 - packet_count c.len)) body (sized c.size h.size b)
+    written (PART_BYTES * (h.number + 1 - packet_count c.len)) body (sized c.size h.size b)
 
 abbrev pub rewritten_at : ℕ → (Buffer → Buffer) → Option Buffer → Pool → Pool
 rewritten_at p f None pool = pool

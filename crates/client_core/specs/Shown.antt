@@ -1,6 +1,7 @@
 -- A session as the definitions over histories have it: with the bytes that its places hold.
 use Rattle.std.specs.Prelude.{ℕ, ◌+◌, ◌-◌, ◌*◌, ◌≤◌, List, [], ◌∷◌, ◌++◌, count_by, map, take}
 use Rattle.std.specs.Prelude.{Option, Some, None, option_map}
+use Rattle.rpc_base.specs.declared.limits.TheConstants.{PART_BYTES}
 use Rattle.rpc_base.specs.declared.event.Event.{Event}
 use Rattle.rpc_base.specs.declared.event.Event.TheVariants.{Asked, Begun, DoneOk, DonePeerLost}
 use Rattle.rpc_base.specs.declared.event.Event.TheVariants.{DoneTooSmall, PairedClient, Posted}
@@ -52,7 +53,8 @@ asking_of pool c =
 -- the bytes of the answer taken so far: the parts of the replies from that to the last request
 -- packet on
 abbrev pub parts_of : Pool → ActiveCall → List ℕ
-parts_of pool c = take (1024 * (c.got + 1 - packet_count c.len)) (message_in (buf_at pool c.answer))
+parts_of pool c =
+    take (PART_BYTES * (c.got + 1 - packet_count c.len)) (message_in (buf_at pool c.answer))
 
 -- an active call
 abbrev pub shown_active : Pool → ActiveCall → Call

@@ -1,5 +1,5 @@
 //! What a session keeps of an active call.
-ghost use Rattle.std.specs.Prelude.{◌≡◌, ◌≤◌, ◌<◌, Some};
+ghost use Rattle.std.specs.Prelude.{◌≡◌, ◌≤◌, ◌<◌, ◌^◌, Some};
 ghost use Rattle.packet_header.specs.Header.{MessageInRange};
 ghost use Rattle.packet_header.specs.Parts.{packet_count, part_size, IsMessage};
 ghost use Rattle.packet_header.specs.declared.packet.Kind.TheVariants.{Request};
@@ -15,9 +15,11 @@ ghost use Rattle.client_core.specs.Posting.{entry_at, entry_of, head_of, marked,
 
 use crate::active::Active;
 use buffer_pool::BufferPool;
-use packet_header::{Kind, MessageHeader, PART_BYTES, count};
+use packet_header::{Kind, MessageHeader, count};
 use packet_rings::Entry;
-use rpc_base::{CallNo, DropReason, Owner, Peer, Place, RequestNo, SESSION_NUMBERS, SessionNo};
+use rpc_base::{
+    CallNo, DropReason, Owner, PART_BYTES, Peer, Place, RequestNo, SESSION_NUMBERS, SessionNo,
+};
 use rpc_laws::{ClientRow, EndRow, TimerRow};
 use session_slots::Waiting;
 
@@ -331,7 +333,7 @@ fn told_by(size: Option<u32>, head: &MessageHeader) -> Option<u32>
 
 // The bytes of a part of a message, 0 past its end.
 fn part_bytes(size: u32, index: u32) -> usize
-    requires { index ≤ 65536 }
+    requires { index ≤ 2 ^ 16 }
     ensures { result ≡ part_size size index }
 {
     size.saturating_sub(PART_BYTES * index).min(PART_BYTES) as usize

@@ -38,11 +38,11 @@ use crate::call::ActiveCall;
 use crate::calls::Calls;
 use buffer_pool::BufferPool;
 use credit_book::CreditBook;
-use packet_header::{HEAD_BYTES, Packet, encode};
+use packet_header::{Packet, encode};
 use packet_rings::Entry;
 use rpc_base::{
-    CallNo, MOST_CALLS, MOST_CREDITS, MOST_MESSAGE_BYTES, Peer, RequestNo, SESSION_NUMBERS,
-    SessionNo,
+    CallNo, HEAD_BYTES, MOST_CALLS, MOST_CREDITS, MOST_MESSAGE_BYTES, Peer, RequestNo,
+    SESSION_NUMBERS, SessionNo,
 };
 use session_slots::{SlotTable, Waiting};
 use std::alloc::Global;

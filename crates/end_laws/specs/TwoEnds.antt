@@ -3,6 +3,7 @@
 use Rattle.std.specs.Prelude.{ℕ, ◌≡◌, ◌+◌, ◌-◌, ◌*◌, ◌||◌, Bool, not, Some, is_none, List, []}
 use Rattle.std.specs.Prelude.{length, take, slice_get, if◌then◌else◌, IfSome, Contains}
 use Rattle.std.specs.List.{AllByRecursion}
+use Rattle.rpc_base.specs.declared.limits.TheConstants.{PART_BYTES}
 use Rattle.rpc_base.specs.declared.event.Event.TheVariants.{Ran}
 use Rattle.rpc_base.specs.declared.fact.Fact.{Fact}
 use Rattle.rpc_laws.specs.declared.tables.Asking.{Asking}
@@ -27,7 +28,7 @@ pub record HoldsCall (past : List Fact) (m : ℕ) (way : Way) (q : Served) (call
     (ask : List ℕ) : Type 0 where
   pub own : IsCallOf past way.peer call m way.number q.number q.req_type room ask
   pub size : q.size ≡ length ask
-  pub parts : q.ask ≡ (if is_away q then [] else take (1024 * q.taken) ask)
+  pub parts : q.ask ≡ (if is_away q then [] else take (PART_BYTES * q.taken) ask)
   pub answer : IfSome q.answer (λ answer. Contains past
       (with_two m (Ran way.number q.number q.req_type) ask answer))
 
@@ -52,7 +53,7 @@ pub record IsOfRun (past : List Fact) (way : Way) (a : Asking) (p : Progress) (s
   pub answer : List ℕ
   pub ran : Contains past (with_two way.peer (Ran way.other p.request a.req_type) a.ask answer)
   pub sized : size ≡ length answer
-  pub parts : p.parts ≡ take (1024 * (p.got + 1 - asked_packets a)) answer
+  pub parts : p.parts ≡ take (PART_BYTES * (p.got + 1 - asked_packets a)) answer
 
 -- an active call was asked and began on its session, and what it took is of its own run
 pub record IsOfSession (past : List Fact) (n : ℕ) (way : Way) (a : Asking) (p : Progress)

@@ -4,7 +4,8 @@ ghost use Rattle.std.specs.Prelude.{◌≡◌, ◌<◌, ◌≤◌, ◌+◌, ◌-
 ghost use Rattle.packet_header.specs.Parts.{packet_count};
 ghost use Rattle.message_buffer.specs.Block.{block_size, head_start};
 
-use packet_header::{HEAD_BYTES, count};
+use packet_header::count;
+use rpc_base::HEAD_BYTES;
 
 /// The largest capacity of a buffer, in bytes.
 pub const MOST_CAPACITY: u32 = 4_194_304;

@@ -5,8 +5,8 @@ ghost use Rattle.packet_header.specs.Parts.{packet_count, part};
 ghost use Rattle.message_buffer.specs.Buffer.{bytes_of, capacity_of, stamped, with_len, written};
 
 use crate::block::{MOST_CAPACITY, block_bytes, head_at};
-use packet_header::{HEAD_BYTES, PART_BYTES, part_len};
-use rpc_base::NoMemory;
+use packet_header::part_len;
+use rpc_base::{HEAD_BYTES, NoMemory, PART_BYTES};
 use std::alloc::Global;
 use std::marker::Model;
 

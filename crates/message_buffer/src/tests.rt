@@ -1,6 +1,6 @@
 //! The packets of a buffer, before and after writes.
 use super::*;
-use packet_header::HEAD_BYTES;
+use rpc_base::HEAD_BYTES;
 use std::test::Fail;
 
 #[test]

@@ -2,6 +2,7 @@
 use Rattle.std.specs.Prelude.{◌≡◌, ◌≤◌, ◌<◌, ℕ, ◌+◌, ◌⊎◌, Bool, true, false, List, length, drop}
 use Rattle.std.specs.Prelude.{slice_index, Option, Some, None, unwrap_or}
 use Rattle.rpc_base.specs.declared.limits.TheConstants.{SESSION_NUMBERS}
+use Rattle.rpc_base.specs.declared.limits.TheConstants.{HEAD_BYTES, PART_BYTES, MOST_DATAGRAM_BYTES}
 use Rattle.byteorder.specs.Endian.{big_number}
 use Rattle.packet_header.specs.declared.packet.Kind.{Kind}
 use Rattle.packet_header.specs.declared.packet.Kind.TheVariants.{Request, Rfr, Cr, Response}
@@ -40,7 +41,7 @@ control_code DisconnectReply = 7
 
 -- the first 16 bytes are the fields of a packet that carries a call
 pub record HasMessageHead (m : MessageHeader) (bytes : List ℕ) : Type 0 where
-  pub whole : 16 ≤ length bytes
+  pub whole : HEAD_BYTES ≤ length bytes
   pub magic : slice_index bytes 0 ≡ 225
   pub kind : slice_index bytes 1 ≡ kind_code m.kind
   pub req_type : slice_index bytes 2 ≡ m.req_type
@@ -51,7 +52,7 @@ pub record HasMessageHead (m : MessageHeader) (bytes : List ℕ) : Type 0 where
 
 -- the first 16 bytes are the fields of a packet that opens or closes a session; 0xFFFF is no server
 pub record HasControlHead (c : ControlHeader) (bytes : List ℕ) : Type 0 where
-  pub whole : 16 ≤ length bytes
+  pub whole : HEAD_BYTES ≤ length bytes
   pub magic : slice_index bytes 0 ≡ 225
   pub kind : slice_index bytes 1 ≡ control_code c.kind
   pub client : number_at 2 2 bytes ≡ c.client
@@ -93,15 +94,15 @@ InRange (Control c) = ControlInRange c
 
 -- the lengths of a whole datagram: of a response the last part, and each other part is full
 abbrev pub MessageLength : Kind → (size number length : ℕ) → Type 0
-MessageLength Request size number n = n ≡ 16 + part_size size number
-MessageLength Rfr size number n = n ≡ 16
-MessageLength Cr size number n = n ≡ 16
-MessageLength Response size number n = (n ≡ 16 + tail size) ⊎ ((1024 ≤ size) × (n ≡ 1040))
+MessageLength Request size number n = n ≡ HEAD_BYTES + part_size size number
+MessageLength Rfr size number n = n ≡ HEAD_BYTES
+MessageLength Cr size number n = n ≡ HEAD_BYTES
+MessageLength Response size number n = (n ≡ HEAD_BYTES + tail size) ⊎ ((PART_BYTES ≤ size) × (n ≡ MOST_DATAGRAM_BYTES))
 
 -- a datagram of n bytes is as long as its header tells
 abbrev pub HasLength : Packet → ℕ → Type 0
 HasLength (Message m) n = MessageLength m.kind m.size m.number n
-HasLength (Control c) n = n ≡ 16
+HasLength (Control c) n = n ≡ HEAD_BYTES
 
 -- the bytes are a datagram of this packet: they begin with its header, its fields are in range, and
 -- the length is right

@@ -1,5 +1,6 @@
 -- Two laws of the headers.
 use Rattle.std.specs.Prelude.{◌≡◌, ◌<◌, ◌^◌, ℕ, List, length}
+use Rattle.rpc_base.specs.declared.limits.TheConstants.{HEAD_BYTES}
 use Rattle.packet_header.specs.declared.packet.Packet.{Packet}
 use Rattle.packet_header.specs.declared.packet.Packet.TheVariants.{Message, Control}
 use Rattle.packet_header.specs.Header.{AreBytes, HasHead, InRange, Spells}
@@ -10,7 +11,7 @@ NoBytesSpellTwo = (p q : Packet) (bytes : List ℕ) → Spells p bytes → Spell
 
 -- these are 16 bytes and the packet's header
 abbrev pub IsHeadOf : Packet → List ℕ → Type 0
-IsHeadOf p head = AreBytes head × (length head ≡ 16) × HasHead p head
+IsHeadOf p head = AreBytes head × (length head ≡ HEAD_BYTES) × HasHead p head
 
 -- there is one header of this packet
 abbrev pub HasOneHead : Packet → Type 0

@@ -3,6 +3,7 @@ use Rattle.std.specs.Prelude.{ℕ, ◌+◌, ◌==◌, nat_lt, nat_le, ◌&&◌, 
 use Rattle.std.specs.Prelude.{if◌then◌else◌, List, [], ◌∷◌, length, drop, slice_index, Option, Some}
 use Rattle.std.specs.Prelude.{None, Result, Ok, Err}
 use Rattle.rpc_base.specs.declared.limits.TheConstants.{SESSION_NUMBERS}
+use Rattle.rpc_base.specs.declared.limits.TheConstants.{HEAD_BYTES, PART_BYTES, MOST_DATAGRAM_BYTES}
 use Rattle.packet_header.specs.declared.packet.Kind.{Kind}
 use Rattle.packet_header.specs.declared.packet.Kind.TheVariants.{Request, Rfr, Cr, Response}
 use Rattle.packet_header.specs.declared.packet.ControlKind.{ControlKind}
@@ -99,14 +100,14 @@ control_fault c padding = first_outside (control_fields c padding)
 
 -- the length of a datagram; of a response the last part's
 abbrev pub wanted : Kind → (size number : ℕ) → ℕ
-wanted Request size number = 16 + part_size size number
-wanted Rfr size number = 16
-wanted Cr size number = 16
-wanted Response size number = 16 + tail size
+wanted Request size number = HEAD_BYTES + part_size size number
+wanted Rfr size number = HEAD_BYTES
+wanted Cr size number = HEAD_BYTES
+wanted Response size number = HEAD_BYTES + tail size
 
 -- a response's part may be full, where its message fills one
 abbrev pub is_full_part : Kind → (size length : ℕ) → Bool
-is_full_part Response size n = nat_le 1024 size && n == 1040
+is_full_part Response size n = nat_le PART_BYTES size && n == MOST_DATAGRAM_BYTES
 is_full_part Request size n = false
 is_full_part Rfr size n = false
 is_full_part Cr size n = false
@@ -125,7 +126,7 @@ message_read m n =
 
 -- a datagram of session control, by its fields and its length
 unfoldable pub control_read : ControlHeader → (padding length : ℕ) → Result Packet BadPacket
-control_read c padding n = checked (control_fault c padding) (n == 16) (Control c) 16 n
+control_read c padding n = checked (control_fault c padding) (n == HEAD_BYTES) (Control c) HEAD_BYTES n
 
 -- a datagram that begins as a header does, by its kind
 abbrev pub read_as : Option AnyKind → List ℕ → Result Packet BadPacket
@@ -137,7 +138,7 @@ read_as (Some (OfControl kind)) bytes =
 -- a datagram: the first 16 bytes are wanted, then the magic byte, and then a kind
 unfoldable pub decoded : List ℕ → Result Packet BadPacket
 decoded bytes =
-    if nat_lt (length bytes) 16 then Err (Short (length bytes))
+    if nat_lt (length bytes) HEAD_BYTES then Err (Short (length bytes))
     else (if not (slice_index bytes 0 == 225) then Err (Magic (slice_index bytes 0))
     else read_as (kind_of (slice_index bytes 1)) bytes)
 
@@ -153,4 +154,4 @@ message_of bytes = message_in (decoded bytes)
 
 -- what follows the header
 abbrev pub body_of : {T : Type 0} → List T → List T
-body_of bytes = drop 16 bytes
+body_of bytes = drop HEAD_BYTES bytes

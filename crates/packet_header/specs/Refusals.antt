@@ -1,5 +1,6 @@
 -- Why a datagram is refused: the first of these reasons that holds.
 use Rattle.std.specs.Prelude.{◌≡◌, ◌≢◌, ◌≤◌, ◌<◌, ℕ, ◌⊎◌, List, length, slice_index, Some}
+use Rattle.rpc_base.specs.declared.limits.TheConstants.{HEAD_BYTES}
 use Rattle.packet_header.specs.declared.packet.Kind.{Kind}
 use Rattle.packet_header.specs.declared.packet.ControlKind.{ControlKind}
 use Rattle.packet_header.specs.declared.packet.Packet.{Packet}
@@ -11,7 +12,7 @@ use Rattle.packet_header.specs.Reading.{control_at, control_fields, first_outsid
 
 -- a whole header with the magic byte and this kind
 pub record IsOfKind (code : ℕ) (bytes : List ℕ) : Type 0 where
-  pub whole : 16 ≤ length bytes
+  pub whole : HEAD_BYTES ≤ length bytes
   pub magic : slice_index bytes 0 ≡ 225
   pub kind : slice_index bytes 1 ≡ code
 
@@ -27,7 +28,7 @@ FirstOutside offset bytes =
 -- the length that a refusal names
 abbrev pub length_of : Packet → ℕ
 length_of (Message m) = wanted m.kind m.size m.number
-length_of (Control c) = 16
+length_of (Control c) = HEAD_BYTES
 
 -- a packet's header, and not its length
 pub record HasOtherLength (want got : ℕ) (bytes : List ℕ) : Type 0 where
@@ -40,8 +41,8 @@ pub record HasOtherLength (want got : ℕ) (bytes : List ℕ) : Type 0 where
 
 -- this is why the datagram is refused
 abbrev pub Refuses : BadPacket → List ℕ → Type 0
-Refuses (Short len) bytes = (len ≡ length bytes) × (length bytes < 16)
-Refuses (Magic byte) bytes = (16 ≤ length bytes) × (byte ≡ slice_index bytes 0) × (byte ≢ 225)
+Refuses (Short len) bytes = (len ≡ length bytes) × (length bytes < HEAD_BYTES)
+Refuses (Magic byte) bytes = (HEAD_BYTES ≤ length bytes) × (byte ≡ slice_index bytes 0) × (byte ≢ 225)
 Refuses (NoKind byte) bytes = IsOfKind byte bytes × (7 < byte)
 Refuses (Field offset) bytes = FirstOutside offset bytes
 Refuses (Length want got) bytes = HasOtherLength want got bytes

@@ -12,14 +12,14 @@ ghost use Rattle.packet_header.specs.Reading.{is_server, message_of, message_rea
 ghost use Rattle.packet_header.specs.Parts.{packet_count};
 
 use crate::layout::{
-    CLIENT, CREDITS, HEAD_BYTES, KIND, MAGIC, NO_SESSION, NUMBER, PADDING, PADDING_BYTES, REQUEST,
-    SERVER, SESSION, SIZE, STATUS, TYPE,
+    CLIENT, CREDITS, KIND, MAGIC, NO_SESSION, NUMBER, PADDING, PADDING_BYTES, REQUEST, SERVER,
+    SESSION, SIZE, STATUS, TYPE,
 };
 use crate::packet::{ACCEPTED, BadPacket, ControlHeader, ControlKind, Kind, MessageHeader, Packet};
-use crate::parts::{PART_BYTES, count, part_len};
+use crate::parts::{count, part_len};
 use crate::ranges::{ControlRow, MessageRow, Span};
 use byteorder::{BigEndian, ByteOrder};
-use rpc_base::{RequestNo, SessionNo};
+use rpc_base::{HEAD_BYTES, PART_BYTES, RequestNo, SessionNo};
 
 /// A kind of either sort of packet.
 #[derive(Clone, Copy)]
@@ -87,7 +87,7 @@ fn kind_of(byte: u8) -> Option<AnyKind>
 /// The fields of a message header as they stand.
 #[tactic(auto, unfolding(crate::specs::Reading::message_at))]
 fn message_at(kind: Kind, bytes: &[u8]) -> MessageHeader
-    requires { 16 ≤ length bytes.now }
+    requires { HEAD_BYTES ≤ length bytes.now }
     ensures { result ≡ message_at kind bytes.now }
 {
     MessageHeader {
@@ -102,7 +102,7 @@ fn message_at(kind: Kind, bytes: &[u8]) -> MessageHeader
 
 /// The request number as it stands.
 fn request_at(bytes: &[u8]) -> RequestNo
-    requires { 16 ≤ length bytes.now }
+    requires { HEAD_BYTES ≤ length bytes.now }
     ensures { result ≡ number_at 10 6 bytes.now }
 {
     let number = BigEndian::read_u48(&bytes[REQUEST..]);
@@ -112,7 +112,7 @@ fn request_at(bytes: &[u8]) -> RequestNo
 /// The fields of a control header as they stand.
 #[tactic(auto, unfolding(crate::specs::Reading::control_at))]
 fn control_at(kind: ControlKind, bytes: &[u8]) -> ControlHeader
-    requires { 16 ≤ length bytes.now }
+    requires { HEAD_BYTES ≤ length bytes.now }
     ensures { result ≡ control_at kind bytes.now }
 {
     ControlHeader {
@@ -126,7 +126,7 @@ fn control_at(kind: ControlKind, bytes: &[u8]) -> ControlHeader
 
 /// What stands in the bytes that should be zero.
 fn padding_at(bytes: &[u8]) -> u64
-    requires { 16 ≤ length bytes.now }
+    requires { HEAD_BYTES ≤ length bytes.now }
     ensures { result ≡ number_at 9 7 bytes.now }
 {
     BigEndian::read_uint(&bytes[PADDING..], PADDING_BYTES)

@@ -4,10 +4,10 @@ ghost use Rattle.byteorder.specs.Endian.{big_number};
 ghost use Rattle.packet_header.specs.Header.{AreBytes, HasControlHead, HasHead, HasMessageHead};
 ghost use Rattle.packet_header.specs.Header.{InRange, control_code, kind_code};
 
-use crate::layout::{HEAD_BYTES, MAGIC, NO_SESSION};
+use crate::layout::{MAGIC, NO_SESSION};
 use crate::packet::{ControlHeader, ControlKind, Kind, MessageHeader, Packet};
 use byteorder::{BigEndian, ByteOrder};
-use rpc_base::{SESSION_NUMBERS, SessionNo};
+use rpc_base::{HEAD_BYTES, SESSION_NUMBERS, SessionNo};
 
 /// Writes the header of a packet whose fields are in the ranges of its kind. Each such packet has
 /// one header.

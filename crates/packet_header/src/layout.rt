@@ -1,8 +1,5 @@
 //! Where the fields of a header stand. Numbers of more than one byte have their highest byte first.
 
-/// The length of a header, in bytes.
-pub const HEAD_BYTES: usize = 16;
-
 /// The first byte of every header.
 pub const MAGIC: u8 = 0xE1;
 

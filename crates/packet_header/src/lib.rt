@@ -14,11 +14,11 @@ mod ranges;
 pub use decoding::{decode, message_header};
 pub use encoding::encode;
 pub use laws::{every_packet_has_one_head, no_bytes_spell_two_packets};
-pub use layout::{HEAD_BYTES, MAGIC};
+pub use layout::MAGIC;
 pub use packet::{
     ACCEPTED, BadPacket, ControlHeader, ControlKind, GONE, Kind, MessageHeader, NO_ROOM, Packet,
 };
-pub use parts::{PART_BYTES, count, part_len};
+pub use parts::{count, part_len};
 pub use range_test::is_in_range;
 
 #[cfg(test)]

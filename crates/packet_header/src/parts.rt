@@ -2,8 +2,7 @@
 ghost use Rattle.std.specs.Prelude.{◌≡◌, ◌<◌};
 ghost use Rattle.packet_header.specs.Parts.{packet_count, part_size};
 
-/// The bytes of a message that one packet carries at most.
-pub const PART_BYTES: u32 = 1024;
+use rpc_base::PART_BYTES;
 
 /// How many packets carry a message of `size` bytes. An empty message takes one.
 pub fn count(size: u32) -> u32

@@ -2,10 +2,6 @@
 use Rattle.std.specs.Prelude.{ℕ, Option, List}
 use Rattle.rpc_base.specs.declared.owner.Owner.{Owner}
 
--- the most bytes of a datagram: a header of 16 and a part of 1,024
-abbrev pub most_datagram_bytes : ℕ
-most_datagram_bytes = 1040
-
 -- the peer that it came from, and its bytes
 pub record DatagramValue : Type 0 where
   pub peer : ℕ

@@ -1,12 +1,9 @@
 //! A datagram with its bytes inline, written where it lies.
 ghost use Rattle.std.specs.Prelude.{◌≡◌, ◌≤◌, [], length};
-ghost use Rattle.packet_rings.specs.Values.{most_datagram_bytes, datagram};
+ghost use Rattle.packet_rings.specs.Values.{datagram};
 
-use rpc_base::Peer;
+use rpc_base::{MOST_DATAGRAM_BYTES, Peer};
 use std::marker::Model;
-
-/// The most bytes of a datagram: a header of 16 and a part of 1,024.
-pub const MOST_DATAGRAM_BYTES: usize = 1040;
 
 /// A datagram of at most 1,040 bytes, and the peer that it came from.
 #[derive(Drop)]
@@ -18,13 +15,14 @@ pub struct Datagram {
 
 impl Model for Datagram {
     ghost use Rattle.std.specs.Prelude.{◌≤◌, take};
-    ghost use Rattle.packet_rings.specs.Values.{DatagramValue, datagram, most_datagram_bytes};
+    ghost use Rattle.rpc_base.specs.declared.limits.TheConstants.{MOST_DATAGRAM_BYTES};
+    ghost use Rattle.packet_rings.specs.Values.{DatagramValue, datagram};
 
     ghost Value = { DatagramValue };
 
     ghost view = { λ d. datagram d.peer (take d.len d.room) };
 
-    ghost invariant = { λ d. d.len ≤ most_datagram_bytes };
+    ghost invariant = { λ d. d.len ≤ MOST_DATAGRAM_BYTES };
 }
 
 impl Datagram {
@@ -41,7 +39,7 @@ impl Datagram {
 
     /// Writes at most 1,040 bytes over what it was. Just these are copied.
     pub(crate) fn write(&mut self, peer: Peer, bytes: &[u8])
-        requires fits { length bytes.now ≤ most_datagram_bytes }
+        requires fits { length bytes.now ≤ MOST_DATAGRAM_BYTES }
         ensures { self.new ≡ datagram peer bytes.now }
     {
         let len = bytes.len();
@@ -60,7 +58,7 @@ impl Datagram {
     /// Lends its bytes, at most 1,040.
     pub fn bytes(&self) -> &[u8]
         ensures bytes { result.now ≡ self.now.bytes }
-        ensures limit { length result.now ≤ most_datagram_bytes }
+        ensures limit { length result.now ≤ MOST_DATAGRAM_BYTES }
     {
         &self.room[..self.len]
     }

@@ -10,7 +10,7 @@ mod rx;
 mod turning;
 mod tx;
 
-pub use datagram::{Datagram, MOST_DATAGRAM_BYTES};
+pub use datagram::Datagram;
 pub use entry::Entry;
 pub use rx::RxRing;
 pub use tx::TxRing;

@@ -2,11 +2,11 @@
 ghost use Rattle.std.specs.Prelude.{◌≡◌, ◌<◌, ◌≤◌, ◌↔◌, [], ◌∷◌, ◌++◌, length, drop, slice_get};
 ghost use Rattle.std.specs.Prelude.{option_copied, vec_capacity, IfOk, IsTrue};
 ghost use Rattle.packet_rings.specs.Rings.{ring};
-ghost use Rattle.packet_rings.specs.Values.{datagram, most_datagram_bytes};
+ghost use Rattle.packet_rings.specs.Values.{datagram};
 
 use crate::datagram::Datagram;
 use circular_buffer::HeapCircularBuffer;
-use rpc_base::{NoMemory, Peer};
+use rpc_base::{MOST_DATAGRAM_BYTES, NoMemory, Peer};
 use std::alloc::{AllocError, Global};
 use std::marker::Model;
 
@@ -86,7 +86,7 @@ impl RxRing {
     /// memory.
     pub fn push(&mut self, peer: Peer, bytes: &[u8])
         requires room { length self.old.items < self.old.size }
-        requires fits { length bytes.now ≤ most_datagram_bytes }
+        requires fits { length bytes.now ≤ MOST_DATAGRAM_BYTES }
         ensures { self.new ≡ ring (self.old.items ++ datagram peer bytes.now ∷ []) self.old.size }
     {
         let Some(mut place) = self.free.pop() else {

@@ -1,8 +1,8 @@
 //! The longest datagram, the order of a ring, and which entry of an owner is flushed.
 ghost use Rattle.std.specs.Prelude.{◌≤◌, length};
 
-use crate::{Datagram, Entry, MOST_DATAGRAM_BYTES, RxRing, TxRing};
-use rpc_base::{NoMemory, Owner, Peer, Place, RequestNo, SessionNo};
+use crate::{Datagram, Entry, RxRing, TxRing};
+use rpc_base::{MOST_DATAGRAM_BYTES, NoMemory, Owner, Peer, Place, RequestNo, SessionNo};
 use std::alloc::Global;
 use std::test::Fail;
 

@@ -4,3 +4,4 @@ pub mod Limits
 pub mod Owners
 pub mod Tables
 pub mod Taking
+pub mod Totals

@@ -2,6 +2,15 @@
 ghost use Rattle.std.specs.Prelude.{◌≡◌, ℕ, ◌≤◌, ◌↔◌, IsTrue};
 ghost use Rattle.rpc_base.specs.Limits.{Fits};
 
+/// The bytes of a header.
+pub const HEAD_BYTES: usize = 16;
+
+/// The bytes of a message that one packet carries at most.
+pub const PART_BYTES: u32 = 1_024;
+
+/// The bytes of the largest datagram that a packet fills: a header and a part.
+pub const MOST_DATAGRAM_BYTES: usize = 1_040;
+
 /// The bytes of the largest message.
 pub const MOST_MESSAGE_BYTES: u32 = 1_048_576;
 
@@ -11,6 +20,12 @@ pub const MOST_CREDITS: u16 = 256;
 /// An endpoint uses so many numbers of client sessions, and as many of server sessions, from 0 on.
 /// The next number stands for none in a header.
 pub const SESSION_NUMBERS: u16 = 65_535;
+
+/// No list of sessions is longer: their numbers have 16 bits.
+pub const MOST_SESSIONS: usize = 65_536;
+
+/// No more references to a place of a pool are counted.
+pub const MOST_REFERENCES: u32 = 4_294_967_295;
 
 /// A client session takes no more calls.
 pub const MOST_CALLS: u64 = 1 << 45;

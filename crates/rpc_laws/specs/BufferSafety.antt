@@ -2,6 +2,7 @@
 -- its owner. A control packet spells a request or an answer of the session that it names.
 use Rattle.std.specs.Prelude.{ℕ, ◌≡◌, ◌+◌, true, Option, Some, None, List, [], ◌∷◌, ◌++◌, length, slice_get}
 use Rattle.std.specs.List.{find, slice_set}
+use Rattle.rpc_base.specs.declared.limits.TheConstants.{HEAD_BYTES}
 use Rattle.packet_header.specs.declared.packet.ControlHeader.{ControlHeader}
 use Rattle.packet_header.specs.declared.packet.ControlKind.TheVariants.{DisconnectRequest, DisconnectReply}
 use Rattle.packet_header.specs.declared.packet.Packet.TheVariants.{Control as ControlPacket}
@@ -66,7 +67,7 @@ pub record SpellsOwn (nodes : List Lists) (n peer : ℕ) (owner : Owner) (number
   pub out : Outgoing
   pub own : owner_packet lists owner number ≡ Some out
   pub to_peer : peer ≡ out.peer
-  pub long : length head ≡ 16
+  pub long : length head ≡ HEAD_BYTES
   pub bytes : AreBytes head
   pub spells : Spells out.packet (head ++ body)
   pub whole : body ≡ out.body

@@ -4,6 +4,7 @@ use Rattle.std.specs.Prelude.{ℕ, ◌+◌, ◌-◌, ◌*◌, ◌^◌, ◌==◌,
 use Rattle.std.specs.Prelude.{Some, None, option_map, List, [], ◌∷◌, ◌++◌, length}
 use Rattle.std.specs.Int.{div_ceil}
 use Rattle.std.specs.List.{filter, find}
+use Rattle.rpc_base.specs.declared.limits.TheConstants.{HEAD_BYTES}
 use Rattle.packet_header.specs.Parts.{part_size}
 use Rattle.rpc_base.specs.Tables.{at_first}
 use Rattle.rpc_base.specs.declared.event.Event.{Event}
@@ -26,12 +27,12 @@ is_paced session p = is_pace_of session p && nat_lt 0 p.rate
 
 -- the length of the datagram of packet k of a call: its header, and its part of the call's bytes
 abbrev pub call_size : ℕ → Option Call → ℕ
-call_size k None = 16
-call_size k (Some c) = 16 + part_size (length c.what.ask) k
+call_size k None = HEAD_BYTES
+call_size k (Some c) = HEAD_BYTES + part_size (length c.what.ask) k
 
 -- that of packet k of request r of a client session
 abbrev pub packet_size : (r k : ℕ) → Option Client → ℕ
-packet_size r k None = 16
+packet_size r k None = HEAD_BYTES
 packet_size r k (Some x) = call_size k (find (is_active r) x.calls)
 
 -- the next packet of a pace is due now, or when the ones before it allow

@@ -3,6 +3,7 @@
 use Rattle.std.specs.Prelude.{ℕ, ◌≡◌, ◌⊎◌, ◌-◌, ◌<◌, ◌≤◌, max, Bool, true, false, Option, Some}
 use Rattle.std.specs.Prelude.{None, List, [], ◌∷◌, length, slice_get, if◌then◌else◌}
 use Rattle.std.specs.List.{find}
+use Rattle.rpc_base.specs.declared.limits.TheConstants.{HEAD_BYTES}
 use Rattle.packet_header.specs.Parts.{packet_count}
 use Rattle.packet_header.specs.Header.{AreBytes, HasHead, InRange}
 use Rattle.packet_header.specs.Reading.{message_of, body_of}
@@ -138,7 +139,7 @@ pub record Sends (s : Timed) (x : List Fact) (t : Timed) : Type 0 where
   pub head : List ℕ
   pub in_range : InRange out.packet
   pub has_head : HasHead out.packet head
-  pub long : length head ≡ 16
+  pub long : length head ≡ HEAD_BYTES
   pub bytes : AreBytes head
   pub facts : x ≡ with_two s.lists.me (Sent out.peer entry.owner entry.number) head out.body ∷ []
   pub goes : Goes s x t

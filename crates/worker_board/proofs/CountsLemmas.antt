@@ -6,8 +6,9 @@ use mathlib.Core.Logic.{dite}
 use native.Mathlib.Decide.{ℕ_discrete}
 use mathlib.Core.Option.{some, some-injective, some-ne-none}
 use lib.ListN.{get_elem?}
+use Rattle.rpc_base.specs.Totals.{total}
 use Rattle.worker_board.specs.declared.view.Claim.{Claim}
-use Rattle.worker_board.specs.Counts.{total, only, without, times, removed}
+use Rattle.worker_board.specs.Counts.{only, without, times, removed}
 
 -- what stands at a place stands below the length
 pub at_lt : {A : Type 0} (l : List A) (i : ℕ) (a : A) → get_elem? l i ≡ some a → i < length l

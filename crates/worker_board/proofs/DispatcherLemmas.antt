@@ -10,6 +10,7 @@ use native.Mathlib.Decide.{ℕ_discrete}
 use lib.ListN.{get_elem?}
 use prog.Atomic.{either}
 use Rattle.std.specs.Prelude.{Some, None}
+use Rattle.rpc_base.specs.Totals.{total}
 use Rattle.atomic_table.specs.Table.{step, keeps, takes, gives, Allows}
 use Rattle.atomic_table.proofs.Lists.{set_here, set_else, exchanged}
 use Rattle.worker_board.specs.Tickets.{OfferNo, offer_no}
@@ -22,7 +23,7 @@ use Rattle.worker_board.specs.declared.view.Role.{Role}
 use Rattle.worker_board.specs.declared.view.Role.TheVariants.{Dispatcher, Hand, Spent}
 use Rattle.worker_board.specs.declared.view.End.{End}
 use Rattle.worker_board.specs.declared.view.End.TheVariants.{Open, Collected, TakenBack}
-use Rattle.worker_board.specs.Counts.{total, only, both_of, has_turn, holds, ran, times, is_hand, hand_of}
+use Rattle.worker_board.specs.Counts.{only, both_of, has_turn, holds, ran, times, is_hand, hand_of}
 use Rattle.worker_board.specs.Word.{IsUnfinished, Phase, closed, ready, claimed, done, digit}
 use Rattle.worker_board.specs.Word.{word_at, IsOpen, IsClosed, IsCurrent, offer_of, ended, newest}
 use Rattle.worker_board.specs.Word.{run_of, runs_of, OlderEnded, offers_at}

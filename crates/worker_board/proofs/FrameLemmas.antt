@@ -7,6 +7,7 @@ use mathlib.Core.Option.{none, some, some-injective}
 use mathlib.Core.Option as maybe
 use native.Mathlib.Decide.{ℕ_discrete}
 use lib.ListN.{get_elem?}
+use Rattle.rpc_base.specs.Totals.{total}
 use Rattle.atomic_table.specs.Table.{State, Act, Valid, stepped, carried_after}
 use Rattle.atomic_table.proofs.Lists.{at_set}
 use Rattle.worker_board.specs.Tickets.{OfferNo}
@@ -15,7 +16,7 @@ use Rattle.worker_board.specs.declared.view.Offer.{Offer}
 use Rattle.worker_board.specs.declared.view.Claim.{Claim}
 use Rattle.worker_board.specs.declared.view.View.{View}
 use Rattle.worker_board.specs.declared.view.Role.TheVariants.{Dispatcher}
-use Rattle.worker_board.specs.Counts.{total, has_turn, holds, ran, times, is_hand, hand_of}
+use Rattle.worker_board.specs.Counts.{has_turn, holds, ran, times, is_hand, hand_of}
 use Rattle.worker_board.specs.Word.{IsClosed, IsCurrent, offers_at}
 use Rattle.worker_board.specs.Moves.{Seated, note}
 use Rattle.worker_board.proofs.WordLemmas.{notes_stay, notes_grow}

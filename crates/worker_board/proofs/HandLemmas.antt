@@ -10,6 +10,7 @@ use native.Mathlib.Decide.{ℕ_discrete}
 use lib.ListN.{get_elem?}
 use prog.Atomic.{either}
 use Rattle.std.specs.Prelude.{Some, None}
+use Rattle.rpc_base.specs.Totals.{total}
 use Rattle.atomic_table.specs.Table.{step, keeps, takes, gives, Allows}
 use Rattle.atomic_table.proofs.Lists.{set_here, set_else, exchanged}
 use Rattle.worker_board.specs.declared.word.TheConstants.{PHASES, READY, OVER}
@@ -22,7 +23,7 @@ use Rattle.worker_board.specs.declared.view.Role.{Role}
 use Rattle.worker_board.specs.declared.view.Role.TheVariants.{Hand}
 use Rattle.worker_board.specs.declared.view.End.{End}
 use Rattle.worker_board.specs.declared.view.End.TheVariants.{Open, Collected, TakenBack}
-use Rattle.worker_board.specs.Counts.{total, only, both_of, has_turn, holds, ran}
+use Rattle.worker_board.specs.Counts.{only, both_of, has_turn, holds, ran}
 use Rattle.worker_board.specs.Word.{Phase, closed, ready, claimed, done, word_at, IsOpen, job_of}
 use Rattle.worker_board.specs.Word.{IsOfferedJob, IsCurrent, newest, run_of, runs_of, offers_at}
 use Rattle.worker_board.specs.Rule.{Slot, Answer, Home, IsEmptyOrOut, IsHand, IsAnswered, InPhase}

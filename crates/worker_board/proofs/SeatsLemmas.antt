@@ -5,6 +5,7 @@ use mathlib.Core.Logic.{dite}
 use mathlib.Core.Option.{some, some-ne-none}
 use native.Mathlib.Decide.{ℕ_discrete}
 use lib.ListN.{get_elem?}
+use Rattle.rpc_base.specs.Totals.{total}
 use Rattle.atomic_table.specs.Table.{Splits, Joins}
 use Rattle.atomic_table.proofs.Lists.{at_set, set_here, set_else, at_snoc, at_longer}
 use Rattle.worker_board.specs.Tickets.{OfferNo}
@@ -13,7 +14,7 @@ use Rattle.worker_board.specs.declared.view.Claim.{Claim}
 use Rattle.worker_board.specs.declared.view.View.{View}
 use Rattle.worker_board.specs.declared.view.Role.{Role}
 use Rattle.worker_board.specs.declared.view.Role.TheVariants.{Dispatcher, Hand, Spent}
-use Rattle.worker_board.specs.Counts.{total, only, both_of, has_turn, holds, ran, times, is_hand, hand_of, removed}
+use Rattle.worker_board.specs.Counts.{only, both_of, has_turn, holds, ran, times, is_hand, hand_of, removed}
 use Rattle.worker_board.specs.Word.{IsClosed, IsCurrent, offers_at}
 use Rattle.worker_board.specs.Rule.{Answer, Home, IsHand, IsPastReady, InPhase, PlaceLaw, BoardLaw, fresh}
 use Rattle.worker_board.specs.Moves.{sent_out, new_hand, number_of, taken_in}

@@ -6,6 +6,7 @@ use mathlib.Core.Logic.{dite}
 use native.Mathlib.Decide.{ℕ_discrete}
 use mathlib.Core.Option.{some, some-injective}
 use lib.ListN.{get_elem?}
+use Rattle.rpc_base.specs.Totals.{total}
 use Rattle.worker_board.specs.Tickets.{OfferNo}
 use Rattle.worker_board.specs.declared.Parcel.{Parcel}
 use Rattle.worker_board.specs.declared.view.Note.{Note}
@@ -13,7 +14,6 @@ use Rattle.worker_board.specs.declared.word.TheConstants.{PHASES, READY}
 use Rattle.worker_board.specs.declared.view.Offer.{Offer}
 use Rattle.worker_board.specs.declared.view.End.{End}
 use Rattle.worker_board.specs.declared.view.End.TheVariants.{Open}
-use Rattle.worker_board.specs.Counts.{total}
 use Rattle.worker_board.specs.Word.{Phase, closed, ready, claimed, done, digit, word_at, IsOpen}
 use Rattle.worker_board.specs.Word.{IsClosed, job_of, IsOfferedJob, IsNewest, offer_of, ended}
 use Rattle.worker_board.specs.Word.{newest, run_of, runs_of, AllEnded, OlderEnded}

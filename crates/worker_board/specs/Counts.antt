@@ -1,14 +1,11 @@
--- Sums over lists, and how often a seat holds or ran something.
+-- How often a seat holds or ran something.
 use Rattle.std.specs.Prelude.{ℕ, suc, ◌+◌, List, [], ◌∷◌, ◌==◌, cond}
+use Rattle.rpc_base.specs.Totals.{total}
 use Rattle.worker_board.specs.Tickets.{OfferNo}
 use Rattle.worker_board.specs.declared.view.Claim.{Claim}
 use Rattle.worker_board.specs.declared.view.View.{View}
 use Rattle.worker_board.specs.declared.view.Role.{Role}
 use Rattle.worker_board.specs.declared.view.Role.TheVariants.{Hand}
-
-abbrev pub total : {A : Type 0} → (A → ℕ) → List A → ℕ
-total f [] = 0
-total f (x ∷ xs) = f x + total f xs
 
 abbrev pub only : ℕ → ℕ → ℕ
 only k x = cond (x == k) 1 0

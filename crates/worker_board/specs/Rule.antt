@@ -5,6 +5,7 @@ use Rattle.std.specs.Prelude.{None, slice_index, replicate}
 use mathlib.Core.Option.{none, some}
 use mathlib.Core.Option as maybe
 use lib.ListN.{get_elem?}
+use Rattle.rpc_base.specs.Totals.{total}
 use Rattle.atomic_table.specs.Table.{State}
 use Rattle.message_buffer.specs.Buffer.{bytes_of}
 use Rattle.worker_board.specs.Tickets.{OfferNo}
@@ -16,7 +17,7 @@ use Rattle.worker_board.specs.declared.view.Claim.{Claim}
 use Rattle.worker_board.specs.declared.view.View.{View}
 use Rattle.worker_board.specs.declared.view.Role.{Role}
 use Rattle.worker_board.specs.declared.view.Role.TheVariants.{Dispatcher, Hand, Spent}
-use Rattle.worker_board.specs.Counts.{total, has_turn, holds, ran, times, is_hand}
+use Rattle.worker_board.specs.Counts.{has_turn, holds, ran, times, is_hand}
 use Rattle.worker_board.specs.Word.{Phase, closed, ready, claimed, done, word_at, IsOpen, IsClosed}
 use Rattle.worker_board.specs.Word.{job_of, IsOfferedJob, IsNewest, IsCurrent, runs_of, OlderEnded}
 use Rattle.worker_board.specs.Word.{offers_at}

@@ -1,10 +1,11 @@
 -- A crew: its dispatcher, and its hands.
 use Rattle.std.specs.Prelude.{◌≡◌, ◌+◌, ◌≤◌, ℕ, Bool, true, false, List, [], ◌∷◌, ◌++◌, map, min}
 use Rattle.std.specs.Prelude.{Option, None, Some}
+use Rattle.rpc_base.specs.Totals.{total}
 use Rattle.atomic_table.specs.Seated.{TableId}
 use Rattle.rpc_outside.specs.Faults.{end_of_count}
 use Rattle.worker_board.specs.declared.Parcel.{Parcel}
-use Rattle.worker_board.specs.Counts.{total, only, times}
+use Rattle.worker_board.specs.Counts.{only, times}
 use Rattle.worker_crew.specs.Hands.{HandName, name_of}
 use Rattle.worker_crew.specs.Places.{TookNoneBack}
 use Rattle.worker_crew.specs.Dispatching.{Dispatching}

@@ -1,10 +1,11 @@
 -- The places of a crew's board: those with a job, in the order of giving, and those that are free.
 use Rattle.std.specs.Prelude.{◌≡◌, ℕ, ◌+◌, ◌<◌, ◌≤◌, Bool, true, false, List, [], ◌∷◌, ◌++◌, length, map}
 use Rattle.std.specs.Prelude.{take, drop}
+use Rattle.rpc_base.specs.Totals.{total}
 use Rattle.worker_board.specs.declared.view.Offer.{Offer}
 use Rattle.worker_board.specs.declared.view.End.{End}
 use Rattle.worker_board.specs.declared.view.End.TheVariants.{Open, Collected, TakenBack}
-use Rattle.worker_board.specs.Counts.{total, times}
+use Rattle.worker_board.specs.Counts.{times}
 use Rattle.worker_board.specs.declared.view.View.{View}
 use Rattle.message_buffer.specs.Buffer.{bytes_of}
 use Rattle.worker_board.specs.Word.{offers_at}

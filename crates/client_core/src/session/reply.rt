@@ -28,8 +28,8 @@ use crate::call::ActiveCall;
 use crate::outcome::{Done, Outcome, Reply};
 use buffer_pool::BufferPool;
 use message_buffer::MsgBuf;
-use packet_header::{MessageHeader, PART_BYTES, count};
-use rpc_base::{DropReason, MOST_MESSAGE_BYTES, SessionNo};
+use packet_header::{MessageHeader, count};
+use rpc_base::{DropReason, MOST_MESSAGE_BYTES, PART_BYTES, SessionNo};
 use rpc_laws::{ClientRow, EndRow};
 
 impl ClientSession {
