@@ -1,6 +1,6 @@
 //! Echoes of five bytes, one after another, between two endpoints of this program: what a call costs
 //! its endpoints alone. There are no clock and no notes, and the link is a place for one datagram.
-ghost use Rattle.std.specs.Prelude.{◌<◌, None, ⊤};
+ghost use Rattle.std.specs.Prelude.{◌<◌, None};
 ghost use Rattle.rpc_base.specs.declared.limits.TheConstants.{SESSION_NUMBERS};
 
 use client_core::Done;
@@ -83,6 +83,15 @@ impl Link for Newest {
     fn recv(&mut self, _out: &mut [u8; MOST_LINK_BYTES]) -> Result<Got, Failed> {
         Ok(Got::Nothing)
     }
+
+    /// Keeps nothing back.
+    fn flush(&mut self) {}
+
+    /// Ends at once.
+    fn wait(&mut self, _micros: u32) {}
+
+    /// The number stays that of its address.
+    fn forget(&mut self, _peer: Peer) {}
 }
 
 /// The buffers of the call that is over, for the next one.
@@ -94,8 +103,6 @@ struct Buffers {
 }
 
 impl Continuation for Buffers {
-    ghost given = { λ _ _. ⊤ };
-
     fn done(&mut self, done: Done) {
         if done.resp.bytes() == ASKED {
             self.echoed = self.echoed.saturating_add(1);

@@ -1,6 +1,4 @@
 //! A continuation that keeps what it is given.
-ghost use Rattle.std.specs.Prelude.{⊤};
-
 use client_core::Done;
 use endpoint_loop::Continuation;
 use std::alloc::Global;
@@ -37,8 +35,6 @@ impl Kept {
 }
 
 impl Continuation for Kept {
-    ghost given = { λ _ _. ⊤ };
-
     fn done(&mut self, done: Done) {
         if self.dones.push(done).is_err() {
             self.whole = false;

@@ -108,6 +108,21 @@ impl Link for NodeLink {
     {
         Ok(Got::Nothing)
     }
+
+    /// Keeps nothing back.
+    fn flush(&mut self)
+        ensures { self.new ≡ self.old }
+    {}
+
+    /// Ends at once.
+    fn wait(&mut self, _micros: u32)
+        ensures { self.new ≡ self.old }
+    {}
+
+    /// A peer's number stays that of its node.
+    fn forget(&mut self, _peer: Peer)
+        ensures { self.new ≡ self.old }
+    {}
 }
 
 // Keeps a datagram behind those that were sent before.

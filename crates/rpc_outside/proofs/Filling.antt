@@ -36,17 +36,6 @@ cond-counted false n = refl
 pub fill-counted : (ask : List ℕ) → counted (length (fill ask)) ≡ fill ask
 fill-counted ask = cond-counted (length ask == 4 && nat_le (big_number 4 ask) 1048576) (big_number 4 ask)
 
-reads : (total : ℕ) → total < 2 ^ 64 → big_number 8 (big_bytes 8 total) ≡ total
-reads total h = ap (big_number 8) (sym (append-nil (big_bytes 8 total))) ∙ big_number-reads_back 8 total [] h
-
--- a list for which a service of this total stands
-abbrev pub one_tally : ℕ → Served
-one_tally total = (3, big_bytes 8 total) ∷ []
-
-pub stands-for : (total : ℕ) → total < 2 ^ 64 → total ≡ total_of (one_tally total)
-stands-for total h =
-    sym (ap (λ n. (0 + n) % 2 ^ 64) (reads total h) ∙ ap (λ n. n % 2 ^ 64) (zero-add total) ∙ mod-eq_of_lt h)
-
 inline-low : (t : ℕ) (b c : Bool)
     → cond (b && c) Inline (cond (is_in_background t) Background Unserved) ≡ Inline → c ≡ true
 inline-low t true true h = refl

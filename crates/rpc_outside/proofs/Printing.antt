@@ -1,25 +1,25 @@
 -- Writing one text after another.
-use Rattle.std.proofs.Common.{ℕ, List, [], ◌++◌, Option, Result, Ok, Err, refl, sym, ap, subst, ◌∙◌, append_assoc}
+use Rattle.std.proofs.Common.{List, ℕ, [], ◌++◌, Result, Ok, Err, refl, sym, ap, subst, ◌∙◌, append_assoc}
 use Rattle.std.proofs.KnownBytes.{Appends-nil, Appends-trans}
 use Rattle.rpc_outside.specs.Faults.{HasRisen}
-use Rattle.rpc_outside.specs.Writing.{Wrote, Broke, Prints}
+use Rattle.rpc_outside.specs.Writing.{Wrote, Written, Broke, Prints}
 
 -- no text was written yet
-pub wrote-nothing : (known : Option (List ℕ)) (count : ℕ) → Wrote known known count count []
-wrote-nothing known count = record { bytes = Appends-nil known; quiet = refl }
+pub wrote-nothing : (sink : Written) → Wrote sink sink []
+wrote-nothing sink = record { bytes = Appends-nil sink.written; quiet = refl }
 
 -- one text was written, and then another
-pub wrote-then : (old mid new : Option (List ℕ)) (before between after : ℕ) (text more : List ℕ)
-    → Wrote old mid before between text → Wrote mid new between after more → Wrote old new before after (text ++ more)
-wrote-then old mid new before between after text more first second = record {
-  bytes = Appends-trans old mid new text more first.bytes second.bytes;
+pub wrote-then : (old mid new : Written) (text more : List ℕ) → Wrote old mid text → Wrote mid new more
+    → Wrote old new (text ++ more)
+wrote-then old mid new text more first second = record {
+  bytes = Appends-trans old.written mid.written new.written text more first.bytes second.bytes;
   quiet = second.quiet ∙ first.quiet;
 }
 
 -- the front of a text is the front of a longer one
-pub broke-longer : (old new : Option (List ℕ)) (before after : ℕ) (text more : List ℕ)
-    → Broke old new before after text → Broke old new before after (text ++ more)
-broke-longer old new before after text more broke =
+pub broke-longer : (old new : Written) (text more : List ℕ) → Broke old new text
+    → Broke old new (text ++ more)
+broke-longer old new text more broke =
     let (front, rest, whole, bytes) = broke.bytes in
     record {
       bytes = (front, rest ++ more, ap (λ l. l ++ more) whole ∙ append_assoc front rest more, bytes);
@@ -27,26 +27,22 @@ broke-longer old new before after text more broke =
     }
 
 -- one text was written, and then the front of another
-pub wrote-broke : (old mid new : Option (List ℕ)) (before between after : ℕ) (text more : List ℕ)
-    → Wrote old mid before between text → Broke mid new between after more → Broke old new before after (text ++ more)
-wrote-broke old mid new before between after text more first second =
+pub wrote-broke : (old mid new : Written) (text more : List ℕ) → Wrote old mid text → Broke mid new more
+    → Broke old new (text ++ more)
+wrote-broke old mid new text more first second =
     let (front, rest, whole, bytes) = second.bytes in
     record {
       bytes = (
         text ++ front,
         rest,
         ap (λ l. text ++ l) whole ∙ sym (append_assoc text front rest),
-        Appends-trans old mid new text front first.bytes bytes,
+        Appends-trans old.written mid.written new.written text front first.bytes bytes,
       );
-      fault = subst (λ n. HasRisen n after) first.quiet second.fault;
+      fault = subst (λ n. HasRisen n new.faults) first.quiet second.fault;
     }
 
 -- one text was written, and then another one was printed
-pub prints-then : {T E : Type 0} (old mid new : Option (List ℕ)) (before between after : ℕ)
-    (result : Result T E) (text more : List ℕ)
-    → Wrote old mid before between text → Prints mid new between after result more
-    → Prints old new before after result (text ++ more)
-prints-then old mid new before between after (Ok _) text more first second =
-    wrote-then old mid new before between after text more first second
-prints-then old mid new before between after (Err _) text more first second =
-    wrote-broke old mid new before between after text more first second
+pub prints-then : {T E : Type 0} (old mid new : Written) (result : Result T E) (text more : List ℕ)
+    → Wrote old mid text → Prints mid new result more → Prints old new result (text ++ more)
+prints-then old mid new (Ok _) text more first second = wrote-then old mid new text more first second
+prints-then old mid new (Err _) text more first second = wrote-broke old mid new text more first second

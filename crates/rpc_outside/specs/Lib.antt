@@ -5,6 +5,7 @@ pub mod Memory
 pub mod PlainAnswer
 pub mod PlainLaws
 pub mod PlainStands
+pub mod Reading
 pub mod Recording
 pub mod Served
 pub mod Ticking

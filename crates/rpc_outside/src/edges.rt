@@ -25,9 +25,7 @@ impl<R> IoSource<R> {
 }
 
 impl<R: Read> Source for IoSource<R> {
-    ghost left = { λ s. R.remaining s.reader };
-
-    ghost faults = { λ s. s.faults };
+    ghost input = { λ s. record { left = R.remaining s.reader; faults = s.faults } };
 
     fn read(&mut self, out: &mut [u8]) -> Result<usize, Failed> {
         match self.reader.read(out) {
@@ -67,9 +65,7 @@ impl<W> IoSink<W> {
 }
 
 impl<W: Write> Sink for IoSink<W> {
-    ghost written = { λ s. W.contents s.writer };
-
-    ghost faults = { λ s. s.faults };
+    ghost page = { λ s. record { written = W.contents s.writer; faults = s.faults } };
 
     fn write(&mut self, piece: &[u8]) -> Result<usize, Failed> {
         match self.writer.write(piece) {

@@ -53,19 +53,20 @@ impl<S> Kept<S> {
 }
 
 impl<S: Source> Source for Kept<S> {
-    ghost left = { λ k. S.left k.source };
-
-    ghost faults = { λ k. S.faults k.source };
+    ghost input = { λ k. S.input k.source };
 
     /// Reads as the other source does, and keeps what was read.
     fn read(&mut self, out: &mut [u8]) -> Result<usize, Failed>
         requires { 0 < length out.old }
         ensures within { IfOk result (λ n. n ≤ length out.new) }
-        ensures bytes { IfOk result (λ n. Consumes (S.left self.old.source) (S.left self.new.source)
+        ensures bytes { IfOk result (λ n. Consumes (S.input self.old.source).left (S.input
+            self.new.source).left
             (take n out.new)) }
-        ensures end { IfOk result (λ n. n ≡ 0 → IsAtEnd (S.left self.old.source)) }
-        ensures kept { OnErr result (Keeps (S.left self.old.source) (S.left self.new.source)) }
-        ensures cause { HasCause (S.faults self.old.source) (S.faults self.new.source) result }
+        ensures end { IfOk result (λ n. n ≡ 0 → IsAtEnd (S.input self.old.source).left) }
+        ensures kept { OnErr result (Keeps (S.input self.old.source).left (S.input
+            self.new.source).left) }
+        ensures cause { HasCause (S.input self.old.source).faults (S.input self.new.source).faults
+            result }
         ensures lost { self.old.bytes ≡ None → self.new.bytes ≡ None }
         ensures at_hand { IfOk result (λ n. IfSome self.old.bytes
             (λ old. IfSome self.new.bytes (λ new. new.items ≡ old.items ++ take n out.new))) }

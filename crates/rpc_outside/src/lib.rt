@@ -3,16 +3,11 @@
 //! reports.
 #![tactic(auto)]
 
-mod arrivals;
-mod calls;
 mod clock;
-mod copying;
 mod edges;
 mod failed;
-mod firm;
 mod kept;
 mod link;
-mod mem_link;
 mod memory;
 mod plain;
 mod recorder;
@@ -23,16 +18,16 @@ mod source;
 mod tests;
 mod writing;
 
-pub use clock::{Clock, StepClock, SysClock};
+pub use clock::{Clock, SysClock};
 pub use edges::{IoSink, IoSource};
 pub use failed::Failed;
-pub use firm::{FirmLink, FirmSink, FirmSource};
 pub use kept::Kept;
 pub use link::{Got, Link, MOST_LINK_BYTES, Taken};
-pub use mem_link::MemLink;
-pub use memory::{MemSink, MemSource};
+pub use memory::{
+    FirmLink, FirmSink, FirmSource, MemLink, MemRecorder, MemSink, MemSource, NoRecord, StepClock,
+};
 pub use plain::{PlainDuty, PlainService};
-pub use recorder::{MemRecorder, NoRecord, Recorder};
+pub use recorder::Recorder;
 pub use service::{Duty, Mode, Service};
 pub use sink::Sink;
 pub use source::Source;

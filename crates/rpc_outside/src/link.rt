@@ -90,4 +90,27 @@ pub trait Link {
         ensures sent { sent self.new ≡ sent self.old }
         ensures busies { busies self.new ≡ busies self.old }
         ensures cause { HasCause (faults self.old) (faults self.new) result };
+
+    /// Hands on what the link kept back of the datagrams that it took. What fails in it shows at a
+    /// later call.
+    fn flush(&mut self)
+        ensures sent { sent self.new ≡ sent self.old }
+        ensures lists { NoneComes waiting received self.old self.new }
+        ensures faults { faults self.new ≡ faults self.old }
+        ensures busies { busies self.new ≡ busies self.old };
+
+    /// Ends when a datagram may be there to be given out, or after so many microseconds. What fails
+    /// in it shows at a later call.
+    fn wait(&mut self, micros: u32)
+        ensures sent { sent self.new ≡ sent self.old }
+        ensures lists { NoneComes waiting received self.old self.new }
+        ensures faults { faults self.new ≡ faults self.old }
+        ensures busies { busies self.new ≡ busies self.old };
+
+    /// The number of this peer may be given to another address.
+    fn forget(&mut self, peer: Peer)
+        ensures sent { sent self.new ≡ sent self.old }
+        ensures lists { NoneComes waiting received self.old self.new }
+        ensures faults { faults self.new ≡ faults self.old }
+        ensures busies { busies self.new ≡ busies self.old };
 }

@@ -2,7 +2,7 @@
 ghost use Rattle.std.specs.Prelude.{◌≡◌, ◌≢◌, ◌≤◌, ◌++◌, ◌∷◌, [], ℕ, List, length};
 ghost use Rattle.rpc_outside.specs.declared.service.Mode.{Mode};
 ghost use Rattle.rpc_outside.specs.declared.service.Mode.TheVariants.{Inline, Background, Unserved};
-ghost use Rattle.rpc_outside.specs.Served.{Served};
+ghost use Rattle.rpc_outside.specs.Served.{Served, StandsForSome};
 
 use rpc_base::MOST_MESSAGE_BYTES;
 
@@ -42,9 +42,10 @@ pub trait Service {
         ensures most { result ≤ MOST_MESSAGE_BYTES };
 
     /// Fills `out`, which has the answer's length, with the answer. The type is one that is handled
-    /// inline.
+    /// inline. `out` may hold the bytes of an older answer: each byte has to be written.
     fn serve(&mut self, req_type: u8, ask: &[u8], out: &mut [u8])
         requires inline { mode_of req_type ≡ Inline }
+        requires stands { StandsForSome (stands self.old) }
         requires room { (served : Served) → stands self.old served
             → length (answer served req_type ask.now) ≡ length out.old }
         ensures answer { (served : Served) → stands self.old served

@@ -1,17 +1,15 @@
 //! Where bytes go.
-ghost use Rattle.std.specs.Prelude.{ℕ, ◌<◌, ◌≤◌, List, Option, length, take, IfOk, OnErr};
+ghost use Rattle.std.specs.Prelude.{◌<◌, ◌≤◌, length, take, IfOk, OnErr};
 ghost use Rattle.std.specs.Io.KnownBytes.{Keeps, Appends};
 ghost use Rattle.rpc_outside.specs.Faults.{HasCause};
+ghost use Rattle.rpc_outside.specs.Writing.{Written};
 
 use crate::failed::Failed;
 
 /// Takes bytes and keeps their order.
 pub trait Sink {
-    // The bytes that were written, where the sink tells them.
-    ghost written: { Self → Option (List ℕ) };
-
-    // How many calls failed so far.
-    ghost faults: { Self → ℕ };
+    // What was written, and how many calls failed.
+    ghost page: { Self → Written };
 
     /// Writes the front of the piece and tells how many bytes that is: at least one, unless the
     /// piece is empty. `Failed` writes nothing, and comes only where the sink counts one more
@@ -19,8 +17,8 @@ pub trait Sink {
     fn write(&mut self, piece: &[u8]) -> Result<usize, Failed>
         ensures within { IfOk result (λ n. n ≤ length piece.now) }
         ensures some { IfOk result (λ n. 0 < length piece.now → 0 < n) }
-        ensures bytes { IfOk result (λ n. Appends (written self.old) (written self.new)
+        ensures bytes { IfOk result (λ n. Appends (page self.old).written (page self.new).written
             (take n piece.now)) }
-        ensures kept { OnErr result (Keeps (written self.old) (written self.new)) }
-        ensures cause { HasCause (faults self.old) (faults self.new) result };
+        ensures kept { OnErr result (Keeps (page self.old).written (page self.new).written) }
+        ensures cause { HasCause (page self.old).faults (page self.new).faults result };
 }

@@ -1,9 +1,11 @@
 //! Each form once, with calls that fail in mid-stream.
 ghost use Rattle.std.specs.Prelude.{◌≤◌, length, IfOk};
 ghost use Rattle.rpc_outside.specs.Linking.{AreCarried};
+ghost use Rattle.rpc_outside.specs.PlainStands.{PlainStands};
+ghost use Rattle.rpc_outside.specs.Served.{StandsForSome};
 
 use super::*;
-use rpc_base::{Event, NodeId, Octets, Peer, Who};
+use rpc_base::{Event, MOST_MESSAGE_BYTES, NodeId, Octets, Peer, Who};
 use std::alloc::Global;
 use std::test::Fail;
 
@@ -119,7 +121,9 @@ fn answer_of(
     req_type: u8,
     ask: &[u8],
 ) -> Result<Vec<u8>, Fail>
-    requires { length ask.now ≤ 1048576 }
+    requires message { length ask.now ≤ MOST_MESSAGE_BYTES }
+    requires founded { StandsForSome (PlainStands service.old) }
+    ensures founded { StandsForSome (PlainStands service.new) }
 {
     let mut out = Vec::new(alloc);
     if service.mode(req_type) == Mode::Inline {

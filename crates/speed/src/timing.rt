@@ -73,9 +73,7 @@ impl<'a, T: time::Clock> Timer<'a, T> {
 }
 
 impl<'a, T: time::Clock> Recorder for Timer<'a, T> {
-    ghost facts = { λ _. None };
-
-    ghost whole = { λ _. true };
+    ghost log = { λ _. record { facts = None; whole = true } };
 
     fn note(&mut self, _who: Who, event: Event, _first: &[u8], _second: &[u8]) {
         match event {

@@ -161,4 +161,13 @@ impl Link for Wire {
             None => Ok(Got::Nothing),
         }
     }
+
+    /// Keeps nothing back.
+    fn flush(&mut self) {}
+
+    /// Ends at once.
+    fn wait(&mut self, _micros: u32) {}
+
+    /// The number stays that of its address.
+    fn forget(&mut self, _peer: Peer) {}
 }

@@ -119,4 +119,13 @@ impl<'a, N: Net> Link for UdpLink<'a, N> {
             Err(_) => self.fail(),
         }
     }
+
+    /// Keeps nothing back.
+    fn flush(&mut self) {}
+
+    /// Ends at once.
+    fn wait(&mut self, _micros: u32) {}
+
+    /// The number stays that of its address.
+    fn forget(&mut self, _peer: Peer) {}
 }

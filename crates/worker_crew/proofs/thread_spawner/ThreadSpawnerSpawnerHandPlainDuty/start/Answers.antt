@@ -1,5 +1,5 @@
 use Rattle.std.proofs.Common.{sym, ap, ◌∙◌, map, subst, Result}
-use Rattle.rpc_outside.specs.declared.plain.PlainDuty.{PlainDuty}
+use Rattle.rpc_outside.specs.declared.plain.service.PlainDuty.{PlainDuty}
 use Rattle.worker_crew.specs.declared.hand.Hand.{Hand}
 use Rattle.worker_crew.specs.Hands.{name_of}
 use Rattle.worker_crew.specs.Launching.{child_name}

@@ -1,6 +1,6 @@
 -- a call that isn't named and whose piece fits goes well
 use Rattle.std.proofs.Common.{inl, inr, arith}
-use Rattle.rpc_outside.proofs.memory.MemSinkSink.write.Goals as goal
+use Rattle.rpc_outside.proofs.memory.bytes.MemSinkSink.write.Goals as goal
 
 pub returns-clause-fails : goal.returns-clause-fails
 returns-clause-fails c =

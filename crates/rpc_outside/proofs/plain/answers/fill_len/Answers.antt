@@ -1,6 +1,6 @@
 use Rattle.std.proofs.Common.{◌≤◌, sym, ◌∙◌, subst}
 use Rattle.rpc_outside.proofs.Filling.{fill-length}
-use Rattle.rpc_outside.proofs.plain.fill_len.Goals as goal
+use Rattle.rpc_outside.proofs.plain.answers.fill_len.Goals as goal
 
 pub returns-else-count-gt-MOST_MESSAGE_BYTES-clause-length :
     goal.returns-else-count-gt-MOST_MESSAGE_BYTES-clause-length

@@ -1,6 +1,6 @@
 -- what was given is the front of what was left
 use Rattle.rpc_outside.proofs.Moving.{gives-front}
-use Rattle.rpc_outside.proofs.memory.MemSourceSource.read.Goals as goal
+use Rattle.rpc_outside.proofs.memory.bytes.MemSourceSource.read.Goals as goal
 
 pub returns-clause-bytes : goal.returns-clause-bytes
 returns-clause-bytes c =

@@ -1,7 +1,7 @@
 use Rattle.std.proofs.Common.{sym, ap, subst, length, ◌≡◌, ◌∙◌}
 use Rattle.rpc_outside.specs.PlainAnswer.{counted, fill, steady_answer}
 use Rattle.rpc_outside.proofs.Filling.{fill-counted}
-use Rattle.rpc_outside.proofs.plain.answer_steadily.Goals as goal
+use Rattle.rpc_outside.proofs.plain.answers.answer_steadily.Goals as goal
 
 pub returns-in-4 : goal.returns-in-4
 returns-in-4 c =

@@ -1,14 +1,15 @@
 //! A source, a sink and a link that never fail and take no memory.
-ghost use Rattle.std.specs.Prelude.{◌≡◌, ℕ, ◌<◌, ◌≤◌, ◌↔◌, [], length, take, min, None, Some, Ok, IfOk, IsOk};
+ghost use Rattle.std.specs.Prelude.{◌≡◌, ℕ, ◌<◌, ◌≤◌, ◌↔◌, [], length, take, min, None, Some, Ok};
+ghost use Rattle.std.specs.Prelude.{IfOk, IsOk};
 ghost use Rattle.std.specs.Io.KnownBytes.{Consumes, IsAtEnd};
 ghost use Rattle.rpc_outside.specs.declared.link.Got.TheVariants.{Nothing};
 ghost use Rattle.rpc_outside.specs.declared.link.Taken.TheVariants.{Whole};
 ghost use Rattle.rpc_outside.specs.Linking.{AreCarried, Comes, IfPacket, inbound};
 
-use crate::arrivals::Arrivals;
-use crate::copying::copy_front;
 use crate::failed::Failed;
 use crate::link::{Got, Link, MOST_LINK_BYTES, Taken};
+use crate::memory::arrivals::Arrivals;
+use crate::memory::copying::copy_front;
 use crate::sink::Sink;
 use crate::source::Source;
 use rpc_base::{Octets, Peer};
@@ -41,9 +42,7 @@ impl FirmSource {
 }
 
 impl Source for FirmSource {
-    ghost left = { λ s. Some s };
-
-    ghost faults = { λ _. 0 };
+    ghost input = { λ s. record { left = Some s; faults = 0 } };
 
     /// Gives as many bytes as are left and fit into `out`.
     fn read(&mut self, out: &mut [u8]) -> Result<usize, Failed>
@@ -74,9 +73,7 @@ impl FirmSink {
 }
 
 impl Sink for FirmSink {
-    ghost written = { λ _. None };
-
-    ghost faults = { λ _. 0 };
+    ghost page = { λ _. record { written = None; faults = 0 } };
 
     /// Takes the whole piece.
     fn write(&mut self, piece: &[u8]) -> Result<usize, Failed>
@@ -147,6 +144,21 @@ impl Link for FirmLink {
     {
         Ok(Taken::Whole)
     }
+
+    /// Keeps nothing back.
+    fn flush(&mut self)
+        ensures { self.new ≡ self.old }
+    {}
+
+    /// Ends at once.
+    fn wait(&mut self, _micros: u32)
+        ensures { self.new ≡ self.old }
+    {}
+
+    /// Every address is that of peer 0, and stays so.
+    fn forget(&mut self, _peer: Peer)
+        ensures { self.new ≡ self.old }
+    {}
 
     /// Gives out the datagram that waits longest. Nothing comes exactly where none waits.
     fn recv(&mut self, out: &mut [u8; MOST_LINK_BYTES]) -> Result<Got, Failed>

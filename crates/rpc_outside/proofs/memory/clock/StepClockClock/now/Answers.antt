@@ -1,4 +1,4 @@
-use Rattle.rpc_outside.proofs.clock.StepClockClock.now.Goals as goal
+use Rattle.rpc_outside.proofs.memory.clock.StepClockClock.now.Goals as goal
 use Rattle.rpc_outside.proofs.Ticking.{goes_on}
 
 pub returns : goal.returns

@@ -9,10 +9,10 @@ ghost use Rattle.rpc_outside.specs.Memory.{FailsToSend, HasNoRoom, IsBusy};
 ghost use Rattle.rpc_outside.specs.declared.link.Got.TheVariants.{Nothing};
 ghost use Rattle.rpc_outside.specs.declared.link.Taken.TheVariants.{Whole, Busy};
 
-use crate::arrivals::Arrivals;
-use crate::calls::Calls;
 use crate::failed::Failed;
 use crate::link::{Got, Link, MOST_LINK_BYTES, Taken};
+use crate::memory::arrivals::Arrivals;
+use crate::memory::calls::Calls;
 use rpc_base::{NoMemory, Octets, Peer};
 use std::alloc::Global;
 use std::marker::Model;
@@ -253,4 +253,19 @@ impl Link for MemLink {
         self.calls.make()?;
         Ok(self.arrivals.next(out))
     }
+
+    /// Keeps nothing back.
+    fn flush(&mut self)
+        ensures { self.new ≡ self.old }
+    {}
+
+    /// Ends at once.
+    fn wait(&mut self, _micros: u32)
+        ensures { self.new ≡ self.old }
+    {}
+
+    /// Every address is that of peer 0, and stays so.
+    fn forget(&mut self, _peer: Peer)
+        ensures { self.new ≡ self.old }
+    {}
 }
