@@ -352,10 +352,10 @@ group-lawful mode s x t v (pairs_server peer client credits may h) =
       numbered = refl;
       room = pair-fits (servers_spent s.lists) credits s.lists may.fits;
     }) h)
-group-lawful mode s x t v (refuses credits e (inl refusal) h) =
+group-lawful mode s x t v (refuses credits few e (inl refusal) h) =
     own-clock s x t (notes-lawful e s x t (refused-by s.lists e (shares s.lists) credits
     s.lists.room (clients_spent s.lists) (has_no_room credits s.lists) refusal) h)
-group-lawful mode s x t v (refuses credits e (inr refusal) h) =
+group-lawful mode s x t v (refuses credits few e (inr refusal) h) =
     own-clock s x t (notes-lawful e s x t (refused-by s.lists e (shares s.lists) credits
     s.lists.room (servers_spent s.lists) (has_no_room credits s.lists) refusal) h)
 group-lawful mode s x t v (connects peer credits rate few h) =

@@ -47,8 +47,8 @@ pub data Group (mode : ℕ → Mode) (s : Timed) (x : List Fact) (t : Timed) : T
       → Notes (PairedClient (length s.lists.clients) peer server credits) s x t → Group mode s x t
   pairs_server : (peer client credits : ℕ) → MayPair (server_refusal credits s.lists) client credits
       → Notes (PairedServer s.lists.server_numbers peer client credits) s x t → Group mode s x t
-  refuses : (credits : ℕ) → (event : Event) → Refuses credits event s → Notes event s x t
-      → Group mode s x t
+  refuses : (credits : ℕ) → IsCredits credits → (event : Event) → Refuses credits event s
+      → Notes event s x t → Group mode s x t
   connects : (peer credits rate : ℕ) → IsCredits credits → Connects peer credits rate s x t
       → Group mode s x t
   disconnects : (session : ℕ) → Disconnects session s x t → Group mode s x t

@@ -183,9 +183,9 @@ refuses-by false b c x y z e h = inr h
 
 refused-runs : (credits n : ℕ) (before : Timed) (e : Event) (s : Stage) (h x : List Fact)
     (t : Stage) → Runs h s.worked s.nodes → slice_get s.nodes n ≡ Some before
-    → pair_refusal credits before.lists ≡ Some e → x ≡ plain before.lists.me e ∷ [] → t ≡ s
-    → Runs (h ++ x) t.worked t.nodes
-refused-runs credits n before e s h x t r is refusal facts left =
+    → IsCredits credits → pair_refusal credits before.lists ≡ Some e → x ≡ plain before.lists.me e ∷ []
+    → t ≡ s → Runs (h ++ x) t.worked t.nodes
+refused-runs credits n before e s h x t r is few refusal facts left =
     let was = r.nodes n before is in
     let l = before.lists in
     let one : List Fact = plain l.me e ∷ [] in
@@ -195,7 +195,7 @@ refused-runs credits n before e s h x t r is refusal facts left =
       goes = ap (λ (l : Lists).
           record { lists = l; clock = before.clock }) (refused-same credits before e refusal);
     } in
-    let group = refuses credits e (refuses-by (clients_spent l) (servers_spent l)
+    let group = refuses credits few e (refuses-by (clients_spent l) (servers_spent l)
     (has_no_room credits l) (shares l) credits l.room e refusal) note in
     let own : Owned false before one before =
     record {
@@ -323,9 +323,9 @@ pairs-by : (a b credits : ℕ) (client server : Timed) (e g : Option Event) (s :
     → pair_refusal credits server.lists ≡ g → PairsBy e g a b credits client server s x t
     → Runs (h ++ x) t.worked t.nodes
 pairs-by a b credits client server (Some e) g s h x t r two few c v refusal q p =
-    refused-runs credits a client e s h x t r c refusal p.0 p.1
+    refused-runs credits a client e s h x t r c (record { some = few.0; few = few.1 }) refusal p.0 p.1
 pairs-by a b credits client server None (Some e) s h x t r two few c v q refusal p =
-    refused-runs credits b server e s h x t r v refusal p.0 p.1
+    refused-runs credits b server e s h x t r v (record { some = few.0; few = few.1 }) refusal p.0 p.1
 pairs-by a b credits client server None None s h x t r two few c v fits fits_too p =
     ends-run a b credits client server s h x t r two c v (record { some = few.0; few = few.1 }) fits fits_too p
 
