@@ -7,6 +7,7 @@ use Rattle.rpc_outside.specs.declared.service.Mode.{Mode}
 use Rattle.rpc_outside.specs.declared.service.Mode.TheVariants.{Inline, Background}
 use Rattle.rpc_outside.specs.PlainAnswer.{plain_mode, plain_answer, tally}
 use Rattle.rpc_outside.specs.Served.{Served}
+use Rattle.rpc_outside.specs.declared.service.Service as Service
 
 abbrev pub is_mode_inline : Mode → Bool
 is_mode_inline Inline = true
@@ -49,6 +50,10 @@ pub record Serving : Type 0 where
 
 abbrev pub plain_serving : Serving
 plain_serving = record { mode = plain_mode; answer = plain_answer }
+
+-- by the members of its bound
+abbrev pub rules_of : {V : Type 0} → Service.Ghosts V → Serving
+rules_of v = record { mode = v.mode_of; answer = v.answer }
 
 -- what was served in the event loop, once a fact happened: a Ran of an Inline type serves its bytes
 abbrev pub served_after : (ℕ → Mode) → Event → List ℕ → Served → Served

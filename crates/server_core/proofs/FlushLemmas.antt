@@ -23,7 +23,7 @@ use Rattle.rpc_base.proofs.TakingLemmas.{find-passes, taken-sum}
 use Rattle.rpc_base.specs.declared.fact.Fact.{Fact}
 use Rattle.rpc_base.specs.declared.owner.Owner.{Owner}
 use Rattle.rpc_laws.specs.Queues.{numbers_of, put}
-use Rattle.rpc_outside.specs.Recording.{Grew}
+use Rattle.rpc_outside.specs.Recording.{Grew, Log}
 use Rattle.server_core.specs.Flushing.{HoldsAll, HoldsReplies, has_begun, named_by, queued_of}
 use Rattle.server_core.specs.Flushing.{ring_after, without_replies}
 use Rattle.server_core.specs.declared.step.Step.{Step}
@@ -299,9 +299,9 @@ pub flush-unheld : (n : ℕ) (q : SlotRequest) (pool : Pool) (es : List EntryVal
 flush-unheld n q pool es holds none = unheld-cases n q pool es (answer_of q.state) none holds.all
 
 -- a recorder came to keep one list after another
-module _ {R : Type 0} (facts : R → Option (List Fact)) (whole : R → Bool) where
-  pub grew-none : (a : R) → Grew facts whole a a []
-  grew-none a = record { since = λ h. h; told = λ h. nothing (facts a) } where
+module _ {R : Type 0} (log : R → Log) where
+  pub grew-none : (a : R) → Grew (log a) (log a) []
+  grew-none a = record { since = λ h. h; told = λ h. nothing (log a).facts } where
     nothing : (o : Option (List Fact)) → o ≡ option_map (λ fs. fs ++ []) o
     nothing None = refl
     nothing (Some fs) = ap Some (sym (append-nil fs))
@@ -312,11 +312,11 @@ module _ {R : Type 0} (facts : R → Option (List Fact)) (whole : R → Bool) wh
   joined None x y = refl
   joined (Some fs) x y = ap Some (append_assoc fs x y)
 
-  pub grew-then : (a b c : R) (x y : List Fact) → Grew facts whole a b x → Grew facts whole b c y
-      → Grew facts whole a c (x ++ y)
+  pub grew-then : (a b c : R) (x y : List Fact) → Grew (log a) (log b) x → Grew (log b) (log c) y
+      → Grew (log a) (log c) (x ++ y)
   grew-then a b c x y first second = record {
     since = λ h. first.since (second.since h);
-    told = λ h. second.told h ∙ ap (option_map (λ fs. fs ++ y)) (first.told (second.since h)) ∙ joined (facts a) x y;
+    told = λ h. second.told h ∙ ap (option_map (λ fs. fs ++ y)) (first.told (second.since h)) ∙ joined (log a).facts x y;
   }
 
 -- a request of which no reply is queued, and a ring without entries

@@ -15,7 +15,7 @@ use Rattle.rpc_laws.specs.declared.rows.ServerRow.{ServerRow}
 use Rattle.rpc_laws.specs.declared.tables.Server.{Server}
 use Rattle.rpc_laws.specs.Requests.{answered}
 use Rattle.rpc_laws.specs.ServerTable.{served_facts}
-use Rattle.rpc_outside.specs.Recording.{Grew}
+use Rattle.rpc_outside.specs.Recording.{Grew, Log}
 use Rattle.rpc_outside.specs.Served.{Served}
 use Rattle.rpc_outside.specs.declared.service.Mode.{Mode}
 use Rattle.server_core.specs.declared.step.Step.{Step}
@@ -90,7 +90,7 @@ early_facts who s entries row h ask answer step =
 
 -- what a packet makes of the session, what is noted, and that the answer of a handler that ran is
 -- the service's
-pub record Handled {R : Type 0} (facts : R → Option (List Fact)) (whole : R → Bool) (before now : R)
+pub record Handled {R : Type 0} (log : R → Log) (before now : R)
     (noted : (answer : List ℕ) → List Fact) (answer_of : Served → ℕ → List ℕ → List ℕ)
     (stands after : Served → Type 0) (h : MessageHeader) (body : List ℕ) (v w : Server)
     (step : Step) : Type 0 where
@@ -98,14 +98,14 @@ pub record Handled {R : Type 0} (facts : R → Option (List Fact)) (whole : R �
   pub steps : Steps step answer h body v w
   pub by_service :
       IfRan step (IsAnswer answer_of stands after h.req_type (asked_with h body v) answer)
-  pub grew : Grew facts whole before now (noted answer)
+  pub grew : Grew (log before) (log now) (noted answer)
 
 -- a request that is taken with all its bytes is answered by its handler
-pub record IsServed {R : Type 0} (facts : R → Option (List Fact)) (whole : R → Bool)
+pub record IsServed {R : Type 0} (log : R → Log)
     (before now : R) (who : Who) (session : ℕ) (answer_of : Served → ℕ → List ℕ → List ℕ)
     (stands after : Served → Type 0) (h : MessageHeader) (ask : List ℕ) (v w : Server)
     : Type 0 where
   pub answer : List ℕ
   pub shown_is : w ≡ gone_on_as h.request (answered answer) v
   pub by_service : IsAnswer answer_of stands after h.req_type ask answer
-  pub grew : Grew facts whole before now (ran_facts who session h ask answer)
+  pub grew : Grew (log before) (log now) (ran_facts who session h ask answer)

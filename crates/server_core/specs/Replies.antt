@@ -2,6 +2,7 @@
 use Rattle.std.specs.Prelude.{◌≡◌, ℕ, ◌+◌, ◌<◌, ◌==◌, ◌&&◌, nat_lt, Bool, false, not, Option}
 use Rattle.std.specs.Prelude.{Some, None, option_and_then, option_map, IfSome, if◌then◌else◌}
 use Rattle.std.specs.List.{find}
+use Rattle.rpc_base.specs.declared.limits.TheConstants.{MOST_REFERENCES}
 use Rattle.rpc_base.specs.declared.owner.Owner.{Owner}
 use Rattle.rpc_base.specs.declared.owner.Owner.TheVariants.{Ask, Reply, Control}
 use Rattle.rpc_base.specs.Owners.{same_owner}
@@ -91,8 +92,8 @@ packet_of pool s e = owner_reply e.owner e.number (shown pool s)
 -- one reply more can be queued: its reference to the answer can be counted, and itself
 abbrev pub CanHold : Pool → SlotRequest → Type 0
 CanHold pool q =
-    IfSome (answer_of q.state) (λ a. refs_of pool a.place < 4294967295)
-    × (q.queued + 1 < 4294967295)
+    IfSome (answer_of q.state) (λ a. refs_of pool a.place < MOST_REFERENCES)
+    × (q.queued + 1 < MOST_REFERENCES)
 
 -- whether packet k of a request was taken and has its reply: where a worker has the request, that
 -- to its last packet is to come

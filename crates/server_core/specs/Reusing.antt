@@ -1,5 +1,6 @@
 -- The buffer of an older answer, into which a newer one is written.
 use Rattle.std.specs.Prelude.{◌≡◌, ◌≤◌, max, ℕ, Option, Some, None}
+use Rattle.rpc_base.specs.declared.limits.TheConstants.{PART_BYTES}
 use Rattle.message_buffer.specs.Buffer.{Buffer, capacity_of}
 use Rattle.message_buffer.specs.Messages.{HasSize}
 use Rattle.buffer_pool.specs.Pool.{Pool, buf_at, changed}
@@ -11,7 +12,7 @@ use Rattle.server_core.specs.Session.{answer_of}
 -- packet needs
 abbrev pub HasRoom : ℕ → Option Buffer → Type 0
 HasRoom size None = ⊥
-HasRoom size (Some b) = (size ≤ capacity_of b) × (capacity_of b ≤ max size 1024)
+HasRoom size (Some b) = (size ≤ capacity_of b) × (capacity_of b ≤ max size PART_BYTES)
 
 -- the newest request of a slot has its answer at this place, in a buffer with such room for one of
 -- this size

@@ -5,6 +5,7 @@ use Rattle.std.specs.List.{AllByRecursion, find}
 use Rattle.rpc_base.specs.declared.owner.Owner.{Owner}
 use Rattle.rpc_base.specs.declared.owner.Owner.TheVariants.{Reply}
 use Rattle.rpc_base.specs.declared.limits.TheConstants.{MOST_CREDITS, SESSION_NUMBERS}
+use Rattle.rpc_base.specs.declared.limits.TheConstants.{MOST_REFERENCES}
 use Rattle.packet_header.specs.Parts.{packet_count, IsMessage}
 use Rattle.server_core.specs.declared.slot.Stored.{Stored}
 use Rattle.server_core.specs.declared.slot.SlotRequest.{SlotRequest}
@@ -64,7 +65,7 @@ pub record IsInTurn (q : SlotRequest) : Type 0 where
   pub some : 1 ≤ q.taken
   pub come : HasCome q.size q.taken q.state
   -- before its answer is there, one reply more can be counted
-  pub few : answer_of q.state ≡ None → q.queued < 4294967295
+  pub few : answer_of q.state ≡ None → q.queued < MOST_REFERENCES
 
 -- a slot has one newest request
 pub record IsSession (s : Session) : Type 0 where

@@ -1,5 +1,6 @@
 -- A session as the definitions over histories have it: with the bytes that its places hold.
 use Rattle.std.specs.Prelude.{ℕ, ◌*◌, List, [], map, take, Option, Some, None, option_map}
+use Rattle.rpc_base.specs.declared.limits.TheConstants.{PART_BYTES}
 use Rattle.rpc_base.specs.declared.event.Event.TheVariants.{PairedServer}
 use Rattle.buffer_pool.specs.Pool.{Pool, buf_at}
 use Rattle.rpc_laws.specs.declared.tables.Served.{Served}
@@ -22,7 +23,7 @@ answer_in pool a = message_in (buf_at pool a.place)
 -- the bytes of a request's first packets, none where they went with a job
 abbrev pub ask_in : Pool → ℕ → Option ℕ → List ℕ
 ask_in pool taken None = []
-ask_in pool taken (Some p) = take (1024 * taken) (message_in (buf_at pool p))
+ask_in pool taken (Some p) = take (PART_BYTES * taken) (message_in (buf_at pool p))
 
 -- a request: its bytes are those of the packets taken so far
 abbrev pub shown_request : Pool → SlotRequest → Served

@@ -3,6 +3,7 @@
 use Rattle.std.specs.Prelude.{◌≡◌, ◌≢◌, ℕ, ◌+◌, ◌<◌, ◌≤◌, Bool, true, false, List, [], ◌∷◌, ◌++◌}
 use Rattle.std.specs.Prelude.{length, take, Option, Some, None, IfSome}
 use Rattle.std.specs.List.{AllByRecursion}
+use Rattle.rpc_base.specs.declared.limits.TheConstants.{HEAD_BYTES, PART_BYTES}
 use Rattle.rpc_base.specs.Tables.{at_first, without_first}
 use Rattle.rpc_base.specs.declared.event.Event.TheVariants.{Took as TookEvent, Given as GivenEvent}
 use Rattle.rpc_base.specs.declared.event.Event.TheVariants.{Ran as RanEvent}
@@ -38,7 +39,7 @@ use Rattle.server_core.specs.Shown.{ask_in}
 pub record IsAsking (h : MessageHeader) (body_len : ℕ) : Type 0 where
   pub kind : is_asking h.kind ≡ true
   pub in_range : MessageInRange h
-  pub body : MessageLength h.kind h.size h.number (16 + body_len)
+  pub body : MessageLength h.kind h.size h.number (HEAD_BYTES + body_len)
 
 -- a step that takes a packet, where its memory may be wanting
 abbrev pub HasTaken : (last job can_want : Bool) → Step → Type 0
@@ -214,7 +215,7 @@ first_shown h bytes answer = record {
   req_type = h.req_type;
   size = h.size;
   taken = 1;
-  ask = take 1024 bytes;
+  ask = take PART_BYTES bytes;
   working = false;
   answer = answer;
 }

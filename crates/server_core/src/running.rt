@@ -3,7 +3,7 @@
 ghost use Rattle.std.specs.Prelude.{◌≡◌, ◌≢◌, ◌≤◌, ◌++◌, ◌∷◌, [], length, take, IfOk};
 ghost use Rattle.message_buffer.specs.Buffer.{bytes_of, capacity_of};
 ghost use Rattle.rpc_outside.specs.declared.service.Mode.TheVariants.{Inline, Unserved};
-ghost use Rattle.rpc_outside.specs.Served.{Served};
+ghost use Rattle.rpc_outside.specs.Served.{Served, StandsForSome};
 ghost use Rattle.server_core.specs.Serving.{IsFirstPart};
 ghost use Rattle.packet_header.specs.Parts.{IsMessage};
 
@@ -56,6 +56,7 @@ pub(crate) fn serve<V: Service>(service: &mut V, req_type: u8, ask: &[u8], answe
     requires inline { V.mode_of req_type ≡ Inline }
     requires room { (served : Served) → V.stands service.old served →
         length (V.answer served req_type ask.now) ≡ answer.old.len }
+    requires founded { StandsForSome (V.stands service.old) }
     ensures len { answer.new.len ≡ answer.old.len }
     ensures capacity { capacity_of answer.new ≡ capacity_of answer.old }
     ensures answer { (served : Served) → V.stands service.old served →

@@ -28,7 +28,7 @@ use Rattle.rpc_laws.specs.Queues.{numbers_of, put_queued}
 use Rattle.rpc_laws.specs.declared.rows.ServerRow.{ServerRow}
 use Rattle.rpc_laws.specs.declared.tables.Queued.{Queued}
 use Rattle.rpc_laws.specs.declared.tables.Served.{Served as ServedRequest}
-use Rattle.rpc_outside.specs.Recording.{Grew}
+use Rattle.rpc_outside.specs.Recording.{Grew, Log}
 use Rattle.rpc_outside.specs.Served.{Served}
 use Rattle.rpc_outside.specs.declared.service.Mode.{Mode}
 use Rattle.server_core.specs.declared.slot.SlotRequest.{SlotRequest}
@@ -216,14 +216,14 @@ abbrev pub beside : List EntryValue → Ring EntryValue → Ring EntryValue
 beside ps r = ring (r.items ++ ps) r.size
 
 -- so the packet is handled over all of them
-module _ {R : Type 0} (facts : R → Option (List Fact)) (whole : R → Bool) (mode : Mode)
+module _ {R : Type 0} (log : R → Log) (mode : Mode)
     (jobs_full : Bool) (me i : ℕ) (h : MessageHeader) (body : List ℕ)
     (answer_of : Served → ℕ → List ℕ → List ℕ) (stands then_stands : Served → Type 0)
     (noted_before noted_now : R) (step : Step) (old new : Ring EntryValue) (pool after : Pool)
     (ps : List EntryValue) (calls : Calls ps) where
-  pub beside-one : (v w : Serving) → Handles facts whole mode jobs_full (Node me) h body answer_of
+  pub beside-one : (v w : Serving) → Handles log mode jobs_full (Node me) h body answer_of
       stands then_stands noted_before noted_now step old new v w pool after
-      → Handles facts whole mode jobs_full (Node me) h body answer_of stands then_stands
+      → Handles log mode jobs_full (Node me) h body answer_of stands then_stands
       noted_before noted_now step (beside ps old) (beside ps new) v w pool after
   beside-one v w g =
       let row = row_of mode jobs_full h v in
@@ -240,7 +240,7 @@ module _ {R : Type 0} (facts : R → Option (List Fact)) (whole : R → Bool) (m
           answer = g.handled.answer;
           steps = g.handled.steps;
           by_service = g.handled.by_service;
-          grew = subst (λ fs. Grew facts whole noted_before noted_now (fs
+          grew = subst (λ fs. Grew (log noted_before) (log noted_now) (fs
               ++ step_facts (Node me) v.number h (asked_with h body server) g.handled.answer step))
               (flushes-calls row step (Node me) v.number older old.items ps calls) g.handled.grew;
         };
@@ -270,9 +270,9 @@ module _ {R : Type 0} (facts : R → Option (List Fact)) (whole : R → Bool) (m
       }
 
   abbrev pub beside-step : (servers now : List Serving)
-      → ServerStep i (λ v w. Handles facts whole mode jobs_full (Node me) h body answer_of stands
+      → ServerStep i (λ v w. Handles log mode jobs_full (Node me) h body answer_of stands
       then_stands noted_before noted_now step old new v w pool after) servers now
-      → ServerStep i (λ v w. Handles facts whole mode jobs_full (Node me) h body answer_of stands
+      → ServerStep i (λ v w. Handles log mode jobs_full (Node me) h body answer_of stands
       then_stands noted_before noted_now step (beside ps old) (beside ps new) v w pool after) servers
       now
   beside-step servers now g = record {

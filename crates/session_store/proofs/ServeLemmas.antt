@@ -33,7 +33,7 @@ use Rattle.rpc_laws.specs.declared.rows.ServerRow.{ServerRow}
 use Rattle.rpc_laws.specs.declared.rows.ServerRow.TheVariants.{Drops, Begins, Takes, Repeats}
 use Rattle.rpc_laws.specs.declared.tables.Queued.{Queued}
 use Rattle.rpc_laws.specs.declared.tables.Server.{Server}
-use Rattle.rpc_outside.specs.Recording.{Grew}
+use Rattle.rpc_outside.specs.Recording.{Grew, Log}
 use Rattle.rpc_outside.specs.Served.{Served}
 use Rattle.rpc_outside.specs.declared.service.Mode.{Mode}
 use Rattle.rpc_outside.specs.declared.service.Mode.TheVariants.{Unserved}
@@ -259,13 +259,13 @@ seen-served pool mode_of [] all = tt
 seen-served pool mode_of (q ∷ qs) all = (all.0, seen-served pool mode_of qs all.1)
 
 -- server session i handled a packet
-module _ {R : Type 0} (facts : R → Option (List Fact)) (whole : R → Bool) (mode : Mode)
+module _ {R : Type 0} (log : R → Log) (mode : Mode)
     (jobs_full : Bool) (me i : ℕ) (h : MessageHeader) (body : List ℕ)
     (answer_of : Served → ℕ → List ℕ → List ℕ) (stands then_stands : Served → Type 0)
     (noted_before noted_now : R) (step : Step) (old new : Ring EntryValue) (pool after : Pool)
     (sides : List Side) (servers now : List Serving) (kept : Kept pool sides servers old)
     (has-room : length old.items < old.size)
-    (g : ServerStep i (λ v w. Handles facts whole mode jobs_full (Node me) h body answer_of stands
+    (g : ServerStep i (λ v w. Handles log mode jobs_full (Node me) h body answer_of stands
     then_stands noted_before noted_now step old new v w pool after) servers now) where
   abbrev row : ServerRow
   row = row_of mode jobs_full h g.server
@@ -403,7 +403,7 @@ module _ {R : Type 0} (facts : R → Option (List Fact)) (whole : R → Bool) (m
       → ((r : ℕ) → numbers_of (Reply g.server.number r) (map queued_of old.items)
       ≡ numbers_of (Reply g.server.number r) before.queued)
       → then.queued ≡ queue_handled (row_at mode jobs_full false h server_seen) step server_seen h
-      before.queued → HandlesAt facts whole mode jobs_full me i h body answer_of stands then_stands
+      before.queued → HandlesAt log mode jobs_full me i h body answer_of stands then_stands
       noted_before noted_now step before then
   serve-at session before then view later-view numbers queue =
       let done = g.step.handled in
@@ -426,7 +426,7 @@ module _ {R : Type 0} (facts : R → Option (List Fact)) (whole : R → Bool) (m
           answer = done.answer;
           steps = done.steps;
           by_service = done.by_service;
-          grew = subst (λ fs. Grew facts whole noted_before noted_now fs) noted done.grew;
+          grew = subst (λ fs. Grew (log noted_before) (log noted_now) fs) noted done.grew;
         };
         reply = reply-own step g.step.reply;
         give = g.step.give;

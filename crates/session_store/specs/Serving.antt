@@ -2,6 +2,7 @@
 use Rattle.std.specs.Prelude.{◌≡◌, ◌≢◌, ℕ, ◌++◌, Bool, true, false, not, List, [], ◌∷◌}
 use Rattle.std.specs.Prelude.{Option, Some, None, IfSome, slice_get, slice_set, if◌then◌else◌}
 use Rattle.std.specs.List.{AllByRecursion, filter, find}
+use Rattle.rpc_outside.specs.Recording.{Log}
 use Rattle.rpc_base.specs.declared.event.Event.TheVariants.{Dropped as DroppedEvent}
 use Rattle.rpc_base.specs.declared.fact.Fact.{Fact}
 use Rattle.rpc_base.specs.declared.fact.Who.{Who}
@@ -53,7 +54,7 @@ AreServedAt mode_of i servers = IfSome (slice_get servers i)
     (λ v. AllByRecursion (λ q. mode_of q.req_type ≢ Unserved) v.slots)
 
 -- the session handled the packet
-pub record Handles {R : Type 0} (facts : R → Option (List Fact)) (whole : R → Bool)
+pub record Handles {R : Type 0} (log : R → Log)
     (mode : Mode) (jobs_full : Bool) (who : Who) (h : MessageHeader) (body : List ℕ)
     (answer_of : Served → ℕ → List ℕ → List ℕ) (stands then_stands : Served → Type 0)
     (noted_before noted_now : R) (step : Step) (old new : Ring EntryValue) (v w : Serving)
@@ -65,7 +66,7 @@ pub record Handles {R : Type 0} (facts : R → Option (List Fact)) (whole : R �
       → server_row mode jobs_full true (Some (shown before v)) v.peer h ≡ Drops NoMemory
   pub ring_is : new ≡ ring (ring_after (row_of mode jobs_full h v) step v.number
       (newest h.request v) old.items) old.size
-  pub handled : Handled facts whole noted_before noted_now
+  pub handled : Handled log noted_before noted_now
       (λ answer. packet_facts who v old.items (row_of mode jobs_full h v) h
       (asked_with h body (shown before v)) answer step) answer_of stands then_stands h body
       (shown before v) (shown after w) step
@@ -112,7 +113,7 @@ abbrev pub row_at : Mode → (jobs_full lacks : Bool) → MessageHeader → Serv
 row_at mode jobs_full lacks h v = server_row mode jobs_full lacks (Some v) v.way.peer h
 
 -- server session i handled the packet as the node me, by the server rule
-pub record HandlesAt {R : Type 0} (facts : R → Option (List Fact)) (whole : R → Bool)
+pub record HandlesAt {R : Type 0} (log : R → Log)
     (mode : Mode) (jobs_full : Bool) (me i : ℕ) (h : MessageHeader) (body : List ℕ)
     (answer_of : Served → ℕ → List ℕ → List ℕ) (stands then_stands : Served → Type 0)
     (noted_before noted_now : R) (step : Step) (old new : Shown) : Type 0 where
@@ -121,7 +122,7 @@ pub record HandlesAt {R : Type 0} (facts : R → Option (List Fact)) (whole : R 
   pub row : IsStepOf mode h (row_at mode jobs_full false h server) step
   pub lacks : step ≡ Dropped NoMemory → row_at mode jobs_full true h server ≡ Drops NoMemory
   pub later : Server
-  pub handled : Handled facts whole noted_before noted_now (λ answer. handled_facts me
+  pub handled : Handled log noted_before noted_now (λ answer. handled_facts me
       (served_facts mode me answer old.queued (Some server) h body
       (row_at mode jobs_full false h server)) step) answer_of stands then_stands h body server later
       step

@@ -9,7 +9,7 @@ use Rattle.buffer_pool.specs.Counting.{Counts}
 use Rattle.buffer_pool.specs.Pool.{Pool, spare_of}
 use Rattle.packet_rings.specs.Rings.{Ring}
 use Rattle.packet_rings.specs.Values.{EntryValue}
-use Rattle.rpc_base.specs.declared.limits.TheConstants.{MOST_CREDITS}
+use Rattle.rpc_base.specs.declared.limits.TheConstants.{MOST_CREDITS, MOST_REFERENCES}
 use Rattle.rpc_laws.specs.Groups.{live_credits}
 use Rattle.rpc_laws.specs.Sessions.{no_session}
 use Rattle.rpc_laws.specs.declared.tables.Call.{Call}
@@ -206,7 +206,7 @@ pub record Kept (pool : Pool) (sides : List Side) (servers : List Serving) (tx :
   pub replies : AllByRecursion (ServerQueued tx.items) servers
   pub ascends : AllByRecursion (SideAscends pool) sides
   pub within : length tx.items ≤ tx.size
-  pub few : tx.size < 4294967295
+  pub few : tx.size < MOST_REFERENCES
   -- each session has eight slots
   pub slots : AllByRecursion HasSlots sides
   pub served : AllByRecursion HasPlaces servers

@@ -1,6 +1,7 @@
 //! Server sessions by their numbers, and the replies of one of them.
 ghost use Rattle.std.specs.Prelude.{◌≡◌, ◌<◌, length, slice_get, IfSome};
 ghost use Rattle.std.specs.List.{AllByRecursion, position};
+ghost use Rattle.rpc_outside.specs.Served.{StandsForSome};
 ghost use Rattle.buffer_pool.specs.Pool.{spare_of};
 ghost use Rattle.client_core.specs.KeepsPool.{IsHeld};
 ghost use Rattle.message_buffer.specs.Buffer.{bytes_of};
@@ -17,9 +18,9 @@ ghost use Rattle.server_core.specs.Serving.{IsUnheld};
 ghost use Rattle.server_core.specs.Steps.{IsAsking, UnlessRan};
 
 use buffer_pool::BufferPool;
-use packet_header::{HEAD_BYTES, MessageHeader};
+use packet_header::MessageHeader;
 use packet_rings::{Entry, TxRing};
-use rpc_base::{Peer, SessionNo, Who};
+use rpc_base::{HEAD_BYTES, Peer, SessionNo, Who};
 use rpc_outside::{Recorder, Service};
 use server_core::{ServerSession, Step};
 use std::alloc::Global;
@@ -176,7 +177,8 @@ pub fn asked_at<V: Service, R: Recorder>(
     requires spare { 0 < spare_of pool.old }
     requires asking { IsAsking head.now (length body.now) }
     requires all_served { IfSome (slice_get servers.old.items i) (ServerServed V.mode_of) }
-    ensures handles { ServerStep i (λ v w. Handles R.facts R.whole (V.mode_of head.now.req_type)
+    requires founded { StandsForSome (V.stands service.old) }
+    ensures handles { ServerStep i (λ v w. Handles R.log (V.mode_of head.now.req_type)
         jobs_full who head.now body.now V.answer (V.stands service.old) (V.stands service.new)
         rec.old rec.new result tx.old tx.new v w pool.old pool.new) servers.old.items
         servers.new.items }

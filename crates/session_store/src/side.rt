@@ -16,10 +16,10 @@ ghost use Rattle.session_store.specs.Sides.{IsOfSide, MayPost, SideKept, server_
 use crate::stage::Stage;
 use buffer_pool::BufferPool;
 use client_core::{ClientSession, Done, Reply, Timer};
-use packet_header::{HEAD_BYTES, MessageHeader};
+use packet_header::MessageHeader;
 use packet_rings::Entry;
 use rpc_base::{
-    CallNo, MOST_CALLS, MOST_MESSAGE_BYTES, Peer, RequestNo, SESSION_NUMBERS, SessionNo,
+    CallNo, HEAD_BYTES, MOST_CALLS, MOST_MESSAGE_BYTES, Peer, RequestNo, SESSION_NUMBERS, SessionNo,
 };
 use rpc_laws::TimerRow;
 use session_slots::Waiting;

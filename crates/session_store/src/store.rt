@@ -14,7 +14,7 @@ use crate::side::Side;
 use buffer_pool::BufferPool;
 use pacing_wheel::Pacer;
 use packet_rings::TxRing;
-use rpc_base::NoMemory;
+use rpc_base::{MOST_REFERENCES, NoMemory};
 use server_core::ServerSession;
 use std::alloc::Global;
 use std::marker::Model;
@@ -59,7 +59,7 @@ impl Store {
     /// and whose pacer for `ring`; its pool has so many places. `NoMemory` comes where there is no
     /// memory for them.
     pub fn new(alloc: Global, ring: u32, places: u32) -> Result<Store, NoMemory>
-        requires few { 2 * ring < 4294967295 }
+        requires few { 2 * ring < MOST_REFERENCES }
         ensures { IfOk result (λ s. s ≡ no_sessions (2 * ring) places) }
     {
         let pool = BufferPool::new(alloc, places)?;

@@ -5,7 +5,7 @@ ghost use Rattle.packet_header.specs.Parts.{packet_count, IsMessage};
 ghost use Rattle.buffer_pool.specs.Pool.{IsFull, buf_at, held, refs_of};
 ghost use Rattle.packet_rings.specs.Values.{EntryValue};
 ghost use Rattle.rpc_laws.specs.Requests.{given};
-ghost use Rattle.rpc_outside.specs.Served.{Served};
+ghost use Rattle.rpc_outside.specs.Served.{Served, StandsForSome};
 ghost use Rattle.rpc_outside.specs.declared.service.Mode.{Mode};
 ghost use Rattle.rpc_outside.specs.declared.service.Mode.TheVariants.{Inline, Unserved};
 ghost use Rattle.server_core.specs.Counting.{CountsQueued};
@@ -24,9 +24,9 @@ use super::ServerSession;
 use crate::running::serve;
 use crate::slot::{SlotRequest, Stored};
 use buffer_pool::BufferPool;
-use packet_header::{MessageHeader, PART_BYTES};
+use packet_header::MessageHeader;
 use packet_rings::Entry;
-use rpc_base::{Place, RequestNo, Who};
+use rpc_base::{PART_BYTES, Place, RequestNo, Who};
 use rpc_outside::{Recorder, Service};
 
 impl ServerSession {
@@ -78,7 +78,8 @@ impl ServerSession {
         requires answer { IsMessage size }
         requires room { (served : Served) → V.stands service.old served →
             length (V.answer served head.now.req_type body.now) ≡ size }
-        ensures answers { IsServed R.facts R.whole rec.old rec.new who.now self.old.number V.answer
+        requires founded { StandsForSome (V.stands service.old) }
+        ensures answers { IsServed R.log rec.old rec.new who.now self.old.number V.answer
             (V.stands service.old) (V.stands service.new) head.now body.now
             (begun_with (given (first_shown head.now [] None)) (shown pool.old self.old))
             (shown pool.new self.new) }
@@ -145,6 +146,7 @@ fn serve_at<V: Service>(
     requires inline { V.mode_of req_type ≡ Inline }
     requires room { (served : Served) → V.stands service.old served →
         length (V.answer served req_type ask.now) ≡ size }
+    requires founded { StandsForSome (V.stands service.old) }
     ensures rewritten { IsRewritten size place pool.old pool.new }
     ensures answer { (served : Served) → V.stands service.old served →
         message_in (buf_at pool.new place) ≡ V.answer served req_type ask.now }

@@ -8,8 +8,7 @@ ghost use Rattle.server_core.specs.Shown.{shown};
 
 use super::ServerSession;
 use buffer_pool::BufferPool;
-use packet_header::PART_BYTES;
-use rpc_base::RequestNo;
+use rpc_base::{PART_BYTES, RequestNo};
 
 impl ServerSession {
     /// The bytes taken so far of the newest request of a slot, where it has this number. There are
@@ -53,7 +52,7 @@ impl ServerSession {
 
 // The bytes of a message's first packets.
 fn first_packets(bytes: &[u8], taken: u16) -> &[u8]
-    ensures { result.now ≡ take (1024 * taken) bytes.now }
+    ensures { result.now ≡ take (PART_BYTES * taken) bytes.now }
 {
     let end = PART_BYTES as usize * usize::from(taken);
     if end < bytes.len() {

@@ -37,7 +37,7 @@ impl ServerSession {
             (IsCounted self.now.number tx.old.items) }
         ensures ring { tx.new ≡ ring
             (without_replies self.now.number (newest request self.now) tx.old.items) tx.old.size }
-        ensures noted { Grew R.facts R.whole rec.old rec.new
+        ensures noted { Grew (R.log rec.old) (R.log rec.new)
             (flushed_facts who.now self.now.number (newest request self.now) tx.old.items) }
         ensures unheld { IfSome (newest request self.now) (IsUnheld pool.new) }
         ensures shown { shown pool.new self.now ≡ shown pool.old self.now }

@@ -20,7 +20,7 @@ impl ServerSession {
         who: &Who,
         rec: &mut R,
     )
-        ensures { Grew R.facts R.whole rec.old rec.new
+        ensures { Grew (R.log rec.old) (R.log rec.new)
             (last_facts who.now self.now.number head.now step.now) }
     {
         match step {
@@ -53,7 +53,7 @@ impl ServerSession {
         who: &Who,
         rec: &mut R,
     )
-        ensures { Grew R.facts R.whole rec.old rec.new
+        ensures { Grew (R.log rec.old) (R.log rec.new)
             (ran_facts who.now self.now.number head.now ask.now answer.now) }
     {
         rec.note(*who, self.took(head), &[], &[]);

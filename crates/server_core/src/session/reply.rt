@@ -17,8 +17,9 @@ ghost use Rattle.buffer_pool.specs.Counting.{Counts};
 
 use super::ServerSession;
 use buffer_pool::BufferPool;
-use packet_header::{HEAD_BYTES, Packet, count, encode};
+use packet_header::{Packet, count, encode};
 use packet_rings::Entry;
+use rpc_base::HEAD_BYTES;
 
 impl ServerSession {
     /// Writes the header of an entry that was posted, and lends its body.

@@ -1,4 +1,5 @@
 //! The server table: what a Request or RFR does to the session that it is for.
+ghost use Rattle.rpc_outside.specs.Served.{StandsForSome};
 ghost use Rattle.rpc_outside.specs.declared.service.Mode.{Mode};
 ghost use Rattle.std.specs.Prelude.{◌≡◌, ℕ, false, true, ◌<◌, List, [], ◌∷◌, ◌++◌, IfSome, Some};
 ghost use Rattle.std.specs.Prelude.{length};
@@ -68,6 +69,7 @@ impl ServerSession {
         requires can_hold { IfSome (newest head.now.request self.old) (CanHold pool.old) }
         // All packets of a session are handled by services of one type.
         requires all_served { AreServed V.mode_of self.old.slots }
+        requires founded { StandsForSome (V.stands service.old) }
         ensures row { let mode = V.mode_of head.now.req_type in
             let row = row_of mode jobs_full head.now self.old in
             IsStepOf mode head.now row result }
@@ -88,7 +90,7 @@ impl ServerSession {
         // handler that ran is that of each list of requests that the service stands for.
         ensures handled { let mode = V.mode_of head.now.req_type in
             let row = row_of mode jobs_full head.now self.old in
-            Handled R.facts R.whole rec.old rec.new
+            Handled R.log rec.old rec.new
             (λ answer. packet_facts who self.old tx.old.items row head.now
             (asked_with head.now body.now (shown pool.old self.old)) answer result) V.answer
             (V.stands service.old) (V.stands service.new) head.now body.now
@@ -155,6 +157,7 @@ impl ServerSession {
             (IsCounted self.old.number tx.old.items) }
         requires can_hold { IfSome (newest head.now.request self.old) (CanHold pool.old) }
         requires all_served { AreServed V.mode_of self.old.slots }
+        requires founded { StandsForSome (V.stands service.old) }
         ensures row { let mode = V.mode_of head.now.req_type in
             let row = row_of mode jobs_full head.now self.old in
             IsStepOf mode head.now row result }
@@ -169,7 +172,7 @@ impl ServerSession {
             tx.old.items) tx.old.size }
         ensures handled { let mode = V.mode_of head.now.req_type in
             let row = row_of mode jobs_full head.now self.old in
-            Handled R.facts R.whole rec.old rec.new
+            Handled R.log rec.old rec.new
             (λ answer. early_facts who.now self.old tx.old.items row head.now
             (asked_with head.now body.now (shown pool.old self.old)) answer result) V.answer
             (V.stands service.old) (V.stands service.new) head.now body.now

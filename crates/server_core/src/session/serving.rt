@@ -4,7 +4,7 @@ ghost use Rattle.packet_header.specs.Parts.{packet_count, IsMessage};
 ghost use Rattle.message_buffer.specs.Buffer.{capacity_of};
 ghost use Rattle.buffer_pool.specs.Pool.{spare_of};
 ghost use Rattle.packet_rings.specs.Values.{EntryValue};
-ghost use Rattle.rpc_outside.specs.Served.{Served};
+ghost use Rattle.rpc_outside.specs.Served.{Served, StandsForSome};
 ghost use Rattle.rpc_outside.specs.declared.service.Mode.{Mode};
 ghost use Rattle.rpc_outside.specs.declared.service.Mode.TheVariants.{Inline};
 ghost use Rattle.server_core.specs.Counting.{CountsQueued};
@@ -53,7 +53,8 @@ impl ServerSession {
         requires message { IsMessage room.len × (room.len ≤ capacity_of room) }
         requires room { (served : Served) → V.stands service.old served →
             length (V.answer served head.now.req_type ask.now) ≡ room.len }
-        ensures answers { IsServed R.facts R.whole rec.old rec.new who.now self.old.number V.answer
+        requires founded { StandsForSome (V.stands service.old) }
+        ensures answers { IsServed R.log rec.old rec.new who.now self.old.number V.answer
             (V.stands service.old) (V.stands service.new) head.now ask.now (shown pool.old self.old)
             (shown pool.new self.new) }
         ensures reply { IsReply head.now.request head.now.number self.new pool.new result }

@@ -3,6 +3,7 @@
 ghost use Rattle.std.specs.Prelude.{◌≡◌, ◌≢◌, ℕ, ◌<◌, ◌≤◌, ◌+◌, ◌*◌, List, [], ◌∷◌, ◌++◌, length};
 ghost use Rattle.std.specs.Prelude.{map, take, IfSome, None, Some, false, true};
 ghost use Rattle.std.specs.List.{find};
+ghost use Rattle.rpc_outside.specs.Served.{StandsForSome};
 ghost use Rattle.rpc_base.specs.Tables.{without_first};
 ghost use Rattle.packet_header.specs.Parts.{packet_count, part_size, IsMessage};
 ghost use Rattle.message_buffer.specs.Buffer.{bytes_of, capacity_of};
@@ -42,9 +43,9 @@ use crate::slots::Slots;
 use crate::step::Step;
 use buffer_pool::BufferPool;
 use message_buffer::MsgBuf;
-use packet_header::{MessageHeader, PART_BYTES, count};
+use packet_header::{MessageHeader, count};
 use packet_rings::{Entry, TxRing};
-use rpc_base::{DropReason, Place, Who};
+use rpc_base::{DropReason, PART_BYTES, Place, Who};
 use rpc_outside::{Mode, Recorder, Service};
 use std::alloc::Global;
 use worker_board::Parcel;
@@ -76,11 +77,12 @@ impl ServerSession {
         requires mode { V.mode_of head.now.req_type ≡ mode }
         requires served { mode ≢ Unserved }
         requires all_served { AreServed V.mode_of self.old.slots }
+        requires founded { StandsForSome (V.stands service.old) }
         ensures taken { HasTaken (is_last head.now) (makes_job mode head.now) true result }
         ensures ring { tx.new ≡ ring
             (ring_after Begins result self.old.number (newest head.now.request self.old)
             tx.old.items) tx.old.size }
-        ensures handled { Handled R.facts R.whole rec.old rec.new
+        ensures handled { Handled R.log rec.old rec.new
             (λ answer. early_facts who.now self.old tx.old.items Begins head.now
             (asked_with head.now body.now (shown pool.old self.old)) answer result) V.answer
             (V.stands service.old) (V.stands service.new) head.now body.now
@@ -179,9 +181,10 @@ impl ServerSession {
         requires next { IsNextOf head.now (length body.now) (newest head.now.request self.old) }
         requires mode { V.mode_of head.now.req_type ≡ mode }
         requires all_served { AreServed V.mode_of self.old.slots }
+        requires founded { StandsForSome (V.stands service.old) }
         ensures taken { HasTaken (is_last head.now) (makes_job mode head.now) (is_last head.now)
             result }
-        ensures handled { Handled R.facts R.whole rec.old rec.new
+        ensures handled { Handled R.log rec.old rec.new
             (λ answer. first_facts who.now self.old.number head.now
             (asked_with head.now body.now (shown pool.old self.old)) answer result) V.answer
             (V.stands service.old) (V.stands service.new) head.now body.now

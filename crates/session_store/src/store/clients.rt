@@ -30,11 +30,12 @@ use crate::line::{holds_in, put_in};
 use crate::side::{Side, begin_at, enqueue_at, heard_at, post_at};
 use crate::stage::Stage;
 use client_core::{Active, ClientSession, Reply};
-use packet_header::{HEAD_BYTES, MessageHeader, PART_BYTES};
+use packet_header::MessageHeader;
 use packet_rings::Entry;
 use rpc_base::{
-    CallNo, DropReason, MOST_CALLS, MOST_CREDITS, MOST_MESSAGE_BYTES, NoMemory, Owner, Peer,
-    RequestNo, SESSION_NUMBERS, SessionNo, SessionState,
+    CallNo, DropReason, HEAD_BYTES, MOST_CALLS, MOST_CREDITS, MOST_DATAGRAM_BYTES,
+    MOST_MESSAGE_BYTES, MOST_SESSIONS, NoMemory, Owner, PART_BYTES, Peer, RequestNo,
+    SESSION_NUMBERS, SessionNo, SessionState,
 };
 use session_slots::Waiting;
 use std::alloc::Global;
@@ -61,8 +62,8 @@ fn state_at(stage: &Stage, asked: u64) -> SessionState
 
 // How long the datagram of part `number` of a message of `size` bytes is.
 fn datagram_size(size: u32, number: u16) -> u64
-    ensures size { result ≡ 16 + part_size size number }
-    ensures most { result ≤ 1040 }
+    ensures size { result ≡ HEAD_BYTES + part_size size number }
+    ensures most { result ≤ MOST_DATAGRAM_BYTES }
 {
     let rest = size.saturating_sub(PART_BYTES * u32::from(number));
     HEAD_BYTES as u64 + u64::from(rest.min(PART_BYTES))
@@ -72,7 +73,7 @@ impl Store {
     /// How many client sessions there are: no more than there are numbers of 16 bits.
     pub fn clients(&self) -> usize
         ensures count { result ≡ length self.now.clients }
-        ensures few { result ≤ 65536 }
+        ensures few { result ≤ MOST_SESSIONS }
     {
         if let Some(last) = self.sides.last() {
             // Its number, of 16 bits, is its place.
@@ -192,7 +193,7 @@ impl Store {
         requires known { i < length self.now.clients }
         ensures size { IfSome (slice_get self.now.clients i)
             (λ x. result ≡ packet_size request number (Some x)) }
-        ensures most { result ≤ 1040 }
+        ensures most { result ≤ MOST_DATAGRAM_BYTES }
     {
         datagram_size(self.sides[i].session.bytes(request), number)
     }

@@ -16,9 +16,8 @@ use crate::line::{first_in, flush_in, front_at, make_ready_in, pop_in};
 use crate::server::{reply_at, reply_flushed_at, reply_sent_at};
 use crate::side::{flushed_at, packet_at, sent_at};
 use client_core::Reply;
-use packet_header::HEAD_BYTES;
 use packet_rings::Entry;
-use rpc_base::{Owner, RequestNo, SessionNo};
+use rpc_base::{HEAD_BYTES, Owner, RequestNo, SessionNo};
 
 impl Store {
     /// The entry in front of the queue where it may be sent at `now`, in microseconds: it is ready,

@@ -2,6 +2,7 @@
 ghost use Rattle.std.specs.Prelude.{◌≡◌, ◌<◌, ◌≤◌, ◌+◌, ◌*◌, ◌++◌, [], ◌∷◌, None, length, slice_get};
 ghost use Rattle.std.specs.Prelude.{IfSome, OnErr, OnOk};
 ghost use Rattle.std.specs.List.{AllByRecursion, position};
+ghost use Rattle.rpc_outside.specs.Served.{StandsForSome};
 ghost use Rattle.message_buffer.specs.Buffer.{bytes_of};
 ghost use Rattle.packet_header.specs.Parts.{IsMessage};
 ghost use Rattle.rpc_laws.specs.ControlTable.{is_end_of};
@@ -128,7 +129,8 @@ impl Store {
         requires ring { length self.old.queued < self.old.size }
         requires room { HasRoom self.old }
         requires all_served { AreServedAt V.mode_of i self.old.servers }
-        ensures handles { HandlesAt R.facts R.whole (V.mode_of head.now.req_type) jobs_full me i
+        requires founded { StandsForSome (V.stands service.old) }
+        ensures handles { HandlesAt R.log (V.mode_of head.now.req_type) jobs_full me i
             head.now body.now V.answer (V.stands service.old) (V.stands service.new) rec.old rec.new
             result self.old self.new }
         ensures clients { self.new.clients ≡ self.old.clients }

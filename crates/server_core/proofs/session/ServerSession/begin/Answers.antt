@@ -29,9 +29,9 @@ returns-then-count-gt1-clause-handled g c =
           ∙ ap (λ w. w ∷ []) (sym (c.begin_first-reply.ensures.shown
           ∙ ap (begun_with _) c.flush_older.ensures.shown));
       by_service = tt;
-      grew = grew-then g.R.Recorder.facts g.R.Recorder.whole c.args.rec.now c.flush_older.new.rec
+      grew = grew-then g.R.Recorder.log c.args.rec.now c.flush_older.new.rec
           c.flush_older.new.rec _ [] c.flush_older.ensures.noted
-          (grew-none g.R.Recorder.facts g.R.Recorder.whole c.flush_older.new.rec);
+          (grew-none g.R.Recorder.log c.flush_older.new.rec);
     }
 
 pub returns-then-count-gt1-clause-all_served : goal.returns-then-count-gt1-clause-all_served
@@ -50,10 +50,10 @@ returns-then-is_background-clause-handled g c =
           ∙ ap (λ w. w ∷ []) (sym (c.begin_working.ensures.shown
           ∙ ap (begun_with _) c.flush_older-then-is_background.ensures.shown));
       by_service = tt;
-      grew = grew-then g.R.Recorder.facts g.R.Recorder.whole c.args.rec.now
+      grew = grew-then g.R.Recorder.log c.args.rec.now
           c.flush_older-then-is_background.new.rec c.flush_older-then-is_background.new.rec _ []
           c.flush_older-then-is_background.ensures.noted
-          (grew-none g.R.Recorder.facts g.R.Recorder.whole
+          (grew-none g.R.Recorder.log
           c.flush_older-then-is_background.new.rec);
     }
 
@@ -108,7 +108,7 @@ returns-in-Some-clause-handled g c =
           (begun_with (given (first_shown c.args.head.now [] None)) x))
           c.flush_older-in-Some.ensures.shown));
       by_service = rw asked answers.by_service;
-      grew = rw asked (grew-then g.R.Recorder.facts g.R.Recorder.whole c.args.rec.now
+      grew = rw asked (grew-then g.R.Recorder.log c.args.rec.now
           c.flush_older-in-Some.new.rec c.answer_again-reply.new.rec _ _
           c.flush_older-in-Some.ensures.noted answers.grew);
     }
@@ -135,7 +135,7 @@ returns-clause-handled g c =
           ∙ ap (λ w. w ∷ []) (sym (answers.shown_is
           ∙ ap (gone_on_as c.args.head.now.request (answered answers.answer)) before));
       by_service = rw asked answers.by_service;
-      grew = rw asked (grew-then g.R.Recorder.facts g.R.Recorder.whole c.args.rec.now
+      grew = rw asked (grew-then g.R.Recorder.log c.args.rec.now
           c.flush_older-2.new.rec c.answer_inline-reply.new.rec _ _ c.flush_older-2.ensures.noted
           noted);
     }

@@ -73,9 +73,9 @@ loop-left-preserved g c =
     ∙ ap (λ es. e.number ∷ numbers_of (owner_of n q) (queued_of es)) (sym left) in
     let (x, grew, whole) = inv.noted in
     let fact = bare c.args.who.now (Flushed (owner_of n q) e.number) in
-    let noted : Grew g.R.Recorder.facts g.R.Recorder.whole c.loop-left.rec c.note.new.self
+    let noted : Grew (g.R.Recorder.log c.loop-left.rec) (g.R.Recorder.log c.note.new.self)
     (fact ∷ []) = rw (again_is, ap (λ e. e.number) c.entry.view_is) at c.note.ensures in
-    let grown = grew-then g.R.Recorder.facts g.R.Recorder.whole c.args.rec.now c.loop-left.rec
+    let grown = grew-then g.R.Recorder.log c.args.rec.now c.loop-left.rec
     c.note.new.self x (fact ∷ []) grew noted in
     let sound : IsSession c.args.self.now = subst IsSession c.self.view_is c.self.invariant in
     let facts : List EntryValue → List Fact = λ es. flushed_facts c.args.who.now n (Some q) es in

@@ -19,7 +19,7 @@ invariant-loop-left g l = record {
   kept : filter (is_not_of (owner_of l.fn.self.number l.older)) l.tx.items
       ≡ filter (is_not_of (owner_of l.fn.self.number l.older)) l.fn.tx.items;
   size : l.tx.size ≡ l.fn.tx.size;
-  noted : (x : List Fact) × Grew g.R.Recorder.facts g.R.Recorder.whole l.fn.rec l.rec x
+  noted : (x : List Fact) × Grew (g.R.Recorder.log l.fn.rec) (g.R.Recorder.log l.rec) x
       × (x ++ flushed_facts l.fn.who l.fn.self.number (Some l.older) l.tx.items
       ≡ flushed_facts l.fn.who l.fn.self.number (Some l.older) l.fn.tx.items);
   shown : shown l.pool l.fn.self ≡ shown l.fn.pool l.fn.self;

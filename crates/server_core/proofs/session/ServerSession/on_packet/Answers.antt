@@ -23,7 +23,7 @@ returns-clause-handled g c =
     done.answer step in
     let number = number-of h c.args.body.now v w step done.answer done.steps in
     let noted = rw number at c.note.ensures in
-    let both = grew-then g.R.Recorder.facts g.R.Recorder.whole c.args.rec.now c.step-step.new.rec
+    let both = grew-then g.R.Recorder.log c.args.rec.now c.step-step.new.rec
     c.note.new.rec early (last_facts c.args.who s.number h step) done.grew noted in
     let flushed = flushes row step c.args.who s.number (newest h.request s) c.args.tx.now.items in
     let first = first_facts c.args.who s.number h (asked_with h c.args.body.now v) done.answer step in

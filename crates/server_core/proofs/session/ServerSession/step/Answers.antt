@@ -5,7 +5,7 @@ use Rattle.rpc_base.specs.declared.fact.Who.{Who}
 use Rattle.rpc_base.specs.declared.state.DropReason.{DropReason}
 use Rattle.rpc_laws.specs.declared.rows.ServerRow.{ServerRow}
 use Rattle.rpc_laws.specs.declared.rows.ServerRow.TheVariants.{Drops, Begins, Takes, Repeats}
-use Rattle.rpc_outside.specs.Recording.{Grew}
+use Rattle.rpc_outside.specs.Recording.{Grew, Log}
 use Rattle.server_core.specs.declared.slot.SlotRequest.{SlotRequest}
 use Rattle.server_core.specs.declared.step.Step.TheVariants.{Dropped}
 use Rattle.server_core.specs.Flushing.{flushes}
@@ -19,21 +19,21 @@ begin-requires-clause-beginning g c =
     c.requires.asking (sym c.in-Begins.ensures.row)).0
 
 -- a packet that is dropped flushes nothing
-grew-dropped : {R : Type 0} (facts : R → Option (List Fact)) (whole : R → Bool) (now : R)
+grew-dropped : {R : Type 0} (log : R → Log) (now : R)
     (row : ServerRow) (why : DropReason) (who : Who) (session : ℕ) (older : Option SlotRequest)
     (es : List EntryValue)
-    → Grew facts whole now now (flushes row (Dropped why) who session older es ++ [])
-grew-dropped facts whole now (Drops x) why who session older es = grew-none facts whole now
-grew-dropped facts whole now Begins why who session older es = grew-none facts whole now
-grew-dropped facts whole now Takes why who session older es = grew-none facts whole now
-grew-dropped facts whole now Repeats why who session older es = grew-none facts whole now
+    → Grew (log now) (log now) (flushes row (Dropped why) who session older es ++ [])
+grew-dropped log now (Drops x) why who session older es = grew-none log now
+grew-dropped log now Begins why who session older es = grew-none log now
+grew-dropped log now Takes why who session older es = grew-none log now
+grew-dropped log now Repeats why who session older es = grew-none log now
 
 pub returns-in-Drops-clause-handled : goal.returns-in-Drops-clause-handled
 returns-in-Drops-clause-handled g c = record {
   answer = [];
   steps = refl;
   by_service = tt;
-  grew = grew-dropped g.R.Recorder.facts g.R.Recorder.whole c.args.rec.now _ c.in-Drops.reason
+  grew = grew-dropped g.R.Recorder.log c.args.rec.now _ c.in-Drops.reason
       c.args.who.now c.args.self.now.number _ c.args.tx.now.items;
 }
 

@@ -108,7 +108,7 @@ returns-then-is_rfr-clause-handled g c =
           (bytes_with c.args.pool.now c.in-Some.request) joined
           ∙ ap (λ w. w ∷ []) (sym c.take_next-reply.ensures.shown);
       by_service = tt;
-      grew = grew-none g.R.Recorder.facts g.R.Recorder.whole c.args.rec.now;
+      grew = grew-none g.R.Recorder.log c.args.rec.now;
     }
 
 pub returns-then-from-count-clause-handled : goal.returns-then-from-count-clause-handled
@@ -127,7 +127,7 @@ returns-then-from-count-clause-handled g c =
           (grown (bytes_with c.write_part.new.pool c.in-Some.request)))
           c.write_part.ensures.shown));
       by_service = tt;
-      grew = grew-none g.R.Recorder.facts g.R.Recorder.whole c.args.rec.now;
+      grew = grew-none g.R.Recorder.log c.args.rec.now;
     }
 
 pub make_room-requires-clause-served : goal.make_room-requires-clause-served
@@ -182,7 +182,7 @@ returns-then-is_background-clause-handled g c =
           ∙ ap (gone_on_as c.in-Some.request.number (λ x. given (grown [] x)))
           c.write_part.ensures.shown));
       by_service = tt;
-      grew = grew-none g.R.Recorder.facts g.R.Recorder.whole c.args.rec.now;
+      grew = grew-none g.R.Recorder.log c.args.rec.now;
     }
 
 pub returns-then-is_background-clause-give : goal.returns-then-is_background-clause-give

@@ -71,7 +71,7 @@ invariant_of-self g c =
     let room = ring-room s.pool s.sides.items s.servers.items (joined s.tx s.pacer)
     (undue c.args.self.now) (flat s.pool s.sides.items s.servers.items s.tx s.pacer
     c.args.self.now c.self.view_is) (less-undue c.args.self.now c.requires.ring) in
-    let step = beside-step g.R.Recorder.facts g.R.Recorder.whole
+    let step = beside-step g.R.Recorder.log
     (g.V.Service.mode_of c.args.head.now.req_type) c.args.jobs_full c.args.me c.args.i
     c.args.head.now c.args.body.now g.V.Service.answer
     (g.V.Service.stands c.args.service.now)
@@ -80,7 +80,7 @@ invariant_of-self g c =
     (map entry_of s.pacer.items) (paced-calls s.pacer.items calls) s.servers.items
     c.asked_at-step.new.servers.items handles in
     let none = c.reply_of.ensures ∙ ap listed_entry c.in_default.is in
-    let same = final-none g.R.Recorder.facts g.R.Recorder.whole
+    let same = final-none g.R.Recorder.log
     (g.V.Service.mode_of c.args.head.now.req_type) c.args.jobs_full c.args.me c.args.i
     c.args.head.now c.args.body.now g.V.Service.answer
     (g.V.Service.stands c.args.service.now)
@@ -90,7 +90,7 @@ invariant_of-self g c =
     c.self.invariant.0 room step none in
     let size = ap (λ r. r.size) handles.step.ring_is in (
       subst (λ (t : Ring EntryValue). Kept c.asked_at-step.new.pool s.sides.items
-          c.asked_at-step.new.servers.items t) same (serve-kept g.R.Recorder.facts g.R.Recorder.whole
+          c.asked_at-step.new.servers.items t) same (serve-kept g.R.Recorder.log
           (g.V.Service.mode_of c.args.head.now.req_type) c.args.jobs_full c.args.me c.args.i
           c.args.head.now c.args.body.now g.V.Service.answer
           (g.V.Service.stands c.args.service.now)
@@ -119,7 +119,7 @@ push-requires g c =
     let room = ring-room s.pool s.sides.items s.servers.items (joined s.tx s.pacer)
     (undue c.args.self.now) (flat s.pool s.sides.items s.servers.items s.tx s.pacer
     c.args.self.now c.self.view_is) (less-undue c.args.self.now c.requires.ring) in
-    let step = beside-step g.R.Recorder.facts g.R.Recorder.whole
+    let step = beside-step g.R.Recorder.log
     (g.V.Service.mode_of c.args.head.now.req_type) c.args.jobs_full c.args.me c.args.i
     c.args.head.now c.args.body.now g.V.Service.answer
     (g.V.Service.stands c.args.service.now)
@@ -127,7 +127,7 @@ push-requires g c =
     c.asked_at-step.result s.tx c.asked_at-step.new.tx s.pool c.asked_at-step.new.pool
     (map entry_of s.pacer.items) (paced-calls s.pacer.items calls) s.servers.items
     c.asked_at-step.new.servers.items handles in
-    let free = new-room g.R.Recorder.facts g.R.Recorder.whole
+    let free = new-room g.R.Recorder.log
     (g.V.Service.mode_of c.args.head.now.req_type) c.args.jobs_full c.args.me c.args.i
     c.args.head.now c.args.body.now g.V.Service.answer
     (g.V.Service.stands c.args.service.now)
@@ -145,7 +145,7 @@ invariant_of-self-2 g c =
     let room = ring-room s.pool s.sides.items s.servers.items (joined s.tx s.pacer)
     (undue c.args.self.now) (flat s.pool s.sides.items s.servers.items s.tx s.pacer
     c.args.self.now c.self.view_is) (less-undue c.args.self.now c.requires.ring) in
-    let step = beside-step g.R.Recorder.facts g.R.Recorder.whole
+    let step = beside-step g.R.Recorder.log
     (g.V.Service.mode_of c.args.head.now.req_type) c.args.jobs_full c.args.me c.args.i
     c.args.head.now c.args.body.now g.V.Service.answer
     (g.V.Service.stands c.args.service.now)
@@ -154,7 +154,7 @@ invariant_of-self-2 g c =
     (map entry_of s.pacer.items) (paced-calls s.pacer.items calls) s.servers.items
     c.asked_at-step.new.servers.items handles in
     let one = c.reply_of.ensures ∙ ap listed_entry c.in-Some.is in
-    let same = final-one g.R.Recorder.facts g.R.Recorder.whole
+    let same = final-one g.R.Recorder.log
     (g.V.Service.mode_of c.args.head.now.req_type) c.args.jobs_full c.args.me c.args.i
     c.args.head.now c.args.body.now g.V.Service.answer
     (g.V.Service.stands c.args.service.now)
@@ -170,7 +170,7 @@ invariant_of-self-2 g c =
           (joined (ring (tx.items ++ c.in-Some.reply ∷ []) tx.size) s.pacer)
           (put-behind tx.items s.pacer.items c.in-Some.reply) refl
           (subst (λ (t : Ring EntryValue). Kept c.asked_at-step.new.pool s.sides.items
-          c.asked_at-step.new.servers.items t) same (serve-kept g.R.Recorder.facts g.R.Recorder.whole
+          c.asked_at-step.new.servers.items t) same (serve-kept g.R.Recorder.log
           (g.V.Service.mode_of c.args.head.now.req_type) c.args.jobs_full c.args.me c.args.i
           c.args.head.now c.args.body.now g.V.Service.answer
           (g.V.Service.stands c.args.service.now)
@@ -199,7 +199,7 @@ returns-in_default-clause-handles g c =
     let room = ring-room s.pool s.sides.items s.servers.items (joined s.tx s.pacer)
     (undue c.args.self.now) (flat s.pool s.sides.items s.servers.items s.tx s.pacer
     c.args.self.now c.self.view_is) (less-undue c.args.self.now c.requires.ring) in
-    let step = beside-step g.R.Recorder.facts g.R.Recorder.whole
+    let step = beside-step g.R.Recorder.log
     (g.V.Service.mode_of c.args.head.now.req_type) c.args.jobs_full c.args.me c.args.i
     c.args.head.now c.args.body.now g.V.Service.answer
     (g.V.Service.stands c.args.service.now)
@@ -218,7 +218,7 @@ returns-in_default-clause-handles g c =
     let begins = has_begun row c.asked_at-step.result in
     let older = newest c.args.head.now.request handles.server in
     let seen : queue_of s.tx s.pacer ≡ c.args.self.now.queued = ap (λ v. v.queued) c.self.view_is in
-    serve-at g.R.Recorder.facts g.R.Recorder.whole
+    serve-at g.R.Recorder.log
     (g.V.Service.mode_of c.args.head.now.req_type) c.args.jobs_full c.args.me c.args.i
     c.args.head.now c.args.body.now g.V.Service.answer
     (g.V.Service.stands c.args.service.now)
@@ -228,7 +228,7 @@ returns-in_default-clause-handles g c =
     c.self.invariant.0 room step own c.args.self.now _ (ap (λ v. v.servers) c.self.view_is) refl
     (λ r. paced-numbers n r s.tx.items s.pacer.items calls
     ∙ ap (λ qs. numbers_of (Reply n r) qs) seen)
-    (queue-by g.R.Recorder.facts g.R.Recorder.whole
+    (queue-by g.R.Recorder.log
     (g.V.Service.mode_of c.args.head.now.req_type) c.args.jobs_full c.args.me c.args.i
     c.args.head.now c.args.body.now g.V.Service.answer
     (g.V.Service.stands c.args.service.now)
@@ -248,7 +248,7 @@ returns-clause-handles g c =
     let room = ring-room s.pool s.sides.items s.servers.items (joined s.tx s.pacer)
     (undue c.args.self.now) (flat s.pool s.sides.items s.servers.items s.tx s.pacer
     c.args.self.now c.self.view_is) (less-undue c.args.self.now c.requires.ring) in
-    let step = beside-step g.R.Recorder.facts g.R.Recorder.whole
+    let step = beside-step g.R.Recorder.log
     (g.V.Service.mode_of c.args.head.now.req_type) c.args.jobs_full c.args.me c.args.i
     c.args.head.now c.args.body.now g.V.Service.answer
     (g.V.Service.stands c.args.service.now)
@@ -267,7 +267,7 @@ returns-clause-handles g c =
     let begins = has_begun row c.asked_at-step.result in
     let older = newest c.args.head.now.request handles.server in
     let seen : queue_of s.tx s.pacer ≡ c.args.self.now.queued = ap (λ v. v.queued) c.self.view_is in
-    rw c.push.ensures (serve-at g.R.Recorder.facts g.R.Recorder.whole
+    rw c.push.ensures (serve-at g.R.Recorder.log
     (g.V.Service.mode_of c.args.head.now.req_type) c.args.jobs_full c.args.me c.args.i
     c.args.head.now c.args.body.now g.V.Service.answer
     (g.V.Service.stands c.args.service.now)
@@ -277,7 +277,7 @@ returns-clause-handles g c =
     c.self.invariant.0 room step own c.args.self.now _ (ap (λ v. v.servers) c.self.view_is) refl
     (λ r. paced-numbers n r s.tx.items s.pacer.items calls
     ∙ ap (λ qs. numbers_of (Reply n r) qs) seen)
-    (queue-by g.R.Recorder.facts g.R.Recorder.whole
+    (queue-by g.R.Recorder.log
     (g.V.Service.mode_of c.args.head.now.req_type) c.args.jobs_full c.args.me c.args.i
     c.args.head.now c.args.body.now g.V.Service.answer
     (g.V.Service.stands c.args.service.now)
@@ -297,7 +297,7 @@ returns-in_default-clause-clients g c =
     let room = ring-room s.pool s.sides.items s.servers.items (joined s.tx s.pacer)
     (undue c.args.self.now) (flat s.pool s.sides.items s.servers.items s.tx s.pacer
     c.args.self.now c.self.view_is) (less-undue c.args.self.now c.requires.ring) in
-    let step = beside-step g.R.Recorder.facts g.R.Recorder.whole
+    let step = beside-step g.R.Recorder.log
     (g.V.Service.mode_of c.args.head.now.req_type) c.args.jobs_full c.args.me c.args.i
     c.args.head.now c.args.body.now g.V.Service.answer
     (g.V.Service.stands c.args.service.now)
@@ -305,7 +305,7 @@ returns-in_default-clause-clients g c =
     c.asked_at-step.result s.tx c.asked_at-step.new.tx s.pool c.asked_at-step.new.pool
     (map entry_of s.pacer.items) (paced-calls s.pacer.items calls) s.servers.items
     c.asked_at-step.new.servers.items handles in
-    rw (← c.self.view_is) (serve-clients g.R.Recorder.facts g.R.Recorder.whole
+    rw (← c.self.view_is) (serve-clients g.R.Recorder.log
     (g.V.Service.mode_of c.args.head.now.req_type) c.args.jobs_full c.args.me c.args.i
     c.args.head.now c.args.body.now g.V.Service.answer
     (g.V.Service.stands c.args.service.now)
@@ -322,7 +322,7 @@ returns-in_default-clause-places g c =
     let room = ring-room s.pool s.sides.items s.servers.items (joined s.tx s.pacer)
     (undue c.args.self.now) (flat s.pool s.sides.items s.servers.items s.tx s.pacer
     c.args.self.now c.self.view_is) (less-undue c.args.self.now c.requires.ring) in
-    let step = beside-step g.R.Recorder.facts g.R.Recorder.whole
+    let step = beside-step g.R.Recorder.log
     (g.V.Service.mode_of c.args.head.now.req_type) c.args.jobs_full c.args.me c.args.i
     c.args.head.now c.args.body.now g.V.Service.answer
     (g.V.Service.stands c.args.service.now)
@@ -330,7 +330,7 @@ returns-in_default-clause-places g c =
     c.asked_at-step.result s.tx c.asked_at-step.new.tx s.pool c.asked_at-step.new.pool
     (map entry_of s.pacer.items) (paced-calls s.pacer.items calls) s.servers.items
     c.asked_at-step.new.servers.items handles in
-    rw (← c.self.view_is) (serve-places g.R.Recorder.facts g.R.Recorder.whole
+    rw (← c.self.view_is) (serve-places g.R.Recorder.log
     (g.V.Service.mode_of c.args.head.now.req_type) c.args.jobs_full c.args.me c.args.i
     c.args.head.now c.args.body.now g.V.Service.answer
     (g.V.Service.stands c.args.service.now)
@@ -352,7 +352,7 @@ returns-clause-clients g c =
     let room = ring-room s.pool s.sides.items s.servers.items (joined s.tx s.pacer)
     (undue c.args.self.now) (flat s.pool s.sides.items s.servers.items s.tx s.pacer
     c.args.self.now c.self.view_is) (less-undue c.args.self.now c.requires.ring) in
-    let step = beside-step g.R.Recorder.facts g.R.Recorder.whole
+    let step = beside-step g.R.Recorder.log
     (g.V.Service.mode_of c.args.head.now.req_type) c.args.jobs_full c.args.me c.args.i
     c.args.head.now c.args.body.now g.V.Service.answer
     (g.V.Service.stands c.args.service.now)
@@ -360,7 +360,7 @@ returns-clause-clients g c =
     c.asked_at-step.result s.tx c.asked_at-step.new.tx s.pool c.asked_at-step.new.pool
     (map entry_of s.pacer.items) (paced-calls s.pacer.items calls) s.servers.items
     c.asked_at-step.new.servers.items handles in
-    rw (← c.self.view_is) (serve-clients g.R.Recorder.facts g.R.Recorder.whole
+    rw (← c.self.view_is) (serve-clients g.R.Recorder.log
     (g.V.Service.mode_of c.args.head.now.req_type) c.args.jobs_full c.args.me c.args.i
     c.args.head.now c.args.body.now g.V.Service.answer
     (g.V.Service.stands c.args.service.now)
@@ -377,7 +377,7 @@ returns-clause-places g c =
     let room = ring-room s.pool s.sides.items s.servers.items (joined s.tx s.pacer)
     (undue c.args.self.now) (flat s.pool s.sides.items s.servers.items s.tx s.pacer
     c.args.self.now c.self.view_is) (less-undue c.args.self.now c.requires.ring) in
-    let step = beside-step g.R.Recorder.facts g.R.Recorder.whole
+    let step = beside-step g.R.Recorder.log
     (g.V.Service.mode_of c.args.head.now.req_type) c.args.jobs_full c.args.me c.args.i
     c.args.head.now c.args.body.now g.V.Service.answer
     (g.V.Service.stands c.args.service.now)
@@ -385,7 +385,7 @@ returns-clause-places g c =
     c.asked_at-step.result s.tx c.asked_at-step.new.tx s.pool c.asked_at-step.new.pool
     (map entry_of s.pacer.items) (paced-calls s.pacer.items calls) s.servers.items
     c.asked_at-step.new.servers.items handles in
-    rw (← c.self.view_is) (serve-places g.R.Recorder.facts g.R.Recorder.whole
+    rw (← c.self.view_is) (serve-places g.R.Recorder.log
     (g.V.Service.mode_of c.args.head.now.req_type) c.args.jobs_full c.args.me c.args.i
     c.args.head.now c.args.body.now g.V.Service.answer
     (g.V.Service.stands c.args.service.now)
@@ -407,7 +407,7 @@ returns-in_default-clause-handed g c =
     let room = ring-room s.pool s.sides.items s.servers.items (joined s.tx s.pacer)
     (undue c.args.self.now) (flat s.pool s.sides.items s.servers.items s.tx s.pacer
     c.args.self.now c.self.view_is) (less-undue c.args.self.now c.requires.ring) in
-    let step = beside-step g.R.Recorder.facts g.R.Recorder.whole
+    let step = beside-step g.R.Recorder.log
     (g.V.Service.mode_of c.args.head.now.req_type) c.args.jobs_full c.args.me c.args.i
     c.args.head.now c.args.body.now g.V.Service.answer
     (g.V.Service.stands c.args.service.now)
@@ -415,7 +415,7 @@ returns-in_default-clause-handed g c =
     c.asked_at-step.result s.tx c.asked_at-step.new.tx s.pool c.asked_at-step.new.pool
     (map entry_of s.pacer.items) (paced-calls s.pacer.items calls) s.servers.items
     c.asked_at-step.new.servers.items handles in
-    rw (← c.self.view_is) (serve-handed g.R.Recorder.facts g.R.Recorder.whole
+    rw (← c.self.view_is) (serve-handed g.R.Recorder.log
     (g.V.Service.mode_of c.args.head.now.req_type) c.args.jobs_full c.args.me c.args.i
     c.args.head.now c.args.body.now g.V.Service.answer
     (g.V.Service.stands c.args.service.now)
@@ -432,7 +432,7 @@ returns-clause-handed g c =
     let room = ring-room s.pool s.sides.items s.servers.items (joined s.tx s.pacer)
     (undue c.args.self.now) (flat s.pool s.sides.items s.servers.items s.tx s.pacer
     c.args.self.now c.self.view_is) (less-undue c.args.self.now c.requires.ring) in
-    let step = beside-step g.R.Recorder.facts g.R.Recorder.whole
+    let step = beside-step g.R.Recorder.log
     (g.V.Service.mode_of c.args.head.now.req_type) c.args.jobs_full c.args.me c.args.i
     c.args.head.now c.args.body.now g.V.Service.answer
     (g.V.Service.stands c.args.service.now)
@@ -440,7 +440,7 @@ returns-clause-handed g c =
     c.asked_at-step.result s.tx c.asked_at-step.new.tx s.pool c.asked_at-step.new.pool
     (map entry_of s.pacer.items) (paced-calls s.pacer.items calls) s.servers.items
     c.asked_at-step.new.servers.items handles in
-    rw (← c.self.view_is) (serve-handed g.R.Recorder.facts g.R.Recorder.whole
+    rw (← c.self.view_is) (serve-handed g.R.Recorder.log
     (g.V.Service.mode_of c.args.head.now.req_type) c.args.jobs_full c.args.me c.args.i
     c.args.head.now c.args.body.now g.V.Service.answer
     (g.V.Service.stands c.args.service.now)
