@@ -16,31 +16,28 @@ pub struct Count {
 }
 
 fn write_word<K: Sink>(sink: &mut K, word: &Word) -> Result<(), Failed>
-    ensures { Prints (K.written sink.old) (K.written sink.new) (K.faults sink.old)
-        (K.faults sink.new) result (word_text word.now) }
+    ensures { Prints (K.page sink.old) (K.page sink.new) result (word_text word.now) }
 {
     write_all(sink, word.text().as_bytes())
 }
 
 fn write_number<K: Sink>(sink: &mut K, number: u64) -> Result<(), Failed>
-    ensures { Prints (K.written sink.old) (K.written sink.new) (K.faults sink.old)
-        (K.faults sink.new) result (decimal number) }
+    ensures { Prints (K.page sink.old) (K.page sink.new) result (decimal number) }
 {
     let mut digits = Buffer::new();
     write_all(sink, digits.format(number).as_bytes())
 }
 
 fn write_count<K: Sink>(sink: &mut K, count: &Count) -> Result<(), Failed>
-    ensures { Prints (K.written sink.old) (K.written sink.new) (K.faults sink.old)
-        (K.faults sink.new) result (word_text count.now.word ++ decimal count.now.number) }
+    ensures { Prints (K.page sink.old) (K.page sink.new) result (word_text count.now.word ++ decimal
+        count.now.number) }
 {
     write_word(sink, &count.word)?;
     write_number(sink, count.number)
 }
 
 fn write_each<K: Sink>(sink: &mut K, counts: &[Count]) -> Result<(), Failed>
-    ensures { Prints (K.written sink.old) (K.written sink.new) (K.faults sink.old)
-        (K.faults sink.new) result (counts_text counts.now) }
+    ensures { Prints (K.page sink.old) (K.page sink.new) result (counts_text counts.now) }
 {
     for count in counts {
         write_count(sink, count)?;
@@ -51,8 +48,7 @@ fn write_each<K: Sink>(sink: &mut K, counts: &[Count]) -> Result<(), Failed>
 /// Writes these counts, a line. It takes no memory. `Failed` comes only where the sink counts one
 /// more fault; a front of the line was then written.
 pub fn write_counts<K: Sink>(sink: &mut K, counts: &[Count]) -> Result<(), Failed>
-    ensures { Prints (K.written sink.old) (K.written sink.new) (K.faults sink.old)
-        (K.faults sink.new) result (line_text counts.now) }
+    ensures { Prints (K.page sink.old) (K.page sink.new) result (line_text counts.now) }
 {
     write_each(sink, counts)?;
     write_all(sink, b"\n")

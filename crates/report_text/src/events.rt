@@ -21,7 +21,47 @@ pub fn tail_for(event: Event) -> Tail
         | Event::Bad { .. }
         | Event::DoneOk { .. } => Tail::First,
         Event::Sent { .. } | Event::Ran { .. } => Tail::Both,
-        _ => Tail::Nothing,
+        Event::Made { .. }
+        | Event::Opened { .. }
+        | Event::PairedClient { .. }
+        | Event::PairedServer { .. }
+        | Event::NconnectRing { .. }
+        | Event::NconnectNumbers
+        | Event::Accepted { .. }
+        | Event::Declined { .. }
+        | Event::Starved { .. }
+        | Event::Connected { .. }
+        | Event::FailedNoRoom { .. }
+        | Event::FailedNoAnswer { .. }
+        | Event::Closing { .. }
+        | Event::NcloseState { .. }
+        | Event::NcloseBusy { .. }
+        | Event::ClosedHeard { .. }
+        | Event::ClosedUnheard { .. }
+        | Event::Ended { .. }
+        | Event::Broken { .. }
+        | Event::Rated { .. }
+        | Event::Nrate { .. }
+        | Event::NcallTooLarge { .. }
+        | Event::NcallState { .. }
+        | Event::Begun { .. }
+        | Event::Posted { .. }
+        | Event::Flushed { .. }
+        | Event::Heard
+        | Event::Took { .. }
+        | Event::Again { .. }
+        | Event::Dropped { .. }
+        | Event::Given { .. }
+        | Event::Worked { .. }
+        | Event::Rolled { .. }
+        | Event::DoneTooSmall { .. }
+        | Event::DonePeerLost { .. }
+        | Event::Polled { .. }
+        | Event::Missed { .. }
+        | Event::Carried { .. }
+        | Event::Lost { .. }
+        | Event::Repeated { .. }
+        | Event::Ticked { .. } => Tail::Nothing,
     }
 }
 

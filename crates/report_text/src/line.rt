@@ -18,7 +18,7 @@ use rpc_outside::{Failed, Sink};
 
 /// Puts the words and numbers of a line.
 fn put_shape<K: Sink>(sink: &mut K, page: &mut Page, shape: &Shape) -> Result<(), Failed>
-    ensures { Fills K.written K.faults sink.old sink.new page.old page.new result
+    ensures { Fills K.page sink.old sink.new page.old page.new result
         (shape_text shape.now) }
 {
     match shape {
@@ -42,7 +42,7 @@ fn put_shape_bytes<K: Sink>(
     shape: &Shape,
     bytes: &[u8],
 ) -> Result<(), Failed>
-    ensures { Fills K.written K.faults sink.old sink.new page.old page.new result
+    ensures { Fills K.page sink.old sink.new page.old page.new result
         (shape_text shape.now ++ codes " " ++ bytes_text bytes.now) }
 {
     put_shape(sink, page, shape)?;
@@ -57,7 +57,7 @@ fn put_shape_both<K: Sink>(
     first: &[u8],
     second: &[u8],
 ) -> Result<(), Failed>
-    ensures { Fills K.written K.faults sink.old sink.new page.old page.new result
+    ensures { Fills K.page sink.old sink.new page.old page.new result
         (shape_text shape.now ++ codes " " ++ bytes_text first.now
         ++ codes " " ++ bytes_text second.now) }
 {
@@ -67,7 +67,7 @@ fn put_shape_both<K: Sink>(
 
 /// Puts what happened.
 fn put_event<K: Sink>(sink: &mut K, page: &mut Page, fact: &Fact) -> Result<(), Failed>
-    ensures { Fills K.written K.faults sink.old sink.new page.old page.new result
+    ensures { Fills K.page sink.old sink.new page.old page.new result
         (event_text fact.now.event fact.now.first fact.now.second) }
 {
     let shape = shape_for(fact.event);
@@ -80,7 +80,7 @@ fn put_event<K: Sink>(sink: &mut K, page: &mut Page, fact: &Fact) -> Result<(), 
 
 /// Puts where it happened.
 fn put_who<K: Sink>(sink: &mut K, page: &mut Page, who: Who) -> Result<(), Failed>
-    ensures { Fills K.written K.faults sink.old sink.new page.old page.new result (who_text who) }
+    ensures { Fills K.page sink.old sink.new page.old page.new result (who_text who) }
 {
     match who {
         Who::Node(node) => put_number(sink, page, u64::from(node.0)),
@@ -90,7 +90,7 @@ fn put_who<K: Sink>(sink: &mut K, page: &mut Page, who: Who) -> Result<(), Faile
 
 /// Puts where it happened and a space.
 fn put_head<K: Sink>(sink: &mut K, page: &mut Page, who: Who) -> Result<(), Failed>
-    ensures { Fills K.written K.faults sink.old sink.new page.old page.new result
+    ensures { Fills K.page sink.old sink.new page.old page.new result
         (who_text who ++ codes " ") }
 {
     put_who(sink, page, who)?;
@@ -99,7 +99,7 @@ fn put_head<K: Sink>(sink: &mut K, page: &mut Page, who: Who) -> Result<(), Fail
 
 /// Puts a line without its line feed.
 fn put_fact<K: Sink>(sink: &mut K, page: &mut Page, fact: &Fact) -> Result<(), Failed>
-    ensures { Fills K.written K.faults sink.old sink.new page.old page.new result
+    ensures { Fills K.page sink.old sink.new page.old page.new result
         (who_text fact.now.who ++ codes " "
         ++ event_text fact.now.event fact.now.first fact.now.second) }
 {
@@ -109,7 +109,7 @@ fn put_fact<K: Sink>(sink: &mut K, page: &mut Page, fact: &Fact) -> Result<(), F
 
 /// Puts the line of a fact.
 pub fn put_line<K: Sink>(sink: &mut K, page: &mut Page, fact: &Fact) -> Result<(), Failed>
-    ensures { Fills K.written K.faults sink.old sink.new page.old page.new result
+    ensures { Fills K.page sink.old sink.new page.old page.new result
         (line_text fact.now) }
 {
     put_fact(sink, page, fact)?;

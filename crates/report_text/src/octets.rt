@@ -12,7 +12,7 @@ const PART: usize = 1024;
 
 /// Puts two digits for each byte.
 fn put_digits<K: Sink>(sink: &mut K, page: &mut Page, bytes: &[u8]) -> Result<(), Failed>
-    ensures { Fills K.written K.faults sink.old sink.new page.old page.new result
+    ensures { Fills K.page sink.old sink.new page.old page.new result
         (flat_map byte_text bytes.now) }
 {
     let mut rest = bytes;
@@ -26,7 +26,7 @@ fn put_digits<K: Sink>(sink: &mut K, page: &mut Page, bytes: &[u8]) -> Result<()
 
 /// Puts bytes, or a dash for no bytes.
 fn put_bytes<K: Sink>(sink: &mut K, page: &mut Page, bytes: &[u8]) -> Result<(), Failed>
-    ensures { Fills K.written K.faults sink.old sink.new page.old page.new result
+    ensures { Fills K.page sink.old sink.new page.old page.new result
         (bytes_text bytes.now) }
 {
     if bytes.is_empty() {
@@ -38,7 +38,7 @@ fn put_bytes<K: Sink>(sink: &mut K, page: &mut Page, bytes: &[u8]) -> Result<(),
 
 /// Puts a space and bytes.
 pub fn put_more_bytes<K: Sink>(sink: &mut K, page: &mut Page, bytes: &[u8]) -> Result<(), Failed>
-    ensures { Fills K.written K.faults sink.old sink.new page.old page.new result
+    ensures { Fills K.page sink.old sink.new page.old page.new result
         (codes " " ++ bytes_text bytes.now) }
 {
     put_word(sink, page, " ")?;

@@ -82,8 +82,7 @@ impl Page {
 
 /// Writes what the page holds to the sink, and empties the page.
 pub fn flush<K: Sink>(sink: &mut K, page: &mut Page) -> Result<(), Failed>
-    ensures written { Prints (K.written sink.old) (K.written sink.new)
-        (K.faults sink.old) (K.faults sink.new) result page.old }
+    ensures written { Prints (K.page sink.old) (K.page sink.new) result page.old }
     ensures emptied { OnOk result (page.new ≡ []) }
 {
     write_all(sink, page.text())?;
@@ -94,7 +93,7 @@ pub fn flush<K: Sink>(sink: &mut K, page: &mut Page) -> Result<(), Failed>
 /// Writes a piece for which the page has no room, after what it holds.
 #[cold]
 fn put_past<K: Sink>(sink: &mut K, page: &mut Page, piece: &[u8]) -> Result<(), Failed>
-    ensures { Fills K.written K.faults sink.old sink.new page.old page.new result piece.now }
+    ensures { Fills K.page sink.old sink.new page.old page.new result piece.now }
 {
     flush(sink, page)?;
     write_all(sink, piece)
@@ -102,7 +101,7 @@ fn put_past<K: Sink>(sink: &mut K, page: &mut Page, piece: &[u8]) -> Result<(), 
 
 /// Puts a piece on the page. One that doesn't fit goes to the sink, after what the page holds.
 pub fn put<K: Sink>(sink: &mut K, page: &mut Page, piece: &[u8]) -> Result<(), Failed>
-    ensures { Fills K.written K.faults sink.old sink.new page.old page.new result piece.now }
+    ensures { Fills K.page sink.old sink.new page.old page.new result piece.now }
 {
     if piece.len() <= page.room() {
         page.add(piece);
@@ -115,7 +114,7 @@ pub fn put<K: Sink>(sink: &mut K, page: &mut Page, piece: &[u8]) -> Result<(), F
 #[cold]
 fn put_part_past<K: Sink>(sink: &mut K, page: &mut Page, bytes: &[u8]) -> Result<(), Failed>
     requires { 2 * length bytes.now ≤ 4096 }
-    ensures { Fills K.written K.faults sink.old sink.new page.old page.new result
+    ensures { Fills K.page sink.old sink.new page.old page.new result
         (flat_map byte_text bytes.now) }
 {
     flush(sink, page)?;
@@ -126,7 +125,7 @@ fn put_part_past<K: Sink>(sink: &mut K, page: &mut Page, bytes: &[u8]) -> Result
 /// Puts the digits of no more bytes than an empty page has room for.
 pub fn put_part<K: Sink>(sink: &mut K, page: &mut Page, bytes: &[u8]) -> Result<(), Failed>
     requires { 2 * length bytes.now ≤ 4096 }
-    ensures { Fills K.written K.faults sink.old sink.new page.old page.new result
+    ensures { Fills K.page sink.old sink.new page.old page.new result
         (flat_map byte_text bytes.now) }
 {
     if 2 * bytes.len() <= page.room() {

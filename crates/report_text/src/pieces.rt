@@ -12,14 +12,14 @@ use rpc_outside::{Failed, Sink};
 
 /// Puts a word.
 pub fn put_word<K: Sink>(sink: &mut K, page: &mut Page, word: &str) -> Result<(), Failed>
-    ensures { Fills K.written K.faults sink.old sink.new page.old page.new result (word.now) }
+    ensures { Fills K.page sink.old sink.new page.old page.new result (word.now) }
 {
     put(sink, page, word.as_bytes())
 }
 
 /// Puts the last word of a line, and passes the line on to the sink.
 pub fn put_last<K: Sink>(sink: &mut K, page: &mut Page, word: &str) -> Result<(), Failed>
-    ensures { Fills K.written K.faults sink.old sink.new page.old page.new result (word.now) }
+    ensures { Fills K.page sink.old sink.new page.old page.new result (word.now) }
 {
     put_word(sink, page, word)?;
     flush(sink, page)?;
@@ -28,7 +28,7 @@ pub fn put_last<K: Sink>(sink: &mut K, page: &mut Page, word: &str) -> Result<()
 
 /// Puts a number in decimal.
 pub fn put_number<K: Sink>(sink: &mut K, page: &mut Page, number: u64) -> Result<(), Failed>
-    ensures { Fills K.written K.faults sink.old sink.new page.old page.new result (decimal number) }
+    ensures { Fills K.page sink.old sink.new page.old page.new result (decimal number) }
 {
     let mut digits = Buffer::new();
     put(sink, page, digits.format(number).as_bytes())
@@ -36,7 +36,7 @@ pub fn put_number<K: Sink>(sink: &mut K, page: &mut Page, number: u64) -> Result
 
 /// Puts a word and a number.
 pub fn put_pair<K: Sink>(sink: &mut K, page: &mut Page, pair: &Pair) -> Result<(), Failed>
-    ensures { Fills K.written K.faults sink.old sink.new page.old page.new result
+    ensures { Fills K.page sink.old sink.new page.old page.new result
         (pair.now.0.now ++ decimal pair.now.1) }
 {
     put_word(sink, page, pair.0)?;
@@ -45,7 +45,7 @@ pub fn put_pair<K: Sink>(sink: &mut K, page: &mut Page, pair: &Pair) -> Result<(
 
 /// Puts two words and numbers.
 pub fn put_two<K: Sink>(sink: &mut K, page: &mut Page, a: &Pair, b: &Pair) -> Result<(), Failed>
-    ensures { Fills K.written K.faults sink.old sink.new page.old page.new result
+    ensures { Fills K.page sink.old sink.new page.old page.new result
         (a.now.0.now ++ decimal a.now.1 ++ b.now.0.now ++ decimal b.now.1) }
 {
     put_pair(sink, page, a)?;
@@ -60,7 +60,7 @@ pub fn put_three<K: Sink>(
     b: &Pair,
     c: &Pair,
 ) -> Result<(), Failed>
-    ensures { Fills K.written K.faults sink.old sink.new page.old page.new result
+    ensures { Fills K.page sink.old sink.new page.old page.new result
         (a.now.0.now ++ decimal a.now.1 ++ b.now.0.now ++ decimal b.now.1
         ++ c.now.0.now ++ decimal c.now.1) }
 {
@@ -77,7 +77,7 @@ pub fn put_four<K: Sink>(
     c: &Pair,
     d: &Pair,
 ) -> Result<(), Failed>
-    ensures { Fills K.written K.faults sink.old sink.new page.old page.new result
+    ensures { Fills K.page sink.old sink.new page.old page.new result
         (a.now.0.now ++ decimal a.now.1 ++ b.now.0.now ++ decimal b.now.1
         ++ c.now.0.now ++ decimal c.now.1 ++ d.now.0.now ++ decimal d.now.1) }
 {
@@ -92,7 +92,7 @@ pub fn put_ending<K: Sink>(
     pair: &Pair,
     word: &str,
 ) -> Result<(), Failed>
-    ensures { Fills K.written K.faults sink.old sink.new page.old page.new result
+    ensures { Fills K.page sink.old sink.new page.old page.new result
         (pair.now.0.now ++ decimal pair.now.1 ++ word.now) }
 {
     put_pair(sink, page, pair)?;
@@ -106,7 +106,7 @@ pub fn put_state<K: Sink>(
     pair: &Pair,
     state: SessionState,
 ) -> Result<(), Failed>
-    ensures { Fills K.written K.faults sink.old sink.new page.old page.new result
+    ensures { Fills K.page sink.old sink.new page.old page.new result
         (pair.now.0.now ++ decimal pair.now.1 ++ codes " " ++ state_text state) }
 {
     put_ending(sink, page, pair, " ")?;
@@ -115,7 +115,7 @@ pub fn put_state<K: Sink>(
 
 /// Puts why a packet was dropped.
 pub fn put_reason<K: Sink>(sink: &mut K, page: &mut Page, reason: DropReason) -> Result<(), Failed>
-    ensures { Fills K.written K.faults sink.old sink.new page.old page.new result
+    ensures { Fills K.page sink.old sink.new page.old page.new result
         (codes "dropped " ++ reason_text reason) }
 {
     put_word(sink, page, "dropped ")?;
@@ -124,7 +124,7 @@ pub fn put_reason<K: Sink>(sink: &mut K, page: &mut Page, reason: DropReason) ->
 
 /// Puts whose packet an entry is.
 pub fn put_owner<K: Sink>(sink: &mut K, page: &mut Page, owner: Owner) -> Result<(), Failed>
-    ensures { Fills K.written K.faults sink.old sink.new page.old page.new result
+    ensures { Fills K.page sink.old sink.new page.old page.new result
         (owner_text owner) }
 {
     match owner {
@@ -146,7 +146,7 @@ pub fn put_owner<K: Sink>(sink: &mut K, page: &mut Page, owner: Owner) -> Result
 
 /// Puts a word and whose packet an entry is.
 fn put_owned<K: Sink>(sink: &mut K, page: &mut Page, word: &str, owner: Owner) -> Result<(), Failed>
-    ensures { Fills K.written K.faults sink.old sink.new page.old page.new result
+    ensures { Fills K.page sink.old sink.new page.old page.new result
         (word.now ++ owner_text owner) }
 {
     put_word(sink, page, word)?;
@@ -161,7 +161,7 @@ pub fn put_entry<K: Sink>(
     owner: Owner,
     number: u64,
 ) -> Result<(), Failed>
-    ensures { Fills K.written K.faults sink.old sink.new page.old page.new result
+    ensures { Fills K.page sink.old sink.new page.old page.new result
         (word.now ++ owner_text owner ++ codes " " ++ decimal number) }
 {
     put_owned(sink, page, word, owner)?;
@@ -170,7 +170,7 @@ pub fn put_entry<K: Sink>(
 
 /// Puts to whom a datagram goes, and whose packet it is.
 fn put_sent<K: Sink>(sink: &mut K, page: &mut Page, peer: u64, owner: Owner) -> Result<(), Failed>
-    ensures { Fills K.written K.faults sink.old sink.new page.old page.new result
+    ensures { Fills K.page sink.old sink.new page.old page.new result
         (codes "sent " ++ decimal peer ++ codes " " ++ owner_text owner) }
 {
     put_ending(sink, page, &("sent ", peer), " ")?;
@@ -185,7 +185,7 @@ pub fn put_datagram<K: Sink>(
     owner: Owner,
     number: u64,
 ) -> Result<(), Failed>
-    ensures { Fills K.written K.faults sink.old sink.new page.old page.new result
+    ensures { Fills K.page sink.old sink.new page.old page.new result
         (codes "sent " ++ decimal peer ++ codes " " ++ owner_text owner
         ++ codes " " ++ decimal number) }
 {

@@ -12,7 +12,7 @@ use rpc_outside::{Failed, Sink};
 
 /// Puts a line for each fact.
 fn put_lines<K: Sink>(sink: &mut K, page: &mut Page, facts: &[Fact]) -> Result<(), Failed>
-    ensures { Fills K.written K.faults sink.old sink.new page.old page.new result
+    ensures { Fills K.page sink.old sink.new page.old page.new result
         (flat_map line_text facts.now) }
 {
     for fact in facts {
@@ -23,7 +23,7 @@ fn put_lines<K: Sink>(sink: &mut K, page: &mut Page, facts: &[Fact]) -> Result<(
 
 /// Puts the first line and a line for each fact.
 fn put_facts<K: Sink>(sink: &mut K, page: &mut Page, facts: &[Fact]) -> Result<(), Failed>
-    ensures { Fills K.written K.faults sink.old sink.new page.old page.new result
+    ensures { Fills K.page sink.old sink.new page.old page.new result
         (codes "erpc-report 1\n" ++ flat_map line_text facts.now) }
 {
     put_last(sink, page, "erpc-report 1\n")?;
@@ -32,7 +32,7 @@ fn put_facts<K: Sink>(sink: &mut K, page: &mut Page, facts: &[Fact]) -> Result<(
 
 /// Puts the last line.
 fn put_end<K: Sink>(sink: &mut K, page: &mut Page, count: u64) -> Result<(), Failed>
-    ensures { Fills K.written K.faults sink.old sink.new page.old page.new result
+    ensures { Fills K.page sink.old sink.new page.old page.new result
         (codes "end " ++ decimal count ++ codes "\n") }
 {
     put_pair(sink, page, &("end ", count))?;
@@ -41,7 +41,7 @@ fn put_end<K: Sink>(sink: &mut K, page: &mut Page, count: u64) -> Result<(), Fai
 
 /// Puts a report.
 fn put_report<K: Sink>(sink: &mut K, page: &mut Page, facts: &[Fact]) -> Result<(), Failed>
-    ensures { Fills K.written K.faults sink.old sink.new page.old page.new result (text facts.now) }
+    ensures { Fills K.page sink.old sink.new page.old page.new result (text facts.now) }
 {
     put_facts(sink, page, facts)?;
     put_end(sink, page, facts.len() as u64)
@@ -51,8 +51,7 @@ fn put_report<K: Sink>(sink: &mut K, page: &mut Page, facts: &[Fact]) -> Result<
 /// parts. It takes no memory. `Failed` comes only where the sink counts one more fault; a front of
 /// the report was then written.
 pub fn print_facts<K: Sink>(facts: &[Fact], sink: &mut K) -> Result<(), Failed>
-    ensures { Prints (K.written sink.old) (K.written sink.new)
-        (K.faults sink.old) (K.faults sink.new) result (text facts.now) }
+    ensures { Prints (K.page sink.old) (K.page sink.new) result (text facts.now) }
 {
     let mut page = Page::new();
     put_report(sink, &mut page, facts)?;

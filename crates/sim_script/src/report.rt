@@ -12,8 +12,7 @@ use rpc_outside::{Failed, Sink};
 /// number. It takes no memory. `Failed` comes only where the sink counts one more fault; a front of
 /// the report was then written.
 pub fn print<K: Sink>(history: &History, sink: &mut K) -> Result<(), Failed>
-    ensures { Prints (K.written sink.old) (K.written sink.new) (K.faults sink.old)
-        (K.faults sink.new) result (text history.now) }
+    ensures { Prints (K.page sink.old) (K.page sink.new) result (text history.now) }
 {
     print_facts(history.facts(), sink)
 }

@@ -6,7 +6,7 @@ use Rattle.count_line.proofs.line.write_counts.Goals as goal
 pub returns-in_err-write_each : goal.returns-in_err-write_each
 returns-in_err-write_each g c =
     let p = err_from_is_err_and c.from_residual.result c.from_residual.ensures.1 in
-    rw p.1 (broke-longer _ _ _ _ _ _ c.in_err-write_each.ensures)
+    rw p.1 (broke-longer _ _ _ _ c.in_err-write_each.ensures)
 
 pub returns : goal.returns
-returns g c = prints-then _ _ _ _ _ _ _ _ _ c.in_ok-write_each.ensures c.write_all.ensures
+returns g c = prints-then _ _ _ _ _ _ c.in_ok-write_each.ensures c.write_all.ensures

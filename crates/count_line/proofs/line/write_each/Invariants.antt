@@ -6,6 +6,5 @@ use Rattle.count_line.proofs.line.write_each.Given as goal
 
 abbrev pub invariant-loop-count : goal.invariant-loop-count
 invariant-loop-count g l =
-    Wrote (g.K.Sink.written l.initial.sink) (g.K.Sink.written l.sink)
-    (g.K.Sink.faults l.initial.sink) (g.K.Sink.faults l.sink)
+    Wrote (g.K.Sink.page l.initial.sink) (g.K.Sink.page l.sink)
     (counts_text (take l.count-index l.counts))

@@ -6,7 +6,7 @@ use Rattle.report_text.proofs.line.put_head.Goals as goal
 pub returns-in_err-put_who : goal.returns-in_err-put_who
 returns-in_err-put_who g c =
     let p = err_from_is_err_and c.from_residual.result c.from_residual.ensures.1 in
-    rw p.1 (breaks-further _ _ _ _ _ _ _ c.in_err-put_who.ensures)
+    rw p.1 (breaks-further _ _ _ _ _ c.in_err-put_who.ensures)
 
 pub returns : goal.returns
-returns g c = fills-then _ _ _ _ _ _ _ _ _ _ _ _ c.in_ok-put_who.ensures c.put_word.ensures
+returns g c = fills-then _ _ _ _ _ _ _ _ _ c.in_ok-put_who.ensures c.put_word.ensures

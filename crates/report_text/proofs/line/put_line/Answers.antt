@@ -8,8 +8,8 @@ pub returns-in_err-put_fact : goal.returns-in_err-put_fact
 unfolding line_text
 returns-in_err-put_fact g c =
     let p = err_from_is_err_and c.from_residual.result c.from_residual.ensures.1 in
-    rw p.1 (breaks-further _ _ _ _ _ _ _ c.in_err-put_fact.ensures)
+    rw p.1 (breaks-further _ _ _ _ _ c.in_err-put_fact.ensures)
 
 pub returns : goal.returns
 unfolding line_text
-returns g c = fills-then _ _ _ _ _ _ _ _ _ _ _ _ c.in_ok-put_fact.ensures c.put_last.ensures
+returns g c = fills-then _ _ _ _ _ _ _ _ _ c.in_ok-put_fact.ensures c.put_last.ensures

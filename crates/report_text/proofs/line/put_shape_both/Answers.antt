@@ -8,9 +8,9 @@ use Rattle.report_text.proofs.line.put_shape_both.Goals as goal
 pub returns-in_err-put_shape_bytes : goal.returns-in_err-put_shape_bytes
 returns-in_err-put_shape_bytes g c =
     let p = err_from_is_err_and c.from_residual.result c.from_residual.ensures.1 in
-    rw p.1 (breaks-further-two _ _ _ _ _ _ (codes " ")
+    rw p.1 (breaks-further-two _ _ _ _ (codes " ")
     (bytes_text c.args.second.now) c.in_err-put_shape_bytes.ensures)
 
 pub returns : goal.returns
-returns g c = fills-two _ _ _ _ _ _ _ _ _ _ _ (codes " ")
+returns g c = fills-two _ _ _ _ _ _ _ _ (codes " ")
     (bytes_text c.args.second.now) c.in_ok-put_shape_bytes.ensures c.put_more_bytes.ensures

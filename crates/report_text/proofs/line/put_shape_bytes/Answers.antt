@@ -8,8 +8,8 @@ use Rattle.report_text.proofs.line.put_shape_bytes.Goals as goal
 pub returns-in_err-put_shape : goal.returns-in_err-put_shape
 returns-in_err-put_shape g c =
     let p = err_from_is_err_and c.from_residual.result c.from_residual.ensures.1 in
-    rw p.1 (breaks-further-two _ _ _ _ _ _ (codes " ") (bytes_text c.args.bytes.now) c.in_err-put_shape.ensures)
+    rw p.1 (breaks-further-two _ _ _ _ (codes " ") (bytes_text c.args.bytes.now) c.in_err-put_shape.ensures)
 
 pub returns : goal.returns
-returns g c = fills-two _ _ _ _ _ _ _ _ _ _ _ (codes " ")
+returns g c = fills-two _ _ _ _ _ _ _ _ (codes " ")
     (bytes_text c.args.bytes.now) c.in_ok-put_shape.ensures c.put_more_bytes.ensures

@@ -13,7 +13,7 @@ returns-in_err-put_part g c =
     let n = c.min-count.result in
     rw p.1
     (breaks-part byte_text c.args.bytes.now done (take n c.loop-rest.rest.now) _
-    (moved-on _ done _ n whole) _ _ _ _ _ _ _ _ puts c.in_err-put_part.ensures)
+    (moved-on _ done _ n whole) _ _ _ _ _ puts c.in_err-put_part.ensures)
 
 pub loop-rest-preserved : goal.loop-rest-preserved
 loop-rest-preserved g c =
@@ -21,5 +21,5 @@ loop-rest-preserved g c =
     let n = c.min-count.result in (
       done ++ take n c.loop-rest.rest.now,
       moved-on _ done _ n whole,
-      puts-part byte_text done _ _ _ _ _ _ _ _ _ _ puts c.in_ok-put_part.ensures,
+      puts-part byte_text done _ _ _ _ _ _ _ puts c.in_ok-put_part.ensures,
     )

@@ -8,8 +8,7 @@ use Rattle.report_text.proofs.octets.put_digits.Given as goal
 abbrev pub invariant-loop-rest : goal.invariant-loop-rest
 invariant-loop-rest g l =
     (done : List ℕ) × (l.initial.rest ≡ done ++ l.rest)
-    × Puts l.initial.page l.page (g.K.Sink.written l.initial.sink) (g.K.Sink.written l.sink)
-    (g.K.Sink.faults l.initial.sink) (g.K.Sink.faults l.sink)
+    × Puts l.initial.page l.page (g.K.Sink.page l.initial.sink) (g.K.Sink.page l.sink)
     (flat_map byte_text done)
 
 abbrev pub decreases-loop-rest : goal.decreases-loop-rest

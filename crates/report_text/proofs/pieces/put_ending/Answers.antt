@@ -6,7 +6,7 @@ use Rattle.report_text.proofs.pieces.put_ending.Goals as goal
 pub returns-in_err-put_pair : goal.returns-in_err-put_pair
 returns-in_err-put_pair g c =
     let p = err_from_is_err_and c.from_residual.result c.from_residual.ensures.1 in
-    rw p.1 (breaks-further _ _ _ _ _ _ _ c.in_err-put_pair.ensures)
+    rw p.1 (breaks-further _ _ _ _ _ c.in_err-put_pair.ensures)
 
 pub returns : goal.returns
-returns g c = fills-then _ _ _ _ _ _ _ _ _ _ _ _ c.in_ok-put_pair.ensures c.put_word.ensures
+returns g c = fills-then _ _ _ _ _ _ _ _ _ c.in_ok-put_pair.ensures c.put_word.ensures

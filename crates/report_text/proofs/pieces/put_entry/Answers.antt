@@ -7,8 +7,8 @@ use Rattle.report_text.proofs.pieces.put_entry.Goals as goal
 pub returns-in_err-put_owned : goal.returns-in_err-put_owned
 returns-in_err-put_owned g c =
     let p = err_from_is_err_and c.from_residual.result c.from_residual.ensures.1 in
-    rw p.1 (breaks-further-two _ _ _ _ _ _ (codes " ") (decimal c.args.number) c.in_err-put_owned.ensures)
+    rw p.1 (breaks-further-two _ _ _ _ (codes " ") (decimal c.args.number) c.in_err-put_owned.ensures)
 
 pub returns : goal.returns
-returns g c = fills-two _ _ _ _ _ _ _ _ _ _ _ (codes " ")
+returns g c = fills-two _ _ _ _ _ _ _ _ (codes " ")
     (decimal c.args.number) c.in_ok-put_owned.ensures c.put_pair.ensures

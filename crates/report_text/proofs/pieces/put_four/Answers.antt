@@ -7,8 +7,8 @@ use Rattle.report_text.proofs.pieces.put_four.Goals as goal
 pub returns-in_err-put_three : goal.returns-in_err-put_three
 returns-in_err-put_three g c =
     let p = err_from_is_err_and c.from_residual.result c.from_residual.ensures.1 in
-    rw p.1 (breaks-further-two _ _ _ _ _ _ c.args.d.now.0.now (decimal c.args.d.now.1) c.in_err-put_three.ensures)
+    rw p.1 (breaks-further-two _ _ _ _ c.args.d.now.0.now (decimal c.args.d.now.1) c.in_err-put_three.ensures)
 
 pub returns : goal.returns
-returns g c = fills-two _ _ _ _ _ _ _ _ _ _ _ c.args.d.now.0.now (decimal c.args.d.now.1)
+returns g c = fills-two _ _ _ _ _ _ _ _ c.args.d.now.0.now (decimal c.args.d.now.1)
     c.in_ok-put_three.ensures c.put_pair.ensures

@@ -7,8 +7,8 @@ use Rattle.report_text.proofs.pieces.put_three.Goals as goal
 pub returns-in_err-put_two : goal.returns-in_err-put_two
 returns-in_err-put_two g c =
     let p = err_from_is_err_and c.from_residual.result c.from_residual.ensures.1 in
-    rw p.1 (breaks-further-two _ _ _ _ _ _ c.args.c.now.0.now (decimal c.args.c.now.1) c.in_err-put_two.ensures)
+    rw p.1 (breaks-further-two _ _ _ _ c.args.c.now.0.now (decimal c.args.c.now.1) c.in_err-put_two.ensures)
 
 pub returns : goal.returns
-returns g c = fills-two _ _ _ _ _ _ _ _ _ _ _ c.args.c.now.0.now (decimal c.args.c.now.1)
+returns g c = fills-two _ _ _ _ _ _ _ _ c.args.c.now.0.now (decimal c.args.c.now.1)
     c.in_ok-put_two.ensures c.put_pair.ensures

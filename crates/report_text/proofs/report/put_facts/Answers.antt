@@ -6,7 +6,7 @@ use Rattle.report_text.proofs.report.put_facts.Goals as goal
 pub returns-in_err-put_last : goal.returns-in_err-put_last
 returns-in_err-put_last g c =
     let p = err_from_is_err_and c.from_residual.result c.from_residual.ensures.1 in
-    rw p.1 (breaks-further _ _ _ _ _ _ _ c.in_err-put_last.ensures)
+    rw p.1 (breaks-further _ _ _ _ _ c.in_err-put_last.ensures)
 
 pub returns : goal.returns
-returns g c = fills-then _ _ _ _ _ _ _ _ _ _ _ _ c.in_ok-put_last.ensures c.put_lines.ensures
+returns g c = fills-then _ _ _ _ _ _ _ _ _ c.in_ok-put_last.ensures c.put_lines.ensures

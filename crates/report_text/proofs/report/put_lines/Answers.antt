@@ -11,10 +11,10 @@ returns-in_err-put_line g c =
     let fact = c.fact-item in
     rw p.1
     (breaks-item line_text c.args.facts.now c.loop-fact.fact-index fact.result fact.result
-    (omega arith) (sym fact.is) _ _ _ _ _ _ _ _ c.loop-fact.invariant c.in_err-put_line.ensures)
+    (omega arith) (sym fact.is) _ _ _ _ _ c.loop-fact.invariant c.in_err-put_line.ensures)
 
 pub loop-fact-preserved : goal.loop-fact-preserved
 loop-fact-preserved g c =
     let fact = c.fact-item in
     puts-item line_text c.args.facts.now c.loop-fact.fact-index fact.result fact.result
-    (omega arith) (sym fact.is) _ _ _ _ _ _ _ _ _ c.loop-fact.invariant c.in_ok-put_line.ensures
+    (omega arith) (sym fact.is) _ _ _ _ _ _ c.loop-fact.invariant c.in_ok-put_line.ensures

@@ -7,6 +7,5 @@ use Rattle.report_text.proofs.report.put_lines.Given as goal
 
 abbrev pub invariant-loop-fact : goal.invariant-loop-fact
 invariant-loop-fact g l =
-    Puts l.initial.page l.page (g.K.Sink.written l.initial.sink) (g.K.Sink.written l.sink)
-    (g.K.Sink.faults l.initial.sink) (g.K.Sink.faults l.sink)
+    Puts l.initial.page l.page (g.K.Sink.page l.initial.sink) (g.K.Sink.page l.sink)
     (flat_map line_text (take l.fact-index l.facts))
