@@ -28,7 +28,7 @@ use Rattle.rpc_laws.specs.Facts.{with_bytes}
 use Rattle.rpc_laws.specs.Groups.{Asks, ask_by_state, ask_fact, state_of}
 use Rattle.rpc_laws.specs.NodeLists.{after}
 use Rattle.rpc_laws.specs.Sessions.{asks, is_client, is_connected}
-use Rattle.rpc_outside.specs.Recording.{Grew}
+use Rattle.rpc_outside.specs.Recording.{Grew, Log}
 use Rattle.node_laws.specs.Kept.{AsksFew, Kept, asked_on}
 use Rattle.node_laws.specs.Valid.{NumberedFrom, client_no, holders, to_come}
 use Rattle.node_laws.proofs.KeptLemmas.{kept-after}
@@ -223,14 +223,14 @@ module _ (me : ℕ) (limits : Limits) (tallies : Tallies) (paces : List Pace) (j
       subst (λ (o : Option Client). IfSome o (λ x. (calls : List Call) → (a : Asking)
       → x.calls ≡ asking a calls → bytes ≡ a.ask)) here h at.client.calls what refl
 
-  pub node-asked : {R : Type 0} (facts : R → Option (List Fact)) (whole : R → Bool)
+  pub node-asked : {R : Type 0} (log : R → Log)
       (before after : R) (session c room : ℕ) (bytes : List ℕ) → session ≡ i → c ≡ tallies.asked
       → room ≡ what.room → bytes ≡ what.ask → length what.ask ≤ MOST_MESSAGE_BYTES
-      → Grew facts whole before after (with_bytes me (Asked c session what.req_type room) bytes ∷ [])
-      → Makes facts whole (Asks session what.req_type what.ask what.room) (seen jobs)
+      → Grew (log before) (log after) (with_bytes me (Asked c session what.req_type room) bytes ∷ [])
+      → Makes log (Asks session what.req_type what.ask what.room) (seen jobs)
       (seen_now jobs) before after
-  node-asked facts whole before after session c room bytes at-i at-c at-room at-bytes few grew =
-      subst (λ (n : ℕ). Makes facts whole (Asks n what.req_type what.ask what.room) (seen jobs)
+  node-asked log before after session c room bytes at-i at-c at-room at-bytes few grew =
+      subst (λ (n : ℕ). Makes log (Asks n what.req_type what.ask what.room) (seen jobs)
       (seen_now jobs) before after) (sym at-i) (record {
         noted = asked ∷ [];
         grew = rw (← at-i, ← at-c, ← at-room, ← at-bytes) grew;

@@ -21,7 +21,7 @@ use Rattle.packet_rings.specs.Rings.{Ring}
 use Rattle.packet_rings.specs.Values.{DatagramValue}
 use Rattle.client_core.specs.Shown.{done_fact}
 use Rattle.client_core.specs.declared.outcome.Done.{Done}
-use Rattle.rpc_outside.specs.Recording.{Grew}
+use Rattle.rpc_outside.specs.Recording.{Grew, Log}
 use Rattle.rpc_laws.specs.declared.tables.Call.{Call}
 use Rattle.rpc_laws.specs.declared.tables.Client.{Client}
 use Rattle.rpc_laws.specs.declared.tables.Jobs.{Jobs}
@@ -112,8 +112,8 @@ module _ (i : ℕ) (xs : List Client) (x : Client) (there : find (is_client i) x
       rw (idle-owner q.owner q qs refl clear windows.0)
       (all-idle qs (λ r c e. (or-false (same_owner q.owner (Ask i r)) _ (clear r c e)).1) windows.1)
 
-module _ {R : Type 0} (facts : R → Option (List Fact)) (whole : R → Bool) (i : ℕ) (a b : Timed)
-    (f g : R) (made : Makes facts whole (Notes (flushing_all i)) a b f g) where
+module _ {R : Type 0} (log : R → Log) (i : ℕ) (a b : Timed)
+    (f g : R) (made : Makes log (Notes (flushing_all i)) a b f g) where
   flushed-clean : AllByRecursion (λ c. NoneOf i c.progress b.lists.queued) (calls_at i a)
   flushed-clean =
       let all = calls-flushed a.clock (asking no_asks a).lists a.lists.me i a.lists.queued
@@ -359,13 +359,13 @@ module _ (me : ℕ) (limits : Limits) (tallies : Tallies) (paces : List Pace) (j
     ends-of [] = refl
     ends-of (c ∷ cs) = ap (λ fs. lost me c ∷ fs) (ends-of cs)
 
-    pub node-broken : {R K : Type 0} (facts : R → Option (List Fact)) (whole : R → Bool)
+    pub node-broken : {R K : Type 0} (log : R → Log)
         (given : K → List Done → Type 0) (before now : R) (from to : K)
-        → Grew facts whole before now (fact ∷ map (lost me) x.calls) → (dones : List Done)
+        → Grew (log before) (log now) (fact ∷ map (lost me) x.calls) → (dones : List Done)
         → map (lost me) x.calls ≡ map (done_fact me) dones
         → Gave given from to dones
-        → MakesEnds facts whole given (Notes (breaking i)) (seen s) (seen t) before now from to
-    node-broken facts whole given before now from to grew dones ends gave = record {
+        → MakesEnds log given (Notes (breaking i)) (seen s) (seen t) before now from to
+    node-broken log given before now from to grew dones ends gave = record {
       makes = record {
         noted = fact ∷ map (lost me) x.calls;
         grew = grew;
@@ -379,10 +379,10 @@ module _ (me : ℕ) (limits : Limits) (tallies : Tallies) (paces : List Pace) (j
       gave = gave;
     }
 
-  module _ {R K : Type 0} (facts : R → Option (List Fact)) (whole : R → Bool)
+  module _ {R K : Type 0} (log : R → Log)
       (given : K → List Done → Type 0) (before now : R) (from to : K)
       (fits : Fits (seen s) s.size s.places) (i : ℕ) (idle : IsIdle i s.queued)
-      (h : HasLost facts whole given me i [] s.clients t.clients before now from to)
+      (h : HasLost log given me i [] s.clients t.clients before now from to)
       (servers : t.servers ≡ s.servers) (queued : t.queued ≡ s.queued) where
     over : h.over ≡ h.client.calls
     over = sym (h.calls ∙ append-nil h.over)
@@ -391,12 +391,12 @@ module _ (me : ℕ) (limits : Limits) (tallies : Tallies) (paces : List Pace) (j
     fits-lost size places =
         fits-broken fits i idle h.client h.place h.changed servers queued size places
 
-    pub node-lost : MakesEnds facts whole given (Notes (breaking i)) (seen s) (seen t) before now
+    pub node-lost : MakesEnds log given (Notes (breaking i)) (seen s) (seen t) before now
         from to
     node-lost =
-        node-broken fits i idle h.client h.place h.changed servers queued facts whole given before
+        node-broken fits i idle h.client h.place h.changed servers queued log given before
         now from to
-        (subst (λ (cs : List Call). Grew facts whole before now
+        (subst (λ (cs : List Call). Grew (log before) (log now)
         (plain me (Broken i) ∷ map (lost me) cs))
         over h.grew) h.dones (ap (λ (cs : List Call). map (lost me) cs) (sym over) ∙ h.ends) h.gave
 
@@ -425,20 +425,20 @@ flushes-silent me i queued (c ∷ cs) =
     by (Some p) = flush-silent me queued (Ask i p.request)
 
 -- the end of a session, whole
-pub broken-whole : {R K : Type 0} (facts : R → Option (List Fact)) (whole : R → Bool)
+pub broken-whole : {R K : Type 0} (log : R → Log)
     (given : K → List Done → Type 0) (i : ℕ) (a b c : Timed) (f g h : R) (k l : K)
     → b.lists.me ≡ a.lists.me → b.lists.clients ≡ a.lists.clients
-    → Makes facts whole (Notes (flushing_all i)) a b f g
-    → MakesEnds facts whole given (Notes (breaking i)) b c g h k l
-    → MakesEnds facts whole given (Notes (breaking_off i)) a c f h k l
-broken-whole facts whole given i a b c f g h k l me clients p q =
-    ends-join facts whole given (Notes (flushing_all i)) (Notes (breaking i))
+    → Makes log (Notes (flushing_all i)) a b f g
+    → MakesEnds log given (Notes (breaking i)) b c g h k l
+    → MakesEnds log given (Notes (breaking_off i)) a c f h k l
+broken-whole log given i a b c f g h k l me clients p q =
+    ends-join log given (Notes (flushing_all i)) (Notes (breaking i))
     (Notes (breaking_off i)) a b c f g h k k l me
     (λ asks x y s t. record {
       facts = rw (s.facts, t.facts) (ap (λ fs. flushing_all i (asking asks a) ++ fs) (same asks));
       goes = goes-then (asking asks a) (asking asks b) (asking asks c) x y s.goes t.goes;
     })
-    (ends-silent facts whole given (flushing_all i) a b f g k
+    (ends-silent log given (flushing_all i) a b f g k
     (flushes-silent a.lists.me i a.lists.queued (calls_at i a)) p) q
   where
     same : (asks : Asks) → breaking i (asking asks b) ≡ breaking i (asking asks a)

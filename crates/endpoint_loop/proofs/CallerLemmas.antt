@@ -7,6 +7,7 @@ use Rattle.std.proofs.Common.{subst, ◌∙◌, add-zero, append-nil, arith}
 use Rattle.std.specs.Prelude.{◌==◌, ◌-◌, IfSome, map, option_and_then, option_map, slice_get, slice_set}
 use Rattle.std.specs.List.{Contains, find}
 use Rattle.std.proofs.lemmas.Bool.{cases_eq, false≢true}
+use Rattle.rpc_outside.specs.Recording.{Log}
 use Rattle.rpc_base.specs.Tables.{at_first, without_first}
 use Rattle.rpc_base.specs.declared.owner.Owner.{Owner}
 use Rattle.rpc_base.specs.declared.owner.Owner.TheVariants.{Ask, Reply, Control}
@@ -347,18 +348,18 @@ visits-up P n m s u x up visited each =
     subst (λ k. Visits P k s x u) long
     (visits-on P n (m - n) s u x visited (λ i low high. each i low (omega (arith, high, long))))
 
-module _ {R : Type 0} (facts : R → Option (List Fact)) (whole : R → Bool) where
+module _ {R : Type 0} (log : R → Log) where
   pub serves-up : (n m : ℕ) (a b : Timed) (f g : R) → n ≤ m → NoneCalls n m b.lists.clients
-      → Makes facts whole (Visits Serves n) a b f g → Makes facts whole (Visits Serves m) a b f g
+      → Makes log (Visits Serves n) a b f g → Makes log (Visits Serves m) a b f g
   serves-up n m a b f g up quiet made =
-      makes-as facts whole (Visits Serves n) (Visits Serves m) a b f g
+      makes-as log (Visits Serves n) (Visits Serves m) a b f g
       (λ asks x visited. visits-up Serves n m (asking asks a) (asking asks b) x up visited
       (λ i low high. serves-none i (asking asks b) (quiet i low high))) made
 
   pub all-served : (n : ℕ) (a b : Timed) (f g : R) → n ≡ length a.lists.clients
-      → Makes facts whole (Visits Serves n) a b f g → Makes facts whole PostsAll a b f g
+      → Makes log (Visits Serves n) a b f g → Makes log PostsAll a b f g
   all-served n a b f g is made =
-      makes-as facts whole (Visits Serves n) PostsAll a b f g
+      makes-as log (Visits Serves n) PostsAll a b f g
       (λ asks x visited. subst (λ k. Visits Serves k (asking asks a) x (asking asks b)) is visited)
       made
 

@@ -1,5 +1,5 @@
 -- A session is opened, or begins to close, from the store to what the node notes.
-use Rattle.std.proofs.Common.{◌≡◌, ◌≢◌, ℕ, ◌+◌, ◌≤◌, Bool, true, false}
+use Rattle.std.proofs.Common.{◌≡◌, ◌≢◌, ℕ, ◌+◌, ◌≤◌, true, false}
 use Rattle.std.proofs.Common.{cond, eqb, Option, Some}
 use Rattle.std.proofs.Common.{None, List, [], ◌∷◌, ◌++◌, length, refl, sym, ap, ◌∙◌, arith}
 use Rattle.std.proofs.Common.{eq-eqb}
@@ -29,7 +29,7 @@ use Rattle.rpc_laws.specs.Groups.{SetsRate, disconnect_by, pending, rate_fact, s
 use Rattle.rpc_laws.specs.NodeLists.{after}
 use Rattle.rpc_laws.specs.Sessions.{comes_to, is_client, is_connected, is_live, opened_end}
 use Rattle.rpc_laws.specs.Steps.{Goes, NotesNext}
-use Rattle.rpc_outside.specs.Recording.{Grew}
+use Rattle.rpc_outside.specs.Recording.{Grew, Log}
 use Rattle.node_laws.specs.Valid.{NumberedFrom, client_no}
 use Rattle.node_laws.proofs.KeptLemmas.{kept-after}
 use Rattle.node_laws.proofs.NumberLemmas.{numbered-push}
@@ -149,10 +149,10 @@ module _ (me : ℕ) (limits : Limits) (tallies : Tallies) (paces : List Pace) (j
           none_left = λ closed. idle;
         }) size places
 
-    pub node-closing : {R : Type 0} (facts : R → Option (List Fact)) (whole : R → Bool)
-        (before now : R) → Grew facts whole before now (plain me (BeginsClosing i) ∷ [])
-        → Makes facts whole (NotesNext (λ l. Some (BeginsClosing i))) (seen s) (seen t) before now
-    node-closing facts whole before now grew = record {
+    pub node-closing : {R : Type 0} (log : R → Log)
+        (before now : R) → Grew (log before) (log now) (plain me (BeginsClosing i) ∷ [])
+        → Makes log (NotesNext (λ l. Some (BeginsClosing i))) (seen s) (seen t) before now
+    node-closing log before now grew = record {
       noted = plain me (BeginsClosing i) ∷ [];
       grew = grew;
       step = λ asks. record {
@@ -227,12 +227,12 @@ closed-idle state told session calls many same count e none =
 some-event : (a b : Event) → Some a ≡ Some b → a ≡ b
 some-event a b h = cc
 
-module _ {R : Type 0} (facts : R → Option (List Fact)) (whole : R → Bool) where
+module _ {R : Type 0} (log : R → Log) where
   pub disconnects-as : (session : ℕ) (a b : Timed) (f g : R) (event : Event)
       → disconnect_by (state_of (find (is_client session) a.lists.clients)) session
       (pending (find (is_client session) a.lists.clients)) ≡ event
-      → Makes facts whole (NotesNext (λ l. Some event)) a b f g
-      → Makes facts whole (Disconnects session) a b f g
+      → Makes log (NotesNext (λ l. Some event)) a b f g
+      → Makes log (Disconnects session) a b f g
   disconnects-as session a b f g event is makes = record {
     noted = makes.noted;
     grew = makes.grew;
@@ -248,8 +248,8 @@ module _ {R : Type 0} (facts : R → Option (List Fact)) (whole : R → Bool) wh
   -- a refusal
   pub notes-still : (a : Timed) (f g : R) (event : Event)
       → ((asks : Asks) → Goes (asking asks a) (plain a.lists.me event ∷ []) (asking asks a))
-      → Grew facts whole f g (plain a.lists.me event ∷ [])
-      → Makes facts whole (NotesNext (λ l. Some event)) a a f g
+      → Grew (log f) (log g) (plain a.lists.me event ∷ [])
+      → Makes log (NotesNext (λ l. Some event)) a a f g
   notes-still a f g event goes grew = record {
     noted = plain a.lists.me event ∷ [];
     grew = grew;
@@ -258,8 +258,8 @@ module _ {R : Type 0} (facts : R → Option (List Fact)) (whole : R → Bool) wh
 
   module _ (peer credits rate : ℕ) (a : Timed) (f : R) where
     pub connect-refused : (g : R) (o : Option Event) → client_refusal credits a.lists ≡ o
-        → IsSome o → IfSome o (λ event. Makes facts whole (Refuses event) a a f g)
-        → Makes facts whole (Connects peer credits rate) a a f g
+        → IsSome o → IfSome o (λ event. Makes log (Refuses event) a a f g)
+        → Makes log (Connects peer credits rate) a a f g
     connect-refused g None e some makes = cc
     connect-refused g (Some event) e some makes = record {
       noted = makes.noted;
@@ -273,11 +273,11 @@ module _ {R : Type 0} (facts : R → Option (List Fact)) (whole : R → Bool) wh
 
     pub connect-made : (b c : Timed) (g h : R) (session : ℕ) → session ≡ length a.lists.clients
         → client_refusal credits a.lists ≡ None → b.lists.me ≡ a.lists.me
-        → Makes facts whole (NotesNext (λ l. Some (Opened (length l.clients) peer credits))) a b f g
-        → Makes facts whole (StartsRate session rate) b c g h
-        → Makes facts whole (Connects peer credits rate) a c f h
+        → Makes log (NotesNext (λ l. Some (Opened (length l.clients) peer credits))) a b f g
+        → Makes log (StartsRate session rate) b c g h
+        → Makes log (Connects peer credits rate) a c f h
     connect-made b c g h session own e me made rated =
-        makes-join facts whole (NotesNext (λ l. Some (Opened (length l.clients) peer credits)))
+        makes-join log (NotesNext (λ l. Some (Opened (length l.clients) peer credits)))
         (StartsRate session rate) (Connects peer credits rate) a b c f g h
         (λ asks x y p q.
         let same : Opened (length a.lists.clients) peer credits ≡ p.event =
@@ -292,17 +292,17 @@ module _ {R : Type 0} (facts : R → Option (List Fact)) (whole : R → Bool) wh
 
   -- a rate
   pub starts-none : (session rate : ℕ) (a : Timed) (f : R) → rate ≡ 0
-      → Makes facts whole (StartsRate session rate) a a f f
+      → Makes log (StartsRate session rate) a a f f
   starts-none session rate a f none = record {
     noted = [];
-    grew = grew-none facts whole f;
+    grew = grew-none log f;
     step = λ asks. record { facts = rw (eq-eqb rate 0 none) refl; goes = refl };
   }
 
   pub starts-rated : (session rate : ℕ) (a b : Timed) (f g : R) → rate ≢ 0
       → is_live (state_of (find (is_client session) a.lists.clients)) ≡ true
-      → Makes facts whole (SetsRate session rate) a b f g
-      → Makes facts whole (StartsRate session rate) a b f g
+      → Makes log (SetsRate session rate) a b f g
+      → Makes log (StartsRate session rate) a b f g
   starts-rated session rate a b f g some live makes = record {
     noted = makes.noted;
     grew = makes.grew;

@@ -21,7 +21,7 @@ use Rattle.rpc_laws.specs.Facts.{plain}
 use Rattle.rpc_laws.specs.Groups.{has_no_room, servers_spent}
 use Rattle.rpc_laws.specs.Requests.{server_end}
 use Rattle.rpc_laws.specs.Steps.{Goes, NotesNext}
-use Rattle.rpc_outside.specs.Recording.{Grew}
+use Rattle.rpc_outside.specs.Recording.{Grew, Log}
 use Rattle.rpc_base.proofs.BasicLemmas.{not-false, not-true}
 use Rattle.server_core.proofs.FlushLemmas.{grew-none}
 use Rattle.session_store.specs.declared.server.ServerEnd.{ServerEnd}
@@ -31,14 +31,14 @@ use Rattle.endpoint_loop.specs.Noting.{Makes}
 use Rattle.endpoint_loop.specs.Seen.{Asks, asking}
 
 -- a row that is known, with what was noted
-module _ {R : Type 0} (facts : R → Option (List Fact)) (whole : R → Bool) (before now : R)
+module _ {R : Type 0} (log : R → Log) (before now : R)
     (peer : ℕ) (h : ControlHeader) (reply : Option ControlHeader) (s t : Timed) (lacks : Bool)
     (row : ControlRow) (is : (asks : Asks) → control_row lacks peer h (asking asks s).lists ≡ row)
     (answer : reply ≡ control_reply h row) where
-  pub controls-by : (x : List Fact) → Grew facts whole before now x
+  pub controls-by : (x : List Fact) → Grew (log before) (log now) x
       → ((asks : Asks) → x ≡ control_facts (asking asks s).lists peer h row)
       → ((asks : Asks) → Goes (asking asks s) x (asking asks t))
-      → Makes facts whole (Controls peer h reply) s t before now
+      → Makes log (Controls peer h reply) s t before now
   controls-by x grew facts-are goes = record {
     noted = x;
     grew = grew;
@@ -49,14 +49,14 @@ module _ {R : Type 0} (facts : R → Option (List Fact)) (whole : R → Bool) (b
   }
 
 -- nothing is noted, and nothing changes
-pub controls-none : {R : Type 0} (facts : R → Option (List Fact)) (whole : R → Bool) (r : R)
+pub controls-none : {R : Type 0} (log : R → Log) (r : R)
     (peer : ℕ) (h : ControlHeader) (reply : Option ControlHeader) (s : Timed) (lacks : Bool)
     (row : ControlRow) → ((asks : Asks) → control_row lacks peer h (asking asks s).lists ≡ row)
     → reply ≡ control_reply h row
     → ((asks : Asks) → control_facts (asking asks s).lists peer h row ≡ [])
-    → Makes facts whole (Controls peer h reply) s s r r
-controls-none facts whole r peer h reply s lacks row is answer none =
-    controls-by facts whole r r peer h reply s s lacks row is answer [] (grew-none facts whole r)
+    → Makes log (Controls peer h reply) s s r r
+controls-none log r peer h reply s lacks row is answer none =
+    controls-by log r r peer h reply s s lacks row is answer [] (grew-none log r)
     (λ asks. sym (none asks)) (λ asks. refl)
 
 abbrev pub no-server : Server
@@ -110,16 +110,16 @@ module _ (peer : ℕ) (h : ControlHeader) (kind : h.kind ≡ ConnectRequest) (s 
         refl
 
 -- a session was accepted
-pub accepted-as : {R : Type 0} (facts : R → Option (List Fact)) (whole : R → Bool) (before now : R)
+pub accepted-as : {R : Type 0} (log : R → Log) (before now : R)
     (peer : ℕ) (h : ControlHeader) (kind : h.kind ≡ ConnectRequest) (s t : Timed)
     (reply : Option ControlHeader) → None ≡ position (is_end_of peer h.client) s.lists.servers
     → takes_server h.credits s.lists ≡ true
     → reply ≡ control_reply h (Accepts s.lists.server_numbers)
-    → Makes facts whole (NotesNext (λ l. Some (Accepted l.server_numbers peer h.client h.credits)))
+    → Makes log (NotesNext (λ l. Some (Accepted l.server_numbers peer h.client h.credits)))
     s t before now
-    → Makes facts whole (Controls peer h reply) s t before now
-accepted-as facts whole before now peer h kind s t reply none takes answer made =
-    controls-by facts whole before now peer h reply s t false (Accepts s.lists.server_numbers)
+    → Makes log (Controls peer h reply) s t before now
+accepted-as log before now peer h kind s t reply none takes answer made =
+    controls-by log before now peer h reply s t false (Accepts s.lists.server_numbers)
     (λ asks. accepts peer h kind s none asks takes) answer made.noted made.grew
     (λ asks.
     let step = made.step asks in

@@ -8,6 +8,7 @@ use Rattle.std.specs.List.{find, list_any}
 use Rattle.std.proofs.lemmas.Bool.{and_parts, eq-eqb, eqb-true}
 use Rattle.std.proofs.lemmas.List.Sorted.{length_permutation, sum_by-IsPermutation}
 use Rattle.std.proofs.lemmas.List.Sums.{sum_by-cons}
+use Rattle.rpc_outside.specs.Recording.{Log}
 use Rattle.message_buffer.specs.Buffer.{bytes_of}
 use Rattle.packet_header.specs.Parts.{IsMessage}
 use Rattle.rpc_base.specs.Tables.{without_first}
@@ -321,14 +322,14 @@ left-then a b x y z one two =
     two ∙ ap (λ (js : Jobs). record js { out = jobs_left b js.out }) one
     ∙ ap (λ (out : List Job). record x { out = out }) (jobs-then a b x.out)
 
-module _ {R : Type 0} (facts : R → Option (List Fact)) (whole : R → Bool)
+module _ {R : Type 0} (log : R → Log)
     (answer : ℕ → List ℕ → List ℕ) where
   pub finished-none : (out later : List CrewJob) (worked rest : Option (List Parcel)) (a : Timed)
       (f : R) → later ≡ out → TakesFirst worked rest None
-      → MakesFinished facts whole answer out later worked rest a a f f
+      → MakesFinished log answer out later worked rest a a f f
   finished-none out later worked rest a f same first = record {
     noted = [];
-    grew = grew-none facts whole f;
+    grew = grew-none log f;
     step = λ asks agree. record {
       parcels = [];
       answered = tt;
@@ -340,10 +341,10 @@ module _ {R : Type 0} (facts : R → Option (List Fact)) (whole : R → Bool)
   }
 
   pub finished-still : (out : List CrewJob) (worked : Option (List Parcel)) (a : Timed) (f : R)
-      → MakesFinished facts whole answer out out worked worked a a f f
+      → MakesFinished log answer out out worked worked a a f f
   finished-still out worked a f = record {
     noted = [];
-    grew = grew-none facts whole f;
+    grew = grew-none log f;
     step = λ asks agree. record {
       parcels = [];
       answered = tt;
@@ -359,12 +360,12 @@ module _ {R : Type 0} (facts : R → Option (List Fact)) (whole : R → Bool)
       same (Some ps) = refl
 
   pub finished-then : (k l m : List CrewJob) (u v w : Option (List Parcel)) (a b c : Timed)
-      (f g h : R) → MakesFinished facts whole answer k l u v a b f g
-      → MakesFinished facts whole answer l m v w b c g h
-      → MakesFinished facts whole answer k m u w a c f h
+      (f g h : R) → MakesFinished log answer k l u v a b f g
+      → MakesFinished log answer l m v w b c g h
+      → MakesFinished log answer k m u w a c f h
   finished-then k l m u v w a b c f g h p q = record {
     noted = p.noted ++ q.noted;
-    grew = grew-then facts whole f g h p.noted q.noted p.grew q.grew;
+    grew = grew-then log f g h p.noted q.noted p.grew q.grew;
     step = λ asks agree.
         let one = p.step asks agree in
         let two = q.step asks one.agree in
@@ -391,20 +392,20 @@ module _ {R : Type 0} (facts : R → Option (List Fact)) (whole : R → Bool)
     alone = omega (arith, kept.valid.runs f.parcel.session f.parcel.request)
 
     pub finished-long : (before : R) → (IsMessage (length (bytes_of f.parcel.out)) → ⊥)
-        → MakesFinished facts whole answer out later worked rest a a before before
+        → MakesFinished log answer out later worked rest a a before before
     finished-long before long = record {
       noted = [];
-      grew = grew-none facts whole before;
+      grew = grew-none log before;
       step = λ asks agree.
           absurd (long (own-message answer asks out later a f.parcel alone agree taken right));
     }
 
     finished-missing : (b : Timed) (before now : R) → b ≡ a → now ≡ before
         → find (is_job f.parcel.session f.parcel.request) a.lists.jobs.out ≡ None
-        → MakesFinished facts whole answer out later worked rest a b before now
+        → MakesFinished log answer out later worked rest a b before now
     finished-missing b before now same none missing = record {
       noted = [];
-      grew = rw none (grew-none facts whole before);
+      grew = rw none (grew-none log before);
       step = λ asks agree.
           let there = (held answer asks out later a f.parcel alone agree taken).found in
           let clash : None ≡ Some (held answer asks out later a f.parcel alone agree taken).job =
@@ -414,14 +415,14 @@ module _ {R : Type 0} (facts : R → Option (List Fact)) (whole : R → Bool)
 
     pub finished-turn : (b : Timed) (before now : R) (went : Bool)
         → replies a.lists.queued < a.lists.room
-        → (went ≡ true → MakesWhere facts whole (AsksOf f.parcel)
+        → (went ≡ true → MakesWhere log (AsksOf f.parcel)
         (FinishesWith f.parcel.session f.parcel.request (bytes_of f.parcel.out)) a b before now)
         → (went ≡ true → b.lists.jobs ≡ record a.lists.jobs {
           out = without_first (is_job f.parcel.session f.parcel.request) a.lists.jobs.out;
         })
         → (went ≡ false → (b ≡ a) × (now ≡ before)
         × (find (is_job f.parcel.session f.parcel.request) a.lists.jobs.out ≡ None))
-        → MakesFinished facts whole answer out later worked rest a b before now
+        → MakesFinished log answer out later worked rest a b before now
     finished-turn b before now true room done names none =
         let made = done refl in
         record {

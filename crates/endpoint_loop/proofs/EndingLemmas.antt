@@ -33,7 +33,7 @@ use Rattle.rpc_laws.specs.Requests.{in_slot_of, is_server}
 use Rattle.rpc_laws.specs.ServerTable.{flushes, flushes_older}
 use Rattle.rpc_laws.specs.Steps.{Goes}
 use Rattle.node_laws.specs.Valid.{SoundServer}
-use Rattle.rpc_outside.specs.Recording.{Grew}
+use Rattle.rpc_outside.specs.Recording.{Grew, Log}
 use Rattle.node_laws.proofs.Allowed.{MayLeave, NoneOlder, NoneQueued}
 use Rattle.node_laws.proofs.FlushLemmas.{no-more-same, slots-flushed}
 use Rattle.node_laws.proofs.KeptLemmas.{kept-after}
@@ -338,11 +338,11 @@ module _ (me : ℕ) (limits : Limits) (tallies : Tallies) (paces : List Pace) (j
       buffers = places ∙ fits.buffers;
     }
 
-    pub node-ended : {R : Type 0} (facts : R → Option (List Fact)) (whole : R → Bool)
+    pub node-ended : {R : Type 0} (log : R → Log)
         (before now : R) (n : ℕ) → n ≡ v.way.number
-        → Grew facts whole before now (plain me (Ended n) ∷ [])
-        → Makes facts whole (Notes (leaving i)) (seen s) (seen t) before now
-    node-ended facts whole before now n same grew = record {
+        → Grew (log before) (log now) (plain me (Ended n) ∷ [])
+        → Makes log (Notes (leaving i)) (seen s) (seen t) before now
+    node-ended log before now n same grew = record {
       noted = ended ∷ [];
       grew = rw (← same) grew;
       step = λ asks. record {
@@ -352,14 +352,14 @@ module _ (me : ℕ) (limits : Limits) (tallies : Tallies) (paces : List Pace) (j
     }
 
 -- its replies were taken out, and then it ended
-pub ended-whole : {R : Type 0} (facts : R → Option (List Fact)) (whole : R → Bool) (i : ℕ)
+pub ended-whole : {R : Type 0} (log : R → Log) (i : ℕ)
     (a b c : Timed) (f g h : R) → b.lists.servers ≡ a.lists.servers → b.lists.me ≡ a.lists.me
-    → Makes facts whole (Notes (flushing_slots i 8)) a b f g
-    → Makes facts whole (Notes (leaving i)) b c g h
+    → Makes log (Notes (flushing_slots i 8)) a b f g
+    → Makes log (Notes (leaving i)) b c g h
     → (slice_get a.lists.servers i ≡ None → ⊥)
-    → Makes facts whole (Notes (ending i)) a c f h
-ended-whole facts whole i a b c f g h servers me p q there =
-    makes-notes facts whole (flushing_slots i 8) (leaving i) (ending i) a b c f g h
+    → Makes log (Notes (ending i)) a c f h
+ended-whole log i a b c f g h servers me p q there =
+    makes-notes log (flushing_slots i 8) (leaving i) (ending i) a b c f g h
     (λ asks. by asks (slice_get a.lists.servers i) refl) p q
   where
     by : (asks : Asks) (o : Option Server) → slice_get a.lists.servers i ≡ o
@@ -381,14 +381,14 @@ server-there servers i within = by (slice_get servers i) refl
     by (Some v) e = record { server = v; place = e }
 
 -- one slot of a node
-module _ {R : Type 0} (facts : R → Option (List Fact)) (whole : R → Bool) (i slot : ℕ) (a : Timed)
+module _ {R : Type 0} (log : R → Log) (i slot : ℕ) (a : Timed)
     (within : i < length a.lists.servers) where
   pub slot-flushed : (b : Timed) (f g : R) (owner : Owner)
       → IfSome (slice_get a.lists.servers i) (λ v. Some owner ≡ slot_owner slot v)
-      → Makes facts whole (Notes (flushing owner)) a b f g
-      → Makes facts whole (Notes (flushing_slot i slot)) a b f g
+      → Makes log (Notes (flushing owner)) a b f g
+      → Makes log (Notes (flushing_slot i slot)) a b f g
   slot-flushed b f g owner own p =
-      makes-as facts whole (Notes (flushing owner)) (Notes (flushing_slot i slot)) a b f g
+      makes-as log (Notes (flushing owner)) (Notes (flushing_slot i slot)) a b f g
       (λ asks x s. record {
         facts = s.facts ∙ sym (slot-some a.lists.me a.lists.queued slot owner
             (slice_get a.lists.servers i) (slice_get-some a.lists.servers i within) own);
@@ -396,10 +396,10 @@ module _ {R : Type 0} (facts : R → Option (List Fact)) (whole : R → Bool) (i
       }) p
 
   pub slot-idle : (f : R) → IfSome (slice_get a.lists.servers i) (λ v. None ≡ slot_owner slot v)
-      → Makes facts whole (Notes (flushing_slot i slot)) a a f f
+      → Makes log (Notes (flushing_slot i slot)) a a f f
   slot-idle f own = record {
     noted = [];
-    grew = grew-none facts whole f;
+    grew = grew-none log f;
     step = λ asks. record {
       facts = sym (slot-none a.lists.me a.lists.queued slot (slice_get a.lists.servers i) own);
       goes = refl;
@@ -407,29 +407,29 @@ module _ {R : Type 0} (facts : R → Option (List Fact)) (whole : R → Bool) (i
   }
 
 -- all slots
-module _ {R : Type 0} (facts : R → Option (List Fact)) (whole : R → Bool) (i : ℕ) where
-  pub flushes-none : (a : Timed) (f : R) → Makes facts whole (FlushesFirst i 0) a a f f
+module _ {R : Type 0} (log : R → Log) (i : ℕ) where
+  pub flushes-none : (a : Timed) (f : R) → Makes log (FlushesFirst i 0) a a f f
   flushes-none a f = record {
     noted = [];
-    grew = grew-none facts whole f;
+    grew = grew-none log f;
     step = λ asks. flushes-no-slot i (asking asks a);
   }
 
   pub flushes-more : (n : ℕ) (a b c : Timed) (f g h : R) → n < 8
-      → Makes facts whole (FlushesFirst i n) a b f g
-      → Makes facts whole (Notes (flushing_slot i n)) b c g h
-      → Makes facts whole (FlushesFirst i (n + 1)) a c f h
+      → Makes log (FlushesFirst i n) a b f g
+      → Makes log (Notes (flushing_slot i n)) b c g h
+      → Makes log (FlushesFirst i (n + 1)) a c f h
   flushes-more n a b c f g h within p q =
-      makes-join facts whole (FlushesFirst i n) (Notes (flushing_slot i n)) (FlushesFirst i (n + 1))
+      makes-join log (FlushesFirst i n) (Notes (flushing_slot i n)) (FlushesFirst i (n + 1))
       a b c f g h
       (λ asks x y s t. flushes-slot i n (asking asks a) (asking asks b) (asking asks c) x y within s
       t) p q
 
   pub all-flushed : (n : ℕ) (a b : Timed) (f g : R) → n ≡ 8
-      → Makes facts whole (FlushesFirst i n) a b f g
-      → Makes facts whole (Notes (flushing_slots i 8)) a b f g
+      → Makes log (FlushesFirst i n) a b f g
+      → Makes log (Notes (flushing_slots i 8)) a b f g
   all-flushed n a b f g last p =
-      makes-as facts whole (FlushesFirst i n) (Notes (flushing_slots i 8)) a b f g
+      makes-as log (FlushesFirst i n) (Notes (flushing_slots i 8)) a b f g
       (λ asks x s. record {
         facts = s.facts ∙ ap (λ m. flushing_slots i m (asking asks a)) last;
         goes = s.goes;
@@ -437,7 +437,7 @@ module _ {R : Type 0} (facts : R → Option (List Fact)) (whole : R → Bool) (i
 
   pub drained-whole : (n : ℕ) (a b : Timed) (f g : R) → n ≡ 8
       → AllByRecursion SoundServer a.lists.servers → b.lists.servers ≡ a.lists.servers
-      → Makes facts whole (FlushesFirst i n) a b f g
+      → Makes log (FlushesFirst i n) a b f g
       → IfSome (slice_get b.lists.servers i) (IsDrained b.lists.queued)
   drained-whole n a b f g last served same p =
       let made = all-flushed n a b f g last p in

@@ -1,9 +1,9 @@
 -- An end of a pair is made, or refused.
-use Rattle.std.proofs.Common.{◌≡◌, ℕ, Bool, Option, Some, None, List, [], ◌∷◌, length, sym, ap, ◌∙◌}
+use Rattle.std.proofs.Common.{◌≡◌, ℕ, Option, Some, None, [], ◌∷◌, length, sym, ap, ◌∙◌}
 use Rattle.std.specs.Prelude.{IfSome, IsSome}
+use Rattle.rpc_outside.specs.Recording.{Log}
 use Rattle.rpc_base.specs.declared.event.Event.{Event}
 use Rattle.rpc_base.specs.declared.event.Event.TheVariants.{PairedClient, PairedServer}
-use Rattle.rpc_base.specs.declared.fact.Fact.{Fact}
 use Rattle.rpc_laws.specs.declared.tables.Timed.{Timed}
 use Rattle.rpc_laws.specs.Facts.{plain}
 use Rattle.rpc_laws.specs.Groups.{client_refusal, server_refusal}
@@ -14,11 +14,11 @@ use Rattle.endpoint_loop.specs.Noting.{Makes}
 some-event : (a b : Event) → Some a ≡ Some b → a ≡ b
 some-event a b h = cc
 
-module _ {R : Type 0} (facts : R → Option (List Fact)) (whole : R → Bool) (a b : Timed) (f g : R)
+module _ {R : Type 0} (log : R → Log) (a b : Timed) (f g : R)
     (peer other credits : ℕ) where
   pub client-refused : (o : Option Event) → client_refusal credits a.lists ≡ o → IsSome o
-      → IfSome o (λ event. Makes facts whole (Refuses event) a a f g)
-      → Makes facts whole (PairsClient peer other credits) a a f g
+      → IfSome o (λ event. Makes log (Refuses event) a a f g)
+      → Makes log (PairsClient peer other credits) a a f g
   client-refused None e some makes = cc
   client-refused (Some event) e some makes = record {
     noted = makes.noted;
@@ -31,8 +31,8 @@ module _ {R : Type 0} (facts : R → Option (List Fact)) (whole : R → Bool) (a
   }
 
   pub client-made : client_refusal credits a.lists ≡ None
-      → Makes facts whole (NotesNext (λ s. Some (PairedClient (length s.clients) peer other credits)))
-      a b f g → Makes facts whole (PairsClient peer other credits) a b f g
+      → Makes log (NotesNext (λ s. Some (PairedClient (length s.clients) peer other credits)))
+      a b f g → Makes log (PairsClient peer other credits) a b f g
   client-made e makes = record {
     noted = makes.noted;
     grew = makes.grew;
@@ -48,8 +48,8 @@ module _ {R : Type 0} (facts : R → Option (List Fact)) (whole : R → Bool) (a
   }
 
   pub server-refused : (o : Option Event) → server_refusal credits a.lists ≡ o → IsSome o
-      → IfSome o (λ event. Makes facts whole (Refuses event) a a f g)
-      → Makes facts whole (PairsServer peer other credits) a a f g
+      → IfSome o (λ event. Makes log (Refuses event) a a f g)
+      → Makes log (PairsServer peer other credits) a a f g
   server-refused None e some makes = cc
   server-refused (Some event) e some makes = record {
     noted = makes.noted;
@@ -62,8 +62,8 @@ module _ {R : Type 0} (facts : R → Option (List Fact)) (whole : R → Bool) (a
   }
 
   pub server-made : server_refusal credits a.lists ≡ None
-      → Makes facts whole (NotesNext (λ s. Some (PairedServer s.server_numbers peer other credits)))
-      a b f g → Makes facts whole (PairsServer peer other credits) a b f g
+      → Makes log (NotesNext (λ s. Some (PairedServer s.server_numbers peer other credits)))
+      a b f g → Makes log (PairsServer peer other credits) a b f g
   server-made e makes = record {
     noted = makes.noted;
     grew = makes.grew;

@@ -36,7 +36,7 @@ use Rattle.rpc_laws.specs.NodeLists.{after, one_more}
 use Rattle.rpc_laws.specs.PollOrder.{awaited, awaited_of, finished_facts, is_working}
 use Rattle.rpc_laws.specs.Queues.{put_queued, replies}
 use Rattle.rpc_laws.specs.Requests.{answered, is_request, is_server, request_of}
-use Rattle.rpc_outside.specs.Recording.{Grew}
+use Rattle.rpc_outside.specs.Recording.{Grew, Log}
 use Rattle.rpc_outside.specs.declared.service.Mode.{Mode}
 use Rattle.rpc_outside.specs.declared.service.Mode.TheVariants.{Background, Unserved}
 use Rattle.node_laws.specs.Kept.{Kept}
@@ -425,13 +425,13 @@ module _ (me : ℕ) (limits : Limits) (tallies : Tallies) (paces : List Pace) (j
           buffers = rw left (places ∙ fits.buffers);
         }
 
-        pub node-unposted : {R : Type 0} (facts : R → Option (List Fact)) (whole : R → Bool)
+        pub node-unposted : {R : Type 0} (log : R → Log)
             (before now : R) (first second : List ℕ) → first ≡ bytes_of p.ask → second ≡ bytes
-            → Grew facts whole before now
+            → Grew (log before) (log now)
             (with_two me (Ran session request job.req_type) first second ∷ [])
-            → MakesWhere facts whole (AsksOf p) (FinishesWith session request bytes)
+            → MakesWhere log (AsksOf p) (FinishesWith session request bytes)
             (seen_with jobs) (next_with later) before now
-        node-unposted facts whole before now first second is_first is_second grew = record {
+        node-unposted log before now first second is_first is_second grew = record {
           noted = ran first ∷ [];
           grew = rw (← is_second) grew;
           step = λ asks asked. record {
@@ -522,18 +522,18 @@ module _ (me : ℕ) (limits : Limits) (tallies : Tallies) (paces : List Pace) (j
               ap (λ (o : Option Served). awaited_of o) here
               ∙ number-awaited e.number (find (is_request request) w.server.slots) w.waited w.last
 
-          pub node-answered : {R : Type 0} (facts : R → Option (List Fact)) (whole : R → Bool)
+          pub node-answered : {R : Type 0} (log : R → Log)
               (before between now : R) (first second : List ℕ) (number : ℕ) → first ≡ bytes_of p.ask
               → second ≡ bytes → number ≡ e.number
-              → Grew facts whole before between
+              → Grew (log before) (log between)
               (with_two me (Ran session request job.req_type) first second ∷ [])
-              → Grew facts whole between now (plain me (Posted (Reply session request) number) ∷ [])
-              → MakesWhere facts whole (AsksOf p) (FinishesWith session request bytes)
+              → Grew (log between) (log now) (plain me (Posted (Reply session request) number) ∷ [])
+              → MakesWhere log (AsksOf p) (FinishesWith session request bytes)
               (seen_with jobs) (next_with later) before now
-          node-answered facts whole before between now first second number is_first is_second
+          node-answered log before between now first second number is_first is_second
               is_number one two = record {
                 noted = ran first ∷ posted ∷ [];
-                grew = grew-then facts whole before between now (ran first ∷ []) (posted ∷ [])
+                grew = grew-then log before between now (ran first ∷ []) (posted ∷ [])
                     (rw (← is_second) one) (rw (← is_number) two);
                 step = λ asks asked. record {
                   job = with_ask asks job;

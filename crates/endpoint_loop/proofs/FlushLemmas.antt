@@ -18,7 +18,7 @@ use Rattle.rpc_base.proofs.LeastLemmas.{least-none, least-same, none-passes}
 use Rattle.rpc_base.proofs.TakingLemmas.{find-passes}
 use Rattle.packet_rings.specs.Rings.{Ring}
 use Rattle.packet_rings.specs.Values.{DatagramValue}
-use Rattle.rpc_outside.specs.Recording.{Grew}
+use Rattle.rpc_outside.specs.Recording.{Grew, Log}
 use Rattle.rpc_laws.specs.declared.tables.Jobs.{Jobs}
 use Rattle.rpc_laws.specs.declared.tables.Pace.{Pace}
 use Rattle.rpc_laws.specs.declared.tables.Queued.{Queued}
@@ -239,11 +239,11 @@ module _ (me : ℕ) (limits : Limits) (tallies : Tallies) (paces : List Pace) (j
       buffers = places ∙ fits.buffers;
     }
 
-    pub node-flushed : {R : Type 0} (facts : R → Option (List Fact)) (whole : R → Bool)
+    pub node-flushed : {R : Type 0} (log : R → Log)
         (before now : R) (o : Owner) (k : ℕ) → o ≡ owner → k ≡ q.number
-        → Grew facts whole before now (plain me (Flushed o k) ∷ [])
-        → Makes facts whole (FlushesSome owner) (seen s) (seen t) before now
-    node-flushed facts whole before now o k same number grew = record {
+        → Grew (log before) (log now) (plain me (Flushed o k) ∷ [])
+        → Makes log (FlushesSome owner) (seen s) (seen t) before now
+    node-flushed log before now o k same number grew = record {
       noted = flushed ∷ [];
       grew = rw (← same, ← number) grew;
       step = λ asks. record {
@@ -254,12 +254,12 @@ module _ (me : ℕ) (limits : Limits) (tallies : Tallies) (paces : List Pace) (j
     }
 
 -- one packet after another
-module _ {R : Type 0} (facts : R → Option (List Fact)) (whole : R → Bool) (owner : Owner) where
-  pub flushed-more : (a b c : Timed) (f g h : R) → Makes facts whole (FlushesSome owner) a b f g
-      → Makes facts whole (FlushesSome owner) b c g h → Makes facts whole (FlushesSome owner) a c f
+module _ {R : Type 0} (log : R → Log) (owner : Owner) where
+  pub flushed-more : (a b c : Timed) (f g h : R) → Makes log (FlushesSome owner) a b f g
+      → Makes log (FlushesSome owner) b c g h → Makes log (FlushesSome owner) a c f
       h
   flushed-more a b c f g h p q =
-      makes-join facts whole (FlushesSome owner) (FlushesSome owner) (FlushesSome owner) a b c f g h
+      makes-join log (FlushesSome owner) (FlushesSome owner) (FlushesSome owner) a b c f g h
       (λ asks x y s t. record {
         facts = append_assoc x y _
             ∙ ap (λ m. x ++ (y ++ flush_facts m c.lists.queued owner))
@@ -271,10 +271,10 @@ module _ {R : Type 0} (facts : R → Option (List Fact)) (whole : R → Bool) (o
       }) p q
 
   pub flushed-all : (a b : Timed) (f g : R) → list_any (is_owned owner) b.lists.queued ≡ false
-      → Makes facts whole (FlushesSome owner) a b f g
-      → Makes facts whole (Notes (flushing owner)) a b f g
+      → Makes log (FlushesSome owner) a b f g
+      → Makes log (Notes (flushing owner)) a b f g
   flushed-all a b f g none p =
-      makes-as facts whole (FlushesSome owner) (Notes (flushing owner)) a b f g
+      makes-as log (FlushesSome owner) (Notes (flushing owner)) a b f g
       (λ asks x s. record {
         facts = sym (append-nil x)
             ∙ ap (λ ks. x ++ map (λ k. plain a.lists.me (Flushed owner k)) ks)

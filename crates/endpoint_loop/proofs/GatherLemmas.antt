@@ -7,6 +7,7 @@ use Rattle.std.specs.Prelude.{filter, is_some}
 use Rattle.std.specs.List.{AllByRecursion, find, flat_map}
 use Rattle.std.proofs.lemmas.Bool.{and_parts, eq-eqb, eqb-false, ne_eqb}
 use Rattle.std.proofs.lemmas.Bool.Decides.{nat_tests}
+use Rattle.rpc_outside.specs.Recording.{Log}
 use Rattle.rpc_base.specs.Owners.{same_owner}
 use Rattle.rpc_base.specs.Tables.{without_first}
 use Rattle.rpc_base.specs.declared.fact.Fact.{Fact}
@@ -270,11 +271,11 @@ more-facts i after active me cs now later x y total order few told sum facts lef
     ∙ ap (λ fs. x ++ (fs ++ from F (Some d.what.number) cs)) (sym own)
     ∙ ap (λ fs. x ++ fs) (sym next) ∙ sum
 
-module _ {R : Type 0} (facts : R → Option (List Fact)) (whole : R → Bool) (i : ℕ) where
-  pub gather-start : (a : Timed) (f : R) → Makes facts whole (FlushesFrom i None) a a f f
+module _ {R : Type 0} (log : R → Log) (i : ℕ) where
+  pub gather-start : (a : Timed) (f : R) → Makes log (FlushesFrom i None) a a f f
   gather-start a f = record {
     noted = [];
-    grew = grew-none facts whole f;
+    grew = grew-none log f;
     step =
         λ asks. record {
           facts = from-all (flushes a.lists.me i a.lists.queued) (calls_at i a);
@@ -285,10 +286,10 @@ module _ {R : Type 0} (facts : R → Option (List Fact)) (whole : R → Bool) (i
 
   pub gather-over : (after : Option ℕ) (a b : Timed) (f g : R)
       → find (is_next after) (calls_at i a) ≡ None
-      → Makes facts whole (FlushesFrom i after) a b f g
-      → Makes facts whole (Notes (flushing_all i)) a b f g
+      → Makes log (FlushesFrom i after) a b f g
+      → Makes log (Notes (flushing_all i)) a b f g
   gather-over after a b f g none p =
-      makes-as facts whole (FlushesFrom i after) (Notes (flushing_all i)) a b f g
+      makes-as log (FlushesFrom i after) (Notes (flushing_all i)) a b f g
       (λ asks x s. record {
         facts = sym (append-nil x)
             ∙ ap (λ fs. x ++ fs)
@@ -308,11 +309,11 @@ module _ {R : Type 0} (facts : R → Option (List Fact)) (whole : R → Bool) (i
 
   pub gather-more : (after : Option ℕ) (active : Active) (a b c : Timed) (f g h : R)
       → Ascends (calls_at i a) → ((slot : ℕ) → in_slot slot (calls_at i a) ≤ 1)
-      → Told after (calls_at i a) active → Makes facts whole (FlushesFrom i after) a b f g
-      → Makes facts whole (Notes (flushing (Ask i active.request))) b c g h
-      → Makes facts whole (FlushesFrom i (Some active.call)) a c f h
+      → Told after (calls_at i a) active → Makes log (FlushesFrom i after) a b f g
+      → Makes log (Notes (flushing (Ask i active.request))) b c g h
+      → Makes log (FlushesFrom i (Some active.call)) a c f h
   gather-more after active a b c f g h order few told p q =
-      makes-join facts whole (FlushesFrom i after) (Notes (flushing (Ask i active.request)))
+      makes-join log (FlushesFrom i after) (Notes (flushing (Ask i active.request)))
       (FlushesFrom i (Some active.call)) a b c f g h
       (λ asks x y s t. record {
         facts =

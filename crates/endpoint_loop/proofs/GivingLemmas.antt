@@ -9,12 +9,12 @@ use Rattle.std.proofs.lemmas.Bool.{eq-eqb, leb-false}
 use Rattle.std.proofs.lemmas.List.{map-append}
 use Rattle.std.proofs.lemmas.List.Sorted.{sum_by-IsPermutation}
 use Rattle.std.proofs.lemmas.List.Sums.{sum_by-append, sum_by-cons}
+use Rattle.rpc_outside.specs.Recording.{Log}
 use Rattle.client_core.specs.Shown.{done_fact}
 use Rattle.client_core.specs.declared.outcome.Done.{Done}
 use Rattle.message_buffer.specs.Buffer.{bytes_of}
 use Rattle.packet_header.specs.Parts.{IsMessage}
 use Rattle.packet_rings.specs.Values.{DatagramValue}
-use Rattle.rpc_base.specs.declared.fact.Fact.{Fact}
 use Rattle.rpc_base.specs.declared.limits.TheConstants.{MOST_GIVEN}
 use Rattle.rpc_base.proofs.BasicLemmas.{or-false}
 use Rattle.rpc_base.proofs.FirstLemmas.{all-both, all-push, counted-none}
@@ -26,7 +26,7 @@ use Rattle.rpc_laws.specs.PollOrder.{Handles, HandlesAll, NoMoreToHandle}
 use Rattle.rpc_laws.specs.Service.{Serving, served_after_all}
 use Rattle.rpc_laws.specs.Steps.{Rel, Chain, none, more}
 use Rattle.rpc_laws.proofs.AnswerLemmas.{answers-append, served-append}
-use Rattle.rpc_outside.specs.Served.{Served}
+use Rattle.rpc_outside.specs.Served.{Served, StandsForSome}
 use Rattle.rpc_outside.specs.declared.service.Mode.TheVariants.{Background}
 use Rattle.node_laws.specs.Kept.{Kept}
 use Rattle.node_laws.specs.Valid.{jobs_of}
@@ -35,7 +35,7 @@ use Rattle.worker_board.specs.declared.Parcel.{Parcel}
 use Rattle.worker_crew.specs.Jobs.{HasRoom, IsFull, Job as CrewJob, job_of}
 use Rattle.endpoint_loop.proofs.GivenLemmas.{gave-none, gave-then}
 use Rattle.endpoint_loop.specs.Finishing.{AreStaffed, CanFinish, Staff, asked_job}
-use Rattle.endpoint_loop.specs.Handling.{HandlesWith, MakesAllHandled, MakesHandled, StandsForSome}
+use Rattle.endpoint_loop.specs.Handling.{HandlesWith, MakesAllHandled, MakesHandled}
 use Rattle.endpoint_loop.specs.Handling.{WorksFor, with_all_given}
 use Rattle.endpoint_loop.specs.Noting.{is_end}
 use Rattle.endpoint_loop.specs.Seen.{Asks, arrival_of, asking, with_ask}
@@ -264,11 +264,11 @@ ring-fewer {A} [] ys some is = absurd (some refl)
 ring-fewer {A} (x ∷ xs) ys some is = rw is (omega arith)
 
 -- what holds once a packet is handled
-module _ {R K : Type 0} (facts : R → Option (List Fact)) (whole : R → Bool)
+module _ {R K : Type 0} (log : R → Log)
     (given : K → List Done → Type 0) (v : Serving) where
   pub me-handled : (stands then_stands : Served → Type 0) (o : Option Parcel) (a b : Timed)
       (f g : R) (j k : K)
-      → MakesHandled facts whole given v stands then_stands (Handles v.mode) o a b f g j k
+      → MakesHandled log given v stands then_stands (Handles v.mode) o a b f g j k
       → b.lists.me ≡ a.lists.me
   me-handled stands then_stands o a b f g j k h =
       let asks = asks-of o in
@@ -277,20 +277,20 @@ module _ {R K : Type 0} (facts : R → Option (List Fact)) (whole : R → Bool)
 
   pub still-founded : (stands then_stands : Served → Type 0) (o : Option Parcel) (a b : Timed)
       (f g : R) (j k : K)
-      → MakesHandled facts whole given v stands then_stands (Handles v.mode) o a b f g j k
+      → MakesHandled log given v stands then_stands (Handles v.mode) o a b f g j k
       → StandsForSome stands → StandsForSome then_stands
   still-founded stands then_stands o a b f g j k h founded = (
     served_after_all v.mode founded.0 h.serves.makes.noted,
     (h.serves.answers founded.0 founded.1).1,
   )
 
-module _ {R K W : Type 0} (facts : R → Option (List Fact)) (whole : R → Bool)
+module _ {R K W : Type 0} (log : R → Log)
     (given : K → List Done → Type 0) (staff : W → Staff) (v : Serving)
     (answer : ℕ → List ℕ → List ℕ) where
   -- a packet of which no job is made
   pub handled-none : (stands then_stands : Served → Type 0) (a b : Timed) (f g : R) (j k : K)
-      (w : W) → MakesHandled facts whole given v stands then_stands (Handles v.mode) None a b f g j k
-      → MakesAllHandled facts whole given staff v stands then_stands answer (Handles v.mode) a b f g
+      (w : W) → MakesHandled log given v stands then_stands (Handles v.mode) None a b f g j k
+      → MakesAllHandled log given staff v stands then_stands answer (Handles v.mode) a b f g
       j k w w
   handled-none stands then_stands a b f g j k w h = record {
     noted = h.serves.makes.noted;
@@ -313,7 +313,7 @@ module _ {R K W : Type 0} (facts : R → Option (List Fact)) (whole : R → Bool
   -- a packet of which a job is made, that the workers take
   module _ (stands then_stands : Served → Type 0) (p : Parcel) (a b : Timed) (f g : R) (j k : K)
       (w x : W)
-      (h : MakesHandled facts whole given v stands then_stands (Handles v.mode) (Some p) a b f g j k)
+      (h : MakesHandled log given v stands then_stands (Handles v.mode) (Some p) a b f g j k)
       (kept : Kept b.lists) (room : HasRoom answer p) where
     taken-with : (asks : Asks) → AreStaffed answer asks (staff w) a
         → IsPermutation (job_of p ∷ (staff w).out) (staff x).out
@@ -349,7 +349,7 @@ module _ {R K W : Type 0} (facts : R → Option (List Fact)) (whole : R → Bool
         absurd (not-full answer asks (staff w) a staffed h.serves.vacant (gave.0.0 refl))
 
     pub handled-some : (r : Result (Unit {0}) Parcel) → Gave r
-        → MakesAllHandled facts whole given staff v stands then_stands answer (Handles v.mode) a b
+        → MakesAllHandled log given staff v stands then_stands answer (Handles v.mode) a b
         f g j k w x
     handled-some r gave = record {
       noted = h.serves.makes.noted;
@@ -366,10 +366,10 @@ module _ {R K W : Type 0} (facts : R → Option (List Fact)) (whole : R → Bool
 
   -- turns, one after another
   pub all-handled-none : (stands : Served → Type 0) (P : Rel) (a : Timed) (f : R) (j : K) (w : W)
-      → MakesAllHandled facts whole given staff v stands stands answer (Chain P) a a f f j j w w
+      → MakesAllHandled log given staff v stands stands answer (Chain P) a a f f j j w w
   all-handled-none stands P a f j w = record {
     noted = [];
-    grew = grew-none facts whole f;
+    grew = grew-none log f;
     answers = λ served before. (tt, before);
     gave = [];
     background = tt;
@@ -387,12 +387,12 @@ module _ {R K W : Type 0} (facts : R → Option (List Fact)) (whole : R → Bool
 
   pub all-handled-more : (one two three : Served → Type 0) (P : Rel) (a b c : Timed) (f g h : R)
       (j k l : K) (w x y : W) → b.lists.me ≡ a.lists.me
-      → MakesAllHandled facts whole given staff v one two answer (Chain P) a b f g j k w x
-      → MakesAllHandled facts whole given staff v two three answer P b c g h k l x y
-      → MakesAllHandled facts whole given staff v one three answer (Chain P) a c f h j l w y
+      → MakesAllHandled log given staff v one two answer (Chain P) a b f g j k w x
+      → MakesAllHandled log given staff v two three answer P b c g h k l x y
+      → MakesAllHandled log given staff v one three answer (Chain P) a c f h j l w y
   all-handled-more one two three P a b c f g h j k l w x y me p q = record {
     noted = p.noted ++ q.noted;
-    grew = grew-then facts whole f g h p.noted q.noted p.grew q.grew;
+    grew = grew-then log f g h p.noted q.noted p.grew q.grew;
     answers = λ served before.
         let first = p.answers served before in
         let second = q.answers (served_after_all v.mode served p.noted) first.1 in (
@@ -425,9 +425,9 @@ module _ {R K W : Type 0} (facts : R → Option (List Fact)) (whole : R → Bool
   -- until no more can be handled
   pub all-handled-over : (stands then_stands : Served → Type 0) (a b : Timed) (f g : R) (j k : K)
       (w x : W) → NoMoreToHandle b
-      → MakesAllHandled facts whole given staff v stands then_stands answer (Chain (Handles v.mode))
+      → MakesAllHandled log given staff v stands then_stands answer (Chain (Handles v.mode))
       a b f g j k w x
-      → MakesAllHandled facts whole given staff v stands then_stands answer (HandlesAll v.mode) a b
+      → MakesAllHandled log given staff v stands then_stands answer (HandlesAll v.mode) a b
       f g j k w x
   all-handled-over stands then_stands a b f g j k w x over p = record {
     noted = p.noted;

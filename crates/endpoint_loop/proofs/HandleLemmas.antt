@@ -4,6 +4,7 @@ use Rattle.std.proofs.Common.{◌≡◌, ◌≢◌, ◌<◌, ℕ, Bool, true, fa
 use Rattle.std.proofs.Common.{◌∷◌, ◌++◌, map, drop, length, refl, sym, ap, subst, ◌∙◌, inl, inr}
 use Rattle.std.specs.Prelude.{◌⊎◌, is_none, is_some, option_to_list, slice_get}
 use Rattle.std.specs.List.{AllByRecursion, filter, find}
+use Rattle.rpc_outside.specs.Recording.{Log}
 use Rattle.client_core.specs.Shown.{done_fact}
 use Rattle.client_core.specs.declared.outcome.Done.{Done}
 use Rattle.message_buffer.specs.Buffer.{bytes_of}
@@ -203,14 +204,14 @@ pub asks-as : (job : Option Parcel) → AsksAs job (asks-of job)
 asks-as None = tt
 asks-as (Some p) = refl
 
-module _ {R K : Type 0} (facts : R → Option (List Fact)) (whole : R → Bool)
+module _ {R K : Type 0} (log : R → Log)
     (given : K → List Done → Type 0) (v : Serving) (stands : Served → Type 0) (h : MessageHeader)
     (a b : Timed) (before now : R) (front : front_header a.lists.ring ≡ Some h)
     (room : replies a.lists.queued < a.lists.room) where
   pub node-replies : (o : Option Done) (from to : K) → is_asking h.kind ≡ false
-      → Makes facts whole (HearsReply h o) a b before now → b.lists.jobs ≡ a.lists.jobs
+      → Makes log (HearsReply h o) a b before now → b.lists.jobs ≡ a.lists.jobs
       → Gave given from to (option_to_list o)
-      → MakesHandled facts whole given v stands stands (Handles v.mode) None a b before now from to
+      → MakesHandled log given v stands stands (Handles v.mode) None a b before now from to
   node-replies o from to replying makes jobs gave =
       let first = makes.step no-asks in
       let over : IsOver makes.noted = subst IsOver (sym first.facts)
@@ -253,8 +254,8 @@ module _ {R K : Type 0} (facts : R → Option (List Fact)) (whole : R → Bool)
 
   pub node-requests : (then_stands : Served → Type 0) (job : Option Parcel) (from to : K)
       → is_asking h.kind ≡ true → to ≡ from
-      → MakesServed facts whole v stands then_stands (ServesRequest v.mode h) job a b before now
-      → MakesHandled facts whole given v stands then_stands (Handles v.mode) job a b before now from to
+      → MakesServed log v stands then_stands (ServesRequest v.mode h) job a b before now
+      → MakesHandled log given v stands then_stands (Handles v.mode) job a b before now from to
   node-requests then_stands job from to asks-it same served =
       let one = served.makes.step (asks-of job) (asks-as job) in
       record {

@@ -51,7 +51,7 @@ use Rattle.rpc_laws.specs.PollOrder.{replies_facts}
 use Rattle.rpc_laws.specs.Queues.{is_queued}
 use Rattle.rpc_laws.specs.Sessions.{is_client, is_connected, has_call, ends, takes}
 use Rattle.rpc_laws.specs.Sessions.{clients_after}
-use Rattle.rpc_outside.specs.Recording.{Grew}
+use Rattle.rpc_outside.specs.Recording.{Grew, Log}
 use Rattle.node_laws.specs.Kept.{IsPacket, Kept}
 use Rattle.node_laws.specs.Valid.{client_no, holders}
 use Rattle.node_laws.proofs.Allowed.{AllAllowed, allowed-of}
@@ -214,11 +214,11 @@ module _ (me : ℕ) (limits : Limits) (tallies : Tallies) (paces : List Pace) (j
         → AllAllowed clock old x
     all-allowed x is = rw (is, ← body-here) (replies-allowed clock old fits.kept.valid h header d.peer)
 
-    module _ {R : Type 0} (facts : R → Option (List Fact)) (whole : R → Bool) (before now : R) where
+    module _ {R : Type 0} (log : R → Log) (before now : R) where
       dropped : (why : DropReason) (u : Timed)
           → replies_facts old d.peer h (body_of d.bytes) ≡ plain me (Dropped why) ∷ []
-          → Makes facts whole (Drops why) (seen rx s) u before now
-          → Makes facts whole (HearsReply h None) (seen rx s) u before now
+          → Makes log (Drops why) (seen rx s) u before now
+          → Makes log (HearsReply h None) (seen rx s) u before now
       dropped why u is makes = record {
         noted = makes.noted;
         grew = makes.grew;
@@ -233,8 +233,8 @@ module _ (me : ℕ) (limits : Limits) (tallies : Tallies) (paces : List Pace) (j
 
       -- where there is no such session
       pub node-unheard : (u : Timed) → length s.clients ≤ h.session
-          → Makes facts whole (Drops NoSession) (seen rx s) u before now
-          → Makes facts whole (HearsReply h None) (seen rx s) u before now
+          → Makes log (Drops NoSession) (seen rx s) u before now
+          → Makes log (HearsReply h None) (seen rx s) u before now
       node-unheard u past makes =
           let none : find (is_client h.session) s.clients ≡ None =
           sym (numbered-get client_no 0 h.session h.session s.clients
@@ -289,12 +289,12 @@ module _ (me : ℕ) (limits : Limits) (tallies : Tallies) (paces : List Pace) (j
         pub fits-dropped : Fits (seen rx t) t.size t.places
         fits-dropped = rw (unchanged, servers, queued, size, places) fits
 
-        pub node-dropped : {R : Type 0} (facts : R → Option (List Fact)) (whole : R → Bool)
-            (before now : R) (u : Timed) → Makes facts whole (Drops why) (seen rx t) u before now
-            → Makes facts whole (HearsReply h None) (seen rx s) u before now
-        node-dropped facts whole before now u makes =
-            dropped facts whole before now why u (by-row (DroppedReply why) p)
-            (subst (λ (z : Timed). Makes facts whole (Drops why) z u before now) same-node
+        pub node-dropped : {R : Type 0} (log : R → Log)
+            (before now : R) (u : Timed) → Makes log (Drops why) (seen rx t) u before now
+            → Makes log (HearsReply h None) (seen rx s) u before now
+        node-dropped log before now u makes =
+            dropped log before now why u (by-row (DroppedReply why) p)
+            (subst (λ (z : Timed). Makes log (Drops why) z u before now) same-node
             makes)
 
       -- a reply that is taken
@@ -355,11 +355,11 @@ module _ (me : ℕ) (limits : Limits) (tallies : Tallies) (paces : List Pace) (j
               buffers = rw same-size (places ∙ fits.buffers);
             }
 
-        took-as : {R : Type 0} (facts : R → Option (List Fact)) (whole : R → Bool) (before now : R)
+        took-as : {R : Type 0} (log : R → Log) (before now : R)
             (a b k : ℕ) → a ≡ h.session → b ≡ h.request → k ≡ h.number
-            → Grew facts whole before now (plain me (Took (Ask a b) k) ∷ [])
-            → Grew facts whole before now (took ∷ [])
-        took-as facts whole before now a b k session request packet grew = rw (← session, ← request, ← packet) grew
+            → Grew (log before) (log now) (plain me (Took (Ask a b) k) ∷ [])
+            → Grew (log before) (log now) (took ∷ [])
+        took-as log before now a b k session request packet grew = rw (← session, ← request, ← packet) grew
 
         goes-took : (js : Jobs) → t.clients ≡ mid.clients → seen_with js q t
             ≡ record { lists = after clock (seen_with js rx s).lists took; clock = clock }
@@ -387,13 +387,13 @@ module _ (me : ℕ) (limits : Limits) (tallies : Tallies) (paces : List Pace) (j
               (ap (λ (z : Client). z.way.other) (sym later-took))
               (ap (λ (z : Client). z.sends) (sym later-took))
 
-          pub node-took : {R : Type 0} (facts : R → Option (List Fact)) (whole : R → Bool)
+          pub node-took : {R : Type 0} (log : R → Log)
               (before now : R) (a b k : ℕ) → a ≡ h.session → b ≡ h.request → k ≡ h.number
-              → Grew facts whole before now (plain me (Took (Ask a b) k) ∷ [])
-              → Makes facts whole (HearsReply h None) (seen rx s) (seen q t) before now
-          node-took facts whole before now a b k session request packet grew = record {
+              → Grew (log before) (log now) (plain me (Took (Ask a b) k) ∷ [])
+              → Makes log (HearsReply h None) (seen rx s) (seen q t) before now
+          node-took log before now a b k session request packet grew = record {
             noted = took ∷ [];
-            grew = took-as facts whole before now a b k session request packet grew;
+            grew = took-as log before now a b k session request packet grew;
             step = λ asks. record {
               front = arrival_of d;
               is_front = is-front;
@@ -475,18 +475,18 @@ module _ (me : ℕ) (limits : Limits) (tallies : Tallies) (paces : List Pace) (j
               (ap (λ (z : Client). z.way.other) (sym later-ended))
               (ap (λ (z : Client). z.sends) (sym later-ended))
 
-          pub node-ended : {R : Type 0} (facts : R → Option (List Fact)) (whole : R → Bool)
+          pub node-ended : {R : Type 0} (log : R → Log)
               (before between now : R) (a b k : ℕ) (event : Event) (bytes : List ℕ) → a ≡ h.session
               → b ≡ h.request → k ≡ h.number → event ≡ done_event o
               → bytes ≡ end_bytes o.outcome o.resp
-              → Grew facts whole before between (plain me (Took (Ask a b) k) ∷ [])
-              → Grew facts whole between now (with_bytes me event bytes ∷ [])
-              → Makes facts whole (HearsReply h (Some o)) (seen rx s) (seen q t) before now
-          node-ended facts whole before between now a b k event bytes session request packet
+              → Grew (log before) (log between) (plain me (Took (Ask a b) k) ∷ [])
+              → Grew (log between) (log now) (with_bytes me event bytes ∷ [])
+              → Makes log (HearsReply h (Some o)) (seen rx s) (seen q t) before now
+          node-ended log before between now a b k event bytes session request packet
               is_event is_bytes one two = record {
                 noted = took ∷ done_fact me o ∷ [];
-                grew = grew-then facts whole before between now (took ∷ []) (done_fact me o ∷ [])
-                    (took-as facts whole before between a b k session request packet one)
+                grew = grew-then log before between now (took ∷ []) (done_fact me o ∷ [])
+                    (took-as log before between a b k session request packet one)
                     (rw (← is_event, ← is_bytes) two);
                 step = λ asks. record {
                   front = arrival_of d;

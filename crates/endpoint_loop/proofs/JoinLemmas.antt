@@ -1,5 +1,5 @@
 -- A client session is connected, fails or is closed, from the store to what the node notes.
-use Rattle.std.proofs.Common.{◌≡◌, ℕ, ◌+◌, ◌<◌, Bool, Option, Some, List, [], ◌∷◌}
+use Rattle.std.proofs.Common.{◌≡◌, ℕ, ◌+◌, ◌<◌, Some, List, [], ◌∷◌}
 use Rattle.std.proofs.Common.{length}
 use Rattle.std.proofs.Common.{refl, sym, ap, subst, ◌∙◌, arith}
 use Rattle.std.specs.Prelude.{IfSome, slice_get, slice_set}
@@ -27,7 +27,7 @@ use Rattle.rpc_laws.specs.Sessions.{comes_to, connects, is_client, is_connected}
 use Rattle.rpc_laws.specs.Steps.{NotesNext}
 use Rattle.node_laws.proofs.Allowed.{Allowed}
 use Rattle.node_laws.proofs.KeptLemmas.{kept-after}
-use Rattle.rpc_outside.specs.Recording.{Grew}
+use Rattle.rpc_outside.specs.Recording.{Grew, Log}
 use Rattle.session_store.specs.Changes.{ChangesAt, IsInState}
 use Rattle.session_store.specs.Ends.{Ascends}
 use Rattle.session_store.specs.Sides.{Shown}
@@ -103,7 +103,7 @@ module _ (me : ℕ) (limits : Limits) (tallies : Tallies) (paces : List Pace) (j
       buffers = places ∙ fits.buffers;
     }
 
-  module _ {R : Type 0} (facts : R → Option (List Fact)) (whole : R → Bool) (before now : R)
+  module _ {R : Type 0} (log : R → Log) (before now : R)
       (fits : Fits (seen s) s.size s.places) (i : ℕ) (servers : t.servers ≡ s.servers)
       (queued : t.queued ≡ s.queued) where
     -- it is connected
@@ -136,8 +136,8 @@ module _ (me : ℕ) (limits : Limits) (tallies : Tallies) (paces : List Pace) (j
             none_left = λ other. cc;
           }) size places
 
-      pub node-connected : Grew facts whole before now (plain me (IsConnected i n) ∷ [])
-          → Makes facts whole (NotesNext (λ l. Some (IsConnected i n))) (seen s) (seen t) before now
+      pub node-connected : Grew (log before) (log now) (plain me (IsConnected i n) ∷ [])
+          → Makes log (NotesNext (λ l. Some (IsConnected i n))) (seen s) (seen t) before now
       node-connected grew = record {
         noted = plain me (IsConnected i n) ∷ [];
         grew = grew;
@@ -180,8 +180,8 @@ module _ (me : ℕ) (limits : Limits) (tallies : Tallies) (paces : List Pace) (j
             none_left = λ other. old.none_left (ap is_connected was-connecting);
           }) size places
 
-      pub node-failed : Grew facts whole before now (plain me (FailedNoRoom i) ∷ [])
-          → Makes facts whole (NotesNext (λ l. Some (FailedNoRoom i))) (seen s) (seen t) before now
+      pub node-failed : Grew (log before) (log now) (plain me (FailedNoRoom i) ∷ [])
+          → Makes log (NotesNext (λ l. Some (FailedNoRoom i))) (seen s) (seen t) before now
       node-failed grew = record {
         noted = plain me (FailedNoRoom i) ∷ [];
         grew = grew;
@@ -224,8 +224,8 @@ module _ (me : ℕ) (limits : Limits) (tallies : Tallies) (paces : List Pace) (j
             none_left = λ other. old.none_left (ap is_connected was-closing);
           }) size places
 
-      pub node-closed : Grew facts whole before now (plain me (ClosedHeard i) ∷ [])
-          → Makes facts whole (NotesNext (λ l. Some (ClosedHeard i))) (seen s) (seen t) before now
+      pub node-closed : Grew (log before) (log now) (plain me (ClosedHeard i) ∷ [])
+          → Makes log (NotesNext (λ l. Some (ClosedHeard i))) (seen s) (seen t) before now
       node-closed grew = record {
         noted = plain me (ClosedHeard i) ∷ [];
         grew = grew;

@@ -1,11 +1,11 @@
 -- What a connect or disconnect reply does at a node, row by row of the control table.
-use Rattle.std.proofs.Common.{◌≡◌, ◌≢◌, ℕ, ◌<◌, Bool, true, false, cond, eqb, ltb, Option, Some, None}
-use Rattle.std.proofs.Common.{List, [], ◌∷◌, length, refl, sym, ap, ◌∙◌}
+use Rattle.std.proofs.Common.{◌≡◌, ◌≢◌, ℕ, ◌<◌, Bool, true, false, cond, eqb, ltb, Some, None}
+use Rattle.std.proofs.Common.{[], ◌∷◌, length, refl, sym, ap, ◌∙◌}
 use Rattle.std.specs.Prelude.{IfSome, slice_get}
 use Rattle.std.specs.List.{find}
 use Rattle.std.proofs.lemmas.Bool.{eq-eqb, ne_eqb}
+use Rattle.rpc_outside.specs.Recording.{Log}
 use Rattle.rpc_base.specs.declared.event.Event.{Event}
-use Rattle.rpc_base.specs.declared.fact.Fact.{Fact}
 use Rattle.rpc_base.specs.declared.limits.TheConstants.{MOST_CALLS}
 use Rattle.rpc_base.specs.declared.state.SessionState.{SessionState}
 use Rattle.rpc_base.specs.declared.state.SessionState.TheVariants.{Unknown, Connecting, Connected}
@@ -238,15 +238,15 @@ module _ (h : ControlHeader) (s : Timed) (i : ℕ) (within : i < length s.lists.
         ∙ open-row x.state x.way.other t (told-open x.state x.asked (λ same. other (told ∙ same)))
 
 -- an event that is noted is that of the row
-pub noted-as : {R : Type 0} (facts : R → Option (List Fact)) (whole : R → Bool) (before now : R)
+pub noted-as : {R : Type 0} (log : R → Log) (before now : R)
     (peer : ℕ) (h : ControlHeader) (s t : Timed) (row : ControlRow) (e : Event)
     → ((asks : Asks) → control_row false peer h (asking asks s).lists ≡ row)
     → None ≡ control_reply h row
     → ((asks : Asks) → control_facts (asking asks s).lists peer h row ≡ plain s.lists.me e ∷ [])
-    → Makes facts whole (NotesNext (λ l. Some e)) s t before now
-    → Makes facts whole (Controls peer h None) s t before now
-noted-as facts whole before now peer h s t row e is answer facts-are made =
-    controls-by facts whole before now peer h None s t false row is answer made.noted made.grew
+    → Makes log (NotesNext (λ l. Some e)) s t before now
+    → Makes log (Controls peer h None) s t before now
+noted-as log before now peer h s t row e is answer facts-are made =
+    controls-by log before now peer h None s t false row is answer made.noted made.grew
     (λ asks.
     let step = made.step asks in
     step.facts ∙ ap (λ (d : Event). plain s.lists.me d ∷ [])

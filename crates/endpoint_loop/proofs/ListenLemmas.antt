@@ -35,8 +35,9 @@ use Rattle.rpc_laws.proofs.RunLemmas.{after_all-append, me-after_all}
 use Rattle.node_laws.specs.Valid.{to_come}
 use Rattle.rpc_outside.specs.Faults.{HasCause, HasRisen}
 use Rattle.rpc_outside.specs.Linking.{Carried}
-use Rattle.rpc_outside.specs.Recording.{Grew}
+use Rattle.rpc_outside.specs.Recording.{Grew, Log}
 use Rattle.rpc_outside.specs.declared.service.Mode.{Mode}
+use Rattle.rpc_outside.specs.declared.link.Link as Link
 use Rattle.server_core.proofs.FlushLemmas.{grew-none, grew-then}
 use Rattle.endpoint_loop.specs.Controlling.{Controls, Spoke, was_taken}
 use Rattle.endpoint_loop.specs.Counting.{is_handled, is_sent}
@@ -47,7 +48,7 @@ use Rattle.endpoint_loop.specs.Noting.{Makes, sent_of}
 use Rattle.endpoint_loop.specs.Seen.{Asks, asking}
 use Rattle.endpoint_loop.specs.Serving.{AllServed}
 use Rattle.endpoint_loop.specs.Speaking.{CountsUnsent, HeldBack, is_unsent, Troubles}
-use Rattle.endpoint_loop.specs.Speaking.{unsent_in}
+use Rattle.endpoint_loop.specs.Speaking.{unsent_in, troubles_of}
 use Rattle.endpoint_loop.specs.declared.inbox.Heard.{Heard as HeardPacket}
 use Rattle.endpoint_loop.specs.declared.listening.Listening.{Listening}
 use Rattle.endpoint_loop.proofs.AnswerLemmas.{IsSilent, StaysBut, facts-same, row-same, row-stays}
@@ -345,24 +346,24 @@ said-sent me peer head x (Err why) nothing =
     omega (arith, all, nothing)
 
 -- Heard is noted, and then what the row notes
-pub makes-handled : {R : Type 0} (facts : R → Option (List Fact)) (whole : R → Bool) (peer : ℕ)
+pub makes-handled : {R : Type 0} (log : R → Log) (peer : ℕ)
     (h : ControlHeader) (reply : Option ControlHeader) (s t : Timed) (before mid now : R)
-    → Grew facts whole before mid (plain s.lists.me Heard ∷ [])
-    → Makes facts whole (Controls peer h reply) (unheard s) t mid now
-    → Makes facts whole (Handles peer h reply) s t before now
-makes-handled facts whole peer h reply s t before mid now grew p = record {
+    → Grew (log before) (log mid) (plain s.lists.me Heard ∷ [])
+    → Makes log (Controls peer h reply) (unheard s) t mid now
+    → Makes log (Handles peer h reply) s t before now
+makes-handled log peer h reply s t before mid now grew p = record {
   noted = plain s.lists.me Heard ∷ p.noted;
-  grew = grew-then facts whole before mid now (plain s.lists.me Heard ∷ []) p.noted grew p.grew;
+  grew = grew-then log before mid now (plain s.lists.me Heard ∷ []) p.noted grew p.grew;
   step = λ asks. handles peer h reply (asking asks s) (asking asks t) p.noted (p.step asks);
 }
 
-module _ {R L : Type 0} (facts : R → Option (List Fact)) (whole : R → Bool)
-    (sent : L → Option (List Carried)) (troubles : L → Troubles) where
+module _ {R L : Type 0} (log : R → Log)
+    (net : Link.Ghosts L) where
   module _ (hp : HeardPacket) (s t : Timed) (front : IsFront s.lists.inbox hp) where
     -- there is no answer
     pub listens-silent : (before now : R) (k : L)
-        → Makes facts whole (Handles hp.peer hp.head None) s t before now
-        → Listens facts whole sent troubles Hears
+        → Makes log (Handles hp.peer hp.head None) s t before now
+        → Listens log net Hears
         (record { heard = 1; sent = 0; failed = false }) s t before now k k
     listens-silent before now k p =
         let one = p.step no_asks in
@@ -377,15 +378,15 @@ module _ {R L : Type 0} (facts : R → Option (List Fact)) (whole : R → Bool)
               step = λ asks. hears-silent hp.peer hp.head (asking asks s) (asking asks t) p.noted
                   front.front front.is_front front.peer front.reads (p.step asks);
             };
-            took = took-none (sent k)
-                ∙ ap (λ (xs : List Carried). option_map (λ ds. ds ++ xs) (sent k))
+            took = took-none (net.sent k)
+                ∙ ap (λ (xs : List Carried). option_map (λ ds. ds ++ xs) (net.sent k))
                 (sym (handled-none hp.peer hp.head None a b p.noted one));
           };
           heard = sym (handled-one hp.peer hp.head None a b p.noted one);
           went = sym (handled-sent hp.peer hp.head None a b p.noted one);
           counts = record {
-            held = subst (λ (n : ℕ). HeldBack n (troubles k) (troubles k)) (sym own)
-                (held-none (troubles k));
+            held = subst (λ (n : ℕ). HeldBack n (troubles_of net k) (troubles_of net k)) (sym own)
+                (held-none (troubles_of net k));
             cause = refl;
           };
         }
@@ -393,13 +394,13 @@ module _ {R L : Type 0} (facts : R → Option (List Fact)) (whole : R → Bool)
     -- there is one, which is handed to the link
     pub listens-said : {E : Type 0} (r : ControlHeader) (result : Result Bool E) (me : ℕ)
         (before mid now : R) (k l : L) → AllByRecursion IsSendable t.lists.queued → me ≡ s.lists.me
-        → Makes facts whole (Handles hp.peer hp.head (Some r)) s t before mid
-        → Spoke facts whole sent me hp.peer r (was_taken result) mid now k l
-        → HasCause (troubles k).faults (troubles l).faults result
-        → IfOk result (λ went. went ≡ false → HasRisen (troubles k).busies (troubles l).busies)
-        → IfOk result (λ went. went ≡ true → (troubles l).busies ≡ (troubles k).busies)
-        → OnErr result ((troubles l).busies ≡ (troubles k).busies)
-        → Listens facts whole sent troubles Hears (told_of result) s t before now k l
+        → Makes log (Handles hp.peer hp.head (Some r)) s t before mid
+        → Spoke log net.sent me hp.peer r (was_taken result) mid now k l
+        → HasCause (troubles_of net k).faults (troubles_of net l).faults result
+        → IfOk result (λ went. went ≡ false → HasRisen (troubles_of net k).busies (troubles_of net l).busies)
+        → IfOk result (λ went. went ≡ true → (troubles_of net l).busies ≡ (troubles_of net k).busies)
+        → OnErr result ((troubles_of net l).busies ≡ (troubles_of net k).busies)
+        → Listens log net Hears (told_of result) s t before now k l
     listens-said r result me before mid now k l sendable is p spoke cause busy went fault =
         let one = p.step no_asks in
         let taken = was_taken result in
@@ -410,7 +411,7 @@ module _ {R L : Type 0} (facts : R → Option (List Fact)) (whole : R → Bool)
           sends = record {
             makes = record {
               noted = p.noted ++ said ∷ [];
-              grew = grew-then facts whole before mid now p.noted (said ∷ []) p.grew spoke.grew;
+              grew = grew-then log before mid now p.noted (said ∷ []) p.grew spoke.grew;
               step = λ asks. subst
                   (λ n. Hears (asking asks s) (p.noted ++ control_fact taken n hp.peer spoke.head ∷ [])
                   (asking asks t)) (sym is)
@@ -418,36 +419,36 @@ module _ {R L : Type 0} (facts : R → Option (List Fact)) (whole : R → Bool)
                   front.is_front front.peer front.reads r spoke.head taken spoke.bytes spoke.spells
                   sendable (p.step asks));
             };
-            took = spoke.took ∙ ap (λ (xs : List Carried). option_map (λ ds. ds ++ xs) (sent k))
+            took = spoke.took ∙ ap (λ (xs : List Carried). option_map (λ ds. ds ++ xs) (net.sent k))
                 (sym (handled-took hp.peer hp.head (Some r) a b p.noted one (said ∷ [])));
           };
           heard = said-heard me hp.peer spoke.head p.noted result
               (handled-one hp.peer hp.head (Some r) a b p.noted one);
           went = said-sent me hp.peer spoke.head p.noted result
               (handled-sent hp.peer hp.head (Some r) a b p.noted one);
-          counts = said-counts me hp.peer spoke.head p.noted (troubles k) (troubles l) result
+          counts = said-counts me hp.peer spoke.head p.noted (troubles_of net k) (troubles_of net l) result
               (handled-unsent hp.peer hp.head (Some r) a b p.noted one) cause busy went fault;
         }
 
   -- one packet after another
   pub listens-none : (P : Rel) (a : Timed) (r : R) (l : L)
-      → Listens facts whole sent troubles (Chain P)
+      → Listens log net (Chain P)
       (record { heard = 0; sent = 0; failed = false }) a a r r l l
   listens-none P a r l = record {
     sends = record {
-      makes = record { noted = []; grew = grew-none facts whole r; step = λ asks. none };
-      took = took-none (sent l);
+      makes = record { noted = []; grew = grew-none log r; step = λ asks. none };
+      took = took-none (net.sent l);
     };
     heard = refl;
     went = refl;
-    counts = record { held = held-none (troubles l); cause = refl };
+    counts = record { held = held-none (troubles_of net l); cause = refl };
   }
 
   pub listens-more : (P : Rel) (p q t : Listening) (a b c : Timed) (f g h : R) (k l m : L)
       → t.heard ≡ p.heard + q.heard → t.sent ≡ p.sent + q.sent → t.failed ≡ (p.failed || q.failed)
-      → Listens facts whole sent troubles (Chain P) p a b f g k l
-      → Listens facts whole sent troubles P q b c g h l m
-      → Listens facts whole sent troubles (Chain P) t a c f h k m
+      → Listens log net (Chain P) p a b f g k l
+      → Listens log net P q b c g h l m
+      → Listens log net (Chain P) t a c f h k m
   listens-more P p q t a b c f g h k l m heard went failed x y =
       let xs = x.sends.makes.noted in
       let ys = y.sends.makes.noted in
@@ -455,26 +456,26 @@ module _ {R L : Type 0} (facts : R → Option (List Fact)) (whole : R → Bool)
         sends = record {
           makes = record {
             noted = xs ++ ys;
-            grew = grew-then facts whole f g h xs ys x.sends.makes.grew y.sends.makes.grew;
+            grew = grew-then log f g h xs ys x.sends.makes.grew y.sends.makes.grew;
             step = λ asks. more (x.sends.makes.step asks) ys (asking asks c)
                 (y.sends.makes.step asks);
           };
           took = y.sends.took
               ∙ ap (option_map (λ ds. ds ++ sent_of ys)) x.sends.took
-              ∙ took-then (sent k) (sent_of xs) (sent_of ys)
-              ∙ ap (λ (zs : List Carried). option_map (λ ds. ds ++ zs) (sent k))
+              ∙ took-then (net.sent k) (sent_of xs) (sent_of ys)
+              ∙ ap (λ (zs : List Carried). option_map (λ ds. ds ++ zs) (net.sent k))
               (sym (sent-append xs ys));
         };
         heard = omega (arith, heard, x.heard, y.heard, many-append is_handled xs ys);
         went = omega (arith, went, x.went, y.went, many-append is_sent xs ys);
-        counts = rw failed (counts-then xs ys p.failed q.failed (troubles k) (troubles l)
-            (troubles m) x.counts y.counts);
+        counts = rw failed (counts-then xs ys p.failed q.failed (troubles_of net k) (troubles_of net l)
+            (troubles_of net m) x.counts y.counts);
       }
 
   pub listens-until : (P : Rel) (Over : Timed → Type 0) (t : Listening) (a b : Timed) (f g : R)
-      (k l : L) → Listens facts whole sent troubles (Chain P) t a b f g k l
+      (k l : L) → Listens log net (Chain P) t a b f g k l
       → ((asks : Asks) → Over (asking asks b))
-      → Listens facts whole sent troubles (Until P Over) t a b f g k l
+      → Listens log net (Until P Over) t a b f g k l
   listens-until P Over t a b f g k l p over = record {
     sends = record {
       makes = record {
@@ -490,24 +491,24 @@ module _ {R L : Type 0} (facts : R → Option (List Fact)) (whole : R → Bool)
   }
 
 -- the answer is in range
-pub answer-range : {R : Type 0} (facts : R → Option (List Fact)) (whole : R → Bool) (peer : ℕ)
+pub answer-range : {R : Type 0} (log : R → Log) (peer : ℕ)
     (h : ControlHeader) (s : Lists) (a b : Timed) (before now : R) (reply : Option ControlHeader)
     → ControlInRange h → a.lists.servers ≡ s.servers
     → ((t : ℕ) → count_by (is_server t) s.servers + to_come s.server_numbers t ≤ 1)
     → s.server_numbers ≤ SESSION_NUMBERS → AllByRecursion HasCredit s.servers
-    → Makes facts whole (Controls peer h reply) a b before now
+    → Makes log (Controls peer h reply) a b before now
     → IfSome reply (λ r. ControlInRange r)
-answer-range facts whole peer h s a b before now None range same alone few credits p = tt
-answer-range facts whole peer h s a b before now (Some r) range same alone few credits p =
+answer-range log peer h s a b before now None range same alone few credits p = tt
+answer-range log peer h s a b before now (Some r) range same alone few credits p =
     let one = p.step no_asks in
     let named = named-all s.server_numbers s.servers few
     (numbers-below s.server_numbers s.servers alone) credits in
     answer-in-range one.lacks peer h (asking no_asks a).lists (rw same named) r range one.by.answer
 
 -- what handling a packet leaves, whoever records it
-module _ {R : Type 0} (facts : R → Option (List Fact)) (whole : R → Bool) (peer : ℕ)
+module _ {R : Type 0} (log : R → Log) (peer : ℕ)
     (h : ControlHeader) (reply : Option ControlHeader) (s t : Timed) (before now : R)
-    (p : Makes facts whole (Handles peer h reply) s t before now) where
+    (p : Makes log (Handles peer h reply) s t before now) where
   abbrev one : Handles peer h reply (asking no_asks s) p.noted (asking no_asks t)
   one = p.step no_asks
 

@@ -1,12 +1,11 @@
 -- The calls of a session that lost its peer end, one after another.
-use Rattle.std.proofs.Common.{◌≡◌, ℕ, ◌<◌, Bool, Option, Some, None, List, [], ◌∷◌}
+use Rattle.std.proofs.Common.{◌≡◌, ℕ, ◌<◌, Option, Some, None, List, [], ◌∷◌}
 use Rattle.std.proofs.Common.{◌++◌, length, refl, sym, ap, subst, ◌∙◌, append_assoc, arith}
 use Rattle.std.specs.Prelude.{map, slice_get, slice_set}
 use Rattle.std.proofs.lemmas.Bool.{eq-eqb}
 use Rattle.std.proofs.lemmas.List.{map-append}
 use Rattle.rpc_base.specs.Tables.{without_first}
 use Rattle.rpc_base.specs.declared.event.Event.TheVariants.{Broken, DonePeerLost}
-use Rattle.rpc_base.specs.declared.fact.Fact.{Fact}
 use Rattle.rpc_base.proofs.PlaceLemmas.{set-here}
 use Rattle.client_core.specs.Shown.{done_fact, end_bytes, end_event}
 use Rattle.client_core.specs.declared.outcome.Done.{Done}
@@ -17,7 +16,7 @@ use Rattle.rpc_laws.specs.declared.tables.Client.{Client}
 use Rattle.rpc_laws.specs.Calls.{is_call}
 use Rattle.rpc_laws.specs.Facts.{plain, with_bytes}
 use Rattle.rpc_laws.specs.Sessions.{breaks}
-use Rattle.rpc_outside.specs.Recording.{Grew}
+use Rattle.rpc_outside.specs.Recording.{Grew, Log}
 use Rattle.server_core.proofs.FlushLemmas.{grew-then}
 use Rattle.session_store.specs.Changes.{ChangesAt, IsLost, LosesAt, calls_in, first_number}
 use Rattle.endpoint_loop.specs.Given.{Gave}
@@ -55,7 +54,7 @@ ended-fact : (me : ℕ) (d : Done) → d.outcome ≡ PeerLost
 ended-fact me d is =
     ap (λ (o : Outcome). with_bytes me (end_event d.call o) (end_bytes o d.resp)) (sym is)
 
-module _ {R K : Type 0} (facts : R → Option (List Fact)) (whole : R → Bool)
+module _ {R K : Type 0} (log : R → Log)
     (given : K → List Done → Type 0) (me i : ℕ) where
   pub none-lost : (o : Option ℕ) (old new : List Client) → o ≡ None → LosesAt i o old new
       → (calls_in (slice_get old i) ≡ []) × (new ≡ old)
@@ -65,9 +64,9 @@ module _ {R K : Type 0} (facts : R → Option (List Fact)) (whole : R → Bool)
 
   pub one-lost : (d : Done) (old new : List Client) (before now : R) (from to : K)
       → LosesAt i (Some d.call) old new → d.outcome ≡ PeerLost
-      → Grew facts whole before now (plain me (DonePeerLost d.call) ∷ [])
+      → Grew (log before) (log now) (plain me (DonePeerLost d.call) ∷ [])
       → Gave given from to (d ∷ [])
-      → EndsOne facts whole given me i old new before now from to
+      → EndsOne log given me i old new before now from to
   one-lost d old new before now from to h is grew gave =
       let x = h.1.client in
       let place : calls_in (slice_get old i) ≡ x.calls = ap calls_in h.1.place in
@@ -89,8 +88,8 @@ module _ {R K : Type 0} (facts : R → Option (List Fact)) (whole : R → Bool)
       }
 
   pub lost-start : (old new : List Client) (before now : R) (k : K) → ChangesAt i breaks old new
-      → Grew facts whole before now (plain me (Broken i) ∷ [])
-      → (left : List Call) × HasLost facts whole given me i left old new before now k k
+      → Grew (log before) (log now) (plain me (Broken i) ∷ [])
+      → (left : List Call) × HasLost log given me i left old new before now k k
   lost-start old new before now k h grew = (
     h.client.calls,
     record {
@@ -107,7 +106,7 @@ module _ {R K : Type 0} (facts : R → Option (List Fact)) (whole : R → Bool)
   )
 
   module _ (left : List Call) (old mid : List Client) (before between : R) (from via : K)
-      (h : HasLost facts whole given me i left old mid before between from via) where
+      (h : HasLost log given me i left old mid before between from via) where
     here : slice_get mid i ≡ Some (broken_with h.client left)
     here = ap (λ (xs : List Client). slice_get xs i) h.changed
         ∙ set-here old i h.client (broken_with h.client left) h.place
@@ -116,14 +115,14 @@ module _ {R K : Type 0} (facts : R → Option (List Fact)) (whole : R → Bool)
     is-lost = rw here refl
 
     pub lost-over : calls_in (slice_get mid i) ≡ []
-        → HasLost facts whole given me i [] old mid before between from via
+        → HasLost log given me i [] old mid before between from via
     lost-over none =
         let over : left ≡ [] = sym (ap calls_in here) ∙ none in
-        subst (λ (cs : List Call). HasLost facts whole given me i cs old mid before between from
+        subst (λ (cs : List Call). HasLost log given me i cs old mid before between from
         via) over h
 
     module _ (new : List Client) (now : R) (to : K)
-        (e : EndsOne facts whole given me i mid new between now via to) where
+        (e : EndsOne log given me i mid new between now via to) where
       same : e.client ≡ broken_with h.client left
       same = some-same e.client (broken_with h.client left) (sym e.place ∙ here)
 
@@ -137,7 +136,7 @@ module _ {R K : Type 0} (facts : R → Option (List Fact)) (whole : R → Bool)
           ∙ set-twice old i (broken_with h.client left) (broken_with h.client e.left)
 
       pub lost-more : (left : List Call)
-          × HasLost facts whole given me i left old new before now from to
+          × HasLost log given me i left old new before now from to
       lost-more = (
         e.left,
         record {
@@ -148,7 +147,7 @@ module _ {R K : Type 0} (facts : R → Option (List Fact)) (whole : R → Bool)
               ∙ sym (append_assoc h.over (e.first ∷ []) e.left);
           changed = changed;
           grew = rw (map-append (lost me) h.over (e.first ∷ []))
-              (grew-then facts whole before between now
+              (grew-then log before between now
               (plain me (Broken i) ∷ map (lost me) h.over) (lost me e.first ∷ []) h.grew e.grew);
           dones = h.dones ++ e.done ∷ [];
           ends = map-append (lost me) h.over (e.first ∷ [])
@@ -170,7 +169,7 @@ module _ {R K : Type 0} (facts : R → Option (List Fact)) (whole : R → Bool)
 
   pub lost-same : (old mid new : List Client) (before between now : R) (from via to : K) → new ≡ mid
       → now ≡ between → to ≡ via
-      → HasLost facts whole given me i [] old mid before between from via
-      → HasLost facts whole given me i [] old new before now from to
+      → HasLost log given me i [] old mid before between from via
+      → HasLost log given me i [] old new before now from to
   lost-same old mid new before between now from via to clients recorder kept h =
       rw (clients, recorder, kept) h

@@ -6,6 +6,7 @@ use Rattle.std.specs.List.{find}
 use Rattle.std.proofs.lemmas.Bool.{and_parts, eq-eqb, ne_eqb}
 use Rattle.std.proofs.lemmas.List.Quantifiers.{position-Some}
 use Rattle.std.proofs.lemmas.Option.{slice_get-get_or, slice_get_within}
+use Rattle.rpc_outside.specs.Recording.{Log}
 use Rattle.packet_header.specs.declared.packet.ControlHeader.{ControlHeader}
 use Rattle.packet_header.specs.declared.packet.ControlKind.TheVariants.{ConnectReply}
 use Rattle.packet_header.specs.declared.packet.ControlKind.TheVariants.{DisconnectReply}
@@ -15,7 +16,6 @@ use Rattle.rpc_base.proofs.FindLemmas.{at-found}
 use Rattle.rpc_base.proofs.FirstLemmas.{count-fewer, found-own}
 use Rattle.rpc_base.proofs.TablesLemmas.{find-found}
 use Rattle.rpc_base.proofs.TakingLemmas.{find-passes}
-use Rattle.rpc_base.specs.declared.fact.Fact.{Fact}
 use Rattle.rpc_base.specs.declared.state.SessionState.{SessionState}
 use Rattle.rpc_base.specs.declared.state.SessionState.TheVariants.{Unknown, Connecting, Connected}
 use Rattle.rpc_base.specs.declared.state.SessionState.TheVariants.{Closing, Closed, Failed, Spent}
@@ -92,7 +92,7 @@ module _ (servers : List Server) (t peer client : ℕ)
       by (Some w) e = let found = sym none ∙ found-number w e in cc
 
 -- a disconnect request that names no session
-module _ {R : Type 0} (facts : R → Option (List Fact)) (whole : R → Bool) (peer : ℕ)
+module _ {R : Type 0} (log : R → Log) (peer : ℕ)
     (h : ControlHeader) (kind : h.kind ≡ DisconnectRequest) (s : Timed) where
   pub row-misses : (lacks : Bool) (asks : Asks)
       → named_end peer h.client h.server s.lists.servers ≡ None
@@ -109,10 +109,10 @@ module _ {R : Type 0} (facts : R → Option (List Fact)) (whole : R → Bool) (p
   pub ends-named : (i : ℕ) (t : Timed) (before now : R) (reply : Option ControlHeader)
       → i < length s.lists.servers
       → named_end peer h.client h.server s.lists.servers ≡ slice_get s.lists.servers i
-      → reply ≡ control_reply h Ends → Makes facts whole (Notes (ending i)) s t before now
-      → Makes facts whole (Controls peer h reply) s t before now
+      → reply ≡ control_reply h Ends → Makes log (Notes (ending i)) s t before now
+      → Makes log (Controls peer h reply) s t before now
   ends-named i t before now reply within named answer made =
-      controls-by facts whole before now peer h reply s t false Ends
+      controls-by log before now peer h reply s t false Ends
       (λ asks. row-ends false asks (slice_get s.lists.servers i)
       (slice_get-some s.lists.servers i within) named) answer made.noted made.grew
       (λ asks. (made.step asks).facts
@@ -185,12 +185,12 @@ module _ (peer : ℕ) (h : ControlHeader) (s : Timed) (i : ℕ) (number : h.clie
         nameless Failed other = refl
 
 -- by the peer that was compared
-pub controls-peer : {R : Type 0} (facts : R → Option (List Fact)) (whole : R → Bool) (p q : ℕ)
+pub controls-peer : {R : Type 0} (log : R → Log) (p q : ℕ)
     (h : ControlHeader) (reply : Option ControlHeader) (s t : Timed) (before now : R) → p ≡ q
-    → Makes facts whole (Controls p h reply) s t before now
-    → Makes facts whole (Controls q h reply) s t before now
-controls-peer facts whole p q h reply s t before now same made =
-    subst (λ n. Makes facts whole (Controls n h reply) s t before now) same made
+    → Makes log (Controls p h reply) s t before now
+    → Makes log (Controls q h reply) s t before now
+controls-peer log p q h reply s t before now same made =
+    subst (λ n. Makes log (Controls n h reply) s t before now) same made
 
 -- the session at a place, by its ends
 module _ (servers : List Server) (t peer client : ℕ)

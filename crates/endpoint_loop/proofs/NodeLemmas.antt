@@ -1,19 +1,18 @@
 -- What a step of the store is for the node, once its fact is noted.
-use Rattle.std.proofs.Common.{◌≡◌, ℕ, ◌≤◌, Bool, Option, Some, List, [], ◌∷◌, length}
+use Rattle.std.proofs.Common.{◌≡◌, ℕ, ◌≤◌, Option, Some, List, [], ◌∷◌, length}
 use Rattle.std.proofs.Common.{refl, sym, ap, ◌∙◌, arith}
 use Rattle.std.specs.Prelude.{option_and_then, option_map, slice_set}
 use Rattle.std.proofs.lemmas.List.{length-set}
 use Rattle.rpc_base.specs.Tables.{at_first}
 use Rattle.rpc_base.specs.declared.event.Event.{Event}
 use Rattle.rpc_base.specs.declared.event.Event.TheVariants.{Begun, Posted}
-use Rattle.rpc_base.specs.declared.fact.Fact.{Fact}
 use Rattle.rpc_base.specs.declared.limits.Limits.{Limits}
 use Rattle.rpc_base.specs.declared.owner.Owner.{Owner}
 use Rattle.rpc_base.specs.declared.owner.Owner.TheVariants.{Ask}
 use Rattle.rpc_base.proofs.PlaceLemmas.{all-at}
 use Rattle.packet_rings.specs.Rings.{Ring}
 use Rattle.packet_rings.specs.Values.{DatagramValue, EntryValue}
-use Rattle.rpc_outside.specs.Recording.{Grew}
+use Rattle.rpc_outside.specs.Recording.{Grew, Log}
 use Rattle.rpc_laws.specs.declared.tables.Client.{Client}
 use Rattle.rpc_laws.specs.declared.tables.Jobs.{Jobs}
 use Rattle.rpc_laws.specs.declared.tables.Pace.{Pace}
@@ -45,7 +44,7 @@ use Rattle.endpoint_loop.proofs.QueueLemmas.{put-all, replies-ask}
 use Rattle.session_store.specs.Ends.{begun_event, posted_event}
 use Rattle.endpoint_loop.proofs.PostLemmas.{ascends-begun, ascends-posted, begins-told, posts-told}
 
-module _ {R : Type 0} (facts : R → Option (List Fact)) (whole : R → Bool) (i me : ℕ)
+module _ {R : Type 0} (log : R → Log) (i me : ℕ)
     (limits : Limits) (tallies : Tallies) (paces : List Pace) (jobs : Jobs) (clock : ℕ)
     (rx : Ring DatagramValue) (s t : Shown) (before now : R) where
   abbrev seen : Shown → Timed
@@ -100,8 +99,8 @@ module _ {R : Type 0} (facts : R → Option (List Fact)) (whole : R → Bool) (i
       goes js = rw (told.0, queue, servers, due_is, later_is) refl
 
       pub node-posted : (o : Owner) (k : ℕ) → o ≡ e.owner → k ≡ e.number
-          → Grew facts whole before now (plain me (Posted o k) ∷ [])
-          → Makes facts whole (NotesNext (next_posted i)) (seen s) (seen_later jobs) before now
+          → Grew (log before) (log now) (plain me (Posted o k) ∷ [])
+          → Makes log (NotesNext (next_posted i)) (seen s) (seen_later jobs) before now
       node-posted o k is number grew = record {
         noted = plain me event ∷ [];
         grew = rw (← owner, ← is, ← number) grew;
@@ -153,8 +152,8 @@ module _ {R : Type 0} (facts : R → Option (List Fact)) (whole : R → Bool) (i
           few : (c : ℕ) → holders c s.clients ≤ 1
           few c = omega (arith, fits.kept.valid.once c)
 
-      pub node-begun : Grew facts whole before now (plain me began ∷ [])
-          → Makes facts whole (NotesNext (next_begun i)) (seen s) (seen t) before now
+      pub node-begun : Grew (log before) (log now) (plain me began ∷ [])
+          → Makes log (NotesNext (next_begun i)) (seen s) (seen t) before now
       node-begun grew = record {
         noted = plain me began ∷ [];
         grew = grew;

@@ -1,10 +1,11 @@
 -- Steps that note what can be told of the node as it was, one after another; and those in which
 -- calls end.
-use Rattle.std.proofs.Common.{◌≡◌, ℕ, suc, Bool, Option, List, [], ◌∷◌, ◌++◌, refl}
+use Rattle.std.proofs.Common.{◌≡◌, ℕ, suc, Bool, List, [], ◌∷◌, ◌++◌, refl}
 use Rattle.std.proofs.Common.{sym, ap, ◌∙◌, cond, true, false}
 use Rattle.std.specs.Prelude.{map}
 use Rattle.std.specs.List.{filter}
 use Rattle.std.proofs.lemmas.List.{map-append}
+use Rattle.rpc_outside.specs.Recording.{Log}
 use Rattle.client_core.specs.Shown.{done_fact}
 use Rattle.client_core.specs.declared.outcome.Done.{Done}
 use Rattle.rpc_base.specs.declared.fact.Fact.{Fact}
@@ -30,21 +31,21 @@ me-goes s t x p = ap (λ (z : Timed). z.lists.me) p ∙ me-after_all s.clock s.l
 abbrev pub no_asks : Asks
 no_asks = λ _ _. []
 
-module _ {R : Type 0} (facts : R → Option (List Fact)) (whole : R → Bool) where
+module _ {R : Type 0} (log : R → Log) where
   unfoldable pub makes-join : (P Q S : Rel) (a b c : Timed) (f g h : R)
       → ((asks : Asks) (x y : List Fact) → P (asking asks a) x (asking asks b)
       → Q (asking asks b) y (asking asks c) → S (asking asks a) (x ++ y) (asking asks c))
-      → Makes facts whole P a b f g → Makes facts whole Q b c g h → Makes facts whole S a c f h
+      → Makes log P a b f g → Makes log Q b c g h → Makes log S a c f h
   makes-join P Q S a b c f g h join p q = record {
     noted = p.noted ++ q.noted;
-    grew = grew-then facts whole f g h p.noted q.noted p.grew q.grew;
+    grew = grew-then log f g h p.noted q.noted p.grew q.grew;
     step = λ asks. join asks p.noted q.noted (p.step asks) (q.step asks);
   }
 
   pub makes-as : (P Q : Rel) (a b : Timed) (f g : R)
       → ((asks : Asks) (x : List Fact) → P (asking asks a) x (asking asks b)
       → Q (asking asks a) x (asking asks b))
-      → Makes facts whole P a b f g → Makes facts whole Q a b f g
+      → Makes log P a b f g → Makes log Q a b f g
   makes-as P Q a b f g same p = record {
     noted = p.noted;
     grew = p.grew;
@@ -53,8 +54,8 @@ module _ {R : Type 0} (facts : R → Option (List Fact)) (whole : R → Bool) wh
 
   pub makes-notes : (F G H : Timed → List Fact) (a b c : Timed) (f g h : R)
       → ((asks : Asks) → F (asking asks a) ++ G (asking asks b) ≡ H (asking asks a))
-      → Makes facts whole (Notes F) a b f g → Makes facts whole (Notes G) b c g h
-      → Makes facts whole (Notes H) a c f h
+      → Makes log (Notes F) a b f g → Makes log (Notes G) b c g h
+      → Makes log (Notes H) a c f h
   makes-notes F G H a b c f g h all p q =
       makes-join (Notes F) (Notes G) (Notes H) a b c f g h
       (λ asks x y s t. record {
@@ -73,17 +74,17 @@ ends-append (f ∷ fs) y = by (is_end f) (ends-append fs y)
     by true ih = ap (λ fs. f ∷ fs) ih
     by false ih = ih
 
-module _ {R K : Type 0} (facts : R → Option (List Fact)) (whole : R → Bool)
+module _ {R K : Type 0} (log : R → Log)
     (given : K → List Done → Type 0) where
   unfoldable pub ends-join : (P Q S : Rel) (a b c : Timed) (f g h : R) (j k l : K)
       → b.lists.me ≡ a.lists.me
       → ((asks : Asks) (x y : List Fact) → P (asking asks a) x (asking asks b)
       → Q (asking asks b) y (asking asks c) → S (asking asks a) (x ++ y) (asking asks c))
-      → MakesEnds facts whole given P a b f g j k → MakesEnds facts whole given Q b c g h k l
-      → MakesEnds facts whole given S a c f h j l
+      → MakesEnds log given P a b f g j k → MakesEnds log given Q b c g h k l
+      → MakesEnds log given S a c f h j l
   unfolding makes-join
   ends-join P Q S a b c f g h j k l me join p q = record {
-    makes = makes-join facts whole P Q S a b c f g h join p.makes q.makes;
+    makes = makes-join log P Q S a b c f g h join p.makes q.makes;
     dones = p.dones ++ q.dones;
     ends = ends-append p.makes.noted q.makes.noted
         ∙ ap (λ x. x ++ filter is_end q.makes.noted) p.ends
@@ -96,19 +97,19 @@ module _ {R K : Type 0} (facts : R → Option (List Fact)) (whole : R → Bool)
   pub ends-as : (P Q : Rel) (a b : Timed) (f g : R) (k l : K)
       → ((asks : Asks) (x : List Fact) → P (asking asks a) x (asking asks b)
       → Q (asking asks a) x (asking asks b))
-      → MakesEnds facts whole given P a b f g k l → MakesEnds facts whole given Q a b f g k l
+      → MakesEnds log given P a b f g k l → MakesEnds log given Q a b f g k l
   unfolding makes-as
   ends-as P Q a b f g k l same p = record {
-    makes = makes-as facts whole P Q a b f g same p.makes;
+    makes = makes-as log P Q a b f g same p.makes;
     dones = p.dones;
     ends = p.ends;
     gave = p.gave;
   }
 
   pub ends-visit : (P : ℕ → Rel) (n m : ℕ) (a b c : Timed) (f g h : R) (j k l : K) → m ≡ suc n
-      → b.lists.me ≡ a.lists.me → MakesEnds facts whole given (Visits P n) a b f g j k
-      → MakesEnds facts whole given (P n) b c g h k l
-      → MakesEnds facts whole given (Visits P m) a c f h j l
+      → b.lists.me ≡ a.lists.me → MakesEnds log given (Visits P n) a b f g j k
+      → MakesEnds log given (P n) b c g h k l
+      → MakesEnds log given (Visits P m) a c f h j l
   ends-visit P n m a b c f g h j k l is me p q =
       rw is (ends-join (Visits P n) (P n) (Visits P (suc n)) a b c f g h j k l me
       (λ asks x y s t. record {
@@ -123,9 +124,9 @@ module _ {R K : Type 0} (facts : R → Option (List Fact)) (whole : R → Bool)
   -- nothing is noted, and no call ends
   unfoldable pub ends-none : (P : Rel) (a : Timed) (f : R) (k : K)
       → ((asks : Asks) → P (asking asks a) [] (asking asks a))
-      → MakesEnds facts whole given P a a f f k k
+      → MakesEnds log given P a a f f k k
   ends-none P a f k step = record {
-    makes = record { noted = []; grew = grew-none facts whole f; step = step };
+    makes = record { noted = []; grew = grew-none log f; step = step };
     dones = [];
     ends = refl;
     gave = gave-none given k;
@@ -133,8 +134,8 @@ module _ {R K : Type 0} (facts : R → Option (List Fact)) (whole : R → Bool)
 
   -- no call ends
   pub ends-silent : (F : Timed → List Fact) (a b : Timed) (f g : R) (k : K)
-      → filter is_end (F (asking no_asks a)) ≡ [] → Makes facts whole (Notes F) a b f g
-      → MakesEnds facts whole given (Notes F) a b f g k k
+      → filter is_end (F (asking no_asks a)) ≡ [] → Makes log (Notes F) a b f g
+      → MakesEnds log given (Notes F) a b f g k k
   ends-silent F a b f g k none p = record {
     makes = p;
     dones = [];

@@ -6,6 +6,7 @@ use Rattle.std.specs.Prelude.{count_by, map, option_map, IfOk, IfSome, Result, O
 use Rattle.std.specs.List.{AllByRecursion, filter}
 use Rattle.std.proofs.lemmas.List.{map-append}
 use Rattle.std.proofs.lemmas.List.Elements.{filter-append}
+use Rattle.rpc_outside.specs.Recording.{Log}
 use Rattle.client_core.specs.Handing.{Handed}
 use Rattle.client_core.specs.Shown.{done_fact}
 use Rattle.client_core.specs.declared.outcome.Done.{Done}
@@ -33,13 +34,16 @@ use Rattle.rpc_laws.specs.Pacing.{line}
 use Rattle.rpc_laws.specs.PollOrder.{PostsAll, raised, SendsSome}
 use Rattle.rpc_laws.specs.Queues.{is_due, made_ready, replies}
 use Rattle.rpc_laws.specs.Service.{Answers, is_mode_inline, Serving, served_after, served_after_all}
+use Rattle.rpc_laws.specs.Service.{rules_of}
 use Rattle.rpc_laws.proofs.AnswerLemmas.{answers-append, served-append}
 use Rattle.rpc_laws.proofs.RunLemmas.{me-after_all}
 use Rattle.rpc_outside.specs.Faults.{HasCause, HasRisen}
-use Rattle.rpc_outside.specs.Linking.{Carried}
-use Rattle.rpc_outside.specs.Served.{Served}
+use Rattle.rpc_outside.specs.Served.{Served, StandsForSome}
 use Rattle.rpc_outside.specs.declared.service.Mode.{Mode}
 use Rattle.rpc_outside.specs.declared.service.Mode.TheVariants.{Background}
+use Rattle.rpc_outside.specs.declared.link.Link as Link
+use Rattle.rpc_outside.specs.declared.service.Service as Service
+use Rattle.worker_crew.specs.declared.workers.Workers as Workers
 use Rattle.node_laws.specs.Kept.{Kept}
 use Rattle.server_core.proofs.FlushLemmas.{grew-then}
 use Rattle.worker_board.specs.declared.Parcel.{Parcel}
@@ -48,18 +52,19 @@ use Rattle.endpoint_loop.proofs.GivenLemmas.{gave-then}
 use Rattle.endpoint_loop.specs.Counting.{CountsTurn, is_handled, is_sent}
 use Rattle.endpoint_loop.specs.declared.polling.Turn.{Turn}
 use Rattle.endpoint_loop.specs.Finishing.{Agree, AllBackground, AreStaffed, FinishesThese, FinishesTaken}
-use Rattle.endpoint_loop.specs.Finishing.{MakesFinished, NoneBack, Staff}
-use Rattle.endpoint_loop.specs.Handling.{HandlesWith, MakesAllHandled, StandsForSome, WorksFor}
+use Rattle.endpoint_loop.specs.Finishing.{MakesFinished, NoneBack, Staff, staff_of}
+use Rattle.endpoint_loop.specs.Handling.{HandlesWith, MakesAllHandled, WorksFor}
 use Rattle.endpoint_loop.specs.Handling.{with_all_given}
 use Rattle.endpoint_loop.specs.Noting.{is_end, is_end_event, Makes, MakesSent, sent_of}
 use Rattle.endpoint_loop.specs.Polling.{FinishesBack, held_in, is_stopped, left_one}
 use Rattle.endpoint_loop.specs.Polling.{MakesPoll, PollsWith, SendsUntil, TellsOfPoll, turn_of}
-use Rattle.endpoint_loop.specs.Polling.{turn_told}
+use Rattle.endpoint_loop.specs.Polling.{turn_told, wire_of}
 use Rattle.endpoint_loop.specs.declared.sending.Sending.{Sending}
-use Rattle.endpoint_loop.specs.Running.{asks_of, Crew, IsServing, IsStaffed, told}
+use Rattle.endpoint_loop.specs.Running.{asks_of, IsServing, IsStaffed, told, crew_of}
 use Rattle.endpoint_loop.specs.Seen.{Asks, asking, with_ask}
 use Rattle.endpoint_loop.specs.Serving.{AllServed, job_named}
-use Rattle.endpoint_loop.specs.Speaking.{FailedAs, HeldBack, is_unsent, LinkTook, Troubles}
+use Rattle.endpoint_loop.specs.Speaking.{FailedAs, HeldBack, is_unsent, LinkTook}
+use Rattle.endpoint_loop.specs.Speaking.{troubles_of}
 use Rattle.endpoint_loop.specs.Watching.{MakesTimes}
 use Rattle.endpoint_loop.specs.Listening.{Listens}
 use Rattle.endpoint_loop.specs.declared.listening.Listening.{Listening}
@@ -332,32 +337,31 @@ closed-left s x t h =
     ∙ ap (λ (fs : List Fact). left_one (line s.clock (after_all s.clock s.lists fs).queued)) h.facts
     ∙ ready-left s.clock s.lists.queued
 
-module _ {R K L V W : Type 0} (facts : R → Option (List Fact)) (whole : R → Bool)
-    (given : K → List Done → Type 0) (sent : L → Option (List Carried))
-    (troubles : L → Troubles) (crew : W → Crew) (v : Serving) (stands : V → Served → Type 0)
-    (answer : ℕ → List ℕ → List ℕ) (works : WorksFor answer v) (now : ℕ) (n0 n1 n2 n3 n4 n5 n6 n7 : Timed) (w0 w1 w2 : W)
+module _ {R K L V W : Type 0} (log : R → Log)
+    (given : K → List Done → Type 0) (net : Link.Ghosts L)
+    (service : Service.Ghosts V) (workers : Workers.Ghosts W) (works : WorksFor workers.answer (rules_of service)) (now : ℕ) (n0 n1 n2 n3 n4 n5 n6 n7 : Timed) (w0 w1 w2 : W)
     (s0 s1 : V) (r0 rf r1 r2 r3 r4 r5 r6 : R) (k0 k1 k2 : K) (l0 l1 l2 l3 : L)
-    (background : AllBackground v.mode n0.lists.jobs.out)
-    (finish : MakesFinished facts whole answer (crew w0).staff.out (crew w1).staff.out
-    (crew w0).worked (crew w1).worked (raised now n0) n1 r0 rf)
+    (background : AllBackground service.mode_of n0.lists.jobs.out)
+    (finish : MakesFinished log workers.answer (crew_of workers w0).staff.out (crew_of workers w1).staff.out
+    (crew_of workers w0).worked (crew_of workers w1).worked (raised now n0) n1 r0 rf)
     (over : (n1.lists.room ≤ replies n1.lists.queued)
-    ⊎ NoneBack (crew w1).worked (length (crew w1).staff.out) (crew w0).looks (crew w1).looks)
-    (limit : (crew w1).staff.limit ≡ (crew w0).staff.limit)
-    (given_is : (crew w1).staff.given ≡ (crew w0).staff.given)
-    (waiting : (crew w1).staff.waiting ≡ (crew w0).staff.waiting)
+    ⊎ NoneBack (crew_of workers w1).worked (length (crew_of workers w1).staff.out) (crew_of workers w0).looks (crew_of workers w1).looks)
+    (limit : (crew_of workers w1).staff.limit ≡ (crew_of workers w0).staff.limit)
+    (given_is : (crew_of workers w1).staff.given ≡ (crew_of workers w0).staff.given)
+    (waiting : (crew_of workers w1).staff.waiting ≡ (crew_of workers w0).staff.waiting)
     (heard_told : Listening) (asked_told : Asking)
-    (hear : Listens facts whole sent troubles HearsAll heard_told n1 n2 rf r1 l0 l1)
+    (hear : Listens log net HearsAll heard_told n1 n2 rf r1 l0 l1)
     (heard_jobs : n2.lists.jobs ≡ n1.lists.jobs) (heard_me : n2.lists.me ≡ n1.lists.me)
     (inbox : n2.lists.inbox ≡ [])
-    (handle : MakesAllHandled facts whole given (λ w. (crew w).staff) v (stands s0) (stands s1)
-    answer (HandlesAll v.mode) n2 n3 r1 r2 k0 k1 w1 w2)
-    (worked : (crew w2).worked ≡ (crew w1).worked) (looks : (crew w2).looks ≡ (crew w1).looks)
+    (handle : MakesAllHandled log given (staff_of workers) (rules_of service) (service.stands s0) (service.stands s1)
+    workers.answer (HandlesAll service.mode_of) n2 n3 r1 r2 k0 k1 w1 w2)
+    (worked : (crew_of workers w2).worked ≡ (crew_of workers w1).worked) (looks : (crew_of workers w2).looks ≡ (crew_of workers w1).looks)
     (me : n3.lists.me ≡ n2.lists.me)
-    (watch : MakesTimes facts whole given sent troubles TimesAll asked_told n3 n4 r2 r3 k1 k2 l1 l2)
-    (post : Makes facts whole PostsAll n4 n5 r3 r4)
-    (send : MakesSent facts whole sent SendsSome n5 n6 r4 r5 l2 l3)
-    (held : HeldBack (left_one (line n6.clock n6.lists.queued)) (troubles l2) (troubles l3))
-    (close : Makes facts whole Closes n6 n7 r5 r6) (turn : Option Turn)
+    (watch : MakesTimes log given net TimesAll asked_told n3 n4 r2 r3 k1 k2 l1 l2)
+    (post : Makes log PostsAll n4 n5 r3 r4)
+    (send : MakesSent log net.sent SendsSome n5 n6 r4 r5 l2 l3)
+    (held : HeldBack (left_one (line n6.clock n6.lists.queued)) (troubles_of net l2) (troubles_of net l3))
+    (close : Makes log Closes n6 n7 r5 r6) (turn : Option Turn)
     (all : is_stopped turn ≡ false → line n6.clock n6.lists.queued ≡ [])
     (jobs : n7.lists.jobs ≡ n3.lists.jobs) (kept : Kept n7.lists)
     (counted : IfSome turn (IsCounted heard_told asked_told n2 n3 n5 n6)) where
@@ -381,7 +385,7 @@ module _ {R K L V W : Type 0} (facts : R → Option (List Fact)) (whole : R → 
   noted = finish.noted ++ (heard ++ (handle.noted ++ last))
 
   abbrev staff : W → Staff
-  staff w = (crew w).staff
+  staff w = staff_of workers w
 
   last-still : AllStill is_ran last
   last-still =
@@ -432,53 +436,53 @@ module _ {R K L V W : Type 0} (facts : R → Option (List Fact)) (whole : R → 
       (closes-still is_end_event (λ n. refl) (asking (λ t r. []) n6) close.noted
       (asking (λ t r. []) n7) (close.step (λ t r. []))))
 
-  module _ (staffed : IsStaffed answer (staff w0) n0) where
+  module _ (staffed : IsStaffed workers.answer (staff w0) n0) where
     abbrev asks : Asks
     asks = asks_of (staff w0).out
 
-    f : FinishesTaken answer (staff w1).out (crew w0).worked (crew w1).worked asks (raised now n0)
+    f : FinishesTaken workers.answer (staff w1).out (crew_of workers w0).worked (crew_of workers w1).worked asks (raised now n0)
         finish.noted n1
     f = finish.step asks (record { same = staffed.agree.same; ready = staffed.agree.ready })
 
-    staffed-finished : AreStaffed answer asks (staff w1) n1
+    staffed-finished : AreStaffed workers.answer asks (staff w1) n1
     staffed-finished = record {
       agree = f.agree;
       limit_is = limit ∙ staffed.limit_is ∙ ap (λ (js : Jobs). js.limit) (sym f.left);
       given_is = given_is ∙ staffed.given_is ∙ ap (λ (js : Jobs). js.given) (sym f.left);
     }
 
-    h : HandlesWith (HandlesAll v.mode) answer handle.gave (staff w1) (staff w2) asks n2
+    h : HandlesWith (HandlesAll service.mode_of) workers.answer handle.gave (staff w1) (staff w2) asks n2
         handle.noted n3
     h = handle.step asks
-        (staffed-still answer asks (staff w1) n1 n2 heard_jobs staffed-finished)
+        (staffed-still workers.answer asks (staff w1) n1 n2 heard_jobs staffed-finished)
 
     abbrev then_asks : Asks
     then_asks = h.then_asks
 
-    staffed-last : AreStaffed answer then_asks (staff w2) n7
-    staffed-last = staffed-still answer then_asks (staff w2) n3 n7 jobs h.staffed
+    staffed-last : AreStaffed workers.answer then_asks (staff w2) n7
+    staffed-last = staffed-still workers.answer then_asks (staff w2) n3 n7 jobs h.staffed
 
     alone : (t r : ℕ) → count_by (is_job t r) n7.lists.jobs.out ≤ 1
     alone t r = omega (arith, kept.valid.runs t r)
 
-    finishes-back : FinishesBack answer f.parcels (crew w0) (crew w2) (asking asks (raised now n0))
+    finishes-back : FinishesBack workers.answer f.parcels (crew_of workers w0) (crew_of workers w2) (asking asks (raised now n0))
         finish.noted (asking asks n1)
     finishes-back = record { finishes = f.finishes; over = by over }
       where
         many : length (staff w1).out ≡ length (map (with_ask asks) n1.lists.jobs.out)
-        many = sym (as-many answer asks (staff w1).out n1 f.agree)
+        many = sym (as-many workers.answer asks (staff w1).out n1 f.agree)
             ∙ sym (length-asked asks n1.lists.jobs.out)
 
         by : (n1.lists.room ≤ replies n1.lists.queued)
-            ⊎ NoneBack (crew w1).worked (length (staff w1).out) (crew w0).looks (crew w1).looks
+            ⊎ NoneBack (crew_of workers w1).worked (length (staff w1).out) (crew_of workers w0).looks (crew_of workers w1).looks
             → (n1.lists.room ≤ replies n1.lists.queued)
-            ⊎ NoneBack (crew w2).worked (length (map (with_ask asks) n1.lists.jobs.out))
-            (crew w0).looks (crew w2).looks
+            ⊎ NoneBack (crew_of workers w2).worked (length (map (with_ask asks) n1.lists.jobs.out))
+            (crew_of workers w0).looks (crew_of workers w2).looks
         by (inl full) = inl full
         by (inr back) = inr (rw (worked, looks, ← many) back)
 
-    polls-to : PollBy (FinishesBack answer f.parcels (crew w0) (crew w2)) (SendsUntil stopped)
-        v.mode now (told (staff w0).out n0) noted (asking then_asks n7)
+    polls-to : PollBy (FinishesBack workers.answer f.parcels (crew_of workers w0) (crew_of workers w2)) (SendsUntil stopped)
+        service.mode_of now (told (staff w0).out n0) noted (asking then_asks n7)
     polls-to = record {
       between = asking asks n1;
       front = finish.noted;
@@ -524,7 +528,7 @@ module _ {R K L V W : Type 0} (facts : R → Option (List Fact)) (whole : R → 
       };
     }
 
-    polls-with : PollsWith v answer stopped now (crew w0) (crew w2) n0 noted n7
+    polls-with : PollsWith (rules_of service) workers.answer stopped now (crew_of workers w0) (crew_of workers w2) n0 noted n7
     polls-with = record {
       parcels = f.parcels;
       gave = handle.gave;
@@ -533,37 +537,37 @@ module _ {R K L V W : Type 0} (facts : R → Option (List Fact)) (whole : R → 
       jobs = ap (λ (js : Jobs). js.out) (jobs ∙ handle.jobs)
           ∙ all-given-out handle.gave n2.lists.jobs
           ∙ ap (λ (js : Jobs). js.out ++ map job_named handle.gave) (heard_jobs ∙ f.left);
-      staffed = staffed-told answer then_asks (staff w2) n7 staffed-last alone;
-      polls = subst (λ (t : Timed). PollBy (FinishesBack answer f.parcels (crew w0) (crew w2))
-          (SendsUntil stopped) v.mode now (told (staff w0).out n0) noted t)
-          (same-told answer then_asks (staff w2) n7 staffed-last alone) polls-to;
+      staffed = staffed-told workers.answer then_asks (staff w2) n7 staffed-last alone;
+      polls = subst (λ (t : Timed). PollBy (FinishesBack workers.answer f.parcels (crew_of workers w0) (crew_of workers w2))
+          (SendsUntil stopped) service.mode_of now (told (staff w0).out n0) noted t)
+          (same-told workers.answer then_asks (staff w2) n7 staffed-last alone) polls-to;
     }
 
-    answers : (served : Served) → stands s0 served
-        → Answers v served noted × stands s1 (served_after_all v.mode served noted)
+    answers : (served : Served) → service.stands s0 served
+        → Answers (rules_of service) served noted × service.stands s1 (served_after_all service.mode_of served noted)
     answers served founded =
         let rest = heard ++ (handle.noted ++ last) in
-        let first = these-answer v answer works f.parcels (asking asks (raised now n0)) finish.noted
-        (asking asks n1) (asked-background v.mode asks n0.lists.jobs.out background) f.finishes
+        let first = these-answer (rules_of service) workers.answer works f.parcels (asking asks (raised now n0)) finish.noted
+        (asking asks n1) (asked-background service.mode_of asks n0.lists.jobs.out background) f.finishes
         served in
-        let none = still-answers v served heard heard-unran in
+        let none = still-answers (rules_of service) served heard heard-unran in
         let second = handle.answers served founded in
-        let third = still-answers v (served_after_all v.mode served handle.noted) last last-still in
-        let after = served-append v.mode served finish.noted rest
-        ∙ ap (λ (z : Served). served_after_all v.mode z rest) first.1
-        ∙ served-append v.mode served heard (handle.noted ++ last)
-        ∙ ap (λ (z : Served). served_after_all v.mode z (handle.noted ++ last)) none.1
-        ∙ served-append v.mode served handle.noted last ∙ third.1 in (
-          answers-append v served finish.noted rest first.0
-              (subst (λ (z : Served). Answers v z rest) (sym first.1)
-              (answers-append v served heard (handle.noted ++ last) none.0
-              (subst (λ (z : Served). Answers v z (handle.noted ++ last)) (sym none.1)
-              (answers-append v served handle.noted last second.0 third.0)))),
-          subst (stands s1) (sym after) second.1,
+        let third = still-answers (rules_of service) (served_after_all service.mode_of served handle.noted) last last-still in
+        let after = served-append service.mode_of served finish.noted rest
+        ∙ ap (λ (z : Served). served_after_all service.mode_of z rest) first.1
+        ∙ served-append service.mode_of served heard (handle.noted ++ last)
+        ∙ ap (λ (z : Served). served_after_all service.mode_of z (handle.noted ++ last)) none.1
+        ∙ served-append service.mode_of served handle.noted last ∙ third.1 in (
+          answers-append (rules_of service) served finish.noted rest first.0
+              (subst (λ (z : Served). Answers (rules_of service) z rest) (sym first.1)
+              (answers-append (rules_of service) served heard (handle.noted ++ last) none.0
+              (subst (λ (z : Served). Answers (rules_of service) z (handle.noted ++ last)) (sym none.1)
+              (answers-append (rules_of service) served handle.noted last second.0 third.0)))),
+          subst (service.stands s1) (sym after) second.1,
         )
 
     same-me : n1.lists.me ≡ n0.lists.me
-    same-me = these-me answer f.parcels (asking asks (raised now n0)) finish.noted (asking asks n1)
+    same-me = these-me workers.answer f.parcels (asking asks (raised now n0)) finish.noted (asking asks n1)
         f.finishes
 
     abbrev me0 : ℕ
@@ -572,7 +576,7 @@ module _ {R K L V W : Type 0} (facts : R → Option (List Fact)) (whole : R → 
     -- finishing jobs notes runs and postings alone
     finish-still : (q : Event → Bool) → ((t r y : ℕ) → q (Ran t r y) ≡ false)
         → ((o : Owner) (k : ℕ) → q (Posted o k) ≡ false) → AllStill q finish.noted
-    finish-still q ran posted = these-still q ran posted answer f.parcels
+    finish-still q ran posted = these-still q ran posted workers.answer f.parcels
         (asking asks (raised now n0)) finish.noted (asking asks n1) f.finishes
 
     all-ends : filter is_end noted ≡ map (done_fact me0) (handle.dones ++ watch.ends.dones)
@@ -594,7 +598,7 @@ module _ {R K L V W : Type 0} (facts : R → Option (List Fact)) (whole : R → 
         ∙ sym (map-append (done_fact me0) handle.dones watch.ends.dones)
 
     handled-still : AllStill is_elsewhere handle.noted
-    handled-still = handled-elsewhere v.mode (asking asks n2) handle.noted (asking then_asks n3)
+    handled-still = handled-elsewhere service.mode_of (asking asks n2) handle.noted (asking then_asks n3)
         h.handles.steps
 
     post-still : (q : Event → Bool) → ((c r : ℕ) → q (Begun c r) ≡ false)
@@ -632,7 +636,7 @@ module _ {R K L V W : Type 0} (facts : R → Option (List Fact)) (whole : R → 
         let sends = many-none is_handled send.makes.noted (sends-still is_handled (λ p o k. refl)
         (asking asks n5) send.makes.noted (asking asks n6) (send.makes.step asks)) in
         let closes = many-none is_handled close.noted (close-still is_handled (λ n. refl)) in
-        let handles = handled-count v.mode (asking asks n2) handle.noted (asking then_asks n3)
+        let handles = handled-count service.mode_of (asking asks n2) handle.noted (asking then_asks n3)
         h.handles.steps in
         omega (
           arith,
@@ -690,17 +694,17 @@ module _ {R K L V W : Type 0} (facts : R → Option (List Fact)) (whole : R → 
     abbrev rest_told : Asking
     rest_told = both nothing asked_told
 
-    front-carried : LinkTook sent troubles (both nothing (both answers_told rest_told)) front l0 l2
+    front-carried : LinkTook net (both nothing (both answers_told rest_told)) front l0 l2
     front-carried =
-        link-both sent troubles nothing (both answers_told rest_told) _ finish.noted _ l0 l0 l2 refl
+        link-both net nothing (both answers_told rest_told) _ finish.noted _ l0 l0 l2 refl
         refl
-        (link-still sent troubles finish.noted l0
+        (link-still net finish.noted l0
         (finish-still is_sent (λ t r y. refl) (λ o k. refl))
         (finish-still is_unsent (λ t r y. refl) (λ o k. refl)))
-        (link-both sent troubles answers_told rest_told _ heard _ l0 l1 l2 refl refl
+        (link-both net answers_told rest_told _ heard _ l0 l1 l2 refl refl
         (record { took = hear.sends.took; went = hear.went; counts = hear.counts })
-        (link-both sent troubles nothing asked_told _ handle.noted watched l1 l1 l2 refl refl
-        (link-still sent troubles handle.noted l1 (handled-unsent handle.noted handled-still)
+        (link-both net nothing asked_told _ handle.noted watched l1 l1 l2 refl refl
+        (link-still net handle.noted l1 (handled-unsent handle.noted handled-still)
         (handled-unsaid handle.noted handled-still)) watch.link))
 
     front-tail : front ++ tail ≡ noted
@@ -716,11 +720,11 @@ module _ {R K L V W : Type 0} (facts : R → Option (List Fact)) (whole : R → 
         (post-still is_sent (λ c r. refl) (λ o k. refl))
         ∙ sent-before send.makes.noted close.noted (close-still is_sent (λ n. refl))
 
-    took : sent l3 ≡ option_map (λ ds. ds ++ sent_of noted) (sent l0)
+    took : net.sent l3 ≡ option_map (λ ds. ds ++ sent_of noted) (net.sent l0)
     took =
         send.took ∙ ap (option_map (λ ds. ds ++ sent_of send.makes.noted)) front-carried.took
-        ∙ took-then (sent l0) (sent_of front) (sent_of send.makes.noted)
-        ∙ ap (λ xs. option_map (λ ds. ds ++ xs) (sent l0))
+        ∙ took-then (net.sent l0) (sent_of front) (sent_of send.makes.noted)
+        ∙ ap (λ xs. option_map (λ ds. ds ++ xs) (net.sent l0))
         (ap (λ xs. sent_of front ++ xs) (sym tail-sent) ∙ sym (sent-append front tail)
         ∙ ap (λ (z : List Fact). sent_of z) front-tail)
 
@@ -736,9 +740,9 @@ module _ {R K L V W : Type 0} (facts : R → Option (List Fact)) (whole : R → 
     left : left_one (line n7.clock n7.lists.queued) ≡ left_one (line n6.clock n6.lists.queued)
     left = closed-left (asking asks n6) close.noted (asking asks n7) (close.step asks)
 
-    held-all : HeldBack (held_in noted n7) (troubles l0) (troubles l3)
+    held-all : HeldBack (held_in noted n7) (troubles_of net l0) (troubles_of net l3)
     held-all =
-        subst (λ (n : ℕ). HeldBack n (troubles l0) (troubles l3))
+        subst (λ (n : ℕ). HeldBack n (troubles_of net l0) (troubles_of net l3))
         (omega (
           arith,
           left,
@@ -746,12 +750,12 @@ module _ {R K L V W : Type 0} (facts : R → Option (List Fact)) (whole : R → 
           many-append is_unsent front tail,
           ap (λ (z : List Fact). many is_unsent z) front-tail,
         ))
-        (held-more (many is_unsent front) (left_one (line n6.clock n6.lists.queued)) (troubles l0)
-        (troubles l2) (troubles l3) front-carried.counts.held held)
+        (held-more (many is_unsent front) (left_one (line n6.clock n6.lists.queued)) (troubles_of net l0)
+        (troubles_of net l2) (troubles_of net l3) front-carried.counts.held held)
 
-    tells : TellsOfPoll given v (stands s0) (stands s1) turn
-        (record { sent = sent l0; troubles = troubles l0 })
-        (record { sent = sent l3; troubles = troubles l3 }) me0 noted n7 k0 k2
+    tells : TellsOfPoll given (rules_of service) (service.stands s0) (service.stands s1) turn
+        (wire_of net l0)
+        (wire_of net l3) me0 noted n7 k0 k2
     tells = record {
       answers = answers;
       dones = handle.dones ++ watch.ends.dones;
@@ -763,19 +767,19 @@ module _ {R K L V W : Type 0} (facts : R → Option (List Fact)) (whole : R → 
     }
 
   pub makes-poll : (h0 h7 : List (List Handed))
-      → MakesPoll facts whole given crew v stands answer turn now
-      (record { sent = sent l0; troubles = troubles l0 })
-      (record { sent = sent l3; troubles = troubles l3 })
+      → MakesPoll log given service workers turn now
+      (wire_of net l0)
+      (wire_of net l3)
       (record { timed = n0; handed = h0; service = s0; workers = w0 })
       (record { timed = n7; handed = h7; service = s1; workers = w2 }) r0 r6 k0 k2
   makes-poll h0 h7 = record {
     noted = noted;
-    grew = grew-then facts whole r0 rf r6 finish.noted _ finish.grew
-        (grew-then facts whole rf r1 r6 heard (handle.noted ++ last) hear.sends.makes.grew
-        (grew-then facts whole r1 r2 r6 handle.noted last handle.grew
-        (grew-then facts whole r2 r3 r6 watched tail watch.ends.makes.grew
-        (grew-then facts whole r3 r4 r6 post.noted _ post.grew
-        (grew-then facts whole r4 r5 r6 send.makes.noted close.noted send.makes.grew close.grew)))));
+    grew = grew-then log r0 rf r6 finish.noted _ finish.grew
+        (grew-then log rf r1 r6 heard (handle.noted ++ last) hear.sends.makes.grew
+        (grew-then log r1 r2 r6 handle.noted last handle.grew
+        (grew-then log r2 r3 r6 watched tail watch.ends.makes.grew
+        (grew-then log r3 r4 r6 post.noted _ post.grew
+        (grew-then log r4 r5 r6 send.makes.noted close.noted send.makes.grew close.grew)))));
     does = λ staffed. (polls-with staffed, tells staffed);
   }
 

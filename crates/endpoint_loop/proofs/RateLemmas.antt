@@ -1,13 +1,12 @@
 -- A session gets a rate.
 use Rattle.std.proofs.Common.{◌≡◌, ℕ, zero, suc, ◌+◌, ◌<◌, true, false, List, [], ◌∷◌, length}
-use Rattle.std.proofs.Common.{Option, None, Bool, Some, refl, sym, ap, ◌∙◌, eqb, arith}
+use Rattle.std.proofs.Common.{Option, None, Some, refl, sym, ap, ◌∙◌, eqb, arith}
 use Rattle.std.specs.Prelude.{slice_get, slice_set}
 use Rattle.std.specs.List.{find}
 use Rattle.std.proofs.lemmas.Bool.{eq-eqb, ne_eqb}
 use Rattle.std.proofs.lemmas.Option.{slice_get_within}
 use Rattle.rpc_base.specs.Tables.{at_first}
 use Rattle.rpc_base.specs.declared.event.Event.TheVariants.{Nrate, Rated}
-use Rattle.rpc_base.specs.declared.fact.Fact.{Fact}
 use Rattle.rpc_base.specs.declared.limits.Limits.{Limits}
 use Rattle.rpc_base.specs.declared.state.SessionState.{SessionState}
 use Rattle.packet_rings.specs.Rings.{Ring}
@@ -22,7 +21,7 @@ use Rattle.rpc_laws.specs.Groups.{SetsRate, state_of}
 use Rattle.rpc_laws.specs.NodeLists.{after}
 use Rattle.rpc_laws.specs.Pacing.{is_pace_of}
 use Rattle.rpc_laws.specs.Sessions.{is_client, is_live}
-use Rattle.rpc_outside.specs.Recording.{Grew}
+use Rattle.rpc_outside.specs.Recording.{Grew, Log}
 use Rattle.node_laws.proofs.KeptLemmas.{kept-after}
 use Rattle.node_laws.proofs.NumberLemmas.{numbered-get, numbered-kept}
 use Rattle.node_laws.specs.Valid.{NumberedFrom, client_no}
@@ -55,11 +54,10 @@ module _ (me : ℕ) (limits : Limits) (tallies : Tallies) (paces : List Pace) (j
   abbrev seen : Jobs → List Pace → Timed
   seen js ps = seen_node me limits tallies ps js clock rx s
 
-  pub node-refused : is_live state ≡ false → {R : Type 0} (facts : R → Option (List Fact))
-      (whole : R → Bool) (before now : R)
-      → Grew facts whole before now (plain me (Nrate session state) ∷ [])
-      → Makes facts whole (SetsRate session rate) (seen jobs paces) (seen jobs paces) before now
-  node-refused dead facts whole before now grew = record {
+  pub node-refused : is_live state ≡ false → {R : Type 0} (log : R → Log) (before now : R)
+      → Grew (log before) (log now) (plain me (Nrate session state) ∷ [])
+      → Makes log (SetsRate session rate) (seen jobs paces) (seen jobs paces) before now
+  node-refused dead log before now grew = record {
     noted = plain me (Nrate session state) ∷ [];
     grew = grew;
     step = λ asks. record { facts = rw (← is, dead) refl; goes = refl };
@@ -71,10 +69,10 @@ module _ (me : ℕ) (limits : Limits) (tallies : Tallies) (paces : List Pace) (j
         ≡ record { lists = after clock (seen js paces).lists (plain me (Rated session rate)); clock = clock }
     goes js = rw set refl
 
-    pub node-rated : {R : Type 0} (facts : R → Option (List Fact)) (whole : R → Bool) (before later : R)
-        → Grew facts whole before later (plain me (Rated session rate) ∷ [])
-        → Makes facts whole (SetsRate session rate) (seen jobs paces) (seen jobs now) before later
-    node-rated facts whole before later grew = record {
+    pub node-rated : {R : Type 0} (log : R → Log) (before later : R)
+        → Grew (log before) (log later) (plain me (Rated session rate) ∷ [])
+        → Makes log (SetsRate session rate) (seen jobs paces) (seen jobs now) before later
+    node-rated log before later grew = record {
       noted = plain me (Rated session rate) ∷ [];
       grew = grew;
       step = λ asks. record { facts = rw (← is, live) refl; goes = goes (asking_jobs asks jobs) };

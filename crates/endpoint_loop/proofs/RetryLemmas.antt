@@ -15,7 +15,6 @@ use Rattle.packet_rings.specs.Values.{DatagramValue}
 use Rattle.rpc_base.specs.Tables.{at_first, without_first}
 use Rattle.rpc_base.specs.declared.event.Event.{Event}
 use Rattle.rpc_base.specs.declared.event.Event.TheVariants.{ClosedUnheard, FailedNoAnswer, Sent}
-use Rattle.rpc_base.specs.declared.fact.Fact.{Fact}
 use Rattle.rpc_base.specs.declared.limits.Limits.{Limits}
 use Rattle.rpc_base.specs.declared.limits.TheConstants.{MOST_CREDITS, SESSION_NUMBERS}
 use Rattle.rpc_base.specs.declared.owner.Owner.{Owner}
@@ -40,8 +39,8 @@ use Rattle.rpc_laws.specs.Queues.{is_queued}
 use Rattle.rpc_laws.specs.Sessions.{clients_told, comes_to, is_client, is_connected, is_request_of}
 use Rattle.rpc_laws.specs.Sessions.{requests}
 use Rattle.rpc_laws.specs.Steps.{NotesNext}
-use Rattle.rpc_outside.specs.Linking.{Carried}
-use Rattle.rpc_outside.specs.Recording.{Grew}
+use Rattle.rpc_outside.specs.Recording.{Grew, Log}
+use Rattle.rpc_outside.specs.declared.link.Link as Link
 use Rattle.node_laws.specs.Valid.{NumberedFrom, client_no}
 use Rattle.node_laws.proofs.Allowed.{Allowed}
 use Rattle.node_laws.proofs.NumberLemmas.{numbered-at}
@@ -53,7 +52,7 @@ use Rattle.endpoint_loop.specs.Fits.{Fits, IsSendable, IsSettled, has_server, is
 use Rattle.endpoint_loop.specs.Noting.{Makes}
 use Rattle.endpoint_loop.specs.Seen.{Tallies, asking_jobs, seen_node}
 use Rattle.endpoint_loop.specs.Speaking.{FailedAs, GivesUpAt, HeldBack, is_unsent, LinkTook}
-use Rattle.endpoint_loop.specs.Speaking.{MakesSpoken, SendsRequest, Troubles}
+use Rattle.endpoint_loop.specs.Speaking.{MakesSpoken, SendsRequest, troubles_of}
 use Rattle.endpoint_loop.specs.declared.retrying.Asking.{Asking}
 use Rattle.endpoint_loop.proofs.JoinLemmas.{changed, fits-client, in-state, its, settled}
 use Rattle.endpoint_loop.proofs.NotesLemmas.{no_asks}
@@ -169,15 +168,15 @@ few-sends clock timeout sends sent_at e = by _ (ltb sends 9) refl e
     by false false t h = cc
 
 -- the link didn't take it
-module _ {R L : Type 0} (facts : R → Option (List Fact)) (whole : R → Bool)
-    (sent : L → Option (List Carried)) (troubles : L → Troubles) (a : Timed) (i peer : ℕ)
+module _ {R L : Type 0} (log : R → Log)
+    (net : Link.Ghosts L) (a : Timed) (i peer : ℕ)
     (h : ControlHeader) (x : Client) (place : slice_get a.lists.clients i ≡ Some x)
     (is : peer ≡ x.way.peer) (before now : R) (from to : L) where
   pub spoken-unsent : (failed : Bool)
-      → Spoke facts whole sent a.lists.me peer h false before now from to
-      → HeldBack 1 (troubles from) (troubles to)
-      → FailedAs failed (troubles from).faults (troubles to).faults
-      → MakesSpoken facts whole sent troubles (SendsRequest i h)
+      → Spoke log net.sent a.lists.me peer h false before now from to
+      → HeldBack 1 (troubles_of net from) (troubles_of net to)
+      → FailedAs failed (troubles_of net from).faults (troubles_of net to).faults
+      → MakesSpoken log net (SendsRequest i h)
       (record { sent = 0; failed = failed }) a a before now from to
   spoken-unsent failed s held cause = record {
     makes = record {
@@ -262,15 +261,15 @@ module _ (me : ℕ) (limits : Limits) (tallies : Tallies) (paces : List Pace) (j
           none_left = old.none_left;
         }) size places
 
-    pub spoken-sent : {R L : Type 0} (facts : R → Option (List Fact)) (whole : R → Bool)
-        (sent : L → Option (List Carried)) (troubles : L → Troubles) (before now : R) (from to : L)
-        → Grew facts whole before now (control_fact true me peer head ∷ [])
-        → LinkTook sent troubles (record { sent = 1; failed = false })
+    pub spoken-sent : {R L : Type 0} (log : R → Log)
+        (net : Link.Ghosts L) (before now : R) (from to : L)
+        → Grew (log before) (log now) (control_fact true me peer head ∷ [])
+        → LinkTook net (record { sent = 1; failed = false })
         (control_fact true me peer head ∷ []) from to
         → ((k : ℕ) → slice_index head k < 256)
-        → MakesSpoken facts whole sent troubles (SendsRequest i h)
+        → MakesSpoken log net (SendsRequest i h)
         (record { sent = 1; failed = false }) (seen s) (seen t) before now from to
-    spoken-sent facts whole sent troubles before now from to grew link bytes = record {
+    spoken-sent log net before now from to grew link bytes = record {
       makes = record {
         noted = control_fact true me peer head ∷ [];
         grew = grew;
@@ -316,10 +315,10 @@ module _ (me : ℕ) (limits : Limits) (tallies : Tallies) (paces : List Pace) (j
             none_left = λ other. old.none_left (ap is_connected stood ∙ closed);
           }) size places
 
-      ends-noted : {R : Type 0} (facts : R → Option (List Fact)) (whole : R → Bool)
-          (before now : R) → Grew facts whole before now (plain me event ∷ [])
-          → Makes facts whole (NotesNext (λ l. Some event)) (seen s) (seen t) before now
-      ends-noted facts whole before now grew = record {
+      ends-noted : {R : Type 0} (log : R → Log)
+          (before now : R) → Grew (log before) (log now) (plain me event ∷ [])
+          → Makes log (NotesNext (λ l. Some event)) (seen s) (seen t) before now
+      ends-noted log before now grew = record {
         noted = plain me event ∷ [];
         grew = grew;
         step = λ asks. record {
@@ -353,12 +352,12 @@ module _ (me : ℕ) (limits : Limits) (tallies : Tallies) (paces : List Pace) (j
                 servers queued Connecting was;
           }) size places
 
-      pub node-unanswered : {R : Type 0} (facts : R → Option (List Fact)) (whole : R → Bool)
-          (before now : R) → Grew facts whole before now (plain me (FailedNoAnswer i) ∷ [])
-          → Makes facts whole (NotesNext (λ l. Some (FailedNoAnswer i))) (seen s) (seen t) before
+      pub node-unanswered : {R : Type 0} (log : R → Log)
+          (before now : R) → Grew (log before) (log now) (plain me (FailedNoAnswer i) ∷ [])
+          → Makes log (NotesNext (λ l. Some (FailedNoAnswer i))) (seen s) (seen t) before
           now
-      node-unanswered facts whole before now grew =
-          ends-noted Failed Connecting (FailedNoAnswer i) at was refl refl goes-failed facts whole
+      node-unanswered log before now grew =
+          ends-noted Failed Connecting (FailedNoAnswer i) at was refl refl goes-failed log
           before now grew
 
     module _ (at : ChangesAt i (comes_to Closed) s.clients t.clients)
@@ -384,12 +383,12 @@ module _ (me : ℕ) (limits : Limits) (tallies : Tallies) (paces : List Pace) (j
                 servers queued Closing was;
           }) size places
 
-      pub node-unheard : {R : Type 0} (facts : R → Option (List Fact)) (whole : R → Bool)
-          (before now : R) → Grew facts whole before now (plain me (ClosedUnheard i) ∷ [])
-          → Makes facts whole (NotesNext (λ l. Some (ClosedUnheard i))) (seen s) (seen t) before
+      pub node-unheard : {R : Type 0} (log : R → Log)
+          (before now : R) → Grew (log before) (log now) (plain me (ClosedUnheard i) ∷ [])
+          → Makes log (NotesNext (λ l. Some (ClosedUnheard i))) (seen s) (seen t) before
           now
-      node-unheard facts whole before now grew =
-          ends-noted Closed Closing (ClosedUnheard i) at was refl refl goes-unheard facts whole
+      node-unheard log before now grew =
+          ends-noted Closed Closing (ClosedUnheard i) at was refl refl goes-unheard log
           before now grew
 
 -- a session gives up
@@ -413,11 +412,11 @@ given-closing xs i x place numbered state =
     let same : 0 + i ≡ i = omega arith in
     rw (state, numbered-at client_no 0 i xs x numbered place ∙ same) refl
 
-module _ {R : Type 0} (facts : R → Option (List Fact)) (whole : R → Bool) (i : ℕ) where
+module _ {R : Type 0} (log : R → Log) (i : ℕ) where
   pub gives-up-by : (a b : Timed) (f g : R) (x : Client) (event : Event)
       → slice_get a.lists.clients i ≡ Some x → given_up x.state x.way.number ≡ event ∷ []
-      → Makes facts whole (NotesNext (λ l. Some event)) a b f g
-      → Makes facts whole (GivesUpAt i) a b f g
+      → Makes log (NotesNext (λ l. Some event)) a b f g
+      → Makes log (GivesUpAt i) a b f g
   gives-up-by a b f g x event place given makes = record {
     noted = makes.noted;
     grew = makes.grew;
@@ -435,10 +434,10 @@ module _ {R : Type 0} (facts : R → Option (List Fact)) (whole : R → Bool) (i
       some-event d e t = cc
 
   pub gives-up-none : (a : Timed) (f : R) (x : Client) → slice_get a.lists.clients i ≡ Some x
-      → x.state ≢ Connecting → x.state ≢ Closing → Makes facts whole (GivesUpAt i) a a f f
+      → x.state ≢ Connecting → x.state ≢ Closing → Makes log (GivesUpAt i) a a f f
   gives-up-none a f x place one two = record {
     noted = [];
-    grew = grew-none facts whole f;
+    grew = grew-none log f;
     step = λ asks. record {
       facts = rw place (ap (map (plain a.lists.me))
           (sym (given-none x.state x.way.number one two)));
@@ -447,36 +446,36 @@ module _ {R : Type 0} (facts : R → Option (List Fact)) (whole : R → Bool) (i
   }
 
 -- what a session does about its own request
-module _ {R L : Type 0} (facts : R → Option (List Fact)) (whole : R → Bool)
-    (sent : L → Option (List Carried)) (troubles : L → Troubles) (timeout i : ℕ) (a : Timed)
+module _ {R L : Type 0} (log : R → Log)
+    (net : Link.Ghosts L) (timeout i : ℕ) (a : Timed)
     (x : Client) (place : slice_get a.lists.clients i ≡ Some x) where
   pub retries-none : own_request x ≡ None → (f : R) (l : L)
-      → MakesSpoken facts whole sent troubles (Retries timeout i) nothing a a f f l l
+      → MakesSpoken log net (Retries timeout i) nothing a a f f l l
   retries-none none f l = record {
     makes = record {
       noted = [];
-      grew = grew-none facts whole f;
+      grew = grew-none log f;
       step = λ asks. record { facts = rw (place, none) refl; goes = refl };
     };
-    link = link-still sent troubles [] l tt tt;
+    link = link-still net [] l tt tt;
   }
 
   module _ (h : ControlHeader) (own : own_request x ≡ Some h) where
     pub retries-rest : retry_row a.clock timeout x.sends x.sent_at ≡ Rests → (f : R) (l : L)
-        → MakesSpoken facts whole sent troubles (Retries timeout i) nothing a a f f l l
+        → MakesSpoken log net (Retries timeout i) nothing a a f f l l
     retries-rest row f l = record {
       makes = record {
         noted = [];
-        grew = grew-none facts whole f;
+        grew = grew-none log f;
         step = λ asks. record { facts = rw (place, own, row) refl; goes = refl };
       };
-      link = link-still sent troubles [] l tt tt;
+      link = link-still net [] l tt tt;
     }
 
     pub retries-asks : {d : Asking} → retry_row a.clock timeout x.sends x.sent_at ≡ Asks
         → (b : Timed) (f g : R) (l m : L)
-        → MakesSpoken facts whole sent troubles (SendsRequest i h) d a b f g l m
-        → MakesSpoken facts whole sent troubles (Retries timeout i) d a b f g l m
+        → MakesSpoken log net (SendsRequest i h) d a b f g l m
+        → MakesSpoken log net (Retries timeout i) d a b f g l m
     retries-asks row b f g l m p = record {
       makes = record {
         noted = p.makes.noted;
@@ -489,8 +488,8 @@ module _ {R L : Type 0} (facts : R → Option (List Fact)) (whole : R → Bool)
     }
 
     pub retries-over : retry_row a.clock timeout x.sends x.sent_at ≡ GivesUp → (b : Timed)
-        (f g : R) (l : L) → Makes facts whole (GivesUpAt i) a b f g
-        → MakesSpoken facts whole sent troubles (Retries timeout i) nothing a b f g l l
+        (f g : R) (l : L) → Makes log (GivesUpAt i) a b f g
+        → MakesSpoken log net (Retries timeout i) nothing a b f g l l
     retries-over row b f g l p = record {
       makes = record {
         noted = p.noted;
@@ -499,7 +498,7 @@ module _ {R L : Type 0} (facts : R → Option (List Fact)) (whole : R → Bool)
             let q = p.step asks in
             record { facts = rw (place, own, row) (rw place at q.facts); goes = q.goes };
       };
-      link = link-still sent troubles p.noted l (silent is_sent (λ s n. sent-given s n))
+      link = link-still net p.noted l (silent is_sent (λ s n. sent-given s n))
           (silent is_unsent (λ s n. unsent-given s n));
     }
       where

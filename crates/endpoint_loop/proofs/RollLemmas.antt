@@ -16,7 +16,7 @@ use Rattle.rpc_base.proofs.PlaceLemmas.{all-at}
 use Rattle.packet_rings.specs.Rings.{Ring}
 use Rattle.packet_rings.specs.Values.{DatagramValue}
 use Rattle.client_core.specs.declared.active.Active.{Active}
-use Rattle.rpc_outside.specs.Recording.{Grew}
+use Rattle.rpc_outside.specs.Recording.{Grew, Log}
 use Rattle.rpc_laws.specs.declared.tables.Call.{Call}
 use Rattle.rpc_laws.specs.declared.tables.Client.{Client}
 use Rattle.rpc_laws.specs.declared.tables.Jobs.{Jobs}
@@ -225,11 +225,11 @@ module _ (me : ℕ) (limits : Limits) (tallies : Tallies) (paces : List Pace) (j
         buffers = places ∙ fits.buffers;
       }
 
-      pub node-rolled : {R : Type 0} (facts : R → Option (List Fact)) (whole : R → Bool)
+      pub node-rolled : {R : Type 0} (log : R → Log)
           (before now : R) (n posted got : ℕ) → n ≡ a.call → posted ≡ a.posted → got ≡ a.got
-          → Grew facts whole before now (plain me (Rolled n posted got) ∷ [])
-          → Makes facts whole (Notes (rolling a)) (seen s) (seen t) before now
-      node-rolled facts whole before now n posted got n-is posted-is got-is grew = record {
+          → Grew (log before) (log now) (plain me (Rolled n posted got) ∷ [])
+          → Makes log (Notes (rolling a)) (seen s) (seen t) before now
+      node-rolled log before now n posted got n-is posted-is got-is grew = record {
         noted = plain me (Rolled a.call a.posted a.got) ∷ [];
         grew = rw (← n-is, ← posted-is, ← got-is) grew;
         step = λ asks. record {
@@ -245,13 +245,13 @@ module _ (me : ℕ) (limits : Limits) (tallies : Tallies) (paces : List Pace) (j
       }
 
 -- a rollback, whole
-pub rolled-whole : {R : Type 0} (facts : R → Option (List Fact)) (whole : R → Bool) (i : ℕ)
+pub rolled-whole : {R : Type 0} (log : R → Log) (i : ℕ)
     (active : Active) (a b c : Timed) (f g h : R) → b.lists.me ≡ a.lists.me
-    → Makes facts whole (Notes (flushing (Ask i active.request))) a b f g
-    → Makes facts whole (Notes (rolling active)) b c g h
-    → Makes facts whole (Notes (rolling_back i active)) a c f h
-rolled-whole facts whole i active a b c f g h me p q =
-    makes-notes facts whole (flushing (Ask i active.request)) (rolling active)
+    → Makes log (Notes (flushing (Ask i active.request))) a b f g
+    → Makes log (Notes (rolling active)) b c g h
+    → Makes log (Notes (rolling_back i active)) a c f h
+rolled-whole log i active a b c f g h me p q =
+    makes-notes log (flushing (Ask i active.request)) (rolling active)
     (rolling_back i active) a b c f g h
     (λ asks. ap (λ m. flushing (Ask i active.request) (asking asks a)
     ++ plain m (Rolled active.call active.posted active.got) ∷ []) me) p q

@@ -7,7 +7,6 @@ use Rattle.std.specs.List.{AllByRecursion, find}
 use Rattle.std.proofs.lemmas.Bool.{eq-eqb}
 use Rattle.rpc_base.specs.Tables.{at_first, without_first}
 use Rattle.rpc_base.specs.declared.event.Event.TheVariants.{Polled, Sent}
-use Rattle.rpc_base.specs.declared.fact.Fact.{Fact}
 use Rattle.rpc_base.specs.declared.limits.Limits.{Limits}
 use Rattle.rpc_base.specs.declared.owner.Owner.{Owner}
 use Rattle.rpc_base.specs.declared.owner.Owner.TheVariants.{Ask, Reply, Control}
@@ -17,7 +16,7 @@ use Rattle.packet_rings.specs.Rings.{Ring}
 use Rattle.packet_rings.specs.Values.{DatagramValue, EntryValue}
 use Rattle.client_core.proofs.CallsLemmas.{length-at_first}
 use Rattle.rpc_outside.specs.Linking.{Carried}
-use Rattle.rpc_outside.specs.Recording.{Grew}
+use Rattle.rpc_outside.specs.Recording.{Grew, Log}
 use Rattle.rpc_laws.specs.declared.tables.Call.{Call}
 use Rattle.rpc_laws.specs.declared.tables.Client.{Client}
 use Rattle.rpc_laws.specs.declared.tables.Jobs.{Jobs}
@@ -272,13 +271,13 @@ module _ (me : ℕ) (limits : Limits) (tallies : Tallies) (paces : List Pace) (j
           ∙ ap (λ k. packet_in s q.owner k) (sym first.number)
           ∙ packet-is js q.owner q.number q.due
 
-      pub node-sent : {R L : Type 0} (facts : R → Option (List Fact)) (whole : R → Bool)
+      pub node-sent : {R L : Type 0} (log : R → Log)
           (sent : L → Option (List Carried)) (before now : R) (from to : L) (p : ℕ) (o : Owner)
           (k : ℕ) → p ≡ e.peer → o ≡ e.owner → k ≡ e.number
-          → Grew facts whole before now (with_two me (Sent p o k) head body ∷ [])
+          → Grew (log before) (log now) (with_two me (Sent p o k) head body ∷ [])
           → sent to ≡ option_map (λ ds. ds ++ (p, head ++ body) ∷ []) (sent from)
-          → MakesSent facts whole sent Sends (seen s) (seen t) before now from to
-      node-sent facts whole sent before now from to p o k peer-is owner-is number-is grew took =
+          → MakesSent log sent Sends (seen s) (seen t) before now from to
+      node-sent log sent before now from to p o k peer-is owner-is number-is grew took =
           let peer : spelled.out.peer ≡ p =
           peer-of s e.owner e.number e.peer spelled.out spelled.is front.peer
           ∙ sym peer-is in
@@ -399,10 +398,10 @@ module _ (me : ℕ) (limits : Limits) (tallies : Tallies) (paces : List Pace) (j
       ≡ record { lists = after clock (closed_with js s).lists (plain me (Polled clock)); clock = clock }
   closes js = rw (queued, clients, servers) refl
 
-  pub node-closed : {R : Type 0} (facts : R → Option (List Fact)) (whole : R → Bool) (before now : R)
-      → Grew facts whole before now (plain me (Polled clock) ∷ [])
-      → Makes facts whole Closes (closed_with jobs s) (closed_with jobs t) before now
-  node-closed facts whole before now grew = record {
+  pub node-closed : {R : Type 0} (log : R → Log) (before now : R)
+      → Grew (log before) (log now) (plain me (Polled clock) ∷ [])
+      → Makes log Closes (closed_with jobs s) (closed_with jobs t) before now
+  node-closed log before now grew = record {
     noted = plain me (Polled clock) ∷ [];
     grew = grew;
     step = λ asks. record { facts = refl; goes = closes (asking_jobs asks jobs) };

@@ -45,7 +45,7 @@ use Rattle.rpc_laws.specs.Requests.{took_packet}
 use Rattle.rpc_laws.specs.ServerTable.{is_last, makes_job, served_facts}
 use Rattle.rpc_laws.specs.Service.{Answers, Serving, runs_inline, served_after_all}
 use Rattle.rpc_laws.proofs.RunLemmas.{after_all-append}
-use Rattle.rpc_outside.specs.Recording.{Grew}
+use Rattle.rpc_outside.specs.Recording.{Grew, Log}
 use Rattle.rpc_outside.specs.Served.{Served}
 use Rattle.rpc_outside.specs.declared.service.Mode.{Mode}
 use Rattle.node_laws.specs.Kept.{Kept}
@@ -110,20 +110,20 @@ module _ (me : ℕ) (limits : Limits) (tallies : Tallies) (paces : List Pace) (j
         rw (is, ← body-here) (asks-allowed clock (old js) kept.valid h header d.peer mode_of lacks
         answer)
 
-    module _ {R : Type 0} (facts : R → Option (List Fact)) (whole : R → Bool) (before now : R)
+    module _ {R : Type 0} (log : R → Log) (before now : R)
         (answer_of : Served → ℕ → List ℕ → List ℕ) (stands then_stands : Served → Type 0) where
       abbrev v_of : Serving
       v_of = record { mode = mode_of; answer = answer_of }
 
       abbrev Result : Option Parcel → Tallies → Jobs → Ring DatagramValue → Shown → Type 0
       Result o ta js q u =
-          MakesServed facts whole v_of stands then_stands (ServesRequest mode_of h) o
+          MakesServed log v_of stands then_stands (ServesRequest mode_of h) o
           (seen tallies jobs rx s) (seen ta js q u) before now
 
       -- facts that are the rule's, and lead to the node as it is
       node-served : (o : Option Parcel) (ta : Tallies) (js : Jobs) (q : Ring DatagramValue)
           (u : Shown) (lacks : Bool) (answer : List ℕ) (x : List Fact)
-          → Grew facts whole before now x
+          → Grew (log before) (log now) x
           → ((asks : Asks)
           → x ≡ asks_facts mode_of lacks answer (old (asking_jobs asks jobs)) d.peer h body)
           → ((asks : Asks) → AsksAs o asks → seen ta (asking_jobs asks js) q u
@@ -156,8 +156,8 @@ module _ (me : ℕ) (limits : Limits) (tallies : Tallies) (paces : List Pace) (j
           → ((js : Jobs) → asks_facts mode_of false [] (old js) d.peer h body
           ≡ plain me (DroppedEvent why) ∷ []) → u.lists.jobs ≡ jobs
           → ((served : Served) → stands served → then_stands served)
-          → Makes facts whole (DropsFront why) (seen tallies jobs rx s) u before now
-          → MakesServed facts whole v_of stands then_stands (ServesRequest mode_of h) None
+          → Makes log (DropsFront why) (seen tallies jobs rx s) u before now
+          → MakesServed log v_of stands then_stands (ServesRequest mode_of h) None
           (seen tallies jobs rx s) u before now
       dropped-by why u is left still makes = record {
         makes = record {
@@ -184,8 +184,8 @@ module _ (me : ℕ) (limits : Limits) (tallies : Tallies) (paces : List Pace) (j
       pub node-unknown : (u : Timed) → position (is_server h.session) s.servers ≡ None
           → u.lists.jobs ≡ jobs
           → ((served : Served) → stands served → then_stands served)
-          → Makes facts whole (DropsFront NoSession) (seen tallies jobs rx s) u before now
-          → MakesServed facts whole v_of stands then_stands (ServesRequest mode_of h) None
+          → Makes log (DropsFront NoSession) (seen tallies jobs rx s) u before now
+          → MakesServed log v_of stands then_stands (ServesRequest mode_of h) None
           (seen tallies jobs rx s) u before now
       node-unknown u missing left still makes =
           let none = find-missing (is_server h.session) s.servers missing in
@@ -195,14 +195,14 @@ module _ (me : ℕ) (limits : Limits) (tallies : Tallies) (paces : List Pace) (j
           → IfSome (slice_get s.servers i) (λ v. p ≡ v.way.peer) → i < length s.servers
           → (p ≡ d.peer → ⊥) → u.lists.jobs ≡ jobs
           → ((served : Served) → stands served → then_stands served)
-          → Makes facts whole (DropsFront WrongPeer) (seen tallies jobs rx s) u before now
-          → MakesServed facts whole v_of stands then_stands (ServesRequest mode_of h) None
+          → Makes log (DropsFront WrongPeer) (seen tallies jobs rx s) u before now
+          → MakesServed log v_of stands then_stands (ServesRequest mode_of h) None
           (seen tallies jobs rx s) u before now
       node-stranger u i p place own within other left still makes =
           by (slice_get s.servers i) refl own
         where
           by : (o : Option Server) → slice_get s.servers i ≡ o → IfSome o (λ v. p ≡ v.way.peer)
-              → MakesServed facts whole v_of stands then_stands (ServesRequest mode_of h) None
+              → MakesServed log v_of stands then_stands (ServesRequest mode_of h) None
               (seen tallies jobs rx s) u before now
           by None e is = absurd (slice_get-some s.servers i within e)
           by (Some v) e is =
@@ -251,15 +251,14 @@ module _ (me : ℕ) (limits : Limits) (tallies : Tallies) (paces : List Pace) (j
           (place : position (is_server h.session) s.servers ≡ Some i)
           (peer : IfSome (slice_get s.servers i)
           (λ v. IfSome (slice_get (map arrival_of rx.items) 0) (λ a. v.way.peer ≡ a.peer)))
-          (few : replies s.queued < rx.size) {R : Type 0} (facts : R → Option (List Fact))
-          (whole : R → Bool) (before now : R) (answer_of : Served → ℕ → List ℕ → List ℕ)
+          (few : replies s.queued < rx.size) {R : Type 0} (log : R → Log) (before now : R) (answer_of : Served → ℕ → List ℕ → List ℕ)
           (stands then_stands : Served → Type 0) where
         abbrev mode : Mode
         mode = mode_of h.req_type
 
         abbrev At : Step → Type 0
         At step =
-            HandlesAt facts whole mode full me i h body answer_of stands then_stands before now
+            HandlesAt log mode full me i h body answer_of stands then_stands before now
             step s t
 
         abbrev serving : Serving
@@ -267,7 +266,7 @@ module _ (me : ℕ) (limits : Limits) (tallies : Tallies) (paces : List Pace) (j
 
         abbrev Ends : Option Parcel → Tallies → Jobs → Type 0
         Ends o ta js =
-            MakesServed facts whole serving stands then_stands (ServesRequest mode_of h) o
+            MakesServed log serving stands then_stands (ServesRequest mode_of h) o
             (seen tallies jobs rx s) (seen ta js q t) before now
 
         module _ (step : Step) (p : At step) where
@@ -414,10 +413,10 @@ module _ (me : ℕ) (limits : Limits) (tallies : Tallies) (paces : List Pace) (j
             pub node-again : ((old_served : Served) → stands old_served → then_stands old_served)
                 → Ends None tallies jobs
             node-again still =
-                node-served facts whole before now answer_of stands then_stands None tallies jobs
+                node-served log before now answer_of stands then_stands None tallies jobs
                 q t
                 false p.handled.answer (again ∷ posted ∷ [])
-                (subst (λ (x : List Fact). Grew facts whole before now x) ruled-again
+                (subst (λ (x : List Fact). Grew (log before) (log now) x) ruled-again
                 p.handled.grew)
                 (λ asks. facts-again (asking_jobs asks jobs) (full-asking asks jobs))
                 (λ asks asked. goes-again (asking_jobs asks jobs))
@@ -475,9 +474,9 @@ module _ (me : ℕ) (limits : Limits) (tallies : Tallies) (paces : List Pace) (j
           pub node-drop : ((old_served : Served) → stands old_served → then_stands old_served)
               → Ends None dropped_tallies jobs
           node-drop still =
-              node-served facts whole before now answer_of stands then_stands None dropped_tallies
+              node-served log before now answer_of stands then_stands None dropped_tallies
               jobs q t lacks-and.0 p.handled.answer (dropped ∷ [])
-              (subst (λ (x : List Fact). Grew facts whole before now x) ruled-dropped
+              (subst (λ (x : List Fact). Grew (log before) (log now) x) ruled-dropped
               p.handled.grew)
               (λ asks. facts-drop (asking_jobs asks jobs) (full-asking asks jobs))
               (λ asks asked. goes-dropped (asking_jobs asks jobs))
@@ -570,10 +569,10 @@ module _ (me : ℕ) (limits : Limits) (tallies : Tallies) (paces : List Pace) (j
             pub node-took : ((old_served : Served) → stands old_served → then_stands old_served)
                 → Ends None tallies jobs
             node-took still =
-                node-served facts whole before now answer_of stands then_stands None tallies jobs
+                node-served log before now answer_of stands then_stands None tallies jobs
                 q t
                 false p.handled.answer noted-took
-                (subst (λ (x : List Fact). Grew facts whole before now x) ruled-took p.handled.grew)
+                (subst (λ (x : List Fact). Grew (log before) (log now) x) ruled-took p.handled.grew)
                 (λ asks. facts-taken (asking_jobs asks jobs) (full-asking asks jobs))
                 (λ asks asked. goes-took (asking_jobs asks jobs))
                 (λ old_served st. (
@@ -701,9 +700,9 @@ module _ (me : ℕ) (limits : Limits) (tallies : Tallies) (paces : List Pace) (j
 
           pub node-ran : Ends None ran_tallies jobs
           node-ran =
-              node-served facts whole before now answer_of stands then_stands None ran_tallies jobs
+              node-served log before now answer_of stands then_stands None ran_tallies jobs
               q t false p.handled.answer noted-ran
-              (subst (λ (x : List Fact). Grew facts whole before now x) ruled-ran p.handled.grew)
+              (subst (λ (x : List Fact). Grew (log before) (log now) x) ruled-ran p.handled.grew)
               (λ asks. facts-run (asking_jobs asks jobs) (full-asking asks jobs))
               (λ asks asked. goes-ran (asking_jobs asks jobs) (asking_jobs asks jobs)
               (none-out h.session h.request asks jobs none))
@@ -876,9 +875,9 @@ module _ (me : ℕ) (limits : Limits) (tallies : Tallies) (paces : List Pace) (j
               → ((old_served : Served) → stands old_served → then_stands old_served)
               → Ends (Some parcel) given_tallies js_now
           node-give more still =
-              node-served facts whole before now answer_of stands then_stands (Some parcel)
+              node-served log before now answer_of stands then_stands (Some parcel)
               given_tallies js_now q t false p.handled.answer noted-give
-              (subst (λ (x : List Fact). Grew facts whole before now x) ruled-give p.handled.grew)
+              (subst (λ (x : List Fact). Grew (log before) (log now) x) ruled-give p.handled.grew)
               (λ asks. facts-given (asking_jobs asks jobs) (full-asking asks jobs))
               (λ asks own. goes-give (asking_jobs asks jobs) (asking_jobs asks js_now)
               (asked asks own))

@@ -4,13 +4,13 @@ use Rattle.std.proofs.Common.{None}
 use Rattle.std.proofs.Common.{List, [], ◌∷◌, length, refl, sym, ap, subst, ◌∙◌, arith}
 use Rattle.std.specs.Prelude.{◌==◌, IfSome, not, map, slice_get, slice_set}
 use Rattle.std.specs.List.{AllByRecursion, position, position_or_len}
+use Rattle.rpc_outside.specs.Recording.{Log}
 use Rattle.rpc_base.proofs.BasicLemmas.{false-true, found-below, not-false}
 use Rattle.std.proofs.lemmas.Bool.{eq-eqb, eqb-true}
 use Rattle.std.proofs.lemmas.List.{length-map}
 use Rattle.packet_header.specs.declared.packet.MessageHeader.{MessageHeader}
 use Rattle.packet_rings.specs.Values.{DatagramValue}
 use Rattle.rpc_base.specs.Tables.{at_first}
-use Rattle.rpc_base.specs.declared.fact.Fact.{Fact}
 use Rattle.rpc_base.proofs.TablesLemmas.{find-found}
 use Rattle.rpc_base.proofs.TakingLemmas.{find-passes}
 use Rattle.rpc_base.proofs.PlaceLemmas.{all-at, set-here}
@@ -138,14 +138,14 @@ number-there n i servers e = (within-of, by (slice_get servers i) refl)
         (find-found (is_server n) servers i e ∙ s)))
 
 -- a packet by another name of its body
-pub as-asked : {R : Type 0} (facts : R → Option (List Fact)) (whole : R → Bool) (mode : Mode)
+pub as-asked : {R : Type 0} (log : R → Log) (mode : Mode)
     (full : Bool) (me i : ℕ) (h : MessageHeader) (answer_of : Served → ℕ → List ℕ → List ℕ)
     (stands then_stands : Served → Type 0) (before now : R) (step : Step) (s t : Shown)
     (b c : List ℕ) → b ≡ c
-    → HandlesAt facts whole mode full me i h b answer_of stands then_stands before now step s t
-    → HandlesAt facts whole mode full me i h c answer_of stands then_stands before now step s t
-as-asked facts whole mode full me i h answer_of stands then_stands before now step s t b c e p =
-    subst (λ (z : List ℕ). HandlesAt facts whole mode full me i h z answer_of stands then_stands
+    → HandlesAt log mode full me i h b answer_of stands then_stands before now step s t
+    → HandlesAt log mode full me i h c answer_of stands then_stands before now step s t
+as-asked log mode full me i h answer_of stands then_stands before now step s t b c e p =
+    subst (λ (z : List ℕ). HandlesAt log mode full me i h z answer_of stands then_stands
     before now step s t) e p
 
 -- there is room for a reply

@@ -1,16 +1,16 @@
 -- What several steps hand to the link, one after another.
-use Rattle.std.proofs.Common.{◌≡◌, ℕ, ◌+◌, ◌||◌, Bool, true, false, Option, List, []}
+use Rattle.std.proofs.Common.{◌≡◌, ℕ, ◌+◌, ◌||◌, Bool, true, false, List, []}
 use Rattle.std.proofs.Common.{◌∷◌, ◌++◌, refl, sym, ap, subst, ◌∙◌, arith}
 use Rattle.std.specs.Prelude.{count_by, option_map}
 use Rattle.rpc_base.specs.declared.fact.Fact.{Fact}
 use Rattle.rpc_laws.specs.declared.tables.Queued.{Queued}
 use Rattle.rpc_outside.specs.Faults.{HasRisen}
-use Rattle.rpc_outside.specs.Linking.{Carried}
+use Rattle.rpc_outside.specs.declared.link.Link as Link
 use Rattle.endpoint_loop.specs.Counting.{is_sent}
 use Rattle.endpoint_loop.specs.Noting.{sent_of}
 use Rattle.endpoint_loop.specs.Polling.{left_one}
 use Rattle.endpoint_loop.specs.Speaking.{CountsUnsent, FailedAs, HeldBack, is_unsent, LinkTook}
-use Rattle.endpoint_loop.specs.Speaking.{RisenBy, Troubles, unsent_in}
+use Rattle.endpoint_loop.specs.Speaking.{RisenBy, Troubles, unsent_in, troubles_of}
 use Rattle.endpoint_loop.specs.declared.retrying.Asking.{Asking}
 use Rattle.endpoint_loop.proofs.NotingLemmas.{sent-append, took-none, took-then}
 use Rattle.endpoint_loop.proofs.StillLemmas.{AllStill}
@@ -133,46 +133,46 @@ both p q = record { sent = p.sent + q.sent; failed = p.failed || q.failed }
 abbrev pub nothing : Asking
 nothing = record { sent = 0; failed = false }
 
-module _ {L : Type 0} (sent : L → Option (List Carried)) (troubles : L → Troubles) where
+module _ {L : Type 0} (net : Link.Ghosts L) where
   -- facts of which none is of a datagram that was handed to the link
   pub link-still : (x : List Fact) (l : L) → AllStill is_sent x → AllStill is_unsent x
-      → LinkTook sent troubles nothing x l l
+      → LinkTook net nothing x l l
   link-still x l none still = record {
-    took = took-none (sent l) ∙ ap (λ ds. option_map (λ es. es ++ ds) (sent l))
+    took = took-none (net.sent l) ∙ ap (λ ds. option_map (λ es. es ++ ds) (net.sent l))
         (sym (sent-none x none));
     went = sym (many-none is_sent x none);
     counts = record {
-      held = subst (λ (n : ℕ). HeldBack n (troubles l) (troubles l))
-          (sym (many-none is_unsent x still)) (held-none (troubles l));
+      held = subst (λ (n : ℕ). HeldBack n (troubles_of net l) (troubles_of net l))
+          (sym (many-none is_unsent x still)) (held-none (troubles_of net l));
       cause = refl;
     };
   }
 
   pub link-both : (p q t : Asking) (x y : List Fact) (k l m : L) → t.sent ≡ p.sent + q.sent
-      → t.failed ≡ (p.failed || q.failed) → LinkTook sent troubles p x k l
-      → LinkTook sent troubles q y l m → LinkTook sent troubles t (x ++ y) k m
+      → t.failed ≡ (p.failed || q.failed) → LinkTook net p x k l
+      → LinkTook net q y l m → LinkTook net t (x ++ y) k m
   link-both p q t x y k l m went failed a b = record {
     took = b.took ∙ ap (option_map (λ ds. ds ++ sent_of y)) a.took
-        ∙ took-then (sent k) (sent_of x) (sent_of y)
-        ∙ ap (λ xs. option_map (λ ds. ds ++ xs) (sent k)) (sym (sent-append x y));
+        ∙ took-then (net.sent k) (sent_of x) (sent_of y)
+        ∙ ap (λ xs. option_map (λ ds. ds ++ xs) (net.sent k)) (sym (sent-append x y));
     went = omega (arith, went, a.went, b.went, many-append is_sent x y);
-    counts = rw failed (counts-then x y p.failed q.failed (troubles k) (troubles l) (troubles m)
+    counts = rw failed (counts-then x y p.failed q.failed (troubles_of net k) (troubles_of net l) (troubles_of net m)
         a.counts b.counts);
   }
 
   -- facts of which one alone is of a control packet that was handed to the link
   pub link-sent : (x : List Fact) (from to : L)
-      → sent to ≡ option_map (λ ds. ds ++ sent_of x) (sent from)
+      → net.sent to ≡ option_map (λ ds. ds ++ sent_of x) (net.sent from)
       → 1 ≡ count_by (λ (f : Fact). is_sent f.event) x → unsent_in x ≡ 0
-      → (troubles to).faults ≡ (troubles from).faults
-      → (troubles to).busies ≡ (troubles from).busies
-      → LinkTook sent troubles (record { sent = 1; failed = false }) x from to
+      → (troubles_of net to).faults ≡ (troubles_of net from).faults
+      → (troubles_of net to).busies ≡ (troubles_of net from).busies
+      → LinkTook net (record { sent = 1; failed = false }) x from to
   link-sent x from to took one none calm quiet = record {
     took = took;
     went = one;
     counts = record {
-      held = subst (λ (n : ℕ). HeldBack n (troubles from) (troubles to)) (sym none)
-          (held-still (troubles from) (troubles to) calm quiet);
+      held = subst (λ (n : ℕ). HeldBack n (troubles_of net from) (troubles_of net to)) (sym none)
+          (held-still (troubles_of net from) (troubles_of net to) calm quiet);
       cause = calm;
     };
   }

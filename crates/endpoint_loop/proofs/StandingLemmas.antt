@@ -4,6 +4,7 @@ use Rattle.std.proofs.Common.{Option, Some, None, List, [], ◌∷◌, ◌++◌,
 use Rattle.std.proofs.Common.{subst, arith, append-nil}
 use Rattle.std.specs.Prelude.{Result, Ok, Err, OnErr}
 use Rattle.std.specs.List.{find}
+use Rattle.rpc_outside.specs.Recording.{Log}
 use Rattle.client_core.specs.declared.outcome.Done.{Done}
 use Rattle.node_laws.specs.NodeRun.{Group, IsCredits, NodeRun}
 use Rattle.node_laws.specs.NodeRun.{pairs_client, pairs_server, polls, refuses}
@@ -31,13 +32,14 @@ use Rattle.rpc_laws.specs.Groups.{shares, state_of}
 use Rattle.rpc_laws.specs.PollOrder.{Closes as EndsPoll, FinishesOne, FinishesSome, HandlesAll}
 use Rattle.rpc_laws.specs.PollOrder.{Poll, PollBy, PostsAll, raised, SendsSome}
 use Rattle.rpc_laws.specs.Sessions.{is_client, is_live}
-use Rattle.rpc_laws.specs.Service.{Answers, Serving, served_after_all}
+use Rattle.rpc_laws.specs.Service.{Answers, served_after_all, rules_of}
 use Rattle.rpc_laws.specs.Steps.{Chain, Rel, Then, more, none}
 use Rattle.rpc_laws.proofs.AnswerLemmas.{answers-append, served-append}
 use Rattle.rpc_laws.proofs.PollLemmas.{Within, chain-cons, within-first, within-second}
 use Rattle.rpc_laws.proofs.RunLemmas.{me-after_all}
-use Rattle.rpc_outside.specs.Served.{Served}
 use Rattle.rpc_outside.specs.declared.service.Mode.{Mode}
+use Rattle.rpc_outside.specs.declared.service.Service as Service
+use Rattle.worker_crew.specs.declared.workers.Workers as Workers
 use Rattle.server_core.proofs.FlushLemmas.{grew-none}
 use Rattle.session_mgmt.specs.declared.answers.ConnectError.{ConnectError}
 use Rattle.session_mgmt.specs.declared.answers.ConnectError.TheVariants.{NoMemory, NumbersSpent}
@@ -50,11 +52,11 @@ use Rattle.endpoint_loop.specs.declared.asking.AskError.{AskError}
 use Rattle.endpoint_loop.specs.declared.asking.AskError.TheVariants.{NoMemory as AskWanting, NotConnected}
 use Rattle.endpoint_loop.specs.declared.asking.AskError.TheVariants.{TooLarge}
 use Rattle.endpoint_loop.specs.declared.asking.Refused.{Refused}
-use Rattle.endpoint_loop.specs.Finishing.{FinishesThese, Staff}
+use Rattle.endpoint_loop.specs.Finishing.{FinishesThese, staff_of}
 use Rattle.endpoint_loop.specs.Noting.{Makes, is_asked}
 use Rattle.endpoint_loop.specs.Polling.{FinishesBack, LinkTells, MakesPoll, PollsWith}
 use Rattle.endpoint_loop.specs.Polling.{SendsUntil, is_stopped}
-use Rattle.endpoint_loop.specs.Running.{asks_of, Crew, IsStaffed, Running, told}
+use Rattle.endpoint_loop.specs.Running.{asks_of, IsStaffed, Running, told, crew_of}
 use Rattle.endpoint_loop.specs.Standing.{GoesOn, StandsFor}
 use Rattle.endpoint_loop.specs.declared.polling.Turn.{Turn}
 use Rattle.endpoint_loop.proofs.GivingLemmas.{staffed-still}
@@ -95,29 +97,28 @@ pub unworked : (t r : ℕ) (x : List Fact) → AllStill is_work x → AllStill (
 unworked t r [] all = tt
 unworked t r (f ∷ x) all = (unworked-event t r f.event all.0, unworked t r x all.1)
 
-module _ {V W : Type 0} (v : Serving) (stands : V → Served → Type 0)
-    (answer : ℕ → List ℕ → List ℕ) (staff : W → Staff) (limits : Limits) (g : List Fact)
-    (a b : Running V W) (noted : List Fact) (s : StandsFor v stands answer staff limits g a) where
+module _ {V W : Type 0} (service : Service.Ghosts V) (workers : Workers.Ghosts W) (limits : Limits) (g : List Fact)
+    (a b : Running V W) (noted : List Fact) (s : StandsFor service workers limits g a) where
   abbrev before : Timed
-  before = told (staff a.workers).out a.timed
+  before = told (staff_of workers a.workers).out a.timed
 
   abbrev later : Timed
-  later = told (staff b.workers).out b.timed
+  later = told (staff_of workers b.workers).out b.timed
 
   -- the node keeps its number
-  pub me-more : Group v.mode before noted later → b.timed.lists.me ≡ a.timed.lists.me
+  pub me-more : Group service.mode_of before noted later → b.timed.lists.me ≡ a.timed.lists.me
   me-more group =
-      let l = group-lawful v.mode before noted later (run_valid s.run) group in
+      let l = group-lawful service.mode_of before noted later (run_valid s.run) group in
       ap (λ (z : Lists). z.me) l.leads.lists ∙ me-after_all l.clock before.lists noted
 
   -- a group that works no job, and answers as the service does
-  pub stands-more : Group v.mode before noted later → AllStill is_work noted
-      → Answers v (served_after_all v.mode [] g) noted
-      → stands b.service (served_after_all v.mode (served_after_all v.mode [] g) noted)
-      → IsStaffed answer (staff b.workers) b.timed
-      → StandsFor v stands answer staff limits (g ++ noted) b
+  pub stands-more : Group service.mode_of before noted later → AllStill is_work noted
+      → Answers (rules_of service) (served_after_all service.mode_of [] g) noted
+      → service.stands b.service (served_after_all service.mode_of (served_after_all service.mode_of [] g) noted)
+      → IsStaffed workers.answer (staff_of workers b.workers) b.timed
+      → StandsFor service workers limits (g ++ noted) b
   stands-more group still answers serves staffed = record {
-    run = subst (λ m. NodeRun v m limits (g ++ noted) later) (sym (me-more group)) (record {
+    run = subst (λ m. NodeRun (rules_of service) m limits (g ++ noted) later) (sym (me-more group)) (record {
       steps = more s.run.steps noted later group;
       worked_once = λ t r. omega (
         arith,
@@ -125,44 +126,43 @@ module _ {V W : Type 0} (v : Serving) (stands : V → Served → Type 0)
         many-none (works_request t r) noted (unworked t r noted still),
         s.run.worked_once t r,
       );
-      answers = answers-append v [] g noted s.run.answers answers;
+      answers = answers-append (rules_of service) [] g noted s.run.answers answers;
     });
-    serves = subst (stands b.service) (sym (served-append v.mode [] g noted)) serves;
+    serves = subst (service.stands b.service) (sym (served-append service.mode_of [] g noted)) serves;
     staffed = staffed;
   }
 
-module _ {R V W : Type 0} (facts : R → Option (List Fact)) (whole : R → Bool) (v : Serving)
-    (stands : V → Served → Type 0) (answer : ℕ → List ℕ → List ℕ) (staff : W → Staff) where
+module _ {R V W : Type 0} (log : R → Log) (service : Service.Ghosts V) (workers : Workers.Ghosts W) where
   -- nothing happens
   pub goes-nowhere : (a b : Running V W) (f g : R) → b ≡ a → g ≡ f
-      → GoesOn facts whole v stands answer staff a b f g
+      → GoesOn log service workers a b f g
   goes-nowhere a b f g same still = rw (same, still) (record {
     noted = [];
-    grew = grew-none facts whole f;
-    goes_on = λ limits h s. subst (λ z. StandsFor v stands answer staff limits z a)
+    grew = grew-none log f;
+    goes_on = λ limits h s. subst (λ z. StandsFor service workers limits z a)
         (sym (append-nil h)) s;
   })
 
   -- a call of the application or a delivery: no handler runs, and the service and the workers stay
-  pub goes-on : (P : Rel) (a b : Running V W) (f g : R) → Makes facts whole P a.timed b.timed f g
-      → ((s : Timed) (x : List Fact) (t : Timed) → P s x t → Group v.mode s x t)
-      → Stills is_labour P → Leaves a b → GoesOn facts whole v stands answer staff a b f g
+  pub goes-on : (P : Rel) (a b : Running V W) (f g : R) → Makes log P a.timed b.timed f g
+      → ((s : Timed) (x : List Fact) (t : Timed) → P s x t → Group service.mode_of s x t)
+      → Stills is_labour P → Leaves a b → GoesOn log service workers a b f g
   goes-on P a b f g makes group still leaves = record {
     noted = makes.noted;
     grew = makes.grew;
     goes_on = λ limits h s.
-        let out = (staff a.workers).out in
-        let same : (staff b.workers).out ≡ out = ap (λ w. (staff w).out) leaves.workers in
+        let out = (staff_of workers a.workers).out in
+        let same : (staff_of workers b.workers).out ≡ out = ap (λ w. (staff_of workers w).out) leaves.workers in
         let step : P (told out a.timed) makes.noted (told out b.timed) =
         makes.step (asks_of out) in
         let all = still (told out a.timed) makes.noted (told out b.timed) step in
-        let none = still-answers v (served_after_all v.mode [] h) makes.noted
+        let none = still-answers (rules_of service) (served_after_all service.mode_of [] h) makes.noted
         (none-ran makes.noted all) in
-        stands-more v stands answer staff limits h a b makes.noted s
-        (subst (λ o. Group v.mode (told out a.timed) makes.noted (told o b.timed)) (sym same)
+        stands-more service workers limits h a b makes.noted s
+        (subst (λ o. Group service.mode_of (told out a.timed) makes.noted (told o b.timed)) (sym same)
         (group (told out a.timed) makes.noted (told out b.timed) step))
         (none-worked makes.noted all) none.0 (rw (leaves.service, none.1) s.serves)
-        (rw leaves.workers (staffed-still answer (asks_of out) (staff a.workers) a.timed b.timed
+        (rw leaves.workers (staffed-still workers.answer (asks_of out) (staff_of workers a.workers) a.timed b.timed
         leaves.jobs s.staffed));
   }
 
@@ -238,58 +238,58 @@ pub sends-some : (stopped : Bool) → Within (SendsUntil stopped) SendsSome
 sends-some true s x t h = h
 sends-some false s x t h = h.steps
 
-module _ {R K V W : Type 0} (facts : R → Option (List Fact)) (whole : R → Bool)
-    (given : K → List Done → Type 0) (crew : W → Crew) (v : Serving)
-    (stands : V → Served → Type 0) (answer : ℕ → List ℕ → List ℕ) (turn : Option Turn) (now : ℕ)
+module _ {R K V W : Type 0} (log : R → Log)
+    (given : K → List Done → Type 0) (service : Service.Ghosts V) (workers : Workers.Ghosts W)
+    (turn : Option Turn) (now : ℕ)
     (link then_link : LinkTells) where
   pub group-polled : (a b : Running V W) (x : List Fact)
-      → PollsWith v answer (is_stopped turn) now (crew a.workers) (crew b.workers) a.timed x b.timed
-      → Group v.mode (told (crew a.workers).staff.out a.timed) x
-      (told (crew b.workers).staff.out b.timed)
+      → PollsWith (rules_of service) workers.answer (is_stopped turn) now (crew_of workers a.workers) (crew_of workers b.workers) a.timed x b.timed
+      → Group service.mode_of (told (crew_of workers a.workers).staff.out a.timed) x
+      (told (crew_of workers b.workers).staff.out b.timed)
   group-polled a b x does =
-      polls now (poll-as (FinishesBack answer does.parcels (crew a.workers) (crew b.workers))
-      (SendsUntil (is_stopped turn)) v.mode now
-      (λ s x t k. these-some answer does.parcels s x t k.finishes)
+      polls now (poll-as (FinishesBack workers.answer does.parcels (crew_of workers a.workers) (crew_of workers b.workers))
+      (SendsUntil (is_stopped turn)) service.mode_of now
+      (λ s x t k. these-some workers.answer does.parcels s x t k.finishes)
       (sends-some (is_stopped turn)) _ x _ does.polls)
 
   -- the node keeps its number
   pub me-polled : (a b : Running V W) (f g : R) (j k : K)
-      → MakesPoll facts whole given crew v stands answer turn now link then_link a b f g j k
+      → MakesPoll log given service workers turn now link then_link a b f g j k
       → (limits : Limits) (past : List Fact)
-      → StandsFor v stands answer (λ w. (crew w).staff) limits past a
+      → StandsFor service workers limits past a
       → b.timed.lists.me ≡ a.timed.lists.me
   me-polled a b f g j k h limits past s =
-      me-more v stands answer (λ w. (crew w).staff) limits past a b h.noted s
+      me-more service workers limits past a b h.noted s
       (group-polled a b h.noted (h.does s.staffed).0)
 
   -- nor does what is known of it
   pub unasked-polled : (a b : Running V W) (x : List Fact)
-      → PollsWith v answer (is_stopped turn) now (crew a.workers) (crew b.workers) a.timed x b.timed
+      → PollsWith (rules_of service) workers.answer (is_stopped turn) now (crew_of workers a.workers) (crew_of workers b.workers) a.timed x b.timed
       → AllStill is_asked x
   unasked-polled a b x does =
-      let F = FinishesBack answer does.parcels (crew a.workers) (crew b.workers) in
+      let F = FinishesBack workers.answer does.parcels (crew_of workers a.workers) (crew_of workers b.workers) in
       let S = SendsUntil (is_stopped turn) in
-      poll-unasked F S v.mode now
-      (λ s x t k. these-still is_asked (λ t r y. refl) (λ o k. refl) answer does.parcels s x t
+      poll-unasked F S service.mode_of now
+      (λ s x t k. these-still is_asked (λ t r y. refl) (λ o k. refl) workers.answer does.parcels s x t
       k.finishes)
       (λ s x t k. sends-still is_asked (λ p o k. refl) s x t
       (sends-some (is_stopped turn) s x t k)) _ x _ does.polls
 
   unfoldable pub goes-polled : (a b : Running V W) (f g : R) (j k : K)
-      → MakesPoll facts whole given crew v stands answer turn now link then_link a b f g j k
-      → GoesOn facts whole v stands answer (λ w. (crew w).staff) a b f g
+      → MakesPoll log given service workers turn now link then_link a b f g j k
+      → GoesOn log service workers a b f g
   goes-polled a b f g j k h = record {
     noted = h.noted;
     grew = h.grew;
     goes_on = λ limits past s.
         let does = h.does s.staffed in
-        let told_of = does.1.answers (served_after_all v.mode [] past) s.serves in
-        let F = FinishesBack answer does.0.parcels (crew a.workers) (crew b.workers) in
+        let told_of = does.1.answers (served_after_all service.mode_of [] past) s.serves in
+        let F = FinishesBack workers.answer does.0.parcels (crew_of workers a.workers) (crew_of workers b.workers) in
         let S = SendsUntil (is_stopped turn) in
-        stands-more v stands answer (λ w. (crew w).staff) limits past a b h.noted s
+        stands-more service workers limits past a b h.noted s
         (group-polled a b h.noted does.0)
-        (poll-unworked F S v.mode now
-        (λ s x t k. these-still is_work (λ t r y. refl) (λ o k. refl) answer does.0.parcels s x t
+        (poll-unworked F S service.mode_of now
+        (λ s x t k. these-still is_work (λ t r y. refl) (λ o k. refl) workers.answer does.0.parcels s x t
         k.finishes)
         (λ s x t k. sends-still is_work (λ p o k. refl) s x t
         (sends-some (is_stopped turn) s x t k)) _ h.noted _ does.0.polls)
@@ -337,7 +337,7 @@ module _ (mode : ℕ → Mode) (peer other credits : ℕ) (own : IsCredits credi
             facts = rw e at h.facts;
             goes = h.goes;
           })
-      by (Some refusal) e = refuses credits refusal (inl e) (record {
+      by (Some refusal) e = refuses credits own refusal (inl e) (record {
         facts = rw e at h.facts;
         goes = h.goes;
       })
@@ -352,7 +352,7 @@ module _ (mode : ℕ → Mode) (peer other credits : ℕ) (own : IsCredits credi
             facts = rw e at h.facts;
             goes = h.goes;
           })
-      by (Some refusal) e = refuses credits refusal (inr e) (record {
+      by (Some refusal) e = refuses credits own refusal (inr e) (record {
         facts = rw e at h.facts;
         goes = h.goes;
       })

@@ -1,19 +1,20 @@
 -- Step 4 of a poll: what the sessions note, one after another, and what the link was handed.
-use Rattle.std.proofs.Common.{◌≡◌, ◌≤◌, ℕ, suc, ◌+◌, ◌||◌, Bool, Option, List, []}
+use Rattle.std.proofs.Common.{◌≡◌, ◌≤◌, ℕ, suc, ◌+◌, ◌||◌, List, []}
 use Rattle.std.proofs.Common.{length, refl, subst, arith}
+use Rattle.rpc_outside.specs.Recording.{Log}
 use Rattle.client_core.specs.declared.outcome.Done.{Done}
 use Rattle.rpc_base.specs.declared.fact.Fact.{Fact}
 use Rattle.rpc_laws.specs.declared.tables.Timed.{Timed}
 use Rattle.rpc_laws.specs.ControlSteps.{Retries, TimesAll, TimesSession}
 use Rattle.rpc_laws.specs.GoBackN.{WatchesSession}
 use Rattle.rpc_laws.specs.Steps.{Rel, Visits}
-use Rattle.rpc_outside.specs.Linking.{Carried}
+use Rattle.rpc_outside.specs.declared.link.Link as Link
 use Rattle.endpoint_loop.proofs.GivenLemmas.{gave-none}
 use Rattle.endpoint_loop.specs.Calling.{NoneCalls}
 use Rattle.endpoint_loop.specs.Counting.{is_sent}
 use Rattle.endpoint_loop.specs.Noting.{MakesEnds, is_end_event}
 use Rattle.endpoint_loop.specs.Seen.{Asks, asking}
-use Rattle.endpoint_loop.specs.Speaking.{is_unsent, MakesSpoken, Troubles}
+use Rattle.endpoint_loop.specs.Speaking.{is_unsent, MakesSpoken}
 use Rattle.endpoint_loop.specs.declared.retrying.Asking.{Asking}
 use Rattle.endpoint_loop.specs.Watching.{MakesTimes}
 use Rattle.endpoint_loop.proofs.CallerLemmas.{session-quiet, visits-up}
@@ -21,23 +22,23 @@ use Rattle.endpoint_loop.proofs.NotesLemmas.{ends-join, ends-none, makes-join, n
 use Rattle.endpoint_loop.proofs.SpeakingLemmas.{link-both, link-still, nothing, or-false}
 use Rattle.endpoint_loop.proofs.StillLemmas.{calls-still, retries-still, still-none}
 
-module _ {R K L : Type 0} (facts : R → Option (List Fact)) (whole : R → Bool)
-    (given : K → List Done → Type 0) (sent : L → Option (List Carried)) (troubles : L → Troubles)
+module _ {R K L : Type 0} (log : R → Log)
+    (given : K → List Done → Type 0) (net : Link.Ghosts L)
   where
     pub times-none : (P : Rel) (a : Timed) (f : R) (k : K) (l : L)
         → ((asks : Asks) → P (asking asks a) [] (asking asks a))
-        → MakesTimes facts whole given sent troubles P nothing a a f f k k l l
+        → MakesTimes log given net P nothing a a f f k k l l
     unfolding ends-none
     times-none P a f k l step = record {
-      ends = ends-none facts whole given P a f k step;
-      link = link-still sent troubles [] l tt tt;
+      ends = ends-none log given P a f k step;
+      link = link-still net [] l tt tt;
     }
 
     pub times-as : {d : Asking} (P Q : Rel) (a b : Timed) (f g : R) (j k : K) (l m : L)
         → ((asks : Asks) (x : List Fact) → P (asking asks a) x (asking asks b)
         → Q (asking asks a) x (asking asks b))
-        → MakesTimes facts whole given sent troubles P d a b f g j k l m
-        → MakesTimes facts whole given sent troubles Q d a b f g j k l m
+        → MakesTimes log given net P d a b f g j k l m
+        → MakesTimes log given net Q d a b f g j k l m
     times-as P Q a b f g j k l m same p = record {
       ends = record {
         makes = record {
@@ -55,13 +56,13 @@ module _ {R K L : Type 0} (facts : R → Option (List Fact)) (whole : R → Bool
     pub times-visit : {d e : Asking} (t : Asking) (P : ℕ → Rel) (n m : ℕ) (a b c : Timed)
         (f g h : R) (i j k : K) (x y z : L) → m ≡ suc n → b.lists.me ≡ a.lists.me
         → t.sent ≡ d.sent + e.sent → t.failed ≡ (d.failed || e.failed)
-        → MakesTimes facts whole given sent troubles (Visits P n) d a b f g i j x y
-        → MakesTimes facts whole given sent troubles (P n) e b c g h j k y z
-        → MakesTimes facts whole given sent troubles (Visits P m) t a c f h i k x z
+        → MakesTimes log given net (Visits P n) d a b f g i j x y
+        → MakesTimes log given net (P n) e b c g h j k y z
+        → MakesTimes log given net (Visits P m) t a c f h i k x z
     unfolding ends-join makes-join
     times-visit {d = d} {e = e} t P n m a b c f g h i j k x y z is me went failed p q =
         rw is (record {
-          ends = ends-join facts whole given (Visits P n) (P n) (Visits P (suc n)) a b c f g h i j k
+          ends = ends-join log given (Visits P n) (P n) (Visits P (suc n)) a b c f g h i j k
               me
               (λ asks v w s t. record {
                 between = asking asks b;
@@ -71,21 +72,21 @@ module _ {R K L : Type 0} (facts : R → Option (List Fact)) (whole : R → Bool
                 first = s;
                 second = t;
               }) p.ends q.ends;
-          link = link-both sent troubles d e t p.ends.makes.noted q.ends.makes.noted x y z went failed
+          link = link-both net d e t p.ends.makes.noted q.ends.makes.noted x y z went failed
               p.link q.link;
         })
 
     -- a session's own request, and then its calls
     pub session-times : {d : Asking} (timeout i : ℕ) (a b c : Timed) (f g h : R) (j k : K) (l m : L)
         → b.lists.me ≡ a.lists.me
-        → MakesSpoken facts whole sent troubles (Retries timeout i) d a b f g l m
-        → MakesEnds facts whole given (WatchesSession timeout i) b c g h j k
-        → MakesTimes facts whole given sent troubles (TimesSession timeout i) d a c f h j k l m
+        → MakesSpoken log net (Retries timeout i) d a b f g l m
+        → MakesEnds log given (WatchesSession timeout i) b c g h j k
+        → MakesTimes log given net (TimesSession timeout i) d a c f h j k l m
     unfolding ends-join makes-join
     session-times {d = d} timeout i a b c f g h j k l m me p q =
         let x = p.makes.noted in
         let y = q.makes.noted in
-        let front : MakesEnds facts whole given (Retries timeout i) a b f g j j =
+        let front : MakesEnds log given (Retries timeout i) a b f g j j =
         record {
           makes = p.makes;
           dones = [];
@@ -95,7 +96,7 @@ module _ {R K L : Type 0} (facts : R → Option (List Fact)) (whole : R → Bool
           gave = gave-none given j;
         } in
         record {
-          ends = ends-join facts whole given (Retries timeout i) (WatchesSession timeout i)
+          ends = ends-join log given (Retries timeout i) (WatchesSession timeout i)
               (TimesSession timeout i) a b c f g h j j k me
               (λ asks v w s t. record {
                 between = asking asks b;
@@ -105,8 +106,8 @@ module _ {R K L : Type 0} (facts : R → Option (List Fact)) (whole : R → Bool
                 first = s;
                 second = t;
               }) front q;
-          link = link-both sent troubles d nothing d x y l m m (omega arith) (or-false d.failed)
-              p.link (link-still sent troubles y m
+          link = link-both net d nothing d x y l m m (omega arith) (or-false d.failed)
+              p.link (link-still net y m
               (calls-still is_sent (λ o k. refl) (λ c a b. refl) (λ j. refl) (λ c. refl) timeout i
               (asking no_asks b) y (asking no_asks c) (q.makes.step no_asks))
               (calls-still is_unsent (λ o k. refl) (λ c a b. refl) (λ j. refl) (λ c. refl) timeout i
@@ -116,9 +117,9 @@ module _ {R K L : Type 0} (facts : R → Option (List Fact)) (whole : R → Bool
     -- those that aren't visited
     pub times-up : {d : Asking} (timeout n m : ℕ) (a b : Timed) (f g : R) (j k : K) (l o : L) → n ≤ m
         → NoneCalls n m b.lists.clients
-        → MakesTimes facts whole given sent troubles (Visits (TimesSession timeout) n) d a b f
+        → MakesTimes log given net (Visits (TimesSession timeout) n) d a b f
         g j k l o
-        → MakesTimes facts whole given sent troubles (Visits (TimesSession timeout) m) d a b f
+        → MakesTimes log given net (Visits (TimesSession timeout) m) d a b f
         g j k l o
     times-up timeout n m a b f g j k l o up quiet made =
         times-as (Visits (TimesSession timeout) n) (Visits (TimesSession timeout) m) a b f g j k l o
@@ -128,9 +129,9 @@ module _ {R K L : Type 0} (facts : R → Option (List Fact)) (whole : R → Bool
     -- all sessions
     pub all-timed : {d : Asking} (timeout count : ℕ) (a b : Timed) (f g : R) (j k : K) (l m : L)
         → timeout ≡ a.lists.timeout → count ≡ length a.lists.clients
-        → MakesTimes facts whole given sent troubles (Visits (TimesSession timeout) count) d a
+        → MakesTimes log given net (Visits (TimesSession timeout) count) d a
         b f g j k l m
-        → MakesTimes facts whole given sent troubles TimesAll d a b f g j k l m
+        → MakesTimes log given net TimesAll d a b f g j k l m
     all-timed timeout count a b f g j k l m is many p =
         times-as (Visits (TimesSession timeout) count) TimesAll a b f g j k l m
         (λ asks x v.

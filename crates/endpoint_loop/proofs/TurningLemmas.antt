@@ -4,22 +4,23 @@ use Rattle.std.proofs.Common.{◌≡◌, ℕ, ◌<◌, Bool, Option, Some, None,
 use Rattle.std.proofs.Common.{◌∷◌, ◌++◌, length, take, refl, sym, ap, subst, ◌∙◌, arith}
 use Rattle.std.proofs.Common.{append_assoc, append-nil, length-append}
 use Rattle.std.specs.Prelude.{is_none, option_map, Result, Ok, Err}
+use Rattle.rpc_outside.specs.Recording.{Log}
 use Rattle.client_core.specs.declared.outcome.Done.{Done}
 use Rattle.rpc_base.specs.declared.fact.Fact.{Fact}
 use Rattle.rpc_laws.specs.declared.tables.Timed.{Timed}
 use Rattle.rpc_laws.specs.Deliveries.{Delivers}
-use Rattle.rpc_laws.specs.Service.{Serving}
 use Rattle.rpc_outside.specs.Faults.{HasCause}
 use Rattle.rpc_outside.specs.Linking.{Carried, Comes, NoneComes}
-use Rattle.rpc_outside.specs.Served.{Served}
+use Rattle.rpc_outside.specs.declared.link.Link as Link
+use Rattle.rpc_outside.specs.declared.service.Service as Service
+use Rattle.worker_crew.specs.declared.workers.Workers as Workers
 use Rattle.server_core.proofs.FlushLemmas.{grew-none, grew-then}
 use Rattle.endpoint_loop.specs.Applying.{Leaves}
 use Rattle.endpoint_loop.specs.declared.polling.Turn.{Turn}
 use Rattle.endpoint_loop.specs.declared.turning.TheConstants.{MOST_ARRIVALS}
-use Rattle.endpoint_loop.specs.Finishing.{Staff}
 use Rattle.endpoint_loop.specs.Noting.{Makes}
-use Rattle.endpoint_loop.specs.Polling.{LinkTells, MakesPoll, turn_of}
-use Rattle.endpoint_loop.specs.Running.{Crew, Running}
+use Rattle.endpoint_loop.specs.Polling.{MakesPoll, turn_of, wire_of}
+use Rattle.endpoint_loop.specs.Running.{Running}
 use Rattle.endpoint_loop.specs.Seen.{asking}
 use Rattle.endpoint_loop.specs.Speaking.{FailedAs}
 use Rattle.endpoint_loop.specs.Standing.{GoesOn, StandsFor}
@@ -47,12 +48,12 @@ delivers-more (e ∷ ds) d s m t x y h k = record {
   second = delivers-more ds d h.between m t h.back y h.second k;
 }
 
-module _ {R V W : Type 0} (facts : R → Option (List Fact)) (whole : R → Bool) where
-  pub takes-none : (a : Running V W) (r : R) → TakesIn facts whole [] a a r r
+module _ {R V W : Type 0} (log : R → Log) where
+  pub takes-none : (a : Running V W) (r : R) → TakesIn log [] a a r r
   takes-none a r = record {
     delivers = record {
       noted = [];
-      grew = grew-none facts whole r;
+      grew = grew-none log r;
       step = λ asks. (refl, refl);
     };
     leaves = record { service = refl; workers = refl; jobs = refl };
@@ -60,12 +61,12 @@ module _ {R V W : Type 0} (facts : R → Option (List Fact)) (whole : R → Bool
   }
 
   pub takes-more : (ds : List Carried) (d : Carried) (a b c : Running V W) (f g h : R)
-      → TakesIn facts whole ds a b f g → Makes facts whole (Delivers d.0 d.1) b.timed c.timed g h
-      → Leaves b c → c.handed ≡ b.handed → TakesIn facts whole (ds ++ d ∷ []) a c f h
+      → TakesIn log ds a b f g → Makes log (Delivers d.0 d.1) b.timed c.timed g h
+      → Leaves b c → c.handed ≡ b.handed → TakesIn log (ds ++ d ∷ []) a c f h
   takes-more ds d a b c f g h p q leaves handed = record {
     delivers = record {
       noted = p.delivers.noted ++ q.noted;
-      grew = grew-then facts whole f g h p.delivers.noted q.noted p.delivers.grew q.grew;
+      grew = grew-then log f g h p.delivers.noted q.noted p.delivers.grew q.grew;
       step = λ asks. delivers-more ds d (asking asks a.timed) (asking asks b.timed)
           (asking asks c.timed) p.delivers.noted q.noted (p.delivers.step asks) (q.step asks);
     };
@@ -118,17 +119,16 @@ module _ {L : Type 0} (received waiting : L → Option (List Carried)) where
   }
 
 -- an endpoint goes on, and then goes on further
-module _ {R V W : Type 0} (facts : R → Option (List Fact)) (whole : R → Bool) (v : Serving)
-    (stands : V → Served → Type 0) (answer : ℕ → List ℕ → List ℕ) (staff : W → Staff) where
+module _ {R V W : Type 0} (log : R → Log) (service : Service.Ghosts V) (workers : Workers.Ghosts W) where
   pub goes-further : (a b c : Running V W) (f g h : R)
-      → GoesOn facts whole v stands answer staff a b f g
-      → GoesOn facts whole v stands answer staff b c g h
-      → GoesOn facts whole v stands answer staff a c f h
+      → GoesOn log service workers a b f g
+      → GoesOn log service workers b c g h
+      → GoesOn log service workers a c f h
   goes-further a b c f g h p q = record {
     noted = p.noted ++ q.noted;
-    grew = grew-then facts whole f g h p.noted q.noted p.grew q.grew;
+    grew = grew-then log f g h p.noted q.noted p.grew q.grew;
     goes_on = λ limits past s.
-        subst (λ z. StandsFor v stands answer staff limits z c)
+        subst (λ z. StandsFor service workers limits z c)
         (append_assoc past p.noted q.noted)
         (q.goes_on limits (past ++ p.noted) (p.goes_on limits past s));
   }
@@ -139,28 +139,27 @@ pub poll-cause : {E : Type 0} (f g : ℕ) (r : Result Turn E) → HasCause f g r
 poll-cause f g (Ok turn) h = h
 poll-cause f g (Err e) h = h
 
-module _ {R K L V W : Type 0} (facts : R → Option (List Fact)) (whole : R → Bool)
-    (received waiting : L → Option (List Carried)) (given : K → List Done → Type 0)
-    (crew : W → Crew) (v : Serving) (stands : V → Served → Type 0)
-    (answer : ℕ → List ℕ → List ℕ) (now : ℕ) (tells : L → LinkTells) where
+module _ {R K L V W : Type 0} (log : R → Log)
+    (net : Link.Ghosts L) (given : K → List Done → Type 0)
+    (service : Service.Ghosts V) (workers : Workers.Ghosts W) (now : ℕ) where
   -- datagrams are received, and then a poll is made
   pub makes-turn : (failed : Bool) (polled told : Option Turn) (a b c : Running V W) (f g h : R)
-      (j k : K) (l m n : L) → Receives facts whole received waiting failed a b f g l m
-      → ReceivesOnly failed (tells l) (tells m) → NoneComes waiting received m n
-      → MakesPoll facts whole given crew v stands answer polled now (tells m) (tells n) b c g h j k
-      → FailedAs (is_none polled) (tells m).troubles.faults (tells n).troubles.faults
+      (j k : K) (l m n : L) → Receives log net failed a b f g l m
+      → ReceivesOnly failed (wire_of net l) (wire_of net m) → NoneComes net.waiting net.received m n
+      → MakesPoll log given service workers polled now (wire_of net m) (wire_of net n) b c g h j k
+      → FailedAs (is_none polled) (net.faults m) (net.faults n)
       → told ≡ told_after failed polled
-      → MakesTurn facts whole received waiting given crew v stands answer told now tells l n a c f
+      → MakesTurn log net given service workers told now l n a c f
       h j k
   makes-turn failed polled told a b c f g h j k l m n took link none polls cause is = record {
     came = took.came;
-    comes = came-still received waiting took.came l m n took.comes none;
+    comes = came-still net.received net.waiting took.came l m n took.comes none;
     failed = failed;
     all = λ e. subst (IsAll took.came) (sym none.waits) (took.all e);
     between = b;
     mid = g;
     takes = took.takes;
-    mid_link = tells m;
+    mid_link = wire_of net m;
     receives = link;
     polled = polled;
     told_as = is;

@@ -8,6 +8,7 @@ use Rattle.std.specs.Prelude.{filter, map, slice_get}
 use Rattle.std.specs.List.{AllByRecursion, list_any}
 use Rattle.std.proofs.lemmas.Bool.{eqb-true}
 use Rattle.std.proofs.lemmas.Bool.Decides.{nat_tests}
+use Rattle.rpc_outside.specs.Recording.{Log}
 use Rattle.rpc_base.specs.declared.fact.Fact.{Fact}
 use Rattle.client_core.specs.declared.outcome.Done.{Done}
 use Rattle.rpc_laws.specs.declared.tables.Call.{Call}
@@ -208,24 +209,24 @@ all-still (n ∷ ns) = ap (λ ms. n ∷ ms) (all-still ns)
 pub known-start : (i : ℕ) (s : Timed) → Known i s s
 known-start i s = λ m h. idle-unlisted m (calls_at i s) h
 
-module _ {R K : Type 0} (facts : R → Option (List Fact)) (whole : R → Bool)
+module _ {R K : Type 0} (log : R → Log)
     (given : K → List Done → Type 0) (timeout i : ℕ) where
   pub walk-start : (a : Timed) (f : R) (k : K)
-      → MakesEnds facts whole given (Walked timeout i None) a a f f k k
+      → MakesEnds log given (Walked timeout i None) a a f f k k
   walk-start a f k =
-      ends-none facts whole given (Walked timeout i None) a f k
+      ends-none log given (Walked timeout i None) a f k
       (λ asks y u e.
       let all : Each (Watches timeout i) (numbers (calls_at i a)) (asking asks a) y u =
       rw (all-still (numbers (calls_at i a))) at e in
       rw (numbers-same (slice_get a.lists.clients i)) all)
 
   module _ (after : Option ℕ) (a b : Timed) (f g : R) (k l : K)
-      (walked : MakesEnds facts whole given (Walked timeout i after) a b f g k l) where
+      (walked : MakesEnds log given (Walked timeout i after) a b f g k l) where
     pub walk-over : number_at after i b ≡ None
-        → MakesEnds facts whole given (WatchesSession timeout i) a b f g k l
+        → MakesEnds log given (WatchesSession timeout i) a b f g k l
     walk-over e =
         let none = none-next after (slice_get b.lists.clients i) e in
-        ends-as facts whole given (Walked timeout i after) (WatchesSession timeout i) a b f g k l
+        ends-as log given (Walked timeout i after) (WatchesSession timeout i) a b f g k l
         (λ asks x p. subst (λ z. WatchesSession timeout i (asking asks a) z (asking asks b))
         (append-nil x)
         (p [] (asking asks b) (all-over (Watches timeout i) (asking asks b) after _
@@ -235,7 +236,7 @@ module _ {R K : Type 0} (facts : R → Option (List Fact)) (whole : R → Bool)
     module _ (known : Known i a b) (start_order : Ascends (calls_at i a))
         (order : Ascends (calls_at i b)) (me : b.lists.me ≡ a.lists.me) (n : ℕ) (c : Timed) (h : R)
         (j : K) (e : number_at after i b ≡ Some n)
-        (looked : MakesEnds facts whole given (Watches timeout i n) b c g h l j) where
+        (looked : MakesEnds log given (Watches timeout i n) b c g h l j) where
       next : Next after n (calls_at i b)
       next = some-next after n (slice_get b.lists.clients i) e
 
@@ -258,9 +259,9 @@ module _ {R K : Type 0} (facts : R → Option (List Fact)) (whole : R → Bool)
           idle-watch timeout i m s
           (ap (λ (xs : List Client). any_active i m xs) same ∙ none)
 
-      pub walk-more : MakesEnds facts whole given (Walked timeout i (Some n)) a c f h k j
+      pub walk-more : MakesEnds log given (Walked timeout i (Some n)) a c f h k j
       walk-more =
-          ends-join facts whole given (Walked timeout i after) (Watches timeout i n)
+          ends-join log given (Walked timeout i after) (Watches timeout i n)
           (Walked timeout i (Some n)) a b c f g h k l j me
           (λ asks x y p q. λ z u rest.
           let all : Each (Watches timeout i) (n ∷ still (Some n) (calls_at i a)) (asking asks b)

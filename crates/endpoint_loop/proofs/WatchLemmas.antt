@@ -7,8 +7,8 @@ use Rattle.std.specs.Prelude.{map, slice_get, IfSome}
 use Rattle.std.specs.List.{filter, flat_map}
 use Rattle.std.proofs.lemmas.Bool.{eqb-true}
 use Rattle.std.proofs.lemmas.Option.{slice_get_past}
+use Rattle.rpc_outside.specs.Recording.{Log}
 use Rattle.rpc_base.specs.declared.event.Event.TheVariants.{Broken, Rolled}
-use Rattle.rpc_base.specs.declared.fact.Fact.{Fact}
 use Rattle.rpc_base.specs.declared.owner.Owner.TheVariants.{Ask}
 use Rattle.rpc_base.proofs.BasicLemmas.{if-map}
 use Rattle.rpc_base.proofs.TakingLemmas.{find-passes}
@@ -96,12 +96,12 @@ module _ (timeout i : ℕ) (a : Active) (s : Timed) (now : ℕ) (t : Shown)
         (find-passes (is_call a.call) x.calls found.call found.found) in
         rw (active.place, found.found, found.active, number, own) refl
 
-    module _ {R K : Type 0} (facts : R → Option (List Fact)) (whole : R → Bool)
+    module _ {R K : Type 0} (log : R → Log)
         (given : K → List Done → Type 0) where
       pub watch-waits : (f : R) (k : K) → RowAt now timeout i a.call Waits t
-          → MakesEnds facts whole given (Watches timeout i a.call) s s f f k k
+          → MakesEnds log given (Watches timeout i a.call) s s f f k k
       watch-waits f k at =
-          ends-none facts whole given (Watches timeout i a.call) s f k
+          ends-none log given (Watches timeout i a.call) s f k
           (λ asks. record { facts = sym (row-facts Waits at); goes = refl })
 
       rolled-silent : filter is_end (rolling_back i a s) ≡ []
@@ -111,8 +111,8 @@ module _ (timeout i : ℕ) (a : Active) (s : Timed) (now : ℕ) (t : Shown)
           ∙ ap (λ fs. fs ++ []) (flush-silent s.lists.me s.lists.queued (Ask i a.request))
 
       pub watch-rolls : (u : Timed) (f g : R) (k : K) → RowAt now timeout i a.call RollsBack t
-          → Makes facts whole (Notes (rolling_back i a)) s u f g
-          → MakesEnds facts whole given (Watches timeout i a.call) s u f g k k
+          → Makes log (Notes (rolling_back i a)) s u f g
+          → MakesEnds log given (Watches timeout i a.call) s u f g k k
       watch-rolls u f g k at made =
           let same : rolling_back i a s
           ≡ row_facts s.lists.me s.lists.queued x a.call active.progress RollsBack =
@@ -121,16 +121,16 @@ module _ (timeout i : ℕ) (a : Active) (s : Timed) (now : ℕ) (t : Shown)
           ∙ ap (λ n. flush_facts s.lists.me s.lists.queued (Ask n active.progress.request)
           ++ plain s.lists.me (Rolled a.call active.progress.posted active.progress.got) ∷ [])
           (sym way) in
-          ends-as facts whole given (Notes (rolling_back i a)) (Watches timeout i a.call) s u f g k
+          ends-as log given (Notes (rolling_back i a)) (Watches timeout i a.call) s u f g k
           k
           (λ asks y p. record {
             facts = p.facts ∙ same ∙ sym (row-facts RollsBack at);
             goes = p.goes;
-          }) (ends-silent facts whole given (rolling_back i a) s u f g k rolled-silent made)
+          }) (ends-silent log given (rolling_back i a) s u f g k rolled-silent made)
 
       pub watch-breaks : (u : Timed) (f g : R) (k l : K) → RowAt now timeout i a.call Breaks t
-          → MakesEnds facts whole given (Notes (breaking_off i)) s u f g k l
-          → MakesEnds facts whole given (Watches timeout i a.call) s u f g k l
+          → MakesEnds log given (Notes (breaking_off i)) s u f g k l
+          → MakesEnds log given (Watches timeout i a.call) s u f g k l
       watch-breaks u f g k l at made =
           let same : breaking_off i s ≡ break_facts s.lists.me s.lists.queued x =
           ap (λ (o : Option Client). flat_map (λ c. flushes_of s.lists.me i s.lists.queued
@@ -139,7 +139,7 @@ module _ (timeout i : ℕ) (a : Active) (s : Timed) (now : ℕ) (t : Shown)
           active.place
           ∙ ap (λ n. flat_map (λ c. flushes_of s.lists.me n s.lists.queued c.progress) x.calls
           ++ plain s.lists.me (Broken n) ∷ map (lost s.lists.me) x.calls) (sym way) in
-          ends-as facts whole given (Notes (breaking_off i)) (Watches timeout i a.call) s u f g k l
+          ends-as log given (Notes (breaking_off i)) (Watches timeout i a.call) s u f g k l
           (λ asks y p. record {
             facts = p.facts ∙ same ∙ sym (row-facts Breaks at);
             goes = p.goes;
@@ -159,9 +159,9 @@ session-none timeout i s past =
       second = rw none (refl, refl);
     }
 
-module _ {R K : Type 0} (facts : R → Option (List Fact)) (whole : R → Bool)
+module _ {R K : Type 0} (log : R → Log)
     (given : K → List Done → Type 0) where
   -- a step after which nothing changed
   pub ends-same : (P : Rel) (a b c : Timed) (f g h : R) (j k l : K) → c ≡ b → h ≡ g → l ≡ k
-      → MakesEnds facts whole given P a b f g j k → MakesEnds facts whole given P a c f h j l
+      → MakesEnds log given P a b f g j k → MakesEnds log given P a c f h j l
   ends-same P a b c f g h j k l node recorder kept p = rw (node, recorder, kept) p

@@ -13,7 +13,7 @@ use Rattle.rpc_laws.specs.ControlTable.{control_facts, control_reply, control_ro
 use Rattle.rpc_laws.specs.Groups.{has_no_room, servers_spent}
 use Rattle.rpc_laws.specs.Steps.{Goes}
 use Rattle.rpc_outside.specs.Linking.{Carried}
-use Rattle.rpc_outside.specs.Recording.{Grew}
+use Rattle.rpc_outside.specs.Recording.{Grew, Log}
 use Rattle.endpoint_loop.specs.Noting.{sent_of}
 
 -- whether there are a number and room for a server session of so many credits
@@ -40,12 +40,11 @@ was_taken (Err fault) = false
 
 -- a control packet was handed to the link: it is noted whether the link took it, and the link,
 -- where it tells what it sent, took just this datagram
-pub record Spoke {R L : Type 0} (facts : R → Option (List Fact)) (whole : R → Bool)
-    (sent : L → Option (List Carried)) (me peer : ℕ) (h : ControlHeader) (taken : Bool)
-    (before now : R) (from to : L) : Type 0 where
+pub record Spoke {R L : Type 0} (log : R → Log) (sent : L → Option (List Carried)) (me peer : ℕ)
+    (h : ControlHeader) (taken : Bool) (before now : R) (from to : L) : Type 0 where
   pub head : List ℕ
   pub bytes : AreBytes head
   pub spells : Spells (ControlPacket h) head
-  pub grew : Grew facts whole before now (control_fact taken me peer head ∷ [])
+  pub grew : Grew (log before) (log now) (control_fact taken me peer head ∷ [])
   pub took : sent to
       ≡ option_map (λ ds. ds ++ sent_of (control_fact taken me peer head ∷ [])) (sent from)

@@ -15,7 +15,7 @@ use Rattle.rpc_laws.specs.Jobs.{is_job}
 use Rattle.rpc_laws.specs.PollOrder.{finished_facts}
 use Rattle.rpc_laws.specs.Queues.{replies}
 use Rattle.rpc_laws.specs.Steps.{Rel, Goes, Then}
-use Rattle.rpc_outside.specs.Recording.{Grew}
+use Rattle.rpc_outside.specs.Recording.{Grew, Log}
 use Rattle.rpc_outside.specs.declared.service.Mode.{Mode}
 use Rattle.rpc_outside.specs.declared.service.Mode.TheVariants.{Background}
 use Rattle.session_store.specs.Changes.{FinishesAt}
@@ -23,6 +23,7 @@ use Rattle.worker_board.specs.declared.Parcel.{Parcel}
 use Rattle.worker_crew.specs.Jobs.{FoundUnfinished, IsAnswered, Job as CrewJob}
 use Rattle.endpoint_loop.specs.Seen.{Asks, asking}
 use Rattle.endpoint_loop.specs.declared.node.JobName.{JobName}
+use Rattle.worker_crew.specs.declared.workers.Workers as Workers
 
 -- whether a job that is out is that of request r of session t
 abbrev pub is_named : (t r : ℕ) → JobName → Bool
@@ -72,6 +73,14 @@ pub record Staff : Type 0 where
   pub out : List CrewJob
   pub waiting : Option (List Parcel)
 
+abbrev pub staff_of : {W : Type 0} → Workers.Ghosts W → W → Staff
+staff_of w workers = record {
+  limit = w.limit workers;
+  given = w.given workers;
+  out = w.out workers;
+  waiting = w.waiting workers;
+}
+
 -- workers that have exactly the jobs of the node take as many as the node does, and were given as
 -- many
 pub record AreStaffed (answer : ℕ → List ℕ → List ℕ) (asks : Asks) (staff : Staff) (s : Timed)
@@ -114,11 +123,11 @@ pub record FinishesTaken (answer : ℕ → List ℕ → List ℕ) (later : List 
   pub agree : Agree answer asks later t
 
 -- so it is, whatever the jobs ask, as long as the workers had exactly the jobs of the node
-pub record MakesFinished {R : Type 0} (facts : R → Option (List Fact)) (whole : R → Bool)
-    (answer : ℕ → List ℕ → List ℕ) (out later : List CrewJob) (worked rest : Option (List Parcel))
-    (old new : Timed) (before now : R) : Type 0 where
+pub record MakesFinished {R : Type 0} (log : R → Log) (answer : ℕ → List ℕ → List ℕ)
+    (out later : List CrewJob) (worked rest : Option (List Parcel)) (old new : Timed)
+    (before now : R) : Type 0 where
   pub noted : List Fact
-  pub grew : Grew facts whole before now noted
+  pub grew : Grew (log before) (log now) noted
   pub step : (asks : Asks) → Agree answer asks out old
       → FinishesTaken answer later worked rest asks old noted new
 

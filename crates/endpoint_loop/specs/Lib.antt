@@ -16,6 +16,7 @@ pub mod Lending
 pub mod Listening
 pub mod Measures
 pub mod Noting
+pub mod PlainMembers
 pub mod Polling
 pub mod Rating
 pub mod Reading

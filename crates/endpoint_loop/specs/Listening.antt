@@ -1,6 +1,7 @@
 -- Step 2 of a poll: the control packets of the inbox are handled, and answered.
 use Rattle.std.specs.Prelude.{◌≡◌, ℕ, Bool, true, false, Option, List, ◌∷◌, count_by, Result}
 use Rattle.std.specs.Prelude.{Ok, Err}
+use Rattle.rpc_outside.specs.Recording.{Log}
 use Rattle.packet_header.specs.declared.packet.ControlHeader.{ControlHeader}
 use Rattle.rpc_base.specs.declared.event.Event.TheVariants.{Heard}
 use Rattle.rpc_base.specs.declared.fact.Fact.{Fact}
@@ -8,10 +9,10 @@ use Rattle.rpc_laws.specs.declared.tables.Timed.{Timed}
 use Rattle.rpc_laws.specs.ControlTable.{control_facts, control_reply, control_row}
 use Rattle.rpc_laws.specs.Facts.{plain}
 use Rattle.rpc_laws.specs.Steps.{Rel, Goes}
-use Rattle.rpc_outside.specs.Linking.{Carried}
+use Rattle.rpc_outside.specs.declared.link.Link as Link
 use Rattle.endpoint_loop.specs.Counting.{is_handled, is_sent}
 use Rattle.endpoint_loop.specs.Noting.{MakesSent}
-use Rattle.endpoint_loop.specs.Speaking.{CountsUnsent, Troubles}
+use Rattle.endpoint_loop.specs.Speaking.{CountsUnsent, troubles_of}
 use Rattle.endpoint_loop.specs.declared.listening.Listening.{Listening}
 
 -- the front packet of the inbox, which is of this peer and has this header, is handled by the
@@ -32,10 +33,9 @@ told_of (Err fault) = record { heard = 1; sent = 0; failed = true }
 
 -- control packets were handled: it is told how many, how many answers were sent, and whether the
 -- link failed; the link, where it tells what it sent, sent exactly the datagrams of the Sent facts
-pub record Listens {R L : Type 0} (facts : R → Option (List Fact)) (whole : R → Bool)
-    (sent : L → Option (List Carried)) (troubles : L → Troubles) (P : Rel) (told : Listening)
+pub record Listens {R L : Type 0} (log : R → Log) (net : Link.Ghosts L) (P : Rel) (told : Listening)
     (old new : Timed) (before now : R) (from to : L) : Type 0 where
-  pub sends : MakesSent facts whole sent P old new before now from to
+  pub sends : MakesSent log net.sent P old new before now from to
   pub heard : told.heard ≡ count_by (λ f. is_handled f.event) sends.makes.noted
   pub went : told.sent ≡ count_by (λ f. is_sent f.event) sends.makes.noted
-  pub counts : CountsUnsent sends.makes.noted told.failed (troubles from) (troubles to)
+  pub counts : CountsUnsent sends.makes.noted told.failed (troubles_of net from) (troubles_of net to)

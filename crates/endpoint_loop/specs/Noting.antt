@@ -14,22 +14,22 @@ use Rattle.rpc_laws.specs.Steps.{Rel, NotesNext}
 use Rattle.rpc_outside.specs.Linking.{Carried}
 use Rattle.endpoint_loop.specs.Given.{Gave}
 use Rattle.endpoint_loop.specs.Seen.{Asks, asking}
-use Rattle.rpc_outside.specs.Recording.{Grew}
+use Rattle.rpc_outside.specs.Recording.{Grew, Log}
 
 -- there are facts by which the recorder grew, and by which P leads from the old node to the new
 -- one, whatever the jobs that are out ask
-pub record Makes {R : Type 0} (facts : R → Option (List Fact)) (whole : R → Bool) (P : Rel)
-    (old new : Timed) (before now : R) : Type 0 where
+pub record Makes {R : Type 0} (log : R → Log) (P : Rel) (old new : Timed) (before now : R)
+    : Type 0 where
   pub noted : List Fact
-  pub grew : Grew facts whole before now noted
+  pub grew : Grew (log before) (log now) noted
   pub step : (asks : Asks) → P (asking asks old) noted (asking asks new)
 
 -- whether there was a next event: then it was noted, and otherwise nothing changed
-abbrev pub NotesOne : {R : Type 0} → (R → Option (List Fact)) → (R → Bool)
-    → (Lists → Option Event) → Bool → Timed → Timed → R → R → Type 0
-NotesOne facts whole next true old new before now =
-    Makes facts whole (NotesNext next) old new before now
-NotesOne facts whole next false old new before now =
+abbrev pub NotesOne : {R : Type 0} → (R → Log) → (Lists → Option Event) → Bool → Timed → Timed → R
+    → R → Type 0
+NotesOne log next true old new before now =
+    Makes log (NotesNext next) old new before now
+NotesOne log next false old new before now =
     (next old.lists ≡ None) × (new ≡ old) × (now ≡ before)
 
 -- the datagrams of the Sent facts
@@ -42,10 +42,9 @@ sent_of [] = []
 sent_of (f ∷ fs) = sent_by f.event f.first f.second ++ sent_of fs
 
 -- and the link, where it tells what it sent, sent exactly the datagrams of the Sent facts
-pub record MakesSent {R L : Type 0} (facts : R → Option (List Fact)) (whole : R → Bool)
-    (sent : L → Option (List Carried)) (P : Rel) (old new : Timed) (before now : R) (from to : L)
-    : Type 0 where
-  pub makes : Makes facts whole P old new before now
+pub record MakesSent {R L : Type 0} (log : R → Log) (sent : L → Option (List Carried)) (P : Rel)
+    (old new : Timed) (before now : R) (from to : L) : Type 0 where
+  pub makes : Makes log P old new before now
   pub took : sent to ≡ option_map (λ ds. ds ++ sent_of makes.noted) (sent from)
 
 -- nothing was sent, and nothing noted
@@ -56,10 +55,10 @@ pub record SendsNone {R L : Type 0} (sent : L → Option (List Carried)) (old ne
   pub link : sent to ≡ sent from
 
 -- the same where something is known of what the jobs ask
-pub record MakesWhere {R : Type 0} (facts : R → Option (List Fact)) (whole : R → Bool)
-    (Asked : Asks → Type 0) (P : Rel) (old new : Timed) (before now : R) : Type 0 where
+pub record MakesWhere {R : Type 0} (log : R → Log) (Asked : Asks → Type 0) (P : Rel)
+    (old new : Timed) (before now : R) : Type 0 where
   pub noted : List Fact
-  pub grew : Grew facts whole before now noted
+  pub grew : Grew (log before) (log now) noted
   pub step : (asks : Asks) → Asked asks → P (asking asks old) noted (asking asks new)
 
 abbrev pub is_end_event : Event → Bool
@@ -81,10 +80,9 @@ abbrev pub asked_in : List Fact → ℕ
 asked_in x = count_by (λ f. is_asked f.event) x
 
 -- calls ended: those that the continuation was given are those whose ends were noted, in order
-pub record MakesEnds {R K : Type 0} (facts : R → Option (List Fact)) (whole : R → Bool)
-    (given : K → List Done → Type 0) (P : Rel) (old new : Timed) (before now : R) (from to : K)
-    : Type 0 where
-  pub makes : Makes facts whole P old new before now
+pub record MakesEnds {R K : Type 0} (log : R → Log) (given : K → List Done → Type 0) (P : Rel)
+    (old new : Timed) (before now : R) (from to : K) : Type 0 where
+  pub makes : Makes log P old new before now
   pub dones : List Done
   pub ends : filter is_end makes.noted ≡ map (done_fact old.lists.me) dones
   pub gave : Gave given from to dones

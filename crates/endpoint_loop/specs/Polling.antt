@@ -11,10 +11,10 @@ use Rattle.rpc_laws.specs.declared.tables.Timed.{Timed}
 use Rattle.rpc_laws.specs.Pacing.{line}
 use Rattle.rpc_laws.specs.PollOrder.{PollBy, SendsAll, SendsSome}
 use Rattle.rpc_laws.specs.Queues.{replies}
-use Rattle.rpc_laws.specs.Service.{Answers, Serving, served_after_all}
+use Rattle.rpc_laws.specs.Service.{Answers, Serving, served_after_all, rules_of}
 use Rattle.rpc_laws.specs.Steps.{Rel}
 use Rattle.rpc_outside.specs.Linking.{Carried}
-use Rattle.rpc_outside.specs.Recording.{Grew}
+use Rattle.rpc_outside.specs.Recording.{Grew, Log}
 use Rattle.rpc_outside.specs.Served.{Served}
 use Rattle.worker_board.specs.declared.Parcel.{Parcel}
 use Rattle.endpoint_loop.specs.Given.{Gave}
@@ -23,11 +23,14 @@ use Rattle.endpoint_loop.specs.declared.listening.Listening.{Listening}
 use Rattle.endpoint_loop.specs.declared.polling.Turn.{Turn}
 use Rattle.endpoint_loop.specs.declared.retrying.Asking.{Asking}
 use Rattle.endpoint_loop.specs.declared.sending.Sending.{Sending}
-use Rattle.endpoint_loop.specs.Finishing.{FinishesThese, NoneBack, jobs_left}
+use Rattle.endpoint_loop.specs.Finishing.{FinishesThese, NoneBack, jobs_left, staff_of}
 use Rattle.endpoint_loop.specs.Noting.{is_end, sent_of}
-use Rattle.endpoint_loop.specs.Running.{Crew, IsStaffed, Running, told}
-use Rattle.endpoint_loop.specs.Speaking.{HeldBack, Troubles, unsent_in}
+use Rattle.endpoint_loop.specs.Running.{Crew, IsStaffed, Running, told, crew_of}
+use Rattle.endpoint_loop.specs.Speaking.{HeldBack, Troubles, unsent_in, troubles_of}
 use Rattle.endpoint_loop.specs.Serving.{job_named}
+use Rattle.rpc_outside.specs.declared.link.Link as Link
+use Rattle.rpc_outside.specs.declared.service.Service as Service
+use Rattle.worker_crew.specs.declared.workers.Workers as Workers
 
 -- the jobs of these parcels are finished; then no more came back, or as many replies are queued as
 -- the ring is long
@@ -92,6 +95,9 @@ pub record LinkTells : Type 0 where
   pub sent : Option (List Carried)
   pub troubles : Troubles
 
+abbrev pub wire_of : {L : Type 0} → Link.Ghosts L → L → LinkTells
+wire_of l link = record { sent = l.sent link; troubles = troubles_of l link }
+
 -- what a poll tells besides: each handler that ran has its answer, the calls that the continuation
 -- was given are those whose ends were noted, in order, and the turn counts its facts. The link,
 -- where it tells what it sent, sent exactly the datagrams of the Sent facts, and failed or was busy
@@ -109,15 +115,14 @@ pub record TellsOfPoll {K : Type 0} (given : K → List Done → Type 0) (v : Se
   pub held : HeldBack (held_in x t) link.troubles then_link.troubles
 
 -- the recorder grew by the facts of a poll
-pub record MakesPoll {R K V W : Type 0} (facts : R → Option (List Fact)) (whole : R → Bool)
-    (given : K → List Done → Type 0) (crew : W → Crew) (v : Serving)
-    (stands : V → Served → Type 0) (answer : ℕ → List ℕ → List ℕ) (told : Option Turn) (now : ℕ)
+pub record MakesPoll {R K V W : Type 0} (log : R → Log) (given : K → List Done → Type 0)
+    (service : Service.Ghosts V) (workers : Workers.Ghosts W) (told : Option Turn) (now : ℕ)
     (link then_link : LinkTells) (old new : Running V W) (before later : R) (from to : K)
     : Type 0 where
   pub noted : List Fact
-  pub grew : Grew facts whole before later noted
-  pub does : IsStaffed answer (crew old.workers).staff old.timed
-      → PollsWith v answer (is_stopped told) now (crew old.workers) (crew new.workers) old.timed
-      noted new.timed
-      × TellsOfPoll given v (stands old.service) (stands new.service) told link then_link
-      old.timed.lists.me noted new.timed from to
+  pub grew : Grew (log before) (log later) noted
+  pub does : IsStaffed workers.answer (staff_of workers old.workers) old.timed
+      → PollsWith (rules_of service) workers.answer (is_stopped told) now
+      (crew_of workers old.workers) (crew_of workers new.workers) old.timed noted new.timed
+      × TellsOfPoll given (rules_of service) (service.stands old.service)
+      (service.stands new.service) told link then_link old.timed.lists.me noted new.timed from to

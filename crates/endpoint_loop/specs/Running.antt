@@ -5,13 +5,14 @@ use Rattle.client_core.specs.Handing.{Handed}
 use Rattle.rpc_laws.specs.declared.tables.Lists.{Lists}
 use Rattle.rpc_laws.specs.declared.tables.Timed.{Timed}
 use Rattle.rpc_laws.specs.Service.{Serving}
-use Rattle.rpc_outside.specs.Served.{Served}
+use Rattle.rpc_outside.specs.Served.{Served, StandsForSome}
 use Rattle.worker_board.specs.declared.Parcel.{Parcel}
 use Rattle.worker_crew.specs.Jobs.{Job as CrewJob}
-use Rattle.endpoint_loop.specs.Finishing.{AllBackground, AreStaffed, Staff}
-use Rattle.endpoint_loop.specs.Handling.{StandsForSome, WorksFor}
+use Rattle.endpoint_loop.specs.Finishing.{AllBackground, AreStaffed, Staff, staff_of}
+use Rattle.endpoint_loop.specs.Handling.{WorksFor}
 use Rattle.endpoint_loop.specs.Seen.{Asks, asking}
 use Rattle.endpoint_loop.specs.Serving.{AllServed}
+use Rattle.worker_crew.specs.declared.workers.Workers as Workers
 
 -- its lists with its clock, what was handed in with the calls of each client session, its service
 -- and its workers
@@ -51,6 +52,10 @@ pub record Crew : Type 0 where
   pub staff : Staff
   pub worked : Option (List Parcel)
   pub looks : ℕ
+
+abbrev pub crew_of : {W : Type 0} → Workers.Ghosts W → W → Crew
+crew_of w workers =
+    record { staff = staff_of w workers; worked = w.worked workers; looks = w.looks workers }
 
 -- the workers have exactly the jobs of the node
 abbrev pub IsStaffed : (ℕ → List ℕ → List ℕ) → Staff → Timed → Type 0

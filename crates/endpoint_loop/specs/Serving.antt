@@ -2,6 +2,7 @@
 use Rattle.std.specs.Prelude.{◌≡◌, ◌≢◌, ℕ, ◌+◌, ◌++◌, Bool, false, Option, Some, None, IfSome, List}
 use Rattle.std.specs.Prelude.{[], ◌∷◌, length, slice_get}
 use Rattle.std.specs.List.{AllByRecursion, find}
+use Rattle.rpc_outside.specs.Recording.{Log}
 use Rattle.message_buffer.specs.Buffer.{bytes_of}
 use Rattle.packet_header.specs.Parts.{IsMessage}
 use Rattle.packet_header.specs.Reading.{body_of}
@@ -31,8 +32,8 @@ abbrev pub AllServed : (ℕ → Mode) → List Server → Type 0
 AllServed mode servers = AllByRecursion (SlotsServed mode) servers
 
 -- the front of the ring, whose header is h, is handled by the server rule
-pub record ServesRequest (mode : ℕ → Mode) (h : MessageHeader) (s : Timed) (x : List Fact) (t : Timed)
-    : Type 0 where
+pub record ServesRequest (mode : ℕ → Mode) (h : MessageHeader) (s : Timed) (x : List Fact)
+    (t : Timed) : Type 0 where
   pub front : Arrival
   pub is_front : slice_get s.lists.ring 0 ≡ Some front
   pub lacks : Bool
@@ -65,10 +66,10 @@ with_given (Some p) jobs =
 -- a step that may run a handler, or make a job, which is given out, and then the jobs weren't full.
 -- Where the service stood for what was served before, each handler that ran has its answer, and the
 -- service stands for what was served after
-pub record MakesServed {R : Type 0} (facts : R → Option (List Fact)) (whole : R → Bool)
-    (v : Serving) (stands then_stands : Served → Type 0) (P : Rel) (given : Option Parcel)
-    (old new : Timed) (before now : R) : Type 0 where
-  pub makes : MakesWhere facts whole (AsksAs given) P old new before now
+pub record MakesServed {R : Type 0} (log : R → Log) (v : Serving)
+    (stands then_stands : Served → Type 0) (P : Rel) (given : Option Parcel) (old new : Timed)
+    (before now : R) : Type 0 where
+  pub makes : MakesWhere log (AsksAs given) P old new before now
   pub answers : (served : Served) → stands served
       → Answers v served makes.noted × then_stands (served_after_all v.mode served makes.noted)
   pub parcel : IfSome given (IsGiven v stands)

@@ -1,6 +1,7 @@
 -- What steps that hand control packets to the link tell of it.
-use Rattle.std.specs.Prelude.{◌≡◌, ℕ, ◌+◌, ◌≤◌, min, Bool, true, false, Option, option_map, IfSome}
+use Rattle.std.specs.Prelude.{◌≡◌, ℕ, ◌+◌, ◌≤◌, min, Bool, true, false, option_map, IfSome}
 use Rattle.std.specs.Prelude.{List, ◌++◌, count_by, map, slice_get}
+use Rattle.rpc_outside.specs.Recording.{Log}
 use Rattle.packet_header.specs.declared.packet.ControlHeader.{ControlHeader}
 use Rattle.rpc_base.specs.declared.event.Event.{Event}
 use Rattle.rpc_base.specs.declared.event.Event.TheVariants.{Unsent}
@@ -10,15 +11,18 @@ use Rattle.rpc_laws.specs.ControlSteps.{Speaks, given_up}
 use Rattle.rpc_laws.specs.Facts.{plain}
 use Rattle.rpc_laws.specs.Steps.{Goes, Rel}
 use Rattle.rpc_outside.specs.Faults.{end_of_count, HasRisen}
-use Rattle.rpc_outside.specs.Linking.{Carried}
 use Rattle.endpoint_loop.specs.Counting.{is_sent}
 use Rattle.endpoint_loop.specs.Noting.{Makes, sent_of}
 use Rattle.endpoint_loop.specs.declared.retrying.Asking.{Asking}
+use Rattle.rpc_outside.specs.declared.link.Link as Link
 
 -- a link's counts: how often it failed so far, and how often it was busy
 pub record Troubles : Type 0 where
   pub faults : ℕ
   pub busies : ℕ
+
+abbrev pub troubles_of : {L : Type 0} → Link.Ghosts L → L → Troubles
+troubles_of l link = record { faults = l.faults link; busies = l.busies link }
 
 -- a count rose by n at least, or stands at its end
 pub record RisenBy (n old new : ℕ) : Type 0 where
@@ -55,18 +59,17 @@ pub record CountsUnsent (x : List Fact) (failed : Bool) (from to : Troubles) : T
 
 -- the link, where it tells what it sent, took just the datagrams of the Sent facts; it is told how
 -- many they are, and whether the link failed
-pub record LinkTook {L : Type 0} (sent : L → Option (List Carried)) (troubles : L → Troubles)
-    (told : Asking) (x : List Fact) (from to : L) : Type 0 where
-  pub took : sent to ≡ option_map (λ ds. ds ++ sent_of x) (sent from)
+pub record LinkTook {L : Type 0} (net : Link.Ghosts L) (told : Asking) (x : List Fact) (from to : L)
+    : Type 0 where
+  pub took : net.sent to ≡ option_map (λ ds. ds ++ sent_of x) (net.sent from)
   pub went : told.sent ≡ count_by (λ f. is_sent f.event) x
-  pub counts : CountsUnsent x told.failed (troubles from) (troubles to)
+  pub counts : CountsUnsent x told.failed (troubles_of net from) (troubles_of net to)
 
 -- a step that hands control packets to the link
-pub record MakesSpoken {R L : Type 0} (facts : R → Option (List Fact)) (whole : R → Bool)
-    (sent : L → Option (List Carried)) (troubles : L → Troubles) (P : Rel) (told : Asking)
-    (old new : Timed) (before now : R) (from to : L) : Type 0 where
-  pub makes : Makes facts whole P old new before now
-  pub link : LinkTook sent troubles told makes.noted from to
+pub record MakesSpoken {R L : Type 0} (log : R → Log) (net : Link.Ghosts L) (P : Rel)
+    (told : Asking) (old new : Timed) (before now : R) (from to : L) : Type 0 where
+  pub makes : Makes log P old new before now
+  pub link : LinkTook net told makes.noted from to
 
 -- session i sends its own request, with this header
 pub record SendsRequest (i : ℕ) (h : ControlHeader) (s : Timed) (x : List Fact) (t : Timed)

@@ -1,19 +1,20 @@
 -- A turn of an endpoint: datagrams are received and delivered, and then it polls.
 use Rattle.std.specs.Prelude.{◌≡◌, ℕ, ◌≤◌, ◌⊎◌, Bool, true, false, Option, None, option_map, is_none}
 use Rattle.std.specs.Prelude.{IfSome, List, [], ◌∷◌, ◌++◌, length}
+use Rattle.rpc_outside.specs.Recording.{Log}
 use Rattle.client_core.specs.declared.outcome.Done.{Done}
-use Rattle.rpc_base.specs.declared.fact.Fact.{Fact}
 use Rattle.rpc_laws.specs.Deliveries.{Delivers}
-use Rattle.rpc_laws.specs.Service.{Serving}
 use Rattle.rpc_laws.specs.Steps.{Rel, Then}
 use Rattle.rpc_outside.specs.Linking.{Carried}
-use Rattle.rpc_outside.specs.Served.{Served}
+use Rattle.rpc_outside.specs.declared.link.Link as Link
+use Rattle.rpc_outside.specs.declared.service.Service as Service
+use Rattle.worker_crew.specs.declared.workers.Workers as Workers
 use Rattle.endpoint_loop.specs.Applying.{Leaves}
 use Rattle.endpoint_loop.specs.declared.polling.Turn.{Turn}
 use Rattle.endpoint_loop.specs.declared.turning.TheConstants.{MOST_ARRIVALS}
 use Rattle.endpoint_loop.specs.Noting.{Makes}
 use Rattle.endpoint_loop.specs.Polling.{LinkTells, MakesPoll}
-use Rattle.endpoint_loop.specs.Running.{Crew, Running}
+use Rattle.endpoint_loop.specs.Running.{Running}
 use Rattle.endpoint_loop.specs.Speaking.{FailedAs}
 
 -- these datagrams are delivered, one after another
@@ -34,20 +35,19 @@ abbrev pub IsAll : (came : List Carried) → (waiting : Option (List Carried)) �
 IsAll came waiting = (length came ≡ MOST_ARRIVALS) ⊎ IfSome waiting (λ ds. ds ≡ [])
 
 -- these datagrams are delivered, and the service, the workers and what was handed in stay
-pub record TakesIn {R V W : Type 0} (facts : R → Option (List Fact)) (whole : R → Bool)
-    (came : List Carried) (old new : Running V W) (before now : R) : Type 0 where
-  pub delivers : Makes facts whole (DeliversAll came) old.timed new.timed before now
+pub record TakesIn {R V W : Type 0} (log : R → Log) (came : List Carried) (old new : Running V W)
+    (before now : R) : Type 0 where
+  pub delivers : Makes log (DeliversAll came) old.timed new.timed before now
   pub leaves : Leaves old new
   pub handed : new.handed ≡ old.handed
 
 -- the datagrams that came are delivered; where the link didn't fail, no more came
-pub record Receives {R L V W : Type 0} (facts : R → Option (List Fact)) (whole : R → Bool)
-    (received waiting : L → Option (List Carried)) (failed : Bool) (old new : Running V W)
-    (before now : R) (from to : L) : Type 0 where
+pub record Receives {R L V W : Type 0} (log : R → Log) (net : Link.Ghosts L) (failed : Bool)
+    (old new : Running V W) (before now : R) (from to : L) : Type 0 where
   pub came : List Carried
-  pub comes : Came received waiting came from to
-  pub all : failed ≡ false → IsAll came (waiting to)
-  pub takes : TakesIn facts whole came old new before now
+  pub comes : Came net.received net.waiting came from to
+  pub all : failed ≡ false → IsAll came (net.waiting to)
+  pub takes : TakesIn log came old new before now
 
 -- what a turn told: what its poll told, where the link didn't fail in receiving
 abbrev pub told_after : (failed : Bool) → Option Turn → Option Turn
@@ -63,22 +63,21 @@ pub record ReceivesOnly (failed : Bool) (link then_link : LinkTells) : Type 0 wh
 -- the recorder grew by a delivery for each datagram that came, in order, and then by a poll. Where
 -- the link didn't fail in receiving, no more datagrams came; where it did, the poll was made all the
 -- same. The poll told nothing where the link failed in it
-pub record MakesTurn {R K L V W : Type 0} (facts : R → Option (List Fact)) (whole : R → Bool)
-    (received waiting : L → Option (List Carried)) (given : K → List Done → Type 0)
-    (crew : W → Crew) (v : Serving) (stands : V → Served → Type 0)
-    (answer : ℕ → List ℕ → List ℕ) (told : Option Turn) (now : ℕ) (tells : L → LinkTells)
-    (link then_link : L) (old new : Running V W) (before later : R) (from to : K) : Type 0 where
+pub record MakesTurn {R K L V W : Type 0} (log : R → Log) (net : Link.Ghosts L)
+    (given : K → List Done → Type 0) (service : Service.Ghosts V) (workers : Workers.Ghosts W)
+    (told : Option Turn) (now : ℕ) (link then_link : L) (old new : Running V W) (before later : R)
+    (from to : K) : Type 0 where
   pub came : List Carried
-  pub comes : Came received waiting came link then_link
+  pub comes : Came net.received net.waiting came link then_link
   pub failed : Bool
-  pub all : failed ≡ false → IsAll came (waiting then_link)
+  pub all : failed ≡ false → IsAll came (net.waiting then_link)
   pub between : Running V W
   pub mid : R
-  pub takes : TakesIn facts whole came old between before mid
+  pub takes : TakesIn log came old between before mid
   pub mid_link : LinkTells
-  pub receives : ReceivesOnly failed (tells link) mid_link
+  pub receives : ReceivesOnly failed (wire_of net link) mid_link
   pub polled : Option Turn
   pub told_as : told ≡ told_after failed polled
-  pub polls : MakesPoll facts whole given crew v stands answer polled now mid_link
-      (tells then_link) between new mid later from to
-  pub cause : FailedAs (is_none polled) mid_link.troubles.faults (tells then_link).troubles.faults
+  pub polls : MakesPoll log given service workers polled now mid_link
+      (wire_of net then_link) between new mid later from to
+  pub cause : FailedAs (is_none polled) mid_link.troubles.faults (net.faults then_link)

@@ -1,5 +1,5 @@
 -- What the timers do: queued packets are taken out, calls are rolled back, and sessions break.
-use Rattle.std.specs.Prelude.{ℕ, ◌≡◌, ◌<◌, ◌++◌, Bool, Option, Some, None, IfSome, List, [], ◌∷◌}
+use Rattle.std.specs.Prelude.{ℕ, ◌≡◌, ◌<◌, ◌++◌, Option, Some, None, IfSome, List, [], ◌∷◌}
 use Rattle.std.specs.Prelude.{flat_map, map, option_and_then, option_map, slice_get, slice_set}
 use Rattle.rpc_base.specs.declared.event.Event.TheVariants.{Broken, DonePeerLost, Rolled}
 use Rattle.rpc_base.specs.declared.fact.Fact.{Fact}
@@ -16,13 +16,13 @@ use Rattle.rpc_laws.specs.Facts.{plain}
 use Rattle.rpc_laws.specs.GoBackN.{Watches, flushes_of}
 use Rattle.rpc_laws.specs.Queues.{flush_facts}
 use Rattle.rpc_laws.specs.Steps.{Goes, Rel}
-use Rattle.rpc_outside.specs.Linking.{Carried}
-use Rattle.rpc_outside.specs.Recording.{Grew}
+use Rattle.rpc_outside.specs.Recording.{Grew, Log}
+use Rattle.rpc_outside.specs.declared.link.Link as Link
 use Rattle.session_store.specs.Changes.{calls_in}
 use Rattle.session_store.specs.Ends.{next_above, progress_of}
 use Rattle.endpoint_loop.specs.Given.{Gave}
 use Rattle.endpoint_loop.specs.Noting.{MakesEnds}
-use Rattle.endpoint_loop.specs.Speaking.{LinkTook, Troubles}
+use Rattle.endpoint_loop.specs.Speaking.{LinkTook}
 use Rattle.endpoint_loop.specs.declared.retrying.Asking.{Asking}
 
 -- what is noted can be told of the node as it was
@@ -75,30 +75,28 @@ broken_with x left = record x { state = IsBroken; free = 0; calls = left }
 
 -- session i has lost its peer, and its first calls, those that are not left, have ended: what was
 -- noted, and what the continuation was given
-pub record HasLost {R K : Type 0} (facts : R → Option (List Fact)) (whole : R → Bool)
-    (given : K → List Done → Type 0) (me i : ℕ) (left : List Call) (old new : List Client)
-    (before now : R) (from to : K) : Type 0 where
+pub record HasLost {R K : Type 0} (log : R → Log) (given : K → List Done → Type 0) (me i : ℕ)
+    (left : List Call) (old new : List Client) (before now : R) (from to : K) : Type 0 where
   pub client : Client
   pub place : slice_get old i ≡ Some client
   pub over : List Call
   pub calls : client.calls ≡ over ++ left
   pub changed : new ≡ slice_set old i (broken_with client left)
-  pub grew : Grew facts whole before now (plain me (Broken i) ∷ map (lost me) over)
+  pub grew : Grew (log before) (log now) (plain me (Broken i) ∷ map (lost me) over)
   pub dones : List Done
   pub ends : map (lost me) over ≡ map (done_fact me) dones
   pub gave : Gave given from to dones
 
 -- the first call of session i has ended
-pub record EndsOne {R K : Type 0} (facts : R → Option (List Fact)) (whole : R → Bool)
-    (given : K → List Done → Type 0) (me i : ℕ) (old new : List Client) (before now : R)
-    (from to : K) : Type 0 where
+pub record EndsOne {R K : Type 0} (log : R → Log) (given : K → List Done → Type 0) (me i : ℕ)
+    (old new : List Client) (before now : R) (from to : K) : Type 0 where
   pub client : Client
   pub place : slice_get old i ≡ Some client
   pub first : Call
   pub left : List Call
   pub calls : client.calls ≡ first ∷ left
   pub changed : new ≡ slice_set old i (record client { calls = left })
-  pub grew : Grew facts whole before now (lost me first ∷ [])
+  pub grew : Grew (log before) (log now) (lost me first ∷ [])
   pub done : Done
   pub end : lost me first ≡ done_fact me done
   pub gave : Gave given from to (done ∷ [])
@@ -114,19 +112,17 @@ number_at after i s =
     (slice_get s.lists.clients i))
 
 -- it was looked at, or there is none
-abbrev pub LooksAt : {R K : Type 0} → (R → Option (List Fact)) → (R → Bool)
-    → (K → List Done → Type 0) → (timeout i : ℕ) → Option ℕ → Option ℕ → Timed → Timed → R → R
-    → K → K → Type 0
-LooksAt facts whole given timeout i after None old new before now from to =
+abbrev pub LooksAt : {R K : Type 0} → (R → Log) → (K → List Done → Type 0) → (timeout i : ℕ)
+    → Option ℕ → Option ℕ → Timed → Timed → R → R → K → K → Type 0
+LooksAt log given timeout i after None old new before now from to =
     (number_at after i old ≡ None) × (new ≡ old) × (now ≡ before) × (to ≡ from)
-LooksAt facts whole given timeout i after (Some n) old new before now from to =
+LooksAt log given timeout i after (Some n) old new before now from to =
     (number_at after i old ≡ Some n)
-    × MakesEnds facts whole given (Watches timeout i n) old new before now from to
+    × MakesEnds log given (Watches timeout i n) old new before now from to
 
 -- calls ended, and the link was handed control packets
-pub record MakesTimes {R K L : Type 0} (facts : R → Option (List Fact)) (whole : R → Bool)
-    (given : K → List Done → Type 0) (sent : L → Option (List Carried)) (troubles : L → Troubles)
-    (P : Rel) (told : Asking) (old new : Timed) (before now : R) (from to : K) (at later : L)
-    : Type 0 where
-  pub ends : MakesEnds facts whole given P old new before now from to
-  pub link : LinkTook sent troubles told ends.makes.noted at later
+pub record MakesTimes {R K L : Type 0} (log : R → Log) (given : K → List Done → Type 0)
+    (net : Link.Ghosts L) (P : Rel) (told : Asking) (old new : Timed) (before now : R) (from to : K)
+    (at later : L) : Type 0 where
+  pub ends : MakesEnds log given P old new before now from to
+  pub link : LinkTook net told ends.makes.noted at later

@@ -58,7 +58,7 @@ impl Node {
     ) -> Option<ControlHeader>
         requires kind { head.now.kind ≡ DisconnectRequest }
         requires named { head.now.server ≡ Some server }
-        ensures controls { Makes R.facts R.whole (Controls peer head.now result) (timed_of self.old)
+        ensures controls { Makes R.log (Controls peer head.now result) (timed_of self.old)
             (timed_of self.new) rec.old rec.new }
         ensures inbox { self.new.lists.inbox ≡ self.old.lists.inbox }
         ensures jobs { self.new.lists.jobs ≡ self.old.lists.jobs }
@@ -79,7 +79,7 @@ impl Node {
         rec: &mut R,
     ) -> Option<ControlHeader>
         requires kind { head.now.kind ≡ DisconnectRequest }
-        ensures controls { Makes R.facts R.whole (Controls peer head.now result) (timed_of self.old)
+        ensures controls { Makes R.log (Controls peer head.now result) (timed_of self.old)
             (timed_of self.new) rec.old rec.new }
         ensures inbox { self.new.lists.inbox ≡ self.old.lists.inbox }
         ensures jobs { self.new.lists.jobs ≡ self.old.lists.jobs }
@@ -101,7 +101,7 @@ impl Node {
     ) -> Option<ControlHeader>
         requires kind { head.now.kind ≡ ConnectReply }
         requires in_range { ControlInRange head.now }
-        ensures controls { Makes R.facts R.whole (Controls peer head.now result) (timed_of self.old)
+        ensures controls { Makes R.log (Controls peer head.now result) (timed_of self.old)
             (timed_of self.new) rec.old rec.new }
         ensures inbox { self.new.lists.inbox ≡ self.old.lists.inbox }
         ensures jobs { self.new.lists.jobs ≡ self.old.lists.jobs }
@@ -129,7 +129,7 @@ impl Node {
         rec: &mut R,
     ) -> Option<ControlHeader>
         requires kind { head.now.kind ≡ DisconnectReply }
-        ensures controls { Makes R.facts R.whole (Controls peer head.now result) (timed_of self.old)
+        ensures controls { Makes R.log (Controls peer head.now result) (timed_of self.old)
             (timed_of self.new) rec.old rec.new }
         ensures inbox { self.new.lists.inbox ≡ self.old.lists.inbox }
         ensures jobs { self.new.lists.jobs ≡ self.old.lists.jobs }
@@ -158,7 +158,7 @@ impl Node {
         rec: &mut R,
     ) -> Option<ControlHeader>
         requires in_range { ControlInRange head.now }
-        ensures controls { Makes R.facts R.whole (Controls peer head.now result) (timed_of self.old)
+        ensures controls { Makes R.log (Controls peer head.now result) (timed_of self.old)
             (timed_of self.new) rec.old rec.new }
         ensures inbox { self.new.lists.inbox ≡ self.old.lists.inbox }
         ensures jobs { self.new.lists.jobs ≡ self.old.lists.jobs }

@@ -42,19 +42,13 @@ impl<V: Service, W: Workers> Endpoint<V, W> {
         requires some { 1 ≤ credits }
         requires most { credits ≤ MOST_CREDITS }
         ensures number { IfOk result (λ s. s ≡ length self.old.timed.lists.clients) }
-        ensures makes { UnlessNoMemory result (Makes R.facts R.whole (PairsClient peer server
+        ensures makes { UnlessNoMemory result (Makes R.log (PairsClient peer server
             credits) self.old.timed self.new.timed rec.old rec.new) }
         ensures accepted { OnOk result (client_refusal credits self.old.timed.lists ≡ None) }
         ensures refused { IfErr result
             (λ why. refused why ≡ client_refusal credits self.old.timed.lists) }
         ensures leaves { Leaves self.old self.new }
-        ensures goes_on { GoesOn R.facts R.whole (record { mode = V.mode_of; answer = V.answer })
-            V.stands W.answer (λ w. record {
-              limit = W.limit w;
-              given = W.given w;
-              out = W.out w;
-              waiting = W.waiting w;
-            }) self.old self.new rec.old rec.new }
+        ensures goes_on { GoesOn R.log V.Service W.Workers self.old self.new rec.old rec.new }
         ensures unchanged { OnErr result (self.new ≡ self.old) }
         ensures wanting { IfNoMemory result (rec.new ≡ rec.old) }
         ensures handed { OnOk result (self.new.handed ≡ self.old.handed ++ [] ∷ []) }
@@ -79,19 +73,13 @@ impl<V: Service, W: Workers> Endpoint<V, W> {
         requires some { 1 ≤ credits }
         requires most { credits ≤ MOST_CREDITS }
         ensures number { IfOk result (λ t. t ≡ self.old.timed.lists.server_numbers) }
-        ensures makes { UnlessNoMemory result (Makes R.facts R.whole (PairsServer peer client
+        ensures makes { UnlessNoMemory result (Makes R.log (PairsServer peer client
             credits) self.old.timed self.new.timed rec.old rec.new) }
         ensures accepted { OnOk result (server_refusal credits self.old.timed.lists ≡ None) }
         ensures refused { IfErr result
             (λ why. refused why ≡ server_refusal credits self.old.timed.lists) }
         ensures leaves { Leaves self.old self.new }
-        ensures goes_on { GoesOn R.facts R.whole (record { mode = V.mode_of; answer = V.answer })
-            V.stands W.answer (λ w. record {
-              limit = W.limit w;
-              given = W.given w;
-              out = W.out w;
-              waiting = W.waiting w;
-            }) self.old self.new rec.old rec.new }
+        ensures goes_on { GoesOn R.log V.Service W.Workers self.old self.new rec.old rec.new }
         ensures unchanged { OnErr result (self.new ≡ self.old) }
         ensures wanting { IfNoMemory result (rec.new ≡ rec.old) }
         ensures handed { self.new.handed ≡ self.old.handed }
@@ -111,18 +99,12 @@ impl<V: Service, W: Workers> Endpoint<V, W> {
         tag: u64,
         rec: &mut R,
     ) -> Result<CallNo, Refused>
-        ensures asks { UnlessWanting result (Makes R.facts R.whole (Asks session req_type
+        ensures asks { UnlessWanting result (Makes R.log (Asks session req_type
             (bytes_of req) (capacity_of resp)) self.old.timed self.new.timed rec.old rec.new) }
         ensures asked { IsAskedAs (refusal_of req.len (state_of (find (is_client session)
             self.old.timed.lists.clients))) self.old.timed.lists.asked req resp result }
         ensures leaves { Leaves self.old self.new }
-        ensures goes_on { GoesOn R.facts R.whole (record { mode = V.mode_of; answer = V.answer })
-            V.stands W.answer (λ w. record {
-              limit = W.limit w;
-              given = W.given w;
-              out = W.out w;
-              waiting = W.waiting w;
-            }) self.old self.new rec.old rec.new }
+        ensures goes_on { GoesOn R.log V.Service W.Workers self.old self.new rec.old rec.new }
         ensures unchanged { OnErr result (self.new ≡ self.old) }
         ensures wanting { IfWanting result (rec.new ≡ rec.old) }
         ensures handed { IfOk result (λ call. HandsInAt session (record {
@@ -144,18 +126,12 @@ impl<V: Service, W: Workers> Endpoint<V, W> {
         rate: u32,
         rec: &mut R,
     ) -> Result<(), SessionState>
-        ensures makes { Makes R.facts R.whole (SetsRate session rate) self.old.timed self.new.timed
+        ensures makes { Makes R.log (SetsRate session rate) self.old.timed self.new.timed
             rec.old rec.new }
         ensures rated { RatedAs (state_of (find (is_client session)
             self.old.timed.lists.clients)) result }
         ensures leaves { Leaves self.old self.new }
-        ensures goes_on { GoesOn R.facts R.whole (record { mode = V.mode_of; answer = V.answer })
-            V.stands W.answer (λ w. record {
-              limit = W.limit w;
-              given = W.given w;
-              out = W.out w;
-              waiting = W.waiting w;
-            }) self.old self.new rec.old rec.new }
+        ensures goes_on { GoesOn R.log V.Service W.Workers self.old self.new rec.old rec.new }
         ensures handed { self.new.handed ≡ self.old.handed }
     {
         self.node.set_rate(session, rate, rec)
@@ -166,17 +142,11 @@ impl<V: Service, W: Workers> Endpoint<V, W> {
     /// packet, and tells why; then Full exactly where the ring, or for a control packet the inbox,
     /// is full.
     pub fn deliver<R: Recorder>(&mut self, peer: Peer, bytes: &[u8], rec: &mut R) -> Delivery
-        ensures makes { Makes R.facts R.whole (Delivers peer bytes.now) self.old.timed
+        ensures makes { Makes R.log (Delivers peer bytes.now) self.old.timed
             self.new.timed rec.old rec.new }
         ensures answered { result ≡ delivered_as self.old.timed.lists bytes.now }
         ensures leaves { Leaves self.old self.new }
-        ensures goes_on { GoesOn R.facts R.whole (record { mode = V.mode_of; answer = V.answer })
-            V.stands W.answer (λ w. record {
-              limit = W.limit w;
-              given = W.given w;
-              out = W.out w;
-              waiting = W.waiting w;
-            }) self.old self.new rec.old rec.new }
+        ensures goes_on { GoesOn R.log V.Service W.Workers self.old self.new rec.old rec.new }
         ensures handed { self.new.handed ≡ self.old.handed }
     {
         self.node.deliver(peer, bytes, rec)

@@ -14,9 +14,14 @@ ghost use Rattle.rpc_laws.specs.Sessions.{is_client};
 
 use crate::node::Node;
 use message_buffer::MsgBuf;
-use rpc_base::{CallNo, Event, MOST_CALLS, MOST_MESSAGE_BYTES, SessionNo, SessionState, Who};
+use rpc_base::{
+    CallNo, Event, MOST_CALLS, MOST_MESSAGE_BYTES, MOST_SESSIONS, NoMemory, SessionNo,
+    SessionState, Who,
+};
 use rpc_outside::Recorder;
 use session_slots::Waiting;
+use std::error::Error;
+use std::fmt;
 
 /// Why a call is refused: the first of these that holds.
 #[derive(Clone, Copy, Debug, PartialEq, Eq)]
@@ -27,6 +32,18 @@ pub enum AskError {
     NoMemory,
 }
 
+impl fmt::Display for AskError {
+    fn fmt<W: fmt::Write>(&self, f: &mut fmt::Formatter<W>) -> fmt::Result {
+        match self {
+            AskError::TooLarge { .. } => f.write_str("the request is too large"),
+            AskError::NotConnected { .. } => f.write_str("the session isn't connected"),
+            AskError::NoMemory => write!(f, "{}", NoMemory),
+        }
+    }
+}
+
+impl Error for AskError {}
+
 /// A call that was refused, with its buffers.
 #[derive(Debug, Drop)]
 pub struct Refused {
@@ -34,6 +51,14 @@ pub struct Refused {
     pub req: MsgBuf,
     pub resp: MsgBuf,
 }
+
+impl fmt::Display for Refused {
+    fn fmt<W: fmt::Write>(&self, f: &mut fmt::Formatter<W>) -> fmt::Result {
+        write!(f, "{}", self.why)
+    }
+}
+
+impl Error for Refused {}
 
 impl Node {
     /// The state of a client session: Unknown where its number was never used.
@@ -50,7 +75,7 @@ impl Node {
     // The number of the next call. No session counts more than 2^45, so that it never overflows.
     fn next_call(&self) -> CallNo
         ensures number { result ≡ self.now.lists.asked }
-        ensures few { result ≤ 65536 * MOST_CALLS }
+        ensures few { result ≤ MOST_SESSIONS * MOST_CALLS }
     {
         let _at_most_65536 = self.store.clients();
         CallNo(self.asked)
@@ -66,7 +91,7 @@ impl Node {
         requires connected { state_of (find (is_client session) self.old.lists.clients) ≡ Connected }
         requires call { waiting.call ≡ self.old.lists.asked }
         requires message { waiting.req.len ≤ MOST_MESSAGE_BYTES }
-        ensures makes { OnOk result (Makes R.facts R.whole (Asks session waiting.req_type
+        ensures makes { OnOk result (Makes R.log (Asks session waiting.req_type
             (bytes_of waiting.req) (capacity_of waiting.resp)) (timed_of self.old)
             (timed_of self.new) rec.old rec.new) }
         ensures jobs { self.new.lists.jobs ≡ self.old.lists.jobs }
@@ -103,7 +128,7 @@ impl Node {
         tag: u64,
         rec: &mut R,
     ) -> Result<CallNo, Refused>
-        ensures asks { UnlessWanting result (Makes R.facts R.whole (Asks session req_type
+        ensures asks { UnlessWanting result (Makes R.log (Asks session req_type
             (bytes_of req) (capacity_of resp)) (timed_of self.old) (timed_of self.new) rec.old
             rec.new) }
         ensures asked { IsAskedAs (refusal_of req.len (state_of (find (is_client session)

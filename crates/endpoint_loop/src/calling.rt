@@ -3,12 +3,13 @@ ghost use Rattle.std.specs.Prelude.{◌≡◌, ◌<◌, ◌≤◌, length, slice
 ghost use Rattle.endpoint_loop.specs.Calling.{IsNextCaller, is_visited};
 
 use crate::node::Node;
+use rpc_base::MOST_SESSIONS;
 
 impl Node {
     // The next client session that may have calls or a request of its own, from place `from` on and
     // below `count`. Those that are passed over have neither.
     pub(crate) fn next_caller(&self, from: usize, count: usize) -> Option<usize>
-        requires few { count ≤ 65536 }
+        requires few { count ≤ MOST_SESSIONS }
         ensures { IsNextCaller from count self.now.lists.clients result }
     {
         let callers = &self.callers;

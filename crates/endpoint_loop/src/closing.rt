@@ -11,7 +11,7 @@ use rpc_outside::Recorder;
 impl Node {
     /// Step 7 of a poll: it ends with a Polled, from which on what was due is ready.
     pub fn close<R: Recorder>(&mut self, rec: &mut R)
-        ensures makes { Makes R.facts R.whole Closes (timed_of self.old) (timed_of self.new) rec.old
+        ensures makes { Makes R.log Closes (timed_of self.old) (timed_of self.new) rec.old
             rec.new }
         ensures jobs { self.new.lists.jobs ≡ self.old.lists.jobs }
         ensures servers { self.new.lists.servers ≡ self.old.lists.servers }

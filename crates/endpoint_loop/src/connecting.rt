@@ -50,7 +50,7 @@ impl Node {
         requires fits { client_refusal credits self.old.lists ≡ None }
         requires some { 1 ≤ credits }
         requires most { credits ≤ MOST_CREDITS }
-        ensures makes { OnOk result (Makes R.facts R.whole (NotesNext (λ s. Some (Opened
+        ensures makes { OnOk result (Makes R.log (NotesNext (λ s. Some (Opened
             (length s.clients) peer credits))) (timed_of self.old) (timed_of self.new) rec.old
             rec.new) }
         ensures clients { OnOk result (self.new.lists.clients ≡ self.old.lists.clients
@@ -86,7 +86,7 @@ impl Node {
     fn start_rate<R: Recorder>(&mut self, session: SessionNo, rate: u32, rec: &mut R)
         requires live { is_live (state_of (find (is_client session)
             self.old.lists.clients)) ≡ true }
-        ensures makes { Makes R.facts R.whole (StartsRate session rate) (timed_of self.old)
+        ensures makes { Makes R.log (StartsRate session rate) (timed_of self.old)
             (timed_of self.new) rec.old rec.new }
         ensures jobs { self.new.lists.jobs ≡ self.old.lists.jobs }
         ensures servers { self.new.lists.servers ≡ self.old.lists.servers }
@@ -115,7 +115,7 @@ impl Node {
         requires some { 1 ≤ credits }
         requires most { credits ≤ MOST_CREDITS }
         ensures number { IfOk result (λ s. s ≡ length self.old.lists.clients) }
-        ensures makes { UnlessNoMemory result (Makes R.facts R.whole (Connects peer credits rate)
+        ensures makes { UnlessNoMemory result (Makes R.log (Connects peer credits rate)
             (timed_of self.old) (timed_of self.new) rec.old rec.new) }
         ensures accepted { OnOk result (client_refusal credits self.old.lists ≡ None) }
         ensures refused { IfErr result
@@ -146,7 +146,7 @@ impl Node {
         requires connected { is_connected_in (state_of (find (is_client session)
             self.old.lists.clients)) ≡ true }
         requires idle { pending_of (find (is_client session) self.old.lists.clients) ≡ 0 }
-        ensures makes { Makes R.facts R.whole (NotesNext (λ s. Some (Closing session)))
+        ensures makes { Makes R.log (NotesNext (λ s. Some (Closing session)))
             (timed_of self.old) (timed_of self.new) rec.old rec.new }
         ensures jobs { self.new.lists.jobs ≡ self.old.lists.jobs }
         ensures servers { self.new.lists.servers ≡ self.old.lists.servers }
@@ -166,7 +166,7 @@ impl Node {
         session: SessionNo,
         rec: &mut R,
     ) -> Result<(), CloseError>
-        ensures makes { Makes R.facts R.whole (Disconnects session) (timed_of self.old)
+        ensures makes { Makes R.log (Disconnects session) (timed_of self.old)
             (timed_of self.new) rec.old rec.new }
         ensures accepted { OnOk result (disconnect_by
             (state_of (find (is_client session) self.old.lists.clients)) session
@@ -221,19 +221,13 @@ impl<V: Service, W: Workers> Endpoint<V, W> {
         requires some { 1 ≤ credits }
         requires most { credits ≤ MOST_CREDITS }
         ensures number { IfOk result (λ s. s ≡ length self.old.timed.lists.clients) }
-        ensures makes { UnlessNoMemory result (Makes R.facts R.whole (Connects peer credits rate)
+        ensures makes { UnlessNoMemory result (Makes R.log (Connects peer credits rate)
             self.old.timed self.new.timed rec.old rec.new) }
         ensures accepted { OnOk result (client_refusal credits self.old.timed.lists ≡ None) }
         ensures refused { IfErr result
             (λ why. refused why ≡ client_refusal credits self.old.timed.lists) }
         ensures leaves { Leaves self.old self.new }
-        ensures goes_on { GoesOn R.facts R.whole (record { mode = V.mode_of; answer = V.answer })
-            V.stands W.answer (λ w. record {
-              limit = W.limit w;
-              given = W.given w;
-              out = W.out w;
-              waiting = W.waiting w;
-            }) self.old self.new rec.old rec.new }
+        ensures goes_on { GoesOn R.log V.Service W.Workers self.old self.new rec.old rec.new }
         ensures unchanged { OnErr result (self.new ≡ self.old) }
         ensures wanting { IfNoMemory result (rec.new ≡ rec.old) }
         ensures handed { OnOk result (self.new.handed ≡ self.old.handed ++ [] ∷ []) }
@@ -250,7 +244,7 @@ impl<V: Service, W: Workers> Endpoint<V, W> {
         session: SessionNo,
         rec: &mut R,
     ) -> Result<(), CloseError>
-        ensures makes { Makes R.facts R.whole (Disconnects session) self.old.timed self.new.timed
+        ensures makes { Makes R.log (Disconnects session) self.old.timed self.new.timed
             rec.old rec.new }
         ensures accepted { OnOk result (disconnect_by
             (state_of (find (is_client session) self.old.timed.lists.clients)) session
@@ -260,13 +254,7 @@ impl<V: Service, W: Workers> Endpoint<V, W> {
             (state_of (find (is_client session) self.old.timed.lists.clients)) session
             (pending_of (find (is_client session) self.old.timed.lists.clients))) }
         ensures leaves { Leaves self.old self.new }
-        ensures goes_on { GoesOn R.facts R.whole (record { mode = V.mode_of; answer = V.answer })
-            V.stands W.answer (λ w. record {
-              limit = W.limit w;
-              given = W.given w;
-              out = W.out w;
-              waiting = W.waiting w;
-            }) self.old self.new rec.old rec.new }
+        ensures goes_on { GoesOn R.log V.Service W.Workers self.old self.new rec.old rec.new }
         ensures unchanged { OnErr result (self.new ≡ self.old) }
         ensures handed { self.new.handed ≡ self.old.handed }
     {

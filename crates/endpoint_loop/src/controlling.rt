@@ -59,7 +59,7 @@ impl Node {
         requires some { 1 ≤ credits }
         requires most { credits ≤ MOST_CREDITS }
         ensures number { IfOk result (λ t. t ≡ self.old.lists.server_numbers) }
-        ensures makes { OnOk result (Makes R.facts R.whole (NotesNext (λ s. Some (Accepted
+        ensures makes { OnOk result (Makes R.log (NotesNext (λ s. Some (Accepted
             s.server_numbers peer client credits))) (timed_of self.old) (timed_of self.new) rec.old
             rec.new) }
         ensures clients { self.new.lists.clients ≡ self.old.lists.clients }
@@ -91,7 +91,7 @@ impl Node {
     ) -> Option<ControlHeader>
         requires kind { head.now.kind ≡ ConnectRequest }
         requires in_range { ControlInRange head.now }
-        ensures controls { Makes R.facts R.whole (Controls peer head.now result) (timed_of self.old)
+        ensures controls { Makes R.log (Controls peer head.now result) (timed_of self.old)
             (timed_of self.new) rec.old rec.new }
         ensures inbox { self.new.lists.inbox ≡ self.old.lists.inbox }
         ensures jobs { self.new.lists.jobs ≡ self.old.lists.jobs }

@@ -4,14 +4,13 @@ ghost use Rattle.std.specs.Prelude.{◌≡◌, ◌≤◌, true, false, length};
 ghost use Rattle.endpoint_loop.specs.Delivering.{delivered_as, place_for};
 ghost use Rattle.endpoint_loop.specs.Noting.{Makes};
 ghost use Rattle.endpoint_loop.specs.declared.delivering.Delivery.TheVariants.{Inbox, Ring};
-ghost use Rattle.packet_rings.specs.Values.{most_datagram_bytes};
 ghost use Rattle.rpc_laws.specs.Deliveries.{Delivers, delivery, inbox_room};
 ghost use Rattle.rpc_base.specs.declared.event.Event.TheVariants.{Overflowed};
 ghost use Rattle.rpc_laws.specs.Front.{is_control, is_message};
 
 use crate::node::Node;
 use packet_header::{BadPacket, Packet, decode};
-use rpc_base::{Event, Peer, Who};
+use rpc_base::{Event, MOST_DATAGRAM_BYTES, Peer, Who};
 use rpc_outside::Recorder;
 
 /// What became of a datagram.
@@ -31,7 +30,7 @@ impl Node {
     // There is no room for a datagram: it is counted, and gone.
     fn overflow<R: Recorder>(&mut self, peer: Peer, bytes: &[u8], rec: &mut R)
         requires full { delivery self.old.lists peer bytes.now ≡ Overflowed peer }
-        ensures makes { Makes R.facts R.whole (Delivers peer bytes.now) (timed_of self.old)
+        ensures makes { Makes R.log (Delivers peer bytes.now) (timed_of self.old)
             (timed_of self.new) rec.old rec.new }
         ensures jobs { self.new.lists.jobs ≡ self.old.lists.jobs }
         ensures servers { self.new.lists.servers ≡ self.old.lists.servers }
@@ -44,8 +43,8 @@ impl Node {
     // A packet of a call is copied into the receive ring where there is room.
     fn deliver_message<R: Recorder>(&mut self, peer: Peer, bytes: &[u8], rec: &mut R) -> Delivery
         requires message { is_message bytes.now ≡ true }
-        requires long { length bytes.now ≤ most_datagram_bytes }
-        ensures makes { Makes R.facts R.whole (Delivers peer bytes.now) (timed_of self.old)
+        requires long { length bytes.now ≤ MOST_DATAGRAM_BYTES }
+        ensures makes { Makes R.log (Delivers peer bytes.now) (timed_of self.old)
             (timed_of self.new) rec.old rec.new }
         ensures jobs { self.new.lists.jobs ≡ self.old.lists.jobs }
         ensures servers { self.new.lists.servers ≡ self.old.lists.servers }
@@ -66,8 +65,8 @@ impl Node {
     fn deliver_control<R: Recorder>(&mut self, peer: Peer, bytes: &[u8], rec: &mut R) -> Delivery
         requires control { is_control bytes.now ≡ true }
         requires other { is_message bytes.now ≡ false }
-        requires long { length bytes.now ≤ most_datagram_bytes }
-        ensures makes { Makes R.facts R.whole (Delivers peer bytes.now) (timed_of self.old)
+        requires long { length bytes.now ≤ MOST_DATAGRAM_BYTES }
+        ensures makes { Makes R.log (Delivers peer bytes.now) (timed_of self.old)
             (timed_of self.new) rec.old rec.new }
         ensures jobs { self.new.lists.jobs ≡ self.old.lists.jobs }
         ensures servers { self.new.lists.servers ≡ self.old.lists.servers }
@@ -86,7 +85,7 @@ impl Node {
     /// Takes a datagram from a peer: it is copied into the receive ring where it is a packet of a
     /// call, and into the inbox where it is a control packet, as long as there is room.
     pub fn deliver<R: Recorder>(&mut self, peer: Peer, bytes: &[u8], rec: &mut R) -> Delivery
-        ensures makes { Makes R.facts R.whole (Delivers peer bytes.now) (timed_of self.old)
+        ensures makes { Makes R.log (Delivers peer bytes.now) (timed_of self.old)
             (timed_of self.new) rec.old rec.new }
         ensures jobs { self.new.lists.jobs ≡ self.old.lists.jobs }
         ensures servers { self.new.lists.servers ≡ self.old.lists.servers }

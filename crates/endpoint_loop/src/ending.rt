@@ -19,7 +19,7 @@ impl Node {
     // one.
     fn flush_reply<R: Recorder>(&mut self, owner: &Owner, rec: &mut R) -> bool
         requires reply { is_reply owner.now ≡ true }
-        ensures makes { result ≡ true → Makes R.facts R.whole (FlushesSome owner.now)
+        ensures makes { result ≡ true → Makes R.log (FlushesSome owner.now)
             (timed_of self.old) (timed_of self.new) rec.old rec.new }
         ensures fewer { result ≡ true →
             length self.new.lists.queued < length self.old.lists.queued }
@@ -51,7 +51,7 @@ impl Node {
     // The queued replies of an owner are taken out, in ascending number.
     fn flush_replies<R: Recorder>(&mut self, owner: &Owner, rec: &mut R)
         requires reply { is_reply owner.now ≡ true }
-        ensures makes { Makes R.facts R.whole (Notes (flushing owner.now)) (timed_of self.old)
+        ensures makes { Makes R.log (Notes (flushing owner.now)) (timed_of self.old)
             (timed_of self.new) rec.old rec.new }
         ensures idle { list_any (is_owned owner.now) self.new.lists.queued ≡ false }
         ensures clients { self.new.lists.clients ≡ self.old.lists.clients }
@@ -69,7 +69,7 @@ impl Node {
     fn flush_slot<R: Recorder>(&mut self, i: usize, slot: u8, rec: &mut R)
         requires known { i < length self.old.lists.servers }
         requires slot { slot < 8 }
-        ensures makes { Makes R.facts R.whole (Notes (flushing_slot i slot)) (timed_of self.old)
+        ensures makes { Makes R.log (Notes (flushing_slot i slot)) (timed_of self.old)
             (timed_of self.new) rec.old rec.new }
         ensures clients { self.new.lists.clients ≡ self.old.lists.clients }
         ensures servers { self.new.lists.servers ≡ self.old.lists.servers }
@@ -87,7 +87,7 @@ impl Node {
     // Those of all its slots are, slot by slot.
     fn flush_slots<R: Recorder>(&mut self, i: usize, rec: &mut R)
         requires known { i < length self.old.lists.servers }
-        ensures makes { Makes R.facts R.whole (Notes (flushing_slots i 8)) (timed_of self.old)
+        ensures makes { Makes R.log (Notes (flushing_slots i 8)) (timed_of self.old)
             (timed_of self.new) rec.old rec.new }
         ensures drained { IfSome (slice_get self.new.lists.servers i)
             (IsDrained self.new.lists.queued) }
@@ -111,7 +111,7 @@ impl Node {
         requires known { i < length self.old.lists.servers }
         requires drained { IfSome (slice_get self.old.lists.servers i)
             (IsDrained self.old.lists.queued) }
-        ensures makes { Makes R.facts R.whole (Notes (leaving i)) (timed_of self.old)
+        ensures makes { Makes R.log (Notes (leaving i)) (timed_of self.old)
             (timed_of self.new) rec.old rec.new }
         ensures clients { self.new.lists.clients ≡ self.old.lists.clients }
         ensures inbox { self.new.lists.inbox ≡ self.old.lists.inbox }
@@ -130,7 +130,7 @@ impl Node {
     // The server session at place `i` ends: first the queued replies to its requests are taken out.
     pub(crate) fn end_session<R: Recorder>(&mut self, i: usize, rec: &mut R)
         requires known { i < length self.old.lists.servers }
-        ensures makes { Makes R.facts R.whole (Notes (ending i)) (timed_of self.old)
+        ensures makes { Makes R.log (Notes (ending i)) (timed_of self.old)
             (timed_of self.new) rec.old rec.new }
         ensures clients { self.new.lists.clients ≡ self.old.lists.clients }
         ensures inbox { self.new.lists.inbox ≡ self.old.lists.inbox }

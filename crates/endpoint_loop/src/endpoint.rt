@@ -2,6 +2,7 @@
 ghost use Rattle.std.specs.Prelude.{◌≡◌, [], length, IfOk, IfErr};
 ghost use Rattle.std.specs.Borrow.{sem};
 ghost use Rattle.std.specs.List.{find};
+ghost use Rattle.rpc_laws.specs.Service.{rules_of};
 ghost use Rattle.node_laws.specs.Kept.{Kept};
 ghost use Rattle.rpc_base.specs.Limits.{Fits as InRange};
 ghost use Rattle.rpc_laws.specs.Groups.{state_of};
@@ -32,6 +33,7 @@ pub struct Endpoint<V: Service, W: Workers> {
 impl<V: Service, W: Workers> Model for Endpoint<V, W> {
     ghost use Rattle.endpoint_loop.specs.Handing.{timed_of};
     ghost use Rattle.endpoint_loop.specs.Running.{IsServing, Running};
+    ghost use Rattle.rpc_laws.specs.Service.{rules_of};
 
     ghost Value = { Running V W };
 
@@ -42,7 +44,7 @@ impl<V: Service, W: Workers> Model for Endpoint<V, W> {
       workers = e.workers;
     } };
 
-    ghost invariant = { λ e. IsServing (record { mode = V.mode_of; answer = V.answer })
+    ghost invariant = { λ e. IsServing (rules_of V.Service)
         (V.stands e.service) W.answer e.node.lists };
 }
 
@@ -63,7 +65,7 @@ impl<V: Service, W: Workers> Endpoint<V, W> {
         requires limits { InRange limits }
         requires workers { (W.limit workers ≡ limits.jobs) × (W.given workers ≡ 0)
             × (W.out workers ≡ []) }
-        requires works { WorksFor W.answer (record { mode = V.mode_of; answer = V.answer }) }
+        requires works { WorksFor W.answer (rules_of V.Service) }
         requires service { V.stands service [] }
         ensures made { IfOk result (λ e. e ≡ record {
           timed = new_node me limits;
@@ -72,15 +74,7 @@ impl<V: Service, W: Workers> Endpoint<V, W> {
           workers = workers;
         }) }
         // It stands for no facts.
-        ensures stands { IfOk result (λ e. StandsFor (record {
-          mode = V.mode_of;
-          answer = V.answer;
-        }) V.stands W.answer (λ w. record {
-          limit = W.limit w;
-          given = W.given w;
-          out = W.out w;
-          waiting = W.waiting w;
-        }) limits [] e) }
+        ensures stands { IfOk result (λ e. StandsFor V.Service W.Workers limits [] e) }
         ensures wanting { IfErr result (λ back. back ≡ workers) }
     {
         let Ok(node) = Node::new(alloc, me, limits) else {
@@ -136,7 +130,8 @@ impl<V: Service, W: Workers> Endpoint<V, W> {
 
     /// Lends the workers.
     pub fn workers(&mut self) -> &mut W
-        ensures* writes_back { sem 𝓛 (lends_workers V.row W.row V.Service W.Workers self.entry result) }
+        ensures* writes_back { sem 𝓛 (lends_workers V.row W.row V.Service W.Workers self.entry
+            result) }
         ensures value { result.now ≡ self.old.workers }
     {
         &mut self.workers

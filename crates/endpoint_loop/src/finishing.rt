@@ -95,7 +95,7 @@ impl Node {
     pub fn finish<R: Recorder>(&mut self, parcel: Parcel, rec: &mut R) -> bool
         requires room { replies self.old.lists.queued < self.old.lists.room }
         requires answer { IsMessage parcel.out.len }
-        ensures done { result ≡ true → MakesWhere R.facts R.whole (AsksOf parcel) (FinishesWith
+        ensures done { result ≡ true → MakesWhere R.log (AsksOf parcel) (FinishesWith
             parcel.session parcel.request (bytes_of parcel.out)) (timed_of self.old)
             (timed_of self.new) rec.old rec.new }
         ensures jobs { result ≡ true → self.new.lists.jobs ≡ record self.old.lists.jobs {
@@ -146,7 +146,7 @@ impl Node {
     // bytes, is dropped. The result tells whether a job came back.
     fn finish_next<W: Workers, R: Recorder>(&mut self, workers: &mut W, rec: &mut R) -> bool
         requires room { replies self.old.lists.queued < self.old.lists.room }
-        ensures makes { MakesFinished R.facts R.whole W.answer (W.out workers.old)
+        ensures makes { MakesFinished R.log W.answer (W.out workers.old)
             (W.out workers.new) (W.worked workers.old) (W.worked workers.new) (timed_of self.old)
             (timed_of self.new) rec.old rec.new }
         ensures fewer { result ≡ true →
@@ -189,7 +189,7 @@ impl Node {
     /// than the ring is long. A job that isn't out, or whose answer has more than 1,048,576 bytes,
     /// is dropped.
     pub fn finish_all<W: Workers, R: Recorder>(&mut self, workers: &mut W, rec: &mut R)
-        ensures makes { MakesFinished R.facts R.whole W.answer (W.out workers.old)
+        ensures makes { MakesFinished R.log W.answer (W.out workers.old)
             (W.out workers.new) (W.worked workers.old) (W.worked workers.new) (timed_of self.old)
             (timed_of self.new) rec.old rec.new }
         ensures over { (self.new.lists.room ≤ replies self.new.lists.queued)

@@ -1,7 +1,10 @@
 //! Step 3 of a poll: the packets of the receive ring are handled.
+ghost use Rattle.endpoint_loop.specs.Finishing.{staff_of};
+ghost use Rattle.rpc_laws.specs.Service.{rules_of};
+ghost use Rattle.rpc_outside.specs.Served.{StandsForSome};
 ghost use Rattle.endpoint_loop.specs.Handing.{GivesBackTo, timed_of};
 ghost use Rattle.std.specs.Prelude.{◌≡◌, ◌≢◌, ◌<◌, ◌≤◌, ◌+◌, [], true, false, drop, length};
-ghost use Rattle.endpoint_loop.specs.Handling.{MakesAllHandled, MakesHandled, StandsForSome};
+ghost use Rattle.endpoint_loop.specs.Handling.{MakesAllHandled, MakesHandled};
 ghost use Rattle.endpoint_loop.specs.Handling.{WorksFor};
 ghost use Rattle.endpoint_loop.specs.Serving.{AllServed};
 ghost use Rattle.rpc_laws.specs.PollOrder.{Handles, HandlesAll, NoMoreToHandle};
@@ -30,11 +33,10 @@ impl Node {
         requires some { self.old.lists.ring ≢ [] }
         requires room { replies self.old.lists.queued < self.old.lists.room }
         requires served { AllServed V.mode_of self.old.lists.servers }
-        ensures handles { MakesHandled R.facts R.whole K.given (record {
-          mode = V.mode_of;
-          answer = V.answer;
-        }) (V.stands service.old) (V.stands service.new) (Handles V.mode_of) result
-            (timed_of self.old) (timed_of self.new) rec.old rec.new k.old k.new }
+        requires founded { StandsForSome (V.stands service.old) }
+        ensures handles { MakesHandled R.log K.given (rules_of V.Service) (V.stands service.old)
+            (V.stands service.new) (Handles V.mode_of) result (timed_of self.old)
+            (timed_of self.new) rec.old rec.new k.old k.new }
         ensures ring { self.new.lists.ring ≡ drop 1 self.old.lists.ring }
         ensures served { AllServed V.mode_of self.new.lists.servers }
         ensures handed { GivesBackTo K.given self.old.handed self.new.handed k.old k.new }
@@ -77,16 +79,11 @@ impl Node {
         requires room { replies self.old.lists.queued < self.old.lists.room }
         requires served { AllServed V.mode_of self.old.lists.servers }
         requires founded { StandsForSome (V.stands service.old) }
-        requires works { WorksFor W.answer (record { mode = V.mode_of; answer = V.answer }) }
-        ensures handles { MakesAllHandled R.facts R.whole K.given (λ w. record {
-          limit = W.limit w;
-          given = W.given w;
-          out = W.out w;
-          waiting = W.waiting w;
-        }) (record { mode = V.mode_of; answer = V.answer }) (V.stands service.old)
-            (V.stands service.new) W.answer (Handles V.mode_of) (timed_of self.old)
-            (timed_of self.new) rec.old rec.new
-            k.old k.new workers.old workers.new }
+        requires works { WorksFor W.answer (rules_of V.Service) }
+        ensures handles { MakesAllHandled R.log K.given (staff_of W.Workers) (rules_of V.Service)
+            (V.stands service.old) (V.stands service.new) W.answer (Handles V.mode_of)
+            (timed_of self.old) (timed_of self.new) rec.old rec.new k.old k.new workers.old
+            workers.new }
         ensures fewer { length self.new.lists.ring < length self.old.lists.ring }
         ensures served { AllServed V.mode_of self.new.lists.servers }
         ensures me { self.new.lists.me ≡ self.old.lists.me }
@@ -118,16 +115,11 @@ impl Node {
     ) -> u32
         requires served { AllServed V.mode_of self.old.lists.servers }
         requires founded { StandsForSome (V.stands service.old) }
-        requires works { WorksFor W.answer (record { mode = V.mode_of; answer = V.answer }) }
-        ensures handles { MakesAllHandled R.facts R.whole K.given (λ w. record {
-          limit = W.limit w;
-          given = W.given w;
-          out = W.out w;
-          waiting = W.waiting w;
-        }) (record { mode = V.mode_of; answer = V.answer }) (V.stands service.old)
-            (V.stands service.new) W.answer (HandlesAll V.mode_of) (timed_of self.old)
-            (timed_of self.new) rec.old rec.new
-            k.old k.new workers.old workers.new }
+        requires works { WorksFor W.answer (rules_of V.Service) }
+        ensures handles { MakesAllHandled R.log K.given (staff_of W.Workers) (rules_of V.Service)
+            (V.stands service.old) (V.stands service.new) W.answer (HandlesAll V.mode_of)
+            (timed_of self.old) (timed_of self.new) rec.old rec.new k.old k.new workers.old
+            workers.new }
         ensures served { AllServed V.mode_of self.new.lists.servers }
         ensures me { self.new.lists.me ≡ self.old.lists.me }
         ensures founded { StandsForSome (V.stands service.new) }

@@ -11,8 +11,8 @@ ghost use Rattle.rpc_laws.specs.Front.{front_body, front_header};
 
 use crate::node::Node;
 use client_core::{Done, Outcome, Reply};
-use packet_header::{HEAD_BYTES, MessageHeader, message_header};
-use rpc_base::{DropReason, Event, Owner, Who};
+use packet_header::{MessageHeader, message_header};
+use rpc_base::{DropReason, Event, HEAD_BYTES, Owner, Who};
 use rpc_outside::Recorder;
 
 /// What follows the header of a datagram.
@@ -48,7 +48,7 @@ fn answer_of(done: &Done) -> &[u8]
 impl Node {
     /// The front of the receive ring is dropped for this reason.
     pub(crate) fn drop_front<R: Recorder>(&mut self, reason: DropReason, rec: &mut R)
-        ensures drops { Makes R.facts R.whole (Drops reason) (timed_of self.old) (timed_of self.new)
+        ensures drops { Makes R.log (Drops reason) (timed_of self.old) (timed_of self.new)
             rec.old rec.new }
         ensures ring { self.new.lists.ring ≡ drop 1 self.old.lists.ring }
         ensures jobs { self.new.lists.jobs ≡ self.old.lists.jobs }
@@ -67,7 +67,7 @@ impl Node {
     pub fn hear_reply<R: Recorder>(&mut self, head: &MessageHeader, rec: &mut R) -> Option<Done>
         requires in_range { MessageInRange head.now }
         requires front { front_header self.old.lists.ring ≡ Some head.now }
-        ensures hears { Makes R.facts R.whole (HearsReply head.now result) (timed_of self.old)
+        ensures hears { Makes R.log (HearsReply head.now result) (timed_of self.old)
             (timed_of self.new) rec.old rec.new }
         ensures ring { self.new.lists.ring ≡ drop 1 self.old.lists.ring }
         ensures jobs { self.new.lists.jobs ≡ self.old.lists.jobs }
@@ -119,7 +119,7 @@ impl Node {
         ensures value { result ≡ front_header self.now.lists.ring }
         ensures in_range { IfSome result (λ h. MessageInRange h) }
         ensures long { IfSome result (λ h. MessageLength h.kind h.size h.number
-            (16 + length (front_body self.now.lists.ring))) }
+            (HEAD_BYTES + length (front_body self.now.lists.ring))) }
     {
         let Some(front) = self.rx.front() else {
             return None;

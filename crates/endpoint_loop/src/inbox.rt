@@ -3,13 +3,12 @@ ghost use Rattle.std.specs.Prelude.{◌≡◌, ◌<◌, ◌≤◌, ◌↔◌, na
 ghost use Rattle.std.specs.Prelude.{drop, true, None, IfOk, IfSome, IsTrue};
 ghost use Rattle.endpoint_loop.specs.Inbox.{IsFront};
 ghost use Rattle.packet_header.specs.Header.{ControlInRange};
-ghost use Rattle.packet_rings.specs.Values.{most_datagram_bytes};
 ghost use Rattle.rpc_laws.specs.Deliveries.{inbox_room};
 ghost use Rattle.rpc_laws.specs.Front.{control_of, is_control};
 
 use packet_header::{ControlHeader, Packet, decode};
 use packet_rings::RxRing;
-use rpc_base::{NoMemory, Peer};
+use rpc_base::{MOST_DATAGRAM_BYTES, NoMemory, Peer};
 use std::alloc::Global;
 use std::marker::Model;
 
@@ -93,7 +92,7 @@ impl Inbox {
     /// Puts a control packet at the back of an inbox that isn't full: its bytes are copied.
     pub fn push(&mut self, peer: Peer, bytes: &[u8])
         requires control { is_control bytes.now ≡ true }
-        requires long { length bytes.now ≤ most_datagram_bytes }
+        requires long { length bytes.now ≤ MOST_DATAGRAM_BYTES }
         requires room { length self.old < inbox_room }
         ensures { self.new ≡ self.old ++ record { peer = peer; bytes = bytes.now } ∷ [] }
     {

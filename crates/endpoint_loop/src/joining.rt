@@ -38,7 +38,7 @@ impl Node {
         requires known { session < length self.old.lists.clients }
         requires connecting { IsInState Connecting (slice_get self.old.lists.clients session) }
         requires server { server < SESSION_NUMBERS }
-        ensures makes { Makes R.facts R.whole (NotesNext (λ s. Some (IsConnected session server)))
+        ensures makes { Makes R.log (NotesNext (λ s. Some (IsConnected session server)))
             (timed_of self.old) (timed_of self.new) rec.old rec.new }
         ensures inbox { self.new.lists.inbox ≡ self.old.lists.inbox }
         ensures servers { self.new.lists.servers ≡ self.old.lists.servers }
@@ -54,7 +54,7 @@ impl Node {
     fn fail_session<R: Recorder>(&mut self, session: SessionNo, rec: &mut R)
         requires known { session < length self.old.lists.clients }
         requires connecting { IsInState Connecting (slice_get self.old.lists.clients session) }
-        ensures makes { Makes R.facts R.whole (NotesNext (λ s. Some (FailedNoRoom session)))
+        ensures makes { Makes R.log (NotesNext (λ s. Some (FailedNoRoom session)))
             (timed_of self.old) (timed_of self.new) rec.old rec.new }
         ensures inbox { self.new.lists.inbox ≡ self.old.lists.inbox }
         ensures servers { self.new.lists.servers ≡ self.old.lists.servers }
@@ -70,7 +70,7 @@ impl Node {
     fn close_session<R: Recorder>(&mut self, session: SessionNo, rec: &mut R)
         requires known { session < length self.old.lists.clients }
         requires closing { IsInState Closing (slice_get self.old.lists.clients session) }
-        ensures makes { Makes R.facts R.whole (NotesNext (λ s. Some (ClosedHeard session)))
+        ensures makes { Makes R.log (NotesNext (λ s. Some (ClosedHeard session)))
             (timed_of self.old) (timed_of self.new) rec.old rec.new }
         ensures inbox { self.new.lists.inbox ≡ self.old.lists.inbox }
         ensures servers { self.new.lists.servers ≡ self.old.lists.servers }
@@ -98,7 +98,7 @@ impl Node {
         requires kind { head.now.kind ≡ ConnectReply }
         requires named { head.now.server ≡ Some server }
         requires server { server < SESSION_NUMBERS }
-        ensures controls { Makes R.facts R.whole (Controls end.now.peer head.now result)
+        ensures controls { Makes R.log (Controls end.now.peer head.now result)
             (timed_of self.old) (timed_of self.new) rec.old rec.new }
         ensures inbox { self.new.lists.inbox ≡ self.old.lists.inbox }
         ensures servers { self.new.lists.servers ≡ self.old.lists.servers }
@@ -135,7 +135,7 @@ impl Node {
         requires end { IfSome (slice_get self.old.lists.clients i) (IsClientEnd end.now) }
         requires kind { head.now.kind ≡ ConnectReply }
         requires named { head.now.server ≡ None }
-        ensures controls { Makes R.facts R.whole (Controls end.now.peer head.now result)
+        ensures controls { Makes R.log (Controls end.now.peer head.now result)
             (timed_of self.old) (timed_of self.new) rec.old rec.new }
         ensures inbox { self.new.lists.inbox ≡ self.old.lists.inbox }
         ensures servers { self.new.lists.servers ≡ self.old.lists.servers }
@@ -162,7 +162,7 @@ impl Node {
         requires end { IfSome (slice_get self.old.lists.clients i) (IsClientEnd end.now) }
         requires kind { head.now.kind ≡ DisconnectReply }
         requires named { head.now.server ≡ Some server }
-        ensures controls { Makes R.facts R.whole (Controls end.now.peer head.now result)
+        ensures controls { Makes R.log (Controls end.now.peer head.now result)
             (timed_of self.old) (timed_of self.new) rec.old rec.new }
         ensures inbox { self.new.lists.inbox ≡ self.old.lists.inbox }
         ensures servers { self.new.lists.servers ≡ self.old.lists.servers }

@@ -57,7 +57,7 @@ impl Node {
     fn handle_control<R: Recorder>(&mut self, packet: &Heard, rec: &mut R) -> Option<ControlHeader>
         requires front { IsFront self.old.lists.inbox packet.now }
         requires in_range { ControlInRange packet.now.head }
-        ensures handles { Makes R.facts R.whole (Handles packet.now.peer packet.now.head result)
+        ensures handles { Makes R.log (Handles packet.now.peer packet.now.head result)
             (timed_of self.old) (timed_of self.new) rec.old rec.new }
         ensures in_range { IfSome result (λ r. ControlInRange r) }
         ensures inbox { self.new.lists.inbox ≡ drop 1 self.old.lists.inbox }
@@ -76,10 +76,8 @@ impl Node {
     // The packet in front of the inbox is handled, and its answer is handed to the link at once.
     fn hear_control<L: Link, R: Recorder>(&mut self, link: &mut L, rec: &mut R) -> Listening
         requires some { self.old.lists.inbox ≢ [] }
-        ensures listens { Listens R.facts R.whole L.sent (λ l. record {
-          faults = L.faults l;
-          busies = L.busies l;
-        }) Hears result (timed_of self.old) (timed_of self.new) rec.old rec.new link.old link.new }
+        ensures listens { Listens R.log L.Link Hears result (timed_of self.old)
+            (timed_of self.new) rec.old rec.new link.old link.new }
         ensures one { result.heard ≡ 1 }
         ensures few { result.sent ≤ 1 }
         ensures inbox { self.new.lists.inbox ≡ drop 1 self.old.lists.inbox }
@@ -110,10 +108,8 @@ impl Node {
     /// answer is handed to the link at once: it is noted as Sent where the link took it, and
     /// otherwise as Unsent. A busy link, or a fault of the link, doesn't stop it.
     pub fn hear_all<L: Link, R: Recorder>(&mut self, link: &mut L, rec: &mut R) -> Listening
-        ensures listens { Listens R.facts R.whole L.sent (λ l. record {
-          faults = L.faults l;
-          busies = L.busies l;
-        }) HearsAll result (timed_of self.old) (timed_of self.new) rec.old rec.new link.old link.new }
+        ensures listens { Listens R.log L.Link HearsAll result (timed_of self.old)
+            (timed_of self.new) rec.old rec.new link.old link.new }
         ensures heard { result.heard ≡ length self.old.lists.inbox }
         ensures few { result.heard ≤ inbox_room }
         ensures sent { result.sent ≤ result.heard }

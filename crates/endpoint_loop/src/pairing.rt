@@ -1,6 +1,7 @@
 //! Sessions that are connected from the start.
 ghost use Rattle.endpoint_loop.specs.Handing.{timed_of};
-ghost use Rattle.std.specs.Prelude.{◌≡◌, ◌<◌, ◌≤◌, ◌++◌, [], ◌∷◌, ℕ, Bool, None, Some, length, IfErr};
+ghost use Rattle.std.specs.Prelude.{◌≡◌, ◌<◌, ◌≤◌, ◌++◌, [], ◌∷◌, ℕ, None, Some, length};
+ghost use Rattle.std.specs.Prelude.{IfErr};
 ghost use Rattle.std.specs.Prelude.{IfOk, IfSome, IsSome, OnErr, OnOk};
 ghost use Rattle.endpoint_loop.specs.Applying.{IfNoMemory, PairsClient, PairsServer, Refuses};
 ghost use Rattle.endpoint_loop.specs.Applying.{UnlessNoMemory};
@@ -26,7 +27,8 @@ impl Node {
         requires some { 1 ≤ credits }
         requires most { credits ≤ MOST_CREDITS }
         ensures accepted { OnOk result (refusal_by spent credits self.now.lists ≡ None) }
-        ensures refused { IfErr result (λ why. refused why ≡ refusal_by spent credits self.now.lists) }
+        ensures refused { IfErr result (λ why. refused why ≡ refusal_by spent credits
+            self.now.lists) }
         ensures never_memory { IfErr result (λ why. IsSome (refused why)) }
     {
         if spent {
@@ -47,7 +49,7 @@ impl Node {
     pub(crate) fn refuse<R: Recorder>(&self, why: &ConnectError, rec: &mut R)
         requires told { IsSome (refused why.now) }
         ensures { IfSome (refused why.now)
-            (λ event. Makes R.facts R.whole (Refuses event) (timed_of self.now) (timed_of self.now)
+            (λ event. Makes R.log (Refuses event) (timed_of self.now) (timed_of self.now)
             rec.old rec.new) }
     {
         let event = match why {
@@ -89,7 +91,7 @@ impl Node {
         requires server { server < SESSION_NUMBERS }
         requires some { 1 ≤ credits }
         requires most { credits ≤ MOST_CREDITS }
-        ensures makes { OnOk result (Makes R.facts R.whole (NotesNext (λ s. Some (PairedClient
+        ensures makes { OnOk result (Makes R.log (NotesNext (λ s. Some (PairedClient
             (length s.clients) peer server credits))) (timed_of self.old) (timed_of self.new)
             rec.old rec.new) }
         ensures jobs { self.new.lists.jobs ≡ self.old.lists.jobs }
@@ -130,7 +132,7 @@ impl Node {
         requires client { client < SESSION_NUMBERS }
         requires some { 1 ≤ credits }
         requires most { credits ≤ MOST_CREDITS }
-        ensures makes { OnOk result (Makes R.facts R.whole (NotesNext (λ s. Some (PairedServer
+        ensures makes { OnOk result (Makes R.log (NotesNext (λ s. Some (PairedServer
             s.server_numbers peer client credits))) (timed_of self.old) (timed_of self.new) rec.old
             rec.new) }
         ensures clients { self.new.lists.clients ≡ self.old.lists.clients }
@@ -170,7 +172,7 @@ impl Node {
         requires some { 1 ≤ credits }
         requires most { credits ≤ MOST_CREDITS }
         ensures number { IfOk result (λ s. s ≡ length self.old.lists.clients) }
-        ensures makes { UnlessNoMemory result (Makes R.facts R.whole (PairsClient peer server
+        ensures makes { UnlessNoMemory result (Makes R.log (PairsClient peer server
             credits) (timed_of self.old) (timed_of self.new) rec.old rec.new) }
         ensures accepted { OnOk result (client_refusal credits self.old.lists ≡ None) }
         ensures refused { IfErr result
@@ -209,7 +211,7 @@ impl Node {
         requires some { 1 ≤ credits }
         requires most { credits ≤ MOST_CREDITS }
         ensures number { IfOk result (λ t. t ≡ self.old.lists.server_numbers) }
-        ensures makes { UnlessNoMemory result (Makes R.facts R.whole (PairsServer peer client
+        ensures makes { UnlessNoMemory result (Makes R.log (PairsServer peer client
             credits) (timed_of self.old) (timed_of self.new) rec.old rec.new) }
         ensures accepted { OnOk result (server_refusal credits self.old.lists ≡ None) }
         ensures refused { IfErr result

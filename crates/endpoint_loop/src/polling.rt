@@ -1,7 +1,7 @@
 //! A poll, step by step.
 ghost use Rattle.endpoint_loop.specs.Handing.{GivesBackTo, holding, timed_of};
 ghost use Rattle.std.specs.Prelude.{◌≡◌, ◌≤◌, ◌*◌, max, true, IfOk};
-ghost use Rattle.endpoint_loop.specs.Polling.{MakesPoll, turn_of, turn_told};
+ghost use Rattle.endpoint_loop.specs.Polling.{MakesPoll, turn_of, turn_told, wire_of};
 ghost use Rattle.endpoint_loop.specs.Standing.{GoesOn};
 ghost use Rattle.rpc_laws.specs.Deliveries.{inbox_room};
 ghost use Rattle.rpc_laws.specs.PollOrder.{raised};
@@ -16,11 +16,21 @@ use crate::retrying::Asking;
 use crate::sending::Sending;
 use rpc_base::{MOST_RING, SESSION_NUMBERS};
 use rpc_outside::{Failed, Link, Recorder, Service};
+use std::error::Error;
+use std::fmt;
 use worker_crew::Workers;
 
 /// A fault of the link.
 #[derive(Clone, Copy, Debug, PartialEq, Eq)]
 pub struct LinkFault;
+
+impl fmt::Display for LinkFault {
+    fn fmt<W: fmt::Write>(&self, f: &mut fmt::Formatter<W>) -> fmt::Result {
+        f.write_str("the link failed")
+    }
+}
+
+impl Error for LinkFault {}
 
 /// What a poll did.
 #[derive(Clone, Copy, Debug, PartialEq, Eq)]
@@ -86,30 +96,10 @@ impl<V: Service, W: Workers> Endpoint<V, W> {
         k: &mut K,
         rec: &mut R,
     ) -> Result<Turn, LinkFault>
-        ensures polls { MakesPoll R.facts R.whole K.given (λ w. record {
-          staff = record {
-            limit = W.limit w;
-            given = W.given w;
-            out = W.out w;
-            waiting = W.waiting w;
-          };
-          worked = W.worked w;
-          looks = W.looks w;
-        }) (record { mode = V.mode_of; answer = V.answer }) V.stands W.answer (turn_of result) now
-            (record {
-              sent = L.sent link.old;
-              troubles = record { faults = L.faults link.old; busies = L.busies link.old };
-            }) (record {
-              sent = L.sent link.new;
-              troubles = record { faults = L.faults link.new; busies = L.busies link.new };
-            }) self.old self.new rec.old rec.new k.old k.new }
-        ensures goes_on { GoesOn R.facts R.whole (record { mode = V.mode_of; answer = V.answer })
-            V.stands W.answer (λ w. record {
-              limit = W.limit w;
-              given = W.given w;
-              out = W.out w;
-              waiting = W.waiting w;
-            }) self.old self.new rec.old rec.new }
+        ensures polls { MakesPoll R.log K.given V.Service W.Workers (turn_of result) now
+            (wire_of L.Link link.old) (wire_of L.Link link.new) self.old self.new rec.old rec.new
+            k.old k.new }
+        ensures goes_on { GoesOn R.log V.Service W.Workers self.old self.new rec.old rec.new }
         ensures busy { IfOk result (λ turn. turn.busy ≡ true →
             HasRisen (L.busies link.old) (L.busies link.new)) }
         ensures team { W.team self.new.workers ≡ W.team self.old.workers }

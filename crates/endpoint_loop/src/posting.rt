@@ -14,7 +14,7 @@ ghost use Rattle.rpc_laws.specs.Posting.{next_begun, next_posted};
 ghost use Rattle.rpc_laws.specs.Steps.{NotesAll};
 
 use crate::node::Node;
-use rpc_base::{Event, Owner, RequestNo, Who};
+use rpc_base::{Event, MOST_DATAGRAM_BYTES, Owner, RequestNo, Who};
 use rpc_laws::Pace;
 use rpc_outside::Recorder;
 
@@ -51,7 +51,7 @@ fn due_of(paces: &Vec<Pace>, i: usize, clock: u64) -> Option<u64>
 fn delay(paces: &mut Vec<Pace>, i: usize, clock: u64, size: u64)
     requires known { i < length paces.old.items }
     requires numbered { NumberedFrom pace_no 0 paces.old.items }
-    requires size { size ≤ 1040 }
+    requires size { size ≤ MOST_DATAGRAM_BYTES }
     ensures { paces.new.items ≡ at_first (is_paced i) (delayed clock size) paces.old.items }
 {
     let pace = &mut paces[i];
@@ -65,7 +65,7 @@ fn delay(paces: &mut Vec<Pace>, i: usize, clock: u64, size: u64)
 impl Node {
     // Session `i` posts its next packet. The result tells whether it had one.
     fn post_next<R: Recorder>(&mut self, i: usize, rec: &mut R) -> bool
-        ensures notes { NotesOne R.facts R.whole (next_posted i) result (timed_of self.old)
+        ensures notes { NotesOne R.log (next_posted i) result (timed_of self.old)
             (timed_of self.new) rec.old rec.new }
         ensures fewer { result ≡ true →
             free_at i self.new.lists.clients < free_at i self.old.lists.clients }
@@ -93,7 +93,7 @@ impl Node {
 
     // The next call of session `i` begins. The result tells whether it had one.
     fn begin_next<R: Recorder>(&mut self, i: usize, rec: &mut R) -> bool
-        ensures notes { NotesOne R.facts R.whole (next_begun i) result (timed_of self.old)
+        ensures notes { NotesOne R.log (next_begun i) result (timed_of self.old)
             (timed_of self.new) rec.old rec.new }
         ensures fewer { result ≡ true →
             waiting_at i self.new.lists.clients < waiting_at i self.old.lists.clients }
@@ -117,7 +117,7 @@ impl Node {
 
     // Session `i` posts until it has nothing to post.
     fn post_all<R: Recorder>(&mut self, i: usize, rec: &mut R)
-        ensures makes { Makes R.facts R.whole (NotesAll (next_posted i)) (timed_of self.old)
+        ensures makes { Makes R.log (NotesAll (next_posted i)) (timed_of self.old)
             (timed_of self.new) rec.old rec.new }
         ensures jobs { self.new.lists.jobs ≡ self.old.lists.jobs }
         ensures servers { self.new.lists.servers ≡ self.old.lists.servers }
@@ -128,7 +128,7 @@ impl Node {
 
     // The waiting calls of session `i` begin, as long as a slot is free.
     fn begin_all<R: Recorder>(&mut self, i: usize, rec: &mut R)
-        ensures makes { Makes R.facts R.whole (NotesAll (next_begun i)) (timed_of self.old)
+        ensures makes { Makes R.log (NotesAll (next_begun i)) (timed_of self.old)
             (timed_of self.new) rec.old rec.new }
         ensures jobs { self.new.lists.jobs ≡ self.old.lists.jobs }
         ensures servers { self.new.lists.servers ≡ self.old.lists.servers }
@@ -139,7 +139,7 @@ impl Node {
 
     // Session `i` begins its waiting calls, and then posts its packets.
     fn serve_session<R: Recorder>(&mut self, i: usize, rec: &mut R)
-        ensures makes { Makes R.facts R.whole (Serves i) (timed_of self.old) (timed_of self.new)
+        ensures makes { Makes R.log (Serves i) (timed_of self.old) (timed_of self.new)
             rec.old rec.new }
         ensures jobs { self.new.lists.jobs ≡ self.old.lists.jobs }
         ensures servers { self.new.lists.servers ≡ self.old.lists.servers }
@@ -153,7 +153,7 @@ impl Node {
     /// its waiting calls, and then posts its packets. One without calls has nothing to do, and is
     /// passed over.
     pub fn serve_sessions<R: Recorder>(&mut self, rec: &mut R)
-        ensures makes { Makes R.facts R.whole PostsAll (timed_of self.old) (timed_of self.new)
+        ensures makes { Makes R.log PostsAll (timed_of self.old) (timed_of self.new)
             rec.old rec.new }
         ensures jobs { self.new.lists.jobs ≡ self.old.lists.jobs }
         ensures servers { self.new.lists.servers ≡ self.old.lists.servers }

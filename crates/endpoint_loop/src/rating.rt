@@ -50,7 +50,7 @@ impl Node {
         rate: u32,
         rec: &mut R,
     ) -> Result<(), SessionState>
-        ensures makes { Makes R.facts R.whole (SetsRate session rate) (timed_of self.old)
+        ensures makes { Makes R.log (SetsRate session rate) (timed_of self.old)
             (timed_of self.new) rec.old rec.new }
         ensures rated { RatedAs (state_of (find (is_client session) self.old.lists.clients)) result }
         ensures jobs { self.new.lists.jobs ≡ self.old.lists.jobs }

@@ -31,7 +31,7 @@ impl Node {
     fn fail_unanswered<R: Recorder>(&mut self, i: usize, rec: &mut R)
         requires known { i < length self.old.lists.clients }
         requires connecting { IsInState Connecting (slice_get self.old.lists.clients i) }
-        ensures makes { Makes R.facts R.whole (NotesNext (λ s. Some (FailedNoAnswer i)))
+        ensures makes { Makes R.log (NotesNext (λ s. Some (FailedNoAnswer i)))
             (timed_of self.old) (timed_of self.new) rec.old rec.new }
         ensures servers { self.new.lists.servers ≡ self.old.lists.servers }
         ensures me { self.new.lists.me ≡ self.old.lists.me }
@@ -48,7 +48,7 @@ impl Node {
     fn close_unheard<R: Recorder>(&mut self, i: usize, rec: &mut R)
         requires known { i < length self.old.lists.clients }
         requires closing { IsInState Closing (slice_get self.old.lists.clients i) }
-        ensures makes { Makes R.facts R.whole (NotesNext (λ s. Some (ClosedUnheard i)))
+        ensures makes { Makes R.log (NotesNext (λ s. Some (ClosedUnheard i)))
             (timed_of self.old) (timed_of self.new) rec.old rec.new }
         ensures servers { self.new.lists.servers ≡ self.old.lists.servers }
         ensures me { self.new.lists.me ≡ self.old.lists.me }
@@ -64,8 +64,8 @@ impl Node {
     // Session `i` gives up, to whose request no answer came.
     fn give_up<R: Recorder>(&mut self, i: usize, rec: &mut R)
         requires known { i < length self.old.lists.clients }
-        ensures makes { Makes R.facts R.whole (GivesUpAt i) (timed_of self.old)
-            (timed_of self.new) rec.old rec.new }
+        ensures makes { Makes R.log (GivesUpAt i) (timed_of self.old) (timed_of self.new) rec.old
+            rec.new }
         ensures servers { self.new.lists.servers ≡ self.old.lists.servers }
         ensures me { self.new.lists.me ≡ self.old.lists.me }
         ensures jobs { self.new.lists.jobs ≡ self.old.lists.jobs }
@@ -90,10 +90,7 @@ impl Node {
         requires own { IfSome (slice_get self.old.lists.clients i)
             (λ x. own_request x ≡ Some head.now) }
         requires few { IfSome (slice_get self.old.lists.clients i) (λ x. x.sends < 9) }
-        ensures spoken { MakesSpoken R.facts R.whole L.sent (λ l. record {
-          faults = L.faults l;
-          busies = L.busies l;
-        }) (SendsRequest i head.now) result
+        ensures spoken { MakesSpoken R.log L.Link (SendsRequest i head.now) result
             (timed_of self.old) (timed_of self.new) rec.old rec.new link.old link.new }
         ensures servers { self.new.lists.servers ≡ self.old.lists.servers }
         ensures me { self.new.lists.me ≡ self.old.lists.me }
@@ -134,10 +131,7 @@ impl Node {
         rec: &mut R,
     ) -> Asking
         requires known { i < length self.old.lists.clients }
-        ensures spoken { MakesSpoken R.facts R.whole L.sent (λ l. record {
-          faults = L.faults l;
-          busies = L.busies l;
-        }) (Retries timeout i) result
+        ensures spoken { MakesSpoken R.log L.Link (Retries timeout i) result
             (timed_of self.old) (timed_of self.new) rec.old rec.new link.old link.new }
         ensures servers { self.new.lists.servers ≡ self.old.lists.servers }
         ensures me { self.new.lists.me ≡ self.old.lists.me }

@@ -30,7 +30,7 @@ fn lose_next<K: Continuation, R: Recorder>(
     requires known { i < length store.old.clients }
     requires lost { IsLost (slice_get store.old.clients i) }
     requires idle { IsIdle i store.old.queued }
-    ensures ends { result ≡ true → EndsOne R.facts R.whole K.given me i store.old.clients
+    ensures ends { result ≡ true → EndsOne R.log K.given me i store.old.clients
         store.new.clients rec.old rec.new k.old k.new }
     ensures none { result ≡ false → calls_in (slice_get store.old.clients i) ≡ [] }
     ensures unchanged { result ≡ false → store.new.clients ≡ store.old.clients }
@@ -64,7 +64,7 @@ fn lose_session<K: Continuation, R: Recorder>(
     requires numbered { i < SESSION_NUMBERS }
     requires connected { IsConnected (slice_get store.old.clients i) }
     requires idle { IsIdle i store.old.queued }
-    ensures lost { HasLost R.facts R.whole K.given me i [] store.old.clients store.new.clients
+    ensures lost { HasLost R.log K.given me i [] store.old.clients store.new.clients
         rec.old rec.new k.old k.new }
     ensures servers { store.new.servers ≡ store.old.servers }
     ensures queued { store.new.queued ≡ store.old.queued }
@@ -85,7 +85,7 @@ impl Node {
     // whether there was one.
     fn flush_next<R: Recorder>(&mut self, i: usize, request: RequestNo, rec: &mut R) -> bool
         requires known { i < length self.old.lists.clients }
-        ensures makes { result ≡ true → Makes R.facts R.whole (FlushesSome (Ask i request))
+        ensures makes { result ≡ true → Makes R.log (FlushesSome (Ask i request))
             (timed_of self.old) (timed_of self.new) rec.old rec.new }
         ensures fewer { result ≡ true →
             length self.new.lists.queued < length self.old.lists.queued }
@@ -113,7 +113,7 @@ impl Node {
     // The queued packets of a request of session `i` are taken out, in ascending number.
     fn flush_call<R: Recorder>(&mut self, i: usize, request: RequestNo, rec: &mut R)
         requires known { i < length self.old.lists.clients }
-        ensures makes { Makes R.facts R.whole (Notes (flushing (Ask i request))) (timed_of self.old)
+        ensures makes { Makes R.log (Notes (flushing (Ask i request))) (timed_of self.old)
             (timed_of self.new) rec.old rec.new }
         ensures idle { list_any (is_owned (Ask i request)) self.new.lists.queued ≡ false }
         ensures clients { self.new.lists.clients ≡ self.old.lists.clients }
@@ -132,7 +132,7 @@ impl Node {
         requires few { HasFewRolls i active.now.call self.old.lists.clients }
         requires idle { list_any (is_owned (Ask i active.now.request)) self.old.lists.queued
             ≡ false }
-        ensures makes { Makes R.facts R.whole (Notes (rolling active.now)) (timed_of self.old)
+        ensures makes { Makes R.log (Notes (rolling active.now)) (timed_of self.old)
             (timed_of self.new) rec.old rec.new }
         ensures servers { self.new.lists.servers ≡ self.old.lists.servers }
         ensures me { self.new.lists.me ≡ self.old.lists.me }
@@ -154,7 +154,7 @@ impl Node {
         requires known { i < length self.old.lists.clients }
         requires active { ActiveAt i active.now self.old.lists.clients }
         requires few { HasFewRolls i active.now.call self.old.lists.clients }
-        ensures makes { Makes R.facts R.whole (Notes (rolling_back i active.now))
+        ensures makes { Makes R.log (Notes (rolling_back i active.now))
             (timed_of self.old) (timed_of self.new) rec.old rec.new }
         ensures servers { self.new.lists.servers ≡ self.old.lists.servers }
         ensures me { self.new.lists.me ≡ self.old.lists.me }
@@ -168,7 +168,7 @@ impl Node {
     // The queued packets of all calls of session `i` are taken out, call by call.
     fn flush_session<R: Recorder>(&mut self, i: usize, rec: &mut R)
         requires known { i < length self.old.lists.clients }
-        ensures makes { Makes R.facts R.whole (Notes (flushing_all i)) (timed_of self.old)
+        ensures makes { Makes R.log (Notes (flushing_all i)) (timed_of self.old)
             (timed_of self.new) rec.old rec.new }
         ensures idle { IsIdle i self.new.lists.queued }
         ensures clients { self.new.lists.clients ≡ self.old.lists.clients }
@@ -190,7 +190,7 @@ impl Node {
         requires known { i < length self.old.lists.clients }
         requires connected { IsConnected (slice_get self.old.lists.clients i) }
         requires idle { IsIdle i self.old.lists.queued }
-        ensures ended { MakesEnds R.facts R.whole K.given (Notes (breaking i)) (timed_of self.old)
+        ensures ended { MakesEnds R.log K.given (Notes (breaking i)) (timed_of self.old)
             (timed_of self.new) rec.old rec.new k.old k.new }
         ensures servers { self.new.lists.servers ≡ self.old.lists.servers }
         ensures me { self.new.lists.me ≡ self.old.lists.me }
@@ -210,7 +210,7 @@ impl Node {
     )
         requires known { i < length self.old.lists.clients }
         requires connected { IsConnected (slice_get self.old.lists.clients i) }
-        ensures ended { MakesEnds R.facts R.whole K.given (Notes (breaking_off i))
+        ensures ended { MakesEnds R.log K.given (Notes (breaking_off i))
             (timed_of self.old) (timed_of self.new) rec.old rec.new k.old k.new }
         ensures servers { self.new.lists.servers ≡ self.old.lists.servers }
         ensures me { self.new.lists.me ≡ self.old.lists.me }

@@ -3,7 +3,7 @@ ghost use Rattle.endpoint_loop.specs.Handing.{timed_of};
 ghost use Rattle.std.specs.Prelude.{◌≡◌, ◌≢◌, ◌<◌, ◌+◌, ◌↔◌, [], true, false, length, IfOk};
 ghost use Rattle.std.specs.Prelude.{◌≤◌, ◌*◌, IsTrue, OnErr};
 ghost use Rattle.endpoint_loop.specs.Polling.{left_one};
-ghost use Rattle.endpoint_loop.specs.Speaking.{HeldBack};
+ghost use Rattle.endpoint_loop.specs.Speaking.{HeldBack, troubles_of};
 ghost use Rattle.endpoint_loop.specs.Noting.{MakesSent, SendsNone};
 ghost use Rattle.rpc_laws.specs.Pacing.{line};
 ghost use Rattle.rpc_laws.specs.PollOrder.{Sends, SendsSome};
@@ -11,8 +11,7 @@ ghost use Rattle.rpc_outside.specs.Faults.{HasCause, HasRisen};
 ghost use Rattle.rpc_outside.specs.Linking.{NoneComes};
 
 use crate::node::Node;
-use packet_header::HEAD_BYTES;
-use rpc_base::{Event, MOST_RING, Who};
+use rpc_base::{Event, HEAD_BYTES, MOST_RING, Who};
 use rpc_outside::{Failed, Link, Recorder, Taken};
 
 /// What was sent.
@@ -33,7 +32,7 @@ impl Node {
         rec: &mut R,
     ) -> Result<bool, Failed>
         requires some { line self.old.clock self.old.lists.queued ≢ [] }
-        ensures sent { IfOk result (λ went. went ≡ true → MakesSent R.facts R.whole L.sent Sends
+        ensures sent { IfOk result (λ went. went ≡ true → MakesSent R.log L.sent Sends
             (timed_of self.old) (timed_of self.new) rec.old rec.new link.old link.new ×
             (L.busies link.new ≡ L.busies link.old)) }
         ensures busy { IfOk result (λ went. went ≡ false → SendsNone L.sent (timed_of self.old)
@@ -79,15 +78,14 @@ impl Node {
         }
     }
 
-    /// Step 6 of a poll: what is ready is sent, the oldest first, and then what is due by now,
-    /// until none of it is left or the link is busy or fails. What wasn't sent stays queued in its
-    /// order.
-    pub fn send_all<L: Link, R: Recorder>(
+    // What is ready is sent, the oldest first, and then what is due by now, until none of it is left
+    // or the link is busy or fails.
+    fn send_ready<L: Link, R: Recorder>(
         &mut self,
         link: &mut L,
         rec: &mut R,
     ) -> Result<Sending, Failed>
-        ensures sent { MakesSent R.facts R.whole L.sent SendsSome (timed_of self.old)
+        ensures sent { MakesSent R.log L.sent SendsSome (timed_of self.old)
             (timed_of self.new) rec.old rec.new link.old link.new }
         ensures all { IfOk result (λ s. s.busy ≡ false → (line self.new.clock
             self.new.lists.queued ≡ [])
@@ -97,10 +95,8 @@ impl Node {
         ensures count { IfOk result (λ s.
             s.sent + length self.new.lists.queued ≡ length self.old.lists.queued) }
         ensures few { IfOk result (λ s. s.sent ≤ 2 * MOST_RING) }
-        ensures held { HeldBack (left_one (line self.new.clock self.new.lists.queued)) (record {
-          faults = L.faults link.old;
-          busies = L.busies link.old;
-        }) (record { faults = L.faults link.new; busies = L.busies link.new }) }
+        ensures held { HeldBack (left_one (line self.new.clock self.new.lists.queued))
+            (troubles_of L.Link link.old) (troubles_of L.Link link.new) }
         ensures jobs { self.new.lists.jobs ≡ self.old.lists.jobs }
         ensures servers { self.new.lists.servers ≡ self.old.lists.servers }
         ensures lists { NoneComes L.waiting L.received link.old link.new }
@@ -116,5 +112,36 @@ impl Node {
         }
         let sent = before - self.store.queued();
         Ok(Sending { sent, busy: false })
+    }
+
+    /// Step 6 of a poll: what is ready is sent, the oldest first, and then what is due by now,
+    /// until none of it is left or the link is busy or fails. What wasn't sent stays queued in its
+    /// order. Then the link hands on what it kept back.
+    pub fn send_all<L: Link, R: Recorder>(
+        &mut self,
+        link: &mut L,
+        rec: &mut R,
+    ) -> Result<Sending, Failed>
+        ensures sent { MakesSent R.log L.sent SendsSome (timed_of self.old)
+            (timed_of self.new) rec.old rec.new link.old link.new }
+        ensures all { IfOk result (λ s. s.busy ≡ false → (line self.new.clock
+            self.new.lists.queued ≡ [])
+            × (L.busies link.new ≡ L.busies link.old)) }
+        ensures busy { IfOk result (λ s. s.busy ≡ true →
+            HasRisen (L.busies link.old) (L.busies link.new)) }
+        ensures count { IfOk result (λ s.
+            s.sent + length self.new.lists.queued ≡ length self.old.lists.queued) }
+        ensures few { IfOk result (λ s. s.sent ≤ 2 * MOST_RING) }
+        ensures held { HeldBack (left_one (line self.new.clock self.new.lists.queued))
+            (troubles_of L.Link link.old) (troubles_of L.Link link.new) }
+        ensures jobs { self.new.lists.jobs ≡ self.old.lists.jobs }
+        ensures servers { self.new.lists.servers ≡ self.old.lists.servers }
+        ensures lists { NoneComes L.waiting L.received link.old link.new }
+        ensures cause { HasCause (L.faults link.old) (L.faults link.new) result }
+        ensures handed { self.new.handed ≡ self.old.handed }
+    {
+        let sent = self.send_ready(link, rec);
+        link.flush();
+        sent
     }
 }

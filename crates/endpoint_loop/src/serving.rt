@@ -1,4 +1,6 @@
 //! Step 3 of a poll, for requests: a Request or RFR in front of the receive ring is handled.
+ghost use Rattle.rpc_outside.specs.Served.{StandsForSome};
+ghost use Rattle.rpc_laws.specs.Service.{rules_of};
 ghost use Rattle.endpoint_loop.specs.Handing.{timed_of};
 ghost use Rattle.std.specs.Prelude.{◌≡◌, ◌<◌, ◌+◌, true, Some, IfSome, drop, length, slice_get};
 ghost use Rattle.std.specs.List.{position};
@@ -13,7 +15,7 @@ ghost use Rattle.rpc_laws.specs.Requests.{is_server};
 use crate::hearing::body;
 use crate::node::{JobName, Node};
 use packet_header::MessageHeader;
-use rpc_base::{DropReason, MOST_GIVEN};
+use rpc_base::{DropReason, HEAD_BYTES, MOST_GIVEN};
 use rpc_outside::{Recorder, Service};
 use server_core::Step;
 use std::alloc::Global;
@@ -40,18 +42,17 @@ impl Node {
         requires asking { is_asking head.now.kind ≡ true }
         requires in_range { MessageInRange head.now }
         requires long { MessageLength head.now.kind head.now.size head.now.number
-            (16 + length (front_body self.old.lists.ring)) }
+            (HEAD_BYTES + length (front_body self.old.lists.ring)) }
         requires front { front_header self.old.lists.ring ≡ Some head.now }
         requires room { replies self.old.lists.queued < self.old.lists.room }
         requires served { AllServed V.mode_of self.old.lists.servers }
         requires place { position (is_server head.now.session) self.old.lists.servers ≡ Some i }
         requires peer { IfSome (slice_get self.old.lists.servers i)
             (λ v. IfSome (slice_get self.old.lists.ring 0) (λ a. v.way.peer ≡ a.peer)) }
-        ensures serves { MakesServed R.facts R.whole (record {
-          mode = V.mode_of;
-          answer = V.answer;
-        }) (V.stands service.old) (V.stands service.new) (ServesRequest V.mode_of head.now) result
-            (timed_of self.old) (timed_of self.new) rec.old rec.new }
+        requires founded { StandsForSome (V.stands service.old) }
+        ensures serves { MakesServed R.log (rules_of V.Service) (V.stands service.old)
+            (V.stands service.new) (ServesRequest V.mode_of head.now) result (timed_of self.old)
+            (timed_of self.new) rec.old rec.new }
         ensures served { AllServed V.mode_of self.new.lists.servers }
         ensures ring { self.new.lists.ring ≡ drop 1 self.old.lists.ring }
         ensures clients { self.new.lists.clients ≡ self.old.lists.clients }
@@ -102,15 +103,14 @@ impl Node {
         requires asking { is_asking head.now.kind ≡ true }
         requires in_range { MessageInRange head.now }
         requires long { MessageLength head.now.kind head.now.size head.now.number
-            (16 + length (front_body self.old.lists.ring)) }
+            (HEAD_BYTES + length (front_body self.old.lists.ring)) }
         requires front { front_header self.old.lists.ring ≡ Some head.now }
         requires room { replies self.old.lists.queued < self.old.lists.room }
         requires served { AllServed V.mode_of self.old.lists.servers }
-        ensures serves { MakesServed R.facts R.whole (record {
-          mode = V.mode_of;
-          answer = V.answer;
-        }) (V.stands service.old) (V.stands service.new) (ServesRequest V.mode_of head.now) result
-            (timed_of self.old) (timed_of self.new) rec.old rec.new }
+        requires founded { StandsForSome (V.stands service.old) }
+        ensures serves { MakesServed R.log (rules_of V.Service) (V.stands service.old)
+            (V.stands service.new) (ServesRequest V.mode_of head.now) result (timed_of self.old)
+            (timed_of self.new) rec.old rec.new }
         ensures served { AllServed V.mode_of self.new.lists.servers }
         ensures ring { self.new.lists.ring ≡ drop 1 self.old.lists.ring }
         ensures clients { self.new.lists.clients ≡ self.old.lists.clients }

@@ -5,8 +5,8 @@ ghost use Rattle.packet_header.specs.Header.{ControlInRange};
 ghost use Rattle.rpc_outside.specs.Faults.{HasCause, HasRisen};
 ghost use Rattle.rpc_outside.specs.Linking.{NoneComes};
 
-use packet_header::{ControlHeader, HEAD_BYTES, Packet, encode};
-use rpc_base::{Event, NodeId, Owner, Peer, Who};
+use packet_header::{ControlHeader, Packet, encode};
+use rpc_base::{Event, HEAD_BYTES, NodeId, Owner, Peer, Who};
 use rpc_outside::{Failed, Link, Recorder, Taken};
 
 /// Hands a control packet to the link. It is noted as Sent where the link took it, and otherwise as
@@ -19,7 +19,7 @@ pub fn speak<L: Link, R: Recorder>(
     rec: &mut R,
 ) -> Result<bool, Failed>
     requires in_range { ControlInRange head.now }
-    ensures spoke { Spoke R.facts R.whole L.sent me peer head.now (was_taken result) rec.old rec.new
+    ensures spoke { Spoke R.log L.sent me peer head.now (was_taken result) rec.old rec.new
         link.old link.new }
     ensures busy { IfOk result (λ went. went ≡ false →
         HasRisen (L.busies link.old) (L.busies link.new)) }

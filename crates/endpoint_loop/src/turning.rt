@@ -19,15 +19,9 @@ impl<V: Service, W: Workers> Endpoint<V, W> {
     // Receives datagrams until none waits, at most 64, and delivers each. `Failed` comes exactly
     // where a fault of the link ended it.
     fn receive<L: Link, R: Recorder>(&mut self, link: &mut L, rec: &mut R) -> Result<(), Failed>
-        ensures receives { Receives R.facts R.whole L.received L.waiting (is_err result)
-            self.old self.new rec.old rec.new link.old link.new }
-        ensures goes_on { GoesOn R.facts R.whole (record { mode = V.mode_of; answer = V.answer })
-            V.stands W.answer (λ w. record {
-              limit = W.limit w;
-              given = W.given w;
-              out = W.out w;
-              waiting = W.waiting w;
-            }) self.old self.new rec.old rec.new }
+        ensures receives { Receives R.log L.Link (is_err result) self.old self.new rec.old rec.new
+            link.old link.new }
+        ensures goes_on { GoesOn R.log V.Service W.Workers self.old self.new rec.old rec.new }
         ensures sent { L.sent link.new ≡ L.sent link.old }
         ensures busies { L.busies link.new ≡ L.busies link.old }
         ensures cause { HasCause (L.faults link.old) (L.faults link.new) result }
@@ -55,27 +49,9 @@ impl<V: Service, W: Workers> Endpoint<V, W> {
         k: &mut K,
         rec: &mut R,
     ) -> Result<Turn, LinkFault>
-        ensures turns { MakesTurn R.facts R.whole L.received L.waiting K.given (λ w. record {
-          staff = record {
-            limit = W.limit w;
-            given = W.given w;
-            out = W.out w;
-            waiting = W.waiting w;
-          };
-          worked = W.worked w;
-          looks = W.looks w;
-        }) (record { mode = V.mode_of; answer = V.answer }) V.stands W.answer (turn_of result) now
-            (λ l. record {
-              sent = L.sent l;
-              troubles = record { faults = L.faults l; busies = L.busies l };
-            }) link.old link.new self.old self.new rec.old rec.new k.old k.new }
-        ensures goes_on { GoesOn R.facts R.whole (record { mode = V.mode_of; answer = V.answer })
-            V.stands W.answer (λ w. record {
-              limit = W.limit w;
-              given = W.given w;
-              out = W.out w;
-              waiting = W.waiting w;
-            }) self.old self.new rec.old rec.new }
+        ensures turns { MakesTurn R.log L.Link K.given V.Service W.Workers (turn_of result) now
+            link.old link.new self.old self.new rec.old rec.new k.old k.new }
+        ensures goes_on { GoesOn R.log V.Service W.Workers self.old self.new rec.old rec.new }
         ensures busy { IfOk result (λ turn. turn.busy ≡ true →
             HasRisen (L.busies link.old) (L.busies link.new)) }
         ensures team { W.team self.new.workers ≡ W.team self.old.workers }

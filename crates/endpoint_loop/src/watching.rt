@@ -30,7 +30,7 @@ impl Node {
     )
         requires known { i < length self.old.lists.clients }
         requires active { ActiveAt i active.now self.old.lists.clients }
-        ensures ended { MakesEnds R.facts R.whole K.given (Watches timeout i active.now.call)
+        ensures ended { MakesEnds R.log K.given (Watches timeout i active.now.call)
             (timed_of self.old) (timed_of self.new) rec.old rec.new k.old k.new }
         ensures servers { self.new.lists.servers ≡ self.old.lists.servers }
         ensures me { self.new.lists.me ≡ self.old.lists.me }
@@ -53,7 +53,7 @@ impl Node {
         k: &mut K,
         rec: &mut R,
     ) -> Option<CallNo>
-        ensures looks { LooksAt R.facts R.whole K.given timeout i after result (timed_of self.old)
+        ensures looks { LooksAt R.log K.given timeout i after result (timed_of self.old)
             (timed_of self.new) rec.old rec.new k.old k.new }
         ensures order { Ascends (calls_at i (timed_of self.old)) }
         ensures servers { self.new.lists.servers ≡ self.old.lists.servers }
@@ -80,7 +80,7 @@ impl Node {
         k: &mut K,
         rec: &mut R,
     )
-        ensures ended { MakesEnds R.facts R.whole K.given (WatchesSession timeout i)
+        ensures ended { MakesEnds R.log K.given (WatchesSession timeout i)
             (timed_of self.old) (timed_of self.new) rec.old rec.new k.old k.new }
         ensures servers { self.new.lists.servers ≡ self.old.lists.servers }
         ensures me { self.new.lists.me ≡ self.old.lists.me }
@@ -105,10 +105,8 @@ impl Node {
         k: &mut K,
         rec: &mut R,
     ) -> Asking
-        ensures timed { MakesTimes R.facts R.whole K.given L.sent (λ l. record {
-          faults = L.faults l;
-          busies = L.busies l;
-        }) (TimesSession timeout i) result (timed_of self.old) (timed_of self.new) rec.old rec.new
+        ensures timed { MakesTimes R.log K.given L.Link (TimesSession timeout
+            i) result (timed_of self.old) (timed_of self.new) rec.old rec.new
             k.old k.new link.old link.new }
         ensures servers { self.new.lists.servers ≡ self.old.lists.servers }
         ensures me { self.new.lists.me ≡ self.old.lists.me }
@@ -141,10 +139,8 @@ impl Node {
         k: &mut K,
         rec: &mut R,
     ) -> Asking
-        ensures timed { MakesTimes R.facts R.whole K.given L.sent (λ l. record {
-          faults = L.faults l;
-          busies = L.busies l;
-        }) TimesAll result (timed_of self.old) (timed_of self.new) rec.old rec.new k.old k.new
+        ensures timed { MakesTimes R.log K.given L.Link TimesAll result
+            (timed_of self.old) (timed_of self.new) rec.old rec.new k.old k.new
             link.old link.new }
         ensures servers { self.new.lists.servers ≡ self.old.lists.servers }
         ensures jobs { self.new.lists.jobs ≡ self.old.lists.jobs }

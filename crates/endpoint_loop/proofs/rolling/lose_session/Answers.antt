@@ -7,7 +7,7 @@ use Rattle.endpoint_loop.proofs.rolling.lose_session.Goals as goal
 pub calls-init : goal.calls-init
 calls-init g c =
     let h = c.lose_peer.ensures in (
-      lost-start g.R.Recorder.facts g.R.Recorder.whole g.K.Continuation.given c.args.me c.args.i
+      lost-start g.R.Recorder.log g.K.Continuation.given c.args.me c.args.i
           c.args.store.now.clients c.lose_peer.new.self.clients c.args.rec.now c.note.new.self
           c.args.k.now h.clients c.note.ensures,
       h.servers,
@@ -19,13 +19,13 @@ calls-init g c =
 
 pub lose_next-requires-clause-lost : goal.lose_next-requires-clause-lost
 lose_next-requires-clause-lost g c =
-    is-lost g.R.Recorder.facts g.R.Recorder.whole g.K.Continuation.given c.args.me c.args.i
+    is-lost g.R.Recorder.log g.K.Continuation.given c.args.me c.args.i
     c.calls.invariant.0.0 c.args.store.now.clients c.calls.store.clients c.args.rec.now
     c.calls.rec c.args.k.now c.calls.k c.calls.invariant.0.1
 
 pub calls-smaller : goal.calls-smaller
 calls-smaller g c =
-    fewer-left g.R.Recorder.facts g.R.Recorder.whole g.K.Continuation.given c.args.me c.args.i
+    fewer-left g.R.Recorder.log g.K.Continuation.given c.args.me c.args.i
     c.calls.invariant.0.0 c.args.store.now.clients c.calls.store.clients c.args.rec.now
     c.calls.rec c.args.k.now c.calls.k c.calls.invariant.0.1 c.lose_next.new.store.clients
     c.lose_next.new.rec c.lose_next.new.k (c.lose_next.ensures.ends c.calls-test.true)
@@ -34,7 +34,7 @@ pub calls-preserved : goal.calls-preserved
 calls-preserved g c =
     let i = c.calls.invariant in
     let h = c.lose_next.ensures in (
-      lost-more g.R.Recorder.facts g.R.Recorder.whole g.K.Continuation.given c.args.me c.args.i
+      lost-more g.R.Recorder.log g.K.Continuation.given c.args.me c.args.i
           i.0.0
           c.args.store.now.clients c.calls.store.clients c.args.rec.now c.calls.rec c.args.k.now
           c.calls.k i.0.1 c.lose_next.new.store.clients c.lose_next.new.rec c.lose_next.new.k
@@ -50,10 +50,10 @@ pub returns-clause-lost : goal.returns-clause-lost
 returns-clause-lost g c =
     let i = c.calls.invariant in
     let h = c.lose_next.ensures in
-    lost-same g.R.Recorder.facts g.R.Recorder.whole g.K.Continuation.given c.args.me c.args.i _ _ _
+    lost-same g.R.Recorder.log g.K.Continuation.given c.args.me c.args.i _ _ _
     _ _ _ _ _ _ (h.unchanged c.calls-test.false) (h.silent c.calls-test.false)
     (h.kept c.calls-test.false)
-    (lost-over g.R.Recorder.facts g.R.Recorder.whole g.K.Continuation.given c.args.me c.args.i
+    (lost-over g.R.Recorder.log g.K.Continuation.given c.args.me c.args.i
     i.0.0 c.args.store.now.clients c.calls.store.clients c.args.rec.now c.calls.rec
     c.args.k.now c.calls.k i.0.1 (h.none c.calls-test.false))
 

@@ -8,7 +8,7 @@ use Rattle.endpoint_loop.proofs.rolling.lose_session.Given as goal
 
 abbrev pub invariant-calls : goal.invariant-calls
 invariant-calls g l =
-    ((left : List Call) × HasLost g.R.Recorder.facts g.R.Recorder.whole g.K.Continuation.given l.me
+    ((left : List Call) × HasLost g.R.Recorder.log g.K.Continuation.given l.me
     l.i left l.fn.store.clients l.store.clients l.fn.rec l.rec l.fn.k l.k)
     × (l.store.servers ≡ l.fn.store.servers)
     × (l.store.queued ≡ l.fn.store.queued)

@@ -11,25 +11,13 @@ returns-clause-goes_on g c =
     let ask = bytes_of c.args.req in
     let room = capacity_of c.args.resp in
     rw (← c.self.view_is) (asked-or _ _ _ _
-    (λ makes. goes-on g.R.Recorder.facts g.R.Recorder.whole
-    (record { mode = g.V.Service.mode_of; answer = g.V.Service.answer }) g.V.Service.stands
-    g.W.Workers.answer (λ w. record {
-      limit = g.W.Workers.limit w;
-      given = g.W.Workers.given w;
-      out = g.W.Workers.out w;
-      waiting = g.W.Workers.waiting w;
-    }) (Asks c.args.session c.args.req_type ask room) _ _ _ _ makes
+    (λ makes. goes-on g.R.Recorder.log
+    g.V.Service g.W.Workers (Asks c.args.session c.args.req_type ask room) _ _ _ _ makes
     (λ s x t h. asks c.args.session c.args.req_type ask room h)
     (ask-still c.args.session c.args.req_type ask room)
     (record { service = refl; workers = refl; jobs = c.ask.ensures.jobs }))
-    (λ still same. goes-nowhere g.R.Recorder.facts g.R.Recorder.whole
-    (record { mode = g.V.Service.mode_of; answer = g.V.Service.answer }) g.V.Service.stands
-    g.W.Workers.answer (λ w. record {
-      limit = g.W.Workers.limit w;
-      given = g.W.Workers.given w;
-      out = g.W.Workers.out w;
-      waiting = g.W.Workers.waiting w;
-    }) _ _ _ _ (ap (λ n. record {
+    (λ still same. goes-nowhere g.R.Recorder.log
+    g.V.Service g.W.Workers _ _ _ _ (ap (λ n. record {
       timed = timed_of n;
       handed = n.handed;
       service = c.self.inside.service;

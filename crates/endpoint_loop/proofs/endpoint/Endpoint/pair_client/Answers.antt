@@ -8,26 +8,14 @@ use Rattle.endpoint_loop.proofs.endpoint.Endpoint.pair_client.Goals as goal
 pub returns-clause-goes_on : goal.returns-clause-goes_on
 returns-clause-goes_on g c =
     rw (← c.self.view_is) (paired-or _ _ _ _
-    (λ makes. goes-on g.R.Recorder.facts g.R.Recorder.whole
-    (record { mode = g.V.Service.mode_of; answer = g.V.Service.answer }) g.V.Service.stands
-    g.W.Workers.answer (λ w. record {
-      limit = g.W.Workers.limit w;
-      given = g.W.Workers.given w;
-      out = g.W.Workers.out w;
-      waiting = g.W.Workers.waiting w;
-    }) (PairsClient c.args.peer c.args.server c.args.credits) _ _ _ _ makes
+    (λ makes. goes-on g.R.Recorder.log
+    g.V.Service g.W.Workers (PairsClient c.args.peer c.args.server c.args.credits) _ _ _ _ makes
     (client-group g.V.Service.mode_of c.args.peer c.args.server c.args.credits
     (record { some = c.requires.some; few = c.requires.most }) c.requires.server)
     (client-still c.args.peer c.args.server c.args.credits)
     (record { service = refl; workers = refl; jobs = c.pair_client.ensures.jobs }))
-    (λ still same. goes-nowhere g.R.Recorder.facts g.R.Recorder.whole
-    (record { mode = g.V.Service.mode_of; answer = g.V.Service.answer }) g.V.Service.stands
-    g.W.Workers.answer (λ w. record {
-      limit = g.W.Workers.limit w;
-      given = g.W.Workers.given w;
-      out = g.W.Workers.out w;
-      waiting = g.W.Workers.waiting w;
-    }) _ _ _ _ (ap (λ n. record {
+    (λ still same. goes-nowhere g.R.Recorder.log
+    g.V.Service g.W.Workers _ _ _ _ (ap (λ n. record {
       timed = timed_of n;
       handed = n.handed;
       service = c.self.inside.service;

@@ -31,19 +31,9 @@ invariant_of-self g c =
 
 pub returns-clause-polls : goal.returns-clause-polls
 returns-clause-polls g c =
-    rw (← c.self.view_is) (makes-poll g.R.Recorder.facts g.R.Recorder.whole g.K.Continuation.given
-    g.L.Link.sent (λ l. record { faults = g.L.Link.faults l; busies = g.L.Link.busies l })
-    (λ w. record {
-      staff = record {
-        limit = g.W.Workers.limit w;
-        given = g.W.Workers.given w;
-        out = g.W.Workers.out w;
-        waiting = g.W.Workers.waiting w;
-      };
-      worked = g.W.Workers.worked w;
-      looks = g.W.Workers.looks w;
-    }) (record { mode = g.V.Service.mode_of; answer = g.V.Service.answer }) g.V.Service.stands
-    g.W.Workers.answer c.self.invariant.works c.args.now (timed_of c.self.inside.node)
+    rw (← c.self.view_is) (makes-poll g.R.Recorder.log g.K.Continuation.given
+    g.L.Link
+    g.V.Service g.W.Workers c.self.invariant.works c.args.now (timed_of c.self.inside.node)
     (timed_of c.finish_all.new.self) (timed_of c.hear_all-heard.new.self)
     (timed_of c.handle_all-handled.new.self) (timed_of c.watch-asked.new.self)
     (timed_of c.serve_sessions.new.self) (timed_of c.send_all-sent.new.self)
@@ -98,17 +88,7 @@ returns-clause-cause g c =
 
 pub returns-clause-goes_on : goal.returns-clause-goes_on
 returns-clause-goes_on g c =
-    goes-polled g.R.Recorder.facts g.R.Recorder.whole g.K.Continuation.given (λ w. record {
-      staff = record {
-        limit = g.W.Workers.limit w;
-        given = g.W.Workers.given w;
-        out = g.W.Workers.out w;
-        waiting = g.W.Workers.waiting w;
-      };
-      worked = g.W.Workers.worked w;
-      looks = g.W.Workers.looks w;
-    }) (record { mode = g.V.Service.mode_of; answer = g.V.Service.answer }) g.V.Service.stands
-    g.W.Workers.answer _ _ _ _ _ _ _ _ _ _ (returns-clause-polls g c)
+    goes-polled g.R.Recorder.log g.K.Continuation.given g.V.Service g.W.Workers _ _ _ _ _ _ _ _ _ _ (returns-clause-polls g c)
 
 pub returns-clause-handed : goal.returns-clause-handed
 returns-clause-handed g c =

@@ -10,10 +10,9 @@ datagrams-init g c = record {
   came = [];
   count = refl;
   comes = came-none g.L.Link.received g.L.Link.waiting c.args.link.now;
-  takes = takes-none g.R.Recorder.facts g.R.Recorder.whole c.args.self.now c.args.rec.now;
-  goes_on = goes-nowhere g.R.Recorder.facts g.R.Recorder.whole
-      (record { mode = g.V.Service.mode_of; answer = g.V.Service.answer }) g.V.Service.stands
-      g.W.Workers.answer _ _ _ _ _ refl refl;
+  takes = takes-none g.R.Recorder.log c.args.self.now c.args.rec.now;
+  goes_on = goes-nowhere g.R.Recorder.log
+      g.V.Service g.W.Workers _ _ _ _ refl refl;
   sent = refl;
   busies = refl;
   faults = refl;
@@ -29,12 +28,11 @@ datagrams-preserved g c =
       comes = came-more g.L.Link.received g.L.Link.waiting i.came _ _ _ c.recv.new.out
           c.in-Packet.peer c.in-Packet.len (omega (arith, i.count, c.datagrams-test.true)) i.comes
           (rw c.in-Packet.is at c.in_ok-recv.ensures.packet);
-      takes = takes-more g.R.Recorder.facts g.R.Recorder.whole i.came d _ _ _ _ _ _ i.takes
+      takes = takes-more g.R.Recorder.log i.came d _ _ _ _ _ _ i.takes
           c.deliver-delivery.ensures.makes c.deliver-delivery.ensures.leaves
           c.deliver-delivery.ensures.handed;
-      goes_on = goes-further g.R.Recorder.facts g.R.Recorder.whole
-          (record { mode = g.V.Service.mode_of; answer = g.V.Service.answer })
-          g.V.Service.stands g.W.Workers.answer _ _ _ _ _ _ _ i.goes_on
+      goes_on = goes-further g.R.Recorder.log
+          g.V.Service g.W.Workers _ _ _ _ _ _ i.goes_on
           c.deliver-delivery.ensures.goes_on;
       sent = c.in_ok-recv.ensures.sent ∙ i.sent;
       busies = c.in_ok-recv.ensures.busies ∙ i.busies;

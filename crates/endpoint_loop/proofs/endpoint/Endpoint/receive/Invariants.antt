@@ -9,16 +9,10 @@ invariant-datagrams g l = record {
   came : List Carried;
   count : length came ≡ l.counter;
   comes : Came g.L.Link.received g.L.Link.waiting came l.initial.link l.link;
-  takes : TakesIn g.R.Recorder.facts g.R.Recorder.whole came l.initial.self l.self l.initial.rec
+  takes : TakesIn g.R.Recorder.log came l.initial.self l.self l.initial.rec
       l.rec;
-  goes_on : GoesOn g.R.Recorder.facts g.R.Recorder.whole
-      (record { mode = g.V.Service.mode_of; answer = g.V.Service.answer }) g.V.Service.stands
-      g.W.Workers.answer (λ w. record {
-        limit = g.W.Workers.limit w;
-        given = g.W.Workers.given w;
-        out = g.W.Workers.out w;
-        waiting = g.W.Workers.waiting w;
-      }) l.initial.self l.self l.initial.rec l.rec;
+  goes_on : GoesOn g.R.Recorder.log
+      g.V.Service g.W.Workers l.initial.self l.self l.initial.rec l.rec;
   sent : g.L.Link.sent l.link ≡ g.L.Link.sent l.initial.link;
   busies : g.L.Link.busies l.link ≡ g.L.Link.busies l.initial.link;
   faults : g.L.Link.faults l.link ≡ g.L.Link.faults l.initial.link;

@@ -5,14 +5,8 @@ use Rattle.endpoint_loop.proofs.StandingLemmas.{goes-on, rate-still}
 use Rattle.endpoint_loop.proofs.endpoint.Endpoint.set_rate.Goals as goal
 
 pub returns-clause-goes_on : goal.returns-clause-goes_on
-returns-clause-goes_on g c = rw (← c.self.view_is) (goes-on g.R.Recorder.facts g.R.Recorder.whole
-    (record { mode = g.V.Service.mode_of; answer = g.V.Service.answer }) g.V.Service.stands
-    g.W.Workers.answer (λ w. record {
-      limit = g.W.Workers.limit w;
-      given = g.W.Workers.given w;
-      out = g.W.Workers.out w;
-      waiting = g.W.Workers.waiting w;
-    }) (SetsRate c.args.session c.args.rate) _ _ _ _ c.set_rate.ensures.makes
+returns-clause-goes_on g c = rw (← c.self.view_is) (goes-on g.R.Recorder.log
+    g.V.Service g.W.Workers (SetsRate c.args.session c.args.rate) _ _ _ _ c.set_rate.ensures.makes
     (λ s x t h. sets_rate c.args.session c.args.rate h)
     (rate-still c.args.session c.args.rate)
     (record { service = refl; workers = refl; jobs = c.set_rate.ensures.jobs }))

@@ -6,22 +6,8 @@ use Rattle.endpoint_loop.proofs.endpoint.Endpoint.turn.Goals as goal
 pub returns-in-Ok-clause-turns : goal.returns-in-Ok-clause-turns
 returns-in-Ok-clause-turns g c =
     let p = c.poll-polled in
-    makes-turn g.R.Recorder.facts g.R.Recorder.whole g.L.Link.received g.L.Link.waiting
-    g.K.Continuation.given (λ w. record {
-      staff = record {
-        limit = g.W.Workers.limit w;
-        given = g.W.Workers.given w;
-        out = g.W.Workers.out w;
-        waiting = g.W.Workers.waiting w;
-      };
-      worked = g.W.Workers.worked w;
-      looks = g.W.Workers.looks w;
-    })
-    (record { mode = g.V.Service.mode_of; answer = g.V.Service.answer }) g.V.Service.stands
-    g.W.Workers.answer c.args.now (λ l. record {
-      sent = g.L.Link.sent l;
-      troubles = record { faults = g.L.Link.faults l; busies = g.L.Link.busies l };
-    }) false (turn_of p.result) _ _ _ _ _ _ _ _ _ _ _ _ c.in-Ok.ensures.receives
+    makes-turn g.R.Recorder.log g.L.Link
+    g.K.Continuation.given g.V.Service g.W.Workers c.args.now false (turn_of p.result) _ _ _ _ _ _ _ _ _ _ _ _ c.in-Ok.ensures.receives
     (record {
       sent = c.in-Ok.ensures.sent;
       busies = c.in-Ok.ensures.busies;
@@ -30,29 +16,14 @@ returns-in-Ok-clause-turns g c =
 
 pub returns-in-Ok-clause-goes_on : goal.returns-in-Ok-clause-goes_on
 returns-in-Ok-clause-goes_on g c =
-    goes-further g.R.Recorder.facts g.R.Recorder.whole
-    (record { mode = g.V.Service.mode_of; answer = g.V.Service.answer }) g.V.Service.stands
-    g.W.Workers.answer _ _ _ _ _ _ _ c.in-Ok.ensures.goes_on c.poll-polled.ensures.goes_on
+    goes-further g.R.Recorder.log
+    g.V.Service g.W.Workers _ _ _ _ _ _ c.in-Ok.ensures.goes_on c.poll-polled.ensures.goes_on
 
 pub returns-in-Err-clause-turns : goal.returns-in-Err-clause-turns
 returns-in-Err-clause-turns g c =
     let p = c.poll-polled in
-    makes-turn g.R.Recorder.facts g.R.Recorder.whole g.L.Link.received g.L.Link.waiting
-    g.K.Continuation.given (λ w. record {
-      staff = record {
-        limit = g.W.Workers.limit w;
-        given = g.W.Workers.given w;
-        out = g.W.Workers.out w;
-        waiting = g.W.Workers.waiting w;
-      };
-      worked = g.W.Workers.worked w;
-      looks = g.W.Workers.looks w;
-    })
-    (record { mode = g.V.Service.mode_of; answer = g.V.Service.answer }) g.V.Service.stands
-    g.W.Workers.answer c.args.now (λ l. record {
-      sent = g.L.Link.sent l;
-      troubles = record { faults = g.L.Link.faults l; busies = g.L.Link.busies l };
-    }) true (turn_of p.result) _ _ _ _ _ _ _ _ _ _ _ _ c.in-Err.ensures.receives
+    makes-turn g.R.Recorder.log g.L.Link
+    g.K.Continuation.given g.V.Service g.W.Workers c.args.now true (turn_of p.result) _ _ _ _ _ _ _ _ _ _ _ _ c.in-Err.ensures.receives
     (record {
       sent = c.in-Err.ensures.sent;
       busies = c.in-Err.ensures.busies;
@@ -61,6 +32,5 @@ returns-in-Err-clause-turns g c =
 
 pub returns-in-Err-clause-goes_on : goal.returns-in-Err-clause-goes_on
 returns-in-Err-clause-goes_on g c =
-    goes-further g.R.Recorder.facts g.R.Recorder.whole
-    (record { mode = g.V.Service.mode_of; answer = g.V.Service.answer }) g.V.Service.stands
-    g.W.Workers.answer _ _ _ _ _ _ _ c.in-Err.ensures.goes_on c.poll-polled.ensures.goes_on
+    goes-further g.R.Recorder.log
+    g.V.Service g.W.Workers _ _ _ _ _ _ c.in-Err.ensures.goes_on c.poll-polled.ensures.goes_on

@@ -99,7 +99,7 @@ returns-clause-makes g c =
     c.ask.new.self (asking_in c.args.waiting) c.from-i.result c.self.invariant.0 place
     asked.clients asked.servers asked.queued asked.size asked.places next
     (c.next.inside.0 + 1) number
-    g.R.Recorder.facts g.R.Recorder.whole c.args.rec.now c.note.new.self _ _ _ _
+    g.R.Recorder.log c.args.rec.now c.note.new.self _ _ _ _
     (sym c.session.view_is ∙ sym c.from-i.ensures) next c.capacity.ensures.capacity
     (newest-is c.self.inside.me c.self.inside.limits (record {
       asked = c.self.inside.asked;

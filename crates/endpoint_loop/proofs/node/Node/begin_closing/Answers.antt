@@ -59,4 +59,4 @@ returns-clause-makes g c =
     }) c.self.inside.paces.items (jobs_in c.self.inside.limits.jobs c.self.inside.given
     c.self.inside.jobs.items) c.self.inside.clock c.self.inside.rx c.self.inside.store
     c.closing.new.self c.self.invariant.0 c.args.session at to.servers to.queued
-    g.R.Recorder.facts g.R.Recorder.whole c.args.rec.now c.note.new.self c.note.ensures)
+    g.R.Recorder.log c.args.rec.now c.note.new.self c.note.ensures)

@@ -13,7 +13,7 @@ begin-requires-clause-room g c =
 pub invariant_of-self-2 : goal.invariant_of-self-2
 invariant_of-self-2 g c =
     let h = rw c.in-Some.is at c.begin.ensures in (
-      fits-begun g.R.Recorder.facts g.R.Recorder.whole c.args.i c.self.inside.me c.self.inside.limits
+      fits-begun g.R.Recorder.log c.args.i c.self.inside.me c.self.inside.limits
           (record {
             asked = c.self.inside.asked;
             server_numbers = c.self.inside.server_numbers;
@@ -30,7 +30,7 @@ invariant_of-self-2 g c =
 pub returns-clause-notes : goal.returns-clause-notes
 returns-clause-notes g c =
     let h = rw c.in-Some.is at c.begin.ensures in
-    rw (← c.self.view_is) (node-begun g.R.Recorder.facts g.R.Recorder.whole c.args.i
+    rw (← c.self.view_is) (node-begun g.R.Recorder.log c.args.i
     c.self.inside.me c.self.inside.limits
     (record {
       asked = c.self.inside.asked;

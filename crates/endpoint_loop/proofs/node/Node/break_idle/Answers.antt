@@ -15,7 +15,7 @@ invariant_of-self g c =
           }) c.self.inside.paces.items (jobs_in c.self.inside.limits.jobs c.self.inside.given
           c.self.inside.jobs.items)
           c.self.inside.clock c.self.inside.rx c.self.inside.store c.lose_session.new.store
-          g.R.Recorder.facts g.R.Recorder.whole g.K.Continuation.given c.args.rec.now
+          g.R.Recorder.log g.K.Continuation.given c.args.rec.now
           c.lose_session.new.rec c.args.k.now c.lose_session.new.k c.self.invariant.0 c.args.i
           (rw (← c.self.view_is) at c.requires.idle) h.lost h.servers h.queued h.size h.places,
       c.self.invariant.1,
@@ -35,7 +35,7 @@ returns-clause-ended g c =
     }) c.self.inside.paces.items (jobs_in c.self.inside.limits.jobs c.self.inside.given
     c.self.inside.jobs.items)
     c.self.inside.clock c.self.inside.rx c.self.inside.store
-    c.lose_session.new.store g.R.Recorder.facts g.R.Recorder.whole g.K.Continuation.given
+    c.lose_session.new.store g.R.Recorder.log g.K.Continuation.given
     c.args.rec.now c.lose_session.new.rec c.args.k.now c.lose_session.new.k c.self.invariant.0
     c.args.i (rw (← c.self.view_is) at c.requires.idle) h.lost h.servers h.queued)
 

@@ -29,4 +29,4 @@ returns-clause-makes g c =
     c.self.inside.jobs.items) c.self.inside.clock c.self.inside.rx c.self.inside.store
     c.make_ready.new.self c.self.invariant.0 c.make_ready.ensures.queued
     c.make_ready.ensures.clients c.make_ready.ensures.servers
-    g.R.Recorder.facts g.R.Recorder.whole c.args.rec.now c.note.new.self c.note.ensures)
+    g.R.Recorder.log c.args.rec.now c.note.new.self c.note.ensures)

@@ -17,7 +17,7 @@ pub returns-in-Err-clause-makes : goal.returns-in-Err-clause-makes
 returns-in-Err-clause-makes g c = λ w.
     let count : c.clients.result ≡ length c.args.self.now.lists.clients =
     c.clients.ensures.count ∙ ap (λ t. length t.lists.clients) c.self.view_is in
-    connect-refused g.R.Recorder.facts g.R.Recorder.whole c.args.peer c.args.credits c.args.rate
+    connect-refused g.R.Recorder.log c.args.peer c.args.credits c.args.rate
     (timed_of c.args.self.now) _ _ (refused c.in-Err.why)
     (sym (rw (c.from.ensures, count) at c.in-Err.ensures.refused)) c.in-Err.ensures.never_memory
     c.refuse.ensures
@@ -26,7 +26,7 @@ pub returns-in-Ok-clause-makes : goal.returns-in-Ok-clause-makes
 returns-in-Ok-clause-makes g c =
     let count : c.clients.result ≡ length c.args.self.now.lists.clients =
     c.clients.ensures.count ∙ ap (λ t. length t.lists.clients) c.self.view_is in
-    connect-made g.R.Recorder.facts g.R.Recorder.whole c.args.peer c.args.credits c.args.rate
+    connect-made g.R.Recorder.log c.args.peer c.args.credits c.args.rate
     _ _ _ _ _ _ _ c.next_client-session.ensures
     (rw (c.from.ensures, count) at c.in_default.ensures.accepted) c.in-Ok.ensures.me
     c.in-Ok.ensures.makes c.start_rate.ensures.makes

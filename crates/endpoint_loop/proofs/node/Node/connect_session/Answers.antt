@@ -19,7 +19,7 @@ invariant_of-self g c =
             counts = c.self.inside.counts;
           }) c.self.inside.paces.items (jobs_in c.self.inside.limits.jobs c.self.inside.given
           c.self.inside.jobs.items) c.self.inside.clock c.self.inside.rx c.self.inside.store
-          c.connected.new.self g.R.Recorder.facts g.R.Recorder.whole c.args.rec.now c.note.new.self
+          c.connected.new.self g.R.Recorder.log c.args.rec.now c.note.new.self
           c.self.invariant.0 c.args.session h.servers h.queued c.args.server at
           (rw (← c.self.view_is) at c.requires.connecting) c.requires.server h.size h.places,
       c.self.invariant.1,
@@ -39,6 +39,6 @@ returns-clause-makes g c =
       counts = c.self.inside.counts;
     }) c.self.inside.paces.items (jobs_in c.self.inside.limits.jobs c.self.inside.given
     c.self.inside.jobs.items) c.self.inside.clock c.self.inside.rx c.self.inside.store
-    c.connected.new.self g.R.Recorder.facts g.R.Recorder.whole c.args.rec.now c.note.new.self
+    c.connected.new.self g.R.Recorder.log c.args.rec.now c.note.new.self
     c.self.invariant.0 c.args.session h.servers h.queued c.args.server at
     (rw (← c.self.view_is) at c.requires.connecting) c.note.ensures)

@@ -11,11 +11,11 @@ pub returns-then-not-is_connected-clause-makes : goal.returns-then-not-is_connec
 returns-then-not-is_connected-clause-makes g c =
     let event = NcloseState c.args.session c.state-state.result in
     let state = rw (← c.self.view_is) at c.state-state.ensures in
-    rw (← c.self.view_is) (disconnects-as g.R.Recorder.facts g.R.Recorder.whole c.args.session
+    rw (← c.self.view_is) (disconnects-as g.R.Recorder.log c.args.session
     (timed_of (the_view c.self.inside)) _ _ _ event
     (closed-state _ c.state-state.result c.args.session _ state
     (sym c.is_connected.ensures ∙ c.if-not-is_connected.true))
-    (notes-still g.R.Recorder.facts g.R.Recorder.whole (timed_of (the_view c.self.inside)) _ _
+    (notes-still g.R.Recorder.log (timed_of (the_view c.self.inside)) _ _
     event (λ asks. refl) c.note.ensures))
 
 pub returns-then-calls-ne0-clause-makes : goal.returns-then-calls-ne0-clause-makes
@@ -23,16 +23,16 @@ returns-then-calls-ne0-clause-makes g c =
     let event = NcloseBusy c.args.session c.pending-calls.result in
     let state = rw (← c.self.view_is) at c.state-state.ensures in
     let calls = rw (← c.self.view_is) at c.pending-calls.ensures in
-    rw (← c.self.view_is) (disconnects-as g.R.Recorder.facts g.R.Recorder.whole c.args.session
+    rw (← c.self.view_is) (disconnects-as g.R.Recorder.log c.args.session
     (timed_of (the_view c.self.inside)) _ _ _ event
     (closed-busy _ c.state-state.result c.args.session _ c.pending-calls.result state calls
     (sym c.is_connected.ensures ∙ c.if-not-is_connected.false) c.if-calls-ne0.true)
-    (notes-still g.R.Recorder.facts g.R.Recorder.whole (timed_of (the_view c.self.inside)) _ _
+    (notes-still g.R.Recorder.log (timed_of (the_view c.self.inside)) _ _
     event (λ asks. refl) c.note-then-calls-ne0.ensures))
 
 pub returns-clause-makes : goal.returns-clause-makes
 returns-clause-makes g c =
-    disconnects-as g.R.Recorder.facts g.R.Recorder.whole c.args.session
+    disconnects-as g.R.Recorder.log c.args.session
     (timed_of c.args.self.now) _ _ _ (Closing c.args.session)
     (closed-idle _ c.state-state.result c.args.session _ c.pending-calls.result
     c.state-state.ensures c.pending-calls.ensures

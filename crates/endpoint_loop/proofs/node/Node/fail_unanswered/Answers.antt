@@ -37,5 +37,5 @@ returns-clause-makes g c =
     }) c.self.inside.paces.items (jobs_in c.self.inside.limits.jobs c.self.inside.given
     c.self.inside.jobs.items) c.self.inside.clock c.self.inside.rx c.self.inside.store
     c.failed.new.self c.self.invariant.0 c.args.i h.servers h.queued h.clients
-    (rw (← c.self.view_is) at c.requires.connecting) g.R.Recorder.facts g.R.Recorder.whole
+    (rw (← c.self.view_is) at c.requires.connecting) g.R.Recorder.log
     c.args.rec.now c.note.new.self c.note.ensures)

@@ -94,8 +94,7 @@ returns-in_default-post_answer-clause-done g c = λ yes.
     (job-found _ _ c.self.inside.limits.jobs c.self.inside.given c.self.inside.jobs.items
     (Some c.in-Some.job) (sym c.in-Some.is ∙ c.take_job.ensures.found))
     (rw c.in_default-post_answer.is at c.post_answer.ensures.servers)
-    (rw c.in_default-post_answer.is at c.post_answer.ensures.queued) g.R.Recorder.facts
-    g.R.Recorder.whole c.args.rec.now c.note.new.self
+    (rw c.in_default-post_answer.is at c.post_answer.ensures.queued) g.R.Recorder.log c.args.rec.now c.note.new.self
     _ _ c.bytes-ask.ensures.message c.bytes-answer.ensures.message c.note.ensures)
 
 pub returns-in_default-post_answer-clause-jobs : goal.returns-in_default-post_answer-clause-jobs
@@ -147,8 +146,7 @@ returns-clause-done g c = λ yes.
     (Some c.in-Some.job) (sym c.in-Some.is ∙ c.take_job.ensures.found))
     c.in-Some-post_answer.entry
     (rw c.in-Some-post_answer.is at c.post_answer.ensures.servers)
-    (rw c.in-Some-post_answer.is at c.post_answer.ensures.queued) g.R.Recorder.facts
-    g.R.Recorder.whole c.args.rec.now c.note.new.self c.note-2.new.self
+    (rw c.in-Some-post_answer.is at c.post_answer.ensures.queued) g.R.Recorder.log c.args.rec.now c.note.new.self c.note-2.new.self
     _ _ _ c.bytes-ask.ensures.message c.bytes-answer.ensures.message
     (ap (λ e. e.number) c.entry.view_is) c.note.ensures c.note-2.ensures)
 

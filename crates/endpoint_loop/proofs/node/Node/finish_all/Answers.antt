@@ -4,7 +4,7 @@ use Rattle.endpoint_loop.proofs.node.Node.finish_all.Goals as goal
 
 pub jobs-init : goal.jobs-init
 jobs-init g c = (
-  finished-still g.R.Recorder.facts g.R.Recorder.whole g.W.Workers.answer _ _ _ _,
+  finished-still g.R.Recorder.log g.W.Workers.answer _ _ _ _,
   refl,
   λ mode served. served,
   λ mode all. all,
@@ -19,7 +19,7 @@ jobs-init g c = (
 pub jobs-preserved : goal.jobs-preserved
 jobs-preserved g c =
     let i = c.jobs.invariant in (
-      finished-then g.R.Recorder.facts g.R.Recorder.whole g.W.Workers.answer _ _ _ _ _ _ _ _ _ _ _ _
+      finished-then g.R.Recorder.log g.W.Workers.answer _ _ _ _ _ _ _ _ _ _ _ _
           i.0 c.finish_next.ensures.makes,
       c.finish_next.ensures.clients ∙ i.1,
       λ mode served. c.finish_next.ensures.served mode (i.2 mode served),
@@ -34,7 +34,7 @@ jobs-preserved g c =
 
 pub returns-then-not-finish_next-clause-makes : goal.returns-then-not-finish_next-clause-makes
 returns-then-not-finish_next-clause-makes g c =
-    finished-then g.R.Recorder.facts g.R.Recorder.whole g.W.Workers.answer _ _ _ _ _ _ _ _ _ _ _ _
+    finished-then g.R.Recorder.log g.W.Workers.answer _ _ _ _ _ _ _ _ _ _ _ _
     c.jobs.invariant.0 c.finish_next.ensures.makes
 
 pub returns-then-not-finish_next-clause-served : goal.returns-then-not-finish_next-clause-served

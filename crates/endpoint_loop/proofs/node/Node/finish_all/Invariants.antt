@@ -7,7 +7,7 @@ use Rattle.endpoint_loop.proofs.node.Node.finish_all.Given as goal
 
 abbrev pub invariant-jobs : goal.invariant-jobs
 invariant-jobs g l =
-    MakesFinished g.R.Recorder.facts g.R.Recorder.whole g.W.Workers.answer
+    MakesFinished g.R.Recorder.log g.W.Workers.answer
     (g.W.Workers.out l.initial.workers) (g.W.Workers.out l.workers)
     (g.W.Workers.worked l.initial.workers) (g.W.Workers.worked l.workers) (timed_of l.initial.self) (timed_of l.self)
     l.initial.rec l.rec

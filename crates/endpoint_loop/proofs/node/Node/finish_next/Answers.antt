@@ -5,12 +5,12 @@ use Rattle.endpoint_loop.proofs.node.Node.finish_next.Goals as goal
 
 pub returns-in_default-clause-makes : goal.returns-in_default-clause-makes
 returns-in_default-clause-makes g c =
-    finished-none g.R.Recorder.facts g.R.Recorder.whole g.W.Workers.answer _ _ _ _ _ _
+    finished-none g.R.Recorder.log g.W.Workers.answer _ _ _ _ _ _
     c.in_default.ensures.unchanged c.in_default.ensures.first
 
 pub returns-then-bytes-clause-makes : goal.returns-then-bytes-clause-makes
 returns-then-bytes-clause-makes g c =
-    finished-long g.R.Recorder.facts g.R.Recorder.whole g.W.Workers.answer _ _ _ _
+    finished-long g.R.Recorder.log g.W.Workers.answer _ _ _ _
     c.in-Some.finished _ c.sound.ensures.kept c.in-Some.ensures.out c.in-Some.ensures.answered.1
     c.in-Some.ensures.first _
     (λ most.
@@ -21,7 +21,7 @@ returns-then-bytes-clause-fewer g c = λ yes. one-less _ _ _ c.in-Some.ensures.o
 
 pub returns-clause-makes : goal.returns-clause-makes
 returns-clause-makes g c =
-    finished-turn g.R.Recorder.facts g.R.Recorder.whole g.W.Workers.answer _ _ _ _
+    finished-turn g.R.Recorder.log g.W.Workers.answer _ _ _ _
     c.in-Some.finished _ c.sound.ensures.kept c.in-Some.ensures.out c.in-Some.ensures.answered.1
     c.in-Some.ensures.first _ _ _ c.finish-went.result c.requires.room c.finish-went.ensures.done
     c.finish-went.ensures.jobs

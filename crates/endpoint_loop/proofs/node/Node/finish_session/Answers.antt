@@ -18,7 +18,7 @@ returns-clause-controls g c =
     elim c.match-state.branch [
       | in-Closing+then-end-server w ↦ rw (w.self-is, w.rec-is) (
           let made = rw (← c.self.view_is) at w.close_session.ensures.makes in
-          rw (← c.self.view_is) (noted-as g.R.Recorder.facts g.R.Recorder.whole c.args.rec.now
+          rw (← c.self.view_is) (noted-as g.R.Recorder.log c.args.rec.now
           w.close_session.new.rec c.args.end.now.peer c.args.head.now (timed_of (the_view c.self.inside))
           (timed_of w.close_session.new.self) Closes (ClosedHeard c.args.head.now.client)
           (λ asks. row-closes c.args.head.now (timed_of (the_view c.self.inside)) c.args.i known
@@ -28,7 +28,7 @@ returns-clause-controls g c =
           ∙ w.if-end-server.true ∙ c.server.view_is))
           refl (λ asks. refl) made))
       | in-Closing+else-end-server w ↦ rw (w.self-is, w.rec-is, ← c.self.view_is) (
-          controls-none g.R.Recorder.facts g.R.Recorder.whole c.args.rec.now
+          controls-none g.R.Recorder.log c.args.rec.now
           c.args.end.now.peer c.args.head.now None (timed_of (the_view c.self.inside)) false Ignores
           (λ asks. row-other-closes c.args.head.now (timed_of (the_view c.self.inside)) c.args.i known
           c.requires.number c.self.invariant.0.kept.valid.numbered c.args.end.now ends
@@ -37,7 +37,7 @@ returns-clause-controls g c =
           c.end.view_is ∙ same ∙ sym c.server.view_is)))
           refl (λ asks. refl))
       | in_default w ↦ rw (w.self-is, w.rec-is, ← c.self.view_is) (
-          controls-none g.R.Recorder.facts g.R.Recorder.whole c.args.rec.now
+          controls-none g.R.Recorder.log c.args.rec.now
           c.args.end.now.peer c.args.head.now None (timed_of (the_view c.self.inside)) false Ignores
           (λ asks. row-open c.args.head.now (timed_of (the_view c.self.inside)) c.args.i known
           c.requires.number c.self.invariant.0.kept.valid.numbered c.args.end.now ends

@@ -7,7 +7,7 @@ use Rattle.endpoint_loop.proofs.node.Node.flush_call.Given as goal
 
 abbrev pub invariant-packets : goal.invariant-packets
 invariant-packets g l =
-    Makes g.R.Recorder.facts g.R.Recorder.whole (FlushesSome (Ask l.i l.request)) (timed_of l.initial.self)
+    Makes g.R.Recorder.log (FlushesSome (Ask l.i l.request)) (timed_of l.initial.self)
     (timed_of l.self) l.initial.rec l.rec
     × (l.self.lists.clients ≡ l.initial.self.lists.clients)
     × (l.self.lists.servers ≡ l.initial.self.lists.servers)

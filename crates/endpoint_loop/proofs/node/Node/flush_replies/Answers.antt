@@ -8,7 +8,7 @@ pub packets-preserved : goal.packets-preserved
 packets-preserved g c =
     let i = c.packets.invariant in
     let h = c.flush_reply.ensures in (
-      flushed-more g.R.Recorder.facts g.R.Recorder.whole c.args.owner.now _ _ _ _ _ _
+      flushed-more g.R.Recorder.log c.args.owner.now _ _ _ _ _ _
           i.0 (h.makes c.packets-test.true),
       h.clients ∙ i.1,
       h.servers ∙ i.2,
@@ -24,6 +24,6 @@ returns-clause-makes g c =
     let none = h.none c.packets-test.false in
     let same = ap timed_of (h.unchanged c.packets-test.false) in
     let silent = h.silent c.packets-test.false in
-    as-same g.R.Recorder.facts g.R.Recorder.whole _ _ _ _ _ _ _ same silent
-    (flushed-all g.R.Recorder.facts g.R.Recorder.whole c.args.owner.now _ _ _ _ none
+    as-same g.R.Recorder.log _ _ _ _ _ _ _ same silent
+    (flushed-all g.R.Recorder.log c.args.owner.now _ _ _ _ none
     c.packets.invariant.0)

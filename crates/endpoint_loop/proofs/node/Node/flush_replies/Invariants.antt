@@ -6,7 +6,7 @@ use Rattle.endpoint_loop.proofs.node.Node.flush_replies.Given as goal
 
 abbrev pub invariant-packets : goal.invariant-packets
 invariant-packets g l =
-    Makes g.R.Recorder.facts g.R.Recorder.whole (FlushesSome l.owner)
+    Makes g.R.Recorder.log (FlushesSome l.owner)
     (timed_of l.initial.self) (timed_of l.self) l.initial.rec l.rec
     × (l.self.lists.clients ≡ l.initial.self.lists.clients)
     × (l.self.lists.servers ≡ l.initial.self.lists.servers)

@@ -64,7 +64,7 @@ returns-clause-makes g c = λ _.
     c.self.inside.jobs.items)
     c.self.inside.clock c.self.inside.rx c.self.inside.store c.flush_reply.new.self
     c.self.invariant.0 c.args.owner.now out.entry out.taken h.clients
-    h.servers g.R.Recorder.facts g.R.Recorder.whole c.args.rec.now c.note.new.self _ _
+    h.servers g.R.Recorder.log c.args.rec.now c.note.new.self _ _
     (ap (λ e. e.owner) c.entry.view_is ∙ owner-is _ _ out.own)
     (ap (λ e. e.number) c.entry.view_is ∙ sym out.number) c.note.ensures)
 

@@ -9,7 +9,7 @@ use Rattle.endpoint_loop.proofs.node.Node.flush_session.Goals as goal
 
 pub calls-init : goal.calls-init
 calls-init g c =
-    (gather-start g.R.Recorder.facts g.R.Recorder.whole c.args.i _ _, refl, refl, refl, refl, refl)
+    (gather-start g.R.Recorder.log c.args.i _ _, refl, refl, refl, refl, refl)
 
 pub calls-smaller : goal.calls-smaller
 calls-smaller g c =
@@ -24,7 +24,7 @@ calls-preserved g c =
     let i = c.calls.invariant in
     let h = c.flush_call.ensures in
     let same = ap (λ t. t.lists.clients) c.self.view_is ∙ i.1 in (
-      gather-more g.R.Recorder.facts g.R.Recorder.whole c.args.i c.calls.after c.in-Some.active _ _
+      gather-more g.R.Recorder.log c.args.i c.calls.after c.in-Some.active _ _
           _ _ _ _
           (ascends-calls c.args.i c.self.inside.store.clients c.args.self.now.lists.clients same
           fits.ascends)
@@ -44,7 +44,7 @@ pub returns-clause-makes : goal.returns-clause-makes
 returns-clause-makes g c =
     let i = c.calls.invariant in
     let same = ap (λ t. t.lists.clients) c.self.view_is ∙ i.1 in
-    gather-over g.R.Recorder.facts g.R.Recorder.whole c.args.i c.calls.after _ _ _ _
+    gather-over g.R.Recorder.log c.args.i c.calls.after _ _ _ _
     (next-none c.calls.after c.args.i c.self.inside.store.clients c.args.self.now.lists.clients same
     c.requires.known (rw c.in_default.is at c.active.ensures)) i.0
 
@@ -53,8 +53,8 @@ returns-clause-idle g c =
     let i = c.calls.invariant in
     let fits = c.self.invariant.0 in
     let same = ap (λ t. t.lists.clients) c.self.view_is ∙ i.1 in
-    flushed-idle g.R.Recorder.facts g.R.Recorder.whole c.args.i _ _ _ _
-    (gather-over g.R.Recorder.facts g.R.Recorder.whole c.args.i c.calls.after _ _ _ _
+    flushed-idle g.R.Recorder.log c.args.i _ _ _ _
+    (gather-over g.R.Recorder.log c.args.i c.calls.after _ _ _ _
     (next-none c.calls.after c.args.i c.self.inside.store.clients c.args.self.now.lists.clients same
     c.requires.known (rw c.in_default.is at c.active.ensures)) i.0) i.1
     (subst (λ t. Valid t.lists) c.self.view_is fits.kept.valid)

@@ -9,7 +9,7 @@ use Rattle.endpoint_loop.proofs.node.Node.flush_session.Given as goal
 
 abbrev pub invariant-calls : goal.invariant-calls
 invariant-calls g l =
-    Makes g.R.Recorder.facts g.R.Recorder.whole (FlushesFrom l.i l.after) (timed_of l.initial.self) (timed_of l.self)
+    Makes g.R.Recorder.log (FlushesFrom l.i l.after) (timed_of l.initial.self) (timed_of l.self)
     l.initial.rec l.rec
     × (l.self.lists.clients ≡ l.initial.self.lists.clients)
     × (l.self.lists.servers ≡ l.initial.self.lists.servers)

@@ -6,7 +6,7 @@ use Rattle.endpoint_loop.proofs.node.Node.flush_slots.Given as goal
 
 abbrev pub invariant-slots : goal.invariant-slots
 invariant-slots g l =
-    Makes g.R.Recorder.facts g.R.Recorder.whole (FlushesFirst l.i l.slot)
+    Makes g.R.Recorder.log (FlushesFirst l.i l.slot)
     (timed_of l.initial.self) (timed_of l.self) l.initial.rec l.rec
     × (l.slot ≤ 8)
     × (l.self.lists.clients ≡ l.initial.self.lists.clients)

@@ -12,7 +12,7 @@ returns-in_default-clause-makes g c =
     let xs = c.self.inside.store.clients in
     let x = known-at xs c.args.i (rw (← c.self.view_is) at c.requires.known) in
     let told = rw (x.1) at c.state.ensures in
-    rw (← c.self.view_is) (gives-up-none g.R.Recorder.facts g.R.Recorder.whole c.args.i
+    rw (← c.self.view_is) (gives-up-none g.R.Recorder.log c.args.i
     (timed_of (the_view c.self.inside)) _ x.0 x.1
     (told-apart x.0.state x.0.asked (λ same. c.in_default.not-Connecting (told ∙ same)))
     (told-open x.0.state x.0.asked (λ same. c.in_default.not-Closing (told ∙ same))))
@@ -23,7 +23,7 @@ returns-in-Connecting-clause-makes g c =
     let x = known-at xs c.args.i (rw (← c.self.view_is) at c.requires.known) in
     let told = rw (x.1) at c.state.ensures in
     let state = told-connecting x.0.state x.0.asked (sym told ∙ c.in-Connecting.is) in
-    rw (← c.self.view_is) (gives-up-by g.R.Recorder.facts g.R.Recorder.whole c.args.i
+    rw (← c.self.view_is) (gives-up-by g.R.Recorder.log c.args.i
     (timed_of (the_view c.self.inside)) _ _ _ x.0 (FailedNoAnswer c.args.i) x.1
     (given-connecting xs c.args.i x.0 x.1 c.self.invariant.0.kept.valid.numbered state)
     (rw (← c.self.view_is) at c.fail_unanswered.ensures.makes))
@@ -34,7 +34,7 @@ returns-in-Closing-clause-makes g c =
     let x = known-at xs c.args.i (rw (← c.self.view_is) at c.requires.known) in
     let told = rw (x.1) at c.state.ensures in
     let state = told-closing x.0.state x.0.asked (sym told ∙ c.in-Closing.is) in
-    rw (← c.self.view_is) (gives-up-by g.R.Recorder.facts g.R.Recorder.whole c.args.i
+    rw (← c.self.view_is) (gives-up-by g.R.Recorder.log c.args.i
     (timed_of (the_view c.self.inside)) _ _ _ x.0 (ClosedUnheard c.args.i) x.1
     (given-closing xs c.args.i x.0 x.1 c.self.invariant.0.kept.valid.numbered state)
     (rw (← c.self.view_is) at c.close_unheard.ensures.makes))

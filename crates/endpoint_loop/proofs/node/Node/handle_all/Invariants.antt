@@ -1,7 +1,10 @@
 use Rattle.std.proofs.Common.{◌≡◌, ◌≤◌, length}
+use Rattle.endpoint_loop.specs.Finishing.{staff_of}
+use Rattle.rpc_laws.specs.Service.{rules_of}
+use Rattle.rpc_outside.specs.Served.{StandsForSome}
 use Rattle.rpc_laws.specs.PollOrder.{Handles}
 use Rattle.rpc_laws.specs.Steps.{Chain}
-use Rattle.endpoint_loop.specs.Handling.{MakesAllHandled, StandsForSome}
+use Rattle.endpoint_loop.specs.Handling.{MakesAllHandled}
 use Rattle.endpoint_loop.specs.Serving.{AllServed}
 use Rattle.endpoint_loop.specs.Handing.{timed_of}
 use Rattle.endpoint_loop.specs.Handing.{GivesBackTo}
@@ -9,13 +12,8 @@ use Rattle.endpoint_loop.proofs.node.Node.handle_all.Given as goal
 
 abbrev pub invariant-packets : goal.invariant-packets
 invariant-packets g l =
-    MakesAllHandled g.R.Recorder.facts g.R.Recorder.whole g.K.Continuation.given
-    (λ w. record {
-      limit = g.W.Workers.limit w;
-      given = g.W.Workers.given w;
-      out = g.W.Workers.out w;
-      waiting = g.W.Workers.waiting w;
-    }) (record { mode = g.V.Service.mode_of; answer = g.V.Service.answer }) (g.V.Service.stands l.initial.service)
+    MakesAllHandled g.R.Recorder.log g.K.Continuation.given
+    (staff_of g.W.Workers) (rules_of g.V.Service) (g.V.Service.stands l.initial.service)
     (g.V.Service.stands l.service) g.W.Workers.answer (Chain (Handles g.V.Service.mode_of))
     (timed_of l.initial.self) (timed_of l.self) l.initial.rec l.rec l.initial.k l.k l.initial.workers l.workers
     × AllServed g.V.Service.mode_of l.self.lists.servers

@@ -1,4 +1,5 @@
 use Rattle.std.proofs.Common.{refl, sym, ◌∙◌}
+use Rattle.rpc_laws.specs.Service.{rules_of}
 use Rattle.endpoint_loop.proofs.HandleLemmas.{asks-kind, node-replies, node-requests}
 use Rattle.endpoint_loop.proofs.GivenLemmas.{gave-no, gave-one}
 use Rattle.endpoint_loop.proofs.HandleLemmas.{replies-kind}
@@ -11,8 +12,8 @@ unreachable-requires g c = c.front_head.ensures.there c.requires.some c.in_defau
 pub returns-in-Request-clause-handles : goal.returns-in-Request-clause-handles
 returns-in-Request-clause-handles g c =
     let front = sym c.front_head.ensures.value ∙ c.in-Some.is in
-    node-requests g.R.Recorder.facts g.R.Recorder.whole g.K.Continuation.given
-    (record { mode = g.V.Service.mode_of; answer = g.V.Service.answer })
+    node-requests g.R.Recorder.log g.K.Continuation.given
+    (rules_of g.V.Service)
     (g.V.Service.stands c.args.service.now) c.in-Some.head _ _ _ _ front c.requires.room
     (g.V.Service.stands c.serve_request.new.service) c.serve_request.result _ _
     (asks-kind c.in-Some.head.kind c.in-Request.is) refl
@@ -21,8 +22,8 @@ returns-in-Request-clause-handles g c =
 pub returns-in-None-clause-handles : goal.returns-in-None-clause-handles
 returns-in-None-clause-handles g c =
     let front = sym c.front_head.ensures.value ∙ c.in-Some.is in
-    node-replies g.R.Recorder.facts g.R.Recorder.whole g.K.Continuation.given
-    (record { mode = g.V.Service.mode_of; answer = g.V.Service.answer })
+    node-replies g.R.Recorder.log g.K.Continuation.given
+    (rules_of g.V.Service)
     (g.V.Service.stands c.args.service.now) c.in-Some.head _ _ _ _ front c.requires.room
     c.hear_reply.result _ _ (replies-kind c.in-Some.head.kind c.in-Cr.is)
     c.hear_reply.ensures.hears c.hear_reply.ensures.jobs
@@ -31,8 +32,8 @@ returns-in-None-clause-handles g c =
 pub returns-in-Some-hear_reply-clause-handles : goal.returns-in-Some-hear_reply-clause-handles
 returns-in-Some-hear_reply-clause-handles g c =
     let front = sym c.front_head.ensures.value ∙ c.in-Some.is in
-    node-replies g.R.Recorder.facts g.R.Recorder.whole g.K.Continuation.given
-    (record { mode = g.V.Service.mode_of; answer = g.V.Service.answer })
+    node-replies g.R.Recorder.log g.K.Continuation.given
+    (rules_of g.V.Service)
     (g.V.Service.stands c.args.service.now) c.in-Some.head _ _ _ _ front c.requires.room
     c.hear_reply.result _ _ (replies-kind c.in-Some.head.kind c.in-Cr.is)
     c.hear_reply.ensures.hears c.hear_reply.ensures.jobs

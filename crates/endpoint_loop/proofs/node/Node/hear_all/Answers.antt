@@ -8,7 +8,7 @@ use Rattle.endpoint_loop.proofs.node.Node.hear_all.Goals as goal
 
 pub packets-init : goal.packets-init
 packets-init g c = record {
-  listens = listens-none g.R.Recorder.facts g.R.Recorder.whole g.L.Link.sent (λ l. record { faults = g.L.Link.faults l; busies = g.L.Link.busies l }) Hears _ _ _;
+  listens = listens-none g.R.Recorder.log g.L.Link Hears _ _ _;
   heard = omega (
     arith,
     c.len-count.ensures.len,
@@ -29,7 +29,7 @@ packets-preserved g c =
     let i = c.packets.invariant in
     let h = c.hear_control-one.ensures in
     record {
-      listens = listens-more g.R.Recorder.facts g.R.Recorder.whole g.L.Link.sent (λ l. record { faults = g.L.Link.faults l; busies = g.L.Link.busies l }) Hears c.packets.told c.hear_control-one.result _ _ _ _ _ _ _ _ _ _ refl
+      listens = listens-more g.R.Recorder.log g.L.Link Hears c.packets.told c.hear_control-one.result _ _ _ _ _ _ _ _ _ _ refl
           refl refl i.listens h.listens;
       heard = omega (
         arith,
@@ -52,6 +52,6 @@ packets-preserved g c =
 pub returns-clause-listens : goal.returns-clause-listens
 returns-clause-listens g c =
     let i = c.packets.invariant in
-    listens-until g.R.Recorder.facts g.R.Recorder.whole g.L.Link.sent (λ l. record { faults = g.L.Link.faults l; busies = g.L.Link.busies l }) Hears (λ t. t.lists.inbox ≡ []) c.packets.told _ _ _ _ _ _ i.listens
+    listens-until g.R.Recorder.log g.L.Link Hears (λ t. t.lists.inbox ≡ []) c.packets.told _ _ _ _ _ _ i.listens
     (λ asks. none-waits c.packets.self.lists.inbox
     (omega (arith, i.heard, c.packets-test.false)))

@@ -11,7 +11,7 @@ use Rattle.endpoint_loop.proofs.node.Node.hear_all.Given as goal
 
 abbrev pub invariant-packets : goal.invariant-packets
 invariant-packets g l = record {
-  listens : Listens g.R.Recorder.facts g.R.Recorder.whole g.L.Link.sent (λ l. record { faults = g.L.Link.faults l; busies = g.L.Link.busies l }) (Chain Hears) l.told (timed_of l.initial.self) (timed_of l.self) l.initial.rec
+  listens : Listens g.R.Recorder.log g.L.Link (Chain Hears) l.told (timed_of l.initial.self) (timed_of l.self) l.initial.rec
       l.rec l.initial.link l.link;
   heard : l.told.heard + length l.self.lists.inbox ≡ l.count;
   few : l.count ≤ inbox_room;

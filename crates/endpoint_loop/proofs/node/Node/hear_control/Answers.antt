@@ -19,10 +19,10 @@ returns-clause-listens g c =
     elim c.match-handle_control.branch [
       | in-None w ↦ rw (w.result-is, w.rec-is, w.link-is) (
           let handles = rw w.in-None.is at h.handles in
-          listens-silent g.R.Recorder.facts g.R.Recorder.whole g.L.Link.sent (λ l. record { faults = g.L.Link.faults l; busies = g.L.Link.busies l }) c.in-Some.packet _ _ front _ _ _ handles)
+          listens-silent g.R.Recorder.log g.L.Link c.in-Some.packet _ _ front _ _ _ handles)
       | in-Some-handle_control w ↦ rw (w.result-is, w.rec-is, w.link-is, w.told_of.ensures) (
           let handles = rw w.in-Some-handle_control.is at h.handles in
           let said = w.speak.ensures in
-          listens-said g.R.Recorder.facts g.R.Recorder.whole g.L.Link.sent (λ l. record { faults = g.L.Link.faults l; busies = g.L.Link.busies l }) c.in-Some.packet _ _ front _ w.speak.result _ _ _ _ _ _ sendable me
+          listens-said g.R.Recorder.log g.L.Link c.in-Some.packet _ _ front _ w.speak.result _ _ _ _ _ _ sendable me
           handles said.spoke said.cause said.busy said.went said.fault)
     ]

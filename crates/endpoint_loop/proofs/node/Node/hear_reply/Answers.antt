@@ -31,7 +31,7 @@ returns-then-i-clients-clause-hears g c =
       counts = c.self.inside.counts;
     }) c.self.inside.paces.items (jobs_in c.self.inside.limits.jobs c.self.inside.given c.self.inside.jobs.items)
     c.self.inside.clock c.self.inside.rx c.self.inside.store c.self.invariant.0 c.args.head.now
-    c.in-Some.front.now front here g.R.Recorder.facts g.R.Recorder.whole c.args.rec.now
+    c.in-Some.front.now front here g.R.Recorder.log c.args.rec.now
     c.drop_front.new.rec (timed_of c.drop_front.new.self)
     (omega (arith, c.if-i-clients.true, c.clients.ensures.count, number)) made)
 
@@ -76,7 +76,7 @@ returns-in-Dropped-clause-hears g c =
     c.in-Some.front.now front here c.from-i.result number c.on_reply-reply.new.self
     c.on_reply-reply.ensures.servers c.on_reply-reply.ensures.queued
     c.on_reply-reply.ensures.size c.on_reply-reply.ensures.places c.in-Dropped.reason p
-    g.R.Recorder.facts g.R.Recorder.whole c.args.rec.now c.drop_front-in-Dropped.new.rec
+    g.R.Recorder.log c.args.rec.now c.drop_front-in-Dropped.new.rec
     (timed_of c.drop_front-in-Dropped.new.self) c.drop_front-in-Dropped.ensures.drops)
 
 pub invariant_of-self-in-Took : goal.invariant_of-self-in-Took
@@ -121,7 +121,7 @@ returns-in-Took-clause-hears g c =
     c.in-Some.front.now front here c.from-i.result number c.on_reply-reply.new.self
     c.on_reply-reply.ensures.servers c.on_reply-reply.ensures.queued
     c.on_reply-reply.ensures.size c.on_reply-reply.ensures.places c.drop_front-in-Took.new.self
-    c.drop_front-in-Took.ensures p g.R.Recorder.facts g.R.Recorder.whole c.args.rec.now
+    c.drop_front-in-Took.ensures p g.R.Recorder.log c.args.rec.now
     c.note.new.self _ _ _ refl (ap (λ (v : MessageHeader). v.request) c.head.view_is)
     (ap (λ (v : MessageHeader). v.number) c.head.view_is) c.note.ensures)
 
@@ -167,7 +167,7 @@ returns-in-Ended-clause-hears g c =
     c.in-Some.front.now front here c.from-i.result number c.on_reply-reply.new.self
     c.on_reply-reply.ensures.servers c.on_reply-reply.ensures.queued
     c.on_reply-reply.ensures.size c.on_reply-reply.ensures.places c.drop_front-in-Ended.new.self
-    c.drop_front-in-Ended.ensures c.in-Ended.done p g.R.Recorder.facts g.R.Recorder.whole
+    c.drop_front-in-Ended.ensures c.in-Ended.done p g.R.Recorder.log
     c.args.rec.now c.note-in-Ended.new.self c.note-in-Ended-2.new.self _ _ _ _ _ refl
     (ap (λ (v : MessageHeader). v.request) c.head.view_is)
     (ap (λ (v : MessageHeader). v.number) c.head.view_is) c.end_event.ensures

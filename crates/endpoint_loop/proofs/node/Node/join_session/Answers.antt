@@ -22,7 +22,7 @@ returns-then-end-server-clause-controls g c =
     ] in
     let same : c.args.end.now.server ≡ c.args.server = ap (λ (e : ClientEnd). e.server)
     (sym c.end.view_is) ∙ c.if-end-server.true ∙ c.server.view_is in
-    rw (← c.self.view_is) (controls-none g.R.Recorder.facts g.R.Recorder.whole c.args.rec.now
+    rw (← c.self.view_is) (controls-none g.R.Recorder.log c.args.rec.now
     c.args.end.now.peer c.args.head.now None (timed_of (the_view c.self.inside)) false Ignores
     (λ asks. row-known c.args.head.now (timed_of (the_view c.self.inside)) c.args.i known c.requires.number
     c.self.invariant.0.kept.valid.numbered c.args.end.now ends c.state.result c.state.ensures
@@ -37,7 +37,7 @@ returns-else-end-server-clause-controls g c =
       | inl a ↦ rw a refl
       | inr b ↦ elim b [ inl d ↦ rw d refl | inr e ↦ rw e refl ]
     ] in
-    rw (← c.self.view_is) (controls-none g.R.Recorder.facts g.R.Recorder.whole c.args.rec.now
+    rw (← c.self.view_is) (controls-none g.R.Recorder.log c.args.rec.now
     c.args.end.now.peer c.args.head.now (Some c.disown.result) (timed_of (the_view c.self.inside)) false Disowns
     (λ asks. row-disowns c.args.head.now (timed_of (the_view c.self.inside)) c.args.i known c.requires.number
     c.self.invariant.0.kept.valid.numbered c.args.end.now ends c.state.result c.state.ensures
@@ -52,7 +52,7 @@ returns-in_default-clause-controls g c =
     let ends = rw (← c.self.view_is) at c.requires.end in
     let none = no-credits c.state.result c.in_default.not-Connected c.in_default.not-Spent
     c.in_default.not-Closing in
-    rw (← c.self.view_is) (controls-none g.R.Recorder.facts g.R.Recorder.whole c.args.rec.now
+    rw (← c.self.view_is) (controls-none g.R.Recorder.log c.args.rec.now
     c.args.end.now.peer c.args.head.now (Some c.disown-in_default.result) (timed_of (the_view c.self.inside))
     false Disowns
     (λ asks. row-strays c.args.head.now (timed_of (the_view c.self.inside)) c.args.i known c.requires.number
@@ -67,7 +67,7 @@ returns-after-head-end-clause-controls g c =
     elim c.if-head-end.branch [
       | then-head-end w ↦ rw (w.self-is, w.rec-is) (
           let made = rw (← c.self.view_is) at w.connect_session.ensures.makes in
-          rw (← c.self.view_is) (noted-as g.R.Recorder.facts g.R.Recorder.whole c.args.rec.now
+          rw (← c.self.view_is) (noted-as g.R.Recorder.log c.args.rec.now
           w.connect_session.new.rec c.args.end.now.peer c.args.head.now (timed_of (the_view c.self.inside))
           (timed_of w.connect_session.new.self) (Connects c.args.server)
           (IsConnected c.args.head.now.client c.args.server)
@@ -77,7 +77,7 @@ returns-after-head-end-clause-controls g c =
           c.in-Connecting.is (w.if-head-end.true ∙ ap (λ (e : ClientEnd). e.credits) c.end.view_is))
           refl (λ asks. refl) made))
       | else-head-end w ↦ rw (w.self-is, w.rec-is, ← c.self.view_is) (
-          controls-none g.R.Recorder.facts g.R.Recorder.whole c.args.rec.now
+          controls-none g.R.Recorder.log c.args.rec.now
           c.args.end.now.peer c.args.head.now None (timed_of (the_view c.self.inside)) false Ignores
           (λ asks. row-other c.args.head.now (timed_of (the_view c.self.inside)) c.args.i known
           c.requires.number c.self.invariant.0.kept.valid.numbered c.args.end.now ends

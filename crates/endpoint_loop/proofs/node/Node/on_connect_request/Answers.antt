@@ -15,7 +15,7 @@ pub returns-in-Some-clause-controls : goal.returns-in-Some-clause-controls
 returns-in-Some-clause-controls g c =
     let end = c.end_of_server-end.result in
     let at = rw c.in-Some.is at c.place_of_end.ensures in
-    rw (← c.self.view_is) (controls-none g.R.Recorder.facts g.R.Recorder.whole c.args.rec.now
+    rw (← c.self.view_is) (controls-none g.R.Recorder.log c.args.rec.now
     c.args.peer c.args.head.now (Some c.connect_reply.result) (timed_of (the_view c.self.inside)) false
     (Confirms end.session end.credits)
     (λ asks. confirms c.args.peer c.args.head.now c.requires.kind (timed_of (the_view c.self.inside))
@@ -28,7 +28,7 @@ pub returns-then-not-takes_server-clause-controls :
 returns-then-not-takes_server-clause-controls g c =
     let none = rw c.in_default.is at c.place_of_end.ensures in
     let takes = rw (← c.self.view_is) at (sym c.takes_server.ensures ∙ c.if-not-takes_server.true) in
-    rw (← c.self.view_is) (controls-by g.R.Recorder.facts g.R.Recorder.whole c.args.rec.now
+    rw (← c.self.view_is) (controls-by g.R.Recorder.log c.args.rec.now
     c.note.new.self c.args.peer c.args.head.now (Some c.connect_reply-then-not-takes_server.result)
     (timed_of (the_view c.self.inside)) (timed_of (the_view c.self.inside)) false Declines
     (λ asks. declines c.args.peer c.args.head.now c.requires.kind (timed_of (the_view c.self.inside))
@@ -44,7 +44,7 @@ returns-clause-controls g c =
       | in-Ok w ↦ rw (w.result-is, w.rec-is) (
           let number = rw (← c.self.view_is) at w.in-Ok.ensures.number in
           let made = rw (← c.self.view_is) at w.in-Ok.ensures.makes in
-          rw (← c.self.view_is) (accepted-as g.R.Recorder.facts g.R.Recorder.whole c.args.rec.now
+          rw (← c.self.view_is) (accepted-as g.R.Recorder.log c.args.rec.now
           c.accept_session.new.rec c.args.peer c.args.head.now c.requires.kind _ _
           (Some w.connect_reply-in-Ok.result) none takes
           (ap Some w.connect_reply-in-Ok.ensures
@@ -54,7 +54,7 @@ returns-clause-controls g c =
           let grew = rw w.in-Err.ensures.unchanged.1 at w.note-in-Err.ensures in
           let me = ap (λ (t : Holding). t.lists.me)
           (c.self-2.view_is ∙ w.in-Err.ensures.unchanged.0 ∙ sym c.self.view_is) in
-          rw (← c.self.view_is) (controls-by g.R.Recorder.facts g.R.Recorder.whole c.args.rec.now
+          rw (← c.self.view_is) (controls-by g.R.Recorder.log c.args.rec.now
           w.note-in-Err.new.self c.args.peer c.args.head.now None (timed_of (the_view c.self.inside))
           (timed_of (the_view c.self.inside)) true RowStarves
           (λ asks. starves c.args.peer c.args.head.now c.requires.kind (timed_of (the_view c.self.inside)) none

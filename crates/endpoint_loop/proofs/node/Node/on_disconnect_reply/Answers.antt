@@ -14,7 +14,7 @@ returns-then-clients-i-clause-controls g c =
     rw c.clients.ensures.count at c.if-clients-i.true in
     let number : c.args.head.now.client ≡ c.from-i.result =
     sym (c.from-i.ensures ∙ ap (λ (h : ControlHeader). h.client) c.head.view_is) in
-    rw (← c.self.view_is) (controls-none g.R.Recorder.facts g.R.Recorder.whole c.args.rec.now
+    rw (← c.self.view_is) (controls-none g.R.Recorder.log c.args.rec.now
     c.args.peer c.args.head.now None (timed_of (the_view c.self.inside)) false Ignores
     (λ asks. disconnect-unknown c.args.peer c.args.head.now (timed_of (the_view c.self.inside)) c.from-i.result
     number c.self.invariant.0.kept.valid.numbered false asks c.requires.kind past)
@@ -26,7 +26,7 @@ returns-then-end-peer-clause-controls g c =
     rw c.clients.ensures.count at c.if-clients-i.false in
     let number : c.args.head.now.client ≡ c.from-i.result =
     sym (c.from-i.ensures ∙ ap (λ (h : ControlHeader). h.client) c.head.view_is) in
-    rw (← c.self.view_is) (controls-none g.R.Recorder.facts g.R.Recorder.whole c.args.rec.now
+    rw (← c.self.view_is) (controls-none g.R.Recorder.log c.args.rec.now
     c.args.peer c.args.head.now None (timed_of (the_view c.self.inside)) false Ignores
     (λ asks. disconnect-stranger c.args.peer c.args.head.now (timed_of (the_view c.self.inside)) c.from-i.result
     number c.self.invariant.0.kept.valid.numbered within c.end_of_client-end.result
@@ -43,7 +43,7 @@ returns-in-None-clause-controls g c =
     sym (c.from-i.ensures ∙ ap (λ (h : ControlHeader). h.client) c.head.view_is) in
     let none : c.args.head.now.server ≡ None =
     ap (λ (h : ControlHeader). h.server) (sym c.head.view_is) ∙ c.in-None.is in
-    rw (← c.self.view_is) (controls-none g.R.Recorder.facts g.R.Recorder.whole c.args.rec.now
+    rw (← c.self.view_is) (controls-none g.R.Recorder.log c.args.rec.now
     c.args.peer c.args.head.now None (timed_of (the_view c.self.inside)) false Ignores
     (λ asks. disconnect-nameless c.args.peer c.args.head.now (timed_of (the_view c.self.inside))
     c.from-i.result number c.self.invariant.0.kept.valid.numbered within

@@ -60,7 +60,7 @@ invariant_of-self-2 g c =
     let later = c.delay.ensures
     ∙ ap (λ n. at_first (is_paced c.args.i) (delayed c.self.inside.clock n)
     c.self.inside.paces.items) size in (
-      fits-posted g.R.Recorder.facts g.R.Recorder.whole c.args.i c.self.inside.me c.self.inside.limits
+      fits-posted g.R.Recorder.log c.args.i c.self.inside.me c.self.inside.limits
           (record {
             asked = c.self.inside.asked;
             server_numbers = c.self.inside.server_numbers;
@@ -86,7 +86,7 @@ returns-clause-notes g c =
     let later = c.delay.ensures
     ∙ ap (λ n. at_first (is_paced c.args.i) (delayed c.self.inside.clock n)
     c.self.inside.paces.items) size in
-    rw (← c.self.view_is) (node-posted g.R.Recorder.facts g.R.Recorder.whole c.args.i c.self.inside.me c.self.inside.limits
+    rw (← c.self.view_is) (node-posted g.R.Recorder.log c.args.i c.self.inside.me c.self.inside.limits
     (record {
       asked = c.self.inside.asked;
       server_numbers = c.self.inside.server_numbers;

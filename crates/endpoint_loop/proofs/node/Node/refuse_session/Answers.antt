@@ -15,7 +15,7 @@ returns-clause-controls g c =
     elim c.match-state.branch [
       | in-Connecting w ↦ rw (w.self-is, w.rec-is) (
           let made = rw (← c.self.view_is) at w.fail_session.ensures.makes in
-          rw (← c.self.view_is) (noted-as g.R.Recorder.facts g.R.Recorder.whole c.args.rec.now
+          rw (← c.self.view_is) (noted-as g.R.Recorder.log c.args.rec.now
           w.fail_session.new.rec c.args.end.now.peer c.args.head.now (timed_of (the_view c.self.inside))
           (timed_of w.fail_session.new.self) Fails (FailedNoRoom c.args.head.now.client)
           (λ asks. row-fails c.args.head.now (timed_of (the_view c.self.inside)) c.args.i known
@@ -24,7 +24,7 @@ returns-clause-controls g c =
           w.in-Connecting.is)
           refl (λ asks. refl) made))
       | in_default w ↦ rw (w.self-is, w.rec-is, ← c.self.view_is) (
-          controls-none g.R.Recorder.facts g.R.Recorder.whole c.args.rec.now
+          controls-none g.R.Recorder.log c.args.rec.now
           c.args.end.now.peer c.args.head.now None (timed_of (the_view c.self.inside)) false Ignores
           (λ asks. row-settled c.args.head.now (timed_of (the_view c.self.inside)) c.args.i known
           c.requires.number c.self.invariant.0.kept.valid.numbered c.args.end.now ends

@@ -37,5 +37,5 @@ returns-clause-makes g c =
     c.self.inside.jobs.items) c.self.inside.clock c.self.inside.rx c.self.inside.store
     c.end_server.new.self c.self.invariant.0 c.args.i at.server at.place
     (rw (← c.self.view_is) at c.requires.drained) h.servers h.clients h.queued
-    g.R.Recorder.facts g.R.Recorder.whole c.args.rec.now c.note.new.self
+    g.R.Recorder.log c.args.rec.now c.note.new.self
     c.end_of_server-end.result.session own.number c.note.ensures)

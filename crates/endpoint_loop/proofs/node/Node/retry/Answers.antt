@@ -14,8 +14,7 @@ returns-in_default-clause-spoken g c =
     let x = known-at xs c.args.i (rw (← c.self.view_is) at c.requires.known) in
     let own = of-known (λ y. None ≡ own_request y) xs c.args.i x.0 x.1
     (rw c.in_default.is at c.own_request.ensures) in
-    rw (← c.self.view_is) (retries-none g.R.Recorder.facts g.R.Recorder.whole g.L.Link.sent
-    (λ l. record { faults = g.L.Link.faults l; busies = g.L.Link.busies l }) c.args.timeout c.args.i (timed_of (the_view c.self.inside))
+    rw (← c.self.view_is) (retries-none g.R.Recorder.log g.L.Link c.args.timeout c.args.i (timed_of (the_view c.self.inside))
     x.0 x.1 (sym own) _ _)
 
 pub returns-in-Rests-clause-spoken : goal.returns-in-Rests-clause-spoken
@@ -27,8 +26,7 @@ returns-in-Rests-clause-spoken g c =
     let row = of-known (λ (y : Client). Rests
     ≡ retry_row c.self.inside.clock c.args.timeout y.sends y.sent_at) xs c.args.i x.0 x.1
     (rw c.in-Rests.is at c.retry_row.ensures) in
-    rw (← c.self.view_is) (retries-rest g.R.Recorder.facts g.R.Recorder.whole g.L.Link.sent
-    (λ l. record { faults = g.L.Link.faults l; busies = g.L.Link.busies l }) c.args.timeout c.args.i (timed_of (the_view c.self.inside))
+    rw (← c.self.view_is) (retries-rest g.R.Recorder.log g.L.Link c.args.timeout c.args.i (timed_of (the_view c.self.inside))
     x.0 x.1 c.in-Some.head (sym own) (sym row) _ _)
 
 pub returns-in-Asks-clause-spoken : goal.returns-in-Asks-clause-spoken
@@ -40,8 +38,7 @@ returns-in-Asks-clause-spoken g c =
     let row = of-known (λ (y : Client). Asks
     ≡ retry_row c.self.inside.clock c.args.timeout y.sends y.sent_at) xs c.args.i x.0 x.1
     (rw c.in-Asks.is at c.retry_row.ensures) in
-    rw (← c.self.view_is) (retries-asks g.R.Recorder.facts g.R.Recorder.whole g.L.Link.sent
-    (λ l. record { faults = g.L.Link.faults l; busies = g.L.Link.busies l }) c.args.timeout c.args.i (timed_of (the_view c.self.inside))
+    rw (← c.self.view_is) (retries-asks g.R.Recorder.log g.L.Link c.args.timeout c.args.i (timed_of (the_view c.self.inside))
     x.0 x.1 c.in-Some.head (sym own) (sym row) _ _ _ _ _
     (rw (← c.self.view_is) at c.send_request.ensures.spoken))
 
@@ -54,7 +51,6 @@ returns-in-GivesUp-clause-spoken g c =
     let row = of-known (λ (y : Client). GivesUp
     ≡ retry_row c.self.inside.clock c.args.timeout y.sends y.sent_at) xs c.args.i x.0 x.1
     (rw c.in-GivesUp.is at c.retry_row.ensures) in
-    rw (← c.self.view_is) (retries-over g.R.Recorder.facts g.R.Recorder.whole g.L.Link.sent
-    (λ l. record { faults = g.L.Link.faults l; busies = g.L.Link.busies l }) c.args.timeout c.args.i (timed_of (the_view c.self.inside))
+    rw (← c.self.view_is) (retries-over g.R.Recorder.log g.L.Link c.args.timeout c.args.i (timed_of (the_view c.self.inside))
     x.0 x.1 c.in-Some.head (sym own) (sym row) _ _ _ _
     (rw (← c.self.view_is) at c.give_up.ensures.makes))

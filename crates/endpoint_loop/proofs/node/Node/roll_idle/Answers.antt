@@ -51,5 +51,5 @@ returns-clause-makes g c =
     c.self.inside.clock c.self.inside.rx c.self.inside.store c.self.invariant.0 c.args.i
     c.args.active.now (rw (← c.self.view_is) at c.requires.active)
     (rw (← c.self.view_is) at c.requires.idle) c.roll.new.self h.clients h.servers h.queued
-    g.R.Recorder.facts g.R.Recorder.whole c.args.rec.now c.note.new.self _ _ _ refl refl refl
+    g.R.Recorder.log c.args.rec.now c.note.new.self _ _ _ refl refl refl
     c.note.ensures)

@@ -38,8 +38,7 @@ returns-in-Whole-clause-sent g c = λ went.
           c.self.inside.clock c.self.inside.rx c.self.inside.store c.sent.new.self c.self.invariant.0
           c.in-Some.entry front c.sent.ensures.clients c.sent.ensures.servers c.sent.ensures.queued
           c.packet-body.new.head c.packet-body.result.now c.packet-body.array_long
-          c.packet-body.ensures.bytes c.packet-body.ensures.spells g.R.Recorder.facts
-          g.R.Recorder.whole g.L.Link.sent c.args.rec.now c.note.new.self c.args.link.now
+          c.packet-body.ensures.bytes c.packet-body.ensures.spells g.R.Recorder.log g.L.Link.sent c.args.rec.now c.note.new.self c.args.link.now
           c.send.new.self _ _ _ (ap (λ e. e.peer) c.entry.view_is) (ap (λ e. e.owner) c.entry.view_is)
           (ap (λ e. e.number) c.entry.view_is) c.note.ensures whole.0),
       whole.1,

@@ -71,8 +71,8 @@ returns-in-Ok-true-clause-spoken g c =
     (rw (← c.self.view_is) at c.requires.own))
     (of-known (IsClientEnd c.end_of_client-end.result) xs c.args.i at.client at.place
     c.end_of_client-end.ensures).peer
-    spoke.head spoke.spells g.R.Recorder.facts g.R.Recorder.whole g.L.Link.sent (λ l. record { faults = g.L.Link.faults l; busies = g.L.Link.busies l }) _ _ _ _ spoke.grew
-    (link-sent g.L.Link.sent (λ l. record { faults = g.L.Link.faults l; busies = g.L.Link.busies l }) _ _ _ spoke.took refl refl
+    spoke.head spoke.spells g.R.Recorder.log g.L.Link _ _ _ _ spoke.grew
+    (link-sent g.L.Link _ _ _ spoke.took refl refl
     c.in-Ok-true.ensures.cause (c.in-Ok-true.ensures.went c.in-Ok-true.field-0-test))
     spoke.bytes)
 
@@ -81,8 +81,7 @@ returns-in-Ok-false-clause-spoken g c =
     let xs = c.self.inside.store.clients in
     let x = known-at xs c.args.i (rw (← c.self.view_is) at c.requires.known) in
     let spoke = rw c.in-Ok-false.field-0-test at c.in-Ok-false.ensures.spoke in
-    rw (← c.self.view_is) (spoken-unsent g.R.Recorder.facts g.R.Recorder.whole g.L.Link.sent
-    (λ l. record { faults = g.L.Link.faults l; busies = g.L.Link.busies l }) (timed_of (the_view c.self.inside)) c.args.i _ c.args.head.now
+    rw (← c.self.view_is) (spoken-unsent g.R.Recorder.log g.L.Link (timed_of (the_view c.self.inside)) c.args.i _ c.args.head.now
     x.0 x.1
     (of-known (IsClientEnd c.end_of_client-end.result) xs c.args.i x.0 x.1
     c.end_of_client-end.ensures).peer _ _ _ _ false spoke
@@ -93,8 +92,7 @@ pub returns-in-Err-clause-spoken : goal.returns-in-Err-clause-spoken
 returns-in-Err-clause-spoken g c =
     let xs = c.self.inside.store.clients in
     let x = known-at xs c.args.i (rw (← c.self.view_is) at c.requires.known) in
-    rw (← c.self.view_is) (spoken-unsent g.R.Recorder.facts g.R.Recorder.whole g.L.Link.sent
-    (λ l. record { faults = g.L.Link.faults l; busies = g.L.Link.busies l }) (timed_of (the_view c.self.inside)) c.args.i _ c.args.head.now
+    rw (← c.self.view_is) (spoken-unsent g.R.Recorder.log g.L.Link (timed_of (the_view c.self.inside)) c.args.i _ c.args.head.now
     x.0 x.1
     (of-known (IsClientEnd c.end_of_client-end.result) xs c.args.i x.0 x.1
     c.end_of_client-end.ensures).peer _ _ _ _ true c.in-Err.ensures.spoke

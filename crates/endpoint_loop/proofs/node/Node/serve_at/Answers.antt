@@ -74,8 +74,7 @@ invariant_of-self g c =
           c.self.invariant.0 c.args.head.now c.in-Some.front.now front here g.V.Service.mode_of
           c.args.i c.on_packet-step.new.self c.on_packet-step.ensures.clients
           c.on_packet-step.ensures.size c.on_packet-step.ensures.places c.drop_front.new.self
-          c.drop_front.ensures c.jobs_full-full.result full served place peer few g.R.Recorder.facts
-          g.R.Recorder.whole c.args.rec.now c.on_packet-step.new.rec g.V.Service.answer
+          c.drop_front.ensures c.jobs_full-full.result full served place peer few g.R.Recorder.log c.args.rec.now c.on_packet-step.new.rec g.V.Service.answer
           (g.V.Service.stands c.args.service.now) (g.V.Service.stands c.on_packet-step.new.service)
           c.in-Took.reply p p.reply,
       c.self.invariant.1,
@@ -103,8 +102,7 @@ returns-in-Took-clause-serves g c =
     c.self.invariant.0 c.args.head.now c.in-Some.front.now front here g.V.Service.mode_of
     c.args.i c.on_packet-step.new.self c.on_packet-step.ensures.clients
     c.on_packet-step.ensures.size c.on_packet-step.ensures.places c.drop_front.new.self
-    c.drop_front.ensures c.jobs_full-full.result full served place peer few g.R.Recorder.facts
-    g.R.Recorder.whole c.args.rec.now c.on_packet-step.new.rec g.V.Service.answer
+    c.drop_front.ensures c.jobs_full-full.result full served place peer few g.R.Recorder.log c.args.rec.now c.on_packet-step.new.rec g.V.Service.answer
     (g.V.Service.stands c.args.service.now) (g.V.Service.stands c.on_packet-step.new.service)
     c.in-Took.reply p p.reply (λ was st. subst (λ z. g.V.Service.stands z was) (sym
     c.in-Took.ensures.service) st))
@@ -130,8 +128,7 @@ invariant_of-self-in-Again g c =
           c.self.invariant.0 c.args.head.now c.in-Some.front.now front here g.V.Service.mode_of
           c.args.i c.on_packet-step.new.self c.on_packet-step.ensures.clients
           c.on_packet-step.ensures.size c.on_packet-step.ensures.places c.drop_front.new.self
-          c.drop_front.ensures c.jobs_full-full.result full served place peer few g.R.Recorder.facts
-          g.R.Recorder.whole c.args.rec.now c.on_packet-step.new.rec g.V.Service.answer
+          c.drop_front.ensures c.jobs_full-full.result full served place peer few g.R.Recorder.log c.args.rec.now c.on_packet-step.new.rec g.V.Service.answer
           (g.V.Service.stands c.args.service.now) (g.V.Service.stands c.on_packet-step.new.service)
           c.in-Again.reply p p.reply.0 p.reply.1,
       c.self.invariant.1,
@@ -159,8 +156,7 @@ returns-in-Again-clause-serves g c =
     c.self.invariant.0 c.args.head.now c.in-Some.front.now front here g.V.Service.mode_of
     c.args.i c.on_packet-step.new.self c.on_packet-step.ensures.clients
     c.on_packet-step.ensures.size c.on_packet-step.ensures.places c.drop_front.new.self
-    c.drop_front.ensures c.jobs_full-full.result full served place peer few g.R.Recorder.facts
-    g.R.Recorder.whole c.args.rec.now c.on_packet-step.new.rec g.V.Service.answer
+    c.drop_front.ensures c.jobs_full-full.result full served place peer few g.R.Recorder.log c.args.rec.now c.on_packet-step.new.rec g.V.Service.answer
     (g.V.Service.stands c.args.service.now) (g.V.Service.stands c.on_packet-step.new.service)
     c.in-Again.reply p p.reply.0 p.reply.1 (λ was st. subst (λ z. g.V.Service.stands z was) (sym
     c.in-Again.ensures.service) st))
@@ -186,8 +182,7 @@ invariant_of-self-in-Ran g c =
           c.self.invariant.0 c.args.head.now c.in-Some.front.now front here g.V.Service.mode_of
           c.args.i c.on_packet-step.new.self c.on_packet-step.ensures.clients
           c.on_packet-step.ensures.size c.on_packet-step.ensures.places c.drop_front.new.self
-          c.drop_front.ensures c.jobs_full-full.result full served place peer few g.R.Recorder.facts
-          g.R.Recorder.whole c.args.rec.now c.on_packet-step.new.rec g.V.Service.answer
+          c.drop_front.ensures c.jobs_full-full.result full served place peer few g.R.Recorder.log c.args.rec.now c.on_packet-step.new.rec g.V.Service.answer
           (g.V.Service.stands c.args.service.now) (g.V.Service.stands c.on_packet-step.new.service)
           c.in-Ran.reply p p.reply.0 p.reply.1 c.saturating_add-self-inside.result
           c.saturating_add-self-inside.ensures,
@@ -216,8 +211,7 @@ returns-in-Ran-clause-serves g c =
     c.self.invariant.0 c.args.head.now c.in-Some.front.now front here g.V.Service.mode_of
     c.args.i c.on_packet-step.new.self c.on_packet-step.ensures.clients
     c.on_packet-step.ensures.size c.on_packet-step.ensures.places c.drop_front.new.self
-    c.drop_front.ensures c.jobs_full-full.result full served place peer few g.R.Recorder.facts
-    g.R.Recorder.whole c.args.rec.now c.on_packet-step.new.rec g.V.Service.answer
+    c.drop_front.ensures c.jobs_full-full.result full served place peer few g.R.Recorder.log c.args.rec.now c.on_packet-step.new.rec g.V.Service.answer
     (g.V.Service.stands c.args.service.now) (g.V.Service.stands c.on_packet-step.new.service)
     c.in-Ran.reply p p.reply.0 p.reply.1 c.saturating_add-self-inside.result
     c.saturating_add-self-inside.ensures)
@@ -243,8 +237,7 @@ invariant_of-self-in-Dropped g c =
           c.self.invariant.0 c.args.head.now c.in-Some.front.now front here g.V.Service.mode_of
           c.args.i c.on_packet-step.new.self c.on_packet-step.ensures.clients
           c.on_packet-step.ensures.size c.on_packet-step.ensures.places c.drop_front.new.self
-          c.drop_front.ensures c.jobs_full-full.result full served place peer few g.R.Recorder.facts
-          g.R.Recorder.whole c.args.rec.now c.on_packet-step.new.rec g.V.Service.answer
+          c.drop_front.ensures c.jobs_full-full.result full served place peer few g.R.Recorder.log c.args.rec.now c.on_packet-step.new.rec g.V.Service.answer
           (g.V.Service.stands c.args.service.now) (g.V.Service.stands c.on_packet-step.new.service)
           c.in-Dropped.field-0 p c.saturating_add-self-inside-in-Dropped.result
           c.saturating_add-self-inside-in-Dropped.ensures,
@@ -273,8 +266,7 @@ returns-in-Dropped-clause-serves g c =
     c.self.invariant.0 c.args.head.now c.in-Some.front.now front here g.V.Service.mode_of
     c.args.i c.on_packet-step.new.self c.on_packet-step.ensures.clients
     c.on_packet-step.ensures.size c.on_packet-step.ensures.places c.drop_front.new.self
-    c.drop_front.ensures c.jobs_full-full.result full served place peer few g.R.Recorder.facts
-    g.R.Recorder.whole c.args.rec.now c.on_packet-step.new.rec g.V.Service.answer
+    c.drop_front.ensures c.jobs_full-full.result full served place peer few g.R.Recorder.log c.args.rec.now c.on_packet-step.new.rec g.V.Service.answer
     (g.V.Service.stands c.args.service.now) (g.V.Service.stands c.on_packet-step.new.service)
     c.in-Dropped.field-0 p c.saturating_add-self-inside-in-Dropped.result
     c.saturating_add-self-inside-in-Dropped.ensures (λ was st. subst (λ z. g.V.Service.stands z
@@ -301,8 +293,7 @@ invariant_of-self-in-Give g c =
           c.self.invariant.0 c.args.head.now c.in-Some.front.now front here g.V.Service.mode_of
           c.args.i c.on_packet-step.new.self c.on_packet-step.ensures.clients
           c.on_packet-step.ensures.size c.on_packet-step.ensures.places c.drop_front.new.self
-          c.drop_front.ensures c.jobs_full-full.result full served place peer few g.R.Recorder.facts
-          g.R.Recorder.whole c.args.rec.now c.on_packet-step.new.rec g.V.Service.answer
+          c.drop_front.ensures c.jobs_full-full.result full served place peer few g.R.Recorder.log c.args.rec.now c.on_packet-step.new.rec g.V.Service.answer
           (g.V.Service.stands c.args.service.now) (g.V.Service.stands c.on_packet-step.new.service)
           c.in-Give.parcel p c.saturating_add-self-inside-in-Give.result
           c.saturating_add-self-inside-in-Give.ensures (jobs_in c.self.inside.limits.jobs
@@ -337,8 +328,7 @@ returns-in-Give-clause-serves g c =
     c.self.invariant.0 c.args.head.now c.in-Some.front.now front here g.V.Service.mode_of
     c.args.i c.on_packet-step.new.self c.on_packet-step.ensures.clients
     c.on_packet-step.ensures.size c.on_packet-step.ensures.places c.drop_front.new.self
-    c.drop_front.ensures c.jobs_full-full.result full served place peer few g.R.Recorder.facts
-    g.R.Recorder.whole c.args.rec.now c.on_packet-step.new.rec g.V.Service.answer
+    c.drop_front.ensures c.jobs_full-full.result full served place peer few g.R.Recorder.log c.args.rec.now c.on_packet-step.new.rec g.V.Service.answer
     (g.V.Service.stands c.args.service.now) (g.V.Service.stands c.on_packet-step.new.service)
     c.in-Give.parcel p c.saturating_add-self-inside-in-Give.result
     c.saturating_add-self-inside-in-Give.ensures (jobs_in c.self.inside.limits.jobs
@@ -370,8 +360,7 @@ overflow_add-self g c =
     c.self.invariant.0 c.args.head.now c.in-Some.front.now front here g.V.Service.mode_of
     c.args.i c.on_packet-step.new.self c.on_packet-step.ensures.clients
     c.on_packet-step.ensures.size c.on_packet-step.ensures.places c.drop_front.new.self
-    c.drop_front.ensures c.jobs_full-full.result full served place peer few g.R.Recorder.facts
-    g.R.Recorder.whole c.args.rec.now c.on_packet-step.new.rec g.V.Service.answer
+    c.drop_front.ensures c.jobs_full-full.result full served place peer few g.R.Recorder.log c.args.rec.now c.on_packet-step.new.rec g.V.Service.answer
     (g.V.Service.stands c.args.service.now) (g.V.Service.stands c.on_packet-step.new.service)
     c.in-Give.parcel p in
     let room = has-job-room c.self.inside.limits.jobs c.self.inside.given _
@@ -399,8 +388,7 @@ push_back_reserved-requires g c =
     c.self.invariant.0 c.args.head.now c.in-Some.front.now front here g.V.Service.mode_of
     c.args.i c.on_packet-step.new.self c.on_packet-step.ensures.clients
     c.on_packet-step.ensures.size c.on_packet-step.ensures.places c.drop_front.new.self
-    c.drop_front.ensures c.jobs_full-full.result full served place peer few g.R.Recorder.facts
-    g.R.Recorder.whole c.args.rec.now c.on_packet-step.new.rec g.V.Service.answer
+    c.drop_front.ensures c.jobs_full-full.result full served place peer few g.R.Recorder.log c.args.rec.now c.on_packet-step.new.rec g.V.Service.answer
     (g.V.Service.stands c.args.service.now) (g.V.Service.stands c.on_packet-step.new.service)
     c.in-Give.parcel p in
     let room = has-job-room c.self.inside.limits.jobs c.self.inside.given _

@@ -17,7 +17,7 @@ returns-then-not-lives-clause-makes g c =
     c.self.inside.jobs.items)
     c.self.inside.clock c.self.inside.rx c.self.inside.store c.args.session c.args.rate
     c.state-state.result seen
-    (sym c.lives.ensures ∙ c.if-not-lives.true) g.R.Recorder.facts g.R.Recorder.whole c.args.rec.now
+    (sym c.lives.ensures ∙ c.if-not-lives.true) g.R.Recorder.log c.args.rec.now
     c.note.new.self c.note.ensures)
 
 pub set_rate_at-requires : goal.set_rate_at-requires
@@ -63,5 +63,5 @@ returns-clause-makes g c =
     c.self.inside.clock c.self.inside.rx c.self.inside.store c.args.session c.args.rate
     c.state-state.result seen
     (sym c.lives.ensures ∙ c.if-not-lives.false) c.set_rate_at.new.paces.items
-    set g.R.Recorder.facts g.R.Recorder.whole c.args.rec.now c.note-2.new.self
+    set g.R.Recorder.log c.args.rec.now c.note-2.new.self
     c.note-2.ensures)

@@ -3,10 +3,10 @@ use Rattle.endpoint_loop.proofs.node.Node.start_rate.Goals as goal
 
 pub returns-then-rate-eq0-clause-makes : goal.returns-then-rate-eq0-clause-makes
 returns-then-rate-eq0-clause-makes g c =
-    starts-none g.R.Recorder.facts g.R.Recorder.whole c.args.session c.args.rate _ _
+    starts-none g.R.Recorder.log c.args.session c.args.rate _ _
     c.if-rate-eq0.true
 
 pub returns-clause-makes : goal.returns-clause-makes
 returns-clause-makes g c =
-    starts-rated g.R.Recorder.facts g.R.Recorder.whole c.args.session c.args.rate _ _ _ _
+    starts-rated g.R.Recorder.log c.args.session c.args.rate _ _ _ _
     c.if-rate-eq0.false c.requires.live c.set_rate-rated.ensures.makes

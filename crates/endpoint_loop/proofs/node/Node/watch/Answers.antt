@@ -8,8 +8,7 @@ use Rattle.endpoint_loop.proofs.node.Node.watch.Goals as goal
 
 pub sessions-init : goal.sessions-init
 sessions-init g c = (
-  times-none g.R.Recorder.facts g.R.Recorder.whole g.K.Continuation.given g.L.Link.sent
-      (λ l. record { faults = g.L.Link.faults l; busies = g.L.Link.busies l }) (Visits (TimesSession c.self.inside.limits.timeout) 0) _ _ _
+  times-none g.R.Recorder.log g.K.Continuation.given g.L.Link (Visits (TimesSession c.self.inside.limits.timeout) 0) _ _ _
       _ (λ asks. (refl, refl)),
   refl,
   refl,
@@ -25,14 +24,12 @@ sessions-preserved g c =
     let i = c.sessions.invariant in
     let h = c.watch_session-one.ensures in
     let next = rw c.in-Some.is at c.next_caller.ensures in (
-      times-visit g.R.Recorder.facts g.R.Recorder.whole g.K.Continuation.given g.L.Link.sent
-          (λ l. record { faults = g.L.Link.faults l; busies = g.L.Link.busies l }) (record {
-            sent = c.sessions.told.sent + c.watch_session-one.result.sent;
-            failed = c.sessions.told.failed || c.watch_session-one.result.failed;
-          }) (TimesSession c.self.inside.limits.timeout) c.in-Some.i
+      times-visit g.R.Recorder.log g.K.Continuation.given g.L.Link (record {
+        sent = c.sessions.told.sent + c.watch_session-one.result.sent;
+        failed = c.sessions.told.failed || c.watch_session-one.result.failed;
+      }) (TimesSession c.self.inside.limits.timeout) c.in-Some.i
           _ _ _ _ _ _ _ _ _ _ _ _ _ (omega arith) i.2 refl refl
-          (times-up g.R.Recorder.facts g.R.Recorder.whole g.K.Continuation.given g.L.Link.sent
-          (λ l. record { faults = g.L.Link.faults l; busies = g.L.Link.busies l }) c.self.inside.limits.timeout c.sessions.from c.in-Some.i
+          (times-up g.R.Recorder.log g.K.Continuation.given g.L.Link c.self.inside.limits.timeout c.sessions.from c.in-Some.i
           _ _ _ _ _ _ _ _ next.0 next.2 i.0) h.timed,
       h.servers ∙ i.1,
       h.me ∙ i.2,
@@ -49,9 +46,7 @@ returns-clause-timed g c =
     let none = rw c.in_default.is at c.next_caller.ensures in
     let many : c.clients-count.result ≡ length c.args.self.now.lists.clients =
     c.clients-count.ensures.count ∙ ap (λ t. length t.lists.clients) c.self.view_is in
-    all-timed g.R.Recorder.facts g.R.Recorder.whole g.K.Continuation.given g.L.Link.sent
-    (λ l. record { faults = g.L.Link.faults l; busies = g.L.Link.busies l }) c.self.inside.limits.timeout c.clients-count.result _ _ _ _ _ _
+    all-timed g.R.Recorder.log g.K.Continuation.given g.L.Link c.self.inside.limits.timeout c.clients-count.result _ _ _ _ _ _
     _ _ (ap (λ t. t.lists.timeout) c.self.view_is) many
-    (times-up g.R.Recorder.facts g.R.Recorder.whole g.K.Continuation.given g.L.Link.sent
-    (λ l. record { faults = g.L.Link.faults l; busies = g.L.Link.busies l }) c.self.inside.limits.timeout c.sessions.from
+    (times-up g.R.Recorder.log g.K.Continuation.given g.L.Link c.self.inside.limits.timeout c.sessions.from
     c.clients-count.result _ _ _ _ _ _ _ _ i.4 none i.0)

@@ -9,8 +9,7 @@ use Rattle.endpoint_loop.proofs.node.Node.watch.Given as goal
 
 abbrev pub invariant-sessions : goal.invariant-sessions
 invariant-sessions g l =
-    MakesTimes g.R.Recorder.facts g.R.Recorder.whole g.K.Continuation.given g.L.Link.sent
-    (λ l. record { faults = g.L.Link.faults l; busies = g.L.Link.busies l }) (Visits (TimesSession l.timeout) l.from)
+    MakesTimes g.R.Recorder.log g.K.Continuation.given g.L.Link (Visits (TimesSession l.timeout) l.from)
     l.told (timed_of l.initial.self) (timed_of l.self) l.initial.rec l.rec l.initial.k l.k
     l.initial.link l.link
     × (l.self.lists.servers ≡ l.initial.self.lists.servers)

@@ -13,7 +13,7 @@ returns-in-Waits-clause-ended g c =
     (ap (λ t. t.lists.queued) c.self.view_is) (ap (λ t. t.clock) c.self.view_is)
     c.requires.active
     (subst (λ t. NumberedFrom client_no 0 t.lists.clients) c.self.view_is
-    c.self.invariant.0.kept.valid.numbered) g.R.Recorder.facts g.R.Recorder.whole
+    c.self.invariant.0.kept.valid.numbered) g.R.Recorder.log
     g.K.Continuation.given _ _ (rw c.in-Waits.is at c.timer.ensures)
 
 pub returns-in-RollsBack-clause-ended : goal.returns-in-RollsBack-clause-ended
@@ -23,7 +23,7 @@ returns-in-RollsBack-clause-ended g c =
     (ap (λ t. t.lists.queued) c.self.view_is) (ap (λ t. t.clock) c.self.view_is)
     c.requires.active
     (subst (λ t. NumberedFrom client_no 0 t.lists.clients) c.self.view_is
-    c.self.invariant.0.kept.valid.numbered) g.R.Recorder.facts g.R.Recorder.whole
+    c.self.invariant.0.kept.valid.numbered) g.R.Recorder.log
     g.K.Continuation.given _ _ _ _ (rw c.in-RollsBack.is at c.timer.ensures)
     c.roll.ensures.makes
 
@@ -34,7 +34,7 @@ returns-in-Breaks-clause-ended g c =
     (ap (λ t. t.lists.queued) c.self.view_is) (ap (λ t. t.clock) c.self.view_is)
     c.requires.active
     (subst (λ t. NumberedFrom client_no 0 t.lists.clients) c.self.view_is
-    c.self.invariant.0.kept.valid.numbered) g.R.Recorder.facts g.R.Recorder.whole
+    c.self.invariant.0.kept.valid.numbered) g.R.Recorder.log
     g.K.Continuation.given _ _ _ _ _ (rw c.in-Breaks.is at c.timer.ensures)
     c.break_session.ensures.ended
 

@@ -10,7 +10,7 @@ use Rattle.endpoint_loop.proofs.node.Node.watch_calls.Goals as goal
 
 pub calls-init : goal.calls-init
 calls-init g c = (
-  walk-start g.R.Recorder.facts g.R.Recorder.whole g.K.Continuation.given c.args.timeout c.args.i _
+  walk-start g.R.Recorder.log g.K.Continuation.given c.args.timeout c.args.i _
       _ _,
   known-start c.args.i (timed_of c.args.self.now),
   refl,
@@ -25,7 +25,7 @@ calls-smaller g c =
     let order = ascends-calls c.args.i c.self.inside.store.clients c.args.self.now.lists.clients
     (ap (λ t. t.lists.clients) c.self.view_is) c.self.invariant.0.ascends in
     let looks = rw c.in-Some.is at c.watch_next.ensures.looks in
-    fewer-still g.R.Recorder.facts g.R.Recorder.whole g.K.Continuation.given c.args.timeout
+    fewer-still g.R.Recorder.log g.K.Continuation.given c.args.timeout
     c.args.i c.calls.after (timed_of c.args.self.now) (timed_of c.calls.self)
     c.args.rec.now c.calls.rec c.args.k.now c.calls.k i.0 i.1 order
     c.watch_next.ensures.order i.3 c.in-Some.call
@@ -37,13 +37,13 @@ calls-preserved g c =
     let order = ascends-calls c.args.i c.self.inside.store.clients c.args.self.now.lists.clients
     (ap (λ t. t.lists.clients) c.self.view_is) c.self.invariant.0.ascends in
     let looks = rw c.in-Some.is at c.watch_next.ensures.looks in (
-      walk-more g.R.Recorder.facts g.R.Recorder.whole g.K.Continuation.given c.args.timeout
+      walk-more g.R.Recorder.log g.K.Continuation.given c.args.timeout
           c.args.i c.calls.after (timed_of c.args.self.now) (timed_of c.calls.self)
           c.args.rec.now c.calls.rec c.args.k.now c.calls.k i.0 i.1 order
           c.watch_next.ensures.order i.3 c.in-Some.call
           (timed_of c.watch_next.new.self)
           c.watch_next.new.rec c.watch_next.new.k looks.0 looks.1,
-      known-more g.R.Recorder.facts g.R.Recorder.whole g.K.Continuation.given c.args.timeout
+      known-more g.R.Recorder.log g.K.Continuation.given c.args.timeout
           c.args.i c.calls.after (timed_of c.args.self.now) (timed_of c.calls.self)
           c.args.rec.now c.calls.rec c.args.k.now c.calls.k i.0 i.1 order
           c.watch_next.ensures.order i.3 c.in-Some.call
@@ -59,9 +59,9 @@ pub returns-clause-ended : goal.returns-clause-ended
 returns-clause-ended g c =
     let i = c.calls.invariant in
     let looks = rw c.in_default.is at c.watch_next.ensures.looks in
-    ends-same g.R.Recorder.facts g.R.Recorder.whole g.K.Continuation.given _ _ _ _ _ _ _ _ _ _
+    ends-same g.R.Recorder.log g.K.Continuation.given _ _ _ _ _ _ _ _ _ _
     looks.1 looks.2 looks.3
-    (walk-over g.R.Recorder.facts g.R.Recorder.whole g.K.Continuation.given c.args.timeout c.args.i
+    (walk-over g.R.Recorder.log g.K.Continuation.given c.args.timeout c.args.i
     c.calls.after _ _ _ _ _ _ i.0 looks.0)
 
 pub returns-clause-handed : goal.returns-clause-handed

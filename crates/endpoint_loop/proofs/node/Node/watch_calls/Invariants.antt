@@ -8,7 +8,7 @@ use Rattle.endpoint_loop.proofs.node.Node.watch_calls.Given as goal
 
 abbrev pub invariant-calls : goal.invariant-calls
 invariant-calls g l =
-    MakesEnds g.R.Recorder.facts g.R.Recorder.whole g.K.Continuation.given
+    MakesEnds g.R.Recorder.log g.K.Continuation.given
     (Walked l.timeout l.i l.after) (timed_of l.initial.self) (timed_of l.self) l.initial.rec l.rec l.initial.k l.k
     × Known l.i (timed_of l.initial.self) (timed_of l.self)
     × (l.self.lists.servers ≡ l.initial.self.lists.servers)

@@ -14,8 +14,7 @@ returns-then-i-clients-clause-timed g c =
       c.clients.ensures.count,
       ap (λ t. length t.lists.clients) c.self.view_is,
     ) in
-    times-none g.R.Recorder.facts g.R.Recorder.whole g.K.Continuation.given g.L.Link.sent
-    (λ l. record { faults = g.L.Link.faults l; busies = g.L.Link.busies l }) (TimesSession c.args.timeout c.args.i) _ _ _ _
+    times-none g.R.Recorder.log g.K.Continuation.given g.L.Link (TimesSession c.args.timeout c.args.i) _ _ _ _
     (λ asks. session-none c.args.timeout c.args.i _ past)
 
 pub returns-then-i-clients-clause-handed : goal.returns-then-i-clients-clause-handed
@@ -23,8 +22,7 @@ returns-then-i-clients-clause-handed g c = gives-none g.K.Continuation.given _ _
 
 pub returns-clause-timed : goal.returns-clause-timed
 returns-clause-timed g c =
-    session-times g.R.Recorder.facts g.R.Recorder.whole g.K.Continuation.given g.L.Link.sent
-    (λ l. record { faults = g.L.Link.faults l; busies = g.L.Link.busies l }) c.args.timeout c.args.i _ _ _ _ _ _ _ _ _ _
+    session-times g.R.Recorder.log g.K.Continuation.given g.L.Link c.args.timeout c.args.i _ _ _ _ _ _ _ _ _ _
     c.retry-went.ensures.me c.retry-went.ensures.spoken c.watch_calls.ensures.ended
 
 pub returns-clause-handed : goal.returns-clause-handed

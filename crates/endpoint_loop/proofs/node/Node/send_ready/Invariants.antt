@@ -3,11 +3,11 @@ use Rattle.endpoint_loop.specs.Noting.{MakesSent}
 use Rattle.rpc_laws.specs.PollOrder.{SendsSome}
 use Rattle.rpc_outside.specs.Linking.{NoneComes}
 use Rattle.endpoint_loop.specs.Handing.{timed_of}
-use Rattle.endpoint_loop.proofs.node.Node.send_all.Given as goal
+use Rattle.endpoint_loop.proofs.node.Node.send_ready.Given as goal
 
 abbrev pub invariant-packets : goal.invariant-packets
 invariant-packets g l =
-    MakesSent g.R.Recorder.facts g.R.Recorder.whole g.L.Link.sent SendsSome (timed_of l.initial.self) (timed_of l.self)
+    MakesSent g.R.Recorder.log g.L.Link.sent SendsSome (timed_of l.initial.self) (timed_of l.self)
     l.initial.rec l.rec l.initial.link l.link
     × (g.L.Link.busies l.link ≡ g.L.Link.busies l.initial.link)
     × (g.L.Link.faults l.link ≡ g.L.Link.faults l.initial.link)
