@@ -1,7 +1,8 @@
 -- Calls are asked, one after another.
-use Rattle.std.proofs.Common.{◌≡◌, ◌⊎◌, inl, inr, ℕ, suc, ◌+◌, ◌<◌, ◌≤◌, Bool, false, Option, Some, None}
+use Rattle.std.proofs.Common.{◌≡◌, ◌⊎◌, inl, inr, ℕ, suc, ◌+◌, ◌<◌, ◌≤◌, false, Option, Some, None}
 use Rattle.std.proofs.Common.{List, [], ◌++◌, ltb, le-ltb, refl, sym, ◌∙◌, arith}
 use Rattle.std.specs.Prelude.{Err}
+use Rattle.rpc_outside.specs.Recording.{Log}
 use Rattle.endpoint_loop.specs.Asking.{IsAskedAs, refusal_of}
 use Rattle.endpoint_loop.specs.declared.asking.AskError.{AskError}
 use Rattle.endpoint_loop.specs.declared.asking.AskError.TheVariants.{NoMemory}
@@ -22,28 +23,28 @@ use Rattle.rpc_laws.specs.Steps.{Rel, Visits}
 use Rattle.server_core.proofs.FlushLemmas.{grew-none}
 
 -- calls were asked so far
-pub record AsksSome {R : Type 0} (facts : R → Option (List Fact)) (whole : R → Bool)
+pub record AsksSome {R : Type 0} (log : R → Log)
     (old new : LoadsSoFar) (before now : R) : Type 0 where
   pub many : ℕ
   pub asked : new.asked ≡ old.asked + many
-  pub asks : Makes facts whole (AsksCalls old.session old.ledger.plan old.asked many)
+  pub asks : Makes log (AsksCalls old.session old.ledger.plan old.asked many)
       old.endpoint.timed new.endpoint.timed before now
   pub keeps : Keeps old new
-  pub passes : Passes facts whole old.endpoint new.endpoint before now old.ledger.plan old.session
+  pub passes : Passes log old.endpoint new.endpoint before now old.ledger.plan old.session
       old.asked new.asked
 
-module _ {R : Type 0} (facts : R → Option (List Fact)) (whole : R → Bool) where
-  pub asks-none : (a : LoadsSoFar) (f : R) → AsksSome facts whole a a f f
+module _ {R : Type 0} (log : R → Log) where
+  pub asks-none : (a : LoadsSoFar) (f : R) → AsksSome log a a f f
   asks-none a f = record {
     many = 0;
     asked = omega arith;
     asks = record {
       noted = [];
-      grew = grew-none facts whole f;
+      grew = grew-none log f;
       step = λ asks. (refl, refl);
     };
     keeps = record { session = refl; ledger = refl; turns = refl; made = refl };
-    passes = passes-none facts whole a.endpoint a.endpoint f f a.ledger.plan a.session a.asked refl
+    passes = passes-none log a.endpoint a.endpoint f f a.ledger.plan a.session a.asked refl
         refl;
   }
 
@@ -62,26 +63,26 @@ module _ {R : Type 0} (facts : R → Option (List Fact)) (whole : R → Bool) wh
   abbrev One : (c : Calls) → (session first n : ℕ) → Rel
   One c session first n = AsksNext session c (first + n)
 
-  pub asks-more : (a b c : LoadsSoFar) (f g h : R) → AsksSome facts whole a b f g
-      → Makes facts whole (Asks b.session b.ledger.plan.req_type (asked_bytes b.ledger.plan b.asked)
+  pub asks-more : (a b c : LoadsSoFar) (f g h : R) → AsksSome log a b f g
+      → Makes log (Asks b.session b.ledger.plan.req_type (asked_bytes b.ledger.plan b.asked)
       (room_of b.ledger.plan)) b.endpoint.timed c.endpoint.timed g h
-      → pending_in b < 64 → Keeps b c → c.asked ≡ b.asked + 1 → Passes facts whole b.endpoint
+      → pending_in b < 64 → Keeps b c → c.asked ≡ b.asked + 1 → Passes log b.endpoint
       c.endpoint g h b.ledger.plan b.session b.asked c.asked
-      → AsksSome facts whole a c f h
+      → AsksSome log a c f h
   asks-more a b c f g h some one few keeps counted passes =
-      let next : Makes facts whole (AsksNext b.session b.ledger.plan b.asked) b.endpoint.timed
+      let next : Makes log (AsksNext b.session b.ledger.plan b.asked) b.endpoint.timed
       c.endpoint.timed g h =
-      makes-as facts whole (Asks b.session b.ledger.plan.req_type
+      makes-as log (Asks b.session b.ledger.plan.req_type
       (asked_bytes b.ledger.plan b.asked) (room_of b.ledger.plan))
       (AsksNext b.session b.ledger.plan b.asked) b.endpoint.timed c.endpoint.timed g h
       (λ asks x p. record { few = few; asks = p }) one in
-      let same : Makes facts whole (One a.ledger.plan a.session a.asked some.many) b.endpoint.timed
+      let same : Makes log (One a.ledger.plan a.session a.asked some.many) b.endpoint.timed
       c.endpoint.timed g h =
       rw (← some.asked, ← some.keeps.session, ← some.keeps.ledger) next in
       record {
         many = suc some.many;
         asked = let so = some.asked in omega arith;
-        asks = makes-join facts whole (AsksCalls a.session a.ledger.plan a.asked some.many)
+        asks = makes-join log (AsksCalls a.session a.ledger.plan a.asked some.many)
             (One a.ledger.plan a.session a.asked some.many)
             (AsksCalls a.session a.ledger.plan a.asked (suc some.many)) a.endpoint.timed
             b.endpoint.timed c.endpoint.timed f g h
@@ -94,7 +95,7 @@ module _ {R : Type 0} (facts : R → Option (List Fact)) (whole : R → Bool) wh
           turns = keeps.turns ∙ some.keeps.turns;
           made = keeps.made ∙ some.keeps.made;
         };
-        passes = passes-then facts whole a.endpoint b.endpoint c.endpoint f g h a.ledger.plan
+        passes = passes-then log a.endpoint b.endpoint c.endpoint f g h a.ledger.plan
             a.session a.asked b.asked c.asked some.passes
             (rw (← some.keeps.session, ← some.keeps.ledger) passes);
       }

@@ -1,16 +1,16 @@
 -- How the turns of a run end.
-use Rattle.std.proofs.Common.{◌≡◌, ◌≢◌, ◌⊎◌, ℕ, ◌+◌, ◌-◌, ◌<◌, Bool, true, false, cond, Option}
+use Rattle.std.proofs.Common.{◌≡◌, ◌≢◌, ◌⊎◌, ℕ, ◌+◌, ◌-◌, ◌<◌, Bool, true, false, cond}
 use Rattle.std.proofs.Common.{List, refl, sym, subst, ◌∙◌, inl, inr, arith}
 use Rattle.std.specs.Prelude.{◌==◌}
 use Rattle.std.proofs.lemmas.Bool.{eq-eqb}
-use Rattle.endpoint_loop.specs.Polling.{LinkTells}
+use Rattle.rpc_outside.specs.Recording.{Log}
 use Rattle.load_run.specs.Loading.{Answers, LoadsOn, LoadsSoFar, TurnsEnd, UnlessFailed}
 use Rattle.load_run.specs.Loading.{going_at, is_clean, is_over, state_in}
 use Rattle.load_run.proofs.TurnLemmas.{loads-none, loads-then}
 use Rattle.plain_turns.proofs.RunLemmas.{goes-none, goes-then}
 use Rattle.plain_turns.specs.PlainTurns.{GoesOnBy}
-use Rattle.rpc_base.specs.declared.fact.Fact.{Fact}
 use Rattle.rpc_outside.specs.Faults.{HasRisen}
+use Rattle.rpc_outside.specs.declared.link.Link as Link
 use Rattle.run_status.specs.declared.going.Going.{Going}
 use Rattle.run_status.specs.declared.going.Going.TheVariants.{On, Over}
 use Rattle.run_status.specs.declared.status.Status.{Status}
@@ -63,31 +63,31 @@ answers-on before now s (inr h) = (h.0, by h.1)
     by (inl never) = cc
     by (inr e) = sym e
 
-module _ {R L C : Type 0} (facts : R → Option (List Fact)) (whole : R → Bool)
-    (gave : C → List ℕ → Type 0) (tells : L → LinkTells) (link via then_link : L)
+module _ {R L C : Type 0} (log : R → Log)
+    (gave : C → List ℕ → Type 0) (net : Link.Ghosts L) (link via then_link : L)
     (clock mid then_clock : C) (a b c : LoadsSoFar) (f g h : R) (many : ℕ)
-    (on : LoadsOn facts whole gave (tells link).sent (tells via).sent clock mid a b f g many)
-    (quiet : (tells via).troubles.faults ≡ (tells link).troubles.faults) where
+    (on : LoadsOn log gave (net.sent link) (net.sent via) clock mid a b f g many)
+    (quiet : net.faults via ≡ net.faults link) where
   abbrev Ends : Status → Type 0
-  Ends told = TurnsEnd told facts whole gave tells link then_link clock then_clock a c f h
+  Ends told = TurnsEnd told log gave net link then_link clock then_clock a c f h
 
   abbrev Turn : Type 0
-  Turn = LoadsOn facts whole gave (tells via).sent (tells then_link).sent mid then_clock b c g h 1
+  Turn = LoadsOn log gave (net.sent via) (net.sent then_link) mid then_clock b c g h 1
 
   further : Turn
-      → LoadsOn facts whole gave (tells link).sent (tells then_link).sent clock then_clock a c f h
+      → LoadsOn log gave (net.sent link) (net.sent then_link) clock then_clock a c f h
       (many + 1)
-  further turn = loads-then facts whole gave (tells link).sent (tells via).sent
-      (tells then_link).sent
+  further turn = loads-then log gave (net.sent link) (net.sent via)
+      (net.sent then_link)
       clock mid then_clock a b c f g h many 1 on turn
 
-  rises : HasRisen (tells via).troubles.faults (tells then_link).troubles.faults
-      → HasRisen (tells link).troubles.faults (tells then_link).troubles.faults
-  rises h = subst (λ n. HasRisen n (tells then_link).troubles.faults) quiet h
+  rises : HasRisen (net.faults via) (net.faults then_link)
+      → HasRisen (net.faults link) (net.faults then_link)
+  rises h = subst (λ n. HasRisen n (net.faults then_link)) quiet h
 
   -- a turn with which the run is over
   pub ends-with : (told : Status)
-      → Answers (tells via).troubles.faults (tells then_link).troubles.faults c (Over told)
+      → Answers (net.faults via) (net.faults then_link) c (Over told)
       → UnlessFailed (Over told) Turn → Ends told
   ends-with LinkFault (inl h) turn = rises h.1
   ends-with LinkFault (inr (same, inl e)) turn = cc
@@ -108,39 +108,39 @@ module _ {R L C : Type 0} (facts : R → Option (List Fact)) (whole : R → Bool
   ends-with told (inr (same, inr e)) turn = absurd (end-known c told (sym e))
 
 -- turns were made, and more are left
-pub record GoesSome {R L C : Type 0} (facts : R → Option (List Fact)) (whole : R → Bool)
-    (gave : C → List ℕ → Type 0) (tells : L → LinkTells) (link via : L) (clock mid : C)
+pub record GoesSome {R L C : Type 0} (log : R → Log)
+    (gave : C → List ℕ → Type 0) (net : Link.Ghosts L) (link via : L) (clock mid : C)
     (a b : LoadsSoFar) (f g : R) : Type 0 where
   pub left : b.made < b.turns
   pub many : ℕ
-  pub on : LoadsOn facts whole gave (tells link).sent (tells via).sent clock mid a b f g many
-  pub quiet : (tells via).troubles.faults ≡ (tells link).troubles.faults
-  pub goes : GoesOnBy facts whole a.endpoint b.endpoint f g
+  pub on : LoadsOn log gave (net.sent link) (net.sent via) clock mid a b f g many
+  pub quiet : net.faults via ≡ net.faults link
+  pub goes : GoesOnBy log a.endpoint b.endpoint f g
 
-module _ {R L C : Type 0} (facts : R → Option (List Fact)) (whole : R → Bool)
-    (gave : C → List ℕ → Type 0) (tells : L → LinkTells) where
+module _ {R L C : Type 0} (log : R → Log)
+    (gave : C → List ℕ → Type 0) (net : Link.Ghosts L) where
   pub some-none : (link : L) (clock : C) (a : LoadsSoFar) (f : R) → a.made < a.turns
-      → GoesSome facts whole gave tells link link clock clock a a f f
+      → GoesSome log gave net link link clock clock a a f f
   some-none link clock a f left = record {
     left = left;
     many = 0;
-    on = loads-none facts whole gave (tells link).sent clock a f;
+    on = loads-none log gave (net.sent link) clock a f;
     quiet = refl;
-    goes = goes-none facts whole a.endpoint f;
+    goes = goes-none log a.endpoint f;
   }
 
   module _ (link via then_link : L) (clock mid then_clock : C) (a b c : LoadsSoFar) (f g h : R)
-      (some : GoesSome facts whole gave tells link via clock mid a b f g)
-      (goes : GoesOnBy facts whole b.endpoint c.endpoint g h) where
+      (some : GoesSome log gave net link via clock mid a b f g)
+      (goes : GoesOnBy log b.endpoint c.endpoint g h) where
     pub some-more : (going : Going) → going ≡ On
-        → Answers (tells via).troubles.faults (tells then_link).troubles.faults c going
+        → Answers (net.faults via) (net.faults then_link) c going
         → UnlessFailed going
-        (LoadsOn facts whole gave (tells via).sent (tells then_link).sent mid then_clock b c g h 1)
-        → GoesSome facts whole gave tells link then_link clock then_clock a c f h
+        (LoadsOn log gave (net.sent via) (net.sent then_link) mid then_clock b c g h 1)
+        → GoesSome log gave net link then_link clock then_clock a c f h
     some-more (Over told) e answers turn = cc
     some-more On e answers turn =
         let so =
-        answers-on (tells via).troubles.faults (tells then_link).troubles.faults c answers in
+        answers-on (net.faults via) (net.faults then_link) c answers in
         let free = on-left c so.1 in
         let left = some.left in
         let made = turn.made in
@@ -148,15 +148,15 @@ module _ {R L C : Type 0} (facts : R → Option (List Fact)) (whole : R → Bool
         record {
           left = omega (arith, free, left, made, turns);
           many = some.many + 1;
-          on = loads-then facts whole gave (tells link).sent (tells via).sent (tells then_link).sent
+          on = loads-then log gave (net.sent link) (net.sent via) (net.sent then_link)
               clock mid then_clock a b c f g h some.many 1 some.on turn;
           quiet = so.0 ∙ some.quiet;
-          goes = goes-then facts whole a.endpoint b.endpoint c.endpoint f g h some.goes goes;
+          goes = goes-then log a.endpoint b.endpoint c.endpoint f g h some.goes goes;
         }
 
     pub some-fewer : (going : Going) → going ≡ On
         → UnlessFailed going
-        (LoadsOn facts whole gave (tells via).sent (tells then_link).sent mid then_clock b c g h 1)
+        (LoadsOn log gave (net.sent via) (net.sent then_link) mid then_clock b c g h 1)
         → c.turns - c.made < b.turns - b.made
     some-fewer (Over told) e turn = cc
     some-fewer On e turn =
@@ -166,14 +166,14 @@ module _ {R L C : Type 0} (facts : R → Option (List Fact)) (whole : R → Bool
         omega (arith, left, made, turns)
 
     pub some-ends : (told : Status)
-        → Answers (tells via).troubles.faults (tells then_link).troubles.faults c (Over told)
+        → Answers (net.faults via) (net.faults then_link) c (Over told)
         → UnlessFailed (Over told)
-        (LoadsOn facts whole gave (tells via).sent (tells then_link).sent mid then_clock b c g h 1)
-        → TurnsEnd told facts whole gave tells link then_link clock then_clock a c f h
+        (LoadsOn log gave (net.sent via) (net.sent then_link) mid then_clock b c g h 1)
+        → TurnsEnd told log gave net link then_link clock then_clock a c f h
     some-ends told answers turn =
-        ends-with facts whole gave tells link via then_link clock mid then_clock a b c f g h
+        ends-with log gave net link via then_link clock mid then_clock a b c f g h
         some.many some.on some.quiet told answers turn
 
-    pub some-goes : GoesOnBy facts whole a.endpoint c.endpoint f h
+    pub some-goes : GoesOnBy log a.endpoint c.endpoint f h
     some-goes =
-        goes-then facts whole a.endpoint b.endpoint c.endpoint f g h some.goes goes
+        goes-then log a.endpoint b.endpoint c.endpoint f g h some.goes goes

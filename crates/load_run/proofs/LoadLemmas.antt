@@ -1,11 +1,12 @@
 -- What `load` did, from its start to its end.
-use Rattle.std.proofs.Common.{◌≡◌, ◌≢◌, ◌⊎◌, inl, inr, ℕ, Bool, Option, List, [], ◌∷◌, ◌++◌, refl}
+use Rattle.std.proofs.Common.{◌≡◌, ◌≢◌, ◌⊎◌, inl, inr, ℕ, List, [], ◌∷◌, ◌++◌, refl}
 use Rattle.std.proofs.Common.{sym, ap, subst}
 use Rattle.std.proofs.Common.{◌∙◌, arith}
 use Rattle.std.specs.Prelude.{option_map}
+use Rattle.rpc_outside.specs.Writing.{Written}
+use Rattle.rpc_outside.specs.Recording.{Log}
 use Rattle.command_line.specs.Words.{LoadWords}
 use Rattle.endpoint_loop.specs.Noting.{is_asked, sent_of}
-use Rattle.endpoint_loop.specs.Polling.{LinkTells}
 use Rattle.endpoint_loop.proofs.NotingLemmas.{sent-append}
 use Rattle.endpoint_loop.proofs.TurnLemmas.{many-append}
 use Rattle.load_plan.specs.Calls.{Calls}
@@ -21,23 +22,24 @@ use Rattle.rpc_base.specs.declared.event.Event.TheVariants.{Opened}
 use Rattle.rpc_base.specs.declared.fact.Fact.{Fact}
 use Rattle.rpc_laws.specs.Facts.{plain}
 use Rattle.rpc_outside.specs.Faults.{HasRisen}
+use Rattle.rpc_outside.specs.declared.link.Link as Link
 use Rattle.run_status.specs.declared.going.Going.TheVariants.{On, Over}
 use Rattle.run_status.specs.declared.status.Status.{Status}
 use Rattle.run_status.specs.declared.status.Status.TheVariants.{LinkFault, NoMemory}
 use Rattle.server_core.proofs.FlushLemmas.{grew-then}
 
-module _ {R L C : Type 0} (facts : R → Option (List Fact)) (whole : R → Bool)
-    (gave : C → List ℕ → Type 0) (tells : L → LinkTells) (words : LoadWords)
+module _ {R L C : Type 0} (log : R → Log)
+    (gave : C → List ℕ → Type 0) (net : Link.Ghosts L) (words : LoadWords)
     (link via then_link : L) (clock then_clock : C) (before mid later : R) (start run : LoadsSoFar)
-    (starts : StartsAs facts whole words before mid start)
-    (sent : (tells via).sent ≡ (tells link).sent)
-    (quiet : (tells via).troubles.faults ≡ (tells link).troubles.faults) where
+    (starts : StartsAs log words before mid start)
+    (sent : net.sent via ≡ net.sent link)
+    (quiet : net.faults via ≡ net.faults link) where
   -- turns were made since the start
   ran : (told : Status) (many : ℕ) → going_at run ≡ Over told
-      → (tells then_link).troubles.faults ≡ (tells via).troubles.faults
-      → LoadsOn facts whole gave (tells via).sent (tells then_link).sent clock then_clock start run
+      → net.faults then_link ≡ net.faults via
+      → LoadsOn log gave (net.sent via) (net.sent then_link) clock then_clock start run
       mid later many
-      → HasRun facts whole gave tells words link then_link clock then_clock before later run
+      → HasRun log gave net words link then_link clock then_clock before later run
   ran told many e still on =
       let counts = on.counts starts.noted starts.stands in
       let first : Tallies start.ledger.plan start.ledger.tally [] =
@@ -51,12 +53,12 @@ module _ {R L C : Type 0} (facts : R → Option (List Fact)) (whole : R → Bool
         turns = on.turns ∙ starts.turns;
         turned = record {
           noted = starts.noted ++ on.runs.goes.noted;
-          grew = grew-then facts whole before mid later starts.noted on.runs.goes.noted starts.grew
+          grew = grew-then log before mid later starts.noted on.runs.goes.noted starts.grew
               on.runs.goes.grew;
           stands = on.runs.goes.goes_on starts.noted starts.stands;
           sends = on.runs.sends starts.noted starts.stands
               ∙ ap (option_map (λ ds. ds ++ sent_of on.runs.goes.noted)) sent
-              ∙ ap (λ x. option_map (λ ds. ds ++ x) (tells link).sent)
+              ∙ ap (λ x. option_map (λ ds. ds ++ x) (net.sent link))
               (sym (sent-append starts.noted on.runs.goes.noted
               ∙ ap (λ x. x ++ sent_of on.runs.goes.noted) starts.sends));
           times = on.runs.times;
@@ -89,45 +91,43 @@ module _ {R L C : Type 0} (facts : R → Option (List Fact)) (whole : R → Bool
       }
 
   pub has-run : (told : Status) → told ≢ NoMemory → told ≢ LinkFault
-      → TurnsEnd told facts whole gave tells via then_link clock then_clock start run mid later
-      → HasRun facts whole gave tells words link then_link clock then_clock before later run
+      → TurnsEnd told log gave net via then_link clock then_clock start run mid later
+      → HasRun log gave net words link then_link clock then_clock before later run
   has-run NoMemory kept held ends = absurd (kept refl)
   has-run LinkFault kept held ends = absurd (held refl)
   has-run told kept held ends = ran told ends.2 ends.0 ends.1 ends.3
 
 -- and its line was written
-pub loads-printed : {R L C : Type 0} (facts : R → Option (List Fact)) (whole : R → Bool)
-    (gave : C → List ℕ → Type 0) (tells : L → LinkTells) (words : LoadWords) (link then_link : L)
-    (clock then_clock : C) (before later : R) (old new : Option (List ℕ)) (read again : ℕ)
+pub loads-printed : {R L C : Type 0} (log : R → Log)
+    (gave : C → List ℕ → Type 0) (net : Link.Ghosts L) (words : LoadWords) (link then_link : L)
+    (clock then_clock : C) (before later : R) (old new : Written)
     (run : LoadsSoFar)
-    → HasRun facts whole gave tells words link then_link clock then_clock before later run
-    → (told : Status) → Prints run told old new read again
-    → Loads told facts whole gave tells words link then_link clock then_clock before later old new
-    read again
-loads-printed facts whole gave tells words link then_link clock then_clock before later old new read
-    again run has LinkFault prints = absurd (end-known run LinkFault prints.0)
-loads-printed facts whole gave tells words link then_link clock then_clock before later old new read
-    again run has NoMemory prints = absurd (end-known run NoMemory prints.0)
-loads-printed facts whole gave tells words link then_link clock then_clock before later old new read
-    again run has told prints = (run, has, prints)
+    → HasRun log gave net words link then_link clock then_clock before later run
+    → (told : Status) → Prints run told old new
+    → Loads told log gave net words link then_link clock then_clock before later old new
+loads-printed log gave net words link then_link clock then_clock before later old new
+    run has LinkFault prints = absurd (end-known run LinkFault prints.0)
+loads-printed log gave net words link then_link clock then_clock before later old new
+    run has NoMemory prints = absurd (end-known run NoMemory prints.0)
+loads-printed log gave net words link then_link clock then_clock before later old new
+    run has told prints = (run, has, prints)
 
 -- the link failed, or there was no memory, and nothing was written
-pub loads-stopped : {R L C : Type 0} (facts : R → Option (List Fact)) (whole : R → Bool)
-    (gave : C → List ℕ → Type 0) (tells : L → LinkTells) (words : LoadWords)
-    (link via then_link : L) (clock then_clock : C) (before mid later : R) (out : Option (List ℕ))
-    (read : ℕ) (start run : LoadsSoFar)
-    → (tells via).troubles.faults ≡ (tells link).troubles.faults
+pub loads-stopped : {R L C : Type 0} (log : R → Log)
+    (gave : C → List ℕ → Type 0) (net : Link.Ghosts L) (words : LoadWords)
+    (link via then_link : L) (clock then_clock : C) (before mid later : R) (out : Written)
+    (start run : LoadsSoFar)
+    → net.faults via ≡ net.faults link
     → (told : Status) → (told ≡ LinkFault) ⊎ (told ≡ NoMemory)
-    → TurnsEnd told facts whole gave tells via then_link clock then_clock start run mid later
-    → NotesRun facts whole before later
-    → Loads told facts whole gave tells words link then_link clock then_clock before later out out
-    read read
-loads-stopped facts whole gave tells words link via then_link clock then_clock before mid later out
-    read start run quiet LinkFault which ends notes =
-    (subst (λ n. HasRisen n (tells then_link).troubles.faults) quiet ends, notes, refl, refl)
-loads-stopped facts whole gave tells words link via then_link clock then_clock before mid later out
-    read start run quiet NoMemory which ends notes = (ends ∙ quiet, notes, refl, refl)
-loads-stopped facts whole gave tells words link via then_link clock then_clock before mid later out
-    read start run quiet told (inl e) ends notes = cc
-loads-stopped facts whole gave tells words link via then_link clock then_clock before mid later out
-    read start run quiet told (inr e) ends notes = cc
+    → TurnsEnd told log gave net via then_link clock then_clock start run mid later
+    → NotesRun log before later
+    → Loads told log gave net words link then_link clock then_clock before later out out
+loads-stopped log gave net words link via then_link clock then_clock before mid later out
+    start run quiet LinkFault which ends notes =
+    (subst (λ n. HasRisen n (net.faults then_link)) quiet ends, notes, refl)
+loads-stopped log gave net words link via then_link clock then_clock before mid later out
+    start run quiet NoMemory which ends notes = (ends ∙ quiet, notes, refl)
+loads-stopped log gave net words link via then_link clock then_clock before mid later out
+    start run quiet told (inl e) ends notes = cc
+loads-stopped log gave net words link via then_link clock then_clock before mid later out
+    start run quiet told (inr e) ends notes = cc

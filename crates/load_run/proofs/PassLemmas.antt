@@ -1,10 +1,13 @@
 -- Calls of an application: they send nothing, end no call and ask one at most, and an endpoint goes
 -- on by them.
-use Rattle.std.proofs.Common.{◌≡◌, ℕ, Bool, true, false, cond, ltb, Option, Some, None, List, []}
+use Rattle.std.proofs.Common.{◌≡◌, ℕ, Bool, true, false, cond, ltb, Some, None, List, []}
 use Rattle.std.proofs.Common.{◌∷◌, ◌++◌}
 use Rattle.std.specs.Prelude.{◌==◌}
 use Rattle.std.proofs.Common.{◌+◌, ◌≤◌, add-zero, ap, ap₂, le-ltb, arith, length, refl, sym, subst, ◌∙◌}
 use Rattle.std.specs.List.{find}
+use Rattle.endpoint_loop.specs.PlainMembers.{plain_members}
+use Rattle.endpoint_loop.specs.Finishing.{staff_of}
+use Rattle.rpc_outside.specs.Recording.{Log}
 use Rattle.endpoint_loop.specs.Applying.{Leaves}
 use Rattle.endpoint_loop.specs.Noting.{Makes, asked_in, is_asked, is_end_event, sent_by, sent_of}
 use Rattle.endpoint_loop.specs.Running.{asks_of, told}
@@ -40,10 +43,9 @@ use Rattle.rpc_laws.specs.Service.{plain_serving, served_after_all}
 use Rattle.rpc_laws.specs.Sessions.{is_client}
 use Rattle.rpc_laws.specs.Steps.{Rel}
 use Rattle.rpc_outside.specs.PlainAnswer.{background_answer}
-use Rattle.rpc_outside.specs.PlainStands.{PlainStands}
 use Rattle.worker_crew.specs.Crews.{CrewState}
 use Rattle.worker_crew.specs.Dispatching.{jobs_in}
-use Rattle.plain_turns.specs.PlainTurns.{End, Stands, staff_of, usual_limits}
+use Rattle.plain_turns.specs.PlainTurns.{End, Stands, usual_limits, crew_members}
 use Rattle.plain_turns.proofs.RunLemmas.{goes-none, goes-then}
 
 -- a handler ran, a job was worked, a datagram was sent, or a call ended
@@ -86,15 +88,15 @@ none-sent (f ∷ x) all =
 abbrev seen : (a e : End) → Timed
 seen a e = told (jobs_in a.workers.dispatching) e.timed
 
-module _ {R : Type 0} (facts : R → Option (List Fact)) (whole : R → Bool) where
+module _ {R : Type 0} (log : R → Log) where
   -- what a call notes
   unfoldable pub passes-of : (P : Rel) (a b : End) (f g : R) (c : Calls) (session from to : ℕ)
-      → (makes : Makes facts whole P a.timed b.timed f g)
+      → (makes : Makes log P a.timed b.timed f g)
       → ((s : Timed) (x : List Fact) (t : Timed) → P s x t → Group plain_serving.mode s x t)
       → Stills is_loud P → to ≡ from + asked_in makes.noted
       → ((past : List Fact) → Stands past a → from ≡ asked_in past
       → AsksInOrder c session from makes.noted) → Leaves a b
-      → Passes facts whole a b f g c session from to
+      → Passes log a b f g c session from to
   passes-of P a b f g c session from to makes group still asked order leaves = record {
     goes = record {
       noted = makes.noted;
@@ -125,21 +127,21 @@ module _ {R : Type 0} (facts : R → Option (List Fact)) (whole : R → Bool) wh
           let quiet = none-labour makes.noted all in
           let none = still-answers plain_serving (served_after_all plain_serving.mode [] h)
           makes.noted (none-ran makes.noted quiet) in
-          let me = me-more plain_serving PlainStands background_answer staff_of usual_limits h a b
+          let me = me-more plain_members crew_members usual_limits h a b
           makes.noted s.runs changes in
-          let runs = stands-more plain_serving PlainStands background_answer staff_of usual_limits h
+          let runs = stands-more plain_members crew_members usual_limits h
           a b makes.noted s.runs changes (none-worked makes.noted quiet) none.0
           (rw (leaves.service, none.1) s.runs.serves)
           (rw leaves.workers (staffed-still background_answer
-          (asks_of (jobs_in a.workers.dispatching)) (staff_of a.workers) a.timed b.timed leaves.jobs
+          (asks_of (jobs_in a.workers.dispatching)) (staff_of crew_members a.workers) a.timed b.timed leaves.jobs
           s.runs.staffed)) in
           record { node = me ∙ s.node; runs = runs }
 
   pub passes-none : (a b : End) (f g : R) (c : Calls) (session n : ℕ) → b ≡ a → g ≡ f
-      → Passes facts whole a b f g c session n n
+      → Passes log a b f g c session n n
   unfolding goes-none
   passes-none a b f g c session n same still = rw (same, still) (record {
-    goes = goes-none facts whole a f;
+    goes = goes-none log a f;
     asks = sym (add-zero n);
     order = λ past s e. order-none c session n [] refl;
     sends = refl;
@@ -147,11 +149,11 @@ module _ {R : Type 0} (facts : R → Option (List Fact)) (whole : R → Bool) wh
   })
 
   pub passes-then : (a b c : End) (f g h : R) (plan : Calls) (session l m n : ℕ)
-      → Passes facts whole a b f g plan session l m → Passes facts whole b c g h plan session m n
-      → Passes facts whole a c f h plan session l n
+      → Passes log a b f g plan session l m → Passes log b c g h plan session m n
+      → Passes log a c f h plan session l n
   unfolding goes-then
   passes-then a b c f g h plan session l m n p q = record {
-    goes = goes-then facts whole a b c f g h p.goes q.goes;
+    goes = goes-then log a b c f g h p.goes q.goes;
     asks = let one = p.asks in let two = q.asks in
         omega (arith, one, two, many-append is_asked p.goes.noted q.goes.noted);
     order = λ past s e.
@@ -228,23 +230,23 @@ module _ (q : Event → Bool) (numbers : q NconnectNumbers ≡ false)
       (shares s.lists) credits s.lists.room peer rate s.lists)
 
 -- the recorder grew by the opening of a session alone
-pub record Opens {R : Type 0} (facts : R → Option (List Fact)) (whole : R → Bool)
+pub record Opens {R : Type 0} (log : R → Log)
     (peer credits : ℕ) (old new : End) (before now : R) (c : Calls) (session : ℕ) : Type 0 where
-  pub passes : Passes facts whole old new before now c session 0 0
+  pub passes : Passes log old new before now c session 0 0
   pub opens : passes.goes.noted
       ≡ plain new.timed.lists.me (Opened (length old.timed.lists.clients) peer credits) ∷ []
 
-module _ {R : Type 0} (facts : R → Option (List Fact)) (whole : R → Bool) (a b : End) (f g : R)
+module _ {R : Type 0} (log : R → Log) (a b : End) (f g : R)
     (leaves : Leaves a b) (c : Calls) where
   -- call n is asked
   pub asks-pass : (session n req_type : ℕ) (ask : List ℕ) (room : ℕ)
-      → Makes facts whole (Asks session req_type ask room) a.timed b.timed f g
+      → Makes log (Asks session req_type ask room) a.timed b.timed f g
       → length ask ≤ 1048576
       → state_of (find (is_client session) a.timed.lists.clients) ≡ Connected
       → req_type ≡ c.req_type → ask ≡ asked_bytes c n → room ≡ room_of c
-      → Passes facts whole a b f g c session n (n + 1)
+      → Passes log a b f g c session n (n + 1)
   asks-pass session n req_type ask room makes few on own_type own_bytes own_room =
-      passes-of facts whole (Asks session req_type ask room) a b f g c session n (n + 1) makes
+      passes-of log (Asks session req_type ask room) a b f g c session n (n + 1) makes
       (λ s x t h. asks session req_type ask room h) (ask-quiet session req_type ask room)
       (ap (λ k. n + k) (sym (ap asked_in noted))) order leaves
     where
@@ -261,29 +263,29 @@ module _ {R : Type 0} (facts : R → Option (List Fact)) (whole : R → Bool) (a
           noted ∙ rw (s.node, number, own_type, own_bytes, own_room) refl in
           rw same refl
 
-  pub close-passes : (session n : ℕ) → Makes facts whole (Disconnects session) a.timed b.timed f g
-      → Passes facts whole a b f g c session n n
+  pub close-passes : (session n : ℕ) → Makes log (Disconnects session) a.timed b.timed f g
+      → Passes log a b f g c session n n
   close-passes session n makes =
       let none = many-none is_asked makes.noted (close-still is_asked (λ n s. refl) (λ n c. refl)
       (λ n. refl) session (asking no_asks a.timed) makes.noted (asking no_asks b.timed)
       (makes.step no_asks)) in
-      passes-of facts whole (Disconnects session) a b f g c session n n makes
+      passes-of log (Disconnects session) a b f g c session n n makes
       (λ s x t h. disconnects session h)
       (close-still is_loud (λ n s. refl) (λ n c. refl) (λ n. refl) session)
       (omega (arith, none)) (λ past s e. order-none c session n makes.noted none) leaves
 
   -- a session is opened, at no rate
   pub connect-passes : (session peer credits : ℕ) → IsCredits credits
-      → (makes : Makes facts whole (Connects peer credits 0) a.timed b.timed f g)
+      → (makes : Makes log (Connects peer credits 0) a.timed b.timed f g)
       → client_refusal credits a.timed.lists ≡ None
-      → Opens facts whole peer credits a b f g c session
+      → Opens log peer credits a b f g c session
   unfolding passes-of
   connect-passes session peer credits own makes free =
       let none = many-none is_asked makes.noted (connect-still is_asked refl (λ n c r. refl)
       (λ n p c. refl) (λ n r. refl) peer credits 0 (asking no_asks a.timed) makes.noted
       (asking no_asks b.timed) (makes.step no_asks)) in
       record {
-        passes = passes-of facts whole (Connects peer credits 0) a b f g c session 0 0 makes
+        passes = passes-of log (Connects peer credits 0) a b f g c session 0 0 makes
             (λ s x t h. connects peer credits 0 own h)
             (connect-still is_loud refl (λ n c r. refl) (λ n p c. refl) (λ n r. refl) peer credits
             0) (omega (arith, none)) (λ past s e. order-none c session 0 makes.noted none) leaves;

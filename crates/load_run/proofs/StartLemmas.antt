@@ -1,14 +1,14 @@
 -- A session is opened, or there is no memory.
-use Rattle.std.proofs.Common.{◌≡◌, ◌++◌, ℕ, Bool, Option, Some, None, List, [], refl, ap, ◌∙◌}
+use Rattle.std.proofs.Common.{◌≡◌, ◌++◌, ℕ, Some, None, [], refl, ap, ◌∙◌}
 use Rattle.std.proofs.Common.{inl, inr}
 use Rattle.std.specs.Prelude.{Result, Ok, Err}
+use Rattle.rpc_outside.specs.Recording.{Log}
 use Rattle.endpoint_loop.specs.Applying.{IfNoMemory}
 use Rattle.load_run.specs.declared.run.TheConstants.{LOAD_CREDITS}
 use Rattle.load_run.specs.Loading.{LoadsSoFar, NotesRun, StartsAs}
 use Rattle.command_line.specs.Words.{LoadWords}
 use Rattle.plain_turns.specs.PlainTurns.{GoesOnBy, usual_limits}
 use Rattle.rpc_base.specs.declared.event.Event.TheVariants.{NconnectNumbers, NconnectRing}
-use Rattle.rpc_base.specs.declared.fact.Fact.{Fact}
 use Rattle.rpc_laws.specs.declared.tables.Timed.{Timed}
 use Rattle.rpc_laws.specs.Groups.{client_refusal}
 use Rattle.rpc_laws.specs.NodeLists.{new_node}
@@ -41,19 +41,19 @@ unnoted s new (Err other) why e h before now wanting =
     let same : other ≡ why = cc in
     wanting (same ∙ wants-memory s new why h)
 
-module _ {R : Type 0} (facts : R → Option (List Fact)) (whole : R → Bool) where
+module _ {R : Type 0} (log : R → Log) where
   -- nothing was noted
-  pub notes-none : (before later : R) → later ≡ before → NotesRun facts whole before later
+  pub notes-none : (before later : R) → later ≡ before → NotesRun log before later
   notes-none before later same =
-      rw same (record { noted = []; grew = grew-none facts whole before; runs = inl refl })
+      rw same (record { noted = []; grew = grew-none log before; runs = inl refl })
 
   -- what was noted since the start
   pub notes-run : (words : LoadWords) (before mid later : R) (start run : LoadsSoFar)
-      → StartsAs facts whole words before mid start
-      → GoesOnBy facts whole start.endpoint run.endpoint mid later
-      → NotesRun facts whole before later
+      → StartsAs log words before mid start
+      → GoesOnBy log start.endpoint run.endpoint mid later
+      → NotesRun log before later
   notes-run words before mid later start run starts goes = record {
     noted = starts.noted ++ goes.noted;
-    grew = grew-then facts whole before mid later starts.noted goes.noted starts.grew goes.grew;
+    grew = grew-then log before mid later starts.noted goes.noted starts.grew goes.grew;
     runs = inr (run.endpoint, goes.goes_on starts.noted starts.stands);
   }

@@ -4,10 +4,10 @@ use Rattle.std.proofs.Common.{List, [], ◌∷◌, ◌++◌, map, refl, sym, ap,
 use Rattle.std.proofs.Common.{append-nil}
 use Rattle.std.proofs.Common.{add-zero}
 use Rattle.std.specs.Prelude.{option_map, Result, Ok, Err, OnOk, OnErr}
+use Rattle.rpc_outside.specs.Recording.{Log}
 use Rattle.client_core.specs.Shown.{done_fact}
 use Rattle.endpoint_loop.specs.Noting.{asked_in, is_asked, sent_of}
 use Rattle.endpoint_loop.specs.declared.polling.Turn.{Turn}
-use Rattle.endpoint_loop.specs.Polling.{LinkTells}
 use Rattle.endpoint_loop.proofs.NotingLemmas.{sent-append, took-none}
 use Rattle.endpoint_loop.proofs.TurnLemmas.{many-append}
 use Rattle.load_run.specs.declared.ended.Ended.{Ended}
@@ -20,39 +20,39 @@ use Rattle.load_run.proofs.OrderLemmas.{order-none, order-then}
 use Rattle.load_run.proofs.TallyLemmas.{counts-none, counts-noted, counts-silent, counts-then}
 use Rattle.plain_turns.proofs.RunLemmas.{goes-none, goes-then, runs-then}
 use Rattle.plain_turns.specs.PlainTurns.{End, TakesTurn, TellsTurn}
-use Rattle.rpc_base.specs.declared.fact.Fact.{Fact}
 use Rattle.rpc_base.specs.declared.state.SessionState.{SessionState}
 use Rattle.rpc_base.specs.declared.state.SessionState.TheVariants.{Connected}
 use Rattle.rpc_outside.specs.Linking.{Carried}
 use Rattle.rpc_outside.specs.Ticking.{Gives}
+use Rattle.rpc_outside.specs.declared.link.Link as Link
 use Rattle.run_status.specs.declared.going.Going.{Going}
 use Rattle.run_status.specs.declared.going.Going.TheVariants.{On, Over}
 use Rattle.run_status.specs.declared.status.Status.TheVariants.{LinkFault, NoMemory}
 
 -- nothing is prepared where the session isn't Connected
-pub idles : {R : Type 0} (facts : R → Option (List Fact)) (whole : R → Bool) (old new : LoadsSoFar)
+pub idles : {R : Type 0} (log : R → Log) (old new : LoadsSoFar)
     (before now : R) (state : SessionState) → state ≢ Connected → new ≡ old → now ≡ before
-    → PreparesIn state facts whole old new before now
-idles facts whole old new before now Connected other same still = absurd (other refl)
-idles facts whole old new before now _ other same still = (same, still)
+    → PreparesIn state log old new before now
+idles log old new before now Connected other same still = absurd (other refl)
+idles log old new before now _ other same still = (same, still)
 
-module _ {R C : Type 0} (facts : R → Option (List Fact)) (whole : R → Bool)
+module _ {R C : Type 0} (log : R → Log)
     (gave : C → List ℕ → Type 0) where
   -- one turn: it is prepared, and the endpoint makes one
   pub loads-one : (sent then_sent : Option (List Carried)) (clock then_clock : C)
       (old ready new : LoadsSoFar) (f g h : R) (none ended : Ended) (now : ℕ)
-      → Passes facts whole old.endpoint ready.endpoint f g old.ledger.plan old.session old.asked
+      → Passes log old.endpoint ready.endpoint f g old.ledger.plan old.session old.asked
       ready.asked
-      → TellsTurn facts whole KeepsAll sent then_sent ready.endpoint new.endpoint g h none ended
+      → TellsTurn log KeepsAll sent then_sent ready.endpoint new.endpoint g h none ended
       → Gives gave clock then_clock now → KeepsAll none [] → ended.whole ≡ true
       → Counts (map (done_fact 0) ended.dones.items) ready.ledger new.ledger → Keeps old ready
       → new.asked ≡ ready.asked → new.session ≡ ready.session → new.turns ≡ ready.turns → new.made ≡ ready.made + 1
-      → LoadsOn facts whole gave sent then_sent clock then_clock old new f h 1
+      → LoadsOn log gave sent then_sent clock then_clock old new f h 1
   unfolding goes-then
   loads-one sent then_sent clock then_clock old ready new f g h none ended now passes turn tick
       empty kept counts keeps asked session turns made = record {
         runs = record {
-          goes = goes-then facts whole old.endpoint ready.endpoint new.endpoint f g h passes.goes
+          goes = goes-then log old.endpoint ready.endpoint new.endpoint f g h passes.goes
               turn.goes;
           sends = λ past s.
               (turn.told (past ++ passes.goes.noted) (passes.goes.goes_on past s)).sends
@@ -86,11 +86,11 @@ module _ {R C : Type 0} (facts : R → Option (List Fact)) (whole : R → Bool)
       }
 
   pub loads-none : (sent : Option (List Carried)) (clock : C) (run : LoadsSoFar) (f : R)
-      → LoadsOn facts whole gave sent sent clock clock run run f f 0
+      → LoadsOn log gave sent sent clock clock run run f f 0
   unfolding goes-none
   loads-none sent clock run f = record {
     runs = record {
-      goes = goes-none facts whole run.endpoint f;
+      goes = goes-none log run.endpoint f;
       sends = λ past s. took-none sent;
       times = [];
       count = refl;
@@ -106,12 +106,12 @@ module _ {R C : Type 0} (facts : R → Option (List Fact)) (whole : R → Bool)
 
   pub loads-then : (sent mid then_sent : Option (List Carried)) (clock via then_clock : C)
       (a b c : LoadsSoFar) (f g h : R) (n m : ℕ)
-      → LoadsOn facts whole gave sent mid clock via a b f g n
-      → LoadsOn facts whole gave mid then_sent via then_clock b c g h m
-      → LoadsOn facts whole gave sent then_sent clock then_clock a c f h (n + m)
+      → LoadsOn log gave sent mid clock via a b f g n
+      → LoadsOn log gave mid then_sent via then_clock b c g h m
+      → LoadsOn log gave sent then_sent clock then_clock a c f h (n + m)
   unfolding runs-then goes-then
   loads-then sent mid then_sent clock via then_clock a b c f g h n m p q = record {
-    runs = runs-then facts whole gave sent mid then_sent clock via then_clock a.endpoint b.endpoint
+    runs = runs-then log gave sent mid then_sent clock via then_clock a.endpoint b.endpoint
         c.endpoint f g h n m p.runs q.runs;
     asks = λ past s.
         let one = p.asks past s in
@@ -141,20 +141,19 @@ counted-or (Ok x) P whole made lost kept = made
 counted-or (Err e) P whole made lost kept = let no : true ≡ false = sym kept ∙ lost in cc
 
 -- and what is known of it, by the run that was prepared
-module _ {R L C : Type 0} (facts : R → Option (List Fact)) (whole : R → Bool)
-    (received waiting : L → Option (List Carried)) (gave : C → List ℕ → Type 0)
-    (tells : L → LinkTells) (link then_link : L) (clock then_clock : C)
+module _ {R L C : Type 0} (log : R → Log)
+    (net : Link.Ghosts L) (gave : C → List ℕ → Type 0) (link then_link : L) (clock then_clock : C)
     (old ready shown : LoadsSoFar)
     (before mid later : R) (next : End) (counted : Ledger) (none ended : Ended)
     (same : shown ≡ ready) (keeps : Keeps old ready) (empty : KeepsAll none []) where
   abbrev after : LoadsSoFar → LoadsSoFar
   after s = record s { endpoint = next; ledger = counted; made = s.made + 1 }
 
-  pub has-loaded : (told : Option Turn) → Prepares facts whole old ready before mid
-      → TakesTurn facts whole received waiting KeepsAll gave told tells link then_link clock
+  pub has-loaded : (told : Option Turn) → Prepares log old ready before mid
+      → TakesTurn log net KeepsAll gave told link then_link clock
       then_clock shown.endpoint next mid later none ended
       → (ended.whole ≡ true → Counts (map (done_fact 0) ended.dones.items) shown.ledger counted)
-      → HasLoaded facts whole received waiting gave tells link then_link clock then_clock old
+      → HasLoaded log net gave link then_link clock then_clock old
       (after shown) before later
   has-loaded told prepares takes counts = record {
     ready = ready;
@@ -165,8 +164,7 @@ module _ {R L C : Type 0} (facts : R → Option (List Fact)) (whole : R → Bool
     none = none;
     none_over = empty;
     ended = ended;
-    takes = subst (λ (s : LoadsSoFar). TakesTurn facts whole received waiting KeepsAll gave told
-        tells link then_link clock then_clock s.endpoint next mid later none ended) same takes;
+    takes = subst (λ (s : LoadsSoFar). TakesTurn log net KeepsAll gave told link then_link clock then_clock s.endpoint next mid later none ended) same takes;
     counts = λ kept.
         subst (λ (s : LoadsSoFar). Counts (map (done_fact 0) ended.dones.items) s.ledger counted)
         same (counts kept);
@@ -174,22 +172,22 @@ module _ {R L C : Type 0} (facts : R → Option (List Fact)) (whole : R → Bool
   }
 
   pub loads-turn : (now : ℕ)
-      → Passes facts whole old.endpoint ready.endpoint before mid old.ledger.plan old.session
+      → Passes log old.endpoint ready.endpoint before mid old.ledger.plan old.session
       old.asked ready.asked
-      → TellsTurn facts whole KeepsAll (tells link).sent (tells then_link).sent shown.endpoint next
+      → TellsTurn log KeepsAll (net.sent link) (net.sent then_link) shown.endpoint next
       mid later none ended
       → Gives gave clock then_clock now → ended.whole ≡ true
       → Counts (map (done_fact 0) ended.dones.items) shown.ledger counted
-      → LoadsOn facts whole gave (tells link).sent (tells then_link).sent clock then_clock old
+      → LoadsOn log gave (net.sent link) (net.sent then_link) clock then_clock old
       (after shown) before later 1
   loads-turn now passes turn tick kept counts =
-      subst (λ (s : LoadsSoFar). LoadsOn facts whole gave (tells link).sent
-      (tells then_link).sent clock
+      subst (λ (s : LoadsSoFar). LoadsOn log gave (net.sent link)
+      (net.sent then_link) clock
       then_clock old (after s) before later 1) (sym same)
-      (loads-one facts whole gave (tells link).sent (tells then_link).sent clock then_clock old
+      (loads-one log gave (net.sent link) (net.sent then_link) clock then_clock old
       ready (after ready) before mid later none ended now passes
-      (subst (λ (s : LoadsSoFar). TellsTurn facts whole KeepsAll (tells link).sent
-      (tells then_link).sent s.endpoint next mid later none ended) same turn) tick empty kept
+      (subst (λ (s : LoadsSoFar). TellsTurn log KeepsAll (net.sent link)
+      (net.sent then_link) s.endpoint next mid later none ended) same turn) tick empty kept
       (subst (λ (s : LoadsSoFar). Counts (map (done_fact 0) ended.dones.items) s.ledger counted)
       same counts) keeps refl refl refl refl)
 

@@ -8,7 +8,6 @@ use Rattle.count_line.specs.declared.word.Word.TheVariants as word
 use Rattle.count_line.specs.Line.{line_text}
 use Rattle.endpoint_loop.specs.declared.polling.Turn.{Turn}
 use Rattle.endpoint_loop.specs.Noting.{Makes, asked_in, is_asked, is_end, sent_of}
-use Rattle.endpoint_loop.specs.Polling.{LinkTells}
 use Rattle.endpoint_loop.specs.Reading.{pending_told}
 use Rattle.command_line.specs.Words.{LoadWords}
 use Rattle.load_plan.specs.Calls.{Calls, asked_bytes, calls_of, room_of}
@@ -31,8 +30,9 @@ use Rattle.rpc_laws.specs.Sessions.{is_client}
 use Rattle.rpc_laws.specs.Steps.{Rel, Visits}
 use Rattle.rpc_outside.specs.Faults.{HasRisen}
 use Rattle.rpc_outside.specs.Linking.{Carried}
-use Rattle.rpc_outside.specs.Recording.{Grew}
-use Rattle.rpc_outside.specs.Writing.{Broke, Wrote}
+use Rattle.rpc_outside.specs.Recording.{Grew, Log}
+use Rattle.rpc_outside.specs.Writing.{Broke, Wrote, Written}
+use Rattle.rpc_outside.specs.declared.link.Link as Link
 use Rattle.run_status.specs.declared.going.Going.{Going}
 use Rattle.run_status.specs.declared.going.Going.TheVariants.{On, Over}
 use Rattle.run_status.specs.declared.status.Status.{Status}
@@ -93,42 +93,41 @@ AsksCalls session c first n = Visits (λ k. AsksNext session c (first + k)) n
 
 -- calls are asked in their order, while the session is Connected, until 64 are pending or all are
 -- asked
-pub record AsksMany {R : Type 0} (facts : R → Option (List Fact)) (whole : R → Bool)
-    (old new : LoadsSoFar) (before now : R) : Type 0 where
+pub record AsksMany {R : Type 0} (log : R → Log) (old new : LoadsSoFar) (before now : R)
+    : Type 0 where
   pub many : ℕ
   pub asked : new.asked ≡ old.asked + many
-  pub asks : Makes facts whole (AsksCalls old.session old.ledger.plan old.asked many)
+  pub asks : Makes log (AsksCalls old.session old.ledger.plan old.asked many)
       old.endpoint.timed new.endpoint.timed before now
   pub enough : state_in new ≡ Connected → (unasked new ≡ 0) ⊎ (64 ≤ pending_in new)
   pub keeps : Keeps old new
 
 -- its session begins to close where no call is pending, and otherwise nothing happens
-pub record ClosesIdle {R : Type 0} (facts : R → Option (List Fact)) (whole : R → Bool)
-    (old new : LoadsSoFar) (before now : R) : Type 0 where
+pub record ClosesIdle {R : Type 0} (log : R → Log) (old new : LoadsSoFar) (before now : R)
+    : Type 0 where
   pub asked : new.asked ≡ old.asked
   pub closes : pending_in old ≡ 0
-      → Makes facts whole (Disconnects old.session) old.endpoint.timed new.endpoint.timed before now
+      → Makes log (Disconnects old.session) old.endpoint.timed new.endpoint.timed before now
   pub waits : pending_in old ≢ 0 → (new ≡ old) × (now ≡ before)
 
 -- what happens before a turn of the endpoint: nothing where its session isn't Connected, and
 -- otherwise calls are asked, and the session begins to close where none is pending then
-abbrev pub PreparesIn : {R : Type 0} → SessionState → (R → Option (List Fact)) → (R → Bool)
-    → (old new : LoadsSoFar) → (before now : R) → Type 0
-PreparesIn {R} Connected facts whole old new before now =
-    (mid : LoadsSoFar) × (via : R)
-    × AsksMany facts whole old mid before via × ClosesIdle facts whole mid new via now
-PreparesIn _ facts whole old new before now = (new ≡ old) × (now ≡ before)
-
-abbrev pub Prepares : {R : Type 0} → (R → Option (List Fact)) → (R → Bool) → (old new : LoadsSoFar)
+abbrev pub PreparesIn : {R : Type 0} → SessionState → (R → Log) → (old new : LoadsSoFar)
     → (before now : R) → Type 0
-Prepares facts whole old new before now =
-    PreparesIn (state_in old) facts whole old new before now
+PreparesIn {R} Connected log old new before now =
+    (mid : LoadsSoFar) × (via : R)
+    × AsksMany log old mid before via × ClosesIdle log mid new via now
+PreparesIn _ log old new before now = (new ≡ old) × (now ≡ before)
+
+abbrev pub Prepares : {R : Type 0} → (R → Log) → (old new : LoadsSoFar) → (before now : R) → Type 0
+Prepares log old new before now =
+    PreparesIn (state_in old) log old new before now
 
 -- the recorder grew by facts by which its endpoint goes on, that send nothing, end no call, and ask
 -- as many calls as are counted, each in its turn where so many were asked before
-pub record Passes {R : Type 0} (facts : R → Option (List Fact)) (whole : R → Bool) (old new : End)
-    (before now : R) (c : Calls) (session from to : ℕ) : Type 0 where
-  pub goes : GoesOnBy facts whole old new before now
+pub record Passes {R : Type 0} (log : R → Log) (old new : End) (before now : R) (c : Calls)
+    (session from to : ℕ) : Type 0 where
+  pub goes : GoesOnBy log old new before now
   pub asks : to ≡ from + asked_in goes.noted
   pub order : (past : List Fact) → Stands past old → from ≡ asked_in past
       → AsksInOrder c session from goes.noted
@@ -137,19 +136,18 @@ pub record Passes {R : Type 0} (facts : R → Option (List Fact)) (whole : R →
 
 -- a turn was made: it was prepared, and the endpoint made a turn. The calls that were over then
 -- were counted, where there was memory for each
-pub record HasLoaded {R L C : Type 0} (facts : R → Option (List Fact)) (whole : R → Bool)
-    (received waiting : L → Option (List Carried)) (gave : C → List ℕ → Type 0)
-    (tells : L → LinkTells) (link then_link : L) (clock then_clock : C) (old new : LoadsSoFar)
+pub record HasLoaded {R L C : Type 0} (log : R → Log) (net : Link.Ghosts L)
+    (gave : C → List ℕ → Type 0) (link then_link : L) (clock then_clock : C) (old new : LoadsSoFar)
     (before later : R) : Type 0 where
   pub ready : LoadsSoFar
   pub mid : R
-  pub prepares : Prepares facts whole old ready before mid
+  pub prepares : Prepares log old ready before mid
   pub keeps : Keeps old ready
   pub told : Option Turn
   pub none : Ended
   pub none_over : KeepsAll none []
   pub ended : Ended
-  pub takes : TakesTurn facts whole received waiting KeepsAll gave told tells link then_link clock
+  pub takes : TakesTurn log net KeepsAll gave told link then_link clock
       then_clock ready.endpoint new.endpoint mid later none ended
   pub counts : ended.whole ≡ true
       → Counts (map (done_fact 0) ended.dones.items) ready.ledger new.ledger
@@ -158,10 +156,10 @@ pub record HasLoaded {R L C : Type 0} (facts : R → Option (List Fact)) (whole 
 
 -- n turns were made: its endpoint goes on by what was noted, and the calls that were asked and those
 -- that ended among that were counted
-pub record LoadsOn {R C : Type 0} (facts : R → Option (List Fact)) (whole : R → Bool)
-    (gave : C → List ℕ → Type 0) (sent then_sent : Option (List Carried)) (clock then_clock : C)
-    (old new : LoadsSoFar) (before later : R) (n : ℕ) : Type 0 where
-  pub runs : RunsOn facts whole gave sent then_sent clock then_clock old.endpoint new.endpoint
+pub record LoadsOn {R C : Type 0} (log : R → Log) (gave : C → List ℕ → Type 0)
+    (sent then_sent : Option (List Carried)) (clock then_clock : C) (old new : LoadsSoFar)
+    (before later : R) (n : ℕ) : Type 0 where
+  pub runs : RunsOn log gave sent then_sent clock then_clock old.endpoint new.endpoint
       before later n
   pub asks : (past : List Fact) → Stands past old.endpoint
       → new.asked ≡ old.asked + asked_in runs.goes.noted
@@ -221,18 +219,18 @@ calls_line s =
     ∷ record { word = word.Unasked; number = unasked s } ∷ [])
 
 -- the line was written, and its status is told; or a front of the line, where the sink failed
-abbrev pub Prints : LoadsSoFar → Status → Option (List ℕ) → Option (List ℕ) → ℕ → ℕ → Type 0
-Prints s status.WriteFault old new before after = Broke old new before after (calls_line s)
-Prints s told old new before after =
-    (going_at s ≡ Over told) × Wrote old new before after (calls_line s)
+abbrev pub Prints : LoadsSoFar → Status → Written → Written → Type 0
+Prints s status.WriteFault old new = Broke old new (calls_line s)
+Prints s told old new =
+    (going_at s ≡ Over told) × Wrote old new (calls_line s)
 
 -- a session was opened with some peer, and nothing asked yet
-pub record StartsAs {R : Type 0} (facts : R → Option (List Fact)) (whole : R → Bool)
-    (words : LoadWords) (before now : R) (s : LoadsSoFar) : Type 0 where
+pub record StartsAs {R : Type 0} (log : R → Log) (words : LoadWords) (before now : R)
+    (s : LoadsSoFar) : Type 0 where
   pub noted : List Fact
   pub peer : ℕ
   pub opens : noted ≡ plain 0 (Opened s.session peer LOAD_CREDITS) ∷ []
-  pub grew : Grew facts whole before now noted
+  pub grew : Grew (log before) (log now) noted
   pub stands : Stands noted s.endpoint
   pub sends : sent_of noted ≡ []
   pub ends : filter is_end noted ≡ []
@@ -245,63 +243,60 @@ pub record StartsAs {R : Type 0} (facts : R → Option (List Fact)) (whole : R �
 
 -- how the turns of a run end: the link failed; or there was no memory, and it didn't; or the run is
 -- over, and it didn't
-abbrev pub TurnsEnd : {R L C : Type 0} → Status → (R → Option (List Fact)) → (R → Bool)
-    → (C → List ℕ → Type 0) → (tells : L → LinkTells) → (link then_link : L)
-    → (clock then_clock : C) → (old new : LoadsSoFar) → (before later : R) → Type 0
-TurnsEnd status.LinkFault facts whole gave tells link then_link clock then_clock old new
+abbrev pub TurnsEnd : {R L C : Type 0} → Status → (R → Log) → (C → List ℕ → Type 0)
+    → (net : Link.Ghosts L) → (link then_link : L) → (clock then_clock : C) → (old new : LoadsSoFar)
+    → (before later : R) → Type 0
+TurnsEnd status.LinkFault log gave net link then_link clock then_clock old new
     before later =
-    HasRisen (tells link).troubles.faults (tells then_link).troubles.faults
-TurnsEnd status.NoMemory facts whole gave tells link then_link clock then_clock old new
+    HasRisen (net.faults link) (net.faults then_link)
+TurnsEnd status.NoMemory log gave net link then_link clock then_clock old new
     before later =
-    (tells then_link).troubles.faults ≡ (tells link).troubles.faults
-TurnsEnd told facts whole gave tells link then_link clock then_clock old new before later =
+    (net.faults then_link) ≡ (net.faults link)
+TurnsEnd told log gave net link then_link clock then_clock old new before later =
     (going_at new ≡ Over told)
-    × ((tells then_link).troubles.faults ≡ (tells link).troubles.faults)
+    × (net.faults then_link ≡ net.faults link)
     × (many : ℕ)
-    × LoadsOn facts whole gave (tells link).sent (tells then_link).sent clock then_clock old new
+    × LoadsOn log gave (net.sent link) (net.sent then_link) clock then_clock old new
     before later many
 
 -- what `load` did once its run was over: it made its turns, in which the session was opened first;
 -- the calls that were asked are the first of its calls, in their order; how many were and how calls
 -- ended are counts of what was noted, and the link didn't fail
-pub record HasRun {R L C : Type 0} (facts : R → Option (List Fact)) (whole : R → Bool)
-    (gave : C → List ℕ → Type 0) (tells : L → LinkTells) (words : LoadWords) (link then_link : L)
-    (clock then_clock : C) (before later : R) (run : LoadsSoFar) : Type 0 where
+pub record HasRun {R L C : Type 0} (log : R → Log) (gave : C → List ℕ → Type 0)
+    (net : Link.Ghosts L) (words : LoadWords) (link then_link : L) (clock then_clock : C)
+    (before later : R) (run : LoadsSoFar) : Type 0 where
   pub over : going_at run ≢ On
   pub plan : run.ledger.plan ≡ calls_of words
   pub turns : run.turns ≡ words.turns
-  pub turned : HasTurned facts whole gave (tells link).sent (tells then_link).sent clock then_clock
+  pub turned : HasTurned log gave (net.sent link) (net.sent then_link) clock then_clock
       before later run.made run.endpoint
   pub opens : (peer : ℕ) × (rest : List Fact)
       × (turned.noted ≡ plain 0 (Opened run.session peer LOAD_CREDITS) ∷ rest)
   pub asked : run.asked ≡ asked_in turned.noted
   pub order : AsksInOrder run.ledger.plan run.session 0 turned.noted
   pub tallies : Tallies run.ledger.plan run.ledger.tally turned.noted
-  pub quiet : (tells then_link).troubles.faults ≡ (tells link).troubles.faults
+  pub quiet : net.faults then_link ≡ net.faults link
 
 -- the facts that were noted are a run of node 0 with usual limits
-pub record NotesRun {R : Type 0} (facts : R → Option (List Fact)) (whole : R → Bool)
-    (before later : R) : Type 0 where
+pub record NotesRun {R : Type 0} (log : R → Log) (before later : R) : Type 0 where
   pub noted : List Fact
-  pub grew : Grew facts whole before later noted
+  pub grew : Grew (log before) (log later) noted
   pub runs : (noted ≡ []) ⊎ ((endpoint : End) × Stands noted endpoint)
 
 -- how `load` ends: the link failed, or there was no memory and it didn't, and nothing was written;
 -- or its run was over, and the line was written, or a front of it where the sink failed
-abbrev pub Loads : {R L C : Type 0} → Status → (R → Option (List Fact)) → (R → Bool)
-    → (C → List ℕ → Type 0) → (tells : L → LinkTells) → LoadWords → (link then_link : L)
-    → (clock then_clock : C) → (before later : R) → (old new : Option (List ℕ)) → (read again : ℕ)
-    → Type 0
-Loads status.LinkFault facts whole gave tells words link then_link clock then_clock before later
-    old new read again =
-    HasRisen (tells link).troubles.faults (tells then_link).troubles.faults
-    × NotesRun facts whole before later × (new ≡ old) × (again ≡ read)
-Loads status.NoMemory facts whole gave tells words link then_link clock then_clock before later
-    old new read again =
-    ((tells then_link).troubles.faults ≡ (tells link).troubles.faults)
-    × NotesRun facts whole before later × (new ≡ old) × (again ≡ read)
-Loads told facts whole gave tells words link then_link clock then_clock before later old new
-    read again =
+abbrev pub Loads : {R L C : Type 0} → Status → (R → Log) → (C → List ℕ → Type 0)
+    → (net : Link.Ghosts L) → LoadWords → (link then_link : L) → (clock then_clock : C)
+    → (before later : R) → (old new : Written) → Type 0
+Loads status.LinkFault log gave net words link then_link clock then_clock before later
+    old new =
+    HasRisen (net.faults link) (net.faults then_link)
+    × NotesRun log before later × (new ≡ old)
+Loads status.NoMemory log gave net words link then_link clock then_clock before later
+    old new =
+    (net.faults then_link ≡ net.faults link)
+    × NotesRun log before later × (new ≡ old)
+Loads told log gave net words link then_link clock then_clock before later old new =
     (run : LoadsSoFar)
-    × HasRun facts whole gave tells words link then_link clock then_clock before later run
-    × Prints run told old new read again
+    × HasRun log gave net words link then_link clock then_clock before later run
+    × Prints run told old new

@@ -21,17 +21,17 @@ impl<H: Wait> LoadRun<H> {
     fn ask_next<R: Recorder>(&mut self, rec: &mut R) -> Result<(), NoMemory>
         requires left { 0 < unasked self.old }
         requires connected { state_in self.old ≡ Connected }
-        ensures asks { OnOk result (Makes R.facts R.whole (Asks self.old.session
+        ensures asks { OnOk result (Makes R.log (Asks self.old.session
             self.old.ledger.plan.req_type (asked_bytes self.old.ledger.plan self.old.asked)
             (room_of self.old.ledger.plan)) self.old.endpoint.timed self.new.endpoint.timed
             rec.old rec.new) }
-        ensures passes { OnOk result (Passes R.facts R.whole self.old.endpoint self.new.endpoint
+        ensures passes { OnOk result (Passes R.log self.old.endpoint self.new.endpoint
             rec.old rec.new self.old.ledger.plan self.old.session self.old.asked
             self.new.asked) }
         ensures wanting { OnErr result ((self.new ≡ self.old) × (rec.new ≡ rec.old)) }
         ensures counted { OnOk result (self.new.asked ≡ self.old.asked + 1) }
         ensures keeps { Keeps self.old self.new }
-        ensures goes_on { GoesOnBy R.facts R.whole self.old.endpoint self.new.endpoint rec.old
+        ensures goes_on { GoesOnBy R.log self.old.endpoint self.new.endpoint rec.old
             rec.new }
     {
         let tag = u64::from(self.asked);
@@ -52,12 +52,12 @@ impl<H: Wait> LoadRun<H> {
 
     // Asks calls while the session is Connected, until 64 are pending or all are asked.
     fn ask_many<R: Recorder>(&mut self, rec: &mut R) -> Result<(), NoMemory>
-        ensures asks { OnOk result (AsksMany R.facts R.whole self.old self.new rec.old rec.new) }
-        ensures passes { OnOk result (Passes R.facts R.whole self.old.endpoint self.new.endpoint
+        ensures asks { OnOk result (AsksMany R.log self.old self.new rec.old rec.new) }
+        ensures passes { OnOk result (Passes R.log self.old.endpoint self.new.endpoint
             rec.old rec.new self.old.ledger.plan self.old.session self.old.asked
             self.new.asked) }
         ensures keeps { Keeps self.old self.new }
-        ensures goes_on { GoesOnBy R.facts R.whole self.old.endpoint self.new.endpoint rec.old
+        ensures goes_on { GoesOnBy R.log self.old.endpoint self.new.endpoint rec.old
             rec.new }
     {
         'calls: while self.state() == SessionState::Connected
@@ -71,10 +71,10 @@ impl<H: Wait> LoadRun<H> {
 
     // Begins to close the session where no call is pending.
     fn close_idle<R: Recorder>(&mut self, rec: &mut R)
-        ensures closes { ClosesIdle R.facts R.whole self.old self.new rec.old rec.new }
+        ensures closes { ClosesIdle R.log self.old self.new rec.old rec.new }
         ensures asked { self.new.asked ≡ self.old.asked }
         ensures keeps { Keeps self.old self.new }
-        ensures passes { Passes R.facts R.whole self.old.endpoint self.new.endpoint rec.old
+        ensures passes { Passes R.log self.old.endpoint self.new.endpoint rec.old
             rec.new self.old.ledger.plan self.old.session self.old.asked self.new.asked }
     {
         if self.pending() == 0 {
@@ -87,13 +87,13 @@ impl<H: Wait> LoadRun<H> {
     /// until 64 are pending or all are asked, and then the session begins to close where none is
     /// pending.
     pub(crate) fn prepare<R: Recorder>(&mut self, rec: &mut R) -> Result<(), NoMemory>
-        ensures prepares { OnOk result (Prepares R.facts R.whole self.old self.new rec.old
+        ensures prepares { OnOk result (Prepares R.log self.old self.new rec.old
             rec.new) }
-        ensures passes { OnOk result (Passes R.facts R.whole self.old.endpoint self.new.endpoint
+        ensures passes { OnOk result (Passes R.log self.old.endpoint self.new.endpoint
             rec.old rec.new self.old.ledger.plan self.old.session self.old.asked
             self.new.asked) }
         ensures keeps { Keeps self.old self.new }
-        ensures goes_on { GoesOnBy R.facts R.whole self.old.endpoint self.new.endpoint rec.old
+        ensures goes_on { GoesOnBy R.log self.old.endpoint self.new.endpoint rec.old
             rec.new }
     {
         if self.state() != SessionState::Connected {

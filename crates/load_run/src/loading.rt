@@ -19,11 +19,9 @@ fn turn_all<H: Wait + Drop, L: Link, C: Clock, R: Recorder>(
     rec: &mut R,
 ) -> Status
     requires left { run.old.made < run.old.turns }
-    ensures ends { TurnsEnd result R.facts R.whole C.gave (λ l. record {
-      sent = L.sent l;
-      troubles = record { faults = L.faults l; busies = L.busies l };
-    }) link.old link.new clock.old clock.new run.old run.new rec.old rec.new }
-    ensures goes_on { GoesOnBy R.facts R.whole run.old.endpoint run.new.endpoint rec.old rec.new }
+    ensures ends { TurnsEnd result R.log C.gave L.Link link.old link.new clock.old
+        clock.new run.old run.new rec.old rec.new }
+    ensures goes_on { GoesOnBy R.log run.old.endpoint run.new.endpoint rec.old rec.new }
 {
     'turns: loop {
         if let Going::Over(status) = run.turn(link, clock, rec) {
@@ -47,11 +45,8 @@ pub fn load<H: Wait + Drop, K: Sink, L: Link, C: Clock, R: Recorder>(
     rec: &mut R,
 ) -> Status
     requires { IsLoadInRange spec.now }
-    ensures { Loads result R.facts R.whole C.gave (λ l. record {
-      sent = L.sent l;
-      troubles = record { faults = L.faults l; busies = L.busies l };
-    }) spec.now link.old link.new clock.old clock.new rec.old rec.new (K.written sink.old)
-        (K.written sink.new) (K.faults sink.old) (K.faults sink.new) }
+    ensures { Loads result R.log C.gave L.Link spec.now link.old link.new clock.old clock.new
+        rec.old rec.new (K.page sink.old) (K.page sink.new) }
 {
     let mut run = match LoadRun::start(rt, alloc, spec, link, rec) {
         Ok(run) => run,

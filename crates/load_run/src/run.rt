@@ -124,7 +124,7 @@ impl<H: Wait + Drop> LoadRun<H> {
         rec: &mut R,
     ) -> Result<LoadRun<H>, Status>
         requires { IsLoadInRange spec.now }
-        ensures starts { IfOk result (StartsAs R.facts R.whole spec.now rec.old rec.new) }
+        ensures starts { IfOk result (StartsAs R.log spec.now rec.old rec.new) }
         ensures sent { L.sent link.new ≡ L.sent link.old }
         ensures quiet { OnOk result (L.faults link.new ≡ L.faults link.old) }
         ensures refused { IfErr result (WhyNot (L.faults link.old) (L.faults link.new)) }
@@ -174,14 +174,12 @@ impl<H: Wait + Drop> LoadRun<H> {
         rec: &mut R,
     ) -> Going
         requires left { self.old.made < self.old.turns }
-        ensures loads { UnlessNoMemory result (HasLoaded R.facts R.whole L.received L.waiting C.gave
-            (λ l. record {
-              sent = L.sent l;
-              troubles = record { faults = L.faults l; busies = L.busies l };
-            }) link.old link.new clock.old clock.new self.old self.new rec.old rec.new) }
-        ensures on { UnlessFailed result (LoadsOn R.facts R.whole C.gave (L.sent link.old)
+        ensures loads { UnlessNoMemory result
+            (HasLoaded R.log L.Link C.gave link.old link.new clock.old clock.new self.old self.new
+            rec.old rec.new) }
+        ensures on { UnlessFailed result (LoadsOn R.log C.gave (L.sent link.old)
             (L.sent link.new) clock.old clock.new self.old self.new rec.old rec.new 1) }
-        ensures goes_on { GoesOnBy R.facts R.whole self.old.endpoint self.new.endpoint rec.old
+        ensures goes_on { GoesOnBy R.log self.old.endpoint self.new.endpoint rec.old
             rec.new }
         ensures answers { Answers (L.faults link.old) (L.faults link.new) self.new result }
         ensures left { result ≡ On → self.new.made < self.new.turns }
@@ -205,8 +203,7 @@ impl<H: Wait + Drop> LoadRun<H> {
     /// came; a front of the line was then written.
     pub fn finish<K: Sink>(self, sink: &mut K) -> Status
         requires over { going_at self ≢ On }
-        ensures { Prints self result (K.written sink.old) (K.written sink.new) (K.faults sink.old)
-            (K.faults sink.new) }
+        ensures { Prints self result (K.page sink.old) (K.page sink.new) }
     {
         let line = self.line();
         let going = self.going();

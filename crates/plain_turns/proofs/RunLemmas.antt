@@ -1,35 +1,33 @@
 -- Turns, one after another.
-use Rattle.std.proofs.Common.{◌≡◌, ℕ, ◌+◌, Bool, Option, List, [], ◌∷◌, ◌++◌, refl, sym, ap, ap₂}
+use Rattle.std.proofs.Common.{◌≡◌, ℕ, ◌+◌, Option, List, [], ◌∷◌, ◌++◌, refl, sym, ap, ap₂}
 use Rattle.std.proofs.Common.{◌∙◌}
 use Rattle.std.proofs.Common.{subst, append_assoc, append-nil, length-append}
 use Rattle.std.specs.Prelude.{option_map}
+use Rattle.endpoint_loop.specs.PlainMembers.{plain_members}
+use Rattle.rpc_outside.specs.Recording.{Log}
 use Rattle.client_core.specs.declared.outcome.Done.{Done}
 use Rattle.endpoint_loop.specs.Noting.{sent_of}
 use Rattle.endpoint_loop.proofs.NotingLemmas.{sent-append, took-none, took-then}
-use Rattle.rpc_base.specs.declared.fact.Fact.{Fact}
 use Rattle.rpc_outside.specs.Linking.{Carried}
 use Rattle.rpc_outside.specs.Ticking.{Gives}
 use Rattle.server_core.proofs.FlushLemmas.{grew-none, grew-then}
 use Rattle.endpoint_loop.specs.Standing.{GoesOn}
-use Rattle.rpc_laws.specs.Service.{plain_serving}
-use Rattle.rpc_outside.specs.PlainAnswer.{background_answer}
-use Rattle.rpc_outside.specs.PlainStands.{PlainStands}
-use Rattle.plain_turns.specs.PlainTurns.{End, GoesOnBy, RunsOn, Stands, TellsTurn, staff_of}
-use Rattle.plain_turns.specs.PlainTurns.{usual_limits}
+use Rattle.plain_turns.specs.PlainTurns.{End, GoesOnBy, RunsOn, Stands, TellsTurn}
+use Rattle.plain_turns.specs.PlainTurns.{usual_limits, crew_members}
 
-module _ {R : Type 0} (facts : R → Option (List Fact)) (whole : R → Bool) where
+module _ {R : Type 0} (log : R → Log) where
   -- nothing was noted
-  unfoldable pub goes-none : (a : End) (f : R) → GoesOnBy facts whole a a f f
+  unfoldable pub goes-none : (a : End) (f : R) → GoesOnBy log a a f f
   goes-none a f = record {
     noted = [];
-    grew = grew-none facts whole f;
+    grew = grew-none log f;
     goes_on = λ past s. subst (λ z. Stands z a) (sym (append-nil past)) s;
   }
 
   -- facts of a call that keeps the node's number
   pub goes-by : (a b : End) (f g : R) → b.timed.lists.me ≡ a.timed.lists.me
-      → GoesOn facts whole plain_serving PlainStands background_answer staff_of a b f g
-      → GoesOnBy facts whole a b f g
+      → GoesOn log plain_members crew_members a b f g
+      → GoesOnBy log a b f g
   goes-by a b f g me h = record {
     noted = h.noted;
     grew = h.grew;
@@ -38,23 +36,23 @@ module _ {R : Type 0} (facts : R → Option (List Fact)) (whole : R → Bool) wh
   }
 
   -- facts, and then further ones
-  unfoldable pub goes-then : (a b c : End) (f g h : R) → GoesOnBy facts whole a b f g
-      → GoesOnBy facts whole b c g h → GoesOnBy facts whole a c f h
+  unfoldable pub goes-then : (a b c : End) (f g h : R) → GoesOnBy log a b f g
+      → GoesOnBy log b c g h → GoesOnBy log a c f h
   goes-then a b c f g h p q = record {
     noted = p.noted ++ q.noted;
-    grew = grew-then facts whole f g h p.noted q.noted p.grew q.grew;
+    grew = grew-then log f g h p.noted q.noted p.grew q.grew;
     goes_on = λ past s.
         subst (λ z. Stands z c) (append_assoc past p.noted q.noted)
         (q.goes_on (past ++ p.noted) (p.goes_on past s));
   }
 
-module _ {R C : Type 0} (facts : R → Option (List Fact)) (whole : R → Bool) (gave : C → List ℕ → Type 0) where
+module _ {R C : Type 0} (log : R → Log) (gave : C → List ℕ → Type 0) where
   -- no turn was made yet
   pub none-made : (sent : Option (List Carried)) (clock : C) (e : End) (f : R)
-      → RunsOn facts whole gave sent sent clock clock e e f f 0
+      → RunsOn log gave sent sent clock clock e e f f 0
   unfolding goes-none
   none-made sent clock e f = record {
-    goes = goes-none facts whole e f;
+    goes = goes-none log e f;
     sends = λ past s. took-none sent;
     times = [];
     count = refl;
@@ -64,12 +62,12 @@ module _ {R C : Type 0} (facts : R → Option (List Fact)) (whole : R → Bool) 
   -- turns, and then further ones
   unfoldable pub runs-then : (sent mid then_sent : Option (List Carried)) (clock via then_clock : C)
       (a b c : End) (f g h : R) (n m : ℕ)
-      → RunsOn facts whole gave sent mid clock via a b f g n
-      → RunsOn facts whole gave mid then_sent via then_clock b c g h m
-      → RunsOn facts whole gave sent then_sent clock then_clock a c f h (n + m)
+      → RunsOn log gave sent mid clock via a b f g n
+      → RunsOn log gave mid then_sent via then_clock b c g h m
+      → RunsOn log gave sent then_sent clock then_clock a c f h (n + m)
   unfolding goes-then
   runs-then sent mid then_sent clock via then_clock a b c f g h n m p q = record {
-    goes = goes-then facts whole a b c f g h p.goes q.goes;
+    goes = goes-then log a b c f g h p.goes q.goes;
     sends = λ past s.
         q.sends (past ++ p.goes.noted) (p.goes.goes_on past s)
         ∙ ap (option_map (λ ds. ds ++ sent_of q.goes.noted)) (p.sends past s)
@@ -85,8 +83,8 @@ module _ {R C : Type 0} (facts : R → Option (List Fact)) (whole : R → Bool) 
   -- one turn
   pub one-made : {K : Type 0} (given : K → List Done → Type 0) (sent then_sent : Option (List Carried))
       (clock then_clock : C) (a b : End) (f g : R) (from to : K) (now : ℕ)
-      → TellsTurn facts whole given sent then_sent a b f g from to → Gives gave clock then_clock now
-      → RunsOn facts whole gave sent then_sent clock then_clock a b f g 1
+      → TellsTurn log given sent then_sent a b f g from to → Gives gave clock then_clock now
+      → RunsOn log gave sent then_sent clock then_clock a b f g 1
   one-made given sent then_sent clock then_clock a b f g from to now turn tick = record {
     goes = turn.goes;
     sends = λ past s. (turn.told past s).sends;

@@ -3,11 +3,14 @@ use Rattle.std.proofs.Common.{◌≡◌, ℕ, Bool, true, false, cond, ltb, Opti
 use Rattle.std.proofs.Common.{length, refl, sym, ap, ap₂, ◌∙◌, subst, arith, append_assoc, append-nil}
 use Rattle.std.specs.Prelude.{map, option_map}
 use Rattle.std.specs.List.{filter}
+use Rattle.endpoint_loop.specs.PlainMembers.{plain_members}
+use Rattle.endpoint_loop.specs.Finishing.{staff_of}
+use Rattle.rpc_outside.specs.Recording.{Log}
 use Rattle.client_core.specs.declared.outcome.Done.{Done}
 use Rattle.client_core.specs.Shown.{done_fact}
 use Rattle.endpoint_loop.specs.declared.polling.Turn.{Turn}
 use Rattle.endpoint_loop.specs.Noting.{asked_in, is_asked, is_end, sent_of}
-use Rattle.endpoint_loop.specs.Polling.{LinkTells}
+use Rattle.endpoint_loop.specs.Polling.{wire_of}
 use Rattle.endpoint_loop.specs.Running.{asks_of, told}
 use Rattle.endpoint_loop.specs.Turning.{DeliversAll, TakesIn}
 use Rattle.endpoint_loop.proofs.GivingLemmas.{staffed-still}
@@ -35,11 +38,12 @@ use Rattle.rpc_laws.proofs.AnswerLemmas.{answers-append, served-append}
 use Rattle.rpc_outside.specs.Linking.{Carried}
 use Rattle.rpc_outside.specs.PlainAnswer.{background_answer, plain_mode}
 use Rattle.rpc_outside.specs.PlainStands.{PlainStands}
+use Rattle.rpc_outside.specs.declared.link.Link as Link
 use Rattle.server_core.proofs.FlushLemmas.{grew-then}
 use Rattle.worker_crew.specs.Crews.{CrewState}
 use Rattle.worker_crew.specs.Dispatching.{jobs_in}
-use Rattle.plain_turns.specs.PlainTurns.{End, Stands, TakesTurn, TellsMore, TellsTurn, crew_of}
-use Rattle.plain_turns.specs.PlainTurns.{staff_of, usual_limits}
+use Rattle.plain_turns.specs.PlainTurns.{End, Stands, TakesTurn, TellsMore, TellsTurn}
+use Rattle.plain_turns.specs.PlainTurns.{usual_limits, crew_members}
 
 module _ (v : Serving) (me : ℕ) (limits : Limits) where
   -- a run, and then a group that runs and works nothing
@@ -125,8 +129,8 @@ me-delivers (d ∷ ds) s x t h =
     me-delivers ds h.between h.back t h.second ∙ me-goes s h.between h.front h.first.goes
 
 -- datagrams come in
-module _ {R : Type 0} (facts : R → Option (List Fact)) (whole : R → Bool) (came : List Carried) (a b : End)
-    (f g : R) (h : TakesIn facts whole came a b f g) where
+module _ {R : Type 0} (log : R → Log) (came : List Carried) (a b : End)
+    (f g : R) (h : TakesIn log came a b f g) where
   takes-step : DeliversAll came (told (jobs_in a.workers.dispatching) a.timed) h.delivers.noted
       (told (jobs_in a.workers.dispatching) b.timed)
   takes-step = h.delivers.step (asks_of (jobs_in a.workers.dispatching))
@@ -145,7 +149,7 @@ module _ {R : Type 0} (facts : R → Option (List Fact)) (whole : R → Bool) (c
       (told (jobs_in a.workers.dispatching) b.timed) takes-step in
       let none = still-answers plain_serving (served_after_all plain_mode [] past) h.delivers.noted
       (none-ran h.delivers.noted still) in
-      let runs : StandsFor plain_serving PlainStands background_answer staff_of usual_limits
+      let runs : StandsFor plain_members crew_members usual_limits
       (past ++ h.delivers.noted) b = record {
         run = subst (λ (w : CrewState). NodeRun plain_serving b.timed.lists.me usual_limits
             (past ++ h.delivers.noted) (told (jobs_in w.dispatching) b.timed))
@@ -156,16 +160,16 @@ module _ {R : Type 0} (facts : R → Option (List Fact)) (whole : R → Bool) (c
             (rw h.leaves.service s.runs.serves);
         staffed = rw h.leaves.workers (staffed-still background_answer
             (asks_of (jobs_in a.workers.dispatching))
-            (staff_of a.workers) a.timed b.timed h.leaves.jobs s.runs.staffed);
+            (staff_of crew_members a.workers) a.timed b.timed h.leaves.jobs s.runs.staffed);
       } in
       record { node = me ∙ s.node; runs = runs }
 
 -- what a turn tells, of which it is known what it is
-module _ {R L C K : Type 0} (facts : R → Option (List Fact)) (whole : R → Bool)
-    (received waiting : L → Option (List Carried)) (given : K → List Done → Type 0)
-    (gave : C → List ℕ → Type 0) (turn : Option Turn) (tells : L → LinkTells) (link then_link : L)
+module _ {R L C K : Type 0} (log : R → Log)
+    (net : Link.Ghosts L) (given : K → List Done → Type 0)
+    (gave : C → List ℕ → Type 0) (turn : Option Turn) (link then_link : L)
     (clock then_clock : C) (old new : End) (before later : R) (from to : K)
-    (h : TakesTurn facts whole received waiting given gave turn tells link then_link clock then_clock
+    (h : TakesTurn log net given gave turn link then_link clock then_clock
     old new before later from to) where
   abbrev first : List Fact
   first = h.turns.takes.delivers.noted
@@ -175,32 +179,31 @@ module _ {R L C K : Type 0} (facts : R → Option (List Fact)) (whole : R → Bo
 
   between-stands : (past : List Fact) → Stands past old → Stands (past ++ first) h.turns.between
   between-stands past s =
-      takes-stands facts whole h.turns.came old h.turns.between before h.turns.mid h.turns.takes
+      takes-stands log h.turns.came old h.turns.between before h.turns.mid h.turns.takes
       past s
 
   polled : (past : List Fact) → Stands (past ++ first) h.turns.between
       → Stands ((past ++ first) ++ second) new
   unfolding goes-polled
   polled past s =
-      let runs = (goes-polled facts whole given crew_of plain_serving PlainStands background_answer
-      h.turns.polled h.now h.turns.mid_link (tells then_link) h.turns.between new h.turns.mid later
+      let runs = (goes-polled log given plain_members crew_members
+      h.turns.polled h.now h.turns.mid_link (wire_of net then_link) h.turns.between new h.turns.mid later
       from to h.turns.polls).goes_on usual_limits (past ++ first) s.runs in
-      let me = me-polled facts whole given crew_of plain_serving PlainStands background_answer
-      h.turns.polled h.now h.turns.mid_link (tells then_link) h.turns.between new h.turns.mid later
+      let me = me-polled log given plain_members crew_members
+      h.turns.polled h.now h.turns.mid_link (wire_of net then_link) h.turns.between new h.turns.mid later
       from to h.turns.polls usual_limits (past ++ first) s.runs in
       record { node = me ∙ s.node; runs = runs }
 
   more-told : (past : List Fact) → Stands past old
-      → TellsMore given (tells link).sent (tells then_link).sent (first ++ second) from to
+      → TellsMore given (net.sent link) (net.sent then_link) (first ++ second) from to
   more-told past s =
       let mid = between-stands past s in
       let does = h.turns.polls.does mid.runs.staffed in
       let told_of = does.1 in
-      let still = unasked-polled facts whole given crew_of plain_serving PlainStands
-      background_answer h.turns.polled h.now h.turns.mid_link (tells then_link) h.turns.between new
+      let still = unasked-polled log given plain_members crew_members h.turns.polled h.now h.turns.mid_link (wire_of net then_link) h.turns.between new
       second does.0 in
       let quiet = all-coming h.turns.came _ first _
-      (takes-step facts whole h.turns.came old h.turns.between before h.turns.mid h.turns.takes) in
+      (takes-step log h.turns.came old h.turns.between before h.turns.mid h.turns.takes) in
       record {
         dones = told_of.dones;
         ends = ends-append first second ∙ ap (λ ends. ends ++ filter is_end second) quiet.ends
@@ -209,15 +212,15 @@ module _ {R L C K : Type 0} (facts : R → Option (List Fact)) (whole : R → Bo
         asks = let none = quiet.asks in
             omega (arith, many-append is_asked first second, many-none is_asked second still, none);
         sends = told_of.took ∙ ap (option_map (λ ds. ds ++ sent_of second)) h.turns.receives.sent
-            ∙ ap (λ sent. option_map (λ ds. ds ++ sent) (tells link).sent)
+            ∙ ap (λ sent. option_map (λ ds. ds ++ sent) (net.sent link))
             (sym (sent-append first second ∙ ap (λ sent. sent ++ sent_of second) quiet.sends));
       }
 
-  pub turn-tells : TellsTurn facts whole given (tells link).sent (tells then_link).sent old new before later from to
+  pub turn-tells : TellsTurn log given (net.sent link) (net.sent then_link) old new before later from to
   turn-tells = record {
     goes = record {
       noted = first ++ second;
-      grew = grew-then facts whole before h.turns.mid later first second h.turns.takes.delivers.grew
+      grew = grew-then log before h.turns.mid later first second h.turns.takes.delivers.grew
           h.turns.polls.grew;
       goes_on = λ past s.
           subst (λ z. Stands z new) (append_assoc past first second)

@@ -1,33 +1,32 @@
 -- The endpoint that `serve` and `load` run, and its turns.
-use Rattle.std.specs.Prelude.{◌≡◌, ℕ, Bool, Option, List, [], ◌++◌, length, map, option_map}
+use Rattle.std.specs.Prelude.{◌≡◌, ℕ, Option, List, [], ◌++◌, length, map, option_map}
 use Rattle.std.specs.List.{filter}
+use Rattle.endpoint_loop.specs.PlainMembers.{plain_members}
 use Rattle.client_core.specs.Shown.{done_fact}
 use Rattle.client_core.specs.declared.outcome.Done.{Done}
 use Rattle.endpoint_loop.specs.declared.polling.Turn.{Turn}
 use Rattle.endpoint_loop.specs.Given.{Gave}
 use Rattle.endpoint_loop.specs.Noting.{asked_in, is_end, sent_of}
-use Rattle.endpoint_loop.specs.Polling.{LinkTells}
-use Rattle.endpoint_loop.specs.Finishing.{Staff}
-use Rattle.endpoint_loop.specs.Running.{Crew, Running}
+use Rattle.endpoint_loop.specs.Running.{Running}
 use Rattle.endpoint_loop.specs.Standing.{StandsFor}
 use Rattle.endpoint_loop.specs.Turning.{MakesTurn}
 use Rattle.rpc_base.specs.declared.fact.Fact.{Fact}
 use Rattle.rpc_base.specs.declared.limits.Limits.{Limits}
 use Rattle.rpc_base.specs.declared.limits.TheConstants.{USUAL_JOBS, USUAL_RING}
 use Rattle.rpc_laws.specs.NodeLists.{new_node}
-use Rattle.rpc_laws.specs.Service.{plain_serving}
 use Rattle.rpc_laws.specs.UsualLimits.{with_ring}
 use Rattle.rpc_outside.specs.Faults.{HasRisen}
 use Rattle.rpc_outside.specs.Linking.{Carried}
 use Rattle.rpc_outside.specs.PlainAnswer.{background_answer}
-use Rattle.rpc_outside.specs.PlainStands.{PlainStands}
-use Rattle.rpc_outside.specs.Recording.{Grew}
+use Rattle.rpc_outside.specs.Recording.{Grew, Log}
 use Rattle.rpc_outside.specs.Ticking.{Gives}
+use Rattle.rpc_outside.specs.declared.link.Link as Link
 use Rattle.run_status.specs.declared.status.Status.{Status}
 use Rattle.run_status.specs.declared.status.Status.TheVariants.{LinkFault, NoMemory}
-use Rattle.worker_crew.specs.Crews.{AreStarted, CrewState, untold}
+use Rattle.worker_crew.specs.Crews.{AreStarted, CrewState, team_of, untold}
 use Rattle.worker_crew.specs.Dispatching.{jobs_in, looks_in}
 use Rattle.worker_crew.specs.Hands.{HandName}
+use Rattle.worker_crew.specs.declared.workers.Workers as Workers
 
 -- a ring of 1,024 places, 64 jobs and a timeout of 5,000 microseconds
 abbrev pub usual_limits : Limits
@@ -37,30 +36,31 @@ usual_limits = with_ring USUAL_RING
 abbrev pub End : Type 0
 End = Running ℕ CrewState
 
-abbrev pub staff_of : CrewState → Staff
-staff_of c = record {
-  limit = c.dispatching.places;
-  given = c.dispatching.given;
-  out = jobs_in c.dispatching;
-  waiting = untold c;
+-- a crew with the plain service's duty, by what contracts see of workers: it tells neither which of
+-- its jobs wait nor which are worked
+abbrev pub crew_members : Workers.Ghosts CrewState
+crew_members = record {
+  answer = background_answer;
+  limit = λ c. c.dispatching.places;
+  out = λ c. jobs_in c.dispatching;
+  given = λ c. c.dispatching.given;
+  worked = untold;
+  waiting = untold;
+  looks = λ c. looks_in c.dispatching;
+  team = team_of;
 }
 
 -- the endpoint of node 0 stands for these facts, which it noted since it was made: they are a run
 -- of its node with usual limits
 pub record Stands (g : List Fact) (e : End) : Type 0 where
   pub node : e.timed.lists.me ≡ 0
-  pub runs : StandsFor plain_serving PlainStands background_answer staff_of usual_limits g e
-
--- a crew tells neither which of its jobs wait nor which are worked
-abbrev pub crew_of : CrewState → Crew
-crew_of c = record { staff = staff_of c; worked = untold c; looks = looks_in c.dispatching }
+  pub runs : StandsFor plain_members crew_members usual_limits g e
 
 -- the recorder grew by facts, and for whatever the endpoint stood, it stands for that and these
 -- facts after it
-pub record GoesOnBy {R : Type 0} (facts : R → Option (List Fact)) (whole : R → Bool) (old new : End)
-    (before now : R) : Type 0 where
+pub record GoesOnBy {R : Type 0} (log : R → Log) (old new : End) (before now : R) : Type 0 where
   pub noted : List Fact
-  pub grew : Grew facts whole before now noted
+  pub grew : Grew (log before) (log now) noted
   pub goes_on : (past : List Fact) → Stands past old → Stands (past ++ noted) new
 
 -- a crew for usual limits, to which no job was given
@@ -83,14 +83,14 @@ pub record IsCrewed (hands : ℕ) (out : List HandName) (e : End) : Type 0 where
   pub started : AreStarted e.workers out
 
 -- a turn of a run: the clock gave one number, and the endpoint made one turn then
-pub record TakesTurn {R L C K : Type 0} (facts : R → Option (List Fact)) (whole : R → Bool)
-    (received waiting : L → Option (List Carried)) (given : K → List Done → Type 0)
-    (gave : C → List ℕ → Type 0) (told : Option Turn) (tells : L → LinkTells) (link then_link : L)
-    (clock then_clock : C) (old new : End) (before later : R) (from to : K) : Type 0 where
+pub record TakesTurn {R L C K : Type 0} (log : R → Log) (net : Link.Ghosts L)
+    (given : K → List Done → Type 0) (gave : C → List ℕ → Type 0) (told : Option Turn)
+    (link then_link : L) (clock then_clock : C) (old new : End) (before later : R) (from to : K)
+    : Type 0 where
   pub now : ℕ
   pub ticks : Gives gave clock then_clock now
-  pub turns : MakesTurn facts whole received waiting given crew_of plain_serving PlainStands
-      background_answer told now tells link then_link old new before later from to
+  pub turns : MakesTurn log net given plain_members crew_members told now link then_link old new
+      before later from to
 
 -- what the facts of a turn tell besides: the calls that the continuation was given are those whose
 -- ends were noted, in order; no call was asked; and the link, where it tells what it sent, sent just
@@ -104,10 +104,10 @@ pub record TellsMore {K : Type 0} (given : K → List Done → Type 0)
   pub sends : then_sent ≡ option_map (λ ds. ds ++ sent_of noted) sent
 
 -- the recorder grew by the facts of a turn, by which the endpoint goes on
-pub record TellsTurn {R K : Type 0} (facts : R → Option (List Fact)) (whole : R → Bool)
-    (given : K → List Done → Type 0) (sent then_sent : Option (List Carried)) (old new : End)
-    (before later : R) (from to : K) : Type 0 where
-  pub goes : GoesOnBy facts whole old new before later
+pub record TellsTurn {R K : Type 0} (log : R → Log) (given : K → List Done → Type 0)
+    (sent then_sent : Option (List Carried)) (old new : End) (before later : R) (from to : K)
+    : Type 0 where
+  pub goes : GoesOnBy log old new before later
   pub told : (past : List Fact) → Stands past old
       → TellsMore given sent then_sent goes.noted from to
 
@@ -117,10 +117,10 @@ GivesAll gave old new times = (before : List ℕ) → gave old before → gave n
 
 -- n turns were made: the recorder grew by their facts, the link sent just what they say was sent,
 -- where it tells that, and the clock gave one number for each
-pub record RunsOn {R C : Type 0} (facts : R → Option (List Fact)) (whole : R → Bool)
-    (gave : C → List ℕ → Type 0) (sent then_sent : Option (List Carried)) (clock then_clock : C)
-    (old new : End) (before later : R) (n : ℕ) : Type 0 where
-  pub goes : GoesOnBy facts whole old new before later
+pub record RunsOn {R C : Type 0} (log : R → Log) (gave : C → List ℕ → Type 0)
+    (sent then_sent : Option (List Carried)) (clock then_clock : C) (old new : End)
+    (before later : R) (n : ℕ) : Type 0 where
+  pub goes : GoesOnBy log old new before later
   pub sends : (past : List Fact) → Stands past old
       → then_sent ≡ option_map (λ ds. ds ++ sent_of goes.noted) sent
   pub times : List ℕ
@@ -130,11 +130,11 @@ pub record RunsOn {R C : Type 0} (facts : R → Option (List Fact)) (whole : R �
 -- what a run did in so many turns, whose endpoint is the one that is left: the facts are a run of
 -- node 0 with usual limits, the link, where it tells that, sent just what they say was sent, and
 -- the clock gave a number for each turn
-pub record HasTurned {R C : Type 0} (facts : R → Option (List Fact)) (whole : R → Bool)
-    (gave : C → List ℕ → Type 0) (sent then_sent : Option (List Carried)) (clock then_clock : C)
-    (before later : R) (made : ℕ) (endpoint : End) : Type 0 where
+pub record HasTurned {R C : Type 0} (log : R → Log) (gave : C → List ℕ → Type 0)
+    (sent then_sent : Option (List Carried)) (clock then_clock : C) (before later : R) (made : ℕ)
+    (endpoint : End) : Type 0 where
   pub noted : List Fact
-  pub grew : Grew facts whole before later noted
+  pub grew : Grew (log before) (log later) noted
   pub stands : Stands noted endpoint
   pub sends : then_sent ≡ option_map (λ ds. ds ++ sent_of noted) sent
   pub times : List ℕ

@@ -20,13 +20,9 @@ pub fn take_turn<H: Wait, L: Link, C: Clock, K: Continuation, R: Recorder>(
     k: &mut K,
     rec: &mut R,
 ) -> Result<Turn, LinkFault>
-    ensures takes { TakesTurn R.facts R.whole L.received L.waiting K.given C.gave (turn_of result)
-        (λ l. record {
-          sent = L.sent l;
-          troubles = record { faults = L.faults l; busies = L.busies l };
-        }) link.old link.new clock.old clock.new endpoint.old endpoint.new rec.old rec.new
-        k.old k.new }
-    ensures tells { TellsTurn R.facts R.whole K.given (L.sent link.old) (L.sent link.new)
+    ensures takes { TakesTurn R.log L.Link K.given C.gave (turn_of result) link.old link.new
+        clock.old clock.new endpoint.old endpoint.new rec.old rec.new k.old k.new }
+    ensures tells { TellsTurn R.log K.given (L.sent link.old) (L.sent link.new)
         endpoint.old endpoint.new rec.old rec.new k.old k.new }
     ensures cause { HasCause (L.faults link.old) (L.faults link.new) result }
     ensures team { team_of endpoint.new.workers ≡ team_of endpoint.old.workers }

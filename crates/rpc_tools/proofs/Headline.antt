@@ -1,10 +1,11 @@
 -- A simulation of a script that met no fault and no want of memory is Done.
-use Rattle.std.proofs.Common.{◌≡◌, ◌≢◌, ℕ, Option, Some, List, Ok, refl, subst, arith}
+use Rattle.std.proofs.Common.{◌≡◌, ◌≢◌, ℕ, Some, List, Ok, refl, subst, arith}
 use Rattle.rpc_outside.specs.Faults.{HasRisen, IsQuiet}
+use Rattle.rpc_outside.specs.Reading.{Unread}
+use Rattle.rpc_outside.specs.Writing.{Written}
 use Rattle.run_status.specs.declared.status.Status.{Status}
-use Rattle.run_status.specs.declared.status.Status.TheVariants.{Done, Usage, BadScript, ReadFault}
-use Rattle.run_status.specs.declared.status.Status.TheVariants.{WriteFault, NoMemory, LinkFault}
-use Rattle.run_status.specs.declared.status.Status.TheVariants.{CallsFailed, TurnsSpent}
+use Rattle.run_status.specs.declared.status.Status.TheVariants.{Done, BadScript, ReadFault}
+use Rattle.run_status.specs.declared.status.Status.TheVariants.{WriteFault, NoMemory}
 use Rattle.rpc_tools.specs.Outcomes.{Simulates, Reports, IsRefused, Succeeds}
 use Rattle.script_grammar.specs.declared.bad.BadScript.{BadScript as Bad}
 use Rattle.script_grammar.specs.declared.line.Line.{Line}
@@ -17,28 +18,25 @@ not-refused : (bytes : List ℕ) (script : List Line) (bad : Bad) → script_of 
     → IsRefused bytes bad → ⊥
 not-refused bytes script bad e h = cc
 
-pub headline : (status : Status) (bytes : List ℕ) (script : List Line) (left more : Option (List ℕ))
-    (read again : ℕ) (old new : Option (List ℕ)) (before after : ℕ)
-    → Simulates status left more read again old new before after → left ≡ Some bytes
-    → script_of bytes ≡ Ok script → IsQuiet read again
-    → IsQuiet before after → status ≢ NoMemory → Succeeds script status more old new before after
-headline Done bytes script left more read again old new before after s e g q w n =
+pub headline : (status : Status) (bytes : List ℕ) (script : List Line) (input then_input : Unread)
+    (page then_page : Written) → Simulates status input then_input page then_page
+    → input.left ≡ Some bytes → script_of bytes ≡ Ok script → IsQuiet input.faults then_input.faults
+    → IsQuiet page.faults then_page.faults → status ≢ NoMemory
+    → Succeeds script status then_input page then_page
+headline Done bytes script input then_input page then_page s e g q w n =
     let told = rw e at s.bytes in
     let found : script_of bytes ≡ Ok s.script = told.0 in
     let same : s.script ≡ script = cc in
     record {
       done = refl;
       ended = told.1;
-      reports = subst (λ (x : List Line). Reports x old new before after) same s.reports;
+      reports = subst (λ (x : List Line). Reports x page then_page) same s.reports;
     }
-headline Usage bytes script left more read again old new before after s e g q w n = absurd s
-headline (BadScript bad) bytes script left more read again old new before after s e g q w n =
+headline (BadScript bad) bytes script input then_input page then_page s e g q w n =
     absurd (not-refused bytes script bad g (rw e at s.refused))
-headline ReadFault bytes script left more read again old new before after s e g q w n =
+headline ReadFault bytes script input then_input page then_page s e g q w n =
     absurd (no-fault _ _ s.fault q)
-headline WriteFault bytes script left more read again old new before after s e g q w n =
+headline WriteFault bytes script input then_input page then_page s e g q w n =
     absurd (no-fault _ _ s.breaks.broke.fault w)
-headline NoMemory bytes script left more read again old new before after s e g q w n = absurd (n refl)
-headline LinkFault bytes script left more read again old new before after s e g q w n = absurd s
-headline CallsFailed bytes script left more read again old new before after s e g q w n = absurd s
-headline TurnsSpent bytes script left more read again old new before after s e g q w n = absurd s
+headline NoMemory bytes script input then_input page then_page s e g q w n = absurd (n refl)
+headline _ bytes script input then_input page then_page s e g q w n = absurd s

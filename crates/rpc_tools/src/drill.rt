@@ -25,8 +25,7 @@ fn drilled_world(alloc: Global, seed: u64, calls: u32) -> Result<World, NoMemory
 pub fn drill<K: Sink>(alloc: Global, seed: u64, calls: u32, sink: &mut K) -> Status
     requires some { 1 ≤ calls }
     requires most { calls ≤ MOST_CALLS }
-    ensures { Drills result seed calls (K.written sink.old) (K.written sink.new)
-        (K.faults sink.old) (K.faults sink.new) }
+    ensures { Drills result seed calls (K.page sink.old) (K.page sink.new) }
 {
     let Ok(world) = drilled_world(alloc, seed, calls) else {
         return Status::NoMemory;

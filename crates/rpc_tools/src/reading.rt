@@ -1,5 +1,4 @@
 //! Reading the source to its end.
-ghost use Rattle.std.specs.Prelude.{ℕ};
 ghost use Rattle.rpc_tools.specs.Outcomes.{Gives};
 
 use rpc_base::Octets;
@@ -25,8 +24,7 @@ pub enum Input {
 
 /// Reads the source to its end, to a fault, or until more bytes came than the longest script has.
 pub fn read_all<S: Source>(alloc: Global, source: &mut S) -> Input
-    ensures { Gives result (S.left source.old) (S.left source.new) (S.faults source.old)
-        (S.faults source.new) }
+    ensures { Gives result (S.input source.old) (S.input source.new) }
 {
     let mut bytes = Octets::from(Vec::new(alloc));
     let mut chunk = [0u8; CHUNK];

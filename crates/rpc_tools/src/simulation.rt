@@ -13,8 +13,7 @@ use sim_script::{BadScript, BadWhy, ReadError, Script, print, read};
 use std::alloc::Global;
 
 fn run_script<K: Sink>(alloc: Global, script: &Script, sink: &mut K) -> Status
-    ensures { RunsScript result script.now (K.written sink.old) (K.written sink.new)
-        (K.faults sink.old) (K.faults sink.new) }
+    ensures { RunsScript result script.now (K.page sink.old) (K.page sink.new) }
 {
     let Ok(world) = World::run(alloc, script) else {
         return Status::NoMemory;
@@ -26,8 +25,7 @@ fn run_script<K: Sink>(alloc: Global, script: &Script, sink: &mut K) -> Status
 }
 
 fn run_bytes<K: Sink>(alloc: Global, bytes: &[u8], sink: &mut K) -> Status
-    ensures { RunsBytes result bytes.now (K.written sink.old) (K.written sink.new)
-        (K.faults sink.old) (K.faults sink.new) }
+    ensures { RunsBytes result bytes.now (K.page sink.old) (K.page sink.new) }
 {
     match read(alloc, bytes) {
         Ok(script) => run_script(alloc, &script, sink),
@@ -39,16 +37,14 @@ fn run_bytes<K: Sink>(alloc: Global, bytes: &[u8], sink: &mut K) -> Status
 /// Reads the source to its end, runs the script and writes the report of its history. It waits for
 /// nothing.
 pub fn sim<S: Source, K: Sink>(alloc: Global, source: &mut S, sink: &mut K) -> Status
-    ensures simulates { Simulates result (S.left source.old) (S.left source.new)
-        (S.faults source.old) (S.faults source.new) (K.written sink.old) (K.written sink.new)
-        (K.faults sink.old) (K.faults sink.new) }
+    ensures simulates { Simulates result (S.input source.old) (S.input source.new) (K.page sink.old)
+        (K.page sink.new) }
     ensures headline { (bytes : List ℕ) (script : List Line)
-        → S.left source.old ≡ Some bytes → script_of bytes ≡ Ok script
-        → IsQuiet (S.faults source.old) (S.faults source.new)
-        → IsQuiet (K.faults sink.old) (K.faults sink.new)
+        → (S.input source.old).left ≡ Some bytes → script_of bytes ≡ Ok script
+        → IsQuiet (S.input source.old).faults (S.input source.new).faults
+        → IsQuiet (K.page sink.old).faults (K.page sink.new).faults
         → result ≢ Status.NoMemory
-        → Succeeds script result (S.left source.new) (K.written sink.old) (K.written sink.new)
-        (K.faults sink.old) (K.faults sink.new) }
+        → Succeeds script result (S.input source.new) (K.page sink.old) (K.page sink.new) }
 {
     match read_all(alloc, source) {
         Input::Whole(bytes) => run_bytes(alloc, bytes.bytes(), sink),

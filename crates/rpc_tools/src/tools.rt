@@ -7,7 +7,7 @@ ghost use Rattle.load_run.specs.Loading.{Loads};
 ghost use Rattle.rpc_tools.specs.Alone.{StartsNone, StaysAlone};
 ghost use Rattle.rpc_outside.specs.Faults.{IsQuiet};
 ghost use Rattle.rpc_tools.specs.Drills.{Drills, Succeeds as DrillSucceeds};
-ghost use Rattle.rpc_tools.specs.Outcomes.{NothingDone, Simulates, Succeeds, Untouched};
+ghost use Rattle.rpc_tools.specs.Outcomes.{NothingDone, Simulates, Succeeds, Unmoved};
 ghost use Rattle.script_grammar.specs.declared.line.Line.{Line};
 ghost use Rattle.script_grammar.specs.Script.{script_of};
 ghost use Rattle.serve_run.specs.Serving.{Serves};
@@ -57,49 +57,36 @@ where
     ensures no_task { task_of (map string_bytes words.now) ≡ None → result ≢ Status.NoMemory
         → result ≡ Status.Usage }
     ensures refuses { result ≡ Status.Usage
-        → NothingDone (S.left source.old) (S.left source.new) (S.faults source.old)
-        (S.faults source.new) (K.written sink.old) (K.written sink.new) (K.faults sink.old)
-        (K.faults sink.new) }
+        → NothingDone (S.input source.old) (S.input source.new) (K.page sink.old) (K.page sink.new) }
     ensures simulates { task_of (map string_bytes words.now) ≡ Some Task.Sim
-        → Simulates result (S.left source.old) (S.left source.new) (S.faults source.old)
-        (S.faults source.new) (K.written sink.old) (K.written sink.new) (K.faults sink.old)
-        (K.faults sink.new) }
+        → Simulates result (S.input source.old) (S.input source.new) (K.page sink.old)
+        (K.page sink.new) }
     ensures headline { (bytes : List ℕ) (script : List Line)
         → task_of (map string_bytes words.now) ≡ Some Task.Sim
-        → S.left source.old ≡ Some bytes → script_of bytes ≡ Ok script
-        → IsQuiet (S.faults source.old) (S.faults source.new)
-        → IsQuiet (K.faults sink.old) (K.faults sink.new)
+        → (S.input source.old).left ≡ Some bytes → script_of bytes ≡ Ok script
+        → IsQuiet (S.input source.old).faults (S.input source.new).faults
+        → IsQuiet (K.page sink.old).faults (K.page sink.new).faults
         → result ≢ Status.NoMemory
-        → Succeeds script result (S.left source.new) (K.written sink.old) (K.written sink.new)
-        (K.faults sink.old) (K.faults sink.new) }
+        → Succeeds script result (S.input source.new) (K.page sink.old) (K.page sink.new) }
     ensures drills { (seed calls : ℕ)
         → task_of (map string_bytes words.now) ≡ Some (Task.Drill seed calls)
-        → Drills result seed calls (K.written sink.old) (K.written sink.new) (K.faults sink.old)
-        (K.faults sink.new) }
+        → Drills result seed calls (K.page sink.old) (K.page sink.new) }
     ensures reads_nothing { task_of (map string_bytes words.now) ≢ Some Task.Sim
-        → Untouched (S.left source.old) (S.left source.new) (S.faults source.old)
-        (S.faults source.new) }
+        → Unmoved (S.input source.old) (S.input source.new) }
     ensures serves { (words' : ServeWords)
         → task_of (map string_bytes words.now) ≡ Some (Task.Serve words')
-        → Serves result R.facts R.whole C.gave (λ l. record {
-          sent = L.sent l;
-          troubles = record { faults = L.faults l; busies = L.busies l };
-        }) words'.turns link.old link.new clock.old clock.new rec.old rec.new (K.written sink.old)
-        (K.written sink.new) (K.faults sink.old) (K.faults sink.new) }
+        → Serves result R.log C.gave L.Link words'.turns link.old link.new clock.old clock.new
+        rec.old rec.new (K.page sink.old) (K.page sink.new) }
     ensures loads { (words' : LoadWords)
         → task_of (map string_bytes words.now) ≡ Some (Task.Load words')
-        → Loads result R.facts R.whole C.gave (λ l. record {
-          sent = L.sent l;
-          troubles = record { faults = L.faults l; busies = L.busies l };
-        }) words' link.old link.new clock.old clock.new rec.old rec.new (K.written sink.old)
-        (K.written sink.new) (K.faults sink.old) (K.faults sink.new) }
+        → Loads result R.log C.gave L.Link words' link.old link.new clock.old clock.new rec.old
+        rec.new (K.page sink.old) (K.page sink.new) }
     ensures alone { StaysAlone (task_of (map string_bytes words.now)) link.old link.new clock.old
         clock.new rec.old rec.new }
     ensures drilled { (seed calls : ℕ)
         → task_of (map string_bytes words.now) ≡ Some (Task.Drill seed calls)
-        → IsQuiet (K.faults sink.old) (K.faults sink.new) → result ≢ Status.NoMemory
-        → DrillSucceeds result seed calls (K.written sink.old) (K.written sink.new)
-        (K.faults sink.old) (K.faults sink.new) }
+        → IsQuiet (K.page sink.old).faults (K.page sink.new).faults → result ≢ Status.NoMemory
+        → DrillSucceeds result seed calls (K.page sink.old) (K.page sink.new) }
 {
     match read_words(alloc, words) {
         Ok(Task::Sim) => sim(alloc, source, sink),

@@ -5,7 +5,7 @@ use Rattle.std.specs.Prelude.{count_by, sum_by, slice_get}
 use Rattle.std.specs.List.{AllByRecursion, find, remove}
 use Rattle.std.proofs.lemmas.List.{map-append}
 use Rattle.std.proofs.lemmas.List.Sums.{sum_by-append, sum_by-cons}
-use Rattle.endpoint_loop.specs.Finishing.{CanFinish, asked_job}
+use Rattle.endpoint_loop.specs.Finishing.{CanFinish, asked_job, staff_of}
 use Rattle.endpoint_loop.specs.Running.{IsStaffed, asked_in, asks_of, is_job_of, told}
 use Rattle.endpoint_loop.specs.Seen.{Asks, with_ask}
 use Rattle.node_laws.specs.Kept.{Kept}
@@ -20,7 +20,7 @@ use Rattle.rpc_laws.specs.Working.{Works, worked_after_all}
 use Rattle.rpc_outside.specs.PlainAnswer.{background_answer}
 use Rattle.rpc_world.proofs.EndLemmas.{staffed-has, sum-out, valid-told}
 use Rattle.rpc_world.specs.Answered.{End, told_end}
-use Rattle.rpc_world.specs.Before.{IsPlaying, staff_of}
+use Rattle.rpc_world.specs.Before.{IsPlaying, local_members}
 use Rattle.work_laws.proofs.WorkLaws.{works-one}
 use Rattle.work_laws.specs.Known.{KnowsWork}
 use Rattle.work_laws.specs.Laws.{WorksOne}
@@ -154,7 +154,7 @@ module _ (j session request : ℕ) (e : End) (later : Local)
       ∙ (map-append job_of parts.front ((parts.back ++ w.worked) ++ (back ∷ []))
       ∙ ap (λ js. front ++ js) (map-append job_of (parts.back ++ w.worked) (back ∷ [])))))
 
-  module _ (k : Kept e.timed.lists) (staffed : IsStaffed background_answer (staff_of w) e.timed) where
+  module _ (k : Kept e.timed.lists) (staffed : IsStaffed background_answer (staff_of local_members w) e.timed) where
     few : (t r : ℕ) → count_by (is_job_of t r) (front ++ (job_of h.job ∷ rest)) ≤ 1
     few t r =
         let has = staffed-has e staffed t r in
@@ -175,7 +175,7 @@ module _ (j session request : ℕ) (e : End) (later : Local)
         { lists = record e.timed.lists { jobs = record e.timed.lists.jobs { out = out } } })
         (asked-same (asks_of (out_of later)) (asks_of (out_of w)) asks-same e.timed.lists.jobs.out)
 
-    pub staffed-worked : IsStaffed background_answer (staff_of later) e.timed
+    pub staffed-worked : IsStaffed background_answer (staff_of local_members later) e.timed
     staffed-worked =
         let jobs = e.timed.lists.jobs.out in
         record {

@@ -4,7 +4,7 @@ use Rattle.std.proofs.Common.{map, refl, sym, ap, subst, ◌∙◌, arith}
 use Rattle.std.specs.Prelude.{count_by, sum_by}
 use Rattle.std.specs.List.{AllByRecursion}
 use Rattle.std.proofs.lemmas.List.Sums.{sum_by-cons}
-use Rattle.endpoint_loop.specs.Finishing.{CanFinish, Staff, asked_job}
+use Rattle.endpoint_loop.specs.Finishing.{CanFinish, Staff, asked_job, staff_of}
 use Rattle.endpoint_loop.specs.Running.{IsStaffed, asks_of, is_job_of}
 use Rattle.endpoint_loop.specs.Seen.{Asks, asking, with_ask}
 use Rattle.node_laws.specs.Kept.{Kept}
@@ -16,7 +16,7 @@ use Rattle.rpc_laws.specs.declared.tables.Timed.{Timed}
 use Rattle.rpc_laws.specs.Jobs.{is_job}
 use Rattle.rpc_outside.specs.PlainAnswer.{background_answer}
 use Rattle.rpc_world.specs.Answered.{End, told_end}
-use Rattle.rpc_world.specs.Before.{staff_of}
+use Rattle.rpc_world.specs.Before.{local_members}
 use Rattle.work_laws.specs.Known.{HasJobs, is_of_request}
 use Rattle.worker_board.specs.declared.Parcel.{Parcel}
 use Rattle.worker_crew.specs.Jobs.{Job as CrewJob, job_of}
@@ -75,7 +75,7 @@ sum-jobs t r asks (job ∷ out) =
     omega (arith, more, one, two)
 
 -- workers that have exactly the jobs of a node have no others
-pub staffed-has : (e : End) → IsStaffed background_answer (staff_of e.workers) e.timed
+pub staffed-has : (e : End) → IsStaffed background_answer (staff_of local_members e.workers) e.timed
     → HasJobs (told_end e) e.workers
 staffed-has e st t r =
     let asks = asks_of (out_of e.workers) in

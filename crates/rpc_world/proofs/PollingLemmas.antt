@@ -9,7 +9,7 @@ use Rattle.end_laws.proofs.OwnFacts.{poll-own}
 use Rattle.endpoint_loop.specs.Finishing.{FinishesThese, NoneBack, jobs_left}
 use Rattle.endpoint_loop.specs.Noting.{sent_by, sent_of}
 use Rattle.endpoint_loop.specs.Polling.{FinishesBack, PollsWith as EndPolls, SendsUntil}
-use Rattle.endpoint_loop.specs.Running.{Crew}
+use Rattle.endpoint_loop.specs.Running.{crew_of}
 use Rattle.endpoint_loop.specs.Seen.{Asks, with_ask}
 use Rattle.endpoint_loop.specs.Serving.{job_named}
 use Rattle.node_laws.specs.Kept.{Kept}
@@ -37,7 +37,7 @@ use Rattle.rpc_outside.specs.Linking.{Carried}
 use Rattle.rpc_outside.specs.PlainAnswer.{background_answer, plain_mode}
 use Rattle.sim_script.specs.FollowsScript.{AtNode, PollsNode}
 use Rattle.rpc_world.specs.Answered.{End, Play, ServesAll, Whole, stage_of, told_end}
-use Rattle.rpc_world.specs.Before.{IsPlaying, staff_of}
+use Rattle.rpc_world.specs.Before.{IsPlaying, local_members}
 use Rattle.rpc_world.specs.Performed.{Performed}
 use Rattle.rpc_world.proofs.EndLemmas.{staffed-has, valid-told}
 use Rattle.rpc_world.proofs.PlainLemmas.{AllOf, all-owned, plainly-served}
@@ -78,10 +78,6 @@ sent-flight n (g ∷ x) f own =
     ∙ append_assoc f (map (copy_from n) (sent_by g.event g.first g.second))
     (map (copy_from n) (sent_of x))
     ∙ ap (λ c. f ++ c) (sym (map-append (copy_from n) (sent_by g.event g.first g.second) (sent_of x)))
-
--- what an endpoint is to its workers
-abbrev pub crew_of : Local → Crew
-crew_of w = record { staff = staff_of w; worked = Some w.worked; looks = 0 }
 
 -- the jobs that came back
 finishes-each : (answer : ℕ → List ℕ → List ℕ) (me : ℕ) (ps : List Parcel) (s : Timed) (x : List Fact) (t : Timed)
@@ -149,14 +145,14 @@ sends-as false s x t e h = h
 
 module _ (n now : ℕ) (worked : List WorkedJob) (e new : End) (x : List Fact) (stopped : Bool)
     (k : Kept e.timed.lists) (goes_on : stopped ≡ false)
-    (p : EndPolls plain_serving background_answer stopped now (crew_of e.workers) (crew_of new.workers)
+    (p : EndPolls plain_serving background_answer stopped now (crew_of local_members e.workers) (crew_of local_members new.workers)
     e.timed x new.timed)
     (plays : IsPlaying worked n e) where
   with-parcels : PollsWith plain_mode now p.parcels p.gave e.workers new.workers (told_end e) x (told_end new)
   with-parcels = record {
     back = cc (p.first);
     given = cc (p.waits);
-    polls = poll-as (FinishesBack background_answer p.parcels (crew_of e.workers) (crew_of new.workers))
+    polls = poll-as (FinishesBack background_answer p.parcels (crew_of local_members e.workers) (crew_of local_members new.workers))
         (FinishesFirst (map (worked_as (told_end e).lists.me) p.parcels) (new.workers.worked ≡ []))
         (SendsUntil stopped) SendsAll plain_mode now (told_end e) x (told_end new)
         (λ s y t h. record {

@@ -4,6 +4,7 @@ use Rattle.std.proofs.Common.{◌≡◌, ℕ, Bool, true, false, not, cond, Opti
 use Rattle.std.proofs.Common.{◌∷◌, length, nat_lt, refl, sym, ap, subst, ◌∙◌, ◌≢◌, Result, Ok, Err}
 use Rattle.std.specs.Prelude.{◌==◌, IfErr}
 use Rattle.std.specs.List.{find}
+use Rattle.endpoint_loop.specs.Finishing.{staff_of}
 use Rattle.end_laws.proofs.OwnFacts.{asks-own, connects-own, delivers-own, disconnects-own, rates-own}
 use Rattle.endpoint_loop.specs.Applying.{Leaves, UnlessNoMemory}
 use Rattle.endpoint_loop.specs.Asking.{UnlessWanting}
@@ -34,7 +35,7 @@ use Rattle.sim_script.specs.FollowsScript.{is_wanting}
 use Rattle.session_mgmt.specs.declared.answers.ConnectError.{ConnectError}
 use Rattle.session_mgmt.specs.declared.answers.ConnectError.TheVariants.{NoMemory as NoConnectMemory}
 use Rattle.rpc_world.specs.Answered.{End, Whole, told_end}
-use Rattle.rpc_world.specs.Before.{IsPlaying, staff_of}
+use Rattle.rpc_world.specs.Before.{IsPlaying, local_members}
 use Rattle.rpc_world.proofs.EndLemmas.{staffed-stays}
 use Rattle.rpc_world.proofs.PlainLemmas.{AllOf, all-owned, idle-quiet}
 use Rattle.rpc_world.proofs.StepLemmas.{NodeStep, quiet-plain}
@@ -60,8 +61,8 @@ still-step P n worked e new x workers service jobs i step p =
       plain = quiet-plain n e new x service own (idle-quiet x i.stays.idle) i.whole;
       plays = record {
         me = i.stays.me ∙ p.me;
-        staffed = staffed-stays background_answer (staff_of new.workers) e.timed new.timed jobs
-            (subst (λ (w : Local). IsStaffed background_answer (staff_of w) e.timed) (sym workers) p.staffed);
+        staffed = staffed-stays background_answer (staff_of local_members new.workers) e.timed new.timed jobs
+            (subst (λ (w : Local). IsStaffed background_answer (staff_of local_members w) e.timed) (sym workers) p.staffed);
         knows = subst (λ (w : Local). KnowsWork (worked_after_all worked x) (told_end new) w) (sym workers)
             (stays-knows x worked (told_end e) (told_end new) e.workers i.stays p.knows);
       };

@@ -1,11 +1,12 @@
 -- A step of one node, as what a script did.
-use Rattle.std.proofs.Common.{◌≡◌, ℕ, zero, suc, ◌<◌, true, Option, Some, List, [], ◌∷◌, ◌++◌}
+use Rattle.std.proofs.Common.{◌≡◌, ℕ, zero, suc, ◌<◌, Bool, true, Option, Some, List, [], ◌∷◌, ◌++◌}
 use Rattle.std.proofs.Common.{◌≤◌, append_assoc, length, length-append, drop, subst, sym, ap, ◌∙◌, arith, inl, inr}
 use Rattle.std.specs.Prelude.{option_map}
 use Rattle.std.specs.List.{AllByRecursion, slice_get, slice_set}
 use Rattle.std.proofs.Math.Seq.{drop-append_seam}
 use Rattle.std.proofs.lemmas.Bool.{cases_eq}
 use Rattle.std.proofs.lemmas.Option.{slice_get-map}
+use Rattle.rpc_world.specs.Logged.{log_of}
 use Rattle.end_laws.proofs.ListLemmas.{all-without, length-slice_set}
 use Rattle.ring_laws.proofs.Frames.{map-set}
 use Rattle.network_model.specs.declared.stage.Stage.{Stage}
@@ -18,8 +19,8 @@ use Rattle.rpc_laws.specs.declared.tables.WorkedJob.{WorkedJob}
 use Rattle.rpc_laws.specs.InFlight.{flight_after_all}
 use Rattle.rpc_laws.specs.Steps.{Rel}
 use Rattle.rpc_laws.specs.Working.{is_worked, worked_after, worked_after_all, worked_after_node}
-use Rattle.rpc_outside.specs.Recording.{Grew}
-use Rattle.rpc_outside.specs.declared.recorder.MemRecorder.{MemRecorder}
+use Rattle.rpc_outside.specs.Recording.{Grew, Log}
+use Rattle.rpc_outside.specs.declared.memory.recorder.MemRecorder.{MemRecorder}
 use Rattle.sim_script.specs.FollowsScript.{AtNode}
 use Rattle.world_laws.proofs.FactLemmas.{set-same}
 use Rattle.work_laws.proofs.StayLaws.{node-at, others-knows}
@@ -28,27 +29,29 @@ use Rattle.rpc_world.specs.Before.{AllPlay, IsPlaying}
 use Rattle.rpc_world.specs.Performed.{Performed}
 use Rattle.rpc_world.proofs.PlainLemmas.{AllOf, plainly-quiet}
 
+-- what a recorder in memory shows
+abbrev pub keeping : List Fact → Bool → Log
+keeping facts whole = record { facts = Some facts; whole = whole }
+
 -- what a recorder kept that is whole
-pub grew-facts : (old new : MemRecorder) (x : List Fact)
-    → Grew (λ (r : MemRecorder). Some r.facts.items) (λ (r : MemRecorder). r.whole) old new x
-    → new.whole ≡ true → new.facts.items ≡ old.facts.items ++ x
-grew-facts old new x g w = cc (g.told w)
+pub grew-facts : (old new : List Fact) (was whole : Bool) (x : List Fact)
+    → Grew (keeping old was) (keeping new whole) x → whole ≡ true → new ≡ old ++ x
+grew-facts old new was whole x g w = cc (g.told w)
 
 -- what stood there before is there still
-pub grew-since : (old new : MemRecorder) (x : List Fact) (from : ℕ)
-    → Grew (λ (r : MemRecorder). Some r.facts.items) (λ (r : MemRecorder). r.whole) old new x
-    → from ≡ length old.facts.items → new.whole ≡ true → from ≤ length new.facts.items
-grew-since old new x from g is w =
-    omega (arith, is, ap length (grew-facts old new x g w), length-append old.facts.items x)
+pub grew-since : (old new : List Fact) (was whole : Bool) (x : List Fact) (from : ℕ)
+    → Grew (keeping old was) (keeping new whole) x → from ≡ length old → whole ≡ true
+    → from ≤ length new
+grew-since old new was whole x from g is w =
+    omega (arith, is, ap length (grew-facts old new was whole x g w), length-append old x)
 
 -- a recorder that grew twice
-pub grew-both : (r q u : MemRecorder) (x y : List Fact)
-    → Grew (λ (r : MemRecorder). Some r.facts.items) (λ (r : MemRecorder). r.whole) r q x
-    → Grew (λ (r : MemRecorder). Some r.facts.items) (λ (r : MemRecorder). r.whole) q u y
-    → Grew (λ (r : MemRecorder). Some r.facts.items) (λ (r : MemRecorder). r.whole) r u (x ++ y)
+pub grew-both : (r q u : MemRecorder) (x y : List Fact) → Grew (log_of r) (log_of q) x
+    → Grew (log_of q) (log_of u) y → Grew (log_of r) (log_of u) (x ++ y)
 grew-both r q u x y g h = record {
   since = λ w. g.since (h.since w);
-  told = λ w. h.told w ∙ ap (λ (fs : List Fact). Some (fs ++ y)) (grew-facts r q x g (h.since w))
+  told = λ w. h.told w ∙ ap (λ (fs : List Fact). Some (fs ++ y))
+      (grew-facts r.facts.items q.facts.items r.whole q.whole x g (h.since w))
       ∙ ap Some (append_assoc r.facts.items x y);
 }
 

@@ -4,6 +4,7 @@ use Rattle.std.proofs.Common.{refl, sym, ap, subst, ◌∙◌, arith, append-nil
 use Rattle.std.specs.Prelude.{IfNone, IfSome, IsNone, ◌↔◌}
 use Rattle.std.specs.List.{AllByRecursion}
 use Rattle.std.proofs.lemmas.List.{nil_from_length}
+use Rattle.rpc_world.specs.Logged.{log_of}
 use Rattle.node_laws.specs.Kept.{Kept}
 use Rattle.rpc_base.specs.declared.event.Event.TheVariants.{Missed, Worked}
 use Rattle.rpc_base.specs.declared.fact.Fact.{Fact}
@@ -14,7 +15,7 @@ use Rattle.rpc_laws.specs.Facts.{plain}
 use Rattle.rpc_laws.specs.Working.{Works, WorksAll, waiting_of, worked_after_all}
 use Rattle.rpc_outside.specs.PlainAnswer.{background_answer}
 use Rattle.rpc_outside.specs.Recording.{Grew}
-use Rattle.rpc_outside.specs.declared.recorder.MemRecorder.{MemRecorder}
+use Rattle.rpc_outside.specs.declared.memory.recorder.MemRecorder.{MemRecorder}
 use Rattle.rpc_world.specs.Answered.{End, Play, Quiet, Whole, told_end}
 use Rattle.rpc_world.specs.Before.{IsPlaying}
 use Rattle.rpc_world.specs.Performed.{Performed, work_event}
@@ -57,7 +58,7 @@ one-worked n j worked e later (Some named) k none same h p = record {
 -- some of the waiting jobs of an endpoint were worked, the oldest first
 pub record WorksSome (old new : End) (before now : MemRecorder) : Type 0 where
   pub noted : List Fact
-  pub grew : Grew (λ (r : MemRecorder). Some r.facts.items) (λ (r : MemRecorder). r.whole) before now noted
+  pub grew : Grew (log_of before) (log_of now) noted
   pub timed : new.timed ≡ old.timed
   pub service : new.service ≡ old.service
   pub told : (worked : List WorkedJob) → IsPlaying worked old.timed.lists.me old → told_end new ≡ told_end old
@@ -81,7 +82,7 @@ works-none-yet e r = record {
 pub works-one-more : (old new : End) (later : Local) (session request : ℕ) (r q u : MemRecorder)
     → Kept old.timed.lists → WorksSome old new r q
     → LocalWorks background_answer 0 session request new.workers later
-    → Grew (λ (r : MemRecorder). Some r.facts.items) (λ (r : MemRecorder). r.whole) q u
+    → Grew (log_of q) (log_of u)
     (plain old.timed.lists.me (Worked session request) ∷ [])
     → WorksSome old (record new { workers = later }) r u
 works-one-more old new later session request r q u k some h g =

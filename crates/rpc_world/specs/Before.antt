@@ -1,7 +1,7 @@
 -- What the world has before each command of a script, and what that command may name.
-use Rattle.std.specs.Prelude.{ℕ, ◌≡◌, ◌<◌, ◌≤◌, List, Some, length, slice_get}
+use Rattle.std.specs.Prelude.{ℕ, ◌≡◌, ◌<◌, ◌≤◌, List, None, Some, length, slice_get}
 use Rattle.std.specs.List.{AllByRecursion}
-use Rattle.endpoint_loop.specs.Finishing.{Staff}
+use Rattle.endpoint_loop.specs.Finishing.{staff_of}
 use Rattle.endpoint_loop.specs.Running.{IsStaffed}
 use Rattle.rpc_laws.specs.declared.tables.WorkedJob.{WorkedJob}
 use Rattle.rpc_outside.specs.PlainAnswer.{background_answer}
@@ -12,21 +12,26 @@ use Rattle.script_grammar.specs.declared.before.TheConstants.{MOST_NODES}
 use Rattle.script_grammar.specs.Conditions.{IsAmong}
 use Rattle.work_laws.specs.Known.{KnowsWork}
 use Rattle.worker_crew.specs.Local.{Local, out_of}
+use Rattle.worker_crew.specs.declared.workers.Workers as Workers
 
--- what the workers of an endpoint are
-abbrev pub staff_of : Local → Staff
-staff_of w = record {
-  limit = w.limit;
-  given = w.given;
-  out = out_of w;
-  waiting = Some w.waiting;
+-- the workers of an endpoint, by what contracts see of workers
+abbrev pub local_members : Workers.Ghosts Local
+local_members = record {
+  answer = background_answer;
+  limit = λ w. w.limit;
+  out = out_of;
+  given = λ w. w.given;
+  worked = λ w. Some w.worked;
+  waiting = λ w. Some w.waiting;
+  looks = λ _. 0;
+  team = λ _. None;
 }
 
 -- the endpoint in place n has this number, and its workers have exactly its jobs: those that wait
 -- and those that were worked are the ones that the world says
 pub record IsPlaying (worked : List WorkedJob) (n : ℕ) (e : End) : Type 0 where
   pub me : e.timed.lists.me ≡ n
-  pub staffed : IsStaffed background_answer (staff_of e.workers) e.timed
+  pub staffed : IsStaffed background_answer (staff_of local_members e.workers) e.timed
   pub knows : KnowsWork worked (told_end e) e.workers
 
 -- so it is of each endpoint, and each job that was worked is one of theirs

@@ -1,6 +1,7 @@
 pub mod Answered
 pub mod Before
 pub mod Lawful
+pub mod Logged
 pub mod Performed
 pub mod Standing
 pub mod Worked

@@ -1,15 +1,13 @@
 -- The endpoints that a script left: each stands for its node's facts.
 use Rattle.std.specs.Prelude.{◌≡◌, ℕ, Option, Some, None, List, [], ◌∷◌, slice_get}
+use Rattle.endpoint_loop.specs.PlainMembers.{plain_members}
 use Rattle.endpoint_loop.specs.Standing.{StandsFor}
 use Rattle.rpc_base.specs.declared.event.Event.TheVariants.{Made}
 use Rattle.rpc_base.specs.declared.fact.Fact.{Fact}
 use Rattle.rpc_laws.specs.Facts.{plain}
-use Rattle.rpc_laws.specs.Service.{plain_serving}
 use Rattle.rpc_laws.specs.UsualLimits.{with_ring}
-use Rattle.rpc_outside.specs.PlainAnswer.{background_answer}
-use Rattle.rpc_outside.specs.PlainStands.{PlainStands}
 use Rattle.rpc_world.specs.Answered.{End}
-use Rattle.rpc_world.specs.Before.{staff_of}
+use Rattle.rpc_world.specs.Before.{local_members}
 use Rattle.world_laws.specs.NodeFacts.{facts_of}
 
 -- the facts of node n in a history are its Made, and then those for which its endpoint stands, with
@@ -18,7 +16,7 @@ pub record StandsAt (n : ℕ) (h : List Fact) (e : End) : Type 0 where
   pub ring : ℕ
   pub later : List Fact
   pub made : facts_of n h ≡ plain n (Made ring) ∷ later
-  pub stands : StandsFor plain_serving PlainStands background_answer staff_of (with_ring ring) later e
+  pub stands : StandsFor plain_members local_members (with_ring ring) later e
 
 -- a node that isn't there has no facts
 abbrev pub StandsIf : ℕ → List Fact → Option End → Type 0

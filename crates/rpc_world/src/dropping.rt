@@ -1,6 +1,4 @@
 //! What the world does with calls that are over: the history tells their answers.
-ghost use Rattle.std.specs.Prelude.{⊤};
-
 use client_core::Done;
 use endpoint_loop::Continuation;
 
@@ -9,7 +7,5 @@ use endpoint_loop::Continuation;
 pub struct Dropping;
 
 impl Continuation for Dropping {
-    ghost given = { λ _ _. ⊤ };
-
     fn done(&mut self, _done: Done) {}
 }

@@ -1,5 +1,6 @@
 //! Jobs of the nodes are worked.
 ghost use Rattle.std.specs.Prelude.{◌≡◌, ◌<◌, [], ◌∷◌, length, Some, OnOk};
+ghost use Rattle.rpc_world.specs.Logged.{log_of};
 ghost use Rattle.rpc_laws.specs.Facts.{plain};
 ghost use Rattle.rpc_laws.specs.Working.{Works};
 ghost use Rattle.rpc_outside.specs.Recording.{Grew};
@@ -17,7 +18,7 @@ use worker_crew::LocalWorkers;
 
 // Notes which waiting job was worked, or that job `j` isn't there.
 fn note_work(rec: &mut MemRecorder, me: NodeId, j: u32, named: Option<(SessionNo, RequestNo)>)
-    ensures { Grew (λ r. Some r.facts.items) (λ r. r.whole) rec.old rec.new
+    ensures { Grew (log_of rec.old) (log_of rec.new)
         (plain me (work_event j named) ∷ []) }
 {
     let event = match named {

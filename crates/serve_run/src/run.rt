@@ -25,10 +25,6 @@ use worker_crew::{Hand, MOST_HANDS, Spawner};
 struct NoCalls;
 
 impl Continuation for NoCalls {
-    ghost use Rattle.std.specs.Prelude.{⊤};
-
-    ghost given = { λ _ _. ⊤ };
-
     fn done(&mut self, _done: Done) {}
 }
 
@@ -53,8 +49,7 @@ impl<H: Wait> Model for ServeRun<H> {
 
 // Writes the line of a server's counts.
 fn write_turns<K: Sink>(sink: &mut K, turns: u32, counts: &Counted) -> Status
-    ensures { Writes result (turns_line turns counts.now) (K.written sink.old) (K.written sink.new)
-        (K.faults sink.old) (K.faults sink.new) }
+    ensures { Writes result (turns_line turns counts.now) (K.page sink.old) (K.page sink.new) }
 {
     let line = [
         Count {
@@ -133,12 +128,9 @@ impl<H: Wait + Drop> ServeRun<H> {
         rec: &mut R,
     ) -> Going
         requires left { self.old.made < self.old.turns }
-        ensures serves { HasServed R.facts R.whole L.received L.waiting C.gave (λ l. record {
-          sent = L.sent l;
-          troubles = record { faults = L.faults l; busies = L.busies l };
-        }) link.old link.new clock.old clock.new self.old.endpoint self.new.endpoint
-            rec.old rec.new }
-        ensures tells { RunsOn R.facts R.whole C.gave (L.sent link.old) (L.sent link.new) clock.old
+        ensures serves { HasServed R.log L.Link C.gave link.old link.new clock.old clock.new
+            self.old.endpoint self.new.endpoint rec.old rec.new }
+        ensures tells { RunsOn R.log C.gave (L.sent link.old) (L.sent link.new) clock.old
             clock.new self.old.endpoint self.new.endpoint rec.old rec.new 1 }
         ensures counted { self.new ≡ one_more self.new.endpoint self.old }
         ensures answers { Answers (L.faults link.old) (L.faults link.new) self.new result }
@@ -166,8 +158,7 @@ impl<H: Wait + Drop> ServeRun<H> {
         requires over { self.made ≡ self.turns }
         requires hands { AreStarted self.endpoint.workers (P.hands_out spawner.old) }
         ensures none { P.hands_out spawner.new ≡ [] }
-        ensures prints { Prints self result (K.written sink.old) (K.written sink.new)
-            (K.faults sink.old) (K.faults sink.new) }
+        ensures prints { Prints self result (K.page sink.old) (K.page sink.new) }
     {
         let ServeRun {
             endpoint,

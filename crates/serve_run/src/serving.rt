@@ -20,10 +20,8 @@ fn turn_all<H: Wait + Drop, L: Link, C: Clock, R: Recorder>(
 ) -> Status
     requires left { run.old.made < run.old.turns }
     ensures team { team_of run.new.endpoint.workers ≡ team_of run.old.endpoint.workers }
-    ensures ends { TurnsEnd result R.facts R.whole C.gave (λ l. record {
-      sent = L.sent l;
-      troubles = record { faults = L.faults l; busies = L.busies l };
-    }) link.old link.new clock.old clock.new run.old run.new rec.old rec.new }
+    ensures ends { TurnsEnd result R.log C.gave L.Link link.old link.new clock.old
+        clock.new run.old run.new rec.old rec.new }
 {
     'turns: loop {
         if let Going::Over(status) = run.turn(link, clock, rec) {
@@ -57,11 +55,8 @@ where
     requires hands { spec.now.workers ≤ MOST_HANDS }
     requires none { P.hands_out spawner.old ≡ [] }
     ensures none { P.hands_out spawner.new ≡ [] }
-    ensures serves { Serves result R.facts R.whole C.gave (λ l. record {
-      sent = L.sent l;
-      troubles = record { faults = L.faults l; busies = L.busies l };
-    }) spec.now.turns link.old link.new clock.old clock.new rec.old rec.new (K.written sink.old)
-        (K.written sink.new) (K.faults sink.old) (K.faults sink.new) }
+    ensures serves { Serves result R.log C.gave L.Link spec.now.turns link.old link.new clock.old
+        clock.new rec.old rec.new (K.page sink.old) (K.page sink.new) }
 {
     let mut run = match ServeRun::start(rt, alloc, spec, link, spawner) {
         Ok(run) => run,

@@ -5,11 +5,8 @@ use Rattle.plain_turns.proofs.turn.take_turn.Goals as goal
 
 pub returns-clause-tells : goal.returns-clause-tells
 returns-clause-tells g c =
-    turn-tells g.R.Recorder.facts g.R.Recorder.whole g.L.Link.received g.L.Link.waiting
-    g.K.Continuation.given g.C.Clock.gave (turn_of c.turn.result) (λ l. record {
-      sent = g.L.Link.sent l;
-      troubles = record { faults = g.L.Link.faults l; busies = g.L.Link.busies l };
-    }) _ _ _ _ _ _ _ _ _ _ (record {
+    turn-tells g.R.Recorder.log g.L.Link
+    g.K.Continuation.given g.C.Clock.gave (turn_of c.turn.result) _ _ _ _ _ _ _ _ _ _ (record {
       now = c.now-now.result;
       ticks = c.now-now.ensures;
       turns = c.turn.ensures.turns;

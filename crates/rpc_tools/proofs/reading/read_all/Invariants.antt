@@ -4,6 +4,6 @@ use Rattle.rpc_tools.proofs.reading.read_all.Given as goal
 
 abbrev pub invariant-chunks : goal.invariant-chunks
 invariant-chunks g l =
-    Consumes (g.S.Source.left l.initial.source) (g.S.Source.left l.source) l.bytes
-    × (g.S.Source.faults l.source ≡ g.S.Source.faults l.initial.source)
+    Consumes (g.S.Source.input l.initial.source).left (g.S.Source.input l.source).left l.bytes
+    × ((g.S.Source.input l.source).faults ≡ (g.S.Source.input l.initial.source).faults)
     × (l.turn ≤ length l.bytes) × (length l.bytes ≤ 16777216)

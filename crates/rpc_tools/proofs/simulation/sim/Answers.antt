@@ -13,5 +13,5 @@ returns-in-TooLong-clause-simulates g c = record {
 
 pub returns-in-TooLong-clause-headline : goal.returns-in-TooLong-clause-headline
 returns-in-TooLong-clause-headline g c = λ bytes script left is source sink memory.
-    headline _ bytes script _ _ _ _ _ _ _ _ (returns-in-TooLong-clause-simulates g c) left is source
+    headline _ bytes script _ _ _ _ (returns-in-TooLong-clause-simulates g c) left is source
     sink memory

@@ -8,7 +8,7 @@ pub land-requires : goal.land-requires
 land-requires c =
     let makes = asked-makes c.ask-asked.result _ c.wants_memory.result c.if-wants_memory.false
     c.wants_memory.ensures c.ask-asked.ensures.asks in
-    grew-since _ _ _ _ makes.grew (ap length c.facts-before.ensures)
+    grew-since _ _ _ _ _ _ makes.grew (ap length c.facts-before.ensures)
 
 pub returns : goal.returns
 returns c =
@@ -24,4 +24,4 @@ returns c =
     (leaving-step P c.args.node c.args.stage.now.worked c.at_mut-asking.result.now _ makes.noted
     c.ask-asked.ensures.leaves (λ s t h. asks-still c.args.session c.args.req_type c.args.ask.now c.args.room
     s makes.noted t h) makes.step)
-    (grew-facts _ _ _ makes.grew land.whole) (ap length c.facts-before.ensures) (rw is_n at land.stage)
+    (grew-facts _ _ _ _ _ makes.grew land.whole) (ap length c.facts-before.ensures) (rw is_n at land.stage)

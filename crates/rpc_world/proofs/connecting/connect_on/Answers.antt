@@ -8,7 +8,7 @@ pub land-requires : goal.land-requires
 land-requires c =
     let makes = opened-makes c.connect-opened.result _ c.wants_memory.result
     c.if-wants_memory.false c.wants_memory.ensures c.connect-opened.ensures.makes in
-    grew-since _ _ _ _ makes.grew (ap length c.facts-before.ensures)
+    grew-since _ _ _ _ _ _ makes.grew (ap length c.facts-before.ensures)
 
 pub returns : goal.returns
 returns c =
@@ -23,5 +23,5 @@ returns c =
     (leaving-step P c.args.a c.args.stage.now.worked c.at_mut-opening.result.now _ makes.noted
     c.connect-opened.ensures.leaves
     (λ s t h. connects-still c.b.inside.0 c.args.credits 0 s makes.noted t h) makes.step)
-    (grew-facts _ _ _ makes.grew land.whole) (ap length c.facts-before.ensures) (rw is_n at land.stage) in
+    (grew-facts _ _ _ _ _ makes.grew land.whole) (ap length c.facts-before.ensures) (rw is_n at land.stage) in
     rw c.b.view_is at done

@@ -7,7 +7,7 @@ use Rattle.rpc_world.proofs.connecting.disconnect_on.Goals as goal
 pub land-requires : goal.land-requires
 land-requires c =
     let makes = c.disconnect-answer.ensures.makes in
-    grew-since _ _ _ _ makes.grew (ap length c.facts-before.ensures)
+    grew-since _ _ _ _ _ _ makes.grew (ap length c.facts-before.ensures)
 
 pub returns : goal.returns
 returns c =
@@ -21,4 +21,4 @@ returns c =
     (leaving-step P c.args.node c.args.stage.now.worked c.at_mut-closing.result.now _ makes.noted
     c.disconnect-answer.ensures.leaves
     (λ s t h. disconnects-still c.args.session s makes.noted t h) makes.step)
-    (grew-facts _ _ _ makes.grew land.whole) (ap length c.facts-before.ensures) (rw is_n at land.stage)
+    (grew-facts _ _ _ _ _ makes.grew land.whole) (ap length c.facts-before.ensures) (rw is_n at land.stage)

@@ -8,4 +8,4 @@ returns c =
     rw c.in_ok-push.ensures.pushed (makes-node c.args.ring _ c.in-Ok.made
     (c.in-Ok.ensures.made ∙ rw (c.len.ensures, c.new-2.ensures, c.in_ok-workers.ensures.made) refl)
     _ _ _ c.stage.view_is
-    (grew-facts _ _ _ (rw c.len.ensures at c.note.ensures) c.in_ok-check_whole.ensures))
+    (grew-facts _ _ _ _ _ (rw c.len.ensures at c.note.ensures) c.in_ok-check_whole.ensures))

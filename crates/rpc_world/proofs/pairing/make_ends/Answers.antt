@@ -40,7 +40,7 @@ returns c =
     let whole = c.in_ok-check_whole.ensures in
     rw (is_a, is_b) (ends-by c.args.a c.args.b c.args.credits of_client of_server _ asking _ serving _ _ _
     c.requires.two at_a at_b is_p is_q m n _ _ _ _ c.stage.view_is
-    (grew-facts _ _ _ first.grew (second.grew.since whole)) (grew-facts _ _ _ second.grew whole))
+    (grew-facts _ _ _ _ _ first.grew (second.grew.since whole)) (grew-facts _ _ _ _ _ second.grew whole))
 
 pub made-requires : goal.made-requires
 made-requires c =

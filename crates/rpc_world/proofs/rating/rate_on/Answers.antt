@@ -7,7 +7,7 @@ use Rattle.rpc_world.proofs.rating.rate_on.Goals as goal
 pub land-requires : goal.land-requires
 land-requires c =
     let makes = c.set_rate-answer.ensures.makes in
-    grew-since _ _ _ _ makes.grew (ap length c.facts-before.ensures)
+    grew-since _ _ _ _ _ _ makes.grew (ap length c.facts-before.ensures)
 
 pub returns : goal.returns
 returns c =
@@ -21,4 +21,4 @@ returns c =
     (leaving-step P c.args.node c.args.stage.now.worked c.at_mut-rating.result.now _ makes.noted
     c.set_rate-answer.ensures.leaves
     (λ s t h. rates-still c.args.session c.args.rate s makes.noted t h) makes.step)
-    (grew-facts _ _ _ makes.grew land.whole) (ap length c.facts-before.ensures) (rw is_n at land.stage)
+    (grew-facts _ _ _ _ _ makes.grew land.whole) (ap length c.facts-before.ensures) (rw is_n at land.stage)

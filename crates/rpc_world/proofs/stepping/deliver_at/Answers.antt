@@ -15,4 +15,4 @@ returns c =
     (rw is_n at c.at_mut-receiver.ensures.value)
     (leaving-step P c.args.node c.args.stage.now.worked c.at_mut-receiver.result.now _ makes.noted
     c.deliver.ensures.leaves (λ s t h. delivers-still c.args.sender c.args.bytes.now s makes.noted t h) makes.step)
-    (grew-facts _ _ _ makes.grew land.whole) (ap length c.facts-before.ensures) (rw is_n at land.stage)
+    (grew-facts _ _ _ _ _ makes.grew land.whole) (ap length c.facts-before.ensures) (rw is_n at land.stage)

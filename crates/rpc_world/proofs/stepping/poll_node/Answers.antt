@@ -15,19 +15,19 @@ use Rattle.rpc_world.proofs.stepping.poll_node.Goals as goal
 
 pub land_sent-requires : goal.land_sent-requires
 land_sent-requires c =
-    grew-since _ _ _ _ c.in-Ok.ensures.polls.grew (ap length c.facts-before.ensures)
+    grew-since _ _ _ _ _ _ c.in-Ok.ensures.polls.grew (ap length c.facts-before.ensures)
     c.in_ok-check_wants.ensures.kept
 
 pub check_wants-requires : goal.check_wants-requires
 check_wants-requires c =
-    grew-since _ _ _ _ c.in-Ok.ensures.polls.grew (ap length c.facts-before.ensures)
+    grew-since _ _ _ _ _ _ c.in-Ok.ensures.polls.grew (ap length c.facts-before.ensures)
 
 pub returns : goal.returns
 returns c =
     let is_n : c.from.result ≡ c.args.node = c.from.ensures ∙ c.node.view_is in
     let polls = c.in-Ok.ensures.polls in
     let from = ap length c.facts-before.ensures in
-    let grew = grew-facts _ _ _ polls.grew c.in_ok-check_wants.ensures.kept in
+    let grew = grew-facts _ _ _ _ _ polls.grew c.in_ok-check_wants.ensures.kept in
     let now = c.stage.inside.clock in
     let free = never-busy c.in-Ok._turn.busy c.in-Ok.ensures.busy in
     let back = since _ _ _ _ grew from in

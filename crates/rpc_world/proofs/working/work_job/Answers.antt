@@ -15,5 +15,5 @@ returns c =
     (λ p. one-worked c.args.node c.args.job c.args.stage.now.worked c.at_mut-working.result.now
     c.work-named.new.self c.work-named.result c.sound.ensures.kept (rw c.workers.ensures.value at named.none)
     (rw c.workers.ensures.value at named.unchanged) (rw c.workers.ensures.value at named.worked) p)
-    (grew-facts _ _ _ c.note_work.ensures land.whole)
+    (grew-facts _ _ _ _ _ c.note_work.ensures land.whole)
     (ap length c.facts-before.ensures) (rw is_n at land.stage)

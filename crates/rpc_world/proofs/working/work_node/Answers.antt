@@ -12,5 +12,5 @@ returns c =
     c.at_mut-working.result.now _ _ _ _ _ _ c.stage.view_is c.requires.numbered.playing
     (rw is_n at c.at_mut-working.ensures.value)
     (all-worked c.args.node c.args.stage.now.worked c.at_mut-working.result.now _ _ _
-    c.work_all.ensures) (grew-facts _ _ _ c.work_all.ensures.grew land.whole)
+    c.work_all.ensures) (grew-facts _ _ _ _ _ c.work_all.ensures.grew land.whole)
     (ap length c.facts-before.ensures) (rw is_n at land.stage))

@@ -6,10 +6,7 @@ use Rattle.serve_run.proofs.serving.turn_all.Given as goal
 
 abbrev pub invariant-turns : goal.invariant-turns
 invariant-turns g l =
-    ServesOn g.R.Recorder.facts g.R.Recorder.whole g.C.Clock.gave (λ l. record {
-      sent = g.L.Link.sent l;
-      troubles = record { faults = g.L.Link.faults l; busies = g.L.Link.busies l };
-    }) l.initial.link l.link l.initial.clock l.clock l.initial.run l.run l.initial.rec l.rec
+    ServesOn g.R.Recorder.log g.C.Clock.gave g.L.Link l.initial.link l.link l.initial.clock l.clock l.initial.run l.run l.initial.rec l.rec
     × (g.L.Link.faults l.link ≡ g.L.Link.faults l.initial.link)
     × (l.run.made < l.run.turns)
     × (team_of l.run.endpoint.workers ≡ team_of l.initial.run.endpoint.workers)

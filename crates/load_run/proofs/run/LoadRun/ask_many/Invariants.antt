@@ -5,7 +5,7 @@ use Rattle.load_run.proofs.run.LoadRun.ask_many.Given as goal
 
 abbrev pub invariant-calls : goal.invariant-calls
 invariant-calls g l =
-    AsksSome g.R.Recorder.facts g.R.Recorder.whole l.initial.self l.self l.initial.rec l.rec
+    AsksSome g.R.Recorder.log l.initial.self l.self l.initial.rec l.rec
 
 abbrev pub decreases-calls : goal.decreases-calls
 decreases-calls g l = unasked l.self

@@ -15,10 +15,10 @@ returns-in-Ok-clause-passes g c =
     let s = c.self.inside in
     let few : length (bytes_of c.in_ok-req.req) ≤ 1048576 =
     omega (arith, length-take c.in_ok-req.req.len c.in_ok-req.req.store, c.in_ok-req.ensures.len) in
-    subst (λ (s : LoadsSoFar). Passes g.R.Recorder.facts g.R.Recorder.whole s.endpoint
+    subst (λ (s : LoadsSoFar). Passes g.R.Recorder.log s.endpoint
     c.ask.new.self c.args.rec.now c.ask.new.rec s.ledger.plan s.session s.asked
     (c.self.inside.asked + 1)) c.self.view_is
-    (asks-pass g.R.Recorder.facts g.R.Recorder.whole _ _ _ _ c.in-Ok.ensures.leaves s.ledger.plan
+    (asks-pass g.R.Recorder.log _ _ _ _ c.in-Ok.ensures.leaves s.ledger.plan
     s.session s.asked _ _ _ c.in-Ok.ensures.asks few
     (subst (λ (s : LoadsSoFar). state_in s ≡ Connected) (sym c.self.view_is) c.requires.connected)
     (ap (λ i. i.ledger.plan.req_type) c.self-inside.view_is)
@@ -50,10 +50,10 @@ returns-in-Err-clause-wanting g c =
 pub returns-in-Err-clause-goes_on : goal.returns-in-Err-clause-goes_on
 returns-in-Err-clause-goes_on g c =
     let same = returns-in-Err-clause-wanting g c in
-    (passes-none g.R.Recorder.facts g.R.Recorder.whole _ _ _ _ c.self.inside.ledger.plan 0 0
+    (passes-none g.R.Recorder.log _ _ _ _ c.self.inside.ledger.plan 0 0
     (ap (λ (s : LoadsSoFar). s.endpoint) same.0) same.1).goes
 
 pub returns-in_err-req-clause-goes_on : goal.returns-in_err-req-clause-goes_on
 returns-in_err-req-clause-goes_on g c =
-    (passes-none g.R.Recorder.facts g.R.Recorder.whole _ _ _ _ c.self.inside.ledger.plan 0 0
+    (passes-none g.R.Recorder.log _ _ _ _ c.self.inside.ledger.plan 0 0
     (ap (λ (s : LoadsSoFar). s.endpoint) c.self.view_is) refl).goes

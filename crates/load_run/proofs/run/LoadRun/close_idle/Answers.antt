@@ -6,12 +6,12 @@ use Rattle.load_run.proofs.run.LoadRun.close_idle.Goals as goal
 
 pub returns-then-pending-eq0-clause-passes : goal.returns-then-pending-eq0-clause-passes
 returns-then-pending-eq0-clause-passes g c =
-    subst (λ (s : LoadsSoFar). Passes g.R.Recorder.facts g.R.Recorder.whole s.endpoint
+    subst (λ (s : LoadsSoFar). Passes g.R.Recorder.log s.endpoint
     c.disconnect-closing.new.self c.args.rec.now c.disconnect-closing.new.rec s.ledger.plan s.session
     s.asked c.self.inside.asked) c.self.view_is
-    (close-passes g.R.Recorder.facts g.R.Recorder.whole _ _ _ _ c.disconnect-closing.ensures.leaves
+    (close-passes g.R.Recorder.log _ _ _ _ c.disconnect-closing.ensures.leaves
     _ _ _ c.disconnect-closing.ensures.makes)
 
 pub returns-else-pending-eq0-clause-passes : goal.returns-else-pending-eq0-clause-passes
 returns-else-pending-eq0-clause-passes g c =
-    passes-none g.R.Recorder.facts g.R.Recorder.whole _ _ _ _ _ _ _ refl refl
+    passes-none g.R.Recorder.log _ _ _ _ _ _ _ refl refl

@@ -8,7 +8,7 @@ use Rattle.load_run.proofs.run.LoadRun.start.Goals as goal
 
 pub returns-clause-starts : goal.returns-clause-starts
 returns-clause-starts g c =
-    let opened = connect-passes g.R.Recorder.facts g.R.Recorder.whole c.in-Ok-plain_endpoint.endpoint
+    let opened = connect-passes g.R.Recorder.log c.in-Ok-plain_endpoint.endpoint
     c.connect.new.self c.args.rec.now c.connect.new.rec c.in-Ok-connect.ensures.leaves
     c.in-Ok-of.plan 0 c.in-Ok.peer 32 (record { some = omega arith; few = omega arith })
     c.in-Ok-connect.ensures.makes c.in-Ok-connect.ensures.accepted in

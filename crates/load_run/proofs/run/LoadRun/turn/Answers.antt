@@ -10,11 +10,8 @@ use Rattle.load_run.proofs.run.LoadRun.turn.Goals as goal
 
 pub returns-in-Err-default-clause-loads : goal.returns-in-Err-default-clause-loads
 returns-in-Err-default-clause-loads g c =
-    has-loaded g.R.Recorder.facts g.R.Recorder.whole g.L.Link.received g.L.Link.waiting
-    g.C.Clock.gave (λ l. record {
-      sent = g.L.Link.sent l;
-      troubles = record { faults = g.L.Link.faults l; busies = g.L.Link.busies l };
-    }) c.args.link.now c.take_turn-turned.new.link c.args.clock.now c.take_turn-turned.new.clock
+    has-loaded g.R.Recorder.log g.L.Link
+    g.C.Clock.gave c.args.link.now c.take_turn-turned.new.link c.args.clock.now c.take_turn-turned.new.clock
     c.args.self.now c.prepare.new.self _ c.args.rec.now c.prepare.new.rec c.take_turn-turned.new.rec
     c.take_turn-turned.new.endpoint c.count.new.self c.new-ended.result c.take_turn-turned.new.k
     c.self.view_is c.in-Ok.ensures.keeps c.new-ended.ensures (turn_of c.take_turn-turned.result)
@@ -23,26 +20,23 @@ returns-in-Err-default-clause-loads g c =
 
 pub returns-in-Err-default-clause-goes_on : goal.returns-in-Err-default-clause-goes_on
 returns-in-Err-default-clause-goes_on g c =
-    goes-then g.R.Recorder.facts g.R.Recorder.whole _ _ _ _ _ _ c.in-Ok.ensures.goes_on
-    (subst (λ (s : LoadsSoFar). GoesOnBy g.R.Recorder.facts g.R.Recorder.whole s.endpoint
+    goes-then g.R.Recorder.log _ _ _ _ _ _ c.in-Ok.ensures.goes_on
+    (subst (λ (s : LoadsSoFar). GoesOnBy g.R.Recorder.log s.endpoint
     c.take_turn-turned.new.endpoint c.prepare.new.rec c.take_turn-turned.new.rec) c.self.view_is
     c.take_turn-turned.ensures.tells.goes)
 
 pub returns-in-Ok-Err-clause-goes_on : goal.returns-in-Ok-Err-clause-goes_on
 returns-in-Ok-Err-clause-goes_on g c =
-    goes-then g.R.Recorder.facts g.R.Recorder.whole _ _ _ _ _ _ c.in-Ok.ensures.goes_on
-    (subst (λ (s : LoadsSoFar). GoesOnBy g.R.Recorder.facts g.R.Recorder.whole s.endpoint
+    goes-then g.R.Recorder.log _ _ _ _ _ _ c.in-Ok.ensures.goes_on
+    (subst (λ (s : LoadsSoFar). GoesOnBy g.R.Recorder.log s.endpoint
     c.take_turn-turned.new.endpoint c.prepare.new.rec c.take_turn-turned.new.rec) c.self.view_is
     c.take_turn-turned.ensures.tells.goes)
 
 pub returns-in-Ok-Ok-clause-loads : goal.returns-in-Ok-Ok-clause-loads
 returns-in-Ok-Ok-clause-loads g c =
     unless-wanting c.going.result _
-    (has-loaded g.R.Recorder.facts g.R.Recorder.whole g.L.Link.received g.L.Link.waiting
-    g.C.Clock.gave (λ l. record {
-      sent = g.L.Link.sent l;
-      troubles = record { faults = g.L.Link.faults l; busies = g.L.Link.busies l };
-    })
+    (has-loaded g.R.Recorder.log g.L.Link
+    g.C.Clock.gave
     c.args.link.now c.take_turn-turned.new.link c.args.clock.now c.take_turn-turned.new.clock
     c.args.self.now c.prepare.new.self _ c.args.rec.now c.prepare.new.rec c.take_turn-turned.new.rec
     c.take_turn-turned.new.endpoint c.count.new.self c.new-ended.result c.take_turn-turned.new.k
@@ -52,11 +46,8 @@ returns-in-Ok-Ok-clause-loads g c =
 pub returns-in-Ok-Ok-clause-on : goal.returns-in-Ok-Ok-clause-on
 returns-in-Ok-Ok-clause-on g c =
     unless-failed c.going.result _
-    (loads-turn g.R.Recorder.facts g.R.Recorder.whole g.L.Link.received g.L.Link.waiting
-    g.C.Clock.gave (λ l. record {
-      sent = g.L.Link.sent l;
-      troubles = record { faults = g.L.Link.faults l; busies = g.L.Link.busies l };
-    })
+    (loads-turn g.R.Recorder.log g.L.Link
+    g.C.Clock.gave
     c.args.link.now c.take_turn-turned.new.link c.args.clock.now c.take_turn-turned.new.clock
     c.args.self.now c.prepare.new.self _ c.args.rec.now c.prepare.new.rec c.take_turn-turned.new.rec
     c.take_turn-turned.new.endpoint c.count.new.self c.new-ended.result c.take_turn-turned.new.k
@@ -66,7 +57,7 @@ returns-in-Ok-Ok-clause-on g c =
 
 pub returns-in-Ok-Ok-clause-goes_on : goal.returns-in-Ok-Ok-clause-goes_on
 returns-in-Ok-Ok-clause-goes_on g c =
-    goes-then g.R.Recorder.facts g.R.Recorder.whole _ _ _ _ _ _ c.in-Ok.ensures.goes_on
-    (subst (λ (s : LoadsSoFar). GoesOnBy g.R.Recorder.facts g.R.Recorder.whole s.endpoint
+    goes-then g.R.Recorder.log _ _ _ _ _ _ c.in-Ok.ensures.goes_on
+    (subst (λ (s : LoadsSoFar). GoesOnBy g.R.Recorder.log s.endpoint
     c.take_turn-turned.new.endpoint c.prepare.new.rec c.take_turn-turned.new.rec) c.self.view_is
     c.take_turn-turned.ensures.tells.goes)

@@ -14,5 +14,5 @@ returns-clause-serves g c = rw (← c.self.view_is) (record {
 pub returns-clause-tells : goal.returns-clause-tells
 returns-clause-tells g c =
     rw (← c.self.view_is)
-    (one-made g.R.Recorder.facts g.R.Recorder.whole g.C.Clock.gave _ _ _ _ _ _ _ _ _ _ _ _
+    (one-made g.R.Recorder.log g.C.Clock.gave _ _ _ _ _ _ _ _ _ _ _ _
     c.take_turn-turned.ensures.tells c.take_turn-turned.ensures.takes.ticks)
