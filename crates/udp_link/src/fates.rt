@@ -1,6 +1,12 @@
 //! What an error of the socket means. Over UDP a datagram may be lost, and some errors tell no more
 //! than that: no fault of the link.
-use std::io::ErrorKind;
+use std::io::{Error, ErrorKind};
+
+/// The system's number for a datagram that is too long for its way (EMSGSIZE).
+const TOO_LONG: i32 = 90;
+
+/// The system's number for want of room for a datagram (ENOBUFS).
+const NO_ROOM: i32 = 105;
 
 /// Whether an error is the fate of a datagram that was sent before: nobody listened there, or no way
 /// led there.
@@ -13,6 +19,19 @@ pub fn is_lost(kind: ErrorKind) -> bool {
             | ErrorKind::NetworkUnreachable
             | ErrorKind::NetworkDown
     )
+}
+
+/// Whether an error of a sending speaks of that datagram and its address alone: it goes nowhere, as
+/// to port 0 or past a firewall, or there was no room for it. The next one may well go.
+pub fn is_of_this_one(error: &Error) -> bool {
+    let speaks = matches!(
+        error.kind(),
+        ErrorKind::InvalidInput
+            | ErrorKind::PermissionDenied
+            | ErrorKind::AddrNotAvailable
+            | ErrorKind::OutOfMemory
+    );
+    speaks || is_lost(error.kind()) || matches!(error.raw_os_error(), Some(TOO_LONG | NO_ROOM))
 }
 
 /// Whether the socket may do now, or soon, what it didn't.

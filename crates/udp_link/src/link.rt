@@ -3,7 +3,7 @@ ghost use Rattle.std.specs.Prelude.{◌≡◌, None, IsErr};
 ghost use Rattle.rpc_outside.specs.Faults.{HasRisen};
 
 use crate::buffers::enlarge;
-use crate::fates::{is_lost, is_passing};
+use crate::fates::{is_lost, is_of_this_one, is_passing};
 use crate::peers::Peers;
 use rpc_base::Peer;
 use rpc_outside::{Failed, Got, Link, MOST_LINK_BYTES, Taken};
@@ -96,7 +96,7 @@ impl<'a, N: Net> Link for UdpLink<'a, N> {
         datagram[head.len()..len].copy_from_slice(body);
         match socket.send_to(&datagram[..len], addr) {
             Ok(_) => Ok(Taken::Whole),
-            Err(error) if is_lost(error.kind()) => Ok(Taken::Whole),
+            Err(error) if is_of_this_one(&error) => Ok(Taken::Whole),
             Err(error) if is_passing(error.kind()) => {
                 self.busies = self.busies.saturating_add(1);
                 Ok(Taken::Busy)
@@ -110,6 +110,9 @@ impl<'a, N: Net> Link for UdpLink<'a, N> {
             return self.fail();
         };
         match socket.recv_from(out) {
+            // Nobody can be answered at port 0: such a datagram is passed over, and its sender gets no
+            // number.
+            Ok((_, addr)) if addr.port() == 0 => Ok(Got::Nothing),
             Ok((len, addr)) => match self.peers.number(addr) {
                 Some(peer) => Ok(Got::Packet { peer, len }),
                 // A datagram of a peer too many is passed over.
