@@ -12,6 +12,3 @@ mod usage;
 pub use held::Held;
 pub use pool::BufferPool;
 pub use usage::Use;
-
-#[cfg(test)]
-mod tests;

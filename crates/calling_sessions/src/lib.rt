@@ -5,6 +5,3 @@
 mod callers;
 
 pub use callers::CallingSessions;
-
-#[cfg(test)]
-mod tests;

@@ -11,6 +11,3 @@ mod session;
 pub use active::Active;
 pub use outcome::{Done, Outcome, Reply, Timer};
 pub use session::ClientSession;
-
-#[cfg(test)]
-mod tests;

@@ -12,6 +12,3 @@ mod words;
 pub use task::{LoadSpec, ServeSpec, Task, WordsError};
 pub use telling::{complaint, usage};
 pub use words::read_words;
-
-#[cfg(test)]
-mod tests;

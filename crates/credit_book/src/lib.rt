@@ -5,6 +5,3 @@
 mod book;
 
 pub use book::CreditBook;
-
-#[cfg(test)]
-mod tests;

@@ -7,6 +7,3 @@ mod drawing;
 mod drill;
 
 pub use drill::{MOST_CALLS, drill_script};
-
-#[cfg(test)]
-mod tests;

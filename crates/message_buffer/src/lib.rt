@@ -7,6 +7,3 @@ mod buffer;
 
 pub use block::MOST_CAPACITY;
 pub use buffer::MsgBuf;
-
-#[cfg(test)]
-mod tests;

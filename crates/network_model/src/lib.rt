@@ -5,8 +5,6 @@
 mod net;
 mod node_link;
 mod stage;
-#[cfg(test)]
-mod tests;
 
 pub use net::Net;
 pub use node_link::NodeLink;

@@ -20,6 +20,3 @@ pub use packet::{
 };
 pub use parts::{count, part_len};
 pub use range_test::is_in_range;
-
-#[cfg(test)]
-mod tests;

@@ -14,6 +14,3 @@ pub use datagram::Datagram;
 pub use entry::Entry;
 pub use rx::RxRing;
 pub use tx::TxRing;
-
-#[cfg(test)]
-mod tests;

@@ -12,8 +12,6 @@ mod page;
 mod pieces;
 mod report;
 mod shape;
-#[cfg(test)]
-mod tests;
 
 pub use law::text_tells;
 pub use report::print_facts;

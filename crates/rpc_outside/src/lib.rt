@@ -14,8 +14,6 @@ mod recorder;
 mod service;
 mod sink;
 mod source;
-#[cfg(test)]
-mod tests;
 mod writing;
 
 pub use clock::{Clock, SysClock};

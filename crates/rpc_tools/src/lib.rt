@@ -11,6 +11,3 @@ pub use run_status::{Going, Status};
 pub use serve_run::ServeRun;
 pub use simulation::sim;
 pub use tools::run;
-
-#[cfg(test)]
-mod tests;

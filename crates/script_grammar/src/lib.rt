@@ -25,6 +25,3 @@ pub use line::{AskBytes, Command, Line};
 pub use numbers::number;
 pub use reading::{MOST_BYTES, MOST_LINES, read};
 pub use script::Script;
-
-#[cfg(test)]
-mod tests;

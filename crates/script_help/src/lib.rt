@@ -8,6 +8,3 @@ mod form;
 mod shown;
 
 pub use explanation::Explanation;
-
-#[cfg(test)]
-mod tests;

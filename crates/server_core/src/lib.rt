@@ -11,6 +11,3 @@ mod step;
 
 pub use session::ServerSession;
 pub use step::Step;
-
-#[cfg(test)]
-mod tests;

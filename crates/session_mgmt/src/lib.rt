@@ -11,6 +11,3 @@ mod table;
 
 pub use answers::{Change, CloseError, ConnectError, Due, Verdict};
 pub use table::SessionTable;
-
-#[cfg(test)]
-mod tests;

@@ -9,6 +9,3 @@ mod waiting;
 
 pub use table::SlotTable;
 pub use waiting::Waiting;
-
-#[cfg(test)]
-mod tests;

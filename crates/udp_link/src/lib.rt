@@ -8,6 +8,3 @@ mod link;
 mod peers;
 
 pub use link::UdpLink;
-
-#[cfg(test)]
-mod tests;

@@ -72,8 +72,6 @@
 mod board;
 mod moves;
 mod rule;
-#[cfg(test)]
-mod tests;
 mod ticket;
 mod view;
 mod word;

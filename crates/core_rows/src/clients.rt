@@ -3,14 +3,14 @@ ghost use Rattle.std.specs.Prelude.{◌≡◌, ◌≤◌, [], length, IfOk, IfSo
 ghost use Rattle.client_core.specs.KeepsPool.{IsHeld, KeepsPool};
 ghost use Rattle.client_core.specs.Posting.{IsPacketOf, call_of};
 
-use crate::{Active, ClientSession};
+use crate::differs::{Differs, expect};
 use buffer_pool::BufferPool;
+use client_core::{Active, ClientSession};
 use message_buffer::MsgBuf;
 use packet_rings::Entry;
 use rpc_base::{CallNo, HEAD_BYTES, NoMemory, Owner, Peer, Place, RequestNo, SessionNo};
 use session_slots::Waiting;
 use std::alloc::Global;
-use std::test::Fail;
 
 const PEER: Peer = Peer(4);
 
@@ -126,52 +126,111 @@ fn active(call: u64, slot: u8, got: u16, posted: u16) -> Active
     }
 }
 
-#[test]
-fn calls_begin_and_post_oldest_first(rt: HostRuntime) -> Result<(), Fail> {
-    let alloc = rt.alloc();
+pub fn calls_begin_and_post_oldest_first(alloc: Global) -> Result<(), Differs> {
     let mut pool = BufferPool::new(alloc, 8)?;
     let mut session = make_session(alloc)?;
-    assert!(rt; session.session() == SessionNo(3) && session.server() == SessionNo(0x0506));
-    assert_eq!(rt;
-        (session.asked(), session.pending(), session.free()),
-        (2, 2, 3)
-    );
-    assert_eq!(rt; session.limit(), 3);
-    assert!(rt; session.active(None).is_none());
-    assert!(rt; begin_one(&mut session, &mut pool) == Some((CallNo(20), RequestNo::of(0, 0))));
-    assert!(rt; begin_one(&mut session, &mut pool) == Some((CallNo(21), RequestNo::of(1, 0))));
-    assert!(rt; begin_one(&mut session, &mut pool).is_none());
-    assert_eq!(rt;
-        (session.asked(), session.pending(), pool.spare()),
-        (2, 2, 4)
-    );
-    assert!(rt; post_one(&mut session, &mut pool) == Some(entry(0, 0, 0)));
-    assert!(rt; post_one(&mut session, &mut pool) == Some(entry(0, 1, 0)));
-    assert!(rt; post_one(&mut session, &mut pool) == Some(entry(1, 0, 2)));
-    assert!(rt; post_one(&mut session, &mut pool).is_none());
-    assert_eq!(rt; (session.free(), session.limit()), (0, 3));
-    assert!(rt; session.active(None) == Some(active(20, 0, 0, 2)));
-    assert!(rt; session.active(Some(CallNo(20))) == Some(active(21, 1, 0, 1)));
-    assert!(rt; session.active(Some(CallNo(21))).is_none());
+    expect(
+        session.session() == SessionNo(3) && session.server() == SessionNo(0x0506),
+        "session.session() == SessionNo(3) && session.server() ==..",
+    )?;
+    expect(
+        (session.asked(), session.pending(), session.free()) == (2, 2, 3),
+        "(session.asked(), session.pending(), session.free())",
+    )?;
+    expect(session.limit() == 3, "session.limit()")?;
+    expect(
+        session.active(None).is_none(),
+        "session.active(None).is_none()",
+    )?;
+    expect(
+        begin_one(&mut session, &mut pool) == Some((CallNo(20), RequestNo::of(0, 0))),
+        "begin_one(&mut session, &mut pool) == Some((CallNo(20), R..",
+    )?;
+    expect(
+        begin_one(&mut session, &mut pool) == Some((CallNo(21), RequestNo::of(1, 0))),
+        "begin_one(&mut session, &mut pool) == Some((CallNo(21), R..",
+    )?;
+    expect(
+        begin_one(&mut session, &mut pool).is_none(),
+        "begin_one(&mut session, &mut pool).is_none()",
+    )?;
+    expect(
+        (session.asked(), session.pending(), pool.spare()) == (2, 2, 4),
+        "(session.asked(), session.pending(), pool.spare())",
+    )?;
+    expect(
+        post_one(&mut session, &mut pool) == Some(entry(0, 0, 0)),
+        "post_one(&mut session, &mut pool) == Some(entry(0, 0, 0))",
+    )?;
+    expect(
+        post_one(&mut session, &mut pool) == Some(entry(0, 1, 0)),
+        "post_one(&mut session, &mut pool) == Some(entry(0, 1, 0))",
+    )?;
+    expect(
+        post_one(&mut session, &mut pool) == Some(entry(1, 0, 2)),
+        "post_one(&mut session, &mut pool) == Some(entry(1, 0, 2))",
+    )?;
+    expect(
+        post_one(&mut session, &mut pool).is_none(),
+        "post_one(&mut session, &mut pool).is_none()",
+    )?;
+    expect(
+        (session.free(), session.limit()) == (0, 3),
+        "(session.free(), session.limit())",
+    )?;
+    expect(
+        session.active(None) == Some(active(20, 0, 0, 2)),
+        "session.active(None) == Some(active(20, 0, 0, 2))",
+    )?;
+    expect(
+        session.active(Some(CallNo(20))) == Some(active(21, 1, 0, 1)),
+        "session.active(Some(CallNo(20))) == Some(active(21, 1, 0,..",
+    )?;
+    expect(
+        session.active(Some(CallNo(21))).is_none(),
+        "session.active(Some(CallNo(21))).is_none()",
+    )?;
     Ok(())
 }
 
-#[test]
-fn an_entry_stands_for_its_packet(rt: HostRuntime) -> Result<(), Fail> {
-    let alloc = rt.alloc();
+pub fn an_entry_stands_for_its_packet(alloc: Global) -> Result<(), Differs> {
     let mut pool = BufferPool::new(alloc, 8)?;
     let mut session = make_session(alloc)?;
-    assert!(rt; begin_one(&mut session, &mut pool).is_some());
-    assert!(rt; begin_one(&mut session, &mut pool).is_some());
+    expect(
+        begin_one(&mut session, &mut pool).is_some(),
+        "begin_one(&mut session, &mut pool).is_some()",
+    )?;
+    expect(
+        begin_one(&mut session, &mut pool).is_some(),
+        "begin_one(&mut session, &mut pool).is_some()",
+    )?;
     let mut head = [0; HEAD_BYTES];
     let first = post_and_give(&mut session, &mut pool, &mut head, true);
-    assert!(rt; first == Some((entry(0, 0, 0), 1024, Some(0xAA))));
-    assert_eq!(rt; head, [0xE1, 0, 9, 0, 4, 6, 5, 6, 0, 0, 0, 0, 0, 0, 0, 0]);
+    expect(
+        first == Some((entry(0, 0, 0), 1024, Some(0xAA))),
+        "first == Some((entry(0, 0, 0), 1024, Some(0xAA)))",
+    )?;
+    expect(
+        head == [0xE1, 0, 9, 0, 4, 6, 5, 6, 0, 0, 0, 0, 0, 0, 0, 0],
+        "head",
+    )?;
     let second = post_and_give(&mut session, &mut pool, &mut head, false);
-    assert!(rt; second == Some((entry(0, 1, 0), 6, Some(0xAA))));
-    assert_eq!(rt; head, [0xE1, 0, 9, 0, 4, 6, 5, 6, 0, 1, 0, 0, 0, 0, 0, 0]);
+    expect(
+        second == Some((entry(0, 1, 0), 6, Some(0xAA))),
+        "second == Some((entry(0, 1, 0), 6, Some(0xAA)))",
+    )?;
+    expect(
+        head == [0xE1, 0, 9, 0, 4, 6, 5, 6, 0, 1, 0, 0, 0, 0, 0, 0],
+        "head",
+    )?;
     let third = post_and_give(&mut session, &mut pool, &mut head, true);
-    assert!(rt; third == Some((entry(1, 0, 2), 1, Some(0xBB))));
-    assert_eq!(rt; head, [0xE1, 0, 9, 0, 0, 1, 5, 6, 0, 0, 0, 0, 0, 0, 0, 1]);
+    expect(
+        third == Some((entry(1, 0, 2), 1, Some(0xBB))),
+        "third == Some((entry(1, 0, 2), 1, Some(0xBB)))",
+    )?;
+    expect(
+        head == [0xE1, 0, 9, 0, 0, 1, 5, 6, 0, 0, 0, 0, 0, 0, 0, 1],
+        "head",
+    )?;
     Ok(())
 }

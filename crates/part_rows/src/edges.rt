@@ -4,10 +4,15 @@ ghost use Rattle.rpc_outside.specs.Linking.{AreCarried};
 ghost use Rattle.rpc_outside.specs.PlainStands.{PlainStands};
 ghost use Rattle.rpc_outside.specs.Served.{StandsForSome};
 
-use super::*;
+use crate::differs::{Differs, expect};
 use rpc_base::{Event, MOST_MESSAGE_BYTES, NodeId, Octets, Peer, Who};
+use rpc_outside::{
+    Clock, Duty, Failed, FirmLink, FirmSink, FirmSource, Got, IoSink, IoSource, Link,
+    MOST_LINK_BYTES, MemLink, MemRecorder, MemSink, MemSource, Mode, NoRecord, PlainDuty,
+    PlainService, Recorder, Service, Source, StepClock, SysClock, Taken, write_all,
+};
 use std::alloc::Global;
-use std::test::Fail;
+use std::time;
 
 /// The sizes of three reads, each of three bytes at most.
 fn read_sizes<S: Source>(source: &mut S) -> [Result<usize, Failed>; 3] {
@@ -18,36 +23,50 @@ fn read_sizes<S: Source>(source: &mut S) -> [Result<usize, Failed>; 3] {
     [first, second, third]
 }
 
-#[test]
-fn a_source_fails_at_its_named_calls(rt: HostRuntime) -> Result<(), Fail> {
-    let alloc = rt.alloc();
+pub fn a_source_fails_at_its_named_calls(alloc: Global) -> Result<(), Differs> {
     let mut named = MemSource::new(Vec::from_slice(alloc, b"hello")?, vec![in alloc; 1]?);
-    assert_eq!(rt; read_sizes(&mut named), [Ok(3), Err(Failed), Ok(2)]);
+    expect(
+        read_sizes(&mut named) == [Ok(3), Err(Failed), Ok(2)],
+        "read_sizes(&mut named)",
+    )?;
     let mut firm = FirmSource::new(Vec::from_slice(alloc, b"hello")?);
-    assert_eq!(rt; read_sizes(&mut firm), [Ok(3), Ok(2), Ok(0)]);
+    expect(
+        read_sizes(&mut firm) == [Ok(3), Ok(2), Ok(0)],
+        "read_sizes(&mut firm)",
+    )?;
     let mut read = IoSource::new(b"hello".as_slice());
-    assert_eq!(rt; read_sizes(&mut read), [Ok(3), Ok(2), Ok(0)]);
+    expect(
+        read_sizes(&mut read) == [Ok(3), Ok(2), Ok(0)],
+        "read_sizes(&mut read)",
+    )?;
     Ok(())
 }
 
-#[test]
-fn a_sink_fails_at_its_named_calls_and_past_its_room(rt: HostRuntime) -> Result<(), Fail> {
-    let alloc = rt.alloc();
+pub fn a_sink_fails_at_its_named_calls_and_past_its_room(alloc: Global) -> Result<(), Differs> {
     let mut sink = MemSink::new(alloc, 5, vec![in alloc; 1]?)?;
     write_all(&mut sink, b"he")?;
-    assert_eq!(rt; write_all(&mut sink, b"ll"), Err(Failed));
+    expect(
+        write_all(&mut sink, b"ll") == Err(Failed),
+        "write_all(&mut sink, b\"ll\")",
+    )?;
     write_all(&mut sink, b"lo")?;
-    assert_eq!(rt; write_all(&mut sink, b"oh"), Err(Failed));
-    assert_eq!(rt; sink.bytes(), b"helo".as_slice());
+    expect(
+        write_all(&mut sink, b"oh") == Err(Failed),
+        "write_all(&mut sink, b\"oh\")",
+    )?;
+    expect(sink.bytes() == b"helo".as_slice(), "sink.bytes()")?;
     write_all(&mut FirmSink::new(), b"hello")?;
     let mut written = IoSink::new(Vec::new(alloc));
     write_all(&mut written, b"hello")?;
-    assert_eq!(rt; written.into_writer().as_slice(), b"hello".as_slice());
+    expect(
+        written.into_writer().as_slice() == b"hello".as_slice(),
+        "written.into_writer().as_slice()",
+    )?;
     Ok(())
 }
 
 /// One datagram from peer 7.
-fn arrivals(alloc: Global) -> Result<Vec<(Peer, Octets)>, Fail>
+fn arrivals(alloc: Global) -> Result<Vec<(Peer, Octets)>, Differs>
     ensures { IfOk result (λ v. AreCarried v.items) }
 {
     Ok(vec![in alloc; (Peer(7), Octets::copy(alloc, b"hello")?)]?)
@@ -62,24 +81,26 @@ fn failures<L: Link>(link: &mut L) -> [bool; 4] {
     [bind, peer, send, recv]
 }
 
-#[test]
-fn a_link_fails_at_each_call_in_turn(rt: HostRuntime) -> Result<(), Fail> {
-    let alloc = rt.alloc();
+pub fn a_link_fails_at_each_call_in_turn(alloc: Global) -> Result<(), Differs> {
     for call in 0..4 {
         let fails = vec![in alloc; call]?;
         let mut link = MemLink::new(alloc, arrivals(alloc)?, 1, fails, Vec::new(alloc))?;
         let mut expected = [false; 4];
         expected[call as usize] = true;
-        assert_eq!(rt; failures(&mut link), expected);
-        assert_eq!(rt; link.sent(0).is_none(), call == 2);
+        expect(failures(&mut link) == expected, "failures(&mut link)")?;
+        expect(
+            link.sent(0).is_none() == (call == 2),
+            "link.sent(0).is_none()",
+        )?;
     }
-    assert_eq!(rt; failures(&mut FirmLink::new(arrivals(alloc)?)), [false; 4]);
+    expect(
+        failures(&mut FirmLink::new(arrivals(alloc)?)) == [false; 4],
+        "failures(&mut FirmLink::new(arrivals(alloc)?))",
+    )?;
     Ok(())
 }
 
-#[test]
-fn a_link_is_busy_at_each_send_in_turn(rt: HostRuntime) -> Result<(), Fail> {
-    let alloc = rt.alloc();
+pub fn a_link_is_busy_at_each_send_in_turn(alloc: Global) -> Result<(), Differs> {
     for send in 0..3 {
         let busy = vec![in alloc; send]?;
         let mut link = MemLink::new(alloc, Vec::new(alloc), 2, Vec::new(alloc), busy)?;
@@ -88,29 +109,40 @@ fn a_link_is_busy_at_each_send_in_turn(rt: HostRuntime) -> Result<(), Fail> {
         let first = link.send(Peer(1), b"a", b"");
         let second = link.send(Peer(2), b"b", b"");
         let third = link.send(Peer(3), b"c", b"");
-        assert_eq!(rt; [first, second, third], expected);
-        assert_eq!(rt; link.send(Peer(4), b"d", b""), Err(Failed));
+        expect([first, second, third] == expected, "[first, second, third]")?;
+        expect(
+            link.send(Peer(4), b"d", b"") == Err(Failed),
+            "link.send(Peer(4), b\"d\", b\"\")",
+        )?;
     }
     Ok(())
 }
 
-#[test]
-fn a_link_sends_and_gives_out_datagrams(rt: HostRuntime) -> Result<(), Fail> {
-    let alloc = rt.alloc();
+pub fn a_link_sends_and_gives_out_datagrams(alloc: Global) -> Result<(), Differs> {
     let none = Vec::new(alloc);
     let mut link = MemLink::new(alloc, arrivals(alloc)?, 1, none, Vec::new(alloc))?;
     let mut out = [0; MOST_LINK_BYTES];
-    assert_eq!(rt;
-        link.recv(&mut out),
-        Ok(Got::Packet {
-            peer: Peer(7),
-            len: 5
-        })
-    );
-    assert_eq!(rt; &out[..5], b"hello".as_slice());
-    assert_eq!(rt; link.recv(&mut out), Ok(Got::Nothing));
-    assert_eq!(rt; link.send(Peer(1), b"hel", b"lo"), Ok(Taken::Whole));
-    assert_eq!(rt; link.sent(0), Some((Peer(1), b"hello".as_slice())));
+    expect(
+        link.recv(&mut out)
+            == Ok(Got::Packet {
+                peer: Peer(7),
+                len: 5,
+            }),
+        "link.recv(&mut out)",
+    )?;
+    expect(&out[..5] == b"hello".as_slice(), "&out[..5]")?;
+    expect(
+        link.recv(&mut out) == Ok(Got::Nothing),
+        "link.recv(&mut out)",
+    )?;
+    expect(
+        link.send(Peer(1), b"hel", b"lo") == Ok(Taken::Whole),
+        "link.send(Peer(1), b\"hel\", b\"lo\")",
+    )?;
+    expect(
+        link.sent(0) == Some((Peer(1), b"hello".as_slice())),
+        "link.sent(0)",
+    )?;
     Ok(())
 }
 
@@ -120,7 +152,7 @@ fn answer_of(
     service: &mut PlainService,
     req_type: u8,
     ask: &[u8],
-) -> Result<Vec<u8>, Fail>
+) -> Result<Vec<u8>, Differs>
     requires message { length ask.now ≤ MOST_MESSAGE_BYTES }
     requires founded { StandsForSome (PlainStands service.old) }
     ensures founded { StandsForSome (PlainStands service.new) }
@@ -133,9 +165,7 @@ fn answer_of(
     Ok(out)
 }
 
-#[test]
-fn the_plain_service_answers_by_its_table(rt: HostRuntime) -> Result<(), Fail> {
-    let alloc = rt.alloc();
+pub fn the_plain_service_answers_by_its_table(alloc: Global) -> Result<(), Differs> {
     let mut service = PlainService::new();
     // the type, the request and its answer, one after another
     let table: [(u8, &[u8], &[u8]); 8] = [
@@ -150,32 +180,40 @@ fn the_plain_service_answers_by_its_table(rt: HostRuntime) -> Result<(), Fail> {
     ];
     for (req_type, ask, answer) in table {
         let out = answer_of(alloc, &mut service, req_type, ask)?;
-        assert_eq!(rt; out.as_slice(), answer);
+        expect(out.as_slice() == answer, "out.as_slice()")?;
     }
     let most = answer_of(alloc, &mut service, 4, b"\0\x10\0\0")?;
-    assert_eq!(rt; (most.len(), most.last().copied()), (1_048_576, Some(255)));
+    expect(
+        (most.len(), most.last().copied()) == (1_048_576, Some(255)),
+        "(most.len(), most.last().copied())",
+    )?;
     Ok(())
 }
 
-#[test]
-fn the_plain_duty_answers_to_a_worker(rt: HostRuntime) {
-    assert_eq!(rt; PlainService::new().mode(132), Mode::Background);
+pub fn the_plain_duty_answers_to_a_worker(alloc: Global) -> Result<(), Differs> {
+    expect(
+        PlainService::new().mode(132) == Mode::Background,
+        "PlainService::new().mode(132)",
+    )?;
     let mut out = [0; 3];
     PlainDuty.handle(130, b"abc", &mut out);
-    assert_eq!(rt; &out, b"cba");
+    expect(&out == b"cba", "&out")?;
+    Ok(())
 }
 
-#[test]
-fn a_recorder_keeps_facts_in_order(rt: HostRuntime) -> Result<(), Fail> {
-    let mut recorder = MemRecorder::new(rt.alloc());
+pub fn a_recorder_keeps_facts_in_order(alloc: Global) -> Result<(), Differs> {
+    let mut recorder = MemRecorder::new(alloc);
     recorder.note(Who::Net, Event::Ticked { by: 5 }, b"", b"");
     recorder.note(Who::Node(NodeId(1)), Event::Heard, b"a", b"bc");
     NoRecord.note(Who::Net, Event::Heard, b"", b"");
-    assert!(rt; recorder.whole());
-    assert_eq!(rt; recorder.facts().len(), 2);
+    expect(recorder.whole(), "recorder.whole()")?;
+    expect(recorder.facts().len() == 2, "recorder.facts().len()")?;
     let facts = recorder.into_facts();
-    assert_eq!(rt; facts[0].event, Event::Ticked { by: 5 });
-    assert_eq!(rt; facts[1].second.bytes(), b"bc".as_slice());
+    expect(facts[0].event == Event::Ticked { by: 5 }, "facts[0].event")?;
+    expect(
+        facts[1].second.bytes() == b"bc".as_slice(),
+        "facts[1].second.bytes()",
+    )?;
     Ok(())
 }
 
@@ -187,14 +225,20 @@ fn answers<C: Clock>(clock: &mut C) -> [u64; 3] {
     [first, second, third]
 }
 
-#[test]
-fn a_clock_goes_on_by_its_step(rt: HostRuntime) {
-    assert_eq!(rt; answers(&mut StepClock::new(0, 5_000)), [0, 5_000, 10_000]);
+pub fn a_clock_goes_on_by_its_step<C: time::Clock>(rt: &C) -> Result<(), Differs> {
+    expect(
+        answers(&mut StepClock::new(0, 5_000)) == [0, 5_000, 10_000],
+        "answers(&mut StepClock::new(0, 5_000))",
+    )?;
     let end = u64::MAX;
-    assert_eq!(rt;
-        answers(&mut StepClock::new(end - 1, 5)),
-        [end - 1, end, end]
-    );
-    let [first, second, third] = answers(&mut SysClock::new(&rt));
-    assert!(rt; first <= second && second <= third && third > 0);
+    expect(
+        answers(&mut StepClock::new(end - 1, 5)) == [end - 1, end, end],
+        "answers(&mut StepClock::new(end - 1, 5))",
+    )?;
+    let [first, second, third] = answers(&mut SysClock::new(rt));
+    expect(
+        first <= second && second <= third && third > 0,
+        "first <= second && second <= third && third > 0",
+    )?;
+    Ok(())
 }

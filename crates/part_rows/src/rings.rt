@@ -1,10 +1,10 @@
 //! The longest datagram, the order of a ring, and which entry of an owner is flushed.
 ghost use Rattle.std.specs.Prelude.{◌≤◌, length};
 
-use crate::{Datagram, Entry, RxRing, TxRing};
+use crate::differs::{Differs, expect};
+use packet_rings::{Datagram, Entry, RxRing, TxRing};
 use rpc_base::{MOST_DATAGRAM_BYTES, NoMemory, Owner, Peer, Place, RequestNo, SessionNo};
 use std::alloc::Global;
-use std::test::Fail;
 
 /// The client's call of slot 0 in session 4.
 fn ask() -> Owner {
@@ -43,66 +43,89 @@ fn first_byte(datagram: Option<&Datagram>) -> Option<u8> {
     datagram.and_then(|it| it.bytes().first().copied())
 }
 
-#[test]
-fn a_datagram_of_up_to_1040_bytes_is_kept(rt: HostRuntime) -> Result<(), Fail> {
+pub fn a_datagram_of_up_to_1040_bytes_is_kept(alloc: Global) -> Result<(), Differs> {
     let bytes = [0x5a; MOST_DATAGRAM_BYTES];
-    let mut ring = RxRing::new(rt.alloc(), 1)?;
+    let mut ring = RxRing::new(alloc, 1)?;
     // A place that held a longer datagram keeps nothing of it.
     for len in [0, 1, MOST_DATAGRAM_BYTES, 1, 0] {
         ring.push(Peer(3), &bytes[..len]);
-        assert_eq!(rt; ring.front().map(|it| it.peer()), Some(Peer(3)));
-        assert_eq!(rt; ring.front().map(|it| it.bytes()), Some(&bytes[..len]));
+        expect(
+            ring.front().map(|it| it.peer()) == Some(Peer(3)),
+            "ring.front().map(|it| it.peer())",
+        )?;
+        expect(
+            ring.front().map(|it| it.bytes()) == Some(&bytes[..len]),
+            "ring.front().map(|it| it.bytes())",
+        )?;
         ring.drop_front();
     }
-    assert!(rt; ring.is_empty());
+    expect(ring.is_empty(), "ring.is_empty()")?;
     Ok(())
 }
 
-#[test]
-fn datagrams_keep_their_order(rt: HostRuntime) -> Result<(), Fail> {
-    let mut ring = RxRing::new(rt.alloc(), 2)?;
+pub fn datagrams_keep_their_order(alloc: Global) -> Result<(), Differs> {
+    let mut ring = RxRing::new(alloc, 2)?;
     ring.push(Peer(0), &[5]);
     for byte in 6..12 {
         ring.push(Peer(0), &[byte]);
-        assert_eq!(rt; ring.len(), 2);
-        assert_eq!(rt; first_byte(ring.front()), Some(byte - 1));
+        expect(ring.len() == 2, "ring.len()")?;
+        expect(
+            first_byte(ring.front()) == Some(byte - 1),
+            "first_byte(ring.front())",
+        )?;
         ring.drop_front();
-        assert_eq!(rt; first_byte(ring.front()), Some(byte));
+        expect(
+            first_byte(ring.front()) == Some(byte),
+            "first_byte(ring.front())",
+        )?;
     }
     ring.drop_front();
-    assert!(rt; ring.front().is_none());
+    expect(ring.front().is_none(), "ring.front().is_none()")?;
     ring.drop_front();
-    assert!(rt; ring.is_empty());
+    expect(ring.is_empty(), "ring.is_empty()")?;
     Ok(())
 }
 
-#[test]
-fn a_ring_of_size_0_is_full(rt: HostRuntime) -> Result<(), Fail> {
-    let mut ring = RxRing::new(rt.alloc(), 0)?;
-    assert_eq!(rt; (ring.len(), ring.size()), (0, 0));
-    assert!(rt; ring.front().is_none());
+pub fn a_ring_of_size_0_is_full(alloc: Global) -> Result<(), Differs> {
+    let mut ring = RxRing::new(alloc, 0)?;
+    expect(
+        (ring.len(), ring.size()) == (0, 0),
+        "(ring.len(), ring.size())",
+    )?;
+    expect(ring.front().is_none(), "ring.front().is_none()")?;
     ring.drop_front();
-    assert_eq!(rt; (ring.len(), ring.size()), (0, 0));
+    expect(
+        (ring.len(), ring.size()) == (0, 0),
+        "(ring.len(), ring.size())",
+    )?;
     Ok(())
 }
 
-#[test]
-fn the_least_number_is_flushed_first(rt: HostRuntime) -> Result<(), Fail> {
-    let mut ring = TxRing::new(rt.alloc(), 3)?;
+pub fn the_least_number_is_flushed_first(alloc: Global) -> Result<(), Differs> {
+    let mut ring = TxRing::new(alloc, 3)?;
     ring.push(entry(ask(), 1, 10));
     ring.push(entry(reply(), 0, 11));
     ring.push(entry(ask(), 0, 12));
-    assert_eq!(rt; ring.len(), 3);
-    assert_eq!(rt; ring.least(ask()), Some(0));
-    assert_eq!(rt; ring.least(next_ask()), None);
-    assert!(rt; ring.holds(ask(), 1));
-    assert!(rt; !ring.holds(reply(), 1));
-    assert_eq!(rt; ring.flush(ask()), Some(entry(ask(), 0, 12)));
-    assert_eq!(rt; ring.flush(ask()), Some(entry(ask(), 1, 10)));
-    assert_eq!(rt; ring.flush(ask()), None);
-    assert_eq!(rt; ring.front().copied(), Some(entry(reply(), 0, 11)));
-    assert_eq!(rt; ring.pop(), Some(entry(reply(), 0, 11)));
-    assert_eq!(rt; ring.pop(), None);
+    expect(ring.len() == 3, "ring.len()")?;
+    expect(ring.least(ask()) == Some(0), "ring.least(ask())")?;
+    expect(ring.least(next_ask()) == None, "ring.least(next_ask())")?;
+    expect(ring.holds(ask(), 1), "ring.holds(ask(), 1)")?;
+    expect(!ring.holds(reply(), 1), "!ring.holds(reply(), 1)")?;
+    expect(
+        ring.flush(ask()) == Some(entry(ask(), 0, 12)),
+        "ring.flush(ask())",
+    )?;
+    expect(
+        ring.flush(ask()) == Some(entry(ask(), 1, 10)),
+        "ring.flush(ask())",
+    )?;
+    expect(ring.flush(ask()) == None, "ring.flush(ask())")?;
+    expect(
+        ring.front().copied() == Some(entry(reply(), 0, 11)),
+        "ring.front().copied()",
+    )?;
+    expect(ring.pop() == Some(entry(reply(), 0, 11)), "ring.pop()")?;
+    expect(ring.pop() == None, "ring.pop()")?;
     Ok(())
 }
 
@@ -117,8 +140,7 @@ fn filled(alloc: Global, entries: &[Entry]) -> Result<TxRing, NoMemory>
     Ok(ring)
 }
 
-#[test]
-fn the_others_keep_their_order(rt: HostRuntime) -> Result<(), Fail> {
+pub fn the_others_keep_their_order(alloc: Global) -> Result<(), Differs> {
     let entries = [
         entry(ask(), 2, 0),
         entry(next_ask(), 1, 1),
@@ -146,16 +168,22 @@ fn the_others_keep_their_order(rt: HostRuntime) -> Result<(), Fail> {
         (&[reply(), reply(), reply()], None, &[0, 1, 2, 4, 6, 7]),
     ];
     for (owners, taken, left) in table {
-        let mut ring = filled(rt.alloc(), &entries)?;
+        let mut ring = filled(alloc, &entries)?;
         let mut last = None;
         for owner in owners {
             last = ring.flush(*owner);
         }
-        assert_eq!(rt; last.and_then(|it| it.place).map(|it| it.0), taken);
+        expect(
+            last.and_then(|it| it.place).map(|it| it.0) == taken,
+            "last.and_then(|it| it.place).map(|it| it.0)",
+        )?;
         for place in left {
-            assert_eq!(rt; ring.pop().and_then(|it| it.place), Some(Place(*place)));
+            expect(
+                ring.pop().and_then(|it| it.place) == Some(Place(*place)),
+                "ring.pop().and_then(|it| it.place)",
+            )?;
         }
-        assert_eq!(rt; ring.pop(), None);
+        expect(ring.pop() == None, "ring.pop()")?;
     }
     Ok(())
 }

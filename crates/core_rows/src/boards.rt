@@ -6,17 +6,17 @@ ghost use Rattle.worker_board.specs.Word.{job_of};
 ghost use Rattle.worker_board.specs.Seats.{IsSeatOf, IsHandOf, places_of, view_of, hand_view, HoldsClaim, HoldsNone};
 ghost use Rattle.worker_board.specs.Rows.{IsOfferedFrom, IsOnlyClaim, IsFreeHand};
 
-use crate::{Board, DispatchSeat, HandSeat, Parcel, Ticket};
+use crate::differs::{Differs, expect};
 use message_buffer::MsgBuf;
 use rpc_base::{RequestNo, SessionNo};
 use rpc_outside::{Duty, PlainDuty};
 use std::alloc::Global;
-use std::test::Fail;
 use std::thread;
 use std::thread::Threads;
+use worker_board::{Board, DispatchSeat, HandSeat, Parcel, Ticket};
 
 /// A background echo of two bytes.
-fn echo_of(alloc: Global, bytes: &[u8; 2]) -> Result<Parcel, Fail>
+fn echo_of(alloc: Global, bytes: &[u8; 2]) -> Result<Parcel, Differs>
     ensures { IfOk result (HasRoom background_answer) }
 {
     let mut ask = MsgBuf::new(alloc, 2)?;
@@ -73,38 +73,48 @@ fn finish<D: Duty>(board: &Board<D>, seat: &mut HandSeat, ticket: Ticket, job: P
     board.finish(seat, ticket, job);
 }
 
-#[test]
-fn a_ticket_is_claimed_once(rt: HostRuntime) -> Result<(), Fail> {
-    let alloc = rt.alloc();
+pub fn a_ticket_is_claimed_once(alloc: Global) -> Result<(), Differs> {
     let (board, mut seat) = Board::<PlainDuty>::new(alloc, 2)?;
-    assert_eq!(rt; board.places(), 2);
+    expect(board.places() == 2, "board.places()")?;
     let ticket = board.offer(&mut seat, 0, echo_of(alloc, b"ab")?);
-    assert_eq!(rt; (ticket.place(), ticket.generation()), (0, 0));
+    expect(
+        (ticket.place(), ticket.generation()) == (0, 0),
+        "(ticket.place(), ticket.generation())",
+    )?;
     let mut one = board.hand(&mut seat, 0);
     let mut two = board.hand(&mut seat, 1);
     let Some(job) = claim(&board, &PlainDuty, &mut one, ticket) else {
-        return Err(Fail::new("the claim was lost"));
+        return Err(Differs::of("the claim was lost"));
     };
     let None = claim(&board, &PlainDuty, &mut two, ticket) else {
-        return Err(Fail::new("a claimed ticket was claimed"));
+        return Err(Differs::of("a claimed ticket was claimed"));
     };
     let None = board.collect(&mut seat, 0) else {
-        return Err(Fail::new("an unfinished job was collected"));
+        return Err(Differs::of("an unfinished job was collected"));
     };
     let None = board.take_back(&mut seat, 0) else {
-        return Err(Fail::new("a claimed job was taken back"));
+        return Err(Differs::of("a claimed job was taken back"));
     };
     finish(&board, &mut one, ticket, job);
     board.retire(&mut seat, one);
     board.retire(&mut seat, two);
     let Some(finished) = board.collect(&mut seat, 0) else {
-        return Err(Fail::new("the finished job wasn't there"));
+        return Err(Differs::of("the finished job wasn't there"));
     };
-    assert_eq!(rt; finished.out.bytes(), b"ab".as_slice());
+    expect(
+        finished.out.bytes() == b"ab".as_slice(),
+        "finished.out.bytes()",
+    )?;
     let next = board.offer(&mut seat, 0, echo_of(alloc, b"cd")?);
-    assert_eq!(rt; (next.place(), next.generation()), (0, 1));
+    expect(
+        (next.place(), next.generation()) == (0, 1),
+        "(next.place(), next.generation())",
+    )?;
     let unworked = board.take_back(&mut seat, 0).ok_or("a ready job stayed")?;
-    assert_eq!(rt; unworked.ask.bytes(), b"cd".as_slice());
+    expect(
+        unworked.ask.bytes() == b"cd".as_slice(),
+        "unworked.ask.bytes()",
+    )?;
     Ok(())
 }
 
@@ -116,7 +126,7 @@ fn offer_all(
     seat: &mut DispatchSeat,
     alloc: Global,
     tickets: u32,
-) -> Result<(), Fail>
+) -> Result<(), Differs>
     requires board { IsSeatOf board.now seat.old }
     requires places { places_of board.now ≡ tickets }
     requires new { (view_of seat.old).ledger ≡ replicate tickets [] }
@@ -215,19 +225,21 @@ fn four_hands<R: Threads + Sync>(
     a.wrapping_add(b)
 }
 
-#[test]
-fn four_threads_claim_each_ticket_once(rt: HostRuntime) -> Result<(), Fail> {
-    let (board, mut seat) = Board::<PlainDuty>::new(rt.alloc(), TICKETS)?;
+pub fn four_threads_claim_each_ticket_once<R: Threads + Sync>(
+    rt: &R,
+    alloc: Global,
+) -> Result<(), Differs> {
+    let (board, mut seat) = Board::<PlainDuty>::new(alloc, TICKETS)?;
     let one = board.hand(&mut seat, 0);
     let two = board.hand(&mut seat, 1);
     let three = board.hand(&mut seat, 2);
     let four = board.hand(&mut seat, 3);
-    offer_all(&board, &mut seat, rt.alloc(), TICKETS)?;
+    offer_all(&board, &mut seat, alloc, TICKETS)?;
     let (_seat, won) = thread::join(
-        &rt,
+        rt,
         || collect_all(&board, seat),
-        || four_hands(&rt, &board, one, two, three, four),
+        || four_hands(rt, &board, one, two, three, four),
     );
-    assert_eq!(rt; won, TICKETS);
+    expect(won == TICKETS, "won")?;
     Ok(())
 }

@@ -8,14 +8,14 @@ ghost use Rattle.server_core.specs.Steps.{AreServed, IsAsking};
 ghost use Rattle.packet_rings.specs.Rings.{ring};
 ghost use Rattle.std.specs.Prelude.{◌≡◌, ◌<◌, ◌++◌, length, option_to_list};
 
-use crate::{ServerSession, Step};
+use crate::differs::{Differs, expect};
 use buffer_pool::BufferPool;
 use packet_header::{Kind, MessageHeader};
 use packet_rings::{Entry, TxRing};
 use rpc_base::{Event, NodeId, Owner, Peer, RequestNo, SessionNo, Who};
 use rpc_outside::{MemRecorder, NoRecord, PlainService, Recorder};
+use server_core::{ServerSession, Step};
 use std::alloc::Global;
-use std::test::Fail;
 
 const SESSION: SessionNo = SessionNo(5);
 
@@ -112,17 +112,16 @@ fn handle<R: Recorder>(
     }
 }
 
-#[test]
-fn a_session_ends(rt: HostRuntime) -> Result<(), Fail> {
-    let alloc = rt.alloc();
+pub fn a_session_ends(alloc: Global) -> Result<(), Differs> {
     let mut pool = BufferPool::new(alloc, 8)?;
     let mut tx = TxRing::new(alloc, 0)?;
     let mut session = ServerSession::new(SESSION, CLIENT, PEER, 4);
-    assert!(rt;
-        session.session() == SESSION && session.client() == CLIENT && session.peer() == PEER
-    );
+    expect(
+        session.session() == SESSION && session.client() == CLIENT && session.peer() == PEER,
+        "session.session() == SESSION && session.client() == CLIEN..",
+    )?;
     let request = RequestNo::of(1, 0);
-    assert!(rt; session.owner(1).is_none());
+    expect(session.owner(1).is_none(), "session.owner(1).is_none()")?;
     let (head, ask) = (asking(request), [1, 2, 3]);
     let mut service = PlainService::new();
     let step = session.on_packet(
@@ -137,27 +136,34 @@ fn a_session_ends(rt: HostRuntime) -> Result<(), Fail> {
         &mut NoRecord,
     );
     let Step::Ran { reply } = step else {
-        return Err(Fail::from("the handler didn't run"));
+        return Err(Differs::of("the handler didn't run"));
     };
     session.sent(&mut pool, &reply);
-    assert!(rt; session.owner(1) == Some(owner_of(request)) && pool.spare() == 7);
-    assert!(rt; session.are_unheld(&pool));
+    expect(
+        session.owner(1) == Some(owner_of(request)) && pool.spare() == 7,
+        "session.owner(1) == Some(owner_of(request)) && pool.spare..",
+    )?;
+    expect(session.are_unheld(&pool), "session.are_unheld(&pool)")?;
     session.finish(&mut pool);
-    assert_eq!(rt; pool.spare(), 8);
+    expect(pool.spare() == 8, "pool.spare()")?;
     Ok(())
 }
 
-#[test]
-fn the_facts_of_a_packet_are_noted(rt: HostRuntime) -> Result<(), Fail> {
-    let alloc = rt.alloc();
+pub fn the_facts_of_a_packet_are_noted(alloc: Global) -> Result<(), Differs> {
     let mut pool = BufferPool::new(alloc, 8)?;
     let mut tx = TxRing::new(alloc, 8)?;
     let mut session = ServerSession::new(SESSION, CLIENT, PEER, 4);
     let mut rec = MemRecorder::new(alloc);
     let request = RequestNo::of(1, 0);
     let (s, p, t, r) = (&mut session, &mut pool, &mut tx, &mut rec);
-    assert_eq!(rt; handle(alloc, s, p, t, request, r), Handled::Ran);
-    assert_eq!(rt; handle(alloc, s, p, t, request, r), Handled::Again);
+    expect(
+        handle(alloc, s, p, t, request, r) == Handled::Ran,
+        "handle(alloc, s, p, t, request, r)",
+    )?;
+    expect(
+        handle(alloc, s, p, t, request, r) == Handled::Again,
+        "handle(alloc, s, p, t, request, r)",
+    )?;
     let owner = owner_of(request);
     let events = [
         Event::Took { owner, number: 0 },
@@ -170,20 +176,27 @@ fn the_facts_of_a_packet_are_noted(rt: HostRuntime) -> Result<(), Fail> {
         Event::Again { owner, number: 0 },
         Event::Posted { owner, number: 0 },
     ];
-    assert!(rt; rec.whole());
-    assert_eq!(rt; rec.facts().len(), events.len());
+    expect(rec.whole(), "rec.whole()")?;
+    expect(rec.facts().len() == events.len(), "rec.facts().len()")?;
     for (fact, event) in rec.facts().iter().zip(events) {
-        assert!(rt; fact.who == ME && fact.event == event);
+        expect(
+            fact.who == ME && fact.event == event,
+            "fact.who == ME && fact.event == event",
+        )?;
     }
     let ran = rec.facts().get(1).ok_or("not noted")?;
-    assert_eq!(rt; ran.first.bytes(), [1, 2, 3].as_slice());
-    assert_eq!(rt; ran.second.bytes(), [3, 2, 1].as_slice());
+    expect(
+        ran.first.bytes() == [1, 2, 3].as_slice(),
+        "ran.first.bytes()",
+    )?;
+    expect(
+        ran.second.bytes() == [3, 2, 1].as_slice(),
+        "ran.second.bytes()",
+    )?;
     Ok(())
 }
 
-#[test]
-fn an_older_request_leaves_the_ring(rt: HostRuntime) -> Result<(), Fail> {
-    let alloc = rt.alloc();
+pub fn an_older_request_leaves_the_ring(alloc: Global) -> Result<(), Differs> {
     let mut pool = BufferPool::new(alloc, 8)?;
     let mut tx = TxRing::new(alloc, 8)?;
     let mut session = ServerSession::new(SESSION, CLIENT, PEER, 4);
@@ -191,25 +204,40 @@ fn an_older_request_leaves_the_ring(rt: HostRuntime) -> Result<(), Fail> {
     let (s, p, t) = (&mut session, &mut pool, &mut tx);
     let (older, newer) = (RequestNo::of(1, 0), RequestNo::of(1, 1));
     let other = RequestNo::of(2, 0);
-    assert_eq!(rt; handle(alloc, s, p, t, older, &mut NoRecord), Handled::Ran);
-    assert_eq!(rt; handle(alloc, s, p, t, other, &mut NoRecord), Handled::Ran);
-    assert_eq!(rt;
-        handle(alloc, s, p, t, older, &mut NoRecord),
-        Handled::Again
-    );
-    assert_eq!(rt; t.len(), 3);
-    assert_eq!(rt; handle(alloc, s, p, t, newer, &mut rec), Handled::Ran);
-    assert_eq!(rt; t.len(), 2);
+    expect(
+        handle(alloc, s, p, t, older, &mut NoRecord) == Handled::Ran,
+        "handle(alloc, s, p, t, older, &mut NoRecord)",
+    )?;
+    expect(
+        handle(alloc, s, p, t, other, &mut NoRecord) == Handled::Ran,
+        "handle(alloc, s, p, t, other, &mut NoRecord)",
+    )?;
+    expect(
+        handle(alloc, s, p, t, older, &mut NoRecord) == Handled::Again,
+        "handle(alloc, s, p, t, older, &mut NoRecord)",
+    )?;
+    expect(t.len() == 3, "t.len()")?;
+    expect(
+        handle(alloc, s, p, t, newer, &mut rec) == Handled::Ran,
+        "handle(alloc, s, p, t, newer, &mut rec)",
+    )?;
+    expect(t.len() == 2, "t.len()")?;
     let flushed = Event::Flushed {
         owner: owner_of(older),
         number: 0,
     };
-    assert_eq!(rt; rec.facts().len(), 5);
+    expect(rec.facts().len() == 5, "rec.facts().len()")?;
     for fact in rec.facts().iter().take(2) {
-        assert!(rt; fact.who == ME && fact.event == flushed);
+        expect(
+            fact.who == ME && fact.event == flushed,
+            "fact.who == ME && fact.event == flushed",
+        )?;
     }
     let front = t.pop().ok_or("the ring is empty")?;
-    assert_eq!(rt; front.owner, owner_of(other));
-    assert_eq!(rt; s.answer(p, newer), [3, 2, 1].as_slice());
+    expect(front.owner == owner_of(other), "front.owner")?;
+    expect(
+        s.answer(p, newer) == [3, 2, 1].as_slice(),
+        "s.answer(p, newer)",
+    )?;
     Ok(())
 }
