@@ -1,1 +1,8 @@
-pub mod WheelLemmas
+mod WheelLemmas
+pub mod DueLemmas
+mod MergeLemmas
+mod ChainLemmas
+mod PushLemmas
+mod PopLemmas
+mod DialLemmas
+mod TurningLemmas

@@ -1,18 +1,19 @@
 //! The pacer.
 ghost use Rattle.std.specs.Prelude.{◌≡◌, ◌<◌, ◌≤◌, ◌↔◌, ◌+◌, [], false, length, option_map, slice_get};
 ghost use Rattle.std.specs.Prelude.{IfOk, IfSome, IsNone, IsOk, IsTrue, drop};
-ghost use Rattle.std.specs.List.{AllByRecursion, find, list_any, position};
-ghost use Rattle.std.specs.VecDeque.{deque_capacity};
+ghost use Rattle.std.specs.List.{AllByRecursion, find, list_any};
+ghost use Rattle.std.specs.List.Sorted.{IsNonDecreasingBy};
 ghost use Rattle.rpc_base.specs.Tables.{without_first};
-ghost use Rattle.rpc_base.specs.Least.{least, least_number, smaller, without_least};
-ghost use Rattle.packet_rings.specs.Entries.{option_is};
-ghost use Rattle.pacing_wheel.specs.Wheel.{added, due_of, entry_of, is_due, is_entry_of, is_of};
-ghost use Rattle.pacing_wheel.specs.Wheel.{number_of, wheel};
+ghost use Rattle.rpc_base.specs.Least.{least, least_number, without_least};
+ghost use Rattle.pacing_wheel.specs.Wheel.{added, due_of, entry_of, is_due, is_entry_of};
+ghost use Rattle.pacing_wheel.specs.Wheel.{is_first, is_of, merged, number_of, wheel};
 
+use crate::choosing::{earlier, is_first, lesser};
+use crate::dial::Dial;
+use crate::due_list::DueList;
 use packet_rings::Entry;
 use rpc_base::{NoMemory, Owner};
 use std::alloc::Global;
-use std::collections::VecDeque;
 use std::marker::Model;
 
 /// An entry that waits, and the time in microseconds from which on it may be sent.
@@ -22,27 +23,26 @@ pub struct Paced {
     pub entry: Entry,
 }
 
-/// The packets that were posted and aren't due yet, in a list of fixed size: by the times when they
-/// are due, and among equals by their adding.
+/// The packets that were posted and aren't due yet: by the times when they are due, and among equals
+/// by their adding. Those that are due within one turn of the wheel stand in its places, all others
+/// in a list by due times.
 #[derive(Drop)]
 pub struct Pacer {
-    waiting: VecDeque<Paced>,
+    dial: Dial,
+    overflow: DueList,
     size: u32,
 }
 
 impl Model for Pacer {
-    ghost use Rattle.std.specs.Prelude.{◌≤◌, ◌<◌, ◌^◌, length};
-    ghost use Rattle.std.specs.VecDeque.{deque_capacity};
-    ghost use Rattle.std.specs.List.Sorted.{IsNonDecreasingBy};
-    ghost use Rattle.pacing_wheel.specs.Wheel.{Wheel, due_of, wheel};
+    ghost use Rattle.std.specs.Prelude.{◌≡◌, ◌+◌, ◌≤◌, ◌<◌, ◌^◌, length};
+    ghost use Rattle.pacing_wheel.specs.Wheel.{Wheel, merged, wheel};
 
     ghost Value = { Wheel };
 
-    ghost view = { λ p. wheel p.waiting.items p.size };
+    ghost view = { λ p. wheel (merged p.overflow.items p.dial.items) p.size };
 
-    ghost invariant = { λ p. (length p.waiting.items ≤ p.size)
-        × (p.size ≤ deque_capacity p.waiting) × (p.size < 2 ^ 32)
-        × IsNonDecreasingBy due_of p.waiting.items };
+    ghost invariant = { λ p. (length p.overflow.items + length p.dial.items ≤ p.size)
+        × (p.dial.size ≡ p.size) × (p.overflow.size ≡ p.size) × (p.size < 2 ^ 32) };
 }
 
 impl Pacer {
@@ -52,8 +52,13 @@ impl Pacer {
         ensures made { IfOk result (λ p. p ≡ wheel [] size) }
         ensures succeeds { size ≡ 0 → IsOk result }
     {
-        let waiting = VecDeque::with_capacity(alloc, size as usize)?;
-        Ok(Pacer { waiting, size })
+        let dial = Dial::new(alloc, size)?;
+        let overflow = DueList::new(alloc, size)?;
+        Ok(Pacer {
+            dial,
+            overflow,
+            size,
+        })
     }
 
     /// How many entries wait.
@@ -61,7 +66,7 @@ impl Pacer {
         ensures len { result ≡ length self.now.items }
         ensures within { result ≤ self.now.size }
     {
-        self.waiting.len() as u32
+        self.overflow.len() + self.dial.len()
     }
 
     /// How many entries may wait.
@@ -76,7 +81,7 @@ impl Pacer {
     pub fn is_empty(&self) -> bool
         ensures { IsTrue result ↔ (self.now.items ≡ []) }
     {
-        self.waiting.is_empty()
+        self.len() == 0
     }
 
     /// Puts an entry behind those that are due no later, in a pacer that isn't full. `due` is in
@@ -85,10 +90,13 @@ impl Pacer {
         requires room { length self.old.items < self.old.size }
         ensures { self.new ≡ wheel (added due entry self.old.items) self.old.size }
     {
-        let place = self.waiting.partition_point(|paced| paced.due <= due);
-        let Ok(()) = self.waiting.insert(place, Paced { due, entry }) else {
-            unreachable!()
-        };
+        self.overflow.sound();
+        self.dial.sound();
+        if self.dial.covers(due) {
+            self.dial.add(due, entry);
+        } else {
+            self.overflow.add(due, entry);
+        }
     }
 
     /// The entry that is due first, among equals the one added first, with its due time. None comes
@@ -97,7 +105,9 @@ impl Pacer {
         ensures front { result ≡ slice_get self.now.items 0 }
         ensures first { IfSome result (λ p. AllByRecursion (λ q. p.due ≤ q.due) self.now.items) }
     {
-        first_of(&self.waiting)
+        self.overflow.sound();
+        self.dial.sound();
+        earlier(self.overflow.front(), self.dial.front())
     }
 
     /// Takes that entry out. None comes exactly where no entry waits.
@@ -105,10 +115,24 @@ impl Pacer {
         ensures front { result ≡ option_map entry_of (slice_get self.old.items 0) }
         ensures rest { self.new ≡ wheel (drop 1 self.old.items) self.old.size }
     {
-        let Some(paced) = self.waiting.pop_front() else {
-            return None;
-        };
-        Some(entry_in(&paced))
+        self.overflow.sound();
+        self.dial.sound();
+        if overflow_is_first(&self.overflow, &self.dial) {
+            self.overflow.pop()
+        } else {
+            self.dial.pop()
+        }
+    }
+
+    /// The entry that is due first, among equals the one added first, where it is due at `now`, in
+    /// microseconds. None comes exactly where no entry is. It looks at no place behind `now`.
+    pub fn first_due(&self, now: u64) -> Option<Paced>
+        ensures due { result ≡ least (is_due now) due_of self.now.items }
+        ensures none { IsNone result ↔ (list_any (is_due now) self.now.items ≡ false) }
+    {
+        self.overflow.sound();
+        self.dial.sound();
+        earlier(self.overflow.first_due(now), self.dial.first_due(now))
     }
 
     /// Takes out the entry that is due first, among equals the one added first, where it is due at
@@ -120,13 +144,27 @@ impl Pacer {
             ≡ wheel (without_least (is_due now) due_of self.old.items) self.old.size }
         ensures none { IsNone result ↔ (list_any (is_due now) self.old.items ≡ false) }
     {
-        if !is_front_due(&self.waiting, now) {
+        self.sound();
+        self.turn(now);
+        let Some(_first) = self.first_due(now) else {
             return None;
-        }
-        let Some(paced) = self.waiting.pop_front() else {
-            unreachable!()
         };
-        Some(entry_in(&paced))
+        self.pop()
+    }
+
+    // Moves the wheel's cursor on.
+    fn turn(&mut self, now: u64)
+        ensures { self.new ≡ self.old }
+    {
+        self.dial.go_to(now);
+    }
+
+    /// Does nothing. Its clause is what holds of each pacer: its entries stand by their due times.
+    pub fn sound(&self)
+        ensures { IsNonDecreasingBy due_of self.now.items }
+    {
+        self.overflow.sound();
+        self.dial.sound();
     }
 
     /// The least number among that owner's entries. None comes exactly where it has no entry.
@@ -134,15 +172,14 @@ impl Pacer {
         ensures least { result ≡ least_number (is_of owner) number_of self.now.items }
         ensures none { IsNone result ↔ (list_any (is_of owner) self.now.items ≡ false) }
     {
-        least_of(&self.waiting, &owner)
+        lesser(self.overflow.least(&owner), self.dial.least(&owner))
     }
 
     /// Tells whether that owner's packet of this number waits.
     pub fn holds(&self, owner: Owner, number: u16) -> bool
         ensures { result ≡ list_any (is_entry_of owner number) self.now.items }
     {
-        self.waiting.iter().any(|paced| paced.entry.owner.is_same(owner)
-            && paced.entry.number == number)
+        self.overflow.holds(&owner, number) || self.dial.holds(&owner, number)
     }
 
     /// Takes out that owner's entry of least number, among equals the one that is due first. The
@@ -154,85 +191,50 @@ impl Pacer {
             ≡ wheel (without_least (is_of owner) number_of self.old.items) self.old.size }
         ensures none { IsNone result ↔ (list_any (is_of owner) self.old.items ≡ false) }
     {
-        let Some(number) = least_of(&self.waiting, &owner) else {
+        let Some(number) = self.least(owner) else {
             return None;
         };
-        let Some(paced) = take_out(&mut self.waiting, &owner, number) else {
-            unreachable!()
-        };
-        Some(entry_in(&paced))
+        self.take_with(&owner, number)
     }
-}
 
-fn entry_in(paced: &Paced) -> Entry
-    ensures { result ≡ paced.now.entry }
-{
-    paced.entry
-}
-
-// The smaller of a number and another that may be there.
-fn smaller_of(number: u16, other: Option<u16>) -> u16
-    ensures { result ≡ smaller number other }
-{
-    match other {
-        Some(other) => number.min(other),
-        None => number,
-    }
-}
-
-// The least number among that owner's entries, if it has one.
-fn least_of(waiting: &VecDeque<Paced>, owner: &Owner) -> Option<u16>
-    ensures { result ≡ least_number (is_of owner.now) number_of waiting.now.items }
-{
-    let mut least = None;
-    for paced in waiting {
-        if paced.entry.owner.is_same(*owner) {
-            least = Some(smaller_of(paced.entry.number, least));
+    // Takes out that owner's entry of this number, among equals the one that is due first.
+    fn take_with(&mut self, owner: &Owner, number: u16) -> Option<Entry>
+        ensures taken { result ≡ option_map entry_of (find (is_entry_of owner.now number) self.old.items) }
+        ensures left { self.new
+            ≡ wheel (without_first (is_entry_of owner.now number) self.old.items) self.old.size }
+    {
+        self.overflow.sound();
+        self.dial.sound();
+        let first = self.overflow.first_with(owner, number);
+        let second = self.dial.first_with(owner, number);
+        if is_first(&first, &second) {
+            let _first = self.overflow.take_with(owner, number);
+            entry_in(&first)
+        } else {
+            self.dial.drop_with(owner, number);
+            entry_in(&second)
         }
     }
-    least
 }
 
-// The front entry.
-fn first_of(waiting: &VecDeque<Paced>) -> Option<Paced>
-    ensures { result ≡ slice_get waiting.now.items 0 }
+// Whether the overflow's first entry comes before the wheel's. It looks at no place behind the time
+// when the former is due.
+fn overflow_is_first(overflow: &DueList, dial: &Dial) -> bool
+    ensures { result ≡ is_first (slice_get overflow.now.items 0) (slice_get dial.now.items 0) }
 {
-    match waiting.front() {
-        Some(paced) => Some(*paced),
+    dial.sound();
+    let Some(first) = overflow.front() else {
+        return false;
+    };
+    let second = dial.first_due(first.due);
+    is_first(&Some(first), &second)
+}
+
+fn entry_in(paced: &Option<Paced>) -> Option<Entry>
+    ensures { result ≡ option_map entry_of paced.now }
+{
+    match paced {
+        Some(paced) => Some(paced.entry),
         None => None,
     }
-}
-
-// Whether there is a front entry and it is due.
-fn is_front_due(waiting: &VecDeque<Paced>, now: u64) -> bool
-    ensures { result ≡ option_is (is_due now) (slice_get waiting.now.items 0) }
-{
-    match waiting.front() {
-        Some(paced) => paced.due <= now,
-        None => false,
-    }
-}
-
-// Where that owner's first packet of this number waits, if it does.
-fn place_of(waiting: &VecDeque<Paced>, owner: &Owner, number: u16) -> Option<usize>
-    ensures { result ≡ position (is_entry_of owner.now number) waiting.now.items }
-{
-    waiting.iter().position(|paced| paced.entry.owner.is_same(*owner)
-        && paced.entry.number == number)
-}
-
-// Takes it out.
-fn take_out(waiting: &mut VecDeque<Paced>, owner: &Owner, number: u16) -> Option<Paced>
-    ensures taken { result ≡ find (is_entry_of owner.now number) waiting.old.items }
-    ensures left { waiting.new.items
-        ≡ without_first (is_entry_of owner.now number) waiting.old.items }
-    ensures capacity { deque_capacity waiting.new ≡ deque_capacity waiting.old }
-{
-    let Some(place) = place_of(waiting, owner, number) else {
-        return None;
-    };
-    let Some(paced) = waiting.remove(place) else {
-        unreachable!()
-    };
-    Some(paced)
 }

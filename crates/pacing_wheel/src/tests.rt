@@ -54,3 +54,47 @@ fn the_least_number_leaves_first(rt: HostRuntime) -> Result<(), Fail> {
     assert_eq!(rt; pacer.pop(), None);
     Ok(())
 }
+
+// Adds an entry where there is room.
+fn put(pacer: &mut Pacer, due: u64, entry: Entry) {
+    if pacer.len() < pacer.size() {
+        pacer.add(due, entry);
+    }
+}
+
+#[test]
+fn the_overflow_and_the_wheel_leave_as_one(rt: HostRuntime) -> Result<(), Fail> {
+    let mut pacer = Pacer::new(rt.alloc(), 4)?;
+    let (a, b, c, d) = (packet(0, 0), packet(1, 0), packet(2, 0), packet(3, 0));
+    put(&mut pacer, 5_000, a);
+    assert_eq!(rt; pacer.release(2_000), None);
+    for (due, entry) in [(5_000, b), (4_999, c), (1_000, d)] {
+        put(&mut pacer, due, entry);
+    }
+    for entry in [Some(d), Some(c), Some(a), Some(b), None] {
+        assert_eq!(rt; pacer.release(5_000), entry);
+    }
+    Ok(())
+}
+
+#[test]
+fn the_last_time_comes(rt: HostRuntime) -> Result<(), Fail> {
+    let mut pacer = Pacer::new(rt.alloc(), 1)?;
+    put(&mut pacer, u64::MAX, packet(0, 0));
+    assert_eq!(rt; pacer.release(u64::MAX - 1), None);
+    assert_eq!(rt; pacer.release(u64::MAX), Some(packet(0, 0)));
+    Ok(())
+}
+
+#[test]
+fn the_overflows_leaves_before_a_later_one_of_its_time(rt: HostRuntime) -> Result<(), Fail> {
+    let mut pacer = Pacer::new(rt.alloc(), 2)?;
+    let (early, late) = (packet(0, 0), packet(1, 0));
+    put(&mut pacer, 10_000, early);
+    assert_eq!(rt; pacer.release(9_000), None);
+    put(&mut pacer, 10_000, late);
+    for entry in [Some(early), Some(late), None] {
+        assert_eq!(rt; pacer.release(10_000), entry);
+    }
+    Ok(())
+}
