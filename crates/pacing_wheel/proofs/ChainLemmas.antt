@@ -1,11 +1,8 @@
 -- What a chain is after a link was written.
-use Rattle.std.proofs.Common.{◌≡◌, ◌≢◌, ℕ, zero, suc, ◌+◌, ◌<◌, ◌≤◌, List, [], ◌∷◌, ◌++◌, length, set, sym, refl, ap, ◌∙◌}
-use Rattle.std.proofs.Common.{arith, cond, true, false, eqb, eq-eqb, ne_eqb, get_or, subst}
-use mathlib.Core.Logic.{dite}
-use native.Mathlib.Decide.{ℕ_discrete}
+use Rattle.std.proofs.Common.{◌≡◌, ◌≢◌, ℕ, zero, suc, ◌+◌, ◌<◌, List, [], ◌∷◌, ◌++◌, length, set, refl, ap, ◌∙◌}
+use Rattle.std.proofs.Common.{arith, cond, eq-eqb, ne_eqb, subst}
 use Rattle.pacing_wheel.specs.declared.chains.Link.{Link}
-use Rattle.pacing_wheel.specs.declared.chains.Ends.{Ends}
-use Rattle.pacing_wheel.specs.Chains.{chain_at, chain_of, in_chains, items_at, last_or, link_at, nothing, only, times}
+use Rattle.pacing_wheel.specs.Chains.{chain_at, items_at, last_or, link_at, only, times}
 
 pub only-same : (k x : ℕ) → x ≡ k → only k x ≡ 1
 only-same k x e = ap (λ b. cond b 1 0) (eq-eqb x k e)

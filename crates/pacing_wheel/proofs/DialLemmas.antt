@@ -1,23 +1,23 @@
 -- Lists by due times, each the entries of one place round a cursor.
 use Rattle.std.proofs.Common.{◌≡◌, ◌≢◌, ◌<◌, ◌≤◌, ℕ, zero, suc, ◌+◌, ◌-◌, ◌%◌, ◌^◌, Bool, true, false, cond, leb, leb-true, leb-false}
-use Rattle.std.proofs.Common.{Option, Some, None, List, [], ◌∷◌, ◌++◌, length, refl, replicate, sym, ap, drop, set, subst, ◌∙◌, arith}
+use Rattle.std.proofs.Common.{Some, None, List, [], ◌∷◌, ◌++◌, length, refl, replicate, sym, ap, drop, set, subst, ◌∙◌, arith}
 use Rattle.std.proofs.Math.Nat.{div-add-mod, mod-lt}
 use mathlib.Core.Logic.{dite}
 use native.Mathlib.Decide.{ℕ_discrete}
-use Rattle.std.specs.Prelude.{slice_get, slice_index_or, is_some, ◌==◌}
+use Rattle.std.specs.Prelude.{slice_get, is_some, ◌==◌}
 use Rattle.std.specs.List.{AllByRecursion, find, list_any}
 use Rattle.std.proofs.lemmas.Bool.{eqb-true}
 use Rattle.std.specs.List.Sorted.{IsNonDecreasingBy}
 use Rattle.rpc_base.specs.Tables.{without_first}
-use Rattle.rpc_base.specs.Least.{least, least_number, without_least}
+use Rattle.rpc_base.specs.Least.{least, least_number}
 use Rattle.rpc_base.proofs.LeastLemmas.{lesser}
-use Rattle.rpc_base.proofs.FirstLemmas.{all-push, all-each, all-left}
+use Rattle.rpc_base.proofs.FirstLemmas.{all-push, all-each}
 use Rattle.packet_rings.specs.Values.{EntryValue}
 use Rattle.pacing_wheel.specs.declared.pacer.Paced.{Paced}
 use Rattle.pacing_wheel.specs.Wheel.{added, due_of, earlier, is_due, is_first, merged, number_of, put_before, together, AllStand, Covers, InOrder, StandsAt}
 use Rattle.pacing_wheel.specs.Chains.{list_at, with_last}
-use Rattle.pacing_wheel.proofs.WheelLemmas.{due-least, late-least, not-due}
-use Rattle.pacing_wheel.proofs.MergeLemmas.{added-merged, first-first, length-added, length-merged, merged-added, merged-in-order}
+use Rattle.pacing_wheel.proofs.WheelLemmas.{due-least, late-least}
+use Rattle.pacing_wheel.proofs.MergeLemmas.{added-merged, first-first, length-merged, merged-added, merged-in-order}
 use Rattle.pacing_wheel.proofs.MergeLemmas.{find-merged, least-both, ordered, second-first, take-first, take-second}
 
 -- within one turn a place has one time

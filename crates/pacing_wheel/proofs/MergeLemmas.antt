@@ -1,5 +1,5 @@
 -- Two lists by due times as one.
-use Rattle.std.proofs.Common.{◌≡◌, ◌<◌, ◌≤◌, ◌≢◌, ℕ, zero, suc, ◌+◌, Bool, true, false, cond, leb, leb-true, ◌||◌, if◌then◌else◌}
+use Rattle.std.proofs.Common.{◌≡◌, ◌<◌, ◌≤◌, ◌≢◌, ℕ, suc, ◌+◌, Bool, true, false, cond, leb, leb-true, ◌||◌}
 use Rattle.std.proofs.Common.{leb-false, Option, Some, None, List, [], ◌∷◌, length, refl, sym, ap, drop}
 use Rattle.std.specs.List.Sorted.{IsNonDecreasingBy}
 use Rattle.std.proofs.lemmas.List.Sorted.{IsNonDecreasingBy-drop}
@@ -9,8 +9,7 @@ use Rattle.std.proofs.lemmas.Bool.Decides.{nat_tests}
 use Rattle.std.specs.Prelude.{IfSome, slice_get}
 use Rattle.std.specs.List.{AllByRecursion, find, list_any}
 use Rattle.rpc_base.specs.Tables.{without_first}
-use Rattle.rpc_base.specs.Least.{least, least_number, smaller, without_least}
-use Rattle.rpc_base.proofs.LeastLemmas.{none-passes, one-passes}
+use Rattle.rpc_base.specs.Least.{least, least_number, smaller}
 use Rattle.pacing_wheel.proofs.DueLemmas.{due_only, least-due, leb-intro, leb-over}
 use Rattle.std.specs.Prelude.{is_some, option_map}
 use Rattle.rpc_base.proofs.LeastLemmas.{lesser}

@@ -13,7 +13,7 @@ use Rattle.pacing_wheel.specs.declared.pacer.Paced.{Paced}
 use Rattle.pacing_wheel.specs.declared.chains.Link.{Link}
 use Rattle.pacing_wheel.specs.declared.chains.Ends.{Ends}
 use Rattle.pacing_wheel.specs.Chains.{chain_at, chain_of, in_chains, items_at, last_or, lens, link_at, list_at, lists_in, no_ends}
-use Rattle.pacing_wheel.specs.Chains.{Tied, only, times, EndsAt}
+use Rattle.pacing_wheel.specs.Chains.{Tied, times, EndsAt}
 use Rattle.pacing_wheel.proofs.ChainLemmas.{only-other, only-same, times-append}
 use Rattle.pacing_wheel.proofs.PushLemmas.{length-end, lens-at, lens-set, ends-at}
 

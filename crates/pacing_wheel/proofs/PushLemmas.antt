@@ -1,6 +1,6 @@
 -- What a push makes of the lists.
-use Rattle.std.proofs.Common.{◌≡◌, ◌≢◌, ℕ, zero, suc, ◌+◌, ◌-◌, ◌<◌, ◌≤◌, List, [], ◌∷◌, ◌++◌, length, set, sym, refl, ap, ◌∙◌}
-use Rattle.std.proofs.Common.{arith, get_or, subst, map}
+use Rattle.std.proofs.Common.{◌≡◌, ℕ, zero, suc, ◌+◌, ◌-◌, ◌<◌, ◌≤◌, List, [], ◌∷◌, ◌++◌, length, set, sym, refl, ap, ◌∙◌}
+use Rattle.std.proofs.Common.{arith, get_or, subst}
 use Rattle.std.proofs.lemmas.Bool.Decides.{nat_tests}
 use mathlib.Core.Logic.{dite}
 use native.Mathlib.Decide.{ℕ_discrete}
@@ -210,7 +210,7 @@ module _ (links : List Link) (k l : ℕ) (x y : Link) (b : Ends) (fits : k < len
       omega (
         arith,
         ap (times m) (chain-stays (set links k x) l y e
-        (ap (times l) (chain-stays links k x e (omega (arith, none))) ∙ omega (arith, one, there))),
+            (ap (times l) (chain-stays links k x e (omega (arith, none))) ∙ omega (arith, one, there))),
         ap (times m) (chain-stays links k x e (omega (arith, none))),
         counts-longer es p d m (omega (arith, none)) (omega (arith, one)) (omega (arith, h)) some first len last,
       )

@@ -181,11 +181,7 @@ impl Dial {
 fn places_for(size: u32) -> usize
     ensures { result ≡ cond (size == 0) 0 4096 }
 {
-    if size == 0 {
-        0
-    } else {
-        PLACES as usize
-    }
+    if size == 0 { 0 } else { PLACES as usize }
 }
 
 // The place of a time.

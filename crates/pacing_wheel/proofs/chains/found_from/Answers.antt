@@ -1,4 +1,4 @@
-use Rattle.std.proofs.Common.{arith, sym, ◌∙◌}
+use Rattle.std.proofs.Common.{sym, ◌∙◌}
 use Rattle.pacing_wheel.specs.Wheel.{is_entry_of}
 use Rattle.pacing_wheel.proofs.PopLemmas.{found-behind}
 use Rattle.pacing_wheel.proofs.chains.found_from.Goals as goal

@@ -1,4 +1,4 @@
-use Rattle.std.proofs.Common.{◌≡◌, ap, arith, cond, sym, ◌∙◌, Some}
+use Rattle.std.proofs.Common.{◌≡◌, ap, cond, sym, ◌∙◌, Some}
 use Rattle.rpc_base.specs.Least.{smaller}
 use Rattle.pacing_wheel.specs.Wheel.{is_of, number_of}
 use Rattle.pacing_wheel.proofs.PopLemmas.{least-behind}
@@ -12,9 +12,9 @@ loop-left-preserved c =
     let item = c.link_at-link.result.item in
     let now : c.if-is_owned.least ≡ cond (passes item) (Some (smaller (number_of item) so-far)) so-far =
     elim c.if-is_owned.branch [
-      then-is_owned w ↦ w.least-is ∙ (ap Some (w.smaller_of.ensures ∙ ap (λ n. smaller n so-far) w.number_in.ensures)
+      | then-is_owned w ↦ w.least-is ∙ (ap Some (w.smaller_of.ensures ∙ ap (λ n. smaller n so-far) w.number_in.ensures)
           ∙ ap (λ b. cond b (Some (smaller (number_of item) so-far)) so-far) (sym (sym c.is_owned.ensures ∙ w.if-is_owned.true)))
-    | else-is_owned w ↦ w.least-is
+      | else-is_owned w ↦ w.least-is
           ∙ ap (λ b. cond b (Some (smaller (number_of item) so-far)) so-far) (sym (sym c.is_owned.ensures ∙ w.if-is_owned.false))
     ] in
     rw c.link_at-link.ensures (least-behind passes c.args.links.now.items c.loop-left.left c.loop-left.place _ so-far

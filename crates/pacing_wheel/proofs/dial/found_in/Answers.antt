@@ -6,9 +6,8 @@ use Rattle.pacing_wheel.proofs.dial.found_in.Goals as goal
 pub loop-place-preserved : goal.loop-place-preserved
 loop-place-preserved c =
     let inv = c.loop-place.invariant in
-    let t = is_entry_of c.args.owner.now c.args.number in
-    (
+    let t = is_entry_of c.args.owner.now c.args.number in (
       omega (arith, inv.0),
       c.earlier-found.ensures ∙ (rw (c.first_with.ensures, inv.1) (sym (found-step t c.args.chains.now.lists c.loop-place.place
-      c.requires.order c.loop-place-test.true inv.0))),
+          c.requires.order c.loop-place-test.true inv.0))),
     )

@@ -10,8 +10,7 @@ returns-then-waiting-eq0-clause-turn c =
 pub loop-time-preserved : goal.loop-time-preserved
 loop-time-preserved c =
     let inv = c.loop-time.invariant in
-    let ls = c.args.chains.now.lists in
-    (
+    let ls = c.args.chains.now.lists in (
       pass-place c.loop-time.time ls inv.0 (ap (λ k. length (list_at ls k)) (sym c.place_of.ensures)
           ∙ (sym c.len_of.ensures ∙ c.if-len_of-eq0.true)),
       omega (arith, inv.1),

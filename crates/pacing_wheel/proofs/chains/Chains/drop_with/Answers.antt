@@ -10,6 +10,6 @@ loop-left-preserved c =
     c.loop-left.dropped c.loop-left.invariant c.pop-item.result c.loop-left-test.true c.pop-item.ensures.first
     c.pop-item.ensures.rest c.leaves.result c.leaves.ensures in
     elim c.if-leaves.branch [
-      then-leaves w ↦ rw (w.self-is, w.dropped-is) (on.0 w.if-leaves.true)
-    | else-leaves w ↦ rw (w.self-is, w.dropped-is) (on.1 w.if-leaves.false w.push.new.self w.push.ensures)
+      | then-leaves w ↦ rw (w.self-is, w.dropped-is) (on.0 w.if-leaves.true)
+      | else-leaves w ↦ rw (w.self-is, w.dropped-is) (on.1 w.if-leaves.false w.push.new.self w.push.ensures)
     ]

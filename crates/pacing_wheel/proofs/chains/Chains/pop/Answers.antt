@@ -1,4 +1,4 @@
-use Rattle.std.proofs.Common.{◌≡◌, ◌<◌, ◌+◌, ◌++◌, ◌∷◌, [], ap, sym, ◌∙◌, arith, Some, drop, length, set}
+use Rattle.std.proofs.Common.{◌<◌, ◌+◌, ◌++◌, ◌∷◌, [], ap, sym, ◌∙◌, arith, Some, drop, length, set}
 use Rattle.pacing_wheel.specs.declared.chains.Ends.{Ends}
 use Rattle.pacing_wheel.specs.declared.chains.Link.{Link}
 use Rattle.pacing_wheel.specs.Chains.{list_at, lists_in}
@@ -20,8 +20,7 @@ invariant_of-self c =
     let links = c.self.inside.links.items in
     let es = c.self.inside.places.items in
     let e = c.ends_at-ends.result in
-    let some : 0 < e.len = omega (arith, (rw (← c.self.view_is) at c.requires), length-at links es c.args.place, ap (λ (z : Ends). z.len) c.ends_at-ends.ensures) in
-    (
+    let some : 0 < e.len = omega (arith, (rw (← c.self.view_is) at c.requires), length-at links es c.args.place, ap (λ (z : Ends). z.len) c.ends_at-ends.ensures) in (
       rw (c.push_reserved.ensures.items, c.link_at-link.ensures)
           (tied-popped links es c.self.inside.free.items c.args.place e c.self.invariant.0 c.ends_at-ends.ensures some),
       omega (arith, c.self.invariant.1, c.push_reserved.ensures.capacity),

@@ -1,7 +1,7 @@
-use Rattle.std.proofs.Common.{◌≡◌, ◌++◌, ◌∷◌, [], ap, refl, sym, ◌∙◌, arith, length, ◌<◌, ◌-◌, ◌+◌, set, suc}
+use Rattle.std.proofs.Common.{ap, refl, ◌∙◌, arith, length, ◌<◌, ◌-◌, ◌+◌, set}
 use Rattle.pacing_wheel.specs.declared.chains.Link.{Link}
 use Rattle.pacing_wheel.specs.declared.chains.Ends.{Ends}
-use Rattle.pacing_wheel.specs.Chains.{Tied, with_last, lists_in, nothing, link_at}
+use Rattle.pacing_wheel.specs.Chains.{with_last, lists_in, nothing}
 use Rattle.pacing_wheel.proofs.PushLemmas.{top-free, tied-begun, tied-longer, lists-begun, lists-longer, lists-length, length-set, get-same, known, same-table, one-less}
 use Rattle.pacing_wheel.proofs.chains.Chains.push.Goals as goal
 
@@ -14,8 +14,7 @@ index_mut-requires c =
 pub invariant_of-self : goal.invariant_of-self
 invariant_of-self c =
     let links = c.self.inside.links.items in
-    let es = c.self.inside.places.items in
-    (
+    let es = c.self.inside.places.items in (
       tied-begun links es c.pop.new.self.items c.in-Some.k c.args.place (record { item = c.args.item; next = c.in-Some.k })
           (record { first = c.in-Some.k; last = c.in-Some.k; len = 1 }) c.index-ends.result.now
           (rw c.in-Some.ensures.items at c.self.invariant.0) refl refl refl
@@ -84,8 +83,7 @@ invariant_of-self-2 c =
     let inside : c.args.place < length es = (omega (arith, (rw (← c.self.view_is) at c.requires.place), lists-length links es)) in
     let know = known links es c.pop.new.self.items c.in-Some.k c.args.place e t inside c.index-ends.ensures
     (omega (arith, c.if-ends-eq0.false)) in
-    let low : e.last < length (set links c.in-Some.k x) = (omega (arith, know.low, length-set links c.in-Some.k x)) in
-    (
+    let low : e.last < length (set links c.in-Some.k x) = (omega (arith, know.low, length-set links c.in-Some.k x)) in (
       tied-longer links es c.pop.new.self.items c.in-Some.k e.last c.args.place x y b e t low
           (ap (λ z. z.item) (c.index-last.ensures ∙ get-same (set links c.in-Some.k x) e.last c.index-last.result.now nothing low))
           refl refl inside (omega (arith, c.if-ends-eq0.false, ap (λ z. z.len) c.index-ends.ensures))

@@ -1,7 +1,6 @@
-use Rattle.std.proofs.Common.{◌≡◌, ◌+◌, ◌%◌, ap, sym, ◌∙◌, arith, length}
+use Rattle.std.proofs.Common.{◌≡◌, ◌+◌, ◌%◌, ap, ◌∙◌, arith, length}
 use Rattle.pacing_wheel.specs.declared.pacer.Paced.{Paced}
-use Rattle.pacing_wheel.specs.Wheel.{added, dial, together}
-use Rattle.pacing_wheel.specs.Chains.{with_last}
+use Rattle.pacing_wheel.specs.Wheel.{dial, together}
 use Rattle.pacing_wheel.proofs.MergeLemmas.{length-added}
 use Rattle.pacing_wheel.proofs.DialLemmas.{added-together, last-length, mod-small, stand-added}
 use Rattle.pacing_wheel.proofs.dial.Dial.add.Goals as goal

@@ -1,5 +1,4 @@
-use Rattle.std.proofs.Common.{◌≡◌, ap, arith, length, sym, true, Some, ◌∙◌, refl}
-use Rattle.std.specs.Prelude.{is_some}
+use Rattle.std.proofs.Common.{ap, arith, length, sym, ◌∙◌, refl}
 use Rattle.rpc_base.specs.Tables.{without_first}
 use Rattle.rpc_base.proofs.FirstLemmas.{all-left}
 use Rattle.pacing_wheel.specs.Wheel.{dial, is_entry_of, together}
@@ -23,7 +22,7 @@ drop_with-requires c =
     let is = (rw (← c.self.view_is) at (sym c.first_with.ensures ∙ c.in-Some.is)) in
     let w = without-together t c.self.inside.cursor 0 c.place_of.result ls c.in-Some.first c.self.invariant.0 is
     (omega (arith, c.place_of.ensures)) in
-    record { found = rw w.0 refl; }
+    record { found = rw w.0 refl }
 
 pub invariant_of-self : goal.invariant_of-self
 invariant_of-self c =

@@ -1,4 +1,4 @@
-use Rattle.std.proofs.Common.{◌≡◌, ap, arith, length, refl, ◌∙◌}
+use Rattle.std.proofs.Common.{ap, arith, length, refl, ◌∙◌}
 use Rattle.pacing_wheel.proofs.DialLemmas.{all-places, empty, empty-length, none-stand, none-together}
 use Rattle.pacing_wheel.proofs.dial.Dial.new.Goals as goal
 

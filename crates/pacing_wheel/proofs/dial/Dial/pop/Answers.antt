@@ -1,9 +1,9 @@
-use Rattle.std.proofs.Common.{◌≡◌, ◌<◌, ◌%◌, ap, arith, drop, length, refl, sym, ◌∙◌, Some}
+use Rattle.std.proofs.Common.{◌≡◌, ◌%◌, ap, arith, drop, length, refl, sym, ◌∙◌, Some}
 use Rattle.std.specs.Prelude.{option_map, slice_get}
-use Rattle.pacing_wheel.specs.Wheel.{dial, entry_of, together}
+use Rattle.pacing_wheel.specs.Wheel.{entry_of}
 use Rattle.pacing_wheel.specs.Chains.{list_at}
 use Rattle.pacing_wheel.proofs.PushLemmas.{length-set}
-use Rattle.pacing_wheel.proofs.DialLemmas.{all-behind, first-at, found-last, stand-set, FirstAt}
+use Rattle.pacing_wheel.proofs.DialLemmas.{all-behind, first-at, found-last, stand-set}
 use Rattle.pacing_wheel.proofs.dial.Dial.pop.Goals as goal
 
 pub pop-first-requires : goal.pop-first-requires

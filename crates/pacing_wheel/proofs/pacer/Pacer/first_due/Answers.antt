@@ -1,7 +1,6 @@
 use Rattle.std.proofs.Common.{◌≡◌, false, sym, ◌∙◌, subst}
 use Rattle.std.specs.Prelude.{IsNone, ◌↔◌}
 use Rattle.std.specs.List.{list_any}
-use Rattle.rpc_base.specs.Least.{least}
 use Rattle.rpc_base.proofs.LeastLemmas.{least-none}
 use Rattle.pacing_wheel.specs.Wheel.{due_of, is_due, merged}
 use Rattle.pacing_wheel.proofs.MergeLemmas.{due-both}
