@@ -1,0 +1,89 @@
+//! How an idle hand sleeps and is woken. Contracts claim nothing of it.
+use crossbeam_utils::sync::{Parker, Unparker};
+use rpc_base::NoMemory;
+use std::alloc::Global;
+use std::sync::atomic::{AtomicBool, Ordering};
+use std::sync::{Arc, Wait};
+
+/// By what one hand sleeps.
+#[derive(Drop)]
+pub struct Sleeper {
+    parker: Parker<Global>,
+    idle: Arc<AtomicBool, Global>,
+    closed: Arc<AtomicBool, Global>,
+}
+
+#[derive(Drop)]
+struct Waker {
+    unparker: Unparker<Global>,
+    idle: Arc<AtomicBool, Global>,
+}
+
+/// By what the dispatcher wakes its hands.
+#[derive(Drop)]
+pub struct Wakers {
+    wakers: Vec<Waker>,
+    closed: Arc<AtomicBool, Global>,
+}
+
+impl Wakers {
+    /// For no hand yet, with room for `hands`.
+    pub fn new(alloc: Global, hands: u8) -> Result<Wakers, NoMemory> {
+        let wakers = Vec::with_capacity(alloc, hands as usize)?;
+        let closed = Arc::new(alloc, AtomicBool::new(false))?;
+        Ok(Wakers { wakers, closed })
+    }
+
+    /// By what one hand more sleeps.
+    pub fn sleeper(&mut self, alloc: Global) -> Result<Sleeper, NoMemory> {
+        let parker = Parker::new(alloc)?;
+        let unparker = parker.unparker().clone()?;
+        let idle = Arc::new(alloc, AtomicBool::new(false))?;
+        let closed = Arc::try_clone(&self.closed)?;
+        let seen = Arc::try_clone(&idle)?;
+        self.wakers.push(Waker {
+            unparker,
+            idle: seen,
+        })?;
+        Ok(Sleeper {
+            parker,
+            idle,
+            closed,
+        })
+    }
+
+    /// Wakes one hand that sleeps, if there is one. It is called after a ticket was put.
+    pub fn wake_one(&self) {
+        for waker in &self.wakers {
+            if waker.idle.swap(false, Ordering::SeqCst) {
+                waker.unparker.unpark();
+                return;
+            }
+        }
+    }
+
+    /// Lets each hand come back after the job that it works.
+    pub fn close(&self) {
+        self.closed.store(true, Ordering::SeqCst);
+        for waker in &self.wakers {
+            waker.unparker.unpark();
+        }
+    }
+}
+
+impl Sleeper {
+    /// Whether the wakers were closed.
+    pub(crate) fn is_closed(&self) -> bool {
+        self.closed.load(Ordering::SeqCst)
+    }
+
+    /// Tells the dispatcher that this hand is about to sleep, or that it isn't.
+    pub(crate) fn tell_idle(&self, idle: bool) {
+        self.idle.store(idle, Ordering::SeqCst);
+    }
+
+    /// Sleeps until it is woken. Where it was woken since the last sleep, it returns at once.
+    pub(crate) fn sleep<R: Wait>(&self, rt: &R) {
+        self.parker.park(rt);
+    }
+}

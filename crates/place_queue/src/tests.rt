@@ -1,0 +1,141 @@
+//! Tickets in order by one hand, and each of them by one of two that sleep on threads of their own.
+ghost use Rattle.std.specs.Prelude.{◌≡◌, ◌<◌, ◌^◌, ◌+◌, length};
+ghost use Rattle.place_queue.specs.Ends.{queue_of, put_by, put_end, take_end};
+
+use crate::{PlaceQueue, Putter, Sleeper, Taker, Wakers};
+use std::sync::Wait;
+use std::sync::atomic::{AtomicU32, Ordering};
+use std::test::Fail;
+use std::thread;
+use worker_board::Ticket;
+
+#[test]
+fn tickets_are_taken_in_the_order_of_putting(rt: HostRuntime) -> Result<(), Fail> {
+    let alloc = rt.alloc();
+    let (queue, mut putter) = PlaceQueue::new(alloc, 2)?;
+    let mut taker = queue.taker(&mut putter);
+    assert!(rt; queue.put(&rt, &mut putter, Ticket::of(5, 0)));
+    assert!(rt; queue.put(&rt, &mut putter, Ticket::of(3, 7)));
+    assert!(rt; !queue.put(&rt, &mut putter, Ticket::of(4, 1)));
+    let first = queue.take(&rt, &mut taker).ok_or("no ticket")?;
+    assert_eq!(rt; (first.index, first.ticket.place()), (0, 5));
+    assert!(rt; queue.put(&rt, &mut putter, Ticket::of(4, 1)));
+    let second = queue.take(&rt, &mut taker).ok_or("one ticket")?;
+    assert_eq!(rt; (second.index, second.ticket.place()), (1, 3));
+    let third = queue.take(&rt, &mut taker).ok_or("two tickets")?;
+    assert_eq!(rt; (third.index, third.ticket.place()), (2, 4));
+    assert!(rt; queue.take(&rt, &mut taker).is_none());
+    queue.take_in(&mut putter, taker);
+    queue.settle(&mut putter);
+    Ok(())
+}
+
+/// So many tickets are put.
+const TICKETS: u32 = 64;
+
+/// So often a test looks for something that another thread is to do.
+const TURNS: u32 = 50_000_000;
+
+// Takes tickets until the wakers are closed.
+fn take_all<R: Wait>(
+    rt: &R,
+    queue: &PlaceQueue,
+    taker: Taker,
+    sleeper: Sleeper,
+    taken: &AtomicU32,
+) -> Taker
+    requires { take_end taker ≡ queue_of queue.now }
+    ensures { take_end result ≡ queue_of queue.now }
+{
+    let mut taker = taker;
+    for _ in rt.forever() {
+        if queue.next(rt, &mut taker, &sleeper).is_none() {
+            break;
+        }
+        taken.fetch_add(1, Ordering::SeqCst);
+    }
+    taker
+}
+
+// Puts tickets, each once there is room, and wakes a hand for it.
+fn put_all<R: Wait>(rt: &R, queue: &PlaceQueue, putter: &mut Putter, wakers: &Wakers)
+    requires ours { put_end putter.old ≡ queue_of queue.now }
+    requires count { length (put_by putter.old) ≡ 0 }
+    ensures { put_end putter.new ≡ queue_of queue.now }
+{
+    for place in 0..TICKETS {
+        for _ in 0..TURNS {
+            if queue.put(rt, putter, Ticket::of(place, 0)) {
+                wakers.wake_one();
+                break;
+            }
+            thread::yield_now();
+        }
+    }
+}
+
+// Puts tickets, and lets the hands come back once all were taken.
+fn dispatch<R: Wait>(
+    rt: &R,
+    queue: &PlaceQueue,
+    putter: Putter,
+    wakers: &Wakers,
+    taken: &AtomicU32,
+) -> Putter
+    requires ours { put_end putter ≡ queue_of queue.now }
+    requires count { length (put_by putter) ≡ 0 }
+    ensures { put_end result ≡ queue_of queue.now }
+{
+    let mut putter = putter;
+    put_all(rt, queue, &mut putter, wakers);
+    for _ in 0..TURNS {
+        if taken.load(Ordering::SeqCst) == TICKETS {
+            break;
+        }
+        thread::yield_now();
+    }
+    wakers.close();
+    putter
+}
+
+#[test]
+fn two_hands_that_sleep_take_all(rt: HostRuntime) -> Result<(), Fail> {
+    let alloc = rt.alloc();
+    let (queue, mut putter) = PlaceQueue::new(alloc, 8)?;
+    let mut wakers = Wakers::new(alloc, 2)?;
+    let (one, two) = (wakers.sleeper(alloc)?, wakers.sleeper(alloc)?);
+    let (first, second) = (queue.taker(&mut putter), queue.taker(&mut putter));
+    let taken = AtomicU32::new(0);
+    let (rt, shared, count, bells) = (&rt, &queue, &taken, &wakers);
+    let (first, (second, putter)) = thread::join(
+        rt,
+        move ||
+            requires { take_end first ≡ queue_of shared.now }
+            ensures { take_end result ≡ queue_of shared.entry.now }
+        { take_all(rt, shared, first, one, count) },
+        move ||
+            requires { (take_end second ≡ queue_of shared.now)
+                × (put_end putter ≡ queue_of shared.now) × (length (put_by putter) ≡ 0) }
+            ensures { (take_end result.0 ≡ queue_of shared.entry.now)
+                × (put_end result.1 ≡ queue_of shared.entry.now) }
+        {
+            thread::join(
+                rt,
+                move ||
+                    requires { take_end second ≡ queue_of shared.now }
+                    ensures { take_end result ≡ queue_of shared.entry.now }
+                { take_all(rt, shared, second, two, count) },
+                move ||
+                    requires { (put_end putter ≡ queue_of shared.now)
+                        × (length (put_by putter) ≡ 0) }
+                    ensures { put_end result ≡ queue_of shared.entry.now }
+                { dispatch(rt, shared, putter, bells, count) },
+            )
+        },
+    );
+    let mut putter = putter;
+    queue.take_in(&mut putter, first);
+    queue.take_in(&mut putter, second);
+    assert_eq!(rt; taken.load(Ordering::SeqCst), TICKETS);
+    Ok(())
+}
