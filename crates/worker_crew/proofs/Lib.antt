@@ -5,3 +5,4 @@ pub mod LocalLemmas
 pub mod OutLemmas
 pub mod PlacesLemmas
 pub mod RoomLemmas
+pub mod TicketLemmas

@@ -1,24 +1,28 @@
 -- Hands go out and come back.
-use Rattle.std.proofs.Common.{◌≡◌, ℕ, ◌+◌, ◌<◌, ◌≤◌, List, [], ◌∷◌, ◌++◌, min, sym, refl}
-use Rattle.std.proofs.Common.{ap, ◌∙◌, subst, arith, length-append, append_assoc}
+use Rattle.std.proofs.Common.{◌≡◌, ℕ, ◌+◌, ◌-◌, ◌<◌, ◌≤◌, List, [], ◌∷◌, ◌++◌, length, cond, min, sym}
+use Rattle.std.proofs.Common.{refl, ap, ◌∙◌, subst, arith, length-append, append_assoc}
+use Rattle.std.proofs.Common.{eq-eqb, ne_eqb}
 use Rattle.std.proofs.lemmas.List.{append-nil}
-use Rattle.atomic_table.specs.Seated.{TableId}
+use mathlib.Core.Logic.{dite}
+use native.Mathlib.Decide.{ℕ_discrete}
 use Rattle.rpc_outside.specs.Faults.{HasRisen, end_of_count}
 use Rattle.worker_board.specs.declared.view.View.{View}
 use Rattle.worker_board.specs.Counts.{only, times, removed}
 use Rattle.worker_board.specs.Moves.{taken_in}
 use Rattle.worker_board.specs.Seats.{with_hand}
 use Rattle.worker_board.proofs.CountsLemmas.{total-append, only-same, only-other, times-removed}
+use Rattle.place_queue.specs.declared.knows.Numbered.{Numbered}
+use Rattle.worker_crew.specs.CrewIds.{CrewId}
 use Rattle.worker_crew.specs.Hands.{HandName}
 use Rattle.worker_crew.specs.Crews.{AllOn, numbered, AreOut, HasRisenBy}
 use Rattle.worker_crew.specs.Dispatching.{Dispatching}
 use Rattle.worker_crew.specs.Starting.{SameJobs, HaveGoneOut, Shared}
 
-all-on : (z : TableId) (xs ys : List HandName) → AllOn z xs → AllOn z ys → AllOn z (xs ++ ys)
+all-on : (z : CrewId) (xs ys : List HandName) → AllOn z xs → AllOn z ys → AllOn z (xs ++ ys)
 all-on z [] ys a b = b
 all-on z (x ∷ xs) ys a b = (a.0, all-on z xs ys a.1 b)
 
-all-parts : (z : TableId) (xs ys : List HandName) → AllOn z (xs ++ ys) → AllOn z xs × AllOn z ys
+all-parts : (z : CrewId) (xs ys : List HandName) → AllOn z (xs ++ ys) → AllOn z xs × AllOn z ys
 all-parts z [] ys a = (tt, a)
 all-parts z (x ∷ xs) ys a = let r = all-parts z xs ys a.1 in ((a.0, r.0), r.1)
 
@@ -26,7 +30,7 @@ both-numbered : (n : ℕ) (xs ys : List HandName)
     → numbered n (xs ++ ys) ≡ numbered n xs + numbered n ys
 both-numbered n xs ys = total-append (λ (x : HandName). only n x.number) xs ys
 
-one-out : {z : TableId} {out : List ℕ} {hands : List HandName} (n : ℕ) → AreOut z out hands
+one-out : {z : CrewId} {out : List ℕ} {hands : List HandName} (n : ℕ) → AreOut z out hands
     → AreOut z (n ∷ out) (hands ++ record { board = z; number = n } ∷ [])
 one-out {z} {out} {hands} n o = record {
   ours = all-on z hands (record { board = z; number = n } ∷ []) o.ours (refl, tt);
@@ -47,6 +51,7 @@ one-more-out {count} {hands} {hands'} {old} {now} {new} h e f =
         busy = h.jobs.busy;
         ledger = h.jobs.ledger;
         lost = h.jobs.lost;
+        put = h.jobs.put;
       };
       out = one-out count h.out;
       many = omega (arith, length-append hands (record { board = now.board; number = count } ∷ []), h.many);
@@ -70,7 +75,7 @@ one-shared {made} {out} {out'} kept x rest s e =
       hands = λ z numbers o. moved z numbers (s.hands z numbers o);
     })
   where
-    moved : (z : TableId) (numbers : List ℕ) → AreOut z numbers (out ++ (kept ++ x ∷ rest))
+    moved : (z : CrewId) (numbers : List ℕ) → AreOut z numbers (out ++ (kept ++ x ∷ rest))
         → AreOut z numbers ((out ++ x ∷ []) ++ (kept ++ rest))
     moved z numbers o =
         let a = all-parts z out (kept ++ x ∷ rest) o.ours in
@@ -107,15 +112,38 @@ risen-once-more {count} {old} {now} {new} a b = record {
     further : (k a b c e : ℕ) → min (a + k) e ≤ b → min (b + 1) e ≤ c → min (a + (k + 1)) e ≤ c
     further k a b c e h i = omega arith
 
+-- a hand that goes is one fewer
+pub one-fewer-out : (n : ℕ) (ns : List ℕ) → 0 < times n ns
+    → length (removed n ns) ≡ length ns - 1
+one-fewer-out n [] h = absurd (omega arith)
+one-fewer-out n (m ∷ ms) h = dite (ℕ_discrete m n)
+    (λ e. ap (λ b. length (cond b ms (m ∷ removed n ms))) (eq-eqb m n e) ∙ (omega arith))
+    (λ ne. let more : 0 < times n ms = omega (arith, only-other n m ne) in
+    ap (λ b. length (cond b ms (m ∷ removed n ms))) (ne_eqb m n ne)
+    ∙ (omega (arith, one-fewer-out n ms more, some-there n ms more)))
+  where
+    some-there : (k : ℕ) (l : List ℕ) → 0 < times k l → 0 < length l
+    some-there k [] h = absurd (omega arith)
+    some-there k (x ∷ l) h = omega arith
+
+-- a hand among those that are out
+pub is-out : {z : CrewId} {out : List ℕ} (front : List HandName) (x : HandName)
+    (back : List HandName) → AreOut z out (front ++ x ∷ back) → 0 < times x.number out
+is-out {z} {out} front x back o = omega (
+  arith,
+  both-numbered x.number front (x ∷ back),
+  o.counts x.number,
+  only-same x.number x.number refl,
+)
+
 -- one hand fewer is out
-pub one-back : {z : TableId} {out : List ℕ} (front : List HandName) (x : HandName)
+pub one-back : {z : CrewId} {out : List ℕ} (front : List HandName) (x : HandName)
     (back : List HandName) → AreOut z out (front ++ x ∷ back)
     → AreOut z (removed x.number out) (front ++ back)
 one-back {z} {out} front x back o =
     let sum : (n : ℕ) → numbered n front + numbered n back + only n x.number ≡ times n out =
     λ n. omega (arith, both-numbered n front (x ∷ back), o.counts n) in
-    let there : 0 < times x.number out =
-    omega (arith, sum x.number, only-same x.number x.number refl) in
+    let there = is-out front x back o in
     let a = all-parts z front (x ∷ back) o.ours in
     record {
       ours = all-on z front back a.0 a.1.1;
@@ -127,11 +155,11 @@ one-back {z} {out} front x back o =
       );
     }
 
-pub is-ours : {z : TableId} {out : List ℕ} (front : List HandName) (x : HandName)
+pub is-ours : {z : CrewId} {out : List ℕ} (front : List HandName) (x : HandName)
     (back : List HandName) → AreOut z out (front ++ x ∷ back) → x.board ≡ z
 is-ours {z} front x back o = (all-parts z front (x ∷ back) o.ours).1.0
 
-pub none-out : {z : TableId} {out : List ℕ} → AreOut z out [] → out ≡ []
+pub none-out : {z : CrewId} {out : List ℕ} → AreOut z out [] → out ≡ []
 none-out {z} {out} o = go out (λ n. sym (o.counts n))
   where
     go : (ns : List ℕ) → ((n : ℕ) → times n ns ≡ 0) → ns ≡ []
@@ -139,17 +167,18 @@ none-out {z} {out} o = go out (λ n. sym (o.counts n))
     go (n ∷ ns) h = absurd (omega (arith, h n, only-same n n refl))
 
 -- the last of them is back
-pub last-back : {z z' : TableId} {out out' : List ℕ} {hands : List HandName}
+pub last-back : {z z' : CrewId} {out out' : List ℕ} {hands : List HandName}
     (front : List HandName) (x : HandName) → AreOut z out hands → hands ≡ front ++ x ∷ []
     → z' ≡ z → out' ≡ removed x.number out → AreOut z' out' front
 last-back {z} {z'} {out} {out'} {hands} front x o e same gone =
-    subst (λ (t : TableId × List ℕ × List HandName). AreOut t.0 t.1 t.2)
+    subst (λ (t : CrewId × List ℕ × List HandName). AreOut t.0 t.1 t.2)
     (λ i. (sym same i, sym gone i, append-nil front i))
     (one-back front x [] (subst (λ (l : List HandName). AreOut z out l) e o))
 
-pub same-jobs-back : {old now new : Dispatching} (w : View) → SameJobs old now
-    → new ≡ record now { view = taken_in now.view w } → SameJobs old new
-same-jobs-back {old} {now} {new} w s e = subst (λ (x : Dispatching). SameJobs old x) (sym e)
+pub same-jobs-back : {old now new : Dispatching} (w : View) (told : List Numbered)
+    → SameJobs old now → new ≡ record now { view = taken_in now.view w; told = told }
+    → SameJobs old new
+same-jobs-back {old} {now} {new} w told s e = subst (λ (x : Dispatching). SameJobs old x) (sym e)
     (record {
       board = s.board;
       places = s.places;
@@ -157,10 +186,11 @@ same-jobs-back {old} {now} {new} w s e = subst (λ (x : Dispatching). SameJobs o
       busy = s.busy;
       ledger = s.ledger;
       lost = s.lost;
+      put = s.put;
     })
 
 -- one of those that are out with a spawner is back, of whom others are kept
-module _ {z : TableId} {out : List ℕ} {hands later : List HandName} (kept : List HandName)
+module _ {z : CrewId} {out : List ℕ} {hands later : List HandName} (kept : List HandName)
     (x : HandName) (o : AreOut z out (hands ++ kept)) (front back : List HandName)
     (was : hands ≡ front ++ x ∷ back) (is : later ≡ front ++ back) where
   with-kept : AreOut z out (front ++ x ∷ (back ++ kept))
@@ -170,10 +200,13 @@ module _ {z : TableId} {out : List ℕ} {hands later : List HandName} (kept : Li
   pub came-ours : x.board ≡ z
   came-ours = is-ours front x (back ++ kept) with-kept
 
-  pub came-back : {z' : TableId} {out' : List ℕ} → z' ≡ z → out' ≡ removed x.number out
+  pub came-out : 0 < times x.number out
+  came-out = is-out front x (back ++ kept) with-kept
+
+  pub came-back : {z' : CrewId} {out' : List ℕ} → z' ≡ z → out' ≡ removed x.number out
       → AreOut z' out' (later ++ kept)
   came-back {z'} {out'} same gone =
-      subst (λ (t : TableId × List ℕ × List HandName). AreOut t.0 t.1 t.2)
+      subst (λ (t : CrewId × List ℕ × List HandName). AreOut t.0 t.1 t.2)
       (λ i. (
         sym same i,
         sym gone i,

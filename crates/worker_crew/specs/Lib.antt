@@ -1,3 +1,4 @@
+pub mod CrewIds
 pub mod Crews
 pub mod Dispatching
 pub mod Hands
@@ -6,6 +7,6 @@ pub mod Launching
 pub mod Leaving
 pub mod Local
 pub mod Places
-pub mod Queues
 pub mod Spawning
 pub mod Starting
+pub mod Waiting

@@ -6,22 +6,26 @@ mod working;
 
 use crate::dispatcher::Dispatcher;
 use crate::manner::Manner;
-use crate::tickets::Tickets;
 use crate::workers::Finished;
+use circular_buffer::HeapCircularBuffer;
+use place_queue::Wakers;
 use rpc_outside::Duty;
 pub use starting::MOST_HANDS;
 use std::collections::VecDeque;
 use std::marker::Model;
 use std::sync::Wait;
+use worker_board::Ticket;
 
 /// Workers over a board whose jobs are worked by hands. Where no hand was started the crew works by
-/// itself. Its calls may wait for the lock of its queue, by the handle that it was given.
+/// itself. Its calls may wait for a hand's step in its queue, by the handle that it was given.
 #[derive(Drop)]
 pub struct Crew<D: Duty, R: Wait> {
     rt: R,
     dispatcher: Dispatcher<D>,
-    tickets: Tickets,
     manner: Manner<D>,
+    wakers: Wakers,
+    // The tickets that found the queue full.
+    later: HeapCircularBuffer<Ticket>,
     // Room for the jobs that are left when the crew is stopped.
     left: VecDeque<Finished>,
 }
@@ -37,11 +41,14 @@ impl<D: Duty, R: Wait> Model for Crew<D, R> {
       dispatching = c.dispatcher;
       by_hands = has_hands c.manner;
       kept = kept_by c.manner;
+      later = c.later.items;
     } };
 
     ghost invariant = { λ c. KeepsTo (record {
       dispatching = c.dispatcher;
       by_hands = has_hands c.manner;
       kept = kept_by c.manner;
-    }) × (c.left.items ≡ []) × (c.dispatcher.places ≤ deque_capacity c.left) };
+      later = c.later.items;
+    }) × (c.left.items ≡ []) × (c.dispatcher.places ≤ deque_capacity c.left)
+        × (c.later.capacity ≡ c.dispatcher.places) };
 }

@@ -1,12 +1,12 @@
 //! A hand: it works the jobs of a crew's board, one at a time.
-ghost use Rattle.std.specs.Prelude.{◌≡◌, ◌≤◌};
+ghost use Rattle.std.specs.Prelude.{◌≡◌};
 ghost use Rattle.std.specs.Arc.{arc_value};
-ghost use Rattle.worker_board.specs.Seats.{IsHandOf, places_of, hand_view, HoldsNone};
-ghost use Rattle.worker_crew.specs.Queues.{queue_places};
+ghost use Rattle.place_queue.specs.Ends.{queue_of, take_end};
+ghost use Rattle.worker_board.specs.Seats.{IsHandOf, hand_view, HoldsNone};
 
 mod working;
 
-use crate::place_queue::PlaceQueue;
+use place_queue::{PlaceQueue, Sleeper, Taker};
 use rpc_outside::Duty;
 use std::alloc::Global;
 use std::sync::Arc;
@@ -19,7 +19,9 @@ pub struct Hand<D: Duty> {
     duty: Arc<D, Global>,
     queue: Arc<PlaceQueue, Global>,
     seat: HandSeat,
+    taker: Taker,
+    sleeper: Sleeper,
     ghost ours: { IsHandOf (arc_value board) seat },
     ghost free: { HoldsNone (hand_view seat) },
-    ghost places: { queue_places (arc_value queue) ≤ places_of (arc_value board) },
+    ghost takes: { take_end taker ≡ queue_of (arc_value queue) },
 }

@@ -7,12 +7,10 @@ mod hand;
 mod leftover;
 mod local;
 mod manner;
-mod place_queue;
 mod spawner;
 #[cfg(test)]
 mod tests;
 mod thread_spawner;
-mod tickets;
 mod workers;
 
 pub use crew::{Crew, MOST_HANDS};

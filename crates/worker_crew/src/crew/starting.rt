@@ -1,28 +1,25 @@
 //! A crew is made: its memory first, then its hands.
 ghost use Rattle.std.specs.Prelude.{◌≡◌, ◌≤◌, ◌<◌, ◌-◌, ◌+◌, ◌++◌, ◌↔◌, [], length, true, false, IfOk};
 ghost use Rattle.std.specs.Prelude.{OnErr, vec_len, vec_capacity, ℕ, List};
-ghost use Rattle.std.specs.Arc.{arc_value};
 ghost use Rattle.std.specs.VecDeque.{deque_capacity};
-ghost use Rattle.atomic_table.specs.Seated.{TableId};
 ghost use Rattle.worker_crew.specs.Crews.{AreOut, AreStarted, HasRisenBy, KeepsTo};
 ghost use Rattle.worker_crew.specs.Crews.{has_hands, kept_by, names};
 ghost use Rattle.worker_crew.specs.Places.{TookNoneBack};
 ghost use Rattle.worker_crew.specs.Dispatching.{jobs_in};
 ghost use Rattle.worker_crew.specs.Hands.{HandName};
-ghost use Rattle.worker_crew.specs.Queues.{queue_places};
 ghost use Rattle.worker_crew.specs.Starting.{HaveGoneOut, SameJobs, Shared};
 
 use super::Crew;
 use crate::dispatcher::Dispatcher;
 use crate::hand::Hand;
 use crate::manner::Manner;
-use crate::place_queue::PlaceQueue;
 use crate::spawner::Spawner;
-use crate::tickets::Tickets;
 use crate::workers::Finished;
+use circular_buffer::HeapCircularBuffer;
+use place_queue::Wakers;
 use rpc_base::NoMemory;
 use rpc_outside::Duty;
-use std::alloc::{AllocError, Global};
+use std::alloc::Global;
 use std::collections::VecDeque;
 use std::sync::{Arc, Wait};
 use worker_board::MOST_PLACES;
@@ -30,22 +27,22 @@ use worker_board::MOST_PLACES;
 /// A crew has no more hands.
 pub const MOST_HANDS: u8 = 16;
 
-// Makes hands with the numbers from 0 on.
+// Makes hands with the numbers from 0 on, each with a parker of its own.
 fn make_hands<D: Duty + Drop>(
     alloc: Global,
     dispatcher: &mut Dispatcher<D>,
     duty: &Arc<D, Global>,
-    queue: &Arc<PlaceQueue, Global>,
+    wakers: &mut Wakers,
     count: u8,
-) -> Result<VecDeque<Hand<D>>, AllocError>
+) -> Result<VecDeque<Hand<D>>, NoMemory>
     requires new { HaveGoneOut 0 [] dispatcher.old dispatcher.old }
-    requires queue { queue_places (arc_value queue.now) ≤ dispatcher.old.places }
     ensures made { IfOk result (λ made. HaveGoneOut count (names made.items) dispatcher.old
         dispatcher.new) }
 {
     let mut made = VecDeque::with_capacity(alloc, count as usize)?;
     for number in 0..count {
-        let hand = dispatcher.hand(duty, queue, number)?;
+        let sleeper = wakers.sleeper(alloc)?;
+        let hand = dispatcher.hand(duty, sleeper, number)?;
         made.push_back_reserved(hand);
     }
     Ok(made)
@@ -95,6 +92,7 @@ fn share_out<D: Duty + Drop, P: Spawner<Hand<D>>>(
 ) -> Manner<D>
     requires out { AreOut dispatcher.old.board dispatcher.old.view.out (names made.items) }
     requires new { TookNoneBack dispatcher.old.view }
+    requires unput { dispatcher.old.put ≡ [] }
     requires none { (kept.items ≡ []) × (P.hands_out spawner.old ≡ []) }
     requires room { length made.items ≤ vec_capacity kept }
     ensures jobs { SameJobs dispatcher.old dispatcher.new }
@@ -111,6 +109,7 @@ fn share_out<D: Duty + Drop, P: Spawner<Hand<D>>>(
       dispatching = dispatcher.new;
       by_hands = has_hands result;
       kept = kept_by result;
+      later = [];
     }) }
 {
     let mut kept = kept;
@@ -153,20 +152,23 @@ impl<D: Duty + Drop, R: Wait> Crew<D, R> {
             ↔ (0 < length (P.hands_out spawner.new))) }
         ensures refused { IfOk result (λ c. HasRisenBy (hands - length (P.hands_out spawner.new))
             (P.refused spawner.old) (P.refused spawner.new)) }
+        ensures unput { IfOk result (λ c. (c.dispatching.put ≡ []) × (c.later ≡ [])) }
         ensures keeps { IfOk result (λ c. KeepsTo c) }
         ensures wanting { OnErr result (spawner.new ≡ spawner.old) }
     {
         let mut dispatcher = Dispatcher::new(alloc, jobs)?;
-        let tickets = Tickets::new(alloc, jobs)?;
+        let mut wakers = Wakers::new(alloc, hands)?;
+        let later = HeapCircularBuffer::with_capacity(alloc, jobs as usize)?;
         let left = VecDeque::with_capacity(alloc, jobs as usize)?;
         let kept = Vec::with_capacity(alloc, hands as usize)?;
-        let made = make_hands(alloc, &mut dispatcher, &duty, &tickets.queue, hands)?;
+        let made = make_hands(alloc, &mut dispatcher, &duty, &mut wakers, hands)?;
         let manner = share_out(&mut dispatcher, duty, made, kept, spawner);
         Ok(Crew {
             rt,
             dispatcher,
-            tickets,
             manner,
+            wakers,
+            later,
             left,
         })
     }

@@ -2,6 +2,7 @@
 ghost use Rattle.std.specs.Prelude.{◌≡◌, ◌≤◌, ◌+◌, ◌++◌, [], length, IsPermutation};
 ghost use Rattle.std.specs.List.{AllByRecursion};
 ghost use Rattle.std.specs.VecDeque.{deque_capacity};
+ghost use Rattle.place_queue.specs.Order.{AllTold};
 ghost use Rattle.worker_board.specs.Moves.{LostBefore};
 ghost use Rattle.worker_crew.specs.Crews.{AreOut, AreStarted, kept_by};
 ghost use Rattle.worker_crew.specs.Dispatching.{jobs_in};
@@ -30,6 +31,7 @@ fn take_back_each<D: Duty>(dispatcher: &mut Dispatcher<D>, left: &mut VecDeque<F
     ensures lost { AllByRecursion (LostBefore dispatcher.new.view) dispatcher.new.busy }
     ensures room { length left.new.items + length dispatcher.new.busy ≤ deque_capacity left.new }
     ensures board { dispatcher.new.board ≡ dispatcher.old.board }
+    ensures put { dispatcher.new.put ≡ dispatcher.old.put }
     ensures hands { dispatcher.new.view.out ≡ dispatcher.old.view.out }
 {
     let mut i = 0;
@@ -75,6 +77,9 @@ fn collect_each<D: Duty>(dispatcher: &mut Dispatcher<D>, left: &mut VecDeque<Fin
     ensures out { IsPermutation (jobs_of left.old.items ++ jobs_in dispatcher.old)
         (jobs_of left.new.items) }
     ensures left { AllByRecursion (IsLeft D.answer dispatcher.new.view) left.new.items }
+    ensures board { dispatcher.new.board ≡ dispatcher.old.board }
+    ensures put { dispatcher.new.put ≡ dispatcher.old.put }
+    ensures told { dispatcher.new.told ≡ dispatcher.old.told }
     ensures hands { dispatcher.new.view.out ≡ [] }
 {
     while dispatcher.jobs() > 0 {
@@ -90,8 +95,9 @@ fn collect_each<D: Duty>(dispatcher: &mut Dispatcher<D>, left: &mut VecDeque<Fin
 
 impl<D: Duty + Drop, R: Wait> Crew<D, R> {
     /// Stops the crew. What no hand has claimed is taken back; the hands come back and are
-    /// retired; what they worked is collected. The spawner has out just the hands of this crew that
-    /// were started. It may wait for the hands.
+    /// retired; what they worked is collected. Then the dispatcher knows all tickets that the hands
+    /// took: the first of those put, each once and under its number. The spawner has out just the
+    /// hands of this crew that were started. It may wait for the hands.
     pub fn stop<P: Spawner<Hand<D>>>(self, spawner: &mut P) -> Leftover<D>
     where
         R: Drop,
@@ -100,18 +106,23 @@ impl<D: Duty + Drop, R: Wait> Crew<D, R> {
         ensures jobs { IsPermutation (jobs_in self.dispatching) (jobs_of result.jobs) }
         ensures told { AllByRecursion (IsLeft D.answer result.dispatching.view) result.jobs }
         ensures retired { result.dispatching.view.out ≡ [] }
+        ensures tickets { AllTold result.dispatching.put result.dispatching.told }
+        ensures put { result.dispatching.put ≡ self.dispatching.put }
+        ensures board { result.dispatching.board ≡ self.dispatching.board }
     {
         let Crew {
-            rt,
+            rt: _,
             dispatcher,
-            tickets,
             manner,
+            wakers,
+            later: _,
             left,
         } = self;
         let (mut dispatcher, mut jobs) = (dispatcher, left);
-        tickets.close(&rt);
+        wakers.close();
         take_back_each(&mut dispatcher, &mut jobs);
         take_in_each(&mut dispatcher, manner, spawner);
+        dispatcher.settle();
         collect_each(&mut dispatcher, &mut jobs);
         Leftover { dispatcher, jobs }
     }

@@ -1,16 +1,20 @@
 //! What an endpoint asks of a crew.
-ghost use Rattle.std.specs.Prelude.{◌≡◌, ◌≤◌, ◌+◌, ◌∷◌, ◌++◌, [], ◌↔◌, length, map, true, false};
-ghost use Rattle.std.specs.Prelude.{option_map, IsTrue, IsNone, IsErr, IfErr, IfSome, IfNone};
+ghost use Rattle.std.specs.Prelude.{◌≡◌, ◌≤◌, ◌<◌, ◌+◌, ◌∷◌, ◌++◌, [], ◌↔◌, length, map, true};
+ghost use Rattle.std.specs.Prelude.{false, option_map, IsTrue, IsNone, IsErr, IfErr, IfSome, IfNone};
 ghost use Rattle.std.specs.Prelude.{OnOk, OnErr, IsPermutation};
 ghost use Rattle.worker_crew.specs.Jobs.{job_of, HasRoom, IsAnswered, IsFull, TakesFirst, FoundUnfinished};
-ghost use Rattle.worker_crew.specs.Crews.{untold, names, team_of, SameHands, KeepsTo};
-ghost use Rattle.worker_crew.specs.Dispatching.{jobs_in, looks_in};
+ghost use Rattle.worker_crew.specs.Crews.{untold, names, team_of, has_hands, SameHands, KeepsTo};
+ghost use Rattle.worker_crew.specs.Crews.{GaveTicket, SameTickets};
+ghost use Rattle.worker_crew.specs.Dispatching.{jobs_in, looks_in, MissedEach};
+ghost use Rattle.worker_crew.specs.Waiting.{WaitsForRoom, WentOut};
 
 use super::Crew;
+use crate::dispatcher::Dispatcher;
 use crate::hand::Hand;
 use crate::manner::Manner;
-use crate::tickets::Tickets;
 use crate::workers::{Finished, Workers};
+use circular_buffer::HeapCircularBuffer;
+use place_queue::Wakers;
 use rpc_outside::Duty;
 use std::sync::Wait;
 use worker_board::{Parcel, Ticket};
@@ -24,11 +28,51 @@ fn step_each<D: Duty, R: Wait>(rt: &R, hands: &mut Vec<Hand<D>>)
     }
 }
 
-// Puts a ticket for the hands, where there are any.
-fn put<D: Duty, R: Wait>(rt: &R, manner: &Manner<D>, tickets: &mut Tickets, ticket: Ticket) {
-    match manner {
-        Manner::Alone(_) => {}
-        Manner::ByHands(_) => tickets.put(rt, ticket),
+// Puts the ticket of a job behind all others, and wakes a hand for it.
+fn put<D: Duty, R: Wait>(
+    rt: &R,
+    dispatcher: &mut Dispatcher<D>,
+    wakers: &Wakers,
+    later: &mut HeapCircularBuffer<Ticket>,
+    ticket: Ticket,
+)
+    requires few { length dispatcher.old.put < dispatcher.old.given }
+    requires behind { WaitsForRoom dispatcher.old.places dispatcher.old.put later.old.items }
+    ensures out { WentOut later.old.capacity ticket dispatcher.old.put later.old.items
+        dispatcher.new.put later.new.items }
+    ensures few { length dispatcher.new.put + length later.new.items
+        ≤ length dispatcher.old.put + length later.old.items + 1 }
+    ensures behind { WaitsForRoom dispatcher.old.places dispatcher.new.put later.new.items }
+    ensures same { dispatcher.new ≡ record dispatcher.old { put = dispatcher.new.put } }
+    ensures room { later.new.capacity ≡ later.old.capacity }
+{
+    if later.is_empty() && dispatcher.put(rt, ticket) {
+        wakers.wake_one();
+    } else {
+        let _oldest = later.push_back(ticket);
+    }
+}
+
+// Tries once more to put the oldest ticket that found the queue full.
+fn put_oldest<D: Duty, R: Wait>(
+    rt: &R,
+    dispatcher: &mut Dispatcher<D>,
+    wakers: &Wakers,
+    later: &mut HeapCircularBuffer<Ticket>,
+)
+    requires few { length dispatcher.old.put + length later.old.items ≤ dispatcher.old.given }
+    requires behind { WaitsForRoom dispatcher.old.places dispatcher.old.put later.old.items }
+    ensures tickets { dispatcher.new.put ++ later.new.items
+        ≡ dispatcher.old.put ++ later.old.items }
+    ensures behind { WaitsForRoom dispatcher.old.places dispatcher.new.put later.new.items }
+    ensures same { dispatcher.new ≡ record dispatcher.old { put = dispatcher.new.put } }
+    ensures room { later.new.capacity ≡ later.old.capacity }
+{
+    if let Some(&ticket) = later.front() {
+        if dispatcher.put(rt, ticket) {
+            wakers.wake_one();
+            let _put = later.pop_front();
+        }
     }
 }
 
@@ -49,7 +93,9 @@ impl<D: Duty, R: Wait> Workers for Crew<D, R> {
 
     ghost team = { team_of };
 
-    /// As the trait says; the job waits behind all others.
+    /// As the trait says; the job waits behind all others. Where hands were started its ticket is
+    /// put into the queue, or waits with the crew, which it does only where as many were put as there
+    /// are places.
     fn give(&mut self, job: Parcel) -> Result<(), Parcel>
         requires room { HasRoom D.answer job }
         ensures full { IsErr result ↔ IsFull self.old.dispatching.places
@@ -69,6 +115,9 @@ impl<D: Duty, R: Wait> Workers for Crew<D, R> {
         ensures looks { looks_in self.new.dispatching ≡ looks_in self.old.dispatching }
         ensures last { OnOk result (jobs_in self.new.dispatching
             ≡ jobs_in self.old.dispatching ++ job_of job ∷ []) }
+        ensures ticket { OnOk result (self.old.by_hands ≡ true → GaveTicket self.old self.new) }
+        ensures alone { self.old.by_hands ≡ false → SameTickets self.old self.new }
+        ensures kept { OnErr result (SameTickets self.old self.new) }
         ensures hands { SameHands self.old self.new }
         ensures team { team_of self.new ≡ team_of self.old }
         ensures keeps { KeepsTo self.new }
@@ -77,7 +126,16 @@ impl<D: Duty, R: Wait> Workers for Crew<D, R> {
             return Err(job);
         }
         let ticket = self.dispatcher.offer(job);
-        put(&self.rt, &self.manner, &mut self.tickets, ticket);
+        match &self.manner {
+            Manner::Alone(_) => {}
+            Manner::ByHands(_) => put(
+                &self.rt,
+                &mut self.dispatcher,
+                &self.wakers,
+                &mut self.later,
+                ticket,
+            ),
+        }
         Ok(())
     }
 
@@ -107,6 +165,10 @@ impl<D: Duty, R: Wait> Workers for Crew<D, R> {
             jobs_in self.old.dispatching ≡ job_of f.parcel ∷ jobs_in self.new.dispatching) }
         ensures looked { self.old.by_hands ≡ true → IfNone result (looks_in self.new.dispatching
             ≡ looks_in self.old.dispatching + length (jobs_in self.old.dispatching)) }
+        ensures missed { self.old.by_hands ≡ true
+            → IfNone result (MissedEach self.old.dispatching self.new.dispatching) }
+        ensures tickets { self.new.dispatching.put ++ self.new.later
+            ≡ self.old.dispatching.put ++ self.old.later }
         ensures hands { SameHands self.old self.new }
         ensures team { team_of self.new ≡ team_of self.old }
         ensures keeps { KeepsTo self.new }
@@ -114,7 +176,12 @@ impl<D: Duty, R: Wait> Workers for Crew<D, R> {
         let found = match &mut self.manner {
             Manner::Alone(duty) => self.dispatcher.answer_oldest(duty),
             Manner::ByHands(kept) => {
-                self.tickets.put_oldest(&self.rt);
+                put_oldest(
+                    &self.rt,
+                    &mut self.dispatcher,
+                    &self.wakers,
+                    &mut self.later,
+                );
                 step_each(&self.rt, kept);
                 self.dispatcher.collect_first()
             }

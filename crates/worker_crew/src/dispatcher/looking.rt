@@ -4,7 +4,7 @@ ghost use Rattle.std.specs.Prelude.{IsPermutation};
 ghost use Rattle.worker_board.specs.Seats.{AllRetired};
 ghost use Rattle.worker_crew.specs.Jobs.{job_of, IsAnswered};
 ghost use Rattle.worker_crew.specs.Places.{TookNoneBack};
-ghost use Rattle.worker_crew.specs.Dispatching.{jobs_in, looks_in, SameCrew};
+ghost use Rattle.worker_crew.specs.Dispatching.{jobs_in, looks_in, MissedEach, SameCrew};
 
 use super::Dispatcher;
 use crate::local::answer_job;
@@ -22,6 +22,7 @@ impl<D: Duty> Dispatcher<D> {
         ensures unchanged { IfNone result (jobs_in self.new ≡ jobs_in self.old) }
         ensures looked { IfNone result (looks_in self.new
             ≡ looks_in self.old + length (jobs_in self.old)) }
+        ensures missed { IfNone result (MissedEach self.old self.new) }
         ensures looks { looks_in self.old ≤ looks_in self.new }
         ensures none_back { TookNoneBack self.old.view → TookNoneBack self.new.view }
     {

@@ -1,18 +1,18 @@
 //! A dispatcher is made, and hands go out and come back.
-ghost use Rattle.std.specs.Prelude.{◌≡◌, ◌<◌, ◌≤◌, [], IfOk, OnErr};
+ghost use Rattle.std.specs.Prelude.{◌≡◌, ◌<◌, ◌≤◌, [], ◌++◌, IfOk, OnErr};
 ghost use Rattle.std.specs.Prelude.{vec_capacity};
 ghost use Rattle.std.specs.Arc.{arc_value};
-ghost use Rattle.worker_board.specs.Counts.{removed};
+ghost use Rattle.place_queue.specs.Order.{AllTold};
+ghost use Rattle.worker_board.specs.Counts.{removed, times};
 ghost use Rattle.worker_board.specs.Moves.{RanOnce, taken_in};
 ghost use Rattle.worker_board.specs.Rule.{first_view};
-ghost use Rattle.worker_board.specs.Seats.{IsUnused, with_hand};
-ghost use Rattle.worker_crew.specs.Hands.{name_of, knows};
+ghost use Rattle.worker_board.specs.Seats.{AllRetired, IsUnused, with_hand};
+ghost use Rattle.worker_crew.specs.Hands.{name_of, knows, took};
 ghost use Rattle.worker_crew.specs.Places.{AreFree};
-ghost use Rattle.worker_crew.specs.Queues.{queue_places};
 
 use super::Dispatcher;
 use crate::hand::Hand;
-use crate::place_queue::PlaceQueue;
+use place_queue::{PlaceQueue, Sleeper};
 use rpc_base::NoMemory;
 use rpc_outside::Duty;
 use std::alloc::{AllocError, Global};
@@ -31,7 +31,8 @@ fn all_places(alloc: Global, places: u32) -> Result<Vec<u32>, AllocError>
 }
 
 impl<D: Duty> Dispatcher<D> {
-    /// The dispatcher of a new board with `places` places. No job was given.
+    /// The dispatcher of a new board with `places` places, and of a new queue with as many. No job
+    /// was given, and no ticket put.
     pub(crate) fn new(alloc: Global, places: u32) -> Result<Dispatcher<D>, NoMemory>
     where
         D: Drop,
@@ -40,14 +41,19 @@ impl<D: Duty> Dispatcher<D> {
         ensures busy { IfOk result (λ d. d.busy ≡ []) }
         ensures given { IfOk result (λ d. d.given ≡ 0) }
         ensures view { IfOk result (λ d. d.view ≡ first_view places) }
+        ensures put { IfOk result (λ d. d.put ≡ []) }
     {
         let free = all_places(alloc, places)?;
         let busy = Vec::with_capacity(alloc, places as usize)?;
         let (board, seat) = Board::new(alloc, places)?;
         let board = Arc::new(alloc, board)?;
+        let (queue, putter) = PlaceQueue::new(alloc, places)?;
+        let queue = Arc::new(alloc, queue)?;
         Ok(Dispatcher {
             board,
+            queue,
             seat,
+            putter,
             free,
             busy,
             given: 0,
@@ -59,13 +65,12 @@ impl<D: Duty> Dispatcher<D> {
     pub(crate) fn hand(
         &mut self,
         duty: &Arc<D, Global>,
-        queue: &Arc<PlaceQueue, Global>,
+        sleeper: Sleeper,
         number: u8,
     ) -> Result<Hand<D>, AllocError>
     where
         D: Drop,
         requires unused { IsUnused number self.old.view }
-        requires queue { queue_places (arc_value queue.now) ≤ self.old.places }
         ensures name { IfOk result (λ h. name_of h
             ≡ record { board = self.old.board; number = number }) }
         ensures out { IfOk result (λ _. self.new
@@ -74,21 +79,37 @@ impl<D: Duty> Dispatcher<D> {
     {
         let board = Arc::try_clone(&self.board)?;
         let duty = Arc::try_clone(duty)?;
-        let queue = Arc::try_clone(queue)?;
+        let queue = Arc::try_clone(&self.queue)?;
         let seat = self.board.hand(&mut self.seat, number);
-        Ok(Hand::new(board, duty, queue, seat))
+        let taker = self.queue.taker(&mut self.putter);
+        Ok(Hand::new(board, duty, queue, seat, taker, sleeper))
     }
 
-    /// Takes in a hand of this board, with the lists of what it ran and lost.
+    /// Takes in a hand of this crew that is out, with the lists of what it took, ran and lost.
     pub(crate) fn retire(&mut self, hand: Hand<D>)
     where
         D: Drop,
-        requires { (name_of hand).board ≡ self.old.board }
-        ensures back { self.new
-            ≡ record self.old { view = taken_in self.old.view (knows hand) } }
+        requires crew { (name_of hand).board ≡ self.old.board }
+        requires out { 0 < times (name_of hand).number self.old.view.out }
+        ensures back { self.new ≡ record self.old {
+          view = taken_in self.old.view (knows hand);
+          told = self.old.told ++ took hand;
+        } }
         ensures out { self.new.view.out ≡ removed (name_of hand).number self.old.view.out }
         ensures once { RanOnce self.new.places self.new.view }
     {
-        self.board.retire(&mut self.seat, hand.into_seat());
+        let (seat, taker) = hand.into_seat();
+        self.board.retire(&mut self.seat, seat);
+        self.queue.take_in(&mut self.putter, taker);
+    }
+
+    /// What the queue's rule tells once all hands are back: they took the first of the tickets put,
+    /// each once and under its number.
+    pub(crate) fn settle(&mut self)
+        requires { AllRetired self.old.view }
+        ensures told { AllTold self.new.put self.new.told }
+        ensures same { self.new ≡ self.old }
+    {
+        self.queue.settle(&mut self.putter);
     }
 }

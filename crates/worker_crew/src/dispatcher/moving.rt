@@ -1,6 +1,6 @@
 //! A dispatcher offers jobs, collects them and takes them back.
-ghost use Rattle.std.specs.Prelude.{◌≡◌, ◌+◌, ◌<◌, ◌↔◌, [], ◌∷◌, ◌++◌, length, IsTrue};
-ghost use Rattle.std.specs.Prelude.{IfSome, IfNone, IsSome};
+ghost use Rattle.std.specs.Prelude.{◌≡◌, ◌+◌, ◌<◌, ◌≤◌, ◌↔◌, [], ◌∷◌, ◌++◌, length, true, false};
+ghost use Rattle.std.specs.Prelude.{IfSome, IfNone, IsSome, IsTrue};
 ghost use Rattle.std.specs.List.{remove};
 ghost use Rattle.worker_board.specs.Moves.{LostBefore, lost_at, missed, offered, ended_as};
 ghost use Rattle.worker_board.specs.Seats.{AllRetired, generation, IsOffered, IsOfferOf};
@@ -8,11 +8,12 @@ ghost use Rattle.worker_board.specs.declared.view.End.TheVariants.{Collected, Ta
 ghost use Rattle.worker_crew.specs.Jobs.{job_of, HasRoom, IsAnswered, IsFull};
 ghost use Rattle.worker_crew.specs.Places.{newest_job, put_at};
 ghost use Rattle.worker_board.specs.Word.{offers_at};
-ghost use Rattle.worker_crew.specs.Dispatching.{jobs_in, place_at};
+ghost use Rattle.worker_crew.specs.Dispatching.{jobs_in, newest_ticket, place_at};
 
 use super::Dispatcher;
 use rpc_base::MOST_GIVEN;
 use rpc_outside::Duty;
+use std::sync::Wait;
 use worker_board::{Parcel, Ticket};
 
 impl<D: Duty> Dispatcher<D> {
@@ -42,6 +43,7 @@ impl<D: Duty> Dispatcher<D> {
           busy = self.old.busy ++ result.place ∷ [];
           view = offered self.old.view result.place job;
         } }
+        ensures ticket { result ≡ newest_ticket self.new }
     {
         let Some(place) = self.free.pop() else {
             unreachable!()
@@ -50,6 +52,18 @@ impl<D: Duty> Dispatcher<D> {
         self.busy.push_reserved(place);
         self.given += 1;
         ticket
+    }
+
+    /// Puts a ticket into the queue. False comes only where as many were put before as there are
+    /// places, and then nothing changed. It may wait for a hand's step in the queue.
+    pub(crate) fn put<R: Wait>(&mut self, rt: &R, ticket: Ticket) -> bool
+        requires few { length self.old.put < self.old.given }
+        ensures put { result ≡ true
+            → self.new ≡ record self.old { put = self.old.put ++ ticket ∷ [] } }
+        ensures full { result ≡ false → (self.new ≡ self.old)
+            × (self.old.places ≤ length self.old.put) }
+    {
+        self.queue.put(rt, &mut self.putter, ticket)
     }
 
     /// Collects the job that stands at `i` in the order of giving, with its answer. None comes

@@ -17,5 +17,8 @@ loop-dispatcher-preserved g c = let now = c.in-Some.ensures.collected in record 
       c.push_back_reserved.ensures.items c.loop-dispatcher.invariant.left;
   lost = all-lost-done c.loop-dispatcher.dispatcher c.collect_at.new.self now c.loop-dispatcher.invariant.lost;
   room = search rules;
+  board = ap (λ (s : Dispatching). s.board) now ∙ c.loop-dispatcher.invariant.board;
+  put = ap (λ (s : Dispatching). s.put) now ∙ c.loop-dispatcher.invariant.put;
+  told = ap (λ (s : Dispatching). s.told) now ∙ c.loop-dispatcher.invariant.told;
   hands = ap (λ (s : Dispatching). s.view.out) now ∙ c.loop-dispatcher.invariant.hands;
 }

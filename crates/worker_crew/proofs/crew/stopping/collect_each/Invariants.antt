@@ -14,6 +14,9 @@ invariant-loop-dispatcher g l = record {
   left : AllByRecursion (IsLeft g.D.Duty.answer l.dispatcher.view) l.left.items;
   lost : AllByRecursion (LostBefore l.dispatcher.view) l.dispatcher.busy;
   room : length l.left.items + length l.dispatcher.busy ≤ deque_capacity l.left;
+  board : l.dispatcher.board ≡ l.fn.dispatcher.board;
+  put : l.dispatcher.put ≡ l.fn.dispatcher.put;
+  told : l.dispatcher.told ≡ l.fn.dispatcher.told;
   hands : l.dispatcher.view.out ≡ [];
 }
 

@@ -36,6 +36,7 @@ loop-i-preserved-in-Some g c =
         c.loop-i.invariant.room,
       );
       board = ap (λ (s : Dispatching). s.board) now ∙ c.loop-i.invariant.board;
+      put = ap (λ (s : Dispatching). s.put) now ∙ c.loop-i.invariant.put;
       hands = ap (λ (s : Dispatching). s.view.out) now ∙ c.loop-i.invariant.hands;
     }
 
@@ -50,5 +51,6 @@ loop-i-preserved g c = let now = c.in-None.ensures.lost in record {
   inside = search rules;
   room = search rules;
   board = ap (λ (s : Dispatching). s.board) now ∙ c.loop-i.invariant.board;
+  put = ap (λ (s : Dispatching). s.put) now ∙ c.loop-i.invariant.put;
   hands = ap (λ (s : Dispatching). s.view.out) now ∙ c.loop-i.invariant.hands;
 }

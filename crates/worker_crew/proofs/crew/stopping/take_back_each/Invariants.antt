@@ -15,6 +15,7 @@ invariant-loop-i g l = record {
   inside : l.i ≤ length l.dispatcher.busy;
   room : length l.left.items + length l.dispatcher.busy ≤ deque_capacity l.left;
   board : l.dispatcher.board ≡ l.fn.dispatcher.board;
+  put : l.dispatcher.put ≡ l.fn.dispatcher.put;
   hands : l.dispatcher.view.out ≡ l.fn.dispatcher.view.out;
 }
 

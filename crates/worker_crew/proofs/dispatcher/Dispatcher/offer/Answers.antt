@@ -1,4 +1,4 @@
-use Rattle.std.proofs.Common.{rules, arith, refl, ap, ◌∙◌, ◌++◌, ◌∷◌, []}
+use Rattle.std.proofs.Common.{rules, arith, refl, sym, ap, ◌∙◌, ◌++◌, ◌∷◌, []}
 use Rattle.worker_board.specs.declared.view.View.{View}
 use Rattle.worker_board.specs.declared.view.End.TheVariants.{Open}
 use Rattle.worker_board.specs.Word.{offer_of}
@@ -6,6 +6,7 @@ use Rattle.worker_crew.specs.Dispatching.{Dispatching, jobs_in}
 use Rattle.worker_crew.specs.Jobs.{job_of}
 use Rattle.worker_crew.proofs.PlacesLemmas.{closed-place, near, is-free, popped, given-now, jobs-now}
 use Rattle.worker_crew.proofs.RoomLemmas.{fits-given}
+use Rattle.worker_crew.proofs.TicketLemmas.{ticket-now}
 use Rattle.worker_crew.proofs.dispatcher.Dispatcher.offer.Goals as goal
 
 pub offer-ticket-requires-clause-place : goal.offer-ticket-requires-clause-place
@@ -44,3 +45,10 @@ returns-clause-jobs g c =
     (popped c.in-Some.place c.pop.new.self.items c.self.invariant.1.kept c.pop.ensures.items c.in-Some.is)
     (ap (λ (v : View). v.ledger) c.offer-ticket.ensures.view) c.push_reserved.ensures.items
     ∙ ap (λ (s : Dispatching). jobs_in s ++ job_of c.args.job ∷ []) c.self.view_is
+
+pub returns-clause-ticket : goal.returns-clause-ticket
+returns-clause-ticket g c =
+    c.offer-ticket.ensures.ticket
+    ∙ sym (ticket-now c.in-Some.place c.pop.new.self.items (offer_of c.args.job Open)
+    (popped c.in-Some.place c.pop.new.self.items c.self.invariant.1.kept c.pop.ensures.items c.in-Some.is)
+    (ap (λ (v : View). v.ledger) c.offer-ticket.ensures.view) c.push_reserved.ensures.items)
