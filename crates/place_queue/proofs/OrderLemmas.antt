@@ -9,7 +9,7 @@ use lib.ListN.{get_elem?}
 use Rattle.crossbeam_queue.specs.Fifo.{Pushes, Pops, Forks, Merges, Learns}
 use Rattle.crossbeam_queue.proofs.Lists.{at_set, at_snoc}
 use Rattle.worker_board.specs.Tickets.{OfferNo}
-use Rattle.worker_board.specs.Counts.{total}
+use Rattle.rpc_base.specs.Totals.{total}
 use Rattle.worker_board.proofs.CountsLemmas.{total-append, total-set, term_le, terms_le}
 use Rattle.place_queue.specs.declared.knows.Numbered.{Numbered}
 use Rattle.place_queue.specs.declared.knows.Knows.{Knows}

@@ -4,7 +4,7 @@ use Rattle.std.specs.Prelude.{drop}
 use mathlib.Core.Option.{some}
 use lib.ListN.{get_elem?}
 use Rattle.worker_board.specs.Tickets.{OfferNo}
-use Rattle.worker_board.specs.Counts.{total}
+use Rattle.rpc_base.specs.Totals.{total}
 use Rattle.place_queue.specs.declared.knows.Numbered.{Numbered}
 use Rattle.place_queue.specs.declared.knows.Knows.{Knows}
 use Rattle.place_queue.specs.declared.knows.Role.{Role}
