@@ -1,0 +1,4 @@
+pub mod DeskLemmas
+pub mod OutLemmas
+pub mod FitsLemmas
+pub mod LawLemmas
