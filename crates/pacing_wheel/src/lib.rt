@@ -6,7 +6,5 @@ mod choosing;
 mod dial;
 mod due_list;
 mod pacer;
-#[cfg(test)]
-mod tests;
 
 pub use pacer::{Paced, Pacer};

@@ -9,6 +9,7 @@ mod drills;
 mod edges;
 mod messages;
 mod network;
+mod pacing;
 mod places;
 mod rings;
 mod sessions;
@@ -100,6 +101,31 @@ fn main(rt: HostRuntime) -> io::Result<()> {
         &rt,
         "the others keep their order",
         rings::the_others_keep_their_order(alloc),
+    )?;
+    tell(
+        &rt,
+        "entries leave by their due times",
+        pacing::entries_leave_by_their_due_times(alloc),
+    )?;
+    tell(
+        &rt,
+        "the least number leaves first",
+        pacing::the_least_number_leaves_first(alloc),
+    )?;
+    tell(
+        &rt,
+        "the overflow and the wheel leave as one",
+        pacing::the_overflow_and_the_wheel_leave_as_one(alloc),
+    )?;
+    tell(
+        &rt,
+        "the last time comes",
+        pacing::the_last_time_comes(alloc),
+    )?;
+    tell(
+        &rt,
+        "the overflows leaves before a later one of its time",
+        pacing::the_overflows_leaves_before_a_later_one_of_its_time(alloc),
     )?;
     tell(
         &rt,

@@ -7,8 +7,6 @@ mod knows;
 mod queue;
 mod rule;
 mod sleeping;
-#[cfg(test)]
-mod tests;
 
 pub use knows::{Knows, Numbered, Role};
 pub use queue::{PlaceQueue, Putter, Taker};

@@ -8,8 +8,6 @@ mod leftover;
 mod local;
 mod manner;
 mod spawner;
-#[cfg(test)]
-mod tests;
 mod thread_spawner;
 mod workers;
 

@@ -2,29 +2,56 @@
 ghost use Rattle.std.specs.Prelude.{◌≡◌, ◌<◌, ◌^◌, ◌+◌, length};
 ghost use Rattle.place_queue.specs.Ends.{queue_of, put_by, put_end, take_end};
 
-use crate::{PlaceQueue, Putter, Sleeper, Taker, Wakers};
+use crate::differs::{Differs, expect};
+use place_queue::{PlaceQueue, Putter, Sleeper, Taker, Wakers};
+use std::alloc::Global;
 use std::sync::Wait;
 use std::sync::atomic::{AtomicU32, Ordering};
-use std::test::Fail;
 use std::thread;
+use std::thread::Threads;
 use worker_board::Ticket;
 
-#[test]
-fn tickets_are_taken_in_the_order_of_putting(rt: HostRuntime) -> Result<(), Fail> {
-    let alloc = rt.alloc();
+pub fn tickets_are_taken_in_the_order_of_putting<R: Wait + Copy>(
+    rt: R,
+    alloc: Global,
+) -> Result<(), Differs> {
     let (queue, mut putter) = PlaceQueue::new(alloc, 2)?;
     let mut taker = queue.taker(&mut putter);
-    assert!(rt; queue.put(&rt, &mut putter, Ticket::of(5, 0)));
-    assert!(rt; queue.put(&rt, &mut putter, Ticket::of(3, 7)));
-    assert!(rt; !queue.put(&rt, &mut putter, Ticket::of(4, 1)));
+    expect(
+        queue.put(&rt, &mut putter, Ticket::of(5, 0)),
+        "queue.put(&rt, &mut putter, Ticket::of(5, 0))",
+    )?;
+    expect(
+        queue.put(&rt, &mut putter, Ticket::of(3, 7)),
+        "queue.put(&rt, &mut putter, Ticket::of(3, 7))",
+    )?;
+    expect(
+        !queue.put(&rt, &mut putter, Ticket::of(4, 1)),
+        "!queue.put(&rt, &mut putter, Ticket::of(4, 1))",
+    )?;
     let first = queue.take(&rt, &mut taker).ok_or("no ticket")?;
-    assert_eq!(rt; (first.index, first.ticket.place()), (0, 5));
-    assert!(rt; queue.put(&rt, &mut putter, Ticket::of(4, 1)));
+    expect(
+        (first.index, first.ticket.place()) == (0, 5),
+        "(first.index, first.ticket.place())",
+    )?;
+    expect(
+        queue.put(&rt, &mut putter, Ticket::of(4, 1)),
+        "queue.put(&rt, &mut putter, Ticket::of(4, 1))",
+    )?;
     let second = queue.take(&rt, &mut taker).ok_or("one ticket")?;
-    assert_eq!(rt; (second.index, second.ticket.place()), (1, 3));
+    expect(
+        (second.index, second.ticket.place()) == (1, 3),
+        "(second.index, second.ticket.place())",
+    )?;
     let third = queue.take(&rt, &mut taker).ok_or("two tickets")?;
-    assert_eq!(rt; (third.index, third.ticket.place()), (2, 4));
-    assert!(rt; queue.take(&rt, &mut taker).is_none());
+    expect(
+        (third.index, third.ticket.place()) == (2, 4),
+        "(third.index, third.ticket.place())",
+    )?;
+    expect(
+        queue.take(&rt, &mut taker).is_none(),
+        "queue.take(&rt, &mut taker).is_none()",
+    )?;
     queue.take_in(&mut putter, taker);
     queue.settle(&mut putter);
     Ok(())
@@ -98,9 +125,10 @@ fn dispatch<R: Wait>(
     putter
 }
 
-#[test]
-fn two_hands_that_sleep_take_all(rt: HostRuntime) -> Result<(), Fail> {
-    let alloc = rt.alloc();
+pub fn two_hands_that_sleep_take_all<R: Threads + Wait + Copy + Send + Sync + 'static>(
+    rt: R,
+    alloc: Global,
+) -> Result<(), Differs> {
     let (queue, mut putter) = PlaceQueue::new(alloc, 8)?;
     let mut wakers = Wakers::new(alloc, 2)?;
     let (one, two) = (wakers.sleeper(alloc)?, wakers.sleeper(alloc)?);
@@ -136,6 +164,9 @@ fn two_hands_that_sleep_take_all(rt: HostRuntime) -> Result<(), Fail> {
     let mut putter = putter;
     queue.take_in(&mut putter, first);
     queue.take_in(&mut putter, second);
-    assert_eq!(rt; taken.load(Ordering::SeqCst), TICKETS);
+    expect(
+        taken.load(Ordering::SeqCst) == TICKETS,
+        "taken.load(Ordering::SeqCst)",
+    )?;
     Ok(())
 }

@@ -4,18 +4,18 @@ ghost use Rattle.worker_crew.specs.Hands.{name_of};
 ghost use Rattle.worker_crew.specs.Jobs.{HasRoom};
 ghost use Rattle.worker_crew.specs.Spawning.{Started, CameBack};
 
-use super::crew::take_one;
-use crate::{Crew, Finished, Hand, Spawner, Workers};
+use crate::crews::take_one;
+use crate::differs::{Differs, expect};
 use message_buffer::MsgBuf;
 use rpc_base::{RequestNo, SessionNo};
 use rpc_outside::Duty;
 use std::alloc::Global;
 use std::sync::atomic::{AtomicBool, Ordering};
 use std::sync::{Arc, Wait};
-use std::test::Fail;
 use std::thread;
 use std::thread::Threads;
 use worker_board::Parcel;
+use worker_crew::{Crew, Finished, Hand, Spawner, Workers};
 
 /// A handler looks so often for the other's end.
 const TURNS: u32 = 50_000_000;
@@ -55,7 +55,7 @@ impl Duty for Gate {
 }
 
 /// An echo of one byte.
-fn echo_of(alloc: Global, req_type: u8) -> Result<Parcel, Fail>
+fn echo_of(alloc: Global, req_type: u8) -> Result<Parcel, Differs>
     ensures { IfOk result (HasRoom (λ _ ask. ask)) }
 {
     let mut ask = MsgBuf::new(alloc, 1)?;
@@ -141,9 +141,10 @@ fn work_two<D: Duty + Drop + Send + Sync + 'static, R: Threads + Wait + Sync + D
     taken
 }
 
-#[test]
-fn a_gate_opens(rt: HostRuntime) -> Result<(), Fail> {
-    let alloc = rt.alloc();
+pub fn a_gate_opens<R: Threads + Wait + Copy + Send + Sync + 'static>(
+    rt: R,
+    alloc: Global,
+) -> Result<(), Differs> {
     let mut shelf = Shelf {
         hands: Vec::new(alloc),
         refused: 0,
@@ -157,15 +158,24 @@ fn a_gate_opens(rt: HostRuntime) -> Result<(), Fail> {
     )?;
     let seen = Arc::try_clone(&gate)?;
     let mut crew = Crew::start(rt, alloc, gate, 2, 2, &mut shelf)?;
-    assert!(rt; crew.give(echo_of(alloc, 1)?).is_ok());
-    assert!(rt; crew.give(echo_of(alloc, 2)?).is_ok());
+    expect(
+        crew.give(echo_of(alloc, 1)?).is_ok(),
+        "crew.give(echo_of(alloc, 1)?).is_ok()",
+    )?;
+    expect(
+        crew.give(echo_of(alloc, 2)?).is_ok(),
+        "crew.give(echo_of(alloc, 2)?).is_ok()",
+    )?;
     let (one, two) = (
         shelf.finish().ok_or("no hand")?,
         shelf.finish().ok_or("one hand")?,
     );
     let (first, second) = work_two(&rt, one, two, crew);
-    assert_eq!(rt; first.max(second), Some(2));
-    assert_eq!(rt; first.min(second), Some(1));
-    assert!(rt; !seen.was_late.load(Ordering::SeqCst));
+    expect(first.max(second) == Some(2), "first.max(second)")?;
+    expect(first.min(second) == Some(1), "first.min(second)")?;
+    expect(
+        !seen.was_late.load(Ordering::SeqCst),
+        "!seen.was_late.load(Ordering::SeqCst)",
+    )?;
     Ok(())
 }

@@ -8,20 +8,21 @@ ghost use Rattle.worker_crew.specs.Launching.{Launched};
 ghost use Rattle.worker_crew.specs.Jobs.{HasRoom};
 ghost use Rattle.worker_crew.specs.Spawning.{Started, CameBack};
 
-use crate::{
-    Child, Crew, Finished, Hand, Launcher, SerialSpawner, Spawner, ThreadSpawner, Workers, launch,
-};
+use crate::differs::{Differs, expect};
 use message_buffer::MsgBuf;
 use rpc_base::{RequestNo, SessionNo};
 use rpc_outside::{Duty, PlainDuty};
 use std::alloc::Global;
 use std::sync::{Arc, Wait};
-use std::test::Fail;
 use std::thread;
+use std::thread::Threads;
 use worker_board::Parcel;
+use worker_crew::{
+    Child, Crew, Finished, Hand, Launcher, SerialSpawner, Spawner, ThreadSpawner, Workers, launch,
+};
 
 /// A background reverse of two bytes.
-fn reverse_of(alloc: Global, bytes: &[u8; 2]) -> Result<Parcel, Fail>
+fn reverse_of(alloc: Global, bytes: &[u8; 2]) -> Result<Parcel, Differs>
     ensures { IfOk result (HasRoom background_answer) }
 {
     let mut ask = MsgBuf::new(alloc, 2)?;
@@ -59,37 +60,63 @@ fn unworked(finished: Option<Finished>) -> Option<(u8, u8)> {
     (!finished.worked).then_some(ends)
 }
 
-#[test]
-fn jobs_come_back_unworked_at_the_stop(rt: HostRuntime) -> Result<(), Fail> {
-    let alloc = rt.alloc();
+pub fn jobs_come_back_unworked_at_the_stop<R: Wait + Copy>(
+    rt: R,
+    alloc: Global,
+) -> Result<(), Differs> {
     let mut spawner = SerialSpawner::new();
     let mut crew = Crew::start(rt, alloc, Arc::new(alloc, PlainDuty)?, 3, 2, &mut spawner)?;
-    assert_eq!(rt; spawner.refused(), 2);
-    assert!(rt; crew.give(reverse_of(alloc, b"ab")?).is_ok());
-    assert!(rt; crew.give(reverse_of(alloc, b"cd")?).is_ok());
-    assert!(rt; crew.give(reverse_of(alloc, b"ef")?).is_ok());
+    expect(spawner.refused() == 2, "spawner.refused()")?;
+    expect(
+        crew.give(reverse_of(alloc, b"ab")?).is_ok(),
+        "crew.give(reverse_of(alloc, b\"ab\")?).is_ok()",
+    )?;
+    expect(
+        crew.give(reverse_of(alloc, b"cd")?).is_ok(),
+        "crew.give(reverse_of(alloc, b\"cd\")?).is_ok()",
+    )?;
+    expect(
+        crew.give(reverse_of(alloc, b"ef")?).is_ok(),
+        "crew.give(reverse_of(alloc, b\"ef\")?).is_ok()",
+    )?;
     let mut left = crew.stop(&mut spawner);
-    assert_eq!(rt; unworked(left.next()), Some((b'a', b'b')));
-    assert_eq!(rt; unworked(left.next()), Some((b'c', b'd')));
-    assert_eq!(rt; unworked(left.next()), Some((b'e', b'f')));
-    assert!(rt; left.next().is_none());
+    expect(
+        unworked(left.next()) == Some((b'a', b'b')),
+        "unworked(left.next())",
+    )?;
+    expect(
+        unworked(left.next()) == Some((b'c', b'd')),
+        "unworked(left.next())",
+    )?;
+    expect(
+        unworked(left.next()) == Some((b'e', b'f')),
+        "unworked(left.next())",
+    )?;
+    expect(left.next().is_none(), "left.next().is_none()")?;
     Ok(())
 }
 
-#[test]
-fn a_crew_without_hands_answers_by_itself(rt: HostRuntime) -> Result<(), Fail> {
-    let alloc = rt.alloc();
+pub fn a_crew_without_hands_answers_by_itself<R: Wait + Copy>(
+    rt: R,
+    alloc: Global,
+) -> Result<(), Differs> {
     let mut spawner = SerialSpawner::new();
     let mut crew = Crew::start(rt, alloc, Arc::new(alloc, PlainDuty)?, 1, 2, &mut spawner)?;
-    assert!(rt; crew.give(reverse_of(alloc, b"ab")?).is_ok());
-    assert!(rt; crew.full());
+    expect(
+        crew.give(reverse_of(alloc, b"ab")?).is_ok(),
+        "crew.give(reverse_of(alloc, b\"ab\")?).is_ok()",
+    )?;
+    expect(crew.full(), "crew.full()")?;
     let second = crew.give(reverse_of(alloc, b"cd")?);
-    assert_eq!(rt;
-        second.err().and_then(|job| ends_of(&job.ask)),
-        Some((b'c', b'd'))
-    );
-    assert_eq!(rt; answer(crew.take()), Some((b'b', b'a')));
-    assert!(rt; crew.take().is_none());
+    expect(
+        second.err().and_then(|job| ends_of(&job.ask)) == Some((b'c', b'd')),
+        "second.err().and_then(|job| ends_of(&job.ask))",
+    )?;
+    expect(
+        answer(crew.take()) == Some((b'b', b'a')),
+        "answer(crew.take())",
+    )?;
+    expect(crew.take().is_none(), "crew.take().is_none()")?;
     Ok(())
 }
 
@@ -135,24 +162,37 @@ fn step<R: Wait>(rt: &R, keeper: &mut Keeper) -> bool {
     }
 }
 
-#[test]
-fn a_kept_hand_works_each_ticket_once(rt: HostRuntime) -> Result<(), Fail> {
-    let alloc = rt.alloc();
+pub fn a_kept_hand_works_each_ticket_once<R: Wait + Copy>(
+    rt: R,
+    alloc: Global,
+) -> Result<(), Differs> {
     let mut keeper = Keeper {
         hand: None,
         refused: 0,
     };
     let mut crew = Crew::start(rt, alloc, Arc::new(alloc, PlainDuty)?, 2, 1, &mut keeper)?;
     for _ in 0..10u8 {
-        assert!(rt; crew.give(reverse_of(alloc, b"ab")?).is_ok());
-        assert!(rt; crew.give(reverse_of(alloc, b"cd")?).is_ok());
-        assert!(rt; crew.take().is_none());
-        assert!(rt; step(&rt, &mut keeper));
-        assert!(rt; step(&rt, &mut keeper));
-        assert!(rt; !step(&rt, &mut keeper));
-        assert_eq!(rt; answer(crew.take()), Some((b'b', b'a')));
-        assert_eq!(rt; answer(crew.take()), Some((b'd', b'c')));
-        assert!(rt; crew.take().is_none());
+        expect(
+            crew.give(reverse_of(alloc, b"ab")?).is_ok(),
+            "crew.give(reverse_of(alloc, b\"ab\")?).is_ok()",
+        )?;
+        expect(
+            crew.give(reverse_of(alloc, b"cd")?).is_ok(),
+            "crew.give(reverse_of(alloc, b\"cd\")?).is_ok()",
+        )?;
+        expect(crew.take().is_none(), "crew.take().is_none()")?;
+        expect(step(&rt, &mut keeper), "step(&rt, &mut keeper)")?;
+        expect(step(&rt, &mut keeper), "step(&rt, &mut keeper)")?;
+        expect(!step(&rt, &mut keeper), "!step(&rt, &mut keeper)")?;
+        expect(
+            answer(crew.take()) == Some((b'b', b'a')),
+            "answer(crew.take())",
+        )?;
+        expect(
+            answer(crew.take()) == Some((b'd', b'c')),
+            "answer(crew.take())",
+        )?;
+        expect(crew.take().is_none(), "crew.take().is_none()")?;
     }
     Ok(())
 }
@@ -161,7 +201,7 @@ fn a_kept_hand_works_each_ticket_once(rt: HostRuntime) -> Result<(), Fail> {
 const TURNS: u32 = 50_000_000;
 
 /// Takes a job once one is done.
-pub(super) fn take_one<D: Duty, R: Wait>(crew: &mut Crew<D, R>) -> Option<Finished>
+pub fn take_one<D: Duty, R: Wait>(crew: &mut Crew<D, R>) -> Option<Finished>
     ensures { SameHands crew.old crew.new }
 {
     for _ in 0..TURNS {
@@ -173,9 +213,10 @@ pub(super) fn take_one<D: Duty, R: Wait>(crew: &mut Crew<D, R>) -> Option<Finish
     None
 }
 
-#[test]
-fn hands_on_threads_answer(rt: HostRuntime) -> Result<(), Fail> {
-    let alloc = rt.alloc();
+pub fn hands_on_threads_answer<R: Threads + Wait + Copy + Send + Sync + 'static>(
+    rt: R,
+    alloc: Global,
+) -> Result<(), Differs> {
     let launcher: Launcher = Box::new(
         alloc,
         move |hand: Hand<PlainDuty>| -> Result<Child, Hand<PlainDuty>>
@@ -184,11 +225,23 @@ fn hands_on_threads_answer(rt: HostRuntime) -> Result<(), Fail> {
     )?;
     let mut spawner = ThreadSpawner::new(rt, alloc, launcher);
     let mut crew = Crew::start(rt, alloc, Arc::new(alloc, PlainDuty)?, 2, 2, &mut spawner)?;
-    assert!(rt; crew.give(reverse_of(alloc, b"ab")?).is_ok());
-    assert_eq!(rt; answer(take_one(&mut crew)), Some((b'b', b'a')));
-    assert!(rt; crew.give(reverse_of(alloc, b"cd")?).is_ok());
-    assert_eq!(rt; answer(take_one(&mut crew)), Some((b'd', b'c')));
+    expect(
+        crew.give(reverse_of(alloc, b"ab")?).is_ok(),
+        "crew.give(reverse_of(alloc, b\"ab\")?).is_ok()",
+    )?;
+    expect(
+        answer(take_one(&mut crew)) == Some((b'b', b'a')),
+        "answer(take_one(&mut crew))",
+    )?;
+    expect(
+        crew.give(reverse_of(alloc, b"cd")?).is_ok(),
+        "crew.give(reverse_of(alloc, b\"cd\")?).is_ok()",
+    )?;
+    expect(
+        answer(take_one(&mut crew)) == Some((b'd', b'c')),
+        "answer(take_one(&mut crew))",
+    )?;
     let mut left = crew.stop(&mut spawner);
-    assert!(rt; left.next().is_none());
+    expect(left.next().is_none(), "left.next().is_none()")?;
     Ok(())
 }
