@@ -1,4 +1,5 @@
 -- Both ends of each session agree at each moment.
+use Rattle.rpc_base.specs.declared.limits.Limits.{Limits}
 use Rattle.std.proofs.Common.{◌≡◌, ◌<◌, ◌+◌, ℕ, List, [], ◌∷◌, ◌++◌, length, Option, Some}
 use Rattle.std.proofs.Common.{None}
 use Rattle.std.proofs.Common.{slice_get, refl, sym, ap, ◌∙◌, subst, arith, append-nil}
@@ -35,7 +36,7 @@ use Rattle.end_laws.specs.Genuine.{Travels}
 use Rattle.end_laws.specs.Handshakes.{Agree, ConnectsMade, IsLetGo, IsMade, LetsGo, NamesMade}
 use Rattle.end_laws.specs.Moments.{Always, first_moment, Moment, moved}
 use Rattle.end_laws.proofs.Allowed.{May}
-use Rattle.end_laws.proofs.Courses.{AtNode, Ends, Course, over, in_net, made, at_node, pairs}
+use Rattle.end_laws.proofs.Courses.{made_as, resets, AtNode, Ends, Course, over, in_net, made, at_node, pairs}
 use Rattle.end_laws.proofs.Courses.{client_fact, server_fact, paired, moved-node}
 use Rattle.end_laws.proofs.GoodSteps.{good-net, good-made, good-node}
 use Rattle.end_laws.proofs.Known.{Known, Speaks, Tells, RepliesBy, Good, contains-more}
@@ -124,13 +125,13 @@ lets-net nodes past f who h = record {
 }
 
 -- a node is made
-lets-made : (nodes : List Lists) (past : List Fact) (ring : ℕ) → Lets nodes past
-    → Lets (nodes ++ new_lists (length nodes) (with_ring ring) ∷ [])
-    (plain (length nodes) (Made ring) ∷ past)
-lets-made nodes past ring h =
+pub lets-made : (nodes : List Lists) (past : List Fact) (limits : Limits) → Lets nodes past
+    → Lets (nodes ++ new_lists (length nodes) limits ∷ [])
+    (plain (length nodes) (Made limits.ring) ∷ past)
+lets-made nodes past limits h =
     let n = length nodes in
-    let f : Fact = plain n (Made ring) in
-    let new = new_lists n (with_ring ring) in
+    let f : Fact = plain n (Made limits.ring) in
+    let new = new_lists n limits in
     let more : length (nodes ++ new ∷ []) ≡ n + 1 = length-append nodes (new ∷ []) in
     let none : (j : ℕ) (xs : List Client) → LetAt j xs f =
     λ j xs peer number head body e. not-said f j peer number head body refl e in
@@ -181,12 +182,12 @@ lets-said w n l f a v =
 abbrev pub LetsIn : Moment → Type 0
 LetsIn w = Lets w.nodes w.past
 
-step-net : (w : Moment) (f : Fact) → f.who ≡ Net → LetsIn w → LetsIn (moved w f)
+pub step-net : (w : Moment) (f : Fact) → f.who ≡ Net → LetsIn w → LetsIn (moved w f)
 step-net w f who h =
     subst (λ (p : Who). Lets (nodes_at w.clock p w.nodes f) (f ∷ w.past)) (sym who)
     (lets-net w.nodes w.past f who h)
 
-step-node : (w : Moment) (n : ℕ) (l : Lists) (f : Fact) → AtNode w n l f → AllValid w → LetsIn w
+pub step-node : (w : Moment) (n : ℕ) (l : Lists) (f : Fact) → AtNode w n l f → AllValid w → LetsIn w
     → LetsIn (moved w f)
 step-node w n l f a v h =
     let kin = clients-kin w.clock l f.event f.first (front_header l.ring) (front_body l.ring)
@@ -216,7 +217,7 @@ module _ (w : Moment) (n m credits : ℕ) (client server : Lists)
       ap (λ (o : Option Lists). slice_get (changed w.clock o n w.nodes one) m) ends.is_client
       ∙ (set-other w.nodes n m (after w.clock client one) (λ k. ends.two (sym k)) ∙ ends.is_server)
 
-  step-pair : LetsIn (paired w n m credits client server)
+  pub step-pair : LetsIn (paired w n m credits client server)
   step-pair =
       subst (λ (o : Option Lists). Lets (changed w.clock o m (moved w one).nodes other)
       (other ∷ one ∷ w.past)) (sym is-server)
@@ -260,7 +261,7 @@ lets-go past n l v h = λ peer number head body c g reads kind t names.
     let equal : gone.client ≡ x = cc in
     subst (λ (z : Client). IsLetGo z t) equal gone.let_go) (λ i x is. is)
 
-agree-of : (w : Moment) → AllValid w → Good w → LetsIn w → Agree w
+pub agree-of : (w : Moment) → AllValid w → Good w → LetsIn w → Agree w
 agree-of w v g z =
     let k = g.known in
     record {
@@ -299,10 +300,12 @@ between w n m credits client server e v z a =
       let_go = λ i l is. lets-go (one ∷ w.past) i l (valid i l is) (after_one.let_go i l is);
     }
 
-pub course-agree : (w : Moment) (h : List Fact) (u : Moment) → Course w h u → AllRight w
+pub course-agree : (w : Moment) (h : List Fact) (u : Moment) → Course false w h u → AllRight w
     → AllValid w
     → Good w → LetsIn w → Always Agree w h
 course-agree _ _ _ (over w) i v g z = agree-of w v g z
+course-agree _ _ _ (made_as w limits h u is c) i v g z = absurd (cc)
+course-agree _ _ _ (resets w clock h u is c) i v g z = absurd (cc)
 course-agree _ _ _ (in_net w f h u who c) i v g z = (
   agree-of w v g z,
   course-agree (moved w f) h u c (right-net w f who i) (valid-net w f who v) (good-net w f who g)
@@ -310,8 +313,8 @@ course-agree _ _ _ (in_net w f h u who c) i v g z = (
 )
 course-agree _ _ _ (made w ring h u c) i v g z = (
   agree-of w v g z,
-  course-agree _ h u c (right-made w ring i) (valid-made w ring v) (good-made w ring g)
-      (lets-made w.nodes w.past ring z),
+  course-agree _ h u c (right-made w (with_ring ring) i) (valid-made w (with_ring ring) v) (good-made w (with_ring ring) g)
+      (lets-made w.nodes w.past (with_ring ring) z),
 )
 course-agree _ _ _ (at_node w n l f h u a c) i v g z = (
   agree-of w v g z,

@@ -32,7 +32,7 @@ use Rattle.end_laws.proofs.Known.{Known, Later, Asker, Begin, is_joined, IsJoine
 use Rattle.end_laws.proofs.Known.{GoodCall, GoodClient, GoodNode}
 use Rattle.end_laws.proofs.Known.{TrueStart, TrueAsk, IsTrue, added, added-here, added-keeps}
 use Rattle.end_laws.proofs.Known.{added-none, added-case, contains-here, contains-more}
-use Rattle.end_laws.proofs.KnownLemmas.{call-later, servers-later, jobs-later, tied-later}
+use Rattle.end_laws.proofs.KnownLemmas.{run-more, call-later, servers-later, jobs-later, tied-later}
 use Rattle.end_laws.proofs.KnownLemmas.{server-more-end, ends-more}
 use Rattle.end_laws.proofs.KnownLemmas.{start-more, ask-more}
 use Rattle.end_laws.proofs.ListLemmas.{length-first, Placed, first-each, set-first, set-placed}
@@ -90,7 +90,7 @@ module _ (k : Known) (n c s y room : ℕ) (ask : List ℕ) where
         (record { number = refl; asked = contains-here asked_fact k.past })
         (λ i j m x h. ask-more asked_fact k.past i j m x (t.asks i j m x h));
     starts = λ i j m x h. start-more asked_fact k.past i j m x (t.starts i j m x h);
-    runs = λ i j m x h. contains-more asked_fact _ k.past (t.runs i j m x h);
+    runs = λ i j m x h. run-more k knows (asked_fact ∷ []) refl (λ a b c x h. h) (λ a b c x h. h) i j m x (t.runs i j m x h);
   }
 
   ask-client : Later k knows → (i : ℕ) (x : Client) → is_client s x ≡ true
@@ -250,7 +250,8 @@ module _ (k : Known) (n c r : ℕ) (l : Lists) (m : MayBegin l c r) (g : GoodNod
         asks = λ i j d x h. ask-more begun_fact k.past i j d x (t.asks i j d x h);
         starts = added-case k.starts n m.session r begin (TrueStart (begun_fact ∷ k.past)) new
             (λ i j d x h. start-more begun_fact k.past i j d x (t.starts i j d x h));
-        runs = λ i j d x h. contains-more begun_fact _ k.past (t.runs i j d x h);
+        runs = λ i j d x h. run-more k begins_known (begun_fact ∷ []) refl (λ a b c x h. h)
+            (λ a b c x h. added-keeps k.starts n m.session r begin a b c x is-new h) i j d x (t.runs i j d x h);
       }
 
   -- no other session has the call

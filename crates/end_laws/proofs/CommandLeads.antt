@@ -128,7 +128,7 @@ made-leads ring s w x t f h =
       me = me;
       late =
           omega arith;
-      right = right-new (length w.nodes) ring;
+      right = right-new (length w.nodes) (with_ring ring);
       valid =
           valid_new (length w.nodes) (with_ring ring);
     } in

@@ -37,7 +37,7 @@ use Rattle.end_laws.proofs.Known.{Tied, is_joined, GoodClient, GoodServer, GoodN
 use Rattle.end_laws.proofs.Known.{IsTrue}
 use Rattle.end_laws.proofs.Known.{added, added-here, added-keeps, added-none, added-case}
 use Rattle.end_laws.proofs.Known.{contains-here, contains-more, noting, later-noting}
-use Rattle.end_laws.proofs.KnownLemmas.{servers-later, jobs-later, server-more-end, start-more}
+use Rattle.end_laws.proofs.KnownLemmas.{run-more, servers-later, jobs-later, server-more-end, start-more}
 use Rattle.end_laws.proofs.KnownLemmas.{ask-more}
 use Rattle.end_laws.proofs.ListLemmas.{Placed, add-placed, all-add, first-each, length-first}
 
@@ -126,7 +126,8 @@ module _ (k : Known) (n peer client credits : ℕ) (l : Lists) (g : GoodNode k n
         (λ a b c x h. server-more-end accepts k.past x.home x.client a b (is.ends a b c x h));
     asks = λ a b c x h. ask-more accepts k.past a b c x (is.asks a b c x h);
     starts = λ a b c x h. start-more accepts k.past a b c x (is.starts a b c x h);
-    runs = λ a b c x h. contains-more accepts _ k.past (is.runs a b c x h);
+    runs = λ a b c x h. run-more k knows (accepts ∷ []) refl
+        (λ a b c x h. added-keeps k.ends n t 0 entry a b c x is-new h) (λ a b c x h. h) a b c x (is.runs a b c x h);
   }
 
   -- which ends are known then

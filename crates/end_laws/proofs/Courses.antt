@@ -1,4 +1,5 @@
 -- Histories as the rules make them, from moment to moment.
+use Rattle.rpc_base.specs.declared.limits.Limits.{Limits}
 use Rattle.std.proofs.Common.{◌≡◌, ℕ, Bool, true, false, List, [], ◌∷◌, ◌++◌, length, Option, Some}
 use Rattle.std.proofs.Common.{None, slice_get, refl, ap, ◌∙◌, ◌≤◌, ◌+◌}
 use Rattle.std.specs.List.{slice_set}
@@ -13,7 +14,7 @@ use Rattle.rpc_laws.specs.BufferSafety.{changed, node_after, nodes_at, clock_aft
 use Rattle.rpc_laws.specs.Facts.{plain}
 use Rattle.rpc_laws.specs.Groups.{shares}
 use Rattle.rpc_laws.specs.InFlight.{flight_after}
-use Rattle.rpc_laws.specs.NodeLists.{after}
+use Rattle.rpc_laws.specs.NodeLists.{after, new_lists}
 use Rattle.node_laws.proofs.Allowed.{Allowed as Lawful}
 use Rattle.end_laws.specs.Moments.{Moment, moved, hand_after, hand_noted, inbox_of}
 use Rattle.end_laws.proofs.Allowed.{May, IsAllowed, Linked}
@@ -51,23 +52,42 @@ abbrev pub paired : Moment → ℕ → ℕ → ℕ → Lists → Lists → Momen
 paired w n m credits client server =
     moved (moved w (client_fact n m credits client server)) (server_fact n m credits client server)
 
--- from a moment by these facts to a moment
-pub data Course : Moment → List Fact → Moment → Type 0 where
-  over : (w : Moment) → Course w [] w
-  in_net : (w : Moment) (f : Fact) (h : List Fact) (u : Moment) → f.who ≡ Net
-      → Course (moved w f) h u → Course w (f ∷ h) u
-  made : (w : Moment) (ring : ℕ) (h : List Fact) (u : Moment)
-      → Course (moved w (plain (length w.nodes) (Made ring))) h u
-      → Course w (plain (length w.nodes) (Made ring) ∷ h) u
-  at_node : (w : Moment) (n : ℕ) (l : Lists) (f : Fact) (h : List Fact) (u : Moment)
-      → AtNode w n l f → Course (moved w f) h u → Course w (f ∷ h) u
-  pairs : (w : Moment) (n m credits : ℕ) (client server : Lists) (h : List Fact) (u : Moment)
-      → Ends w n m credits client server → Course (paired w n m credits client server) h u
-      → Course w (client_fact n m credits client server ∷ server_fact n m credits client server ∷ h)
-      u
+-- the same moment, with this clock
+abbrev pub clocked : Moment → ℕ → Moment
+clocked w clock = record w { clock = clock }
 
-pub course-append : (w : Moment) (x : List Fact) (u : Moment) (y : List Fact) (v : Moment)
-    → Course w x u → Course u y v → Course w (x ++ y) v
+-- the moment after a node is made with these limits
+abbrev pub made_at : Moment → Limits → Moment
+made_at w limits = record {
+  clock = w.clock;
+  nodes = w.nodes ++ new_lists (length w.nodes) limits ∷ [];
+  flight = w.flight;
+  hand = w.hand;
+  past = plain (length w.nodes) (Made limits.ring) ∷ w.past;
+}
+
+-- from a moment by these facts to a moment. Where it is free, the next fact may happen at any clock: each node
+-- has one of its own
+pub data Course (free : Bool) : Moment → List Fact → Moment → Type 0 where
+  over : (w : Moment) → Course free w [] w
+  in_net : (w : Moment) (f : Fact) (h : List Fact) (u : Moment) → f.who ≡ Net
+      → Course free (moved w f) h u → Course free w (f ∷ h) u
+  made : (w : Moment) (ring : ℕ) (h : List Fact) (u : Moment)
+      → Course free (moved w (plain (length w.nodes) (Made ring))) h u
+      → Course free w (plain (length w.nodes) (Made ring) ∷ h) u
+  at_node : (w : Moment) (n : ℕ) (l : Lists) (f : Fact) (h : List Fact) (u : Moment)
+      → AtNode w n l f → Course free (moved w f) h u → Course free w (f ∷ h) u
+  pairs : (w : Moment) (n m credits : ℕ) (client server : Lists) (h : List Fact) (u : Moment)
+      → Ends w n m credits client server → Course free (paired w n m credits client server) h u
+      → Course free w (client_fact n m credits client server ∷ server_fact n m credits client server ∷ h)
+      u
+  made_as : (w : Moment) (limits : Limits) (h : List Fact) (u : Moment) → free ≡ true
+      → Course free (made_at w limits) h u → Course free w (plain (length w.nodes) (Made limits.ring) ∷ h) u
+  resets : (w : Moment) (clock : ℕ) (h : List Fact) (u : Moment) → free ≡ true
+      → Course free (clocked w clock) h u → Course free w h u
+
+pub course-append : {free : Bool} (w : Moment) (x : List Fact) (u : Moment) (y : List Fact) (v : Moment)
+    → Course free w x u → Course free u y v → Course free w (x ++ y) v
 course-append _ _ _ y v (over w) k = k
 course-append _ _ _ y v (in_net w f h u who c) k = in_net w f (h ++ y) v who (course-append (moved w f) h u y v c k)
 course-append _ _ _ y v (made w ring h u c) k = made w ring (h ++ y) v (course-append _ h u y v c k)
@@ -75,6 +95,10 @@ course-append _ _ _ y v (at_node w n l f h u a c) k =
     at_node w n l f (h ++ y) v a (course-append (moved w f) h u y v c k)
 course-append _ _ _ y v (pairs w n m credits client server h u a c) k =
     pairs w n m credits client server (h ++ y) v a (course-append _ h u y v c k)
+course-append _ _ _ y v (made_as w limits h u is c) k =
+    made_as w limits (h ++ y) v is (course-append (made_at w limits) h u y v c k)
+course-append _ _ _ y v (resets w clock h u is c) k =
+    resets w clock (h ++ y) v is (course-append (clocked w clock) h u y v c k)
 
 -- no node notes that it was made
 abbrev pub is_made : Event → Bool

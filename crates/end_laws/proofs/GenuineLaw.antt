@@ -1,5 +1,6 @@
 -- Each datagram on its way was sent.
-use Rattle.std.proofs.Common.{◌≡◌, ℕ, List, [], ◌∷◌, length, refl, ap, ◌∙◌, subst}
+use Rattle.rpc_laws.specs.UsualLimits.{with_ring}
+use Rattle.std.proofs.Common.{Bool, true, false, ◌≡◌, ℕ, List, [], ◌∷◌, length, refl, ap, ◌∙◌, subst}
 use Rattle.rpc_base.specs.declared.event.Event.{Event}
 use Rattle.rpc_base.specs.declared.event.Event.TheVariants.{Made, Sent}
 use Rattle.rpc_base.specs.declared.fact.Fact.{Fact}
@@ -11,7 +12,7 @@ use Rattle.rpc_laws.specs.Facts.{plain}
 use Rattle.end_laws.specs.Genuine.{WasSent, Travels}
 use Rattle.end_laws.specs.Moments.{Moment, moved, Always, clock_left, nodes_left}
 use Rattle.end_laws.proofs.Valids.{AllValid, valid-net, valid-made, valid-node, valid-pair}
-use Rattle.end_laws.proofs.Courses.{AtNode, Course, over, in_net, made, at_node, pairs, client_fact, paired}
+use Rattle.end_laws.proofs.Courses.{made_as, resets, AtNode, Course, over, in_net, made, at_node, pairs, client_fact, paired}
 use Rattle.end_laws.proofs.SendsLaw.{AllRight, sent-right, right-noted, right-net, right-made, right-paired}
 use Rattle.end_laws.proofs.TravelLemmas.{SentGives, travels-map, travels-net, travels-node}
 use Rattle.end_laws.proofs.TravelLemmas.{rings-made, inboxes-made, travels-client, travels-paired}
@@ -82,14 +83,16 @@ at-made w ring t =
     record {
       flight = k.flight;
       hand = k.hand;
-      rings = rings-made (WasSent (plain (length w.nodes) (Made ring) ∷ w.past)) w ring k;
-      inboxes = inboxes-made (WasSent (plain (length w.nodes) (Made ring) ∷ w.past)) w ring k;
+      rings = rings-made (WasSent (plain (length w.nodes) (Made ring) ∷ w.past)) w (with_ring ring) k;
+      inboxes = inboxes-made (WasSent (plain (length w.nodes) (Made ring) ∷ w.past)) w (with_ring ring) k;
     }
 
-pub course-genuine : (w : Moment) (h : List Fact) (u : Moment) → Course w h u → AllRight w
+pub course-genuine : (w : Moment) (h : List Fact) (u : Moment) → Course false w h u → AllRight w
     → AllValid w
     → Matches w → Travels (WasSent w.past) w → Always (λ w. Travels (WasSent w.past) w) w h
 course-genuine _ _ _ (over w) i v m t = t
+course-genuine _ _ _ (made_as w limits h u is c) i v m t = absurd (cc)
+course-genuine _ _ _ (resets w clock h u is c) i v m t = absurd (cc)
 course-genuine _ _ _ (in_net w f h u who c) i v m t = (
   t,
   course-genuine (moved w f) h u c (right-net w f who i) (valid-net w f who v) (matches-moved w f m)
@@ -97,7 +100,7 @@ course-genuine _ _ _ (in_net w f h u who c) i v m t = (
 )
 course-genuine _ _ _ (made w ring h u c) i v m t = (
   t,
-  course-genuine _ h u c (right-made w ring i) (valid-made w ring v) (matches-moved w _ m)
+  course-genuine _ h u c (right-made w (with_ring ring) i) (valid-made w (with_ring ring) v) (matches-moved w _ m)
       (at-made w ring t),
 )
 course-genuine _ _ _ (at_node w n l f h u a c) i v m t = (

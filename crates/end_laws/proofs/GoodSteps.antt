@@ -1,4 +1,5 @@
 -- What is known of both ends stays so by each fact.
+use Rattle.rpc_base.specs.declared.limits.Limits.{Limits}
 use Rattle.std.proofs.Common.{◌≡◌, ◌≤◌, ◌+◌, ℕ, true, List, [], ◌∷◌, ◌++◌, length, Option, None}
 use Rattle.std.proofs.Common.{refl, sym, ap, ◌∙◌, subst, arith}
 use Rattle.std.specs.List.{find, slice_set}
@@ -34,7 +35,7 @@ use Rattle.end_laws.proofs.ClientLemmas.{is_quiet}
 use Rattle.end_laws.proofs.ControlKnown.{open-node, with_end, later-accept, accept-same}
 use Rattle.end_laws.proofs.ControlKnown.{true-accept}
 use Rattle.end_laws.proofs.ControlKnown.{accept-node, accept-ends, connect-node}
-use Rattle.end_laws.proofs.Courses.{AtNode, moved-node}
+use Rattle.end_laws.proofs.Courses.{made_at, AtNode, moved-node}
 use Rattle.end_laws.proofs.GoodLemmas.{SameAt, node-more, noting-same, unmade-noting, own-fact, node-quiet}
 use Rattle.end_laws.proofs.Known.{Known, Later, Speaks, GoodNode, Good, IsTrue, Unmade, noting, later-noting}
 use Rattle.end_laws.proofs.KnownLemmas.{speaks-later, true-noting}
@@ -84,16 +85,16 @@ pub good-net : (w : Moment) (f : Fact) → f.who ≡ Net → Good w → Good (mo
 good-net w f who g = (next-net w f who g).good
 
 -- a node is made
-pub next-made : (w : Moment) (ring : ℕ) → (g : Good w)
-    → GoodNext (moved w (plain (length w.nodes) (Made ring))) g.known
-next-made w ring g =
+pub next-made : (w : Moment) (limits : Limits) → (g : Good w)
+    → GoodNext (made_at w limits) g.known
+next-made w limits g =
     let k = g.known in
-    let f : Fact = plain (length w.nodes) (Made ring) in
+    let f : Fact = plain (length w.nodes) (Made limits.ring) in
     let k2 = noting k f in
     let count = length w.nodes in
     let u = g.unmade in
     let here : count ≤ count = omega arith in
-    let new : GoodNode k2 count (new_lists count (with_ring ring)) = record {
+    let new : GoodNode k2 count (new_lists count limits) = record {
       clients = λ i x is. absurd (cc);
       servers = tt;
       no_asks = λ c le. u.asks count c here;
@@ -104,19 +105,19 @@ next-made w ring g =
       jobs = tt;
     } in
     let t = travels-map (Speaks k) (Speaks k2) w (speaks-later k k2 (later-noting k f)) g.travels in
-    let more : length (w.nodes ++ new_lists count (with_ring ring) ∷ []) ≡ count + 1 =
-    length-append w.nodes (new_lists count (with_ring ring) ∷ []) in
+    let more : length (w.nodes ++ new_lists count limits ∷ []) ≡ count + 1 =
+    length-append w.nodes (new_lists count limits ∷ []) in
     record {
       good = record {
         known = k2;
         past = ap (λ (p : List Fact). f ∷ p) g.past;
-        nodes = add-placed (GoodNode k2) w.nodes (new_lists count (with_ring ring)) new
+        nodes = add-placed (GoodNode k2) w.nodes (new_lists count limits) new
             (λ n l is. node-more k k2 (later-noting k f) n l (noting-same k f n) (g.nodes n l is));
         travels = record {
           flight = t.flight;
           hand = t.hand;
-          rings = rings-made (Speaks k2) w ring t;
-          inboxes = inboxes-made (Speaks k2) w ring t;
+          rings = rings-made (Speaks k2) w limits t;
+          inboxes = inboxes-made (Speaks k2) w limits t;
         };
         is_true = true-noting k f g.is_true;
         unmade = record {
@@ -130,9 +131,9 @@ next-made w ring g =
       ends = λ m t e is. inl is;
     }
 
-pub good-made : (w : Moment) (ring : ℕ) → Good w
-    → Good (moved w (plain (length w.nodes) (Made ring)))
-good-made w ring g = (next-made w ring g).good
+pub good-made : (w : Moment) (limits : Limits) → Good w
+    → Good (made_at w limits)
+good-made w limits g = (next-made w limits g).good
 
 -- what is sent says what is so
 owner-gives : (k : Known) (n : ℕ) (l : Lists) (peer : ℕ) (o : Owner) (j : ℕ) (first second : List ℕ)
@@ -307,7 +308,7 @@ knows-event w n l (Ran t r y) first second a i v g =
       past = refl;
       later = later-run k n t r y first second none;
       others = run-same k n t r y first second;
-      is_true = true-run k n t r y first second g.is_true;
+      is_true = true-run k n t r y first second o g.is_true;
       ends = λ m t e is. inl is;
       here = run-node k n t r y first second l o good v a.lawful w.clock w.hand m;
     }

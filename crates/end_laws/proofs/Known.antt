@@ -1,5 +1,5 @@
 -- What is known of both ends of each session: who is at the ends, which calls were asked, and which began.
-use Rattle.std.proofs.Common.{◌≡◌, ◌<◌, ◌≤◌, ◌+◌, ◌-◌, ◌*◌, ◌==◌, ◌&&◌, ℕ, Bool}
+use Rattle.std.proofs.Common.{◌++◌, ◌≡◌, ◌<◌, ◌≤◌, ◌+◌, ◌-◌, ◌*◌, ◌==◌, ◌&&◌, ℕ, Bool}
 use Rattle.std.proofs.Common.{true, false}
 use Rattle.std.proofs.Common.{cond, List, [], ◌∷◌, length, take, Option, Some, None, refl, arith}
 use Rattle.std.proofs.Common.{eq-eqb, Contains}
@@ -315,14 +315,22 @@ pub record TrueAsk (past : List Fact) (n c zero : ℕ) (a : Asker) : Type 0 wher
 abbrev pub TrueEnd : List Fact → ℕ → ℕ → ℕ → End → Type 0
 TrueEnd past m t i e = IsServerEnd past e.home e.client m t
 
-abbrev pub TrueRun : List Fact → ℕ → ℕ → ℕ → Run → Type 0
-TrueRun past m t r x = Contains past (with_two m (Ran t r x.req_type) x.ask x.answer)
+-- a run was noted, and when it was its call had been asked and begun
+pub record TrueRun (k : Known) (m t r : ℕ) (x : Run) : Type 0 where
+  pub later : List Fact
+  pub earlier : List Fact
+  pub stands : k.past ≡ later ++ with_two m (Ran t r x.req_type) x.ask x.answer ∷ earlier
+  pub end : End
+  pub is_end : k.ends m t 0 ≡ Some end
+  pub start : Begin
+  pub begun : k.starts end.home end.client r ≡ Some start
+  pub true_start : TrueStart earlier end.home end.client r start
 
 pub record IsTrue (k : Known) : Type 0 where
   pub ends : (a b c : ℕ) (x : End) → k.ends a b c ≡ Some x → TrueEnd k.past a b c x
   pub asks : (a b c : ℕ) (x : Asker) → k.asks a b c ≡ Some x → TrueAsk k.past a b c x
   pub starts : (a b c : ℕ) (x : Begin) → k.starts a b c ≡ Some x → TrueStart k.past a b c x
-  pub runs : (a b c : ℕ) (x : Run) → k.runs a b c ≡ Some x → TrueRun k.past a b c x
+  pub runs : (a b c : ℕ) (x : Run) → k.runs a b c ≡ Some x → TrueRun k a b c x
 
 -- server session t of node m is there
 pub record LiveAt (nodes : List Lists) (m t : ℕ) : Type 0 where

@@ -1,7 +1,10 @@
 -- What is said of calls and requests stays so while more becomes known.
+use Rattle.std.proofs.lemmas.List.Elements.{Contains-append_right}
+use Rattle.rpc_base.specs.declared.event.Event.TheVariants.{Ran}
+use Rattle.rpc_laws.specs.Facts.{with_two}
 use Rattle.packet_header.specs.declared.packet.ControlKind.TheVariants.{ConnectReply}
-use Rattle.std.proofs.Common.{true, false}
-use Rattle.end_laws.proofs.Known.{Tied}
+use Rattle.std.proofs.Common.{Contains, append_assoc, sym, ap, ◌∙◌, ◌++◌, [], ◌∷◌, refl, subst, Some, None, Option, ◌≡◌, true, false}
+use Rattle.end_laws.proofs.Known.{TrueRun, Begin, End, Run, contains-here, Known, noting, Tied}
 use Rattle.end_laws.proofs.Known.{Tells}
 use Rattle.packet_header.specs.declared.packet.ControlHeader.{ControlHeader}
 use Rattle.rpc_laws.specs.declared.tables.Client.{Client}
@@ -199,10 +202,34 @@ module _ (f : Fact) (past : List Fact) where
   pub ask-more : (n c i : ℕ) (a : Asker) → TrueAsk past n c i a → TrueAsk (f ∷ past) n c i a
   ask-more n c i a t = record { number = t.number; asked = contains-more f _ past t.asked }
 
+-- a run that is known still is, by more facts
+pub run-more : (j k : Known) (x : List Fact) → k.past ≡ x ++ j.past
+    → ((a b c : ℕ) (e : End) → j.ends a b c ≡ Some e → k.ends a b c ≡ Some e)
+    → ((a b c : ℕ) (e : Begin) → j.starts a b c ≡ Some e → k.starts a b c ≡ Some e)
+    → (m t r : ℕ) (e : Run) → TrueRun j m t r e → TrueRun k m t r e
+run-more j k x past ends starts m t r e h = record {
+  later = x ++ h.later;
+  earlier = h.earlier;
+  stands = past ∙ (ap (λ (p : List Fact). x ++ p) h.stands
+      ∙ sym (append_assoc x h.later (with_two m (Ran t r e.req_type) e.ask e.answer ∷ h.earlier)));
+  end = h.end;
+  is_end = ends m t 0 h.end h.is_end;
+  start = h.start;
+  begun = starts h.end.home h.end.client r h.start h.begun;
+  true_start = h.true_start;
+}
+
+pub ran-there : {k : Known} {m t r : ℕ} {e : Run} → TrueRun k m t r e
+    → Contains k.past (with_two m (Ran t r e.req_type) e.ask e.answer)
+ran-there {k} {m} {t} {r} {e} h =
+    let f : Fact = with_two m (Ran t r e.req_type) e.ask e.answer in
+    subst (λ (p : List Fact). Contains p f) (sym h.stands)
+    (Contains-append_right h.later (f ∷ h.earlier) f (contains-here f h.earlier))
+
 pub true-noting : (k : Known) (f : Fact) → IsTrue k → IsTrue (noting k f)
 true-noting k f t = record {
   ends = λ a b c x h. server-more-end f k.past x.home x.client a b (t.ends a b c x h);
   asks = λ a b c x h. ask-more f k.past a b c x (t.asks a b c x h);
   starts = λ a b c x h. start-more f k.past a b c x (t.starts a b c x h);
-  runs = λ a b c x h. contains-more f _ k.past (t.runs a b c x h);
+  runs = λ a b c x h. run-more k (noting k f) (f ∷ []) refl (λ a b c x h. h) (λ a b c x h. h) a b c x (t.runs a b c x h);
 }

@@ -1,5 +1,5 @@
 -- A stage whose nodes, flight and clock are those of a moment, and the steps of one node there.
-use Rattle.std.proofs.Common.{◌≡◌, ◌≤◌, ℕ, zero, suc, List, [], ◌∷◌, ◌++◌, length, Some, slice_get}
+use Rattle.std.proofs.Common.{◌≡◌, ◌≤◌, ℕ, Bool, true, false, zero, suc, List, [], ◌∷◌, ◌++◌, length, Some, slice_get}
 use Rattle.std.proofs.Common.{refl, sym, ap, ◌∙◌, subst}
 use Rattle.std.specs.List.{slice_set}
 use Rattle.rpc_base.specs.declared.fact.Fact.{Fact}
@@ -37,7 +37,7 @@ pub record Fits (s : Stage) (w : Moment) : Type 0 where
 -- these facts lead from a moment to one that fits
 pub record Leads (w : Moment) (x : List Fact) (t : Stage) : Type 0 where
   pub end : Moment
-  pub course : Course w x end
+  pub course : Course false w x end
   pub fits : Fits t end
 
 -- so each such step does
@@ -57,9 +57,9 @@ leads-append s w x y t l k =
     }
 
 -- the facts of a node from its lists on
-pub record NodeCourse (w : Moment) (n : ℕ) (l : Lists) (x : List Fact) : Type 0 where
+pub record NodeCourse (free : Bool) (w : Moment) (n : ℕ) (l : Lists) (x : List Fact) : Type 0 where
   pub end : Moment
-  pub course : Course w x end
+  pub course : Course free w x end
   pub nodes : end.nodes ≡ slice_set w.nodes n (after_all w.clock l x)
   pub flight : end.flight ≡ flight_after_all w.flight x
   pub clock : end.clock ≡ w.clock
@@ -74,9 +74,9 @@ set-twice [] i x y = refl
 set-twice (z ∷ zs) zero x y = refl
 set-twice (z ∷ zs) (suc i) x y = ap (λ ys. z ∷ ys) (set-twice zs i x y)
 
-pub node-course : (w : Moment) (n : ℕ) (l : Lists) (x : List Fact) → slice_get w.nodes n ≡ Some l
+pub node-course : {free : Bool} (w : Moment) (n : ℕ) (l : Lists) (x : List Fact) → slice_get w.nodes n ≡ Some l
     → l.me ≡ n → WalksFrom w.hand (latest w.past) w.clock l x → AllLawful w.clock l x
-    → NodeCourse w n l x
+    → NodeCourse free w n l x
 node-course w n l [] is me h v =
     record {
       end = w;
@@ -85,7 +85,7 @@ node-course w n l [] is me h v =
       flight = refl;
       clock = refl;
     }
-node-course w n l (f ∷ x) is me h v =
+node-course {free} w n l (f ∷ x) is me h v =
     let a : AtNode w n l f =
     record {
       is_node = is;
@@ -99,11 +99,11 @@ node-course w n l (f ∷ x) is me h v =
     (after w.clock l f) x =
     subst (λ (m : ℕ). WalksFrom (hand_noted m f.event l.inbox w.hand) (Some f) w.clock
     (after w.clock l f) x) me h.2 in
-    let rest = node-course (noted_at w n l f) n (after w.clock l f) x
+    let rest = node-course {free = free} (noted_at w n l f) n (after w.clock l f) x
     (set-here w.nodes n l (after w.clock l f) is) me walks v.1 in
     record {
       end = rest.end;
-      course = at_node w n l f x rest.end a (subst (λ (v : Moment). Course v x rest.end) (sym e) rest.course);
+      course = at_node w n l f x rest.end a (subst (λ (v : Moment). Course free v x rest.end) (sym e) rest.course);
       nodes = rest.nodes ∙ set-twice w.nodes n (after w.clock l f) (after_all w.clock (after w.clock l f) x);
       flight = rest.flight;
       clock = rest.clock;
@@ -134,7 +134,7 @@ step-leads s w n before now x t f h left =
     let fit = f.nodes n before h.is_node in
     let walks : WalksFrom w.hand (latest w.past) w.clock before.lists x = rw (f.clock) h.walks in
     let lawful : AllLawful w.clock before.lists x = rw (f.clock) h.lawful in
-    let c = node-course w n before.lists x fit.is_node fit.me walks lawful in
+    let c = node-course {free = false} w n before.lists x fit.is_node fit.me walks lawful in
     let lists : after_all w.clock before.lists x ≡ now.lists =
     ap (λ (k : ℕ). after_all k before.lists x) f.clock ∙ sym h.lists in
     let ends : c.end.nodes ≡ slice_set w.nodes n now.lists =

@@ -17,6 +17,9 @@ pub mod GoodSteps
 pub mod HearsSteps
 pub mod JobLemmas
 pub mod JobSteps
+pub mod JointGenuine
+pub mod JointLaws
+pub mod JointLeads
 pub mod Known
 pub mod KnownLemmas
 pub mod Leads
@@ -42,4 +45,5 @@ pub mod TravelLemmas
 pub mod TwoEndsLaw
 pub mod Valids
 pub mod Walks
+pub mod WireJoins
 pub mod WorkSteps

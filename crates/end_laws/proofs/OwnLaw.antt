@@ -1,5 +1,7 @@
 -- A pairing, and the law of own answers over a whole history.
-use Rattle.std.proofs.Common.{◌≡◌, ◌+◌, ℕ, List, [], ◌∷◌, ◌++◌, length, Option, Some, None}
+use Rattle.end_laws.specs.CallOrder.{OrderAt, OrderEvent}
+use Rattle.rpc_laws.specs.UsualLimits.{with_ring}
+use Rattle.std.proofs.Common.{Bool, true, false, true, false, ◌≡◌, ◌+◌, ℕ, List, [], ◌∷◌, ◌++◌, length, Option, Some, None}
 use Rattle.std.proofs.Common.{slice_get, refl, sym, ap, ◌∙◌, subst, arith}
 use Rattle.std.specs.List.{slice_set}
 use Rattle.std.proofs.Common.{◌⊎◌, inl, inr}
@@ -20,20 +22,20 @@ use Rattle.rpc_laws.specs.OwnAnswer.{IsClientEnd, IsServerEnd, served_by, OwnEve
 use Rattle.rpc_laws.specs.Requests.{server_end}
 use Rattle.rpc_laws.specs.Sessions.{client_end}
 use Rattle.end_laws.specs.Moments.{Moment, moved}
-use Rattle.end_laws.proofs.Courses.{AtNode, Ends, Course, over, in_net, made, at_node, pairs}
+use Rattle.end_laws.proofs.Courses.{made_as, made_at, resets, clocked, AtNode, Ends, Course, over, in_net, made, at_node, pairs}
 use Rattle.end_laws.proofs.Courses.{client_fact, server_fact, paired}
 use Rattle.end_laws.proofs.GoodLemmas.{SameAt, client-more, node-more, run-left, starts-stay}
 use Rattle.end_laws.proofs.GoodSteps.{GoodNext, NewEnds, good-net, good-made, good-node}
 use Rattle.end_laws.proofs.Known.{Known, Later, End, Speaks, GoodClient, GoodServer, GoodNode, Good}
 use Rattle.end_laws.proofs.Known.{TrueEnd, IsTrue, Unmade, added, added-here, added-keeps}
 use Rattle.end_laws.proofs.Known.{added-none, added-case, contains-here, contains-more}
-use Rattle.end_laws.proofs.KnownLemmas.{servers-later, jobs-later, speaks-later, server-more-end}
+use Rattle.end_laws.proofs.KnownLemmas.{run-more, servers-later, jobs-later, speaks-later, server-more-end}
 use Rattle.end_laws.proofs.KnownLemmas.{start-more}
 use Rattle.end_laws.proofs.KnownLemmas.{ask-more}
 use Rattle.end_laws.specs.Handshakes.{IsMade}
 use Rattle.end_laws.proofs.ListLemmas.{Placed, set-placed, add-placed, all-add}
 use Rattle.end_laws.proofs.ListLemmas.{length-slice_set}
-use Rattle.end_laws.proofs.OwnLemmas.{own-event}
+use Rattle.end_laws.proofs.OwnLemmas.{order-event, own-event}
 use Rattle.end_laws.proofs.SendsLaw.{AllRight, right-noted, right-net, right-made, right-paired}
 use Rattle.rpc_laws.specs.Service.{plain_serving, AnswersAt}
 use Rattle.end_laws.proofs.AnswerLemmas.{AnswersFor}
@@ -109,7 +111,8 @@ module _ (w : Moment) (n m credits : ℕ) (client server : Lists)
         asks = λ a b c x h. ask-more other (one ∷ j.past) a b c x (ask-more one j.past a b c x (is.asks a b c x h));
         starts = λ a b c x h. start-more other (one ∷ j.past) a b c x
             (start-more one j.past a b c x (is.starts a b c x h));
-        runs = λ a b c x h. contains-more other _ (one ∷ j.past) (contains-more one _ j.past (is.runs a b c x h));
+        runs = λ a b c x h. run-more j k (other ∷ one ∷ []) refl
+            (λ a b c x h. added-keeps j.ends m t 0 entry a b c x is-new h) (λ a b c x h. h) a b c x (is.runs a b c x h);
       }
 
   at-client : GoodNode k n (after w.clock client one)
@@ -245,17 +248,37 @@ own-at w n l f a t g =
     subst (λ (p : List Fact). OwnEvent p n f.event f.first f.second) g.past own in
     subst (λ (p : Who). OwnAt w.past p f.event f.first f.second) (sym (a.allowed.who ∙ ap Node a.me)) now
 
-pub course-own : (w : Moment) (h : List Fact) (u : Moment) → Course w h u → AllRight w → AllValid w
+-- what is known doesn't read the clock
+abbrev pub good-clocked : (w : Moment) (clock : ℕ) → Good w → Good (clocked w clock)
+good-clocked w clock g = record {
+  known = g.known;
+  past = g.past;
+  nodes = g.nodes;
+  travels = record {
+    flight = g.travels.flight;
+    hand = g.travels.hand;
+    rings = g.travels.rings;
+    inboxes = g.travels.inboxes;
+  };
+  is_true = g.is_true;
+  unmade = g.unmade;
+}
+
+pub course-own : {free : Bool} (w : Moment) (h : List Fact) (u : Moment) → Course free w h u → AllRight w → AllValid w
     → AtEach (λ past f. AnswersFor past f.who f.event f.first f.second) w.past h → Good w
     → AtEach (λ past f. OwnAt past f.who f.event f.first f.second) w.past h
 course-own _ _ _ (over w) i v t g = tt
+course-own _ _ _ (made_as w limits h u is c) i v t g =
+    (tt, course-own (made_at w limits) h u c (right-made w limits i) (valid-made w limits v) t.1 (good-made w limits g))
+course-own _ _ _ (resets w clock h u is c) i v t g =
+    course-own (clocked w clock) h u c i v t (good-clocked w clock g)
 course-own _ _ _ (in_net w f h u who c) i v t g = (
   subst (λ (p : Who). OwnAt w.past p f.event f.first f.second) (sym who) tt,
   course-own (moved w f) h u c (right-net w f who i) (valid-net w f who v) t.1 (good-net w f who g),
 )
 course-own _ _ _ (made w ring h u c) i v t g = (
   tt,
-  course-own _ h u c (right-made w ring i) (valid-made w ring v) t.1 (good-made w ring g),
+  course-own _ h u c (right-made w (with_ring ring) i) (valid-made w (with_ring ring) v) t.1 (good-made w (with_ring ring) g),
 )
 course-own _ _ _ (at_node w n l f h u a c) i v t g = (
   own-at w n l f a t.0 g,
@@ -269,6 +292,42 @@ course-own _ _ _ (pairs w n m credits client server h u e c) i v t g = (
     course-own (paired w n m credits client server) h u c
         (right-paired w n m credits client server e i)
         (valid-pair w n m credits client server e v) t.1.1
+        (good-paired w n m credits client server e i v g),
+  ),
+)
+
+order-at : (w : Moment) (n : ℕ) (l : Lists) (f : Fact) → AtNode w n l f → Good w → OrderAt w.past f.who f.event f.first
+order-at w n l f a g =
+    let k = g.known in
+    let own : OrderEvent k.past n f.event f.first =
+    order-event k n l (g.nodes n l a.is_node) g.is_true w.hand f.event f.first f.second a.allowed.may in
+    let now : OrderEvent w.past n f.event f.first =
+    subst (λ (p : List Fact). OrderEvent p n f.event f.first) g.past own in
+    subst (λ (p : Who). OrderAt w.past p f.event f.first) (sym (a.allowed.who ∙ ap Node a.me)) now
+
+pub course-order : {free : Bool} (w : Moment) (h : List Fact) (u : Moment) → Course free w h u → AllRight w → AllValid w
+    → Good w → AtEach (λ past f. OrderAt past f.who f.event f.first) w.past h
+course-order _ _ _ (over w) i v g = tt
+course-order _ _ _ (resets w clock h u is c) i v g = course-order (clocked w clock) h u c i v (good-clocked w clock g)
+course-order _ _ _ (made_as w limits h u is c) i v g =
+    (tt, course-order (made_at w limits) h u c (right-made w limits i) (valid-made w limits v) (good-made w limits g))
+course-order _ _ _ (in_net w f h u who c) i v g = (
+  subst (λ (p : Who). OrderAt w.past p f.event f.first) (sym who) tt,
+  course-order (moved w f) h u c (right-net w f who i) (valid-net w f who v) (good-net w f who g),
+)
+course-order _ _ _ (made w ring h u c) i v g =
+    (tt, course-order _ h u c (right-made w (with_ring ring) i) (valid-made w (with_ring ring) v) (good-made w (with_ring ring) g))
+course-order _ _ _ (at_node w n l f h u a c) i v g = (
+  order-at w n l f a g,
+  course-order (moved w f) h u c (right-noted w n l f a i) (valid-node w n l f a v) (good-node w n l f a i v g),
+)
+course-order _ _ _ (pairs w n m credits client server h u e c) i v g = (
+  tt,
+  (
+    tt,
+    course-order (paired w n m credits client server) h u c
+        (right-paired w n m credits client server e i)
+        (valid-pair w n m credits client server e v)
         (good-paired w n m credits client server e i v g),
   ),
 )

@@ -1,5 +1,9 @@
 -- A run is of a call's own bytes, and a call ends with the answer of its own run.
-use Rattle.std.proofs.Common.{◌≡◌, ◌≤◌, ◌+◌, ◌-◌, ℕ, List, length, Option, Some, None, refl, sym}
+use Rattle.std.specs.List.{find}
+use Rattle.rpc_laws.specs.declared.tables.Client.{Client}
+use Rattle.end_laws.specs.CallOrder.{EndsInOrder, OrderEvent}
+use Rattle.end_laws.proofs.KnownLemmas.{ran-there}
+use Rattle.std.proofs.Common.{◌∷◌, ◌++◌, Bool, true, false, [], subst, ap, ◌∙◌, ◌≡◌, ◌≤◌, ◌+◌, ◌-◌, ℕ, List, length, Option, Some, None, refl, sym}
 use Rattle.std.proofs.Common.{ap, ◌∙◌, subst, arith, Contains}
 use Rattle.packet_header.specs.Parts.{packet_count}
 use Rattle.packet_header.proofs.PartsLemmas.{front-whole, packet_count_above}
@@ -19,7 +23,7 @@ use Rattle.rpc_laws.specs.Facts.{plain, with_bytes, with_two}
 use Rattle.rpc_laws.specs.OwnAnswer.{served_by, AreEnds, IsCallOf, IsAnswerTo, OwnRun, OwnEnd, OwnSize, OwnEvent}
 use Rattle.end_laws.proofs.Allowed.{HasSize, MayRun, MayEnd, MayFail, May}
 use Rattle.end_laws.proofs.ClientLemmas.{client-at, if-progress}
-use Rattle.end_laws.proofs.Known.{Known, Begin, HasParts, GoodAnswer, GoodCall, GoodNode, TrueStart, IsTrue}
+use Rattle.end_laws.proofs.Known.{Tied, IsJoined, End, is_joined, Known, Begin, HasParts, GoodAnswer, GoodCall, GoodNode, TrueStart, IsTrue}
 use Rattle.end_laws.proofs.ListLemmas.{all-found}
 use Rattle.end_laws.proofs.RanLemmas.{run-of}
 
@@ -99,7 +103,7 @@ module _ (k : Known) (n : ℕ) (l : Lists) (good : GoodNode k n l) (is_true : Is
       let way = s.way in
       let a = call.what in
       let b : Begin = record { way = way; what = a } in
-      let run = is_true.runs way.peer way.other p.request _ s.parts.ran in
+      let run = ran-there (is_true.runs way.peer way.other p.request _ s.parts.ran) in
       record {
         node = way.peer;
         session = way.other;
@@ -146,3 +150,67 @@ module _ (k : Known) (n : ℕ) (l : Lists) (good : GoodNode k n l) (is_true : Is
   own-event hand (DoneOk c) first second answer m = own-end c first m
   own-event hand (DoneTooSmall c size) first second answer m = own-size c size m
   own-event hand _ first second answer m = tt
+
+  -- a call that ends was begun on a session that is joined
+  joined-of : (i r : ℕ) (x : Client) (call : Call) (b : Bool) → Tied b k n i x → find (is_active r) x.calls ≡ Some call
+      → IsJoined k n i x
+  joined-of i r x call true tied found = tied
+  joined-of i r x call false tied found =
+      let none : find (is_active r) [] ≡ Some call = subst (λ (cs : List Call). find (is_active r) cs ≡ Some call) tied.idle found in
+      absurd (cc)
+
+  some-end : (a b : End) → Some a ≡ Some b → a ≡ b
+  some-end a b e = cc
+
+  some-begin : (a b : Begin) → Some a ≡ Some b → a ≡ b
+  some-begin a b e = cc
+
+  end-order : (c : ℕ) (bytes : List ℕ) → MayEnd l c bytes → EndsInOrder k.past n c bytes
+  end-order c bytes m =
+      let h = m.has in
+      let p = m.progress in
+      let at = client-at k n l.clients h.session h.client good.clients h.found in
+      let client = good.clients h.session h.client at.0 in
+      let way = h.client.way in
+      let a = m.call.what in
+      let g = all-found (GoodCall k n way) (is_active h.request) h.client.calls m.call client.calls h.active in
+      let progress = if-progress k n way a m.call.progress p h.is_progress g.progress in
+      let parts = parts-of way a p.request p.got m.size p.parts p.answer h.answer progress.answer in
+      let answer = parts.answer in
+      let all : p.got ≡ known_packets (asked_packets a) (Some m.size) = m.all in
+      let count : packet_count m.size ≡ packet_count (length answer) = ap packet_count parts.sized in
+      let above = packet_count_above m.size in
+      let enough : packet_count (length answer) ≤ p.got + 1 - asked_packets a = omega arith in
+      let whole : answer ≡ bytes = sym (m.whole ∙ (parts.taken ∙ front-whole answer (p.got + 1 - asked_packets a) enough)) in
+      let run = is_true.runs way.peer way.other p.request _ parts.ran in
+      let joined = joined-of h.session h.request h.client m.call (is_joined h.client.state) client.tied h.active in
+      let end : run.end ≡ record { home = n; client = h.session; credits = h.client.limit } =
+      some-end run.end _ (sym run.is_end ∙ joined.end) in
+      let b : Begin = record { way = way; what = a } in
+      let here : k.starts n h.session p.request ≡ Some run.start =
+      subst (λ (e : End). k.starts e.home e.client p.request ≡ Some run.start) end run.begun in
+      let start : run.start ≡ b =
+      some-begin run.start b (sym here ∙ subst (λ (s : ℕ). k.starts n s p.request ≡ Some b) client.number progress.begun) in
+      let was : TrueStart run.earlier n h.session p.request run.start =
+      subst (λ (e : End). TrueStart run.earlier e.home e.client p.request run.start) end run.true_start in
+      let is : TrueStart run.earlier n h.session p.request b =
+      subst (TrueStart run.earlier n h.session p.request) start was in
+      record {
+        node = way.peer;
+        session = way.other;
+        request = p.request;
+        req_type = a.req_type;
+        room = a.room;
+        ask = a.ask;
+        later = run.later;
+        earlier = run.earlier;
+        stands = subst (λ (x : List ℕ). k.past ≡ run.later
+            ++ with_two way.peer (Ran way.other p.request a.req_type) a.ask x ∷ run.earlier) whole run.stands;
+        call = call-of run.earlier n h.session p.request b c way.peer way.other p.request a.req_type
+            a.ask is (sym h.number) refl refl refl refl refl;
+      }
+
+  pub order-event : (hand : Option InFlight) (e : Event) (first second : List ℕ) → May hand l e first second
+      → OrderEvent k.past n e first
+  order-event hand (DoneOk c) first second m = end-order c first m
+  order-event hand _ first second m = tt

@@ -238,7 +238,7 @@ empty-fits = record { clock = refl; flight = refl; size = refl; nodes = λ j z h
 -- a history that follows a script is one that the rules make
 pub record IsCourse (h : List Fact) : Type 0 where
   pub end : Moment
-  pub course : Course first_moment h end
+  pub course : Course false first_moment h end
 
 pub follows-course : (lines : List Line) (h : List Fact) → PairsTwoNodes lines → Follows lines h
     → IsCourse h

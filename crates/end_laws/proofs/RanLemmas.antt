@@ -1,5 +1,5 @@
 -- A handler runs for a call that began, and its answer is known from then on.
-use Rattle.std.proofs.Common.{◌≡◌, ◌⊎◌, inl, inr, ℕ, List, ◌∷◌, Option, Some, None, refl, sym, ap, ◌∙◌, subst, arith}
+use Rattle.std.proofs.Common.{[], ◌≡◌, ◌⊎◌, inl, inr, ℕ, List, ◌∷◌, Option, Some, None, refl, sym, ap, ◌∙◌, subst, arith}
 use Rattle.std.specs.List.{find}
 use Rattle.std.proofs.lemmas.Bool.{and_parts, eqb-true, eq-eqb}
 use Rattle.std.proofs.Common.{Bool, true, false, cond, ◌+◌, ◌≤◌, ◌==◌, ◌&&◌}
@@ -27,7 +27,7 @@ use Rattle.end_laws.proofs.Known.{Known, Later, End, Begin, Run, GoodServed, Goo
 use Rattle.end_laws.proofs.Known.{GoodNode}
 use Rattle.end_laws.proofs.Known.{TrueRun, IsTrue, added, added-here, added-keeps}
 use Rattle.end_laws.proofs.Known.{added-none, added-case, contains-here, contains-more}
-use Rattle.end_laws.proofs.KnownLemmas.{served-later, server-later, session-later, jobs-later}
+use Rattle.end_laws.proofs.KnownLemmas.{run-more, served-later, server-later, session-later, jobs-later}
 use Rattle.end_laws.proofs.KnownLemmas.{server-more-end}
 use Rattle.end_laws.proofs.KnownLemmas.{start-more, ask-more}
 use Rattle.end_laws.proofs.ListLemmas.{all-first, all-found}
@@ -152,13 +152,23 @@ module _ (k : Known) (n t r y : ℕ) (ask answer : List ℕ) where
     runs = λ s q h. added-none k.runs n t r entry j s q (λ e x z. ne e) h;
   }
 
-  pub true-run : IsTrue k → IsTrue knows
-  true-run g = record {
+  pub true-run : RunOf k n t r y ask → IsTrue k → IsTrue knows
+  true-run o g = record {
     ends = λ i j m x h. server-more-end ran_fact k.past x.home x.client i j (g.ends i j m x h);
     asks = λ i j m x h. ask-more ran_fact k.past i j m x (g.asks i j m x h);
     starts = λ i j m x h. start-more ran_fact k.past i j m x (g.starts i j m x h);
-    runs = added-case k.runs n t r entry (TrueRun (ran_fact ∷ k.past))
-        (contains-here ran_fact k.past) (λ i j m x h. contains-more ran_fact _ k.past
+    runs = added-case k.runs n t r entry (TrueRun knows)
+        (record {
+          later = [];
+          earlier = k.past;
+          stands = refl;
+          end = o.end;
+          is_end = o.is_end;
+          start = o.start;
+          begun = o.begun;
+          true_start = g.starts o.end.home o.end.client r o.start o.begun;
+        })
+        (λ i j m x h. run-more k knows (ran_fact ∷ []) refl (λ a b c x h. h) (λ a b c x h. h) i j m x
         (g.runs i j m x h));
   }
 

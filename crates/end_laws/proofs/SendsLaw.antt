@@ -1,4 +1,5 @@
 -- What is sent spells the packet of its owner.
+use Rattle.rpc_base.specs.declared.limits.Limits.{Limits}
 use Rattle.std.proofs.Common.{◌≡◌, ◌<◌, ◌+◌, ◌-◌, ℕ, nat_lt, Bool, true, false, cond, List, [], ◌∷◌}
 use Rattle.std.proofs.Common.{◌++◌, length, Option, Some, None, slice_get, refl, sym, ap, ◌∙◌}
 use Rattle.std.proofs.Common.{subst, arith, ◌⊎◌, inl, inr, leb}
@@ -50,7 +51,7 @@ use Rattle.end_laws.specs.Moments.{Moment, moved}
 use Rattle.node_laws.specs.Valid.{Valid, client_no}
 use Rattle.node_laws.proofs.NumberLemmas.{numbered-found}
 use Rattle.end_laws.proofs.Allowed.{AsksAt, May, MaySend}
-use Rattle.end_laws.proofs.Courses.{AtNode, Ends, Course, over, in_net, made, at_node, pairs}
+use Rattle.end_laws.proofs.Courses.{made_as, resets, AtNode, Ends, Course, over, in_net, made, at_node, pairs}
 use Rattle.end_laws.proofs.Courses.{client_fact, server_fact, paired, noted_at, moved-node}
 use Rattle.end_laws.proofs.JobLemmas.{jobs-right, jobs-added}
 use Rattle.end_laws.proofs.ListLemmas.{Placed, all-found, all-map, all-add}
@@ -309,8 +310,8 @@ right-noted w n l f a i =
 pub right-net : (w : Moment) (f : Fact) → f.who ≡ Net → AllRight w → AllRight (moved w f)
 right-net w f who i = subst (λ (p : Who). Placed (λ n l. RightNode l) (nodes_at w.clock p w.nodes f)) (sym who) i
 
-pub right-new : (me ring : ℕ) → RightNode (new_lists me (with_ring ring))
-right-new me ring = record {
+pub right-new : (me : ℕ) (limits : Limits) → RightNode (new_lists me limits)
+right-new me limits = record {
   sound = tt;
   slots = tt;
   queue = tt;
@@ -318,11 +319,11 @@ right-new me ring = record {
   alone = λ t. at-most-one (leb 0 t);
 }
 
-pub right-made : (w : Moment) (ring : ℕ) → AllRight w
-    → Placed (λ n l. RightNode l) (w.nodes ++ new_lists (length w.nodes) (with_ring ring) ∷ [])
-right-made w ring i =
-    add-placed (λ n l. RightNode l) w.nodes (new_lists (length w.nodes) (with_ring ring))
-    (right-new (length w.nodes) ring) i
+pub right-made : (w : Moment) (limits : Limits) → AllRight w
+    → Placed (λ n l. RightNode l) (w.nodes ++ new_lists (length w.nodes) limits ∷ [])
+right-made w limits i =
+    add-placed (λ n l. RightNode l) w.nodes (new_lists (length w.nodes) limits)
+    (right-new (length w.nodes) limits) i
 
 pub right-paired : (w : Moment) (n m credits : ℕ) (client server : Lists)
     → Ends w n m credits client server → AllRight w → AllRight (paired w n m credits client server)
@@ -354,16 +355,18 @@ right-at w n l f a i v =
     (sym (a.allowed.who ∙ ap Node a.me)) (sent-right w.nodes n w.hand l f.event f.first f.second
     a.is_node (i n l a.is_node) (v n l a.is_node) a.allowed.may)
 
-pub course-sends : (w : Moment) (h : List Fact) (u : Moment) → Course w h u → AllRight w
+pub course-sends : (w : Moment) (h : List Fact) (u : Moment) → Course false w h u → AllRight w
     → AllValid w
     → EachFact (λ nodes f. RightAt nodes f.who f.event f.first f.second) w.clock w.nodes h
 course-sends _ _ _ (over w) i v = tt
+course-sends _ _ _ (made_as w limits h u is c) i v = absurd (cc)
+course-sends _ _ _ (resets w clock h u is c) i v = absurd (cc)
 course-sends _ _ _ (in_net w f h u who c) i v = (
   subst (λ (p : Who). RightAt w.nodes p f.event f.first f.second) (sym who) tt,
   course-sends (moved w f) h u c (right-net w f who i) (valid-net w f who v),
 )
 course-sends _ _ _ (made w ring h u c) i v =
-    (tt, course-sends _ h u c (right-made w ring i) (valid-made w ring v))
+    (tt, course-sends _ h u c (right-made w (with_ring ring) i) (valid-made w (with_ring ring) v))
 course-sends _ _ _ (at_node w n l f h u a c) i v = (
   right-at w n l f a i v,
   course-sends (moved w f) h u c (right-noted w n l f a i)

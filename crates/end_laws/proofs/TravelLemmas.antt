@@ -1,4 +1,5 @@
 -- A claim of what is sent goes with the datagram wherever it is.
+use Rattle.rpc_base.specs.declared.limits.Limits.{Limits}
 use Rattle.std.proofs.Common.{◌≡◌, Bool, true, false, cond, ℕ, zero, suc, List, [], ◌∷◌, ◌++◌}
 use Rattle.std.proofs.Common.{length, take, drop, Option, Some, None, slice_get, refl, sym, ap, ◌∙◌}
 use Rattle.std.proofs.Common.{subst}
@@ -178,13 +179,13 @@ module _ (P : ℕ → ℕ → List ℕ → Type 0) where
       } in
       subst (Travels P) (sym (moved-node w n l f a)) k
 
-  pub rings-made : (w : Moment) (ring : ℕ) → Travels P w
-      → Placed RingIs (w.nodes ++ new_lists (length w.nodes) (with_ring ring) ∷ [])
-  rings-made w ring t = add-placed RingIs w.nodes (new_lists (length w.nodes) (with_ring ring)) tt t.rings
+  pub rings-made : (w : Moment) (limits : Limits) → Travels P w
+      → Placed RingIs (w.nodes ++ new_lists (length w.nodes) limits ∷ [])
+  rings-made w limits t = add-placed RingIs w.nodes (new_lists (length w.nodes) limits) tt t.rings
 
-  pub inboxes-made : (w : Moment) (ring : ℕ) → Travels P w
-      → Placed InboxIs (w.nodes ++ new_lists (length w.nodes) (with_ring ring) ∷ [])
-  inboxes-made w ring t = add-placed InboxIs w.nodes (new_lists (length w.nodes) (with_ring ring)) tt t.inboxes
+  pub inboxes-made : (w : Moment) (limits : Limits) → Travels P w
+      → Placed InboxIs (w.nodes ++ new_lists (length w.nodes) limits ∷ [])
+  inboxes-made w limits t = add-placed InboxIs w.nodes (new_lists (length w.nodes) limits) tt t.inboxes
 
   -- a node's fact that leaves its ring, or its inbox
   kept : (list : Lists → List Arrival) (nodes : List Lists) (n clock : ℕ) (l : Lists) (f : Fact)

@@ -1,5 +1,6 @@
 -- What the two ends of a session hold is of one call.
-use Rattle.std.proofs.Common.{◌≡◌, ℕ, suc, List, [], ◌∷◌, Option, Some, None, refl, sym, ap, subst, Contains}
+use Rattle.rpc_laws.specs.UsualLimits.{with_ring}
+use Rattle.std.proofs.Common.{Bool, true, false, ◌≡◌, ℕ, suc, List, [], ◌∷◌, Option, Some, None, refl, sym, ap, subst, Contains}
 use Rattle.std.specs.Prelude.{IfSome}
 use Rattle.std.specs.List.{AllByRecursion}
 use Rattle.rpc_base.specs.declared.event.Event.TheVariants.{Ran}
@@ -18,12 +19,12 @@ use Rattle.rpc_laws.specs.OwnAnswer.{IsCallOf}
 use Rattle.end_laws.specs.Moments.{Moment, moved, Always}
 use Rattle.end_laws.specs.TwoEnds.{HoldsCall, IsOfCall, IsOfJob, IsOfRun, IsOfSession, TwoEnds}
 use Rattle.end_laws.proofs.Valids.{AllValid, valid-net, valid-made, valid-node, valid-pair}
-use Rattle.end_laws.proofs.Courses.{Ends, Course, over, in_net, made, at_node, pairs, client_fact, paired}
+use Rattle.end_laws.proofs.Courses.{made_as, resets, Ends, Course, over, in_net, made, at_node, pairs, client_fact, paired}
 use Rattle.end_laws.proofs.GoodSteps.{good-net, good-made, good-node}
 use Rattle.end_laws.proofs.Known.{Known, Begin, GoodAnswer, GoodProgress, GoodCall, GoodClient}
 use Rattle.end_laws.proofs.Known.{HasRun, GoodServed, GoodServer, GoodJob, Good, IsTrue}
 use Rattle.end_laws.proofs.Known.{contains-more}
-use Rattle.end_laws.proofs.KnownLemmas.{ends-more}
+use Rattle.end_laws.proofs.KnownLemmas.{ran-there, ends-more}
 use Rattle.end_laws.proofs.ListLemmas.{Placed, all-map, all-add, set-placed}
 use Rattle.end_laws.proofs.OwnLaw.{good-paired}
 use Rattle.end_laws.proofs.OwnLemmas.{call-of}
@@ -52,7 +53,7 @@ module _ (k : Known) (is_true : IsTrue k) where
             (λ answer. Contains k.past (with_two m (Ran way.number q.number q.req_type) a.ask
             answer)) q.answer (λ answer r. subst (λ (y : ℕ). Contains k.past
             (with_two m (Ran way.number q.number y) a.ask answer)) (sym g.req_type)
-            (is_true.runs m way.number q.number _ r)) g.answer;
+            (ran-there (is_true.runs m way.number q.number _ r))) g.answer;
       }
 
   served-of : (m : ℕ) (way : Way) (q : Served) → GoodServed k m way q → IsOfCall k.past m way q
@@ -83,7 +84,7 @@ module _ (k : Known) (is_true : IsTrue k) where
   run-of way a p (Some size) h =
       record {
         answer = h.answer;
-        ran = is_true.runs way.peer way.other p.request _ h.ran;
+        ran = ran-there (is_true.runs way.peer way.other p.request _ h.ran);
         sized = h.sized;
         parts = h.taken;
       }
@@ -233,9 +234,11 @@ between-ends w n m credits client server e h =
           (λ i l ne is. more-clients one w.past i l (h.clients i l is)));
     }
 
-pub course-ends : (w : Moment) (h : List Fact) (u : Moment) → Course w h u → AllRight w → AllValid w
+pub course-ends : (w : Moment) (h : List Fact) (u : Moment) → Course false w h u → AllRight w → AllValid w
     → Good w → Always TwoEnds w h
 course-ends _ _ _ (over w) i v g = good-ends w i g
+course-ends _ _ _ (made_as w limits h u is c) i v g = absurd (cc)
+course-ends _ _ _ (resets w clock h u is c) i v g = absurd (cc)
 course-ends _ _ _ (in_net w f h u who c) i v g = (
   good-ends w i g,
   course-ends (moved w f) h u c (right-net w f who i) (valid-net w f who v)
@@ -243,8 +246,8 @@ course-ends _ _ _ (in_net w f h u who c) i v g = (
 )
 course-ends _ _ _ (made w ring h u c) i v g = (
   good-ends w i g,
-  course-ends _ h u c (right-made w ring i) (valid-made w ring v)
-      (good-made w ring g),
+  course-ends _ h u c (right-made w (with_ring ring) i) (valid-made w (with_ring ring) v)
+      (good-made w (with_ring ring) g),
 )
 course-ends _ _ _ (at_node w n l f h u a c) i v g = (
   good-ends w i g,

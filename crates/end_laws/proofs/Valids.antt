@@ -1,4 +1,5 @@
 -- What always holds of a node's lists holds of all nodes at each moment.
+use Rattle.rpc_base.specs.declared.limits.Limits.{Limits}
 use Rattle.std.proofs.Common.{◌≡◌, ℕ, Option, Some, length, slice_get, refl, sym, ap, ◌∙◌, subst}
 use Rattle.rpc_base.specs.declared.event.Event.TheVariants.{Made}
 use Rattle.rpc_base.specs.declared.fact.Fact.{Fact}
@@ -13,7 +14,7 @@ use Rattle.rpc_laws.specs.UsualLimits.{with_ring}
 use Rattle.node_laws.proofs.ValidLemmas.{valid_after, valid_new}
 use Rattle.node_laws.specs.Valid.{Valid}
 use Rattle.end_laws.specs.Moments.{Moment, moved}
-use Rattle.end_laws.proofs.Courses.{AtNode, Ends, client_fact, server_fact, paired, moved-node}
+use Rattle.end_laws.proofs.Courses.{made_at, AtNode, Ends, client_fact, server_fact, paired, moved-node}
 use Rattle.end_laws.proofs.ListLemmas.{Placed, add-placed, set-placed}
 
 abbrev ValidAt : ℕ → Lists → Type 0
@@ -25,11 +26,11 @@ AllValid w = Placed ValidAt w.nodes
 pub valid-net : (w : Moment) (f : Fact) → f.who ≡ Net → AllValid w → AllValid (moved w f)
 valid-net w f who v = subst (λ (p : Who). Placed ValidAt (nodes_at w.clock p w.nodes f)) (sym who) v
 
-pub valid-made : (w : Moment) (ring : ℕ) → AllValid w
-    → AllValid (moved w (plain (length w.nodes) (Made ring)))
-valid-made w ring v =
-    add-placed ValidAt w.nodes (new_lists (length w.nodes) (with_ring ring))
-    (valid_new (length w.nodes) (with_ring ring)) v
+pub valid-made : (w : Moment) (limits : Limits) → AllValid w
+    → AllValid (made_at w limits)
+valid-made w limits v =
+    add-placed ValidAt w.nodes (new_lists (length w.nodes) limits)
+    (valid_new (length w.nodes) limits) v
 
 pub valid-node : (w : Moment) (n : ℕ) (l : Lists) (f : Fact) → AtNode w n l f → AllValid w
     → AllValid (moved w f)

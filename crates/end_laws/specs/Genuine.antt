@@ -35,3 +35,14 @@ pub record Travels (P : ℕ → ℕ → List ℕ → Type 0) (w : Moment) : Type
 -- at each moment each datagram on its way was sent by its sender to its node
 abbrev pub AllGenuine : List Fact → Type 0
 AllGenuine h = Always (λ w. Travels (WasSent w.past) w) first_moment h
+
+-- a node sent these bytes to a node, as head and body of some packet
+pub record WasPut (past : List Fact) (from to : ℕ) (bytes : List ℕ) : Type 0 where
+  pub later : List Fact
+  pub earlier : List Fact
+  pub owner : Owner
+  pub number : ℕ
+  pub head : List ℕ
+  pub body : List ℕ
+  pub in_past : past ≡ later ++ with_two from (Sent to owner number) head body ∷ earlier
+  pub spelled : bytes ≡ head ++ body

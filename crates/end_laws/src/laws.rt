@@ -2,11 +2,15 @@
 //! over any number of nodes and sessions, which are paired, or opened and accepted by control
 //! packets that are lost, repeated and held back as well. Each pairing of the script is of two
 //! nodes, as in every `Script`.
-ghost use Rattle.std.specs.Prelude.{List};
-ghost use Rattle.end_laws.specs.Genuine.{AllGenuine};
-ghost use Rattle.end_laws.specs.Handshakes.{AllAgree};
-ghost use Rattle.end_laws.specs.TwoEnds.{AllTwoEnds};
+ghost use Rattle.std.specs.Prelude.{List, []};
+ghost use Rattle.end_laws.specs.CallOrder.{InOrder};
+ghost use Rattle.end_laws.specs.Genuine.{AllGenuine, Travels, WasPut};
+ghost use Rattle.end_laws.specs.Handshakes.{Agree, AllAgree};
+ghost use Rattle.end_laws.specs.JointRun.{OfEveryJointRun, moment_left};
+ghost use Rattle.end_laws.specs.TwoEnds.{AllTwoEnds, TwoEnds};
 ghost use Rattle.end_laws.specs.TwoNodes.{PairsTwoNodes};
+ghost use Rattle.end_laws.specs.WireRun.{WiresJoin};
+ghost use Rattle.node_laws.specs.CallHistory.{latest_first};
 ghost use Rattle.rpc_base.specs.declared.fact.Fact.{Fact};
 ghost use Rattle.rpc_laws.specs.BufferSafety.{SendsItsOwn};
 ghost use Rattle.rpc_laws.specs.OwnAnswer.{Own};
@@ -58,4 +62,38 @@ pub fn ends_agree()
 /// Each pairing of a `Script` is of two nodes, so these laws are of all its histories.
 pub fn scripts_pair_two_nodes()
     ensures { (script : List Line) → IsScript script → PairsTwoNodes script }
+{}
+
+/// The same of every joint run of nodes with the plain service, each with a clock of its own,
+/// whatever links are busy and whatever memory is wanting.
+pub fn joint_answers_own()
+    ensures { OfEveryJointRun (λ h t. Own h) }
+{}
+
+/// So are the two ends of each session at what a joint run leaves, and each front of one that ends
+/// between two groups is a joint run.
+pub fn joint_two_ends()
+    ensures { OfEveryJointRun (λ h t. TwoEnds (moment_left h t)) }
+{}
+
+/// What session control says of them is so there.
+pub fn joint_ends_agree()
+    ensures { OfEveryJointRun (λ h t. Agree (moment_left h t)) }
+{}
+
+/// Nodes to which only datagrams come that were sent to them before run as in a joint run, in which each of them notes
+/// the same.
+pub fn wires_join()
+    ensures { WiresJoin }
+{}
+
+/// Each datagram that a joint run leaves in flight, in a ring or in an inbox was sent by its sender to
+/// that node: none is forged, and none comes to another node.
+pub fn joint_genuine()
+    ensures { OfEveryJointRun (λ h t. Travels (WasPut (latest_first [] h)) (moment_left h t)) }
+{}
+
+/// Each call that ends well was asked, then begun, then run, and then ended: the run is that call's.
+pub fn joint_calls_in_order()
+    ensures { OfEveryJointRun (λ h t. InOrder h) }
 {}

@@ -4,6 +4,7 @@ pub mod ClientSteps
 pub mod Counting
 pub mod Coverage
 pub mod Frames
+pub mod JointTidy
 pub mod Loads
 pub mod OpenLaw
 pub mod PairLaw

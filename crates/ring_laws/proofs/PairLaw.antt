@@ -1,4 +1,5 @@
 -- Each packet that is on its way is unanswered and stands in one place only, at each calm moment.
+use Rattle.rpc_base.specs.declared.limits.Limits.{Limits}
 use Rattle.std.proofs.Common.{find}
 use Rattle.std.proofs.Common.{◌≡◌, ◌+◌, ◌≤◌, ◌==◌, ℕ, Bool, true, false, cond, List, [], ◌∷◌}
 use Rattle.std.proofs.Common.{◌++◌, length, Option, Some, None, slice_get, refl, sym, ap, ◌∙◌}
@@ -20,7 +21,7 @@ use Rattle.node_laws.proofs.WindowLemmas.{window-made}
 use Rattle.rpc_laws.specs.UsualLimits.{with_ring}
 use Rattle.end_laws.specs.Moments.{Moment, moved, Always, first_moment}
 use Rattle.end_laws.proofs.Allowed.{is_packet}
-use Rattle.end_laws.proofs.Courses.{AtNode, Ends, Course, over, in_net, made, at_node, pairs}
+use Rattle.end_laws.proofs.Courses.{made_as, made_at, resets, AtNode, Ends, Course, over, in_net, made, at_node, pairs}
 use Rattle.end_laws.proofs.Courses.{client_fact, server_fact, paired, noted_at, moved-node}
 use Rattle.end_laws.proofs.ListLemmas.{add-keeps}
 use Rattle.end_laws.proofs.QueueLemmas.{RightNode}
@@ -80,13 +81,13 @@ made-stands nodes new home s r k None is h = absurd h
 made-stands nodes new home s r k (Some l) is h =
     subst (λ (o : Option Lists). StandsIn o s r k) (sym (add-keeps nodes new home l is)) h
 
-pair-made : (w : Moment) (ring : ℕ) (x : Pairing) (r k : ℕ) → PairAt w x r k
-    → PairAt (moved w (plain (length w.nodes) (Made ring))) x r k
-pair-made w ring x r k h =
-    let less = load-made (is_packet r k) w ring x in
+pair-made : (w : Moment) (limits : Limits) (x : Pairing) (r k : ℕ) → PairAt w x r k
+    → PairAt (made_at w limits) x r k
+pair-made w limits x r k h =
+    let less = load-made (is_packet r k) w limits x in
     let most = h.0 in (
       omega arith,
-      λ some. made-stands w.nodes (new_lists (length w.nodes) (with_ring ring)) x.home
+      λ some. made-stands w.nodes (new_lists (length w.nodes) limits) x.home
           x.client r k _ refl (h.1 (omega arith)),
     )
 
@@ -423,7 +424,7 @@ pub record Tidy (w : Moment) : Type 0 where
   pub pairs : Pairs met.good.known w
   pub replies : AllRepliesStand w
 
-tidy-net : (w : Moment) (f : Fact) → f.who ≡ Net → no_repeat f.event ≡ true → Tidy w → Tidy (moved w f)
+pub tidy-net : (w : Moment) (f : Fact) → f.who ≡ Net → no_repeat f.event ≡ true → Tidy w → Tidy (moved w f)
 tidy-net w f who calm t =
     let z = met-net w f who calm t.met in
     record {
@@ -432,16 +433,16 @@ tidy-net w f who calm t =
       replies = replies-net w f who t.replies;
     }
 
-tidy-made : (w : Moment) (ring : ℕ) → Tidy w → Tidy (moved w (plain (length w.nodes) (Made ring)))
-tidy-made w ring t =
-    let z = met-made w ring t.met in
+pub tidy-made : (w : Moment) (limits : Limits) → Tidy w → Tidy (made_at w limits)
+tidy-made w limits t =
+    let z = met-made w limits t.met in
     record {
       met = z.met;
-      pairs = λ x fits r k. pair-made w ring x r k (t.pairs x (z.fits x fits) r k);
-      replies = replies-made w ring t.replies;
+      pairs = λ x fits r k. pair-made w limits x r k (t.pairs x (z.fits x fits) r k);
+      replies = replies-made w limits t.replies;
     }
 
-tidy-node : (w : Moment) (n : ℕ) (l : Lists) (f : Fact) → AtNode w n l f → AllRight w → AllValid w
+pub tidy-node : (w : Moment) (n : ℕ) (l : Lists) (f : Fact) → AtNode w n l f → AllRight w → AllValid w
     → no_roll f.event ≡ true → Tidy w → Tidy (moved w f)
 tidy-node w n l f a i v calm t =
     let z = met-node w n l f a i v calm t.met in
@@ -452,7 +453,7 @@ tidy-node w n l f a i v calm t =
       replies = replies-node w n l f a v t.replies;
     }
 
-tidy-pair : (w : Moment) (n m credits : ℕ) (client server : Lists)
+pub tidy-pair : (w : Moment) (n m credits : ℕ) (client server : Lists)
     → Ends w n m credits client server → AllRight w → AllValid w → Tidy w
     → Tidy (paired w n m credits client server)
 tidy-pair w n m credits client server e i v t =
@@ -463,19 +464,21 @@ tidy-pair w n m credits client server e i v t =
       replies = replies-pair w n m credits client server e v t.replies;
     }
 
-tidy-once : (w : Moment) → AllValid w → Tidy w → IsTidy w
+pub tidy-once : (w : Moment) → AllValid w → Tidy w → IsTidy w
 tidy-once w v t = is-tidy w t.met v t.pairs t.replies
 
-pub course-pairs : (w : Moment) (h : List Fact) (u : Moment) → Course w h u → AllRight w
+pub course-pairs : (w : Moment) (h : List Fact) (u : Moment) → Course false w h u → AllRight w
     → AllValid w → (Calm w.past → Tidy w) → Always (λ w. Calm w.past → IsTidy w) w h
 course-pairs _ _ _ (over w) i v t = λ calm. tidy-once w v (t calm)
+course-pairs _ _ _ (made_as w limits h u is c) i v t = absurd (cc)
+course-pairs _ _ _ (resets w clock h u is c) i v t = absurd (cc)
 course-pairs _ _ _ (in_net w f h u who c) i v t = (
   λ calm. tidy-once w v (t calm),
   course-pairs (moved w f) h u c (right-net w f who i) (valid-net w f who v) (λ calm. let parts = calm-parts f w.past calm in tidy-net w f who (rough-repeat f.event parts.0) (t parts.1)),
 )
 course-pairs _ _ _ (made w ring h u c) i v t = (
   λ calm. tidy-once w v (t calm),
-  course-pairs _ h u c (right-made w ring i) (valid-made w ring v) (λ calm. let parts = calm-parts (plain (length w.nodes) (Made ring)) w.past calm in tidy-made w ring (t parts.1)),
+  course-pairs _ h u c (right-made w (with_ring ring) i) (valid-made w (with_ring ring) v) (λ calm. let parts = calm-parts (plain (length w.nodes) (Made ring)) w.past calm in tidy-made w (with_ring ring) (t parts.1)),
 )
 course-pairs _ _ _ (at_node w n l f h u a c) i v t = (
   λ calm. tidy-once w v (t calm),

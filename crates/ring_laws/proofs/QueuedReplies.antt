@@ -1,4 +1,5 @@
 -- Each reply that is queued is of a request that stands, so its server session stands too.
+use Rattle.rpc_base.specs.declared.limits.Limits.{Limits}
 use Rattle.std.proofs.Common.{◌≡◌, ◌==◌, ◌||◌, ℕ, zero, suc, Bool, true}
 use Rattle.std.proofs.Common.{List, [], ◌∷◌, length}
 use Rattle.std.proofs.Common.{Option, Some, None, slice_get, refl, sym, ap, ◌∙◌, subst, eq-eqb}
@@ -25,7 +26,7 @@ use Rattle.node_laws.proofs.LookLemmas.{request_on}
 use Rattle.node_laws.proofs.StandLemmas.{Standing, standing-after}
 use Rattle.node_laws.specs.Valid.{Valid}
 use Rattle.end_laws.specs.Moments.{first_moment, Moment, moved}
-use Rattle.end_laws.proofs.Courses.{AtNode, client_fact, Ends, moved-node, paired, server_fact}
+use Rattle.end_laws.proofs.Courses.{made_at, AtNode, client_fact, Ends, moved-node, paired, server_fact}
 use Rattle.end_laws.proofs.ListLemmas.{add-placed, Placed, set-placed}
 use Rattle.end_laws.proofs.Valids.{AllValid}
 use Rattle.ring_laws.proofs.WithinSteps.{is_server1, lists1, lists2, nodes-net, nodes1}
@@ -51,10 +52,10 @@ pub replies-net : (w : Moment) (f : Fact) → f.who ≡ Net → AllRepliesStand 
 replies-net w f who h =
     subst (Placed RepliesStand) (sym (nodes-net w f who)) h
 
-pub replies-made : (w : Moment) (ring : ℕ) → AllRepliesStand w
-    → AllRepliesStand (moved w (plain (length w.nodes) (Made ring)))
-replies-made w ring h =
-    add-placed RepliesStand w.nodes (new_lists (length w.nodes) (with_ring ring))
+pub replies-made : (w : Moment) (limits : Limits) → AllRepliesStand w
+    → AllRepliesStand (made_at w limits)
+replies-made w limits h =
+    add-placed RepliesStand w.nodes (new_lists (length w.nodes) limits)
     (λ t r none. refl) h
 
 pub replies-node : (w : Moment) (n : ℕ) (l : Lists) (f : Fact) → AtNode w n l f → AllValid w

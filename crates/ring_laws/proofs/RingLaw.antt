@@ -1,4 +1,5 @@
 -- No message finds a full ring in a calm history.
+use Rattle.rpc_base.specs.declared.limits.Limits.{Limits}
 use Rattle.std.proofs.Common.{append-nil}
 use Rattle.std.proofs.Common.{◌≡◌, ◌==◌, ◌⊎◌, inl, inr, ℕ, Bool, true, false, cond, List, []}
 use Rattle.std.proofs.Common.{◌∷◌, ◌++◌}
@@ -46,7 +47,8 @@ use Rattle.end_laws.specs.Genuine.{Travels}
 use Rattle.end_laws.specs.Kinds.{is_ask}
 use Rattle.end_laws.specs.Moments.{first_moment, Moment, moved}
 use Rattle.end_laws.proofs.Allowed.{Linked, May, MayLeave}
-use Rattle.end_laws.proofs.Courses.{at_node, AtNode, client_fact, Course, Ends, in_net, latest}
+use Rattle.end_laws.proofs.OwnLaw.{good-clocked}
+use Rattle.end_laws.proofs.Courses.{made_as, made_at, resets, clocked, at_node, AtNode, client_fact, Course, Ends, in_net, latest}
 use Rattle.end_laws.proofs.Courses.{made, moved-node}
 use Rattle.end_laws.proofs.Courses.{over, paired, pairs, server_fact}
 use Rattle.end_laws.proofs.GoodStart.{first-good}
@@ -414,12 +416,12 @@ met-node w n l f a i v calm m =
       fits = before;
     }
 
-pub met-made : (w : Moment) (ring : ℕ) → (m : Met w)
-    → MetNext w (moved w (plain (length w.nodes) (Made ring))) m
-met-made w ring m =
-    let new = new_lists (length w.nodes) (with_ring ring) in
-    let u = moved w (plain (length w.nodes) (Made ring)) in
-    let g = next-made w ring m.good in
+pub met-made : (w : Moment) (limits : Limits) → (m : Met w)
+    → MetNext w (made_at w limits) m
+met-made w limits m =
+    let new = new_lists (length w.nodes) limits in
+    let u = made_at w limits in
+    let g = next-made w limits m.good in
     let kin : NodesKin w.nodes u.nodes = kin-more w.nodes new in
     let comes = travels-map (Comes w.nodes) (Comes u.nodes) w
     (comes-kin w.nodes u.nodes kin) m.comes in
@@ -433,14 +435,14 @@ met-made w ring m =
         comes = record {
           flight = comes.flight;
           hand = comes.hand;
-          rings = rings-made (Comes u.nodes) w ring comes;
-          inboxes = inboxes-made (Comes u.nodes) w ring comes;
+          rings = rings-made (Comes u.nodes) w limits comes;
+          inboxes = inboxes-made (Comes u.nodes) w limits comes;
         };
         leaves = record {
           flight = leaves.flight;
           hand = leaves.hand;
-          rings = rings-made (LetsGoCopy u.nodes) w ring leaves;
-          inboxes = inboxes-made (LetsGoCopy u.nodes) w ring leaves;
+          rings = rings-made (LetsGoCopy u.nodes) w limits leaves;
+          inboxes = inboxes-made (LetsGoCopy u.nodes) w limits leaves;
         };
         alive = alive-next m.good.known g.good.known w.nodes u.nodes g.ends kin
             (λ i t e is live. inl (record {
@@ -449,7 +451,7 @@ met-made w ring m =
               server = live.server;
               found = live.found;
             })) m.alive;
-        within = λ x fits. within-made w ring x (m.within x (before x fits));
+        within = λ x fits. within-made w limits x (m.within x (before x fits));
         rings = add-placed (λ n l. AllMessages l.ring) w.nodes new tt m.rings;
         calm = add-placed (λ n l. CalmNode l) w.nodes new tt m.calm;
       };
@@ -585,9 +587,29 @@ fits-event w n l _ first second is me v may link met = tt
 abbrev At : List Fact → Fact → Type 0
 At past f = FitsAt past f.who f.event f.first
 
-pub course-fits : (w : Moment) (h : List Fact) (u : Moment) → Course w h u → AllRight w → AllValid w
+-- what is met doesn't read the clock
+abbrev pub met-clocked : (w : Moment) (clock : ℕ) → Met w → Met (clocked w clock)
+met-clocked w clock m = record {
+  good = good-clocked w clock m.good;
+  comes = record { flight = m.comes.flight; hand = m.comes.hand; rings = m.comes.rings; inboxes = m.comes.inboxes };
+  leaves = record { flight = m.leaves.flight; hand = m.leaves.hand; rings = m.leaves.rings; inboxes = m.leaves.inboxes };
+  alive = m.alive;
+  within = m.within;
+  rings = m.rings;
+  calm = m.calm;
+}
+
+pub course-fits : {free : Bool} (w : Moment) (h : List Fact) (u : Moment) → Course free w h u → AllRight w → AllValid w
     → (Calm w.past → Met w) → AtEach At w.past h
 course-fits _ _ _ (over w) i v met = tt
+course-fits _ _ _ (made_as w limits h u is c) i v met = (
+  tt,
+  course-fits (made_at w limits) h u c (right-made w limits i) (valid-made w limits v)
+      (λ calm. let parts = calm-parts (plain (length w.nodes) (Made limits.ring)) w.past calm in
+      (met-made w limits (met parts.1)).met),
+)
+course-fits _ _ _ (resets w clock h u is c) i v met =
+    course-fits (clocked w clock) h u c i v (λ calm. met-clocked w clock (met calm))
 course-fits _ _ _ (in_net w f h u who c) i v met = (
   subst (λ (p : Who). FitsAt w.past p f.event f.first) (sym who) tt,
   course-fits (moved w f) h u c (right-net w f who i) (valid-net w f who v)
@@ -596,9 +618,9 @@ course-fits _ _ _ (in_net w f h u who c) i v met = (
 )
 course-fits _ _ _ (made w ring h u c) i v met = (
   tt,
-  course-fits _ h u c (right-made w ring i) (valid-made w ring v)
+  course-fits _ h u c (right-made w (with_ring ring) i) (valid-made w (with_ring ring) v)
       (λ calm. let parts = calm-parts (plain (length w.nodes) (Made ring)) w.past calm in
-      (met-made w ring (met parts.1)).met),
+      (met-made w (with_ring ring) (met parts.1)).met),
 )
 course-fits _ _ _ (at_node w n l f h u a c) i v met = (
   subst (λ (p : Who). FitsAt w.past p f.event f.first) (sym a.allowed.who)

@@ -1,4 +1,5 @@
 -- Each calm fact keeps what is on its way for a session within its limit.
+use Rattle.rpc_base.specs.declared.limits.Limits.{Limits}
 use Rattle.rpc_base.specs.declared.event.Event.TheVariants.{Broken}
 use Rattle.node_laws.specs.Valid.{Valid}
 use Rattle.end_laws.proofs.Known.{Good}
@@ -27,7 +28,7 @@ use Rattle.rpc_laws.specs.UsualLimits.{with_ring}
 use Rattle.rpc_laws.specs.Sessions.{is_client, client_end}
 use Rattle.end_laws.specs.Moments.{Moment, moved, hand_of}
 use Rattle.end_laws.proofs.Allowed.{is_owed, owes, carries}
-use Rattle.end_laws.proofs.Courses.{latest, AtNode, Ends, client_fact, server_fact, paired, noted_at, moved-node}
+use Rattle.end_laws.proofs.Courses.{made_at, latest, AtNode, Ends, client_fact, server_fact, paired, noted_at, moved-node}
 use Rattle.end_laws.proofs.QueueLemmas.{RightNode}
 use Rattle.ring_laws.proofs.ClientSteps.{no_roll, client-step, credit-step}
 use Rattle.ring_laws.proofs.Counting.{value, count-remove}
@@ -210,21 +211,21 @@ added-by f [] l (suc k) none = refl
 added-by f (z ∷ zs) l zero none = refl
 added-by f (z ∷ zs) l (suc k) none = added-by f zs l k none
 
-pub load-made : (p : Filter) (w : Moment) (ring : ℕ) (x : Pairing)
-    → load p x (moved w (plain (length w.nodes) (Made ring))) ≤ load p x w
-load-made p w ring x =
-    let new = new_lists (length w.nodes) (with_ring ring) in
+pub load-made : (p : Filter) (w : Moment) (limits : Limits) (x : Pairing)
+    → load p x (made_at w limits) ≤ load p x w
+load-made p w limits x =
+    let new = new_lists (length w.nodes) limits in
     let c = added-by (client_packets p x.client) w.nodes new x.home (omega arith) in
     let s = added-by (server_packets p x.session) w.nodes new x.node (omega arith) in
     let none : cond {A = ℕ} ((length w.nodes == x.node) && false) 1 0 ≡ 0 =
     rw (and-false (length w.nodes == x.node)) refl in
     omega arith
 
-pub within-made : (w : Moment) (ring : ℕ) (x : Pairing) → Within w x
-    → Within (moved w (plain (length w.nodes) (Made ring))) x
-within-made w ring x h =
-    let new = new_lists (length w.nodes) (with_ring ring) in
-    let c = load-made all w ring x in
+pub within-made : (w : Moment) (limits : Limits) (x : Pairing) → Within w x
+    → Within (made_at w limits) x
+within-made w limits x h =
+    let new = new_lists (length w.nodes) limits in
+    let c = load-made all w limits x in
     let f = added-by (of-free x) w.nodes new x.home refl in
     let k = added-by (of-limit x) w.nodes new x.home refl in
     omega arith

@@ -2,9 +2,10 @@
 //! sessions, which are paired, or opened and accepted, and ended. Each pairing of the script is of
 //! two nodes, as in every `Script`.
 ghost use Rattle.std.specs.Prelude.{List};
+ghost use Rattle.end_laws.specs.JointRun.{LeavesAs, OfEveryJointRun};
 ghost use Rattle.end_laws.specs.TwoNodes.{PairsTwoNodes};
-ghost use Rattle.ring_laws.specs.CalmRing.{MessagesFit};
-ghost use Rattle.ring_laws.specs.PairsOnce.{PairsOnce};
+ghost use Rattle.ring_laws.specs.CalmRing.{Calm, MessagesFit};
+ghost use Rattle.ring_laws.specs.PairsOnce.{IsTidy, PairsOnce};
 ghost use Rattle.rpc_base.specs.declared.fact.Fact.{Fact};
 ghost use Rattle.script_grammar.specs.declared.line.Line.{Line};
 ghost use Rattle.sim_script.specs.FollowsScript.{Follows};
@@ -22,4 +23,15 @@ pub fn messages_fit()
 pub fn packets_stand_once()
     ensures { (script : List Line) (h : List Fact) → PairsTwoNodes script → Follows script h
         → PairsOnce h }
+{}
+
+/// The same of every joint run of nodes with the plain service, each with a clock of its own,
+/// whatever links are busy and whatever memory is wanting.
+pub fn joint_messages_fit()
+    ensures { OfEveryJointRun (λ h t. MessagesFit h) }
+{}
+
+/// Where a joint run that is calm so far leaves its nodes, packets stand once in the same way.
+pub fn joint_packets_stand_once()
+    ensures { OfEveryJointRun (LeavesAs (λ w. Calm w.past → IsTidy w)) }
 {}

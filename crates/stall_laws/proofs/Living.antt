@@ -90,7 +90,7 @@ pub living-made : (w : Moment) (ring : ℕ) → Living w
 living-made w ring m =
     let new = new_lists (length w.nodes) (with_ring ring) in
     let u = moved w (plain (length w.nodes) (Made ring)) in
-    let g = next-made w ring m.good in
+    let g = next-made w (with_ring ring) m.good in
     let kin : NodesKin w.nodes u.nodes = kin-more w.nodes new in
     let leaves = travels-map (LetsGoCopy w.nodes) (LetsGoCopy u.nodes) w
     (copies-kin w.nodes u.nodes kin) m.leaves in
@@ -99,8 +99,8 @@ living-made w ring m =
       leaves = record {
         flight = leaves.flight;
         hand = leaves.hand;
-        rings = rings-made (LetsGoCopy u.nodes) w ring leaves;
-        inboxes = inboxes-made (LetsGoCopy u.nodes) w ring leaves;
+        rings = rings-made (LetsGoCopy u.nodes) w (with_ring ring) leaves;
+        inboxes = inboxes-made (LetsGoCopy u.nodes) w (with_ring ring) leaves;
       };
       alive = alive-next m.good.known g.good.known w.nodes u.nodes g.ends kin
           (λ i t e is live. inl (record {

@@ -49,7 +49,7 @@ use Rattle.end_laws.specs.TwoNodes.{PairsTwoNodes}
 use Rattle.end_laws.proofs.Allowed.{WalksFrom}
 use Rattle.end_laws.proofs.CommandLeads.{poll-step, carry-net, times-lead, polls-lead, carry-leads}
 use Rattle.end_laws.proofs.CommandLeads.{first-works-lead, round-leads}
-use Rattle.end_laws.proofs.Courses.{latest, AtNode, Course, over, in_net, made, at_node, pairs}
+use Rattle.end_laws.proofs.Courses.{made_as, resets, latest, AtNode, Course, over, in_net, made, at_node, pairs}
 use Rattle.end_laws.proofs.Courses.{noted_at, moved-node}
 use Rattle.end_laws.proofs.Leads.{Fits, Leading}
 use Rattle.end_laws.proofs.PairLeads.{does-lead, empty-fits}
@@ -83,8 +83,10 @@ moves-append d w [] y u e h k = rw h k
 moves-append d w (f ∷ x) y u e h k = (h.0, h.1, moves-append h.0 (moved w f) x y u e h.2 k)
 
 -- a course leads to the moment that its facts leave
-pub course-end : (w : Moment) (x : List Fact) (u : Moment) → Course w x u → u ≡ moment_from w x
+pub course-end : (w : Moment) (x : List Fact) (u : Moment) → Course false w x u → u ≡ moment_from w x
 course-end _ _ _ (over w) = refl
+course-end _ _ _ (made_as w limits h u is c) = absurd (cc)
+course-end _ _ _ (resets w clock h u is c) = absurd (cc)
 course-end _ _ _ (in_net w f h u who c) = course-end (moved w f) h u c
 course-end _ _ _ (made w ring h u c) = course-end _ h u c
 course-end _ _ _ (at_node w n l f h u a c) = course-end (moved w f) h u c

@@ -45,7 +45,7 @@ use Rattle.node_laws.specs.Valid.{Valid}
 use Rattle.node_laws.proofs.SoundLemmas.{sent-got, sent-posted, sent-request}
 use Rattle.end_laws.specs.Moments.{Moment, moved, first_moment}
 use Rattle.end_laws.proofs.ClientLemmas.{client-at}
-use Rattle.end_laws.proofs.Courses.{AtNode, Ends, noted_at, moved-node, Course, over, in_net, made}
+use Rattle.end_laws.proofs.Courses.{made_as, resets, AtNode, Ends, noted_at, moved-node, Course, over, in_net, made}
 use Rattle.end_laws.proofs.Courses.{at_node, pairs, client_fact, server_fact, paired}
 use Rattle.end_laws.proofs.Allowed.{is_packet}
 use Rattle.end_laws.proofs.Known.{Good}
@@ -453,7 +453,7 @@ moment-append w (f ∷ x) y = moment-append (moved w f) x y
 next-moment : (h : List Fact) (w : Moment) (f : Fact) → w ≡ moment_of h → moved w f ≡ moment_of (h ++ f ∷ [])
 next-moment h w f is = ap (λ (v : Moment). moved v f) is ∙ sym (moment-append first_moment h (f ∷ []))
 
-pub course-reach : (w : Moment) (x : List Fact) (v : Moment) → Course w x v → (h : List Fact)
+pub course-reach : (w : Moment) (x : List Fact) (v : Moment) → Course false w x v → (h : List Fact)
     (d u : Due) → MovesFrom d w x u → At h w d → At (h ++ x) v u
 course-reach _ _ _ (over w) h d u m at =
     subst (λ (y : List Fact). At y w u) (sym (append-none h)) (subst (At h w) m at)
@@ -461,6 +461,8 @@ course-reach _ _ _ (over w) h d u m at =
     append-none : (y : List Fact) → y ++ [] ≡ y
     append-none [] = refl
     append-none (f ∷ y) = ap (λ (z : List Fact). f ∷ z) (append-none y)
+course-reach _ _ _ (made_as w limits x v is c) h d u m at = absurd (cc)
+course-reach _ _ _ (resets w clock x v is c) h d u m at = absurd (cc)
 course-reach _ _ _ (in_net w f x v who c) h d u m at =
     let by : (d ≡ nothing) × (m.0 ≡ net_due f.event) = subst (λ (p : Who). MovesBy w p f.event f.first d m.0) who m.1 in
     let reach : Reach h w nothing = subst (Reach h w) by.0 at.reach in
@@ -480,8 +482,8 @@ course-reach _ _ _ (made w ring x v c) h d u m at =
     subst (λ (y : List Fact). At y v u) (append_assoc h (f ∷ []) x)
     (course-reach (moved w f) x v c (h ++ f ∷ []) m.0 u m.2 (record {
       moment = next-moment h w f at.moment;
-      right = right-made w ring at.right;
-      valid = valid-made w ring at.valid;
+      right = right-made w (with_ring ring) at.right;
+      valid = valid-made w (with_ring ring) at.valid;
       living = living-made w ring at.living;
       newest = newest-made w ring at.newest;
       reach = subst (Reach (h ++ f ∷ []) (moved w f)) (sym by.1) (reach-made h w ring reach);

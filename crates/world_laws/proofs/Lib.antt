@@ -1,5 +1,7 @@
 pub mod FactLemmas
 pub mod FewLemmas
+pub mod JointNodes
+pub mod JointScripts
 pub mod NodeLaws
 pub mod RequestLaws
 pub mod RunLemmas

@@ -5,6 +5,7 @@ use Rattle.std.proofs.Common.{◌∙◌, subst, arith, eq-eqb}
 use Rattle.std.specs.List.{filter, list_any, AllByRecursion}
 use Rattle.std.proofs.lemmas.List.Sums.{sum_by-cons}
 use Rattle.node_laws.proofs.Allowed.{AllAllowed}
+use Rattle.end_laws.specs.JointRun.{AloneGroup}
 use Rattle.node_laws.specs.NodeRun.{Group, misses, works}
 use Rattle.node_laws.specs.Valid.{jobs_of, Valid}
 use Rattle.rpc_base.specs.declared.event.Event.TheVariants.{Worked}
@@ -17,7 +18,7 @@ use Rattle.rpc_laws.specs.declared.tables.WorkedJob.{WorkedJob}
 use Rattle.rpc_laws.specs.Facts.{plain}
 use Rattle.rpc_laws.specs.Jobs.{is_job}
 use Rattle.rpc_laws.specs.NodeLists.{after, after_all}
-use Rattle.rpc_laws.specs.Steps.{none}
+use Rattle.rpc_laws.specs.Steps.{none, Chain, Rel}
 use Rattle.rpc_laws.specs.Working.{is_worked, waiting_of, work_of, worked_after_all, Works, WorksAll}
 use Rattle.rpc_outside.specs.PlainAnswer.{plain_mode}
 use Rattle.world_laws.proofs.RunLemmas.{Groups, Mine, mine-works}
@@ -289,3 +290,50 @@ all-mine n worked s x t me v h =
           (lists-same s.clock l jobs) (works-spend worked i r s.clock l y v (jobs-own l.me jobs)
           (jobs-allowed s.clock l jobs) (jobs-may worked s.clock l jobs few waits));
     })
+
+-- each of these groups is one that a node makes alone
+abbrev pub Alone : Rel
+Alone s x t = AloneGroup plain_mode s x t
+
+alone-by : (worked : List WorkedJob) (i : ℕ) (s : Timed) (o : Option Job) (x : List Fact) (t : Timed)
+    → slice_get (waiting_of worked s.lists) i ≡ o → x ≡ plain s.lists.me (work_of i o) ∷ []
+    → t ≡ record { lists = after_all s.clock s.lists x; clock = s.clock } → Alone s x t
+alone-by worked i s None x t is facts goes =
+    record { group = misses i (record { facts = facts; goes = goes }); alone = tt }
+alone-by worked i s (Some job) x t is facts goes =
+    let w : Waits worked s.lists.me s.lists.jobs.out job =
+    all-at (Waits worked s.lists.me s.lists.jobs.out)
+    (waiting_of worked s.lists) i job (all-wait worked s.lists.me s.lists.jobs.out) is in
+    record {
+      group = works job.session job.request (some-out job.session job.request s.lists.jobs.out w.some)
+          (record { facts = facts; goes = goes });
+      alone = tt;
+    }
+
+pub works-alone : (worked : List WorkedJob) (i : ℕ) (s : Timed) (x : List Fact) (t : Timed)
+    → Works worked i s x t → Alone s x t
+works-alone worked i s x t h = alone-by worked i s (slice_get (waiting_of worked s.lists) i) x t refl h.facts h.goes
+
+jobs-alone : (s : Timed) (jobs : List Job)
+    → AllByRecursion (λ (job : Job). 1 ≤ jobs_of job.session job.request s.lists.jobs.out) jobs
+    → Chain Alone s (worked_facts s.lists.me jobs) s
+jobs-alone s [] h = none
+jobs-alone s (job ∷ jobs) h =
+    chain-cons Alone s (plain s.lists.me (Worked job.session job.request) ∷ []) s
+    (record {
+      group = works job.session job.request (some-out job.session job.request s.lists.jobs.out h.0)
+          (record { facts = refl; goes = refl });
+      alone = tt;
+    }) (jobs-alone s jobs h.1)
+
+pub all-alone : (worked : List WorkedJob) (s : Timed) (x : List Fact) (t : Timed)
+    → WorksAll worked s x t → Chain Alone s x t
+all-alone worked s x t h =
+    let jobs = waiting_of worked s.lists in
+    let facts : x ≡ worked_facts s.lists.me jobs = h.facts in
+    let same : t ≡ s = h.goes ∙ (ap (λ (y : List Fact).
+    record { lists = after_all s.clock s.lists y; clock = s.clock }) facts
+    ∙ ap (λ (l : Lists). record { lists = l; clock = s.clock })
+    (lists-same s.clock s.lists jobs)) in
+    rw (facts, same) (jobs-alone s jobs (waits-some worked s.lists.me s.lists.jobs.out jobs
+    (all-wait worked s.lists.me s.lists.jobs.out)))

@@ -6,6 +6,7 @@ ghost use Rattle.rpc_base.specs.declared.fact.Fact.{Fact};
 ghost use Rattle.script_grammar.specs.Conditions.{IsScript};
 ghost use Rattle.script_grammar.specs.declared.line.Line.{Line};
 ghost use Rattle.world_laws.specs.FewCredits.{PairsFewCredits};
+ghost use Rattle.world_laws.specs.JointNodes.{FollowsJointly, JointRunsNodes};
 ghost use Rattle.world_laws.specs.Laws.{CreditBalances, EndedCallsAreNotQueued};
 ghost use Rattle.world_laws.specs.Laws.{EndedSessionsAreNotQueued, FollowsRuns, HappensAtMostOnce};
 ghost use Rattle.world_laws.specs.Laws.{InboxFits, OlderRequestsAreNotQueued};
@@ -66,4 +67,15 @@ pub fn inbox_fits()
 /// its histories.
 pub fn scripts_pair_few()
     ensures { (script : List Line) → IsScript script → PairsFewCredits script }
+{}
+
+/// The facts of each node of a joint run are its `Made` and a run of that node with its own limits
+/// and service, which leaves it as the joint run does.
+pub fn joint_runs_nodes()
+    ensures { JointRunsNodes }
+{}
+
+/// A history that follows a script is a joint run of usual nodes.
+pub fn follows_jointly()
+    ensures { FollowsJointly }
 {}

@@ -1,0 +1,3 @@
+//! Endpoints over wires.
+#![tactic(auto)]
+pub mod laws;
