@@ -18,6 +18,7 @@ pub mod HistoryRows
 pub mod IdleLemmas
 pub mod ImageLemmas
 pub mod JobLemmas
+pub mod JoinLemmas
 pub mod KeptLemmas
 pub mod LeadsLemmas
 pub mod LeftLemmas
@@ -64,6 +65,7 @@ pub mod TimerLemmas
 pub mod ToldLemmas
 mod ToldSame
 pub mod TotalLemmas
+pub mod UsedLaws
 pub mod ValidLemmas
 pub mod WindowEndLemmas
 pub mod WindowLemmas

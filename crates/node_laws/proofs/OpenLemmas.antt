@@ -121,7 +121,7 @@ module _ (r : ℕ) where
       (turn-le (new % 8) turns (r % 8 == new % 8) refl below)
 
   -- the number itself is given out
-  future-own : (turns : List ℕ) → length turns ≡ 8 → r / 8 ≡ slice_index turns (r % 8)
+  pub future-own : (turns : List ℕ) → length turns ≡ 8 → r / 8 ≡ slice_index turns (r % 8)
       → 1 + future (turned (r % 8) turns) ≤ future turns
   future-own turns e turn =
       let below : r % 8 < length turns = omega arith in
@@ -215,7 +215,7 @@ module _ (r : ℕ) where
 abbrev pub open_for : ℕ → ℕ → List Client → ℕ
 open_for n r xs = open_of r (find (is_client n) xs)
 
-turn-of : (new slot turn : ℕ) → slot < 8 → new ≡ slot + 8 * turn → (new / 8 ≡ turn) × (slot ≡ new % 8)
+pub turn-of : (new slot turn : ℕ) → slot < 8 → new ≡ slot + 8 * turn → (new / 8 ≡ turn) × (slot ≡ new % 8)
 turn-of new slot turn h e = (omega arith, omega arith)
 
 module _ (n r : ℕ) (s : Lists) (v : Valid s) (eight : AllByRecursion EightTurns s.clients) where

@@ -71,7 +71,7 @@ module _ (n r : ℕ) where
       (λ x. told-same (λ y. y.way.number) clock h x refl)
       (λ x. told-same (λ y. y.turns) clock h x refl) xs
 
-  future-after : (clock : ℕ) (e : Event) (bytes : List ℕ) (head : Option MessageHeader)
+  pub future-after : (clock : ℕ) (e : Event) (bytes : List ℕ) (head : Option MessageHeader)
       (body : List ℕ) (xs : List Client) → AllByRecursion EightTurns xs
       → future_for n r (clients_after clock e bytes head body xs) ≤ future_for n r xs
   future-after clock (PairedClient s peer t credits) bytes head body xs h =

@@ -16,6 +16,7 @@ use Rattle.node_laws.specs.OlderRequests.{BeginsClean}
 use Rattle.node_laws.specs.QueuedPackets.{QueueAlwaysFits}
 use Rattle.node_laws.specs.RequestHistory.{TellsRequests}
 use Rattle.node_laws.specs.RingLimit.{RingWithin, InboxWithin}
+use Rattle.node_laws.specs.UsedOnce.{UsedOnce}
 
 -- of every run of a node, whatever its service, its number and its limits
 abbrev pub OfEveryRun : ((ring : ℕ) → List Fact → Timed → Type 0) → Type 0
@@ -73,3 +74,7 @@ QueuedPacketsFit = OfEveryRun (λ ring g t. QueueAlwaysFits ring g)
 -- the credits of a node's live sessions are no more than its ring is long
 abbrev pub SharesFit : Type 0
 SharesFit = OfEveryRun (λ ring g t. shares t.lists ≤ ring)
+
+-- call numbers, session numbers and the requests of a session are used once
+abbrev pub NumbersAreUsedOnce : Type 0
+NumbersAreUsedOnce = OfEveryRun (λ ring g t. UsedOnce g)

@@ -9,5 +9,6 @@ pub mod OlderRequests
 pub mod QueuedPackets
 pub mod RequestHistory
 pub mod RingLimit
+pub mod UsedOnce
 pub mod Valid
 pub mod Windows

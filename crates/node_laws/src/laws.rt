@@ -1,7 +1,8 @@
 //! Laws of the runs of one node, each proved of the definitions in `specs/`.
 ghost use Rattle.node_laws.specs.Laws.{CreditBalances, EndedCallsAreNotQueued};
 ghost use Rattle.node_laws.specs.Laws.{EndedSessionsAreNotQueued, HappensAtMostOnce, InboxFits};
-ghost use Rattle.node_laws.specs.Laws.{ListsAreKept, OlderRequestsAreNotQueued, QueuedPacketsFit};
+ghost use Rattle.node_laws.specs.Laws.{ListsAreKept, NumbersAreUsedOnce};
+ghost use Rattle.node_laws.specs.Laws.{OlderRequestsAreNotQueued, QueuedPacketsFit};
 ghost use Rattle.node_laws.specs.Laws.{RequestsTellTheHistory, RingFits, SharesFit};
 ghost use Rattle.node_laws.specs.Laws.{TablesTellTheHistory};
 
@@ -74,4 +75,10 @@ pub fn queued_packets_fit()
 /// ring is long.
 pub fn shares_fit()
     ensures { SharesFit }
+{}
+
+/// In a run each call number is asked once, each session number is made once and gets its other end
+/// once, and no two calls of a session begin as one request.
+pub fn numbers_are_used_once()
+    ensures { NumbersAreUsedOnce }
 {}

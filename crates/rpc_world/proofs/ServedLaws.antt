@@ -24,6 +24,7 @@ use Rattle.stall_laws.proofs.StallLaw.{no-stall}
 use Rattle.world_laws.proofs.FewLemmas.{script-few}
 use Rattle.world_laws.proofs.NodeLaws.{credit-balances, ended-clean, older-clean, once-each}
 use Rattle.world_laws.proofs.NodeLaws.{ring-fits, runs as node-runs, sessions-clean}
+use Rattle.world_laws.proofs.OneCallLaws.{calls-once, numbers-once}
 use Rattle.world_laws.proofs.RequestLaws.{requests-tell}
 use Rattle.world_laws.specs.Laws.{EndTells}
 use Rattle.world_laws.specs.NodeFacts.{facts_of, RunAt}
@@ -47,6 +48,8 @@ follows-lawful script h is follows =
       once = once-each script h two few follows;
       own = course-own first_moment h made.end made.course first-right first-valid
           (answers-each h follows.1.answers) first-good;
+      one_call = calls-once script h two few follows;
+      numbers = numbers-once script h two few follows;
       credit = credit-balances script h two few follows;
       fits = course-fits first_moment h made.end made.course first-right first-valid
           (λ calm. first-met);

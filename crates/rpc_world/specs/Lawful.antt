@@ -4,6 +4,7 @@ use Rattle.node_laws.specs.CreditBalance.{Credit}
 use Rattle.node_laws.specs.EndedCalls.{EndsClean}
 use Rattle.node_laws.specs.EndedSessions.{SessionsEndClean}
 use Rattle.node_laws.specs.OlderRequests.{BeginsClean}
+use Rattle.node_laws.specs.UsedOnce.{UsedOnce}
 use Rattle.one_history.specs.NetFacts.{AllOfNet}
 use Rattle.report_text.specs.Told.{AllTold}
 use Rattle.ring_laws.specs.CalmRing.{MessagesFit}
@@ -14,6 +15,7 @@ use Rattle.rpc_laws.specs.BufferSafety.{SendsItsOwn}
 use Rattle.rpc_laws.specs.OwnAnswer.{Own}
 use Rattle.world_laws.specs.Laws.{EachNode, KeepsRing}
 use Rattle.world_laws.specs.NodeFacts.{facts_of, IsRun}
+use Rattle.world_laws.specs.OneCall.{OneCall}
 
 -- node n has no facts, or its facts are its Made and then a run of the plain service's node with
 -- that ring, which leaves it somehow
@@ -30,6 +32,11 @@ pub record Lawful (h : List Fact) : Type 0 where
   pub once : Once h
   -- each handler runs on its call's bytes, and each call ends with its own handler's answer
   pub own : Own h
+  -- each run of a handler is for one call, and each call is one request, whose handler runs at
+  -- most once
+  pub one_call : OneCall h
+  -- a node uses its call numbers, its session numbers and the request numbers of a session once
+  pub numbers : EachNode UsedOnce h
   -- at every moment the unanswered packets and free credits of a live session make its limit
   pub credit : EachNode Credit h
   -- before a repeat and a rollback no packet of a call finds a full ring

@@ -3,6 +3,7 @@ pub mod FewLemmas
 pub mod JointNodes
 pub mod JointScripts
 pub mod NodeLaws
+pub mod OneCallLaws
 pub mod RequestLaws
 pub mod RunLemmas
 pub mod ScriptLaws

@@ -41,7 +41,7 @@ of-run : (P : List Fact → Type 0) → P []
 of-run P none each n facts (Some t) r = each n facts t r
 of-run P none each n facts None r = rw r none
 
-of-node : (P : List Fact → Type 0) → P []
+pub of-node : (P : List Fact → Type 0) → P []
     → ((n : ℕ) (facts : List Fact) (t : Timed) → IsRun n facts t → P facts)
     → (h : List Fact) (end : Stage) → RunsOf h end → (n : ℕ) → P (facts_of n h)
 of-node P none each h end r n = of-run P none each n (facts_of n h) (slice_get end.nodes n) (r n)

@@ -9,6 +9,7 @@ use Rattle.node_laws.specs.EndedSessions.{SessionsEndClean}
 use Rattle.node_laws.specs.OlderRequests.{BeginsClean}
 use Rattle.node_laws.specs.RequestHistory.{TellsRequests}
 use Rattle.node_laws.specs.RingLimit.{RingWithin, InboxWithin}
+use Rattle.node_laws.specs.UsedOnce.{UsedOnce}
 use Rattle.rpc_base.specs.declared.fact.Fact.{Fact}
 use Rattle.rpc_laws.specs.declared.tables.Timed.{Timed}
 use Rattle.rpc_laws.specs.AtMostOnce.{Once}
@@ -16,6 +17,7 @@ use Rattle.script_grammar.specs.declared.line.Line.{Line}
 use Rattle.sim_script.specs.FollowsScript.{Follows}
 use Rattle.world_laws.specs.FewCredits.{PairsFewCredits}
 use Rattle.world_laws.specs.NodeFacts.{facts_of, ring_of, RunsOf}
+use Rattle.world_laws.specs.OneCall.{OneCall}
 
 -- of every history that follows a script in which each pairing is of two nodes and has 1 to 256
 -- credits
@@ -87,3 +89,11 @@ EndedSessionsAreNotQueued = OfEveryNode (SessionsEndClean [])
 -- a node's inbox is never longer than its room
 abbrev pub InboxFits : Type 0
 InboxFits = OfEveryNode (InboxWithin [])
+
+-- a node's call numbers, session numbers and the requests of a session are used once
+abbrev pub NumbersAreUsedOnce : Type 0
+NumbersAreUsedOnce = OfEveryNode UsedOnce
+
+-- each run of a handler is for one call, and each call has one at most
+abbrev pub CallsRunOnce : Type 0
+CallsRunOnce = OfEveryHistory OneCall

@@ -2,3 +2,4 @@ pub mod FewCredits
 pub mod JointNodes
 pub mod Laws
 pub mod NodeFacts
+pub mod OneCall

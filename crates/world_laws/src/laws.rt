@@ -7,9 +7,9 @@ ghost use Rattle.script_grammar.specs.Conditions.{IsScript};
 ghost use Rattle.script_grammar.specs.declared.line.Line.{Line};
 ghost use Rattle.world_laws.specs.FewCredits.{PairsFewCredits};
 ghost use Rattle.world_laws.specs.JointNodes.{FollowsJointly, JointRunsNodes};
-ghost use Rattle.world_laws.specs.Laws.{CreditBalances, EndedCallsAreNotQueued};
+ghost use Rattle.world_laws.specs.Laws.{CallsRunOnce, CreditBalances, EndedCallsAreNotQueued};
 ghost use Rattle.world_laws.specs.Laws.{EndedSessionsAreNotQueued, FollowsRuns, HappensAtMostOnce};
-ghost use Rattle.world_laws.specs.Laws.{InboxFits, OlderRequestsAreNotQueued};
+ghost use Rattle.world_laws.specs.Laws.{InboxFits, NumbersAreUsedOnce, OlderRequestsAreNotQueued};
 ghost use Rattle.world_laws.specs.Laws.{RequestsTellTheHistory, RingFits};
 
 /// The facts of each node are its `Made` and a run of that node, which leaves it as the history
@@ -21,6 +21,18 @@ pub fn follows_runs()
 /// No request runs twice at a node, and no call begins or ends twice.
 pub fn happens_at_most_once()
     ensures { HappensAtMostOnce }
+{}
+
+/// Each call number of a node is asked once, each session number is made once and gets its other
+/// end once, and no two calls of a session begin as one request.
+pub fn numbers_are_used_once()
+    ensures { NumbersAreUsedOnce }
+{}
+
+/// Each run of a handler is for one call, and each call is one request, whose handler runs once at
+/// most.
+pub fn calls_run_once()
+    ensures { CallsRunOnce }
 {}
 
 /// At every moment, the unanswered packets of a live client session of a node and its free credits

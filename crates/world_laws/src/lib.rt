@@ -5,7 +5,7 @@
 mod laws;
 
 pub use laws::{
-    credit_balances, ended_calls_are_not_queued, ended_sessions_are_not_queued, follows_runs,
-    happens_at_most_once, inbox_fits, older_requests_are_not_queued, requests_tell_the_history,
-    ring_fits, scripts_pair_few,
+    calls_run_once, credit_balances, ended_calls_are_not_queued, ended_sessions_are_not_queued,
+    follows_runs, happens_at_most_once, inbox_fits, numbers_are_used_once,
+    older_requests_are_not_queued, requests_tell_the_history, ring_fits, scripts_pair_few,
 };

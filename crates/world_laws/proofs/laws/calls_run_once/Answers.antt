@@ -1,0 +1,6 @@
+-- The two ends of a session are made once, its requests begin once, and a call is asked and begins once.
+use Rattle.world_laws.proofs.OneCallLaws.{calls-once}
+use Rattle.world_laws.proofs.laws.calls_run_once.Goals as goal
+
+pub returns : goal.returns
+returns c = calls-once
