@@ -66,8 +66,8 @@ made_at w limits = record {
   past = plain (length w.nodes) (Made limits.ring) ∷ w.past;
 }
 
--- from a moment by these facts to a moment. Where it is free, the next fact may happen at any clock: each node
--- has one of its own
+-- from a moment by these facts to a moment. Where it is free, the next fact may happen at any clock,
+-- since each node has one of its own, and a node may be made with any limits
 pub data Course (free : Bool) : Moment → List Fact → Moment → Type 0 where
   over : (w : Moment) → Course free w [] w
   in_net : (w : Moment) (f : Fact) (h : List Fact) (u : Moment) → f.who ≡ Net

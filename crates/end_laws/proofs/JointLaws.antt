@@ -1,4 +1,4 @@
--- What a joint run leaves is what its course ends with, and all that is so of the ends of sessions is so there.
+-- What a joint run leaves is what its course ends with: what is so of the ends of sessions there.
 use Rattle.rpc_laws.specs.UsualLimits.{with_ring}
 use Rattle.std.proofs.Common.{◌≡◌, ℕ, zero, suc, Bool, true, false, List, [], ◌∷◌, ◌++◌, length, Option, Some, None}
 use Rattle.std.proofs.Common.{slice_get, refl, sym, ap, ◌∙◌, subst}

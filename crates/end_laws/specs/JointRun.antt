@@ -1,8 +1,8 @@
 -- Runs of several nodes together over a network that carries, loses, repeats and holds back copies
 -- of what they send. Each node has its own limits, its own service and its own clock.
-use Rattle.std.specs.Prelude.{ℕ, ◌≡◌, ◌≢◌, ◌≤◌, ◌<◌, Bool, true, false, Some, None, List, [], ◌∷◌, ◌++◌}
-use Rattle.std.specs.Prelude.{length, map, slice_get, count_by}
-use Rattle.std.specs.List.{filter, list_any, remove, slice_set}
+use Rattle.std.specs.Prelude.{ℕ, ◌≡◌, ◌≢◌, ◌≤◌, ◌<◌, Some, None, List, [], ◌∷◌, ◌++◌, length, map}
+use Rattle.std.specs.Prelude.{slice_get, count_by}
+use Rattle.std.specs.List.{filter, remove, slice_set}
 use Rattle.rpc_base.specs.declared.event.Event.{Event}
 use Rattle.rpc_base.specs.declared.event.Event.TheVariants.{Made, PairedClient, PairedServer}
 use Rattle.rpc_base.specs.declared.event.Event.TheVariants.{Carried, Lost, Repeated, Ticked, Missed}
@@ -44,9 +44,10 @@ pub record Joint : Type 0 where
 abbrev pub nobody : Joint
 nobody = record { nodes = []; flight = [] }
 
--- a group that a node makes by itself: an end of a pair is made with the other one, and a datagram is
--- delivered out of flight
-abbrev pub IsAlone : (mode : ℕ → Mode) (s : Timed) (x : List Fact) (t : Timed) → Group mode s x t → Type 0
+-- a group that a node makes by itself: an end of a pair is made with the other one, and a datagram
+-- is delivered out of flight
+abbrev pub IsAlone : (mode : ℕ → Mode) (s : Timed) (x : List Fact) (t : Timed)
+    → Group mode s x t → Type 0
 IsAlone mode s x t (pairs_client peer server credits may h) = ⊥
 IsAlone mode s x t (pairs_server peer client credits may h) = ⊥
 IsAlone mode s x t (delivers peer bytes h) = ⊥

@@ -1,5 +1,5 @@
--- Runs of nodes over wires of which nothing is known but that each datagram that comes was sent before, by its
--- sender to its node: any number of times, late, and in any order.
+-- Runs of nodes over wires of which nothing is known but that each datagram that comes was sent
+-- before, by its sender to its node: any number of times, late, and in any order.
 use Rattle.std.specs.Prelude.{ℕ, ◌≡◌, ◌≤◌, Some, List, [], ◌∷◌, ◌++◌, slice_get, count_by}
 use Rattle.std.specs.List.{slice_set}
 use Rattle.rpc_base.specs.declared.fact.Fact.{Fact}
@@ -8,7 +8,8 @@ use Rattle.rpc_laws.specs.declared.tables.Timed.{Timed}
 use Rattle.rpc_laws.specs.AtMostOnce.{works_request}
 use Rattle.rpc_laws.specs.Deliveries.{Delivers}
 use Rattle.rpc_laws.specs.Service.{Answers}
-use Rattle.end_laws.specs.JointRun.{Party, Joint, nobody, at_node, MakesNode, Acts, PairsNodes, JointRun}
+use Rattle.end_laws.specs.JointRun.{Party, Joint, nobody, at_node, MakesNode, Acts, PairsNodes}
+use Rattle.end_laws.specs.JointRun.{JointRun}
 
 -- a datagram that was sent before comes to its node. All that was sent stays on the wire
 pub record HearsCopy (s : Joint) (x : List Fact) (t : Joint) : Type 0 where
@@ -32,8 +33,8 @@ pub data WireSteps (parties : ℕ → Party) : List Fact → Joint → Type 0 wh
   more : {x : List Fact} {t : Joint} → WireSteps parties x t → (y : List Fact) → (u : Joint)
       → WireStep parties t y u → WireSteps parties (x ++ y) u
 
--- g is what such nodes note, and t what they are then, with all that was sent so far. There are no facts of a
--- network in it
+-- g is what such nodes note, and t what they are then, with all that was sent so far. No fact of g
+-- is a network's
 pub record WireRun (parties : ℕ → Party) (g : List Fact) (t : Joint) : Type 0 where
   pub steps : WireSteps parties g t
   pub worked_once : (n session request : ℕ)
@@ -48,4 +49,5 @@ pub record IsJoined (parties : ℕ → Party) (g : List Fact) (t : Joint) : Type
 
 -- over such wires nodes run as in a joint run, whose network repeats each copy before it carries it
 abbrev pub WiresJoin : Type 0
-WiresJoin = (parties : ℕ → Party) (g : List Fact) (t : Joint) → WireRun parties g t → IsJoined parties g t
+WiresJoin =
+    (parties : ℕ → Party) (g : List Fact) (t : Joint) → WireRun parties g t → IsJoined parties g t

@@ -2,6 +2,9 @@
 //! over any number of nodes and sessions, which are paired, or opened and accepted by control
 //! packets that are lost, repeated and held back as well. Each pairing of the script is of two
 //! nodes, as in every `Script`.
+//!
+//! Laws of every joint run, which follows no script: of nodes with the plain service, each with a
+//! clock, a ring and limits of its own, whatever links are busy and whatever memory is wanting.
 ghost use Rattle.std.specs.Prelude.{List, []};
 ghost use Rattle.end_laws.specs.CallOrder.{InOrder};
 ghost use Rattle.end_laws.specs.Genuine.{AllGenuine, Travels, WasPut};
@@ -64,36 +67,37 @@ pub fn scripts_pair_two_nodes()
     ensures { (script : List Line) → IsScript script → PairsTwoNodes script }
 {}
 
-/// The same of every joint run of nodes with the plain service, each with a clock of its own,
-/// whatever links are busy and whatever memory is wanting.
+/// In a joint run each handler runs on its call's own bytes, and each call ends with its own answer,
+/// as in `answers_own`.
 pub fn joint_answers_own()
     ensures { OfEveryJointRun (λ h t. Own h) }
 {}
 
-/// So are the two ends of each session at what a joint run leaves, and each front of one that ends
-/// between two groups is a joint run.
+/// In a joint run each call that ends well was asked, then begun, then run, and then ended: the run
+/// is that call's.
+pub fn joint_calls_in_order()
+    ensures { OfEveryJointRun (λ h t. InOrder h) }
+{}
+
+/// Where a joint run leaves its nodes, the two ends of each session hold what is of one call, as in
+/// `two_ends`. What it notes up to any group is a joint run too.
 pub fn joint_two_ends()
     ensures { OfEveryJointRun (λ h t. TwoEnds (moment_left h t)) }
 {}
 
-/// What session control says of them is so there.
+/// Where a joint run leaves its nodes, session control agrees, as in `ends_agree`.
 pub fn joint_ends_agree()
     ensures { OfEveryJointRun (λ h t. Agree (moment_left h t)) }
 {}
 
-/// Nodes to which only datagrams come that were sent to them before run as in a joint run, in which each of them notes
-/// the same.
-pub fn wires_join()
-    ensures { WiresJoin }
-{}
-
-/// Each datagram that a joint run leaves in flight, in a ring or in an inbox was sent by its sender to
-/// that node: none is forged, and none comes to another node.
+/// Each datagram that a joint run leaves in flight, in a ring or in an inbox was sent by its sender
+/// to that node: none is forged, and none comes to another node.
 pub fn joint_genuine()
     ensures { OfEveryJointRun (λ h t. Travels (WasPut (latest_first [] h)) (moment_left h t)) }
 {}
 
-/// Each call that ends well was asked, then begun, then run, and then ended: the run is that call's.
-pub fn joint_calls_in_order()
-    ensures { OfEveryJointRun (λ h t. InOrder h) }
+/// Nodes over wires, to which no datagram comes that wasn't sent to them before, each note what they
+/// note in some joint run.
+pub fn wires_join()
+    ensures { WiresJoin }
 {}

@@ -1,5 +1,11 @@
-//! Laws of every history that follows a script, over any number of nodes and sessions. It runs
-//! nothing.
+//! Laws of every history that follows a script, and of every joint run of nodes, over any number of
+//! nodes and sessions. It runs nothing.
 #![tactic(auto)]
 
 mod laws;
+
+pub use laws::{
+    all_genuine, answers_own, ends_agree, joint_answers_own, joint_calls_in_order,
+    joint_ends_agree, joint_genuine, joint_two_ends, scripts_pair_two_nodes, sends_its_own,
+    two_ends, wires_join,
+};

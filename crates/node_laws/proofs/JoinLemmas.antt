@@ -1,4 +1,4 @@
--- Each making of a session, and each time that a client session gets its other end, takes what isn't there again.
+-- Each making of a session, and each time that one gets its other end, takes what never comes again.
 use Rattle.std.proofs.Common.{◌≡◌, ℕ, suc, ◌+◌, ◌≤◌, Bool, true, false, ◌&&◌, cond, Option, Some, None, List, [], ◌∷◌, ◌++◌, length, refl, ap, arith}
 use Rattle.std.specs.Prelude.{◌==◌, sum_by}
 use Rattle.std.proofs.lemmas.Bool.{eqb-true}

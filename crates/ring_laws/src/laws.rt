@@ -1,6 +1,9 @@
 //! The law of receive rings of every history that follows a script, over any number of nodes and
 //! sessions, which are paired, or opened and accepted, and ended. Each pairing of the script is of
 //! two nodes, as in every `Script`.
+//!
+//! The same laws of every joint run: of nodes with the plain service, each with a clock, a ring and
+//! limits of its own, whatever links are busy and whatever memory is wanting.
 ghost use Rattle.std.specs.Prelude.{List};
 ghost use Rattle.end_laws.specs.JointRun.{LeavesAs, OfEveryJointRun};
 ghost use Rattle.end_laws.specs.TwoNodes.{PairsTwoNodes};
@@ -25,13 +28,14 @@ pub fn packets_stand_once()
         → PairsOnce h }
 {}
 
-/// The same of every joint run of nodes with the plain service, each with a clock of its own,
-/// whatever links are busy and whatever memory is wanting.
+/// In a joint run a message finds the ring of its node full only where a datagram was repeated or a
+/// call was rolled back before, at whatever node.
 pub fn joint_messages_fit()
     ensures { OfEveryJointRun (λ h t. MessagesFit h) }
 {}
 
-/// Where a joint run that is calm so far leaves its nodes, packets stand once in the same way.
+/// Where a joint run leaves its nodes and copies, each packet of a call stands in one place only, as
+/// in `packets_stand_once`, unless a datagram was repeated or a call rolled back.
 pub fn joint_packets_stand_once()
     ensures { OfEveryJointRun (LeavesAs (λ w. Calm w.past → IsTidy w)) }
 {}

@@ -25,8 +25,8 @@ abbrev pub PartyRunAt : Party → ℕ → List Fact → Option Timed → Type 0
 PartyRunAt p n facts (Some t) = IsPartyRun p n facts t
 PartyRunAt p n facts None = facts ≡ []
 
--- the facts of each number are such a run, which leaves the node as the joint run does; a number that is no
--- node's has none
+-- the facts of each number are such a run, which leaves the node as the joint run does; a number
+-- that is no node's has none
 abbrev pub JointRunsNodes : Type 0
 JointRunsNodes =
     (parties : ℕ → Party) (h : List Fact) (t : Joint) → JointRun parties h t

@@ -82,12 +82,12 @@ pub fn scripts_pair_few()
 {}
 
 /// The facts of each node of a joint run are its `Made` and a run of that node with its own limits
-/// and service, which leaves it as the joint run does.
+/// and service, which leaves it as the joint run does. So each law of one node's runs is of it.
 pub fn joint_runs_nodes()
     ensures { JointRunsNodes }
 {}
 
-/// A history that follows a script is a joint run of usual nodes.
+/// A history that follows a script is a joint run of nodes with the usual limits.
 pub fn follows_jointly()
     ensures { FollowsJointly }
 {}

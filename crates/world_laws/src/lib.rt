@@ -1,11 +1,12 @@
-//! The laws of one node's facts, of every node in every history that follows a script. It runs
-//! nothing.
+//! The laws of one node's facts, of every node in every history that follows a script; and what the
+//! facts of each node of a joint run are. It runs nothing.
 #![tactic(auto)]
 
 mod laws;
 
 pub use laws::{
     calls_run_once, credit_balances, ended_calls_are_not_queued, ended_sessions_are_not_queued,
-    follows_runs, happens_at_most_once, inbox_fits, numbers_are_used_once,
-    older_requests_are_not_queued, requests_tell_the_history, ring_fits, scripts_pair_few,
+    follows_jointly, follows_runs, happens_at_most_once, inbox_fits, joint_runs_nodes,
+    numbers_are_used_once, older_requests_are_not_queued, requests_tell_the_history, ring_fits,
+    scripts_pair_few,
 };

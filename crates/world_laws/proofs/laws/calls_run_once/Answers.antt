@@ -1,4 +1,4 @@
--- The two ends of a session are made once, its requests begin once, and a call is asked and begins once.
+-- Each end of a session is made once, and a call is asked and begins once, as one request.
 use Rattle.world_laws.proofs.OneCallLaws.{calls-once}
 use Rattle.world_laws.proofs.laws.calls_run_once.Goals as goal
 

@@ -1,3 +1,0 @@
-//! Endpoints over wires.
-#![tactic(auto)]
-pub mod laws;
