@@ -7,4 +7,3 @@ pub mod TwoEnds
 pub mod TwoNodes
 pub mod WireRun
 pub mod CallOrder
-pub mod SendsOwn

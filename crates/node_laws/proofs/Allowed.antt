@@ -1,8 +1,11 @@
 -- What each fact needs of the lists before it.
 use Rattle.std.specs.Prelude.{ℕ, ◌≡◌, ◌+◌, ◌≤◌, ◌<◌, ◌⊎◌, true, false, Option, Some, None, List, [], ◌∷◌, length}
+use Rattle.std.specs.Prelude.{option_map, slice_get}
 use Rattle.std.specs.List.{AllByRecursion, find, list_any}
+use Rattle.packet_header.specs.Header.{AreBytes, HasHead, InRange}
 use Rattle.packet_header.specs.Parts.{packet_count}
-use Rattle.packet_header.specs.Reading.{decoded}
+use Rattle.packet_header.specs.declared.packet.Kind.{Kind}
+use Rattle.packet_header.specs.declared.packet.Kind.TheVariants.{Request, Rfr, Cr, Response}
 use Rattle.packet_header.specs.declared.packet.MessageHeader.{MessageHeader}
 use Rattle.rpc_base.specs.Owners.{same_owner}
 use Rattle.rpc_base.specs.declared.event.Event.{Event}
@@ -13,22 +16,24 @@ use Rattle.rpc_base.specs.declared.event.Event.TheVariants.{FailedNoAnswer}
 use Rattle.rpc_base.specs.declared.event.Event.TheVariants.{Closing as BeginsClosing, ClosedHeard}
 use Rattle.rpc_base.specs.declared.event.Event.TheVariants.{ClosedUnheard, Asked, Begun, Arrived}
 use Rattle.rpc_base.specs.declared.event.Event.TheVariants.{Posted, Took, Given, Ran, Rolled}
-use Rattle.rpc_base.specs.declared.event.Event.TheVariants.{Broken, DoneOk, DoneTooSmall}
+use Rattle.rpc_base.specs.declared.event.Event.TheVariants.{Sent, Broken, DoneOk, DoneTooSmall}
 use Rattle.rpc_base.specs.declared.event.Event.TheVariants.{DonePeerLost}
 use Rattle.rpc_base.specs.declared.fact.Fact.{Fact}
 use Rattle.rpc_base.specs.declared.limits.TheConstants.{MOST_CALLS}
 use Rattle.rpc_base.specs.declared.state.SessionState.{SessionState}
 use Rattle.rpc_base.specs.declared.state.SessionState.TheVariants.{Connecting, Closing}
 use Rattle.rpc_base.specs.declared.owner.Owner.{Owner}
-use Rattle.rpc_base.specs.declared.owner.Owner.TheVariants.{Ask, Reply}
+use Rattle.rpc_base.specs.declared.owner.Owner.TheVariants.{Ask, Reply, Control}
 use Rattle.rpc_laws.specs.declared.tables.Call.{Call}
 use Rattle.rpc_laws.specs.declared.tables.Client.{Client}
 use Rattle.rpc_laws.specs.declared.tables.Job.{Job}
 use Rattle.rpc_laws.specs.declared.tables.Lists.{Lists}
+use Rattle.rpc_laws.specs.declared.tables.Outgoing.{Outgoing}
 use Rattle.rpc_laws.specs.declared.tables.Progress.{Progress}
 use Rattle.rpc_laws.specs.declared.tables.Queued.{Queued}
 use Rattle.rpc_laws.specs.declared.tables.Served.{Served}
 use Rattle.rpc_laws.specs.declared.tables.Server.{Server}
+use Rattle.rpc_laws.specs.BufferSafety.{SpellsControl}
 use Rattle.rpc_laws.specs.Calls.{asked_packets, known_packets}
 use Rattle.rpc_laws.specs.ClientTable.{is_of_turn}
 use Rattle.rpc_laws.specs.Deliveries.{inbox_room}
@@ -36,9 +41,11 @@ use Rattle.rpc_laws.specs.Front.{is_message, is_control, front_header, front_bod
 use Rattle.rpc_laws.specs.Groups.{shares}
 use Rattle.rpc_laws.specs.Jobs.{is_job}
 use Rattle.rpc_laws.specs.NodeLists.{after}
+use Rattle.rpc_laws.specs.Packets.{owner_packet}
 use Rattle.rpc_laws.specs.Posting.{is_taken, next_turn}
 use Rattle.rpc_laws.specs.Queues.{is_queued}
 use Rattle.rpc_laws.specs.Requests.{is_server, is_request, in_slot_of, request_of}
+use Rattle.rpc_laws.specs.ServerTable.{is_past_end}
 use Rattle.rpc_laws.specs.Sessions.{is_client, is_connected, is_live}
 use Rattle.node_laws.proofs.Places.{Place, Active}
 use Rattle.node_laws.specs.Valid.{is_due}
@@ -237,36 +244,83 @@ pub record HasRoom (s : Lists) (bytes : List ℕ) : Type 0 where
   pub message : is_message bytes ≡ true → length s.ring < s.room
   pub control : is_control bytes ≡ true → length s.inbox < inbox_room
 
--- what an event with these first bytes needs
-abbrev pub AllowedBy : Lists → Event → List ℕ → Type 0
-AllowedBy s (Arrived peer) bytes = HasRoom s bytes
-AllowedBy s e bytes = Allowed s e
+-- what the kind of a packet tells that goes on with a request: it is of a message of the same size,
+-- or wants a part that the answer has
+abbrev pub GoesBy : Kind → Served → MessageHeader → Type 0
+GoesBy Request q h = h.size ≡ q.size
+GoesBy Rfr q h = is_past_end q.size (option_map length q.answer) h.number ≡ false
+GoesBy Cr q h = ⊥
+GoesBy Response q h = ⊥
 
-pub allowed-of : (s : Lists) (e : Event) (bytes : List ℕ) → AllowedBy s e bytes → Allowed s e
-allowed-of s (Arrived peer) bytes a = tt
-allowed-of s e bytes a = a
+-- the next packet of a request
+pub record Grows (q : Served) (h : MessageHeader) : Type 0 where
+  pub turn : h.number ≡ q.taken
+  pub goes : GoesBy h.kind q h
 
--- no bytes are no datagram
-pub allowed-plain : (s : Lists) (e : Event) → Allowed s e → AllowedBy s e []
-unfolding decoded
-allowed-plain s (Arrived peer) a = record { message = λ e. cc; control = λ e. cc }
-allowed-plain s e a = a
+-- a packet that is taken is the next one of its request, where that stands
+pub record MayTakeAsk (s : Lists) (session request : ℕ) : Type 0 where
+  pub serve : MayServe s session request
+  pub grows : (q : Served) → find (is_request request) serve.server.slots ≡ Some q
+      → Grows q serve.header
+
+-- a reply is posted to a packet that was taken
+pub record MayReply (servers : List Server) (session request number : ℕ) : Type 0 where
+  pub stands : Stands servers session request
+  pub taken : number < stands.served.taken
+
+-- the front of the queue is sent to its peer, with the head and the body of its owner's packet
+pub record MaySend (s : Lists) (peer : ℕ) (owner : Owner) (number : ℕ) (head body : List ℕ)
+    : Type 0 where
+  pub due : Option ℕ
+  pub is_front : slice_get s.queued 0 ≡ Some (record { owner = owner; number = number; due = due })
+  pub out : Outgoing
+  pub own : owner_packet s owner number ≡ Some out
+  pub to_peer : peer ≡ out.peer
+  pub in_range : InRange out.packet
+  pub has_head : HasHead out.packet head
+  pub long : length head ≡ 16
+  pub bytes : AreBytes head
+  pub whole : body ≡ out.body
+
+-- what an event with these bytes needs, which some events need more of
+abbrev pub AllowedBy : Lists → Event → (first second : List ℕ) → Type 0
+AllowedBy s (Arrived peer) first second = HasRoom s first
+AllowedBy s (Took (Reply session request) number) first second = MayTakeAsk s session request
+AllowedBy s (Posted (Reply session request) number) first second =
+    MayReply s.servers session request number
+AllowedBy s (Sent peer (Ask session request) number) first second =
+    MaySend s peer (Ask session request) number first second
+AllowedBy s (Sent peer (Reply session request) number) first second =
+    MaySend s peer (Reply session request) number first second
+AllowedBy s (Sent peer Control number) first second = SpellsControl (s ∷ []) 0 peer number first second
+AllowedBy s e first second = Allowed s e
+
+pub allowed-of : (s : Lists) (e : Event) (first second : List ℕ) → AllowedBy s e first second
+    → Allowed s e
+allowed-of s (Arrived peer) first second a = tt
+allowed-of s (Took (Reply session request) number) first second a = a.serve
+allowed-of s (Posted (Reply session request) number) first second a = a.stands
+allowed-of s (Sent peer owner number) first second a = tt
+allowed-of s e first second a = a
 
 -- facts that happen at one clock, each allowed
 abbrev pub AllAllowed : ℕ → Lists → List Fact → Type 0
 AllAllowed clock s [] = Unit {0}
-AllAllowed clock s (f ∷ fs) = AllowedBy s f.event f.first × AllAllowed clock (after clock s f) fs
+AllAllowed clock s (f ∷ fs) =
+    AllowedBy s f.event f.first f.second × AllAllowed clock (after clock s f) fs
 
 -- allowed facts, each at a clock of its own, lead from lists to lists
 abbrev pub Leads : Lists → List Fact → Lists → Type 0
 Leads s [] t = t ≡ s
 Leads s (f ∷ fs) t = (clock : ℕ) × Allowed s f.event × Leads (after clock s f) fs t
 
--- the same, and each datagram has room
+-- the same, and each has what its bytes need
 abbrev pub LeadsBy : Lists → List Fact → Lists → Type 0
 LeadsBy s [] t = t ≡ s
-LeadsBy s (f ∷ fs) t = (clock : ℕ) × AllowedBy s f.event f.first × LeadsBy (after clock s f) fs t
+LeadsBy s (f ∷ fs) t =
+    (clock : ℕ) × AllowedBy s f.event f.first f.second × LeadsBy (after clock s f) fs t
 
 pub leads-of : (s : Lists) (x : List Fact) (t : Lists) → LeadsBy s x t → Leads s x t
 leads-of s [] t l = l
-leads-of s (f ∷ fs) t l = (l.0, allowed-of s f.event f.first l.1, leads-of (after l.0 s f) fs t l.2)
+leads-of s (f ∷ fs) t l =
+    (l.0, allowed-of s f.event f.first f.second l.1, leads-of (after l.0 s f) fs t l.2)

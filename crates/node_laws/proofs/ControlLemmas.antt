@@ -11,7 +11,6 @@ use Rattle.packet_header.specs.declared.packet.ControlKind.TheVariants.{ConnectR
 use Rattle.packet_header.specs.declared.packet.ControlKind.TheVariants.{DisconnectRequest}
 use Rattle.packet_header.specs.declared.packet.ControlKind.TheVariants.{DisconnectReply}
 use Rattle.rpc_base.specs.declared.event.Event.TheVariants.{Ended, Heard}
-use Rattle.rpc_base.specs.declared.fact.Fact.{Fact}
 use Rattle.rpc_base.specs.declared.state.SessionState.{SessionState}
 use Rattle.rpc_base.specs.declared.state.SessionState.TheVariants.{Unknown, Connecting, Connected}
 use Rattle.rpc_base.specs.declared.state.SessionState.TheVariants.{Closing, Closed, Failed, Broken}
@@ -24,11 +23,11 @@ use Rattle.rpc_laws.specs.declared.tables.Client.{Client}
 use Rattle.rpc_laws.specs.declared.tables.Lists.{Lists}
 use Rattle.rpc_laws.specs.declared.tables.Queued.{Queued}
 use Rattle.rpc_laws.specs.declared.tables.Server.{Server}
-use Rattle.rpc_laws.specs.ControlSteps.{SpeaksIf, Hears, HearsAll}
+use Rattle.rpc_laws.specs.ControlSteps.{Hears, HearsAll}
 use Rattle.rpc_laws.specs.ControlTable.{confirm_row, end_row, named_end, joined_row, refused_row}
 use Rattle.rpc_laws.specs.ControlTable.{reply_row, over_row, closed_row, opened_row, is_end_of}
 use Rattle.rpc_laws.specs.ControlTable.{control_row_of, control_row, session_flushes, session_end}
-use Rattle.rpc_laws.specs.ControlTable.{control_facts, control_reply}
+use Rattle.rpc_laws.specs.ControlTable.{control_facts}
 use Rattle.rpc_laws.specs.Facts.{plain}
 use Rattle.rpc_laws.specs.Groups.{shares, has_no_room, servers_spent}
 use Rattle.rpc_laws.specs.NodeLists.{after, after_all}
@@ -39,7 +38,7 @@ use Rattle.node_laws.proofs.FlushLemmas.{no-more-same, slots-flushed}
 use Rattle.node_laws.proofs.LeftLemmas.{same-slot}
 use Rattle.node_laws.proofs.LeadsLemmas.{allowed-join, Lawful, lawful-goes, lawful-until}
 use Rattle.rpc_base.proofs.FirstLemmas.{found-own}
-use Rattle.node_laws.proofs.TimerLemmas.{speaks-allowed}
+use Rattle.node_laws.proofs.SaidLemmas.{row-said, row-tied}
 use Rattle.node_laws.specs.Valid.{Valid}
 
 -- which session a connect request gets
@@ -292,11 +291,6 @@ row-allowed clock s v peer h Fails k =
 row-allowed clock s v peer h Closes k =
     let on = k.closes refl in (record { client = on.client; found = on.found; stands = on.stands }, tt)
 
-said-allowed : (clock : ℕ) (s : Lists) (me peer : ℕ) (o : Option ControlHeader) (x : List Fact)
-    → SpeaksIf me peer o x → AllAllowed clock s x
-said-allowed clock s me peer None x h = rw h tt
-said-allowed clock s me peer (Some c) x h = speaks-allowed clock s me peer c x h
-
 hears-lawful : Lawful Hears
 hears-lawful s x t v h =
     let row = control_row h.lacks h.front.peer h.header s.lists in
@@ -304,8 +298,8 @@ hears-lawful s x t v h =
     let facts = control_facts s.lists h.front.peer h.header row in
     let first = row-allowed s.clock s.lists v h.front.peer h.header row
     (row-tells h.header.kind h.lacks h.front.peer h.header s.lists) in
-    let said = said-allowed s.clock (after_all s.clock heard facts) s.lists.me h.front.peer
-    (control_reply h.header row) h.said h.speaks in
+    let tied = row-tied h.header.kind h.lacks h.front.peer h.header s.lists v in
+    let said = row-said s.clock s.lists v h.front.peer h.header h.said row tied h.speaks in
     lawful-goes s x t h.goes (rw h.facts (tt, allowed-join s.clock heard facts h.said first said))
 
 pub hears-all-lawful : Lawful HearsAll

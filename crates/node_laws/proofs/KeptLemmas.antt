@@ -45,7 +45,7 @@ kept-after clock s f k a =
 pub kept-all : (clock : ℕ) (s : Lists) (x : List Fact) → Kept s → AllAllowed clock s x → Kept (after_all clock s x)
 kept-all clock s [] k a = k
 kept-all clock s (f ∷ fs) k a =
-    kept-all clock (after clock s f) fs (kept-after clock s f k (allowed-of s f.event f.first a.0)) a.1
+    kept-all clock (after clock s f) fs (kept-after clock s f k (allowed-of s f.event f.first f.second a.0)) a.1
 
 pub kept-at : (s : Timed) (x : List Fact) (t : Timed) → Kept s.lists → LeadsAt s x t → Kept t.lists
 kept-at s x t k l = rw (l.lists) (kept-all s.clock s.lists x k l.all)

@@ -8,7 +8,7 @@ use Rattle.rpc_laws.specs.GoBackN.{Each}
 use Rattle.rpc_laws.specs.NodeLists.{after, after_all}
 use Rattle.rpc_laws.proofs.RunLemmas.{after_all-append}
 use Rattle.rpc_laws.specs.Steps.{Rel, Goes, Then, Chain, none, more, Until, Visits, NotesNext, NotesAll}
-use Rattle.node_laws.proofs.Allowed.{Allowed, allowed-of, allowed-plain, AllAllowed, Leads, LeadsBy, leads-of}
+use Rattle.node_laws.proofs.Allowed.{AllowedBy, allowed-of, AllAllowed, Leads, LeadsBy, leads-of}
 use Rattle.node_laws.specs.Valid.{Valid}
 use Rattle.node_laws.proofs.ValidLemmas.{valid_after}
 
@@ -21,7 +21,7 @@ pub valid_after_all : (clock : ℕ) (s : Lists) (x : List Fact) → Valid s → 
 valid_after_all clock s [] v a = v
 valid_after_all clock s (f ∷ fs) v a =
     valid_after_all clock (after clock s f) fs
-    (valid_after clock s f v (allowed-of s f.event f.first a.0)) a.1
+    (valid_after clock s f v (allowed-of s f.event f.first f.second a.0)) a.1
 
 pub leads-join : (s : Lists) (x : List Fact) (t : Lists) (y : List Fact) (u : Lists) → LeadsBy s x t
     → LeadsBy t y u → LeadsBy s (x ++ y) u
@@ -109,9 +109,8 @@ lawful-each P p (n ∷ ns) s x t v h = lawful-then (P n) (Each P ns) (p n) (lawf
 
 -- events that are noted next
 pub lawful-notes : (next : Lists → Option Event)
-    → ((s : Lists) (e : Event) → Valid s → next s ≡ Some e → Allowed s e) → Lawful (NotesAll next)
+    → ((s : Lists) (e : Event) → Valid s → next s ≡ Some e → AllowedBy s e [] []) → Lawful (NotesAll next)
 lawful-notes next allowed = lawful-until (NotesNext next) (λ t. next t.lists ≡ None) one
   where
     one : Lawful (NotesNext next)
-    one s x t v h = lawful-goes s x t h.goes (rw h.facts
-        (allowed-plain s.lists h.event (allowed s.lists h.event v h.is_next), tt))
+    one s x t v h = lawful-goes s x t h.goes (rw h.facts (allowed s.lists h.event v h.is_next, tt))

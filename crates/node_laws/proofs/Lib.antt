@@ -4,6 +4,7 @@ pub mod Allowed
 mod AskedLemmas
 pub mod BeginLemmas
 pub mod ChangeLemmas
+pub mod ClockLemmas
 pub mod ControlLemmas
 pub mod CountLemmas
 pub mod CreditLaws
@@ -22,6 +23,7 @@ pub mod JoinLemmas
 pub mod KeptLemmas
 pub mod LeadsLemmas
 pub mod LeftLemmas
+pub mod LengthLemmas
 pub mod LiveLemmas
 pub mod LookLemmas
 pub mod NewestLemmas
@@ -47,6 +49,8 @@ pub mod RequestTableLaws
 pub mod RingLaws
 pub mod RowLemmas
 pub mod RunLaws
+pub mod SaidLemmas
+pub mod SendsLaws
 pub mod ServantLemmas
 pub mod ServeLemmas
 pub mod ServedLemmas
@@ -59,6 +63,7 @@ pub mod StandLemmas
 pub mod StateLemmas
 pub mod TableLaws
 pub mod TakenLemmas
+pub mod TakenRights
 pub mod TellEventLemmas
 pub mod TellLemmas
 pub mod TimerLemmas

@@ -1,6 +1,6 @@
 -- Beginning and posting note only what is allowed.
 use Rattle.std.proofs.Common.{◌≡◌, ℕ, zero, suc, ◌+◌, ◌<◌, Bool, true, false, not, cond}
-use Rattle.std.proofs.Common.{Option, Some, None, List, length, refl, subst, arith}
+use Rattle.std.proofs.Common.{Option, Some, None, List, [], length, refl, subst, arith}
 use Rattle.std.specs.Prelude.{◌==◌, slice_get, option_map, option_and_then, is_none}
 use Rattle.std.specs.List.{find, position_or_len}
 use Rattle.std.proofs.lemmas.Bool.{eqb-false, ltb-true, not-true}
@@ -18,7 +18,7 @@ use Rattle.rpc_laws.specs.Posting.{can_post, next_packet, posting, next_begun, n
 use Rattle.rpc_laws.specs.Posting.{if_connected}
 use Rattle.rpc_laws.specs.Sessions.{is_client, is_connected}
 use Rattle.rpc_laws.specs.Steps.{NotesAll}
-use Rattle.node_laws.proofs.Allowed.{Allowed, MayBegin, MayPost}
+use Rattle.node_laws.proofs.Allowed.{Allowed, AllowedBy, allowed-of, MayBegin, MayPost}
 use Rattle.node_laws.proofs.LeadsLemmas.{Lawful, lawful-then, lawful-notes, lawful-visits}
 use Rattle.node_laws.proofs.NumberLemmas.{numbered-found}
 use Rattle.node_laws.proofs.SpanLemmas.{span}
@@ -58,12 +58,12 @@ waits-none None h = refl
 waits-none (Some p) h = cc
 
 module _ (s : Lists) (e : Event) where
-  become : (d : Event) → Some d ≡ Some e → Allowed s d → Allowed s e
-  become d h a = let same : d ≡ e = cc in subst (λ (f : Event). Allowed s f) same a
+  become : (d : Event) → Some d ≡ Some e → AllowedBy s d [] [] → AllowedBy s e [] []
+  become d h a = let same : d ≡ e = cc in subst (λ (f : Event). AllowedBy s f [] []) same a
 
   begins-slot : (x : Client) (c : Call) → find (is_client x.way.number) s.clients ≡ Some x
       → find is_waiting x.calls ≡ Some c → (l : Option ℕ) → lowest_free x.calls ≡ l
-      → option_map (λ slot. Begun c.what.number (next_turn x.turns slot)) l ≡ Some e → Allowed s e
+      → option_map (λ slot. Begun c.what.number (next_turn x.turns slot)) l ≡ Some e → AllowedBy s e [] []
   begins-slot x c found call None free h = cc
   begins-slot x c found call (Some slot) free h =
       let place : Place s.clients x.way.number x c = record { test = is_waiting; client = found; call = call } in
@@ -85,12 +85,12 @@ module _ (s : Lists) (e : Event) where
   begins-call : (x : Client) → find (is_client x.way.number) s.clients ≡ Some x → (o : Option Call)
       → find is_waiting x.calls ≡ o
       → option_and_then (λ c. option_map (λ slot. Begun c.what.number (next_turn x.turns slot))
-      (lowest_free x.calls)) o ≡ Some e → Allowed s e
+      (lowest_free x.calls)) o ≡ Some e → AllowedBy s e [] []
   begins-call x found None call h = cc
   begins-call x found (Some c) call h = begins-slot x c found call (lowest_free x.calls) refl h
 
   begins-client : (i : ℕ) → Valid s → (o : Option Client) → slice_get s.clients i ≡ o
-      → option_and_then beginning o ≡ Some e → Allowed s e
+      → option_and_then beginning o ≡ Some e → AllowedBy s e [] []
   begins-client i v None at h = cc
   begins-client i v (Some x) at h =
       begins-call x (numbered-found client_no 0 i s.clients x v.numbered at) (find is_waiting x.calls) refl h
@@ -98,7 +98,7 @@ module _ (s : Lists) (e : Event) where
   posts-call : (x : Client) (c : Call) → find (is_client x.way.number) s.clients ≡ Some x
       → find can_post x.calls ≡ Some c → is_connected x.state ≡ true → 0 < x.free
       → (o : Option Progress) → c.progress ≡ o → has_postable c.what o ≡ true
-      → next_packet x.way.number o ≡ Some e → Allowed s e
+      → next_packet x.way.number o ≡ Some e → AllowedBy s e [] []
   posts-call x c found call on credit None active able h = cc
   posts-call x c found call on credit (Some p) active able h =
       let place : Place s.clients x.way.number x c = record { test = can_post; client = found; call = call } in
@@ -118,7 +118,7 @@ module _ (s : Lists) (e : Event) where
 
   posts-next : (x : Client) → find (is_client x.way.number) s.clients ≡ Some x
       → is_connected x.state ≡ true → 0 < x.free → (o : Option Call) → find can_post x.calls ≡ o
-      → option_and_then (λ c. next_packet x.way.number c.progress) o ≡ Some e → Allowed s e
+      → option_and_then (λ c. next_packet x.way.number c.progress) o ≡ Some e → AllowedBy s e [] []
   posts-next x found on credit None call h = cc
   posts-next x found on credit (Some c) call h =
       posts-call x c found call on credit c.progress refl (find-passes can_post x.calls c call) h
@@ -126,7 +126,7 @@ module _ (s : Lists) (e : Event) where
   posts-free : (x : Client) → find (is_client x.way.number) s.clients ≡ Some x
       → is_connected x.state ≡ true → (b : Bool) → (x.free == 0) ≡ b
       → cond b None (option_and_then (λ c. next_packet x.way.number c.progress)
-      (find can_post x.calls)) ≡ Some e → Allowed s e
+      (find can_post x.calls)) ≡ Some e → AllowedBy s e [] []
   posts-free x found on true t h = cc
   posts-free x found on false t h =
       let other = eqb-false x.free 0 t in
@@ -138,7 +138,7 @@ module _ (s : Lists) (e : Event) where
       above (suc n) k = omega arith
 
   posts-client : (i : ℕ) → Valid s → (o : Option Client) → slice_get s.clients i ≡ o
-      → option_and_then (if_connected posting) o ≡ Some e → Allowed s e
+      → option_and_then (if_connected posting) o ≡ Some e → AllowedBy s e [] []
   posts-client i v None at h = cc
   posts-client i v (Some x) at h =
       let next = next-on (is_connected x.state) (posting x) e h in
@@ -154,19 +154,25 @@ connected-next : (next : Client → Option Event) (o : Option Client) (e : Event
 connected-next next None e h = h
 connected-next next (Some x) e h = some-of (is_connected x.state) (next x) e h
 
-pub begun-allowed : (i : ℕ) (s : Lists) (e : Event) → Valid s → next_begun i s ≡ Some e → Allowed s e
-begun-allowed i s e v h =
+pub begun-by : (i : ℕ) (s : Lists) (e : Event) → Valid s → next_begun i s ≡ Some e → AllowedBy s e [] []
+begun-by i s e v h =
     begins-client s e i v (slice_get s.clients i) refl
     (connected-next beginning (slice_get s.clients i) e h)
 
+pub posted-by : (i : ℕ) (s : Lists) (e : Event) → Valid s → next_posted i s ≡ Some e → AllowedBy s e [] []
+posted-by i s e v h = posts-client s e i v (slice_get s.clients i) refl h
+
+pub begun-allowed : (i : ℕ) (s : Lists) (e : Event) → Valid s → next_begun i s ≡ Some e → Allowed s e
+begun-allowed i s e v h = allowed-of s e [] [] (begun-by i s e v h)
+
 pub posted-allowed : (i : ℕ) (s : Lists) (e : Event) → Valid s → next_posted i s ≡ Some e → Allowed s e
-posted-allowed i s e v h = posts-client s e i v (slice_get s.clients i) refl h
+posted-allowed i s e v h = allowed-of s e [] [] (posted-by i s e v h)
 
 serves-lawful : (i : ℕ) → Lawful (Serves i)
 serves-lawful i =
     lawful-then (NotesAll (next_begun i)) (NotesAll (next_posted i))
-    (lawful-notes (next_begun i) (begun-allowed i))
-    (lawful-notes (next_posted i) (posted-allowed i))
+    (lawful-notes (next_begun i) (begun-by i))
+    (lawful-notes (next_posted i) (posted-by i))
 
 pub posts-lawful : Lawful PostsAll
 posts-lawful s x t v h = lawful-visits Serves serves-lawful (length s.lists.clients) s x t v h

@@ -26,30 +26,30 @@ pushed-by peer room bytes ring test false e more h = h
 dropped-by : (room : ℕ) (ring : List Arrival) → length ring ≤ room → length (drop 1 ring) ≤ room
 dropped-by room ring h = omega (arith, length-drop 1 ring)
 
-ring-after : (e : Event) (bytes : List ℕ) (s : Lists) → AllowedBy s e bytes → length s.ring ≤ s.room
-    → length (ring_after e bytes s.ring) ≤ s.room
-ring-after (Arrived peer) bytes s a h =
+ring-after : (e : Event) (bytes second : List ℕ) (s : Lists) → AllowedBy s e bytes second
+    → length s.ring ≤ s.room → length (ring_after e bytes s.ring) ≤ s.room
+ring-after (Arrived peer) bytes second s a h =
     pushed-by peer s.room bytes s.ring (is_message bytes) (is_message bytes) refl (λ e. let more = a.message e in omega arith) h
-ring-after (Took owner k) bytes s a h = dropped-by s.room s.ring h
-ring-after (Again owner k) bytes s a h = dropped-by s.room s.ring h
-ring-after (Dropped why) bytes s a h = dropped-by s.room s.ring h
-ring-after _ bytes s a h = h
+ring-after (Took owner k) bytes second s a h = dropped-by s.room s.ring h
+ring-after (Again owner k) bytes second s a h = dropped-by s.room s.ring h
+ring-after (Dropped why) bytes second s a h = dropped-by s.room s.ring h
+ring-after _ bytes second s a h = h
 
-inbox-after : (e : Event) (bytes : List ℕ) (s : Lists) → AllowedBy s e bytes
+inbox-after : (e : Event) (bytes second : List ℕ) (s : Lists) → AllowedBy s e bytes second
     → length s.inbox ≤ inbox_room → length (inbox_after e bytes s.inbox) ≤ inbox_room
-inbox-after (Arrived peer) bytes s a h =
+inbox-after (Arrived peer) bytes second s a h =
     pushed-by peer inbox_room bytes s.inbox (is_control bytes) (is_control bytes) refl (λ e. let more = a.control e in omega arith) h
-inbox-after Heard bytes s a h = dropped-by inbox_room s.inbox h
-inbox-after _ bytes s a h = h
+inbox-after Heard bytes second s a h = dropped-by inbox_room s.inbox h
+inbox-after _ bytes second s a h = h
 
 within : (s : Lists) (g : List Fact) (t : Lists) → length s.ring ≤ s.room → LeadsBy s g t → RingWithin s.room s.ring g
 within s [] t h l = h
-within s (f ∷ g) t h l = (h, within (after l.0 s f) g t (ring-after f.event f.first s l.1 h) l.2)
+within s (f ∷ g) t h l = (h, within (after l.0 s f) g t (ring-after f.event f.first f.second s l.1 h) l.2)
 
 inbox-within : (s : Lists) (g : List Fact) (t : Lists) → length s.inbox ≤ inbox_room → LeadsBy s g t
     → InboxWithin s.inbox g
 inbox-within s [] t h l = h
-inbox-within s (f ∷ g) t h l = (h, inbox-within (after l.0 s f) g t (inbox-after f.event f.first s l.1 h) l.2)
+inbox-within s (f ∷ g) t h l = (h, inbox-within (after l.0 s f) g t (inbox-after f.event f.first f.second s l.1 h) l.2)
 
 pub ring_within : RingFits
 ring_within p me limits g t r = within (new_lists me limits) g t.lists (omega arith) (run_leads_by r)

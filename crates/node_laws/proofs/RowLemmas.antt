@@ -1,5 +1,5 @@
 -- What the rows of the server rule tell: which packet begins a request, and which goes on with it.
-use Rattle.std.proofs.Common.{◌≡◌, ◌+◌, ◌≤◌, Bool, true, false, not, ◌&&◌, ◌||◌, cond, ltb, length}
+use Rattle.std.proofs.Common.{◌≡◌, ◌+◌, ◌≤◌, ◌<◌, Bool, true, false, not, ◌&&◌, ◌||◌, cond, ltb, length}
 use Rattle.std.proofs.Common.{Option, Some, None, refl, arith}
 use Rattle.std.specs.Prelude.{◌==◌, option_map}
 use Rattle.std.proofs.lemmas.Bool.{eqb-true, ltb-true, ltb-false, and_parts, or_parts, not-false, not-true}
@@ -13,7 +13,7 @@ use Rattle.rpc_laws.specs.declared.rows.ServerRow.{ServerRow}
 use Rattle.rpc_laws.specs.declared.rows.ServerRow.TheVariants.{Drops, Begins, Takes, Repeats}
 use Rattle.rpc_laws.specs.declared.tables.Served.{Served}
 use Rattle.rpc_laws.specs.ServerTable.{is_rfr, is_last, makes_job, new_row, is_past_end}
-use Rattle.rpc_laws.specs.ServerTable.{is_worked_on, newest_of, own_row, slot_row}
+use Rattle.rpc_laws.specs.ServerTable.{is_worked_on, newest_of, own_row, repeated_row, slot_row}
 use Rattle.rpc_outside.specs.declared.service.Mode.{Mode}
 use Rattle.rpc_laws.specs.Service.{is_handled}
 use Rattle.node_laws.proofs.Allowed.{Newer}
@@ -78,10 +78,16 @@ own-begins mode full lacks l h e =
     let six = not-begins (lacks && is_last h) (Drops NoMemory) Takes (drops-begins NoMemory) five.1 in
     takes-begins six.1
 
--- the next packet of a request: of its turn, and a Request has the size told
+-- the next packet of a request: of its turn; a Request has the size told, and an RFR wants a part
+-- that the answer has
 pub record Next (l : Served) (h : MessageHeader) : Type 0 where
   pub turn : h.number ≡ l.taken
   pub sized : is_rfr h.kind ≡ false → h.size ≡ l.size
+  pub wants : is_rfr h.kind ≡ true → is_past_end l.size (option_map length l.answer) h.number ≡ false
+
+wants-by : (rfr past : Bool) → (rfr && past) ≡ false → rfr ≡ true → past ≡ false
+wants-by true past e f = e
+wants-by false past e f = cc
 
 sized-by : (rfr low typed same : Bool) → cond rfr low (not (typed && same)) ≡ false → rfr ≡ false → same ≡ true
 sized-by true low typed same e f = cc
@@ -93,10 +99,13 @@ own-next mode full lacks l h e =
     let one = not-takes _ (Drops Mismatch) _ (drops-takes Mismatch) e in
     let two = not-takes (ltb l.taken h.number) (Drops Ahead) _ (drops-takes Ahead) one.1 in
     let three = not-takes (ltb h.number l.taken) _ _ (before-takes (is_worked_on (newest_of l) h.number)) two.1 in
+    let past = is_past_end l.size (option_map length l.answer) h.number in
+    let four = not-takes (is_rfr h.kind && past) (Drops Beyond) _ (drops-takes Beyond) three.1 in
     let low = ltb-false l.taken h.number two.0 in
     let high = ltb-false h.number l.taken three.0 in
     record {
       turn = omega arith;
+      wants = wants-by (is_rfr h.kind) past four.0;
       sized = λ f. eqb-true h.size l.size (sized-by (is_rfr h.kind)
           (ltb h.number (packet_count l.size)) (h.req_type == l.req_type)
           (h.size == l.size) one.0 f);
@@ -165,10 +174,34 @@ new-repeats mode working full lacks h e =
     let five = not-repeats lacks (Drops NoMemory) Begins (drops-repeats NoMemory) four.1 in
     begins-repeats five.1
 
+takes-repeats : Takes ≡ Repeats → ⊥
+takes-repeats e = cc
+
+-- a packet that was taken before is of a number below those that are taken next
+own-repeats : (mode : Mode) (full lacks : Bool) (l : Served) (h : MessageHeader)
+    → own_row mode full lacks (newest_of l) h ≡ Repeats → h.number < l.taken
+own-repeats mode full lacks l h e =
+    let one = not-repeats _ (Drops Mismatch) _ (drops-repeats Mismatch) e in
+    let two = not-repeats (ltb l.taken h.number) (Drops Ahead) _ (drops-repeats Ahead) one.1 in
+    by (ltb h.number l.taken) refl two.1
+  where
+    by : (b : Bool) → ltb h.number l.taken ≡ b
+        → cond b (repeated_row (newest_of l) h.number)
+        (cond (is_rfr h.kind && is_past_end l.size (option_map length l.answer) h.number)
+        (Drops Beyond) (cond (makes_job mode h && full) (Drops JobsFull)
+        (cond (lacks && is_last h) (Drops NoMemory) Takes))) ≡ Repeats → h.number < l.taken
+    by true t k = ltb-true h.number l.taken t
+    by false t k =
+        let four = not-repeats _ (Drops Beyond) _ (drops-repeats Beyond) k in
+        let five = not-repeats _ (Drops JobsFull) _ (drops-repeats JobsFull) four.1 in
+        let six = not-repeats _ (Drops NoMemory) Takes (drops-repeats NoMemory) five.1 in
+        absurd (takes-repeats six.1)
+
 pub record Repeated (o : Option Served) (h : MessageHeader) : Type 0 where
   pub served : Served
   pub is_served : o ≡ Some served
   pub own : served.number ≡ h.request
+  pub before : h.number < served.taken
 
 pub repeats-slot : (mode : Mode) (full lacks : Bool) (o : Option Served) (h : MessageHeader)
     → slot_row mode full lacks o h ≡ Repeats → Repeated o h
@@ -184,7 +217,12 @@ repeats-slot mode full lacks (Some l) h e =
     by true t low k = absurd (new-repeats mode l.working full lacks h k)
     by false t low k =
         let high = ltb-false l.number h.request t in
-        record { served = l; is_served = refl; own = omega arith }
+        record {
+          served = l;
+          is_served = refl;
+          own = omega arith;
+          before = own-repeats mode full lacks l h k;
+        }
 
 pub last-parts : (h : MessageHeader) → is_last h ≡ true → (is_rfr h.kind ≡ false)
     × (h.number + 1 ≡ packet_count h.size)

@@ -1,11 +1,15 @@
 -- A run of a node notes only what is allowed, and what always holds does.
-use Rattle.std.proofs.Common.{◌≡◌, ℕ, suc, ◌+◌, ◌≤◌, Bool, true, false, not, cond, ltb, Option}
+use Rattle.std.proofs.Common.{◌≡◌, ℕ, suc, ◌+◌, ◌-◌, ◌≤◌, ◌<◌, Bool, true, false, not, cond, ltb, Option}
 use Rattle.std.proofs.Common.{Some, None, List, [], ◌∷◌, length, refl, ap, ap₂, subst, ◌∙◌, inl}
 use Rattle.std.proofs.Common.{inr, arith}
-use Rattle.std.specs.Prelude.{◌==◌, is_some, slice_get, Result, Ok, Err}
-use Rattle.std.specs.List.{find}
+use Rattle.std.specs.Prelude.{◌==◌, ◌&&◌, is_none, is_some, option_and_then, slice_get, Result, Ok, Err}
+use Rattle.std.specs.List.{AllByRecursion, find}
 use Rattle.std.proofs.lemmas.Bool.{and_parts, eqb-true, ltb-true, ltb-false, not-false}
 use Rattle.packet_header.specs.Reading.{decoded, message_in, message_of, body_of}
+use Rattle.packet_header.specs.Header.{AreBytes, HasHead, InRange}
+use Rattle.packet_header.specs.Kinds.{is_asking}
+use Rattle.packet_header.specs.Parts.{packet_count}
+use Rattle.packet_header.proofs.PartsLemmas.{packet_count_above}
 use Rattle.packet_header.specs.declared.packet.BadPacket.{BadPacket}
 use Rattle.packet_header.specs.declared.packet.Packet.{Packet}
 use Rattle.packet_header.specs.declared.packet.Packet.TheVariants.{Control, Message}
@@ -18,8 +22,10 @@ use Rattle.rpc_base.specs.declared.event.Event.TheVariants.{Closing as BeginsClo
 use Rattle.rpc_base.specs.declared.event.Event.TheVariants.{NconnectNumbers, NconnectRing}
 use Rattle.rpc_base.specs.declared.event.Event.TheVariants.{NcloseState, NcloseBusy, Rated, Nrate}
 use Rattle.rpc_base.specs.declared.event.Event.TheVariants.{NcallTooLarge, Arrived}
-use Rattle.rpc_base.specs.declared.event.Event.TheVariants.{Overflowed, Bad, Ran, Worked, Missed}
+use Rattle.rpc_base.specs.declared.event.Event.TheVariants.{Overflowed, Bad, Ran, Sent, Worked, Missed}
 use Rattle.rpc_base.specs.declared.fact.Fact.{Fact}
+use Rattle.rpc_base.specs.declared.owner.Owner.{Owner}
+use Rattle.rpc_base.specs.declared.owner.Owner.TheVariants.{Ask, Reply, Control as IsControl}
 use Rattle.rpc_base.specs.declared.state.SessionState.{SessionState}
 use Rattle.rpc_base.specs.declared.state.SessionState.TheVariants.{Unknown, Connecting, Connected}
 use Rattle.rpc_base.specs.declared.state.SessionState.TheVariants.{Closing, Closed, Failed, Broken}
@@ -29,6 +35,7 @@ use Rattle.rpc_laws.specs.declared.tables.Call.{Call}
 use Rattle.rpc_laws.specs.declared.tables.Client.{Client}
 use Rattle.rpc_laws.specs.declared.tables.Job.{Job}
 use Rattle.rpc_laws.specs.declared.tables.Lists.{Lists}
+use Rattle.rpc_laws.specs.declared.tables.Outgoing.{Outgoing}
 use Rattle.rpc_laws.specs.declared.tables.Served.{Served}
 use Rattle.rpc_laws.specs.declared.tables.Server.{Server}
 use Rattle.rpc_laws.specs.declared.tables.Timed.{Timed}
@@ -41,6 +48,7 @@ use Rattle.rpc_laws.specs.Groups.{ask_by_state, shares, clients_spent, servers_s
 use Rattle.rpc_laws.specs.Groups.{refusal_by, connect_by, disconnect_by, pending}
 use Rattle.rpc_laws.specs.Jobs.{is_job}
 use Rattle.rpc_laws.specs.NodeLists.{after, new_lists, new_node}
+use Rattle.rpc_laws.specs.Packets.{owner_packet}
 use Rattle.rpc_laws.specs.PollOrder.{answer_posted, awaited, awaited_of, Finishes, FinishesOne}
 use Rattle.rpc_laws.specs.PollOrder.{FinishesSome}
 use Rattle.rpc_laws.specs.PollOrder.{handling_by, Handles, NoMoreToHandle, HandlesAll, PostsAll}
@@ -50,22 +58,23 @@ use Rattle.rpc_base.specs.declared.limits.Limits.{Limits}
 use Rattle.rpc_laws.specs.Service.{Serving}
 use Rattle.rpc_laws.specs.Sessions.{is_client, is_connected, is_live}
 use Rattle.rpc_laws.specs.Steps.{Then}
-use Rattle.rpc_laws.specs.Requests.{request_of}
+use Rattle.rpc_laws.specs.Requests.{is_request, is_server, request_of}
 use Rattle.node_laws.specs.NodeRun.{Notes, Group, pairs_client, pairs_server, refuses, connects}
 use Rattle.node_laws.specs.NodeRun.{disconnects, sets_rate, asks, delivers, polls, works, misses}
 use Rattle.node_laws.specs.NodeRun.{NodeRun}
-use Rattle.node_laws.proofs.Allowed.{Allowed, Stands, MayFinish, MayClose, AllowedBy, allowed-plain}
+use Rattle.node_laws.proofs.Allowed.{MayFinish, MayClose, MayReply, AllowedBy}
 use Rattle.node_laws.proofs.Allowed.{AllAllowed, Leads, LeadsBy, leads-of}
 use Rattle.node_laws.proofs.ControlLemmas.{hears-all-lawful}
 use Rattle.node_laws.proofs.LeadsLemmas.{valid_leads, LeadsAt, leads-at, Lawful, lawful-goes}
 use Rattle.node_laws.proofs.LeadsLemmas.{lawful-then, lawful-until, lawful-chain, groups-chain}
 use Rattle.node_laws.proofs.PostLemmas.{posts-lawful}
 use Rattle.node_laws.proofs.ReplyLemmas.{replies-allowed}
-use Rattle.node_laws.proofs.ServeLemmas.{stands-ran, asks-allowed}
+use Rattle.node_laws.proofs.ServeLemmas.{reply-ran, asks-allowed}
 use Rattle.node_laws.proofs.StateLemmas.{told-connected, told-few}
 use Rattle.node_laws.proofs.TimerLemmas.{timers-lawful}
-use Rattle.node_laws.specs.Valid.{Valid}
+use Rattle.node_laws.specs.Valid.{RunWhole, SoundServer, Valid}
 use Rattle.node_laws.proofs.ValidLemmas.{valid_new}
+use Rattle.rpc_base.proofs.FirstLemmas.{found-holds}
 use Rattle.rpc_base.proofs.TakingLemmas.{find-passes}
 
 -- a packet is handled
@@ -79,37 +88,71 @@ front-is (a ∷ ring) d e =
     )
 
 module _ (mode : ℕ → Mode) (lacks : Bool) (answer : List ℕ) where
-  handling-allowed : (clock : ℕ) (s : Lists) (peer : ℕ) (h : MessageHeader) (k : Kind) → Valid s
-      → front_header s.ring ≡ Some h
+  handling-allowed : (clock : ℕ) (s : Lists) (peer : ℕ) (h : MessageHeader) (k : Kind) → h.kind ≡ k
+      → Valid s → front_header s.ring ≡ Some h
       → AllAllowed clock s (handling_by mode lacks answer k s peer h (front_body s.ring))
-  handling-allowed clock s peer h Request v front = asks-allowed clock s v h front peer mode lacks answer
-  handling-allowed clock s peer h Rfr v front = asks-allowed clock s v h front peer mode lacks answer
-  handling-allowed clock s peer h Cr v front = replies-allowed clock s v h front peer
-  handling-allowed clock s peer h Response v front = replies-allowed clock s v h front peer
+  handling-allowed clock s peer h Request e v front =
+      asks-allowed clock s v h front (ap is_asking e) peer mode lacks answer
+  handling-allowed clock s peer h Rfr e v front =
+      asks-allowed clock s v h front (ap is_asking e) peer mode lacks answer
+  handling-allowed clock s peer h Cr e v front = replies-allowed clock s v h front peer
+  handling-allowed clock s peer h Response e v front = replies-allowed clock s v h front peer
 
 pub handles-lawful : (mode : ℕ → Mode) → Lawful (Handles mode)
 handles-lawful mode s x t v h =
     let front = front-is s.lists.ring h.front h.is_front in
     let header : front_header s.lists.ring ≡ Some h.header = front.0 ∙ h.reads in
-    let all = handling-allowed mode h.lacks h.answer s.clock s.lists h.front.peer h.header h.header.kind v header in
+    let all = handling-allowed mode h.lacks h.answer s.clock s.lists h.front.peer h.header h.header.kind refl
+    v header in
     lawful-goes s x t h.goes (rw (h.facts, ← front.1) all)
 
 -- a job is finished
 
-awaited-stands : (t r k : ℕ) (servers : List Server) (o : Option Served)
-    → request_of t r servers ≡ o → awaited_of o ≡ Some k → Stands servers t r
-awaited-stands t r k servers None e h = cc
-awaited-stands t r k servers (Some q) e h = record { served = q; found = e }
+whole-of : (t r : ℕ) (servers : List Server) (q : Served) → AllByRecursion SoundServer servers
+    → request_of t r servers ≡ Some q → RunWhole q
+whole-of t r servers q sound found = by (find (is_server t) servers) refl found
+  where
+    by : (o : Option Server) → find (is_server t) servers ≡ o
+        → option_and_then (λ v. find (is_request r) v.slots) o ≡ Some q → RunWhole q
+    by None e h = cc
+    by (Some v) e h =
+        found-holds (is_request r) RunWhole v.slots q
+        (found-holds (is_server t) SoundServer servers v sound e).whole h
+
+-- a worker has a request only when it is whole
+working-whole : (q : Served) (k : ℕ) (b : Bool) → q.working ≡ b → RunWhole q
+    → cond b (Some (packet_count q.size - 1)) None ≡ Some k → k < q.taken
+working-whole q k true e whole h =
+    let all : packet_count q.size ≤ q.taken = whole (at-work (is_none q.answer) q.working e) in
+    let above = packet_count_above q.size in
+    let same : packet_count q.size - 1 ≡ k = cc in
+    omega arith
+  where
+    at-work : (b w : Bool) → w ≡ true → (b && not w) ≡ false
+    at-work true true e = refl
+    at-work true false e = cc
+    at-work false w e = refl
+working-whole q k false e whole h = cc
+
+awaited-reply : (t r k : ℕ) (servers : List Server) → AllByRecursion SoundServer servers
+    → (o : Option Served) → request_of t r servers ≡ o → awaited_of o ≡ Some k
+    → MayReply servers t r k
+awaited-reply t r k servers sound None e h = cc
+awaited-reply t r k servers sound (Some q) e h = record {
+  stands = record { served = q; found = e };
+  taken = working-whole q k q.working refl (whole-of t r servers q sound e) h;
+}
 
 finish-allowed : (clock : ℕ) (s : Lists) (job : Job) (answer : List ℕ) (o : Option ℕ)
-    → awaited job s.servers ≡ o → MayFinish s job.session job.request
+    → AllByRecursion SoundServer s.servers → awaited job s.servers ≡ o
+    → MayFinish s job.session job.request
     → AllAllowed clock s (with_two s.me (Ran job.session job.request job.req_type) job.ask answer
     ∷ answer_posted s.me job o)
-finish-allowed clock s job answer None e may = (inr may, tt)
-finish-allowed clock s job answer (Some k) e may =
-    let stands = awaited-stands job.session job.request k s.servers
+finish-allowed clock s job answer None sound e may = (inr may, tt)
+finish-allowed clock s job answer (Some k) sound e may =
+    let reply = awaited-reply job.session job.request k s.servers sound
     (request_of job.session job.request s.servers) refl e in
-    (inr may, (stands-ran job.session job.request answer s.servers stands, tt))
+    (inr may, (reply-ran job.session job.request k answer s.servers reply, tt))
 
 own-finish : (s : Lists) (session request : ℕ) (job : Job)
     → find (is_job session request) s.jobs.out ≡ Some job → MayFinish s job.session job.request
@@ -124,7 +167,7 @@ pub finishes-lawful : (session request : ℕ) → Lawful (Finishes session reque
 finishes-lawful session request s x t v h =
     let job = h.job in
     lawful-goes s x t h.goes (rw h.facts (finish-allowed s.clock s.lists job h.answer
-    (awaited job s.lists.servers) refl (own-finish s.lists session request job h.is_out)))
+    (awaited job s.lists.servers) v.served refl (own-finish s.lists session request job h.is_out)))
 
 pub finishes-some : Lawful FinishesSome
 finishes-some s x t v h =
@@ -132,8 +175,45 @@ finishes-some s x t v h =
     v h
 
 -- a packet is sent, and a poll ends
+sent-by : (s : Lists) (out : Outgoing) (head : List ℕ) (owner : Owner) (number : ℕ)
+    (due : Option ℕ)
+    → slice_get s.queued 0 ≡ Some (record { owner = owner; number = number; due = due })
+    → owner_packet s owner number ≡ Some out → InRange out.packet → HasHead out.packet head
+    → length head ≡ 16 → AreBytes head
+    → AllowedBy s (Sent out.peer owner number) head out.body
+sent-by s out head (Ask n r) number due front own in_range has_head long bytes = record {
+  due = due;
+  is_front = front;
+  out = out;
+  own = own;
+  to_peer = refl;
+  in_range = in_range;
+  has_head = has_head;
+  long = long;
+  bytes = bytes;
+  whole = refl;
+}
+sent-by s out head (Reply t r) number due front own in_range has_head long bytes = record {
+  due = due;
+  is_front = front;
+  out = out;
+  own = own;
+  to_peer = refl;
+  in_range = in_range;
+  has_head = has_head;
+  long = long;
+  bytes = bytes;
+  whole = refl;
+}
+sent-by s out head IsControl number due front own in_range has_head long bytes = cc
+
 pub sends-lawful : Lawful Sends
-sends-lawful s x t v h = lawful-goes s x t h.goes (rw h.facts (tt, tt))
+sends-lawful s x t v h =
+    lawful-goes s x t h.goes (rw h.facts (
+      sent-by s.lists h.out h.head h.entry.owner h.entry.number h.entry.due h.is_front h.packet
+          h.in_range h.has_head h.long h.bytes,
+      tt,
+    ))
 
 pub closes-lawful : Lawful Closes
 closes-lawful s x t v h = lawful-goes s x t h.goes (rw h.facts (tt, tt))
@@ -157,11 +237,11 @@ poll-lawful mode now s x t v h =
 -- an end of a pair is refused
 pub refused-by : (s : Lists) (e : Event) (n credits room : ℕ) (b c : Bool)
     → cond b (Some NconnectNumbers) (cond c (Some (NconnectRing n credits room)) None) ≡ Some e
-    → Allowed s e
+    → AllowedBy s e [] []
 refused-by s e n credits room true c h =
-    let same : NconnectNumbers ≡ e = cc in subst (λ (d : Event). Allowed s d) same tt
+    let same : NconnectNumbers ≡ e = cc in subst (λ (d : Event). AllowedBy s d [] []) same tt
 refused-by s e n credits room false true h =
-    let same : NconnectRing n credits room ≡ e = cc in subst (λ (d : Event). Allowed s d) same tt
+    let same : NconnectRing n credits room ≡ e = cc in subst (λ (d : Event). AllowedBy s d [] []) same tt
 refused-by s e n credits room false false h = cc
 
 -- a call is asked
@@ -169,6 +249,7 @@ asked-by : (s : Lists) (session req_type room : ℕ) (ask : List ℕ) (o : Optio
     → find (is_client session) s.clients ≡ o → (state : SessionState) → state_of o ≡ state
     → AllowedBy s (ask_by_state state session req_type room ask s).event
     (ask_by_state state session req_type room ask s).first
+    (ask_by_state state session req_type room ask s).second
 asked-by s session req_type room ask None found Connected e = cc
 asked-by s session req_type room ask (Some x) found Connected e = record {
   next = refl;
@@ -185,9 +266,11 @@ asked-by s session req_type room ask o found Failed e = tt
 asked-by s session req_type room ask o found Broken e = tt
 asked-by s session req_type room ask o found Spent e = tt
 
-asked-allowed : (s : Lists) (session n : ℕ) (f : Fact) (b : Bool) → AllowedBy s f.event f.first
+asked-allowed : (s : Lists) (session n : ℕ) (f : Fact) (b : Bool)
+    → AllowedBy s f.event f.first f.second
     → AllowedBy s (cond b (plain s.me (NcallTooLarge session n)) f).event
     (cond b (plain s.me (NcallTooLarge session n)) f).first
+    (cond b (plain s.me (NcallTooLarge session n)) f).second
 asked-allowed s session n f true a = tt
 asked-allowed s session n f false a = a
 
@@ -201,7 +284,7 @@ no-control bytes e h = by (decoded bytes) e h where
   by (Err bad) i j = cc
 
 message-by : (s : Lists) (peer : ℕ) (bytes : List ℕ) (b : Bool) → ltb (length s.ring) s.room ≡ b
-    → is_message bytes ≡ true → AllowedBy s (cond b (Arrived peer) (Overflowed peer)) bytes
+    → is_message bytes ≡ true → AllowedBy s (cond b (Arrived peer) (Overflowed peer)) bytes []
 message-by s peer bytes true e h = record {
   message = λ i. ltb-true (length s.ring) s.room e;
   control = λ i. absurd (no-control bytes h i);
@@ -210,7 +293,7 @@ message-by s peer bytes false e h = tt
 
 control-by : (s : Lists) (peer : ℕ) (bytes : List ℕ) (b : Bool)
     → ltb (length s.inbox) inbox_room ≡ b → is_control bytes ≡ true
-    → AllowedBy s (cond b (Arrived peer) (Overflowed peer)) bytes
+    → AllowedBy s (cond b (Arrived peer) (Overflowed peer)) bytes []
 control-by s peer bytes true e h = record {
   message = λ i. absurd (no-control bytes i h);
   control = λ i. ltb-true (length s.inbox) inbox_room e;
@@ -220,7 +303,7 @@ control-by s peer bytes false e h = tt
 delivered-by : (s : Lists) (peer : ℕ) (bytes : List ℕ) (b c : Bool) → is_message bytes ≡ b
     → is_control bytes ≡ c
     → AllowedBy s (cond b (arrival (length s.ring) s.room peer)
-    (cond c (arrival (length s.inbox) inbox_room peer) (Bad peer))) bytes
+    (cond c (arrival (length s.inbox) inbox_room peer) (Bad peer))) bytes []
 delivered-by s peer bytes true c e h = message-by s peer bytes (ltb (length s.ring) s.room) refl e
 delivered-by s peer bytes false true e h = control-by s peer bytes (ltb (length s.inbox) inbox_room) refl h
 delivered-by s peer bytes false false e h = tt
@@ -263,14 +346,14 @@ none-pending (c ∷ cs) e = let none = eqb-true (suc (length cs)) 0 e in absurd 
 closed-by : (s : Lists) (session calls : ℕ) (state : SessionState) (b c : Bool)
     → (b ≡ false → c ≡ false → MayClose s session)
     → AllowedBy s (cond b (NcloseState session state)
-    (cond c (NcloseBusy session calls) (BeginsClosing session))) []
+    (cond c (NcloseBusy session calls) (BeginsClosing session))) [] []
 closed-by s session calls state true c h = tt
 closed-by s session calls state false true h = tt
 closed-by s session calls state false false h = h refl refl
 
 disconnect-by : (s : Lists) (session : ℕ) (o : Option Client)
     → find (is_client session) s.clients ≡ o
-    → AllowedBy s (disconnect_by (state_of o) session (pending o)) []
+    → AllowedBy s (disconnect_by (state_of o) session (pending o)) [] []
 disconnect-by s session None found = tt
 disconnect-by s session (Some x) found =
     closed-by s session (length x.calls) (told_state x.state x.asked)
@@ -285,7 +368,7 @@ disconnect-by s session (Some x) found =
     })
 
 rate-by : (s : Lists) (session rate : ℕ) (state : SessionState) (b : Bool)
-    → AllowedBy s (cond b (Rated session rate) (Nrate session state)) []
+    → AllowedBy s (cond b (Rated session rate) (Nrate session state)) [] []
 rate-by s session rate state true = tt
 rate-by s session rate state false = tt
 
@@ -326,9 +409,9 @@ delivers-lawful peer bytes s x t v h =
       tt,
     ))
 
-pub notes-lawful : (e : Event) (s : Timed) (x : List Fact) (t : Timed) → Allowed s.lists e
-    → Notes e s x t → LeadsAt s x t
-notes-lawful e s x t a h = lawful-goes s x t h.goes (rw h.facts (allowed-plain s.lists e a, tt))
+pub notes-lawful : (e : Event) (s : Timed) (x : List Fact) (t : Timed)
+    → AllowedBy s.lists e [] [] → Notes e s x t → LeadsAt s x t
+notes-lawful e s x t a h = lawful-goes s x t h.goes (rw h.facts (a, tt))
 
 -- a group notes what is allowed, at a clock of its own
 pub record LeadsFrom (s : Timed) (x : List Fact) (t : Timed) : Type 0 where

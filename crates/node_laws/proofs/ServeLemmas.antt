@@ -1,10 +1,13 @@
 -- The server rule notes only what is allowed.
 use Rattle.std.proofs.Common.{◌≡◌, ℕ, ◌%◌, ◌<◌, Bool, true, false, not, ◌&&◌, cond, Option, Some}
-use Rattle.std.proofs.Common.{None, List, [], ◌∷◌, ◌++◌, refl, ap, ◌∙◌, inl, arith}
-use Rattle.std.specs.Prelude.{◌==◌}
+use Rattle.std.proofs.Common.{None, List, [], ◌∷◌, ◌++◌, refl, ap, ◌∙◌, inl, arith, subst}
+use Rattle.std.specs.Prelude.{◌==◌, length, option_map}
 use Rattle.std.specs.List.{find, list_any}
 use Rattle.std.proofs.lemmas.Bool.{eqb-true, eq-eqb}
+use Rattle.packet_header.specs.Kinds.{is_asking, is_rfr}
 use Rattle.packet_header.specs.Parts.{packet_count}
+use Rattle.packet_header.specs.declared.packet.Kind.{Kind}
+use Rattle.packet_header.specs.declared.packet.Kind.TheVariants.{Request, Rfr, Cr, Response}
 use Rattle.packet_header.specs.declared.packet.MessageHeader.{MessageHeader}
 use Rattle.rpc_base.specs.Tables.{at_first, without_first}
 use Rattle.rpc_base.specs.declared.event.Event.TheVariants.{Posted, Took, Given, Ran}
@@ -23,16 +26,17 @@ use Rattle.rpc_laws.specs.PollOrder.{asks_facts}
 use Rattle.rpc_laws.specs.Requests.{is_server, is_request, in_slot_of, first_packet, next_packet}
 use Rattle.rpc_laws.specs.Requests.{took_packet, answered}
 use Rattle.rpc_laws.specs.ServerTable.{slot_row, server_row, is_last, took_facts, flushes}
-use Rattle.rpc_laws.specs.ServerTable.{flushes_older, whole_ask, served_facts}
+use Rattle.rpc_laws.specs.ServerTable.{flushes_older, is_past_end, whole_ask, served_facts}
 use Rattle.rpc_outside.specs.declared.service.Mode.{Mode}
 use Rattle.rpc_laws.specs.Service.{is_mode_background}
-use Rattle.node_laws.proofs.Allowed.{Newer, NoneOlder, MayServe, Stands, MayGive, AllAllowed}
+use Rattle.node_laws.proofs.Allowed.{Newer, NoneOlder, Stands, MayGive, GoesBy, Grows}
+use Rattle.node_laws.proofs.Allowed.{MayTakeAsk, MayReply, AllAllowed}
 use Rattle.rpc_base.proofs.FindLemmas.{push-found, none-found, missing-none}
 use Rattle.node_laws.proofs.FlushLemmas.{Flushes, no-more-same, flushes-none, flushes-owner}
 use Rattle.node_laws.proofs.LeadsLemmas.{allowed-join}
 use Rattle.node_laws.proofs.LookLemmas.{look-own}
 use Rattle.node_laws.proofs.QueueLemmas.{flushed-none}
-use Rattle.node_laws.proofs.RowLemmas.{Starts, starts-slot, Continues, continues-slot, repeats-slot}
+use Rattle.node_laws.proofs.RowLemmas.{Starts, starts-slot, Continues, continues-slot, Next, repeats-slot}
 use Rattle.node_laws.proofs.RowLemmas.{last-parts, not-begins, not-takes, not-repeats, drops-begins}
 use Rattle.node_laws.proofs.RowLemmas.{drops-takes, drops-repeats}
 use Rattle.node_laws.proofs.ServerLemmas.{few-requests, request-slot}
@@ -68,11 +72,12 @@ known-repeats mode full lacks (Some v) peer h e =
     let right = not-repeats (not (v.way.peer == peer)) (Drops WrongPeer) _ (drops-repeats WrongPeer) e in
     record { server = v; is_server = refl; slot = right.1 }
 
--- a request that stands in its slot
-stands-at : (t r : ℕ) (servers : List Server) (v : Server) (q : Served)
-    → find (is_server t) servers ≡ Some v → find (is_request r) v.slots ≡ Some q
-    → Stands servers t r
-stands-at t r servers v q server served = record { served = q; found = rw (server, served) refl }
+-- a reply to a packet that was taken of a request that stands in its slot
+reply-at : (t r k : ℕ) (servers : List Server) (v : Server) (q : Served)
+    → find (is_server t) servers ≡ Some v → find (is_request r) v.slots ≡ Some q → k < q.taken
+    → MayReply servers t r k
+reply-at t r k servers v q server served taken =
+    record { stands = record { served = q; found = rw (server, served) refl }; taken = taken }
 
 -- it does so still after its run
 pub stands-ran : (t r : ℕ) (answer : List ℕ) (servers : List Server) → Stands servers t r
@@ -83,22 +88,34 @@ stands-ran t r answer servers a = record {
   found = look-own t r (answered answer) (λ q. refl) servers ∙ rw a.found refl;
 }
 
+-- and so may a reply be posted
+pub reply-ran : (t r k : ℕ) (answer : List ℕ) (servers : List Server) → MayReply servers t r k
+    → MayReply (at_first (is_server t) (λ v. record v
+    { slots = at_first (is_request r) (answered answer) v.slots }) servers) t r k
+reply-ran t r k answer servers a = record {
+  stands = record {
+    served = answered answer a.stands.served;
+    found = look-own t r (answered answer) (λ q. refl) servers ∙ rw a.stands.found refl;
+  };
+  taken = a.taken;
+}
+
 -- the facts of a packet that is taken: the last one of a request runs it or gives it
 took-by : (clock : ℕ) (s : Lists) (me : ℕ) (answer : List ℕ) (h : MessageHeader) (ask : List ℕ)
-    (b c : Bool) → MayServe s h.session h.request
+    (b c : Bool) → MayTakeAsk s h.session h.request
     → (b ≡ true → MayGive (after clock s (plain me (Took (Reply h.session h.request) h.number)))
     h.session h.request)
-    → Stands (after clock s (plain me (Took (Reply h.session h.request) h.number))).servers
-    h.session h.request → AllAllowed clock s (plain me (Took (Reply h.session h.request) h.number)
+    → MayReply (after clock s (plain me (Took (Reply h.session h.request) h.number))).servers
+    h.session h.request h.number → AllAllowed clock s (plain me (Took (Reply h.session h.request) h.number)
     ∷ cond (b && c) (plain me (Given h.session h.request) ∷ [])
     ((cond b (with_two me (Ran h.session h.request h.req_type) ask answer ∷ []) [])
     ++ plain me (Posted (Reply h.session h.request) h.number) ∷ []))
-took-by clock s me answer h ask true true serve give stands = (serve, (give refl, tt))
-took-by clock s me answer h ask true false serve give stands =
-    let ran = stands-ran h.session h.request answer
-    (after clock s (plain me (Took (Reply h.session h.request) h.number))).servers stands in
-    (serve, (inl (give refl), (ran, tt)))
-took-by clock s me answer h ask false c serve give stands = (serve, (stands, tt))
+took-by clock s me answer h ask true true take give reply = (take, (give refl, tt))
+took-by clock s me answer h ask true false take give reply =
+    let ran = reply-ran h.session h.request h.number answer
+    (after clock s (plain me (Took (Reply h.session h.request) h.number))).servers reply in
+    (take, (inl (give refl), (ran, tt)))
+took-by clock s me answer h ask false c take give reply = (take, (reply, tt))
 
 module _ (clock : ℕ) (s : Lists) (v : Server) (sound : SoundServer v) (h : MessageHeader)
     (front : front_header s.ring ≡ Some h) (found : find (is_server h.session) s.servers ≡ Some v)
@@ -137,14 +154,20 @@ module _ (clock : ℕ) (s : Lists) (v : Server) (sound : SoundServer v) (h : Mes
 
     may-begin : Newer h.request (find (in_slot_of h.request) v.slots)
         → NoneOlder h.session (find (in_slot_of h.request) v.slots) s.queued
-        → MayServe s h.session h.request
+        → MayTakeAsk s h.session h.request
     may-begin newer clean = record {
-      server = v;
-      found = found;
-      header = h;
-      front = front;
-      newer = λ _. newer;
-      clean = λ _. clean;
+      serve = record {
+        server = v;
+        found = found;
+        header = h;
+        front = front;
+        newer = λ _. newer;
+        clean = λ _. clean;
+      };
+      grows = λ q e.
+          let none = missing newer in
+          let some = found-any (is_request h.request) v.slots q e in
+          absurd (cc);
     }
 
     first-found : (b : Bool) → b ≡ false → list_any (is_request h.request) v.slots ≡ false
@@ -161,32 +184,33 @@ module _ (clock : ℕ) (s : Lists) (v : Server) (sound : SoundServer v) (h : Mes
         (none-found (is_request h.request) (without_first (in_slot_of h.request) v.slots)
         (omega arith)) (eq-eqb h.request h.request refl)
 
-    stands-as : (q : Served)
+    reply-as : (q : Served)
         → find (is_request h.request) (took_packet h.request (Some h) (front_body s.ring) v.slots)
-        ≡ Some q → Stands (at_first (is_server h.session)
+        ≡ Some q → h.number < q.taken → MayReply (at_first (is_server h.session)
         (λ w. record w {
           slots = took_packet h.request (front_header s.ring)
               (front_body s.ring) w.slots;
-        }) s.servers) h.session h.request
-    stands-as q e =
-        stands-at h.session h.request (at_first (is_server h.session)
+        }) s.servers) h.session h.request h.number
+    reply-as q e taken =
+        reply-at h.session h.request h.number (at_first (is_server h.session)
         (λ w. record w {
           slots = took_packet h.request (front_header s.ring)
               (front_body s.ring) w.slots;
         }) s.servers)
         (record v { slots = took_packet h.request (Some h) (front_body s.ring) v.slots }) q
-        next-server e
+        next-server e taken
 
-    stands-first : Newer h.request (find (in_slot_of h.request) v.slots)
-        → Stands (at_first (is_server h.session)
+    reply-first : Starts (find (in_slot_of h.request) v.slots) h
+        → MayReply (at_first (is_server h.session)
         (λ w. record w {
           slots = took_packet h.request (front_header s.ring)
               (front_body s.ring) w.slots;
-        }) s.servers) h.session h.request
-    stands-first newer =
-        let none = missing newer in
-        stands-as (first_packet h.request h (front_body s.ring))
-        (first-found (list_any (is_request h.request) v.slots) none none)
+        }) s.servers) h.session h.request h.number
+    reply-first starts =
+        let none = missing starts.newer in
+        let first = starts.first in
+        reply-as (first_packet h.request h (front_body s.ring))
+        (first-found (list_any (is_request h.request) v.slots) none none) (omega arith)
 
     may-give-first : (me : ℕ) → Starts (find (in_slot_of h.request) v.slots) h → is_last h ≡ true
         → MayGive (after clock s (plain me (Took (Reply h.session h.request) h.number))) h.session
@@ -213,14 +237,30 @@ module _ (clock : ℕ) (s : Lists) (v : Server) (sound : SoundServer v) (h : Mes
         (few-requests h.request v.slots (sound.apart (h.request % 8))) e
         (eq-eqb l.number h.request same)
 
-    may-go-on : (l : Served) → find (is_request h.request) v.slots ≡ Some l → MayServe s h.session h.request
-    may-go-on l e = record {
-      server = v;
-      found = found;
-      header = h;
-      front = front;
-      newer = λ none. let some = found-any (is_request h.request) v.slots l e in cc;
-      clean = λ none. let some = found-any (is_request h.request) v.slots l e in cc;
+    goes-by : (k : Kind) → is_asking k ≡ true → (l : Served) → (is_rfr k ≡ false → h.size ≡ l.size)
+        → (is_rfr k ≡ true → is_past_end l.size (option_map length l.answer) h.number ≡ false)
+        → GoesBy k l h
+    goes-by Request asks l sized wants = sized refl
+    goes-by Rfr asks l sized wants = wants refl
+    goes-by Cr asks l sized wants = cc
+    goes-by Response asks l sized wants = cc
+
+    may-go-on : is_asking h.kind ≡ true → (l : Served)
+        → find (is_request h.request) v.slots ≡ Some l → Next l h
+        → MayTakeAsk s h.session h.request
+    may-go-on asks l e next = record {
+      serve = record {
+        server = v;
+        found = found;
+        header = h;
+        front = front;
+        newer = λ none. let some = found-any (is_request h.request) v.slots l e in cc;
+        clean = λ none. let some = found-any (is_request h.request) v.slots l e in cc;
+      };
+      grows = λ q f.
+          let same : l ≡ q = cc in
+          subst (λ (z : Served). Grows z h) same
+          (record { turn = next.turn; goes = goes-by h.kind asks l next.sized next.wants });
     }
 
     none-yet : (l : Served) (b : Bool) → is_due l ≡ b → RunWhole l → l.taken < packet_count l.size → b ≡ true
@@ -237,16 +277,16 @@ module _ (clock : ℕ) (s : Lists) (v : Server) (sound : SoundServer v) (h : Mes
         (is_request h.request) l v.slots (find-passes (is_request h.request) v.slots l e) e e
     next-found l false t e = cc
 
-    stands-next : (l : Served) → find (is_request h.request) v.slots ≡ Some l
-        → Stands (at_first (is_server h.session)
+    reply-next : (l : Served) → find (is_request h.request) v.slots ≡ Some l → h.number ≡ l.taken
+        → MayReply (at_first (is_server h.session)
         (λ w. record w {
           slots = took_packet h.request (front_header s.ring)
               (front_body s.ring) w.slots;
-        }) s.servers) h.session h.request
-    stands-next l e =
-        stands-as (next_packet (front_body s.ring) l)
+        }) s.servers) h.session h.request h.number
+    reply-next l e turn =
+        reply-as (next_packet (front_body s.ring) l)
         (next-found l (list_any (is_request h.request) v.slots)
-        (found-any (is_request h.request) v.slots l e) e)
+        (found-any (is_request h.request) v.slots l e) e) (omega arith)
 
     may-give-next : (me : ℕ) (c : Continues (find (in_slot_of h.request) v.slots) h)
         → is_last h ≡ true → MayGive (after clock s
@@ -289,7 +329,7 @@ older-flushed clock s me session r (Some w) v e same =
     rw (own, same) (slot-flushed clock s me session (find (in_slot_of r) v.slots))
 
 module _ (clock : ℕ) (s : Lists) (valid : Valid s) (h : MessageHeader)
-    (front : front_header s.ring ≡ Some h) (peer : ℕ) where
+    (front : front_header s.ring ≡ Some h) (asks : is_asking h.kind ≡ true) (peer : ℕ) where
   begins-allowed : (mode : Mode) (full lacks : Bool) (answer : List ℕ)
       → server_row mode full lacks (find (is_server h.session) s.servers) peer h ≡ Begins
       → AllAllowed clock s (served_facts mode s.me answer s.queued
@@ -310,8 +350,7 @@ module _ (clock : ℕ) (s : Lists) (valid : Valid s) (h : MessageHeader)
       took-by clock flushed s.me answer h (front_body s.ring) (is_last h)
       (is_mode_background mode) (may-begin clock flushed v sound h front known.is_server
       starts.newer flushes.1) (may-give-first clock flushed v sound h front known.is_server
-      s.me starts) (stands-first clock flushed v sound h front known.is_server
-      starts.newer) in
+      s.me starts) (reply-first clock flushed v sound h front known.is_server starts) in
       let rest : AllAllowed clock (after_all clock s older)
       (took_facts mode s.me answer h (front_body s.ring)) = rw flushes.0.same took in
       allowed-join clock s older (took_facts mode s.me answer h (front_body s.ring)) flushes.0.allowed rest
@@ -328,9 +367,9 @@ module _ (clock : ℕ) (s : Lists) (valid : Valid s) (h : MessageHeader)
       let own = own-found clock s v sound h front known.is_server goes.served goes.is_served goes.own in
       took-by clock s s.me answer h (whole_ask (find (is_server h.session) s.servers) h.request
       (front_body s.ring)) (is_last h) (is_mode_background mode)
-      (may-go-on clock s v sound h front known.is_server goes.served own)
+      (may-go-on clock s v sound h front known.is_server asks goes.served own goes.next)
       (may-give-next clock s v sound h front known.is_server s.me goes)
-      (stands-next clock s v sound h front known.is_server goes.served own)
+      (reply-next clock s v sound h front known.is_server goes.served own goes.next.turn)
 
   repeats-allowed : (mode : Mode) (full lacks : Bool) (answer : List ℕ)
       → server_row mode full lacks (find (is_server h.session) s.servers) peer h ≡ Repeats
@@ -341,8 +380,14 @@ module _ (clock : ℕ) (s : Lists) (valid : Valid s) (h : MessageHeader)
       let v = known.server in
       let sound = found-holds (is_server h.session) SoundServer s.servers v valid.served known.is_server in
       let again = repeats-slot mode full lacks (find (in_slot_of h.request) v.slots) h known.slot in
-      let own = own-found clock s v sound h front known.is_server again.served again.is_served again.own in
-      (tt, (stands-at h.session h.request s.servers v again.served known.is_server own, tt))
+      let own = own-found clock s v sound h front known.is_server again.served again.is_served again.own in (
+        tt,
+        (
+          reply-at h.session h.request h.number s.servers v again.served known.is_server own
+              again.before,
+          tt,
+        ),
+      )
 
   served-by : (mode : Mode) (full lacks : Bool) (answer : List ℕ) (row : ServerRow)
       → server_row mode full lacks (find (is_server h.session) s.servers) peer h ≡ row

@@ -1,5 +1,6 @@
 -- The timer rule notes only what is allowed.
-use Rattle.std.proofs.Common.{◌≡◌, ℕ, Bool, true, false, Option, Some, None, List, [], ◌∷◌, refl, sym, subst}
+use Rattle.std.proofs.Common.{◌≡◌, ℕ, Bool, true, false, Option, Some, None, List, [], ◌∷◌, refl, sym}
+use Rattle.std.proofs.Common.{subst, ap, ◌∙◌}
 use Rattle.std.specs.Prelude.{flat_map, length, map, slice_get}
 use Rattle.std.specs.List.{AllByRecursion, find}
 use Rattle.std.proofs.lemmas.Bool.{eq-eqb, eqb-true}
@@ -7,6 +8,7 @@ use Rattle.rpc_base.specs.Tables.{without_first}
 use Rattle.rpc_base.specs.declared.event.Event.TheVariants.{Rolled, Broken, DonePeerLost}
 use Rattle.rpc_base.specs.declared.owner.Owner.TheVariants.{Ask}
 use Rattle.packet_header.specs.declared.packet.ControlHeader.{ControlHeader}
+use Rattle.packet_header.specs.declared.packet.ControlKind.TheVariants.{ConnectRequest, DisconnectRequest}
 use Rattle.rpc_base.specs.declared.state.SessionState.{SessionState}
 use Rattle.rpc_base.specs.declared.state.SessionState.TheVariants.{Unknown, Connecting, Connected}
 use Rattle.rpc_base.specs.declared.state.SessionState.TheVariants.{Closing, Closed, Failed}
@@ -14,7 +16,8 @@ use Rattle.rpc_base.specs.declared.state.SessionState.TheVariants.{Broken as IsB
 use Rattle.rpc_base.specs.declared.fact.Fact.{Fact}
 use Rattle.rpc_laws.specs.declared.rows.RetryRow.{RetryRow}
 use Rattle.rpc_laws.specs.declared.rows.RetryRow.TheVariants.{Rests, Asks, GivesUp}
-use Rattle.rpc_laws.specs.ControlSteps.{control_fact, Speaks, given_up, own_request, retry_row}
+use Rattle.rpc_laws.specs.BufferSafety.{OwnControl}
+use Rattle.rpc_laws.specs.ControlSteps.{control_fact, Speaks, given_up, own_request, request_by, retry_row}
 use Rattle.rpc_laws.specs.ControlSteps.{RetriesBy, RetriesAs, RetriesOf, Retries, TimesSession}
 use Rattle.rpc_laws.specs.ControlSteps.{TimesAll}
 use Rattle.rpc_laws.specs.declared.rows.TimerRow.{TimerRow}
@@ -182,15 +185,49 @@ session-lawful : (timeout i : ℕ) → Lawful (WatchesSession timeout i)
 session-lawful timeout i s x t v h =
     lawful-each (Watches timeout i) (watches-lawful timeout i) (numbers_in (slice_get s.lists.clients i)) s x t v h
 
--- a packet of session control is sent
-said-allowed : (clock : ℕ) (s : Lists) (me peer : ℕ) (head : List ℕ) (b : Bool)
-    → AllAllowed clock s (control_fact b me peer head ∷ [])
-said-allowed clock s me peer head true = (tt, tt)
-said-allowed clock s me peer head false = (tt, tt)
-
+-- a packet of session control is sent, where it is the node's own
 pub speaks-allowed : (clock : ℕ) (s : Lists) (me peer : ℕ) (h : ControlHeader) (x : List Fact)
-    → Speaks me peer h x → AllAllowed clock s x
-speaks-allowed clock s me peer h x k = rw k.facts (said-allowed clock s me peer k.head k.taken)
+    → OwnControl s peer h → Speaks me peer h x → AllAllowed clock s x
+speaks-allowed clock s me peer h x own k = rw k.facts (by k.taken)
+  where
+    by : (b : Bool) → AllAllowed clock s (control_fact b me peer k.head ∷ [])
+    by true = (
+      record {
+        lists = s;
+        is_node = refl;
+        header = h;
+        own = own;
+        no_number = refl;
+        bytes = k.bytes;
+        spells = k.spells;
+        whole = refl;
+      },
+      tt,
+    )
+    by false = (tt, tt)
+
+-- a session's own request names it
+own-names : (state : SessionState) (number other credits : ℕ) (h : ControlHeader)
+    → request_by state number other credits ≡ Some h → h.client ≡ number
+own-names Connecting number other credits h e =
+    let same : record {
+      kind = ConnectRequest;
+      client = number;
+      server = None;
+      credits = credits;
+      status = 0;
+    } ≡ h = cc in
+    ap (λ (c : ControlHeader). c.client) (sym same)
+own-names Closing number other credits h e =
+    let same : record {
+      kind = DisconnectRequest;
+      client = number;
+      server = Some other;
+      credits = 0;
+      status = 0;
+    } ≡ h = cc in
+    ap (λ (c : ControlHeader). c.client) (sym same)
+own-names _ number other credits h e = cc
 
 -- a session's own request is sent, or the session gives up
 module _ (clock : ℕ) (s : Lists) (me : ℕ) (x : Client)
@@ -208,23 +245,31 @@ module _ (clock : ℕ) (s : Lists) (me : ℕ) (x : Client)
   given-up-allowed IsBroken e = tt
   given-up-allowed Spent e = tt
 
-  retry-allowed : (h : ControlHeader) (row : RetryRow) (facts : List Fact)
-      → RetriesBy row me x h facts → AllAllowed clock s facts
-  retry-allowed h Rests facts k = rw k tt
-  retry-allowed h Asks facts k = speaks-allowed clock s me x.way.peer h facts k
-  retry-allowed h GivesUp facts k = rw k (given-up-allowed x.state refl)
+  asks-own : (h : ControlHeader) → own_request x ≡ Some h → OwnControl s x.way.peer h
+  asks-own h own =
+      let number = own-names x.state x.way.number x.way.other x.limit h own in
+      OwnControl.asks x
+      (record { found = ap (λ n. find (is_client n) s.clients) number ∙ found; to_peer = refl }) own
 
-  retries-as : (timeout : ℕ) (o : Option ControlHeader) (facts : List Fact)
+  retry-allowed : (h : ControlHeader) (row : RetryRow) (facts : List Fact) → own_request x ≡ Some h
+      → RetriesBy row me x h facts → AllAllowed clock s facts
+  retry-allowed h Rests facts own k = rw k tt
+  retry-allowed h Asks facts own k =
+      speaks-allowed clock s me x.way.peer h facts (asks-own h own) k
+  retry-allowed h GivesUp facts own k = rw k (given-up-allowed x.state refl)
+
+  retries-as : (timeout : ℕ) (o : Option ControlHeader) (facts : List Fact) → own_request x ≡ o
       → RetriesAs o clock timeout me x facts → AllAllowed clock s facts
-  retries-as timeout None facts k = rw k tt
-  retries-as timeout (Some h) facts k = retry-allowed h (retry_row clock timeout x.sends x.sent_at) facts k
+  retries-as timeout None facts own k = rw k tt
+  retries-as timeout (Some h) facts own k =
+      retry-allowed h (retry_row clock timeout x.sends x.sent_at) facts own k
 
 retries-of : (clock timeout i : ℕ) (s : Lists) (me : ℕ) → Valid s → (o : Option Client)
     → slice_get s.clients i ≡ o → (facts : List Fact) → RetriesOf clock timeout me o facts
     → AllAllowed clock s facts
 retries-of clock timeout i s me v None at facts k = rw k tt
 retries-of clock timeout i s me v (Some x) at facts k =
-    retries-as clock s me x (numbered-found client_no 0 i s.clients x v.numbered at) timeout (own_request x) facts k
+    retries-as clock s me x (numbered-found client_no 0 i s.clients x v.numbered at) timeout (own_request x) facts refl k
 
 pub retries-lawful : (timeout i : ℕ) → Lawful (Retries timeout i)
 retries-lawful timeout i s x t v h =

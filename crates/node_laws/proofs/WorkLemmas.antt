@@ -230,7 +230,7 @@ module _ (t r : ℕ) (s : Lists) (valid : Valid s) where
   work-stays clock f a = work-by f.second (front_header s.ring) (front_body s.ring) f.event a
 
   -- a worker has the request of a job
-  has-worker : (v : Server) (q : Served) → find (is_server t) s.servers ≡ Some v
+  pub has-worker : (v : Server) (q : Served) → find (is_server t) s.servers ≡ Some v
       → find (is_request r) v.slots ≡ Some q → 1 ≤ jobs_of t r s.jobs.out → q.working ≡ true
   has-worker v q server request some =
       let good : SoundServer v = found-holds (is_server t) SoundServer s.servers v valid.served server in

@@ -16,6 +16,7 @@ use Rattle.node_laws.specs.OlderRequests.{BeginsClean}
 use Rattle.node_laws.specs.QueuedPackets.{QueueAlwaysFits}
 use Rattle.node_laws.specs.RequestHistory.{TellsRequests}
 use Rattle.node_laws.specs.RingLimit.{RingWithin, InboxWithin}
+use Rattle.node_laws.specs.SendsOwn.{SendsOwn}
 use Rattle.node_laws.specs.UsedOnce.{UsedOnce}
 
 -- of every run of a node, whatever its service, its number and its limits
@@ -78,3 +79,7 @@ SharesFit = OfEveryRun (λ ring g t. shares t.lists ≤ ring)
 -- call numbers, session numbers and the requests of a session are used once
 abbrev pub NumbersAreUsedOnce : Type 0
 NumbersAreUsedOnce = OfEveryRun (λ ring g t. UsedOnce g)
+
+-- what a node sends is what its own tables have
+abbrev pub SendsItsOwn : Type 0
+SendsItsOwn = OfEveryRun (λ ring g t. SendsOwn g)

@@ -9,6 +9,7 @@ pub mod OlderRequests
 pub mod QueuedPackets
 pub mod RequestHistory
 pub mod RingLimit
+pub mod SendsOwn
 pub mod UsedOnce
 pub mod Valid
 pub mod Windows

@@ -3,7 +3,7 @@ ghost use Rattle.node_laws.specs.Laws.{CreditBalances, EndedCallsAreNotQueued};
 ghost use Rattle.node_laws.specs.Laws.{EndedSessionsAreNotQueued, HappensAtMostOnce, InboxFits};
 ghost use Rattle.node_laws.specs.Laws.{ListsAreKept, NumbersAreUsedOnce};
 ghost use Rattle.node_laws.specs.Laws.{OlderRequestsAreNotQueued, QueuedPacketsFit};
-ghost use Rattle.node_laws.specs.Laws.{RequestsTellTheHistory, RingFits, SharesFit};
+ghost use Rattle.node_laws.specs.Laws.{RequestsTellTheHistory, RingFits, SendsItsOwn, SharesFit};
 ghost use Rattle.node_laws.specs.Laws.{TablesTellTheHistory};
 
 /// At the end of a run a node's tables are in order: sessions and calls have numbers of their own,
@@ -81,4 +81,10 @@ pub fn shares_fit()
 /// once, and no two calls of a session begin as one request.
 pub fn numbers_are_used_once()
     ensures { NumbersAreUsedOnce }
+{}
+
+/// Each packet that a run sends goes to the peer of its session, and its head and body spell the
+/// packet that its owner has by the tables of that moment.
+pub fn sends_its_own()
+    ensures { SendsItsOwn }
 {}
