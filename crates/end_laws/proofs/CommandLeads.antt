@@ -274,7 +274,7 @@ rate-leads n session rate s w x t f h =
     (sets-rate-lawful session rate) x t f h
 
 -- jobs are worked
-work-of-lawful : (l : Lists) (i : ℕ) (o : Option Job) → AllowedBy l (work_of i o) []
+work-of-lawful : (l : Lists) (i : ℕ) (o : Option Job) → AllowedBy l (work_of i o) [] []
 work-of-lawful l i None = tt
 work-of-lawful l i (Some job) = tt
 

@@ -32,7 +32,7 @@ use Rattle.rpc_laws.specs.UsualLimits.{with_ring}
 use Rattle.node_laws.specs.NodeRun.{Group, Notes, Refuses, pairs_client, pairs_server, refuses, connects}
 use Rattle.node_laws.specs.NodeRun.{disconnects, sets_rate, asks, delivers, polls, works, misses}
 use Rattle.node_laws.specs.Valid.{Valid}
-use Rattle.node_laws.proofs.Allowed.{AllAllowed as AllLawful, Allowed as LawfulEvent}
+use Rattle.node_laws.proofs.Allowed.{AllAllowed as AllLawful, AllowedBy}
 use Rattle.node_laws.proofs.LeadsLemmas.{Lawful, valid_after_all}
 use Rattle.node_laws.proofs.RunLaws.{asks-lawful, poll-lawful, connects-lawful, disconnects-lawful}
 use Rattle.node_laws.proofs.RunLaws.{sets-rate-lawful, delivers-lawful, notes-lawful, pair-fits}
@@ -125,7 +125,7 @@ poll-group now hand before s x t i v h =
     }
 
 -- one event that may be noted anywhere
-note-group : (e : Event) → ((me : ℕ) → IsFree me (plain me e)) → ((l : Lists) → LawfulEvent l e)
+note-group : (e : Event) → ((me : ℕ) → IsFree me (plain me e)) → ((l : Lists) → AllowedBy l e [] [])
     → (hand : Option InFlight) (before : Option Fact) (s : Timed) (x : List Fact) (t : Timed)
     → RightNode s.lists → Valid s.lists → Notes e s x t → GroupAt hand before s x t
 note-group e free law =
@@ -137,7 +137,7 @@ note-group e free law =
 -- a refusal
 pub record IsRefused (e : Event) : Type 0 where
   pub free : (me : ℕ) → IsFree me (plain me e)
-  pub lawful : (l : Lists) → LawfulEvent l e
+  pub lawful : (l : Lists) → AllowedBy l e [] []
 
 refused-as : (a b : Bool) (x y z : ℕ) (e : Event)
     → cond a (Some NconnectNumbers) (cond b (Some (NconnectRing x y z)) None) ≡ Some e → IsRefused e

@@ -91,7 +91,7 @@ node-course {free} w n l (f ∷ x) is me h v =
       is_node = is;
       me = me;
       allowed = h.0;
-      lawful = allowed-of l f.event f.first v.0;
+      lawful = allowed-of l f.event f.first f.second v.0;
       linked = h.1;
     } in
     let e = moved-node w n l f a in

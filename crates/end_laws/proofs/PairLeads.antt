@@ -42,7 +42,7 @@ use Rattle.end_laws.proofs.SendsLaw.{right-client, right-served}
 pub record IsRefusal (e : Event) : Type 0 where
   pub may : (hand : Option InFlight) (l : Lists) → May hand l e [] []
   pub linked : (before : Option Fact) (l : Lists) → Linked before l e []
-  pub lawful : (l : Lists) → AllowedBy l e []
+  pub lawful : (l : Lists) → AllowedBy l e [] []
   pub same : (clock : ℕ) (l : Lists) → l ≡ after clock l (plain l.me e)
   pub unsent : (me : ℕ) (c : List InFlight) → flight_after_all c (plain me e ∷ []) ≡ c
   pub unworked : (me : ℕ) (c : List WorkedJob) → worked_after_all c (plain me e ∷ []) ≡ c

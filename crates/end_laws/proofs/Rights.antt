@@ -26,16 +26,12 @@ use Rattle.rpc_laws.specs.Jobs.{is_job}
 use Rattle.rpc_laws.specs.Requests.{is_server, is_request, in_slot_of, first_packet, next_packet}
 use Rattle.rpc_laws.specs.Requests.{took_packet, given, answered}
 use Rattle.rpc_laws.specs.ServerTable.{is_past_end}
+use Rattle.node_laws.proofs.Allowed.{GoesBy}
+use Rattle.node_laws.proofs.TakenRights.{next-taken, TakenRight}
 use Rattle.end_laws.proofs.Allowed.{GoesOn, TakesOf, IsWhole, MayServe, MayFinish}
 use Rattle.end_laws.proofs.ListLemmas.{all-first, all-add, all-without, all-found}
 use Rattle.end_laws.proofs.SessionLemmas.{Over}
 use Rattle.end_laws.proofs.SlotLemmas.{any-find}
-
--- how many packets were taken: none above those of the request, and of the answer once it is known
-abbrev pub TakenRight : (taken size : ℕ) → Option (List ℕ) → Type 0
-TakenRight taken size None = taken ≤ packet_count size
-TakenRight taken size (Some a) = (packet_count size ≤ taken)
-    × (taken + 1 ≤ packet_count size + packet_count (length a))
 
 -- a request holds no more bytes than its packets have, and a worker has it only when it is whole, until it is
 -- answered. Before that it holds as many bytes as its packets have
@@ -87,30 +83,11 @@ front-right l h e = record {
 }
 
 -- one packet more
-next-taken : (answer : Option (List ℕ)) (k : Kind) (q : Served) (h : MessageHeader)
-    → q.answer ≡ answer → h.number ≡ q.taken → (k ≡ Request → h.number < packet_count h.size)
-    → GoesOn k q h → TakenRight q.taken q.size answer → TakenRight (q.taken + 1) q.size answer
-next-taken None Request q h e n low g t =
-    let lt = low refl in
-    let size : packet_count h.size ≡ packet_count q.size = ap packet_count g.1 in
-    omega arith
-next-taken None Rfr q h e n low g t = let past : is_past_end q.size None h.number ≡ false = subst (λ (a : Option (List ℕ)). is_past_end q.size (option_map length a) h.number ≡ false) e g.1 in cc
-next-taken None Cr q h e n low g t = absurd g
-next-taken None Response q h e n low g t = absurd g
-next-taken (Some a) Request q h e n low g t =
-    let lt = low refl in
-    let le = t.0 in
-    let size : packet_count h.size ≡ packet_count q.size = ap packet_count g.1 in
-    absurd (omega arith)
-next-taken (Some a) Rfr q h e n low g t =
-    let past : is_past_end q.size (Some (length a)) h.number ≡ false =
-    subst (λ (o : Option (List ℕ)). is_past_end q.size (option_map length o) h.number
-    ≡ false) e g.1 in
-    let lt : h.number + 1 < packet_count q.size + packet_count (length a) = leb-false _ _ past in
-    let le = t.0 in
-    (omega arith, omega arith)
-next-taken (Some a) Cr q h e n low g t = absurd g
-next-taken (Some a) Response q h e n low g t = absurd g
+goes-by : (k : Kind) (q : Served) (h : MessageHeader) → GoesOn k q h → GoesBy k q h
+goes-by Request q h g = g.1
+goes-by Rfr q h g = g.1
+goes-by Cr q h g = g
+goes-by Response q h g = g
 
 next-short : (k : Kind) (q : Served) (h : MessageHeader) (body : List ℕ) → GoesOn k q h
     → (k ≡ Request → length body ≤ 1024) → (k ≡ Rfr → body ≡ []) → length body ≤ 1024
@@ -141,7 +118,7 @@ next-right q h body f n g s =
     let long = s.long in
     let sum : length (q.ask ++ body) ≡ length q.ask + length body = length-append q.ask body in
     record {
-      taken = next-taken q.answer h.kind q h refl n f.low g s.taken;
+      taken = next-taken q.answer h.kind q h refl n f.low (goes-by h.kind q h g) s.taken;
       some = omega arith;
       long = omega arith;
       working = λ w. let k = s.working w in let le = k.0 in (omega arith, k.1);

@@ -49,7 +49,9 @@ use Rattle.rpc_laws.specs.Requests.{server_end, is_server, is_request, in_slot_o
 use Rattle.rpc_laws.specs.Sessions.{is_client}
 use Rattle.end_laws.specs.Moments.{Moment, moved}
 use Rattle.node_laws.specs.Valid.{Valid, client_no}
+use Rattle.node_laws.proofs.LengthLemmas.{ask-length, HasBody, reply-length}
 use Rattle.node_laws.proofs.NumberLemmas.{numbered-found}
+use Rattle.node_laws.proofs.TimerLemmas.{own-names}
 use Rattle.end_laws.proofs.Allowed.{AsksAt, May, MaySend}
 use Rattle.end_laws.proofs.Courses.{made_as, resets, AtNode, Ends, Course, over, in_net, made, at_node, pairs}
 use Rattle.end_laws.proofs.Courses.{client_fact, server_fact, paired, noted_at, moved-node}
@@ -58,93 +60,11 @@ use Rattle.end_laws.proofs.ListLemmas.{Placed, all-found, all-map, all-add}
 use Rattle.end_laws.proofs.ListLemmas.{set-placed, add-placed}
 use Rattle.end_laws.proofs.QueueLemmas.{Stood, QueueRight, RightNode, slots-right, queue-after}
 use Rattle.end_laws.proofs.QueueLemmas.{queued-right, stood-added}
-use Rattle.end_laws.proofs.Rights.{TakenRight, SlotRight}
+use Rattle.end_laws.proofs.Rights.{SlotRight}
 use Rattle.end_laws.proofs.SessionLemmas.{Over, alone-after, made-alone, over-added}
 use Rattle.end_laws.proofs.SlotLemmas.{Apart, sound-stays, slot-of-request}
 use Rattle.end_laws.proofs.Valids.{AllValid, valid-net, valid-made, valid-node, valid-pair}
 use Rattle.end_laws.proofs.Walks.{Stays}
-
-abbrev pub HasBody : Outgoing → Type 0
-HasBody out = HasLength out.packet (16 + length out.body)
-
--- a client packet
-client-length : (b : Bool) (way : Way) (a : Asking) (r k : ℕ)
-    → HasBody (cond b (record {
-      peer = way.peer;
-      packet = Message (record {
-        kind = Request;
-        req_type = a.req_type;
-        size = length a.ask;
-        session = way.other;
-        number = k;
-        request = r;
-      });
-      body = part a.ask k;
-    })
-    (record {
-      peer = way.peer;
-      packet = Message
-          (record { kind = Rfr; req_type = 0; size = 0; session = way.other; number = k; request = r });
-      body = [];
-    }))
-client-length true way a r k = ap (λ n. 16 + n) (length-part a.ask k)
-client-length false way a r k = refl
-
-call-length : (way : Way) (r k : ℕ) (c : Option Call) (out : Outgoing)
-    → call_packet way r k c ≡ Some out → HasBody out
-call-length way r k None out h = cc
-call-length way r k (Some c) out h =
-    let same : client_packet way c.what r k ≡ out = cc in
-    subst HasBody same (client-length (nat_lt k (asked_packets c.what)) way c.what r k)
-
-ask-length : (r k : ℕ) (x : Option Client) (out : Outgoing) → ask_packet r k x ≡ Some out → HasBody out
-ask-length r k None out h = cc
-ask-length r k (Some x) out h = call-length x.way r k (find (is_active r) x.calls) out h
-
--- a server packet
-some-is : (a b : Outgoing) → Some a ≡ Some b → a ≡ b
-some-is a b e = cc
-
-reply-length : (way : Way) (q : Served) (k : ℕ) (b : Bool) (answer : Option (List ℕ))
-    (out : Outgoing) → nat_lt (k + 1) (packet_count q.size) ≡ b → q.answer ≡ answer → k < q.taken
-    → SlotRight q → cond b (Some (record {
-      peer = way.peer;
-      packet = Message (record {
-        kind = Cr;
-        req_type = 0;
-        size = 0;
-        session = way.other;
-        number = k;
-        request = q.number;
-      });
-      body = [];
-    })) (option_map
-    (λ answer. record {
-      peer = way.peer;
-      packet = Message
-          (record {
-            kind = Response;
-            req_type = q.req_type;
-            size = length answer;
-            session = way.other;
-            number = k;
-            request = q.number;
-          });
-      body = part answer (k + 1 - packet_count q.size);
-    }) answer)
-    ≡ Some out → HasBody out
-reply-length way q k true answer out t e lt right h =
-    subst HasBody (some-is _ out h) refl
-reply-length way q k false None out t e lt right h = cc
-reply-length way q k false (Some a) out t e lt right h =
-    let taken : TakenRight q.taken q.size (Some a) =
-    subst (λ (o : Option (List ℕ)). TakenRight q.taken q.size o) e right.taken in
-    let high = taken.1 in
-    let above = packet_count_above (length a) in
-    let low : k + 1 - packet_count q.size < packet_count (length a) = omega arith in
-    subst HasBody (some-is _ out h) (subst (λ (n : ℕ). MessageLength Response (length a) k (16 + n))
-    (sym (length-part a (k + 1 - packet_count q.size)))
-    (response_length (length a) (k + 1 - packet_count q.size) k low))
 
 request-length : (l : Lists) (t r k : ℕ) (v : Server) (q : Option Served) (out : Outgoing)
     → RightNode l → Stood l.servers t r k → find (is_server t) l.servers ≡ Some v
@@ -165,7 +85,7 @@ request-length l t r k v (Some q) out i s is at h =
     sym (eqb-true q.number r (find-passes (is_request r) v.slots q at))
     ∙ ap (λ (z : Served). z.number) (sym same_request) in
     let lt : k < q.taken = subst (λ (z : Served). k < z.taken) same_request (s.was_taken number) in
-    reply-length v.way q k _ q.answer out refl refl lt (all-found SlotRight (is_request r) v.slots q slots at) h
+    reply-length v.way q k out lt (all-found SlotRight (is_request r) v.slots q slots at).taken h
 
 server-length : (l : Lists) (t r k : ℕ) (v : Option Server) (out : Outgoing) → RightNode l
     → Over l.servers l.server_numbers t ⊎ Stood l.servers t r k
@@ -199,31 +119,8 @@ spells-own nodes n l peer o k head body is i m =
       whole = m.whole;
     }
 
--- a session's own request names it
-own-names : (state : SessionState) (number other credits : ℕ) (h : ControlHeader)
-    → request_by state number other credits ≡ Some h → h.client ≡ number
-own-names Connecting number other credits h e =
-    let same : record {
-      kind = ConnectRequest;
-      client = number;
-      server = None;
-      credits = credits;
-      status = 0;
-    }
-    ≡ h = cc in ap (λ (c : ControlHeader). c.client) (sym same)
-own-names Closing number other credits h e =
-    let same : record {
-      kind = DisconnectRequest;
-      client = number;
-      server = Some other;
-      credits = 0;
-      status = 0;
-    }
-    ≡ h = cc in ap (λ (c : ControlHeader). c.client) (sym same)
-own-names _ number other credits h e = cc
-
--- and its session is found by that number
-pub own-control : (l : Lists) (peer : ℕ) (h : ControlHeader) → Valid l
+-- a session's own request names it, and its session is found by that number
+own-control : (l : Lists) (peer : ℕ) (h : ControlHeader) → Valid l
     → AsksAt l peer h ⊎ OwnControl l peer h → OwnControl l peer h
 own-control l peer h v (inl a) =
     let x = a.client in
@@ -347,36 +244,3 @@ right-paired w n m credits client server e i =
     ap (λ (ns : List Lists). changed w.clock (slice_get ns m) m ns other) first
     ∙ ap (λ (o : Option Lists). changed w.clock o m nodes1 other) at in
     subst (λ (ns : List Lists). Placed (λ n l. RightNode l) ns) (sym all) placed2
-
-right-at : (w : Moment) (n : ℕ) (l : Lists) (f : Fact) → AtNode w n l f → AllRight w → AllValid w
-    → RightAt w.nodes f.who f.event f.first f.second
-right-at w n l f a i v =
-    subst (λ (p : Who). RightAt w.nodes p f.event f.first f.second)
-    (sym (a.allowed.who ∙ ap Node a.me)) (sent-right w.nodes n w.hand l f.event f.first f.second
-    a.is_node (i n l a.is_node) (v n l a.is_node) a.allowed.may)
-
-pub course-sends : (w : Moment) (h : List Fact) (u : Moment) → Course false w h u → AllRight w
-    → AllValid w
-    → EachFact (λ nodes f. RightAt nodes f.who f.event f.first f.second) w.clock w.nodes h
-course-sends _ _ _ (over w) i v = tt
-course-sends _ _ _ (made_as w limits h u is c) i v = absurd (cc)
-course-sends _ _ _ (resets w clock h u is c) i v = absurd (cc)
-course-sends _ _ _ (in_net w f h u who c) i v = (
-  subst (λ (p : Who). RightAt w.nodes p f.event f.first f.second) (sym who) tt,
-  course-sends (moved w f) h u c (right-net w f who i) (valid-net w f who v),
-)
-course-sends _ _ _ (made w ring h u c) i v =
-    (tt, course-sends _ h u c (right-made w (with_ring ring) i) (valid-made w (with_ring ring) v))
-course-sends _ _ _ (at_node w n l f h u a c) i v = (
-  right-at w n l f a i v,
-  course-sends (moved w f) h u c (right-noted w n l f a i)
-      (valid-node w n l f a v),
-)
-course-sends _ _ _ (pairs w n m credits client server h u e c) i v = (
-  tt,
-  (
-    tt,
-    course-sends (paired w n m credits client server) h u c
-        (right-paired w n m credits client server e i) (valid-pair w n m credits client server e v),
-  ),
-)

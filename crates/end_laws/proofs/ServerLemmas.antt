@@ -30,7 +30,8 @@ use Rattle.end_laws.proofs.Known.{Known, Later, Begin, End, SaysRequest, Says, S
 use Rattle.end_laws.proofs.KnownLemmas.{served-later, server-later, servers-later, session-later}
 use Rattle.end_laws.proofs.ListLemmas.{all-first, all-map, all-add}
 use Rattle.end_laws.proofs.ListLemmas.{all-without, all-found}
-use Rattle.end_laws.proofs.Rights.{TakenRight, SlotRight, SlotsRight, Readable, front-right}
+use Rattle.node_laws.proofs.TakenRights.{TakenRight}
+use Rattle.end_laws.proofs.Rights.{SlotRight, SlotsRight, Readable, front-right}
 use Rattle.end_laws.proofs.SlotLemmas.{any-find}
 
 end-same : (a b : End) → Some a ≡ Some b → a.client ≡ b.client

@@ -15,17 +15,10 @@ ghost use Rattle.end_laws.specs.TwoNodes.{PairsTwoNodes};
 ghost use Rattle.end_laws.specs.WireRun.{WiresJoin};
 ghost use Rattle.node_laws.specs.CallHistory.{latest_first};
 ghost use Rattle.rpc_base.specs.declared.fact.Fact.{Fact};
-ghost use Rattle.rpc_laws.specs.BufferSafety.{SendsItsOwn};
 ghost use Rattle.rpc_laws.specs.OwnAnswer.{Own};
 ghost use Rattle.script_grammar.specs.Conditions.{IsScript};
 ghost use Rattle.script_grammar.specs.declared.line.Line.{Line};
 ghost use Rattle.sim_script.specs.FollowsScript.{Follows};
-
-/// Each datagram that a history sends is a packet of its owner's own bytes, and goes to its peer.
-pub fn sends_its_own()
-    ensures { (script : List Line) (h : List Fact) → PairsTwoNodes script → Follows script h
-        → SendsItsOwn h }
-{}
 
 /// At every moment each datagram in flight, and each in a node's ring or inbox, was sent by its
 /// sender to that node, as the packet that its owner had then.

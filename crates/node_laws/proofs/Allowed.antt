@@ -282,7 +282,7 @@ pub record MaySend (s : Lists) (peer : ℕ) (owner : Owner) (number : ℕ) (head
   pub bytes : AreBytes head
   pub whole : body ≡ out.body
 
--- what an event with these bytes needs, which some events need more of
+-- what a fact needs: of some events more than of their numbers, and of some their bytes
 abbrev pub AllowedBy : Lists → Event → (first second : List ℕ) → Type 0
 AllowedBy s (Arrived peer) first second = HasRoom s first
 AllowedBy s (Took (Reply session request) number) first second = MayTakeAsk s session request
@@ -314,7 +314,7 @@ abbrev pub Leads : Lists → List Fact → Lists → Type 0
 Leads s [] t = t ≡ s
 Leads s (f ∷ fs) t = (clock : ℕ) × Allowed s f.event × Leads (after clock s f) fs t
 
--- the same, and each has what its bytes need
+-- the same, with all that each fact needs
 abbrev pub LeadsBy : Lists → List Fact → Lists → Type 0
 LeadsBy s [] t = t ≡ s
 LeadsBy s (f ∷ fs) t =

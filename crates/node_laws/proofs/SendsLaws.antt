@@ -32,14 +32,14 @@ use Rattle.node_laws.proofs.LengthLemmas.{ask-length, HasBody, reply-length}
 use Rattle.node_laws.proofs.QueueLemmas.{queued_times}
 use Rattle.node_laws.proofs.RunLaws.{run_leads_by}
 use Rattle.node_laws.proofs.StandLemmas.{Standing, standing-after}
-use Rattle.node_laws.proofs.TakenRights.{AllTaken, Reached, reached-after, RightTaken, taken-after}
+use Rattle.node_laws.proofs.TakenRights.{RequestsRight, Reached, reached-after, RequestRight, taken-after}
 use Rattle.node_laws.proofs.ValidLemmas.{valid_after, valid_new}
 
 -- what is known of a moment
 record Knows (s : Lists) : Type 0 where
   valid : Valid s
   standing : Standing s.servers s.queued
-  taken : AllTaken s.servers
+  taken : RequestsRight s.servers
   reached : Reached s.servers s.queued
 
 knows-after : (clock : ℕ) (s : Lists) (f : Fact) → Knows s
@@ -85,8 +85,8 @@ module _ (s : Lists) (known : Knows s) (t r k : ℕ) (some : 1 ≤ queued_times 
   request-has v e None f h = cc
   request-has v e (Some q) f h =
       let found : request_of t r s.servers ≡ Some q = rw e f in
-      let slots = found-holds (is_server t) (λ v. AllByRecursion RightTaken v.slots) s.servers v known.taken e in
-      let right = found-holds (is_request r) RightTaken v.slots q slots f in
+      let slots = found-holds (is_server t) (λ v. AllByRecursion RequestRight v.slots) s.servers v known.taken e in
+      let right = found-holds (is_request r) RequestRight v.slots q slots f in
       reply-length v.way q k out (known.reached t r k q found some) right.taken h
 
   reply-has : (o : Option Server) → find (is_server t) s.servers ≡ o

@@ -1,4 +1,4 @@
--- How many packets of a request were taken, and to which of them a reply is queued.
+-- How many packets of a request were taken, and that a reply is queued only to one of these.
 use Rattle.std.proofs.Common.{◌≡◌, ℕ, ◌+◌, ◌≤◌, ◌<◌, Bool, true, false, not, ◌&&◌, cond, Option, Some}
 use Rattle.std.proofs.Common.{None, List, [], ◌∷◌, ◌++◌, length, refl, sym, ap, ◌∙◌, subst, inl, inr}
 use Rattle.std.proofs.Common.{◌⊎◌, arith, leb-false}
@@ -43,7 +43,7 @@ use Rattle.node_laws.proofs.FlushLemmas.{no-more-same}
 use Rattle.node_laws.proofs.StandLemmas.{over-unqueued, Standing}
 use Rattle.node_laws.proofs.WorkLemmas.{has-worker}
 
--- none above those of the request, and of the answer once it is known
+-- how many packets were taken: none above those of the request, and of the answer once it is known
 abbrev pub TakenRight : (taken size : ℕ) → Option (List ℕ) → Type 0
 TakenRight taken size None = taken ≤ packet_count size
 TakenRight taken size (Some a) = (packet_count size ≤ taken)
@@ -78,23 +78,23 @@ next-taken (Some a) Rfr q h e n low g t =
 next-taken (Some a) Cr q h e n low g t = absurd g
 next-taken (Some a) Response q h e n low g t = absurd g
 
--- a worker has a request only while it isn't answered
-pub record RightTaken (q : Served) : Type 0 where
+-- a request in a slot: so many were taken, and a worker has it only until it is answered
+pub record RequestRight (q : Served) : Type 0 where
   pub taken : TakenRight q.taken q.size q.answer
   pub working : q.working ≡ true → q.answer ≡ None
 
-abbrev pub AllTaken : List Server → Type 0
-AllTaken servers = AllByRecursion (λ v. AllByRecursion RightTaken v.slots) servers
+abbrev pub RequestsRight : List Server → Type 0
+RequestsRight servers = AllByRecursion (λ v. AllByRecursion RequestRight v.slots) servers
 
 next-right : (s : Lists) (body : List ℕ) (q : Served) (h : MessageHeader)
-    → front_header s.ring ≡ Some h → Grows q h → RightTaken q → RightTaken (next_packet body q)
+    → front_header s.ring ≡ Some h → Grows q h → RequestRight q → RequestRight (next_packet body q)
 next-right s body q h e g r = record {
   taken = next-taken q.answer h.kind q h refl g.turn
       (λ k. request-number h (message_of-spells h _ e).in_range k) g.goes r.taken;
   working = r.working;
 }
 
-first-right : (r : ℕ) (h : MessageHeader) (body : List ℕ) → RightTaken (first_packet r h body)
+first-right : (r : ℕ) (h : MessageHeader) (body : List ℕ) → RequestRight (first_packet r h body)
 first-right r h body =
     let above = packet_count_above h.size in
     record { taken = omega arith; working = λ e. cc }
@@ -102,22 +102,22 @@ first-right r h body =
 took-right : (s : Lists) (r : ℕ) (h : MessageHeader) (body : List ℕ) (slots : List Served)
     → front_header s.ring ≡ Some h
     → ((q : Served) → find (is_request r) slots ≡ Some q → Grows q h)
-    → AllByRecursion RightTaken slots
-    → AllByRecursion RightTaken (took_packet r (Some h) body slots)
+    → AllByRecursion RequestRight slots
+    → AllByRecursion RequestRight (took_packet r (Some h) body slots)
 took-right s r h body slots e grows all = by (list_any (is_request r) slots)
   where
-    by : (b : Bool) → AllByRecursion RightTaken
+    by : (b : Bool) → AllByRecursion RequestRight
         (cond b (at_first (is_request r) (next_packet body) slots)
         (without_first (in_slot_of r) slots ++ first_packet r h body ∷ []))
     by true =
-        all-first (is_request r) (next_packet body) RightTaken slots
+        all-first (is_request r) (next_packet body) RequestRight slots
         (λ q f right. next-right s body q h e (grows q f) right) all
     by false =
-        all-push RightTaken (without_first (in_slot_of r) slots) (first_packet r h body)
-        (all-left (in_slot_of r) RightTaken slots all) (first-right r h body)
+        all-push RequestRight (without_first (in_slot_of r) slots) (first_packet r h body)
+        (all-left (in_slot_of r) RequestRight slots all) (first-right r h body)
 
 answered-right : (bytes : List ℕ) (q : Served) → q.answer ≡ None → packet_count q.size ≤ q.taken
-    → RightTaken q → RightTaken (answered bytes q)
+    → RequestRight q → RequestRight (answered bytes q)
 answered-right bytes q none whole r =
     let low : q.taken ≤ packet_count q.size = subst (TakenRight q.taken q.size) none r.taken in
     let above = packet_count_above (length bytes) in
@@ -150,7 +150,7 @@ module _ (s : Lists) (valid : Valid s) where
 
   own-job : (n k : ℕ) → MayFinish s n k → (v : Server) (q : Served)
       → find (is_server n) s.servers ≡ Some v → find (is_request k) v.slots ≡ Some q
-      → RightTaken q → (q.answer ≡ None) × (packet_count q.size ≤ q.taken)
+      → RequestRight q → (q.answer ≡ None) × (packet_count q.size ≤ q.taken)
   own-job n k a v q e f right =
       let some = some-counted (is_job n k) (is_job n k) s.jobs.out a.job a.found
       (find-passes (is_job n k) s.jobs.out a.job a.found) in
@@ -166,38 +166,38 @@ module _ (s : Lists) (valid : Valid s) where
 
   own-run : (n k : ℕ) → MayGive s n k ⊎ MayFinish s n k → (v : Server) (q : Served)
       → find (is_server n) s.servers ≡ Some v → find (is_request k) v.slots ≡ Some q
-      → RightTaken q → (q.answer ≡ None) × (packet_count q.size ≤ q.taken)
+      → RequestRight q → (q.answer ≡ None) × (packet_count q.size ≤ q.taken)
   own-run n k (inl a) v q e f right = own-due n k a v q e f
   own-run n k (inr a) v q e f right = own-job n k a v q e f right
 
   taken-slots : (n k : ℕ) (a : MayTakeAsk s n k) (v : Server)
-      → find (is_server n) s.servers ≡ Some v → AllByRecursion RightTaken v.slots
-      → AllByRecursion RightTaken (took_packet k (front_header s.ring) (front_body s.ring) v.slots)
+      → find (is_server n) s.servers ≡ Some v → AllByRecursion RequestRight v.slots
+      → AllByRecursion RequestRight (took_packet k (front_header s.ring) (front_body s.ring) v.slots)
   taken-slots n k a v e all =
       let one = same-server n a.serve.server v a.serve.found e in
       let grows = subst (λ (w : Server). (q : Served) → find (is_request k) w.slots ≡ Some q
       → Grows q a.serve.header) one a.grows in
       rw a.serve.front (took-right s k a.serve.header (front_body s.ring) v.slots a.serve.front grows all)
 
-  pub taken-after : (e : Event) (first second : List ℕ) → AllTaken s.servers
+  pub taken-after : (e : Event) (first second : List ℕ) → RequestsRight s.servers
       → AllowedBy s e first second
-      → AllTaken (servers_after e second (front_header s.ring) (front_body s.ring) s.servers)
+      → RequestsRight (servers_after e second (front_header s.ring) (front_body s.ring) s.servers)
   taken-after (PairedServer n peer c credits) first second all a =
-      all-push (λ v. AllByRecursion RightTaken v.slots) s.servers (server_end n peer c credits) all tt
+      all-push (λ v. AllByRecursion RequestRight v.slots) s.servers (server_end n peer c credits) all tt
   taken-after (Accepted n peer c credits) first second all a =
-      all-push (λ v. AllByRecursion RightTaken v.slots) s.servers (server_end n peer c credits) all tt
+      all-push (λ v. AllByRecursion RequestRight v.slots) s.servers (server_end n peer c credits) all tt
   taken-after (Ended n) first second all a =
-      all-left (is_server n) (λ v. AllByRecursion RightTaken v.slots) s.servers all
+      all-left (is_server n) (λ v. AllByRecursion RequestRight v.slots) s.servers all
   taken-after (Took (Reply n k) i) first second all a =
-      all-first (is_server n) _ (λ v. AllByRecursion RightTaken v.slots) s.servers
+      all-first (is_server n) _ (λ v. AllByRecursion RequestRight v.slots) s.servers
       (λ v e right. taken-slots n k a v e right) all
   taken-after (Given n k) first second all a =
-      all-first (is_server n) _ (λ v. AllByRecursion RightTaken v.slots) s.servers
-      (λ v e right. all-first (is_request k) given RightTaken v.slots
+      all-first (is_server n) _ (λ v. AllByRecursion RequestRight v.slots) s.servers
+      (λ v e right. all-first (is_request k) given RequestRight v.slots
       (λ q f r. record { taken = r.taken; working = λ w. (own-due n k a v q e f).0 }) right) all
   taken-after (Ran n k y) first second all a =
-      all-first (is_server n) _ (λ v. AllByRecursion RightTaken v.slots) s.servers
-      (λ v e right. all-first (is_request k) (answered second) RightTaken v.slots
+      all-first (is_server n) _ (λ v. AllByRecursion RequestRight v.slots) s.servers
+      (λ v e right. all-first (is_request k) (answered second) RequestRight v.slots
       (λ q f r. let own = own-run n k a v q e f r in answered-right second q own.0 own.1 r) right) all
   taken-after _ first second all a = all
 
@@ -206,7 +206,7 @@ abbrev pub Reached : List Server → List Queued → Type 0
 Reached servers queued = (t r k : ℕ) (q : Served) → request_of t r servers ≡ Some q
     → 1 ≤ queued_times (Reply t r) k queued → k < q.taken
 
--- of a request, before it changed
+-- a request as it was before
 record Before (servers : List Server) (t r : ℕ) (q : Served) : Type 0 where
   before : Served
   found : request_of t r servers ≡ Some before

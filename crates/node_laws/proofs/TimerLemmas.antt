@@ -207,7 +207,7 @@ speaks-allowed clock s me peer h x own k = rw k.facts (by k.taken)
     by false = (tt, tt)
 
 -- a session's own request names it
-own-names : (state : SessionState) (number other credits : ℕ) (h : ControlHeader)
+pub own-names : (state : SessionState) (number other credits : ℕ) (h : ControlHeader)
     → request_by state number other credits ≡ Some h → h.client ≡ number
 own-names Connecting number other credits h e =
     let same : record {
