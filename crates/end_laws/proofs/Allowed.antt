@@ -48,7 +48,6 @@ use Rattle.rpc_laws.specs.Packets.{owner_packet}
 use Rattle.rpc_laws.specs.Posting.{next_turn}
 use Rattle.rpc_laws.specs.Requests.{is_server, is_request, in_slot_of}
 use Rattle.rpc_laws.specs.ServerTable.{is_past_end}
-use Rattle.rpc_laws.specs.Service.{is_background}
 use Rattle.rpc_laws.specs.Sessions.{is_client}
 use Rattle.end_laws.specs.Kinds.{is_ask}
 use Rattle.end_laws.specs.Moments.{hand_noted}
@@ -150,17 +149,15 @@ pub record IsWhole (l : Lists) (session r : ℕ) : Type 0 where
   pub unanswered : request.answer ≡ None
   pub idle : request.working ≡ false
 
--- a request becomes a job when its last packet was taken and its type is Background
+-- a request becomes a job when its last packet was taken
 pub record MayGive (l : Lists) (session r : ℕ) : Type 0 where
   pub has : IsWhole l session r
-  pub background : is_background has.request.req_type ≡ true
 
--- it runs then where its type is another
+-- or it runs then
 pub record MayServe (l : Lists) (session r req_type : ℕ) (ask : List ℕ) : Type 0 where
   pub has : IsWhole l session r
   pub of_type : req_type ≡ has.request.req_type
   pub own : ask ≡ has.request.ask
-  pub inline : is_background req_type ≡ false
 
 -- a job that is out runs
 pub record MayFinish (l : Lists) (session r req_type : ℕ) (ask : List ℕ) : Type 0 where

@@ -7,62 +7,72 @@ use Rattle.rpc_base.specs.declared.event.Event.TheVariants.{Ran}
 use Rattle.rpc_base.specs.declared.fact.Fact.{Fact}
 use Rattle.rpc_base.specs.declared.fact.Who.{Who}
 use Rattle.rpc_base.specs.declared.fact.Who.TheVariants.{Node, Net}
-use Rattle.rpc_outside.specs.PlainAnswer.{plain_mode}
+use Rattle.rpc_outside.specs.declared.service.Mode.{Mode}
 use Rattle.rpc_outside.specs.Served.{Served}
 use Rattle.rpc_laws.specs.AtMostOnce.{is_at}
 use Rattle.rpc_laws.specs.OwnAnswer.{AtEach, ran_inline, served_by}
-use Rattle.rpc_laws.specs.Service.{is_inline, plain_serving, served_after, AnswersAt, Answers}
-use Rattle.sim_script.specs.FollowsScript.{AnswersPlainly}
+use Rattle.rpc_laws.specs.Service.{Serving, runs_inline, served_after, AnswersAt, Answers}
 
 -- so it is at a fact, by the facts before it
-abbrev pub AnswersFor : List Fact → Who → Event → List ℕ → List ℕ → Type 0
-AnswersFor past (Node n) e first second = AnswersAt plain_serving (served_by n past) e first second
-AnswersFor past Net e first second = Unit {0}
+abbrev pub AnswersFor : (ℕ → Serving) → List Fact → Who → Event → List ℕ → List ℕ → Type 0
+AnswersFor v past (Node n) e first second =
+    AnswersAt (v n) (served_by (v n).mode n past) e first second
+AnswersFor v past Net e first second = Unit {0}
+
+-- at each of some facts
+abbrev pub AnswersEach : (ℕ → Serving) → List Fact → List Fact → Type 0
+AnswersEach v past h = AtEach (λ past f. AnswersFor v past f.who f.event f.first f.second) past h
 
 ran-served : (b : Bool) (y : ℕ) (ask : List ℕ) (served : Served)
     → cond b (served ++ (y, ask) ∷ []) served ≡ served ++ cond b ((y, ask) ∷ []) []
 ran-served true y ask served = refl
 ran-served false y ask served = sym (append-nil served)
 
-served-same : (e : Event) (ask : List ℕ) (served : Served)
-    → served_after plain_mode e ask served ≡ served ++ ran_inline e ask
-served-same (Ran t r y) ask served = ran-served (is_inline y) y ask served
-served-same _ ask served = sym (append-nil served)
+served-same : (mode : ℕ → Mode) (e : Event) (ask : List ℕ) (served : Served)
+    → served_after mode e ask served ≡ served ++ ran_inline mode e ask
+served-same mode (Ran t r y) ask served = ran-served (runs_inline mode y) y ask served
+served-same mode _ ask served = sym (append-nil served)
 
-rest-by : (n : ℕ) (f : Fact) (past h : List Fact) (b : Bool)
-    → Answers plain_serving (served_by n past)
+rest-by : (v : Serving) (n : ℕ) (f : Fact) (past h : List Fact) (b : Bool)
+    → Answers v (served_by v.mode n past)
     (cond b (f ∷ filter (λ f. is_at n f.who) h) (filter (λ f. is_at n f.who) h))
-    → Answers plain_serving (served_by n past ++ cond b (ran_inline f.event f.first) [])
+    → Answers v (served_by v.mode n past ++ cond b (ran_inline v.mode f.event f.first) [])
     (filter (λ f. is_at n f.who) h)
-rest-by n f past h true a =
-    subst (λ (s : Served). Answers plain_serving s (filter (λ f. is_at n f.who) h))
-    (served-same f.event f.first (served_by n past)) a.1
-rest-by n f past h false a =
-    subst (λ (s : Served). Answers plain_serving s (filter (λ f. is_at n f.who) h))
-    (sym (append-nil (served_by n past))) a
+rest-by v n f past h true a =
+    subst (λ (s : Served). Answers v s (filter (λ f. is_at n f.who) h))
+    (served-same v.mode f.event f.first (served_by v.mode n past)) a.1
+rest-by v n f past h false a =
+    subst (λ (s : Served). Answers v s (filter (λ f. is_at n f.who) h))
+    (sym (append-nil (served_by v.mode n past))) a
 
-here-by : (n : ℕ) (f : Fact) (past g : List Fact) (b : Bool) → b ≡ true
-    → Answers plain_serving (served_by n past) (cond b (f ∷ g) g)
-    → AnswersAt plain_serving (served_by n past) f.event f.first f.second
-here-by n f past g true e a = a.0
-here-by n f past g false e a = absurd (cc)
+here-by : (v : Serving) (n : ℕ) (f : Fact) (past g : List Fact) (b : Bool) → b ≡ true
+    → Answers v (served_by v.mode n past) (cond b (f ∷ g) g)
+    → AnswersAt v (served_by v.mode n past) f.event f.first f.second
+here-by v n f past g true e a = a.0
+here-by v n f past g false e a = absurd (cc)
 
-fact-answers : (who : Who) (e : Event) (first second : List ℕ) (past h : List Fact) → let f : Fact = record { who = who; event = e; first = first; second = second } in ((n : ℕ) → Answers plain_serving (served_by n past) (filter (λ f. is_at n f.who) (f ∷ h))) → AnswersFor past who e first second
-fact-answers (Node m) e first second past h a =
-    here-by m (record { who = Node m; event = e; first = first; second = second }) past
-    (filter (λ f. is_at m f.who) h) (m == m) (eq-eqb m m refl) (a m)
-fact-answers Net e first second past h a = tt
+module _ (v : ℕ → Serving) where
+  -- what is left of each node's facts
+  abbrev Left : List Fact → List Fact → Type 0
+  Left past h =
+      (n : ℕ) → Answers (v n) (served_by (v n).mode n past) (filter (λ f. is_at n f.who) h)
 
-answers-from : (past h : List Fact)
-    → ((n : ℕ) → Answers plain_serving (served_by n past) (filter (λ f. is_at n f.who) h))
-    → AtEach (λ past f. AnswersFor past f.who f.event f.first f.second) past h
-answers-from past [] a = tt
-answers-from past (f ∷ h) a = (
-  fact-answers f.who f.event f.first f.second past h a,
-  answers-from (f ∷ past) h (λ n. rest-by n f past h (is_at n f.who) (a n)),
-)
+  fact-answers : (who : Who) (e : Event) (first second : List ℕ) (past h : List Fact)
+      → Left past (record { who = who; event = e; first = first; second = second } ∷ h)
+      → AnswersFor v past who e first second
+  fact-answers (Node m) e first second past h a =
+      here-by (v m) m (record { who = Node m; event = e; first = first; second = second }) past
+      (filter (λ f. is_at m f.who) h) (m == m) (eq-eqb m m refl) (a m)
+  fact-answers Net e first second past h a = tt
 
--- so it is at each fact of a history
-pub answers-each : (h : List Fact) → AnswersPlainly h
-    → AtEach (λ past f. AnswersFor past f.who f.event f.first f.second) [] h
-answers-each h a = answers-from [] h a
+  answers-from : (past h : List Fact) → Left past h → AnswersEach v past h
+  answers-from past [] a = tt
+  answers-from past (f ∷ h) a = (
+    fact-answers f.who f.event f.first f.second past h a,
+    answers-from (f ∷ past) h (λ n. rest-by (v n) n f past h (is_at n f.who) (a n)),
+  )
+
+  -- so it is at each fact of a history
+  pub answers-each : (h : List Fact) → ((n : ℕ) → Answers (v n) [] (filter (λ f. is_at n f.who) h))
+      → AnswersEach v [] h
+  answers-each h a = answers-from [] h a

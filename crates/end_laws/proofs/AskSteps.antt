@@ -19,14 +19,14 @@ use Rattle.rpc_laws.specs.declared.tables.InFlight.{InFlight}
 use Rattle.rpc_laws.specs.declared.tables.Lists.{Lists}
 use Rattle.rpc_laws.specs.declared.tables.Served.{Served}
 use Rattle.rpc_laws.specs.declared.tables.Server.{Server}
-use Rattle.rpc_outside.specs.PlainAnswer.{plain_mode}
+use Rattle.rpc_outside.specs.declared.service.Mode.{Mode}
 use Rattle.rpc_laws.specs.Facts.{plain, with_two}
 use Rattle.rpc_laws.specs.Front.{front_header, front_body}
 use Rattle.rpc_laws.specs.NodeLists.{after}
 use Rattle.rpc_laws.specs.Requests.{is_server, is_request, in_slot_of, first_packet, next_packet}
 use Rattle.rpc_laws.specs.Requests.{took_packet, answered}
 use Rattle.rpc_laws.specs.ServerTable.{is_rfr, joined, is_last, took_facts}
-use Rattle.rpc_laws.specs.Service.{is_background}
+use Rattle.rpc_laws.specs.Service.{is_mode_background}
 use Rattle.packet_header.proofs.PartsLemmas.{packet_count_room}
 use Rattle.end_laws.proofs.Allowed.{Fronts, GoesOn, TakesOf, IsWhole, Owes, WalksFrom}
 use Rattle.end_laws.proofs.ListLemmas.{find-first, all-found}
@@ -191,23 +191,19 @@ last-number h ask last size = let count : packet_count (length ask) ≡ packet_c
 
 brings-walk : (hand : Option InFlight) (latest : Option Fact) (clock : ℕ) (l : Lists)
     (h : MessageHeader) (v : Server) (ask answer : List ℕ) (last background : Bool)
-    → Owes latest l.me h.session h.request h.number → is_background h.req_type ≡ background
+    → Owes latest l.me h.session h.request h.number
     → find (is_server h.session) l.servers ≡ Some v → Apart v.slots → OpenSlot v.slots h ask
     → (last ≡ true → (h.kind ≡ Request) × (h.number + 1 ≡ packet_count h.size)
     × (length ask ≡ h.size))
     → WalksFrom hand latest clock l (bring_facts last background l.me answer h ask)
 unfolding is-whole
-brings-walk hand latest clock l h v ask answer false background owed t found apart n ends =
+brings-walk hand latest clock l h v ask answer false background owed found apart n ends =
     posts-walk hand latest clock l h v ask owed found apart n.slot
-brings-walk hand latest clock l h v ask answer true true owed t found apart n ends =
-    let e = ends refl in
-    let mode : is_background n.slot.request.req_type ≡ true = ap is_background (n.of_kind e.0).0 ∙ t in (
+brings-walk hand latest clock l h v ask answer true true owed found apart n ends =
+    let e = ends refl in (
       record {
         who = refl;
-        may = record {
-          has = is-whole l h v ask found n e.0 e.1;
-          background = mode;
-        };
+        may = record { has = is-whole l h v ask found n e.0 e.1 };
       },
       record {
         has = is-whole l h v ask found n e.0 e.1;
@@ -217,7 +213,7 @@ brings-walk hand latest clock l h v ask answer true true owed t found apart n en
       },
       tt,
     )
-brings-walk hand latest clock l h v ask answer true false owed t found apart n ends =
+brings-walk hand latest clock l h v ask answer true false owed found apart n ends =
     let e = ends refl in
     let f : Fact = with_two l.me (Ran h.session h.request h.req_type) ask answer in
     let q = n.slot.request in
@@ -236,7 +232,6 @@ brings-walk hand latest clock l h v ask answer true false owed t found apart n e
           has = is-whole l h v ask found n e.0 e.1;
           of_type = sym (n.of_kind e.0).0;
           own = sym n.slot.own;
-          inline = t;
         });
       },
       inl (subst (λ (k : ℕ). Owes latest l.me h.session h.request k) (sym number) owed),
@@ -293,12 +288,12 @@ taken-size h slots ask n right kind last =
     omega arith
 
 -- a packet is taken
-pub took-walk : (hand : Option InFlight) (latest : Option Fact) (clock : ℕ) (l : Lists)
+pub took-walk : (mode : Mode) (hand : Option InFlight) (latest : Option Fact) (clock : ℕ) (l : Lists)
     (front : Arrival) (h : MessageHeader) (v : Server) (going : Option Served) (answer : List ℕ)
     → Taking l front h v going
-    → WalksFrom hand latest clock l (took_facts (plain_mode h.req_type) l.me answer h
+    → WalksFrom hand latest clock l (took_facts mode l.me answer h
     (joined going (front_body l.ring)))
-took-walk hand latest clock l front h v going answer t =
+took-walk mode hand latest clock l front h v going answer t =
     let f : Fact = plain l.me (Took (Reply h.session h.request) h.number) in
     let change = took_packet h.request (front_header l.ring) (front_body l.ring) in
     let after_it : find (is_server h.session) (after clock l f).servers
@@ -330,5 +325,5 @@ took-walk hand latest clock l front h v going answer t =
         };
       },
       tt,
-      brings-walk hand (Some f) clock (after clock l f) h (with_slots change v) (joined going (front_body l.ring)) answer (is_last h) (is_background h.req_type) (owed-self l.me h.session h.request h.number) refl after_it (apart-took h.request (front_header l.ring) (front_body l.ring) v.slots t.apart) new (λ last. let e = taken-last going v.slots h t.takes last in (e.0, e.1, taken-size h (took_packet h.request (front_header l.ring) (front_body l.ring) v.slots) (joined going (front_body l.ring)) new right e.0 e.1)),
+      brings-walk hand (Some f) clock (after clock l f) h (with_slots change v) (joined going (front_body l.ring)) answer (is_last h) (is_mode_background mode) (owed-self l.me h.session h.request h.number) after_it (apart-took h.request (front_header l.ring) (front_body l.ring) v.slots t.apart) new (λ last. let e = taken-last going v.slots h t.takes last in (e.0, e.1, taken-size h (took_packet h.request (front_header l.ring) (front_body l.ring) v.slots) (joined going (front_body l.ring)) new right e.0 e.1)),
     )

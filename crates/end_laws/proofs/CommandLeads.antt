@@ -312,7 +312,7 @@ pub poll-step : (s : Stage) (w : Moment) (n : ℕ) (before now : Timed) (x : Lis
     → PollBy (FinishesWorked s.worked) SendsAll plain_mode s.clock before x now
     → max before.clock s.clock ≡ s.clock → NodeStep s w n before now x
 poll-step s w n before now x is sound valid p m =
-    let k = poll-fine s.worked w.hand (record
+    let k = poll-fine plain_mode s.worked w.hand (record
     { lists = before.lists; clock = max before.clock s.clock }) x now sound p in
     let at = k.clock in
     record {

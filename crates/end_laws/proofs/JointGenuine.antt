@@ -10,7 +10,7 @@ use Rattle.rpc_laws.specs.declared.tables.Lists.{Lists}
 use Rattle.rpc_laws.specs.Facts.{plain}
 use Rattle.node_laws.specs.CallHistory.{latest_first}
 use Rattle.end_laws.specs.Genuine.{WasPut, Travels}
-use Rattle.end_laws.specs.JointRun.{Party, Joint, JointRun, ArePlain, moment_left}
+use Rattle.end_laws.specs.JointRun.{Party, Joint, JointRun, moment_left}
 use Rattle.end_laws.specs.Moments.{Moment, moved, first_moment}
 use Rattle.end_laws.proofs.Courses.{made_as, made_at, AtNode, Course, over, in_net, made, at_node, pairs, resets, clocked, client_fact, paired}
 use Rattle.end_laws.proofs.JointLaws.{joint-leaves, Leaves, left-is}
@@ -81,10 +81,10 @@ course-put _ _ _ (made_as w limits h u is c) t =
 course-put _ _ _ (resets w clock h u is c) t =
     course-put (clocked w clock) h u c (record { flight = t.flight; hand = t.hand; rings = t.rings; inboxes = t.inboxes })
 
-pub joint-genuine : (parties : ℕ → Party) (h : List Fact) (t : Joint) → ArePlain parties → JointRun parties h t
+pub joint-genuine : (parties : ℕ → Party) (h : List Fact) (t : Joint) → JointRun parties h t
     → Travels (WasPut (latest_first [] h)) (moment_left h t)
-joint-genuine parties h t usual run =
-    let l = joint-leaves parties h t usual run in
+joint-genuine parties h t run =
+    let l = joint-leaves parties h t run in
     let k = course-put first_moment h l.end l.course
     (record { flight = tt; hand = tt; rings = λ n l is. absurd (cc); inboxes = λ n l is. absurd (cc) }) in
     subst (λ (w : Moment). Travels (WasPut (latest_first [] h)) w) (left-is h t l)

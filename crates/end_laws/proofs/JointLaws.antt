@@ -9,7 +9,7 @@ use Rattle.rpc_laws.specs.declared.tables.Timed.{Timed}
 use Rattle.node_laws.specs.CallHistory.{latest_first}
 use Rattle.end_laws.specs.Genuine.{Travels}
 use Rattle.end_laws.specs.Handshakes.{Agree, ConnectsMade}
-use Rattle.end_laws.specs.JointRun.{Party, Joint, JointRun, ArePlain, moment_left}
+use Rattle.end_laws.specs.JointRun.{Party, Joint, JointRun, moment_left}
 use Rattle.end_laws.specs.Moments.{Moment, moved, first_moment}
 use Rattle.end_laws.specs.TwoEnds.{TwoEnds}
 use Rattle.end_laws.proofs.AgreeLaw.{agree-of, LetsIn, first-lets, step-net, lets-made, step-node, step-pair}
@@ -113,10 +113,10 @@ pub record Leaves (h : List Fact) (t : Joint) : Type 0 where
   pub flight : end.flight ≡ t.flight
   pub past : end.past ≡ latest_first [] h
 
-pub joint-leaves : (parties : ℕ → Party) (h : List Fact) (t : Joint) → ArePlain parties → JointRun parties h t
+pub joint-leaves : (parties : ℕ → Party) (h : List Fact) (t : Joint) → JointRun parties h t
     → Leaves h t
-joint-leaves parties h t usual run =
-    let l = joint-leads parties usual run.steps in
+joint-leaves parties h t run =
+    let l = joint-leads parties run.steps in
     record {
       end = l.end;
       course = l.course;
@@ -131,18 +131,18 @@ put_down w = record w { hand = None; clock = 0 }
 pub left-is : (h : List Fact) (t : Joint) → (l : Leaves h t) → put_down l.end ≡ moment_left h t
 left-is h t l = rw (← l.nodes, ← l.flight, ← l.past) refl
 
-pub joint-ends : (parties : ℕ → Party) (h : List Fact) (t : Joint) → ArePlain parties → JointRun parties h t
+pub joint-ends : (parties : ℕ → Party) (h : List Fact) (t : Joint) → JointRun parties h t
     → TwoEnds (moment_left h t)
-joint-ends parties h t usual run =
-    let l = joint-leaves parties h t usual run in
+joint-ends parties h t run =
+    let l = joint-leaves parties h t run in
     let k = course-sound first_moment h l.end l.course first-sound in
     let e = good-ends l.end k.right k.good in
     subst TwoEnds (left-is h t l) (record { servers = e.servers; jobs = e.jobs; clients = e.clients })
 
-pub joint-agree : (parties : ℕ → Party) (h : List Fact) (t : Joint) → ArePlain parties → JointRun parties h t
+pub joint-agree : (parties : ℕ → Party) (h : List Fact) (t : Joint) → JointRun parties h t
     → Agree (moment_left h t)
-joint-agree parties h t usual run =
-    let l = joint-leaves parties h t usual run in
+joint-agree parties h t run =
+    let l = joint-leaves parties h t run in
     let k = course-sound first_moment h l.end l.course first-sound in
     let a = agree-of l.end k.valid k.good k.lets in
     subst Agree (left-is h t l) (record {

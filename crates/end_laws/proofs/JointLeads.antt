@@ -11,7 +11,6 @@ use Rattle.rpc_base.specs.declared.event.Event.TheVariants.{NconnectRing, Nconne
 use Rattle.rpc_base.specs.declared.fact.Fact.{Fact}
 use Rattle.rpc_base.proofs.PlaceLemmas.{set-here, set-other}
 use Rattle.rpc_outside.specs.declared.service.Mode.{Mode}
-use Rattle.rpc_outside.specs.PlainAnswer.{plain_mode}
 use Rattle.rpc_laws.specs.declared.tables.InFlight.{InFlight}
 use Rattle.rpc_laws.specs.declared.tables.Lists.{Lists}
 use Rattle.rpc_laws.specs.declared.tables.Timed.{Timed}
@@ -26,7 +25,6 @@ use Rattle.rpc_laws.specs.NodeLists.{after, after_all, new_lists, new_node}
 use Rattle.rpc_laws.specs.PollOrder.{Poll, FinishesOne, FinishesSome, Handles, HandlesAll, PostsAll, Sends, SendsSome}
 use Rattle.rpc_laws.specs.PollOrder.{Closes, raised}
 use Rattle.rpc_laws.specs.ControlSteps.{HearsAll, TimesAll}
-use Rattle.rpc_laws.specs.Service.{Serving, plain_serving}
 use Rattle.rpc_laws.specs.Steps.{Rel, Then, Chain}
 use Rattle.rpc_laws.specs.UsualLimits.{with_ring}
 use Rattle.node_laws.specs.NodeRun.{Group, Notes, Refuses, pairs_client, pairs_server, refuses, connects}
@@ -40,7 +38,7 @@ use Rattle.node_laws.proofs.ValidLemmas.{valid_new, valid_after}
 use Rattle.end_laws.specs.Moments.{Moment, moved, first_moment}
 use Rattle.end_laws.specs.JointRun.{Party, Joint, nobody, IsAlone, AloneGroup, MakesNode, Acts, PairsNodes, CarriesCopy}
 use Rattle.end_laws.specs.JointRun.{NetMay, NetActs, JointStep, JointSteps, makes, acts, pairs, carries}
-use Rattle.end_laws.specs.JointRun.{limits_of, of_network, none, more, JointRun, ArePlain, noted_by}
+use Rattle.end_laws.specs.JointRun.{limits_of, of_network, none, more, JointRun, noted_by}
 use Rattle.end_laws.proofs.Allowed.{IsAllowed, WalksFrom, Walks, walks-from}
 use Rattle.end_laws.proofs.CallSteps.{IsFree, free-walks, asks-fine, delivers-fine}
 use Rattle.end_laws.proofs.ControlSteps.{times-all}
@@ -100,26 +98,26 @@ one-group P fine law hand before s x t i v h =
 finishes-one : Fine RightNode FinishesOne
 finishes-one hand s x t i h = finishes-fine h.session h.request hand s x t i h.finishes
 
-poll-any : Fine RightNode (Then FinishesSome (Then HearsAll (Then (HandlesAll plain_mode)
+poll-any : (mode : ℕ → Mode) → Fine RightNode (Then FinishesSome (Then HearsAll (Then (HandlesAll mode)
     (Then TimesAll (Then PostsAll (Then SendsSome Closes))))))
-poll-any =
+poll-any mode =
     fine-then RightNode FinishesSome _ (fine-chain RightNode FinishesOne finishes-one)
     (fine-then RightNode HearsAll _ hears-all
-    (fine-then RightNode (HandlesAll plain_mode) _
-    (fine-until RightNode (Handles plain_mode) _ handles-fine)
+    (fine-then RightNode (HandlesAll mode) _
+    (fine-until RightNode (Handles mode) _ (handles-fine mode))
     (fine-then RightNode TimesAll _ (times-all RightNode right-stays)
     (fine-then RightNode PostsAll _ (posts-all RightNode right-stays)
     (fine-then RightNode SendsSome Closes (fine-chain RightNode Sends (sends-fine RightNode right-stays))
     (closes-fine RightNode right-stays))))))
 
-poll-group : (now : ℕ) (hand : Option InFlight) (before : Option Fact) (s : Timed) (x : List Fact) (t : Timed)
-    → RightNode s.lists → Valid s.lists → Poll plain_mode now s x t → GroupAt hand before s x t
-poll-group now hand before s x t i v h =
-    let k = poll-any hand (raised now s) x t i h in
+poll-group : (mode : ℕ → Mode) (now : ℕ) (hand : Option InFlight) (before : Option Fact) (s : Timed) (x : List Fact) (t : Timed)
+    → RightNode s.lists → Valid s.lists → Poll mode now s x t → GroupAt hand before s x t
+poll-group mode now hand before s x t i v h =
+    let k = poll-any mode hand (raised now s) x t i h in
     record {
       clock = (raised now s).clock;
       walks = walks-from hand before (raised now s).clock s.lists x k.walks;
-      lawful = (poll-lawful plain_mode now s x t v h).all;
+      lawful = (poll-lawful mode now s x t v h).all;
       lists = k.lists;
       right = k.inv;
     }
@@ -174,9 +172,11 @@ rated-walk false hand before clock session rate l = (record { who = refl; may = 
 connect-any : (refusal : Option Event) (hand : Option InFlight) (clock peer credits rate : ℕ)
     (l : Lists) → client_refusal credits l ≡ refusal
     → Walks hand clock l (connect_by refusal peer credits rate l)
-connect-any None hand clock peer credits rate l is =
-    (record { who = refl; may = (refl, refl, refl) }, tt,
-    rated-walk (rate == 0) hand _ clock (length l.clients) rate (after clock l (plain l.me (Opened (length l.clients) peer credits))))
+connect-any None hand clock peer credits rate l is = (
+  record { who = refl; may = (refl, refl, refl) },
+  tt,
+  rated-walk (rate == 0) hand _ clock (length l.clients) rate (after clock l (plain l.me (Opened (length l.clients) peer credits))),
+)
 connect-any (Some e) hand clock peer credits rate l is =
     let k = refused-as (clients_spent l) (has_no_room credits l) (shares l) credits l.room e is in
     free-walks hand None clock l (plain l.me e ∷ []) (k.free l.me, tt)
@@ -187,31 +187,31 @@ connects-any peer credits rate hand s x t i h =
     (client_refusal credits s.lists) hand s.clock peer credits rate s.lists refl)) h.goes
 
 -- each group of a node alone
-group-at : (hand : Option InFlight) (before : Option Fact) (s : Timed) (x : List Fact) (t : Timed)
-    → RightNode s.lists → Valid s.lists → (g : Group plain_mode s x t) → IsAlone plain_mode s x t g
+group-at : (mode : ℕ → Mode) (hand : Option InFlight) (before : Option Fact) (s : Timed) (x : List Fact) (t : Timed)
+    → RightNode s.lists → Valid s.lists → (g : Group mode s x t) → IsAlone mode s x t g
     → GroupAt hand before s x t
-group-at hand before s x t i v (pairs_client peer server credits may h) alone = absurd alone
-group-at hand before s x t i v (pairs_server peer client credits may h) alone = absurd alone
-group-at hand before s x t i v (refuses credits e r h) alone =
+group-at mode hand before s x t i v (pairs_client peer server credits may h) alone = absurd alone
+group-at mode hand before s x t i v (pairs_server peer client credits may h) alone = absurd alone
+group-at mode hand before s x t i v (refuses credits e r h) alone =
     refuses-group credits e hand before s x t i v r h
-group-at hand before s x t i v (connects peer credits rate few h) alone =
+group-at mode hand before s x t i v (connects peer credits rate few h) alone =
     one-group (Connects peer credits rate) (connects-any peer credits rate)
     (connects-lawful peer credits rate) hand before s x t i v h
-group-at hand before s x t i v (disconnects session h) alone =
+group-at mode hand before s x t i v (disconnects session h) alone =
     one-group _ (disconnects-fine session) (disconnects-lawful session) hand before s x t i v h
-group-at hand before s x t i v (sets_rate session rate h) alone =
+group-at mode hand before s x t i v (sets_rate session rate h) alone =
     one-group _ (λ hand s x t i h. (rates-so hand session rate s x t i h).walked)
     (sets-rate-lawful session rate) hand before s x t i v h
-group-at hand before s x t i v (asks session req_type ask room h) alone =
+group-at mode hand before s x t i v (asks session req_type ask room h) alone =
     one-group _ (asks-fine RightNode right-stays session req_type ask room)
     (asks-lawful session req_type ask room) hand before s x t i v h
-group-at hand before s x t i v (delivers peer bytes h) alone = absurd alone
-group-at hand before s x t i v (polls now h) alone = poll-group now hand before s x t i v h
-group-at hand before s x t i v (works session request out h) alone =
+group-at mode hand before s x t i v (delivers peer bytes h) alone = absurd alone
+group-at mode hand before s x t i v (polls now h) alone = poll-group mode now hand before s x t i v h
+group-at mode hand before s x t i v (works session request out h) alone =
     note-group (Worked session request)
     (λ me. record { who = refl; may = λ hand l. tt; linked = λ latest l. tt }) (λ l. tt) hand before
     s x t i v h
-group-at hand before s x t i v (misses n h) alone =
+group-at mode hand before s x t i v (misses n h) alone =
     note-group (Missed n)
     (λ me. record { who = refl; may = λ hand l. tt; linked = λ latest l. tt }) (λ l. tt) hand before
     s x t i v h
@@ -234,7 +234,7 @@ node-leads s w n before now x t f is h left =
       valid = rw (h.lists) (valid_after_all h.clock before.lists x fit.valid h.lawful);
     } in
     let others : (j : ℕ) (z : Timed) → (j ≡ n → ⊥) → slice_get s.nodes j ≡ Some z
-        → Stands (slice_set w.nodes n now.lists) j z =
+    → Stands (slice_set w.nodes n now.lists) j z =
     λ j z ne is. let k = f.nodes j z is in record { is_node = set-other w.nodes n j now.lists ne ∙ k.is_node; me = k.me; right = k.right; valid = k.valid } in
     let placed = set-placed (Stands (slice_set w.nodes n now.lists)) s.nodes n before now is here others in
     rw left (record {
@@ -255,13 +255,12 @@ node-leads s w n before now x t f is h left =
 abbrev Leading : (Joint → List Fact → Joint → Type 0) → Type 0
 Leading P = (s : Joint) (w : Moment) (x : List Fact) (t : Joint) → Matches s w → P s x t → JointLeads w x t
 
-acts-lead : (parties : ℕ → Party) → ArePlain parties → Leading (Acts parties)
-acts-lead parties usual s w x t f h =
+acts-lead : (parties : ℕ → Party) → Leading (Acts parties)
+acts-lead parties s w x t f h =
     let fit = f.nodes h.node h.before h.is_node in
-    let g : AloneGroup plain_mode h.before x h.now =
-    subst (λ (v : Serving). AloneGroup v.mode h.before x h.now) (usual h.node) h.group in
+    let mode = (parties h.node).serving.mode in
     node-leads s w h.node h.before h.now x t f h.is_node
-    (group-at w.hand (latest w.past) h.before x h.now fit.right fit.valid g.group g.alone) h.left
+    (group-at mode w.hand (latest w.past) h.before x h.now fit.right fit.valid h.group.group h.group.alone) h.left
 
 -- a fact of the network
 net-leads : (e : Event) (s : Joint) (w : Moment) → Matches s w
@@ -443,24 +442,24 @@ pairs-lead s w x t f h =
       };
     })
 
-step-leads : (parties : ℕ → Party) → ArePlain parties → Leading (JointStep parties)
-step-leads parties usual s w x t f (makes h) = makes-lead parties s w x t f h
-step-leads parties usual s w x t f (acts h) = acts-lead parties usual s w x t f h
-step-leads parties usual s w x t f (pairs h) = pairs-lead s w x t f h
-step-leads parties usual s w x t f (carries h) = carries-lead s w x t f h
-step-leads parties usual s w x t f (of_network h) = nets-lead s w x t f h
+step-leads : (parties : ℕ → Party) → Leading (JointStep parties)
+step-leads parties s w x t f (makes h) = makes-lead parties s w x t f h
+step-leads parties s w x t f (acts h) = acts-lead parties s w x t f h
+step-leads parties s w x t f (pairs h) = pairs-lead s w x t f h
+step-leads parties s w x t f (carries h) = carries-lead s w x t f h
+step-leads parties s w x t f (of_network h) = nets-lead s w x t f h
 
-pub joint-leads : (parties : ℕ → Party) → ArePlain parties → {x : List Fact} {t : Joint}
+pub joint-leads : (parties : ℕ → Party) → {x : List Fact} {t : Joint}
     → JointSteps parties x t → JointLeads first_moment x t
-joint-leads parties usual none =
+joint-leads parties none =
     record {
       end = first_moment;
       course = over first_moment;
       fits = record { flight = refl; size = refl; nodes = λ j z is. absurd (cc) };
     }
-joint-leads parties usual (more {x = x} {t = t} c y u h) =
-    let l = joint-leads parties usual c in
-    let k = step-leads parties usual t l.end y u l.fits h in
+joint-leads parties (more {x = x} {t = t} c y u h) =
+    let l = joint-leads parties c in
+    let k = step-leads parties t l.end y u l.fits h in
     record {
       end = k.end;
       course = course-append first_moment x l.end y k.end l.course k.course;

@@ -69,7 +69,7 @@ set-same [] i x h = cc
 set-same (z ∷ zs) zero x h = cc
 set-same (z ∷ zs) (suc i) x h = ap (λ ys. z ∷ ys) (set-same zs i x h)
 
-set-twice : {A : Type 0} (xs : List A) (i : ℕ) (x y : A) → slice_set (slice_set xs i x) i y ≡ slice_set xs i y
+pub set-twice : {A : Type 0} (xs : List A) (i : ℕ) (x y : A) → slice_set (slice_set xs i x) i y ≡ slice_set xs i y
 set-twice [] i x y = refl
 set-twice (z ∷ zs) zero x y = refl
 set-twice (z ∷ zs) (suc i) x y = ap (λ ys. z ∷ ys) (set-twice zs i x y)

@@ -20,6 +20,7 @@ pub mod JobSteps
 pub mod JointGenuine
 pub mod JointLaws
 pub mod JointLeads
+pub mod JointOwn
 pub mod Known
 pub mod KnownLemmas
 pub mod Leads
@@ -46,4 +47,5 @@ pub mod TwoEndsLaw
 pub mod Valids
 pub mod Walks
 pub mod WireJoins
+pub mod WireOwn
 pub mod WorkSteps

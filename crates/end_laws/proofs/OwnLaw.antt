@@ -1,5 +1,4 @@
 -- A pairing, and the law of own answers over a whole history.
-use Rattle.end_laws.specs.CallOrder.{OrderAt, OrderEvent}
 use Rattle.rpc_laws.specs.UsualLimits.{with_ring}
 use Rattle.std.proofs.Common.{Bool, true, false, true, false, ◌≡◌, ◌+◌, ℕ, List, [], ◌∷◌, ◌++◌, length, Option, Some, None}
 use Rattle.std.proofs.Common.{slice_get, refl, sym, ap, ◌∙◌, subst, arith}
@@ -35,10 +34,10 @@ use Rattle.end_laws.proofs.KnownLemmas.{ask-more}
 use Rattle.end_laws.specs.Handshakes.{IsMade}
 use Rattle.end_laws.proofs.ListLemmas.{Placed, set-placed, add-placed, all-add}
 use Rattle.end_laws.proofs.ListLemmas.{length-slice_set}
-use Rattle.end_laws.proofs.OwnLemmas.{order-event, own-event}
+use Rattle.end_laws.proofs.OwnLemmas.{own-event}
 use Rattle.end_laws.proofs.SendsLaw.{AllRight, right-noted, right-net, right-made, right-paired}
-use Rattle.rpc_laws.specs.Service.{plain_serving, AnswersAt}
-use Rattle.end_laws.proofs.AnswerLemmas.{AnswersFor}
+use Rattle.rpc_laws.specs.Service.{Serving, AnswersAt}
+use Rattle.end_laws.proofs.AnswerLemmas.{AnswersFor, AnswersEach}
 use Rattle.end_laws.proofs.TravelLemmas.{travels-map, travels-paired}
 use Rattle.end_laws.proofs.Valids.{AllValid, valid-net, valid-made, valid-node, valid-pair}
 
@@ -231,23 +230,6 @@ module _ (w : Moment) (n m credits : ℕ) (client server : Lists)
   pub good-paired : Good (paired w n m credits client server)
   good-paired = next-paired.good
 
-own-at : (w : Moment) (n : ℕ) (l : Lists) (f : Fact) → AtNode w n l f
-    → AnswersFor w.past f.who f.event f.first f.second → Good w
-    → OwnAt w.past f.who f.event f.first f.second
-own-at w n l f a t g =
-    let k = g.known in
-    let who : f.who ≡ Node n = a.allowed.who ∙ ap Node a.me in
-    let answer : AnswersAt plain_serving (served_by n k.past) f.event f.first f.second =
-    subst (λ (p : List Fact). AnswersAt plain_serving (served_by n p) f.event f.first
-    f.second) (sym g.past) (subst (λ (p : Who). AnswersFor w.past p f.event f.first
-    f.second) who t) in
-    let own : OwnEvent k.past n f.event f.first f.second =
-    own-event k n l (g.nodes n l a.is_node) g.is_true w.hand f.event
-    f.first f.second answer a.allowed.may in
-    let now : OwnEvent w.past n f.event f.first f.second =
-    subst (λ (p : List Fact). OwnEvent p n f.event f.first f.second) g.past own in
-    subst (λ (p : Who). OwnAt w.past p f.event f.first f.second) (sym (a.allowed.who ∙ ap Node a.me)) now
-
 -- what is known doesn't read the clock
 abbrev pub good-clocked : (w : Moment) (clock : ℕ) → Good w → Good (clocked w clock)
 good-clocked w clock g = record {
@@ -264,70 +246,53 @@ good-clocked w clock g = record {
   unmade = g.unmade;
 }
 
-pub course-own : {free : Bool} (w : Moment) (h : List Fact) (u : Moment) → Course free w h u → AllRight w → AllValid w
-    → AtEach (λ past f. AnswersFor past f.who f.event f.first f.second) w.past h → Good w
-    → AtEach (λ past f. OwnAt past f.who f.event f.first f.second) w.past h
-course-own _ _ _ (over w) i v t g = tt
-course-own _ _ _ (made_as w limits h u is c) i v t g =
-    (tt, course-own (made_at w limits) h u c (right-made w limits i) (valid-made w limits v) t.1 (good-made w limits g))
-course-own _ _ _ (resets w clock h u is c) i v t g =
-    course-own (clocked w clock) h u c i v t (good-clocked w clock g)
-course-own _ _ _ (in_net w f h u who c) i v t g = (
-  subst (λ (p : Who). OwnAt w.past p f.event f.first f.second) (sym who) tt,
-  course-own (moved w f) h u c (right-net w f who i) (valid-net w f who v) t.1 (good-net w f who g),
-)
-course-own _ _ _ (made w ring h u c) i v t g = (
-  tt,
-  course-own _ h u c (right-made w (with_ring ring) i) (valid-made w (with_ring ring) v) t.1 (good-made w (with_ring ring) g),
-)
-course-own _ _ _ (at_node w n l f h u a c) i v t g = (
-  own-at w n l f a t.0 g,
-  course-own (moved w f) h u c (right-noted w n l f a i) (valid-node w n l f a v) t.1
-      (good-node w n l f a i v g),
-)
-course-own _ _ _ (pairs w n m credits client server h u e c) i v t g = (
-  tt,
-  (
-    tt,
-    course-own (paired w n m credits client server) h u c
-        (right-paired w n m credits client server e i)
-        (valid-pair w n m credits client server e v) t.1.1
-        (good-paired w n m credits client server e i v g),
-  ),
-)
+module _ (services : ℕ → Serving) where
+  own-at : (w : Moment) (n : ℕ) (l : Lists) (f : Fact) → AtNode w n l f
+      → AnswersFor services w.past f.who f.event f.first f.second → Good w
+      → OwnAt services w.past f.who f.event f.first f.second
+  own-at w n l f a t g =
+      let k = g.known in
+      let v = services n in
+      let who : f.who ≡ Node n = a.allowed.who ∙ ap Node a.me in
+      let answer : AnswersAt v (served_by v.mode n k.past) f.event f.first f.second =
+      subst (λ (p : List Fact). AnswersAt v (served_by v.mode n p) f.event f.first
+      f.second) (sym g.past) (subst (λ (p : Who). AnswersFor services w.past p f.event f.first
+      f.second) who t) in
+      let own : OwnEvent v k.past n f.event f.first f.second =
+      own-event k n l (g.nodes n l a.is_node) g.is_true v w.hand f.event
+      f.first f.second answer a.allowed.may in
+      let now : OwnEvent v w.past n f.event f.first f.second =
+      subst (λ (p : List Fact). OwnEvent v p n f.event f.first f.second) g.past own in
+      subst (λ (p : Who). OwnAt services w.past p f.event f.first f.second) (sym who) now
 
-order-at : (w : Moment) (n : ℕ) (l : Lists) (f : Fact) → AtNode w n l f → Good w → OrderAt w.past f.who f.event f.first
-order-at w n l f a g =
-    let k = g.known in
-    let own : OrderEvent k.past n f.event f.first =
-    order-event k n l (g.nodes n l a.is_node) g.is_true w.hand f.event f.first f.second a.allowed.may in
-    let now : OrderEvent w.past n f.event f.first =
-    subst (λ (p : List Fact). OrderEvent p n f.event f.first) g.past own in
-    subst (λ (p : Who). OrderAt w.past p f.event f.first) (sym (a.allowed.who ∙ ap Node a.me)) now
-
-pub course-order : {free : Bool} (w : Moment) (h : List Fact) (u : Moment) → Course free w h u → AllRight w → AllValid w
-    → Good w → AtEach (λ past f. OrderAt past f.who f.event f.first) w.past h
-course-order _ _ _ (over w) i v g = tt
-course-order _ _ _ (resets w clock h u is c) i v g = course-order (clocked w clock) h u c i v (good-clocked w clock g)
-course-order _ _ _ (made_as w limits h u is c) i v g =
-    (tt, course-order (made_at w limits) h u c (right-made w limits i) (valid-made w limits v) (good-made w limits g))
-course-order _ _ _ (in_net w f h u who c) i v g = (
-  subst (λ (p : Who). OrderAt w.past p f.event f.first) (sym who) tt,
-  course-order (moved w f) h u c (right-net w f who i) (valid-net w f who v) (good-net w f who g),
-)
-course-order _ _ _ (made w ring h u c) i v g =
-    (tt, course-order _ h u c (right-made w (with_ring ring) i) (valid-made w (with_ring ring) v) (good-made w (with_ring ring) g))
-course-order _ _ _ (at_node w n l f h u a c) i v g = (
-  order-at w n l f a g,
-  course-order (moved w f) h u c (right-noted w n l f a i) (valid-node w n l f a v) (good-node w n l f a i v g),
-)
-course-order _ _ _ (pairs w n m credits client server h u e c) i v g = (
-  tt,
-  (
+  pub course-own : {free : Bool} (w : Moment) (h : List Fact) (u : Moment) → Course free w h u → AllRight w → AllValid w
+      → AnswersEach services w.past h → Good w
+      → AtEach (λ past f. OwnAt services past f.who f.event f.first f.second) w.past h
+  course-own _ _ _ (over w) i v t g = tt
+  course-own _ _ _ (made_as w limits h u is c) i v t g =
+      (tt, course-own (made_at w limits) h u c (right-made w limits i) (valid-made w limits v) t.1 (good-made w limits g))
+  course-own _ _ _ (resets w clock h u is c) i v t g =
+      course-own (clocked w clock) h u c i v t (good-clocked w clock g)
+  course-own _ _ _ (in_net w f h u who c) i v t g = (
+    subst (λ (p : Who). OwnAt services w.past p f.event f.first f.second) (sym who) tt,
+    course-own (moved w f) h u c (right-net w f who i) (valid-net w f who v) t.1 (good-net w f who g),
+  )
+  course-own _ _ _ (made w ring h u c) i v t g = (
     tt,
-    course-order (paired w n m credits client server) h u c
-        (right-paired w n m credits client server e i)
-        (valid-pair w n m credits client server e v)
-        (good-paired w n m credits client server e i v g),
-  ),
-)
+    course-own _ h u c (right-made w (with_ring ring) i) (valid-made w (with_ring ring) v) t.1 (good-made w (with_ring ring) g),
+  )
+  course-own _ _ _ (at_node w n l f h u a c) i v t g = (
+    own-at w n l f a t.0 g,
+    course-own (moved w f) h u c (right-noted w n l f a i) (valid-node w n l f a v) t.1
+        (good-node w n l f a i v g),
+  )
+  course-own _ _ _ (pairs w n m credits client server h u e c) i v t g = (
+    tt,
+    (
+      tt,
+      course-own (paired w n m credits client server) h u c
+          (right-paired w n m credits client server e i)
+          (valid-pair w n m credits client server e v) t.1.1
+          (good-paired w n m credits client server e i v g),
+    ),
+  )

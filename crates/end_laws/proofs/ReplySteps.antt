@@ -34,7 +34,7 @@ use Rattle.rpc_laws.specs.Facts.{plain}
 use Rattle.rpc_laws.specs.Front.{front_bytes, front_header, front_body}
 use Rattle.rpc_laws.specs.NodeLists.{after}
 use Rattle.rpc_laws.specs.PollOrder.{Handles, HandlesAll, PostsAll, SendsAll, Closes, handling_by}
-use Rattle.rpc_outside.specs.PlainAnswer.{plain_mode}
+use Rattle.rpc_outside.specs.declared.service.Mode.{Mode}
 use Rattle.rpc_laws.specs.ControlSteps.{HearsAll, TimesAll}
 use Rattle.rpc_laws.specs.declared.tables.WorkedJob.{WorkedJob}
 use Rattle.rpc_laws.specs.Working.{FinishesWorked}
@@ -277,43 +277,43 @@ client-walk hand clock l front h None is f = (record { who = refl; may = tt }, t
 client-walk hand clock l front h (Some x) is f = peer-walk hand clock l front h x (is_connected x.state) _ refl f is
 
 -- the front of the ring is handled by its kind
-kind-walk : (hand : Option InFlight) (clock : ℕ) (l : Lists) (front : Arrival) (h : MessageHeader)
+kind-walk : (mode : ℕ → Mode) (hand : Option InFlight) (clock : ℕ) (l : Lists) (front : Arrival) (h : MessageHeader)
     (lacks : Bool) (answer : List ℕ) (k : Kind) → h.kind ≡ k → Fronts l front h → RightNode l
-    → Walks hand clock l (handling_by plain_mode lacks answer k l front.peer h (front_body l.ring))
-kind-walk hand clock l front h lacks answer Request e f s =
-    asks-walk hand clock l front h lacks answer f (rw e tt) s.sound s.slots
-kind-walk hand clock l front h lacks answer Rfr e f s =
-    asks-walk hand clock l front h lacks answer f (rw e tt) s.sound s.slots
-kind-walk hand clock l front h lacks answer Cr e f s = client-walk hand clock l front h _ refl f
-kind-walk hand clock l front h lacks answer Response e f s = client-walk hand clock l front h _ refl f
+    → Walks hand clock l (handling_by mode lacks answer k l front.peer h (front_body l.ring))
+kind-walk mode hand clock l front h lacks answer Request e f s =
+    asks-walk (mode h.req_type) hand clock l front h lacks answer f (rw e tt) s.sound s.slots
+kind-walk mode hand clock l front h lacks answer Rfr e f s =
+    asks-walk (mode h.req_type) hand clock l front h lacks answer f (rw e tt) s.sound s.slots
+kind-walk mode hand clock l front h lacks answer Cr e f s = client-walk hand clock l front h _ refl f
+kind-walk mode hand clock l front h lacks answer Response e f s = client-walk hand clock l front h _ refl f
 
 pub front-is : (ring : List Arrival) (front : Arrival) → slice_get ring 0 ≡ Some front → front_bytes ring ≡ front.bytes
 front-is [] front h = cc
 front-is (d ∷ ds) front h = let same : d ≡ front = cc in ap (λ (a : Arrival). a.bytes) same
 
-pub handles-fine : Fine RightNode (Handles plain_mode)
-handles-fine hand s x t i h =
+pub handles-fine : (mode : ℕ → Mode) → Fine RightNode (Handles mode)
+handles-fine mode hand s x t i h =
     let bytes = front-is s.lists.ring h.front h.is_front in
     let reads : front_header s.lists.ring ≡ Some h.header = ap message_of bytes ∙ h.reads in
-    let walk = kind-walk hand s.clock s.lists h.front h.header h.lacks h.answer h.header.kind refl
+    let walk = kind-walk mode hand s.clock s.lists h.front h.header h.lacks h.answer h.header.kind refl
     (record { is_front = h.is_front; reads = reads }) i in
-    let same : handling_by plain_mode h.lacks h.answer h.header.kind s.lists h.front.peer h.header
+    let same : handling_by mode h.lacks h.answer h.header.kind s.lists h.front.peer h.header
     (front_body s.lists.ring) ≡ x =
-    ap (λ (b : List ℕ). handling_by plain_mode h.lacks h.answer h.header.kind s.lists
+    ap (λ (b : List ℕ). handling_by mode h.lacks h.answer h.header.kind s.lists
     h.front.peer h.header (body_of b)) bytes ∙ sym h.facts in
     walked-goes RightNode right-stays hand s x t i
     (subst (λ (y : List Fact). Walks hand s.clock s.lists y) same walk) h.goes
 
 -- a poll at the node's clock
-pub poll-fine : (worked : List WorkedJob)
+pub poll-fine : (mode : ℕ → Mode) (worked : List WorkedJob)
     → Fine RightNode (Then (FinishesWorked worked)
-    (Then HearsAll (Then (HandlesAll plain_mode)
+    (Then HearsAll (Then (HandlesAll mode)
     (Then TimesAll (Then PostsAll (Then SendsAll Closes))))))
-poll-fine worked =
+poll-fine mode worked =
     fine-then RightNode (FinishesWorked worked) _ (finishes-worked worked)
     (fine-then RightNode HearsAll _ hears-all
-    (fine-then RightNode (HandlesAll plain_mode) _
-    (fine-until RightNode (Handles plain_mode) _ handles-fine)
+    (fine-then RightNode (HandlesAll mode) _
+    (fine-until RightNode (Handles mode) _ (handles-fine mode))
     (fine-then RightNode TimesAll _ (times-all RightNode right-stays)
     (fine-then RightNode PostsAll _ (posts-all RightNode right-stays)
     (fine-then RightNode SendsAll Closes (sends-all RightNode right-stays)

@@ -23,7 +23,6 @@ use Rattle.rpc_laws.specs.declared.tables.InFlight.{InFlight}
 use Rattle.rpc_laws.specs.declared.tables.Lists.{Lists}
 use Rattle.rpc_laws.specs.declared.tables.Served.{Served}
 use Rattle.rpc_laws.specs.declared.tables.Server.{Server}
-use Rattle.rpc_outside.specs.PlainAnswer.{plain_mode}
 use Rattle.rpc_outside.specs.declared.service.Mode.{Mode}
 use Rattle.rpc_laws.specs.Facts.{plain}
 use Rattle.rpc_laws.specs.Front.{front_body}
@@ -241,17 +240,17 @@ row-repeats mode full lacks h slots (Some l) is e =
     (l, record { in_slot = is; number = s.0 }, s.1)
 
 -- the older replies are flushed first
-flushed-then : (hand : Option InFlight) (latest : Option Fact) (clock : ℕ) (l : Lists)
+flushed-then : (mode : Mode) (hand : Option InFlight) (latest : Option Fact) (clock : ℕ) (l : Lists)
     (front : Arrival) (h : MessageHeader) (v : Server) (going : Option Served) (answer : List ℕ)
     (owner : Owner) (ks : List ℕ) → Taking l front h v going
     → WalksFrom hand latest clock l (map (λ k. plain l.me (Flushed owner k)) ks
-    ++ took_facts (plain_mode h.req_type) l.me answer h (joined going (front_body l.ring)))
-flushed-then hand latest clock l front h v going answer owner [] t =
-    took-walk hand latest clock l front h v going answer t
-flushed-then hand latest clock l front h v going answer owner (k ∷ ks) t = (
+    ++ took_facts mode l.me answer h (joined going (front_body l.ring)))
+flushed-then mode hand latest clock l front h v going answer owner [] t =
+    took-walk mode hand latest clock l front h v going answer t
+flushed-then mode hand latest clock l front h v going answer owner (k ∷ ks) t = (
   record { who = refl; may = tt },
   tt,
-  flushed-then hand (Some (plain l.me (Flushed owner k))) clock
+  flushed-then mode hand (Some (plain l.me (Flushed owner k))) clock
       (after clock l (plain l.me (Flushed owner k))) front h v going answer owner ks
       (record {
         is_front = record { is_front = t.is_front.is_front; reads = t.is_front.reads };
@@ -264,14 +263,14 @@ flushed-then hand latest clock l front h v going answer owner (k ∷ ks) t = (
       }),
 )
 
-flushes-then : (hand : Option InFlight) (clock : ℕ) (l : Lists) (front : Arrival)
+flushes-then : (mode : Mode) (hand : Option InFlight) (clock : ℕ) (l : Lists) (front : Arrival)
     (h : MessageHeader) (v : Server) (going : Option Served) (answer : List ℕ) (session : ℕ)
     (old : Option Served) → Taking l front h v going
     → Walks hand clock l (flushes l.me l.queued session old
-    ++ took_facts (plain_mode h.req_type) l.me answer h (joined going (front_body l.ring)))
-flushes-then hand clock l front h v going answer session None t = took-walk hand None clock l front h v going answer t
-flushes-then hand clock l front h v going answer session (Some q) t =
-    flushed-then hand None clock l front h v going answer (Reply session q.number)
+    ++ took_facts mode l.me answer h (joined going (front_body l.ring)))
+flushes-then mode hand clock l front h v going answer session None t = took-walk mode hand None clock l front h v going answer t
+flushes-then mode hand clock l front h v going answer session (Some q) t =
+    flushed-then mode hand None clock l front h v going answer (Reply session q.number)
     (numbers_of (Reply session q.number) l.queued) t
 
 asks-kind : (k : Kind) → IsAsk k → is_ask k ≡ true
@@ -281,18 +280,18 @@ asks-kind Cr i = absurd i
 asks-kind Response i = absurd i
 
 -- the facts of a row
-row-walk : (hand : Option InFlight) (clock : ℕ) (l : Lists) (front : Arrival) (h : MessageHeader)
+row-walk : (mode : Mode) (hand : Option InFlight) (clock : ℕ) (l : Lists) (front : Arrival) (h : MessageHeader)
     (v : Server) (full lacks : Bool) (answer : List ℕ) (row : ServerRow) → Fronts l front h
     → IsAsk h.kind → find (is_server h.session) l.servers ≡ Some v → front.peer ≡ v.way.peer
     → Apart v.slots → AllByRecursion SlotRight v.slots
-    → slot_row (plain_mode h.req_type) full lacks (find (in_slot_of h.request) v.slots) h ≡ row
-    → Walks hand clock l (served_facts (plain_mode h.req_type) l.me answer l.queued (Some v) h
+    → slot_row mode full lacks (find (in_slot_of h.request) v.slots) h ≡ row
+    → Walks hand clock l (served_facts mode l.me answer l.queued (Some v) h
     (front_body l.ring) row)
-row-walk hand clock l front h v full lacks answer (Drops why) f i found peer a right e =
+row-walk mode hand clock l front h v full lacks answer (Drops why) f i found peer a right e =
     (record { who = refl; may = tt }, tt, tt)
-row-walk hand clock l front h v full lacks answer Begins f i found peer a right e =
-    let t = row-begins (plain_mode h.req_type) full lacks h v.slots _ refl i a e in
-    flushes-then hand clock l front h v None answer v.way.number
+row-walk mode hand clock l front h v full lacks answer Begins f i found peer a right e =
+    let t = row-begins mode full lacks h v.slots _ refl i a e in
+    flushes-then mode hand clock l front h v None answer v.way.number
     (find (in_slot_of h.request) v.slots)
     (record {
       is_front = f;
@@ -302,10 +301,10 @@ row-walk hand clock l front h v full lacks answer Begins f i found peer a right 
       apart = a;
       right = right;
     })
-row-walk hand clock l front h v full lacks answer Takes f i found peer a right e =
-    let t = row-takes (plain_mode h.req_type) full lacks h v.slots _ refl i e in
+row-walk mode hand clock l front h v full lacks answer Takes f i found peer a right e =
+    let t = row-takes mode full lacks h v.slots _ refl i e in
     let there : find (is_request h.request) v.slots ≡ Some t.0 = t.1.0 in
-    rw there (took-walk hand None clock l front h v (Some t.0) answer
+    rw there (took-walk mode hand None clock l front h v (Some t.0) answer
     (record {
       is_front = f;
       found = found;
@@ -314,8 +313,8 @@ row-walk hand clock l front h v full lacks answer Takes f i found peer a right e
       apart = a;
       right = right;
     }))
-row-walk hand clock l front h v full lacks answer Repeats f i found peer a right e =
-    let t = row-repeats (plain_mode h.req_type) full lacks h v.slots _ refl e in (
+row-walk mode hand clock l front h v full lacks answer Repeats f i found peer a right e =
+    let t = row-repeats mode full lacks h v.slots _ refl e in (
       record {
         who = refl;
         may = record {
@@ -347,39 +346,39 @@ row-walk hand clock l front h v full lacks answer Repeats f i found peer a right
       ),
     )
 
-peer-walk : (hand : Option InFlight) (clock : ℕ) (l : Lists) (front : Arrival) (h : MessageHeader)
+peer-walk : (mode : Mode) (hand : Option InFlight) (clock : ℕ) (l : Lists) (front : Arrival) (h : MessageHeader)
     (v : Server) (full lacks b : Bool) (answer : List ℕ) → (v.way.peer == front.peer) ≡ b
     → Fronts l front h → IsAsk h.kind → find (is_server h.session) l.servers ≡ Some v
     → Apart v.slots → AllByRecursion SlotRight v.slots
-    → Walks hand clock l (served_facts (plain_mode h.req_type) l.me answer l.queued (Some v) h
+    → Walks hand clock l (served_facts mode l.me answer l.queued (Some v) h
     (front_body l.ring) (cond (not b) (Drops WrongPeer)
-    (slot_row (plain_mode h.req_type) full lacks (find (in_slot_of h.request) v.slots) h)))
-peer-walk hand clock l front h v full lacks true answer t f i found a right =
-    row-walk hand clock l front h v full lacks answer
-    (slot_row (plain_mode h.req_type) full lacks (find (in_slot_of h.request) v.slots) h) f i
+    (slot_row mode full lacks (find (in_slot_of h.request) v.slots) h)))
+peer-walk mode hand clock l front h v full lacks true answer t f i found a right =
+    row-walk mode hand clock l front h v full lacks answer
+    (slot_row mode full lacks (find (in_slot_of h.request) v.slots) h) f i
     found (sym (eqb-true v.way.peer front.peer t)) a right refl
-peer-walk hand clock l front h v full lacks false answer t f i found a right =
+peer-walk mode hand clock l front h v full lacks false answer t f i found a right =
     (record { who = refl; may = tt }, tt, tt)
 
-session-walk : (hand : Option InFlight) (clock : ℕ) (l : Lists) (front : Arrival)
+session-walk : (mode : Mode) (hand : Option InFlight) (clock : ℕ) (l : Lists) (front : Arrival)
     (h : MessageHeader) (full lacks : Bool) (answer : List ℕ) (v : Option Server)
     → find (is_server h.session) l.servers ≡ v → Fronts l front h → IsAsk h.kind → Sound l
     → SlotsRight l.servers
-    → Walks hand clock l (served_facts (plain_mode h.req_type) l.me answer l.queued v h
-    (front_body l.ring) (server_row (plain_mode h.req_type) full lacks v front.peer h))
-session-walk hand clock l front h full lacks answer None is f i s right = (record { who = refl; may = tt }, tt, tt)
-session-walk hand clock l front h full lacks answer (Some v) is f i s right =
-    peer-walk hand clock l front h v full lacks _ answer refl f i is
+    → Walks hand clock l (served_facts mode l.me answer l.queued v h
+    (front_body l.ring) (server_row mode full lacks v front.peer h))
+session-walk mode hand clock l front h full lacks answer None is f i s right = (record { who = refl; may = tt }, tt, tt)
+session-walk mode hand clock l front h full lacks answer (Some v) is f i s right =
+    peer-walk mode hand clock l front h v full lacks _ answer refl f i is
     (all-found (λ v. Apart v.slots) (is_server h.session) l.servers v s is)
     (all-found (λ v. AllByRecursion SlotRight v.slots) (is_server h.session) l.servers v right is)
 
 -- a Request or an RFR is handled
-pub asks-walk : (hand : Option InFlight) (clock : ℕ) (l : Lists) (front : Arrival)
+pub asks-walk : (mode : Mode) (hand : Option InFlight) (clock : ℕ) (l : Lists) (front : Arrival)
     (h : MessageHeader) (lacks : Bool) (answer : List ℕ) → Fronts l front h → IsAsk h.kind → Sound l
     → SlotsRight l.servers
-    → Walks hand clock l (served_facts (plain_mode h.req_type) l.me answer l.queued
+    → Walks hand clock l (served_facts mode l.me answer l.queued
     (find (is_server h.session) l.servers) h (front_body l.ring)
-    (server_row (plain_mode h.req_type) (are_full l.jobs) lacks
+    (server_row mode (are_full l.jobs) lacks
     (find (is_server h.session) l.servers) front.peer h))
-asks-walk hand clock l front h lacks answer f i s right =
-    session-walk hand clock l front h (are_full l.jobs) lacks answer _ refl f i s right
+asks-walk mode hand clock l front h lacks answer f i s right =
+    session-walk mode hand clock l front h (are_full l.jobs) lacks answer _ refl f i s right

@@ -4,6 +4,7 @@ use Rattle.std.proofs.Common.{slice_get, refl, sym, ap, ◌∙◌, subst, append
 use Rattle.std.specs.Prelude.{option_to_list, count_by}
 use Rattle.std.specs.List.{filter, remove, slice_set}
 use Rattle.std.proofs.lemmas.List.Elements.{filter-append}
+use Rattle.rpc_base.specs.declared.event.Event.{Event}
 use Rattle.rpc_base.specs.declared.event.Event.TheVariants.{Repeated, Carried}
 use Rattle.rpc_base.specs.declared.fact.Fact.{Fact}
 use Rattle.rpc_laws.specs.declared.tables.InFlight.{InFlight}
@@ -27,11 +28,28 @@ module _ {A : Type 0} where
   in-range (x ∷ xs) zero y h = omega arith
   in-range (x ∷ xs) (suc i) y h = let k = in-range xs i y h in omega arith
 
+-- these facts without some of the network
+pub data Without : List Fact → List Fact → Type 0 where
+  none_left : Without [] []
+  kept : {h : List Fact} {g : List Fact} (f : Fact) → Without h g → Without (f ∷ h) (f ∷ g)
+  left_out : {h : List Fact} {g : List Fact} (e : Event) → Without h g → Without (of_net e ∷ h) g
+
+without-same : (x : List Fact) → Without x x
+without-same [] = none_left
+without-same (f ∷ x) = kept f (without-same x)
+
+without-append : {h : List Fact} {g : List Fact} {x : List Fact} {y : List Fact} → Without h g
+    → Without x y → Without (h ++ x) (g ++ y)
+without-append none_left w = w
+without-append (kept f v) w = kept f (without-append v w)
+without-append (left_out e v) w = left_out e (without-append v w)
+
 -- the facts of the nodes are those of the wires
-record Joined (parties : ℕ → Party) (g : List Fact) (t : Joint) : Type 0 where
-  history : List Fact
-  steps : JointSteps parties history t
-  same : (n : ℕ) → at_node n history ≡ at_node n g
+pub record Joined (parties : ℕ → Party) (g : List Fact) (t : Joint) : Type 0 where
+  pub history : List Fact
+  pub steps : JointSteps parties history t
+  pub same : (n : ℕ) → at_node n history ≡ at_node n g
+  pub without : Without history g
 
 at-append : (n : ℕ) (h x : List Fact) → at_node n (h ++ x) ≡ at_node n h ++ at_node n x
 at-append n h x = filter-append (λ (f : Fact). is_at n f.who) h x
@@ -45,6 +63,7 @@ one-step parties g s x t j h = record {
   history = j.history ++ x;
   steps = joint.more j.steps x t h;
   same = λ n. same-append n j.history g x (j.same n);
+  without = without-append j.without (without-same x);
 }
 
 hears-step : (parties : ℕ → Party) (g : List Fact) (s : Joint) (x : List Fact) (t : Joint) → Joined parties g s
@@ -79,6 +98,9 @@ hears-step parties g s x t j h =
     record {
       history = (j.history ++ twice) ++ carried;
       steps = joint.more (joint.more j.steps twice two first) carried t second;
+      without = subst (Without ((j.history ++ twice) ++ carried)) (ap (λ y. y ++ x) (append-nil g))
+          (without-append (without-append j.without (left_out (Repeated i) none_left))
+          (left_out (Carried last) (without-same x)));
       same = λ n.
           at-append n (j.history ++ twice) carried
           ∙ (ap (λ (y : List Fact). y ++ at_node n x) (at-append n j.history twice ∙ append-nil (at_node n j.history) ∙ j.same n)
@@ -92,20 +114,21 @@ step-joins parties g s x t j (acts h) = one-step parties g s x t j (joint.acts h
 step-joins parties g s x t j (pairs h) = one-step parties g s x t j (joint.pairs h)
 step-joins parties g s x t j (hears h) = hears-step parties g s x t j h
 
-steps-join : (parties : ℕ → Party) {g : List Fact} {t : Joint} → WireSteps parties g t → Joined parties g t
-steps-join parties none = record { history = []; steps = joint.none; same = λ n. refl }
+pub steps-join : (parties : ℕ → Party) {g : List Fact} {t : Joint} → WireSteps parties g t → Joined parties g t
+steps-join parties none =
+    record { history = []; steps = joint.none; same = λ n. refl; without = none_left }
 steps-join parties (more {x = x} {t = t} c y u h) = step-joins parties x t y u (steps-join parties c) h
+
+pub joined-run : (parties : ℕ → Party) (g : List Fact) (t : Joint) → WireRun parties g t
+    → (j : Joined parties g t) → JointRun parties j.history t
+joined-run parties g t run j = record {
+  steps = j.steps;
+  worked_once = λ n s r.
+      subst (λ (y : List Fact). count_by (λ f. works_request s r f.event) y ≤ 1) (sym (j.same n)) (run.worked_once n s r);
+  answers = λ n. subst (Answers (parties n).serving []) (sym (j.same n)) (run.answers n);
+}
 
 pub wires-join : (parties : ℕ → Party) (g : List Fact) (t : Joint) → WireRun parties g t → IsJoined parties g t
 wires-join parties g t run =
     let j = steps-join parties run.steps in
-    record {
-      history = j.history;
-      run = record {
-        steps = j.steps;
-        worked_once = λ n s r.
-            subst (λ (y : List Fact). count_by (λ f. works_request s r f.event) y ≤ 1) (sym (j.same n)) (run.worked_once n s r);
-        answers = λ n. subst (Answers (parties n).serving []) (sym (j.same n)) (run.answers n);
-      };
-      same = j.same;
-    }
+    record { history = j.history; run = joined-run parties g t run j; same = j.same }

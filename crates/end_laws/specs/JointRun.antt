@@ -19,6 +19,7 @@ use Rattle.rpc_laws.specs.Facts.{plain, of_net}
 use Rattle.rpc_laws.specs.Groups.{client_refusal, server_refusal}
 use Rattle.rpc_laws.specs.InFlight.{flight_after_all, flight_after_net}
 use Rattle.rpc_laws.specs.NodeLists.{after, new_node}
+use Rattle.rpc_laws.specs.OwnAnswer.{Own, OwnBy}
 use Rattle.rpc_laws.specs.Service.{Serving, Answers, plain_serving}
 use Rattle.rpc_laws.specs.GoBackN.{usual_timeout}
 use Rattle.rpc_laws.specs.Jobs.{usual_jobs}
@@ -173,11 +174,27 @@ usual_party = record { jobs = usual_jobs; timeout = usual_timeout; serving = pla
 abbrev pub ArePlain : (ℕ → Party) → Type 0
 ArePlain parties = (n : ℕ) → (parties n).serving ≡ plain_serving
 
--- so each joint run of such nodes has it
+-- the service of each node
+abbrev pub services : (ℕ → Party) → ℕ → Serving
+services parties n = (parties n).serving
+
+-- so each joint run has it, whatever the services
 abbrev pub OfEveryJointRun : (List Fact → Joint → Type 0) → Type 0
 OfEveryJointRun P =
+    (parties : ℕ → Party) (h : List Fact) (t : Joint) → JointRun parties h t → P h t
+
+-- each run of a handler is for a call, with the answer of its node's service, and each call ends
+-- with its own run's answer
+abbrev pub JointAnswersOwn : Type 0
+JointAnswersOwn =
+    (parties : ℕ → Party) (h : List Fact) (t : Joint) → JointRun parties h t
+    → OwnBy (services parties) h
+
+-- so it is of nodes with the plain service
+abbrev pub PlainAnswersOwn : Type 0
+PlainAnswersOwn =
     (parties : ℕ → Party) (h : List Fact) (t : Joint) → ArePlain parties → JointRun parties h t
-    → P h t
+    → Own h
 
 -- what a joint run leaves, as a moment: nothing is in hand between two groups, and the clock is
 -- nobody's

@@ -6,4 +6,3 @@ pub mod Moments
 pub mod TwoEnds
 pub mod TwoNodes
 pub mod WireRun
-pub mod CallOrder

@@ -8,8 +8,9 @@ use Rattle.rpc_laws.specs.declared.tables.Timed.{Timed}
 use Rattle.rpc_laws.specs.AtMostOnce.{works_request}
 use Rattle.rpc_laws.specs.Deliveries.{Delivers}
 use Rattle.rpc_laws.specs.Service.{Answers}
+use Rattle.rpc_laws.specs.OwnAnswer.{OwnBy}
 use Rattle.end_laws.specs.JointRun.{Party, Joint, nobody, at_node, MakesNode, Acts, PairsNodes}
-use Rattle.end_laws.specs.JointRun.{JointRun}
+use Rattle.end_laws.specs.JointRun.{JointRun, services}
 
 -- a datagram that was sent before comes to its node. All that was sent stays on the wire
 pub record HearsCopy (s : Joint) (x : List Fact) (t : Joint) : Type 0 where
@@ -40,6 +41,18 @@ pub record WireRun (parties : ℕ → Party) (g : List Fact) (t : Joint) : Type 
   pub worked_once : (n session request : ℕ)
       → count_by (λ f. works_request session request f.event) (at_node n g) ≤ 1
   pub answers : (n : ℕ) → Answers (parties n).serving [] (at_node n g)
+
+-- so each wire run has it, whatever the services
+abbrev pub OfEveryWireRun : (List Fact → Joint → Type 0) → Type 0
+OfEveryWireRun P =
+    (parties : ℕ → Party) (g : List Fact) (t : Joint) → WireRun parties g t → P g t
+
+-- each run of a handler is for a call, with the answer of its node's service, and each call ends
+-- with its own run's answer
+abbrev pub WireAnswersOwn : Type 0
+WireAnswersOwn =
+    (parties : ℕ → Party) (g : List Fact) (t : Joint) → WireRun parties g t
+    → OwnBy (services parties) g
 
 -- a joint run in which each node notes the same
 pub record IsJoined (parties : ℕ → Party) (g : List Fact) (t : Joint) : Type 0 where

@@ -3,16 +3,16 @@
 //! packets that are lost, repeated and held back as well. Each pairing of the script is of two
 //! nodes, as in every `Script`.
 //!
-//! Laws of every joint run, which follows no script: of nodes with the plain service, each with a
-//! clock, a ring and limits of its own, whatever links are busy and whatever memory is wanting.
+//! Laws of every joint run, which follows no script: of nodes each with a service, a clock, a ring and
+//! limits of its own, whatever links are busy and whatever memory is wanting.
 ghost use Rattle.std.specs.Prelude.{List, []};
-ghost use Rattle.end_laws.specs.CallOrder.{InOrder};
 ghost use Rattle.end_laws.specs.Genuine.{AllGenuine, Travels, WasPut};
 ghost use Rattle.end_laws.specs.Handshakes.{Agree, AllAgree};
-ghost use Rattle.end_laws.specs.JointRun.{OfEveryJointRun, moment_left};
+ghost use Rattle.end_laws.specs.JointRun.{JointAnswersOwn, OfEveryJointRun, PlainAnswersOwn};
+ghost use Rattle.end_laws.specs.JointRun.{moment_left};
 ghost use Rattle.end_laws.specs.TwoEnds.{AllTwoEnds, TwoEnds};
 ghost use Rattle.end_laws.specs.TwoNodes.{PairsTwoNodes};
-ghost use Rattle.end_laws.specs.WireRun.{WiresJoin};
+ghost use Rattle.end_laws.specs.WireRun.{WireAnswersOwn, WiresJoin};
 ghost use Rattle.node_laws.specs.CallHistory.{latest_first};
 ghost use Rattle.rpc_base.specs.declared.fact.Fact.{Fact};
 ghost use Rattle.rpc_laws.specs.OwnAnswer.{Own};
@@ -61,15 +61,12 @@ pub fn scripts_pair_two_nodes()
 {}
 
 /// In a joint run each handler runs on its call's own bytes, and each call ends with its own answer,
-/// as in `answers_own`.
+/// as in `answers_own`: by the service of its node, and of nodes with the plain service by that one.
+/// So it is over wires to which only what was sent comes.
 pub fn joint_answers_own()
-    ensures { OfEveryJointRun (λ h t. Own h) }
-{}
-
-/// In a joint run each call that ends well was asked, then begun, then run, and then ended: the run
-/// is that call's.
-pub fn joint_calls_in_order()
-    ensures { OfEveryJointRun (λ h t. InOrder h) }
+    ensures joint { JointAnswersOwn }
+    ensures plain { PlainAnswersOwn }
+    ensures wires { WireAnswersOwn }
 {}
 
 /// Where a joint run leaves its nodes, the two ends of each session hold what is of one call, as in

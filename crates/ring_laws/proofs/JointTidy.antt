@@ -5,7 +5,7 @@ use Rattle.rpc_base.specs.declared.event.Event.TheVariants.{Made}
 use Rattle.rpc_base.specs.declared.fact.Fact.{Fact}
 use Rattle.rpc_laws.specs.declared.tables.Lists.{Lists}
 use Rattle.rpc_laws.specs.Facts.{plain}
-use Rattle.end_laws.specs.JointRun.{Party, Joint, JointRun, ArePlain, LeavesAs}
+use Rattle.end_laws.specs.JointRun.{Party, Joint, JointRun, LeavesAs}
 use Rattle.end_laws.specs.Moments.{Moment, moved, first_moment}
 use Rattle.end_laws.proofs.Courses.{made_as, made_at, Course, over, in_net, made, at_node, pairs, resets, clocked, paired, client_fact, server_fact}
 use Rattle.end_laws.proofs.GoodStart.{first-right, first-valid}
@@ -67,10 +67,10 @@ course-kept _ _ _ (resets w clock h u is c) k =
       tidy = λ calm. tidy-clocked w clock (k.tidy calm);
     })
 
-pub joint-tidy : (parties : ℕ → Party) (h : List Fact) (t : Joint) → ArePlain parties → JointRun parties h t
+pub joint-tidy : (parties : ℕ → Party) (h : List Fact) (t : Joint) → JointRun parties h t
     → LeavesAs (λ w. Calm w.past → IsTidy w) h t
-joint-tidy parties h t usual run =
-    let l = joint-leaves parties h t usual run in
+joint-tidy parties h t run =
+    let l = joint-leaves parties h t run in
     let k = course-kept first_moment h l.end l.course (record { right = first-right; valid = first-valid; tidy = λ calm. first-tidy }) in
     record {
       moment = l.end;

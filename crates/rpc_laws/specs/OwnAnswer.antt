@@ -7,11 +7,11 @@ use Rattle.rpc_base.specs.declared.event.Event.TheVariants.{DoneOk, DoneTooSmall
 use Rattle.rpc_base.specs.declared.fact.Fact.{Fact}
 use Rattle.rpc_base.specs.declared.fact.Who.{Who}
 use Rattle.rpc_base.specs.declared.fact.Who.TheVariants.{Node, Net}
-use Rattle.rpc_outside.specs.PlainAnswer.{plain_answer}
+use Rattle.rpc_outside.specs.declared.service.Mode.{Mode}
 use Rattle.rpc_outside.specs.Served.{Served}
 use Rattle.rpc_laws.specs.AtMostOnce.{is_at}
 use Rattle.rpc_laws.specs.Facts.{plain, with_bytes, with_two}
-use Rattle.rpc_laws.specs.Service.{is_inline}
+use Rattle.rpc_laws.specs.Service.{Serving, runs_inline, plain_serving}
 
 -- client session s of node n is connected with t of peer m: by pairing, or it was opened to m and
 -- then connected
@@ -40,35 +40,48 @@ pub record IsCallOf (past : List Fact) (n c m t r req_type room : ℕ) (ask : Li
   pub asked : Contains past (with_bytes n (Asked c session req_type room) ask)
   pub begun : Contains past (plain n (Begun c r))
 
--- the handler ran for call c of node n, and answered with these bytes
+-- the handler ran for call c of node n, which had been asked and begun before that, and answered
+-- with these bytes; the facts stand with the newest first
 pub record IsAnswerTo (past : List Fact) (n c room : ℕ) (answer : List ℕ) : Type 0 where
   pub node : ℕ
   pub session : ℕ
   pub request : ℕ
   pub req_type : ℕ
   pub ask : List ℕ
-  pub call : IsCallOf past n c node session request req_type room ask
-  pub ran : Contains past (with_two node (Ran session request req_type) ask answer)
+  pub later : List Fact
+  pub earlier : List Fact
+  pub ran : past ≡ later ++ with_two node (Ran session request req_type) ask answer ∷ earlier
+  pub call : IsCallOf earlier n c node session request req_type room ask
 
--- what a fact serves: a Ran of an Inline type serves its bytes
-abbrev pub ran_inline : Event → List ℕ → Served
-ran_inline (Ran t r req_type) ask = if is_inline req_type then (req_type, ask) ∷ [] else []
-ran_inline _ ask = []
+-- what a fact serves, by a service of these modes: a Ran of an Inline type serves its bytes
+abbrev pub ran_inline : (ℕ → Mode) → Event → List ℕ → Served
+ran_inline mode (Ran t r req_type) ask =
+    if runs_inline mode req_type then (req_type, ask) ∷ [] else []
+ran_inline mode _ ask = []
 
 -- the types and the bytes of what ran inline at node m so far, in order; the facts stand with the
 -- newest first
-abbrev pub served_by : ℕ → List Fact → Served
-served_by m [] = []
-served_by m (f ∷ past) =
-    served_by m past ++ (if is_at m f.who then ran_inline f.event f.first else [])
+abbrev pub served_by : (ℕ → Mode) → ℕ → List Fact → Served
+served_by mode m [] = []
+served_by mode m (f ∷ past) =
+    served_by mode m past ++ (if is_at m f.who then ran_inline mode f.event f.first else [])
+
+-- a call that begins was asked before
+pub record OwnBegin (past : List Fact) (n c : ℕ) : Type 0 where
+  pub session : ℕ
+  pub req_type : ℕ
+  pub room : ℕ
+  pub ask : List ℕ
+  pub asked : Contains past (with_bytes n (Asked c session req_type room) ask)
 
 -- a Ran is of a call, on its own bytes, and its answer is the service's after what it served so far
-pub record OwnRun (past : List Fact) (m t r req_type : ℕ) (ask answer : List ℕ) : Type 0 where
+pub record OwnRun (v : Serving) (past : List Fact) (m t r req_type : ℕ) (ask answer : List ℕ)
+    : Type 0 where
   pub node : ℕ
   pub call : ℕ
   pub room : ℕ
   pub own : IsCallOf past node call m t r req_type room ask
-  pub right : answer ≡ plain_answer (served_by m past) req_type ask
+  pub right : answer ≡ v.answer (served_by v.mode m past) req_type ask
 
 -- a call that ended Ok has its handler's answer
 pub record OwnEnd (past : List Fact) (n c : ℕ) (answer : List ℕ) : Type 0 where
@@ -83,20 +96,26 @@ pub record OwnSize (past : List Fact) (n c size : ℕ) : Type 0 where
   pub sized : length answer ≡ size
   pub above : room < size
 
-abbrev pub OwnEvent : List Fact → ℕ → Event → List ℕ → List ℕ → Type 0
-OwnEvent past n (Ran t r req_type) first second = OwnRun past n t r req_type first second
-OwnEvent past n (DoneOk c) first second = OwnEnd past n c first
-OwnEvent past n (DoneTooSmall c size) first second = OwnSize past n c size
-OwnEvent past n _ first second = Unit {0}
+abbrev pub OwnEvent : Serving → List Fact → ℕ → Event → List ℕ → List ℕ → Type 0
+OwnEvent v past n (Begun c r) first second = OwnBegin past n c
+OwnEvent v past n (Ran t r req_type) first second = OwnRun v past n t r req_type first second
+OwnEvent v past n (DoneOk c) first second = OwnEnd past n c first
+OwnEvent v past n (DoneTooSmall c size) first second = OwnSize past n c size
+OwnEvent v past n _ first second = Unit {0}
 
-abbrev pub OwnAt : List Fact → Who → Event → List ℕ → List ℕ → Type 0
-OwnAt past (Node n) e first second = OwnEvent past n e first second
-OwnAt past Net e first second = Unit {0}
+abbrev pub OwnAt : (ℕ → Serving) → List Fact → Who → Event → List ℕ → List ℕ → Type 0
+OwnAt services past (Node n) e first second = OwnEvent (services n) past n e first second
+OwnAt services past Net e first second = Unit {0}
 
 -- a claim at each fact, about the facts before it, the newest first
 abbrev pub AtEach : (List Fact → Fact → Type 0) → List Fact → List Fact → Type 0
 AtEach P past [] = Unit {0}
 AtEach P past (f ∷ h) = P past f × AtEach P (f ∷ past) h
 
+-- of nodes each with a service of its own
+abbrev pub OwnBy : (ℕ → Serving) → List Fact → Type 0
+OwnBy services h = AtEach (λ past f. OwnAt services past f.who f.event f.first f.second) [] h
+
+-- of nodes with the plain service
 abbrev pub Own : List Fact → Type 0
-Own h = AtEach (λ past f. OwnAt past f.who f.event f.first f.second) [] h
+Own h = OwnBy (λ n. plain_serving) h

@@ -15,6 +15,7 @@ use Rattle.ring_laws.specs.PairsOnce.{PairsOnce}
 use Rattle.ring_laws.proofs.PairLaw.{course-pairs, first-tidy}
 use Rattle.ring_laws.proofs.RingLaw.{course-fits, first-met}
 use Rattle.rpc_laws.specs.declared.tables.Timed.{Timed}
+use Rattle.rpc_laws.specs.Service.{plain_serving}
 use Rattle.rpc_world.specs.Lawful.{Lawful, Runs}
 use Rattle.script_grammar.specs.Conditions.{IsScript}
 use Rattle.script_grammar.specs.declared.line.Line.{Line}
@@ -46,8 +47,8 @@ follows-lawful script h is follows =
           (node-runs script h two few follows n);
       net = all-of-net script h follows;
       once = once-each script h two few follows;
-      own = course-own first_moment h made.end made.course first-right first-valid
-          (answers-each h follows.1.answers) first-good;
+      own = course-own (λ n. plain_serving) first_moment h made.end made.course first-right
+          first-valid (answers-each (λ n. plain_serving) h follows.1.answers) first-good;
       one_call = calls-once script h two few follows;
       numbers = numbers-once script h two few follows;
       credit = credit-balances script h two few follows;

@@ -298,7 +298,7 @@ took-steps hand clock l front h v going answer i t =
     (front-right l h t.is_front.reads) t.takes t.right) in
     let new : OpenSlot (took_packet h.request (front_header l.ring) (front_body l.ring) v.slots) h
     (joined going (front_body l.ring)) = rw (t.is_front.reads) slot in
-    let allowed = (took-walk hand None clock l front h v going answer t).0 in
+    let allowed = (took-walk (plain_mode h.req_type) hand None clock l front h v going answer t).0 in
     let now = right-stays hand clock l f allowed i in (
       reply l.me h.session h.request h.number,
       refl,
@@ -855,8 +855,8 @@ poll-orders worked =
     (orderly-then HearsAll _ hears-all
     (orderly-until Hears _ hears-fine hears-orders)
     (orderly-then (HandlesAll plain_mode) _
-    (fine-until RightNode (Handles plain_mode) _ handles-fine)
-    (orderly-until (Handles plain_mode) _ handles-fine handles-orders)
+    (fine-until RightNode (Handles plain_mode) _ (handles-fine plain_mode))
+    (orderly-until (Handles plain_mode) _ (handles-fine plain_mode) handles-orders)
     (orderly-then TimesAll _ (times-all RightNode right-stays) times-orders
     (orderly-then PostsAll _ (posts-all RightNode right-stays) posts-orders
     (orderly-then SendsAll Closes (sends-all RightNode right-stays)

@@ -24,7 +24,7 @@ use Rattle.rpc_laws.specs.Facts.{plain}
 use Rattle.rpc_laws.specs.Service.{plain_serving}
 use Rattle.rpc_laws.specs.UsualLimits.{with_ring}
 use Rattle.rpc_laws.specs.Queues.{queued_after}
-use Rattle.world_laws.specs.Laws.{CreditBalances, EndedCallsAreNotQueued, EndedSessionsAreNotQueued}
+use Rattle.world_laws.specs.Laws.{EachNode, CreditBalances, EndedCallsAreNotQueued, EndedSessionsAreNotQueued}
 use Rattle.world_laws.specs.Laws.{FollowsRuns, HappensAtMostOnce, InboxFits}
 use Rattle.world_laws.specs.Laws.{OlderRequestsAreNotQueued, RingFits}
 use Rattle.world_laws.specs.NodeFacts.{facts_of, IsRun, RunAt, RunsOf, ring_of}
@@ -143,7 +143,7 @@ made-none n m ring test g e =
     let no = both-false (eqb n m) (test (Made ring)) e in
     omega arith
 
-once-nothing : Once []
+pub once-nothing : Once []
 once-nothing = record {
   ran = λ m t r. omega arith;
   worked = λ m t r. omega arith;
@@ -151,7 +151,7 @@ once-nothing = record {
   done = λ n c. omega arith;
 }
 
-made-once : (n ring : ℕ) (g : List Fact) → Once g → Once (plain n (Made ring) ∷ g)
+pub made-once : (n ring : ℕ) (g : List Fact) → Once g → Once (plain n (Made ring) ∷ g)
 made-once n ring g o = record {
   ran = λ m t r. rw (made-none n m ring (runs_request t r) g refl) (o.ran m t r);
   worked = λ m t r. rw (made-none n m ring (works_request t r) g refl) (o.worked m t r);
@@ -159,12 +159,14 @@ made-once n ring g o = record {
   done = λ m c. rw (made-none n m ring (ends_call c) g refl) (o.done m c);
 }
 
+pub once-all : (h : List Fact) → EachNode Once h → Once h
+once-all h each = record {
+  ran = λ m t r. rw (times-own m (runs_request t r) h) ((each m).ran m t r);
+  worked = λ m t r. rw (times-own m (works_request t r) h) ((each m).worked m t r);
+  begun = λ n c. rw (times-own n (begins_call c) h) ((each n).begun n c);
+  done = λ n c. rw (times-own n (ends_call c) h) ((each n).done n c);
+}
+
 pub once-each : HappensAtMostOnce
 once-each script h two few f =
-    let each = of-node Once once-nothing (λ n facts t r. let kept : Once r.later = once plain_serving n (with_ring r.ring) r.later t r.run in rw r.made (made-once n r.ring r.later kept)) h f.0 (runs script h two few f) in
-    record {
-      ran = λ m t r. rw (times-own m (runs_request t r) h) ((each m).ran m t r);
-      worked = λ m t r. rw (times-own m (works_request t r) h) ((each m).worked m t r);
-      begun = λ n c. rw (times-own n (begins_call c) h) ((each n).begun n c);
-      done = λ n c. rw (times-own n (ends_call c) h) ((each n).done n c);
-    }
+    once-all h (of-node Once once-nothing (λ n facts t r. let kept : Once r.later = once plain_serving n (with_ring r.ring) r.later t r.run in rw r.made (made-once n r.ring r.later kept)) h f.0 (runs script h two few f))

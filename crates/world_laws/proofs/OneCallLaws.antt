@@ -22,8 +22,8 @@ use Rattle.rpc_base.specs.declared.fact.Fact.{Fact}
 use Rattle.rpc_base.specs.declared.fact.Who.TheVariants.{Node}
 use Rattle.rpc_laws.specs.AtMostOnce.{is_at, begins_call, runs_request, Once}
 use Rattle.rpc_laws.specs.Facts.{plain, with_bytes, with_two}
-use Rattle.rpc_laws.specs.OwnAnswer.{IsClientEnd, IsServerEnd, IsCallOf, OwnRun, OwnAt, AtEach, Own}
-use Rattle.rpc_laws.specs.Service.{plain_serving}
+use Rattle.rpc_laws.specs.OwnAnswer.{IsClientEnd, IsServerEnd, IsCallOf, OwnRun, OwnAt, AtEach, Own, OwnBy}
+use Rattle.rpc_laws.specs.Service.{Serving, plain_serving}
 use Rattle.rpc_laws.specs.UsualLimits.{with_ring}
 use Rattle.script_grammar.specs.declared.line.Line.{Line}
 use Rattle.sim_script.specs.FollowsScript.{Follows}
@@ -34,7 +34,7 @@ use Rattle.world_laws.specs.NodeFacts.{facts_of}
 use Rattle.world_laws.specs.OneCall.{IsOneOf, RanFor, RanForSome, OneCall}
 
 -- each node's facts
-made-used : (n ring : ℕ) (g : List Fact) → UsedOnce g → UsedOnce (plain n (Made ring) ∷ g)
+pub made-used : (n ring : ℕ) (g : List Fact) → UsedOnce g → UsedOnce (plain n (Made ring) ∷ g)
 made-used n ring g u = record {
   asked = λ c. let few = u.asked c in omega (arith, counted-cons (λ (f : Fact). asks_call c f.event) (plain n (Made ring)) g false refl);
   made = λ s. let few = u.made s in omega (arith, counted-cons (λ (f : Fact). makes_client s f.event) (plain n (Made ring)) g false refl);
@@ -44,7 +44,7 @@ made-used n ring g u = record {
       (record { asked = b.asked; begun = b.begun });
 }
 
-used-nothing : UsedOnce []
+pub used-nothing : UsedOnce []
 used-nothing = record {
   asked = λ c. omega arith;
   made = λ s. omega arith;
@@ -205,13 +205,20 @@ module _ (h : List Fact) (u : EachNode UsedOnce h) (o : Once h) where
       (cc, cc)
 
   -- a call is asked once, and begins once
+  pub one-asked : (n c s e y z room space : ℕ) (ask other : List ℕ)
+      → Contains h (with_bytes n (Asked c s y room) ask)
+      → Contains h (with_bytes n (Asked c e z space) other)
+      → with_bytes n (Asked c s y room) ask ≡ with_bytes n (Asked c e z space) other
+  one-asked n c s e y z room space ask other x w =
+      one-fact n (asks_call c) ((u n).asked c) (with_bytes n (Asked c s y room) ask)
+      (with_bytes n (Asked c e z space) other) refl refl x w (eq-eqb c c refl) (eq-eqb c c refl)
+
   one-session : (n c s e y z room space : ℕ) (ask other : List ℕ)
       → Contains h (with_bytes n (Asked c s y room) ask)
       → Contains h (with_bytes n (Asked c e z space) other) → s ≡ e
   one-session n c s e y z room space ask other x w =
-      let same = one-fact n (asks_call c) ((u n).asked c) (with_bytes n (Asked c s y room) ask)
-      (with_bytes n (Asked c e z space) other) refl refl x w (eq-eqb c c refl) (eq-eqb c c refl) in
-      let event : Asked c s y room ≡ Asked c e z space = ap (λ (f : Fact). f.event) same in
+      let event : Asked c s y room ≡ Asked c e z space =
+      ap (λ (f : Fact). f.event) (one-asked n c s e y z room space ask other x w) in
       cc
 
   one-request : (n c r q : ℕ) → Contains h (plain n (Begun c r)) → Contains h (plain n (Begun c q)) → r ≡ q
@@ -270,11 +277,11 @@ module _ (h : List Fact) (u : EachNode UsedOnce h) (o : Once h) where
 
 -- what is so of facts is so of more
 module _ (past h : List Fact) (more : (f : Fact) → Contains past f → Contains h f) where
-  client-more : (n s m t : ℕ) → IsClientEnd past n s m t → IsClientEnd h n s m t
+  pub client-more : (n s m t : ℕ) → IsClientEnd past n s m t → IsClientEnd h n s m t
   client-more n s m t (IsClientEnd.paired c x) = IsClientEnd.paired c (more _ x)
   client-more n s m t (IsClientEnd.connected c x y) = IsClientEnd.connected c (more _ x) (more _ y)
 
-  server-more : (n s m t : ℕ) → IsServerEnd past n s m t → IsServerEnd h n s m t
+  pub server-more : (n s m t : ℕ) → IsServerEnd past n s m t → IsServerEnd h n s m t
   server-more n s m t (IsServerEnd.paired c x) = IsServerEnd.paired c (more _ x)
   server-more n s m t (IsServerEnd.accepted c x) = IsServerEnd.accepted c (more _ x)
 
@@ -290,9 +297,9 @@ module _ (past h : List Fact) (more : (f : Fact) → Contains past f → Contain
     begun = more _ a.begun;
   }
 
-  ran-more : (m t r y : ℕ) (ask answer : List ℕ) → OwnRun past m t r y ask answer
+  ran-more : (v : Serving) (m t r y : ℕ) (ask answer : List ℕ) → OwnRun v past m t r y ask answer
       → RanForSome h (with_two m (Ran t r y) ask answer)
-  ran-more m t r y ask answer w = record {
+  ran-more v m t r y ask answer w = record {
     node = w.node;
     call = w.call;
     own = record {
@@ -309,17 +316,17 @@ module _ (past h : List Fact) (more : (f : Fact) → Contains past f → Contain
   }
 
 -- each run of a handler is of a call
-module _ (h : List Fact) where
+module _ (v : ℕ → Serving) (h : List Fact) where
   ran-at : (past g : List Fact) → ((f : Fact) → Contains past f → Contains h f)
       → ((f : Fact) → Contains g f → Contains h f)
-      → AtEach (λ past f. OwnAt past f.who f.event f.first f.second) past g
+      → AtEach (λ past f. OwnAt v past f.who f.event f.first f.second) past g
       → (k m t r y : ℕ) (ask answer : List ℕ) → k < length g
       → slice_index_or g k (with_two m (Ran t r y) ask answer) ≡ with_two m (Ran t r y) ask answer
       → RanForSome h (with_two m (Ran t r y) ask answer)
   ran-at past [] before after own k m t r y ask answer lt e = absurd (omega arith)
   ran-at past (f ∷ g) before after own zero m t r y ask answer lt e =
-      let at : OwnAt past (Node m) (Ran t r y) ask answer = rw e at own.0 in
-      ran-more past h before m t r y ask answer at
+      let at : OwnAt v past (Node m) (Ran t r y) ask answer = rw e at own.0 in
+      ran-more past h before (v m) m t r y ask answer at
   ran-at past (f ∷ g) before after own (suc k) m t r y ask answer lt e =
       ran-at (f ∷ past) g (λ d is. both d is) (λ d is. after d (Contains-append_right (f ∷ []) g d is)) own.1 k m t r
       y ask answer (omega arith) e
@@ -331,7 +338,7 @@ module _ (h : List Fact) where
       both : (d : Fact) → Contains (f ∷ past) d → Contains h d
       both d is = head-or d is.0 is.1 is.2
 
-  pub ran-some : Own h → (m t r y : ℕ) (ask answer : List ℕ)
+  pub ran-some : OwnBy v h → (m t r y : ℕ) (ask answer : List ℕ)
       → Contains h (with_two m (Ran t r y) ask answer)
       → RanForSome h (with_two m (Ran t r y) ask answer)
   ran-some own m t r y ask answer is =
@@ -343,13 +350,13 @@ module _ (h : List Fact) where
 own-answers : (script : List Line) (h : List Fact) → PairsTwoNodes script → Follows script h → Own h
 own-answers script h two follows =
     let made = follows-course script h two follows in
-    course-own first_moment h made.end made.course first-right first-valid
-    (answers-each h follows.1.answers) first-good
+    course-own (λ n. plain_serving) first_moment h made.end made.course first-right first-valid
+    (answers-each (λ n. plain_serving) h follows.1.answers) first-good
 
 -- so of any facts, of which each node's use their numbers once
-pub one-call-each : (h : List Fact) → EachNode UsedOnce h → Once h → Own h → OneCall h
-one-call-each h u o own = record {
-  some = ran-some h own;
+pub one-call-each : (v : ℕ → Serving) (h : List Fact) → EachNode UsedOnce h → Once h → OwnBy v h → OneCall h
+one-call-each v h u o own = record {
+  some = ran-some v h own;
   call = one-call h u o;
   request = request-of h u o;
   ran = one-run h u o;
@@ -357,5 +364,5 @@ one-call-each h u o own = record {
 
 pub calls-once : CallsRunOnce
 calls-once script h two few f =
-    one-call-each h (numbers-once script h two few f) (once-each script h two few f)
+    one-call-each (λ n. plain_serving) h (numbers-once script h two few f) (once-each script h two few f)
     (own-answers script h two f)
