@@ -38,9 +38,9 @@ all-at n [] a = tt
 all-at n (f ∷ x) a = (a.0, all-at n x a.1)
 
 -- the facts of a group are of its node, which keeps its number
-record Keeps (s : Timed) (x : List Fact) (t : Timed) : Type 0 where
-  at : AllAt s.lists.me x
-  me : t.lists.me ≡ s.lists.me
+pub record Keeps (s : Timed) (x : List Fact) (t : Timed) : Type 0 where
+  pub at : AllAt s.lists.me x
+  pub me : t.lists.me ≡ s.lists.me
 
 owned : (s : Timed) (x : List Fact) (t : Timed) → Owned false s x t → Keeps s x t
 owned s x t o = record { at = all-at s.lists.me x (own-node s.lists.me x o.facts); me = o.me }
@@ -51,7 +51,7 @@ noted e s x t h = record {
   me = ap (λ (u : Timed). u.lists.me) h.goes ∙ ap (λ (y : List Fact). (after_all s.clock s.lists y).me) h.facts;
 }
 
-group-keeps : (mode : ℕ → Mode) (s : Timed) (x : List Fact) (t : Timed) → Group mode s x t → Keeps s x t
+pub group-keeps : (mode : ℕ → Mode) (s : Timed) (x : List Fact) (t : Timed) → Group mode s x t → Keeps s x t
 group-keeps mode s x t (pairs_client peer server credits may h) = noted _ s x t h
 group-keeps mode s x t (pairs_server peer client credits may h) = noted _ s x t h
 group-keeps mode s x t (refuses credits e r h) = noted e s x t h

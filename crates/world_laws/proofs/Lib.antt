@@ -1,9 +1,11 @@
 pub mod FactLemmas
 pub mod FewLemmas
+pub mod JointCalls
 pub mod JointNodes
 pub mod JointScripts
 pub mod NodeLaws
 pub mod OneCallLaws
+pub mod OrderLaws
 pub mod RequestLaws
 pub mod RunLemmas
 pub mod ScriptLaws

@@ -1,17 +1,23 @@
 -- What the facts of each node are where nodes run together.
 use Rattle.std.specs.Prelude.{ℕ, ◌≡◌, Option, Some, None, List, [], ◌∷◌, slice_get}
-use Rattle.end_laws.specs.JointRun.{Party, Joint, JointRun, limits_of, usual_party}
+use Rattle.end_laws.specs.JointRun.{Party, Joint, JointRun, OfEveryJointRun, limits_of, usual_party}
 use Rattle.end_laws.specs.TwoNodes.{PairsTwoNodes}
+use Rattle.end_laws.specs.WireRun.{OfEveryWireRun}
 use Rattle.network_model.specs.declared.stage.Stage.{Stage}
 use Rattle.node_laws.specs.NodeRun.{NodeRun}
+use Rattle.node_laws.specs.UsedOnce.{UsedOnce}
 use Rattle.rpc_base.specs.declared.event.Event.TheVariants.{Made}
 use Rattle.rpc_base.specs.declared.fact.Fact.{Fact}
 use Rattle.rpc_laws.specs.declared.tables.Timed.{Timed}
+use Rattle.rpc_laws.specs.AtMostOnce.{Once}
 use Rattle.rpc_laws.specs.Facts.{plain}
 use Rattle.script_grammar.specs.declared.line.Line.{Line}
 use Rattle.sim_script.specs.FollowsScript.{Follows}
+use Rattle.world_laws.specs.CallOrder.{CallsInOrder}
 use Rattle.world_laws.specs.FewCredits.{PairsFewCredits}
+use Rattle.world_laws.specs.Laws.{EachNode}
 use Rattle.world_laws.specs.NodeFacts.{facts_of}
+use Rattle.world_laws.specs.OneCall.{OneCall}
 
 -- these facts are node n's Made, and then a run of a node with this number, the ring that it was
 -- made with, and the party's limits and service. The run leaves the node as t
@@ -31,6 +37,30 @@ abbrev pub JointRunsNodes : Type 0
 JointRunsNodes =
     (parties : ℕ → Party) (h : List Fact) (t : Joint) → JointRun parties h t
     → (n : ℕ) → PartyRunAt (parties n) n (facts_of n h) (slice_get t.nodes n)
+
+-- a node's call numbers, session numbers and the requests of a session are used once
+abbrev pub JointNumbersAreUsedOnce : Type 0
+JointNumbersAreUsedOnce = OfEveryJointRun (λ h t. EachNode UsedOnce h)
+
+-- no request runs twice at a node, and no call begins or ends twice
+abbrev pub JointHappensAtMostOnce : Type 0
+JointHappensAtMostOnce = OfEveryJointRun (λ h t. Once h)
+
+-- each run of a handler is for one call, and each call has one at most
+abbrev pub JointCallsRunOnce : Type 0
+JointCallsRunOnce = OfEveryJointRun (λ h t. OneCall h)
+
+-- each call that ends with an answer, or for want of room for one, was asked, begun, run and ended
+-- in this order
+abbrev pub JointCallsAreInOrder : Type 0
+JointCallsAreInOrder = OfEveryJointRun (λ h t. CallsInOrder h)
+
+-- so it is over wires to which only what was sent comes
+abbrev pub WireCallsRunOnce : Type 0
+WireCallsRunOnce = OfEveryWireRun (λ g t. OneCall g)
+
+abbrev pub WireCallsAreInOrder : Type 0
+WireCallsAreInOrder = OfEveryWireRun (λ g t. CallsInOrder g)
 
 -- a stage without its world: the nodes and the copies
 abbrev pub joint_of : Stage → Joint

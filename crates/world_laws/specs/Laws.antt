@@ -15,6 +15,7 @@ use Rattle.rpc_laws.specs.declared.tables.Timed.{Timed}
 use Rattle.rpc_laws.specs.AtMostOnce.{Once}
 use Rattle.script_grammar.specs.declared.line.Line.{Line}
 use Rattle.sim_script.specs.FollowsScript.{Follows}
+use Rattle.world_laws.specs.CallOrder.{CallsInOrder}
 use Rattle.world_laws.specs.FewCredits.{PairsFewCredits}
 use Rattle.world_laws.specs.NodeFacts.{facts_of, ring_of, RunsOf}
 use Rattle.world_laws.specs.OneCall.{OneCall}
@@ -93,6 +94,11 @@ InboxFits = OfEveryNode (InboxWithin [])
 -- a node's call numbers, session numbers and the requests of a session are used once
 abbrev pub NumbersAreUsedOnce : Type 0
 NumbersAreUsedOnce = OfEveryNode UsedOnce
+
+-- each call that ends with an answer, or for want of room for one, was asked, begun, run and ended
+-- in this order
+abbrev pub CallsAreInOrder : Type 0
+CallsAreInOrder = OfEveryHistory CallsInOrder
 
 -- each run of a handler is for one call, and each call has one at most
 abbrev pub CallsRunOnce : Type 0

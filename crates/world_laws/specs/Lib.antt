@@ -1,3 +1,4 @@
+pub mod CallOrder
 pub mod FewCredits
 pub mod JointNodes
 pub mod Laws

@@ -6,8 +6,12 @@ ghost use Rattle.rpc_base.specs.declared.fact.Fact.{Fact};
 ghost use Rattle.script_grammar.specs.Conditions.{IsScript};
 ghost use Rattle.script_grammar.specs.declared.line.Line.{Line};
 ghost use Rattle.world_laws.specs.FewCredits.{PairsFewCredits};
-ghost use Rattle.world_laws.specs.JointNodes.{FollowsJointly, JointRunsNodes};
-ghost use Rattle.world_laws.specs.Laws.{CallsRunOnce, CreditBalances, EndedCallsAreNotQueued};
+ghost use Rattle.world_laws.specs.JointNodes.{FollowsJointly, JointCallsAreInOrder};
+ghost use Rattle.world_laws.specs.JointNodes.{JointCallsRunOnce, JointHappensAtMostOnce};
+ghost use Rattle.world_laws.specs.JointNodes.{JointNumbersAreUsedOnce, JointRunsNodes};
+ghost use Rattle.world_laws.specs.JointNodes.{WireCallsAreInOrder, WireCallsRunOnce};
+ghost use Rattle.world_laws.specs.Laws.{CallsAreInOrder, CallsRunOnce, CreditBalances};
+ghost use Rattle.world_laws.specs.Laws.{EndedCallsAreNotQueued};
 ghost use Rattle.world_laws.specs.Laws.{EndedSessionsAreNotQueued, FollowsRuns, HappensAtMostOnce};
 ghost use Rattle.world_laws.specs.Laws.{InboxFits, NumbersAreUsedOnce, OlderRequestsAreNotQueued};
 ghost use Rattle.world_laws.specs.Laws.{RequestsTellTheHistory, RingFits};
@@ -33,6 +37,12 @@ pub fn numbers_are_used_once()
 /// most.
 pub fn calls_run_once()
     ensures { CallsRunOnce }
+{}
+
+/// Each call that ends with an answer, or for want of room for one, was asked, then began as one
+/// request, then ran as that, and then ended.
+pub fn calls_are_in_order()
+    ensures { CallsAreInOrder }
 {}
 
 /// At every moment, the unanswered packets of a live client session of a node and its free credits
@@ -85,6 +95,31 @@ pub fn scripts_pair_few()
 /// and service, which leaves it as the joint run does. So each law of one node's runs is of it.
 pub fn joint_runs_nodes()
     ensures { JointRunsNodes }
+{}
+
+/// Each call number of a node of a joint run is asked once, each session number is made once and
+/// gets its other end once, and no two calls of a session begin as one request.
+pub fn joint_numbers_are_used_once()
+    ensures { JointNumbersAreUsedOnce }
+{}
+
+/// No request of a joint run runs twice at a node, and no call begins or ends twice.
+pub fn joint_happens_at_most_once()
+    ensures { JointHappensAtMostOnce }
+{}
+
+/// Each run of a handler in a joint run is for one call, and each call is one request, whose
+/// handler runs once at most; so it is over wires to which only what was sent comes.
+pub fn joint_calls_run_once()
+    ensures joint { JointCallsRunOnce }
+    ensures wires { WireCallsRunOnce }
+{}
+
+/// Each call of a joint run that ends with an answer, or for want of room for one, was asked, then
+/// began as one request, then ran as that, and then ended; so it is over such wires.
+pub fn joint_calls_are_in_order()
+    ensures joint { JointCallsAreInOrder }
+    ensures wires { WireCallsAreInOrder }
 {}
 
 /// A history that follows a script is a joint run of nodes with the usual limits.
