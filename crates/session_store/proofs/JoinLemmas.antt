@@ -1,5 +1,5 @@
 -- The ring and the pacer as one queue.
-use Rattle.std.proofs.Common.{◌≡◌, ℕ, ◌+◌, ◌≤◌, ◌<◌, Bool, true, false, ◌||◌, cond, leb, Option, Some}
+use Rattle.std.proofs.Common.{◌≡◌, ℕ, ◌+◌, Bool, true, false, ◌||◌, cond, leb, Option, Some}
 use Rattle.std.proofs.Common.{None, List, [], ◌∷◌, ◌++◌, length, refl, sym, ap, ◌∙◌, arith}
 use Rattle.std.proofs.Common.{append_assoc}
 use Rattle.std.specs.Prelude.{IfNone, IfSome, drop, map, option_map, slice_get}
@@ -7,7 +7,6 @@ use Rattle.std.specs.List.{AllByRecursion, Contains, list_any}
 use Rattle.rpc_base.proofs.BasicLemmas.{or-false}
 use Rattle.rpc_base.proofs.LeastLemmas.{least-out, least-same, out-listed, out-taken}
 use Rattle.packet_rings.specs.Rings.{Ring}
-use Rattle.std.proofs.lemmas.Bool.{leb-true}
 use Rattle.std.proofs.lemmas.List.{map-append}
 use Rattle.std.proofs.lemmas.List.Folds.{list_any-append}
 use Rattle.rpc_base.specs.Least.{least, least_number, without_bearer, without_least}
@@ -328,20 +327,6 @@ left-calls owner P ps all = by (least_number (is_paced_of owner) paced_number ps
     by : (o : Option ℕ) → AllByRecursion P (without_bearer (is_paced_of owner) paced_number ps o)
     by None = all
     by (Some n) = all-left (is_entry_of owner n) P ps all
-
--- none is due before the first
-pub late-none : (now m : ℕ) (ps : List Paced) → now < m → AllByRecursion (λ q. m ≤ q.due) ps
-    → list_any (is_due now) ps ≡ false
-late-none now m [] late all = refl
-late-none now m (p ∷ ps) late all = by (leb p.due now) refl (late-none now m ps late all.1)
-  where
-    by : (b : Bool) → leb p.due now ≡ b → list_any (is_due now) ps ≡ false
-        → (b || list_any (is_due now) ps) ≡ false
-    by true t ih = absurd (omega (arith, leb-true p.due now t, late, all.0))
-    by false t ih = ih
-
-pub no-first : (now : ℕ) (ps : List Paced) → slice_get ps 0 ≡ None → list_any (is_due now) ps ≡ false
-no-first now ps h = rw (none-first ps h) refl
 
 -- what the pacer says of its first entry is so of the queue, where the ring is empty
 module _ (now : ℕ) (xs : List EntryValue) (ps : List Paced) (empty : slice_get xs 0 ≡ None) where

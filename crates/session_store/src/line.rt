@@ -45,12 +45,10 @@ fn paced_due(pacer: &Pacer, now: u64) -> Option<Entry>
     ensures due { IfSome result (λ _. option_is (is_due now) (slice_get pacer.now.items 0) ≡ true) }
     ensures none { IfNone result (list_any (is_due now) pacer.now.items ≡ false) }
 {
-    let Some(paced) = pacer.front() else {
+    pacer.sound();
+    let Some(paced) = pacer.first_due(now) else {
         return None;
     };
-    if paced.due > now {
-        return None;
-    }
     Some(paced.entry)
 }
 
@@ -153,10 +151,8 @@ fn take_due(pacer: &mut Pacer, now: u64) -> Option<Entry>
     ensures none { IfNone result (list_any (is_due now) pacer.old.items ≡ false) }
     ensures unchanged { IfNone result (pacer.new ≡ pacer.old) }
 {
-    let Some(_first) = paced_due(pacer, now) else {
-        return None;
-    };
-    pacer.pop()
+    pacer.sound();
+    pacer.release(now)
 }
 
 /// What is due at `now` is put behind the ring, in its order.

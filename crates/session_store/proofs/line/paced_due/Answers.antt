@@ -1,12 +1,18 @@
-use Rattle.std.proofs.Common.{sym, ◌∙◌}
-use Rattle.session_store.proofs.JoinLemmas.{late-none, no-first}
+use Rattle.std.proofs.Common.{ap, refl, sym, ◌∙◌}
+use Rattle.std.specs.Prelude.{option_map}
+use Rattle.packet_rings.specs.Entries.{option_is}
+use Rattle.pacing_wheel.specs.Wheel.{entry_of, is_due}
+use Rattle.pacing_wheel.proofs.DueLemmas.{one-due}
 use Rattle.session_store.proofs.line.paced_due.Goals as goal
 
-pub returns-in_default-clause-none : goal.returns-in_default-clause-none
-returns-in_default-clause-none c =
-    no-first c.args.now c.args.pacer.now.items (sym c.front.ensures.front ∙ c.in_default.is)
+pub returns-clause-first : goal.returns-clause-first
+returns-clause-first c =
+    let one = one-due c.args.now c.args.pacer.now.items c.in-Some.paced
+    (sym c.first_due.ensures.due ∙ c.in-Some.is) c.sound.ensures in
+    ap (option_map entry_of) one.0
 
-pub returns-then-paced-now-clause-none : goal.returns-then-paced-now-clause-none
-returns-then-paced-now-clause-none c =
-    late-none c.args.now c.in-Some.paced.due c.args.pacer.now.items c.if-paced-now.true
-    (rw c.in-Some.is at c.front.ensures.first)
+pub returns-clause-due : goal.returns-clause-due
+returns-clause-due c =
+    let one = one-due c.args.now c.args.pacer.now.items c.in-Some.paced
+    (sym c.first_due.ensures.due ∙ c.in-Some.is) c.sound.ensures in
+    ap (option_is (is_due c.args.now)) one.0 ∙ one.2
