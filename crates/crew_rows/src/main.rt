@@ -33,8 +33,8 @@ fn main(rt: HostRuntime) -> io::Result<()> {
     )?;
     tell(
         &rt,
-        "two hands that sleep take all",
-        queues::two_hands_that_sleep_take_all(rt, alloc),
+        "a hand that sleeps takes all",
+        queues::a_hand_that_sleeps_takes_all(rt, alloc),
     )?;
     tell(
         &rt,

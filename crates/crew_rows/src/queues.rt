@@ -1,5 +1,5 @@
-//! Tickets in order by one hand, and each of them by one of two that sleep on threads of their own.
-ghost use Rattle.std.specs.Prelude.{◌≡◌, ◌<◌, ◌^◌, ◌+◌, length};
+//! Tickets in the order of putting; and all of them by a hand that sleeps on a thread of its own.
+ghost use Rattle.std.specs.Prelude.{◌≡◌, length};
 ghost use Rattle.place_queue.specs.Ends.{queue_of, put_by, put_end, take_end};
 
 use crate::differs::{Differs, expect};
@@ -84,19 +84,15 @@ fn take_all<R: Wait>(
     taker
 }
 
-// Puts tickets, each once there is room, and wakes a hand for it.
+// Puts tickets, for which there is room, and wakes a hand for each.
 fn put_all<R: Wait>(rt: &R, queue: &PlaceQueue, putter: &mut Putter, wakers: &Wakers)
     requires ours { put_end putter.old ≡ queue_of queue.now }
     requires count { length (put_by putter.old) ≡ 0 }
     ensures { put_end putter.new ≡ queue_of queue.now }
 {
     for place in 0..TICKETS {
-        for _ in 0..TURNS {
-            if queue.put(rt, putter, Ticket::of(place, 0)) {
-                wakers.wake_one();
-                break;
-            }
-            thread::yield_now();
+        if queue.put(rt, putter, Ticket::of(place, 0)) {
+            wakers.wake_one();
         }
     }
 }
@@ -125,45 +121,30 @@ fn dispatch<R: Wait>(
     putter
 }
 
-pub fn two_hands_that_sleep_take_all<R: Threads + Wait + Copy + Send + Sync + 'static>(
+pub fn a_hand_that_sleeps_takes_all<R: Threads + Wait + Copy + Send + Sync + 'static>(
     rt: R,
     alloc: Global,
 ) -> Result<(), Differs> {
-    let (queue, mut putter) = PlaceQueue::new(alloc, 8)?;
-    let mut wakers = Wakers::new(alloc, 2)?;
-    let (one, two) = (wakers.sleeper(alloc)?, wakers.sleeper(alloc)?);
-    let (first, second) = (queue.taker(&mut putter), queue.taker(&mut putter));
+    let (queue, mut putter) = PlaceQueue::new(alloc, TICKETS)?;
+    let mut wakers = Wakers::new(alloc, 1)?;
+    let sleeper = wakers.sleeper(alloc)?;
+    let taker = queue.taker(&mut putter);
     let taken = AtomicU32::new(0);
-    let (rt, shared, count, bells) = (&rt, &queue, &taken, &wakers);
-    let (first, (second, putter)) = thread::join(
+    let (rt, shared, count, wakes) = (&rt, &queue, &taken, &wakers);
+    let (taker, putter) = thread::join(
         rt,
         move ||
-            requires { take_end first ≡ queue_of shared.now }
+            requires { take_end taker ≡ queue_of shared.now }
             ensures { take_end result ≡ queue_of shared.entry.now }
-        { take_all(rt, shared, first, one, count) },
+        { take_all(rt, shared, taker, sleeper, count) },
         move ||
-            requires { (take_end second ≡ queue_of shared.now)
-                × (put_end putter ≡ queue_of shared.now) × (length (put_by putter) ≡ 0) }
-            ensures { (take_end result.0 ≡ queue_of shared.entry.now)
-                × (put_end result.1 ≡ queue_of shared.entry.now) }
-        {
-            thread::join(
-                rt,
-                move ||
-                    requires { take_end second ≡ queue_of shared.now }
-                    ensures { take_end result ≡ queue_of shared.entry.now }
-                { take_all(rt, shared, second, two, count) },
-                move ||
-                    requires { (put_end putter ≡ queue_of shared.now)
-                        × (length (put_by putter) ≡ 0) }
-                    ensures { put_end result ≡ queue_of shared.entry.now }
-                { dispatch(rt, shared, putter, bells, count) },
-            )
-        },
+            requires { (put_end putter ≡ queue_of shared.now)
+                × (length (put_by putter) ≡ 0) }
+            ensures { put_end result ≡ queue_of shared.entry.now }
+        { dispatch(rt, shared, putter, wakes, count) },
     );
     let mut putter = putter;
-    queue.take_in(&mut putter, first);
-    queue.take_in(&mut putter, second);
+    queue.take_in(&mut putter, taker);
     expect(
         taken.load(Ordering::SeqCst) == TICKETS,
         "taken.load(Ordering::SeqCst)",
