@@ -3,6 +3,7 @@ pub mod FactsTold
 pub mod Fine
 pub mod PollOnce
 pub mod RowsOnce
+pub mod RunTold
 pub mod ScriptNet
 pub mod ScriptTold
 pub mod StagesOnce

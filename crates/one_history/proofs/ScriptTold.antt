@@ -21,6 +21,7 @@ use Rattle.rpc_laws.specs.ControlSteps.{control_fact, given_up, Hears, HearsAll,
 use Rattle.rpc_laws.specs.ControlSteps.{Retries, RetriesAs, RetriesBy, RetriesOf, retry_row, Speaks}
 use Rattle.rpc_laws.specs.ControlSteps.{SpeaksIf, TimesAll, TimesSession}
 use Rattle.rpc_laws.specs.ControlTable.{control_facts, control_reply, control_row}
+use Rattle.rpc_laws.specs.Deliveries.{Delivers}
 use Rattle.rpc_laws.specs.Facts.{of_net, plain}
 use Rattle.rpc_laws.specs.GoBackN.{Each, numbers_in, Watches, WatchesSession}
 use Rattle.rpc_laws.specs.Groups.{Asks, client_refusal, Connects, disconnect_by, disconnect_fact}
@@ -53,10 +54,10 @@ use Rattle.one_history.proofs.FactsTold.{told-finished}
 use Rattle.one_history.proofs.FactsTold.{told-handling, told-map, told-net, told-plain, told-works}
 
 -- each step of P adds such facts
-abbrev Tells : Rel → Type 0
+abbrev pub Tells : Rel → Type 0
 Tells P = (s : Timed) (x : List Fact) (t : Timed) → P s x t → AllSound x
 
-told-by : (x y : List Fact) → x ≡ y → AllSound y → AllSound x
+pub told-by : (x y : List Fact) → x ≡ y → AllSound y → AllSound x
 told-by x y e a = subst AllSound (sym e) a
 
 tells-then : (P Q : Rel) → Tells P → Tells Q → Tells (Then P Q)
@@ -64,7 +65,7 @@ tells-then P Q p q s x t h =
     told-by x (h.front ++ h.back) h.joined (told-append h.front h.back
     (p s h.front h.between h.first) (q h.between h.back t h.second))
 
-tells-chain : (P : Rel) → Tells P → (s : Timed) {x : List Fact} {t : Timed} → Chain P s x t
+pub tells-chain : (P : Rel) → Tells P → (s : Timed) {x : List Fact} {t : Timed} → Chain P s x t
     → AllSound x
 tells-chain P p s none = tt
 tells-chain P p s (more {x = front} {t = between} c y u h) =
@@ -151,7 +152,7 @@ tells-handles mode s x t h =
     told-by x _ h.facts (told-handling h.header.kind mode h.lacks h.answer s.lists h.front.peer
     h.header (body_of h.front.bytes))
 
-tells-finishes : (session request : ℕ) → Tells (Finishes session request)
+pub tells-finishes : (session request : ℕ) → Tells (Finishes session request)
 tells-finishes session request s x t h = told-by x _ h.facts (told-finished h.answer s.lists h.job)
 
 tells-finishes-each : (ws : List WorkedJob) → Tells (FinishesEach ws)
@@ -165,28 +166,60 @@ tells-posts s x t h =
     tells-visits Serves (λ i. tells-then (NotesAll (next_begun i)) (NotesAll (next_posted i))
     (tells-notes (next_begun i)) (tells-notes (next_posted i))) (length s.lists.clients) s x t h
 
-tells-sends : Tells SendsAll
-tells-sends =
-    tells-until Sends (λ t. line t.clock t.lists.queued ≡ [])
-    (λ s x t h. told-by x _ h.facts ((tt, tt), tt))
+pub tells-sends : Tells Sends
+tells-sends s x t h = told-by x _ h.facts ((tt, tt), tt)
+
+tells-sends-all : Tells SendsAll
+tells-sends-all = tells-until Sends (λ t. line t.clock t.lists.queued ≡ []) tells-sends
 
 tells-closes : Tells Closes
 tells-closes s x t h = told-by x _ h.facts (((refl, refl), tt), tt)
 
-tells-poll : (worked : List WorkedJob) (mode : ℕ → Mode) (now : ℕ)
-    → Tells (PollBy (FinishesWorked worked) SendsAll mode now)
-tells-poll worked mode now s x t h =
-    let sending = tells-then SendsAll Closes tells-sends tells-closes in
-    let posting = tells-then PostsAll (Then SendsAll Closes) tells-posts sending in
-    let timing = tells-then TimesAll (Then PostsAll (Then SendsAll Closes)) tells-times posting in
+pub tells-poll-by : (finishing sending : Rel) → Tells finishing → Tells sending
+    → (mode : ℕ → Mode) (now : ℕ) → Tells (PollBy finishing sending mode now)
+tells-poll-by finishing sends finished sent mode now s x t h =
+    let sending = tells-then sends Closes sent tells-closes in
+    let posting = tells-then PostsAll (Then sends Closes) tells-posts sending in
+    let timing = tells-then TimesAll (Then PostsAll (Then sends Closes)) tells-times posting in
     let handling = tells-then (HandlesAll mode)
-    (Then TimesAll (Then PostsAll (Then SendsAll Closes)))
+    (Then TimesAll (Then PostsAll (Then sends Closes)))
     (λ v y u k. tells-chain (Handles mode) (tells-handles mode) v k.steps) timing in
     let hearing = tells-then HearsAll (Then (HandlesAll mode)
-    (Then TimesAll (Then PostsAll (Then SendsAll Closes)))) tells-hears handling in
-    tells-then (FinishesWorked worked) (Then HearsAll
-    (Then (HandlesAll mode) (Then TimesAll (Then PostsAll (Then SendsAll Closes)))))
-    (λ v y u k. tells-finishes-each k.done v y u k.finishes) hearing (raised now s) x t h
+    (Then TimesAll (Then PostsAll (Then sends Closes)))) tells-hears handling in
+    tells-then finishing (Then HearsAll
+    (Then (HandlesAll mode) (Then TimesAll (Then PostsAll (Then sends Closes)))))
+    finished hearing (raised now s) x t h
+
+tells-poll : (worked : List WorkedJob) (mode : ℕ → Mode) (now : ℕ)
+    → Tells (PollBy (FinishesWorked worked) SendsAll mode now)
+tells-poll worked =
+    tells-poll-by (FinishesWorked worked) SendsAll
+    (λ v y u k. tells-finishes-each k.done v y u k.finishes) tells-sends-all
+
+-- what an application asks of a node
+pub tells-connects : (peer credits rate : ℕ) → Tells (Connects peer credits rate)
+tells-connects peer credits rate s x t h =
+    told-by x _ h.facts (told-connect (client_refusal credits s.lists) peer credits rate s.lists)
+
+pub tells-disconnects : (session : ℕ) → Tells (Disconnects session)
+tells-disconnects session s x t h =
+    let client = find (is_client session) s.lists.clients in
+    told-by x (disconnect_fact session s.lists ∷ []) h.facts
+    (one-plain s.lists.me (disconnect_by (state_of client) session (pending client)))
+
+pub tells-rates : (session rate : ℕ) → Tells (SetsRate session rate)
+tells-rates session rate s x t h =
+    told-by x (rate_fact session rate s.lists ∷ []) h.facts
+    (one-plain s.lists.me (rate_by (state_of (find (is_client session) s.lists.clients)) session rate))
+
+pub tells-asks : (session req_type : ℕ) (ask : List ℕ) (room : ℕ)
+    → Tells (Asks session req_type ask room)
+tells-asks session req_type ask room s x t h =
+    told-by x _ h.facts (told-ask session req_type room ask s.lists, tt)
+
+-- and what is delivered to it
+pub tells-delivers : (peer : ℕ) (bytes : List ℕ) → Tells (Delivers peer bytes)
+tells-delivers peer bytes s x t h = told-by x _ h.facts (told-delivery s.lists peer bytes, tt)
 
 -- so does each group of a stage
 abbrev Groups : Type 1
@@ -285,26 +318,11 @@ tell-does (Pair a b credits) =
     λ s x t h. tell-pairs-by (pair_refusal credits h.client.lists)
     (pair_refusal credits h.server.lists) a b credits h.client h.server s x t h.pairs
 tell-does (Connect a b credits) =
-    tell-at (Connects b credits 0) a (λ s x t h. told-by x _ h.facts
-    (told-connect (client_refusal credits s.lists) b credits 0 s.lists))
-tell-does (Disconnect n session) =
-    tell-at (Disconnects session) n (λ s x t h. told-by x (disconnect_fact session s.lists ∷ [])
-    h.facts (
-      told-plain s.lists.me (disconnect_by
-          (state_of (find (is_client session) s.lists.clients)) session
-          (pending (find (is_client session) s.lists.clients))),
-      tt,
-    ))
-tell-does (Rate n session rate) =
-    tell-at (SetsRate session rate) n (λ s x t h. told-by x (rate_fact session rate s.lists ∷ [])
-    h.facts (
-      told-plain s.lists.me (rate_by
-          (state_of (find (is_client session) s.lists.clients)) session rate),
-      tt,
-    ))
+    tell-at (Connects b credits 0) a (tells-connects b credits 0)
+tell-does (Disconnect n session) = tell-at (Disconnects session) n (tells-disconnects session)
+tell-does (Rate n session rate) = tell-at (SetsRate session rate) n (tells-rates session rate)
 tell-does (Call n session y ask room) =
-    tell-at (Asks session y (ask_bytes ask) room) n
-    (λ s x t h. told-by x _ h.facts (told-ask session y room (ask_bytes ask) s.lists, tt))
+    tell-at (Asks session y (ask_bytes ask) room) n (tells-asks session y (ask_bytes ask) room)
 tell-does (PollNode n) = tell-poll n
 tell-does (Arrive i) = λ s. tell-arrives i (nat_lt i (length s.flight)) s
 tell-does (Lose i) = tell-or-missed i (Lost i) refl

@@ -1,2 +1,3 @@
 pub mod NetFacts
 pub mod OneHistory
+pub mod RunsTold

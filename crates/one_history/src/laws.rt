@@ -1,7 +1,8 @@
-//! Laws of every history that follows a script.
+//! Laws of every history that follows a script, and one of every run of a node.
 ghost use Rattle.std.specs.Prelude.{◌≡◌, List};
 ghost use Rattle.one_history.specs.NetFacts.{AllOfNet};
 ghost use Rattle.one_history.specs.OneHistory.{HasOneHistory, HasScript, LeavesOneStage};
+ghost use Rattle.one_history.specs.RunsTold.{RunsTellTheirBytes};
 ghost use Rattle.report_text.specs.Text.{text};
 ghost use Rattle.report_text.specs.Told.{AllTold};
 ghost use Rattle.rpc_base.specs.declared.fact.Fact.{Fact};
@@ -22,6 +23,12 @@ pub fn scripts_have_one_history()
 /// report shows.
 pub fn facts_tell_their_bytes()
     ensures { (script : List Line) (h : List Fact) → Follows script h → AllTold h }
+{}
+
+/// No fact of a run of one node has other bytes than those that its line shows, whatever its service
+/// and whatever arrives.
+pub fn runs_tell_their_bytes()
+    ensures { RunsTellTheirBytes }
 {}
 
 /// No fact of the network, in a history that follows a script, has another event than Carried,
