@@ -15,7 +15,7 @@ use Rattle.rpc_base.specs.declared.fact.Who.TheVariants.{Node, Net}
 use Rattle.rpc_outside.specs.declared.service.Mode.{Mode}
 use Rattle.rpc_laws.specs.Facts.{of_net, with_two}
 use Rattle.rpc_laws.specs.AtMostOnce.{is_at}
-use Rattle.rpc_laws.specs.OwnAnswer.{IsClientEnd, IsServerEnd, IsCallOf, IsAnswerTo, OwnRun, OwnEvent}
+use Rattle.rpc_laws.specs.OwnAnswer.{IsClientEnd, IsServerEnd, IsCallOf, IsAnswerTo, OwnEvent}
 use Rattle.rpc_laws.specs.OwnAnswer.{OwnAt, AtEach, ran_inline, served_by}
 use Rattle.rpc_laws.specs.Service.{Serving}
 

@@ -1,5 +1,5 @@
 -- Calls of joint runs and of wire runs: what each run of one node keeps, each node of them keeps.
-use Rattle.std.proofs.Common.{◌≡◌, ℕ, List, [], ◌∷◌, Option, Some, None, slice_get, subst}
+use Rattle.std.proofs.Common.{ℕ, List, [], ◌∷◌, Option, Some, None, slice_get, subst}
 use Rattle.end_laws.proofs.JointOwn.{joint-own}
 use Rattle.end_laws.proofs.WireJoins.{wires-join}
 use Rattle.end_laws.proofs.WireOwn.{wire-own}
