@@ -192,7 +192,7 @@ group-at : (mode : ℕ → Mode) (hand : Option InFlight) (before : Option Fact)
     → GroupAt hand before s x t
 group-at mode hand before s x t i v (pairs_client peer server credits may h) alone = absurd alone
 group-at mode hand before s x t i v (pairs_server peer client credits may h) alone = absurd alone
-group-at mode hand before s x t i v (refuses credits e r h) alone =
+group-at mode hand before s x t i v (refuses credits few e r h) alone =
     refuses-group credits e hand before s x t i v r h
 group-at mode hand before s x t i v (connects peer credits rate few h) alone =
     one-group (Connects peer credits rate) (connects-any peer credits rate)

@@ -31,7 +31,7 @@ tells-sends-some s x t h = tells-chain Sends tells-sends s h
 tells-group : (mode : ℕ → Mode) → Tells (Group mode)
 tells-group mode s x t (pairs_client peer server credits may h) = tells-note _ s x t h
 tells-group mode s x t (pairs_server peer client credits may h) = tells-note _ s x t h
-tells-group mode s x t (refuses credits e refused h) = tells-note e s x t h
+tells-group mode s x t (refuses credits few e refused h) = tells-note e s x t h
 tells-group mode s x t (connects peer credits rate few h) = tells-connects peer credits rate s x t h
 tells-group mode s x t (disconnects session h) = tells-disconnects session s x t h
 tells-group mode s x t (sets_rate session rate h) = tells-rates session rate s x t h
