@@ -447,7 +447,7 @@ module _ (me : ℕ) (limits : Limits) (tallies : Tallies) (paces : List Pace) (j
           mid-kept : Kept mid
           mid-kept =
               let all = all-allowed (took ∷ done_fact me o ∷ []) facts-ended in
-              kept-after clock old took fits.kept (allowed-of old took.event took.first all.0)
+              kept-after clock old took fits.kept (allowed-of old took.event took.first took.second all.0)
 
           few : holders o.call (slice_set s.clients i (T (Ended o) p)) ≤ 1
           few =

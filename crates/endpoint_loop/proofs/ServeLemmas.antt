@@ -6,6 +6,7 @@ use Rattle.std.specs.Prelude.{◌==◌, IfSome, map, slice_get, slice_set}
 use Rattle.std.specs.List.{AllByRecursion, find, position}
 use Rattle.std.proofs.lemmas.Bool.{eqb-true, ne_eqb}
 use Rattle.std.proofs.lemmas.List.{drop-map}
+use Rattle.packet_header.specs.Kinds.{is_asking}
 use Rattle.packet_header.specs.Reading.{body_of}
 use Rattle.packet_header.specs.declared.packet.MessageHeader.{MessageHeader}
 use Rattle.packet_rings.specs.Rings.{Ring, ring}
@@ -94,7 +95,8 @@ module _ (me : ℕ) (limits : Limits) (tallies : Tallies) (paces : List Pace) (j
 
   module _ (fits : Fits (seen tallies jobs rx s) s.size s.places) (h : MessageHeader)
       (d : DatagramValue) (header : front_header (map arrival_of rx.items) ≡ Some h)
-      (here : slice_get rx.items 0 ≡ Some d) (mode_of : ℕ → Mode) where
+      (asking : is_asking h.kind ≡ true) (here : slice_get rx.items 0 ≡ Some d)
+      (mode_of : ℕ → Mode) where
     is-front : slice_get (map arrival_of rx.items) 0 ≡ Some (arrival_of d)
     is-front = front-there rx.items d here
 
@@ -107,8 +109,8 @@ module _ (me : ℕ) (limits : Limits) (tallies : Tallies) (paces : List Pace) (j
     all-allowed : (lacks : Bool) (answer : List ℕ) (js : Jobs) (x : List Fact) → Kept (old js)
         → x ≡ asks_facts mode_of lacks answer (old js) d.peer h body → AllAllowed clock (old js) x
     all-allowed lacks answer js x kept is =
-        rw (is, ← body-here) (asks-allowed clock (old js) kept.valid h header d.peer mode_of lacks
-        answer)
+        rw (is, ← body-here) (asks-allowed clock (old js) kept.valid h header asking d.peer mode_of
+        lacks answer)
 
     module _ {R : Type 0} (log : R → Log) (before now : R)
         (answer_of : Served → ℕ → List ℕ → List ℕ) (stands then_stands : Served → Type 0) where

@@ -52,13 +52,13 @@ use Rattle.rpc_laws.specs.Sessions.{is_client, is_connected, clients_after}
 use Rattle.rpc_laws.specs.Steps.{Rel, Then, Chain, none, more, Until, Visits, NotesNext, NotesAll}
 use Rattle.rpc_outside.specs.declared.service.Mode.{Mode}
 use Rattle.node_laws.specs.Valid.{Valid, client_no}
-use Rattle.node_laws.proofs.Allowed.{AllAllowed, allowed-plain}
+use Rattle.node_laws.proofs.Allowed.{AllAllowed}
 use Rattle.node_laws.proofs.ControlLemmas.{hears-all-lawful}
 use Rattle.node_laws.proofs.LeadsLemmas.{Lawful, LeadsAt, valid-at, valid_after_all, lawful-goes}
 use Rattle.node_laws.proofs.LeadsLemmas.{lawful-then, lawful-chain, lawful-until, lawful-visits}
 use Rattle.node_laws.proofs.LeadsLemmas.{lawful-each}
 use Rattle.node_laws.proofs.NumberLemmas.{numbered-found}
-use Rattle.node_laws.proofs.PostLemmas.{begun-allowed, posted-allowed, posts-lawful}
+use Rattle.node_laws.proofs.PostLemmas.{begun-by, posted-by, posts-lawful}
 use Rattle.node_laws.proofs.RunLaws.{handles-lawful, finishes-lawful, finishes-some, closes-lawful}
 use Rattle.node_laws.proofs.RunLaws.{sends-lawful}
 use Rattle.node_laws.proofs.TimerLemmas.{watches-lawful, retries-lawful, timers-lawful}
@@ -472,19 +472,11 @@ posts-at i l e h = client (slice_get l.clients i) refl h
 
 pub begun-one : (i : ℕ) → Lawful (NotesNext (next_begun i))
 begun-one i s x t v h =
-    lawful-goes s x t h.goes (rw h.facts (
-      allowed-plain s.lists h.event
-          (begun-allowed i s.lists h.event v h.is_next),
-      tt,
-    ))
+    lawful-goes s x t h.goes (rw h.facts (begun-by i s.lists h.event v h.is_next, tt))
 
 pub posted-one : (i : ℕ) → Lawful (NotesNext (next_posted i))
 posted-one i s x t v h =
-    lawful-goes s x t h.goes (rw h.facts (
-      allowed-plain s.lists h.event
-          (posted-allowed i s.lists h.event v h.is_next),
-      tt,
-    ))
+    lawful-goes s x t h.goes (rw h.facts (posted-by i s.lists h.event v h.is_next, tt))
 
 pub serves-lawful : (i : ℕ) → Lawful (Serves i)
 serves-lawful i =

@@ -124,7 +124,7 @@ node-moves w n l (f ∷ x) d e is me h v s =
       is_node = is;
       me = me;
       allowed = h.0;
-      lawful = allowed-of l f.event f.first v.0;
+      lawful = allowed-of l f.event f.first f.second v.0;
       linked = h.1;
     } in
     let at = moved-node w n l f a in

@@ -174,4 +174,4 @@ pub ongoing-all : (clock : ℕ) (l : Lists) (x : List Fact) → AllAllowed clock
 ongoing-all clock l [] a m h = h
 ongoing-all clock l (f ∷ x) a m h =
     ongoing-all clock (after clock l f) x a.1 m.1
-    (ongoing-after clock l f.event f.first (allowed-of l f.event f.first a.0) m.0 h)
+    (ongoing-after clock l f.event f.first (allowed-of l f.event f.first f.second a.0) m.0 h)

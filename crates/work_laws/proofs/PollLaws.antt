@@ -122,7 +122,7 @@ runs-spend : (t r clock : ℕ) (l : Lists) (x : List Fact) → Valid l → AllAl
     → count_by (λ (f : Fact). runs_request t r f.event) x + to_run t r (after_all clock l x) ≤ to_run t r l
 runs-spend t r clock l [] v a = omega arith
 runs-spend t r clock l (f ∷ x) v a =
-    let allowed = allowed-of l f.event f.first a.0 in
+    let allowed = allowed-of l f.event f.first f.second a.0 in
     omega (
       arith,
       run-spends t r l v clock f allowed,

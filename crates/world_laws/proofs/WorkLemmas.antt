@@ -216,7 +216,7 @@ pub works-spend : (worked : List WorkedJob) (t r clock : ℕ) (l : Lists) (x : L
     worked t r l
 works-spend worked t r clock l [] v own a m = omega arith
 works-spend worked t r clock l (f ∷ x) v own a m =
-    let allowed = allowed-of l f.event f.first a.0 in
+    let allowed = allowed-of l f.event f.first f.second a.0 in
     let step = work-spends worked t r clock l v f.event f.first f.second allowed m.0 in
     let same : to_work (worked_after worked f) t r (after clock l f)
     ≡ to_work (worked_after_node l.me f.event worked) t r (after clock l f) =

@@ -71,7 +71,7 @@ invariant_of-self g c =
         counts = c.self.inside.counts;
       }) c.self.inside.paces.items (jobs_in c.self.inside.limits.jobs c.self.inside.given
           c.self.inside.jobs.items) c.self.inside.clock c.self.inside.rx c.self.inside.store
-          c.self.invariant.0 c.args.head.now c.in-Some.front.now front here g.V.Service.mode_of
+          c.self.invariant.0 c.args.head.now c.in-Some.front.now front c.requires.asking here g.V.Service.mode_of
           c.args.i c.on_packet-step.new.self c.on_packet-step.ensures.clients
           c.on_packet-step.ensures.size c.on_packet-step.ensures.places c.drop_front.new.self
           c.drop_front.ensures c.jobs_full-full.result full served place peer few g.R.Recorder.log c.args.rec.now c.on_packet-step.new.rec g.V.Service.answer
@@ -99,7 +99,7 @@ returns-in-Took-clause-serves g c =
       counts = c.self.inside.counts;
     }) c.self.inside.paces.items (jobs_in c.self.inside.limits.jobs c.self.inside.given
     c.self.inside.jobs.items) c.self.inside.clock c.self.inside.rx c.self.inside.store
-    c.self.invariant.0 c.args.head.now c.in-Some.front.now front here g.V.Service.mode_of
+    c.self.invariant.0 c.args.head.now c.in-Some.front.now front c.requires.asking here g.V.Service.mode_of
     c.args.i c.on_packet-step.new.self c.on_packet-step.ensures.clients
     c.on_packet-step.ensures.size c.on_packet-step.ensures.places c.drop_front.new.self
     c.drop_front.ensures c.jobs_full-full.result full served place peer few g.R.Recorder.log c.args.rec.now c.on_packet-step.new.rec g.V.Service.answer
@@ -125,7 +125,7 @@ invariant_of-self-in-Again g c =
         counts = c.self.inside.counts;
       }) c.self.inside.paces.items (jobs_in c.self.inside.limits.jobs c.self.inside.given
           c.self.inside.jobs.items) c.self.inside.clock c.self.inside.rx c.self.inside.store
-          c.self.invariant.0 c.args.head.now c.in-Some.front.now front here g.V.Service.mode_of
+          c.self.invariant.0 c.args.head.now c.in-Some.front.now front c.requires.asking here g.V.Service.mode_of
           c.args.i c.on_packet-step.new.self c.on_packet-step.ensures.clients
           c.on_packet-step.ensures.size c.on_packet-step.ensures.places c.drop_front.new.self
           c.drop_front.ensures c.jobs_full-full.result full served place peer few g.R.Recorder.log c.args.rec.now c.on_packet-step.new.rec g.V.Service.answer
@@ -153,7 +153,7 @@ returns-in-Again-clause-serves g c =
       counts = c.self.inside.counts;
     }) c.self.inside.paces.items (jobs_in c.self.inside.limits.jobs c.self.inside.given
     c.self.inside.jobs.items) c.self.inside.clock c.self.inside.rx c.self.inside.store
-    c.self.invariant.0 c.args.head.now c.in-Some.front.now front here g.V.Service.mode_of
+    c.self.invariant.0 c.args.head.now c.in-Some.front.now front c.requires.asking here g.V.Service.mode_of
     c.args.i c.on_packet-step.new.self c.on_packet-step.ensures.clients
     c.on_packet-step.ensures.size c.on_packet-step.ensures.places c.drop_front.new.self
     c.drop_front.ensures c.jobs_full-full.result full served place peer few g.R.Recorder.log c.args.rec.now c.on_packet-step.new.rec g.V.Service.answer
@@ -179,7 +179,7 @@ invariant_of-self-in-Ran g c =
         counts = c.self.inside.counts;
       }) c.self.inside.paces.items (jobs_in c.self.inside.limits.jobs c.self.inside.given
           c.self.inside.jobs.items) c.self.inside.clock c.self.inside.rx c.self.inside.store
-          c.self.invariant.0 c.args.head.now c.in-Some.front.now front here g.V.Service.mode_of
+          c.self.invariant.0 c.args.head.now c.in-Some.front.now front c.requires.asking here g.V.Service.mode_of
           c.args.i c.on_packet-step.new.self c.on_packet-step.ensures.clients
           c.on_packet-step.ensures.size c.on_packet-step.ensures.places c.drop_front.new.self
           c.drop_front.ensures c.jobs_full-full.result full served place peer few g.R.Recorder.log c.args.rec.now c.on_packet-step.new.rec g.V.Service.answer
@@ -208,7 +208,7 @@ returns-in-Ran-clause-serves g c =
       counts = c.self.inside.counts;
     }) c.self.inside.paces.items (jobs_in c.self.inside.limits.jobs c.self.inside.given
     c.self.inside.jobs.items) c.self.inside.clock c.self.inside.rx c.self.inside.store
-    c.self.invariant.0 c.args.head.now c.in-Some.front.now front here g.V.Service.mode_of
+    c.self.invariant.0 c.args.head.now c.in-Some.front.now front c.requires.asking here g.V.Service.mode_of
     c.args.i c.on_packet-step.new.self c.on_packet-step.ensures.clients
     c.on_packet-step.ensures.size c.on_packet-step.ensures.places c.drop_front.new.self
     c.drop_front.ensures c.jobs_full-full.result full served place peer few g.R.Recorder.log c.args.rec.now c.on_packet-step.new.rec g.V.Service.answer
@@ -234,7 +234,7 @@ invariant_of-self-in-Dropped g c =
         counts = c.self.inside.counts;
       }) c.self.inside.paces.items (jobs_in c.self.inside.limits.jobs c.self.inside.given
           c.self.inside.jobs.items) c.self.inside.clock c.self.inside.rx c.self.inside.store
-          c.self.invariant.0 c.args.head.now c.in-Some.front.now front here g.V.Service.mode_of
+          c.self.invariant.0 c.args.head.now c.in-Some.front.now front c.requires.asking here g.V.Service.mode_of
           c.args.i c.on_packet-step.new.self c.on_packet-step.ensures.clients
           c.on_packet-step.ensures.size c.on_packet-step.ensures.places c.drop_front.new.self
           c.drop_front.ensures c.jobs_full-full.result full served place peer few g.R.Recorder.log c.args.rec.now c.on_packet-step.new.rec g.V.Service.answer
@@ -263,7 +263,7 @@ returns-in-Dropped-clause-serves g c =
       counts = c.self.inside.counts;
     }) c.self.inside.paces.items (jobs_in c.self.inside.limits.jobs c.self.inside.given
     c.self.inside.jobs.items) c.self.inside.clock c.self.inside.rx c.self.inside.store
-    c.self.invariant.0 c.args.head.now c.in-Some.front.now front here g.V.Service.mode_of
+    c.self.invariant.0 c.args.head.now c.in-Some.front.now front c.requires.asking here g.V.Service.mode_of
     c.args.i c.on_packet-step.new.self c.on_packet-step.ensures.clients
     c.on_packet-step.ensures.size c.on_packet-step.ensures.places c.drop_front.new.self
     c.drop_front.ensures c.jobs_full-full.result full served place peer few g.R.Recorder.log c.args.rec.now c.on_packet-step.new.rec g.V.Service.answer
@@ -290,7 +290,7 @@ invariant_of-self-in-Give g c =
         counts = c.self.inside.counts;
       }) c.self.inside.paces.items (jobs_in c.self.inside.limits.jobs c.self.inside.given
           c.self.inside.jobs.items) c.self.inside.clock c.self.inside.rx c.self.inside.store
-          c.self.invariant.0 c.args.head.now c.in-Some.front.now front here g.V.Service.mode_of
+          c.self.invariant.0 c.args.head.now c.in-Some.front.now front c.requires.asking here g.V.Service.mode_of
           c.args.i c.on_packet-step.new.self c.on_packet-step.ensures.clients
           c.on_packet-step.ensures.size c.on_packet-step.ensures.places c.drop_front.new.self
           c.drop_front.ensures c.jobs_full-full.result full served place peer few g.R.Recorder.log c.args.rec.now c.on_packet-step.new.rec g.V.Service.answer
@@ -325,7 +325,7 @@ returns-in-Give-clause-serves g c =
       counts = c.self.inside.counts;
     }) c.self.inside.paces.items (jobs_in c.self.inside.limits.jobs c.self.inside.given
     c.self.inside.jobs.items) c.self.inside.clock c.self.inside.rx c.self.inside.store
-    c.self.invariant.0 c.args.head.now c.in-Some.front.now front here g.V.Service.mode_of
+    c.self.invariant.0 c.args.head.now c.in-Some.front.now front c.requires.asking here g.V.Service.mode_of
     c.args.i c.on_packet-step.new.self c.on_packet-step.ensures.clients
     c.on_packet-step.ensures.size c.on_packet-step.ensures.places c.drop_front.new.self
     c.drop_front.ensures c.jobs_full-full.result full served place peer few g.R.Recorder.log c.args.rec.now c.on_packet-step.new.rec g.V.Service.answer
@@ -357,7 +357,7 @@ overflow_add-self g c =
       counts = c.self.inside.counts;
     }) c.self.inside.paces.items (jobs_in c.self.inside.limits.jobs c.self.inside.given
     c.self.inside.jobs.items) c.self.inside.clock c.self.inside.rx c.self.inside.store
-    c.self.invariant.0 c.args.head.now c.in-Some.front.now front here g.V.Service.mode_of
+    c.self.invariant.0 c.args.head.now c.in-Some.front.now front c.requires.asking here g.V.Service.mode_of
     c.args.i c.on_packet-step.new.self c.on_packet-step.ensures.clients
     c.on_packet-step.ensures.size c.on_packet-step.ensures.places c.drop_front.new.self
     c.drop_front.ensures c.jobs_full-full.result full served place peer few g.R.Recorder.log c.args.rec.now c.on_packet-step.new.rec g.V.Service.answer
@@ -385,7 +385,7 @@ push_back_reserved-requires g c =
       counts = c.self.inside.counts;
     }) c.self.inside.paces.items (jobs_in c.self.inside.limits.jobs c.self.inside.given
     c.self.inside.jobs.items) c.self.inside.clock c.self.inside.rx c.self.inside.store
-    c.self.invariant.0 c.args.head.now c.in-Some.front.now front here g.V.Service.mode_of
+    c.self.invariant.0 c.args.head.now c.in-Some.front.now front c.requires.asking here g.V.Service.mode_of
     c.args.i c.on_packet-step.new.self c.on_packet-step.ensures.clients
     c.on_packet-step.ensures.size c.on_packet-step.ensures.places c.drop_front.new.self
     c.drop_front.ensures c.jobs_full-full.result full served place peer few g.R.Recorder.log c.args.rec.now c.on_packet-step.new.rec g.V.Service.answer

@@ -27,7 +27,7 @@ returns-in_default-place_of_server-clause-serves g c =
       counts = c.self.inside.counts;
     }) c.self.inside.paces.items (jobs_in c.self.inside.limits.jobs c.self.inside.given
     c.self.inside.jobs.items) c.self.inside.clock c.self.inside.rx c.self.inside.store
-    c.self.invariant.0 c.args.head.now c.in-Some.front.now front here g.V.Service.mode_of
+    c.self.invariant.0 c.args.head.now c.in-Some.front.now front c.requires.asking here g.V.Service.mode_of
     g.R.Recorder.log c.args.rec.now c.drop_front.new.rec g.V.Service.answer
     (g.V.Service.stands c.args.service.now) (g.V.Service.stands c.args.service.now)
     (timed_of c.drop_front.new.self) (sym c.place_of_server.ensures ∙ c.in_default-place_of_server.is) same
@@ -49,7 +49,7 @@ returns-then-ne-clause-serves g c =
       counts = c.self.inside.counts;
     }) c.self.inside.paces.items (jobs_in c.self.inside.limits.jobs c.self.inside.given
     c.self.inside.jobs.items) c.self.inside.clock c.self.inside.rx c.self.inside.store
-    c.self.invariant.0 c.args.head.now c.in-Some.front.now front here g.V.Service.mode_of
+    c.self.invariant.0 c.args.head.now c.in-Some.front.now front c.requires.asking here g.V.Service.mode_of
     g.R.Recorder.log c.args.rec.now c.drop_front-then-ne.new.rec
     g.V.Service.answer (g.V.Service.stands c.args.service.now) (g.V.Service.stands
     c.args.service.now) (timed_of c.drop_front-then-ne.new.self) c.in-Some-place_of_server.i
