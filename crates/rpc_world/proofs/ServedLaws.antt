@@ -1,12 +1,11 @@
 -- The laws of each history of a script.
-use Rattle.std.proofs.Common.{◌≡◌, ℕ, Option, Some, None, List, slice_get}
+use Rattle.std.proofs.Common.{◌≡◌, List}
 use Rattle.rpc_base.specs.declared.fact.Fact.{Fact}
 use Rattle.end_laws.proofs.AnswerLemmas.{answers-each}
 use Rattle.end_laws.proofs.GoodStart.{first-good, first-right, first-valid}
 use Rattle.end_laws.proofs.OwnLaw.{course-own}
 use Rattle.end_laws.proofs.PairLeads.{follows-course}
 use Rattle.end_laws.proofs.ScriptLemmas.{script-two}
-use Rattle.end_laws.proofs.SendsLaw.{course-sends}
 use Rattle.end_laws.specs.Moments.{first_moment}
 use Rattle.one_history.proofs.ScriptNet.{all-of-net}
 use Rattle.one_history.proofs.ScriptTold.{all-told}
@@ -14,26 +13,18 @@ use Rattle.one_history.proofs.StagesOnce.{one-history}
 use Rattle.ring_laws.specs.PairsOnce.{PairsOnce}
 use Rattle.ring_laws.proofs.PairLaw.{course-pairs, first-tidy}
 use Rattle.ring_laws.proofs.RingLaw.{course-fits, first-met}
-use Rattle.rpc_laws.specs.declared.tables.Timed.{Timed}
 use Rattle.rpc_laws.specs.Service.{plain_serving}
-use Rattle.rpc_world.specs.Lawful.{Lawful, Runs}
+use Rattle.rpc_world.proofs.LawfulLemmas.{lawful-by}
+use Rattle.rpc_world.specs.Lawful.{Lawful}
 use Rattle.script_grammar.specs.Conditions.{IsScript}
 use Rattle.script_grammar.specs.declared.line.Line.{Line}
 use Rattle.sim_script.specs.FollowsScript.{Follows}
 use Rattle.stall_laws.specs.NoStall.{NoStall}
 use Rattle.stall_laws.proofs.StallLaw.{no-stall}
 use Rattle.world_laws.proofs.FewLemmas.{script-few}
-use Rattle.world_laws.proofs.NodeLaws.{credit-balances, ended-clean, older-clean, once-each}
-use Rattle.world_laws.proofs.NodeLaws.{ring-fits, runs as node-runs, sessions-clean}
-use Rattle.world_laws.proofs.OneCallLaws.{calls-once, numbers-once}
+use Rattle.world_laws.proofs.NodeLaws.{script-each}
 use Rattle.world_laws.proofs.RequestLaws.{requests-tell}
 use Rattle.world_laws.specs.Laws.{EndTells}
-use Rattle.world_laws.specs.NodeFacts.{facts_of, RunAt}
-
--- a node's facts are none, or a run
-runs-at : (n : ℕ) (facts : List Fact) (o : Option Timed) → RunAt n facts o → Runs n facts
-runs-at n facts (Some t) r = Runs.runs t r
-runs-at n facts None none = Runs.nowhere none
 
 -- the history of a script is lawful
 pub follows-lawful : (script : List Line) (h : List Fact) → IsScript script → Follows script h
@@ -42,25 +33,11 @@ follows-lawful script h is follows =
     let two = script-two script is in
     let few = script-few script is in
     let made = follows-course script h two follows in
-    record {
-      nodes = λ n. runs-at n (facts_of n h) (slice_get follows.0.nodes n)
-          (node-runs script h two few follows n);
-      net = all-of-net script h follows;
-      once = once-each script h two few follows;
-      own = course-own (λ n. plain_serving) first_moment h made.end made.course first-right
-          first-valid (answers-each (λ n. plain_serving) h follows.1.answers) first-good;
-      one_call = calls-once script h two few follows;
-      numbers = numbers-once script h two few follows;
-      credit = credit-balances script h two few follows;
-      fits = course-fits first_moment h made.end made.course first-right first-valid
-          (λ calm. first-met);
-      ring = ring-fits script h two few follows;
-      ends_clean = ended-clean script h two few follows;
-      begins_clean = older-clean script h two few follows;
-      sessions_clean = sessions-clean script h two few follows;
-      sends_own = course-sends first_moment h made.end made.course first-right first-valid;
-      told = all-told script h follows;
-    }
+    lawful-by h (script-each script h two few follows) (all-of-net script h follows)
+    (course-own (λ n. plain_serving) first_moment h made.end made.course first-right first-valid
+    (answers-each (λ n. plain_serving) h follows.1.answers) first-good)
+    (course-fits first_moment h made.end made.course first-right first-valid (λ calm. first-met))
+    (all-told script h follows)
 
 -- so long each packet stands in one place at most, and only while it is unanswered
 pub follows-stands-once : (script : List Line) (h : List Fact) → IsScript script → Follows script h

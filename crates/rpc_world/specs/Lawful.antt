@@ -1,27 +1,20 @@
 -- What is so of the history of each script, whatever the network does and whenever workers finish.
-use Rattle.std.specs.Prelude.{ℕ, ◌≡◌, List, []}
+use Rattle.std.specs.Prelude.{ℕ, List, []}
 use Rattle.node_laws.specs.CreditBalance.{Credit}
 use Rattle.node_laws.specs.EndedCalls.{EndsClean}
 use Rattle.node_laws.specs.EndedSessions.{SessionsEndClean}
 use Rattle.node_laws.specs.OlderRequests.{BeginsClean}
+use Rattle.node_laws.specs.SendsOwn.{SendsOwn}
 use Rattle.node_laws.specs.UsedOnce.{UsedOnce}
 use Rattle.one_history.specs.NetFacts.{AllOfNet}
 use Rattle.report_text.specs.Told.{AllTold}
 use Rattle.ring_laws.specs.CalmRing.{MessagesFit}
 use Rattle.rpc_base.specs.declared.fact.Fact.{Fact}
-use Rattle.rpc_laws.specs.declared.tables.Timed.{Timed}
 use Rattle.rpc_laws.specs.AtMostOnce.{Once}
-use Rattle.rpc_laws.specs.BufferSafety.{SendsItsOwn}
 use Rattle.rpc_laws.specs.OwnAnswer.{Own}
 use Rattle.world_laws.specs.Laws.{EachNode, KeepsRing}
-use Rattle.world_laws.specs.NodeFacts.{facts_of, IsRun}
+use Rattle.world_laws.specs.NodeFacts.{facts_of, Runs}
 use Rattle.world_laws.specs.OneCall.{OneCall}
-
--- node n has no facts, or its facts are its Made and then a run of the plain service's node with
--- that ring, which leaves it somehow
-pub data Runs (n : ℕ) (facts : List Fact) : Type 0 where
-  nowhere : facts ≡ [] → Runs n facts
-  runs : (t : Timed) → IsRun n facts t → Runs n facts
 
 pub record Lawful (h : List Fact) : Type 0 where
   -- each node does what the rules of a node say
@@ -50,7 +43,7 @@ pub record Lawful (h : List Fact) : Type 0 where
   pub begins_clean : EachNode (BeginsClean []) h
   -- where a server session ends no reply of it is queued, and none is posted later
   pub sessions_clean : EachNode (SessionsEndClean []) h
-  -- each packet goes to its session's peer, and is the one that its owner has
-  pub sends_own : SendsItsOwn h
+  -- each packet goes to its session's peer, and is the one that its owner has by its node's tables
+  pub sends_own : EachNode SendsOwn h
   -- each fact has just the bytes that its line shows
   pub told : AllTold h

@@ -9,12 +9,13 @@ use Rattle.node_laws.proofs.EndedSessionLaws.{ended_sessions}
 use Rattle.node_laws.proofs.OlderLaws.{older_clean}
 use Rattle.node_laws.proofs.OnceLaws.{once}
 use Rattle.node_laws.proofs.RingLaws.{inbox_within, ring_within}
+use Rattle.node_laws.proofs.SendsLaws.{sends_own}
 use Rattle.node_laws.specs.CreditBalance.{Credit}
 use Rattle.node_laws.specs.EndedCalls.{queued_by, asks_on, begins_as, BeganAs, EndsClean}
 use Rattle.node_laws.specs.EndedSessions.{SessionsEndClean}
 use Rattle.node_laws.specs.OlderRequests.{BeginsClean}
 use Rattle.node_laws.specs.RingLimit.{InboxWithin, RingWithin}
-use Rattle.network_model.specs.declared.stage.Stage.{Stage}
+use Rattle.node_laws.specs.SendsOwn.{SendsOwn}
 use Rattle.rpc_base.specs.declared.event.Event.{Event}
 use Rattle.rpc_base.specs.declared.event.Event.TheVariants.{Made}
 use Rattle.rpc_base.specs.declared.fact.Fact.{Fact}
@@ -24,39 +25,59 @@ use Rattle.rpc_laws.specs.Facts.{plain}
 use Rattle.rpc_laws.specs.Service.{plain_serving}
 use Rattle.rpc_laws.specs.UsualLimits.{with_ring}
 use Rattle.rpc_laws.specs.Queues.{queued_after}
-use Rattle.world_laws.specs.Laws.{EachNode, CreditBalances, EndedCallsAreNotQueued, EndedSessionsAreNotQueued}
+use Rattle.script_grammar.specs.declared.line.Line.{Line}
+use Rattle.sim_script.specs.FollowsScript.{Follows}
+use Rattle.end_laws.specs.TwoNodes.{PairsTwoNodes}
+use Rattle.world_laws.specs.FewCredits.{PairsFewCredits}
+use Rattle.world_laws.specs.Laws.{CreditBalances, EndedCallsAreNotQueued, EndedSessionsAreNotQueued}
 use Rattle.world_laws.specs.Laws.{FollowsRuns, HappensAtMostOnce, InboxFits}
-use Rattle.world_laws.specs.Laws.{OlderRequestsAreNotQueued, RingFits}
-use Rattle.world_laws.specs.NodeFacts.{facts_of, IsRun, RunAt, RunsOf, ring_of}
+use Rattle.world_laws.specs.Laws.{EachNode, KeepsRing, OlderRequestsAreNotQueued, RingFits, SendsItsOwn}
+use Rattle.world_laws.specs.NodeFacts.{facts_of, EachRuns, IsRun, RunAt, Runs, ring_of}
 use Rattle.world_laws.proofs.ScriptLaws.{script-runs}
 
 -- each node's facts are its Made and a run
 pub runs : FollowsRuns
 runs script h two few f = script-runs script h f.0 two few f.1
 
+-- so it is whatever the script
+run-somehow : (n : ℕ) (facts : List Fact) (o : Option Timed) → RunAt n facts o → Runs n facts
+run-somehow n facts (Some t) r = Runs.runs t r
+run-somehow n facts None none = Runs.nowhere none
+
+pub script-each : (script : List Line) (h : List Fact) → PairsTwoNodes script
+    → PairsFewCredits script → Follows script h → EachRuns h
+script-each script h two few f n =
+    run-somehow n (facts_of n h) (slice_get f.0.nodes n) (runs script h two few f n)
+
 -- a claim of the facts of every node: it is of no facts, and of each run with its Made
 of-run : (P : List Fact → Type 0) → P []
     → ((n : ℕ) (facts : List Fact) (t : Timed) → IsRun n facts t → P facts)
-    → (n : ℕ) (facts : List Fact) (o : Option Timed) → RunAt n facts o → P facts
-of-run P none each n facts (Some t) r = each n facts t r
-of-run P none each n facts None r = rw r none
+    → (n : ℕ) (facts : List Fact) → Runs n facts → P facts
+of-run P none each n facts (Runs.runs t r) = each n facts t r
+of-run P none each n facts (Runs.nowhere e) = rw e none
 
 pub of-node : (P : List Fact → Type 0) → P []
     → ((n : ℕ) (facts : List Fact) (t : Timed) → IsRun n facts t → P facts)
-    → (h : List Fact) (end : Stage) → RunsOf h end → (n : ℕ) → P (facts_of n h)
-of-node P none each h end r n = of-run P none each n (facts_of n h) (slice_get end.nodes n) (r n)
+    → (h : List Fact) → EachRuns h → EachNode P h
+of-node P none each h r n = of-run P none each n (facts_of n h) (r n)
 
 -- credit
-pub credit-balances : CreditBalances
-credit-balances script h two few f =
+pub credit-each : (h : List Fact) → EachRuns h → EachNode Credit h
+credit-each h each =
     of-node Credit tt
-    (λ n facts t r. let kept : Credit r.later = credit plain_serving n (with_ring r.ring) r.later t r.run in rw r.made (tt, tt, kept)) h f.0 (runs script h two few f)
+    (λ n facts t r. let kept : Credit r.later = credit plain_serving n (with_ring r.ring) r.later t r.run in rw r.made (tt, tt, kept)) h each
+
+pub credit-balances : CreditBalances
+credit-balances script h two few f = credit-each h (script-each script h two few f)
 
 -- the receive ring
-pub ring-fits : RingFits
-ring-fits script h two few f =
+pub ring-each : (h : List Fact) → EachRuns h → EachNode KeepsRing h
+ring-each h each =
     of-node (λ facts. RingWithin (ring_of facts) [] facts) (omega arith)
-    (λ n facts t r. let kept : RingWithin r.ring [] r.later = ring_within plain_serving n (with_ring r.ring) r.later t r.run in rw r.made (omega arith, kept)) h f.0 (runs script h two few f)
+    (λ n facts t r. let kept : RingWithin r.ring [] r.later = ring_within plain_serving n (with_ring r.ring) r.later t r.run in rw r.made (omega arith, kept)) h each
+
+pub ring-fits : RingFits
+ring-fits script h two few f = ring-each h (script-each script h two few f)
 
 -- calls that are over: the same is told by other facts that came before
 record SamePast (past other : List Fact) : Type 0 where
@@ -79,10 +100,13 @@ ends-other past other (f ∷ g) s e =
 made-past : (n ring : ℕ) → SamePast [] (plain n (Made ring) ∷ [])
 made-past n ring = record { queued = refl; asked = λ c s. refl; begun = λ c r. refl }
 
-pub ended-clean : EndedCallsAreNotQueued
-ended-clean script h two few f =
+pub ended-each : (h : List Fact) → EachRuns h → EachNode (EndsClean []) h
+ended-each h each =
     of-node (EndsClean []) tt
-    (λ n facts t r. let kept : EndsClean [] r.later = ended plain_serving n (with_ring r.ring) r.later t r.run in rw r.made ((λ c s q ends began. cc), ends-other [] (plain n (Made r.ring) ∷ []) r.later (made-past n r.ring) kept)) h f.0 (runs script h two few f)
+    (λ n facts t r. let kept : EndsClean [] r.later = ended plain_serving n (with_ring r.ring) r.later t r.run in rw r.made ((λ c s q ends began. cc), ends-other [] (plain n (Made r.ring) ∷ []) r.later (made-past n r.ring) kept)) h each
+
+pub ended-clean : EndedCallsAreNotQueued
+ended-clean script h two few f = ended-each h (script-each script h two few f)
 
 -- older requests of a slot
 begins-other : (past other g : List Fact) → SamePast past other → BeginsClean past g → BeginsClean other g
@@ -90,10 +114,13 @@ begins-other past other [] s e = tt
 begins-other past other (f ∷ g) s e =
     (λ t r old takes older. let back = e.0 t r old takes older in record { unqueued = rw (← s.queued) back.unqueued; unposted = back.unposted }, begins-other (f ∷ past) (f ∷ other) g (same-next past other f s) e.1)
 
-pub older-clean : OlderRequestsAreNotQueued
-older-clean script h two few f =
+pub older-each : (h : List Fact) → EachRuns h → EachNode (BeginsClean []) h
+older-each h each =
     of-node (BeginsClean []) tt
-    (λ n facts t r. let kept : BeginsClean [] r.later = older_clean plain_serving n (with_ring r.ring) r.later t r.run in rw r.made ((λ t r old takes older. cc), begins-other [] (plain n (Made r.ring) ∷ []) r.later (made-past n r.ring) kept)) h f.0 (runs script h two few f)
+    (λ n facts t r. let kept : BeginsClean [] r.later = older_clean plain_serving n (with_ring r.ring) r.later t r.run in rw r.made ((λ t r old takes older. cc), begins-other [] (plain n (Made r.ring) ∷ []) r.later (made-past n r.ring) kept)) h each
+
+pub older-clean : OlderRequestsAreNotQueued
+older-clean script h two few f = older-each h (script-each script h two few f)
 
 -- server sessions that ended
 sessions-other : (past other g : List Fact) → SamePast past other → SessionsEndClean past g → SessionsEndClean other g
@@ -101,16 +128,31 @@ sessions-other past other [] s e = tt
 sessions-other past other (f ∷ g) s e =
     (λ t ends. let back = e.0 t ends in record { unqueued = rw (← s.queued) back.unqueued; unposted = back.unposted }, sessions-other (f ∷ past) (f ∷ other) g (same-next past other f s) e.1)
 
-pub sessions-clean : EndedSessionsAreNotQueued
-sessions-clean script h two few f =
+pub sessions-each : (h : List Fact) → EachRuns h → EachNode (SessionsEndClean []) h
+sessions-each h each =
     of-node (SessionsEndClean []) tt
-    (λ n facts t r. let kept : SessionsEndClean [] r.later = ended_sessions plain_serving n (with_ring r.ring) r.later t r.run in rw r.made ((λ t ends. cc), sessions-other [] (plain n (Made r.ring) ∷ []) r.later (made-past n r.ring) kept)) h f.0 (runs script h two few f)
+    (λ n facts t r. let kept : SessionsEndClean [] r.later = ended_sessions plain_serving n (with_ring r.ring) r.later t r.run in rw r.made ((λ t ends. cc), sessions-other [] (plain n (Made r.ring) ∷ []) r.later (made-past n r.ring) kept)) h each
+
+pub sessions-clean : EndedSessionsAreNotQueued
+sessions-clean script h two few f = sessions-each h (script-each script h two few f)
 
 -- the inbox
-pub inbox-fits : InboxFits
-inbox-fits script h two few f =
+pub inbox-each : (h : List Fact) → EachRuns h → EachNode (InboxWithin []) h
+inbox-each h each =
     of-node (InboxWithin []) (omega arith)
-    (λ n facts t r. let kept : InboxWithin [] r.later = inbox_within plain_serving n (with_ring r.ring) r.later t r.run in rw r.made (omega arith, kept)) h f.0 (runs script h two few f)
+    (λ n facts t r. let kept : InboxWithin [] r.later = inbox_within plain_serving n (with_ring r.ring) r.later t r.run in rw r.made (omega arith, kept)) h each
+
+pub inbox-fits : InboxFits
+inbox-fits script h two few f = inbox-each h (script-each script h two few f)
+
+-- what is sent
+pub sends-each : (h : List Fact) → EachRuns h → EachNode SendsOwn h
+sends-each h each =
+    of-node SendsOwn (λ me limits. tt)
+    (λ n facts t r. let kept : SendsOwn r.later = sends_own plain_serving n (with_ring r.ring) r.later t r.run in rw r.made (λ me limits. (tt, λ clock. kept me limits))) h each
+
+pub sends-own : SendsItsOwn
+sends-own script h two few f = sends-each h (script-each script h two few f)
 
 -- at most once: what is counted of a node is counted over its facts
 count-here : (n : ℕ) (test : Event → Bool) (f : Fact) (h : List Fact) (b : Bool) → is_at n f.who ≡ b
@@ -167,6 +209,9 @@ once-all h each = record {
   done = λ n c. rw (times-own n (ends_call c) h) ((each n).done n c);
 }
 
-pub once-each : HappensAtMostOnce
-once-each script h two few f =
-    once-all h (of-node Once once-nothing (λ n facts t r. let kept : Once r.later = once plain_serving n (with_ring r.ring) r.later t r.run in rw r.made (made-once n r.ring r.later kept)) h f.0 (runs script h two few f))
+pub once-each : (h : List Fact) → EachRuns h → Once h
+once-each h runs =
+    once-all h (of-node Once once-nothing (λ n facts t r. let kept : Once r.later = once plain_serving n (with_ring r.ring) r.later t r.run in rw r.made (made-once n r.ring r.later kept)) h runs)
+
+pub happens-once : HappensAtMostOnce
+happens-once script h two few f = once-each h (script-each script h two few f)

@@ -28,9 +28,9 @@ use Rattle.rpc_laws.specs.UsualLimits.{with_ring}
 use Rattle.script_grammar.specs.declared.line.Line.{Line}
 use Rattle.sim_script.specs.FollowsScript.{Follows}
 use Rattle.world_laws.proofs.FactLemmas.{eqb-same}
-use Rattle.world_laws.proofs.NodeLaws.{of-node, once-each, runs}
+use Rattle.world_laws.proofs.NodeLaws.{happens-once, of-node, script-each}
 use Rattle.world_laws.specs.Laws.{EachNode, NumbersAreUsedOnce, CallsRunOnce}
-use Rattle.world_laws.specs.NodeFacts.{facts_of}
+use Rattle.world_laws.specs.NodeFacts.{facts_of, EachRuns}
 use Rattle.world_laws.specs.OneCall.{IsOneOf, RanFor, RanForSome, OneCall}
 
 -- each node's facts
@@ -53,10 +53,13 @@ used-nothing = record {
   begun = λ c d s r a b. let none = a.asked in cc;
 }
 
-pub numbers-once : NumbersAreUsedOnce
-numbers-once script h two few f =
+pub numbers-each : (h : List Fact) → EachRuns h → EachNode UsedOnce h
+numbers-each h each =
     of-node UsedOnce used-nothing
-    (λ n facts t r. let kept : UsedOnce r.later = used plain_serving n (with_ring r.ring) r.later t r.run in rw r.made (made-used n r.ring r.later kept)) h f.0 (runs script h two few f)
+    (λ n facts t r. let kept : UsedOnce r.later = used plain_serving n (with_ring r.ring) r.later t r.run in rw r.made (made-used n r.ring r.later kept)) h each
+
+pub numbers-once : NumbersAreUsedOnce
+numbers-once script h two few f = numbers-each h (script-each script h two few f)
 
 -- what stands in a list
 module _ {A : Type 0} (p : A → Bool) where
@@ -364,5 +367,6 @@ one-call-each v h u o own = record {
 
 pub calls-once : CallsRunOnce
 calls-once script h two few f =
-    one-call-each (λ n. plain_serving) h (numbers-once script h two few f) (once-each script h two few f)
+    one-call-each (λ n. plain_serving) h (numbers-once script h two few f)
+    (happens-once script h two few f)
     (own-answers script h two f)

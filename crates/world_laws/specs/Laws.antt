@@ -9,6 +9,7 @@ use Rattle.node_laws.specs.EndedSessions.{SessionsEndClean}
 use Rattle.node_laws.specs.OlderRequests.{BeginsClean}
 use Rattle.node_laws.specs.RequestHistory.{TellsRequests}
 use Rattle.node_laws.specs.RingLimit.{RingWithin, InboxWithin}
+use Rattle.node_laws.specs.SendsOwn.{SendsOwn}
 use Rattle.node_laws.specs.UsedOnce.{UsedOnce}
 use Rattle.rpc_base.specs.declared.fact.Fact.{Fact}
 use Rattle.rpc_laws.specs.declared.tables.Timed.{Timed}
@@ -90,6 +91,10 @@ EndedSessionsAreNotQueued = OfEveryNode (SessionsEndClean [])
 -- a node's inbox is never longer than its room
 abbrev pub InboxFits : Type 0
 InboxFits = OfEveryNode (InboxWithin [])
+
+-- what a node sends is what its own tables have
+abbrev pub SendsItsOwn : Type 0
+SendsItsOwn = OfEveryNode SendsOwn
 
 -- a node's call numbers, session numbers and the requests of a session are used once
 abbrev pub NumbersAreUsedOnce : Type 0

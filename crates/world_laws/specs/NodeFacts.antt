@@ -24,6 +24,16 @@ pub record IsRun (n : ℕ) (facts : List Fact) (t : Timed) : Type 0 where
   pub made : facts ≡ plain n (Made ring) ∷ later
   pub run : NodeRun plain_serving n (with_ring ring) later t
 
+-- node n has no facts, or its facts are its Made and then a run of the plain service's node with
+-- that ring, which leaves it somehow
+pub data Runs (n : ℕ) (facts : List Fact) : Type 0 where
+  nowhere : facts ≡ [] → Runs n facts
+  runs : (t : Timed) → IsRun n facts t → Runs n facts
+
+-- so it is for each number
+abbrev pub EachRuns : List Fact → Type 0
+EachRuns h = (n : ℕ) → Runs n (facts_of n h)
+
 -- a node that isn't there has no facts
 abbrev pub RunAt : ℕ → List Fact → Option Timed → Type 0
 RunAt n facts (Some t) = IsRun n facts t

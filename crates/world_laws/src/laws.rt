@@ -14,7 +14,7 @@ ghost use Rattle.world_laws.specs.Laws.{CallsAreInOrder, CallsRunOnce, CreditBal
 ghost use Rattle.world_laws.specs.Laws.{EndedCallsAreNotQueued};
 ghost use Rattle.world_laws.specs.Laws.{EndedSessionsAreNotQueued, FollowsRuns, HappensAtMostOnce};
 ghost use Rattle.world_laws.specs.Laws.{InboxFits, NumbersAreUsedOnce, OlderRequestsAreNotQueued};
-ghost use Rattle.world_laws.specs.Laws.{RequestsTellTheHistory, RingFits};
+ghost use Rattle.world_laws.specs.Laws.{RequestsTellTheHistory, RingFits, SendsItsOwn};
 
 /// The facts of each node are its `Made` and a run of that node, which leaves it as the history
 /// does.
@@ -83,6 +83,12 @@ pub fn ended_sessions_are_not_queued()
 /// At no moment is the inbox of a node longer than 64.
 pub fn inbox_fits()
     ensures { InboxFits }
+{}
+
+/// Each packet that a node sends goes to the peer of its session, and its head and body spell the
+/// packet that its owner has by the node's tables of that moment.
+pub fn sends_its_own()
+    ensures { SendsItsOwn }
 {}
 
 /// Each session that a `Script` pairs or connects has 1 to 256 credits, so these laws are of all
