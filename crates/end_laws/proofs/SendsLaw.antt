@@ -37,7 +37,7 @@ use Rattle.rpc_laws.specs.declared.tables.Served.{Served}
 use Rattle.rpc_laws.specs.declared.tables.Server.{Server}
 use Rattle.rpc_laws.specs.declared.tables.Way.{Way}
 use Rattle.rpc_laws.specs.ControlSteps.{request_by}
-use Rattle.rpc_laws.specs.BufferSafety.{OwnControl, EachFact, SpellsOwn, SentRight, RightAt}
+use Rattle.rpc_laws.specs.BufferSafety.{OwnControl, SpellsOwn, SentRight}
 use Rattle.rpc_laws.specs.BufferSafety.{changed, nodes_at}
 use Rattle.rpc_laws.specs.Calls.{is_active, asked_packets}
 use Rattle.rpc_laws.specs.Front.{front_header, front_body}

@@ -52,12 +52,6 @@ abbrev pub clock_after : Who → Event → ℕ → ℕ
 clock_after (Node n) e clock = clock
 clock_after Net e clock = ticked e clock
 
--- a claim at each fact, about the nodes' lists that the facts before it leave
-abbrev pub EachFact : (List Lists → Fact → Type 0) → ℕ → List Lists → List Fact → Type 0
-EachFact P clock nodes [] = Unit {0}
-EachFact P clock nodes (f ∷ h) =
-    P nodes f × EachFact P (clock_after f.who f.event clock) (nodes_after clock nodes f) h
-
 -- the head and the body spell the packet that the owner has by its node's tables, and it goes to
 -- its peer
 pub record SpellsOwn (nodes : List Lists) (n peer : ℕ) (owner : Owner) (number : ℕ)
@@ -108,10 +102,3 @@ abbrev pub SentRight : List Lists → ℕ → Event → List ℕ → List ℕ �
 SentRight nodes n (Sent peer Control number) head body = SpellsControl nodes n peer number head body
 SentRight nodes n (Sent peer owner number) head body = SpellsOwn nodes n peer owner number head body
 SentRight nodes n _ head body = Unit {0}
-
-abbrev pub RightAt : List Lists → Who → Event → List ℕ → List ℕ → Type 0
-RightAt nodes (Node n) e head body = SentRight nodes n e head body
-RightAt nodes Net e head body = Unit {0}
-
-abbrev pub SendsItsOwn : List Fact → Type 0
-SendsItsOwn h = EachFact (λ nodes f. RightAt nodes f.who f.event f.first f.second) 0 [] h
