@@ -54,7 +54,7 @@ noted e s x t h = record {
 pub group-keeps : (mode : ℕ → Mode) (s : Timed) (x : List Fact) (t : Timed) → Group mode s x t → Keeps s x t
 group-keeps mode s x t (pairs_client peer server credits may h) = noted _ s x t h
 group-keeps mode s x t (pairs_server peer client credits may h) = noted _ s x t h
-group-keeps mode s x t (refuses credits e r h) = noted e s x t h
+group-keeps mode s x t (refuses credits few e r h) = noted e s x t h
 group-keeps mode s x t (connects peer credits rate few h) =
     owned s x t (connects-own false (λ e. false-true e) peer credits rate s x t not-still h)
 group-keeps mode s x t (disconnects session h) =

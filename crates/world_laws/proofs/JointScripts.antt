@@ -254,10 +254,10 @@ refuses-by true b c x y z e h = inl h
 refuses-by false b c x y z e h = inr h
 
 refused-joint : (credits n : ℕ) (before : Timed) (e : Event) (s : Stage) (h x : List Fact)
-    (t : Stage) → Steps h (joint_of s) → slice_get s.nodes n ≡ Some before
+    (t : Stage) → IsCredits credits → Steps h (joint_of s) → slice_get s.nodes n ≡ Some before
     → pair_refusal credits before.lists ≡ Some e → x ≡ plain before.lists.me e ∷ [] → t ≡ s
     → Steps (h ++ x) (joint_of t)
-refused-joint credits n before e s h x t r is refusal facts left =
+refused-joint credits n before e s h x t few r is refusal facts left =
     let l = before.lists in
     let one : List Fact = plain l.me e ∷ [] in
     let k = refusal-by (clients_spent l || servers_spent l) (has_no_room credits l) (shares l) credits l.room e before.clock l refusal in
@@ -267,7 +267,7 @@ refused-joint credits n before e s h x t r is refusal facts left =
       goes = ap (λ (l : Lists). record { lists = l; clock = before.clock }) k.0;
     } in
     let group : Alone before one before = record {
-      group = refuses credits e (refuses-by (clients_spent l) (servers_spent l)
+      group = refuses credits few e (refuses-by (clients_spent l) (servers_spent l)
           (has_no_room credits l) (shares l) credits l.room e refusal) note;
       alone = tt;
     } in
@@ -292,9 +292,9 @@ pairs-by : (a b credits : ℕ) (client server : Timed) (e g : Option Event) (s :
     → pair_refusal credits server.lists ≡ g → PairsBy e g a b credits client server s x t
     → Steps (h ++ x) (joint_of t)
 pairs-by a b credits client server (Some e) g s h x t r two few c v refusal q p =
-    refused-joint credits a client e s h x t r c refusal p.0 p.1
+    refused-joint credits a client e s h x t (record { some = few.0; few = few.1 }) r c refusal p.0 p.1
 pairs-by a b credits client server None (Some e) s h x t r two few c v q refusal p =
-    refused-joint credits b server e s h x t r v refusal p.0 p.1
+    refused-joint credits b server e s h x t (record { some = few.0; few = few.1 }) r v refusal p.0 p.1
 pairs-by a b credits client server None None s h x t r two few c v fits fits_too p =
     let l = client.lists in
     let m = server.lists in
