@@ -232,13 +232,13 @@ group-leaves b mode s y t v on (pairs_client peer server credits may h) =
     still-leaves b mode s y t v on (pairs_client peer server credits may h) (rw h.facts (refl, tt))
 group-leaves b mode s y t v on (pairs_server peer client credits may h) =
     still-leaves b mode s y t v on (pairs_server peer client credits may h) (rw h.facts (refl, tt))
-group-leaves b mode s y t v on (refuses credits e (inl r) h) =
-    still-leaves b mode s y t v on (refuses credits e (inl r) h) (rw h.facts (
+group-leaves b mode s y t v on (refuses credits few e (inl r) h) =
+    still-leaves b mode s y t v on (refuses credits few e (inl r) h) (rw h.facts (
       refusal-still (clients_spent s.lists) (has_no_room credits s.lists) (shares s.lists) credits s.lists.room e r,
       tt,
     ))
-group-leaves b mode s y t v on (refuses credits e (inr r) h) =
-    still-leaves b mode s y t v on (refuses credits e (inr r) h) (rw h.facts (
+group-leaves b mode s y t v on (refuses credits few e (inr r) h) =
+    still-leaves b mode s y t v on (refuses credits few e (inr r) h) (rw h.facts (
       refusal-still (servers_spent s.lists) (has_no_room credits s.lists) (shares s.lists) credits s.lists.room e r,
       tt,
     ))
