@@ -13,7 +13,7 @@ use Rattle.endpoint_loop.specs.Applying.{Leaves}
 use Rattle.endpoint_loop.specs.declared.polling.Turn.{Turn}
 use Rattle.endpoint_loop.specs.declared.turning.TheConstants.{MOST_ARRIVALS}
 use Rattle.endpoint_loop.specs.Noting.{Makes}
-use Rattle.endpoint_loop.specs.Polling.{LinkTells, MakesPoll}
+use Rattle.endpoint_loop.specs.Polling.{LinkTells, MakesPoll, wire_of}
 use Rattle.endpoint_loop.specs.Running.{Running}
 use Rattle.endpoint_loop.specs.Speaking.{FailedAs}
 
