@@ -41,7 +41,7 @@ use Rattle.rpc_outside.specs.declared.service.Mode.{Mode}
 use Rattle.rpc_outside.specs.declared.service.Mode.TheVariants.{Background, Unserved}
 use Rattle.node_laws.specs.Kept.{Kept}
 use Rattle.node_laws.proofs.Allowed.{Stands}
-use Rattle.node_laws.proofs.KeptLemmas.{kept-all, kept-total}
+use Rattle.node_laws.proofs.KeptLemmas.{kept-after, kept-total}
 use Rattle.node_laws.proofs.ServeLemmas.{stands-ran}
 use Rattle.node_laws.proofs.WorkLemmas.{job-has-worker}
 use Rattle.server_core.proofs.FlushLemmas.{grew-then}
@@ -483,14 +483,11 @@ module _ (me : ℕ) (limits : Limits) (tallies : Tallies) (paces : List Pace) (j
           pub fits-answered : replies s.queued < rx.size → Fits (next_with later) t.size t.places
           fits-answered room = record {
             kept = rw left (rw (ap (λ (u : Timed). u.lists) (goes-posted jobs []))
-                (kept-all clock (seen_with jobs).lists (ran [] ∷ posted ∷ []) fits.kept (
-                  inr (record { job = job; found = out }),
-                  (
-                    stands-ran session request bytes s.servers
-                        (stands (request_of session request s.servers) refl at-work),
-                    tt,
-                  ),
-                )));
+                (kept-after clock (after clock (seen_with jobs).lists (ran [])) posted
+                (kept-after clock (seen_with jobs).lists (ran []) fits.kept
+                (inr (record { job = job; found = out })))
+                (stands-ran session request bytes s.servers
+                (stands (request_of session request s.servers) refl at-work))));
             ascends = rw clients fits.ascends;
             paces = fits.paces;
             settled = rw clients fits.settled;

@@ -63,7 +63,7 @@ invariant_of-self g c =
     let peer = rw (← c.self.view_is) at c.requires.peer in
     let few = rw (← c.self.view_is) at c.requires.room in
     let asked = c.body-asked.ensures ∙ ap body_of c.bytes.ensures.bytes in
-    let p = as-asked _ _ _ _ _ _ _ _ _ _ _ _ _ _ _ _ _ asked c.in-Took.ensures.handles in (
+    let p = as-asked _ _ _ _ _ _ _ _ _ _ _ _ _ _ _ _ asked c.in-Took.ensures.handles in (
       fits-took-it c.self.inside.me c.self.inside.limits (record {
         asked = c.self.inside.asked;
         server_numbers = c.self.inside.server_numbers;
@@ -91,7 +91,7 @@ returns-in-Took-clause-serves g c =
     let peer = rw (← c.self.view_is) at c.requires.peer in
     let few = rw (← c.self.view_is) at c.requires.room in
     let asked = c.body-asked.ensures ∙ ap body_of c.bytes.ensures.bytes in
-    let p = as-asked _ _ _ _ _ _ _ _ _ _ _ _ _ _ _ _ _ asked c.in-Took.ensures.handles in
+    let p = as-asked _ _ _ _ _ _ _ _ _ _ _ _ _ _ _ _ asked c.in-Took.ensures.handles in
     rw (← c.self.view_is) (node-took-it c.self.inside.me c.self.inside.limits (record {
       asked = c.self.inside.asked;
       server_numbers = c.self.inside.server_numbers;
@@ -117,7 +117,7 @@ invariant_of-self-in-Again g c =
     let peer = rw (← c.self.view_is) at c.requires.peer in
     let few = rw (← c.self.view_is) at c.requires.room in
     let asked = c.body-asked.ensures ∙ ap body_of c.bytes.ensures.bytes in
-    let p = as-asked _ _ _ _ _ _ _ _ _ _ _ _ _ _ _ _ _ asked c.in-Again.ensures.handles in (
+    let p = as-asked _ _ _ _ _ _ _ _ _ _ _ _ _ _ _ _ asked c.in-Again.ensures.handles in (
       fits-again c.self.inside.me c.self.inside.limits (record {
         asked = c.self.inside.asked;
         server_numbers = c.self.inside.server_numbers;
@@ -145,7 +145,7 @@ returns-in-Again-clause-serves g c =
     let peer = rw (← c.self.view_is) at c.requires.peer in
     let few = rw (← c.self.view_is) at c.requires.room in
     let asked = c.body-asked.ensures ∙ ap body_of c.bytes.ensures.bytes in
-    let p = as-asked _ _ _ _ _ _ _ _ _ _ _ _ _ _ _ _ _ asked c.in-Again.ensures.handles in
+    let p = as-asked _ _ _ _ _ _ _ _ _ _ _ _ _ _ _ _ asked c.in-Again.ensures.handles in
     rw (← c.self.view_is) (node-again c.self.inside.me c.self.inside.limits (record {
       asked = c.self.inside.asked;
       server_numbers = c.self.inside.server_numbers;
@@ -171,7 +171,7 @@ invariant_of-self-in-Ran g c =
     let peer = rw (← c.self.view_is) at c.requires.peer in
     let few = rw (← c.self.view_is) at c.requires.room in
     let asked = c.body-asked.ensures ∙ ap body_of c.bytes.ensures.bytes in
-    let p = as-asked _ _ _ _ _ _ _ _ _ _ _ _ _ _ _ _ _ asked c.in-Ran.ensures.handles in (
+    let p = as-asked _ _ _ _ _ _ _ _ _ _ _ _ _ _ _ _ asked c.in-Ran.ensures.handles in (
       fits-ran c.self.inside.me c.self.inside.limits (record {
         asked = c.self.inside.asked;
         server_numbers = c.self.inside.server_numbers;
@@ -200,7 +200,7 @@ returns-in-Ran-clause-serves g c =
     let peer = rw (← c.self.view_is) at c.requires.peer in
     let few = rw (← c.self.view_is) at c.requires.room in
     let asked = c.body-asked.ensures ∙ ap body_of c.bytes.ensures.bytes in
-    let p = as-asked _ _ _ _ _ _ _ _ _ _ _ _ _ _ _ _ _ asked c.in-Ran.ensures.handles in
+    let p = as-asked _ _ _ _ _ _ _ _ _ _ _ _ _ _ _ _ asked c.in-Ran.ensures.handles in
     rw (← c.self.view_is) (node-ran c.self.inside.me c.self.inside.limits (record {
       asked = c.self.inside.asked;
       server_numbers = c.self.inside.server_numbers;
@@ -226,7 +226,7 @@ invariant_of-self-in-Dropped g c =
     let peer = rw (← c.self.view_is) at c.requires.peer in
     let few = rw (← c.self.view_is) at c.requires.room in
     let asked = c.body-asked.ensures ∙ ap body_of c.bytes.ensures.bytes in
-    let p = as-asked _ _ _ _ _ _ _ _ _ _ _ _ _ _ _ _ _ asked c.in-Dropped.ensures.handles in (
+    let p = as-asked _ _ _ _ _ _ _ _ _ _ _ _ _ _ _ _ asked c.in-Dropped.ensures.handles in (
       fits-drop c.self.inside.me c.self.inside.limits (record {
         asked = c.self.inside.asked;
         server_numbers = c.self.inside.server_numbers;
@@ -255,7 +255,7 @@ returns-in-Dropped-clause-serves g c =
     let peer = rw (← c.self.view_is) at c.requires.peer in
     let few = rw (← c.self.view_is) at c.requires.room in
     let asked = c.body-asked.ensures ∙ ap body_of c.bytes.ensures.bytes in
-    let p = as-asked _ _ _ _ _ _ _ _ _ _ _ _ _ _ _ _ _ asked c.in-Dropped.ensures.handles in
+    let p = as-asked _ _ _ _ _ _ _ _ _ _ _ _ _ _ _ _ asked c.in-Dropped.ensures.handles in
     rw (← c.self.view_is) (node-drop c.self.inside.me c.self.inside.limits (record {
       asked = c.self.inside.asked;
       server_numbers = c.self.inside.server_numbers;
@@ -282,7 +282,7 @@ invariant_of-self-in-Give g c =
     let peer = rw (← c.self.view_is) at c.requires.peer in
     let few = rw (← c.self.view_is) at c.requires.room in
     let asked = c.body-asked.ensures ∙ ap body_of c.bytes.ensures.bytes in
-    let p = as-asked _ _ _ _ _ _ _ _ _ _ _ _ _ _ _ _ _ asked c.in-Give.ensures.handles in (
+    let p = as-asked _ _ _ _ _ _ _ _ _ _ _ _ _ _ _ _ asked c.in-Give.ensures.handles in (
       fits-give c.self.inside.me c.self.inside.limits (record {
         asked = c.self.inside.asked;
         server_numbers = c.self.inside.server_numbers;
@@ -317,7 +317,7 @@ returns-in-Give-clause-serves g c =
     let peer = rw (← c.self.view_is) at c.requires.peer in
     let few = rw (← c.self.view_is) at c.requires.room in
     let asked = c.body-asked.ensures ∙ ap body_of c.bytes.ensures.bytes in
-    let p = as-asked _ _ _ _ _ _ _ _ _ _ _ _ _ _ _ _ _ asked c.in-Give.ensures.handles in
+    let p = as-asked _ _ _ _ _ _ _ _ _ _ _ _ _ _ _ _ asked c.in-Give.ensures.handles in
     rw (← c.self.view_is) (node-give c.self.inside.me c.self.inside.limits (record {
       asked = c.self.inside.asked;
       server_numbers = c.self.inside.server_numbers;
@@ -349,7 +349,7 @@ overflow_add-self g c =
     let peer = rw (← c.self.view_is) at c.requires.peer in
     let few = rw (← c.self.view_is) at c.requires.room in
     let asked = c.body-asked.ensures ∙ ap body_of c.bytes.ensures.bytes in
-    let p = as-asked _ _ _ _ _ _ _ _ _ _ _ _ _ _ _ _ _ asked c.in-Give.ensures.handles in
+    let p = as-asked _ _ _ _ _ _ _ _ _ _ _ _ _ _ _ _ asked c.in-Give.ensures.handles in
     let none = unfull-of c.self.inside.me c.self.inside.limits (record {
       asked = c.self.inside.asked;
       server_numbers = c.self.inside.server_numbers;
@@ -377,7 +377,7 @@ push_back_reserved-requires g c =
     let peer = rw (← c.self.view_is) at c.requires.peer in
     let few = rw (← c.self.view_is) at c.requires.room in
     let asked = c.body-asked.ensures ∙ ap body_of c.bytes.ensures.bytes in
-    let p = as-asked _ _ _ _ _ _ _ _ _ _ _ _ _ _ _ _ _ asked c.in-Give.ensures.handles in
+    let p = as-asked _ _ _ _ _ _ _ _ _ _ _ _ _ _ _ _ asked c.in-Give.ensures.handles in
     let none = unfull-of c.self.inside.me c.self.inside.limits (record {
       asked = c.self.inside.asked;
       server_numbers = c.self.inside.server_numbers;
