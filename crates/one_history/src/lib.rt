@@ -5,6 +5,6 @@
 mod laws;
 
 pub use laws::{
-    facts_tell_their_bytes, network_notes_its_own, reports_have_one_history,
-    runs_tell_their_bytes, scripts_have_one_history,
+    facts_tell_their_bytes, network_notes_its_own, reports_have_one_history, runs_tell_their_bytes,
+    scripts_have_one_history,
 };

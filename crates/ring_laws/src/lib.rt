@@ -4,6 +4,4 @@
 
 mod laws;
 
-pub use laws::{
-    joint_messages_fit, joint_packets_stand_once, messages_fit, packets_stand_once,
-};
+pub use laws::{joint_messages_fit, joint_packets_stand_once, messages_fit, packets_stand_once};
