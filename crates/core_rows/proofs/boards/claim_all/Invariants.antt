@@ -1,6 +1,0 @@
--- between two tickets the hand holds no claim
-use Rattle.worker_board.specs.Rows.{IsFreeHand}
-use Rattle.core_rows.proofs.boards.claim_all.Given as goal
-
-abbrev pub invariant-loop-place : goal.invariant-loop-place
-invariant-loop-place l = IsFreeHand l.fn.board l.seat

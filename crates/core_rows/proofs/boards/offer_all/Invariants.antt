@@ -1,7 +1,0 @@
--- the places before this one are offered, and no other
-use Rattle.worker_board.specs.Seats.{IsSeatOf, view_of}
-use Rattle.worker_board.specs.Rows.{IsOfferedBelow}
-use Rattle.core_rows.proofs.boards.offer_all.Given as goal
-
-abbrev pub invariant-loop-place : goal.invariant-loop-place
-invariant-loop-place l = IsSeatOf l.fn.board l.seat × IsOfferedBelow l.place l.tickets (view_of l.seat)
