@@ -56,6 +56,10 @@ impl Link for Newest {
 
     ghost waiting = { λ _. None };
 
+    ghost bound = { λ _. None };
+
+    ghost numbers = { λ _ _. None };
+
     ghost faults = { λ l. l.faults };
 
     ghost busies = { λ _. 0 };
@@ -89,6 +93,9 @@ impl Link for Newest {
 
     /// Ends at once.
     fn wait(&mut self, _micros: u32) {}
+
+    /// Sends each packet by itself.
+    fn pack(&mut self, _peer: Peer, _bytes: u32) {}
 
     /// The number stays that of its address.
     fn forget(&mut self, _peer: Peer) {}

@@ -1,5 +1,5 @@
 //! The network as the link of one node.
-ghost use Rattle.std.specs.Prelude.{◌≡◌, ◌≢◌, ◌++◌, ◌∷◌, [], Ok, Some, map, IfOk, IsOk, OnErr, OnOk};
+ghost use Rattle.std.specs.Prelude.{◌≡◌, ◌≢◌, ◌++◌, ◌∷◌, [], Ok, None, Some, map, IfOk, IsOk, OnErr, OnOk};
 ghost use Rattle.network_model.specs.Sending.{copy_from};
 ghost use Rattle.rpc_outside.specs.Faults.{HasCause};
 ghost use Rattle.rpc_outside.specs.declared.link.Got.TheVariants.{Nothing};
@@ -63,6 +63,10 @@ impl Link for NodeLink {
 
     ghost waiting = { λ l. Some [] };
 
+    ghost bound = { λ _. None };
+
+    ghost numbers = { λ _ _. None };
+
     ghost faults = { λ l. l.faults };
 
     ghost busies = { λ l. 0 };
@@ -116,6 +120,11 @@ impl Link for NodeLink {
 
     /// Ends at once.
     fn wait(&mut self, _micros: u32)
+        ensures { self.new ≡ self.old }
+    {}
+
+    /// Sends each packet by itself.
+    fn pack(&mut self, _peer: Peer, _bytes: u32)
         ensures { self.new ≡ self.old }
     {}
 

@@ -1,5 +1,6 @@
 -- What a link does with datagrams: it sends some, and gives out those that wait.
-use Rattle.std.specs.Prelude.{◌≡◌, ℕ, ◌≤◌, List, [], ◌∷◌, ◌++◌, length, take, Option, option_map, ⊤}
+use Rattle.std.specs.Prelude.{◌≡◌, ◌≢◌, ℕ, ◌≤◌, List, [], ◌∷◌, ◌++◌, length, take, Option}
+use Rattle.std.specs.Prelude.{option_map, ⊤}
 use Rattle.std.specs.List.{All}
 use Rattle.rpc_outside.specs.declared.link.TheConstants.{MOST_LINK_BYTES}
 use Rattle.rpc_outside.specs.declared.link.Got.{Got}
@@ -39,6 +40,16 @@ pub record NoneComes {L : Type 0} (waiting received : L → Option (List Carried
     : Type 0 where
   pub waits : waiting new ≡ waiting old
   pub stays : received new ≡ received old
+
+-- the bound address and the numbers of addresses stay
+pub record KeepsAddresses {L : Type 0} (bound : L → Option (List ℕ))
+    (numbers : L → List ℕ → Option ℕ) (old new : L) : Type 0 where
+  pub binds : bound new ≡ bound old
+  pub counts : numbers new ≡ numbers old
+
+-- every other address keeps its number
+abbrev pub OthersKeep : List ℕ → (old new : List ℕ → Option ℕ) → Type 0
+OthersKeep address old new = (other : List ℕ) → other ≢ address → new other ≡ old other
 
 -- what came and what still waits, of the datagrams that a link in memory was made with
 pub record Inbound : Type 0 where

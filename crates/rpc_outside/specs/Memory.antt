@@ -1,5 +1,5 @@
 -- What a source, a sink and a link in memory hold.
-use Rattle.std.specs.Prelude.{ℕ, ◌<◌, ◌≤◌, ◌⊎◌, List, length}
+use Rattle.std.specs.Prelude.{ℕ, ◌<◌, ◌≤◌, ◌⊎◌, List, Option, length}
 use Rattle.rpc_outside.specs.CallLog.{CallLog, IsNamed}
 use Rattle.rpc_outside.specs.Linking.{Carried}
 use Rattle.rpc_outside.specs.declared.link.TheConstants.{MOST_LINK_BYTES}
@@ -15,12 +15,14 @@ pub record Output : Type 0 where
   pub room : ℕ
   pub log : CallLog
 
--- the datagrams that were sent, given out and not given out, the room for all that are sent, the
--- calls, and the sends among them: the named ones of these are busy
+-- the datagrams that were sent, given out and not given out, the address that was bound last, where
+-- it is told, the room for all that are sent, the calls, and the sends among them: the named ones of
+-- these are busy
 pub record Linked : Type 0 where
   pub sent : List Carried
   pub received : List Carried
   pub waiting : List Carried
+  pub bound : Option (List ℕ)
   pub room : ℕ
   pub log : CallLog
   pub sends : CallLog

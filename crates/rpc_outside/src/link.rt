@@ -1,9 +1,10 @@
 //! Where datagrams go and where they come from.
-ghost use Rattle.std.specs.Prelude.{◌≡◌, ℕ, List, [], ◌++◌, Option, IfOk, IfSome, OnErr};
+ghost use Rattle.std.specs.Prelude.{◌≡◌, ℕ, List, [], ◌++◌, Option, IfOk, IfSome, OnOk, OnErr};
 ghost use Rattle.rpc_outside.specs.Faults.{HasCause, HasRisen};
 ghost use Rattle.rpc_outside.specs.declared.link.Got.TheVariants.{Nothing};
 ghost use Rattle.rpc_outside.specs.declared.link.Taken.TheVariants.{Whole, Busy};
-ghost use Rattle.rpc_outside.specs.Linking.{Carried, Comes, IfPacket, NoneComes, with_last};
+ghost use Rattle.rpc_outside.specs.Linking.{Carried, Comes, IfPacket, KeepsAddresses, NoneComes};
+ghost use Rattle.rpc_outside.specs.Linking.{OthersKeep, with_last};
 
 use crate::failed::Failed;
 use rpc_base::Peer;
@@ -40,6 +41,12 @@ pub trait Link {
     // The datagrams that came and were not given out, where the link tells them.
     ghost waiting: { Self → Option (List Carried) };
 
+    // The bytes of the address that was bound last, where the link tells it.
+    ghost bound: { Self → Option (List ℕ) };
+
+    // The number that `peer` told last of an address of these bytes, where the link tells it.
+    ghost numbers: { Self → List ℕ → Option ℕ };
+
     // How many calls failed so far.
     ghost faults: { Self → ℕ };
 
@@ -49,6 +56,9 @@ pub trait Link {
     /// Takes this address for the link's own. `Failed` comes only where the link counts one more
     /// fault, as for an address that it can't read or reach.
     fn bind(&mut self, addr: &str) -> Result<(), Failed>
+        ensures bound { OnOk result (IfSome (bound self.new) (λ bytes. bytes ≡ addr.now)) }
+        ensures unbound { OnErr result (bound self.new ≡ bound self.old) }
+        ensures numbers { numbers self.new ≡ numbers self.old }
         ensures sent { sent self.new ≡ sent self.old }
         ensures lists { NoneComes waiting received self.old self.new }
         ensures busies { busies self.new ≡ busies self.old }
@@ -57,6 +67,11 @@ pub trait Link {
     /// Tells by which number the link knows the peer of this address. `Failed` comes only where the
     /// link counts one more fault, as for an address that it can't read or reach.
     fn peer(&mut self, addr: &str) -> Result<Peer, Failed>
+        ensures number { IfOk result (λ peer.
+            IfSome (numbers self.new addr.now) (λ number. number ≡ peer)) }
+        ensures others { OthersKeep addr.now (numbers self.old) (numbers self.new) }
+        ensures unknown { OnErr result (numbers self.new ≡ numbers self.old) }
+        ensures bound { bound self.new ≡ bound self.old }
         ensures sent { sent self.new ≡ sent self.old }
         ensures lists { NoneComes waiting received self.old self.new }
         ensures busies { busies self.new ≡ busies self.old }
@@ -74,6 +89,7 @@ pub trait Link {
         ensures fault { OnErr result ((sent self.new ≡ sent self.old)
             × (busies self.new ≡ busies self.old)) }
         ensures lists { NoneComes waiting received self.old self.new }
+        ensures addresses { KeepsAddresses bound numbers self.old self.new }
         ensures cause { HasCause (faults self.old) (faults self.new) result };
 
     /// Gives out the datagram that waits longest: its bytes become the front of `out`. Nothing
@@ -89,6 +105,7 @@ pub trait Link {
         ensures fault { OnErr result (NoneComes waiting received self.old self.new) }
         ensures sent { sent self.new ≡ sent self.old }
         ensures busies { busies self.new ≡ busies self.old }
+        ensures addresses { KeepsAddresses bound numbers self.old self.new }
         ensures cause { HasCause (faults self.old) (faults self.new) result };
 
     /// Hands on what the link kept back of the datagrams that it took. What fails in it shows at a
@@ -96,6 +113,7 @@ pub trait Link {
     fn flush(&mut self)
         ensures sent { sent self.new ≡ sent self.old }
         ensures lists { NoneComes waiting received self.old self.new }
+        ensures addresses { KeepsAddresses bound numbers self.old self.new }
         ensures faults { faults self.new ≡ faults self.old }
         ensures busies { busies self.new ≡ busies self.old };
 
@@ -104,6 +122,15 @@ pub trait Link {
     fn wait(&mut self, micros: u32)
         ensures sent { sent self.new ≡ sent self.old }
         ensures lists { NoneComes waiting received self.old self.new }
+        ensures addresses { KeepsAddresses bound numbers self.old self.new }
+        ensures faults { faults self.new ≡ faults self.old }
+        ensures busies { busies self.new ≡ busies self.old };
+
+    /// From now on packets to this peer may go several in one datagram of at most so many bytes.
+    fn pack(&mut self, peer: Peer, bytes: u32)
+        ensures sent { sent self.new ≡ sent self.old }
+        ensures lists { NoneComes waiting received self.old self.new }
+        ensures addresses { KeepsAddresses bound numbers self.old self.new }
         ensures faults { faults self.new ≡ faults self.old }
         ensures busies { busies self.new ≡ busies self.old };
 
@@ -111,6 +138,7 @@ pub trait Link {
     fn forget(&mut self, peer: Peer)
         ensures sent { sent self.new ≡ sent self.old }
         ensures lists { NoneComes waiting received self.old self.new }
+        ensures addresses { KeepsAddresses bound numbers self.old self.new }
         ensures faults { faults self.new ≡ faults self.old }
         ensures busies { busies self.new ≡ busies self.old };
 }

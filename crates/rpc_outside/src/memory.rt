@@ -1,4 +1,5 @@
 //! The outside in memory: ends that fail exactly where they are told to, and ends that never fail.
+mod address;
 mod arrivals;
 mod bytes;
 mod calls;

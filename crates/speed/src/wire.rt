@@ -131,6 +131,10 @@ impl Link for Wire {
 
     ghost waiting = { λ _. None };
 
+    ghost bound = { λ _. None };
+
+    ghost numbers = { λ _ _. None };
+
     ghost faults = { λ w. w.faults };
 
     ghost busies = { λ w. w.busies };
@@ -167,6 +171,9 @@ impl Link for Wire {
 
     /// Ends at once.
     fn wait(&mut self, _micros: u32) {}
+
+    /// Sends each packet by itself.
+    fn pack(&mut self, _peer: Peer, _bytes: u32) {}
 
     /// The number stays that of its address.
     fn forget(&mut self, _peer: Peer) {}

@@ -117,6 +117,10 @@ impl Link for FirmLink {
 
     ghost waiting = { λ l. Some l.waiting };
 
+    ghost bound = { λ _. None };
+
+    ghost numbers = { λ _ _. Some 0 };
+
     ghost faults = { λ _. 0 };
 
     ghost busies = { λ _. 0 };
@@ -152,6 +156,11 @@ impl Link for FirmLink {
 
     /// Ends at once.
     fn wait(&mut self, _micros: u32)
+        ensures { self.new ≡ self.old }
+    {}
+
+    /// Sends each packet by itself.
+    fn pack(&mut self, _peer: Peer, _bytes: u32)
         ensures { self.new ≡ self.old }
     {}
 

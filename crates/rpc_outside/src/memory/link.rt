@@ -1,7 +1,7 @@
 //! A link in memory, which fails and is busy exactly where it is told to.
 ghost use Rattle.std.specs.Prelude.{◌≡◌, ◌≢◌, ◌+◌, ◌≤◌, ◌↔◌, [], ◌∷◌, ◌++◌, length, take};
-ghost use Rattle.std.specs.Prelude.{slice_get, option_map, vec_len, vec_capacity, Some, Ok, IsErr};
-ghost use Rattle.std.specs.Prelude.{IsOk, IsNone, IfOk, IfSome, OnOk, OnErr};
+ghost use Rattle.std.specs.Prelude.{slice_get, option_map, vec_len, vec_capacity, None, Some, Ok, IsErr};
+ghost use Rattle.std.specs.Prelude.{IsOk, IsNone, IsSome, IfOk, IfSome, OnOk, OnErr};
 ghost use Rattle.rpc_outside.specs.CallLog.{IsNamed, IsLogged, fresh, passed, failed};
 ghost use Rattle.rpc_outside.specs.Faults.{HasCause, HasRisen};
 ghost use Rattle.rpc_outside.specs.Linking.{AreCarried, Comes, IfPacket};
@@ -11,6 +11,7 @@ ghost use Rattle.rpc_outside.specs.declared.link.Taken.TheVariants.{Whole, Busy}
 
 use crate::failed::Failed;
 use crate::link::{Got, Link, MOST_LINK_BYTES, Taken};
+use crate::memory::address::{Address, MOST_ADDRESS_BYTES};
 use crate::memory::arrivals::Arrivals;
 use crate::memory::calls::Calls;
 use rpc_base::{NoMemory, Octets, Peer};
@@ -86,11 +87,12 @@ fn keep(sent: &mut Vec<Sent>, room: usize, to: Peer, head: &[u8], body: &[u8]) -
 }
 
 /// A link that keeps what is sent. Every address is that of peer 0. Contracts see the datagrams
-/// that were sent, that were given out and that wait, the room, and the logs of the calls and of
-/// the sends.
+/// that were sent, that were given out and that wait, the address that was bound last, the room, and
+/// the logs of the calls and of the sends.
 #[derive(Debug, Drop)]
 pub struct MemLink {
     arrivals: Arrivals,
+    bound: Address,
     sent: Vec<Sent>,
     room: usize,
     calls: Calls,
@@ -108,6 +110,7 @@ impl Model for MemLink {
       sent = l.sent.items;
       received = l.arrivals.received;
       waiting = l.arrivals.waiting;
+      bound = l.bound;
       room = l.room;
       log = l.calls;
       sends = l.sends;
@@ -134,6 +137,7 @@ impl MemLink {
           sent = [];
           received = [];
           waiting = arrivals.items;
+          bound = None;
           room = room;
           log = fresh fails.items;
           sends = fresh busy.items;
@@ -143,6 +147,7 @@ impl MemLink {
         let sent = Vec::with_capacity(alloc, room as usize)?;
         Ok(MemLink {
             arrivals: Arrivals::new(arrivals),
+            bound: Address::none(),
             sent,
             room: room as usize,
             calls: Calls::new(fails),
@@ -167,18 +172,30 @@ impl Link for MemLink {
 
     ghost waiting = { λ l. Some l.waiting };
 
+    ghost bound = { λ l. l.bound };
+
+    ghost numbers = { λ _ _. Some 0 };
+
     ghost faults = { λ l. l.log.faults };
 
     ghost busies = { λ l. l.sends.faults };
 
-    /// Takes every address. It fails exactly where its call is named.
-    fn bind(&mut self, _addr: &str) -> Result<(), Failed>
+    /// Takes every address, and tells it where it has at most 64 bytes. It fails exactly where its
+    /// call is named.
+    fn bind(&mut self, addr: &str) -> Result<(), Failed>
         ensures named { IsErr result ↔ IsNamed self.old.log }
+        ensures bound { OnOk result (IfSome self.new.bound (λ bytes. bytes ≡ addr.now)) }
+        ensures told { OnOk result (length addr.now ≤ MOST_ADDRESS_BYTES
+            → IsSome self.new.bound) }
+        ensures unbound { OnErr result (self.new.bound ≡ self.old.bound) }
         ensures logged { IsLogged self.old.log self.new.log result }
         ensures cause { HasCause self.old.log.faults self.new.log.faults result }
-        ensures rest { self.new ≡ record self.old { log = self.new.log } }
+        ensures rest { self.new
+            ≡ record self.old { bound = self.new.bound; log = self.new.log } }
     {
-        self.calls.make()
+        self.calls.make()?;
+        self.bound = Address::of(addr);
+        Ok(())
     }
 
     /// Peer 0. It fails exactly where its call is named.
@@ -261,6 +278,11 @@ impl Link for MemLink {
 
     /// Ends at once.
     fn wait(&mut self, _micros: u32)
+        ensures { self.new ≡ self.old }
+    {}
+
+    /// Sends each packet by itself.
+    fn pack(&mut self, _peer: Peer, _bytes: u32)
         ensures { self.new ≡ self.old }
     {}
 
