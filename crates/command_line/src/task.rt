@@ -1,5 +1,7 @@
 //! What the words of a command line ask for.
 use std::alloc::AllocError;
+use std::error::Error;
+use std::fmt;
 use std::marker::Model;
 
 /// The words of `serve`, read.
@@ -84,6 +86,17 @@ pub enum WordsError {
     /// There was no memory to read them.
     NoMemory,
 }
+
+impl fmt::Display for WordsError {
+    fn fmt<W: fmt::Write>(&self, f: &mut fmt::Formatter<W>) -> fmt::Result {
+        f.write_str(match self {
+            WordsError::Usage => "the words ask for nothing that this program does",
+            WordsError::NoMemory => "out of memory",
+        })
+    }
+}
+
+impl Error for WordsError {}
 
 impl From<AllocError> for WordsError {
     ghost use Rattle.std.specs.Prelude.{◌≡◌};

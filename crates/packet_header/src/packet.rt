@@ -4,6 +4,8 @@ ghost use Rattle.packet_header.specs.Kinds.{is_asking, is_cr, is_last, is_respon
 
 use crate::parts::count;
 use rpc_base::{RequestNo, SessionNo};
+use std::error::Error;
+use std::fmt;
 
 /// The status of a control packet that accepts or is done.
 pub const ACCEPTED: u8 = 0;
@@ -125,3 +127,19 @@ pub enum BadPacket {
     /// The datagram has `got` bytes, and its header tells `want`.
     Length { want: usize, got: usize },
 }
+
+impl fmt::Display for BadPacket {
+    fn fmt<W: fmt::Write>(&self, f: &mut fmt::Formatter<W>) -> fmt::Result {
+        match self {
+            BadPacket::Short { len } => write!(f, "{len} bytes are fewer than a header"),
+            BadPacket::Magic { byte } => write!(f, "byte 0 is {byte}, not the magic byte"),
+            BadPacket::Kind { byte } => write!(f, "there is no kind of packet {byte}"),
+            BadPacket::Field { at } => write!(f, "the field at byte {at} is out of its range"),
+            BadPacket::Length { want, got } => {
+                write!(f, "there are {got} bytes, and the header tells {want}")
+            }
+        }
+    }
+}
+
+impl Error for BadPacket {}

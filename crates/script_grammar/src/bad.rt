@@ -96,6 +96,8 @@ impl fmt::Display for ReadError {
     }
 }
 
+impl Error for BadWhy {}
+
 impl Error for BadScript {}
 
 impl Error for ReadError {}
