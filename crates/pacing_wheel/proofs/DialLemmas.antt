@@ -1,5 +1,5 @@
 -- Lists by due times, each the entries of one place round a cursor.
-use Rattle.std.proofs.Common.{◌≡◌, ◌≢◌, ◌<◌, ◌≤◌, ℕ, zero, suc, ◌+◌, ◌-◌, ◌%◌, ◌^◌, Bool, true, false, cond, leb, leb-true, leb-false}
+use Rattle.std.proofs.Common.{◌≡◌, ◌≢◌, ◌<◌, ◌≤◌, ℕ, zero, suc, ◌+◌, ◌%◌, ◌^◌, Bool, true, false, cond, leb, leb-true, leb-false}
 use Rattle.std.proofs.Common.{Some, None, List, [], ◌∷◌, ◌++◌, length, refl, replicate, sym, ap, drop, set, subst, ◌∙◌, arith}
 use Rattle.std.proofs.Math.Nat.{div-add-mod, mod-lt}
 use mathlib.Core.Logic.{dite}
@@ -342,30 +342,28 @@ each-behind ls zero all = all
 each-behind [] (suc k) all = all
 each-behind (l ∷ ls) (suc k) all = each-behind ls k all.1
 
-pub found-step : (test : Paced → Bool) (ls : List (List Paced)) (place : ℕ) → AllByRecursion InOrder ls
-    → 0 < place → place ≤ length ls
-    → find test (together (drop (place - 1) ls))
-    ≡ earlier (find test (list_at ls (place - 1))) (find test (together (drop place ls)))
-found-step test ls zero all some h = absurd (omega (arith, some))
-found-step test ls (suc k) all some h =
-    let cut = drop-at ls k h in
+pub found-step : (test : Paced → Bool) (ls : List (List Paced)) (k : ℕ) → AllByRecursion InOrder ls
+    → k < length ls
+    → find test (together (drop k ls))
+    ≡ earlier (find test (list_at ls k)) (find test (together (drop (k + 1) ls)))
+found-step test ls k all h =
+    let next : suc k ≡ k + 1 = omega arith in
+    let cut = drop-at ls k (omega (arith, h)) in
     let each : AllByRecursion InOrder (list_at ls k ∷ drop (suc k) ls) =
     subst (AllByRecursion InOrder) cut (each-behind ls k all) in
-    subst (λ m. find test (together (drop m ls)) ≡ earlier (find test (list_at ls m)) (find test (together (drop (suc k) ls))))
-    (omega arith)
-    (ap (λ xs. find test (together xs)) cut
-    ∙ find-merged test (list_at ls k) (together (drop (suc k) ls)) each.0 (together-in-order (drop (suc k) ls) each.1))
+    ap (λ xs. find test (together xs)) cut
+    ∙ (find-merged test (list_at ls k) (together (drop (suc k) ls)) each.0 (together-in-order (drop (suc k) ls) each.1)
+    ∙ ap (λ m. earlier (find test (list_at ls k)) (find test (together (drop m ls)))) next)
 
-pub least-step : (passes : Paced → Bool) (ls : List (List Paced)) (place : ℕ) → 0 < place → place ≤ length ls
-    → least_number passes number_of (together (drop (place - 1) ls))
-    ≡ lesser (least_number passes number_of (list_at ls (place - 1)))
-    (least_number passes number_of (together (drop place ls)))
-least-step passes ls zero some h = absurd (omega (arith, some))
-least-step passes ls (suc k) some h =
-    subst (λ m. least_number passes number_of (together (drop m ls)) ≡ lesser (least_number passes number_of (list_at ls m))
-    (least_number passes number_of (together (drop (suc k) ls)))) (omega arith)
-    (ap (λ xs. least_number passes number_of (together xs)) (drop-at ls k h)
-    ∙ least-both passes number_of (list_at ls k) (together (drop (suc k) ls)))
+pub least-step : (passes : Paced → Bool) (ls : List (List Paced)) (k : ℕ) → k < length ls
+    → least_number passes number_of (together (drop k ls))
+    ≡ lesser (least_number passes number_of (list_at ls k))
+    (least_number passes number_of (together (drop (k + 1) ls)))
+least-step passes ls k h =
+    let next : suc k ≡ k + 1 = omega arith in
+    ap (λ xs. least_number passes number_of (together xs)) (drop-at ls k (omega (arith, h)))
+    ∙ (least-both passes number_of (list_at ls k) (together (drop (suc k) ls))
+    ∙ ap (λ m. lesser (least_number passes number_of (list_at ls k)) (least_number passes number_of (together (drop m ls)))) next)
 
 -- 8. no list has anything
 

@@ -1,3 +1,4 @@
+mod WalkLemmas
 mod WheelLemmas
 pub mod DueLemmas
 mod MergeLemmas

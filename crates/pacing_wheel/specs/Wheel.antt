@@ -1,5 +1,5 @@
 -- The entries of a pacer, and which of them are due.
-use Rattle.std.specs.Prelude.{ℕ, suc, ◌≡◌, ◌≤◌, ◌<◌, ◌+◌, ◌%◌, ◌^◌, Option, Some, None, true, false, Bool, ◌&&◌, ◌==◌, nat_le, List, [], ◌∷◌, if◌then◌else◌}
+use Rattle.std.specs.Prelude.{ℕ, suc, ◌≡◌, ◌≤◌, ◌<◌, ◌+◌, ◌%◌, ◌^◌, Option, Some, None, true, false, Bool, ◌&&◌, ◌==◌, nat_le, List, [], ◌∷◌, drop, length, if◌then◌else◌}
 use Rattle.std.specs.List.{AllByRecursion}
 use Rattle.rpc_base.specs.declared.owner.Owner.{Owner}
 use Rattle.rpc_base.specs.Owners.{same_owner}
@@ -86,6 +86,10 @@ Covers cursor due = (cursor ≤ due) × (due < cursor + 4096)
 abbrev pub together : List (List Paced) → List Paced
 together [] = []
 together (l ∷ ls) = merged l (together ls)
+
+-- how many entries the lists from this place on have
+abbrev pub behind : ℕ → List (List Paced) → ℕ
+behind place lists = length (together (drop place lists))
 
 -- an entry stands in the place of its due time, which is within one turn of the cursor and is a
 -- number of 64 bits

@@ -7,7 +7,9 @@ ghost use Rattle.rpc_base.specs.Tables.{without_first};
 ghost use Rattle.rpc_base.specs.Least.{least, least_number};
 ghost use Rattle.pacing_wheel.specs.Chains.{list_at};
 ghost use Rattle.pacing_wheel.specs.Wheel.{added, dial, due_of, entry_of, is_due, is_entry_of};
-ghost use Rattle.pacing_wheel.specs.Wheel.{is_of, number_of, together, AllStand, Covers, InOrder};
+ghost use Rattle.pacing_wheel.specs.Wheel.{behind, is_of, number_of, together, AllStand, Covers};
+ghost use Rattle.pacing_wheel.specs.Wheel.{earlier, InOrder};
+ghost use Rattle.rpc_base.proofs.LeastLemmas.{lesser};
 
 use crate::chains::Chains;
 use crate::choosing::{earlier, lesser};
@@ -134,7 +136,7 @@ impl Dial {
         if self.waiting == 0 {
             return None;
         }
-        least_in(&self.chains, owner)
+        least_in(&self.chains, self.waiting, place_of(self.cursor), owner)
     }
 
     /// Whether that owner's packet of this number waits.
@@ -151,7 +153,13 @@ impl Dial {
         if self.waiting == 0 {
             return None;
         }
-        found_in(&self.chains, owner, number)
+        found_in(
+            &self.chains,
+            self.waiting,
+            place_of(self.cursor),
+            owner,
+            number,
+        )
     }
 
     /// Drops that entry. The others keep their order.
@@ -212,29 +220,86 @@ fn next_time(chains: &Chains, waiting: u32, cursor: u64, limit: u64) -> u64
     time
 }
 
-// The least number among that owner's entries of all lists.
-fn least_in(chains: &Chains, owner: &Owner) -> Option<u16>
-    ensures { result ≡ least_number (is_of owner.now) number_of (together chains.now.lists) }
-{
-    let mut least = None;
-    let mut place = chains.len();
-    while place > 0 {
-        place -= 1;
-        least = lesser(chains.least(place, owner), least);
-    }
-    least
+// What a walk over some of the places found, and how many entries it didn't see.
+#[derive(Drop)]
+struct Seen<T> {
+    best: Option<T>,
+    left: u32,
 }
 
-// The entry that is due first among that owner's of this number in all lists.
-fn found_in(chains: &Chains, owner: &Owner, number: u16) -> Option<Paced>
+// The least number among that owner's entries of all lists. Places are looked at in the order of
+// their times, up to the last entry.
+fn least_in(chains: &Chains, waiting: u32, from: usize, owner: &Owner) -> Option<u16>
+    requires from { from ≤ length chains.now.lists }
+    requires waiting { length (together chains.now.lists) ≡ waiting }
+    ensures { result ≡ least_number (is_of owner.now) number_of (together chains.now.lists) }
+{
+    let later = least_between(chains, from, chains.len(), waiting, owner);
+    let sooner = least_between(chains, 0, from, later.left, owner);
+    lesser(sooner.best, later.best)
+}
+
+// The same of the lists from `from` on and before `to`, where no more than `left` entries are.
+fn least_between(chains: &Chains, from: usize, to: usize, left: u32, owner: &Owner) -> Seen<u16>
+    requires order { from ≤ to }
+    requires inside { to ≤ length chains.now.lists }
+    requires enough { behind from chains.now.lists ≤ left + behind to chains.now.lists }
+    ensures best { least_number (is_of owner.now) number_of (together (drop from chains.now.lists))
+        ≡ lesser result.best (least_number (is_of owner.now) number_of
+        (together (drop to chains.now.lists))) }
+    ensures left { result.left + behind from chains.now.lists
+        ≡ left + behind to chains.now.lists }
+{
+    let mut best = None;
+    let mut unseen = left;
+    let mut place = from;
+    while place < to && unseen > 0 {
+        best = lesser(best, chains.least(place, owner));
+        unseen -= chains.len_of(place);
+        place += 1;
+    }
+    Seen { best, left: unseen }
+}
+
+// The entry that is due first among that owner's of this number in all lists. Places are looked at
+// in the order of their times, up to the last entry.
+fn found_in(chains: &Chains, waiting: u32, from: usize, owner: &Owner, number: u16) -> Option<Paced>
     requires order { AllByRecursion InOrder chains.now.lists }
+    requires from { from ≤ length chains.now.lists }
+    requires waiting { length (together chains.now.lists) ≡ waiting }
     ensures { result ≡ find (is_entry_of owner.now number) (together chains.now.lists) }
 {
-    let mut found = None;
-    let mut place = chains.len();
-    while place > 0 {
-        place -= 1;
-        found = earlier(chains.first_with(place, owner, number), found);
+    let later = found_between(chains, from, chains.len(), waiting, owner, number);
+    let sooner = found_between(chains, 0, from, later.left, owner, number);
+    earlier(sooner.best, later.best)
+}
+
+// The same of the lists from `from` on and before `to`, where no more than `left` entries are.
+fn found_between(
+    chains: &Chains,
+    from: usize,
+    to: usize,
+    left: u32,
+    owner: &Owner,
+    number: u16,
+) -> Seen<Paced>
+    requires sorted { AllByRecursion InOrder chains.now.lists }
+    requires order { from ≤ to }
+    requires inside { to ≤ length chains.now.lists }
+    requires enough { behind from chains.now.lists ≤ left + behind to chains.now.lists }
+    ensures best { find (is_entry_of owner.now number) (together (drop from chains.now.lists))
+        ≡ earlier result.best (find (is_entry_of owner.now number)
+        (together (drop to chains.now.lists))) }
+    ensures left { result.left + behind from chains.now.lists
+        ≡ left + behind to chains.now.lists }
+{
+    let mut best = None;
+    let mut unseen = left;
+    let mut place = from;
+    while place < to && unseen > 0 {
+        best = earlier(best, chains.first_with(place, owner, number));
+        unseen -= chains.len_of(place);
+        place += 1;
     }
-    found
+    Seen { best, left: unseen }
 }

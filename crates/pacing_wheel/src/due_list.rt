@@ -60,21 +60,6 @@ impl DueList {
         self.waiting.len() as u32
     }
 
-    /// How many entries may wait.
-    pub fn size(&self) -> u32
-        ensures size { result ≡ self.now.size }
-        ensures within { length self.now.items ≤ self.now.size }
-    {
-        self.size
-    }
-
-    /// Tells whether no entry waits.
-    pub fn is_empty(&self) -> bool
-        ensures { IsTrue result ↔ (self.now.items ≡ []) }
-    {
-        self.waiting.is_empty()
-    }
-
     /// Puts an entry behind those that are due no later, in a pacer that isn't full. `due` is in
     /// microseconds.
     pub fn add(&mut self, due: u64, entry: Entry)

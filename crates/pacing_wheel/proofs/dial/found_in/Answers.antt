@@ -1,13 +1,8 @@
-use Rattle.std.proofs.Common.{arith, sym, ◌∙◌}
-use Rattle.pacing_wheel.specs.Wheel.{is_entry_of}
-use Rattle.pacing_wheel.proofs.DialLemmas.{found-step}
+use Rattle.std.proofs.Common.{arith}
+use Rattle.pacing_wheel.proofs.WalkLemmas.{behind-fewer}
 use Rattle.pacing_wheel.proofs.dial.found_in.Goals as goal
 
-pub loop-place-preserved : goal.loop-place-preserved
-loop-place-preserved c =
-    let inv = c.loop-place.invariant in
-    let t = is_entry_of c.args.owner.now c.args.number in (
-      omega (arith, inv.0),
-      c.earlier-found.ensures ∙ (rw (c.first_with.ensures, inv.1) (sym (found-step t c.args.chains.now.lists c.loop-place.place
-          c.requires.order c.loop-place-test.true inv.0))),
-    )
+pub found_between-later-requires-clause-enough : goal.found_between-later-requires-clause-enough
+found_between-later-requires-clause-enough c =
+    let all = behind-fewer c.args.chains.now.lists 0 c.args.from (omega arith) in
+    omega (arith, all, c.requires.waiting)

@@ -1,12 +1,8 @@
-use Rattle.std.proofs.Common.{arith, sym, ◌∙◌}
-use Rattle.pacing_wheel.specs.Wheel.{is_of}
-use Rattle.pacing_wheel.proofs.DialLemmas.{least-step}
+use Rattle.std.proofs.Common.{arith}
+use Rattle.pacing_wheel.proofs.WalkLemmas.{behind-fewer}
 use Rattle.pacing_wheel.proofs.dial.least_in.Goals as goal
 
-pub loop-place-preserved : goal.loop-place-preserved
-loop-place-preserved c =
-    let inv = c.loop-place.invariant in (
-      omega (arith, inv.0),
-      c.lesser-least.ensures ∙ (rw (c.least.ensures, inv.1) (sym (least-step (is_of c.args.owner.now) c.args.chains.now.lists
-          c.loop-place.place c.loop-place-test.true inv.0))),
-    )
+pub least_between-later-requires-clause-enough : goal.least_between-later-requires-clause-enough
+least_between-later-requires-clause-enough c =
+    let all = behind-fewer c.args.chains.now.lists 0 c.args.from (omega arith) in
+    omega (arith, all, c.requires.waiting)
