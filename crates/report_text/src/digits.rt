@@ -2,15 +2,24 @@
 ghost use Rattle.std.specs.Prelude.{◌≡◌, ◌<◌, ◌*◌, length, flat_map};
 ghost use Rattle.report_text.specs.Names.{hex_digit, byte_text};
 
-/// The digits in their order, in lower case.
-const DIGITS: [u8; 16] = *b"0123456789abcdef";
+/// The first number whose digit is a letter.
+const FIRST_LETTER: u8 = 10;
 
-/// The digit of a number below 16, in lower case.
+/// How far the letters stand behind the digits of the numbers below ten.
+const LETTERS_BEHIND: u8 = b'a' - b'0' - FIRST_LETTER;
+
+// The digit of a number below 16, in lower case. It is reckoned, and not looked up in a table, so
+// that the compiler writes many at a time.
 fn digit(number: u8) -> u8
     requires { number < 16 }
     ensures { result ≡ hex_digit number }
 {
-    DIGITS[number as usize]
+    let behind = if number < FIRST_LETTER {
+        0
+    } else {
+        LETTERS_BEHIND
+    };
+    b'0' + number + behind
 }
 
 /// Writes two digits for each byte, the high four bits first.
