@@ -1,7 +1,8 @@
-pub mod Tickets
 pub mod Counts
-pub mod Word
-pub mod Rule
 pub mod Moves
-pub mod Seats
 pub mod Rows
+pub mod Rule
+pub mod Seats
+pub mod Stepping
+pub mod Tickets
+pub mod Word

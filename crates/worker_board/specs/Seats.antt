@@ -39,7 +39,7 @@ hand_board s = s.seat.table_id
 module _ {D : Type 0} where
   -- the same of a board
   abbrev pub board_id : Board D → TableId
-  board_id b = b.table.shared.table_id
+  board_id b = b.steps.table.shared.table_id
 
   -- how many places a board has
   abbrev pub places_of : Board D → ℕ

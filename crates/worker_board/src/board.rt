@@ -6,27 +6,23 @@ mod dispatcher;
 mod hand;
 mod seats;
 
-use crate::Parcel;
-use crate::rule::Law;
-use crate::view::View;
-use atomic_table::{Seat, Table};
+use crate::steps::{BoardSeat, Steps};
 use rpc_outside::Duty;
-use std::alloc::Global;
 
 /// A board for the jobs of a duty: a word and a slot for each place.
 #[derive(Drop)]
 pub struct Board<D: Duty> {
-    table: Table<Option<Parcel>, View, usize, Law<D>, Global>,
+    steps: Steps<D>,
     places: u32,
-    ghost words: { table.shared.table_id.words ≡ places },
-    ghost slots: { table.shared.table_id.slots ≡ places },
+    ghost words: { steps.table.shared.table_id.words ≡ places },
+    ghost slots: { steps.table.shared.table_id.slots ≡ places },
     ghost some: { 0 < places },
 }
 
 /// The seat of a board's one dispatcher.
 #[derive(Drop)]
 pub struct DispatchSeat {
-    seat: Seat<Option<Parcel>, View>,
+    seat: BoardSeat,
     ghost empty: { seat.me.1 ≡ [] },
     ghost idle: { seat.me.0.turn ≡ 0 },
     ghost dispatches: { seat.me.0.role ≡ Dispatcher },
@@ -35,7 +31,7 @@ pub struct DispatchSeat {
 /// The seat of a hand, which has a number of its own.
 #[derive(Drop)]
 pub struct HandSeat {
-    seat: Seat<Option<Parcel>, View>,
+    seat: BoardSeat,
     number: u8,
     ghost empty: { seat.me.1 ≡ [] },
     ghost idle: { seat.me.0.turn ≡ 0 },

@@ -45,7 +45,8 @@
 //! seats fall. Of each place it ties together the word, the slot, the seats' views and the
 //! dispatcher's list of offers: each generation is claimed by at most one hand, is run at most
 //! once, and is collected with the answer to what was offered. These are all the kinds of step
-//! (`specs/Moves.antt`). Each is one step on one word.
+//! (`specs/Moves.antt`). Each is one step on one word, and one function of `steps`, which alone has
+//! the table.
 //!
 //! | call | step | word | tells |
 //! |---|---|---|---|
@@ -70,8 +71,8 @@
 #![tactic(auto)]
 
 mod board;
-mod moves;
 mod rule;
+mod steps;
 mod ticket;
 mod view;
 mod word;

@@ -9,7 +9,6 @@ ghost use Rattle.worker_board.specs.Seats.{FoundOther, FoundUnfinished, IsFree, 
 ghost use Rattle.worker_board.specs.Seats.{generation, next_generation, IsOfferOf, AllRetired};
 
 use super::{Board, DispatchSeat};
-use crate::moves::{Looks, Numbers, Opens, Readies, Releases, TakesBack};
 use crate::word::{MOST_OFFERS, OVER, PHASES, READY};
 use crate::{Parcel, Ticket};
 use rpc_outside::Duty;
@@ -29,11 +28,11 @@ impl<D: Duty> Board<D> {
             (notes_of seat.old) (notes_of seat.new) }
     {
         let index = place as usize;
-        let shared = &self.table.shared;
-        let found = shared.load::<Opens>(&mut seat.seat, index);
+        let found = self.steps.open(&mut seat.seat, index);
         let generation = if found == 0 { 0 } else { found / PHASES + 1 };
-        let _empty = shared.exchange(&mut seat.seat, index, Some(parcel));
-        shared.store::<Readies>(&mut seat.seat, index, PHASES * generation + READY);
+        let _empty = self.steps.exchange(&mut seat.seat, index, Some(parcel));
+        self.steps
+            .ready(&mut seat.seat, index, PHASES * generation + READY);
         Ticket::of(place, generation)
     }
 
@@ -61,13 +60,12 @@ impl<D: Duty> Board<D> {
             → IsSome result }
     {
         let index = place as usize;
-        let shared = &self.table.shared;
-        let found = shared.load::<Looks<D>>(&mut seat.seat, index);
+        let found = self.steps.look(&mut seat.seat, index);
         if found % PHASES != OVER {
             return None;
         }
-        let parcel = shared.exchange(&mut seat.seat, index, None);
-        shared.load::<Releases>(&mut seat.seat, index);
+        let parcel = self.steps.exchange(&mut seat.seat, index, None);
+        self.steps.release(&mut seat.seat, index);
         parcel
     }
 
@@ -89,15 +87,14 @@ impl<D: Duty> Board<D> {
             (notes_of seat.old) (notes_of seat.new)) }
     {
         let index = place as usize;
-        let shared = &self.table.shared;
-        let first = PHASES * (shared.load::<Numbers>(&mut seat.seat, index) / PHASES);
+        let first = PHASES * (self.steps.number(&mut seat.seat, index) / PHASES);
         let (ready, over) = (first + READY, first + OVER);
-        let found = shared.compare_exchange::<TakesBack>(&mut seat.seat, index, ready, over);
+        let found = self.steps.take_back(&mut seat.seat, index, ready, over);
         if found != ready {
             return None;
         }
-        let job = shared.exchange(&mut seat.seat, index, None);
-        shared.load::<Releases>(&mut seat.seat, index);
+        let job = self.steps.exchange(&mut seat.seat, index, None);
+        self.steps.release(&mut seat.seat, index);
         job
     }
 }

@@ -7,7 +7,6 @@ ghost use Rattle.worker_board.specs.Seats.{IsHandOf, places_of, hand_view, hand_
 ghost use Rattle.worker_board.specs.Seats.{FoundOther, number_at, HoldsClaim};
 
 use super::{Board, HandSeat};
-use crate::moves::{Finishes, Releases, Reopens, Tries};
 use crate::word::{CLAIMED, OVER, PHASES, READY};
 use crate::{Parcel, Ticket};
 use rpc_outside::Duty;
@@ -31,15 +30,14 @@ impl<D: Duty> Board<D> {
             (hand_notes seat.old) (hand_notes seat.new)) }
     {
         let index = ticket.place() as usize;
-        let shared = &self.table.shared;
         let first = PHASES * ticket.generation();
         let (ready, claimed) = (first + READY, first + CLAIMED);
-        let found = shared.compare_exchange::<Tries<D>>(&mut seat.seat, index, ready, claimed);
+        let found = self.steps.claim(&mut seat.seat, index, ready, claimed);
         if found != ready {
             return None;
         }
-        let parcel = shared.exchange(&mut seat.seat, index, None);
-        shared.load::<Releases>(&mut seat.seat, index);
+        let parcel = self.steps.exchange(&mut seat.seat, index, None);
+        self.steps.release(&mut seat.seat, index);
         parcel
     }
 
@@ -57,10 +55,9 @@ impl<D: Duty> Board<D> {
             (hand_notes seat.new) }
     {
         let index = ticket.place() as usize;
-        let shared = &self.table.shared;
-        shared.load::<Reopens>(&mut seat.seat, index);
-        let _empty = shared.exchange(&mut seat.seat, index, Some(parcel));
+        self.steps.reopen(&mut seat.seat, index);
+        let _empty = self.steps.exchange(&mut seat.seat, index, Some(parcel));
         let over = PHASES * ticket.generation() + OVER;
-        shared.store::<Finishes>(&mut seat.seat, index, over);
+        self.steps.finish(&mut seat.seat, index, over);
     }
 }

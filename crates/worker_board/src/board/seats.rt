@@ -8,9 +8,8 @@ ghost use Rattle.worker_board.specs.Seats.{notes_of, hand_notes, Grows, number_a
 ghost use Rattle.worker_board.specs.Seats.{HoldsNone, with_hand};
 
 use super::{Board, DispatchSeat, HandSeat};
-use crate::moves::{Names, SendsOut, Sums, TakesIn};
+use crate::steps::Steps;
 use crate::word::MOST_PLACES;
-use atomic_table::Table;
 use rpc_base::NoMemory;
 use rpc_outside::Duty;
 use std::alloc::Global;
@@ -26,8 +25,8 @@ impl<D: Duty> Board<D> {
     {
         let count = places as usize;
         let words = Vec::from_elem(alloc, 0u64, count)?;
-        let (table, seat) = Table::vacant(alloc, words.as_slice(), count, &count)?;
-        Ok((Board { table, places }, DispatchSeat { seat }))
+        let (steps, seat) = Steps::vacant(alloc, words.as_slice(), count)?;
+        Ok((Board { steps, places }, DispatchSeat { seat }))
     }
 
     /// How many places the board has.
@@ -47,10 +46,8 @@ impl<D: Duty> Board<D> {
         ensures number { number_at result ≡ number }
         ensures notes { Grows (notes_of seat.old) (notes_of seat.new) }
     {
-        let shared = &self.table.shared;
-        let same = number as u64;
-        shared.compare_exchange::<Names>(&mut seat.seat, 0, same, same);
-        let seat = shared.split_seat::<SendsOut>(&mut seat.seat);
+        self.steps.name(&mut seat.seat, number as u64);
+        let seat = self.steps.send_out(&mut seat.seat);
         HandSeat { seat, number }
     }
 
@@ -68,8 +65,7 @@ impl<D: Duty> Board<D> {
             seat: other,
             number: _,
         } = hand;
-        let shared = &self.table.shared;
-        shared.join_seat::<TakesIn>(&mut seat.seat, other);
-        shared.load::<Sums>(&mut seat.seat, 0);
+        self.steps.take_in(&mut seat.seat, other);
+        self.steps.sum(&mut seat.seat, 0);
     }
 }

@@ -5,16 +5,16 @@ use Rattle.worker_board.proofs.SeatsLemmas.{sends_out}
 use Rattle.worker_board.proofs.board.Board.hand.Goals as goal
 use Rattle.worker_board.proofs.NotesLemmas.{grows_one}
 
-pub compare_exchange-requires : goal.compare_exchange-requires
-compare_exchange-requires g c = (
+pub name-requires : goal.name-requires
+name-requires g c = (
   search rules,
   search rules,
   names g.D.Duty.answer _ _ _ c.args.number (search rules)
       c.args.seat.now.dispatches c.args.seat.now.idle,
 )
 
-pub split_seat-seat-requires : goal.split_seat-seat-requires
-split_seat-seat-requires g c = let same = c.compare_exchange.ensures.2 in (
+pub send_out-seat-requires : goal.send_out-seat-requires
+send_out-seat-requires g c = let same = c.name.ensures.2 in (
   search rules,
   search rules,
   sends_out g.D.Duty.answer _ _ (ap (λ m. m.0.role) same ∙ c.args.seat.now.dispatches)
@@ -24,5 +24,5 @@ split_seat-seat-requires g c = let same = c.compare_exchange.ensures.2 in (
 
 pub returns-clause-notes : goal.returns-clause-notes
 returns-clause-notes g c =
-    grows_one _ _ _ _ (ap (λ m. m.0.notes) c.split_seat-seat.ensures.2
-    ∙ ap (λ m. m.0.notes) c.compare_exchange.ensures.2)
+    grows_one _ _ _ _ (ap (λ m. m.0.notes) c.send_out-seat.ensures.2
+    ∙ ap (λ m. m.0.notes) c.name.ensures.2)

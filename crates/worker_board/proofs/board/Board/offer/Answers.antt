@@ -7,16 +7,16 @@ use Rattle.worker_board.proofs.board.Board.offer.Goals as goal
 use Rattle.worker_board.proofs.board.Board.offer.Goals.{then-found-eq0, else-found-eq0}
 use Rattle.worker_board.proofs.NotesLemmas.{grows_one, saw_one, then_saw}
 
-pub load-found-requires : goal.load-found-requires
-load-found-requires g c = (
+pub open-found-requires : goal.open-found-requires
+open-found-requires g c = (
   search rules,
   search rules,
   opens g.D.Duty.answer _ _ _ _ (search rules)
       c.args.seat.now.dispatches c.args.seat.now.idle c.requires.free,
 )
 
-pub store-requires : goal.store-requires
-store-requires g c = let now = c.exchange-empty.ensures.3 in let did = c.load-found.ensures.2.0 in let next = next_generation (offers_at c.args.seat.now.seat.me.0.ledger c.args.place) _ c.load-found.ensures.2.1 in
+pub ready-requires : goal.ready-requires
+ready-requires g c = let now = c.exchange-empty.ensures.3 in let did = c.open-found.ensures.2.0 in let next = next_generation (offers_at c.args.seat.now.seat.me.0.ledger c.args.place) _ c.open-found.ensures.2.1 in
     let same = now ∙ ap (λ m. (m.0, (c.args.place, Some c.args.parcel) ∷ rest m.1)) did in
     let generation : c.if-found-eq0.generation ≡ length (offers_at c.args.seat.now.seat.me.0.ledger c.args.place) =
     elim c.if-found-eq0.branch [
@@ -38,9 +38,9 @@ store-requires g c = let now = c.exchange-empty.ensures.3 in let did = c.load-fo
     )
 
 pub invariant_of-seat : goal.invariant_of-seat
-invariant_of-seat g c = let now = c.exchange-empty.ensures.3 in let did = c.load-found.ensures.2.0 in let has = ap (λ m. m.1) now in
+invariant_of-seat g c = let now = c.exchange-empty.ensures.3 in let did = c.open-found.ensures.2.0 in let has = ap (λ m. m.1) now in
     let same = now ∙ ap (λ m. (m.0, (c.args.place, Some c.args.parcel) ∷ rest m.1)) did in
-    let r = c.store.ensures.2 c.args.parcel (has
+    let r = c.ready.ensures.2 c.args.parcel (has
     ∙ ap (λ l. (c.args.place, Some c.args.parcel) ∷ rest l) (sym has)) in record {
       empty = ap (λ m. m.1) r ∙ ap (λ m. rest m.1) same ∙ c.args.seat.now.empty;
       idle = ap (λ m. m.0.turn) r;
@@ -48,9 +48,9 @@ invariant_of-seat g c = let now = c.exchange-empty.ensures.3 in let did = c.load
     }
 
 pub returns-clause-left : goal.returns-clause-left
-returns-clause-left g c = let now = c.exchange-empty.ensures.3 in let did = c.load-found.ensures.2.0 in let has = ap (λ m. m.1) now in
-    let same = now ∙ ap (λ m. (m.0, (c.args.place, Some c.args.parcel) ∷ rest m.1)) did in let next = next_generation (offers_at c.args.seat.now.seat.me.0.ledger c.args.place) _ c.load-found.ensures.2.1 in
-    let r = c.store.ensures.2 c.args.parcel (has ∙ ap (λ l. (c.args.place, Some c.args.parcel) ∷ rest l) (sym has)) in
+returns-clause-left g c = let now = c.exchange-empty.ensures.3 in let did = c.open-found.ensures.2.0 in let has = ap (λ m. m.1) now in
+    let same = now ∙ ap (λ m. (m.0, (c.args.place, Some c.args.parcel) ∷ rest m.1)) did in let next = next_generation (offers_at c.args.seat.now.seat.me.0.ledger c.args.place) _ c.open-found.ensures.2.1 in
+    let r = c.ready.ensures.2 c.args.parcel (has ∙ ap (λ l. (c.args.place, Some c.args.parcel) ∷ rest l) (sym has)) in
     let generation : c.if-found-eq0.generation ≡ length (offers_at c.args.seat.now.seat.me.0.ledger c.args.place) =
     elim c.if-found-eq0.branch [
       | then-found-eq0 w ↦ omega

@@ -5,8 +5,8 @@ use Rattle.worker_board.proofs.board.Board.retire.Goals as goal
 use Rattle.worker_board.proofs.NotesLemmas.{grows_one}
 use Rattle.worker_board.specs.Moves.{note}
 
-pub join_seat-requires : goal.join_seat-requires
-join_seat-requires g c = (
+pub take_in-requires : goal.take_in-requires
+take_in-requires g c = (
   search rules,
   search rules,
   c.args.hand.empty,
@@ -15,8 +15,8 @@ join_seat-requires g c = (
       c.args.hand.works c.args.hand.idle c.requires.free,
 )
 
-pub load-requires : goal.load-requires
-load-requires g c = let same = c.join_seat.ensures.2 in (
+pub sum-requires : goal.sum-requires
+sum-requires g c = let same = c.take_in.ensures.2 in (
   search rules,
   search rules,
   sums g.D.Duty.answer _ _ _ (search rules)
@@ -26,5 +26,5 @@ load-requires g c = let same = c.join_seat.ensures.2 in (
 
 pub returns-clause-notes : goal.returns-clause-notes
 returns-clause-notes g c =
-    grows_one _ _ _ _ (ap (λ m. m.0.notes) c.load.ensures.2.0
-    ∙ ap (λ m. note 0 c.load.result ∷ m.0.notes) c.join_seat.ensures.2)
+    grows_one _ _ _ _ (ap (λ m. m.0.notes) c.sum.ensures.2.0
+    ∙ ap (λ m. note 0 c.sum.result ∷ m.0.notes) c.take_in.ensures.2)

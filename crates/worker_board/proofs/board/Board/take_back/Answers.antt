@@ -6,16 +6,16 @@ use Rattle.worker_board.proofs.board.Board.take_back.Goals as goal
 use Rattle.worker_board.proofs.WordLemmas.{taken_first}
 use Rattle.worker_board.proofs.NotesLemmas.{if_some, grows_one, saw_one, saw_then, then_saw}
 
-pub load-requires : goal.load-requires
-load-requires g c = (
+pub number-requires : goal.number-requires
+number-requires g c = (
   search rules,
   search rules,
   numbers g.D.Duty.answer _ _ _ _ (search rules) c.args.seat.now.dispatches c.args.seat.now.idle
       c.requires.offered,
 )
 
-pub compare_exchange-found-requires : goal.compare_exchange-found-requires
-compare_exchange-found-requires g c = let same = c.load.ensures.2.0 in (
+pub take_back-found-requires : goal.take_back-found-requires
+take_back-found-requires g c = let same = c.number.ensures.2.0 in (
   search rules,
   search rules,
   takes_back g.D.Duty.answer _ _ _ _ _ _ (search rules)
@@ -24,17 +24,17 @@ compare_exchange-found-requires g c = let same = c.load.ensures.2.0 in (
       (subst (λ m. IsOpen (offers_at m.0.ledger c.args.place)) (sym same) c.requires.offered)
       (omega (
         arith,
-        c.load.ensures.2.1,
+        c.number.ensures.2.1,
         ap (λ m. newest (offers_at m.0.ledger c.args.place))
             same,
       )) (omega arith),
 )
 
 pub exchange-job-requires : goal.exchange-job-requires
-exchange-job-requires g c = let t = c.compare_exchange-found.ensures.2.0 c.if-found-ready.false in (search rules, (Some t.0, taken_first _ _ _ _ (ap (λ m. m.1) t.2)))
+exchange-job-requires g c = let t = c.take_back-found.ensures.2.0 c.if-found-ready.false in (search rules, (Some t.0, taken_first _ _ _ _ (ap (λ m. m.1) t.2)))
 
-pub load-requires-2 : goal.load-requires-2
-load-requires-2 g c = let t = c.compare_exchange-found.ensures.2.0 c.if-found-ready.false in let now = c.exchange-job.ensures.3 in let same = c.load.ensures.2.0 in (
+pub release-requires : goal.release-requires
+release-requires g c = let t = c.take_back-found.ensures.2.0 c.if-found-ready.false in let now = c.exchange-job.ensures.3 in let same = c.number.ensures.2.0 in (
   search rules,
   search rules,
   releases g.D.Duty.answer _ _ _ _ _ (ap (λ m. m.1) now)
@@ -43,15 +43,15 @@ load-requires-2 g c = let t = c.compare_exchange-found.ensures.2.0 c.if-found-re
 )
 
 pub returns-then-found-ready-clause-found : goal.returns-then-found-ready-clause-found
-returns-then-found-ready-clause-found g c = let t = c.compare_exchange-found.ensures.2 in let not = c.if-found-ready.true in
-    then_saw c.args.place _ _ _ _ (grows_one _ _ _ _ (ap (λ m. m.0.notes) c.load.ensures.2.0))
-    (saw_one c.args.place _ _ _ _ (ap (λ m. m.0.notes) (t.1 not)) (λ e. not (e ∙ omega (arith, c.load.ensures.2.1))))
+returns-then-found-ready-clause-found g c = let t = c.take_back-found.ensures.2 in let not = c.if-found-ready.true in
+    then_saw c.args.place _ _ _ _ (grows_one _ _ _ _ (ap (λ m. m.0.notes) c.number.ensures.2.0))
+    (saw_one c.args.place _ _ _ _ (ap (λ m. m.0.notes) (t.1 not)) (λ e. not (e ∙ omega (arith, c.number.ensures.2.1))))
 
 pub returns-clause-left : goal.returns-clause-left
-returns-clause-left g c = let t = c.compare_exchange-found.ensures.2 in let no = c.if-found-ready.false in
+returns-clause-left g c = let t = c.take_back-found.ensures.2 in let no = c.if-found-ready.false in
     if_some c.exchange-job.result (then_saw c.args.place _ _ _ _
-    (grows_one _ _ _ _ (ap (λ m. m.0.notes) c.load.ensures.2.0))
+    (grows_one _ _ _ _ (ap (λ m. m.0.notes) c.number.ensures.2.0))
     (saw_then c.args.place _ _ _ _
     (saw_one c.args.place _ _ _ _ (ap (λ m. m.0.notes) c.exchange-job.ensures.3
-    ∙ ap (λ m. m.0.notes) (t.0 no).2) (omega (arith, c.load.ensures.2.1)))
-    (grows_one _ _ _ _ (ap (λ m. m.0.notes) c.load-2.ensures.2))))
+    ∙ ap (λ m. m.0.notes) (t.0 no).2) (omega (arith, c.number.ensures.2.1)))
+    (grows_one _ _ _ _ (ap (λ m. m.0.notes) c.release.ensures.2))))
