@@ -18,7 +18,6 @@ use worker_board::Ticket;
 
 /// Workers over a board whose jobs are worked by hands. Where no hand was started the crew works by
 /// itself. Its calls may wait for a hand's step in its queue, by the handle that it was given.
-#[derive(Drop)]
 pub struct Crew<D: Duty, R: Wait> {
     rt: R,
     dispatcher: Dispatcher<D>,
@@ -28,6 +27,20 @@ pub struct Crew<D: Duty, R: Wait> {
     later: HeapCircularBuffer<Ticket>,
     // Room for the jobs that are left when the crew is stopped.
     left: VecDeque<Finished>,
+}
+
+// Written by hand, so that whoever lets a crew go makes a call, and proves nothing of its parts.
+impl<D: Duty + Drop, R: Wait + Drop> Drop for Crew<D, R> {
+    fn drop(self) {
+        let Crew {
+            rt: _rt,
+            dispatcher: _dispatcher,
+            manner: _manner,
+            wakers: _wakers,
+            later: _later,
+            left: _left,
+        } = self;
+    }
 }
 
 impl<D: Duty, R: Wait> Model for Crew<D, R> {

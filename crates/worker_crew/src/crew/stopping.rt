@@ -111,11 +111,11 @@ impl<D: Duty + Drop, R: Wait> Crew<D, R> {
         ensures board { result.dispatching.board ≡ self.dispatching.board }
     {
         let Crew {
-            rt: _,
+            rt: _rt,
             dispatcher,
             manner,
             wakers,
-            later: _,
+            later: _later,
             left,
         } = self;
         let (mut dispatcher, mut jobs) = (dispatcher, left);
