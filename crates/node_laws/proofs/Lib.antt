@@ -32,6 +32,7 @@ pub mod OlderLaws
 pub mod OnceLaws
 pub mod OpenLemmas
 pub mod OriginLemmas
+pub mod PassedOverLaws
 pub mod Places
 pub mod PostLemmas
 pub mod PutLemmas

@@ -2,6 +2,7 @@
 use Rattle.std.specs.Prelude.{ℕ, ◌≤◌, List, []}
 use Rattle.rpc_base.specs.declared.fact.Fact.{Fact}
 use Rattle.rpc_base.specs.declared.limits.Limits.{Limits}
+use Rattle.rpc_laws.specs.declared.tables.Lists.{Lists}
 use Rattle.rpc_laws.specs.declared.tables.Timed.{Timed}
 use Rattle.rpc_laws.specs.AtMostOnce.{Once}
 use Rattle.rpc_laws.specs.Groups.{shares}
@@ -13,6 +14,7 @@ use Rattle.node_laws.specs.EndedSessions.{SessionsEndClean}
 use Rattle.node_laws.specs.Kept.{Kept}
 use Rattle.node_laws.specs.NodeRun.{NodeRun}
 use Rattle.node_laws.specs.OlderRequests.{BeginsClean}
+use Rattle.node_laws.specs.PassedOver.{PassesOver}
 use Rattle.node_laws.specs.QueuedPackets.{QueueAlwaysFits}
 use Rattle.node_laws.specs.RequestHistory.{TellsRequests}
 use Rattle.node_laws.specs.RingLimit.{RingWithin, InboxWithin}
@@ -83,3 +85,7 @@ NumbersAreUsedOnce = OfEveryRun (λ ring g t. UsedOnce g)
 -- what a node sends is what its own tables have
 abbrev pub SendsItsOwn : Type 0
 SendsItsOwn = OfEveryRun (λ ring g t. SendsOwn g)
+
+-- what is bad, overflowed, dropped or heard changes nothing but its list and its count
+abbrev pub DatagramsArePassedOver : Type 0
+DatagramsArePassedOver = (clock : ℕ) (s : Lists) (f : Fact) → PassesOver clock s f

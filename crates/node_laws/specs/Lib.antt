@@ -6,6 +6,7 @@ pub mod Kept
 pub mod Laws
 pub mod NodeRun
 pub mod OlderRequests
+pub mod PassedOver
 pub mod QueuedPackets
 pub mod RequestHistory
 pub mod RingLimit

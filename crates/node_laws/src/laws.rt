@@ -1,5 +1,6 @@
 //! Laws of the runs of one node, each proved of the definitions in `specs/`.
-ghost use Rattle.node_laws.specs.Laws.{CreditBalances, EndedCallsAreNotQueued};
+ghost use Rattle.node_laws.specs.Laws.{CreditBalances, DatagramsArePassedOver};
+ghost use Rattle.node_laws.specs.Laws.{EndedCallsAreNotQueued};
 ghost use Rattle.node_laws.specs.Laws.{EndedSessionsAreNotQueued, HappensAtMostOnce, InboxFits};
 ghost use Rattle.node_laws.specs.Laws.{ListsAreKept, NumbersAreUsedOnce};
 ghost use Rattle.node_laws.specs.Laws.{OlderRequestsAreNotQueued, QueuedPacketsFit};
@@ -87,4 +88,10 @@ pub fn numbers_are_used_once()
 /// packet that its owner has by the tables of that moment.
 pub fn sends_its_own()
     ensures { SendsItsOwn }
+{}
+
+/// A datagram that is no packet changes nothing of a node's tables. One that found no room, and a
+/// packet that is dropped or heard, changes nothing but its list and its count.
+pub fn datagrams_are_passed_over()
+    ensures { DatagramsArePassedOver }
 {}
