@@ -33,7 +33,7 @@ use Rattle.rpc_laws.specs.declared.tables.Queued.{Queued}
 use Rattle.rpc_laws.specs.Calls.{is_active}
 use Rattle.rpc_laws.specs.Front.{is_message}
 use Rattle.rpc_laws.specs.Requests.{is_request}
-use Rattle.rpc_laws.specs.Sessions.{is_client}
+use Rattle.rpc_laws.specs.Sessions.{is_client, is_connected}
 use Rattle.rpc_base.proofs.BasicLemmas.{false-true}
 use Rattle.rpc_base.proofs.PlaceLemmas.{all-at}
 use Rattle.node_laws.specs.Valid.{client_no}
@@ -74,6 +74,7 @@ pub record OfSession (u : Moment) (to : ℕ) (asks : Bool) (session : ℕ) : Typ
   pub server : Lists
   pub end : Server
   pub ends : AreEndsOf u home number client item node other server end
+  pub connected : is_connected item.state ≡ true
   pub comes : MatchBool asks ((to ≡ node) × (session ≡ other)) ((to ≡ home) × (session ≡ number))
 
 module _ (u : Moment) (met : Met u) (valid : AllValid u) (pairs : Pairs met.good.known u) where
@@ -102,6 +103,7 @@ module _ (u : Moment) (met : Met u) (valid : AllValid u) (pairs : Pairs met.good
           home = e.home;
           number = e.client;
         };
+        connected = state;
         comes = (refl, refl);
       }
 
@@ -129,6 +131,7 @@ module _ (u : Moment) (met : Met u) (valid : AllValid u) (pairs : Pairs met.good
           home = e.home;
           number = e.client;
         };
+        connected = state;
         comes = (refl, refl);
       }
 
@@ -176,6 +179,7 @@ module _ (u : Moment) (met : Met u) (valid : AllValid u) (pairs : Pairs met.good
         end = o.end;
         ends =
             o.ends;
+        connected = o.connected;
         comes = rw kind (to, session);
         unanswered = once.unanswered (omega arith);
       }
@@ -204,6 +208,7 @@ module _ (u : Moment) (met : Met u) (valid : AllValid u) (pairs : Pairs met.good
         end = o.end;
         ends =
             o.ends;
+        connected = o.connected;
         comes = rw kind (to, session);
         unanswered = once.unanswered (omega arith);
       }
@@ -237,6 +242,7 @@ module _ (u : Moment) (met : Met u) (valid : AllValid u) (pairs : Pairs met.good
         end = o.end;
         ends =
             o.ends;
+        connected = o.connected;
         comes = rw kind (to, session);
         unanswered = once.unanswered (omega arith);
       }
@@ -265,6 +271,7 @@ module _ (u : Moment) (met : Met u) (valid : AllValid u) (pairs : Pairs met.good
         end = o.end;
         ends =
             o.ends;
+        connected = o.connected;
         comes = rw kind (to, session);
         unanswered = once.unanswered (omega arith);
       }
@@ -299,6 +306,7 @@ module _ (u : Moment) (met : Met u) (valid : AllValid u) (pairs : Pairs met.good
         server = o.server;
         end = o.end;
         ends = o.ends;
+        connected = o.connected;
         here =
             (to, session);
         unanswered = once.unanswered (omega arith);
@@ -333,6 +341,7 @@ module _ (u : Moment) (met : Met u) (valid : AllValid u) (pairs : Pairs met.good
         server = o.server;
         end = o.end;
         ends = o.ends;
+        connected = o.connected;
         here =
             (to, session);
         unanswered = once.unanswered (omega arith);
@@ -367,6 +376,7 @@ module _ (u : Moment) (met : Met u) (valid : AllValid u) (pairs : Pairs met.good
         server = o.server;
         end = o.end;
         ends = o.ends;
+        connected = o.connected;
         here =
             (to, session);
         unanswered = once.unanswered (omega arith);

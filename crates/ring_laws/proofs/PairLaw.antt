@@ -367,6 +367,7 @@ module _ (w : Moment) (n m credits : ℕ) (client server : Lists) (ends : Ends w
         server = e.1.0;
         end = o.end;
         ends = e.1.1;
+        connected = o.connected;
         comes = o.comes;
         unanswered = o.unanswered;
       }
@@ -384,6 +385,7 @@ module _ (w : Moment) (n m credits : ℕ) (client server : Lists) (ends : Ends w
         server = e.1.0;
         end = o.end;
         ends = e.1.1;
+        connected = o.connected;
         here = o.here;
         unanswered = o.unanswered;
       }

@@ -21,6 +21,7 @@ use Rattle.rpc_laws.specs.Calls.{is_active}
 use Rattle.rpc_laws.specs.Front.{is_message}
 use Rattle.rpc_laws.specs.Queues.{is_queued}
 use Rattle.rpc_laws.specs.Requests.{is_server as is_session}
+use Rattle.rpc_laws.specs.Sessions.{is_connected}
 use Rattle.end_laws.specs.Kinds.{is_ask}
 use Rattle.end_laws.specs.Moments.{Moment, Always, first_moment}
 use Rattle.ring_laws.specs.CalmRing.{Calm}
@@ -87,7 +88,8 @@ AllStandOnce w =
     (n s : ℕ) (client : Lists) (x : Client) (m t : ℕ) (server : Lists) (v : Server)
     → AreEndsOf w n s client x m t server v → (r k : ℕ) → StandsOnce w n s client x m t server r k
 
--- a datagram for a node is a packet of a session that has an end there, and it is unanswered
+-- a datagram for a node is a packet of a connected session that has an end there, and it is
+-- unanswered
 pub record IsOpen (w : Moment) (to : ℕ) (bytes : List ℕ) : Type 0 where
   pub header : MessageHeader
   pub reads : message_of bytes ≡ Some header
@@ -100,12 +102,13 @@ pub record IsOpen (w : Moment) (to : ℕ) (bytes : List ℕ) : Type 0 where
   pub server : Lists
   pub end : Server
   pub ends : AreEndsOf w home number client session node other server end
+  pub connected : is_connected session.state ≡ true
   pub comes : MatchBool (is_ask header.kind) ((to ≡ node) × (header.session ≡ other))
       ((to ≡ home) × (header.session ≡ number))
   pub unanswered : IsUnanswered session header.request header.number
 
--- packet k of request r is unanswered, in a session with this end at node n: its client end where
--- it asks, and its server end where it doesn't
+-- packet k of request r is unanswered, in a connected session with this end at node n: its client
+-- end where it asks, and its server end where it doesn't
 pub record IsOpenAt (w : Moment) (asks : Bool) (n number r k : ℕ) : Type 0 where
   pub home : ℕ
   pub session : ℕ
@@ -116,6 +119,7 @@ pub record IsOpenAt (w : Moment) (asks : Bool) (n number r k : ℕ) : Type 0 whe
   pub server : Lists
   pub end : Server
   pub ends : AreEndsOf w home session client item node other server end
+  pub connected : is_connected item.state ≡ true
   pub here : MatchBool asks ((n ≡ home) × (number ≡ session)) ((n ≡ node) × (number ≡ other))
   pub unanswered : IsUnanswered item r k
 
