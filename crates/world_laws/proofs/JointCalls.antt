@@ -70,7 +70,7 @@ wire-numbers parties g t run n =
     let j = wires-join parties g t run in
     subst UsedOnce (j.same n) (joint-numbers parties j.history t j.run n)
 
-wire-once : (parties : ℕ → Party) (g : List Fact) (t : Joint) → WireRun parties g t → Once g
+pub wire-once : (parties : ℕ → Party) (g : List Fact) (t : Joint) → WireRun parties g t → Once g
 wire-once parties g t run =
     let j = wires-join parties g t run in
     once-all g (λ n. subst Once (j.same n) (nodes-once parties j.history t j.run n))
