@@ -25,13 +25,14 @@ mod JobLemmas
 mod JoinLemmas
 mod JoinRows
 mod ListenLemmas
+mod LoanLemmas
 mod LoseLemmas
 mod NamedLemmas
 mod NextLemmas
 mod NodeLemmas
 pub mod NotesLemmas
 pub mod NotingLemmas
-mod OpeningLemmas
+pub mod OpeningLemmas
 mod PairLemmas
 mod PlaceLemmas
 mod PostLemmas
@@ -52,6 +53,6 @@ mod WatchLemmas
 mod SpeakingLemmas
 pub mod StandingLemmas
 pub mod StillLemmas
-mod ToldLemmas
+pub mod ToldLemmas
 pub mod PollLemmas
 pub mod TurningLemmas

@@ -14,6 +14,7 @@ pub mod Hearing
 pub mod Inbox
 pub mod Lending
 pub mod Listening
+pub mod Loans
 pub mod Measures
 pub mod Noting
 pub mod PlainMembers

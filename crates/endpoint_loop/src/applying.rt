@@ -133,6 +133,7 @@ impl<V: Service, W: Workers> Endpoint<V, W> {
         ensures leaves { Leaves self.old self.new }
         ensures goes_on { GoesOn R.log V.Service W.Workers self.old self.new rec.old rec.new }
         ensures handed { self.new.handed ≡ self.old.handed }
+        ensures unchanged { OnErr result (self.new ≡ self.old) }
     {
         self.node.set_rate(session, rate, rec)
     }

@@ -1,6 +1,6 @@
 //! Client sessions get their rates.
 ghost use Rattle.endpoint_loop.specs.Handing.{timed_of};
-ghost use Rattle.std.specs.Prelude.{◌≡◌, ◌<◌, false, length, true, MatchResult};
+ghost use Rattle.std.specs.Prelude.{◌≡◌, ◌<◌, false, length, true, MatchResult, OnErr};
 ghost use Rattle.std.specs.List.{find};
 ghost use Rattle.endpoint_loop.specs.Fits.{pace_no};
 ghost use Rattle.endpoint_loop.specs.Noting.{Makes};
@@ -56,6 +56,7 @@ impl Node {
         ensures jobs { self.new.lists.jobs ≡ self.old.lists.jobs }
         ensures servers { self.new.lists.servers ≡ self.old.lists.servers }
         ensures handed { self.new.handed ≡ self.old.handed }
+        ensures unchanged { OnErr result (self.new ≡ self.old) }
     {
         let state = self.state(session);
         if !lives(state) {
