@@ -1,0 +1,9 @@
+pub mod CallLemmas
+pub mod DeedLemmas
+pub mod EndpointLemmas
+pub mod GoesLemmas
+pub mod JoinLemmas
+pub mod PairLemmas
+pub mod SystemLemmas
+pub mod TurnLaws
+pub mod WireLemmas
