@@ -1,6 +1,6 @@
 //! What an error of the socket means. Over UDP a datagram may be lost, and some errors tell no more
 //! than that: no fault of the link.
-use std::io::{Error, ErrorKind};
+use std::io::{self, Error, ErrorKind};
 
 /// The system's number for a datagram that is too long for its way (EMSGSIZE).
 const TOO_LONG: i32 = 90;
@@ -37,4 +37,27 @@ pub fn is_of_this_one(error: &Error) -> bool {
 /// Whether the socket may do now, or soon, what it didn't.
 pub fn is_passing(kind: ErrorKind) -> bool {
     matches!(kind, ErrorKind::WouldBlock | ErrorKind::Interrupted)
+}
+
+/// What became of packets that were handed to the system.
+#[derive(Clone, Copy, Debug, PartialEq, Eq)]
+pub enum Fate {
+    /// They are on their way, or lost there.
+    Gone,
+    /// The system could not take them now.
+    Busy,
+    /// The link failed.
+    Fault,
+}
+
+impl Fate {
+    /// What became of them, by the system's answer.
+    pub fn of(sent: io::Result<()>) -> Fate {
+        match sent {
+            Ok(()) => Fate::Gone,
+            Err(error) if is_of_this_one(&error) => Fate::Gone,
+            Err(error) if is_passing(error.kind()) => Fate::Busy,
+            Err(_) => Fate::Fault,
+        }
+    }
 }

@@ -2,9 +2,12 @@
 //! answers, and nothing of what a socket sent or received.
 #![tactic(auto)]
 
+mod address;
+mod arrived;
 mod buffers;
 mod fates;
 mod link;
 mod peers;
+mod socket;
 
 pub use link::UdpLink;

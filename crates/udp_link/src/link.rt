@@ -1,24 +1,73 @@
-//! A link over a UDP socket that never waits.
-ghost use Rattle.std.specs.Prelude.{◌≡◌, None, IsErr};
-ghost use Rattle.rpc_outside.specs.Faults.{HasRisen};
+//! A link over a UDP socket, which waits nowhere but where it is told to.
+ghost use Rattle.std.specs.Prelude.{◌≡◌, ◌≤◌, ◌+◌, None, IfOk, IfSome, IsErr, OnErr, length};
+ghost use Rattle.rpc_outside.specs.declared.link.Taken.TheVariants.{Whole, Busy};
+ghost use Rattle.rpc_outside.specs.Faults.{HasCause, HasRisen};
 
+use crate::address::Address;
+use crate::arrived::Arrived;
 use crate::buffers::enlarge;
-use crate::fates::{is_lost, is_of_this_one, is_passing};
+use crate::fates::{Fate, is_lost, is_passing};
 use crate::peers::Peers;
-use rpc_base::Peer;
+use crate::socket::{send, wait};
+use packet_frames::{Frame, is_frame, next_packet};
+use packet_header::MAGIC;
+use rpc_base::{HEAD_BYTES, Peer};
 use rpc_outside::{Failed, Got, Link, MOST_LINK_BYTES, Taken};
 use std::alloc::Global;
 use std::net::{Net, SocketAddr, UdpSocket};
+use std::os::fd::AsRawFd;
 
-/// A link over a UDP socket, which is bound once and never waits. Addresses are numeric, of IPv4 or
-/// IPv6, with a port. Peers have numbers in order of first use, up to 256 of them.
+/// A bound socket, the packets that wait to be handed over to it, and the datagram that came last.
+#[derive(Drop)]
+struct Open {
+    socket: UdpSocket,
+    frame: Frame,
+    came: Arrived,
+}
+
+/// A link over a UDP socket, which is bound once and never waits but where it is told to. Addresses
+/// are numeric, of IPv4 or IPv6, with a port. Peers have numbers, up to 256 of them at a time.
+/// Packets to a peer that opens frames go several in a datagram. What there is of one is handed over
+/// where the next packet goes elsewhere or doesn't fit, where the link receives or waits, and at
+/// `flush`.
 #[derive(Drop)]
 pub struct UdpLink<'a, N: Net> {
     net: &'a N,
-    socket: Option<UdpSocket>,
+    alloc: Global,
+    open: Option<Open>,
     peers: Peers,
     faults: u64,
     busies: u64,
+    /// Whose packets are in the frame.
+    to: Peer,
+    /// Whose datagram came last, and the address that it came from.
+    from: Peer,
+    sender: Address,
+    /// What failed in a call that tells of no fault shows at the next one that does.
+    has_failed: bool,
+}
+
+// Whether a datagram may be of an end of this protocol: a header stands where its first packet does.
+// Who sends other ones gets no number.
+fn is_worth_a_number(datagram: &[u8]) -> bool {
+    match next_packet(datagram, 0) {
+        Some(span) => {
+            span.end - span.start >= HEAD_BYTES && datagram.get(span.start) == Some(&MAGIC)
+        }
+        None => false,
+    }
+}
+
+// Who sent a datagram. Nobody can be answered at port 0, and there are no more than 256 peers.
+fn sender_of(peers: &mut Peers, address: &Address, datagram: &[u8]) -> Option<Peer> {
+    if address.port() == 0 {
+        return None;
+    }
+    let known = peers.known(address);
+    if known.is_none() && is_worth_a_number(datagram) {
+        return peers.add(address);
+    }
+    known
 }
 
 impl<'a, N: Net> UdpLink<'a, N> {
@@ -29,10 +78,15 @@ impl<'a, N: Net> UdpLink<'a, N> {
     {
         UdpLink {
             net,
-            socket: None,
+            alloc,
+            open: None,
             peers: Peers::new(alloc),
             faults: 0,
             busies: 0,
+            to: Peer(0),
+            from: Peer(0),
+            sender: Address::none(),
+            has_failed: false,
         }
     }
 
@@ -45,6 +99,146 @@ impl<'a, N: Net> UdpLink<'a, N> {
         self.faults = self.faults.saturating_add(1);
         Err(Failed)
     }
+
+    // What failed before shows now.
+    fn show(&mut self) -> Result<(), Failed>
+        ensures busies { self.new.busies ≡ self.old.busies }
+        ensures cause { HasCause self.old.faults self.new.faults result }
+    {
+        if !self.has_failed {
+            return Ok(());
+        }
+        self.has_failed = false;
+        self.fail()
+    }
+
+    // A packet wasn't taken.
+    fn refuse(&mut self) -> Taken
+        ensures busy { result ≡ Busy }
+        ensures risen { HasRisen self.old.busies self.new.busies }
+        ensures faults { self.new.faults ≡ self.old.faults }
+    {
+        self.busies = self.busies.saturating_add(1);
+        Taken::Busy
+    }
+
+    // Hands the packets of the frame to the system, if there are any. Where it is busy they stay.
+    fn hand_over(&mut self) -> Fate
+        ensures faults { self.new.faults ≡ self.old.faults }
+        ensures busies { self.new.busies ≡ self.old.busies }
+    {
+        let Some(open) = &mut self.open else {
+            return Fate::Gone;
+        };
+        if open.frame.is_empty() {
+            return Fate::Gone;
+        }
+        let Some(address) = self.peers.address(self.to) else {
+            open.frame.clear();
+            return Fate::Gone;
+        };
+        let fate = Fate::of(send(open.socket.as_raw_fd(), open.frame.datagram(), address));
+        if fate != Fate::Busy {
+            open.frame.clear();
+        }
+        fate
+    }
+
+    // The same, in a call that tells of no fault.
+    fn hand_over_silently(&mut self)
+        ensures faults { self.new.faults ≡ self.old.faults }
+        ensures busies { self.new.busies ≡ self.old.busies }
+    {
+        if self.hand_over() == Fate::Fault {
+            self.has_failed = true;
+        }
+    }
+
+    // Puts a packet into the frame of this peer, where it has room there.
+    fn put(&mut self, to: Peer, head: &[u8], body: &[u8]) -> bool
+        requires { length head.now + length body.now ≤ MOST_LINK_BYTES }
+        ensures faults { self.new.faults ≡ self.old.faults }
+        ensures busies { self.new.busies ≡ self.old.busies }
+    {
+        let most = self.peers.most(to);
+        let Some(open) = &mut self.open else {
+            return false;
+        };
+        if to != self.to && !open.frame.is_empty() {
+            return false;
+        }
+        self.to = to;
+        open.frame.push(head, body, most)
+    }
+
+    // What is in the frame is dropped.
+    fn empty(&mut self)
+        ensures faults { self.new.faults ≡ self.old.faults }
+        ensures busies { self.new.busies ≡ self.old.busies }
+    {
+        if let Some(open) = &mut self.open {
+            open.frame.clear();
+        }
+    }
+
+    // What came last and isn't given out is dropped.
+    fn drop_arrived(&mut self)
+        ensures faults { self.new.faults ≡ self.old.faults }
+        ensures busies { self.new.busies ≡ self.old.busies }
+    {
+        if let Some(open) = &mut self.open {
+            open.came.clear();
+        }
+    }
+
+    // A packet to a peer that opens no frames goes at once, or isn't taken.
+    fn go_alone(&mut self) -> Result<Taken, Failed>
+        ensures whole { IfOk result (λ t. t ≡ Whole → self.new.busies ≡ self.old.busies) }
+        ensures busy { IfOk result (λ t. t ≡ Busy → HasRisen self.old.busies self.new.busies) }
+        ensures fault { OnErr result (self.new.busies ≡ self.old.busies) }
+        ensures cause { HasCause self.old.faults self.new.faults result }
+    {
+        match self.hand_over() {
+            Fate::Gone => Ok(Taken::Whole),
+            Fate::Fault => self.fail(),
+            Fate::Busy => {
+                self.empty();
+                Ok(self.refuse())
+            }
+        }
+    }
+
+    // The next packet of the datagram that came last becomes the front of `out`; the result is its
+    // length.
+    fn give(&mut self, out: &mut [u8; MOST_LINK_BYTES]) -> Option<usize>
+        ensures faults { self.new.faults ≡ self.old.faults }
+        ensures busies { self.new.busies ≡ self.old.busies }
+        ensures long { IfSome result (λ len. len ≤ MOST_LINK_BYTES) }
+    {
+        match &mut self.open {
+            Some(open) => open.came.next(out),
+            None => None,
+        }
+    }
+
+    // A datagram came. It is passed over where its sender is no peer.
+    fn take_in(&mut self)
+        ensures faults { self.new.faults ≡ self.old.faults }
+        ensures busies { self.new.busies ≡ self.old.busies }
+    {
+        let Some(open) = &mut self.open else {
+            return;
+        };
+        let datagram = open.came.datagram();
+        let Some(peer) = sender_of(&mut self.peers, &self.sender, datagram) else {
+            open.came.clear();
+            return;
+        };
+        if is_frame(datagram) {
+            self.peers.note_frame(peer, datagram.len());
+        }
+        self.from = peer;
+    }
 }
 
 impl<'a, N: Net> Link for UdpLink<'a, N> {
@@ -53,6 +247,10 @@ impl<'a, N: Net> Link for UdpLink<'a, N> {
     ghost received = { λ l. None };
 
     ghost waiting = { λ l. None };
+
+    ghost bound = { λ _. None };
+
+    ghost numbers = { λ _ _. None };
 
     ghost faults = { λ l. l.faults };
 
@@ -69,7 +267,14 @@ impl<'a, N: Net> Link for UdpLink<'a, N> {
             return self.fail();
         }
         enlarge(&socket);
-        self.socket = Some(socket);
+        let (Ok(frame), Ok(came)) = (Frame::new(self.alloc), Arrived::new(self.alloc)) else {
+            return self.fail();
+        };
+        self.open = Some(Open {
+            socket,
+            frame,
+            came,
+        });
         Ok(())
     }
 
@@ -77,58 +282,96 @@ impl<'a, N: Net> Link for UdpLink<'a, N> {
         let Ok(addr) = addr.parse::<SocketAddr>() else {
             return self.fail();
         };
-        match self.peers.number(addr) {
+        let address = Address::of(addr);
+        if let Some(peer) = self.peers.known(&address) {
+            return Ok(peer);
+        }
+        match self.peers.add(&address) {
             Some(peer) => Ok(peer),
             None => self.fail(),
         }
     }
 
     fn send(&mut self, to: Peer, head: &[u8], body: &[u8]) -> Result<Taken, Failed> {
-        let len = head.len() + body.len();
-        let (Some(socket), Some(addr)) = (&self.socket, self.peers.addr(to)) else {
-            return self.fail();
-        };
-        if len > MOST_LINK_BYTES {
+        self.show()?;
+        let is_known = self.open.is_some() && self.peers.address(to).is_some();
+        if !is_known || head.len() + body.len() > MOST_LINK_BYTES {
             return self.fail();
         }
-        let mut datagram = [0u8; MOST_LINK_BYTES];
-        datagram[..head.len()].copy_from_slice(head);
-        datagram[head.len()..len].copy_from_slice(body);
-        match socket.send_to(&datagram[..len], addr) {
-            Ok(_) => Ok(Taken::Whole),
-            Err(error) if is_of_this_one(&error) => Ok(Taken::Whole),
-            Err(error) if is_passing(error.kind()) => {
-                self.busies = self.busies.saturating_add(1);
-                Ok(Taken::Busy)
+        if !self.put(to, head, body) {
+            match self.hand_over() {
+                Fate::Gone => {}
+                Fate::Busy => return Ok(self.refuse()),
+                Fate::Fault => return self.fail(),
             }
-            Err(_) => self.fail(),
+            // Nothing is in the frame now, so there is room.
+            if !self.put(to, head, body) {
+                return self.fail();
+            }
         }
+        if self.peers.most(to) > 0 {
+            return Ok(Taken::Whole);
+        }
+        self.go_alone()
     }
 
     fn recv(&mut self, out: &mut [u8; MOST_LINK_BYTES]) -> Result<Got, Failed> {
-        let Some(socket) = &self.socket else {
+        self.show()?;
+        let from = self.from;
+        if let Some(len) = self.give(out) {
+            return Ok(Got::Packet { peer: from, len });
+        }
+        if self.hand_over() == Fate::Fault {
+            return self.fail();
+        }
+        let Some(open) = &mut self.open else {
             return self.fail();
         };
-        match socket.recv_from(out) {
-            // Nobody can be answered at port 0: such a datagram is passed over, and its sender gets no
-            // number.
-            Ok((_, addr)) if addr.port() == 0 => Ok(Got::Nothing),
-            Ok((len, addr)) => match self.peers.number(addr) {
-                Some(peer) => Ok(Got::Packet { peer, len }),
-                // A datagram of a peer too many is passed over.
-                None => Ok(Got::Nothing),
-            },
+        match open.came.receive(open.socket.as_raw_fd(), &mut self.sender) {
+            Ok(()) => {
+                self.take_in();
+                let peer = self.from;
+                match self.give(out) {
+                    Some(len) => Ok(Got::Packet { peer, len }),
+                    None => Ok(Got::Nothing),
+                }
+            }
             Err(error) if is_lost(error.kind()) || is_passing(error.kind()) => Ok(Got::Nothing),
             Err(_) => self.fail(),
         }
     }
 
-    /// Keeps nothing back.
-    fn flush(&mut self) {}
+    /// Hands over what is in the frame. Where the system is busy it stays there.
+    fn flush(&mut self) {
+        self.hand_over_silently();
+    }
 
-    /// Ends at once.
-    fn wait(&mut self, _micros: u32) {}
+    /// Hands over what is in the frame, and waits for the socket. It ends at once where packets of
+    /// the datagram that came last aren't given out yet.
+    fn wait(&mut self, micros: u32) {
+        self.hand_over_silently();
+        if let Some(open) = &self.open {
+            if open.came.is_done() {
+                wait(open.socket.as_raw_fd(), micros);
+            }
+        }
+    }
 
-    /// The number stays that of its address.
-    fn forget(&mut self, _peer: Peer) {}
+    /// Frames to the peer have 1,088 bytes at least, and 65,507 at most.
+    fn pack(&mut self, peer: Peer, bytes: u32) {
+        self.peers.name(peer, bytes);
+    }
+
+    /// What is in the frame for the peer is handed over, or dropped where the system is busy; what
+    /// came from it and isn't given out is dropped.
+    fn forget(&mut self, peer: Peer) {
+        if self.to == peer {
+            self.hand_over_silently();
+            self.empty();
+        }
+        if self.from == peer {
+            self.drop_arrived();
+        }
+        self.peers.forget(peer);
+    }
 }

@@ -1,0 +1,3 @@
+pub mod RowLemmas
+pub mod DatagramLemmas
+pub mod NextLemmas
