@@ -7,7 +7,6 @@ mod buffers;
 mod counter;
 mod differs;
 mod idle;
-mod inbox;
 mod kept;
 mod links;
 mod newest;
@@ -34,7 +33,6 @@ fn main(rt: HostRuntime) -> io::Result<()> {
     let alloc = rt.alloc();
     tell(&rt, "an idle endpoint", idle::row(alloc))?;
     tell(&rt, "a fault of the link", stopping::fault_row(alloc))?;
-    tell(&rt, "a full inbox", inbox::row(alloc))?;
     tell(&rt, "rates", pairs::rate_row(alloc))?;
     tell(&rt, "refused calls", refusals::row(alloc))?;
     tell(&rt, "refused pairs", pairs::refused_row(alloc))?;

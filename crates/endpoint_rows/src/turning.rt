@@ -4,7 +4,6 @@ ghost use Rattle.rpc_outside.specs.Linking.{AreCarried};
 
 use crate::bench::{Plain, plain_bench};
 use crate::differs::{Differs, expect};
-use crate::inbox::request;
 use crate::links::giving_link;
 use endpoint_loop::{LinkFault, Turn};
 use rpc_base::{NoMemory, Octets, Peer};
@@ -12,6 +11,13 @@ use std::alloc::Global;
 
 /// One more datagram than a turn receives.
 const ARRIVALS: u8 = 65;
+
+// A request to connect, of this session with one credit.
+fn request(session: u8) -> [u8; 16] {
+    [
+        0xe1, 4, 0, session, 0xff, 0xff, 0, 1, 0, 0, 0, 0, 0, 0, 0, 0,
+    ]
+}
 
 // So many sessions of peer 1 request to connect.
 fn requests(alloc: Global, count: u8) -> Result<Vec<(Peer, Octets)>, NoMemory>

@@ -21,7 +21,11 @@ fn main(rt: HostRuntime) -> io::Result<()> {
     let alloc = rt.alloc();
     tell(&rt, "no answer", memory::no_answer(rt, alloc))?;
     tell(&rt, "turns spent", memory::turns_spent(rt, alloc))?;
-    tell(&rt, "a fault of the link", memory::fault(rt, alloc))?;
+    tell(
+        &rt,
+        "a fault at each call",
+        memory::each_call_fails(rt, alloc),
+    )?;
     tell(&rt, "an idle server", memory::idle_server(rt, alloc))?;
     tell(&rt, "three hands", memory::three_hands(rt, alloc))?;
     tell(&rt, "a read that fails", faults::failed_read(rt, alloc))?;

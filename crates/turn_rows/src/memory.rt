@@ -13,6 +13,13 @@ const ROOM: u32 = 256;
 /// More datagrams than a row sends.
 const LINK_ROOM: u32 = 32;
 
+/// More calls of a link than a row makes.
+const MOST_CALLS: u64 = 64;
+
+/// A load that no server answers binds its link, names the peer, and receives and sends nine times;
+/// then it receives once more.
+const WANTED_CALLS: u64 = 21;
+
 /// The request to connect a client's first session, with 32 credits.
 const REQUEST: &[u8] = b"\xe1\x04\0\0\xff\xff\0\x20\0\0\0\0\0\0\0\0";
 
@@ -128,25 +135,33 @@ pub fn turns_spent<H: Wait + Drop>(rt: H, alloc: Global) -> Result<(), Differs> 
     )
 }
 
-/// The first datagram that is sent meets a fault: nothing is written.
-pub fn fault<H: Wait + Drop>(rt: H, alloc: Global) -> Result<(), Differs> {
+// Runs a load that no server answers, over a link of which this call fails, where it comes to it.
+// Tells whether it did.
+fn meet_fault<H: Wait + Drop>(rt: H, alloc: Global, call: u64) -> Result<bool, Differs> {
     let line = format!(in alloc; "{LOAD} 20")?;
-    // Two calls of the link come before: to bind it and to name the peer; then it receives.
-    let fails = vec![in alloc; 3]?;
+    let fails = vec![in alloc; call]?;
     let mut link = MemLink::new(alloc, Vec::new(alloc), LINK_ROOM, fails, Vec::new(alloc))?;
     let mut sink = MemSink::new(alloc, ROOM, Vec::new(alloc))?;
     let mut spawner = SerialSpawner::new();
-    let ended = run_line(
-        rt,
-        alloc,
-        line.as_str(),
-        &mut link,
-        5_000,
-        &mut spawner,
-        &mut sink,
-    )?;
-    expect(ended == Status::LinkFault, Differs::Ended(ended))?;
-    expect(sink.bytes().is_empty(), Differs::Sent)
+    let line = line.as_str();
+    let ended = run_line(rt, alloc, line, &mut link, 5_000, &mut spawner, &mut sink)?;
+    let fails = ended == Status::LinkFault;
+    let wanted = if fails { "" } else { NOT_ASKED };
+    expect(fails || ended == Status::CallsFailed, Differs::Ended(ended))?;
+    let wrote = String::from_utf8_lossy(alloc, sink.bytes())?;
+    expect(sink.bytes() == wanted.as_bytes(), Differs::Wrote(wrote))?;
+    Ok(fails)
+}
+
+/// Each call of the link meets a fault in turn, and nothing is written, until the run needs no
+/// more.
+pub fn each_call_fails<H: Wait + Drop + Copy>(rt: H, alloc: Global) -> Result<(), Differs> {
+    for call in 0..MOST_CALLS {
+        if !meet_fault(rt, alloc, call)? {
+            return expect(call == WANTED_CALLS, Differs::Calls(call));
+        }
+    }
+    Err(Differs::Calls(MOST_CALLS))
 }
 
 /// Nothing comes to a server.

@@ -60,22 +60,39 @@ const DRILLS: [(&str, &str); 2] = [
     ),
 ];
 
+/// Which calls fail in a row of faults.
+#[derive(Clone, Copy)]
+enum Failing {
+    Source,
+    Sink,
+}
+
+/// The rows of faults, and how many calls one echo makes: its script is read at once, and then its
+/// end is; its report is written a line at a time.
+const FAULTS: [(&str, Failing, u64); 2] = [
+    ("each read of one echo fails", Failing::Source, 2),
+    ("each write of one echo fails", Failing::Sink, 23),
+];
+
 /// More bytes than the report of a case has.
 const ROOM: u32 = 1 << 25;
 
-// What the program writes on a line of words; an error where the run did not end well.
-fn written_by<H: AllocGlobal + Wait + Copy + Drop>(
+// Runs a line of words over a source and a sink, of which these calls fail, the first call of each
+// having number 0. Tells how the run ended, and gives the sink out.
+fn ended_by<H: AllocGlobal + Wait + Copy + Drop>(
     rt: H,
     line: &str,
     source: Vec<u8>,
-) -> io::Result<String> {
+    reads: Vec<u64>,
+    writes: Vec<u64>,
+) -> io::Result<(Status, MemSink)> {
     let alloc = rt.alloc();
     let mut words = Vec::new(alloc);
     for word in line.split_whitespace() {
         words.push(String::from_str(alloc, word)?)?;
     }
-    let mut source = MemSource::new(source, Vec::new(alloc));
-    let Ok(mut sink) = MemSink::new(alloc, ROOM, Vec::new(alloc)) else {
+    let mut source = MemSource::new(source, reads);
+    let Ok(mut sink) = MemSink::new(alloc, ROOM, writes) else {
         return Err(io::Error::from(io::ErrorKind::OutOfMemory));
     };
     let status = run(
@@ -89,6 +106,17 @@ fn written_by<H: AllocGlobal + Wait + Copy + Drop>(
         &mut SerialSpawner::new(),
         &mut NoRecord,
     );
+    Ok((status, sink))
+}
+
+// What the program writes on a line of words; an error where the run did not end well.
+fn written_by<H: AllocGlobal + Wait + Copy + Drop>(
+    rt: H,
+    line: &str,
+    source: Vec<u8>,
+) -> io::Result<String> {
+    let alloc = rt.alloc();
+    let (status, sink) = ended_by(rt, line, source, Vec::new(alloc), Vec::new(alloc))?;
     if status != Status::Done {
         return Err(io::Error::from(io::ErrorKind::InvalidInput));
     }
@@ -96,6 +124,15 @@ fn written_by<H: AllocGlobal + Wait + Copy + Drop>(
         Ok(text) => Ok(String::from_str(alloc, text)?),
         Err(_) => Err(io::Error::from(io::ErrorKind::InvalidData)),
     }
+}
+
+// Whether these bytes are the first lines of a report, so many of them.
+fn is_front(report: &str, bytes: &[u8], lines: u64) -> bool {
+    let Ok(text) = str::from_utf8(bytes) else {
+        return false;
+    };
+    let is_whole = text.is_empty() || text.ends_with('\n');
+    report.starts_with(text) && is_whole && text.lines().count() as u64 == lines
 }
 
 fn count_of(text: &str, wanted: &str) -> usize {
@@ -181,6 +218,49 @@ fn is_drilled<H: AllocGlobal + Wait + Copy + Drop>(
     Ok(is_one && line == second.as_str())
 }
 
+// Runs a script of which this call of the source or of the sink fails, where it comes to it. Tells
+// whether it did: then the run ends by that fault, and nothing is written, or the lines before the
+// one that failed; otherwise the whole report is. None comes where it is otherwise.
+fn meet_fault<H: AllocGlobal + Wait + Copy + Drop>(
+    rt: H,
+    script: &[u8],
+    report: &str,
+    of: Failing,
+    call: u64,
+) -> io::Result<Option<bool>> {
+    let alloc = rt.alloc();
+    let source = Vec::from_slice(alloc, script)?;
+    let (fails, none) = (vec![in alloc; call]?, Vec::new(alloc));
+    let (reads, writes) = match of {
+        Failing::Source => (fails, none),
+        Failing::Sink => (none, fails),
+    };
+    let (status, sink) = ended_by(rt, "sim", source, reads, writes)?;
+    Ok(match (status, of) {
+        (Status::Done, _) if sink.bytes() == report.as_bytes() => Some(false),
+        (Status::ReadFault, Failing::Source) if sink.bytes().is_empty() => Some(true),
+        (Status::WriteFault, Failing::Sink) if is_front(report, sink.bytes(), call) => Some(true),
+        _ => None,
+    })
+}
+
+// Whether each of so many calls in turn, and none after them, ends the run of one echo.
+fn fails_at_each<H: Files + AllocGlobal + Wait + Copy + Drop>(
+    rt: H,
+    of: Failing,
+    calls: u64,
+) -> io::Result<bool> {
+    let script = fs::read(&rt, "one_echo.script")?;
+    let report = fs::read_to_string(&rt, "one_echo.report")?;
+    for call in 0..=calls {
+        let fails = meet_fault(rt, script.as_slice(), report.as_str(), of, call)?;
+        if fails != Some(call < calls) {
+            return Ok(false);
+        }
+    }
+    Ok(true)
+}
+
 fn tell(rt: &impl Print, name: &str, outcome: io::Result<bool>) -> io::Result<()> {
     match outcome {
         Ok(true) => println!(rt; "{name}: as expected"),
@@ -202,8 +282,11 @@ fn main(rt: HostRuntime) -> io::Result<()> {
     for (words, front) in DRILLS {
         tell(&rt, words, is_drilled(rt, words, front))?;
     }
+    for (name, of, calls) in FAULTS {
+        tell(&rt, name, fails_at_each(rt, of, calls))?;
+    }
     println!(rt;
         "{} cases",
-        WHOLE.len() + LINES.len() + COUNTS.len() + DRILLS.len()
+        WHOLE.len() + LINES.len() + COUNTS.len() + DRILLS.len() + FAULTS.len()
     )
 }

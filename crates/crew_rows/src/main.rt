@@ -1,0 +1,89 @@
+//! Crews of workers. Standard input has rows: a line `# ..` tells what the row shows, the next one makes
+//! a crew, and each further line is a call of it. They are told with what each call answers, and at the
+//! end with what is left once the crew is stopped. A further row costs no proof.
+//!
+//! ```text
+//! serial JOBS HANDS     a crew whose hands are all refused
+//! kept JOBS             a crew of one hand, which a test keeps
+//! threads JOBS HANDS    a crew whose hands are on threads
+//! give TEXT             gives a job that turns a text of two letters round
+//! take, full            as the crew has them
+//! await                 takes, until a job is done
+//! step                  lets the kept hand work a ticket
+//! ```
+#![tactic(auto)]
+
+ghost use Rattle.std.specs.Prelude.{◌≡◌, []};
+ghost use Rattle.worker_crew.specs.Hands.{name_of};
+ghost use Rattle.worker_crew.specs.Launching.{Launched};
+
+mod crews;
+mod jobs;
+mod kept;
+mod step;
+
+use crate::step::Step;
+use rpc_outside::PlainDuty;
+use std::alloc::Global;
+use std::io;
+use std::io::Read;
+use std::sync::Wait;
+use worker_crew::{Child, Hand, Launcher, SerialSpawner, Spawner, ThreadSpawner, launch};
+
+// Makes the crew that the first line names, and calls it as the lines behind it say. Hands on threads
+// are started by the spawner.
+fn drive<R: Print + Wait + Copy, P: Spawner<Hand<PlainDuty>>>(
+    rt: R,
+    alloc: Global,
+    first: &str,
+    calls: &str,
+    threads: &mut P,
+) -> io::Result<()>
+    requires none { P.hands_out threads.old ≡ [] }
+{
+    let made = Step::read(first);
+    let (jobs, hands) = (made.long(0), made.byte(1));
+    match made.name {
+        "serial" => {
+            let mut spawner = SerialSpawner::new();
+            crews::drive(rt, alloc, jobs, hands, &mut spawner, calls)?;
+            println!(rt; "  {} hands refused", spawner.refused())
+        }
+        "kept" => kept::drive(rt, alloc, jobs, calls),
+        "threads" => crews::drive(rt, alloc, jobs, hands, threads, calls),
+        _ => println!(rt; "no such crew"),
+    }
+}
+
+// A row: what it shows, the crew, and the calls.
+fn row<R: Print + Wait + Copy, P: Spawner<Hand<PlainDuty>>>(
+    rt: R,
+    alloc: Global,
+    text: &str,
+    threads: &mut P,
+) -> io::Result<()>
+    requires none { P.hands_out threads.old ≡ [] }
+{
+    let (title, rest) = text.split_once('\n').unwrap_or((text, ""));
+    let (first, calls) = rest.split_once('\n').unwrap_or((rest, ""));
+    println!(rt; "# {title}")?;
+    println!(rt; "{first}")?;
+    drive(rt, alloc, first, calls, threads)
+}
+
+fn main(rt: HostRuntime) -> io::Result<()> {
+    let alloc = rt.alloc();
+    let mut text = String::new(alloc);
+    rt.stdin().read_to_string(&mut text)?;
+    for text in text.as_str().split("# ").skip(1) {
+        let launcher: Launcher = Box::new(
+            alloc,
+            move |hand: Hand<PlainDuty>| -> Result<Child, Hand<PlainDuty>>
+                ensures { Launched (name_of hand) result }
+            { launch(rt, alloc, hand) },
+        )?;
+        let mut threads = ThreadSpawner::new(rt, alloc, launcher);
+        row(rt, alloc, text, &mut threads)?;
+    }
+    Ok(())
+}

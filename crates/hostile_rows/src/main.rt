@@ -1,0 +1,57 @@
+//! One endpoint under datagrams that no honest peer sends. Standard input has rows: a line `# NAME`
+//! begins one, with a fresh endpoint, node 1 with a ring of 32, and each line behind it is a step.
+//! The name is printed, and then what each step noted, as a report has it. A further row costs no
+//! proof.
+//!
+//! ```text
+//! server PEER CLIENT CREDITS    client PEER SERVER CREDITS    connect PEER CREDITS
+//! ask SESSION TYPE BYTES ROOM   deliver PEER BYTES            work JOB               poll NOW
+//! ```
+#![tactic(auto)]
+
+mod bench;
+mod spelling;
+mod step;
+mod stopped;
+
+use crate::bench::Bench;
+use crate::step::read_step;
+use crate::stopped::Stopped;
+use std::alloc::Global;
+use std::io;
+use std::io::Read;
+
+// Takes the steps of a row, and prints what each noted.
+fn drive(rt: &impl Print, alloc: Global, bench: &mut Bench, steps: &str) -> io::Result<()> {
+    for line in steps.lines() {
+        let Some(step) = read_step(alloc, line)? else {
+            println!(rt; "no step: {line}")?;
+            return Err(Stopped::NoStep.into());
+        };
+        let noted = bench.take(step)?;
+        print!(rt; "{noted}")?;
+    }
+    Ok(())
+}
+
+fn row(rt: &impl Print, alloc: Global, text: &str) -> io::Result<()> {
+    let (name, steps) = text.split_once('\n').unwrap_or((text, ""));
+    println!(rt; "# {name}")?;
+    let mut bench = Bench::new(alloc)?;
+    let outcome = drive(rt, alloc, &mut bench, steps);
+    bench.close();
+    outcome
+}
+
+fn main(rt: HostRuntime) -> io::Result<()> {
+    let alloc = rt.alloc();
+    let mut text = String::new(alloc);
+    rt.stdin().read_to_string(&mut text)?;
+    if !text.as_str().starts_with("# ") {
+        return Err(Stopped::NoRow.into());
+    }
+    for text in text.as_str().split("# ").skip(1) {
+        row(&rt, alloc, text)?;
+    }
+    Ok(())
+}

@@ -1,0 +1,125 @@
+//! The steps of a row.
+use crate::spelling::bytes_of;
+use rpc_base::{Peer, SessionNo};
+use std::alloc::{AllocError, Global};
+
+/// What is done to the endpoint.
+#[derive(Drop)]
+pub enum Step {
+    /// It takes the server end of a pair.
+    Server {
+        peer: Peer,
+        client: SessionNo,
+        credits: u16,
+    },
+    /// It takes the client end of a pair.
+    Client {
+        peer: Peer,
+        server: SessionNo,
+        credits: u16,
+    },
+    /// It opens a session.
+    Connect {
+        peer: Peer,
+        credits: u16,
+    },
+    Ask {
+        session: SessionNo,
+        req_type: u8,
+        bytes: Vec<u8>,
+        room: u32,
+    },
+    Deliver {
+        peer: Peer,
+        bytes: Vec<u8>,
+    },
+    /// Its workers work this job of those that wait, in the order of giving, from 0 on.
+    Work {
+        job: u32,
+    },
+    /// It is polled at this moment, in microseconds.
+    Poll {
+        now: u64,
+    },
+}
+
+fn peer_of(word: &str) -> Option<Peer> {
+    Some(Peer(word.parse::<u8>().ok()?))
+}
+
+fn session_of(word: &str) -> Option<SessionNo> {
+    Some(SessionNo(word.parse::<u16>().ok()?))
+}
+
+// A peer, a session of its and credits.
+fn end_of(peer: &str, session: &str, credits: &str) -> Option<(Peer, SessionNo, u16)> {
+    Some((
+        peer_of(peer)?,
+        session_of(session)?,
+        credits.parse::<u16>().ok()?,
+    ))
+}
+
+fn server_of(peer: &str, session: &str, credits: &str) -> Option<Step> {
+    let (peer, client, credits) = end_of(peer, session, credits)?;
+    Some(Step::Server {
+        peer,
+        client,
+        credits,
+    })
+}
+
+fn client_of(peer: &str, session: &str, credits: &str) -> Option<Step> {
+    let (peer, server, credits) = end_of(peer, session, credits)?;
+    Some(Step::Client {
+        peer,
+        server,
+        credits,
+    })
+}
+
+fn connect_of(peer: &str, credits: &str) -> Option<Step> {
+    Some(Step::Connect {
+        peer: peer_of(peer)?,
+        credits: credits.parse::<u16>().ok()?,
+    })
+}
+
+fn ask_of(session: &str, req_type: &str, bytes: Vec<u8>, room: &str) -> Option<Step> {
+    Some(Step::Ask {
+        session: session_of(session)?,
+        req_type: req_type.parse::<u8>().ok()?,
+        bytes,
+        room: room.parse::<u32>().ok()?,
+    })
+}
+
+fn deliver_of(peer: &str, bytes: Vec<u8>) -> Option<Step> {
+    let peer = peer_of(peer)?;
+    Some(Step::Deliver { peer, bytes })
+}
+
+/// The step that a line spells, if it does. Its numbers fit their types, and may still be outside
+/// what an endpoint takes.
+pub fn read_step(alloc: Global, line: &str) -> Result<Option<Step>, AllocError> {
+    let mut words = line.split(' ');
+    let name = words.next().unwrap_or("");
+    let (first, second) = (words.next().unwrap_or(""), words.next().unwrap_or(""));
+    let (third, fourth) = (words.next().unwrap_or(""), words.next().unwrap_or(""));
+    Ok(match name {
+        "server" => server_of(first, second, third),
+        "client" => client_of(first, second, third),
+        "connect" => connect_of(first, second),
+        "ask" => match bytes_of(alloc, third)? {
+            Some(bytes) => ask_of(first, second, bytes, fourth),
+            None => None,
+        },
+        "deliver" => match bytes_of(alloc, second)? {
+            Some(bytes) => deliver_of(first, bytes),
+            None => None,
+        },
+        "work" => first.parse::<u32>().ok().map(|job| Step::Work { job }),
+        "poll" => first.parse::<u64>().ok().map(|now| Step::Poll { now }),
+        _ => None,
+    })
+}

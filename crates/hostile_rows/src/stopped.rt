@@ -1,0 +1,45 @@
+//! Why the rows end before their last step.
+use rpc_base::NoMemory;
+use std::alloc::{AllocError, AllocFailed};
+use std::io;
+
+/// What stops the program.
+#[derive(Debug, Drop)]
+pub enum Stopped {
+    /// Standard input doesn't begin with a row.
+    NoRow,
+    /// A line of a row is no step, or a number in it is outside its range.
+    NoStep,
+    /// A link in memory that is full.
+    NoRoom,
+    NoMemory,
+}
+
+impl From<NoMemory> for Stopped {
+    fn from(_error: NoMemory) -> Self {
+        Stopped::NoMemory
+    }
+}
+
+impl From<AllocError> for Stopped {
+    fn from(_error: AllocError) -> Self {
+        Stopped::NoMemory
+    }
+}
+
+impl<T: Drop> From<AllocFailed<T>> for Stopped {
+    fn from(_error: AllocFailed<T>) -> Self {
+        Stopped::NoMemory
+    }
+}
+
+impl From<Stopped> for io::Error {
+    fn from(stopped: Stopped) -> Self {
+        io::Error::from(match stopped {
+            Stopped::NoRow => io::ErrorKind::UnexpectedEof,
+            Stopped::NoStep => io::ErrorKind::InvalidInput,
+            Stopped::NoRoom => io::ErrorKind::StorageFull,
+            Stopped::NoMemory => io::ErrorKind::OutOfMemory,
+        })
+    }
+}

@@ -1,0 +1,85 @@
+//! A message's buffer: `len N` makes the message so long, `write AT HEX` and `fill BYTE` write into
+//! it, `stamp I BYTE` gives packet I a head of sixteen such bytes, and `packet I` and `bytes` show
+//! them.
+use crate::no_memory;
+use crate::step::Step;
+use message_buffer::{MOST_CAPACITY, MsgBuf};
+use packet_header::count;
+use rpc_base::HEAD_BYTES;
+use std::alloc::Global;
+use std::io;
+
+/// Makes a buffer of this capacity, and tells what each call of it answers.
+pub fn drive(rt: &impl Print, alloc: Global, capacity: u32, calls: &str) -> io::Result<()> {
+    if MOST_CAPACITY < capacity {
+        return println!(rt; "no such buffer");
+    }
+    let mut buffer = MsgBuf::new(alloc, capacity).map_err(no_memory)?;
+    call_all(rt, alloc, &mut buffer, calls)
+}
+
+fn call_all(rt: &impl Print, alloc: Global, buffer: &mut MsgBuf, calls: &str) -> io::Result<()> {
+    for line in calls.lines() {
+        print!(rt; "  {line}: ")?;
+        call(rt, alloc, buffer, Step::read(line))?;
+    }
+    Ok(())
+}
+
+fn set_len(rt: &impl Print, buffer: &mut MsgBuf, len: u32) -> io::Result<()> {
+    if buffer.capacity() < len {
+        return println!(rt; "too long");
+    }
+    buffer.set_len(len);
+    println!(rt; "{} of {}", buffer.len(), buffer.capacity())
+}
+
+fn write(rt: &impl Print, alloc: Global, buffer: &mut MsgBuf, step: Step) -> io::Result<()> {
+    let Ok(bytes) = hex::decode(alloc, step.word(1)) else {
+        return println!(rt; "no bytes");
+    };
+    let at = step.long(0);
+    let len = buffer.len();
+    if len < at || ((len - at) as usize) < bytes.len() {
+        return println!(rt; "too long");
+    }
+    buffer.write(at, bytes.as_slice());
+    println!(rt; "written")
+}
+
+fn stamp(rt: &impl Print, buffer: &mut MsgBuf, index: u32, byte: u8) -> io::Result<()> {
+    if count(buffer.len()) <= index {
+        return println!(rt; "no such packet");
+    }
+    buffer.stamp(index, &[byte; HEAD_BYTES]);
+    println!(rt; "stamped")
+}
+
+// The head, the length of the part, and its last two bytes.
+fn tell_packet(rt: &impl Print, alloc: Global, buffer: &MsgBuf, index: u32) -> io::Result<()> {
+    if count(buffer.len()) <= index {
+        return println!(rt; "no such packet");
+    }
+    let (head, part) = buffer.packet(index);
+    let tail = part.get(part.len().saturating_sub(2)..).unwrap_or(part);
+    println!(rt;
+        "{} {} bytes to {tail:?}",
+        hex::encode(alloc, head)?,
+        part.len()
+    )
+}
+
+fn call(rt: &impl Print, alloc: Global, buffer: &mut MsgBuf, step: Step) -> io::Result<()> {
+    match step.name {
+        "len" => set_len(rt, buffer, step.long(0)),
+        "write" => write(rt, alloc, buffer, step),
+        "fill" => {
+            buffer.whole_mut().fill(step.byte(0));
+            println!(rt; "filled")
+        }
+        "stamp" => stamp(rt, buffer, step.long(0), step.byte(1)),
+        "packet" => tell_packet(rt, alloc, buffer, step.long(0)),
+        "bytes" => println!(rt; "{:?}", buffer.bytes()),
+        _ => println!(rt; "no such call"),
+    }
+}

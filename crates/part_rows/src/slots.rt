@@ -1,0 +1,79 @@
+//! The slots of a session: `wait CALL`, `begin`, `of REQUEST`, `end REQUEST`, `drain` and `newest`.
+//! A call has its number and 100 as its tag.
+use crate::no_memory;
+use crate::step::Step;
+use message_buffer::MsgBuf;
+use rpc_base::{CallNo, MOST_CALLS, NoMemory, RequestNo};
+use session_slots::{SlotTable, Waiting};
+use std::alloc::Global;
+use std::io;
+
+/// What is added to the number of a call in its tag.
+const TAGS: u64 = 100;
+
+/// Tells what each call answers, from eight free slots on.
+pub fn drive(rt: &impl Print, alloc: Global, calls: &str) -> io::Result<()> {
+    let mut table = SlotTable::new(alloc);
+    call_all(rt, alloc, &mut table, calls)
+}
+
+fn call_all(rt: &impl Print, alloc: Global, table: &mut SlotTable, calls: &str) -> io::Result<()> {
+    for line in calls.lines() {
+        print!(rt; "  {line}: ")?;
+        call(rt, alloc, table, Step::read(line))?;
+    }
+    Ok(())
+}
+
+// A call with two empty buffers.
+fn make_call(alloc: Global, call: u32) -> Result<Waiting, NoMemory> {
+    let req = MsgBuf::new(alloc, 0)?;
+    let resp = MsgBuf::new(alloc, 0)?;
+    Ok(Waiting {
+        call: CallNo(u64::from(call)),
+        tag: TAGS + u64::from(call),
+        req_type: 1,
+        req,
+        resp,
+    })
+}
+
+fn wait(rt: &impl Print, alloc: Global, table: &mut SlotTable, call: u32) -> io::Result<()> {
+    if table.taken() == MOST_CALLS {
+        return println!(rt; "no more calls");
+    }
+    let waiting = make_call(alloc, call).map_err(no_memory)?;
+    let waits = table.wait(waiting).is_ok();
+    println!(rt; "{waits}, {} taken", table.taken())
+}
+
+// The number of a request that begins, and its call.
+fn begin(table: &mut SlotTable) -> Option<(u64, u64)> {
+    let (request, waiting) = table.begin()?;
+    Some((request.get(), waiting.call.0))
+}
+
+fn end(rt: &impl Print, table: &mut SlotTable, request: RequestNo) -> io::Result<()> {
+    if table.call_of(request).is_none() {
+        return println!(rt; "not active");
+    }
+    table.end(request);
+    println!(rt; "ended")
+}
+
+fn request_of(number: u32) -> RequestNo {
+    RequestNo::of((number % 8) as u8, u64::from(number / 8))
+}
+
+fn call(rt: &impl Print, alloc: Global, table: &mut SlotTable, step: Step) -> io::Result<()> {
+    let request = request_of(step.long(0));
+    match step.name {
+        "wait" => wait(rt, alloc, table, step.long(0)),
+        "begin" => println!(rt; "{:?}", begin(table)),
+        "of" => println!(rt; "{:?}", table.call_of(request).map(|call| call.0)),
+        "end" => end(rt, table, request),
+        "drain" => println!(rt; "{:?}", table.drain().map(|waiting| waiting.tag)),
+        "newest" => println!(rt; "{:?}", table.newest().map(|waiting| waiting.tag)),
+        _ => println!(rt; "no such call"),
+    }
+}
