@@ -1,0 +1,25 @@
+//! What threads share, by hand: each row makes calls of a shared pool, a fan or a desk, and
+//! compares what they answer. A line is printed for each row.
+#![tactic(auto)]
+
+mod checks;
+mod desks;
+mod fans;
+mod lending;
+
+use crate::checks::Checks;
+use std::io;
+
+fn tell(rt: &impl Print, name: &str, checks: Checks) -> io::Result<()> {
+    match checks.first() {
+        None => println!(rt; "{name} ok"),
+        Some(differs) => println!(rt; "{name}: {differs}"),
+    }
+}
+
+fn main(rt: HostRuntime) -> io::Result<()> {
+    let alloc = rt.alloc();
+    tell(&rt, "a pool by hand", lending::row(alloc))?;
+    tell(&rt, "a fan by hand", fans::row(alloc))?;
+    tell(&rt, "a desk by hand", desks::row(alloc))
+}

@@ -1,0 +1,166 @@
+//! An endpoint that is its own peer: what it sends comes back to it, so that it answers its own calls.
+ghost use Rattle.std.specs.Prelude.{◌≡◌, ◌≤◌, IfSome};
+ghost use Rattle.message_buffer.specs.Buffer.{capacity_of};
+
+use client_core::{Done, Outcome};
+use endpoint_loop::{Continuation, Endpoint, Refused};
+use message_buffer::MsgBuf;
+use rpc_base::{LEAST_RING, Limits, NoMemory, NodeId, Peer, SessionNo, USUAL_JOBS, USUAL_TIMEOUT};
+use rpc_outside::{MemLink, NoRecord, PlainDuty, PlainService};
+use std::alloc::Global;
+use worker_crew::LocalWorkers;
+
+/// The type of the plain service that answers with what it was asked.
+const ECHO: u8 = 1;
+
+/// The bytes of each call.
+pub const ASKED: u32 = 5;
+
+const ME: u8 = 0;
+
+pub const LIMITS: Limits = Limits {
+    ring: LEAST_RING,
+    jobs: USUAL_JOBS,
+    timeout: USUAL_TIMEOUT,
+};
+
+pub type PlainEndpoint = Endpoint<PlainService, LocalWorkers<PlainDuty>>;
+
+/// An endpoint of its own, of this node.
+pub fn plain_endpoint(alloc: Global, me: NodeId) -> Result<PlainEndpoint, NoMemory> {
+    let workers = LocalWorkers::new(alloc, PlainDuty, USUAL_JOBS)?;
+    Endpoint::new(alloc, me, LIMITS, PlainService::new(), workers).map_err(|_workers| NoMemory)
+}
+
+/// The call that ended last.
+#[derive(Drop)]
+struct Newest {
+    done: Option<Done>,
+}
+
+impl Continuation for Newest {
+    fn done(&mut self, done: Done) {
+        self.done = Some(done);
+    }
+}
+
+/// An endpoint with its link, and the buffer for its answers. It ends by `close`.
+pub struct Caller {
+    endpoint: PlainEndpoint,
+    link: MemLink,
+    newest: Newest,
+    resp: Option<MsgBuf>,
+    /// How many datagrams came back.
+    carried: u32,
+}
+
+impl Caller {
+    /// One that makes at most so many calls.
+    pub fn new(alloc: Global, calls: u16) -> Result<Caller, NoMemory> {
+        let resp = MsgBuf::new(alloc, ASKED)?;
+        let room = 2 * u32::from(calls);
+        let link = MemLink::new(
+            alloc,
+            Vec::new(alloc),
+            room,
+            Vec::new(alloc),
+            Vec::new(alloc),
+        )?;
+        let endpoint = plain_endpoint(alloc, NodeId(ME))?;
+        Ok(Caller {
+            endpoint,
+            link,
+            newest: Newest { done: None },
+            resp: Some(resp),
+            carried: 0,
+        })
+    }
+
+    /// Makes both ends of session 0.
+    pub fn pair(&mut self) -> bool {
+        let here = self
+            .endpoint
+            .pair_client(Peer(ME), SessionNo(0), 1, &mut NoRecord);
+        let there = self
+            .endpoint
+            .pair_server(Peer(ME), SessionNo(0), 1, &mut NoRecord);
+        here.is_ok() && there.is_ok()
+    }
+
+    // Asks a call with this buffer, which comes back where it is refused.
+    fn ask(&mut self, req: MsgBuf) -> Option<MsgBuf> {
+        let Some(resp) = self.resp.take() else {
+            return Some(req);
+        };
+        let asked = self
+            .endpoint
+            .ask(SessionNo(0), ECHO, req, resp, 0, &mut NoRecord);
+        match asked {
+            Ok(_call) => None,
+            Err(refused) => {
+                let Refused { req, resp, .. } = refused;
+                self.resp = Some(resp);
+                Some(req)
+            }
+        }
+    }
+
+    fn poll(&mut self) {
+        let _turn = self
+            .endpoint
+            .poll(0, &mut self.link, &mut self.newest, &mut NoRecord);
+    }
+
+    // The datagram that was sent last comes back.
+    fn carry(&mut self) {
+        if let Some((_to, bytes)) = self.link.sent(self.carried) {
+            let _delivery = self.endpoint.deliver(Peer(ME), bytes, &mut NoRecord);
+            self.carried = self.carried.saturating_add(1);
+        }
+    }
+
+    // The buffer of the call that ended, if it ended well with these bytes.
+    fn end(&mut self, asked: &[u8]) -> Option<MsgBuf> {
+        let Done {
+            outcome,
+            req,
+            resp,
+            ..
+        } = self.newest.done.take()?;
+        let is_echo = outcome == Outcome::Ok && resp.bytes() == asked;
+        self.resp = Some(resp);
+        is_echo.then_some(req)
+    }
+
+    /// Makes a call that asks these bytes with this buffer. Tells the buffer that its end handed
+    /// back, where it ended well and answered these bytes.
+    pub fn call(&mut self, req: MsgBuf, asked: &[u8; ASKED as usize]) -> Option<MsgBuf>
+        requires room { ASKED ≤ capacity_of req }
+    {
+        let mut req = req;
+        req.set_len(ASKED);
+        req.write(0, asked);
+        if let Some(back) = self.ask(req) {
+            let _refused = back;
+            return None;
+        }
+        self.poll();
+        self.carry();
+        self.poll();
+        self.carry();
+        self.poll();
+        self.end(asked)
+    }
+
+    /// Lets all of it go.
+    pub fn close(self) {
+        let Caller {
+            endpoint,
+            link: _link,
+            newest: _newest,
+            resp: _resp,
+            carried: _,
+        } = self;
+        let _workers = endpoint.into_workers();
+    }
+}
